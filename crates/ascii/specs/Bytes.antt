@@ -1,0 +1,13 @@
+-- Texts as their bytes: `bytes "TER"` is T, E, R, and `byte "A"` is the byte of A.
+use Prim.Native.Nat.{ℕ}
+use Prim.Native.Char.{Char, code}
+use Prim.Native.String.{String, [], _∷_}
+use mathlib.Core.List as list
+use mathlib.Core.List.{List}
+
+abbrev pub byte : Char → ℕ
+byte c = code c
+
+abbrev pub bytes : String → List ℕ
+bytes [] = list.[]
+bytes (c ∷ s) = list._∷_ (byte c) (bytes s)

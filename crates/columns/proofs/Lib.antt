@@ -1,0 +1,4 @@
+pub mod Faults
+pub mod Spans
+pub mod Loops
+pub mod Puts

@@ -1,0 +1,70 @@
+-- CONECT is lawful. Assumes nothing.
+use mathlib.Core.Path.{_≡_, refl, sym}
+use mathlib.Core.List.{List}
+use mathlib.Core.Bool.{Bool, true, false}
+use Prim.Native.Nat.{ℕ, _+_, _≤_}
+use native.Mathlib.Omega.{arith}
+use lib.Dec.{eqb, leb, lit<}
+use lib.ListN.{length}
+use borrow.Author.Tests.{eqb-true, eqb-false, ne-eqb, le-leb, leb-true}
+use Rattle.ascii.specs.Tests.{pick, between}
+use Rattle.columns.specs.Columns.{gapOf, blanks, cols}
+use Rattle.ascii.proofs.Choice.{picks, both-split, both-join}
+use Rattle.ascii.proofs.Clean.{Clean}
+use Rattle.columns.proofs.Spans.{blanks-length, blanks-clean, gap-text, gap-back, gap-byte}
+use Rattle.numbers.specs.Number.{render, numberOf}
+use Rattle.numbers.proofs.Laws.{render-length, render-clean}
+use Rattle.fields.specs.Field.{wholeIn, wholeOf, rangedOf}
+use Rattle.fields.specs.Format.{wholeF}
+use Rattle.fields.proofs.Formats.{Lawful, whole-lawful, none-lawful, then-lawful, after-lawful, held-lawful, under-lawful}
+use Rattle.conect.specs.Conects.{partnerOf, partnerText, partnerOk, partnerF, to, from, ruleA, ruleB, ruleC, ruleD, conectF, conectFault, conectValue, conectText, conectOk}
+
+W : Lawful (wholeF 5 0 1 99999)
+W = whole-lawful 5 0 1 99999 tt
+
+-- where the last column is blank, there is no number
+no-number : (l : List ℕ) (at : ℕ) → gapOf l at 5 ≡ 0 → (wholeOf 5 0 1 99999 l at) .column ≡ 0 → ⊥
+unfolding wholeIn numberOf between
+no-number l at g e = let z : at + 1 ≡ 0 = rw (gap-byte l at 5 4 g (lit< tt)) at e in omega arith
+
+ranged-low : (v : ℕ) → rangedOf 1 99999 v ≡ true → (1 ≤ v) × (v ≤ 99999)
+unfolding rangedOf
+ranged-low v k = let w = both-split (leb 1 v) (leb v 99999) k in (leb-true 1 v (w .0), leb-true v 99999 (w .1))
+
+ranged-up : (v : ℕ) → (v ≡ 0 → ⊥) → v ≤ 99999 → rangedOf 1 99999 v ≡ true
+unfolding rangedOf
+ranged-up v z h = both-join _ _ (le-leb 1 v (omega arith)) (le-leb v 99999 h)
+
+partner-lawful : Lawful partnerF
+unfolding partnerOf partnerText partnerOk
+partner-lawful =
+    record {
+      long = λ v. picks (λ (x : List ℕ). length x ≡ 5) (eqb v 0) (blanks 5) (render 5 0 false v) (λ _. blanks-length 5) (λ _. render-length 5 0 false v);
+      clean = λ v k. picks (λ (x : List ℕ). Clean x) (eqb v 0) (blanks 5) (render 5 0 false v) (λ _. blanks-clean 5) (λ _. render-clean 5 0 false v);
+      back = λ l at v k q. by-value l at v (leb-true v 99999 k) (eqb v 0) refl q;
+      kept = λ l at h q. by-gap l at h (eqb (gapOf l at 5) 0) refl q;
+    }
+  where
+    by-value : (l : List ℕ) (at v : ℕ) → v ≤ 99999 → (t : Bool) → eqb v 0 ≡ t → cols l at 5 ≡ pick t (blanks 5) (render 5 0 false v)
+        → ((partnerOf l at) .column ≡ 0) × ((partnerOf l at) .value ≡ v)
+    by-value l at v b true t q = rw (gap-back l at 5 q) (refl, sym (eqb-true v 0 t))
+    by-value l at v b false t q =
+        let x = W .back l at v (ranged-up v (eqb-false v 0 t) b) q in
+        rw (ne-eqb (gapOf l at 5) 0 (λ g. no-number l at g (x .0))) x
+
+    by-gap : (l : List ℕ) (at : ℕ) → at + 5 ≤ length l → (t : Bool) → eqb (gapOf l at 5) 0 ≡ t
+        → (pick t (record { column = 0; value = 0 }) (wholeOf 5 0 1 99999 l at)) .column ≡ 0
+        → (partnerText ((pick t (record { column = 0; value = 0 }) (wholeOf 5 0 1 99999 l at)) .value) ≡ cols l at 5)
+        × (partnerOk ((pick t (record { column = 0; value = 0 }) (wholeOf 5 0 1 99999 l at)) .value) ≡ true)
+    by-gap l at h true t q = (gap-text l at 5 h (eqb-true _ _ t), refl)
+    by-gap l at h false t q =
+        let x = W .kept l at h q in
+        let r = ranged-low ((wholeOf 5 0 1 99999 l at) .value) (x .1) in
+        (rw (ne-eqb ((wholeOf 5 0 1 99999 l at) .value) 0 (λ z. omega arith)) (x .0), le-leb _ 99999 (r .1))
+
+pub conect-lawful : Lawful conectF
+unfolding conectFault conectValue conectText conectOk
+conect-lawful =
+    under-lawful ruleD 26 (under-lawful ruleC 21 (under-lawful ruleB 16 (under-lawful ruleA 11
+    (held-lawful to from (λ r. refl) (λ f. refl)
+    (then-lawful W (then-lawful W (then-lawful partner-lawful (then-lawful partner-lawful (then-lawful partner-lawful (after-lawful 49 none-lawful))))))))))

@@ -1,0 +1,154 @@
+use Rattle.conect.proofs.Returns.{reads}
+use borrow.Author.Needs.{needs}
+use Rattle.conect.proofs.read_conect.Statement.{statement}
+use Rattle.conect.proofs.read_conect.Tie as tie
+use Rattle.conect.proofs.read_conect.Reads as reads
+
+read-whole-requires : tie.Need-read-whole-requires
+read-whole-requires c κs = search needs
+
+read-whole-requires-2 : tie.Need-read-whole-requires-2
+read-whole-requires-2 c κs = search needs
+
+read-partner-requires : tie.Need-read-partner-requires
+read-partner-requires c κs = search needs
+
+read-partner-requires-2 : tie.Need-read-partner-requires-2
+read-partner-requires-2 c κs = search needs
+
+read-partner-requires-3 : tie.Need-read-partner-requires-3
+read-partner-requires-3 c κs = search needs
+
+gap-requires : tie.Need-gap-requires
+gap-requires c κs = search needs
+
+first-requires : tie.Need-first-requires
+first-requires c κs = search needs
+
+first-requires-2 : tie.Need-first-requires-2
+first-requires-2 c κs = search needs
+
+first-requires-3 : tie.Need-first-requires-3
+first-requires-3 c κs = search needs
+
+first-requires-4 : tie.Need-first-requires-4
+first-requires-4 c κs = search needs
+
+first-requires-5 : tie.Need-first-requires-5
+first-requires-5 c κs = search needs
+
+first-requires-6 : tie.Need-first-requires-6
+first-requires-6 c κs = search needs
+
+other-requires : tie.Need-other-requires
+other-requires c κs = search needs
+
+judged-requires : tie.Need-judged-requires
+judged-requires c κs = search needs
+
+other-requires-2 : tie.Need-other-requires-2
+other-requires-2 c κs = search needs
+
+judged-requires-2 : tie.Need-judged-requires-2
+judged-requires-2 c κs = search needs
+
+other-requires-3 : tie.Need-other-requires-3
+other-requires-3 c κs = search needs
+
+in-turn-requires : tie.Need-in-turn-requires
+in-turn-requires c κs = search needs
+
+both-of-requires : tie.Need-both-of-requires
+both-of-requires c κs = search needs
+
+judged-requires-3 : tie.Need-judged-requires-3
+judged-requires-3 c κs = search needs
+
+other-requires-4 : tie.Need-other-requires-4
+other-requires-4 c κs = search needs
+
+in-turn-requires-2 : tie.Need-in-turn-requires-2
+in-turn-requires-2 c κs = search needs
+
+both-of-requires-2 : tie.Need-both-of-requires-2
+both-of-requires-2 c κs = search needs
+
+judged-requires-4 : tie.Need-judged-requires-4
+judged-requires-4 c κs = search needs
+
+lower-requires : tie.Need-lower-requires
+lower-requires c κs = search needs
+
+lower-requires-2 : tie.Need-lower-requires-2
+lower-requires-2 c κs = search needs
+
+lower-requires-3 : tie.Need-lower-requires-3
+lower-requires-3 c κs = search needs
+
+lower-requires-4 : tie.Need-lower-requires-4
+lower-requires-4 c κs = search needs
+
+returns : tie.Need-returns
+returns c = reads _ _ _ _ _ _ _ _ _ _ _ _ _ _ _ _ _ _ _ _ _ _ _ _ _ _ _ _ _
+    (c .before .before .before .before .before .before .before .before .before .before .before .before .before .before .before .before .before .before .before .before .before .before .before .before .before .before .before .read-whole .ensures)
+    (c .before .before .before .before .before .before .before .before .before .before .before .before .before .before .before .before .before .before .before .before .before .before .before .before .before .before .read-whole2 .ensures)
+    (c .before .before .before .before .before .before .before .before .before .before .before .before .before .before .before .before .before .before .before .before .before .before .before .before .before .read-partner .ensures)
+    (c .before .before .before .before .before .before .before .before .before .before .before .before .before .before .before .before .before .before .before .before .before .before .before .before .read-partner2 .ensures)
+    (c .before .before .before .before .before .before .before .before .before .before .before .before .before .before .before .before .before .before .before .before .before .before .before .read-partner3 .ensures)
+    (c .before .before .before .before .before .before .before .before .before .before .before .before .before .before .before .before .before .before .before .before .before .before .gap .ensures)
+    (c .before .before .before .before .before .before .before .before .before .before .before .before .before .before .before .before .before .before .before .before .before .first .ensures)
+    (c .before .before .before .before .before .before .before .before .before .before .before .before .before .before .before .before .before .before .before .before .first2 .ensures)
+    (c .before .before .before .before .before .before .before .before .before .before .before .before .before .before .before .before .before .before .before .first3 .ensures)
+    (c .before .before .before .before .before .before .before .before .before .before .before .before .before .before .before .before .before .before .first4 .ensures)
+    (c .before .before .before .before .before .before .before .before .before .before .before .before .before .before .before .before .before .first5 .ensures)
+    (c .before .before .before .before .before .before .before .before .before .before .before .before .before .before .before .before .first6 .ensures)
+    (c .before .before .before .before .before .before .before .before .before .before .before .before .before .before .before .other .ensures)
+    (c .before .before .before .before .before .before .before .before .before .before .before .before .before .before .judged .ensures)
+    (c .before .before .before .before .before .before .before .before .before .before .before .before .before .other2 .ensures)
+    (c .before .before .before .before .before .before .before .before .before .before .before .before .judged2 .ensures)
+    (c .before .before .before .before .before .before .before .before .before .before .before .other3 .ensures)
+    (c .before .before .before .before .before .before .before .before .before .before .in-turn .ensures)
+    (c .before .before .before .before .before .before .before .before .before .both-of .ensures)
+    (c .before .before .before .before .before .before .before .before .judged3 .ensures)
+    (c .before .before .before .before .before .before .before .other4 .ensures)
+    (c .before .before .before .before .before .before .in-turn2 .ensures)
+    (c .before .before .before .before .before .both-of2 .ensures)
+    (c .before .before .before .before .judged4 .ensures)
+    (c .before .before .before .lower .ensures)
+    (c .before .before .lower2 .ensures)
+    (c .before .lower3 .ensures)
+    (c .lower4 .ensures)
+
+pub read-conect-spec : {M : Type 1} → statement M
+read-conect-spec =
+    tie.close
+    (tie.spec
+    read-whole-requires
+    read-whole-requires-2
+    read-partner-requires
+    read-partner-requires-2
+    read-partner-requires-3
+    gap-requires
+    first-requires
+    first-requires-2
+    first-requires-3
+    first-requires-4
+    first-requires-5
+    first-requires-6
+    other-requires
+    judged-requires
+    other-requires-2
+    judged-requires-2
+    other-requires-3
+    in-turn-requires
+    both-of-requires
+    judged-requires-3
+    other-requires-4
+    in-turn-requires-2
+    both-of-requires-2
+    judged-requires-4
+    lower-requires
+    lower-requires-2
+    lower-requires-3
+    lower-requires-4
+    returns)

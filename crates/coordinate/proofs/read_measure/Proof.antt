@@ -1,0 +1,33 @@
+use Rattle.coordinate.proofs.Returns.{measure-reads}
+use borrow.Author.Needs.{needs}
+use Rattle.coordinate.proofs.read_measure.Statement.{statement}
+use Rattle.coordinate.proofs.read_measure.Tie as tie
+
+read-position-requires : tie.Need-read-position-requires
+read-position-requires c κs = search needs
+
+read-whole-requires : tie.Need-read-whole-requires
+read-whole-requires c κs = search needs
+
+read-integer-requires : tie.Need-read-integer-requires
+read-integer-requires c κs = search needs
+
+first-requires : tie.Need-first-requires
+first-requires c κs = search needs
+
+first-requires-2 : tie.Need-first-requires-2
+first-requires-2 c κs = search needs
+
+returns : tie.Need-returns
+returns c = search measure-reads
+
+pub read-measure-spec : {M : Type 1} → statement M
+read-measure-spec =
+    tie.close
+    (tie.spec
+    read-position-requires
+    read-whole-requires
+    read-integer-requires
+    first-requires
+    first-requires-2
+    returns)

@@ -1,0 +1,20 @@
+use Rattle.coordinate.proofs.Returns.{species-judges}
+use borrow.Author.Needs.{needs}
+use Rattle.coordinate.proofs.species_is_good.Statement.{statement}
+use Rattle.coordinate.proofs.species_is_good.Tie as tie
+
+is-element-requires : tie.Need-is-element-requires
+is-element-requires c κs = search needs
+
+is-charge-requires : tie.Need-is-charge-requires
+is-charge-requires c κs = search needs
+
+both-of-requires : tie.Need-both-of-requires
+both-of-requires c κs = search needs
+
+returns : tie.Need-returns
+returns c = search species-judges
+
+pub species-is-good-spec : {M : Type 1} → statement M
+species-is-good-spec =
+    tie.close (tie.spec is-element-requires is-charge-requires both-of-requires returns)

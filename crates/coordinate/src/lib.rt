@@ -1,0 +1,333 @@
+// ATOM and HETATM: read and written.
+use fields::Serial;
+use names::Four;
+use names::Pair;
+use residue::Residue;
+ghost use mathlib.Core.Path.{_≡_};
+ghost use Prim.Native.Nat.{_+_, _≤_, _<_};
+ghost use lib.ListN.{length};
+ghost use Rattle.columns.specs.Columns.{Put};
+ghost use Rattle.fields.specs.Format.{writeNumber, writeLine};
+ghost use Rattle.kinds.specs.Kinds.{nameText};
+ghost use Rattle.coordinate.specs.Atoms.{positionAt, positionOk, positionText, identityAt, identityOk, identityText, measureAt, measureOk, measureText, speciesAt, speciesOk, speciesText, leadsElement, atomAt, atomOk, atomKind, atomLine};
+
+// Coordinates, in thousandths.
+pub struct Position {
+    pub x: i32,
+    pub y: i32,
+    pub z: i32,
+}
+
+// Columns 7 to 27.
+pub struct Identity {
+    pub serial: Serial,
+    pub name: Four,
+    pub alternate: u8,
+    pub residue: Residue,
+}
+
+// Columns 31 to 66.
+pub struct Measure {
+    pub position: Position,
+    pub occupancy: u32,
+    pub temperature: i32,
+}
+
+// Columns 77 to 80.
+pub struct Species {
+    pub element: Pair,
+    pub charge: Pair,
+}
+
+pub struct Atom {
+    pub identity: Identity,
+    pub measure: Measure,
+    pub species: Species,
+}
+
+pub struct ReadPosition {
+    pub column: u32,
+    pub value: Position,
+}
+
+pub struct ReadIdentity {
+    pub column: u32,
+    pub value: Identity,
+}
+
+pub struct ReadMeasure {
+    pub column: u32,
+    pub value: Measure,
+}
+
+pub struct ReadSpecies {
+    pub column: u32,
+    pub value: Species,
+}
+
+pub struct ReadAtom {
+    pub column: u32,
+    pub value: Atom,
+}
+
+fn read_position(line: &[u8]) -> ReadPosition
+    requires { ⌜ length (now line) ≡ 80 ⌝ }
+    ensures { λ r. ⌜ r ≡ positionAt (now (line .entry)) 30 ⌝ }
+{
+    let x = fields::read_integer(line, 30, 8, 4);
+    let y = fields::read_integer(line, 38, 8, 4);
+    let z = fields::read_integer(line, 46, 8, 4);
+    let column = columns::first(x.column, columns::first(y.column, z.column));
+    ReadPosition {
+        column: column,
+        value: Position {
+            x: x.value,
+            y: y.value,
+            z: z.value,
+        },
+    }
+}
+
+fn read_identity(line: &[u8]) -> ReadIdentity
+    requires { ⌜ length (now line) ≡ 80 ⌝ }
+    ensures { λ r. ⌜ r ≡ identityAt (now (line .entry)) 6 ⌝ }
+{
+    let serial = fields::read_whole(line, 6, 5, 0, 1, 99999);
+    let g = columns::gap(line, 11, 1);
+    let name = names::read_four(line, 12);
+    let k = columns::judged(names::is_atom_name(name), 12);
+    let alternate = line[16];
+    let a = columns::judged(names::is_alternate(alternate), 16);
+    let residue = residue::read_residue(line, 17, 0);
+    let column = columns::first(
+        serial.column,
+        columns::first(g, columns::first(k, columns::first(a, residue.column))),
+    );
+    let place = residue.value;
+    ReadIdentity {
+        column: column,
+        value: Identity {
+            serial: Serial(serial.value),
+            name: name,
+            alternate: alternate,
+            residue: place,
+        },
+    }
+}
+
+fn read_measure(line: &[u8]) -> ReadMeasure
+    requires { ⌜ length (now line) ≡ 80 ⌝ }
+    ensures { λ r. ⌜ r ≡ measureAt (now (line .entry)) 30 ⌝ }
+{
+    let position = read_position(line);
+    let occupancy = fields::read_whole(line, 54, 6, 3, 0, 100);
+    let temperature = fields::read_integer(line, 60, 6, 3);
+    let column = columns::first(
+        position.column,
+        columns::first(occupancy.column, temperature.column),
+    );
+    let p = position.value;
+    ReadMeasure {
+        column: column,
+        value: Measure {
+            position: p,
+            occupancy: occupancy.value,
+            temperature: temperature.value,
+        },
+    }
+}
+
+fn read_species(line: &[u8]) -> ReadSpecies
+    requires { ⌜ length (now line) ≡ 80 ⌝ }
+    ensures { λ r. ⌜ r ≡ speciesAt (now (line .entry)) 76 ⌝ }
+{
+    let element = names::read_pair(line, 76);
+    let charge = names::read_pair(line, 78);
+    let a = columns::judged(elements::is_element(element), 76);
+    let b = columns::judged(names::is_charge(charge), 78);
+    let column = columns::first(a, b);
+    ReadSpecies {
+        column: column,
+        value: Species {
+            element: element,
+            charge: charge,
+        },
+    }
+}
+
+// An atom's name begins with its element.
+fn leads(n: Four, e: Pair) -> bool
+    ensures { λ r. ⌜ r ≡ leadsElement n e ⌝ }
+{
+    ascii::both_of(ascii::is(n.a, e.a), ascii::is(n.b, e.b))
+}
+
+pub fn read_atom(line: &[u8]) -> ReadAtom
+    requires { ⌜ length (now line) ≡ 80 ⌝ }
+    ensures { λ r. ⌜ r ≡ atomAt (now (line .entry)) ⌝ }
+{
+    let identity = read_identity(line);
+    let g = columns::gap(line, 27, 3);
+    let measure = read_measure(line);
+    let h = columns::gap(line, 66, 10);
+    let species = read_species(line);
+    let w = identity.value;
+    let s = measure.value;
+    let t = species.value;
+    let name = w.name;
+    let element = t.element;
+    let k = columns::judged(leads(name, element), 76);
+    let fields = columns::first(
+        identity.column,
+        columns::first(g, columns::first(measure.column, columns::first(h, species.column))),
+    );
+    let column = columns::lower(fields, k);
+    ReadAtom {
+        column: column,
+        value: Atom {
+            identity: w,
+            measure: s,
+            species: t,
+        },
+    }
+}
+
+fn position_is_good(p: Position) -> bool
+    ensures { λ r. ⌜ r ≡ positionOk p ⌝ }
+{
+    let x = fields::spans(p.x, 999999, 9999999);
+    let y = fields::spans(p.y, 999999, 9999999);
+    let z = fields::spans(p.z, 999999, 9999999);
+    ascii::both_of(x, ascii::both_of(y, z))
+}
+
+fn identity_is_good(w: Identity) -> bool
+    ensures { λ r. ⌜ r ≡ identityOk w ⌝ }
+{
+    let serial = w.serial;
+    let name = w.name;
+    let place = w.residue;
+    let a = fields::ranged(serial.0, 1, 99999);
+    let b = names::is_atom_name(name);
+    let c = names::is_alternate(w.alternate);
+    let d = residue::is_good(place);
+    ascii::both_of(a, ascii::both_of(b, ascii::both_of(c, d)))
+}
+
+fn measure_is_good(s: Measure) -> bool
+    ensures { λ r. ⌜ r ≡ measureOk s ⌝ }
+{
+    let p = s.position;
+    let a = position_is_good(p);
+    let b = fields::ranged(s.occupancy, 0, 100);
+    let c = fields::spans(s.temperature, 9999, 99999);
+    ascii::both_of(a, ascii::both_of(b, c))
+}
+
+fn species_is_good(t: Species) -> bool
+    ensures { λ r. ⌜ r ≡ speciesOk t ⌝ }
+{
+    let e = t.element;
+    let c = t.charge;
+    ascii::both_of(elements::is_element(e), names::is_charge(c))
+}
+
+pub fn is_good(a: Atom) -> bool
+    ensures { λ r. ⌜ r ≡ atomOk a ⌝ }
+{
+    let w = a.identity;
+    let s = a.measure;
+    let t = a.species;
+    let name = w.name;
+    let element = t.element;
+    let p = identity_is_good(w);
+    let q = measure_is_good(s);
+    let r = species_is_good(t);
+    let k = leads(name, element);
+    ascii::both_of(ascii::both_of(p, ascii::both_of(q, r)), k)
+}
+
+fn put_position(line: &mut [u8], p: Position)
+    requires { ⌜ 80 ≤ length (now line) ⌝ }
+    ensures { λ _. ⌜ Put (now (line .entry)) 30 24 (positionText p) (now (line .exit)) ⌝ }
+{
+    fields::put_integer(line, 30, 8, 4, p.x);
+    fields::put_integer(line, 38, 8, 4, p.y);
+    fields::put_integer(line, 46, 8, 4, p.z);
+}
+
+fn put_identity(line: &mut [u8], w: Identity)
+    requires { ⌜ 80 ≤ length (now line) ⌝ }
+    ensures { λ _. ⌜ Put (now (line .entry)) 6 21 (identityText w) (now (line .exit)) ⌝ }
+{
+    let serial = w.serial;
+    let name = w.name;
+    let place = w.residue;
+    fields::put_whole(line, 6, 5, 0, serial.0);
+    columns::put_blanks(line, 11, 1);
+    names::put_four(line, 12, name);
+    columns::put_one(line, 16, w.alternate);
+    residue::put_residue(line, 17, 0, place);
+}
+
+fn put_measure(line: &mut [u8], s: Measure)
+    requires { ⌜ 80 ≤ length (now line) ⌝ }
+    ensures { λ _. ⌜ Put (now (line .entry)) 30 36 (measureText s) (now (line .exit)) ⌝ }
+{
+    let p = s.position;
+    put_position(line, p);
+    fields::put_whole(line, 54, 6, 3, s.occupancy);
+    fields::put_integer(line, 60, 6, 3, s.temperature);
+}
+
+fn put_species(line: &mut [u8], t: Species)
+    requires { ⌜ 80 ≤ length (now line) ⌝ }
+    ensures { λ _. ⌜ Put (now (line .entry)) 76 4 (speciesText t) (now (line .exit)) ⌝ }
+{
+    let e = t.element;
+    let c = t.charge;
+    names::put_pair(line, 76, e);
+    names::put_pair(line, 78, c);
+}
+
+// The name of the line.
+fn put_kind(line: &mut [u8], het: bool)
+    requires { ⌜ 80 ≤ length (now line) ⌝ }
+    ensures { λ _. ⌜ Put (now (line .entry)) 0 6 (nameText (atomKind het)) (now (line .exit)) ⌝ }
+{
+    if het {
+        words::put_word(line, 0, 6, kinds::HETATM);
+        return;
+    }
+    words::put_word(line, 0, 6, kinds::ATOM);
+}
+
+fn put_atom(line: &mut [u8], het: bool, a: Atom)
+    requires { ⌜ 80 ≤ length (now line) ⌝ }
+    ensures { λ _. ⌜ Put (now (line .entry)) 0 80 (atomLine het a) (now (line .exit)) ⌝ }
+{
+    let w = a.identity;
+    let s = a.measure;
+    let t = a.species;
+    put_kind(line, het);
+    put_identity(line, w);
+    columns::put_blanks(line, 27, 3);
+    put_measure(line, s);
+    columns::put_blanks(line, 66, 10);
+    put_species(line, t);
+}
+
+// Writes the line, 80 bytes: 0; or leaves all as found: 6 where a field is out of its range, 17 where there is no room.
+pub fn write_atom(line: &mut [u8], het: bool, a: Atom) -> u8
+    ensures { λ r. ⌜ (r ≡ writeNumber (atomOk a) (now (line .entry))) × (now (line .exit) ≡ writeLine (atomOk a) (atomLine het a) (now (line .entry))) ⌝ }
+{
+    let ok = is_good(a);
+    if ok {
+        if line.len() < 80 {
+            return 17;
+        }
+        put_atom(line, het, a);
+        return 0;
+    }
+    6
+}

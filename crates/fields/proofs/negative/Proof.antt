@@ -1,0 +1,9 @@
+use Rattle.fields.proofs.Signs.{sign-is}
+use Rattle.fields.proofs.negative.Statement.{statement}
+use Rattle.fields.proofs.negative.Tie as tie
+
+returns : tie.Need-returns
+returns c = search sign-is
+
+pub negative-spec : {M : Type 1} → statement M
+negative-spec = tie.close (tie.spec returns)

@@ -1,0 +1,110 @@
+-- Formats: a run of columns, with what it means and how it is written. l is a line, and `at` the index of the format's first column.
+use Prim.Native.Nat.{ℕ, _+_}
+use mathlib.Core.List.{List, [], _∷_, _++_}
+use mathlib.Core.Bool.{Bool, true, false}
+use lib.ListN.{length, getD, drop}
+use lib.Dec.{ltb}
+use lib.IntN.{ℤ, natAbs}
+use Rattle.ascii.specs.Tests.{pick, both}
+use Rattle.columns.specs.Columns.{blame, leftmost, firstOf, gapOf, blanks}
+use Rattle.numbers.specs.Number.{render}
+use Rattle.fields.specs.Field.{isNeg, wholeOf, integerOf, rangedOf, spansOf}
+
+pub record Format (A : Type 0) : Type 1 where
+  -- how many columns
+  pub width : ℕ
+  -- the first column of the leftmost field that is wrong, or 0
+  pub fault : List ℕ → ℕ → ℕ
+  -- what the columns mean, where nothing is wrong
+  pub value : List ℕ → ℕ → A
+  -- the columns that a value is written as
+  pub text : A → List ℕ
+  -- whether a value is within its range
+  pub ok : A → Bool
+
+-- a number from lo to hi: Integer(n) where e is 0, Real(n.d) where e is d + 1
+abbrev pub wholeF : ℕ → ℕ → ℕ → ℕ → Format ℕ
+wholeF n e lo hi =
+    record {
+      width = n;
+      fault = λ l at. (wholeOf n e lo hi l at) .column;
+      value = λ l at. (wholeOf n e lo hi l at) .value;
+      text = λ v. render n e false v;
+      ok = rangedOf lo hi;
+    }
+
+-- a number of either sign, from -low to high, which are the ends of what its columns hold
+abbrev pub integerF : ℕ → ℕ → ℕ → ℕ → Format ℤ
+integerF n e low high =
+    record {
+      width = n;
+      fault = λ l at. (integerOf n e l at) .column;
+      value = λ l at. (integerOf n e l at) .value;
+      text = λ z. render n e (isNeg z) (natAbs z);
+      ok = spansOf low high;
+    }
+
+-- n bytes that a test takes
+abbrev pub rawF : {A : Type 0} → ℕ → (List ℕ → ℕ → A) → (A → List ℕ) → (A → Bool) → Format A
+rawF n value text test =
+    record { width = n; fault = λ l at. blame (test (value l at)) at; value = value; text = text; ok = test }
+
+-- one byte that a test takes
+abbrev pub byteF : (ℕ → Bool) → Format ℕ
+byteF test = rawF 1 (λ l at. getD l at 0) (λ b. b ∷ []) test
+
+-- no columns
+abbrev pub noneF : Format (Unit {0})
+noneF = record { width = 0; fault = λ l at. 0; value = λ l at. tt; text = λ a. []; ok = λ a. true }
+
+-- one format after another
+infixr 20 _then_
+abbrev pub _then_ : {A B : Type 0} → Format A → Format B → Format (A × B)
+F then G =
+    record {
+      width = F .width + G .width;
+      fault = λ l at. firstOf (F .fault l at) (G .fault l (at + F .width));
+      value = λ l at. (F .value l at, G .value l (at + F .width));
+      text = λ a. F .text (a .0) ++ G .text (a .1);
+      ok = λ a. both (F .ok (a .0)) (G .ok (a .1));
+    }
+
+-- a format after n blank columns
+abbrev pub after : {A : Type 0} → ℕ → Format A → Format A
+after n F =
+    record {
+      width = n + F .width;
+      fault = λ l at. firstOf (gapOf l at n) (F .fault l (at + n));
+      value = λ l at. F .value l (at + n);
+      text = λ a. blanks n ++ F .text a;
+      ok = F .ok;
+    }
+
+-- the same columns, with another form for the value
+abbrev pub held : {A B : Type 0} → Format A → (A → B) → (B → A) → Format B
+held F to from =
+    record {
+      width = F .width;
+      fault = F .fault;
+      value = λ l at. to (F .value l at);
+      text = λ b. F .text (from b);
+      ok = λ b. F .ok (from b);
+    }
+
+-- a rule between fields, and the index of the column that it blames
+abbrev pub under : {A : Type 0} → Format A → (A → Bool) → ℕ → Format A
+under F test c =
+    record {
+      width = F .width;
+      fault = λ l at. leftmost (F .fault l at) (blame (test (F .value l at)) c);
+      value = F .value;
+      text = F .text;
+      ok = λ a. both (F .ok a) (test a);
+    }
+
+-- ---- writing a line x of 80 bytes into l, where `good` says whether the record is within its ranges: the number that is given, and what l holds
+unfoldable pub writeNumber : Bool → List ℕ → ℕ
+writeNumber good l = pick good (pick (ltb (length l) 80) 17 0) 6
+
+unfoldable pub writeLine : Bool → List ℕ → List ℕ → List ℕ
+writeLine good x l = pick good (pick (ltb (length l) 80) l (x ++ drop 80 l)) l

@@ -1,0 +1,160 @@
+// Fields: numbers within their ranges, and names.
+use numbers::Number;
+ghost use mathlib.Core.Path.{_≡_};
+ghost use Prim.Native.Nat.{_+_, _≤_, _<_};
+ghost use mathlib.Core.Bool.{true, false};
+ghost use lib.ListN.{length};
+ghost use lib.IntN.{natAbs};
+ghost use Rattle.columns.specs.Columns.{Put};
+ghost use Rattle.fields.specs.Field.{signedOf, isNeg, wholeOf, integerOf, capOf, rangedOf, spansOf};
+ghost use Rattle.numbers.specs.Number.{render};
+
+pub struct Serial(pub u32);
+
+pub struct ResidueNumber(pub i32);
+
+// A read field: the column of its fault, or 0, and its value.
+pub struct Whole {
+    pub column: u32,
+    pub value: u32,
+}
+
+pub struct Signed {
+    pub column: u32,
+    pub value: i32,
+}
+
+fn joined(minus: bool, mag: u64) -> i32
+    requires { ⌜ mag ≤ 1000000000 ⌝ }
+    ensures { λ r. ⌜ r ≡ signedOf minus mag ⌝ }
+{
+    let x = mag as i32;
+    if minus {
+        return -x;
+    }
+    x
+}
+
+pub fn negative(z: i32) -> bool
+    ensures { λ r. ⌜ r ≡ isNeg z ⌝ }
+{
+    z < 0
+}
+
+pub fn magnitude(z: i32) -> u64
+    ensures { λ r. ⌜ r ≡ natAbs z ⌝ }
+{
+    let w = z as i64;
+    if w < 0 {
+        return (-w) as u64;
+    }
+    w as u64
+}
+
+// A number from lo to hi.
+pub fn read_whole(line: &[u8], at: usize, n: usize, e: usize, lo: u32, hi: u32) -> Whole
+    requires { ⌜ (at + n ≤ length (now line)) × (at + n ≤ 80) × (n ≤ 8) ⌝ }
+    ensures { λ r. ⌜ r ≡ wholeOf n e lo hi (now (line .entry)) at ⌝ }
+{
+    let h = numbers::read_number(line, at, n, e);
+    let ok = h.good;
+    let m = h.minus;
+    let v = h.mag;
+    if ok {
+        if m {
+            return Whole {
+                column: (at + 1) as u32,
+                value: 0,
+            };
+        }
+        if v < lo as u64 {
+            return Whole {
+                column: (at + 1) as u32,
+                value: 0,
+            };
+        }
+        if (hi as u64) < v {
+            return Whole {
+                column: (at + 1) as u32,
+                value: 0,
+            };
+        }
+        return Whole {
+            column: 0,
+            value: v as u32,
+        };
+    }
+    Whole {
+        column: (at + 1) as u32,
+        value: 0,
+    }
+}
+
+// A number of either sign.
+pub fn read_integer(line: &[u8], at: usize, n: usize, e: usize) -> Signed
+    requires { ⌜ (at + n ≤ length (now line)) × (at + n ≤ 80) × (n ≤ 8) × (capOf n e true ≤ 1000000000) × (capOf n e false ≤ 1000000000) ⌝ }
+    ensures { λ r. ⌜ r ≡ integerOf n e (now (line .entry)) at ⌝ }
+{
+    let h = numbers::read_number(line, at, n, e);
+    let ok = h.good;
+    let m = h.minus;
+    let v = h.mag;
+    if ok {
+        if m {
+            if v == 0 {
+                return Signed {
+                    column: (at + 1) as u32,
+                    value: 0,
+                };
+            }
+            return Signed {
+                column: 0,
+                value: joined(true, v),
+            };
+        }
+        return Signed {
+            column: 0,
+            value: joined(false, v),
+        };
+    }
+    Signed {
+        column: (at + 1) as u32,
+        value: 0,
+    }
+}
+
+pub fn ranged(v: u32, lo: u32, hi: u32) -> bool
+    ensures { λ r. ⌜ r ≡ rangedOf lo hi v ⌝ }
+{
+    if lo <= v {
+        return v <= hi;
+    }
+    false
+}
+
+pub fn spans(z: i32, low: u64, high: u64) -> bool
+    ensures { λ r. ⌜ r ≡ spansOf low high z ⌝ }
+{
+    let v = magnitude(z);
+    let m = negative(z);
+    if m {
+        return v <= low;
+    }
+    v <= high
+}
+
+pub fn put_whole(line: &mut [u8], at: usize, n: usize, e: usize, v: u32)
+    requires { ⌜ at + n ≤ length (now line) ⌝ }
+    ensures { λ _. ⌜ Put (now (line .entry)) at n (render n e false v) (now (line .exit)) ⌝ }
+{
+    numbers::put_number(line, at, n, e, false, v as u64);
+}
+
+pub fn put_integer(line: &mut [u8], at: usize, n: usize, e: usize, z: i32)
+    requires { ⌜ at + n ≤ length (now line) ⌝ }
+    ensures { λ _. ⌜ Put (now (line .entry)) at n (render n e (isNeg z) (natAbs z)) (now (line .exit)) ⌝ }
+{
+    let m = negative(z);
+    let v = magnitude(z);
+    numbers::put_number(line, at, n, e, m, v);
+}

@@ -1,0 +1,21 @@
+use mathlib.Core.Path.{refl}
+use Rattle.line.specs.declared.Record.the-variants as rec
+use Rattle.line.proofs.Returns.{judged-good, judged-wrong, end-column}
+use borrow.Author.Needs.{needs}
+use Rattle.line.proofs.read_end.Statement.{statement}
+use Rattle.line.proofs.read_end.Tie as tie
+
+gap-requires : tie.Need-gap-requires
+gap-requires c κs = search needs
+
+first-requires : tie.Need-first-requires
+first-requires c κs = search needs
+
+returns : tie.Need-returns
+returns c = judged-good _ _ _ _ (end-column _ _ _ (c .before .before .gap .ensures) (c .before .first .ensures)) refl (c .if1 .taken)
+
+returns-2 : tie.Need-returns-2
+returns-2 c = judged-wrong _ _ rec.End _ (end-column _ _ _ (c .before .before .gap .ensures) (c .before .first .ensures)) refl (c .if1 .left)
+
+pub read-end-spec : {M : Type 1} → statement M
+read-end-spec = tie.close (tie.spec gap-requires first-requires returns returns-2)

@@ -1,0 +1,19 @@
+use mathlib.Core.Path.{ap}
+use Rattle.sheet.specs.declared.ReadSheet.{ReadSheet}
+use Rattle.line.specs.declared.Record.the-variants as rec
+use Rattle.line.proofs.Returns.{judged-good, judged-wrong}
+use borrow.Author.Needs.{needs}
+use Rattle.line.proofs.read_sheet.Statement.{statement}
+use Rattle.line.proofs.read_sheet.Tie as tie
+
+read-sheet-requires : tie.Need-read-sheet-requires
+read-sheet-requires c κs = search needs
+
+returns : tie.Need-returns
+returns c = judged-good _ _ _ _ (ap (λ (x : ReadSheet). x .column) (c .before .before .read-sheet .ensures)) (ap (λ (x : ReadSheet). rec.Sheet (x .value)) (c .before .before .read-sheet .ensures)) (c .if1 .taken)
+
+returns-2 : tie.Need-returns-2
+returns-2 c = judged-wrong _ _ _ _ (ap (λ (x : ReadSheet). x .column) (c .before .before .read-sheet .ensures)) (ap (λ (x : ReadSheet). rec.Sheet (x .value)) (c .before .before .read-sheet .ensures)) (c .if1 .left)
+
+pub read-sheet-spec : {M : Type 1} → statement M
+read-sheet-spec = tie.close (tie.spec read-sheet-requires returns returns-2)

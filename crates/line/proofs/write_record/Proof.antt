@@ -1,0 +1,121 @@
+use Rattle.line.proofs.Returns.{record-written}
+use borrow.Author.Needs.{needs}
+use Rattle.line.proofs.write_record.Statement.{statement}
+use Rattle.line.proofs.write_record.Tie as tie
+
+enum-known-r : tie.Need-enum-known-r
+enum-known-r c = search needs
+
+write-atom-requires : tie.Need-write-atom-requires
+write-atom-requires c κs = search needs
+
+enum-known-r-2 : tie.Need-enum-known-r-2
+enum-known-r-2 c = search needs
+
+write-ter-requires : tie.Need-write-ter-requires
+write-ter-requires c κs = search needs
+
+enum-known-r-3 : tie.Need-enum-known-r-3
+enum-known-r-3 c = search needs
+
+write-helix-requires : tie.Need-write-helix-requires
+write-helix-requires c κs = search needs
+
+enum-known-r-4 : tie.Need-enum-known-r-4
+enum-known-r-4 c = search needs
+
+write-sheet-requires : tie.Need-write-sheet-requires
+write-sheet-requires c κs = search needs
+
+enum-known-r-5 : tie.Need-enum-known-r-5
+enum-known-r-5 c = search needs
+
+write-conect-requires : tie.Need-write-conect-requires
+write-conect-requires c κs = search needs
+
+enum-known-r-6 : tie.Need-enum-known-r-6
+enum-known-r-6 c = search needs
+
+write-master-requires : tie.Need-write-master-requires
+write-master-requires c κs = search needs
+
+enum-told : tie.Need-enum-told
+enum-told c = search needs
+
+write-end-requires : tie.Need-write-end-requires
+write-end-requires c κs = search needs
+
+same-length : tie.Need-same-length
+same-length c = search needs
+
+returns : tie.Need-returns
+returns c = record-written _ _ _ _ _ (c .before .before .before .before .before .r .given .1) (c .before .before .write-atom .ensures)
+
+same-length-2 : tie.Need-same-length-2
+same-length-2 c = search needs
+
+returns-2 : tie.Need-returns-2
+returns-2 c = record-written _ _ _ _ _ (c .before .before .before .before .before .r2 .given .1) (c .before .before .write-ter .ensures)
+
+same-length-3 : tie.Need-same-length-3
+same-length-3 c = search needs
+
+returns-3 : tie.Need-returns-3
+returns-3 c = record-written _ _ _ _ _ (c .before .before .before .before .before .r3 .given .1) (c .before .before .write-helix .ensures)
+
+same-length-4 : tie.Need-same-length-4
+same-length-4 c = search needs
+
+returns-4 : tie.Need-returns-4
+returns-4 c = record-written _ _ _ _ _ (c .before .before .before .before .before .r4 .given .1) (c .before .before .write-sheet .ensures)
+
+same-length-5 : tie.Need-same-length-5
+same-length-5 c = search needs
+
+returns-5 : tie.Need-returns-5
+returns-5 c = record-written _ _ _ _ _ (c .before .before .before .before .before .r5 .given .1) (c .before .before .write-conect .ensures)
+
+same-length-6 : tie.Need-same-length-6
+same-length-6 c = search needs
+
+returns-6 : tie.Need-returns-6
+returns-6 c = record-written _ _ _ _ _ (c .before .before .before .before .before .r6 .given .1) (c .before .before .write-master .ensures)
+
+same-length-7 : tie.Need-same-length-7
+same-length-7 c = search needs
+
+returns-7 : tie.Need-returns-7
+returns-7 c = record-written _ _ _ _ _ (c .before .before .before .before .enum-told .given .1) (c .before .before .write-end .ensures)
+
+pub write-record-spec : {M : Type 1} → statement M
+write-record-spec =
+    tie.close
+    (tie.spec
+    enum-known-r
+    write-atom-requires
+    enum-known-r-2
+    write-ter-requires
+    enum-known-r-3
+    write-helix-requires
+    enum-known-r-4
+    write-sheet-requires
+    enum-known-r-5
+    write-conect-requires
+    enum-known-r-6
+    write-master-requires
+    enum-told
+    write-end-requires
+    same-length
+    returns
+    same-length-2
+    returns-2
+    same-length-3
+    returns-3
+    same-length-4
+    returns-4
+    same-length-5
+    returns-5
+    same-length-6
+    returns-6
+    same-length-7
+    returns-7)

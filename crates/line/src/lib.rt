@@ -1,0 +1,222 @@
+// A line by itself, of any kind: read to a record, and written from one.
+use conect::Conect;
+use coordinate::Atom;
+use helix::Helix;
+use kinds::Kind;
+use master::Tally;
+use sheet::Sheet;
+use ter::Ter;
+ghost use mathlib.Core.Path.{_≡_};
+ghost use lib.ListN.{length};
+ghost use Rattle.fields.specs.Format.{writeNumber, writeLine};
+ghost use Rattle.coordinate.specs.Atoms.{atomFault, atomValue};
+ghost use Rattle.ter.specs.Ters.{terFault, terValue};
+ghost use Rattle.helix.specs.Helices.{helixFault, helixValue};
+ghost use Rattle.sheet.specs.Sheets.{sheetFault, sheetValue};
+ghost use Rattle.conect.specs.Conects.{conectFault, conectValue};
+ghost use Rattle.master.specs.Masters.{masterFault, masterValue};
+ghost use Rattle.line.specs.declared.Record.the-variants as rec;
+ghost use Rattle.line.specs.Lines.{endF, judged, readingOf, answerOf, readLine, recordOk, recordLine};
+
+// The record of a typed line.
+pub enum Record {
+    // HETATM, or ATOM.
+    Coordinate(bool, Atom),
+    Ter(Ter),
+    Helix(Helix),
+    Sheet(Sheet),
+    Conect(Conect),
+    Master(Tally),
+    End,
+}
+
+// What a line of 80 columns reads to.
+pub enum Reading {
+    Typed(Record),
+    // The first column of the leftmost wrong field.
+    Wrong(u32),
+    // The name is unknown, or that of a carried line.
+    Untyped,
+}
+
+pub enum Answer {
+    Read(Record),
+    // The number of the refusal.
+    Refused(u8),
+}
+
+// Reads one line: 1 where it has not 80 columns, 3 where one is outside 32-126, 4 for a name that is unknown or carried, 6 for a wrong field.
+pub fn read_line(line: &[u8]) -> Answer
+    ensures { λ r. ⌜ r ≡ readLine (now (line .entry)) ⌝ }
+{
+    if line.len() == 80 {
+        if columns::is_clean(line, 0, 80) {
+            return answered(read_kind(line, kinds::kind_of(line)));
+        }
+        return Answer::Refused(3);
+    }
+    Answer::Refused(1)
+}
+
+// Writes the line of a record, 80 bytes: 0; or leaves all as found: 6 where a field is out of its range, 17 where there is no room.
+pub fn write_record(out: &mut [u8], r: Record) -> u8
+    ensures { λ n. ⌜ (n ≡ writeNumber (recordOk r) (now (out .entry))) × (now (out .exit) ≡ writeLine (recordOk r) (recordLine r) (now (out .entry))) ⌝ }
+{
+    match r {
+        Record::Coordinate(het, a) => coordinate::write_atom(out, het, a),
+        Record::Ter(t) => ter::write_ter(out, t),
+        Record::Helix(h) => helix::write_helix(out, h),
+        Record::Sheet(s) => sheet::write_sheet(out, s),
+        Record::Conect(c) => conect::write_conect(out, c),
+        Record::Master(t) => master::write_master(out, t),
+        Record::End => write_end(out),
+    }
+}
+
+// What a line of 80 columns reads to, by its kind.
+pub fn read_kind(line: &[u8], k: Kind) -> Reading
+    requires { ⌜ length (now line) ≡ 80 ⌝ }
+    ensures { λ r. ⌜ r ≡ readingOf k (now (line .entry)) ⌝ }
+{
+    match k {
+        Kind::Atom => read_coordinate(line, false),
+        Kind::Hetatm => read_coordinate(line, true),
+        Kind::Ter => read_ter(line),
+        Kind::Helix => read_helix(line),
+        Kind::Sheet => read_sheet(line),
+        Kind::Conect => read_conect(line),
+        Kind::Master => read_master(line),
+        Kind::End => read_end(line),
+        Kind::Header => Reading::Untyped,
+        Kind::Title => Reading::Untyped,
+        Kind::Compnd => Reading::Untyped,
+        Kind::Source => Reading::Untyped,
+        Kind::Keywds => Reading::Untyped,
+        Kind::Expdta => Reading::Untyped,
+        Kind::Author => Reading::Untyped,
+        Kind::Revdat => Reading::Untyped,
+        Kind::Jrnl => Reading::Untyped,
+        Kind::Remark => Reading::Untyped,
+        Kind::Seqres => Reading::Untyped,
+        Kind::Het => Reading::Untyped,
+        Kind::Cryst1 => Reading::Untyped,
+        Kind::Origx1 => Reading::Untyped,
+        Kind::Origx2 => Reading::Untyped,
+        Kind::Origx3 => Reading::Untyped,
+        Kind::Scale1 => Reading::Untyped,
+        Kind::Scale2 => Reading::Untyped,
+        Kind::Scale3 => Reading::Untyped,
+        Kind::Unknown => Reading::Untyped,
+    }
+}
+
+fn answered(r: Reading) -> Answer
+    ensures { λ a. ⌜ a ≡ answerOf r ⌝ }
+{
+    match r {
+        Reading::Typed(x) => Answer::Read(x),
+        Reading::Wrong(_) => Answer::Refused(6),
+        Reading::Untyped => Answer::Refused(4),
+    }
+}
+
+fn read_coordinate(line: &[u8], het: bool) -> Reading
+    requires { ⌜ length (now line) ≡ 80 ⌝ }
+    ensures { λ r. ⌜ r ≡ judged (atomFault (now (line .entry)) 6) (rec.Coordinate het (atomValue (now (line .entry)) 6)) ⌝ }
+{
+    let r = coordinate::read_atom(line);
+    let value = r.value;
+    let column = r.column;
+    if column == 0 {
+        return Reading::Typed(Record::Coordinate(het, value));
+    }
+    Reading::Wrong(column)
+}
+
+fn read_ter(line: &[u8]) -> Reading
+    requires { ⌜ length (now line) ≡ 80 ⌝ }
+    ensures { λ r. ⌜ r ≡ judged (terFault (now (line .entry)) 6) (rec.Ter (terValue (now (line .entry)) 6)) ⌝ }
+{
+    let r = ter::read_ter(line);
+    let value = r.value;
+    let column = r.column;
+    if column == 0 {
+        return Reading::Typed(Record::Ter(value));
+    }
+    Reading::Wrong(column)
+}
+
+fn read_helix(line: &[u8]) -> Reading
+    requires { ⌜ length (now line) ≡ 80 ⌝ }
+    ensures { λ r. ⌜ r ≡ judged (helixFault (now (line .entry)) 6) (rec.Helix (helixValue (now (line .entry)) 6)) ⌝ }
+{
+    let r = helix::read_helix(line);
+    let value = r.value;
+    let column = r.column;
+    if column == 0 {
+        return Reading::Typed(Record::Helix(value));
+    }
+    Reading::Wrong(column)
+}
+
+fn read_sheet(line: &[u8]) -> Reading
+    requires { ⌜ length (now line) ≡ 80 ⌝ }
+    ensures { λ r. ⌜ r ≡ judged (sheetFault (now (line .entry)) 6) (rec.Sheet (sheetValue (now (line .entry)) 6)) ⌝ }
+{
+    let r = sheet::read_sheet(line);
+    let value = r.value;
+    let column = r.column;
+    if column == 0 {
+        return Reading::Typed(Record::Sheet(value));
+    }
+    Reading::Wrong(column)
+}
+
+fn read_conect(line: &[u8]) -> Reading
+    requires { ⌜ length (now line) ≡ 80 ⌝ }
+    ensures { λ r. ⌜ r ≡ judged (conectFault (now (line .entry)) 6) (rec.Conect (conectValue (now (line .entry)) 6)) ⌝ }
+{
+    let r = conect::read_conect(line);
+    let value = r.value;
+    let column = r.column;
+    if column == 0 {
+        return Reading::Typed(Record::Conect(value));
+    }
+    Reading::Wrong(column)
+}
+
+fn read_master(line: &[u8]) -> Reading
+    requires { ⌜ length (now line) ≡ 80 ⌝ }
+    ensures { λ r. ⌜ r ≡ judged (masterFault (now (line .entry)) 6) (rec.Master (masterValue (now (line .entry)) 6)) ⌝ }
+{
+    let r = master::read_master(line);
+    let value = r.value;
+    let column = r.column;
+    if column == 0 {
+        return Reading::Typed(Record::Master(value));
+    }
+    Reading::Wrong(column)
+}
+
+fn read_end(line: &[u8]) -> Reading
+    requires { ⌜ length (now line) ≡ 80 ⌝ }
+    ensures { λ r. ⌜ r ≡ judged (endF .fault (now (line .entry)) 6) rec.End ⌝ }
+{
+    let column = columns::first(columns::gap(line, 6, 74), 0);
+    if column == 0 {
+        return Reading::Typed(Record::End);
+    }
+    Reading::Wrong(column)
+}
+
+// END has no field that could be out of its range.
+fn write_end(out: &mut [u8]) -> u8
+    ensures { λ n. ⌜ (n ≡ writeNumber (recordOk rec.End) (now (out .entry))) × (now (out .exit) ≡ writeLine (recordOk rec.End) (recordLine rec.End) (now (out .entry))) ⌝ }
+{
+    if out.len() < 80 {
+        return 17;
+    }
+    words::put_word(out, 0, 6, kinds::END);
+    columns::put_blanks(out, 6, 74);
+    0
+}

@@ -1,0 +1,36 @@
+use borrow.Author.Needs.{needs}
+use Rattle.names.proofs.is_residue.Statement.{statement}
+use Rattle.names.proofs.is_residue.Tie as tie
+
+is-code-requires : tie.Need-is-code-requires
+is-code-requires c κs = search needs
+
+is-code-requires-2 : tie.Need-is-code-requires-2
+is-code-requires-2 c κs = search needs
+
+is-code-requires-3 : tie.Need-is-code-requires-3
+is-code-requires-3 c κs = search needs
+
+is-blank-requires : tie.Need-is-blank-requires
+is-blank-requires c κs = search needs
+
+is-blank-requires-2 : tie.Need-is-blank-requires-2
+is-blank-requires-2 c κs = search needs
+
+right-three-requires : tie.Need-right-three-requires
+right-three-requires c κs = search needs
+
+returns : tie.Need-returns
+returns c = cc
+
+pub is-residue-spec : {M : Type 1} → statement M
+is-residue-spec =
+    tie.close
+    (tie.spec
+    is-code-requires
+    is-code-requires-2
+    is-code-requires-3
+    is-blank-requires
+    is-blank-requires-2
+    right-three-requires
+    returns)

@@ -1,0 +1,32 @@
+use borrow.Author.Needs.{needs}
+use Rattle.names.proofs.right_three.Statement.{statement}
+use Rattle.names.proofs.right_three.Tie as tie
+
+either-of-requires : tie.Need-either-of-requires
+either-of-requires c κs = search needs
+
+both-of-requires : tie.Need-both-of-requires
+both-of-requires c κs = search needs
+
+both-of-requires-2 : tie.Need-both-of-requires-2
+both-of-requires-2 c κs = search needs
+
+either-of-requires-2 : tie.Need-either-of-requires-2
+either-of-requires-2 c κs = search needs
+
+both-of-requires-3 : tie.Need-both-of-requires-3
+both-of-requires-3 c κs = search needs
+
+returns : tie.Need-returns
+returns c = cc
+
+pub right-three-spec : {M : Type 1} → statement M
+right-three-spec =
+    tie.close
+    (tie.spec
+    either-of-requires
+    both-of-requires
+    both-of-requires-2
+    either-of-requires-2
+    both-of-requires-3
+    returns)

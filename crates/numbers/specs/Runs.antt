@@ -1,0 +1,45 @@
+-- How a number is read from the left: what the columns passed are, and their digits, each in four bits.
+use Prim.Native.Nat.{ℕ, zero, suc, _+_, _*_, _-_, _/_, _%_}
+use mathlib.Core.List.{List}
+use mathlib.Core.Bool.{Bool, true, false}
+use lib.ListN.{getD}
+use lib.Dec.{eqb}
+use Rattle.numbers.specs.declared.Number.{Number}
+use Rattle.numbers.specs.declared.Scan.{Scan}
+use Rattle.ascii.specs.Bytes.{byte}
+use Rattle.ascii.specs.Tests.{pick, both, isDigit}
+use Rattle.numbers.specs.Number.{none}
+
+-- what a byte counts as a digit
+unfoldable pub valueOf : ℕ → ℕ
+valueOf b = pick (isDigit b) (b - byte "0") 0
+
+-- the number of n digits of four bits
+unfoldable pub decOf : ℕ → ℕ → ℕ
+decOf w zero = 0
+decOf w (suc n) = 10 * decOf (w / 16) n + w % 16
+
+unfoldable pub stepOf : Scan → ℕ → Scan
+stepOf s b =
+    record {
+      blank = both (s .blank) (eqb b (byte " "));
+      lead = both (s .blank) (pick (eqb b (byte " ")) true (eqb b (byte "-")));
+      minus = pick (eqb b (byte "-")) true (s .minus);
+      ends = isDigit b;
+      good = both (isDigit b) (pick (s .ends) (both (s .good) (pick (eqb (s .code) 0) false true)) (s .lead));
+      code = 16 * s .code + valueOf b;
+    }
+
+unfoldable pub scanOf : List ℕ → ℕ → ℕ → Scan
+scanOf l at zero = record { blank = true; lead = true; minus = false; ends = false; good = false; code = 0 }
+scanOf l at (suc n) = stepOf (scanOf l at n) (getD l (at + n) 0)
+
+unfoldable pub takenOf : Number → ℕ → Number
+takenOf h b = record { good = both (h .good) (isDigit b); minus = h .minus; mag = 16 * h .mag + valueOf b }
+
+unfoldable pub tailOf : List ℕ → ℕ → Number → ℕ → Number
+tailOf l at h zero = h
+tailOf l at h (suc n) = takenOf (tailOf l at h n) (getD l (at + n) 0)
+
+unfoldable pub madeOf : Bool → Bool → ℕ → Number
+madeOf good minus mag = pick good (record { good = true; minus = minus; mag = mag }) none

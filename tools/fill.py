@@ -1,0 +1,30 @@
+#!/usr/bin/env python3
+"""fill.py CRATE FUNCTION [-u 'MODULE.{names}'].. NEED=TERM..: answers needs of a proof file.
+A hole that no NEED names becomes `search needs`. A TERM may begin 'unfolding a b | '."""
+import re, sys
+
+crate, fn = sys.argv[1:3]
+uses, answers, rest = [], {}, sys.argv[3:]
+while rest:
+    if rest[0] == "-u":
+        uses.append("use " + rest[1]); rest = rest[2:]
+    else:
+        need, term = rest[0].split("=", 1); answers[need] = term; rest = rest[1:]
+path = f"crates/{crate}/proofs/{fn}/Proof.antt"
+text = open(path, encoding="utf-8").read()
+for need, term in answers.items():
+    before = ""
+    if term.startswith("unfolding "):
+        before, term = term.split(" | ", 1)
+        before += "\n"
+    pattern = r"(?m)^(unfolding [^\n]*\n)?" + re.escape(need) + r"((?: [^\s=]+)*) =[^\n]*(\n    [^\n]*)*$"
+    text, n = re.subn(pattern, lambda m: before + need + m.group(2) + " = " + term, text)
+    if n != 1:
+        print(f"{need}: {n} places")
+text = re.sub(r"(?m)^(\S+(?: [^\s=]+)*) = \?$", r"\1 = search needs", text)
+if "search needs" in text:
+    uses.append("use borrow.Author.Needs.{needs}")
+for use in uses:
+    if use not in text:
+        text = use + "\n" + text
+open(path, "w", encoding="utf-8").write(text)
