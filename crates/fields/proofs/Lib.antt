@@ -4,4 +4,3 @@ pub mod Returns
 pub mod Formats
 pub mod Choices
 pub mod Writes
-pub mod Examples

@@ -1,0 +1,335 @@
+-- What follows of a text from the answer of the check, in plain words.
+-- Assumes nothing.
+use Prim.Native.Nat.{ℕ, zero, suc, _+_, _*_, _≤_, _<_}
+use mathlib.Core.List.{List, [], _∷_, map}
+use mathlib.Core.Bool.{Bool, true, false, not, _&&_, _||_, false≢true, true≢false}
+use mathlib.Core.Path.{_≡_, refl, sym, _∙_, ap, ap₂}
+use mathlib.Core.Logic.{_⊎_, inl, inr, ⊎-elim}
+use native.Mathlib.Omega.{arith}
+use borrow.Author.Tests.{eqb-true, ltb-true, ltb-false}
+use lib.Dec.{eqb, ltb}
+use lib.ListN.{length, take, drop, length-take}
+use lib.Seq.{take-take}
+use Rattle.ascii.specs.Tests.{pick}
+use Rattle.ascii.proofs.Choice.{picks}
+use Rattle.master.specs.declared.Tally.{Tally}
+use Rattle.kinds.specs.declared.Kind.{Kind}
+use Rattle.kinds.specs.declared.Kind.the-variants as kind
+use Rattle.conect.specs.declared.Conect.{Conect as ConectOf}
+use Rattle.line.specs.declared.Record.{Record}
+use Rattle.line.specs.declared.Record.the-variants.{Coordinate, Ter, Helix, Sheet, Conect, Master, End}
+use Rattle.pieces.specs.declared.Line.{Line}
+use Rattle.pieces.specs.declared.Line.the-variants.{Bad, Wrong, Carried, Typed}
+use Rattle.pieces.specs.Pieces.{lineOf}
+use Rattle.rules.specs.declared.Counts.{Counts}
+use Rattle.rules.specs.declared.State.{State}
+use Rattle.rules.specs.Places.{placeOf, endPlace}
+use Rattle.rules.specs.Counts.{countOf, oneMore, raised, sameCounts}
+use Rattle.rules.specs.Rules.{recordKind, judgeOf, nextOf, carriedNext, typedNext, startOf}
+use Rattle.rules.proofs.Laws.{judge-typed, judge-wrong}
+use Rattle.gate.specs.declared.Verdict.{Verdict}
+use Rattle.gate.specs.Text.{pieceAt, row, down}
+use Rattle.gate.specs.Gate.{isSite, someOf, named, partnerKnown, recordKnown, refusedOf, finishOf, checkLines, checkOf}
+use Rattle.gate.specs.Search.{isCoord, serialOf}
+use Rattle.gate.proofs.Cut.{cut-done}
+use Rattle.gate.proofs.Rows.{carried-ends, bad-number}
+use Rattle.gate.proofs.Runs.{stateAt, GoodTo, Reached, reached, unrolled, answered}
+
+-- ---- serials rise
+pub rising : (t : List ℕ) (n : ℕ) → GoodTo (row t) n → (j k : ℕ) → j < k → k < n → isCoord (row t j) ≡ true → isCoord (row t k) ≡ true
+    → serialOf (row t j) < serialOf (row t k)
+rising t n g j k h l cj ck =
+    let R = reached t n g in
+    let lo : R .span .lo ≤ j = low R (ltb j (R .span .lo)) refl in
+    let hi : k < R .span .hi = high R (ltb k (R .span .hi)) refl in
+    R .block .rise j k lo h hi
+  where
+    low : (R : Reached t n) → (b : Bool) → ltb j (R .span .lo) ≡ b → R .span .lo ≤ j
+    low R true u = absurd (false≢true (sym (R .block .low j (ltb-true _ _ u)) ∙ cj))
+    low R false u = ltb-false j (R .span .lo) u
+
+    high : (R : Reached t n) → (b : Bool) → ltb k (R .span .hi) ≡ b → k < R .span .hi
+    high R true u = ltb-true k (R .span .hi) u
+    high R false u = absurd (false≢true (sym (R .block .high k (ltb-false _ _ u) l) ∙ ck))
+
+-- ---- every number on a CONECT line is the serial of an ATOM or HETATM line before it
+abbrev Before : List ℕ → ℕ → ℕ → Type 0
+Before t i x = (j : ℕ) × (j < i) × (isSite x (row t j) ≡ true)
+
+or-cases : (a b : Bool) → (a || b) ≡ true → (a ≡ true) ⊎ (b ≡ true)
+or-cases true b e = inl refl
+or-cases false b e = inr e
+
+and-both : (a b : Bool) → (a && b) ≡ true → (a ≡ true) × (b ≡ true)
+and-both true b e = (refl, e)
+and-both false b e = absurd (false≢true e)
+
+some-where : (f : Line → Bool) (L : ℕ → Line) (n : ℕ) → someOf f (down L n) ≡ true → (j : ℕ) × (j < n) × (f (L j) ≡ true)
+unfolding someOf down
+some-where f L zero e = absurd (false≢true e)
+some-where f L (suc n) e =
+    ⊎-elim (λ y. (n, omega arith, y)) (λ y. let w = some-where f L n y in (w .0, omega (arith, w .1), w .2)) (or-cases (f (L n)) _ e)
+
+known-of : (known b : Bool) → (not known || b) ≡ false → known ≡ true
+known-of true b e = refl
+known-of false b e = absurd (true≢false e)
+
+pub record Names (t : List ℕ) (i : ℕ) (bond : ConectOf) : Type 0 where
+  pub serial : Before t i (bond .serial .0)
+  pub a : (bond .a .0 ≡ 0) ⊎ Before t i (bond .a .0)
+  pub b : (bond .b .0 ≡ 0) ⊎ Before t i (bond .b .0)
+  pub c : (bond .c .0 ≡ 0) ⊎ Before t i (bond .c .0)
+  pub d : (bond .d .0 ≡ 0) ⊎ Before t i (bond .d .0)
+
+partner-where : (t : List ℕ) (i x : ℕ) → partnerKnown (down (row t) i) x ≡ true → (x ≡ 0) ⊎ Before t i x
+partner-where t i x e = ⊎-elim (λ y. inl (eqb-true x 0 y)) (λ y. inr (some-where (isSite x) (row t) i y)) (or-cases (eqb x 0) _ e)
+
+names-of : (t : List ℕ) (i : ℕ) (c : ConectOf) → recordKnown (down (row t) i) (Conect c) ≡ true → Names t i c
+names-of t i c e =
+    let x = and-both (named (down (row t) i) (c .serial .0)) _ e in
+    let y = and-both (partnerKnown (down (row t) i) (c .a .0)) _ (x .1) in
+    let z = and-both (partnerKnown (down (row t) i) (c .b .0)) _ (y .1) in
+    let w = and-both (partnerKnown (down (row t) i) (c .c .0)) _ (z .1) in
+    record {
+      serial = some-where (isSite (c .serial .0)) (row t) i (x .0);
+      a = partner-where t i (c .a .0) (y .0);
+      b = partner-where t i (c .b .0) (z .0);
+      c = partner-where t i (c .c .0) (w .0);
+      d = partner-where t i (c .d .0) (w .1);
+    }
+
+pub conect-names : (t : List ℕ) (n i : ℕ) (c : ConectOf) → GoodTo (row t) n → i < n → row t i ≡ Typed (Conect c) → Names t i c
+conect-names t n i c g h e =
+    let j : judgeOf (recordKnown (down (row t) i) (Conect c)) (stateAt (row t) i) (Typed (Conect c)) ≡ 0 = rw e at (g i h) in
+    names-of t i c (known-of _ _ (judge-typed _ (stateAt (row t) i) (Conect c) j .bond))
+
+-- ---- the counts are the numbers of such lines
+-- the kind of a line
+abbrev pub lineKind : Line → Kind
+lineKind (Bad n) = kind.Unknown
+lineKind (Wrong k c) = k
+lineKind (Carried k) = k
+lineKind (Typed r) = recordKind r
+
+-- how many of the first n lines are counted in w
+unfoldable pub linesOf : ℕ → (ℕ → Line) → ℕ → ℕ
+linesOf w L zero = 0
+linesOf w L (suc n) = pick (eqb (countOf (lineKind (L n))) w) (linesOf w L n + 1) (linesOf w L n)
+
+pub record Counted (L : ℕ → Line) (n : ℕ) (c : Counts) : Type 0 where
+  pub remark : c .remark ≡ linesOf 1 L n
+  pub het : c .het ≡ linesOf 2 L n
+  pub helix : c .helix ≡ linesOf 3 L n
+  pub sheet : c .sheet ≡ linesOf 4 L n
+  pub xform : c .xform ≡ linesOf 5 L n
+  pub coord : c .coord ≡ linesOf 6 L n
+  pub ter : c .ter ≡ linesOf 7 L n
+  pub conect : c .conect ≡ linesOf 8 L n
+  pub seq : c .seq ≡ linesOf 9 L n
+
+count-more : (w v x y : ℕ) → x ≡ y → oneMore w v x ≡ pick (eqb w v) (y + 1) y
+count-more w v x y e = rw e
+
+counted-more : (L : ℕ → Line) (n : ℕ) (c : Counts) → Counted L n c → Counted L (suc n) (raised c (countOf (lineKind (L n))))
+unfolding linesOf raised
+counted-more L n c C =
+    record {
+      remark = count-more (countOf (lineKind (L n))) 1 (c .remark) _ (C .remark);
+      het = count-more (countOf (lineKind (L n))) 2 (c .het) _ (C .het);
+      helix = count-more (countOf (lineKind (L n))) 3 (c .helix) _ (C .helix);
+      sheet = count-more (countOf (lineKind (L n))) 4 (c .sheet) _ (C .sheet);
+      xform = count-more (countOf (lineKind (L n))) 5 (c .xform) _ (C .xform);
+      coord = count-more (countOf (lineKind (L n))) 6 (c .coord) _ (C .coord);
+      ter = count-more (countOf (lineKind (L n))) 7 (c .ter) _ (C .ter);
+      conect = count-more (countOf (lineKind (L n))) 8 (c .conect) _ (C .conect);
+      seq = count-more (countOf (lineKind (L n))) 9 (c .seq) _ (C .seq);
+    }
+
+counts-next : (s : State) (known : Bool) (l : Line) → judgeOf known s l ≡ 0 → ((n : ℕ) → l ≡ Bad n → 0 < n) → (nextOf s l) .counts ≡ raised (s .counts) (countOf (lineKind l))
+unfolding nextOf carriedNext typedNext judgeOf
+counts-next s known (Bad n) j b = absurd (omega (arith, b n refl))
+counts-next s known (Wrong k c) j b = absurd (judge-wrong known s k c j)
+counts-next s known (Carried k) j b = refl
+counts-next s known (Typed r) j b = refl
+
+pub counted : (t : List ℕ) (n : ℕ) → GoodTo (row t) n → Counted (row t) n ((stateAt (row t) n) .counts)
+unfolding stateAt linesOf startOf
+counted t zero g = record { remark = refl; het = refl; helix = refl; sheet = refl; xform = refl; coord = refl; ter = refl; conect = refl; seq = refl }
+counted t (suc n) g =
+    rw (counts-next (stateAt (row t) n) _ (row t n) (g n (omega arith)) (λ m e. bad-number t n m e))
+    (counted-more (row t) n ((stateAt (row t) n) .counts) (counted t n (λ j h. g j (omega arith))))
+
+pub record Totals (t : List ℕ) (i : ℕ) (m : Tally) : Type 0 where
+  pub remark : m .remark ≡ linesOf 1 (row t) i
+  pub het : m .het ≡ linesOf 2 (row t) i
+  pub helix : m .helix ≡ linesOf 3 (row t) i
+  pub sheet : m .sheet ≡ linesOf 4 (row t) i
+  pub xform : m .xform ≡ linesOf 5 (row t) i
+  pub coord : m .coord ≡ linesOf 6 (row t) i
+  pub ter : m .ter ≡ linesOf 7 (row t) i
+  pub conect : m .conect ≡ linesOf 8 (row t) i
+  pub seq : m .seq ≡ linesOf 9 (row t) i
+
+not-false : (b : Bool) → not b ≡ false → b ≡ true
+not-false true e = refl
+not-false false e = absurd (true≢false e)
+
+totals-of : (t : List ℕ) (i : ℕ) (m : Tally) (c : Counts) → sameCounts m c ≡ true → Counted (row t) i c → Totals t i m
+unfolding sameCounts
+totals-of t i m c e C =
+    let x0 = and-both (eqb (m .remark) (c .remark)) _ (e) in
+    let x1 = and-both (eqb (m .het) (c .het)) _ (x0 .1) in
+    let x2 = and-both (eqb (m .helix) (c .helix)) _ (x1 .1) in
+    let x3 = and-both (eqb (m .sheet) (c .sheet)) _ (x2 .1) in
+    let x4 = and-both (eqb (m .xform) (c .xform)) _ (x3 .1) in
+    let x5 = and-both (eqb (m .coord) (c .coord)) _ (x4 .1) in
+    let x6 = and-both (eqb (m .ter) (c .ter)) _ (x5 .1) in
+    let x7 = and-both (eqb (m .conect) (c .conect)) _ (x6 .1) in
+    record {
+      remark = eqb-true _ _ (x0 .0) ∙ C .remark;
+      het = eqb-true _ _ (x1 .0) ∙ C .het;
+      helix = eqb-true _ _ (x2 .0) ∙ C .helix;
+      sheet = eqb-true _ _ (x3 .0) ∙ C .sheet;
+      xform = eqb-true _ _ (x4 .0) ∙ C .xform;
+      coord = eqb-true _ _ (x5 .0) ∙ C .coord;
+      ter = eqb-true _ _ (x6 .0) ∙ C .ter;
+      conect = eqb-true _ _ (x7 .0) ∙ C .conect;
+      seq = eqb-true _ _ (x7 .1) ∙ C .seq;
+    }
+
+-- MASTER's numbers are the numbers of such lines before it
+pub master-totals : (t : List ℕ) (n i : ℕ) (m : Tally) → GoodTo (row t) n → i < n → row t i ≡ Typed (Master m) → Totals t i m
+master-totals t n i m g h e =
+    let j : judgeOf true (stateAt (row t) i) (Typed (Master m)) ≡ 0 = rw e at (g i h) in
+    totals-of t i m ((stateAt (row t) i) .counts) (not-false _ (judge-typed true (stateAt (row t) i) (Master m) j .count)) (counted t i (λ k l. g k (omega arith)))
+
+-- ---- the last line is END
+kind-ends : (k : Kind) → placeOf k .here ≡ endPlace → k ≡ kind.End
+kind-ends kind.Header e = absurd (omega arith)
+kind-ends kind.Title e = absurd (omega arith)
+kind-ends kind.Compnd e = absurd (omega arith)
+kind-ends kind.Source e = absurd (omega arith)
+kind-ends kind.Keywds e = absurd (omega arith)
+kind-ends kind.Expdta e = absurd (omega arith)
+kind-ends kind.Author e = absurd (omega arith)
+kind-ends kind.Revdat e = absurd (omega arith)
+kind-ends kind.Jrnl e = absurd (omega arith)
+kind-ends kind.Remark e = absurd (omega arith)
+kind-ends kind.Seqres e = absurd (omega arith)
+kind-ends kind.Het e = absurd (omega arith)
+kind-ends kind.Helix e = absurd (omega arith)
+kind-ends kind.Sheet e = absurd (omega arith)
+kind-ends kind.Cryst1 e = absurd (omega arith)
+kind-ends kind.Origx1 e = absurd (omega arith)
+kind-ends kind.Origx2 e = absurd (omega arith)
+kind-ends kind.Origx3 e = absurd (omega arith)
+kind-ends kind.Scale1 e = absurd (omega arith)
+kind-ends kind.Scale2 e = absurd (omega arith)
+kind-ends kind.Scale3 e = absurd (omega arith)
+kind-ends kind.Atom e = absurd (omega arith)
+kind-ends kind.Hetatm e = absurd (omega arith)
+kind-ends kind.Ter e = absurd (omega arith)
+kind-ends kind.Conect e = absurd (omega arith)
+kind-ends kind.Master e = absurd (omega arith)
+kind-ends kind.End e = refl
+kind-ends kind.Unknown e = absurd (omega arith)
+
+record-ends : (r : Record) → placeOf (recordKind r) .here ≡ endPlace → r ≡ End
+record-ends (Coordinate true a) e = absurd (omega arith)
+record-ends (Coordinate false a) e = absurd (omega arith)
+record-ends (Ter t) e = absurd (omega arith)
+record-ends (Helix h) e = absurd (omega arith)
+record-ends (Sheet s) e = absurd (omega arith)
+record-ends (Conect c) e = absurd (omega arith)
+record-ends (Master m) e = absurd (omega arith)
+record-ends End e = refl
+
+line-ends : (t : List ℕ) (i : ℕ) (s : State) (known : Bool) (l : Line) → row t i ≡ l → judgeOf known s l ≡ 0 → (nextOf s l) .place ≡ endPlace → l ≡ Typed End
+unfolding nextOf carriedNext typedNext judgeOf
+line-ends t i s known (Bad n) e j p = absurd (omega (arith, bad-number t i n e))
+line-ends t i s known (Wrong k c) e j p = absurd (judge-wrong known s k c j)
+line-ends t i s known (Carried k) e j p = absurd (carried-ends t i k e p)
+line-ends t i s known (Typed r) e j p = ap Typed (record-ends r p)
+
+pub end-last : (t : List ℕ) (n : ℕ) → GoodTo (row t) n → (stateAt (row t) n) .place ≡ endPlace → (m : ℕ) × (n ≡ suc m) × (row t m ≡ Typed End)
+unfolding stateAt startOf
+end-last t zero g p = absurd (omega arith)
+end-last t (suc m) g p = (m, refl, line-ends t m (stateAt (row t) m) _ (row t m) refl (g m (omega arith)) p)
+
+-- ---- the good lines by themselves
+-- the lines of the first n pieces are those of the whole text
+part-piece : (t : List ℕ) (n j : ℕ) → j < n → pieceAt (take (81 * n) t) j ≡ pieceAt t j
+unfolding pieceAt
+part-piece t n j h = cut-part t (81 * j) (81 * n) (omega arith)
+  where
+    cut-part : (t : List ℕ) (a b : ℕ) → a + 81 ≤ b → take 81 (drop a (take b t)) ≡ take 81 (drop a t)
+    cut-part t zero b k = take-take 81 b t (omega arith)
+    cut-part [] (suc a) zero k = refl
+    cut-part [] (suc a) (suc b) k = refl
+    cut-part (x ∷ t) (suc a) zero k = absurd (omega arith)
+    cut-part (x ∷ t) (suc a) (suc b) k = cut-part t a b (omega arith)
+
+part-row : (t : List ℕ) (n j : ℕ) → j < n → row (take (81 * n) t) j ≡ row t j
+unfolding row
+part-row t n j h = ap lineOf (part-piece t n j h)
+
+down-same : (L M : ℕ → Line) (n : ℕ) → ((j : ℕ) → j < n → L j ≡ M j) → down L n ≡ down M n
+unfolding down
+down-same L M zero e = refl
+down-same L M (suc n) e = ap₂ _∷_ (e n (omega arith)) (down-same L M n (λ j h. e j (omega arith)))
+
+state-same : (L M : ℕ → Line) (n : ℕ) → ((j : ℕ) → j < n → L j ≡ M j) → stateAt L n ≡ stateAt M n
+unfolding stateAt
+state-same L M zero e = refl
+state-same L M (suc n) e = ap₂ nextOf (state-same L M n (λ j h. e j (omega arith))) (e n (omega arith))
+
+good-same : (L M : ℕ → Line) (n : ℕ) → ((j : ℕ) → j < n → L j ≡ M j) → GoodTo M n → GoodTo L n
+good-same L M n e g j h =
+    rw (down-same L M j (λ k l. e k (omega arith)), state-same L M j (λ k l. e k (omega arith)), e j h) (g j h)
+
+finish-good : (s : State) → ((finishOf s) .good ≡ s .lines) × (((finishOf s) .number ≡ 0) ⊎ ((finishOf s) .number ≡ 12))
+unfolding finishOf refusedOf
+finish-good s = picks (λ (v : Verdict). (v .good ≡ s .lines) × ((v .number ≡ 0) ⊎ (v .number ≡ 12))) (eqb (s .place) endPlace) _ _ (λ _. (refl, inl refl)) (λ _. (refl, inr refl))
+
+-- a text cut short after n of its good lines has no offence: it is accepted, or over before END
+pub prefix-good : (t : List ℕ) (n : ℕ) → GoodTo (row t) n
+    → ((checkOf (take (81 * n) t)) .good ≡ n) × (((checkOf (take (81 * n) t)) .number ≡ 0) ⊎ ((checkOf (take (81 * n) t)) .number ≡ 12))
+unfolding checkLines
+prefix-good t n g =
+    let u : List ℕ = take (81 * n) t in
+    let short : length u ≤ 81 * n = simp length-take (omega arith) in
+    let G : GoodTo (row u) n = good-same (row u) (row t) n (part-row t n) g in
+    let e = unrolled u n G ∙ ap (λ (ls : List (List ℕ)). checkLines (down (row u) n) (stateAt (row u) n) (map lineOf ls)) (cut-done u n short) in
+    let f = finish-good (stateAt (row u) n) in
+    rw e (f .0 ∙ reached u n G .lines, f .1)
+
+-- ---- all of it, of an answer of the check
+pub record Consequences (t : List ℕ) : Type 0 where
+  -- among the good lines serials rise over ATOM, HETATM and TER
+  pub serials-rise : (j k : ℕ) → j < k → k < (checkOf t) .good → isCoord (row t j) ≡ true → isCoord (row t k) ≡ true → serialOf (row t j) < serialOf (row t k)
+  -- every number on a good CONECT line is the serial of an ATOM or HETATM line before it
+  pub conects-name : (i : ℕ) (c : ConectOf) → i < (checkOf t) .good → row t i ≡ Typed (Conect c) → Names t i c
+  -- the numbers of a good MASTER line are the numbers of such lines before it
+  pub masters-count : (i : ℕ) (m : Tally) → i < (checkOf t) .good → row t i ≡ Typed (Master m) → Totals t i m
+  -- the nine counts of the answer are the numbers of such lines among the good ones
+  pub counts-true : Counted (row t) ((checkOf t) .good) ((checkOf t) .counts)
+  -- a granted text is its good lines, the last of which is END
+  pub ends : (checkOf t) .number ≡ 0 → (length t ≡ 81 * (checkOf t) .good) × ((m : ℕ) × ((checkOf t) .good ≡ suc m) × (row t m ≡ Typed End))
+  -- the good lines by themselves, or any first n of them, have no offence
+  pub prefixes : (n : ℕ) → n ≤ (checkOf t) .good
+      → ((checkOf (take (81 * n) t)) .good ≡ n) × (((checkOf (take (81 * n) t)) .number ≡ 0) ⊎ ((checkOf (take (81 * n) t)) .number ≡ 12))
+  -- a refused text offends in the line after its good ones
+  pub offends : ((checkOf t) .number ≡ 0 → ⊥) → (checkOf t) .line ≡ (checkOf t) .good + 1
+
+pub consequences : (t : List ℕ) → Consequences t
+consequences t =
+    let A = answered t in
+    record {
+      serials-rise = rising t ((checkOf t) .good) (A .good-to);
+      conects-name = λ i c. conect-names t ((checkOf t) .good) i c (A .good-to);
+      masters-count = λ i m. master-totals t ((checkOf t) .good) i m (A .good-to);
+      counts-true = rw (A .counts) (counted t ((checkOf t) .good) (A .good-to));
+      ends = λ z. let x = A .granted z in (x .1, end-last t ((checkOf t) .good) (A .good-to) (x .2));
+      prefixes = λ n h. prefix-good t n (λ j l. A .good-to j (omega arith));
+      offends = A .refused;
+    }

@@ -1,0 +1,180 @@
+-- The loop of the gate: what holds after i good lines, and that it holds again after one more.
+-- Assumes nothing.
+use Prim.Native.Nat.{ℕ, _+_, _*_, _≤_, _<_}
+use mathlib.Core.List.{List, _∷_, map}
+use mathlib.Core.Bool.{Bool}
+use mathlib.Core.Path.{_≡_, refl, sym, _∙_, ap}
+use native.Mathlib.Omega.{arith}
+use native.Mathlib.Numerals.{add-one}
+use borrow.Author.Tests.{eq-eqb, ne-eqb}
+use lib.Dec.{eqb}
+use lib.ListN.{length, take, drop, length-take, length-drop}
+use Rattle.ascii.proofs.Choice.{picks}
+use Rattle.pieces.specs.declared.Line.{Line}
+use Rattle.pieces.specs.declared.Line.the-variants.{Bad, Wrong, Carried, Typed}
+use Rattle.pieces.specs.Pieces.{lineOf}
+use Rattle.rules.specs.declared.Counts.{Counts}
+use Rattle.rules.specs.declared.State.{State}
+use Rattle.rules.specs.Counts.{oneMore, raised}
+use Rattle.rules.specs.Room.{Room}
+use Rattle.rules.specs.Rules.{judgeOf, nextOf, carriedNext, typedNext, startOf}
+use Rattle.rules.proofs.Laws.{judge-typed, judge-carried, judge-wrong}
+use Rattle.gate.specs.declared.Span.{Span}
+use Rattle.gate.specs.declared.Verdict.{Verdict}
+use Rattle.gate.specs.Text.{cut, pieceAt, row, down}
+use Rattle.gate.specs.Gate.{knownOf, numberIn, checkLines, checkOf, refusedOf, finishOf}
+use Rattle.gate.specs.Search.{isCoord, growOf, Block, Rising}
+use Rattle.gate.proofs.Cut.{cut-next, cut-done}
+use Rattle.gate.proofs.Rows.{carried-away, bad-number, piece-long}
+use Rattle.gate.proofs.Block.{grow-carried, grow-typed}
+
+-- ---- no count is above the number of lines
+pub record Few (c : Counts) (i : ℕ) : Type 0 where
+  pub remark : c .remark ≤ i
+  pub het : c .het ≤ i
+  pub helix : c .helix ≤ i
+  pub sheet : c .sheet ≤ i
+  pub xform : c .xform ≤ i
+  pub coord : c .coord ≤ i
+  pub ter : c .ter ≤ i
+  pub conect : c .conect ≤ i
+  pub seq : c .seq ≤ i
+
+one-few : (w n x i : ℕ) → x ≤ i → oneMore w n x ≤ i + 1
+one-few w n x i h = picks (λ (y : ℕ). y ≤ i + 1) (eqb w n) (x + 1) x (λ _. omega arith) (λ _. omega arith)
+
+few-next : (c : Counts) (w i : ℕ) → Few c i → Few (raised c w) (i + 1)
+unfolding raised
+few-next c w i f =
+    record {
+      remark = one-few w 1 (c .remark) i (f .remark);
+      het = one-few w 2 (c .het) i (f .het);
+      helix = one-few w 3 (c .helix) i (f .helix);
+      sheet = one-few w 4 (c .sheet) i (f .sheet);
+      xform = one-few w 5 (c .xform) i (f .xform);
+      coord = one-few w 6 (c .coord) i (f .coord);
+      ter = one-few w 7 (c .ter) i (f .ter);
+      conect = one-few w 8 (c .conect) i (f .conect);
+      seq = one-few w 9 (c .seq) i (f .seq);
+    }
+
+pub few-room : (c : Counts) (i : ℕ) → Few c i → i < 9223372036854775808 → Room c
+few-room c i f h =
+    record {
+      remark = omega (arith, f .remark);
+      het = omega (arith, f .het);
+      helix = omega (arith, f .helix);
+      sheet = omega (arith, f .sheet);
+      xform = omega (arith, f .xform);
+      coord = omega (arith, f .coord);
+      ter = omega (arith, f .ter);
+      conect = omega (arith, f .conect);
+      seq = omega (arith, f .seq);
+    }
+
+-- ---- after i good lines
+pub record Sofar (t : List ℕ) (i : ℕ) (b : Span) (s : State) : Type 0 where
+  pub within : 81 * i ≤ length t
+  pub lines : s .lines ≡ i
+  pub few : Few (s .counts) i
+  pub block : Block (row t) i b s
+  pub rest : checkOf t ≡ checkLines (down (row t) i) s (map lineOf (cut (drop (81 * i) t)))
+
+pub sofar-start : (t : List ℕ) → Sofar t 0 (record { lo = 0; hi = 0 }) startOf
+unfolding startOf checkOf down
+sofar-start t =
+    record {
+      within = omega arith;
+      lines = refl;
+      few = record { remark = omega arith; het = omega arith; helix = omega arith; sheet = omega arith; xform = omega arith; coord = omega arith; ter = omega arith; conect = omega arith; seq = omega arith };
+      block =
+          record {
+            lo-le = omega arith;
+            hi-le = omega arith;
+            coord = λ j h k. absurd (omega arith);
+            rise = λ j m h g k. absurd (omega arith);
+            low = λ j h. absurd (omega arith);
+            top = λ j h k. absurd (omega arith);
+            high = λ j h k. absurd (omega arith);
+            early = λ h. refl;
+            open-end = λ h g. absurd (omega arith);
+          };
+      rest = refl;
+    }
+
+-- the block of the lines so far is one that can be searched
+pub sofar-rising : (t : List ℕ) (i : ℕ) (b : Span) (s : State) → Sofar t i b s → Rising t (b .lo) (b .hi)
+sofar-rising t i b s S =
+    record {
+      lo-le = S .block .lo-le;
+      inside = omega (arith, S .block .hi-le, S .within);
+      coord = S .block .coord;
+      rise = S .block .rise;
+    }
+
+-- the rest begins with line i
+rest-step : (t : List ℕ) (i : ℕ) (b : Span) (s : State) → Sofar t i b s → 81 * i < length t
+    → checkOf t ≡ checkLines (down (row t) i) s (row t i ∷ map lineOf (cut (drop (81 * (i + 1)) t)))
+unfolding row
+rest-step t i b s S h = S .rest ∙ ap (λ (ls : List (List ℕ)). checkLines (down (row t) i) s (map lineOf ls)) (cut-next t i h)
+
+sofar-refused : (t : List ℕ) (i : ℕ) (b : Span) (s : State) → Sofar t i b s → 81 * i < length t
+    → (numberIn (down (row t) i) s (row t i) ≡ 0 → ⊥) → checkOf t ≡ refusedOf (numberIn (down (row t) i) s (row t i)) s
+unfolding checkLines
+sofar-refused t i b s S h j = rest-step t i b s S h ∙ rw (ne-eqb (numberIn (down (row t) i) s (row t i)) 0 j)
+
+-- ---- one good line more: the parts of the state
+pub record Grown (t : List ℕ) (i : ℕ) (b : Span) (s : State) (l : Line) : Type 0 where
+  pub long : 81 ≤ length (pieceAt t i)
+  pub lines : (nextOf s l) .lines ≡ s .lines + 1
+  pub few : Few ((nextOf s l) .counts) (i + 1)
+  pub block : Block (row t) (i + 1) (growOf b i l) (nextOf s l)
+
+pub grown : (t : List ℕ) (i : ℕ) (b : Span) (s : State) (known : Bool) → Few (s .counts) i → Block (row t) i b s → (l : Line) → row t i ≡ l → judgeOf known s l ≡ 0 → Grown t i b s l
+unfolding nextOf carriedNext typedNext judgeOf row
+grown t i b s known f B (Bad n) e j = absurd (omega (arith, bad-number t i n e))
+grown t i b s known f B (Wrong k c) e j = absurd (judge-wrong known s k c j)
+grown t i b s known f B (Carried k) e j =
+    record {
+      long = piece-long (pieceAt t i) (λ q. let z : _≡_ {A = ℕ} 0 1 = cc in omega arith);
+      lines = refl;
+      few = few-next (s .counts) _ i f;
+      block = grow-carried (row t) i b s k B (ap isCoord e) (judge-carried known s k j .0) (carried-away t i k e);
+    }
+grown t i b s known f B (Typed r) e j =
+    record {
+      long = piece-long (pieceAt t i) (λ q. let z : _≡_ {A = ℕ} 0 1 = cc in omega arith);
+      lines = refl;
+      few = few-next (s .counts) _ i f;
+      block = grow-typed (row t) i b s r known B e (judge-typed known s r j);
+    }
+
+sofar-next : (t : List ℕ) (i : ℕ) (b : Span) (s : State) → Sofar t i b s → 81 * i < length t
+    → numberIn (down (row t) i) s (row t i) ≡ 0 → Sofar t (i + 1) (growOf b i (row t i)) (nextOf s (row t i))
+unfolding checkLines down pieceAt
+sofar-next t i b s S h j =
+    let G = grown t i b s (knownOf (down (row t) i) (row t i)) (S .few) (S .block) (row t i) refl j in
+    let w : 81 ≤ length (take 81 (drop (81 * i) t)) = G .long in
+    record {
+      within = omega (arith, simp (length-take, length-drop) at w);
+      lines = G .lines ∙ ap (λ (n : ℕ). n + 1) (S .lines);
+      few = G .few;
+      block = G .block;
+      rest = rest-step t i b s S h ∙ rw (eq-eqb (numberIn (down (row t) i) s (row t i)) 0 j, add-one i);
+    }
+
+pub sofar-done : (t : List ℕ) (i : ℕ) (b : Span) (s : State) (r : Verdict) → Sofar t i b s → length t ≤ 81 * i → r ≡ finishOf s → r ≡ checkOf t
+unfolding checkLines
+sofar-done t i b s r S h e = e ∙ sym (S .rest ∙ rw (cut-done t i h))
+
+-- ---- a turn, as the code has it: l is the line, k whether its numbers are known, j its number of refusal
+module _ (t : List ℕ) (i : ℕ) (b : Span) (s : State) (S : Sofar t i b s) (h : 81 * i < length t) (l : Line) (k : Bool) (j : ℕ)
+    (el : l ≡ row t i) (ek : k ≡ knownOf (down (row t) i) l) (ej : j ≡ judgeOf k s l) where
+  turn-number : j ≡ numberIn (down (row t) i) s (row t i)
+  turn-number = rw (ek, el) at ej
+
+  pub turn-refused : (j ≡ 0 → ⊥) → refusedOf j s ≡ checkOf t
+  turn-refused n = rw turn-number (sym (sofar-refused t i b s S h (λ e. n (turn-number ∙ e))))
+
+  pub turn-next : j ≡ 0 → (c : Span) → c ≡ growOf b i l → (u : State) → u ≡ nextOf s l → Sofar t (i + 1) c u
+  turn-next e c ec u eu = rw (ec, eu, el) (sofar-next t i b s S h (sym turn-number ∙ e))

@@ -1,0 +1,14 @@
+use Rattle.gate.specs.Text.{row}
+use Rattle.gate.proofs.Halving.{spoken-known}
+use borrow.Author.Needs.{needs}
+use Rattle.gate.proofs.spoken.Statement.{statement}
+use Rattle.gate.proofs.spoken.Tie as tie
+
+find-requires : tie.Need-find-requires
+find-requires c κs = search needs
+
+returns : tie.Need-returns
+returns c n s B = spoken-known (row (c .before .before .args .text .now)) n (c .before .before .args .b) s _ _ (c .find .ensures) B
+
+pub spoken-spec : {M : Type 1} → statement M
+spoken-spec = tie.close (tie.spec find-requires returns)

@@ -1,0 +1,3 @@
+pub mod Text
+pub mod Gate
+pub mod Search

@@ -1,0 +1,295 @@
+// The gate over a whole text.
+use conect::Conect;
+use coordinate::Atom;
+use line::Record;
+use pieces::Line;
+use rules::Counts;
+use rules::State;
+ghost use mathlib.Core.Path.{_≡_};
+ghost use mathlib.Core.Bool.{_&&_};
+ghost use lib.Dec.{eqb};
+ghost use Prim.Native.Nat.{ℕ, _+_, _*_, _≤_, _<_};
+ghost use lib.ListN.{length, take};
+ghost use Rattle.fields.specs.Field.{wholeOf};
+ghost use Rattle.line.specs.declared.Record.the-variants as rec;
+ghost use Rattle.rules.specs.declared.State.{State as StateOf};
+ghost use Rattle.gate.specs.Text.{pieceAt, row, down};
+ghost use Rattle.gate.specs.Gate.{isAtom, isSite, named, partnerKnown, recordKnown, knownOf, refusedOf, finishOf, checkOf};
+ghost use Rattle.gate.specs.Search.{isSpot, isCoord, serialOf, growOf, Block, Rising, Bracket, Finds};
+
+// The answer: the number of refusal, the offending line (0 if granted), the count of good lines, and the nine counts over those.
+pub struct Verdict {
+    pub number: u8,
+    pub line: u64,
+    pub good: u64,
+    pub counts: Counts,
+}
+
+// A block of lines, from lo up to hi.
+pub struct Span {
+    pub lo: usize,
+    pub hi: usize,
+}
+
+// The check of a text.
+pub fn check(text: &[u8]) -> Verdict
+    ensures { λ r. ⌜ r ≡ checkOf (now (text .entry)) ⌝ }
+{
+    let mut i: usize = 0;
+    let mut s = rules::start();
+    let mut b = Span { lo: 0, hi: 0 };
+    while 81 * i < text.len() {
+        let l = line_at(text, i);
+        let k = known(text, b, l);
+        let j = rules::judge(k, s, l);
+        if j != 0 {
+            return refused(j, s);
+        }
+        b = grow(b, i, l);
+        s = rules::next(s, l);
+        i += 1;
+    }
+    finish(s)
+}
+
+// The line with index i.
+pub fn line_at(text: &[u8], i: usize) -> Line
+    requires { ⌜ 81 * i ≤ length (now text) ⌝ }
+    ensures { λ r. ⌜ r ≡ row (now (text .entry)) i ⌝ }
+{
+    let at = 81 * i;
+    let left = text.len() - at;
+    if left < 81 {
+        pieces::line_of(&text[at..])
+    } else {
+        let e = at + 81;
+        pieces::line_of(&text[at..e])
+    }
+}
+
+fn refused(n: u8, s: State) -> Verdict
+    requires { ⌜ s .lines < 9223372036854775808 ⌝ }
+    ensures { λ r. ⌜ r ≡ refusedOf n s ⌝ }
+{
+    let c = s.counts;
+    Verdict {
+        number: n,
+        line: s.lines + 1,
+        good: s.lines,
+        counts: c,
+    }
+}
+
+fn finish(s: State) -> Verdict
+    requires { ⌜ s .lines < 9223372036854775808 ⌝ }
+    ensures { λ r. ⌜ r ≡ finishOf s ⌝ }
+{
+    if s.place == END_PLACE {
+        let c = s.counts;
+        Verdict {
+            number: 0,
+            line: 0,
+            good: s.lines,
+            counts: c,
+        }
+    } else {
+        refused(12, s)
+    }
+}
+
+const END_PLACE: u8 = 21;
+
+fn is_atom(n: u32, r: Record) -> bool
+    ensures { λ b. ⌜ b ≡ isAtom n r ⌝ }
+{
+    match r {
+        Record::Coordinate(_, a) => has_serial(a, n),
+        Record::Ter(_) => false,
+        Record::Helix(_) => false,
+        Record::Sheet(_) => false,
+        Record::Conect(_) => false,
+        Record::Master(_) => false,
+        Record::End => false,
+    }
+}
+
+fn has_serial(a: Atom, n: u32) -> bool
+    ensures { λ b. ⌜ b ≡ eqb (a .identity .serial .0) n ⌝ }
+{
+    let w = a.identity;
+    let serial = w.serial;
+    serial.0 == n
+}
+
+// Whether the line is the ATOM or HETATM line with serial n.
+fn is_site(n: u32, l: Line) -> bool
+    ensures { λ b. ⌜ b ≡ isSite n l ⌝ }
+{
+    match l {
+        Line::Bad(_) => false,
+        Line::Wrong(_, _) => false,
+        Line::Carried(_) => false,
+        Line::Typed(r) => is_atom(n, r),
+    }
+}
+
+// The serial in columns 7-11 of line i.
+fn serial_at(text: &[u8], i: usize) -> u32
+    requires { ⌜ 81 * i + 81 ≤ length (now text) ⌝ }
+    ensures { λ r. ⌜ r ≡ (wholeOf 5 0 1 99999 (take 80 (pieceAt (now (text .entry)) i)) 6) .value ⌝ }
+{
+    let at = 81 * i;
+    let e = at + 80;
+    let w = fields::read_whole(&text[at..e], 6, 5, 0, 1, 99999);
+    w.value
+}
+
+// The first line from lo to hi whose serial is at least x, or hi: by halving.
+fn lower(text: &[u8], lo: usize, hi: usize, x: u32) -> usize
+    requires { ⌜ Rising (now text) lo hi ⌝ }
+    ensures { λ r. ⌜ Bracket (λ j. serialOf (row (now (text .entry)) j)) lo hi x r r ⌝ }
+{
+    let mut a = lo;
+    let mut z = hi;
+    while a < z {
+        let m = a + (z - a) / 2;
+        if serial_at(text, m) < x {
+            a = m + 1;
+        } else {
+            z = m;
+        }
+    }
+    a
+}
+
+// Whether x is the serial of an ATOM or HETATM line from lo to hi.
+fn find(text: &[u8], lo: usize, hi: usize, x: u32) -> bool
+    requires { ⌜ Rising (now text) lo hi ⌝ }
+    ensures { λ r. ⌜ Finds (row (now (text .entry))) lo hi x r ⌝ }
+{
+    let m = lower(text, lo, hi, x);
+    if m < hi {
+        is_site(x, line_at(text, m))
+    } else {
+        false
+    }
+}
+
+// Whether x is the serial of an ATOM or HETATM line so far.
+fn spoken(text: &[u8], b: Span, x: u32) -> bool
+    requires { ⌜ Rising (now text) (b .lo) (b .hi) ⌝ }
+    ensures { λ r. ⌜ ((n : ℕ) (s : StateOf) → Block (row (now (text .entry))) n b s → r ≡ named (down (row (now (text .entry))) n) x) ⌝ }
+{
+    let lo = b.lo;
+    let hi = b.hi;
+    find(text, lo, hi, x)
+}
+
+// The same of a partner, which may not be there.
+fn partner_spoken(text: &[u8], b: Span, x: u32) -> bool
+    requires { ⌜ Rising (now text) (b .lo) (b .hi) ⌝ }
+    ensures { λ r. ⌜ ((n : ℕ) (s : StateOf) → Block (row (now (text .entry))) n b s → r ≡ partnerKnown (down (row (now (text .entry))) n) x) ⌝ }
+{
+    if x == 0 {
+        return true;
+    }
+    spoken(text, b, x)
+}
+
+fn and_of(a: bool, b: bool) -> bool
+    ensures { λ r. ⌜ r ≡ (a && b) ⌝ }
+{
+    if a {
+        return b;
+    }
+    false
+}
+
+fn conect_known(text: &[u8], b: Span, c: Conect) -> bool
+    requires { ⌜ Rising (now text) (b .lo) (b .hi) ⌝ }
+    ensures { λ r. ⌜ ((n : ℕ) (s : StateOf) → Block (row (now (text .entry))) n b s → r ≡ recordKnown (down (row (now (text .entry))) n) (rec.Conect c)) ⌝ }
+{
+    let x = c.serial;
+    let p = c.a;
+    let q = c.b;
+    let u = c.c;
+    let v = c.d;
+    let k0 = spoken(text, b, x.0);
+    let k1 = partner_spoken(text, b, p.0);
+    let k2 = partner_spoken(text, b, q.0);
+    let k3 = partner_spoken(text, b, u.0);
+    let k4 = partner_spoken(text, b, v.0);
+    and_of(k0, and_of(k1, and_of(k2, and_of(k3, k4))))
+}
+
+fn record_known(text: &[u8], b: Span, r: Record) -> bool
+    requires { ⌜ Rising (now text) (b .lo) (b .hi) ⌝ }
+    ensures { λ k. ⌜ ((n : ℕ) (s : StateOf) → Block (row (now (text .entry))) n b s → k ≡ recordKnown (down (row (now (text .entry))) n) r) ⌝ }
+{
+    match r {
+        Record::Coordinate(_, _) => true,
+        Record::Ter(_) => true,
+        Record::Helix(_) => true,
+        Record::Sheet(_) => true,
+        Record::Conect(c) => conect_known(text, b, c),
+        Record::Master(_) => true,
+        Record::End => true,
+    }
+}
+
+// Whether each number on a CONECT line is the serial of an ATOM or HETATM line so far.
+fn known(text: &[u8], b: Span, l: Line) -> bool
+    requires { ⌜ Rising (now text) (b .lo) (b .hi) ⌝ }
+    ensures { λ k. ⌜ ((n : ℕ) (s : StateOf) → Block (row (now (text .entry))) n b s → k ≡ knownOf (down (row (now (text .entry))) n) l) ⌝ }
+{
+    match l {
+        Line::Bad(_) => true,
+        Line::Wrong(_, _) => true,
+        Line::Carried(_) => true,
+        Line::Typed(r) => record_known(text, b, r),
+    }
+}
+
+fn is_spot(r: Record) -> bool
+    ensures { λ b. ⌜ b ≡ isSpot r ⌝ }
+{
+    match r {
+        Record::Coordinate(_, _) => true,
+        Record::Ter(_) => true,
+        Record::Helix(_) => false,
+        Record::Sheet(_) => false,
+        Record::Conect(_) => false,
+        Record::Master(_) => false,
+        Record::End => false,
+    }
+}
+
+// Whether the line is an ATOM, HETATM or TER line.
+pub fn is_coord(l: Line) -> bool
+    ensures { λ b. ⌜ b ≡ isCoord l ⌝ }
+{
+    match l {
+        Line::Bad(_) => false,
+        Line::Wrong(_, _) => false,
+        Line::Carried(_) => false,
+        Line::Typed(r) => is_spot(r),
+    }
+}
+
+// The block with line n taken in.
+fn grow(b: Span, n: usize, l: Line) -> Span
+    requires { ⌜ n < 9223372036854775808 ⌝ }
+    ensures { λ r. ⌜ r ≡ growOf b n l ⌝ }
+{
+    let lo = b.lo;
+    let hi = b.hi;
+    if is_coord(l) {
+        if lo < hi {
+            Span { lo: lo, hi: n + 1 }
+        } else {
+            Span { lo: n, hi: n + 1 }
+        }
+    } else {
+        b
+    }
+}

@@ -1,0 +1,86 @@
+-- A line is good exactly if each test of it says no. Assumes nothing.
+use mathlib.Core.Path.{_≡_, refl, sym}
+use mathlib.Core.Bool.{Bool, true, false, not, _&&_}
+use Prim.Native.Nat.{ℕ, _≤_, _<_}
+use native.Mathlib.Omega.{arith}
+use lib.Dec.{leb}
+use borrow.Author.Tests.{leb-true}
+use Rattle.ascii.specs.Tests.{pick}
+use Rattle.ascii.proofs.Choice.{never}
+use Rattle.kinds.specs.declared.Kind.{Kind}
+use Rattle.line.specs.declared.Record.{Record}
+use Rattle.pieces.specs.declared.Line.the-variants.{Wrong, Carried, Typed}
+use Rattle.rules.specs.declared.State.{State}
+use Rattle.rules.specs.Places.{placeOf, placeBad}
+use Rattle.rules.specs.Rules.{recordKind, serialBad, runBad, bondBad, unfinished, foldBad, countBad, typedBad, judgeOf}
+
+-- a choice of a number above 0 and a rest is 0 exactly if the test says no and the rest is 0
+pub pick-no : (b : Bool) (n m : ℕ) → 0 < n → pick b n m ≡ 0 → b ≡ false
+pick-no true n m h e = absurd (omega arith)
+pick-no false n m h e = refl
+
+pub pick-rest : (b : Bool) (n m : ℕ) → 0 < n → pick b n m ≡ 0 → m ≡ 0
+pick-rest true n m h e = absurd (omega arith)
+pick-rest false n m h e = e
+
+-- ---- typed lines
+pub record Good (known : Bool) (s : State) (r : Record) : Type 0 where
+  pub place : placeBad (s .place) (recordKind r) ≡ false
+  pub serial : serialBad (s .last) r ≡ false
+  pub run : runBad (s .run) r ≡ false
+  pub bond : bondBad known (s .bond) r ≡ false
+  pub fold : foldBad (s .helix) (s .ladder) r ≡ false
+  pub count : countBad (s .counts) r ≡ false
+
+pub typed-good : (known : Bool) (s : State) (r : Record) → typedBad known s r ≡ 0 → Good known s r
+unfolding typedBad
+typed-good known s r e5 =
+    let e7 = pick-rest (placeBad (s .place) (recordKind r)) 5 _ (omega arith) e5 in
+    let e8 = pick-rest (serialBad (s .last) r) 7 _ (omega arith) e7 in
+    let e9 = pick-rest (runBad (s .run) r) 8 _ (omega arith) e8 in
+    let e10 = pick-rest (bondBad known (s .bond) r) 9 _ (omega arith) e9 in
+    let e11 = pick-rest (foldBad (s .helix) (s .ladder) r) 10 _ (omega arith) e10 in
+    record {
+      place = pick-no (placeBad (s .place) (recordKind r)) 5 _ (omega arith) e5;
+      serial = pick-no (serialBad (s .last) r) 7 _ (omega arith) e7;
+      run = pick-no (runBad (s .run) r) 8 _ (omega arith) e8;
+      bond = pick-no (bondBad known (s .bond) r) 9 _ (omega arith) e9;
+      fold = pick-no (foldBad (s .helix) (s .ladder) r) 10 _ (omega arith) e10;
+      count = pick-no (countBad (s .counts) r) 11 _ (omega arith) e11;
+    }
+
+pub good-typed : (known : Bool) (s : State) (r : Record) → Good known s r → typedBad known s r ≡ 0
+unfolding typedBad
+good-typed known s r g = rw (g .place, g .serial, g .run, g .bond, g .fold, g .count)
+
+-- ---- any line
+pub judge-typed : (known : Bool) (s : State) (r : Record) → judgeOf known s (Typed r) ≡ 0 → Good known s r
+unfolding judgeOf
+judge-typed known s r e = typed-good known s r e
+
+pub judge-carried : (known : Bool) (s : State) (k : Kind) → judgeOf known s (Carried k) ≡ 0 → (placeBad (s .place) k ≡ false) × (unfinished (s .ladder) ≡ false)
+unfolding judgeOf
+judge-carried known s k e = (
+  pick-no (placeBad (s .place) k) 5 _ (omega arith) e,
+  pick-no (unfinished (s .ladder)) 10 _ (omega arith) (pick-rest (placeBad (s .place) k) 5 _ (omega arith) e),
+)
+
+pub judge-wrong : (known : Bool) (s : State) (k : Kind) (column : ℕ) → judgeOf known s (Wrong k column) ≡ 0 → ⊥
+unfolding judgeOf
+judge-wrong known s k column e =
+    let z : _≡_ {A = ℕ} 6 0 = pick-rest (placeBad (s .place) k) 5 6 (omega arith) e in
+    omega arith
+
+-- ---- places
+both-yes : (a b : Bool) → not (a && b) ≡ false → (a ≡ true) × (b ≡ true)
+both-yes true true e = (refl, refl)
+both-yes true false e = never (sym e)
+both-yes false b e = never (sym e)
+
+pub place-low : (p : ℕ) (k : Kind) → placeBad p k ≡ false → placeOf k .low ≤ p
+unfolding placeBad
+place-low p k e = leb-true (placeOf k .low) p (both-yes (leb (placeOf k .low) p) (leb p (placeOf k .high)) e .0)
+
+pub place-high : (p : ℕ) (k : Kind) → placeBad p k ≡ false → p ≤ placeOf k .high
+unfolding placeBad
+place-high p k e = leb-true p (placeOf k .high) (both-yes (leb (placeOf k .low) p) (leb p (placeOf k .high)) e .1)

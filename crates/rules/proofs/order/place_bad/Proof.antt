@@ -1,0 +1,20 @@
+use Rattle.rules.specs.Places.{placeBad}
+use borrow.Author.Needs.{needs}
+use Rattle.rules.proofs.order.place_bad.Statement.{statement}
+use Rattle.rules.proofs.order.place_bad.Tie as tie
+
+place-of-requires : tie.Need-place-of-requires
+place-of-requires c κs = search needs
+
+and-of-requires : tie.Need-and-of-requires
+and-of-requires c κs = search needs
+
+not-of-requires : tie.Need-not-of-requires
+not-of-requires c κs = search needs
+
+returns : tie.Need-returns
+unfolding placeBad
+returns c = rw (c .not-of .ensures, c .before .and-of .ensures, c .before .before .before .before .place-of .ensures)
+
+pub place-bad-spec : {M : Type 1} → statement M
+place-bad-spec = tie.close (tie.spec place-of-requires and-of-requires not-of-requires returns)

@@ -1,0 +1,20 @@
+use Rattle.rules.specs.Rules.{closeBad}
+use borrow.Author.Needs.{needs}
+use Rattle.rules.proofs.tests.close_bad.Statement.{statement}
+use Rattle.rules.proofs.tests.close_bad.Tie as tie
+
+same-residue-requires : tie.Need-same-residue-requires
+same-residue-requires c κs = search needs
+
+and-of-requires : tie.Need-and-of-requires
+and-of-requires c κs = search needs
+
+not-of-requires : tie.Need-not-of-requires
+not-of-requires c κs = search needs
+
+returns : tie.Need-returns
+unfolding closeBad
+returns c = rw (c .not-of .ensures, c .before .and-of .ensures, c .before .before .same-residue .ensures)
+
+pub close-bad-spec : {M : Type 1} → statement M
+close-bad-spec = tie.close (tie.spec same-residue-requires and-of-requires not-of-requires returns)

@@ -1,0 +1,22 @@
+use borrow.Author.Needs.{needs}
+use Rattle.rules.proofs.tests.helix_bad.Statement.{statement}
+use Rattle.rules.proofs.tests.helix_bad.Tie as tie
+
+add-e : tie.Need-add-e
+add-e c = search needs
+
+unfinished-requires : tie.Need-unfinished-requires
+unfinished-requires c κs = search needs
+
+not-of-requires : tie.Need-not-of-requires
+not-of-requires c κs = search needs
+
+or-of-requires : tie.Need-or-of-requires
+or-of-requires c κs = search needs
+
+returns : tie.Need-returns
+returns c = rw (c .or-of .ensures, c .before .not-of .ensures, c .before .before .unfinished .ensures)
+
+pub helix-bad-spec : {M : Type 1} → statement M
+helix-bad-spec =
+    tie.close (tie.spec add-e unfinished-requires not-of-requires or-of-requires returns)

@@ -1,0 +1,62 @@
+use Rattle.rules.specs.Rules.{strandBad}
+use borrow.Author.Needs.{needs}
+use Rattle.rules.proofs.tests.strand_bad.Statement.{statement}
+use Rattle.rules.proofs.tests.strand_bad.Tie as tie
+
+same-three-requires : tie.Need-same-three-requires
+same-three-requires c κs = search needs
+
+cast-next : tie.Need-cast-next
+cast-next c = search needs
+
+cast-next-2 : tie.Need-cast-next-2
+cast-next-2 c = search needs
+
+add-next : tie.Need-add-next
+add-next c = search needs
+
+and-of-requires : tie.Need-and-of-requires
+and-of-requires c κs = search needs
+
+and-of-requires-2 : tie.Need-and-of-requires-2
+and-of-requires-2 c κs = search needs
+
+and-of-requires-3 : tie.Need-and-of-requires-3
+and-of-requires-3 c κs = search needs
+
+not-of-requires : tie.Need-not-of-requires
+not-of-requires c κs = search needs
+
+or-of-requires : tie.Need-or-of-requires
+or-of-requires c κs = search needs
+
+unfinished-requires : tie.Need-unfinished-requires
+unfinished-requires c κs = search needs
+
+not-of-requires-2 : tie.Need-not-of-requires-2
+not-of-requires-2 c κs = search needs
+
+choose-requires : tie.Need-choose-requires
+choose-requires c κs = search needs
+
+returns : tie.Need-returns
+unfolding strandBad
+returns c = rw (c .choose .ensures, c .before .not-of2 .ensures, c .before .before .unfinished .ensures, c .before .before .before .or-of .ensures, c .before .before .before .before .not-of .ensures, c .before .before .before .before .before .before .and-of3 .ensures, c .before .before .before .before .before .before .before .before .and-of2 .ensures, c .before .before .before .before .before .before .before .before .before .and-of .ensures, c .before .before .before .before .before .before .before .before .before .before .before .before .before .before .same-three .ensures)
+
+pub strand-bad-spec : {M : Type 1} → statement M
+strand-bad-spec =
+    tie.close
+    (tie.spec
+    same-three-requires
+    cast-next
+    cast-next-2
+    add-next
+    and-of-requires
+    and-of-requires-2
+    and-of-requires-3
+    not-of-requires
+    or-of-requires
+    unfinished-requires
+    not-of-requires-2
+    choose-requires
+    returns)

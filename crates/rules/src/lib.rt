@@ -1,0 +1,236 @@
+// The rules between lines: a line is judged against what the good lines before it left.
+mod counting;
+mod logic;
+mod order;
+mod steps;
+mod tests;
+
+pub use counting::count_of;
+pub use counting::raise;
+use kinds::Kind;
+use line::Record;
+use logic::choose;
+use names::Three;
+pub use order::place_bad;
+use order::place_of;
+use pieces::Line;
+use residue::Residue;
+use steps::bond_next;
+use steps::helix_next;
+use steps::ladder_next;
+use steps::last_next;
+use steps::no_run;
+use steps::run_next;
+use tests::bond_bad;
+use tests::count_bad;
+use tests::fold_bad;
+use tests::run_bad;
+pub use tests::same_residue;
+use tests::serial_bad;
+use tests::unfinished;
+ghost use mathlib.Core.Path.{_≡_};
+ghost use Prim.Native.Nat.{_<_};
+ghost use Rattle.ascii.specs.Tests.{pick};
+ghost use Rattle.rules.specs.Places.{placeBad};
+ghost use Rattle.rules.specs.Room.{Room};
+ghost use Rattle.rules.specs.Rules.{recordKind, unfinished as unfinishedOf, typedBad, judgeOf, startOf, carriedNext, typedNext, nextOf};
+
+// A kind may follow the places low to high, and is itself the place here.
+pub struct Place {
+    pub low: u8,
+    pub high: u8,
+    pub here: u8,
+}
+
+// The coordinate lines since the last TER: whether there is one, whether all have one chain, whether one is an ATOM, and the last one's residue.
+pub struct Run {
+    pub some: bool,
+    pub same: bool,
+    pub atom: bool,
+    pub residue: Residue,
+}
+
+// The last SHEET line: its sheet, its strand, and how many strands the sheet has.
+pub struct Ladder {
+    pub id: Three,
+    pub strand: u32,
+    pub strands: u32,
+}
+
+// The nine counts of MASTER, without the limit of its columns.
+pub struct Counts {
+    pub remark: u64,
+    pub het: u64,
+    pub helix: u64,
+    pub sheet: u64,
+    pub xform: u64,
+    pub coord: u64,
+    pub ter: u64,
+    pub conect: u64,
+    pub seq: u64,
+}
+
+// What the good lines so far leave to judge the next by.
+pub struct State {
+    // The place of the last line.
+    pub place: u8,
+    // The last serial of an ATOM, HETATM or TER line.
+    pub last: u32,
+    pub run: Run,
+    // The last serial of a CONECT line.
+    pub bond: u32,
+    // The last helix serial.
+    pub helix: u32,
+    pub ladder: Ladder,
+    pub counts: Counts,
+    pub lines: u64,
+}
+
+// The kind of a record's line.
+pub fn record_kind(r: Record) -> Kind
+    ensures { λ k. ⌜ k ≡ recordKind r ⌝ }
+{
+    match r {
+        Record::Coordinate(het, _) => {
+            if het {
+                return Kind::Hetatm;
+            }
+            Kind::Atom
+        }
+        Record::Ter(_) => Kind::Ter,
+        Record::Helix(_) => Kind::Helix,
+        Record::Sheet(_) => Kind::Sheet,
+        Record::Conect(_) => Kind::Conect,
+        Record::Master(_) => Kind::Master,
+        Record::End => Kind::End,
+    }
+}
+
+// The lowest number of a typed line, 0 where it is good. It goes from the highest number to the lowest with no branch.
+fn typed_bad(known: bool, s: State, r: Record) -> u8
+    ensures { λ n. ⌜ n ≡ typedBad known s r ⌝ }
+{
+    let run = s.run;
+    let ladder = s.ladder;
+    let counts = s.counts;
+    let n11 = choose(count_bad(counts, r), 11, 0);
+    let n10 = choose(fold_bad(s.helix, ladder, r), 10, n11);
+    let n9 = choose(bond_bad(known, s.bond, r), 9, n10);
+    let n8 = choose(run_bad(run, r), 8, n9);
+    let n7 = choose(serial_bad(s.last, r), 7, n8);
+    choose(place_bad(s.place, record_kind(r)), 5, n7)
+}
+
+fn carried_bad(s: State, k: Kind) -> u8
+    ensures { λ n. ⌜ n ≡ pick (placeBad (s .place) k) 5 (pick (unfinishedOf (s .ladder)) 10 0) ⌝ }
+{
+    let ladder = s.ladder;
+    let n10 = choose(unfinished(ladder), 10, 0);
+    choose(place_bad(s.place, k), 5, n10)
+}
+
+// The number of a line, 0 where it is good. known: each number on a CONECT line is the serial of an atom before it.
+pub fn judge(known: bool, s: State, l: Line) -> u8
+    ensures { λ n. ⌜ n ≡ judgeOf known s l ⌝ }
+{
+    match l {
+        Line::Bad(n) => n,
+        Line::Wrong(k, _) => choose(place_bad(s.place, k), 5, 6),
+        Line::Carried(k) => carried_bad(s, k),
+        Line::Typed(r) => typed_bad(known, s, r),
+    }
+}
+
+pub fn start() -> State
+    ensures { λ r. ⌜ r ≡ startOf ⌝ }
+{
+    let run = no_run();
+    State {
+        place: 0,
+        last: 0,
+        run: run,
+        bond: 0,
+        helix: 0,
+        ladder: Ladder {
+            id: Three { a: 0, b: 0, c: 0 },
+            strand: 0,
+            strands: 0,
+        },
+        counts: Counts {
+            remark: 0,
+            het: 0,
+            helix: 0,
+            sheet: 0,
+            xform: 0,
+            coord: 0,
+            ter: 0,
+            conect: 0,
+            seq: 0,
+        },
+        lines: 0,
+    }
+}
+
+fn carried_next(s: State, k: Kind) -> State
+    requires { ⌜ Room (s .counts) ⌝ }
+    requires { ⌜ s .lines < 9223372036854775808 ⌝ }
+    ensures { λ r. ⌜ r ≡ carriedNext s k ⌝ }
+{
+    let run = s.run;
+    let ladder = s.ladder;
+    let counts = s.counts;
+    let p = place_of(k);
+    let c = raise(counts, count_of(k));
+    State {
+        place: p.here,
+        last: s.last,
+        run: run,
+        bond: s.bond,
+        helix: s.helix,
+        ladder: ladder,
+        counts: c,
+        lines: s.lines + 1,
+    }
+}
+
+fn typed_next(s: State, r: Record) -> State
+    requires { ⌜ Room (s .counts) ⌝ }
+    requires { ⌜ s .lines < 9223372036854775808 ⌝ }
+    ensures { λ t. ⌜ t ≡ typedNext s r ⌝ }
+{
+    let run = s.run;
+    let ladder = s.ladder;
+    let counts = s.counts;
+    let k = record_kind(r);
+    let p = place_of(k);
+    let last = last_next(s.last, r);
+    let u = run_next(run, r);
+    let bond = bond_next(s.bond, r);
+    let helix = helix_next(s.helix, r);
+    let d = ladder_next(ladder, r);
+    let c = raise(counts, count_of(k));
+    State {
+        place: p.here,
+        last: last,
+        run: u,
+        bond: bond,
+        helix: helix,
+        ladder: d,
+        counts: c,
+        lines: s.lines + 1,
+    }
+}
+
+// The state after a good line; a line that is refused leaves nothing.
+pub fn next(s: State, l: Line) -> State
+    requires { ⌜ Room (s .counts) ⌝ }
+    requires { ⌜ s .lines < 9223372036854775808 ⌝ }
+    ensures { λ r. ⌜ r ≡ nextOf s l ⌝ }
+{
+    match l {
+        Line::Bad(_) => s,
+        Line::Wrong(_, _) => s,
+        Line::Carried(k) => carried_next(s, k),
+        Line::Typed(r) => typed_next(s, r),
+    }
+}

@@ -1,0 +1,173 @@
+// The tests of a typed line against what the good lines before it left, by their numbers.
+use super::Counts;
+use super::Ladder;
+use super::Run;
+use super::counting::same_counts;
+use super::logic::and_of;
+use super::logic::not_of;
+use super::logic::or_of;
+use fields::ResidueNumber;
+use line::Record;
+use names::Three;
+use residue::Residue;
+use sheet::Strand;
+ghost use mathlib.Core.Path.{_≡_};
+ghost use mathlib.Core.Bool.{not, _&&_, _||_};
+ghost use Prim.Native.Nat.{_+_};
+ghost use lib.Dec.{eqb};
+ghost use lib.IntN.{natAbs};
+ghost use Rattle.fields.specs.Field.{isNeg};
+ghost use Rattle.rules.specs.Rules.{serialBad, sameThree, sameSign, sameResidue, siteBad, closeBad, runBad, bondBad, unfinished as unfinishedOf, strandBad, foldBad, countBad};
+
+// ---- 7: serials rise strictly over ATOM, HETATM and TER together
+pub fn serial_bad(last: u32, r: Record) -> bool
+    ensures { λ b. ⌜ b ≡ serialBad last r ⌝ }
+{
+    match r {
+        Record::Coordinate(_, a) => a.identity.serial.0 <= last,
+        Record::Ter(t) => t.serial.0 <= last,
+        Record::Helix(_) => false,
+        Record::Sheet(_) => false,
+        Record::Conect(_) => false,
+        Record::Master(_) => false,
+        Record::End => false,
+    }
+}
+
+// ---- 8: a run is the coordinate lines since the last TER
+pub fn same_three(a: Three, b: Three) -> bool
+    ensures { λ r. ⌜ r ≡ sameThree a b ⌝ }
+{
+    and_of(a.a == b.a, and_of(a.b == b.b, a.c == b.c))
+}
+
+fn same_number(a: ResidueNumber, b: ResidueNumber) -> bool
+    ensures { λ r. ⌜ r ≡ (sameSign (isNeg (a .0)) (isNeg (b .0)) && eqb (natAbs (a .0)) (natAbs (b .0))) ⌝ }
+{
+    let m = fields::negative(a.0);
+    let n = fields::negative(b.0);
+    let v = fields::magnitude(a.0);
+    let w = fields::magnitude(b.0);
+    and_of(ascii::choose(m, n, not_of(n)), v == w)
+}
+
+// Equal residue name, chain, number and insertion code.
+pub fn same_residue(a: Residue, b: Residue) -> bool
+    ensures { λ r. ⌜ r ≡ sameResidue a b ⌝ }
+{
+    let x = a.name;
+    let y = b.name;
+    let m = a.number;
+    let n = b.number;
+    let name = same_three(x, y);
+    let number = same_number(m, n);
+    let rest = and_of(number, a.insertion == b.insertion);
+    and_of(name, and_of(a.chain == b.chain, rest))
+}
+
+// All lines before an ATOM in its run have its chain; a HETATM in a run that holds an ATOM has that chain.
+fn site_bad(r: Run, het: bool, chain: u8) -> bool
+    ensures { λ b. ⌜ b ≡ siteBad r het chain ⌝ }
+{
+    let e = chain == r.residue.chain;
+    let h = and_of(r.atom, not_of(e));
+    let a = and_of(r.some, not_of(and_of(r.same, e)));
+    ascii::choose(het, h, a)
+}
+
+// TER closes a run that holds an ATOM, and repeats the residue of its last line.
+fn close_bad(r: Run, residue: Residue) -> bool
+    ensures { λ b. ⌜ b ≡ closeBad r residue ⌝ }
+{
+    let last = r.residue;
+    let e = same_residue(residue, last);
+    not_of(and_of(r.atom, e))
+}
+
+// A run that holds an ATOM is closed before any other kind of line.
+pub fn run_bad(u: Run, r: Record) -> bool
+    ensures { λ b. ⌜ b ≡ runBad u r ⌝ }
+{
+    match r {
+        Record::Coordinate(het, a) => site_bad(u, het, a.identity.residue.chain),
+        Record::Ter(t) => close_bad(u, t.residue),
+        Record::Helix(_) => u.atom,
+        Record::Sheet(_) => u.atom,
+        Record::Conect(_) => u.atom,
+        Record::Master(_) => u.atom,
+        Record::End => u.atom,
+    }
+}
+
+// ---- 9: CONECT serials do not fall, and each number on the line is the serial of an atom (known)
+pub fn bond_bad(known: bool, last: u32, r: Record) -> bool
+    ensures { λ b. ⌜ b ≡ bondBad known last r ⌝ }
+{
+    match r {
+        Record::Coordinate(_, _) => false,
+        Record::Ter(_) => false,
+        Record::Helix(_) => false,
+        Record::Sheet(_) => false,
+        Record::Conect(c) => or_of(not_of(known), c.serial.0 < last),
+        Record::Master(_) => false,
+        Record::End => false,
+    }
+}
+
+// ---- 10: helix serials are 1, 2, 3, ..; a sheet is strands 1 to n
+// The sheet of the last SHEET line has strands to come.
+pub fn unfinished(d: Ladder) -> bool
+    ensures { λ r. ⌜ r ≡ unfinishedOf d ⌝ }
+{
+    d.strand < d.strands
+}
+
+// An unfinished sheet goes on with its next strand; the next one begins with strand 1, and its identifier differs from the one just before.
+fn strand_bad(d: Ladder, s: Strand) -> bool
+    ensures { λ r. ⌜ r ≡ strandBad d s ⌝ }
+{
+    let x = s.id;
+    let y = d.id;
+    let same = same_three(x, y);
+    let next = s.strand as u64 == d.strand as u64 + 1;
+    let goes = and_of(same, and_of(s.strands == d.strands, next));
+    let again = and_of(0 < d.strands, same);
+    let begins = or_of(not_of(s.strand == 1), again);
+    ascii::choose(unfinished(d), not_of(goes), begins)
+}
+
+fn helix_bad(helix: u32, d: Ladder, serial: u32) -> bool
+    ensures { λ b. ⌜ b ≡ (unfinishedOf d || not (eqb serial (helix + 1))) ⌝ }
+{
+    let e = serial as u64 == helix as u64 + 1;
+    or_of(unfinished(d), not_of(e))
+}
+
+pub fn fold_bad(helix: u32, d: Ladder, r: Record) -> bool
+    ensures { λ b. ⌜ b ≡ foldBad helix d r ⌝ }
+{
+    match r {
+        Record::Coordinate(_, _) => unfinished(d),
+        Record::Ter(_) => unfinished(d),
+        Record::Helix(h) => helix_bad(helix, d, h.extent.serial),
+        Record::Sheet(s) => strand_bad(d, s.strand),
+        Record::Conect(_) => unfinished(d),
+        Record::Master(_) => unfinished(d),
+        Record::End => unfinished(d),
+    }
+}
+
+// ---- 11: MASTER holds the true counts
+pub fn count_bad(n: Counts, r: Record) -> bool
+    ensures { λ b. ⌜ b ≡ countBad n r ⌝ }
+{
+    match r {
+        Record::Coordinate(_, _) => false,
+        Record::Ter(_) => false,
+        Record::Helix(_) => false,
+        Record::Sheet(_) => false,
+        Record::Conect(_) => false,
+        Record::Master(t) => not_of(same_counts(t, n)),
+        Record::End => false,
+    }
+}
