@@ -85,7 +85,10 @@ pub fn read_conect(line: &[u8]) -> ReadConect
         ascii::both_of(other(d.value, s.value), in_turn(c.value, d.value)),
         26,
     );
-    let column = columns::lower(columns::lower(columns::lower(columns::lower(f, p), q), u), v);
+    let column = columns::lower(
+        columns::lower(columns::lower(columns::lower(f, p), q), u),
+        v,
+    );
     ReadConect {
         column: column,
         value: Conect {
@@ -140,7 +143,10 @@ pub fn is_good(r: Conect) -> bool
     let f = other(b.0, s.0);
     let g = ascii::both_of(other(c.0, s.0), in_turn(b.0, c.0));
     let h = ascii::both_of(other(d.0, s.0), in_turn(c.0, d.0));
-    ascii::both_of(ascii::both_of(ascii::both_of(ascii::both_of(p, e), f), g), h)
+    ascii::both_of(
+        ascii::both_of(ascii::both_of(ascii::both_of(p, e), f), g),
+        h,
+    )
 }
 
 fn put_partner(line: &mut [u8], at: usize, v: u32)

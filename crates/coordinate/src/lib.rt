@@ -179,7 +179,10 @@ pub fn read_atom(line: &[u8]) -> ReadAtom
     let k = columns::judged(leads(name, element), 76);
     let fields = columns::first(
         identity.column,
-        columns::first(g, columns::first(measure.column, columns::first(h, species.column))),
+        columns::first(
+            g,
+            columns::first(measure.column, columns::first(h, species.column)),
+        ),
     );
     let column = columns::lower(fields, k);
     ReadAtom {

@@ -1,5 +1,6 @@
 // The elements by their symbols in two columns.
 mod table;
+
 use names::Pair;
 use table::ELEMENTS;
 ghost use mathlib.Core.Path.{_≡_};

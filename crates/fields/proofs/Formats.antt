@@ -79,11 +79,6 @@ whole-lawful n e lo hi t =
           );
     }
 
-pub signed-parts : (z : ℤ) → signedOf (isNeg z) (natAbs z) ≡ z
-unfolding signedOf isNeg
-signed-parts (pos n) = refl
-signed-parts (negsuc n) = refl
-
 pub signed-neg : (m : Bool) (v : ℕ) → (m ≡ true → v ≡ 0 → ⊥) → isNeg (signedOf m v) ≡ m
 unfolding signedOf isNeg
 signed-neg false v h = refl

@@ -9,9 +9,12 @@ ghost use Rattle.columns.specs.Columns.{Put};
 ghost use Rattle.fields.specs.Field.{signedOf, isNeg, wholeOf, integerOf, capOf, rangedOf, spansOf};
 ghost use Rattle.numbers.specs.Number.{render};
 
+// Serials, residue numbers and fragment numbers are types of their own, so that none lands where another belongs.
 pub struct Serial(pub u32);
 
 pub struct ResidueNumber(pub i32);
+
+pub struct FragmentNumber(pub u32);
 
 // A read field: the column of its fault, or 0, and its value.
 pub struct Whole {

@@ -204,35 +204,6 @@ master-totals t n i m g h e =
     totals-of t i m ((stateAt (row t) i) .counts) (not-false _ (judge-typed true (stateAt (row t) i) (Master m) j .count)) (counted t i (λ k l. g k (omega arith)))
 
 -- ---- the last line is END
-kind-ends : (k : Kind) → placeOf k .here ≡ endPlace → k ≡ kind.End
-kind-ends kind.Header e = absurd (omega arith)
-kind-ends kind.Title e = absurd (omega arith)
-kind-ends kind.Compnd e = absurd (omega arith)
-kind-ends kind.Source e = absurd (omega arith)
-kind-ends kind.Keywds e = absurd (omega arith)
-kind-ends kind.Expdta e = absurd (omega arith)
-kind-ends kind.Author e = absurd (omega arith)
-kind-ends kind.Revdat e = absurd (omega arith)
-kind-ends kind.Jrnl e = absurd (omega arith)
-kind-ends kind.Remark e = absurd (omega arith)
-kind-ends kind.Seqres e = absurd (omega arith)
-kind-ends kind.Het e = absurd (omega arith)
-kind-ends kind.Helix e = absurd (omega arith)
-kind-ends kind.Sheet e = absurd (omega arith)
-kind-ends kind.Cryst1 e = absurd (omega arith)
-kind-ends kind.Origx1 e = absurd (omega arith)
-kind-ends kind.Origx2 e = absurd (omega arith)
-kind-ends kind.Origx3 e = absurd (omega arith)
-kind-ends kind.Scale1 e = absurd (omega arith)
-kind-ends kind.Scale2 e = absurd (omega arith)
-kind-ends kind.Scale3 e = absurd (omega arith)
-kind-ends kind.Atom e = absurd (omega arith)
-kind-ends kind.Hetatm e = absurd (omega arith)
-kind-ends kind.Ter e = absurd (omega arith)
-kind-ends kind.Conect e = absurd (omega arith)
-kind-ends kind.Master e = absurd (omega arith)
-kind-ends kind.End e = refl
-kind-ends kind.Unknown e = absurd (omega arith)
 
 record-ends : (r : Record) → placeOf (recordKind r) .here ≡ endPlace → r ≡ End
 record-ends (Coordinate true a) e = absurd (omega arith)

@@ -58,20 +58,6 @@ few-next c w i f =
       seq = one-few w 9 (c .seq) i (f .seq);
     }
 
-pub few-room : (c : Counts) (i : ℕ) → Few c i → i < 9223372036854775808 → Room c
-few-room c i f h =
-    record {
-      remark = omega (arith, f .remark);
-      het = omega (arith, f .het);
-      helix = omega (arith, f .helix);
-      sheet = omega (arith, f .sheet);
-      xform = omega (arith, f .xform);
-      coord = omega (arith, f .coord);
-      ter = omega (arith, f .ter);
-      conect = omega (arith, f .conect);
-      seq = omega (arith, f .seq);
-    }
-
 -- ---- after i good lines
 pub record Sofar (t : List ℕ) (i : ℕ) (b : Span) (s : State) : Type 0 where
   pub within : 81 * i ≤ length t

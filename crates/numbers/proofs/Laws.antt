@@ -161,9 +161,6 @@ lead-back l at (suc n) b false r e =
 abbrev Back : List ℕ → ℕ → ℕ → ℕ → Bool → ℕ → Type 0
 Back l at n e m v = room n e m v ≡ true → cols l at n ≡ render n e m v → numberOf l at n e ≡ record { good = true; minus = m; mag = v }
 
-digit-value : (v : ℕ) → digitOf v - 48 ≡ v % 10
-digit-value v = omega arith
-
 further-back : (l : List ℕ) (at n e : ℕ) (m : Bool) (v : ℕ) → Back l at n (suc e) m (v / 10) → Back l at (suc n) (suc (suc e)) m v
 unfolding numberOf room render furtherOf
 further-back l at n e m v k r q =

@@ -50,12 +50,6 @@ unfolding decOf
 dec-below w zero = omega arith
 dec-below w (suc n) = rw pow-suc (omega (arith, dec-below (w / 16) n, one-le-pow n 10 (lit< tt)))
 
-pub dec-small : (w n h : ℕ) → n ≤ 8 → h ≡ decOf w (n - 1) → h ≤ 200000000
-dec-small w n h b e =
-    let k : n - 1 ≤ 8 = omega arith in
-    let p : 10 ^ (n - 1) ≤ 10 ^ 8 = pow-le-pow-right (lit< tt) k in
-    rw e (omega (arith, dec-below w (n - 1)))
-
 -- ---- one column
 blank-step : (l : List ℕ) (at n : ℕ) (t : Bool) → t ≡ eqb (gapOf l at n) 0 → both t (eqb (getD l (at + n) 0) 32) ≡ eqb (gapOf l at (suc n)) 0
 unfolding both gapOf firstOf blankAt
@@ -361,9 +355,6 @@ scale-part s w n h z b e =
 
 pub scale-one : (n : ℕ) → n ≤ 8 → 1 * 10 ^ n ≤ 100000000
 scale-one n b = let p : 10 ^ n ≤ 10 ^ 8 = pow-le-pow-right (lit< tt) b in omega arith
-
-pub scale-same : (w n r : ℕ) → r ≡ 1 * decOf w n → r ≡ decOf w n
-scale-same w n r e = omega arith
 
 pub scale-ten-fits : (s n : ℕ) → (n ≡ 0 → ⊥) → s * 10 ^ n ≤ 100000000 → Fits w64 (10 * s)
 scale-ten-fits s n z b = let t : 10 * s ≤ 100000000 = scale-ten s n z b in omega arith

@@ -151,10 +151,16 @@ fn read_strand(line: &[u8]) -> ReadStrand
     let sense = fields::read_integer(line, 38, 2, 0);
     let k = columns::judged(is_sense(sense.value), 38);
     let m = columns::judged(sense_fits(strand.value, sense.value), 38);
-    let g = columns::first(d, columns::first(last.column, columns::first(sense.column, k)));
+    let g = columns::first(
+        d,
+        columns::first(last.column, columns::first(sense.column, k)),
+    );
     let h = columns::first(
         i,
-        columns::first(strands.column, columns::first(c, columns::first(first.column, g))),
+        columns::first(
+            strands.column,
+            columns::first(c, columns::first(first.column, g)),
+        ),
     );
     let f = columns::first(a, columns::first(strand.column, columns::first(b, h)));
     let column = columns::lower(f, m);
