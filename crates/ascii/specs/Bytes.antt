@@ -5,9 +5,11 @@ use Prim.Native.String.{String, [], _∷_}
 use mathlib.Core.List as list
 use mathlib.Core.List.{List}
 
+-- the byte of a character
 abbrev pub byte : Char → ℕ
 byte c = code c
 
+-- the bytes of a text
 abbrev pub bytes : String → List ℕ
 bytes [] = list.[]
 bytes (c ∷ s) = list._∷_ (byte c) (bytes s)

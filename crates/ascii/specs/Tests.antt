@@ -9,6 +9,7 @@ abbrev pub pick {ℓ} : {A : Type ℓ} → Bool → A → A → A
 pick true x y = x
 pick false x y = y
 
+-- both tests hold; one of them does; two numbers are the same
 unfoldable pub both : Bool → Bool → Bool
 both a b = pick a b false
 

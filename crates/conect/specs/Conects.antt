@@ -18,9 +18,11 @@ use Rattle.conect.specs.declared.ReadConect.{ReadConect}
 unfoldable pub partnerOf : List ℕ → ℕ → Whole
 partnerOf l at = pick (eqb (gapOf l at 5) 0) (record { column = 0; value = 0 }) (wholeOf 5 0 1 99999 l at)
 
+-- how it is written
 unfoldable pub partnerText : ℕ → List ℕ
 partnerText v = pick (eqb v 0) (blanks 5) (render 5 0 false v)
 
+-- its range
 unfoldable pub partnerOk : ℕ → Bool
 partnerOk v = leb v 99999
 

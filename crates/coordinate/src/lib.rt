@@ -12,6 +12,7 @@ ghost use Rattle.kinds.specs.Kinds.{nameText};
 ghost use Rattle.coordinate.specs.Atoms.{positionAt, positionOk, positionText, identityAt, identityOk, identityText, measureAt, measureOk, measureText, speciesAt, speciesOk, speciesText, leadsElement, atomAt, atomOk, atomKind, atomLine};
 
 // Coordinates, in thousandths.
+#[repr(C)]
 pub struct Position {
     pub x: i32,
     pub y: i32,

@@ -16,6 +16,7 @@ signedOf false v = pos v
 signedOf true zero = pos 0
 signedOf true (suc v) = negsuc v
 
+-- below zero
 unfoldable pub isNeg : ℤ → Bool
 isNeg (pos n) = false
 isNeg (negsuc n) = true
@@ -28,6 +29,7 @@ capOf (suc (suc n)) zero m = 10 * max 1 (capOf (suc n) 0 m)
 capOf (suc n) (suc zero) m = capOf n 0 m
 capOf (suc n) (suc (suc e)) m = 10 * capOf n (suc e) m
 
+-- a wrong field: its first column, and no value
 abbrev pub wrongWhole : ℕ → Whole
 wrongWhole at = record { column = at + 1; value = 0 }
 
@@ -39,9 +41,11 @@ wholeIn lo hi h at =
     (pick (ltb (h .mag) lo) (wrongWhole at) (pick (ltb hi (h .mag)) (wrongWhole at) (record { column = 0; value = h .mag }))))
     (wrongWhole at)
 
+-- n columns from `at`, e as in `numberOf`
 abbrev pub wholeOf : ℕ → ℕ → ℕ → ℕ → List ℕ → ℕ → Whole
 wholeOf n e lo hi l at = wholeIn lo hi (numberOf l at n e) at
 
+-- a wrong field
 abbrev pub wrongSigned : ℕ → Signed
 wrongSigned at = record { column = at + 1; value = pos 0 }
 
@@ -54,6 +58,7 @@ integerIn h at =
     (record { column = 0; value = signedOf false (h .mag) }))
     (wrongSigned at)
 
+-- n columns from `at`, e as in `numberOf`
 abbrev pub integerOf : ℕ → ℕ → List ℕ → ℕ → Signed
 integerOf n e l at = integerIn (numberOf l at n e) at
 

@@ -10,10 +10,13 @@ ghost use Rattle.fields.specs.Field.{signedOf, isNeg, wholeOf, integerOf
 ghost use Rattle.numbers.specs.Number.{render};
 
 // Serials, residue numbers and fragment numbers are types of their own, so that none lands where another belongs.
+#[repr(C)]
 pub struct Serial(pub u32);
 
+#[repr(C)]
 pub struct ResidueNumber(pub i32);
 
+#[repr(C)]
 pub struct FragmentNumber(pub u32);
 
 // A read field: the column of its fault, or 0, and its value.

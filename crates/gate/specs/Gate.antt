@@ -26,6 +26,7 @@ isAtom n (Conect c) = false
 isAtom n (Master t) = false
 isAtom n End = false
 
+-- the same of a line
 abbrev pub isSite : ℕ → Line → Bool
 isSite n (Bad k) = false
 isSite n (Wrong k column) = false
@@ -57,6 +58,7 @@ recordKnown seen (Conect c) =
 recordKnown seen (Master t) = true
 recordKnown seen End = true
 
+-- the same of a line
 abbrev pub knownOf : List Line → Line → Bool
 knownOf seen (Bad k) = true
 knownOf seen (Wrong k column) = true

@@ -27,6 +27,7 @@ isSpot (Conect c) = false
 isSpot (Master t) = false
 isSpot End = false
 
+-- the same of a line
 abbrev pub isCoord : Line → Bool
 isCoord (Bad k) = false
 isCoord (Wrong k column) = false
@@ -43,6 +44,7 @@ spotSerial (Conect c) = 0
 spotSerial (Master t) = 0
 spotSerial End = 0
 
+-- the same of a line, 0 where it has none
 abbrev pub serialOf : Line → ℕ
 serialOf (Bad k) = 0
 serialOf (Wrong k column) = 0

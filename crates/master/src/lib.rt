@@ -7,6 +7,7 @@ ghost use Rattle.fields.specs.Format.{writeNumber, writeLine};
 ghost use Rattle.master.specs.Masters.{notesAt, notesOk, notesText, shapeAt, shapeOk, shapeText, atomsAt, atomsOk, atomsText, masterAt, masterOk, masterLine};
 
 // The nine counts of an entry: what MASTER holds.
+#[repr(C)]
 pub struct Tally {
     pub remark: u32,
     pub het: u32,

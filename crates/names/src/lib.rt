@@ -6,17 +6,20 @@ ghost use lib.ListN.{length};
 ghost use Rattle.columns.specs.Columns.{Put};
 ghost use Rattle.names.specs.Names.{pairAt, threeAt, fourAt, isBlank, isChain, isInsertion, isAlternate, isFilled, isColumn, isNameByte, rightThree, isResidue, isIdentifier, isCharge, paddedTwo, paddedThree, isAtomName, isBondName};
 
+#[repr(C)]
 pub struct Pair {
     pub a: u8,
     pub b: u8,
 }
 
+#[repr(C)]
 pub struct Three {
     pub a: u8,
     pub b: u8,
     pub c: u8,
 }
 
+#[repr(C)]
 pub struct Four {
     pub a: u8,
     pub b: u8,

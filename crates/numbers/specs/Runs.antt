@@ -1,4 +1,4 @@
--- How a number is read from the left: what the columns passed are, and their digits, each in four bits.
+-- How the code reads a number from the left. (Nothing here says what a number is: `Number` does, and the two agree.)
 use Prim.Native.Nat.{ℕ, zero, suc, _+_, _*_, _-_, _/_, _%_}
 use mathlib.Core.List.{List}
 use mathlib.Core.Bool.{Bool, true, false}
@@ -19,6 +19,7 @@ unfoldable pub decOf : ℕ → ℕ → ℕ
 decOf w zero = 0
 decOf w (suc n) = 10 * decOf (w / 16) n + w % 16
 
+-- what the columns passed are, with one column more
 unfoldable pub stepOf : Scan → ℕ → Scan
 stepOf s b =
     record {
@@ -30,16 +31,20 @@ stepOf s b =
       code = 16 * s .code + valueOf b;
     }
 
+-- n columns from `at`
 unfoldable pub scanOf : List ℕ → ℕ → ℕ → Scan
 scanOf l at zero = record { blank = true; lead = true; minus = false; ends = false; good = false; code = 0 }
 scanOf l at (suc n) = stepOf (scanOf l at n) (getD l (at + n) 0)
 
+-- one decimal more
 unfoldable pub takenOf : Number → ℕ → Number
 takenOf h b = record { good = both (h .good) (isDigit b); minus = h .minus; mag = 16 * h .mag + valueOf b }
 
+-- n decimals from `at`, after what h has
 unfoldable pub tailOf : List ℕ → ℕ → Number → ℕ → Number
 tailOf l at h zero = h
 tailOf l at h (suc n) = takenOf (tailOf l at h n) (getD l (at + n) 0)
 
+-- the number of a sign and a magnitude, or none
 unfoldable pub madeOf : Bool → Bool → ℕ → Number
 madeOf good minus mag = pick good (record { good = true; minus = minus; mag = mag }) none

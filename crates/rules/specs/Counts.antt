@@ -39,6 +39,7 @@ countOf Master = 0
 countOf End = 0
 countOf Unknown = 0
 
+-- before the first line
 abbrev pub noCounts : Counts
 noCounts = record { remark = 0; het = 0; helix = 0; sheet = 0; xform = 0; coord = 0; ter = 0; conect = 0; seq = 0 }
 

@@ -41,6 +41,7 @@ serialBad last (Conect c) = false
 serialBad last (Master t) = false
 serialBad last End = false
 
+-- the last serial is that of the last such line
 abbrev pub lastNext : ℕ → Record → ℕ
 lastNext last (Coordinate het a) = a .identity .serial .0
 lastNext last (Ter t) = t .serial .0
@@ -51,9 +52,11 @@ lastNext last (Master t) = last
 lastNext last End = last
 
 -- ---- 8: a run is the coordinate lines since the last TER
+-- equal names of three columns
 unfoldable pub sameThree : Three → Three → Bool
 sameThree a b = eqb (a .a) (b .a) && (eqb (a .b) (b .b) && eqb (a .c) (b .c))
 
+-- both below zero, or neither
 abbrev pub sameSign : Bool → Bool → Bool
 sameSign x y = pick x y (not y)
 
@@ -104,6 +107,7 @@ siteNext r het residue =
       residue = residue;
     }
 
+-- TER leaves an empty run
 abbrev pub runNext : Run → Record → Run
 runNext r (Coordinate het a) = siteNext r het (a .identity .residue)
 runNext r (Ter t) = noRun
@@ -123,6 +127,7 @@ bondBad known last (Conect c) = not known || ltb (c .serial .0) last
 bondBad known last (Master t) = false
 bondBad known last End = false
 
+-- the last CONECT serial
 abbrev pub bondNext : ℕ → Record → ℕ
 bondNext last (Coordinate het a) = last
 bondNext last (Ter t) = last
@@ -149,6 +154,7 @@ strandBad d s =
     (not (sameThree (s .id) (d .id) && (eqb (s .strands) (d .strands) && eqb (s .strand) (d .strand + 1))))
     (not (eqb (s .strand) 1) || (ltb 0 (d .strands) && sameThree (s .id) (d .id)))
 
+-- every kind but SHEET starts only after the last strand
 abbrev pub foldBad : ℕ → Ladder → Record → Bool
 foldBad helix d (Coordinate het a) = unfinished d
 foldBad helix d (Ter t) = unfinished d
@@ -158,6 +164,7 @@ foldBad helix d (Conect c) = unfinished d
 foldBad helix d (Master t) = unfinished d
 foldBad helix d End = unfinished d
 
+-- the last helix serial
 abbrev pub helixNext : ℕ → Record → ℕ
 helixNext helix (Coordinate het a) = helix
 helixNext helix (Ter t) = helix
@@ -167,6 +174,7 @@ helixNext helix (Conect c) = helix
 helixNext helix (Master t) = helix
 helixNext helix End = helix
 
+-- the last SHEET line
 abbrev pub ladderNext : Ladder → Record → Ladder
 ladderNext d (Coordinate het a) = d
 ladderNext d (Ter t) = d
@@ -204,9 +212,11 @@ judgeOf known s (Carried k) = pick (placeBad (s .place) k) 5 (pick (unfinished (
 judgeOf known s (Typed r) = typedBad known s r
 
 -- ---- what a good line leaves
+-- before the first line
 unfoldable pub startOf : State
 startOf = record { place = 0; last = 0; run = noRun; bond = 0; helix = 0; ladder = noLadder; counts = noCounts; lines = 0 }
 
+-- a carried line moves the place and is counted
 unfoldable pub carriedNext : State → Kind → State
 carriedNext s k =
     record {
@@ -220,6 +230,7 @@ carriedNext s k =
       lines = s .lines + 1;
     }
 
+-- a typed line moves each part by its own step
 unfoldable pub typedNext : State → Record → State
 typedNext s r =
     record {

@@ -26,6 +26,7 @@ use tests::count_bad;
 use tests::fold_bad;
 use tests::run_bad;
 pub use tests::same_residue;
+pub use tests::same_three;
 use tests::serial_bad;
 use tests::unfinished;
 ghost use mathlib.Core.Path.{_≡_};
