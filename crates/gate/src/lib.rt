@@ -80,7 +80,7 @@ fn refused(n: u8, s: State) -> Verdict
     }
 }
 
-fn finish(s: State) -> Verdict
+pub fn finish(s: State) -> Verdict
     requires { ⌜ s .lines < 9223372036854775808 ⌝ }
     ensures { λ r. ⌜ r ≡ finishOf s ⌝ }
 {
@@ -238,7 +238,7 @@ fn record_known(text: &[u8], b: Span, r: Record) -> bool
 }
 
 // Whether each number on a CONECT line is the serial of an ATOM or HETATM line so far.
-fn known(text: &[u8], b: Span, l: Line) -> bool
+pub fn known(text: &[u8], b: Span, l: Line) -> bool
     requires { ⌜ Rising (now text) (b .lo) (b .hi) ⌝ }
     ensures { λ k. ⌜ ((n : ℕ) (s : StateOf) → Block (row (now (text .entry))) n b s → k ≡ knownOf (down (row (now (text .entry))) n) l) ⌝ }
 {
@@ -277,7 +277,7 @@ pub fn is_coord(l: Line) -> bool
 }
 
 // The block with line n taken in.
-fn grow(b: Span, n: usize, l: Line) -> Span
+pub fn grow(b: Span, n: usize, l: Line) -> Span
     requires { ⌜ n < 9223372036854775808 ⌝ }
     ensures { λ r. ⌜ r ≡ growOf b n l ⌝ }
 {

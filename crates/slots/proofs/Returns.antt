@@ -1,0 +1,216 @@
+-- One law for each `return`. Assumes nothing.
+use mathlib.Core.Path.{_≡_, sym, _∙_, ap}
+use mathlib.Core.List.{List}
+use mathlib.Core.Bool.{Bool, true, false}
+use Prim.Native.Nat.{ℕ, _^_, _≤_}
+use native.Mathlib.Omega.{arith}
+use lib.Dec.{eqb, ltb}
+use lib.ListN.{length, getD, take}
+use lib.IntN.{ℤ, pos, natAbs}
+use mir.Syntax.{w32}
+use mir.Val.{SFits, toZ, ofZ}
+use mir.ValLaws.{toZ-ofZ}
+use borrow.Author.Tests.{lt-ltb, eq-eqb, ne-eqb, ltb-false}
+use Rattle.ascii.specs.Tests.{pick, both}
+use Rattle.ascii.proofs.Choice.{picks}
+use Rattle.columns.specs.Columns.{cleanAt}
+use Rattle.numbers.specs.declared.Number.{Number}
+use Rattle.numbers.specs.Number.{numberOf}
+use Rattle.fields.specs.declared.Whole.{Whole}
+use Rattle.fields.specs.Field.{isNeg, wholeIn}
+use Rattle.coordinate.specs.declared.Atom.{Atom}
+use Rattle.coordinate.specs.declared.Position.{Position}
+use Rattle.coordinate.specs.Atoms.{atomFault, atomValue, measureValue}
+use Rattle.kinds.specs.declared.Kind.{Kind}
+use Rattle.kinds.specs.declared.Kind.the-variants.{Header, Title, Compnd, Source, Keywds, Expdta, Author, Revdat, Jrnl, Remark, Seqres, Het, Helix, Sheet, Cryst1, Origx1, Origx2, Origx3, Scale1, Scale2, Scale3, Atom as AtomKind, Hetatm, Ter, Conect, Master, End, Unknown}
+use Rattle.kinds.specs.Kinds.{kindOf}
+use Rattle.line.specs.declared.Record.{Record}
+use Rattle.line.specs.declared.Record.the-variants as rec
+use Rattle.line.specs.declared.Reading.{Reading}
+use Rattle.line.specs.declared.Reading.the-variants.{Typed, Wrong, Untyped}
+use Rattle.line.specs.Lines.{judged, readingOf}
+use Rattle.pieces.specs.declared.Line.{Line}
+use Rattle.pieces.specs.declared.Line.the-variants as line
+use Rattle.pieces.specs.Pieces.{carriedOf, lineIn, columnsOf, lineOf}
+use Rattle.rules.specs.Rules.{sameSign}
+use Rattle.slots.specs.declared.Slot.{Slot}
+use Rattle.slots.specs.declared.Filling.{Filling}
+use Rattle.slots.specs.declared.Filling.the-variants.{Refused}
+use Rattle.slots.specs.Slots.{atomKind, hetatmKind, slotOfAtom, SmallRecord, Small, SmallLine, hasSlot, fillIn, slotLine, sameInteger, samePosition, sameMeasures}
+
+-- a number that was held is itself
+abbrev held : ℤ → ℤ
+held z = toZ w32 (ofZ w32 z)
+
+pub integers : (a b : ℤ) (s t u r : Bool) (x y : ℕ) → SFits w32 a → SFits w32 b
+    → s ≡ isNeg (held a) → t ≡ isNeg (held b) → x ≡ natAbs (held a) → y ≡ natAbs (held b)
+    → u ≡ sameSign s t → r ≡ both u (eqb x y) → r ≡ sameInteger a b
+integers a b s t u r x y fa fb es et ex ey eu er = er ∙ rw (eu, es, et, ex, ey, toZ-ofZ w32 a fa, toZ-ofZ w32 b fb)
+
+pub positions : (p q : Position) (x y z a1 a2 : Bool)
+    → SFits w32 (p .x) → SFits w32 (q .x) → SFits w32 (p .y) → SFits w32 (q .y) → SFits w32 (p .z) → SFits w32 (q .z)
+    → x ≡ sameInteger (held (p .x)) (held (q .x)) → y ≡ sameInteger (held (p .y)) (held (q .y)) → z ≡ sameInteger (held (p .z)) (held (q .z))
+    → a1 ≡ both y z → a2 ≡ both x a1 → a2 ≡ samePosition p q
+unfolding samePosition
+positions p q x y z a1 a2 f1 f2 f3 f4 f5 f6 ex ey ez e1 e2 =
+    e2 ∙ rw (e1, ex, ey, ez, toZ-ofZ w32 (p .x) f1, toZ-ofZ w32 (q .x) f2, toZ-ofZ w32 (p .y) f3, toZ-ofZ w32 (q .y) f4, toZ-ofZ w32 (p .z) f5, toZ-ofZ w32 (q .z) f6)
+
+pub measures : (s t : Slot) (p o b a1 a2 : Bool)
+    → SFits w32 (s .occupancy) → SFits w32 (t .occupancy) → SFits w32 (s .temperature) → SFits w32 (t .temperature)
+    → p ≡ samePosition (s .position) (t .position) → o ≡ sameInteger (held (s .occupancy)) (held (t .occupancy)) → b ≡ sameInteger (held (s .temperature)) (held (t .temperature))
+    → a1 ≡ both o b → a2 ≡ both p a1 → a2 ≡ sameMeasures s t
+unfolding sameMeasures
+measures s t p o b a1 a2 f1 f2 f3 f4 ep eo eb e1 e2 =
+    e2 ∙ rw (e1, ep, eo, eb, toZ-ofZ w32 (s .occupancy) f1, toZ-ofZ w32 (t .occupancy) f2, toZ-ofZ w32 (s .temperature) f3, toZ-ofZ w32 (t .temperature) f4)
+
+-- ---- an occupancy is small
+whole-high : (lo hi : ℕ) (h : Number) (at : ℕ) → (wholeIn lo hi h at) .value ≤ hi
+unfolding wholeIn
+whole-high lo hi h at =
+    picks P (h .good) _ _
+    (λ _. picks P (h .minus) _ _ (λ _. omega arith)
+    (λ _. picks P (ltb (h .mag) lo) _ _ (λ _. omega arith)
+    (λ _. picks P (ltb hi (h .mag)) _ _ (λ _. omega arith) (λ g. ltb-false hi (h .mag) g))))
+    (λ _. omega arith)
+  where
+    P : Whole → Type 0
+    P w = w .value ≤ hi
+
+atom-small : (l : List ℕ) → (atomValue l 6) .measure .occupancy ≤ 2147483647
+unfolding atomValue measureValue
+atom-small l = let h = whole-high 0 100 (numberOf l 54 6 3) 54 in omega arith
+
+judged-small : (c : ℕ) (r : Record) → SmallRecord r → Small (judged c r)
+unfolding judged
+judged-small c r s = picks Small (eqb c 0) (Typed r) (Wrong c) (λ _. s) (λ _. tt)
+
+by-kind : (k : Kind) (l : List ℕ) → Small (readingOf k l)
+unfolding readingOf
+by-kind Header l = tt
+by-kind Title l = tt
+by-kind Compnd l = tt
+by-kind Source l = tt
+by-kind Keywds l = tt
+by-kind Expdta l = tt
+by-kind Author l = tt
+by-kind Revdat l = tt
+by-kind Jrnl l = tt
+by-kind Remark l = tt
+by-kind Seqres l = tt
+by-kind Het l = tt
+by-kind Helix l = judged-small _ _ tt
+by-kind Sheet l = judged-small _ _ tt
+by-kind Cryst1 l = tt
+by-kind Origx1 l = tt
+by-kind Origx2 l = tt
+by-kind Origx3 l = tt
+by-kind Scale1 l = tt
+by-kind Scale2 l = tt
+by-kind Scale3 l = tt
+by-kind AtomKind l = judged-small (atomFault l 6) (rec.Coordinate false (atomValue l 6)) (atom-small l)
+by-kind Hetatm l = judged-small (atomFault l 6) (rec.Coordinate true (atomValue l 6)) (atom-small l)
+by-kind Ter l = judged-small _ _ tt
+by-kind Conect l = judged-small _ _ tt
+by-kind Master l = judged-small _ _ tt
+by-kind End l = judged-small _ _ tt
+by-kind Unknown l = tt
+
+pub reading-small : (k : Kind) (l : List ℕ) (x : Reading) → x ≡ readingOf k l → Small x
+reading-small k l x e = rw e (by-kind k l)
+
+pub typed-small : (x : Reading) (r : Record) → x ≡ Typed r → Small x → SmallRecord r
+typed-small x r e s = rw e at s
+
+pub coordinate-small : (r : Record) (het : Bool) (a : Atom) → r ≡ rec.Coordinate het a → SmallRecord r → a .measure .occupancy ≤ 2147483647
+coordinate-small r het a e s = rw e at s
+
+-- the same of a line of a text
+pub line-small : (l : Line) (r : Record) → l ≡ line.Typed r → SmallLine l → SmallRecord r
+line-small l r e s = rw e at s
+
+kind-small : (k : Kind) → SmallLine (carriedOf k)
+kind-small Header = tt
+kind-small Title = tt
+kind-small Compnd = tt
+kind-small Source = tt
+kind-small Keywds = tt
+kind-small Expdta = tt
+kind-small Author = tt
+kind-small Revdat = tt
+kind-small Jrnl = tt
+kind-small Remark = tt
+kind-small Seqres = tt
+kind-small Het = tt
+kind-small Helix = tt
+kind-small Sheet = tt
+kind-small Cryst1 = tt
+kind-small Origx1 = tt
+kind-small Origx2 = tt
+kind-small Origx3 = tt
+kind-small Scale1 = tt
+kind-small Scale2 = tt
+kind-small Scale3 = tt
+kind-small AtomKind = tt
+kind-small Hetatm = tt
+kind-small Ter = tt
+kind-small Conect = tt
+kind-small Master = tt
+kind-small End = tt
+kind-small Unknown = tt
+
+columns-small : (k : Kind) (x : Reading) → Small x → SmallLine (lineIn k x)
+columns-small k (Typed r) s = s
+columns-small k (Wrong column) s = tt
+columns-small k Untyped s = kind-small k
+
+pub piece-small : (p : List ℕ) → SmallLine (lineOf p)
+unfolding lineOf columnsOf
+piece-small p =
+    picks SmallLine (ltb (length p) 81) (line.Bad 1) _ (λ _. tt)
+    (λ _. picks SmallLine (eqb (getD p 80 0) 10) _ (line.Bad 2)
+    (λ _. picks SmallLine (cleanAt (take 80 p) 0 80) _ (line.Bad 3) (λ _. columns-small (kindOf (take 80 p)) (readingOf (kindOf (take 80 p)) (take 80 p)) (by-kind (kindOf (take 80 p)) (take 80 p))) (λ _. tt)) (λ _. tt))
+
+-- ---- the slot of an atom
+small-pos : (v : ℕ) → v ≤ 2147483647 → toZ w32 v ≡ pos v
+small-pos v h = rw (lt-ltb v (2 ^ 31) (omega arith))
+
+pub atom-slot : (het : Bool) (a : Atom) (k : ℕ) → a .measure .occupancy ≤ 2147483647
+    → SFits w32 (a .measure .temperature)
+    → k ≡ pick het hetatmKind atomKind
+    → _≡_ {A = Slot} (record {
+      serial = a .identity .serial;
+      number = a .identity .residue .number;
+      position = a .measure .position;
+      occupancy = toZ w32 (a .measure .occupancy);
+      temperature = held (a .measure .temperature);
+      kind = k;
+      mark = 0;
+      name = a .identity .name;
+      alternate = a .identity .alternate;
+      residue = a .identity .residue .name;
+      chain = a .identity .residue .chain;
+      insertion = a .identity .residue .insertion;
+      element = a .species .element;
+      charge = a .species .charge;
+    }) (slotOfAtom het a)
+atom-slot het a k h ft e = rw (small-pos (a .measure .occupancy) h, toZ-ofZ w32 (a .measure .temperature) ft, e)
+
+-- ---- a line
+module _ (l : List ℕ) where
+  pub slot-short : (length l ≡ 80 → ⊥) → Refused 1 ≡ slotLine l
+  unfolding slotLine
+  slot-short z = rw (ne-eqb _ _ z)
+
+  module _ (h : length l ≡ 80) (p : Bool) (pe : p ≡ cleanAt l 0 80) where
+    pub slot-odd : p ≡ false → Refused 3 ≡ slotLine l
+    unfolding slotLine
+    slot-odd f = rw (eq-eqb _ _ h, sym pe ∙ f)
+
+    module _ (t : p ≡ true) (k : Kind) (ek : k ≡ kindOf l) (q : Bool) (qe : q ≡ hasSlot k) where
+      pub slot-none : q ≡ false → Refused 4 ≡ slotLine l
+      unfolding slotLine
+      slot-none f = rw (eq-eqb _ _ h, sym pe ∙ t, ← ek, sym qe ∙ f)
+
+      pub slot-read : (x : Reading) (r : Filling) → q ≡ true → x ≡ readingOf k l → r ≡ fillIn x → r ≡ slotLine l
+      unfolding slotLine
+      slot-read x r g ex er = rw (eq-eqb _ _ h, sym pe ∙ t, ← ek, sym qe ∙ g) (er ∙ ap fillIn ex)

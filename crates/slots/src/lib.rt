@@ -1,0 +1,375 @@
+// A slot of the table: the fields of an ATOM, HETATM or TER line, and a mark.
+use coordinate::Atom;
+use coordinate::Position;
+use fields::ResidueNumber;
+use fields::Serial;
+use kinds::Kind;
+use line::Reading;
+use line::Record;
+use names::Four;
+use names::Pair;
+use names::Three;
+use pieces::Line;
+use residue::Residue;
+use ter::Ter;
+ghost use mathlib.Core.Path.{_≡_};
+ghost use mathlib.Core.Bool.{not};
+ghost use Prim.Native.Nat.{_≤_};
+ghost use lib.ListN.{length};
+ghost use Rattle.ascii.specs.Tests.{pick};
+ghost use Rattle.rules.specs.Rules.{sameSign};
+ghost use Rattle.slots.specs.Slots.{atomKind, hetatmKind, Small, SmallRecord, slotOfAtom, slotOfTer, fillingOf, hasSlot, fillIn, slotLine, sameInteger, samePair, sameFour, samePosition, sameMeasures, sameNames, sameSlot, withMark, residueOf, noSlot, recordSlot, lineSlot, SmallLine};
+
+// 44 bytes, no padding. Kind 1 ATOM, 2 HETATM, 3 TER; mark 0 in, 1 aside; any other byte is damage.
+#[repr(C)]
+pub struct Slot {
+    pub serial: Serial,
+    pub number: ResidueNumber,
+    pub position: Position,
+    pub occupancy: i32,
+    pub temperature: i32,
+    pub kind: u8,
+    pub mark: u8,
+    pub name: Four,
+    pub alternate: u8,
+    pub residue: Three,
+    pub chain: u8,
+    pub insertion: u8,
+    pub element: Pair,
+    pub charge: Pair,
+}
+
+// What filling a slot from one line answers.
+pub enum Filling {
+    Filled(Slot),
+    // The number of the refusal.
+    Refused(u8),
+}
+
+const ATOM_KIND: u8 = 1;
+
+const HETATM_KIND: u8 = 2;
+
+const TER_KIND: u8 = 3;
+
+const MARK_IN: u8 = 0;
+
+// The slot of one line read by itself, marked in: 1, 3, 4 for any other kind and for an unknown or carried name, 6.
+pub fn slot_of_line(line: &[u8]) -> Filling
+    ensures { λ r. ⌜ r ≡ slotLine (now (line .entry)) ⌝ }
+{
+    if line.len() == 80 {
+        if columns::is_clean(line, 0, 80) {
+            let k = kinds::kind_of(line);
+            if has_slot(k) {
+                return fill_in(line::read_kind(line, k));
+            }
+            return Filling::Refused(4);
+        }
+        return Filling::Refused(3);
+    }
+    Filling::Refused(1)
+}
+
+pub fn has_slot(k: Kind) -> bool
+    ensures { λ r. ⌜ r ≡ hasSlot k ⌝ }
+{
+    match k {
+        Kind::Header => false,
+        Kind::Title => false,
+        Kind::Compnd => false,
+        Kind::Source => false,
+        Kind::Keywds => false,
+        Kind::Expdta => false,
+        Kind::Author => false,
+        Kind::Revdat => false,
+        Kind::Jrnl => false,
+        Kind::Remark => false,
+        Kind::Seqres => false,
+        Kind::Het => false,
+        Kind::Helix => false,
+        Kind::Sheet => false,
+        Kind::Cryst1 => false,
+        Kind::Origx1 => false,
+        Kind::Origx2 => false,
+        Kind::Origx3 => false,
+        Kind::Scale1 => false,
+        Kind::Scale2 => false,
+        Kind::Scale3 => false,
+        Kind::Atom => true,
+        Kind::Hetatm => true,
+        Kind::Ter => true,
+        Kind::Conect => false,
+        Kind::Master => false,
+        Kind::End => false,
+        Kind::Unknown => false,
+    }
+}
+
+fn fill_in(r: Reading) -> Filling
+    requires { ⌜ Small r ⌝ }
+    ensures { λ f. ⌜ f ≡ fillIn r ⌝ }
+{
+    match r {
+        Reading::Typed(x) => filling_of(x),
+        Reading::Wrong(_) => Filling::Refused(6),
+        Reading::Untyped => Filling::Refused(4),
+    }
+}
+
+fn filling_of(r: Record) -> Filling
+    requires { ⌜ SmallRecord r ⌝ }
+    ensures { λ f. ⌜ f ≡ fillingOf r ⌝ }
+{
+    match r {
+        Record::Coordinate(het, a) => Filling::Filled(slot_of_atom(het, a)),
+        Record::Ter(t) => Filling::Filled(slot_of_ter(t)),
+        Record::Helix(_) => Filling::Refused(4),
+        Record::Sheet(_) => Filling::Refused(4),
+        Record::Conect(_) => Filling::Refused(4),
+        Record::Master(_) => Filling::Refused(4),
+        Record::End => Filling::Refused(4),
+    }
+}
+
+fn slot_of_atom(het: bool, a: Atom) -> Slot
+    requires { ⌜ a .measure .occupancy ≤ 2147483647 ⌝ }
+    ensures { λ s. ⌜ s ≡ slotOfAtom het a ⌝ }
+{
+    let w = a.identity;
+    let m = a.measure;
+    let t = a.species;
+    let r = w.residue;
+    let position = m.position;
+    let serial = w.serial;
+    let name = w.name;
+    let number = r.number;
+    let residue = r.name;
+    let element = t.element;
+    let charge = t.charge;
+    Slot {
+        serial: serial,
+        number: number,
+        position: position,
+        occupancy: m.occupancy as i32,
+        temperature: m.temperature,
+        kind: kind_byte(het),
+        mark: MARK_IN,
+        name: name,
+        alternate: w.alternate,
+        residue: residue,
+        chain: r.chain,
+        insertion: r.insertion,
+        element: element,
+        charge: charge,
+    }
+}
+
+fn kind_byte(het: bool) -> u8
+    ensures { λ k. ⌜ k ≡ pick het hetatmKind atomKind ⌝ }
+{
+    if het {
+        return HETATM_KIND;
+    }
+    ATOM_KIND
+}
+
+// The fields that a TER lacks are 0 or blank.
+fn slot_of_ter(t: Ter) -> Slot
+    ensures { λ s. ⌜ s ≡ slotOfTer t ⌝ }
+{
+    let r = t.residue;
+    let serial = t.serial;
+    let number = r.number;
+    let residue = r.name;
+    Slot {
+        serial: serial,
+        number: number,
+        position: Position { x: 0, y: 0, z: 0 },
+        occupancy: 0,
+        temperature: 0,
+        kind: TER_KIND,
+        mark: MARK_IN,
+        name: Four {
+            a: b' ',
+            b: b' ',
+            c: b' ',
+            d: b' ',
+        },
+        alternate: b' ',
+        residue: residue,
+        chain: r.chain,
+        insertion: r.insertion,
+        element: Pair { a: b' ', b: b' ' },
+        charge: Pair { a: b' ', b: b' ' },
+    }
+}
+
+// What stands where there is no slot.
+pub fn no_slot() -> Slot
+    ensures { λ s. ⌜ s ≡ noSlot ⌝ }
+{
+    Slot {
+        serial: Serial(0),
+        number: ResidueNumber(0),
+        position: Position { x: 0, y: 0, z: 0 },
+        occupancy: 0,
+        temperature: 0,
+        kind: 0,
+        mark: MARK_IN,
+        name: Four {
+            a: b' ',
+            b: b' ',
+            c: b' ',
+            d: b' ',
+        },
+        alternate: b' ',
+        residue: Three {
+            a: b' ',
+            b: b' ',
+            c: b' ',
+        },
+        chain: b' ',
+        insertion: b' ',
+        element: Pair { a: b' ', b: b' ' },
+        charge: Pair { a: b' ', b: b' ' },
+    }
+}
+
+fn record_slot(r: Record) -> Slot
+    requires { ⌜ SmallRecord r ⌝ }
+    ensures { λ s. ⌜ s ≡ recordSlot r ⌝ }
+{
+    match r {
+        Record::Coordinate(het, a) => slot_of_atom(het, a),
+        Record::Ter(t) => slot_of_ter(t),
+        Record::Helix(_) => no_slot(),
+        Record::Sheet(_) => no_slot(),
+        Record::Conect(_) => no_slot(),
+        Record::Master(_) => no_slot(),
+        Record::End => no_slot(),
+    }
+}
+
+// The slot of a line of a text.
+pub fn line_slot(l: Line) -> Slot
+    requires { ⌜ SmallLine l ⌝ }
+    ensures { λ s. ⌜ s ≡ lineSlot l ⌝ }
+{
+    match l {
+        Line::Bad(_) => no_slot(),
+        Line::Wrong(_, _) => no_slot(),
+        Line::Carried(_) => no_slot(),
+        Line::Typed(r) => record_slot(r),
+    }
+}
+
+fn same_integer(a: i32, b: i32) -> bool
+    ensures { λ r. ⌜ r ≡ sameInteger a b ⌝ }
+{
+    let s = fields::negative(a);
+    let t = fields::negative(b);
+    let x = fields::magnitude(a);
+    let y = fields::magnitude(b);
+    ascii::both_of(same_sign(s, t), x == y)
+}
+
+fn same_sign(s: bool, t: bool) -> bool
+    ensures { λ r. ⌜ r ≡ sameSign s t ⌝ }
+{
+    if s {
+        return t;
+    }
+    !t
+}
+
+fn same_pair(a: Pair, b: Pair) -> bool
+    ensures { λ r. ⌜ r ≡ samePair a b ⌝ }
+{
+    ascii::both_of(a.a == b.a, a.b == b.b)
+}
+
+fn same_four(a: Four, b: Four) -> bool
+    ensures { λ r. ⌜ r ≡ sameFour a b ⌝ }
+{
+    ascii::both_of(
+        ascii::both_of(a.a == b.a, a.b == b.b),
+        ascii::both_of(a.c == b.c, a.d == b.d),
+    )
+}
+
+fn same_position(p: Position, q: Position) -> bool
+    ensures { λ r. ⌜ r ≡ samePosition p q ⌝ }
+{
+    let x = same_integer(p.x, q.x);
+    let y = same_integer(p.y, q.y);
+    let z = same_integer(p.z, q.z);
+    ascii::both_of(x, ascii::both_of(y, z))
+}
+
+fn same_measures(s: Slot, t: Slot) -> bool
+    ensures { λ r. ⌜ r ≡ sameMeasures s t ⌝ }
+{
+    let p = s.position;
+    let q = t.position;
+    let a = same_position(p, q);
+    let o = same_integer(s.occupancy, t.occupancy);
+    let b = same_integer(s.temperature, t.temperature);
+    ascii::both_of(a, ascii::both_of(o, b))
+}
+
+// Its residue name, chain, number and insertion code.
+pub fn residue_of(s: Slot) -> Residue
+    ensures { λ r. ⌜ r ≡ residueOf s ⌝ }
+{
+    let name = s.residue;
+    let number = s.number;
+    Residue {
+        name: name,
+        chain: s.chain,
+        number: number,
+        insertion: s.insertion,
+    }
+}
+
+fn same_names(s: Slot, t: Slot) -> bool
+    ensures { λ r. ⌜ r ≡ sameNames s t ⌝ }
+{
+    let a = s.name;
+    let b = t.name;
+    let c = s.element;
+    let d = t.element;
+    let e = s.charge;
+    let f = t.charge;
+    let n = same_four(a, b);
+    let p = same_pair(c, d);
+    let q = same_pair(e, f);
+    ascii::both_of(
+        ascii::both_of(n, s.alternate == t.alternate),
+        ascii::both_of(p, q),
+    )
+}
+
+// Whether two slots are equal apart from their marks.
+pub fn same_slot(s: Slot, t: Slot) -> bool
+    ensures { λ r. ⌜ r ≡ sameSlot s t ⌝ }
+{
+    let a = s.serial;
+    let b = t.serial;
+    let r = rules::same_residue(residue_of(s), residue_of(t));
+    let n = same_names(s, t);
+    let m = same_measures(s, t);
+    ascii::both_of(
+        ascii::both_of(s.kind == t.kind, a.0 == b.0),
+        ascii::both_of(r, ascii::both_of(n, m)),
+    )
+}
+
+// The slot with another mark.
+pub fn with_mark(s: Slot, mark: u8) -> Slot
+    ensures { λ r. ⌜ r ≡ withMark s mark ⌝ }
+{
+    let mut t = s;
+    t.mark = mark;
+    t
+}

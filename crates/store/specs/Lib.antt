@@ -1,0 +1,3 @@
+pub mod Fragments
+pub mod Table
+pub mod Deal

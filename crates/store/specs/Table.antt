@@ -1,0 +1,98 @@
+-- The table of a text: loading it, whether a table belongs to a text, and orders.
+use Prim.Native.Nat.{ℕ, _+_, _*_, _-_}
+use mathlib.Core.List.{List, [], _∷_, _++_, map}
+use mathlib.Core.Bool.{Bool, true, not}
+use lib.ListN.{length, take, drop, getD}
+use lib.Dec.{eqb, ltb, leb}
+use Rattle.ascii.specs.Tests.{pick, both, either}
+use Rattle.pieces.specs.declared.Line.{Line}
+use Rattle.pieces.specs.Pieces.{lineOf}
+use Rattle.gate.specs.Text.{cut}
+use Rattle.gate.specs.Gate.{checkOf}
+use Rattle.gate.specs.Search.{isCoord}
+use Rattle.slots.specs.declared.Slot.{Slot}
+use Rattle.slots.specs.Slots.{markIn, markAside, noSlot, lineSlot, sameSlot}
+use Rattle.store.specs.Fragments.{tailOf, markOf, marked}
+
+-- what is answered, and what the lent memory then holds: 0 or the number of a refusal, how many slots or bytes were written, all slots or bytes
+pub record Told (A : Type 0) : Type 0 where
+  pub number : ℕ
+  pub count : ℕ
+  pub left : List A
+
+abbrev pub told : {A : Type 0} → ℕ → ℕ → List A → Told A
+told n k xs = record { number = n; count = k; left = xs }
+
+-- the first of xs are written over with ys
+abbrev pub over : {A : Type 0} → List A → List A → List A
+over ys xs = ys ++ drop (length ys) xs
+
+-- ---- loading
+-- the lines of a text from line i on
+unfoldable pub linesFrom : List ℕ → ℕ → List Line
+linesFrom t i = map lineOf (cut (drop (81 * i) t))
+
+-- one slot for each ATOM, HETATM and TER line, in order
+unfoldable pub slotsOf : List Line → List Slot
+slotsOf [] = []
+slotsOf (l ∷ ls) = pick (isCoord l) (lineSlot l ∷ slotsOf ls) (slotsOf ls)
+
+abbrev pub loadedOf : List ℕ → List Slot
+loadedOf t = slotsOf (linesFrom t 0)
+
+-- 1-12, 13
+unfoldable pub loadOf : List ℕ → List Slot → Told Slot
+loadOf t xs =
+    pick (not (eqb (checkOf t .number) 0)) (told (checkOf t .number) 0 xs)
+    (pick (ltb (length xs) (length (loadedOf t))) (told 13 0 xs)
+    (told 0 (length (loadedOf t)) (over (loadedOf t) xs)))
+
+-- ---- whether a table belongs to a text
+-- a slot fits a line: it is the line's slot apart from the mark, and its mark is in or aside; a line without a slot asks nothing
+unfoldable pub fits : Slot → Line → Bool
+fits s l = pick (isCoord l) (both (leb (s .mark) markAside) (sameSlot s (lineSlot l))) true
+
+-- how many slots a line has
+abbrev pub oneOf : Line → ℕ
+oneOf l = pick (isCoord l) 1 0
+
+-- the slots from slot k on fit these lines
+unfoldable pub fitsFrom : List Slot → ℕ → List Line → Bool
+fitsFrom xs k [] = true
+fitsFrom xs k (l ∷ ls) = both (fits (getD xs k noSlot) l) (fitsFrom xs (k + oneOf l) ls)
+
+-- the slots of the table that the text needs
+abbrev pub mine : List ℕ → List Slot → List Slot
+mine t xs = take (length (loadedOf t)) xs
+
+-- the first slots fit the text, and marks agree inside each fragment
+unfoldable pub belongs : List ℕ → List Slot → Bool
+belongs t xs = both (fitsFrom xs 0 (linesFrom t 0)) (tailOf (mine t xs) .agree)
+
+-- 1-12, 13, 18
+unfoldable pub tableOf : List ℕ → List Slot → ℕ
+tableOf t xs =
+    pick (not (eqb (checkOf t .number) 0)) (checkOf t .number)
+    (pick (ltb (length xs) (length (loadedOf t))) 13
+    (pick (not (belongs t xs)) 18 0))
+
+-- ---- orders
+-- how many fragments there are
+abbrev pub fragments : List ℕ → List Slot → ℕ
+fragments t xs = tailOf (mine t xs) .count
+
+-- fragment f, numbered from the first as 1, counted from the last
+abbrev pub backOf : List ℕ → List Slot → ℕ → ℕ
+backOf t xs f = fragments t xs + 1 - f
+
+-- the byte of a mark
+abbrev pub markByte : Bool → ℕ
+markByte aside = pick aside markAside markIn
+
+-- 1-12, 13, 18, then 15: no such fragment, 16: it is already there
+unfoldable pub orderOf : List ℕ → List Slot → ℕ → Bool → Told Slot
+orderOf t xs f aside =
+    pick (not (eqb (tableOf t xs) 0)) (told (tableOf t xs) 0 xs)
+    (pick (either (eqb f 0) (ltb (fragments t xs) f)) (told 15 0 xs)
+    (pick (eqb (markOf (backOf t xs f) (mine t xs)) (markByte aside)) (told 16 0 xs)
+    (told 0 0 (over (marked (backOf t xs f) (markByte aside) (mine t xs)) xs))))
