@@ -23,8 +23,8 @@ use Rattle.gate.specs.Text.{cut}
 use Rattle.gate.specs.Search.{isCoord}
 use Rattle.slots.specs.declared.Slot.{Slot}
 use Rattle.slots.specs.Slots.{markAside, noSlot}
-use Rattle.store.specs.Fragments.{isTer}
-use Rattle.store.specs.Table.{Told, told, over, oneOf, mine, tableOf}
+use Rattle.slots.specs.Fragments.{isTer}
+use Rattle.table.specs.Table.{Told, told, over, oneOf, tableOf}
 
 -- ---- the atoms that a CONECT line names
 -- the slot is the atom with serial n, and set aside
@@ -123,7 +123,7 @@ dealt saving xs k q (p ∷ ps) =
 
 -- all the bytes of the saved entry, or of the tray
 unfoldable pub bytesOf : Bool → List ℕ → List Slot → List ℕ
-bytesOf saving t xs = dealt saving (mine t xs) 0 noCounts (cut t)
+bytesOf saving t xs = dealt saving xs 0 noCounts (cut t)
 
 -- 1-12, 13, 18, then 17: the output is shorter than what would be written
 unfoldable pub putOf : Bool → List ℕ → List Slot → List ℕ → Told ℕ

@@ -6,9 +6,9 @@ use mathlib.Core.Bool.{Bool, true, false, not}
 use lib.Dec.{eqb}
 use Rattle.ascii.specs.Tests.{pick, both, either}
 use Rattle.rules.specs.Rules.{sameResidue, noRun}
 use Rattle.slots.specs.declared.Slot.{Slot}
+use Rattle.slots.specs.declared.Tail.{Tail}
 use Rattle.slots.specs.Slots.{terKind, markIn, residueOf, withMark}
-use Rattle.store.specs.declared.fragments.Tail.{Tail}
 
 -- a slot of a TER line
 abbrev pub isTer : Slot → Bool

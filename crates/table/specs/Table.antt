@@ -12,7 +12,7 @@ use Rattle.gate.specs.Gate.{checkOf}
 use Rattle.gate.specs.Search.{isCoord}
 use Rattle.slots.specs.declared.Slot.{Slot}
 use Rattle.slots.specs.Slots.{markIn, markAside, noSlot, lineSlot, sameSlot}
-use Rattle.store.specs.Fragments.{tailOf, markOf, marked}
+use Rattle.slots.specs.Fragments.{tailOf, markOf, marked}
 
 -- what is answered, and what the lent memory then holds: 0 or the number of a refusal, how many slots or bytes were written, all slots or bytes
 pub record Told (A : Type 0) : Type 0 where

@@ -1,3 +1,0 @@
-pub mod Fragments
-pub mod Table
-pub mod Deal

@@ -1,0 +1,4 @@
+pub mod Table
+pub mod Deal
+pub mod Orders
+pub mod Promise

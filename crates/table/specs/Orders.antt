@@ -1,0 +1,27 @@
+-- Orders one after the other, granted and refused.
+use Prim.Native.Nat.{ℕ}
+use mathlib.Core.List.{List, [], _∷_}
+use mathlib.Core.Bool.{Bool}
+use lib.Dec.{eqb}
+use Rattle.ascii.specs.Tests.{pick, both}
+use Rattle.slots.specs.declared.Slot.{Slot}
+use Rattle.table.specs.Table.{loadedOf, over, orderOf}
+
+-- an order: the number of a fragment, and whether to set it aside or to put it back
+pub data Order : Type 0 where
+  order : ℕ → Bool → Order
+
+-- the table after the orders
+unfoldable pub ordersOf : List ℕ → List Slot → List Order → List Slot
+ordersOf t xs [] = xs
+ordersOf t xs (order f aside ∷ os) = ordersOf t (orderOf t xs f aside .left) os
+
+-- whether the last order granted for fragment f set it aside; now, where there is none
+unfoldable pub lastOf : List ℕ → List Slot → ℕ → Bool → List Order → Bool
+lastOf t xs f now [] = now
+lastOf t xs f now (order g aside ∷ os) =
+    lastOf t (orderOf t xs g aside .left) f (pick (both (eqb g f) (eqb (orderOf t xs g aside .number) 0)) aside now) os
+
+-- the table of a text, loaded into the slots xs and then ordered about
+abbrev pub kept : List ℕ → List Slot → List Order → List Slot
+kept t xs os = ordersOf t (over (loadedOf t) xs) os

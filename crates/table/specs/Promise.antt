@@ -1,0 +1,56 @@
+-- After any orders nothing is lost and nothing is altered: the statement. It is proved in proofs/.
+use Prim.Native.Nat.{ℕ, _+_, _-_, _<_}
+use mathlib.Core.List.{List, [], _∷_, map}
+use mathlib.Core.Bool.{Bool, true, false, not}
+use mathlib.Core.Path.{_≡_}
+use lib.ListN.{length, take, drop, getD}
+use Rattle.ascii.specs.Tests.{pick}
+use Rattle.pieces.specs.declared.Line.{Line}
+use Rattle.pieces.specs.Pieces.{lineOf}
+use Rattle.gate.specs.Text.{cut, row}
+use Rattle.gate.specs.Gate.{checkOf}
+use Rattle.gate.specs.Search.{isCoord}
+use Rattle.slots.specs.declared.Slot.{Slot}
+use Rattle.slots.specs.Fragments.{tailOf}
+use Rattle.table.specs.Table.{linesFrom, slotsOf, loadedOf, over, oneOf, mine, tableOf, fragments}
+use Rattle.table.specs.Deal.{stays, isMaster, bytesOf}
+use Rattle.table.specs.Orders.{Order, lastOf, kept}
+
+-- whether each line stays
+unfoldable pub staysFrom : List Slot → ℕ → List Line → List Bool
+staysFrom xs k [] = []
+staysFrom xs k (l ∷ ls) = stays xs k l ∷ staysFrom xs (k + oneOf l) ls
+
+-- those of the pieces that stay, and those that go, in order; each piece is among the one or the other, once
+unfoldable pub those : Bool → List Bool → List (List ℕ) → List (List ℕ)
+those stay [] ps = []
+those stay (b ∷ bs) [] = []
+those true (b ∷ bs) (p ∷ ps) = pick b (p ∷ those true bs ps) (those true bs ps)
+those false (b ∷ bs) (p ∷ ps) = pick b (those false bs ps) (p ∷ those false bs ps)
+
+-- the line apart from a MASTER line's counts
+unfoldable pub bare : List ℕ → List ℕ
+bare p = pick (isMaster (lineOf p)) [] p
+
+-- how many slots the lines before line i have; the number of the fragment that slot j belongs to
+unfoldable pub slotsTo : List ℕ → ℕ → ℕ
+slotsTo t i = length (slotsOf (take i (linesFrom t 0)))
+
+unfoldable pub fragmentOf : List ℕ → List Slot → ℕ → ℕ
+fragmentOf t xs j = fragments t xs + 1 - tailOf (drop j (mine t xs)) .count
+
+-- the text t, loaded into the slots xs, after the orders os
+pub record NothingLost (t : List ℕ) (xs : List Slot) (os : List Order) : Type 0 where
+  -- the table belongs to the text: saving and the tray are granted where there is room
+  pub belongs : tableOf t (kept t xs os) ≡ 0
+  -- the saved entry is accepted again
+  pub again : checkOf (bytesOf true t (kept t xs os)) .number ≡ 0
+  -- the saved entry has the lines that stay, byte for byte and in order; of MASTER the counts alone are written anew
+  pub saved : map bare (cut (bytesOf true t (kept t xs os))) ≡ map bare (those true (staysFrom (kept t xs os) 0 (linesFrom t 0)) (cut t))
+  -- the tray has the lines that go, byte for byte and in order
+  pub tray : cut (bytesOf false t (kept t xs os)) ≡ those false (staysFrom (kept t xs os) 0 (linesFrom t 0)) (cut t)
+  -- a coordinate line goes exactly if the last order granted for its fragment set it aside
+  pub aside : (i : ℕ) → i < length (cut t) → isCoord (row t i) ≡ true
+      → getD (staysFrom (kept t xs os) 0 (linesFrom t 0)) i true ≡ not (lastOf t (over (loadedOf t) xs) (fragmentOf t (over (loadedOf t) xs) (slotsTo t i)) false os)
+  -- the lines of the two add up to the lines read
+  pub sum : length (cut (bytesOf true t (kept t xs os))) + length (cut (bytesOf false t (kept t xs os))) ≡ length (cut t)
