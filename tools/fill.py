@@ -1,7 +1,8 @@
 #!/usr/bin/env python3
 """fill.py CRATE FUNCTION [-u 'MODULE.{names}'].. NEED=TERM..: answers needs of a proof file.
+In a TERM `@x` stands for the path from c to the thing x at that need (tools/paths.py).
 A hole that no NEED names becomes `search needs`. A TERM may begin 'unfolding a b | '."""
-import re, sys
+import re, subprocess, sys
 
 crate, fn = sys.argv[1:3]
 uses, answers, rest = [], {}, sys.argv[3:]
@@ -12,7 +13,22 @@ while rest:
         need, term = rest[0].split("=", 1); answers[need] = term; rest = rest[1:]
 path = f"crates/{crate}/proofs/{fn}/Proof.antt"
 text = open(path, encoding="utf-8").read()
+def paths(need):
+    out = subprocess.run([sys.executable, "tools/paths.py", crate, fn, need, "-n"], capture_output=True, text=True).stdout
+    found = {}
+    for line in out.split("\n"):
+        m = re.match(r"\s+(c(?: \.\S+)*) \[", line)
+        if m:
+            found.setdefault(m.group(1).split(" .")[-1], m.group(1))
+    return found
+
 for need, term in answers.items():
+    if "@" in term:
+        known = paths(need)
+        missing = [x for x in re.findall(r"@([\w-]+)", term) if x not in known]
+        if missing:
+            print(f"{need}: no {missing} among {sorted(known)}")
+        term = re.sub(r"@([\w-]+)", lambda m: known.get(m.group(1), "NONE"), term)
     before = ""
     if term.startswith("unfolding "):
         before, term = term.split(" | ", 1)

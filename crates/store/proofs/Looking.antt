@@ -1,0 +1,164 @@
+-- One pass over the text: what holds after i good lines, of the text and of the slots for them, and that it holds again after one more.
+-- Assumes nothing.
+use Prim.Native.Nat.{ℕ, _+_, _*_, _≤_, _<_}
+use mathlib.Core.List.{List}
+use mathlib.Core.Bool.{Bool, true, false, false≢true, true≢false}
+use mathlib.Core.Path.{_≡_, refl, sym, _∙_, ap}
+use native.Mathlib.Omega.{arith}
+use borrow.Author.Tests.{eqb-true, ltb-true, ltb-false, lt-ltb}
+use lib.Dec.{eqb, ltb, leb}
+use lib.ListN.{length, getD}
+use Rattle.ascii.specs.Tests.{pick, both}
+use Rattle.line.specs.declared.Record.{Record}
+use Rattle.line.specs.declared.Record.the-variants.{Coordinate, Ter, Helix, Sheet, Conect, Master, End}
+use Rattle.pieces.specs.declared.Line.{Line}
+use Rattle.pieces.specs.declared.Line.the-variants.{Bad, Wrong, Carried, Typed}
+use Rattle.rules.specs.declared.State.{State}
+use Rattle.gate.specs.declared.Span.{Span}
+use Rattle.gate.specs.Text.{row}
+use Rattle.gate.specs.Search.{isSpot, isCoord, spotSerial, serialOf, growOf, Block}
+use Rattle.gate.proofs.Sofar.{Sofar, sofar-start}
+use Rattle.slots.specs.declared.Slot.{Slot}
+use Rattle.slots.specs.Slots.{markAside, noSlot, recordSlot, lineSlot, sameSlot}
+use Rattle.table.specs.Table.{linesFrom, slotsOf, loadedOf, fits, oneOf, fitsFrom}
+use Rattle.table.specs.Deal.{stays}
+use Rattle.store.specs.Judged.{serialAt, Rises, keptFrom}
+use Rattle.store.proofs.Lines.{need-step, fits-step, kept-step}
+
+-- ---- both of two tests
+pub both-left : (a b : Bool) → both a b ≡ true → a ≡ true
+unfolding both
+both-left true b e = refl
+both-left false b e = e
+
+pub both-right : (a b : Bool) → both a b ≡ true → b ≡ true
+unfolding both
+both-right true b e = e
+both-right false b e = absurd (false≢true e)
+
+-- ---- a slot that fits a coordinate line has its serial
+spot-serial : (r : Record) → isSpot r ≡ true → recordSlot r .serial .0 ≡ spotSerial r
+spot-serial (Coordinate het a) e = refl
+spot-serial (Ter t) e = refl
+spot-serial (Helix h) e = absurd (false≢true e)
+spot-serial (Sheet s) e = absurd (false≢true e)
+spot-serial (Conect c) e = absurd (false≢true e)
+spot-serial (Master t) e = absurd (false≢true e)
+spot-serial End e = absurd (false≢true e)
+
+line-serial : (l : Line) → isCoord l ≡ true → lineSlot l .serial .0 ≡ serialOf l
+line-serial (Bad n) e = absurd (false≢true e)
+line-serial (Wrong k c) e = absurd (false≢true e)
+line-serial (Carried k) e = absurd (false≢true e)
+line-serial (Typed r) e = spot-serial r e
+
+same-serial : (s t : Slot) → sameSlot s t ≡ true → s .serial .0 ≡ t .serial .0
+unfolding sameSlot
+same-serial s t e =
+    eqb-true _ _ (both-right (eqb (s .kind) (t .kind)) (eqb (s .serial .0) (t .serial .0)) (both-left (both (eqb (s .kind) (t .kind)) (eqb (s .serial .0) (t .serial .0))) _ e))
+
+fits-serial : (s : Slot) (l : Line) → isCoord l ≡ true → fits s l ≡ true → s .serial .0 ≡ serialOf l
+unfolding fits
+fits-serial s l c f =
+    let g : both (leb (s .mark) markAside) (sameSlot s (lineSlot l)) ≡ true = rw c at f in
+    same-serial s (lineSlot l) (both-right (leb (s .mark) markAside) (sameSlot s (lineSlot l)) g) ∙ line-serial l c
+
+-- ---- after i good lines: k slots stand before, whether they fit, and how many lines stay
+pub record Looked (t : List ℕ) (xs : List Slot) (i : ℕ) (b : Span) (s : State) (k : ℕ) (fit : Bool) (n : ℕ) : Type 0 where
+  pub sofar : Sofar t i b s
+  pub spots : b .lo + k ≡ b .hi
+  pub need : k + length (slotsOf (linesFrom t i)) ≡ length (loadedOf t)
+  pub fitted : fitsFrom xs 0 (linesFrom t 0) ≡ both fit (fitsFrom xs k (linesFrom t i))
+  pub serials : fit ≡ true → (j : ℕ) → j < k → serialAt xs j ≡ serialOf (row t (b .lo + j))
+  pub kept : fit ≡ true → n + keptFrom xs k (linesFrom t i) ≡ keptFrom xs 0 (linesFrom t 0)
+  pub few : n ≤ i
+
+pub looked-start : (t : List ℕ) (xs : List Slot) (s : State) → Sofar t 0 (record { lo = 0; hi = 0 }) s → Looked t xs 0 (record { lo = 0; hi = 0 }) s 0 true 0
+unfolding both
+looked-start t xs s S =
+    record {
+      sofar = S;
+      spots = refl;
+      need = omega arith;
+      fitted = refl;
+      serials = λ e j h. absurd (omega arith);
+      kept = λ e. omega arith;
+      few = omega arith;
+    }
+
+-- the serials of the slots before rise, as those of their lines do
+pub looked-rises : (t : List ℕ) (xs : List Slot) (i : ℕ) (b : Span) (s : State) (k : ℕ) (fit : Bool) (kept : ℕ) → Looked t xs i b s k fit kept → fit ≡ true → Rises xs k
+looked-rises t xs i b s k fit kept K e i' j z h g =
+    let u : serialOf (row t (b .lo + i')) < serialOf (row t (b .lo + j)) = K .sofar .block .rise (b .lo + i') (b .lo + j) (omega arith) (omega arith) (omega (arith, K .spots)) in
+    rw (K .serials e i' (omega arith), K .serials e j g) u
+
+-- where a coordinate line comes after others, these reach up to it
+joined : (t : List ℕ) (i : ℕ) (b : Span) (s u : State) (l : Line) → l ≡ row t i → isCoord l ≡ true → Block (row t) i b s → Block (row t) (i + 1) (growOf b i l) u
+    → b .lo < b .hi → b .hi ≡ i
+joined t i b s u l el c B G h = go (ltb (b .hi) i) refl
+  where
+    lo : growOf b i l .lo ≡ b .lo
+    lo = rw (c, lt-ltb (b .lo) (b .hi) h)
+
+    hi : growOf b i l .hi ≡ i + 1
+    hi = rw c
+
+    go : (x : Bool) → ltb (b .hi) i ≡ x → b .hi ≡ i
+    go true e =
+        let g : b .hi < i = ltb-true _ _ e in
+        let p : isCoord (row t (b .hi)) ≡ true = G .coord (b .hi) (omega (arith, lo)) (omega (arith, hi)) in
+        absurd (true≢false (sym p ∙ B .high (b .hi) (omega arith) g))
+    go false e = let g : i ≤ b .hi = ltb-false _ _ e in omega (arith, B .hi-le)
+
+module _ (t : List ℕ) (xs : List Slot) (i : ℕ) (b : Span) (s : State) (k : ℕ) (fit : Bool) (kept : ℕ) (K : Looked t xs i b s k fit kept)
+    (h : 81 * i < length t) (l : Line) (el : l ≡ row t i) (b' : Span) (eb : b' ≡ growOf b i l) (s' : State) (S : Sofar t (i + 1) b' s')
+    (here : Slot) (eh : here ≡ getD xs k noSlot) (good : Bool) (eg : good ≡ fits here l) where
+  good-here : good ≡ fits (getD xs k noSlot) l
+  good-here = rw eh at eg
+
+  grown : (c : Bool) → isCoord l ≡ c → (b' .lo + (k + pick c 1 0) ≡ b' .hi) × (both fit good ≡ true → (j : ℕ) → j < k + pick c 1 0 → serialAt xs j ≡ serialOf (row t (b' .lo + j)))
+  grown false e =
+      let q : b' ≡ b = eb ∙ rw e in
+      (rw q (omega (arith, K .spots)), λ f j g. rw q (K .serials (both-left fit good f) j (omega arith)))
+  grown true e = inside (ltb (b .lo) (b .hi)) refl
+    where
+      q : b' ≡ record { lo = pick (ltb (b .lo) (b .hi)) (b .lo) i; hi = i + 1 }
+      q = eb ∙ rw e
+
+      last : both fit good ≡ true → serialAt xs k ≡ serialOf (row t i)
+      last f = rw el at (fits-serial (getD xs k noSlot) l e (sym good-here ∙ both-right fit good f))
+
+      inside : (x : Bool) → ltb (b .lo) (b .hi) ≡ x
+          → (b' .lo + (k + 1) ≡ b' .hi) × (both fit good ≡ true → (j : ℕ) → j < k + 1 → serialAt xs j ≡ serialOf (row t (b' .lo + j)))
+      inside true u =
+          let g : b .hi ≡ i = joined t i b s s' l el e (K .sofar .block) (rw eb at (S .block)) (ltb-true _ _ u) in
+          let lo : b' .lo ≡ b .lo = rw (q, u) in
+          let hi : b' .hi ≡ i + 1 = rw q in
+          let at : b .lo + k ≡ i = K .spots ∙ g in
+          (omega arith, λ f j w. rw lo (up-to f j w at (ltb j k) refl))
+        where
+          up-to : both fit good ≡ true → (j : ℕ) → j < k + 1 → b .lo + k ≡ i → (y : Bool) → ltb j k ≡ y → serialAt xs j ≡ serialOf (row t (b .lo + j))
+          up-to f j w a true v = K .serials (both-left fit good f) j (ltb-true _ _ v)
+          up-to f j w a false v = let z : j ≡ k = omega (arith, ltb-false j k v) in rw (z, a) (last f)
+      inside false u =
+          let g : b .hi ≤ b .lo = ltb-false _ _ u in
+          let k0 : k ≡ 0 = omega (arith, K .spots) in
+          let lo : b' .lo ≡ i = rw (q, u) in
+          let hi : b' .hi ≡ i + 1 = rw q in
+          (omega arith, λ f j w. let z : j ≡ k = omega arith in let y : i + k ≡ i = omega arith in rw (lo, z, y) (last f))
+
+  pub looked-next : (stay : Bool) → (Rises xs k → stay ≡ stays xs k l) → Looked t xs (i + 1) b' s' (k + oneOf l) (both fit good) (kept + pick stay 1 0)
+  looked-next stay es =
+      record {
+        sofar = S;
+        spots = grown (isCoord l) refl .0;
+        need = need-step t i k (length (loadedOf t)) l h el (K .need);
+        fitted = fits-step t xs i k l (fitsFrom xs 0 (linesFrom t 0)) fit good h el good-here (K .fitted);
+        serials = grown (isCoord l) refl .1;
+        kept = λ f. let e = both-left fit good f in kept-step t xs i k kept (keptFrom xs 0 (linesFrom t 0)) l stay h el (es (looked-rises t xs i b s k fit kept K e)) (K .kept e);
+        few = more stay;
+      }
+    where
+      more : (y : Bool) → kept + pick y 1 0 ≤ i + 1
+      more true = omega (arith, K .few)
+      more false = omega (arith, K .few)

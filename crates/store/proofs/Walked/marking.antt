@@ -1,0 +1,3 @@
+pub mod mark_all
+pub mod mark_of
+pub mod tail_of

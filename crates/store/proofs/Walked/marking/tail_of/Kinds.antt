@@ -1,0 +1,40 @@
+-- Made by tools/walk.py.
+use Rattle.store.proofs.SlotAs
+use Rattle.slots.proofs.Tail
+use Rattle.slots.proofs.Tail.Laws
+use borrow.Fn.Kinds
+use borrow.Kind.ShrSlice
+use borrow.Kind.Value
+use borrow.Rule.Local
+use borrow.Table.Rows
+use denote.Exit
+use denote.Struct.Declared
+use denote.Struct.Laws as Laws'
+use mathlib.Core.List
+use mathlib.Core.List.{[], _∷_}
+use mathlib.Core.Path as Path'
+
+abbrev pub ps : List.List (Kinds.PK 1)
+ps = ShrSlice.pShrS SlotAs.row 0 tt ∷ []
+
+abbrev pub r : Kinds.RK 1
+r = Value.rVal record {
+  ty = Declared.row Tail.the-type;
+  one = Path'.refl;
+  val = Laws'.val Tail.the-type Laws.the-laws;
+  tells = Laws'.tells Tail.the-type
+      Laws.the-laws;
+  still = Laws'.still Tail.the-type Laws.the-copy Exit.yes;
+  row = Rows.whole (Declared.row Tail.the-type);
+  rd = λ x. x;
+  mk = λ x. x;
+} λ M 𝓤 H
+    A W. record {
+      copies = Laws'.copy Tail.the-type Laws.the-copy 𝓤 H A W;
+      lawful = Laws'.lawful Tail.the-type Laws.the-laws 𝓤 H A W;
+      makes = Laws'.makes
+          Tail.the-type Laws.the-plain 𝓤 H A;
+      in-mem = Local.mem-whole 𝓤 H A W (Declared.row Tail.the-type);
+      of-mem = Local.whole-mem 𝓤 H A W (Declared.row
+          Tail.the-type);
+    }

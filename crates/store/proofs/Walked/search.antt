@@ -1,0 +1,5 @@
+pub mod aside_in
+pub mod lower
+pub mod names_aside
+pub mod slot_at
+pub mod stays

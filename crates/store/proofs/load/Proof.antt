@@ -1,0 +1,84 @@
+use Prim.Native.Nat.{_≤_, _+_, _*_, _-_}
+use lib.ListN.{length}
+use native.Mathlib.Omega.{arith}
+use mathlib.Core.Path.{_≡_, refl, sym, _∙_}
+use Rattle.store.proofs.Lines.{need-step, row-small}
+use Rattle.store.proofs.Filling.{Filled, filled-start, filled-next, filled-done}
+use Rattle.store.proofs.Answers.{load-bad, load-short, load-good}
+-- `store::load` meets its contract. `Proof/` has its derivation, written by tools/walk.py. Assumes nothing.
+mod Lts
+mod Tie
+use borrow.Author.Needs.{needs}
+use Rattle.store.proofs.load.Statement.{statement}
+use Rattle.store.proofs.load.Proof.Tie as tie
+use Rattle.store.proofs.Walked.load.Reads as reads
+use Rattle.store.proofs.load.Proof.Lts as lts
+
+abbrev Inv-loop : tie.InvT-loop
+Inv-loop text table₀ n i₀ k₀ table i k = Filled text table₀ n i k table × (81 * i ≤ length text + 80)
+
+abbrev μ-loop : tie.MeasureT-loop
+μ-loop text table₀ n i₀ k₀ table i k = length text + 81 - 81 * i
+
+look-over-requires : tie.Need-look-over-requires Inv-loop μ-loop
+look-over-requires c = search needs
+
+same-length : tie.Need-same-length Inv-loop μ-loop
+same-length c = search needs
+
+returns : tie.Need-returns Inv-loop μ-loop
+returns c = load-bad _ _ _ (c .before .before .look-over .ensures .0) (c .if1 .taken)
+
+same-length-2 : tie.Need-same-length-2 Inv-loop μ-loop
+same-length-2 c = search needs
+
+returns-2 : tie.Need-returns-2 Inv-loop μ-loop
+returns-2 c = load-short _ _ _ (c .before .before .before .look-over .ensures .0) (c .before .if1 .left) _ (c .before .before .before .look-over .ensures .1 (c .before .if1 .left) .need) (c .if2 .taken)
+
+loop-holds : tie.Need-loop-holds Inv-loop μ-loop
+loop-holds c = (filled-start _ _ _ (c .before .before .before .look-over .ensures .1 (c .before .if1 .left) .need) (c .if2 .left), omega arith)
+
+mul-loop : tie.Need-mul-loop Inv-loop μ-loop
+mul-loop c = omega arith
+
+line-at-requires : tie.Need-line-at-requires Inv-loop μ-loop
+line-at-requires c = search needs
+
+put-slot-requires : tie.Need-put-slot-requires Inv-loop μ-loop
+put-slot-requires c = λ κs. (omega (arith, need-step _ _ _ _ _ (c .before .before .loop-test .taken) (c .before .line-at .ensures) (c .before .before .before .loop .inv .0 .room), c .before .before .before .loop .inv .0 .size, c .before .before .before .loop .inv .0 .fits), row-small _ _ _ (c .before .line-at .ensures))
+
+add-i : tie.Need-add-i Inv-loop μ-loop
+add-i c = search needs
+
+loop-less : tie.Need-loop-less Inv-loop μ-loop
+loop-less c = omega arith
+
+loop-again : tie.Need-loop-again Inv-loop μ-loop
+loop-again c = (rw (c .before .put-slot .ensures .0) (filled-next _ _ _ _ _ _ (c .before .before .before .before .before .loop .inv .0) _ _ (c .before .before .before .before .loop-test .taken) (c .before .before .before .line-at .ensures) (c .before .put-slot .ensures .1)), omega arith)
+
+same-length-3 : tie.Need-same-length-3 Inv-loop μ-loop
+same-length-3 c = c .before .loop .inv .0 .size
+
+returns-3 : tie.Need-returns-3 Inv-loop μ-loop
+returns-3 c = load-good _ _ _ (c .before .before .before .before .before .look-over .ensures .0) (c .before .before .before .if1 .left) _ (c .before .before .before .before .before .look-over .ensures .1 (c .before .before .before .if1 .left) .need) _ (c .before .before .if2 .left) (filled-done _ _ _ _ _ _ (c .before .loop .inv .0) (c .loop-test .left))
+
+pub load-spec : {M : Type 1} → statement M
+load-spec =
+    tie.close
+    (tie.spec
+    Inv-loop
+    μ-loop
+    look-over-requires
+    same-length
+    returns
+    same-length-2
+    returns-2
+    loop-holds
+    mul-loop
+    line-at-requires
+    put-slot-requires
+    add-i
+    loop-less
+    loop-again
+    same-length-3
+    returns-3)

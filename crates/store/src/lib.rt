@@ -1,0 +1,179 @@
+// A text with a lent table of slots: loading, orders, saving and the tray. The text and the table are judged anew at each call.
+mod marking;
+mod search;
+mod survey;
+
+use fields::FragmentNumber;
+use marking::mark_all;
+use marking::mark_of;
+use marking::tail_of;
+use pieces::Line;
+use slots::Slot;
+use survey::look_over;
+use survey::one_of;
+ghost use mathlib.Core.Path.{_≡_};
+ghost use Prim.Native.Nat.{_+_, _≤_};
+ghost use lib.ListN.{length, set};
+ghost use Rattle.ascii.specs.Tests.{pick};
+ghost use Rattle.gate.specs.Search.{isCoord};
+ghost use Rattle.slots.specs.Slots.{lineSlot, SmallLine};
+ghost use Rattle.table.specs.Table.{told, oneOf, loadOf, tableOf, markByte, orderOf};
+ghost use Rattle.store.specs.Judged.{Belongs};
+
+// What is answered: 0 or the number of a refusal, and how many slots or bytes were written.
+pub struct Outcome {
+    pub number: u8,
+    pub count: usize,
+}
+
+// What one pass over the text says of text and table: the number of the text, and if that is 0 how many slots it needs, whether the slots
+// fit it, how many lines stay, and how many there are.
+pub struct Findings {
+    pub number: u8,
+    pub need: usize,
+    pub fits: bool,
+    pub kept: usize,
+    pub lines: usize,
+}
+
+// What text and table get together: a number, and if that is 0 how many slots, fragments, lines that stay and lines there are.
+pub struct Held {
+    pub number: u8,
+    pub need: usize,
+    pub fragments: u64,
+    pub kept: usize,
+    pub lines: usize,
+}
+
+fn refusal(number: u8) -> Outcome
+    ensures { λ r. ⌜ r .number ≡ number ⌝ }
+    ensures { λ r. ⌜ r .count ≡ 0 ⌝ }
+{
+    Outcome {
+        number: number,
+        count: 0,
+    }
+}
+
+// Fills the table from the text: 1-12, 13.
+pub fn load(text: &[u8], table: &mut [Slot]) -> Outcome
+    ensures { λ r. ⌜ told (r .number) (r .count) (now (table .exit)) ≡ loadOf (now (text .entry)) (now (table .entry)) ⌝ }
+{
+    let v = look_over(text, table);
+    if v.number != 0 {
+        return Outcome {
+            number: v.number,
+            count: 0,
+        };
+    }
+    let n = v.need;
+    if table.len() < n {
+        return Outcome {
+            number: 13,
+            count: 0,
+        };
+    }
+    let mut i: usize = 0;
+    let mut k: usize = 0;
+    while 81 * i < text.len() {
+        let l = gate::line_at(text, i);
+        k = put_slot(table, k, l);
+        i += 1;
+    }
+    Outcome {
+        number: 0,
+        count: n,
+    }
+}
+
+// The slot of a line that has one is stored; where the next one goes.
+fn put_slot(table: &mut [Slot], k: usize, l: Line) -> usize
+    requires { ⌜ k + oneOf l ≤ length (now table) ⌝ }
+    requires { ⌜ SmallLine l ⌝ }
+    ensures { λ r. ⌜ r ≡ k + oneOf l ⌝ }
+    ensures { λ r. ⌜ now (table .exit) ≡ pick (isCoord l) (set (now (table .entry)) k (lineSlot l)) (now (table .entry)) ⌝ }
+{
+    if gate::is_coord(l) {
+        let s = slots::line_slot(l);
+        table[k] = s;
+        k + 1
+    } else {
+        k
+    }
+}
+
+fn held_back(number: u8) -> Held
+    ensures { λ r. ⌜ r .number ≡ number ⌝ }
+{
+    Held {
+        number: number,
+        need: 0,
+        fragments: 0,
+        kept: 0,
+        lines: 0,
+    }
+}
+
+// The text and the table judged together: 1-12, 13, 18.
+fn judge(text: &[u8], table: &[Slot]) -> Held
+    ensures { λ r. ⌜ r .number ≡ tableOf (now (text .entry)) (now (table .entry)) ⌝ }
+    ensures { λ r. ⌜ (r .number ≡ 0 → Belongs (now (text .entry)) (now (table .entry)) r) ⌝ }
+{
+    let v = look_over(text, table);
+    if v.number != 0 {
+        return held_back(v.number);
+    }
+    let n = v.need;
+    if table.len() < n {
+        return held_back(13);
+    }
+    if !v.fits {
+        return held_back(18);
+    }
+    let t = tail_of(&table[..n]);
+    if !t.agree {
+        return held_back(18);
+    }
+    Held {
+        number: 0,
+        need: n,
+        fragments: t.count,
+        kept: v.kept,
+        lines: v.lines,
+    }
+}
+
+fn mark_byte(aside: bool) -> u8
+    ensures { λ r. ⌜ r ≡ markByte aside ⌝ }
+{
+    if aside {
+        return 1;
+    }
+    0
+}
+
+// Sets a fragment aside, or puts it back: 1-12, 13, 18, 15, 16.
+pub fn order(text: &[u8], table: &mut [Slot], fragment: FragmentNumber, aside: bool) -> u8
+    ensures { λ r. ⌜ told r 0 (now (table .exit)) ≡ orderOf (now (text .entry)) (now (table .entry)) (fragment .0) aside ⌝ }
+{
+    let h = judge(text, table);
+    if h.number != 0 {
+        return h.number;
+    }
+    let n = h.need;
+    let c = h.fragments;
+    let f = fragment.0 as u64;
+    if f == 0 {
+        return 15;
+    }
+    if c < f {
+        return 15;
+    }
+    let b = c + 1 - f;
+    let m = mark_byte(aside);
+    if mark_of(&table[..n], b) == m {
+        return 16;
+    }
+    mark_all(&mut table[..n], b, m);
+    0
+}
