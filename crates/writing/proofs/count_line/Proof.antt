@@ -1,0 +1,25 @@
+use Rattle.table.specs.Deal.{counted}
+use borrow.Author.Needs.{needs}
+use Rattle.writing.proofs.count_line.Statement.{statement}
+use Rattle.writing.proofs.count_line.Tie as tie
+
+line-kind-requires : tie.Need-line-kind-requires
+line-kind-requires c κs = search needs
+
+count-of-requires : tie.Need-count-of-requires
+count-of-requires c κs = search needs
+
+raise-requires : tie.Need-raise-requires
+raise-requires c κs = search needs
+
+returns : tie.Need-returns
+unfolding counted
+returns c = rw (c .before .before .before .if1 .taken, c .raise .ensures, c .before .count-of .ensures, c .before .before .line-kind .ensures)
+
+returns-2 : tie.Need-returns-2
+unfolding counted
+returns-2 c = rw (c .if1 .left)
+
+pub count-line-spec : {M : Type 1} → statement M
+count-line-spec =
+    tie.close (tie.spec line-kind-requires count-of-requires raise-requires returns returns-2)
