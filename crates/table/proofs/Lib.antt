@@ -1,3 +1,4 @@
 pub mod Marks
 pub mod Ready
 pub mod Granted
+pub mod Fresh
