@@ -2,3 +2,4 @@ pub mod Marks
 pub mod Ready
 pub mod Granted
 pub mod Fresh
+pub mod Rows
