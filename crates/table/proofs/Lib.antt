@@ -3,3 +3,4 @@ pub mod Ready
 pub mod Granted
 pub mod Fresh
 pub mod Rows
+pub mod Aside
