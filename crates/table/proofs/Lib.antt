@@ -4,3 +4,5 @@ pub mod Granted
 pub mod Fresh
 pub mod Rows
 pub mod Aside
+pub mod Joined
+pub mod Lots
