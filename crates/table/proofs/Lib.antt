@@ -6,3 +6,5 @@ pub mod Rows
 pub mod Aside
 pub mod Joined
 pub mod Lots
+pub mod Typed
+pub mod Recount
