@@ -8,3 +8,5 @@ pub mod Joined
 pub mod Lots
 pub mod Typed
 pub mod Recount
+pub mod Saved
+pub mod Lost
