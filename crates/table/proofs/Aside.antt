@@ -1,32 +1,30 @@
 -- A coordinate line goes exactly if the last order granted for its fragment set it aside.
 -- Assumes nothing.
 use Prim.Native.Nat.{ℕ, zero, suc, _+_, _-_, _≤_, _<_}
-use mathlib.Core.List.{List, [], _∷_, map}
+use mathlib.Core.List.{List, [], _∷_}
 use mathlib.Core.Bool.{Bool, true, false, not, false≢true}
 use mathlib.Core.Path.{_≡_, refl, sym, _∙_, ap}
 use native.Mathlib.Omega.{arith}
-use borrow.Author.Tests.{eq-eqb, eqb-true, eqb-false}
+use borrow.Author.Tests.{eq-eqb, eqb-true}
 use lib.Dec.{eqb}
 use lib.ListN.{length, take, drop, getD, length-take}
 use lib.Seq.{getD-take}
-use Rattle.ascii.specs.Tests.{pick, both, either}
+use Rattle.ascii.specs.Tests.{pick, either}
 use Rattle.ascii.proofs.Choice.{both-split}
 use Rattle.pieces.specs.declared.Line.{Line}
 use Rattle.pieces.specs.declared.Line.the-variants.{Bad}
-use Rattle.pieces.specs.Pieces.{lineOf}
-use Rattle.gate.specs.Text.{cut, row}
+use Rattle.gate.specs.Text.{row}
 use Rattle.gate.specs.Gate.{checkOf}
 use Rattle.gate.specs.Search.{isCoord}
 use Rattle.slots.specs.declared.Slot.{Slot}
-use Rattle.slots.specs.declared.Tail.{Tail}
 use Rattle.slots.specs.Slots.{markAside, noSlot}
 use Rattle.slots.specs.Fragments.{joins, stepTail, tailOf, markOf}
-use Rattle.table.specs.Table.{linesFrom, slotsOf, loadedOf, over, mine, fragments, backOf, markByte}
-use Rattle.table.specs.Orders.{Order, ordersOf, lastOf, kept}
+use Rattle.table.specs.Table.{linesFrom, slotsOf, loadedOf, over, mine, fragments, markByte}
+use Rattle.table.specs.Orders.{Order, lastOf, kept}
 use Rattle.table.specs.Promise.{staysFrom, slotsTo, fragmentOf}
 use Rattle.table.proofs.Ready.{Ready}
 use Rattle.table.proofs.Marks.{joins-some}
-use Rattle.table.proofs.Granted.{count-lasts, fragmentMark, orders-ready, orders-last, orders-count, orders-mark}
+use Rattle.table.proofs.Granted.{count-lasts, orders-ready, orders-last, orders-count, orders-mark}
 use Rattle.table.proofs.Fresh.{fresh-ready, fresh-in}
 use Rattle.table.proofs.Rows.{line-row, stays-at, slot-inside}
 

@@ -1,8 +1,8 @@
 -- A table just loaded belongs to its text, and all its fragments are in.
 -- Assumes nothing.
-use Prim.Native.Nat.{ℕ, zero, suc, _+_, _*_, _-_, _≤_, _<_}
+use Prim.Native.Nat.{ℕ, _+_}
 use mathlib.Core.List.{List, [], _∷_, _++_}
-use mathlib.Core.Bool.{Bool, true, false, not, _&&_}
+use mathlib.Core.Bool.{Bool, true, false, not}
 use mathlib.Core.Path.{_≡_, refl, sym, _∙_, ap}
 use native.Mathlib.Omega.{arith}
 use borrow.Author.Tests.{eq-eqb}
@@ -28,7 +28,7 @@ use Rattle.gate.specs.Search.{isCoord}
 use Rattle.slots.specs.declared.Slot.{Slot}
 use Rattle.slots.specs.Slots.{markIn, markAside, noSlot, recordSlot, lineSlot, sameInteger, samePair, sameFour, samePosition, sameMeasures, residueOf, sameNames, sameSlot}
 use Rattle.slots.specs.Fragments.{joins, stepTail, tailOf, markOf}
-use Rattle.table.specs.Table.{over, linesFrom, slotsOf, loadedOf, fits, oneOf, fitsFrom, mine}
+use Rattle.table.specs.Table.{over, linesFrom, slotsOf, loadedOf, fits, fitsFrom, mine}
 use Rattle.table.proofs.Ready.{Ready}
 
 -- ---- a slot is the same as itself

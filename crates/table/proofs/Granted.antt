@@ -1,18 +1,17 @@
 -- After any list of orders the table belongs to its text, and each fragment has the mark of the last order granted for it.
 -- Assumes nothing.
-use Prim.Native.Nat.{ℕ, zero, suc, _+_, _-_, _≤_, _<_}
+use Prim.Native.Nat.{ℕ, zero, suc, _+_, _-_, _≤_}
 use mathlib.Core.List.{List, [], _∷_}
 use mathlib.Core.Bool.{Bool, true, false}
 use mathlib.Core.Path.{_≡_, refl, sym, _∙_, ap}
 use native.Mathlib.Omega.{arith}
 use borrow.Author.Tests.{eqb-true, eqb-false}
 use lib.Dec.{eqb}
-use lib.ListN.{length, drop}
+use lib.ListN.{drop}
 use Rattle.ascii.specs.Tests.{pick, both}
-use Rattle.gate.specs.Gate.{checkOf}
 use Rattle.slots.specs.declared.Slot.{Slot}
 use Rattle.slots.specs.Fragments.{tailOf, markOf, marked}
-use Rattle.table.specs.Table.{Told, told, over, mine, fragments, backOf, markByte, orderOf}
+use Rattle.table.specs.Table.{mine, fragments, backOf, markByte, orderOf}
 use Rattle.table.specs.Orders.{Order, order, ordersOf, lastOf}
 use Rattle.table.proofs.Marks.{after, marked-other, marked-own}
 use Rattle.table.proofs.Ready.{Ready, next-mine, order-cases, order-ready}

@@ -1,20 +1,19 @@
 -- After any orders nothing is lost and nothing is altered.
 -- Assumes nothing.
-use Prim.Native.Nat.{ℕ, suc, _+_, _<_}
+use Prim.Native.Nat.{ℕ, suc, _+_}
 use mathlib.Core.List.{List, [], _∷_, map}
 use mathlib.Core.Bool.{true, false}
-use mathlib.Core.Path.{_≡_, refl, sym, _∙_, ap, ap₂}
+use mathlib.Core.Path.{_≡_, refl, _∙_, ap, ap₂}
 use lib.ListN.{length}
-use Rattle.pieces.specs.declared.Line.{Line}
 use Rattle.pieces.specs.Pieces.{lineOf}
 use Rattle.rules.specs.Counts.{noCounts}
-use Rattle.gate.specs.Text.{cut, row}
+use Rattle.gate.specs.Text.{cut}
 use Rattle.gate.specs.Gate.{checkOf}
 use Rattle.slots.specs.declared.Slot.{Slot}
 use Rattle.table.specs.Table.{linesFrom, loadedOf, over, tableOf}
 use Rattle.table.specs.Deal.{bytesOf}
 use Rattle.table.specs.Orders.{Order, kept}
-use Rattle.table.specs.Promise.{staysFrom, those, bare, NothingLost}
+use Rattle.table.specs.Promise.{bare, NothingLost}
 use Rattle.table.proofs.Ready.{ready-table}
 use Rattle.table.proofs.Granted.{orders-ready}
 use Rattle.table.proofs.Fresh.{fresh-ready}

@@ -2,11 +2,10 @@
 -- Assumes nothing.
 use Prim.Native.Nat.{ℕ, _+_}
 use mathlib.Core.List.{List, [], _∷_, _++_, map}
-use mathlib.Core.Bool.{Bool, true, false, not, true≢false}
-use mathlib.Core.Path.{_≡_, refl, sym, _∙_, ap, ap₂}
+use mathlib.Core.Bool.{Bool, true, false, true≢false}
+use mathlib.Core.Path.{_≡_, refl, _∙_, ap}
 use native.Mathlib.Omega.{arith}
-use lib.Dec.{eqb}
-use lib.ListN.{length, take, getD, length-append}
+use lib.ListN.{length, length-append}
 use Rattle.ascii.specs.Bytes.{bytes}
 use Rattle.ascii.specs.Tests.{pick}
 use Rattle.ascii.proofs.Choice.{picks}
@@ -25,11 +24,9 @@ use Rattle.rules.specs.Counts.{noCounts}
 use Rattle.rules.specs.Rules.{sameSign}
 use Rattle.gate.specs.Text.{cut}
 use Rattle.gate.specs.Gate.{checkOf}
-use Rattle.gate.specs.Search.{isCoord}
 use Rattle.slots.specs.declared.Slot.{Slot}
-use Rattle.slots.specs.Slots.{markAside, noSlot}
-use Rattle.table.specs.Table.{linesFrom, oneOf}
-use Rattle.table.specs.Deal.{lineAside, stays, counted, tallyOf, masterPiece, isMaster, written, share, dealt, bytesOf}
+use Rattle.table.specs.Table.{oneOf}
+use Rattle.table.specs.Deal.{stays, counted, tallyOf, masterPiece, isMaster, written, share, dealt, bytesOf}
 use Rattle.table.specs.Promise.{staysFrom, those}
 use Rattle.table.proofs.Joined.{join, All81, cut-join, accepted-81}
 

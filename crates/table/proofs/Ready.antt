@@ -1,6 +1,6 @@
 -- A table that belongs to a text still does after any order, granted or refused.
 -- Assumes nothing.
-use Prim.Native.Nat.{ℕ, zero, suc, _+_, _-_, _≤_}
+use Prim.Native.Nat.{ℕ, zero, suc, _+_, _≤_}
 use mathlib.Core.List.{List, [], _∷_, _++_}
 use mathlib.Core.Bool.{Bool, true, false, not}
 use mathlib.Core.Path.{_≡_, refl, _∙_, ap}
@@ -15,7 +15,7 @@ use Rattle.pieces.specs.declared.Line.{Line}
 use Rattle.gate.specs.Gate.{checkOf}
 use Rattle.gate.specs.Search.{isCoord}
 use Rattle.slots.specs.declared.Slot.{Slot}
-use Rattle.slots.specs.Slots.{markIn, markAside, noSlot, lineSlot, samePosition, sameMeasures, sameNames, sameSlot, withMark}
+use Rattle.slots.specs.Slots.{markAside, noSlot, lineSlot, sameMeasures, sameNames, sameSlot, withMark}
 use Rattle.slots.specs.Fragments.{tailOf, markOf, marked}
 use Rattle.table.specs.Table.{Told, told, over, linesFrom, loadedOf, fits, oneOf, fitsFrom, mine, belongs, tableOf, fragments, backOf, markByte, orderOf}
 use Rattle.table.proofs.Marks.{marked-size, after}

@@ -1,18 +1,16 @@
 -- MASTER counted anew reads back: the lines that stay are no more than all lines, and those MASTER held in five columns each.
 -- Assumes nothing.
-use Prim.Native.Nat.{ℕ, zero, suc, _+_, _*_, _≤_, _<_}
-use mathlib.Core.List.{List, [], _∷_, _++_}
+use Prim.Native.Nat.{ℕ, suc, _+_, _≤_, _<_}
+use mathlib.Core.List.{List}
 use mathlib.Core.Bool.{Bool, true, false, false≢true}
-use mathlib.Core.Path.{_≡_, refl, sym, _∙_, ap}
+use mathlib.Core.Path.{_≡_, refl, ap}
 use native.Mathlib.Omega.{arith}
 use borrow.Author.Tests.{le-leb, leb-true}
 use lib.Dec.{eqb, leb}
-use lib.ListN.{length, take}
-use Rattle.ascii.specs.Bytes.{bytes}
+use lib.ListN.{take}
 use Rattle.ascii.specs.Tests.{pick, both}
 use Rattle.ascii.proofs.Choice.{both-split, both-join}
 use Rattle.fields.specs.Field.{rangedOf}
-use Rattle.kinds.specs.Kinds.{nameText}
 use Rattle.line.specs.declared.Record.{Record}
 use Rattle.line.specs.declared.Record.the-variants.{Coordinate, Ter, Helix, Sheet, Conect, Master, End}
 use Rattle.line.proofs.RoundTrip.{kept, back}
@@ -25,7 +23,7 @@ use Rattle.rules.specs.declared.Counts.{Counts}
 use Rattle.rules.specs.Counts.{countOf, noCounts, oneMore, raised}
 use Rattle.gate.specs.Text.{pieceAt, row}
 use Rattle.gate.proofs.Runs.{GoodTo}
-use Rattle.gate.proofs.Consequences.{linesOf, Totals, master-totals}
+use Rattle.gate.proofs.Consequences.{linesOf, master-totals}
 use Rattle.gate.proofs.Consequences as seen
 use Rattle.table.specs.Deal.{lineKind, counted, tallyOf, masterPiece, isMaster}
 use Rattle.table.proofs.Typed.{typed-read, read-typed}
@@ -50,9 +48,9 @@ below-range : (v : ℕ) → v ≤ 99999 → rangedOf 0 99999 v ≡ true
 unfolding rangedOf
 below-range v h = both-join _ _ (le-leb 0 v (omega arith)) (le-leb v 99999 h)
 
-small-of : (m : Tally) → masterOk m ≡ true → Small m
+ok-small : (m : Tally) → masterOk m ≡ true → Small m
 unfolding masterOk notesOk shapeOk atomsOk
-small-of m e =
+ok-small m e =
     let range : (ℕ → Bool) = rangedOf 0 99999 in
     let a = both-split (both (range (m .remark)) (both true (both (range (m .het)) (range (m .helix))))) _ e in
     let b = both-split (both (range (m .sheet)) (both true (both true (range (m .xform))))) _ (a .1) in
@@ -75,9 +73,9 @@ small-of m e =
       seq = range-below _ (c3 .1);
     }
 
-of-small : (m : Tally) → Small m → masterOk m ≡ true
+small-ok : (m : Tally) → Small m → masterOk m ≡ true
 unfolding masterOk notesOk shapeOk atomsOk
-of-small m s =
+small-ok m s =
     both-join _ _
     (both-join _ _ (below-range _ (s .remark)) (both-join _ _ refl (both-join _ _ (below-range _ (s .het)) (below-range _ (s .helix)))))
     (both-join _ _ (both-join _ _ (below-range _ (s .sheet)) (both-join _ _ refl (both-join _ _ refl (below-range _ (s .xform)))))
@@ -166,7 +164,7 @@ pub master-again : (t : List ℕ) (n i : ℕ) (m : Tally) (q : Counts) → GoodT
     → lineOf (masterPiece q) ≡ Typed (Master (tallyOf q))
 unfolding masterPiece row
 master-again t n i m q g h e f =
-    let s = small-of m (kept (take 80 (pieceAt t i)) (Master m) (typed-read (pieceAt t i) (Master m) e) .1) in
+    let s = ok-small m (kept (take 80 (pieceAt t i)) (Master m) (typed-read (pieceAt t i) (Master m) e) .1) in
     let T = master-totals t n i m g h e in
     let k : Small (tallyOf q) =
     record {
@@ -180,4 +178,4 @@ master-again t n i m q g h e f =
       conect = omega (arith, s .conect, T .conect, f .conect);
       seq = omega (arith, s .seq, T .seq, f .seq);
     } in
-    read-typed (masterLine (tallyOf q)) (Master (tallyOf q)) (back (Master (tallyOf q)) (of-small (tallyOf q) k))
+    read-typed (masterLine (tallyOf q)) (Master (tallyOf q)) (back (Master (tallyOf q)) (small-ok (tallyOf q) k))

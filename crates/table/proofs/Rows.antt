@@ -3,21 +3,21 @@
 use Prim.Native.Nat.{ℕ, zero, suc, _+_, _*_, _≤_, _<_}
 use mathlib.Core.List.{List, [], _∷_, map}
 use mathlib.Core.Bool.{Bool, true, false, not}
-use mathlib.Core.Path.{_≡_, refl, sym, _∙_, ap}
+use mathlib.Core.Path.{_≡_, refl, _∙_, ap}
 use native.Mathlib.Omega.{arith}
 use borrow.Author.Tests.{ltb-true, ltb-false}
 use lib.Dec.{eqb, ltb}
-use lib.ListN.{length, take, drop, getD}
+use lib.ListN.{length, take, getD}
 use Rattle.ascii.specs.Tests.{pick}
 use Rattle.pieces.specs.declared.Line.{Line}
 use Rattle.pieces.specs.Pieces.{lineOf}
-use Rattle.gate.specs.Text.{cut, pieceAt, row}
+use Rattle.gate.specs.Text.{row}
 use Rattle.gate.specs.Search.{isCoord}
 use Rattle.gate.proofs.Cut.{cut-next, cut-done}
 use Rattle.slots.specs.declared.Slot.{Slot}
 use Rattle.slots.specs.Slots.{markAside, noSlot, lineSlot}
 use Rattle.table.specs.Table.{linesFrom, slotsOf, oneOf}
-use Rattle.table.specs.Deal.{lineAside, stays}
+use Rattle.table.specs.Deal.{stays}
 use Rattle.table.specs.Promise.{staysFrom}
 
 pub lines-next : (t : List ℕ) (i : ℕ) → 81 * i < length t → linesFrom t i ≡ row t i ∷ linesFrom t (i + 1)

@@ -3,7 +3,7 @@
 use Prim.Native.Nat.{ℕ, suc, _+_, _*_, _<_}
 use mathlib.Core.List.{List, [], _∷_, map}
 use mathlib.Core.Bool.{Bool, true, false}
-use mathlib.Core.Path.{_≡_, refl, sym, _∙_, ap, ap₂}
+use mathlib.Core.Path.{_≡_, refl, sym, _∙_, ap₂}
 use native.Mathlib.Omega.{arith}
 use native.Mathlib.Numerals.{add-one}
 use borrow.Author.Tests.{ltb-true, ltb-false}
@@ -35,15 +35,15 @@ bare-written t n i q g h f = go (isMaster (lineOf (pieceAt t i))) refl
     go false e = rw e
 
 -- the first of the pieces from line i on, and the rest
-record Cut (t : List ℕ) (i : ℕ) (p : List ℕ) (ps : List (List ℕ)) : Type 0 where
+record Begins (t : List ℕ) (i : ℕ) (p : List ℕ) (ps : List (List ℕ)) : Type 0 where
   inside : 81 * i < length t
   first : p ≡ pieceAt t i
   rest : cut (drop (81 * suc i) t) ≡ ps
 
-cut-at : (t : List ℕ) (i : ℕ) (p : List ℕ) (ps : List (List ℕ)) → cut (drop (81 * i) t) ≡ p ∷ ps → Cut t i p ps
+cut-at : (t : List ℕ) (i : ℕ) (p : List ℕ) (ps : List (List ℕ)) → cut (drop (81 * i) t) ≡ p ∷ ps → Begins t i p ps
 cut-at t i p ps e = go (ltb (81 * i) (length t)) refl
   where
-    go : (b : Bool) → ltb (81 * i) (length t) ≡ b → Cut t i p ps
+    go : (b : Bool) → ltb (81 * i) (length t) ≡ b → Begins t i p ps
     go true u =
         let q : pieceAt t i ∷ cut (drop (81 * (i + 1)) t) ≡ p ∷ ps = sym (cut-next t i (ltb-true _ _ u)) ∙ e in
         let r : cut (drop (81 * (i + 1)) t) ≡ ps = cc in

@@ -1,16 +1,15 @@
 -- A piece is a typed line exactly if its 80 columns read to that record and a line feed follows them.
 -- Assumes nothing.
-use Prim.Native.Nat.{ℕ, _+_, _≤_}
-use mathlib.Core.List.{List, [], _∷_, _++_}
+use Prim.Native.Nat.{ℕ, _+_}
+use mathlib.Core.List.{List, [], _++_}
 use mathlib.Core.Bool.{Bool, true, false}
 use mathlib.Core.Path.{_≡_, refl, sym, _∙_, ap}
 use native.Mathlib.Omega.{arith}
-use borrow.Author.Tests.{eqb-true, eq-eqb, ltb-false, le-ltb}
+use borrow.Author.Tests.{eqb-true, ltb-false}
 use lib.Dec.{eqb, ltb}
 use lib.ListN.{length, take, getD, length-take, length-append}
 use lib.Seq.{take-at, getD-append-seam}
 use Rattle.ascii.specs.Bytes.{byte, bytes}
-use Rattle.ascii.specs.Tests.{pick}
 use Rattle.ascii.proofs.Choice.{never, picks}
 use Rattle.columns.specs.Columns.{cleanAt}
 use Rattle.kinds.specs.declared.Kind.{Kind}
