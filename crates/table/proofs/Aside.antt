@@ -24,7 +24,7 @@ use Rattle.table.specs.Orders.{Order, lastOf, kept}
 use Rattle.table.specs.Promise.{staysFrom, slotsTo, fragmentOf}
 use Rattle.table.proofs.Ready.{Ready}
 use Rattle.table.proofs.Marks.{joins-some}
-use Rattle.table.proofs.Granted.{count-lasts, orders-ready, orders-last, orders-count, orders-mark}
+use Rattle.table.proofs.Orders.{count-lasts, orders-ready, orders-last, orders-count, orders-mark}
 use Rattle.table.proofs.Fresh.{fresh-ready, fresh-in}
 use Rattle.table.proofs.Rows.{line-row, stays-at, slot-inside}
 

@@ -1,107 +1,221 @@
--- After any list of orders the table belongs to its text, and each fragment has the mark of the last order granted for it.
+-- The lines kept of an accepted text are accepted: the simulation, line by line.
 -- Assumes nothing.
-use Prim.Native.Nat.{ℕ, zero, suc, _+_, _-_, _≤_}
+use Prim.Native.Nat.{ℕ, _+_, _≤_}
 use mathlib.Core.List.{List, [], _∷_}
 use mathlib.Core.Bool.{Bool, true, false}
-use mathlib.Core.Path.{_≡_, refl, sym, _∙_, ap}
+use mathlib.Core.Path.{_≡_, refl, _∙_, ap}
+use mathlib.Core.Logic.{inl, inr}
 use native.Mathlib.Omega.{arith}
-use borrow.Author.Tests.{eqb-true, eqb-false}
-use lib.Dec.{eqb}
-use lib.ListN.{drop}
-use Rattle.ascii.specs.Tests.{pick, both}
+use native.Mathlib.Nat.{le-trans, le-refl}
+use borrow.Author.Tests.{not-true}
+use Rattle.ascii.specs.Tests.{either}
+use Rattle.kinds.specs.declared.Kind.{Kind}
+use Rattle.kinds.specs.declared.Kind.the-variants as kind
+use Rattle.coordinate.specs.declared.Atom.{Atom}
+use Rattle.ter.specs.declared.Ter.{Ter as TerOf}
+use Rattle.helix.specs.declared.Helix.{Helix as HelixOf}
+use Rattle.sheet.specs.declared.Sheet.{Sheet as SheetOf}
+use Rattle.conect.specs.declared.Conect.{Conect as ConectOf}
+use Rattle.master.specs.declared.Tally.{Tally}
+use Rattle.line.specs.declared.Record.the-variants.{Coordinate, Ter, Helix, Sheet, Conect, Master, End}
+use Rattle.pieces.specs.declared.Line.{Line}
+use Rattle.pieces.specs.declared.Line.the-variants.{Bad, Wrong, Carried, Typed}
+use Rattle.rules.specs.declared.Run.{Run}
+use Rattle.rules.specs.declared.State.{State}
+use Rattle.rules.specs.Rules.{noRun, judgeOf, carriedNext, typedNext, nextOf, startOf}
+use Rattle.rules.proofs.Laws.{Good, judge-typed, judge-carried, judge-wrong, place-low, place-high}
+use Rattle.gate.specs.Gate.{isSite, someOf, knownOf, numberIn, checkLines}
+use Rattle.gate.specs.Search.{Before, isCoord}
 use Rattle.slots.specs.declared.Slot.{Slot}
-use Rattle.slots.specs.Fragments.{tailOf, markOf, marked}
-use Rattle.table.specs.Table.{mine, fragments, backOf, markByte, orderOf}
-use Rattle.table.specs.Orders.{Order, order, ordersOf, lastOf}
-use Rattle.table.proofs.Marks.{after, marked-other, marked-own}
-use Rattle.table.proofs.Ready.{Ready, next-mine, order-cases, order-ready}
+use Rattle.table.specs.Deal.{stays, tallyOf}
+use Rattle.table.proofs.Fine.{Fine, granted-end, granted-step}
+use Rattle.table.proofs.Paired.{closes, isIn, Paired}
+use Rattle.table.proofs.Named.{Held, held-in, held-out, held-skip, held-other, held-bond}
+use Rattle.table.proofs.Ahead.{Sane, sane-next, no-close}
+use Rattle.table.proofs.Saved.{savedLines, saved-in, saved-out, saved-stay, saved-skip, paired-site, paired-other}
+use Rattle.table.proofs.Trails.{behind-le, behind-one, behind-same, behind-before, place-behind, bond-split, bond-join, good-trails, master-trails, carried-trails}
+use Rattle.table.proofs.Follow.{Follows, run-both, front-next, back-next, site-judged, site-in, site-out, ter-judged, ter-in, ter-out}
 
--- ---- what marking does not change, no order changes
-abbrev pub Lasting : (List Slot → ℕ) → Type 0
-Lasting F = (b m : ℕ) (ss : List Slot) → F (marked b m ss) ≡ F ss
+-- the lines kept of ls are accepted, after the lines kept before them
+abbrev Kept : List Slot → ℕ → List Line → State → List Line → Type 0
+Kept xs j kept k ls = checkLines kept k (savedLines xs j (k .counts) ls) .number ≡ 0
 
-pub order-lasts : (F : List Slot → ℕ) → Lasting F → (t : List ℕ) (xs : List Slot) (f : ℕ) (aside : Bool) → Ready t xs
-    → F (mine t (orderOf t xs f aside .left)) ≡ F (mine t xs)
-order-lasts F lasts t xs f aside R =
-    order-cases (λ r. F (mine t (r .left)) ≡ F (mine t xs)) t xs f aside R refl refl
-    (λ h g. ap F (next-mine t xs R (backOf t xs f) (markByte aside)) ∙ lasts (backOf t xs f) (markByte aside) (mine t xs))
+-- what is asked of the lines after this one, whatever state and lines they come after
+abbrev Again : List Slot → ℕ → List Line → Type 0
+Again xs j ls = (seen kept : List Line) (s k : State) → Held xs j seen kept → Sane s → Fine seen s ls → Paired xs j ls → Follows xs j s k ls → Kept xs j kept k ls
 
-marked-drop : (b m : ℕ) (ss : List Slot) (j : ℕ) → drop j (marked b m ss) ≡ marked b m (drop j ss)
-unfolding marked
-marked-drop b m [] zero = refl
-marked-drop b m [] (suc j) = refl
-marked-drop b m (s ∷ ss) zero = refl
-marked-drop b m (s ∷ ss) (suc j) = marked-drop b m ss j
+module _ (xs : List Slot) (j : ℕ) (seen kept : List Line) (s k : State) (H : Held xs j seen kept) (S : Sane s) where
+  -- a line that stays as it is, or as m
+  stay : (l m : Line) (ls : List Line) → Again xs j ls → Fine seen s (l ∷ ls) → Paired xs j (l ∷ ls)
+      → ((n : ℕ) → isSite n l ≡ false) → isCoord l ≡ false
+      → savedLines xs j (k .counts) (l ∷ ls) ≡ m ∷ savedLines xs j (nextOf k m .counts) ls
+      → numberIn kept k m ≡ 0 → Follows xs j (nextOf s l) (nextOf k m) ls → Kept xs j kept k (l ∷ ls)
+  stay l m ls again f P none c e g M =
+      rw e
+      (granted-step kept k m _ g
+      (again (l ∷ seen) (m ∷ kept) (nextOf s l) (nextOf k m) (held-other xs j seen kept H l m none) (sane-next _ s l S (f .0) (f .1)) (f .2) (paired-other xs j l ls c P) M))
 
--- how many fragments there are from slot j on
-pub count-lasts : (j : ℕ) → Lasting (λ ss. tailOf (drop j ss) .count)
-count-lasts j b m ss = ap (λ (us : List Slot). tailOf us .count) (marked-drop b m ss j) ∙ after b m (drop j ss) .count
+  -- carried lines, HELIX and SHEET
+  keep-carried : (x : Kind) (ls : List Line) → Again xs j ls → Fine seen s (Carried x ∷ ls) → Paired xs j (Carried x ∷ ls) → Follows xs j s k (Carried x ∷ ls) → Kept xs j kept k (Carried x ∷ ls)
+  unfolding nextOf carriedNext stays
+  keep-carried x ls again f P M =
+      let b : Before (s .place) = f .0 .after (s .place) (judge-carried true s x (f .1) .0) in
+      let T = M .trails in
+      stay (Carried x) (Carried x) ls again f P (λ n. refl) refl (saved-stay xs j (k .counts) (Carried x) ls refl refl)
+      (carried-trails true true s k x (behind-before (k .place) (s .place) (T .place) b) (T .ladder) (f .1))
+      (front-next xs j s k (nextOf s (Carried x)) (nextOf k (Carried x)) (Carried x) ls S M b refl refl
+      (record { place = inl refl; last = T .last; bond = T .bond; helix = T .helix; ladder = T .ladder }))
 
--- how many fragments there are
-all-lasts : Lasting (λ ss. tailOf ss .count)
-all-lasts b m ss = after b m ss .count
+  keep-helix : (h : HelixOf) (ls : List Line) → Again xs j ls → Fine seen s (Typed (Helix h) ∷ ls) → Paired xs j (Typed (Helix h) ∷ ls) → Follows xs j s k (Typed (Helix h) ∷ ls) → Kept xs j kept k (Typed (Helix h) ∷ ls)
+  unfolding nextOf typedNext stays
+  keep-helix h ls again f P M =
+      let g = judge-typed true s (Helix h) (f .1) in
+      let b : Before (s .place) = inl (omega (arith, place-high (s .place) kind.Helix (g .place))) in
+      let T = M .trails in
+      let r : k .run .atom ≡ false = ap (λ (y : Run). y .atom) (M .early b) in
+      stay (Typed (Helix h)) (Typed (Helix h)) ls again f P (λ n. refl) refl (saved-stay xs j (k .counts) (Typed (Helix h)) ls refl refl)
+      (good-trails true true s k (Helix h) T g (place-behind (k .place) (s .place) kind.Helix refl (T .place) (g .place)) r refl refl)
+      (front-next xs j s k (nextOf s (Typed (Helix h))) (nextOf k (Typed (Helix h))) (Typed (Helix h)) ls S M b refl refl
+      (record { place = inl refl; last = T .last; bond = T .bond; helix = refl; ladder = T .ladder }))
 
-pub order-count : (t : List ℕ) (xs : List Slot) (f : ℕ) (aside : Bool) → Ready t xs → fragments t (orderOf t xs f aside .left) ≡ fragments t xs
-order-count t xs f aside R = order-lasts (λ ss. tailOf ss .count) all-lasts t xs f aside R
+  keep-sheet : (h : SheetOf) (ls : List Line) → Again xs j ls → Fine seen s (Typed (Sheet h) ∷ ls) → Paired xs j (Typed (Sheet h) ∷ ls) → Follows xs j s k (Typed (Sheet h) ∷ ls) → Kept xs j kept k (Typed (Sheet h) ∷ ls)
+  unfolding nextOf typedNext stays
+  keep-sheet h ls again f P M =
+      let g = judge-typed true s (Sheet h) (f .1) in
+      let b : Before (s .place) = inl (omega (arith, place-high (s .place) kind.Sheet (g .place))) in
+      let T = M .trails in
+      let r : k .run .atom ≡ false = ap (λ (y : Run). y .atom) (M .early b) in
+      stay (Typed (Sheet h)) (Typed (Sheet h)) ls again f P (λ n. refl) refl (saved-stay xs j (k .counts) (Typed (Sheet h)) ls refl refl)
+      (good-trails true true s k (Sheet h) T g (place-behind (k .place) (s .place) kind.Sheet refl (T .place) (g .place)) r refl refl)
+      (front-next xs j s k (nextOf s (Typed (Sheet h))) (nextOf k (Typed (Sheet h))) (Typed (Sheet h)) ls S M b refl refl
+      (record { place = inl refl; last = T .last; bond = T .bond; helix = T .helix; ladder = refl }))
 
--- ---- the mark of fragment f
-abbrev pub fragmentMark : List ℕ → List Slot → ℕ → ℕ
-fragmentMark t xs f = markOf (backOf t xs f) (mine t xs)
+  -- ATOM and HETATM
+  keep-site : (het : Bool) (a : Atom) (ls : List Line) → Again xs (j + 1) ls → Fine seen s (Typed (Coordinate het a) ∷ ls) → Paired xs j (Typed (Coordinate het a) ∷ ls)
+      → Follows xs j s k (Typed (Coordinate het a) ∷ ls) → Kept xs j kept k (Typed (Coordinate het a) ∷ ls)
+  unfolding nextOf typedNext
+  keep-site het a ls again f P M = go (isIn xs j) refl
+    where
+      go : (b : Bool) → isIn xs j ≡ b → Kept xs j kept k (Typed (Coordinate het a) ∷ ls)
+      go true i =
+          rw (saved-in xs j (k .counts) (Typed (Coordinate het a)) ls refl i)
+          (granted-step kept k (Typed (Coordinate het a)) _ (site-judged xs j seen s k het a ls S f (P .0 refl) M true i)
+          (again _ _ (nextOf s (Typed (Coordinate het a))) (nextOf k (Typed (Coordinate het a))) (held-in xs j seen kept H _ ls (P .0 refl)) (sane-next _ s _ S (f .0) (f .1)) (f .2) (paired-site xs j _ ls refl P)
+          (site-in xs j seen s k het a ls S f (P .0 refl) M i)))
+      go false i =
+          rw (saved-out xs j (k .counts) (Typed (Coordinate het a)) ls refl i)
+          (again _ _ (nextOf s (Typed (Coordinate het a))) k (held-out xs j seen kept H _ ls (P .0 refl) i) (sane-next _ s _ S (f .0) (f .1)) (f .2) (paired-site xs j _ ls refl P)
+          (site-out xs j seen s k het a ls S f (P .0 refl) M i))
 
-not-granted : (x : Bool) (a m : ℕ) → pick (both x false) a m ≡ m
-unfolding both
-not-granted true a m = refl
-not-granted false a m = refl
+  keep-ter : (t : TerOf) (ls : List Line) → Again xs (j + 1) ls → Fine seen s (Typed (Ter t) ∷ ls) → Paired xs j (Typed (Ter t) ∷ ls)
+      → Follows xs j s k (Typed (Ter t) ∷ ls) → Kept xs j kept k (Typed (Ter t) ∷ ls)
+  unfolding nextOf typedNext
+  keep-ter t ls again f P M = go (isIn xs j) refl
+    where
+      go : (b : Bool) → isIn xs j ≡ b → Kept xs j kept k (Typed (Ter t) ∷ ls)
+      go true i =
+          rw (saved-in xs j (k .counts) (Typed (Ter t)) ls refl i)
+          (granted-step kept k (Typed (Ter t)) _ (ter-judged xs j s k t ls (judge-typed true s (Ter t) (f .1)) M true i)
+          (again _ _ (nextOf s (Typed (Ter t))) (nextOf k (Typed (Ter t))) (held-in xs j seen kept H _ ls (P .0 refl)) (sane-next _ s _ S (f .0) (f .1)) (f .2) (paired-site xs j _ ls refl P)
+          (ter-in xs j s k t ls (judge-typed true s (Ter t) (f .1)) M)))
+      go false i =
+          rw (saved-out xs j (k .counts) (Typed (Ter t)) ls refl i)
+          (again _ _ (nextOf s (Typed (Ter t))) k (held-out xs j seen kept H _ ls (P .0 refl) i) (sane-next _ s _ S (f .0) (f .1)) (f .2) (paired-site xs j _ ls refl P)
+          (ter-out xs j s k t ls (judge-typed true s (Ter t) (f .1)) M i))
 
-granted : (x : Bool) (a m : ℕ) → pick (both x true) a m ≡ pick x a m
-unfolding both
-granted true a m = refl
-granted false a m = refl
+  -- CONECT, by whether it names an atom set aside
+  keep-bond : (c : ConectOf) (ls : List Line) → Again xs j ls → Fine seen s (Typed (Conect c) ∷ ls) → Paired xs j (Typed (Conect c) ∷ ls)
+      → Follows xs j s k (Typed (Conect c) ∷ ls) → Kept xs j kept k (Typed (Conect c) ∷ ls)
+  unfolding nextOf typedNext stays closes either
+  keep-bond c ls again f P M = go (stays xs j (Typed (Conect c))) refl
+    where
+      g : Good (knownOf seen (Typed (Conect c))) s (Conect c)
+      g = judge-typed (knownOf seen (Typed (Conect c))) s (Conect c) (f .1)
 
--- an order that is granted gives its fragment the mark asked for; all other marks stay
-pub order-mark : (t : List ℕ) (xs : List Slot) (g : ℕ) (aside : Bool) (f : ℕ) → Ready t xs → 1 ≤ f → f ≤ fragments t xs
-    → fragmentMark t (orderOf t xs g aside .left) f ≡ pick (both (eqb g f) (eqb (orderOf t xs g aside .number) 0)) (markByte aside) (fragmentMark t xs f)
-order-mark t xs g aside f R l h =
-    order-cases (λ r. fragmentMark t (r .left) f ≡ pick (both (eqb g f) (eqb (r .number) 0)) (markByte aside) (fragmentMark t xs f)) t xs g aside R
-    (sym (not-granted (eqb g f) (markByte aside) (fragmentMark t xs f))) (sym (not-granted (eqb g f) (markByte aside) (fragmentMark t xs f)))
-    (λ n u. ap (λ (ys : List Slot). markOf (tailOf ys .count + 1 - f) ys) (next-mine t xs R (backOf t xs g) (markByte aside))
-    ∙ (rw (after (backOf t xs g) (markByte aside) (mine t xs) .count) (go n u (eqb g f) refl))
-    ∙ sym (granted (eqb g f) (markByte aside) (fragmentMark t xs f)))
-  where
-    go : (g ≡ 0 → ⊥) → g ≤ fragments t xs → (x : Bool) → eqb g f ≡ x
-        → markOf (backOf t xs f) (marked (backOf t xs g) (markByte aside) (mine t xs)) ≡ pick x (markByte aside) (fragmentMark t xs f)
-    go n u true e =
-        let q : g ≡ f = eqb-true _ _ e in
-        rw q (marked-own (backOf t xs f) (markByte aside) (mine t xs) (omega arith) (omega arith))
-    go n u false e = marked-other (backOf t xs g) (markByte aside) (mine t xs) (backOf t xs f) (λ q. eqb-false g f e (omega arith))
+      low : 1 ≤ s .place
+      low = place-low (s .place) kind.Conect (g .place)
 
--- ---- a list of orders
-pub orders-ready : (t : List ℕ) (xs : List Slot) (os : List Order) → Ready t xs → Ready t (ordersOf t xs os)
-unfolding ordersOf
-orders-ready t xs [] R = R
-orders-ready t xs (order g aside ∷ os) R = orders-ready t (orderOf t xs g aside .left) os (order-ready t xs g aside R)
+      high : s .place ≤ 19
+      high = place-high (s .place) kind.Conect (g .place)
 
-pub orders-last : (F : List Slot → ℕ) → Lasting F → (t : List ℕ) (xs : List Slot) (os : List Order) → Ready t xs → F (mine t (ordersOf t xs os)) ≡ F (mine t xs)
-unfolding ordersOf
-orders-last F lasts t xs [] R = refl
-orders-last F lasts t xs (order g aside ∷ os) R =
-    orders-last F lasts t (orderOf t xs g aside .left) os (order-ready t xs g aside R) ∙ order-lasts F lasts t xs g aside R
+      bond : (knownOf seen (Typed (Conect c)) ≡ true) × (s .bond ≤ c .serial .0)
+      bond = bond-split (knownOf seen (Typed (Conect c))) (s .bond) c (g .bond)
 
-pub orders-count : (t : List ℕ) (xs : List Slot) (os : List Order) → Ready t xs → fragments t (ordersOf t xs os) ≡ fragments t xs
-orders-count t xs os R = orders-last (λ ss. tailOf ss .count) all-lasts t xs os R
+      none : closes ls ≡ false
+      none = no-close _ (nextOf s (Typed (Conect c))) ls (f .2) (omega arith) (omega arith)
 
-byte-pick : (x a b : Bool) → pick x (markByte a) (markByte b) ≡ markByte (pick x a b)
-byte-pick true a b = refl
-byte-pick false a b = refl
+      idle : k .run .atom ≡ false
+      idle = M .tail none
 
--- the mark of a fragment is that of the last order granted for it, and what it was where there is none
-pub orders-mark : (t : List ℕ) (xs : List Slot) (os : List Order) (f : ℕ) (now : Bool) → Ready t xs → 1 ≤ f → f ≤ fragments t xs → fragmentMark t xs f ≡ markByte now
-    → fragmentMark t (ordersOf t xs os) f ≡ markByte (lastOf t xs f now os)
-unfolding ordersOf lastOf
-orders-mark t xs [] f now R l h e = e
-orders-mark t xs (order g aside ∷ os) f now R l h e =
-    let h2 : f ≤ fragments t (orderOf t xs g aside .left) = rw (order-count t xs g aside R) h in
-    orders-mark t (orderOf t xs g aside .left) os f _ (order-ready t xs g aside R) l h2
-    (order-mark t xs g aside f R l h
-    ∙ ap (λ (x : ℕ). pick (both (eqb g f) (eqb (orderOf t xs g aside .number) 0)) (markByte aside) x) e
-    ∙ byte-pick (both (eqb g f) (eqb (orderOf t xs g aside .number) 0)) aside now)
+      go : (b : Bool) → stays xs j (Typed (Conect c)) ≡ b → Kept xs j kept k (Typed (Conect c) ∷ ls)
+      go true i =
+          stay (Typed (Conect c)) (Typed (Conect c)) ls again f P (λ n. refl) refl (saved-stay xs j (k .counts) (Typed (Conect c)) ls refl i)
+          (good-trails (knownOf seen (Typed (Conect c))) (knownOf kept (Typed (Conect c))) s k (Conect c) (M .trails) g (place-behind (k .place) (s .place) kind.Conect refl (M .trails .place) (g .place)) idle
+          (bond-join (knownOf kept (Typed (Conect c))) (k .bond) c (held-bond xs j seen kept H c (bond .0) (not-true _ i)) (le-trans (M .trails .bond) (bond .1))) refl)
+          (back-next xs j (nextOf s (Typed (Conect c))) (nextOf k (Typed (Conect c))) ls none idle (omega arith) (omega arith)
+          (record { place = inl refl; last = M .trails .last; bond = le-refl _; helix = M .trails .helix; ladder = M .trails .ladder }))
+      go false i =
+          rw (saved-skip xs j (k .counts) (Typed (Conect c)) ls refl i)
+          (again _ _ (nextOf s (Typed (Conect c))) k (held-skip xs j seen kept H (Typed (Conect c)) (λ n. refl)) (sane-next _ s _ S (f .0) (f .1)) (f .2) (paired-other xs j _ ls refl P)
+          (back-next xs j (nextOf s (Typed (Conect c))) k ls none idle (omega arith) (omega arith)
+          (record {
+            place = inr (behind-one (k .place) (s .place) (M .trails .place) low, le-trans (behind-le (k .place) (s .place) (M .trails .place)) high, omega arith, omega arith);
+            last = M .trails .last;
+            bond = le-trans (M .trails .bond) (bond .1);
+            helix = M .trails .helix;
+            ladder = M .trails .ladder;
+          })))
+
+  -- MASTER counted again, and END
+  keep-master : (t : Tally) (ls : List Line) → Again xs j ls → Fine seen s (Typed (Master t) ∷ ls) → Paired xs j (Typed (Master t) ∷ ls)
+      → Follows xs j s k (Typed (Master t) ∷ ls) → Kept xs j kept k (Typed (Master t) ∷ ls)
+  unfolding nextOf typedNext stays closes either
+  keep-master t ls again f P M =
+      let none : closes ls ≡ false = no-close _ (nextOf s (Typed (Master t))) ls (f .2) (omega arith) (omega arith) in
+      let idle : k .run .atom ≡ false = M .tail none in
+      let T = M .trails in
+      stay (Typed (Master t)) (Typed (Master (tallyOf (k .counts)))) ls again f P (λ n. refl) refl (saved-stay xs j (k .counts) (Typed (Master t)) ls refl refl)
+      (master-trails true true s k t T (judge-typed true s (Master t) (f .1)) idle)
+      (back-next xs j (nextOf s (Typed (Master t))) (nextOf k (Typed (Master (tallyOf (k .counts))))) ls none idle (omega arith) (omega arith)
+      (record { place = inl refl; last = T .last; bond = T .bond; helix = T .helix; ladder = T .ladder }))
+
+  keep-end : (ls : List Line) → Again xs j ls → Fine seen s (Typed End ∷ ls) → Paired xs j (Typed End ∷ ls) → Follows xs j s k (Typed End ∷ ls) → Kept xs j kept k (Typed End ∷ ls)
+  unfolding nextOf typedNext stays closes either
+  keep-end ls again f P M =
+      let none : closes ls ≡ false = no-close _ (nextOf s (Typed End)) ls (f .2) (omega arith) (omega arith) in
+      let idle : k .run .atom ≡ false = M .tail none in
+      let T = M .trails in
+      let g = judge-typed true s End (f .1) in
+      let low : 20 ≤ s .place = place-low (s .place) kind.End (g .place) in
+      let e : k .place ≡ s .place = behind-same (k .place) (s .place) (T .place) (omega arith) in
+      stay (Typed End) (Typed End) ls again f P (λ n. refl) refl (saved-stay xs j (k .counts) (Typed End) ls refl refl)
+      (good-trails true true s k End T g (rw e (g .place)) idle refl refl)
+      (back-next xs j (nextOf s (Typed End)) (nextOf k (Typed End)) ls none idle (omega arith) (omega arith)
+      (record { place = inl refl; last = T .last; bond = T .bond; helix = T .helix; ladder = T .ladder }))
+
+-- THE SIMULATION
+pub kept-granted : (xs : List Slot) (j : ℕ) (ls : List Line) → Again xs j ls
+unfolding savedLines judgeOf
+kept-granted xs j [] seen kept s k H S f P M = granted-end kept k (behind-same (k .place) (s .place) (M .trails .place) (omega arith) ∙ f)
+kept-granted xs j (Bad n ∷ ls) seen kept s k H S f P M = absurd (omega (arith, f .0, f .1))
+kept-granted xs j (Wrong x column ∷ ls) seen kept s k H S f P M = absurd (judge-wrong true s x column (f .1))
+kept-granted xs j (Carried x ∷ ls) seen kept s k H S f P M = keep-carried xs j seen kept s k H S x ls (kept-granted xs j ls) f P M
+kept-granted xs j (Typed (Coordinate het a) ∷ ls) seen kept s k H S f P M = keep-site xs j seen kept s k H S het a ls (kept-granted xs (j + 1) ls) f P M
+kept-granted xs j (Typed (Ter t) ∷ ls) seen kept s k H S f P M = keep-ter xs j seen kept s k H S t ls (kept-granted xs (j + 1) ls) f P M
+kept-granted xs j (Typed (Helix h) ∷ ls) seen kept s k H S f P M = keep-helix xs j seen kept s k H S h ls (kept-granted xs j ls) f P M
+kept-granted xs j (Typed (Sheet h) ∷ ls) seen kept s k H S f P M = keep-sheet xs j seen kept s k H S h ls (kept-granted xs j ls) f P M
+kept-granted xs j (Typed (Conect c) ∷ ls) seen kept s k H S f P M = keep-bond xs j seen kept s k H S c ls (kept-granted xs j ls) f P M
+kept-granted xs j (Typed (Master t) ∷ ls) seen kept s k H S f P M = keep-master xs j seen kept s k H S t ls (kept-granted xs j ls) f P M
+kept-granted xs j (Typed End ∷ ls) seen kept s k H S f P M = keep-end xs j seen kept s k H S ls (kept-granted xs j ls) f P M
+
+-- from the first line on
+pub start-granted : (xs : List Slot) (ls : List Line) → Fine [] startOf ls → Paired xs 0 ls → checkLines [] startOf (savedLines xs 0 (startOf .counts) ls) .number ≡ 0
+unfolding startOf someOf
+start-granted xs ls f P =
+    kept-granted xs 0 ls [] [] startOf startOf (λ n e a. e) (record { early = λ b. refl; late = λ h g. refl }) f P
+    (record {
+      trails = record { place = inl refl; last = le-refl _; bond = le-refl _; helix = refl; ladder = refl };
+      closed = λ c. run-both noRun noRun (isIn xs 0) refl refl;
+      tail = λ c. refl;
+      early = λ b. refl;
+    })

@@ -11,6 +11,7 @@ use Rattle.gate.specs.Gate.{checkOf}
 use Rattle.gate.proofs.Cut.{cut-cons}
 use Rattle.gate.proofs.Runs.{answered}
 
+-- pieces one after the other
 abbrev pub join : List (List ℕ) → List ℕ
 join [] = []
 join (p ∷ ps) = p ++ join ps
