@@ -21,3 +21,4 @@ pub mod Follow
 pub mod Granted
 pub mod Again
 pub mod Lost
+pub mod Examples
