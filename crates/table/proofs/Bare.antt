@@ -1,0 +1,56 @@
+-- The saved entry has the lines that stay, byte for byte and in order; of MASTER the counts alone are written anew.
+-- Assumes nothing.
+use Prim.Native.Nat.{ℕ, _+_}
+use mathlib.Core.List.{List, [], _∷_, map}
+use mathlib.Core.Bool.{Bool, true, false}
+use mathlib.Core.Path.{_≡_, refl, ap₂}
+use Rattle.ascii.specs.Tests.{pick}
+use Rattle.line.specs.declared.Record.the-variants.{Master}
+use Rattle.pieces.specs.declared.Line.{Line}
+use Rattle.pieces.specs.declared.Line.the-variants.{Typed}
+use Rattle.pieces.specs.Pieces.{lineOf}
+use Rattle.rules.specs.declared.Counts.{Counts}
+use Rattle.rules.specs.declared.State.{State}
+use Rattle.rules.specs.Counts.{noCounts}
+use Rattle.rules.specs.Rules.{sameSign, judgeOf, nextOf, startOf}
+use Rattle.gate.specs.Text.{cut}
+use Rattle.gate.specs.Gate.{knownOf, checkOf}
+use Rattle.slots.specs.declared.Slot.{Slot}
+use Rattle.table.specs.Table.{oneOf}
+use Rattle.table.specs.Deal.{stays, counted, tallyOf, masterPiece, isMaster, written}
+use Rattle.table.specs.Promise.{staysFrom, those, bare}
+use Rattle.table.proofs.Plain.{Plain}
+use Rattle.table.proofs.Fine.{Fine, accepted-fine}
+use Rattle.table.proofs.Shares.{shares}
+use Rattle.table.proofs.Recount.{Under, under-start, under-next, written-line}
+
+-- a piece written is the piece read, apart from a MASTER line's counts
+bare-written : (known : Bool) (s : State) (q : Counts) (p : List ℕ) → Plain (lineOf p) → judgeOf known s (lineOf p) ≡ 0 → Under q (s .counts)
+    → bare (written q p) ≡ bare p
+unfolding bare written
+bare-written known s q p plain g u = go (isMaster (lineOf p)) refl (written-line known s q p (lineOf p) refl plain g u)
+  where
+    go : (b : Bool) → isMaster (lineOf p) ≡ b → lineOf (pick b (masterPiece q) p) ≡ pick b (Typed (Master (tallyOf q))) (lineOf p)
+        → bare (pick b (masterPiece q) p) ≡ pick b [] p
+    go true e w = rw w
+    go false e w = rw e
+
+bare-from : (seen : List Line) (s : State) (xs : List Slot) (j : ℕ) (q : Counts) (ps : List (List ℕ)) → Fine seen s (map lineOf ps) → Under q (s .counts)
+    → map bare (shares true xs j q ps) ≡ map bare (those true (staysFrom xs j (map lineOf ps)) ps)
+unfolding shares staysFrom those
+bare-from seen s xs j q [] f u = refl
+bare-from seen s xs j q (p ∷ ps) f u =
+    let l = lineOf p in
+    let known = knownOf seen l in
+    let stay : Bool = stays xs j l in
+    go (bare-written known s q p (f .0) (f .1) u) stay _ _
+    (bare-from (l ∷ seen) (nextOf s l) xs (j + oneOf l) (counted stay q l) ps (f .2) (under-next known stay q s l (f .0) (f .1) u))
+  where
+    go : bare (written q p) ≡ bare p → (b : Bool) (us ws : List (List ℕ)) → map bare us ≡ map bare ws
+        → map bare (pick (sameSign true b) (written q p ∷ us) us) ≡ map bare (pick b (p ∷ ws) ws)
+    go one true us ws e = ap₂ _∷_ one e
+    go one false us ws e = e
+
+pub shares-bare : (t : List ℕ) (xs : List Slot) → checkOf t .number ≡ 0
+    → map bare (shares true xs 0 noCounts (cut t)) ≡ map bare (those true (staysFrom xs 0 (map lineOf (cut t))) (cut t))
+shares-bare t xs e = bare-from [] startOf xs 0 noCounts (cut t) (accepted-fine t e) under-start

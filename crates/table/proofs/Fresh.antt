@@ -1,0 +1,154 @@
+-- A table just loaded belongs to its text, and all its fragments are in.
+-- Assumes nothing.
+use Prim.Native.Nat.{ℕ, _+_}
+use mathlib.Core.List.{List, [], _∷_, _++_}
+use mathlib.Core.Bool.{Bool, true, false, not}
+use mathlib.Core.Path.{_≡_, refl, sym, _∙_, ap}
+use native.Mathlib.Omega.{arith}
+use borrow.Author.Tests.{eq-eqb}
+use lib.Dec.{eqb, leb}
+use lib.IntN.{ℤ, natAbs}
+use lib.ListN.{length, drop, getD, length-append}
+use lib.Seq.{take-at, append-snoc, getD-append-seam}
+use Rattle.ascii.specs.Tests.{pick, both, either}
+use Rattle.ascii.proofs.Choice.{both-join}
+use Rattle.fields.specs.Field.{isNeg}
+use Rattle.names.specs.declared.Pair.{Pair}
+use Rattle.names.specs.declared.Three.{Three}
+use Rattle.names.specs.declared.Four.{Four}
+use Rattle.coordinate.specs.declared.Position.{Position}
+use Rattle.residue.specs.declared.Residue.{Residue}
+use Rattle.line.specs.declared.Record.{Record}
+use Rattle.line.specs.declared.Record.the-variants.{Coordinate, Ter, Helix, Sheet, Conect, Master, End}
+use Rattle.pieces.specs.declared.Line.{Line}
+use Rattle.pieces.specs.declared.Line.the-variants.{Bad, Wrong, Carried, Typed}
+use Rattle.rules.specs.Rules.{sameThree, sameSign, sameResidue}
+use Rattle.gate.specs.Gate.{checkOf}
+use Rattle.gate.specs.Search.{isCoord}
+use Rattle.slots.specs.declared.Slot.{Slot}
+use Rattle.slots.specs.Slots.{markIn, markAside, noSlot, recordSlot, lineSlot, sameInteger, samePair, sameFour, samePosition, sameMeasures, residueOf, sameNames, sameSlot}
+use Rattle.slots.specs.Fragments.{joins, stepTail, tailOf, markOf}
+use Rattle.table.specs.Table.{over, linesFrom, slotsOf, loadedOf, fits, fitsFrom, mine}
+use Rattle.table.proofs.Ready.{Ready}
+
+-- ---- a slot is the same as itself
+equal : (n : ℕ) → eqb n n ≡ true
+equal n = eq-eqb n n refl
+
+sign-self : (b : Bool) → sameSign b b ≡ true
+sign-self true = refl
+sign-self false = refl
+
+integer-self : (z : ℤ) → sameInteger z z ≡ true
+integer-self z = both-join _ _ (sign-self (isNeg z)) (equal (natAbs z))
+
+pair-self : (p : Pair) → samePair p p ≡ true
+unfolding samePair
+pair-self p = both-join _ _ (equal (p .a)) (equal (p .b))
+
+four-self : (p : Four) → sameFour p p ≡ true
+unfolding sameFour
+four-self p = both-join _ _ (both-join _ _ (equal (p .a)) (equal (p .b))) (both-join _ _ (equal (p .c)) (equal (p .d)))
+
+three-self : (p : Three) → sameThree p p ≡ true
+unfolding sameThree
+three-self p = rw (equal (p .a), equal (p .b), equal (p .c))
+
+residue-self : (r : Residue) → sameResidue r r ≡ true
+unfolding sameResidue
+residue-self r = rw (three-self (r .name), equal (r .chain), sign-self (isNeg (r .number .0)), equal (natAbs (r .number .0)), equal (r .insertion))
+
+position-self : (p : Position) → samePosition p p ≡ true
+unfolding samePosition
+position-self p = both-join _ _ (integer-self (p .x)) (both-join _ _ (integer-self (p .y)) (integer-self (p .z)))
+
+pub slot-self : (s : Slot) → sameSlot s s ≡ true
+unfolding sameSlot sameNames sameMeasures
+slot-self s =
+    both-join _ _ (both-join _ _ (equal (s .kind)) (equal (s .serial .0)))
+    (both-join _ _ (residue-self (residueOf s))
+    (both-join _ _
+    (both-join _ _ (both-join _ _ (four-self (s .name)) (equal (s .alternate))) (both-join _ _ (pair-self (s .element)) (pair-self (s .charge))))
+    (both-join _ _ (position-self (s .position)) (both-join _ _ (integer-self (s .occupancy)) (integer-self (s .temperature))))))
+
+-- ---- no slot of a line is aside
+record-in : (r : Record) → recordSlot r .mark ≡ markIn
+record-in (Coordinate het a) = refl
+record-in (Ter t) = refl
+record-in (Helix h) = refl
+record-in (Sheet s) = refl
+record-in (Conect c) = refl
+record-in (Master t) = refl
+record-in End = refl
+
+pub line-in : (l : Line) → lineSlot l .mark ≡ markIn
+line-in (Bad n) = refl
+line-in (Wrong k column) = refl
+line-in (Carried k) = refl
+line-in (Typed r) = record-in r
+
+own-fits : (l : Line) → both (leb (lineSlot l .mark) markAside) (sameSlot (lineSlot l) (lineSlot l)) ≡ true
+own-fits l = both-join _ _ (rw (line-in l)) (slot-self (lineSlot l))
+
+-- ---- the slots of the lines fit the lines, whatever stands before and behind them
+fresh-fits : (p : List Slot) (ls : List Line) (r : List Slot) → fitsFrom (p ++ (slotsOf ls ++ r)) (length p) ls ≡ true
+unfolding fitsFrom fits slotsOf
+fresh-fits p [] r = refl
+fresh-fits p (l ∷ ls) r = go (isCoord l) (fresh-fits (p ++ (lineSlot l ∷ [])) ls r) (fresh-fits p ls r)
+  where
+    go : (b : Bool) → fitsFrom ((p ++ (lineSlot l ∷ [])) ++ (slotsOf ls ++ r)) (length (p ++ (lineSlot l ∷ []))) ls ≡ true
+        → fitsFrom (p ++ (slotsOf ls ++ r)) (length p) ls ≡ true
+        → both
+        (pick b (both (leb (getD (p ++ (pick b (lineSlot l ∷ slotsOf ls) (slotsOf ls) ++ r)) (length p) noSlot .mark) markAside)
+        (sameSlot (getD (p ++ (pick b (lineSlot l ∷ slotsOf ls) (slotsOf ls) ++ r)) (length p) noSlot) (lineSlot l))) true)
+        (fitsFrom (p ++ (pick b (lineSlot l ∷ slotsOf ls) (slotsOf ls) ++ r)) (length p + pick b 1 0) ls) ≡ true
+    go true x y =
+        let e : length (p ++ (lineSlot l ∷ [])) ≡ length p + 1 = simp length-append (omega arith) in
+        both-join _ _ (rw (getD-append-seam p (lineSlot l) (slotsOf ls ++ r) noSlot) (own-fits l)) (rw (e, append-snoc) at x)
+    go false x y = let e : length p + 0 ≡ length p = omega arith in both-join _ _ refl (rw e y)
+
+-- ---- marks agree, and are in
+agrees : (j : Bool) (m n : ℕ) → m ≡ n → either (not j) (eqb m n) ≡ true
+unfolding either
+agrees true m n e = eq-eqb m n e
+agrees false m n e = refl
+
+fresh-agree : (ls : List Line) → (tailOf (slotsOf ls) .agree ≡ true) × (tailOf (slotsOf ls) .mark ≡ markIn)
+unfolding tailOf stepTail slotsOf
+fresh-agree [] = (refl, refl)
+fresh-agree (l ∷ ls) = go (isCoord l) (fresh-agree ls)
+  where
+    go : (b : Bool) → (tailOf (slotsOf ls) .agree ≡ true) × (tailOf (slotsOf ls) .mark ≡ markIn)
+        → (tailOf (pick b (lineSlot l ∷ slotsOf ls) (slotsOf ls)) .agree ≡ true) × (tailOf (pick b (lineSlot l ∷ slotsOf ls) (slotsOf ls)) .mark ≡ markIn)
+    go true h = (both-join _ _ (h .0) (agrees (joins (lineSlot l) (tailOf (slotsOf ls))) _ _ (line-in l ∙ sym (h .1))), line-in l)
+    go false h = h
+
+fresh-mark : (b : ℕ) (ls : List Line) → markOf b (slotsOf ls) ≡ markIn
+unfolding markOf slotsOf
+fresh-mark b [] = refl
+fresh-mark b (l ∷ ls) = go (isCoord l) (fresh-mark b ls)
+  where
+    two : (x : Bool) (m : ℕ) → m ≡ markIn → pick x (lineSlot l .mark) m ≡ markIn
+    two true m e = line-in l
+    two false m e = e
+
+    go : (c : Bool) → markOf b (slotsOf ls) ≡ markIn → markOf b (pick c (lineSlot l ∷ slotsOf ls) (slotsOf ls)) ≡ markIn
+    go true h = two (eqb (tailOf (lineSlot l ∷ slotsOf ls) .count) b) (markOf b (slotsOf ls)) h
+    go false h = h
+
+-- ---- a table just loaded
+module _ (t : List ℕ) (xs : List Slot) where
+  pub fresh-mine : mine t (over (loadedOf t) xs) ≡ loadedOf t
+  fresh-mine = take-at (loadedOf t) (drop (length (loadedOf t)) xs) (length (loadedOf t)) refl
+
+  pub fresh-ready : checkOf t .number ≡ 0 → Ready t (over (loadedOf t) xs)
+  fresh-ready e =
+      record {
+        good = e;
+        room = simp length-append (omega arith);
+        fit = fresh-fits [] (linesFrom t 0) (drop (length (loadedOf t)) xs);
+        agree = ap (λ (ys : List Slot). tailOf ys .agree) fresh-mine ∙ fresh-agree (linesFrom t 0) .0;
+      }
+
+  pub fresh-in : (b : ℕ) → markOf b (mine t (over (loadedOf t) xs)) ≡ markIn
+  fresh-in b = ap (λ (ys : List Slot). markOf b ys) fresh-mine ∙ fresh-mark b (linesFrom t 0)

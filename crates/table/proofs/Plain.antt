@@ -1,0 +1,154 @@
+-- What is known of a line whatever its piece is: MASTER's counts are small, and a carried line stands before the coordinate lines.
+-- Assumes nothing.
+use Prim.Native.Nat.{ℕ, _≤_, _<_}
+use mathlib.Core.List.{List}
+use mathlib.Core.Bool.{true, false}
+use mathlib.Core.Path.{_≡_}
+use mathlib.Core.Logic.{inl, inr}
+use native.Mathlib.Omega.{arith}
+use borrow.Author.Tests.{eqb-true, leb-true, le-leb, ltb-false}
+use lib.Dec.{eqb, ltb, leb}
+use lib.ListN.{length, getD, take, length-take}
+use Rattle.ascii.specs.Tests.{both}
+use Rattle.ascii.proofs.Choice.{picks, both-split, both-join}
+use Rattle.columns.specs.Columns.{cleanAt}
+use Rattle.fields.specs.Field.{rangedOf}
+use Rattle.kinds.specs.declared.Kind.{Kind}
+use Rattle.kinds.specs.declared.Kind.the-variants.{Header, Title, Compnd, Source, Keywds, Expdta, Author, Revdat, Jrnl, Remark, Seqres, Het, Helix, Sheet, Cryst1, Origx1, Origx2, Origx3, Scale1, Scale2, Scale3, Atom, Hetatm, Ter, Conect, Master, End, Unknown}
+use Rattle.kinds.specs.Kinds.{kindOf}
+use Rattle.line.specs.declared.Record.{Record}
+use Rattle.line.specs.declared.Record.the-variants as rec
+use Rattle.line.specs.declared.Reading.{Reading}
+use Rattle.line.specs.declared.Reading.the-variants as reading
+use Rattle.line.specs.Lines.{judged, readingOf}
+use Rattle.master.specs.declared.Tally.{Tally}
+use Rattle.master.specs.Masters.{masterFault, masterValue, masterOk, notesOk, shapeOk, atomsOk}
+use Rattle.master.proofs.Laws.{master-lawful}
+use Rattle.pieces.specs.declared.Line.{Line}
+use Rattle.pieces.specs.declared.Line.the-variants.{Bad, Wrong, Carried, Typed}
+use Rattle.pieces.specs.Pieces.{lineIn, columnsOf, lineOf}
+use Rattle.rules.specs.Places.{placeOf, placeBad, coordinatePlace, endPlace}
+use Rattle.rules.proofs.Laws.{place-low, place-high}
+use Rattle.gate.specs.Search.{Before}
+
+-- counts that MASTER's five columns hold
+pub record Small (t : Tally) : Type 0 where
+  pub remark : t .remark ≤ 99999
+  pub het : t .het ≤ 99999
+  pub helix : t .helix ≤ 99999
+  pub sheet : t .sheet ≤ 99999
+  pub xform : t .xform ≤ 99999
+  pub coord : t .coord ≤ 99999
+  pub ter : t .ter ≤ 99999
+  pub conect : t .conect ≤ 99999
+  pub seq : t .seq ≤ 99999
+
+ranged-top : (v : ℕ) → rangedOf 0 99999 v ≡ true → v ≤ 99999
+unfolding rangedOf
+ranged-top v e = leb-true v 99999 (both-split (leb 0 v) (leb v 99999) e .1)
+
+top-ranged : (v : ℕ) → v ≤ 99999 → rangedOf 0 99999 v ≡ true
+unfolding rangedOf
+top-ranged v h = both-join (leb 0 v) (leb v 99999) (le-leb 0 v (omega arith)) (le-leb v 99999 h)
+
+-- MASTER is within its ranges exactly if its counts are small
+pub ok-small : (t : Tally) → masterOk t ≡ true → Small t
+unfolding masterOk notesOk shapeOk atomsOk
+ok-small t e =
+    let a = both-split _ _ e in
+    let b = both-split _ _ (a .1) in
+    let c = both-split _ _ (b .1) in
+    let n = both-split _ _ (a .0) in
+    let n2 = both-split _ _ (both-split _ _ (n .1) .1) in
+    let s = both-split _ _ (b .0) in
+    let s2 = both-split _ _ (both-split _ _ (s .1) .1) in
+    let m = both-split _ _ (c .0) in
+    let m2 = both-split _ _ (m .1) in
+    let m3 = both-split _ _ (m2 .1) in
+    record {
+      remark = ranged-top _ (n .0);
+      het = ranged-top _ (n2 .0);
+      helix = ranged-top _ (n2 .1);
+      sheet = ranged-top _ (s .0);
+      xform = ranged-top _ (s2 .1);
+      coord = ranged-top _ (m .0);
+      ter = ranged-top _ (m2 .0);
+      conect = ranged-top _ (m3 .0);
+      seq = ranged-top _ (m3 .1);
+    }
+
+pub small-ok : (t : Tally) → Small t → masterOk t ≡ true
+unfolding masterOk notesOk shapeOk atomsOk both
+small-ok t s =
+    rw (top-ranged (t .remark) (s .remark), top-ranged (t .het) (s .het), top-ranged (t .helix) (s .helix), top-ranged (t .sheet) (s .sheet), top-ranged (t .xform) (s .xform), top-ranged (t .coord) (s .coord), top-ranged (t .ter) (s .ter), top-ranged (t .conect) (s .conect), top-ranged (t .seq) (s .seq))
+
+-- a kind that stands before the coordinate lines
+pub record Front (k : Kind) : Type 0 where
+  pub after : (p : ℕ) → placeBad p k ≡ false → Before p
+  pub here : Before (placeOf k .here)
+
+low-front : (k : Kind) → placeOf k .high < coordinatePlace → Before (placeOf k .here) → Front k
+low-front k h b = record { after = λ p e. inl (omega (arith, place-high p k e)); here = b }
+
+high-front : (k : Kind) → endPlace < placeOf k .low → Before (placeOf k .here) → Front k
+high-front k h b = record { after = λ p e. inr (omega (arith, place-low p k e)); here = b }
+
+abbrev pub PlainRecord : Record → Type 0
+PlainRecord (rec.Coordinate het a) = Unit {0}
+PlainRecord (rec.Ter t) = Unit {0}
+PlainRecord (rec.Helix h) = Unit {0}
+PlainRecord (rec.Sheet s) = Unit {0}
+PlainRecord (rec.Conect c) = Unit {0}
+PlainRecord (rec.Master t) = Small t
+PlainRecord rec.End = Unit {0}
+
+abbrev pub Plain : Line → Type 0
+Plain (Bad n) = 0 < n
+Plain (Wrong k column) = Unit {0}
+Plain (Carried k) = Front k
+Plain (Typed r) = PlainRecord r
+
+judged-plain : (k : Kind) (c : ℕ) (r : Record) → (c ≡ 0 → PlainRecord r) → Plain (lineIn k (judged c r))
+unfolding judged
+judged-plain k c r f =
+    picks (λ (x : Reading). Plain (lineIn k x)) (eqb c 0) (reading.Typed r) (reading.Wrong c) (λ t. f (eqb-true c 0 t)) (λ _. tt)
+
+by-kind : (l : List ℕ) → 80 ≤ length l → (k : Kind) → Plain (lineIn k (readingOf k l))
+unfolding readingOf
+by-kind l h Header = low-front Header (omega arith) (inl (omega arith))
+by-kind l h Title = low-front Title (omega arith) (inl (omega arith))
+by-kind l h Compnd = low-front Compnd (omega arith) (inl (omega arith))
+by-kind l h Source = low-front Source (omega arith) (inl (omega arith))
+by-kind l h Keywds = low-front Keywds (omega arith) (inl (omega arith))
+by-kind l h Expdta = low-front Expdta (omega arith) (inl (omega arith))
+by-kind l h Author = low-front Author (omega arith) (inl (omega arith))
+by-kind l h Revdat = low-front Revdat (omega arith) (inl (omega arith))
+by-kind l h Jrnl = low-front Jrnl (omega arith) (inl (omega arith))
+by-kind l h Remark = low-front Remark (omega arith) (inl (omega arith))
+by-kind l h Seqres = low-front Seqres (omega arith) (inl (omega arith))
+by-kind l h Het = low-front Het (omega arith) (inl (omega arith))
+by-kind l h Helix = judged-plain Helix _ _ (λ _. tt)
+by-kind l h Sheet = judged-plain Sheet _ _ (λ _. tt)
+by-kind l h Cryst1 = low-front Cryst1 (omega arith) (inl (omega arith))
+by-kind l h Origx1 = low-front Origx1 (omega arith) (inr (omega arith))
+by-kind l h Origx2 = high-front Origx2 (omega arith) (inr (omega arith))
+by-kind l h Origx3 = high-front Origx3 (omega arith) (inl (omega arith))
+by-kind l h Scale1 = low-front Scale1 (omega arith) (inr (omega arith))
+by-kind l h Scale2 = high-front Scale2 (omega arith) (inr (omega arith))
+by-kind l h Scale3 = high-front Scale3 (omega arith) (inl (omega arith))
+by-kind l h Atom = judged-plain Atom _ _ (λ _. tt)
+by-kind l h Hetatm = judged-plain Hetatm _ _ (λ _. tt)
+by-kind l h Ter = judged-plain Ter _ _ (λ _. tt)
+by-kind l h Conect = judged-plain Conect _ _ (λ _. tt)
+by-kind l h Master = judged-plain Master (masterFault l 6) (rec.Master (masterValue l 6)) (λ e. ok-small (masterValue l 6) (master-lawful .kept l 6 (omega arith) e .1))
+by-kind l h End = judged-plain End _ _ (λ _. tt)
+by-kind l h Unknown = omega arith
+
+pub piece-plain : (p : List ℕ) → Plain (lineOf p)
+unfolding lineOf columnsOf
+piece-plain p =
+    picks Plain (ltb (length p) 81) (Bad 1) _ (λ _. omega arith)
+    (λ long.
+    let h : 80 ≤ length (take 80 p) = omega (arith, length-take 80 p, ltb-false (length p) 81 long) in
+    picks Plain (eqb (getD p 80 0) 10) _ (Bad 2)
+    (λ _. picks Plain (cleanAt (take 80 p) 0 80) _ (Bad 3) (λ _. by-kind (take 80 p) h (kindOf (take 80 p))) (λ _. omega arith)) (λ _. omega arith))

@@ -1,0 +1,125 @@
+-- A good line of a text is good among the lines kept: the state that they leave is never ahead of the state that all lines leave.
+-- Assumes nothing.
+use Prim.Native.Nat.{ℕ, _≤_, _<_}
+use mathlib.Core.Bool.{Bool, true, false}
+use mathlib.Core.Path.{_≡_, refl, sym}
+use mathlib.Core.Logic.{_⊎_, inl, inr}
+use native.Mathlib.Omega.{arith}
+use native.Mathlib.Nat.{lt-of-le-of-lt, le-trans}
+use borrow.Author.Tests.{leb-false, lt-leb, ltb-false, le-ltb, le-leb, eq-eqb}
+use Rattle.ascii.proofs.Choice.{never}
+use Rattle.kinds.specs.declared.Kind.{Kind}
+use Rattle.kinds.specs.declared.Kind.the-variants as kind
+use Rattle.conect.specs.declared.Conect.{Conect as ConectOf}
+use Rattle.master.specs.declared.Tally.{Tally}
+use Rattle.line.specs.declared.Record.{Record}
+use Rattle.line.specs.declared.Record.the-variants.{Coordinate, Ter, Helix, Sheet, Conect, Master, End}
+use Rattle.pieces.specs.declared.Line.the-variants.{Carried, Typed}
+use Rattle.rules.specs.declared.Counts.{Counts}
+use Rattle.rules.specs.declared.State.{State}
+use Rattle.rules.specs.Places.{placeOf, placeBad}
+use Rattle.rules.specs.Counts.{sameCounts}
+use Rattle.rules.specs.Rules.{recordKind, serialBad, runBad, bondBad, countBad, judgeOf}
+use Rattle.rules.proofs.Laws.{Good, good-typed, place-low, place-high}
+use Rattle.gate.specs.Search.{Before}
+use Rattle.table.specs.Deal.{tallyOf}
+use Rattle.table.proofs.Ahead.{not-before}
+
+-- the place k is that of s; or s is among the coordinate or CONECT lines, and k past HEADER and not ahead
+abbrev pub Behind : ℕ → ℕ → Type 0
+Behind k s = (k ≡ s) ⊎ ((1 ≤ k) × (k ≤ s) × (18 ≤ s) × (s ≤ 19))
+
+-- s over all lines, k over the lines kept
+pub record Trails (s k : State) : Type 0 where
+  pub place : Behind (k .place) (s .place)
+  pub last : k .last ≤ s .last
+  pub bond : k .bond ≤ s .bond
+  pub helix : k .helix ≡ s .helix
+  pub ladder : k .ladder ≡ s .ladder
+
+-- ---- places
+pub behind-le : (k s : ℕ) → Behind k s → k ≤ s
+behind-le k s (inl e) = omega arith
+behind-le k s (inr h) = h .1
+
+pub behind-one : (k s : ℕ) → Behind k s → 1 ≤ s → 1 ≤ k
+behind-one k s (inl e) h = omega arith
+behind-one k s (inr g) h = g .0
+
+pub behind-same : (k s : ℕ) → Behind k s → 19 < s → k ≡ s
+behind-same k s (inl e) h = e
+behind-same k s (inr g) h = absurd (omega (arith, g .3))
+
+-- before the coordinate lines nothing was dropped
+pub behind-before : (k s : ℕ) → Behind k s → Before s → k ≡ s
+behind-before k s (inl e) b = e
+behind-before k s (inr g) b = absurd (not-before s (g .2) (omega (arith, g .3)) b)
+
+place-ok : (p : ℕ) (k : Kind) → placeOf k .low ≤ p → p ≤ placeOf k .high → placeBad p k ≡ false
+unfolding placeBad
+place-ok p k h g = rw (le-leb (placeOf k .low) p h, le-leb p (placeOf k .high) g)
+
+-- a kind that may follow every place from HEADER's on
+pub place-behind : (k s : ℕ) (x : Kind) → placeOf x .low ≡ 1 → Behind k s → placeBad s x ≡ false → placeBad k x ≡ false
+place-behind k s x one b e =
+    let h : 1 ≤ s = omega (arith, place-low s x e) in
+    let g : 1 ≤ k = behind-one k s b h in
+    place-ok k x (omega arith) (le-trans (behind-le k s b) (place-high s x e))
+
+-- ---- serials
+serial-trails : (a b : ℕ) (r : Record) → a ≤ b → serialBad b r ≡ false → serialBad a r ≡ false
+serial-trails a b (Coordinate het x) h e = lt-leb _ _ (lt-of-le-of-lt h (leb-false _ _ e))
+serial-trails a b (Ter t) h e = lt-leb _ _ (lt-of-le-of-lt h (leb-false _ _ e))
+serial-trails a b (Helix x) h e = refl
+serial-trails a b (Sheet x) h e = refl
+serial-trails a b (Conect c) h e = refl
+serial-trails a b (Master t) h e = refl
+serial-trails a b End h e = refl
+
+-- a CONECT line's serial is not below the last one's, and its numbers are known
+pub bond-split : (known : Bool) (last : ℕ) (c : ConectOf) → bondBad known last (Conect c) ≡ false → (known ≡ true) × (last ≤ c .serial .0)
+bond-split true last c e = (refl, ltb-false _ _ e)
+bond-split false last c e = never (sym e)
+
+pub bond-join : (known : Bool) (last : ℕ) (c : ConectOf) → known ≡ true → last ≤ c .serial .0 → bondBad known last (Conect c) ≡ false
+bond-join known last c e h = rw (e, le-ltb (c .serial .0) last h)
+
+-- ---- a typed line among the kept ones, where its place, its run, its bonds and its counts are right
+pub good-trails : (known v : Bool) (s k : State) (r : Record) → Trails s k → Good known s r → placeBad (k .place) (recordKind r) ≡ false
+    → runBad (k .run) r ≡ false → bondBad v (k .bond) r ≡ false → countBad (k .counts) r ≡ false → judgeOf v k (Typed r) ≡ 0
+unfolding judgeOf
+good-trails known v s k r T g p run bond count =
+    good-typed v k r
+    (record {
+      place = p;
+      serial = serial-trails (k .last) (s .last) r (T .last) (g .serial);
+      run = run;
+      bond = bond;
+      fold = rw (T .helix, T .ladder) (g .fold);
+      count = count;
+    })
+
+-- MASTER counted again
+same-tally : (q : Counts) → sameCounts (tallyOf q) q ≡ true
+unfolding sameCounts
+same-tally q =
+    rw (eq-eqb (q .remark) (q .remark) refl, eq-eqb (q .het) (q .het) refl, eq-eqb (q .helix) (q .helix) refl, eq-eqb (q .sheet) (q .sheet) refl, eq-eqb (q .xform) (q .xform) refl, eq-eqb (q .coord) (q .coord) refl, eq-eqb (q .ter) (q .ter) refl, eq-eqb (q .conect) (q .conect) refl, eq-eqb (q .seq) (q .seq) refl)
+
+pub master-trails : (known v : Bool) (s k : State) (t : Tally) → Trails s k → Good known s (Master t) → k .run .atom ≡ false
+    → judgeOf v k (Typed (Master (tallyOf (k .counts)))) ≡ 0
+unfolding judgeOf
+master-trails known v s k t T g a =
+    good-typed v k (Master (tallyOf (k .counts)))
+    (record {
+      place = place-behind (k .place) (s .place) kind.Master refl (T .place) (g .place);
+      serial = refl;
+      run = a;
+      bond = refl;
+      fold = rw (T .ladder) (g .fold);
+      count = rw (same-tally (k .counts));
+    })
+
+-- a carried line among the kept ones
+pub carried-trails : (known v : Bool) (s k : State) (x : Kind) → k .place ≡ s .place → k .ladder ≡ s .ladder → judgeOf known s (Carried x) ≡ 0 → judgeOf v k (Carried x) ≡ 0
+unfolding judgeOf
+carried-trails known v s k x p d e = rw (p, d) e
