@@ -1,10 +1,11 @@
--- A worked example, of the definitions: an entry of three fragments, the second of them set aside.
+-- Worked examples, of the definitions: an entry of three fragments, the second of them set aside; two waters with a bond.
 -- Assumes nothing.
 use Prim.Native.Nat.{ℕ}
 use Prim.Native.String.{String}
 use mathlib.Core.List.{List, [], _∷_}
 use mathlib.Core.Bool.{true, false}
 use mathlib.Core.Path.{_≡_, refl}
+use lib.ListN.{drop, getD}
 use Rattle.ascii.specs.Tests.{both, either, between, same}
 use Rattle.columns.specs.Columns.{firstOf, blankAt, gapOf, cleanAt, blame, leftmost, blanks}
 use Rattle.numbers.specs.Number.{endsDigit, leadOf, furtherOf, grownOf, numberOf, leader, render}
@@ -15,6 +16,7 @@ use Rattle.kinds.specs.Kinds.{kindNamed, kindOf}
 use Rattle.residue.specs.Residues.{residueFault, residueValue}
 use Rattle.coordinate.specs.Atoms.{positionFault, positionValue, identityFault, identityValue, measureFault, measureValue, speciesFault, speciesValue, leadsElement, atomFault, atomValue}
 use Rattle.ter.specs.Ters.{terFault, terValue}
+use Rattle.conect.specs.Conects.{partnerOf, differs, follows, conectFault, conectValue}
 use Rattle.master.specs.Masters.{notesFault, notesValue, notesText, shapeFault, shapeValue, shapeText, atomsFault, atomsValue, atomsText, masterFault, masterValue, masterText}
 use Rattle.line.specs.Lines.{judged, readingOf}
 use Rattle.pieces.specs.Pieces.{columnsOf, lineOf}
@@ -22,14 +24,14 @@ use Rattle.rules.specs.Places.{placeBad}
 use Rattle.rules.specs.Counts.{raised, sameCounts}
 use Rattle.rules.specs.Rules.{sameThree, sameResidue, siteBad, closeBad, siteNext, unfinished, typedBad, judgeOf, startOf, carriedNext, typedNext, nextOf}
 use Rattle.gate.specs.Text.{cutAtMost, cut}
-use Rattle.gate.specs.Gate.{refusedOf, finishOf, checkLines, checkOf}
+use Rattle.gate.specs.Gate.{someOf, refusedOf, finishOf, checkLines, checkOf}
 use Rattle.gate.proofs.Examples.{textOf}
 use Rattle.slots.specs.declared.Slot.{Slot}
-use Rattle.slots.specs.Slots.{samePair, sameFour, samePosition, sameMeasures, sameNames, sameSlot, withMark}
+use Rattle.slots.specs.Slots.{markAside, noSlot, samePair, sameFour, samePosition, sameMeasures, sameNames, sameSlot, withMark}
 use Rattle.slots.specs.Fragments.{joins, stepTail, tailOf, markOf, marked}
 use Rattle.table.specs.Table.{linesFrom, slotsOf, loadedOf, fits, fitsFrom, belongs, tableOf, fragments, orderOf}
 use Rattle.table.specs.Orders.{order, ordersOf}
-use Rattle.table.specs.Deal.{stays, counted, masterPiece, written, share, dealt, bytesOf}
+use Rattle.table.specs.Deal.{isAside, aside, stays, counted, masterPiece, written, share, dealt, bytesOf}
 
 -- a chain of one atom, closed, and two waters
 abbrev chain : String
@@ -61,6 +63,20 @@ ordered = orderOf entry loaded 2 true .left
 pub rest : List ℕ
 rest = textOf ("HEADER" ∷ chain ∷ close ∷ water8 ∷ "MASTER        0    0    0    0    0    0    0    0    2    1    0    0" ∷ "END" ∷ [])
 
+-- two waters, with a bond between them
+abbrev bond : String
+bond = "CONECT    3    4"
+
+pub bonded : List ℕ
+bonded = textOf ("HEADER" ∷ water7 ∷ water8 ∷ bond ∷ "MASTER        0    0    0    0    0    0    0    0    2    0    1    0" ∷ "END" ∷ [])
+
+-- the first of them set aside, and what is then saved
+pub parted : List Slot
+parted = orderOf bonded (loadedOf bonded) 1 true .left
+
+pub single : List ℕ
+single = textOf ("HEADER" ∷ water8 ∷ "MASTER        0    0    0    0    0    0    0    0    1    0    0    0" ∷ "END" ∷ [])
+
 pub record Examples : Type 0 where
   -- the chain with its TER, and each water
   pub three : fragments entry loaded ≡ 3
@@ -73,9 +89,15 @@ pub record Examples : Type 0 where
   -- there is no fourth fragment, and the second is aside already
   pub none : orderOf entry loaded 4 true .number ≡ 15
   pub already : orderOf entry ordered 2 true .number ≡ 16
+  -- the bond goes with its atom
+  pub parted-saved : bytesOf true bonded parted ≡ single
+  pub parted-tray : bytesOf false bonded parted ≡ textOf (water7 ∷ bond ∷ [])
+  -- the table of another text, and one in which the chain's atom is aside and its TER is not
+  pub foreign : tableOf bonded loaded ≡ 18
+  pub torn : tableOf entry (withMark (getD loaded 0 noSlot) markAside ∷ drop 1 loaded) ≡ 18
 
 pub examples : Examples
-unfolding entry loaded ordered rest both either between same firstOf blankAt gapOf cleanAt blame leftmost blanks endsDigit leadOf furtherOf grownOf numberOf leader render signedOf isNeg wholeIn integerIn elements placeOf atomicOf wordAt kindNamed kindOf residueFault residueValue positionFault positionValue identityFault identityValue measureFault measureValue speciesFault speciesValue leadsElement atomFault atomValue terFault terValue notesFault notesValue notesText shapeFault shapeValue shapeText atomsFault atomsValue atomsText masterFault masterValue masterText judged readingOf columnsOf lineOf placeBad raised sameCounts sameThree sameResidue siteBad closeBad siteNext unfinished typedBad judgeOf startOf carriedNext typedNext nextOf cutAtMost cut refusedOf finishOf checkLines checkOf samePair sameFour samePosition sameMeasures sameNames sameSlot withMark joins stepTail tailOf markOf marked linesFrom slotsOf fits fitsFrom belongs tableOf orderOf ordersOf stays counted masterPiece written share dealt bytesOf
+unfolding entry loaded ordered rest bonded parted single both either between same firstOf blankAt gapOf cleanAt blame leftmost blanks endsDigit leadOf furtherOf grownOf numberOf leader render signedOf isNeg wholeIn integerIn elements placeOf atomicOf wordAt kindNamed kindOf residueFault residueValue positionFault positionValue identityFault identityValue measureFault measureValue speciesFault speciesValue leadsElement atomFault atomValue terFault terValue partnerOf differs follows conectFault conectValue notesFault notesValue notesText shapeFault shapeValue shapeText atomsFault atomsValue atomsText masterFault masterValue masterText judged readingOf columnsOf lineOf placeBad raised sameCounts sameThree sameResidue siteBad closeBad siteNext unfinished typedBad judgeOf startOf carriedNext typedNext nextOf cutAtMost cut someOf refusedOf finishOf checkLines checkOf samePair sameFour samePosition sameMeasures sameNames sameSlot withMark joins stepTail tailOf markOf marked linesFrom slotsOf fits fitsFrom belongs tableOf orderOf ordersOf isAside aside stays counted masterPiece written share dealt bytesOf
 examples =
     record {
       three = refl;
@@ -85,4 +107,8 @@ examples =
       back = refl;
       none = refl;
       already = refl;
+      parted-saved = refl;
+      parted-tray = refl;
+      foreign = refl;
+      torn = refl;
     }
