@@ -1,6 +1,6 @@
 #!/usr/bin/env python3
 """fill.py CRATE FUNCTION [-u 'MODULE.{names}'].. NEED=TERM..: answers needs of a proof file.
-In a TERM `@x` stands for the path from c to the thing x at that need (tools/paths.py).
+In a TERM `@x` stands for the path from c to the thing x at that need, and `@@x` for what holds it (tools/paths.py).
 A hole that no NEED names becomes `search needs`. A TERM may begin 'unfolding a b | '."""
 import re, subprocess, sys
 
@@ -25,6 +25,7 @@ def paths(need):
 for need, term in answers.items():
     if "@" in term:
         known = paths(need)
+        term = re.sub(r"@@([\w-]+)", lambda m: known.get(m.group(1), "NONE").rsplit(" .", 1)[0], term)  # what holds it
         missing = [x for x in re.findall(r"@([\w-]+)", term) if x not in known]
         if missing:
             print(f"{need}: no {missing} among {sorted(known)}")

@@ -1,21 +1,29 @@
 -- Each answer of the functions over a table, from the tests that the code makes.
 -- Assumes nothing.
-use Prim.Native.Nat.{ℕ, _+_, _-_, _≤_, _<_}
-use mathlib.Core.List.{List, _++_}
+use Prim.Native.Nat.{ℕ, zero, suc, _+_, _*_, _-_, _≤_, _<_}
+use mathlib.Core.List.{List, [], _∷_, _++_, map}
 use mathlib.Core.Bool.{Bool, true, false}
-use mathlib.Core.Path.{_≡_, sym, _∙_, ap}
+use mathlib.Core.Path.{_≡_, refl, sym, _∙_, ap}
 use native.Mathlib.Omega.{arith}
 use borrow.Author.Tests.{eq-eqb, ne-eqb, lt-ltb, le-ltb}
-use lib.ListN.{length, take, drop, length-take}
-use Rattle.ascii.specs.Tests.{both, either}
+use lib.ListN.{length, take, drop, length-take, length-drop}
+use Rattle.ascii.specs.Tests.{pick, both, either}
+use Rattle.pieces.specs.Pieces.{lineOf}
+use Rattle.rules.specs.declared.Counts.{Counts}
+use Rattle.rules.specs.Counts.{noCounts}
+use Rattle.rules.specs.Rules.{sameSign}
+use Rattle.gate.specs.Text.{cut, cutAtMost}
+use Rattle.gate.proofs.Cut.{cut-cons}
 use Rattle.gate.specs.Gate.{checkOf}
 use Rattle.slots.specs.declared.Slot.{Slot}
 use Rattle.slots.specs.declared.Tail.{Tail}
 use Rattle.slots.specs.Fragments.{tailOf, markOf, marked}
-use Rattle.table.specs.Table.{told, linesFrom, loadedOf, loadOf, fitsFrom, belongs, tableOf, fragments, markByte, orderOf}
+use Rattle.table.specs.Table.{told, over, linesFrom, loadedOf, loadOf, fitsFrom, oneOf, belongs, tableOf, fragments, markByte, orderOf}
+use Rattle.table.specs.Deal.{stays, counted, written, bytesOf, putOf}
+use Rattle.table.proofs.Shares.{shares, shares-sum, bytes-size}
 use Rattle.store.specs.declared.Findings.{Findings}
 use Rattle.store.specs.declared.Held.{Held}
-use Rattle.store.specs.Judged.{Surveyed, Belongs}
+use Rattle.store.specs.Judged.{Surveyed, Belongs, keptFrom, shareOf}
 use Rattle.store.proofs.Tails.{marked-size}
 
 pub take-size : (xs : List Slot) (n : ℕ) → n ≤ length xs → n ≡ length (take n xs)
@@ -95,3 +103,55 @@ module _ (t : List ℕ) (xs : List Slot) (f : ℕ) (aside : Bool) (k : ℕ) (ek 
       order-done q ys ey =
           let size : length (marked (d .fragments + 1 - f) m (take (d .need) xs)) ≡ d .need = marked-size (d .fragments + 1 - f) m (take (d .need) xs) ∙ sym (take-size xs (d .need) (B .room)) in
           rw (← ek, eq-eqb k 0 z, ne-eqb f 0 h, ← B .fragments, le-ltb (d .fragments) f g, ← B .need, ← es, ← em, ne-eqb s m q, size, ey)
+
+-- ---- saving and the tray
+-- a line that stays is one more piece of the saved entry
+kept-shares : (xs : List Slot) (k : ℕ) (q : Counts) (ps : List (List ℕ)) → length (shares true xs k q ps) ≡ keptFrom xs k (map lineOf ps)
+unfolding shares keptFrom
+kept-shares xs k q [] = refl
+kept-shares xs k q (p ∷ ps) =
+    let stay : Bool = stays xs k (lineOf p) in
+    go stay _ _ (kept-shares xs (k + oneOf (lineOf p)) (counted stay q (lineOf p)) ps)
+  where
+    go : (b : Bool) (us : List (List ℕ)) (n : ℕ) → length us ≡ n → length (pick (sameSign true b) (written q p ∷ us) us) ≡ pick b 1 0 + n
+    go true us n e = omega arith
+    go false us n e = omega arith
+
+cut-size : (n : ℕ) (t : List ℕ) → length t ≡ 81 * n → length (cut t) ≡ n
+unfolding cut cutAtMost
+cut-size zero [] h = refl
+cut-size zero (b ∷ t) h = absurd (omega arith)
+cut-size (suc n) t h =
+    let rest : length (drop 81 t) ≡ 81 * n = simp length-drop (omega arith) in
+    ap length (cut-cons t (omega arith)) ∙ ap suc (cut-size n (drop 81 t) rest)
+
+module _ (t : List ℕ) (xs : List Slot) (h : Held) (B : Belongs t xs h) (good : checkOf t .number ≡ 0) where
+  kept-lines : length (shares true xs 0 noCounts (cut t)) ≡ h .kept
+  unfolding linesFrom
+  kept-lines = kept-shares xs 0 noCounts (cut t) ∙ sym (B .kept)
+
+  all-lines : length (shares true xs 0 noCounts (cut t)) + length (shares false xs 0 noCounts (cut t)) ≡ h .lines
+  all-lines = shares-sum xs 0 noCounts (cut t) ∙ cut-size (h .lines) t (B .lines)
+
+  pub kept-few : h .kept ≤ h .lines
+  kept-few = omega (arith, kept-lines, all-lines)
+
+  pub size-dealt : (saving : Bool) → 81 * shareOf h saving ≡ length (bytesOf saving t xs)
+  size-dealt true = sym (bytes-size true t xs good ∙ ap (λ (n : ℕ). 81 * n) kept-lines)
+  size-dealt false =
+      let n : length (shares false xs 0 noCounts (cut t)) ≡ h .lines - h .kept = omega (arith, kept-lines, all-lines) in
+      sym (bytes-size false t xs good ∙ ap (λ (n : ℕ). 81 * n) n)
+
+module _ (saving : Bool) (t : List ℕ) (xs : List Slot) (o : List ℕ) (k : ℕ) (ek : k ≡ tableOf t xs) where
+  pub put-bad : (k ≡ 0 → ⊥) → told k 0 o ≡ putOf saving t xs o
+  unfolding putOf
+  put-bad h = rw (← ek, ne-eqb k 0 h)
+
+  module _ (z : k ≡ 0) (n : ℕ) (en : n ≡ length (bytesOf saving t xs)) where
+    pub put-short : length o < n → told 17 0 o ≡ putOf saving t xs o
+    unfolding putOf
+    put-short h = rw (← ek, eq-eqb k 0 z, ← en, lt-ltb (length o) n h)
+
+    pub put-good : n ≤ length o → (ys : List ℕ) → ys ≡ over (bytesOf saving t xs) o → told 0 n ys ≡ putOf saving t xs o
+    unfolding putOf
+    put-good h ys ey = rw (ey, ← ek, eq-eqb k 0 z, ← en, le-ltb (length o) n h)

@@ -1,13 +1,13 @@
 -- Filling the table from the front.
 -- Assumes nothing.
 use Prim.Native.Nat.{ℕ, zero, suc, _+_, _*_, _≤_, _<_}
-use mathlib.Core.List.{List, [], _∷_, _++_}
+use mathlib.Core.List.{List, [], _∷_, _++_, append-nil}
 use mathlib.Core.Bool.{Bool, true, false}
 use mathlib.Core.Path.{_≡_, refl, sym, _∙_, ap}
 use native.Mathlib.Omega.{arith}
 use native.Mathlib.Nat.{not-suc-le-zero, le-of-suc-le-suc}
 use native.Mathlib.Numerals.{add-one}
-use lib.ListN.{length, set, take, drop}
+use lib.ListN.{length, set, take, drop, take-append-drop}
 use lib.Seq.{append-snoc}
 use Rattle.ascii.specs.Tests.{pick}
 use Rattle.pieces.specs.declared.Line.{Line}
@@ -42,16 +42,6 @@ pub set-size : (xs : List Slot) (k : ℕ) (v : Slot) → length (set xs k v) ≡
 set-size [] k v = refl
 set-size (x ∷ xs) zero v = refl
 set-size (x ∷ xs) (suc k) v = ap suc (set-size xs k v)
-
-pub take-drop : (xs : List Slot) (k : ℕ) → take k xs ++ drop k xs ≡ xs
-take-drop [] zero = refl
-take-drop [] (suc k) = refl
-take-drop (x ∷ xs) zero = refl
-take-drop (x ∷ xs) (suc k) = ap (λ (r : List Slot). x ∷ r) (take-drop xs k)
-
-pub append-end : (xs : List Slot) → xs ++ [] ≡ xs
-append-end [] = refl
-append-end (x ∷ xs) = ap (λ (r : List Slot). x ∷ r) (append-end xs)
 
 -- the slots of the first i lines stand in the first k slots; the rest is as found
 pub record Filled (t : List ℕ) (e : List Slot) (n i k : ℕ) (xs : List Slot) : Type 0 where
@@ -98,6 +88,6 @@ pub filled-done : (t : List ℕ) (e : List Slot) (n i k : ℕ) (xs : List Slot) 
 unfolding slotsOf
 filled-done t e n i k xs F h =
     let z : slotsOf (linesFrom t i) ≡ [] = ap slotsOf (lines-done t i h) in
-    let f : take k xs ≡ loadedOf t = sym (append-end (take k xs)) ∙ (rw z at (F .front)) in
+    let f : take k xs ≡ loadedOf t = sym (append-nil (take k xs)) ∙ (rw z at (F .front)) in
     let q : k ≡ length (loadedOf t) = need-done t i k n h (F .room) ∙ F .need in
-    sym (take-drop xs k) ∙ (rw (f, F .back, q))
+    sym (take-append-drop k xs) ∙ (rw (f, F .back, q))

@@ -5,5 +5,6 @@ pub mod Seeking
 pub mod Fitting
 pub mod Looking
 pub mod Answers
+pub mod Written
 pub mod SlotAs
 pub mod Walked

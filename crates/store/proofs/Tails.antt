@@ -1,7 +1,7 @@
 -- Going over the slots from the last one on.
 -- Assumes nothing.
 use Prim.Native.Nat.{ℕ, zero, suc, _+_, _≤_, _<_}
-use mathlib.Core.List.{List, [], _∷_, _++_}
+use mathlib.Core.List.{List, [], _∷_, _++_, append-nil}
 use mathlib.Core.Bool.{Bool, true, false}
 use mathlib.Core.Path.{_≡_, refl, sym, _∙_, ap}
 use native.Mathlib.Omega.{arith}
@@ -15,7 +15,7 @@ use Rattle.slots.specs.declared.Slot.{Slot}
 use Rattle.slots.specs.declared.Tail.{Tail}
 use Rattle.slots.specs.Slots.{noSlot, withMark}
 use Rattle.slots.specs.Fragments.{joins, stepTail, tailOf, markOf, marked}
-use Rattle.store.proofs.Filling.{append-end, set-size}
+use Rattle.store.proofs.Filling.{set-size}
 
 module _ (xs : List Slot) (k j : ℕ) (e : k ≡ j + 1) (h : j < length xs) where
   rest : drop j xs ≡ getD xs j noSlot ∷ drop k xs
@@ -76,7 +76,7 @@ marking-start e b m t q =
       inside = omega arith;
       few = rw q (omega arith);
       tail = rw (z, q);
-      held = rw (z, take-all (length e) e (omega arith)) (sym (append-end e));
+      held = rw (z, take-all (length e) e (omega arith)) (sym (append-nil e));
     }
 
 module _ (e : List Slot) (b m k : ℕ) (t : Tail) (xs : List Slot) (M : Marking e b m k t xs) (j : ℕ) (q : k ≡ j + 1) where

@@ -1,7 +1,11 @@
+pub mod deal
+pub mod dealing
 pub mod judge
 pub mod load
 pub mod marking
 pub mod order
 pub mod put_slot
+pub mod save
 pub mod search
 pub mod survey
+pub mod tray

@@ -1,5 +1,5 @@
 -- What the functions over a lent table say of it to one another. (Nothing here is part of an answer.)
-use Prim.Native.Nat.{ℕ, _+_, _*_, _≤_, _<_}
+use Prim.Native.Nat.{ℕ, _+_, _*_, _-_, _≤_, _<_}
 use mathlib.Core.List.{List, [], _∷_}
 use mathlib.Core.Bool.{Bool, true, false}
 use mathlib.Core.Path.{_≡_}
@@ -10,6 +10,7 @@ use Rattle.line.specs.declared.Record.{Record}
 use Rattle.line.specs.declared.Record.the-variants.{Coordinate, Ter, Helix, Sheet, Conect, Master, End}
 use Rattle.pieces.specs.declared.Line.{Line}
 use Rattle.pieces.specs.declared.Line.the-variants.{Bad, Wrong, Carried, Typed}
+use Rattle.gate.specs.Gate.{checkOf}
 use Rattle.slots.specs.declared.Slot.{Slot}
 use Rattle.slots.specs.Slots.{noSlot}
 use Rattle.table.specs.Table.{linesFrom, loadedOf, oneOf, fitsFrom, fragments}
@@ -82,3 +83,12 @@ pub record Belongs (t : List ℕ) (xs : List Slot) (h : Held) : Type 0 where
   pub lines : length t ≡ 81 * h .lines
   pub kept : h .kept ≡ keptFrom xs 0 (linesFrom t 0)
   pub rises : Rises xs (h .need)
+
+-- an accepted text whose slots' serials rise
+pub record Dealable (t : List ℕ) (xs : List Slot) : Type 0 where
+  pub good : checkOf t .number ≡ 0
+  pub rises : Rises xs (length (loadedOf t))
+
+-- how many lines stay, or go
+abbrev pub shareOf : Held → Bool → ℕ
+shareOf h saving = pick saving (h .kept) (h .lines - h .kept)

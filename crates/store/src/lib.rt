@@ -1,8 +1,11 @@
 // A text with a lent table of slots: loading, orders, saving and the tray. The text and the table are judged anew at each call.
+mod dealing;
 mod marking;
 mod search;
 mod survey;
 
+use dealing::size_of;
+use dealing::write_all;
 use fields::FragmentNumber;
 use marking::mark_all;
 use marking::mark_of;
@@ -18,6 +21,7 @@ ghost use Rattle.ascii.specs.Tests.{pick};
 ghost use Rattle.gate.specs.Search.{isCoord};
 ghost use Rattle.slots.specs.Slots.{lineSlot, SmallLine};
 ghost use Rattle.table.specs.Table.{told, oneOf, loadOf, tableOf, markByte, orderOf};
+ghost use Rattle.table.specs.Deal.{putOf, saveOf, trayOf};
 ghost use Rattle.store.specs.Judged.{Belongs};
 
 // What is answered: 0 or the number of a refusal, and how many slots or bytes were written.
@@ -43,16 +47,6 @@ pub struct Held {
     pub fragments: u64,
     pub kept: usize,
     pub lines: usize,
-}
-
-fn refusal(number: u8) -> Outcome
-    ensures { λ r. ⌜ r .number ≡ number ⌝ }
-    ensures { λ r. ⌜ r .count ≡ 0 ⌝ }
-{
-    Outcome {
-        number: number,
-        count: 0,
-    }
 }
 
 // Fills the table from the text: 1-12, 13.
@@ -176,4 +170,42 @@ pub fn order(text: &[u8], table: &mut [Slot], fragment: FragmentNumber, aside: b
     }
     mark_all(&mut table[..n], b, m);
     0
+}
+
+fn deal(text: &[u8], table: &[Slot], out: &mut [u8], saving: bool) -> Outcome
+    ensures { λ r. ⌜ told (r .number) (r .count) (now (out .exit)) ≡ putOf saving (now (text .entry)) (now (table .entry)) (now (out .entry)) ⌝ }
+{
+    let h = judge(text, table);
+    if h.number != 0 {
+        return Outcome {
+            number: h.number,
+            count: 0,
+        };
+    }
+    let n = size_of(h, saving);
+    if out.len() < n {
+        return Outcome {
+            number: 17,
+            count: 0,
+        };
+    }
+    write_all(text, table, out, saving);
+    Outcome {
+        number: 0,
+        count: n,
+    }
+}
+
+// Writes the text without what is set aside, MASTER recounted: 1-12, 13, 18, 17.
+pub fn save(text: &[u8], table: &[Slot], out: &mut [u8]) -> Outcome
+    ensures { λ r. ⌜ told (r .number) (r .count) (now (out .exit)) ≡ saveOf (now (text .entry)) (now (table .entry)) (now (out .entry)) ⌝ }
+{
+    deal(text, table, out, true)
+}
+
+// Writes the lines that saving drops, in order: 1-12, 13, 18, 17.
+pub fn tray(text: &[u8], table: &[Slot], out: &mut [u8]) -> Outcome
+    ensures { λ r. ⌜ told (r .number) (r .count) (now (out .exit)) ≡ trayOf (now (text .entry)) (now (table .entry)) (now (out .entry)) ⌝ }
+{
+    deal(text, table, out, false)
 }

@@ -160,12 +160,13 @@ fn is_kept(s: Slot) -> bool
     !e
 }
 
-// Whether a line stays, k slots standing before it.
-pub fn stays(table: &[Slot], k: usize, l: Line) -> bool
+// Whether a line stays, k slots standing before it, and `here` after these.
+pub fn stays(table: &[Slot], k: usize, here: Slot, l: Line) -> bool
+    requires { ⌜ here ≡ getD (now table) k noSlot ⌝ }
     ensures { λ r. ⌜ (Rises (now (table .entry)) k → r ≡ staysOf (now (table .entry)) k l) ⌝ }
 {
     if gate::is_coord(l) {
-        return is_kept(slot_at(table, k));
+        return is_kept(here);
     }
     if is_conect(l) {
         let e = names_aside(table, k, conect_in(l));

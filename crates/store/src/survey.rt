@@ -74,7 +74,7 @@ pub fn look_over(text: &[u8], table: &[Slot]) -> Findings
         let here = slot_at(table, k);
         let good = fits(here, l);
         fit = ascii::both_of(fit, good);
-        let stay = stays(table, k, l);
+        let stay = stays(table, k, here, l);
         kept += one_if(stay);
         k += one_of(l);
         i += 1;

@@ -2,7 +2,7 @@
 -- Assumes nothing.
 use Prim.Native.Nat.{ℕ, _+_, _≤_}
 use mathlib.Core.List.{List}
-use mathlib.Core.Bool.{Bool, true, false}
+use mathlib.Core.Bool.{Bool, true, false, false≢true}
 use mathlib.Core.Path.{_≡_, refl}
 use native.Mathlib.Omega.{arith}
 use borrow.Author.Tests.{eqb-true, not-false}
@@ -121,6 +121,19 @@ small-under m c q s e u =
     top : (x y z : ℕ) → x ≤ 99999 → eqb x y ≡ true → z ≤ y → z ≤ 99999
     top x y z h k g = omega (arith, eqb-true x y k)
 
+-- so at a good MASTER line they fit its columns
+pub master-fits : (known : Bool) (s : State) (q : Counts) (l : Line) → Plain l → judgeOf known s l ≡ 0 → Under q (s .counts) → isMaster l ≡ true → Small (tallyOf q)
+master-fits known s q (Bad n) plain g u m = absurd (false≢true m)
+master-fits known s q (Wrong k column) plain g u m = absurd (false≢true m)
+master-fits known s q (Carried k) plain g u m = absurd (false≢true m)
+master-fits known s q (Typed (Coordinate het a)) plain g u m = absurd (false≢true m)
+master-fits known s q (Typed (Ter t)) plain g u m = absurd (false≢true m)
+master-fits known s q (Typed (Helix h)) plain g u m = absurd (false≢true m)
+master-fits known s q (Typed (Sheet h)) plain g u m = absurd (false≢true m)
+master-fits known s q (Typed (Conect c)) plain g u m = absurd (false≢true m)
+master-fits known s q (Typed (Master t)) plain g u m = small-under t (s .counts) q plain (not-false _ (judge-typed known s (Master t) g .count)) u
+master-fits known s q (Typed End) plain g u m = absurd (false≢true m)
+
 -- ---- a line as it is written reads as the line, MASTER with its new counts
 abbrev pub recounted : Counts → Line → Line
 recounted q l = pick (isMaster l) (Typed (Master (tallyOf q))) l
@@ -135,5 +148,5 @@ written-line known s q p (Typed (Ter t)) e plain g u = e
 written-line known s q p (Typed (Helix h)) e plain g u = e
 written-line known s q p (Typed (Sheet h)) e plain g u = e
 written-line known s q p (Typed (Conect c)) e plain g u = e
-written-line known s q p (Typed (Master m)) e plain g u = master-line q (small-under m (s .counts) q plain (not-false _ (judge-typed known s (Master m) g .count)) u)
+written-line known s q p (Typed (Master m)) e plain g u = master-line q (master-fits known s q (Typed (Master m)) plain g u refl)
 written-line known s q p (Typed End) e plain g u = e

@@ -1,11 +1,11 @@
 -- The saved entry and the tray as pieces: each piece of the text goes to the one or to the other, once and in order.
 -- Assumes nothing.
-use Prim.Native.Nat.{ℕ, _+_}
+use Prim.Native.Nat.{ℕ, _+_, _*_}
 use mathlib.Core.List.{List, [], _∷_, _++_, map}
 use mathlib.Core.Bool.{Bool, true, false, true≢false}
 use mathlib.Core.Path.{_≡_, refl, _∙_, ap}
 use native.Mathlib.Omega.{arith}
-use lib.ListN.{length}
+use lib.ListN.{length, length-append}
 use Rattle.ascii.specs.Tests.{pick}
 use Rattle.ascii.proofs.Choice.{picks}
 use Rattle.line.specs.declared.Record.{Record}
@@ -62,6 +62,17 @@ unfolding bytesOf
 cut-bytes saving t xs e =
     ap cut (dealt-shares saving xs 0 noCounts (cut t))
     ∙ cut-join (shares saving xs 0 noCounts (cut t)) (shares-81 saving xs 0 noCounts (cut t) (accepted-81 t e))
+
+-- so a line more makes 81 bytes more
+join-size : (ps : List (List ℕ)) → All81 ps → length (join ps) ≡ 81 * length ps
+join-size [] a = refl
+join-size (p ∷ ps) a = simp length-append (omega (arith, a .0, join-size ps (a .1)))
+
+pub bytes-size : (saving : Bool) (t : List ℕ) (xs : List Slot) → checkOf t .number ≡ 0 → length (bytesOf saving t xs) ≡ 81 * length (shares saving xs 0 noCounts (cut t))
+unfolding bytesOf
+bytes-size saving t xs e =
+    ap length (dealt-shares saving xs 0 noCounts (cut t))
+    ∙ join-size (shares saving xs 0 noCounts (cut t)) (shares-81 saving xs 0 noCounts (cut t) (accepted-81 t e))
 
 -- ---- the pieces of the two add up to all
 pub shares-sum : (xs : List Slot) (k : ℕ) (q : Counts) (ps : List (List ℕ)) → length (shares true xs k q ps) + length (shares false xs k q ps) ≡ length ps

@@ -1,3 +1,4 @@
+pub mod Counting
 pub mod Copies
 pub mod Recounts
 pub mod Shares

@@ -1,4 +1,4 @@
-use Rattle.table.specs.Deal.{counted}
+use Rattle.writing.proofs.Counting.{stays-counted, goes-uncounted}
 use borrow.Author.Needs.{needs}
 use Rattle.writing.proofs.count_line.Statement.{statement}
 use Rattle.writing.proofs.count_line.Tie as tie
@@ -13,12 +13,10 @@ raise-requires : tie.Need-raise-requires
 raise-requires c κs = search needs
 
 returns : tie.Need-returns
-unfolding counted
-returns c = rw (c .before .before .before .if1 .taken, c .raise .ensures, c .before .count-of .ensures, c .before .before .line-kind .ensures)
+returns c = stays-counted _ _ _ _ _ _ (c .before .before .before .if1 .taken) (c .before .before .line-kind .ensures) (c .before .count-of .ensures) (c .raise .ensures)
 
 returns-2 : tie.Need-returns-2
-unfolding counted
-returns-2 c = rw (c .if1 .left)
+returns-2 c = goes-uncounted _ _ _ (c .if1 .left)
 
 pub count-line-spec : {M : Type 1} → statement M
 count-line-spec =

@@ -12,14 +12,11 @@ use Rattle.store.proofs.search.stays.Proof.Lts as lts
 is-coord-requires : tie.Need-is-coord-requires
 is-coord-requires c = search needs
 
-slot-at-requires : tie.Need-slot-at-requires
-slot-at-requires c = search needs
-
 is-kept-requires : tie.Need-is-kept-requires
 is-kept-requires c = search needs
 
 returns : tie.Need-returns
-returns c = λ r. stays-spot _ _ _ _ (c .before .before .before .is-coord .ensures) (c .before .before .if1 .taken) _ (c .before .slot-at .ensures) _ (c .is-kept .ensures)
+returns c = λ r. stays-spot _ _ _ _ (c .before .before .is-coord .ensures) (c .before .if1 .taken) _ (c .before .before .before .pre) _ (c .is-kept .ensures)
 
 is-conect-requires : tie.Need-is-conect-requires
 is-conect-requires c = search needs
@@ -41,7 +38,6 @@ stays-spec =
     tie.close
     (tie.spec
     is-coord-requires
-    slot-at-requires
     is-kept-requires
     returns
     is-conect-requires

@@ -61,7 +61,7 @@ both-of-requires : tie.Need-both-of-requires Inv-loop μ-loop
 both-of-requires c = search needs
 
 stays-requires : tie.Need-stays-requires Inv-loop μ-loop
-stays-requires c = search needs
+stays-requires c = λ κs. c .before .before .slot-at .ensures
 
 one-if-requires : tie.Need-one-if-requires Inv-loop μ-loop
 one-if-requires c = search needs

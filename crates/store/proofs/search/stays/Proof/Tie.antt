@@ -14,14 +14,11 @@ use Rattle.store.proofs.search.is_kept.Symbol as Symbol'3
 use Rattle.store.proofs.search.names_aside.Met as Met'4
 use Rattle.store.proofs.Walked.search.names_aside.Reads as Reads'4
 use Rattle.store.proofs.search.names_aside.Symbol as Symbol'4
-use Rattle.store.proofs.search.slot_at.Met as Met'5
-use Rattle.store.proofs.Walked.search.slot_at.Reads as Reads'5
-use Rattle.store.proofs.search.slot_at.Symbol as Symbol'5
 use Rattle.store.proofs.search.stays.Code
 use Rattle.store.proofs.search.stays.Key
 use Rattle.store.proofs.Walked.search.stays.Kinds
 use Rattle.store.proofs.search.stays.Proof.Lts
-use Rattle.store.proofs.Walked.search.stays.Reads as Reads'6
+use Rattle.store.proofs.Walked.search.stays.Reads as Reads'5
 use Rattle.store.proofs.search.stays.Statement
 use borrow.Fn.Run
 use borrow.Fn.Written
@@ -31,8 +28,6 @@ abbrev pub Start : Type 0
 Start = Lts.Start (
   Reads.Asked,
   Reads.Learnt,
-  Reads'5.Asked,
-  Reads'5.Learnt,
   Reads'3.Asked,
   Reads'3.Learnt,
   Reads''.Asked,
@@ -41,14 +36,12 @@ Start = Lts.Start (
   Reads'.Learnt,
   Reads'4.Asked,
   Reads'4.Learnt,
-) Reads'6.Pre Reads'6.Post
+) Reads'5.Pre Reads'5.Post
 
 abbrev pub After-is-coord : Type 0
 After-is-coord = Lts.After-is-coord (
   Reads.Asked,
   Reads.Learnt,
-  Reads'5.Asked,
-  Reads'5.Learnt,
   Reads'3.Asked,
   Reads'3.Learnt,
   Reads''.Asked,
@@ -57,14 +50,12 @@ After-is-coord = Lts.After-is-coord (
   Reads'.Learnt,
   Reads'4.Asked,
   Reads'4.Learnt,
-) Reads'6.Pre Reads'6.Post
+) Reads'5.Pre Reads'5.Post
 
 abbrev pub Then1 : Type 0
 Then1 = Lts.Then1 (
   Reads.Asked,
   Reads.Learnt,
-  Reads'5.Asked,
-  Reads'5.Learnt,
   Reads'3.Asked,
   Reads'3.Learnt,
   Reads''.Asked,
@@ -73,30 +64,12 @@ Then1 = Lts.Then1 (
   Reads'.Learnt,
   Reads'4.Asked,
   Reads'4.Learnt,
-) Reads'6.Pre Reads'6.Post
-
-abbrev pub After-slot-at : Type 0
-After-slot-at = Lts.After-slot-at (
-  Reads.Asked,
-  Reads.Learnt,
-  Reads'5.Asked,
-  Reads'5.Learnt,
-  Reads'3.Asked,
-  Reads'3.Learnt,
-  Reads''.Asked,
-  Reads''.Learnt,
-  Reads'.Asked,
-  Reads'.Learnt,
-  Reads'4.Asked,
-  Reads'4.Learnt,
-) Reads'6.Pre Reads'6.Post
+) Reads'5.Pre Reads'5.Post
 
 abbrev pub After-is-kept : Type 0
 After-is-kept = Lts.After-is-kept (
   Reads.Asked,
   Reads.Learnt,
-  Reads'5.Asked,
-  Reads'5.Learnt,
   Reads'3.Asked,
   Reads'3.Learnt,
   Reads''.Asked,
@@ -105,14 +78,12 @@ After-is-kept = Lts.After-is-kept (
   Reads'.Learnt,
   Reads'4.Asked,
   Reads'4.Learnt,
-) Reads'6.Pre Reads'6.Post
+) Reads'5.Pre Reads'5.Post
 
 abbrev pub Else1 : Type 0
 Else1 = Lts.Else1 (
   Reads.Asked,
   Reads.Learnt,
-  Reads'5.Asked,
-  Reads'5.Learnt,
   Reads'3.Asked,
   Reads'3.Learnt,
   Reads''.Asked,
@@ -121,14 +92,12 @@ Else1 = Lts.Else1 (
   Reads'.Learnt,
   Reads'4.Asked,
   Reads'4.Learnt,
-) Reads'6.Pre Reads'6.Post
+) Reads'5.Pre Reads'5.Post
 
 abbrev pub After-is-conect : Type 0
 After-is-conect = Lts.After-is-conect (
   Reads.Asked,
   Reads.Learnt,
-  Reads'5.Asked,
-  Reads'5.Learnt,
   Reads'3.Asked,
   Reads'3.Learnt,
   Reads''.Asked,
@@ -137,14 +106,12 @@ After-is-conect = Lts.After-is-conect (
   Reads'.Learnt,
   Reads'4.Asked,
   Reads'4.Learnt,
-) Reads'6.Pre Reads'6.Post
+) Reads'5.Pre Reads'5.Post
 
 abbrev pub Then2 : Type 0
 Then2 = Lts.Then2 (
   Reads.Asked,
   Reads.Learnt,
-  Reads'5.Asked,
-  Reads'5.Learnt,
   Reads'3.Asked,
   Reads'3.Learnt,
   Reads''.Asked,
@@ -153,14 +120,12 @@ Then2 = Lts.Then2 (
   Reads'.Learnt,
   Reads'4.Asked,
   Reads'4.Learnt,
-) Reads'6.Pre Reads'6.Post
+) Reads'5.Pre Reads'5.Post
 
 abbrev pub After-conect-in : Type 0
 After-conect-in = Lts.After-conect-in (
   Reads.Asked,
   Reads.Learnt,
-  Reads'5.Asked,
-  Reads'5.Learnt,
   Reads'3.Asked,
   Reads'3.Learnt,
   Reads''.Asked,
@@ -169,14 +134,12 @@ After-conect-in = Lts.After-conect-in (
   Reads'.Learnt,
   Reads'4.Asked,
   Reads'4.Learnt,
-) Reads'6.Pre Reads'6.Post
+) Reads'5.Pre Reads'5.Post
 
 abbrev pub After-names-aside : Type 0
 After-names-aside = Lts.After-names-aside (
   Reads.Asked,
   Reads.Learnt,
-  Reads'5.Asked,
-  Reads'5.Learnt,
   Reads'3.Asked,
   Reads'3.Learnt,
   Reads''.Asked,
@@ -185,14 +148,12 @@ After-names-aside = Lts.After-names-aside (
   Reads'.Learnt,
   Reads'4.Asked,
   Reads'4.Learnt,
-) Reads'6.Pre Reads'6.Post
+) Reads'5.Pre Reads'5.Post
 
 abbrev pub Else2 : Type 0
 Else2 = Lts.Else2 (
   Reads.Asked,
   Reads.Learnt,
-  Reads'5.Asked,
-  Reads'5.Learnt,
   Reads'3.Asked,
   Reads'3.Learnt,
   Reads''.Asked,
@@ -201,14 +162,12 @@ Else2 = Lts.Else2 (
   Reads'.Learnt,
   Reads'4.Asked,
   Reads'4.Learnt,
-) Reads'6.Pre Reads'6.Post
+) Reads'5.Pre Reads'5.Post
 
 abbrev pub Need-is-coord-requires : Type 0
 Need-is-coord-requires = Lts.Need-is-coord-requires (
   Reads.Asked,
   Reads.Learnt,
-  Reads'5.Asked,
-  Reads'5.Learnt,
   Reads'3.Asked,
   Reads'3.Learnt,
   Reads''.Asked,
@@ -217,30 +176,12 @@ Need-is-coord-requires = Lts.Need-is-coord-requires (
   Reads'.Learnt,
   Reads'4.Asked,
   Reads'4.Learnt,
-) Reads'6.Pre Reads'6.Post
-
-abbrev pub Need-slot-at-requires : Type 0
-Need-slot-at-requires = Lts.Need-slot-at-requires (
-  Reads.Asked,
-  Reads.Learnt,
-  Reads'5.Asked,
-  Reads'5.Learnt,
-  Reads'3.Asked,
-  Reads'3.Learnt,
-  Reads''.Asked,
-  Reads''.Learnt,
-  Reads'.Asked,
-  Reads'.Learnt,
-  Reads'4.Asked,
-  Reads'4.Learnt,
-) Reads'6.Pre Reads'6.Post
+) Reads'5.Pre Reads'5.Post
 
 abbrev pub Need-is-kept-requires : Type 0
 Need-is-kept-requires = Lts.Need-is-kept-requires (
   Reads.Asked,
   Reads.Learnt,
-  Reads'5.Asked,
-  Reads'5.Learnt,
   Reads'3.Asked,
   Reads'3.Learnt,
   Reads''.Asked,
@@ -249,14 +190,12 @@ Need-is-kept-requires = Lts.Need-is-kept-requires (
   Reads'.Learnt,
   Reads'4.Asked,
   Reads'4.Learnt,
-) Reads'6.Pre Reads'6.Post
+) Reads'5.Pre Reads'5.Post
 
 abbrev pub Need-returns : Type 0
 Need-returns = Lts.Need-returns (
   Reads.Asked,
   Reads.Learnt,
-  Reads'5.Asked,
-  Reads'5.Learnt,
   Reads'3.Asked,
   Reads'3.Learnt,
   Reads''.Asked,
@@ -265,14 +204,12 @@ Need-returns = Lts.Need-returns (
   Reads'.Learnt,
   Reads'4.Asked,
   Reads'4.Learnt,
-) Reads'6.Pre Reads'6.Post
+) Reads'5.Pre Reads'5.Post
 
 abbrev pub Need-is-conect-requires : Type 0
 Need-is-conect-requires = Lts.Need-is-conect-requires (
   Reads.Asked,
   Reads.Learnt,
-  Reads'5.Asked,
-  Reads'5.Learnt,
   Reads'3.Asked,
   Reads'3.Learnt,
   Reads''.Asked,
@@ -281,14 +218,12 @@ Need-is-conect-requires = Lts.Need-is-conect-requires (
   Reads'.Learnt,
   Reads'4.Asked,
   Reads'4.Learnt,
-) Reads'6.Pre Reads'6.Post
+) Reads'5.Pre Reads'5.Post
 
 abbrev pub Need-conect-in-requires : Type 0
 Need-conect-in-requires = Lts.Need-conect-in-requires (
   Reads.Asked,
   Reads.Learnt,
-  Reads'5.Asked,
-  Reads'5.Learnt,
   Reads'3.Asked,
   Reads'3.Learnt,
   Reads''.Asked,
@@ -297,14 +232,12 @@ Need-conect-in-requires = Lts.Need-conect-in-requires (
   Reads'.Learnt,
   Reads'4.Asked,
   Reads'4.Learnt,
-) Reads'6.Pre Reads'6.Post
+) Reads'5.Pre Reads'5.Post
 
 abbrev pub Need-names-aside-requires : Type 0
 Need-names-aside-requires = Lts.Need-names-aside-requires (
   Reads.Asked,
   Reads.Learnt,
-  Reads'5.Asked,
-  Reads'5.Learnt,
   Reads'3.Asked,
   Reads'3.Learnt,
   Reads''.Asked,
@@ -313,14 +246,12 @@ Need-names-aside-requires = Lts.Need-names-aside-requires (
   Reads'.Learnt,
   Reads'4.Asked,
   Reads'4.Learnt,
-) Reads'6.Pre Reads'6.Post
+) Reads'5.Pre Reads'5.Post
 
 abbrev pub Need-returns-2 : Type 0
 Need-returns-2 = Lts.Need-returns-2 (
   Reads.Asked,
   Reads.Learnt,
-  Reads'5.Asked,
-  Reads'5.Learnt,
   Reads'3.Asked,
   Reads'3.Learnt,
   Reads''.Asked,
@@ -329,14 +260,12 @@ Need-returns-2 = Lts.Need-returns-2 (
   Reads'.Learnt,
   Reads'4.Asked,
   Reads'4.Learnt,
-) Reads'6.Pre Reads'6.Post
+) Reads'5.Pre Reads'5.Post
 
 abbrev pub Need-returns-3 : Type 0
 Need-returns-3 = Lts.Need-returns-3 (
   Reads.Asked,
   Reads.Learnt,
-  Reads'5.Asked,
-  Reads'5.Learnt,
   Reads'3.Asked,
   Reads'3.Learnt,
   Reads''.Asked,
@@ -345,16 +274,13 @@ Need-returns-3 = Lts.Need-returns-3 (
   Reads'.Learnt,
   Reads'4.Asked,
   Reads'4.Learnt,
-) Reads'6.Pre Reads'6.Post
+) Reads'5.Pre Reads'5.Post
 
 module _ {M : Type 1} where
-  pub spec : (answer : Need-is-coord-requires) → (answer : Need-slot-at-requires) → (answer : Need-is-kept-requires) → (answer : Need-returns) → (answer :
-      Need-is-conect-requires) → (answer : Need-conect-in-requires) → (answer : Need-names-aside-requires) → (answer : Need-returns-2) → (answer :
-      Need-returns-3) → Lts.Closed (
+  pub spec : (answer : Need-is-coord-requires) → (answer : Need-is-kept-requires) → (answer : Need-returns) → (answer : Need-is-conect-requires) → (answer :
+      Need-conect-in-requires) → (answer : Need-names-aside-requires) → (answer : Need-returns-2) → (answer : Need-returns-3) → Lts.Closed (
         Reads.Asked,
         Reads.Learnt,
-        Reads'5.Asked,
-        Reads'5.Learnt,
         Reads'3.Asked,
         Reads'3.Learnt,
         Reads''.Asked,
@@ -363,12 +289,11 @@ module _ {M : Type 1} where
         Reads'.Learnt,
         Reads'4.Asked,
         Reads'4.Learnt,
-      ) Reads'6.Pre Reads'6.Post M
-  spec = λ answer answer' answer'' answer'3 answer'4 answer'5 answer'6 answer'7 answer'8. Lts.spec (
+      ) Reads'5.Pre
+      Reads'5.Post M
+  spec = λ answer answer' answer'' answer'3 answer'4 answer'5 answer'6 answer'7. Lts.spec (
     Reads.Asked,
     Reads.Learnt,
-    Reads'5.Asked,
-    Reads'5.Learnt,
     Reads'3.Asked,
     Reads'3.Learnt,
     Reads''.Asked,
@@ -377,14 +302,12 @@ module _ {M : Type 1} where
     Reads'.Learnt,
     Reads'4.Asked,
     Reads'4.Learnt,
-  ) Reads'6.Pre Reads'6.Post answer
-      answer' answer'' answer'3 answer'4 answer'5 answer'6 answer'7 answer'8
+  ) Reads'5.Pre Reads'5.Post answer answer' answer'' answer'3
+      answer'4 answer'5 answer'6 answer'7
 
   pub close : Lts.Closed (
     Reads.Asked,
     Reads.Learnt,
-    Reads'5.Asked,
-    Reads'5.Learnt,
     Reads'3.Asked,
     Reads'3.Learnt,
     Reads''.Asked,
@@ -393,29 +316,20 @@ module _ {M : Type 1} where
     Reads'.Learnt,
     Reads'4.Asked,
     Reads'4.Learnt,
-  ) Reads'6.Pre Reads'6.Post M → Statement.statement M
+  ) Reads'5.Pre Reads'5.Post M → Statement.statement M
   unfolding Code.routine Running.tablesOf
-  close = λ closed 𝓤 H 𝓜 𝓖 𝓡. Written.close 1 Kinds.ps Kinds.r Reads'6.Ghost Reads'6.requires Reads'6.ensures Reads'6.pre-read Reads'6.Pinned Reads'6.Owned
-      Reads'6.post-read record { M = M; 𝓤 = 𝓤; H = H; 𝓜 = 𝓜; 𝓖 = 𝓖; 𝓡 = 𝓡 } Code.env Key.name Code.function (Code.unfolded 𝓤 H 𝓜 𝓡) (λ κs a g. tt) (λ κs.
-      Reads'6.owns κs record { M = M; 𝓤 = 𝓤; H = H; 𝓜 = 𝓜; 𝓖 = 𝓖; 𝓡 = 𝓡 }) (Reads'6.passes record { M = M; 𝓤 = 𝓤; H = H; 𝓜 = 𝓜; 𝓖 = 𝓖; 𝓡 = 𝓡 }) λ g. closed 𝓤 H
+  close = λ closed 𝓤 H 𝓜 𝓖 𝓡. Written.close 1 Kinds.ps Kinds.r Reads'5.Ghost Reads'5.requires Reads'5.ensures Reads'5.pre-read Reads'5.Pinned Reads'5.Owned
+      Reads'5.post-read record { M = M; 𝓤 = 𝓤; H = H; 𝓜 = 𝓜; 𝓖 = 𝓖; 𝓡 = 𝓡 } Code.env Key.name Code.function (Code.unfolded 𝓤 H 𝓜 𝓡) (λ κs a g. tt) (λ κs.
+      Reads'5.owns κs record { M = M; 𝓤 = 𝓤; H = H; 𝓜 = 𝓜; 𝓖 = 𝓖; 𝓡 = 𝓡 }) (Reads'5.passes record { M = M; 𝓤 = 𝓤; H = H; 𝓜 = 𝓜; 𝓖 = 𝓖; 𝓡 = 𝓡 }) λ g. closed 𝓤 H
       (𝓖 .A) (Running.givenOf 𝓤 H 𝓜 𝓖) (Run.Over 𝓤 H 𝓜 𝓖 𝓡 Code.env) (Reads.known record { M = M; 𝓤 = 𝓤; H = H; 𝓜 = 𝓜; 𝓖 = 𝓖; 𝓡 = 𝓡 } Code.env Symbol.name
-      Symbol.routine Code.calls-gate·is-coord (Met.met 𝓤 H 𝓜 𝓖 𝓡)) (Reads'5.known record { M = M; 𝓤 = 𝓤; H = H; 𝓜 = 𝓜; 𝓖 = 𝓖; 𝓡 = 𝓡 } Code.env Symbol'5.name
-      Symbol'5.routine Code.calls-store·search·slot-at (Met'5.met 𝓤 H 𝓜 𝓖 𝓡)) (Reads'3.known record { M = M; 𝓤 = 𝓤; H = H; 𝓜 = 𝓜; 𝓖 = 𝓖; 𝓡 = 𝓡 } Code.env
-      Symbol'3.name Symbol'3.routine Code.calls-store·search·is-kept (Met'3.met 𝓤 H 𝓜 𝓖 𝓡)) (Reads''.known record { M = M; 𝓤 = 𝓤; H = H; 𝓜 = 𝓜; 𝓖 = 𝓖; 𝓡 = 𝓡 }
-      Code.env Symbol''.name Symbol''.routine Code.calls-store·search·is-conect (Met''.met 𝓤 H 𝓜 𝓖 𝓡)) (Reads'.known record {
+      Symbol.routine Code.calls-gate·is-coord (Met.met 𝓤 H 𝓜 𝓖 𝓡)) (Reads'3.known record { M = M; 𝓤 = 𝓤; H = H; 𝓜 = 𝓜; 𝓖 = 𝓖; 𝓡 = 𝓡 } Code.env Symbol'3.name
+      Symbol'3.routine Code.calls-store·search·is-kept (Met'3.met 𝓤 H 𝓜 𝓖 𝓡)) (Reads''.known record { M = M; 𝓤 = 𝓤; H = H; 𝓜 = 𝓜; 𝓖 = 𝓖; 𝓡 = 𝓡 } Code.env
+      Symbol''.name Symbol''.routine Code.calls-store·search·is-conect (Met''.met 𝓤 H 𝓜 𝓖 𝓡)) (Reads'.known record { M = M; 𝓤 = 𝓤; H = H; 𝓜 = 𝓜; 𝓖 = 𝓖; 𝓡 = 𝓡 }
+      Code.env Symbol'.name Symbol'.routine Code.calls-store·search·conect-in (Met'.met 𝓤 H 𝓜 𝓖 𝓡)) (Reads'4.known record {
         M = M;
         𝓤 = 𝓤;
         H = H;
         𝓜 = 𝓜;
-        𝓖 =
-            𝓖;
-        𝓡 = 𝓡;
-      } Code.env Symbol'.name Symbol'.routine Code.calls-store·search·conect-in (Met'.met 𝓤 H 𝓜 𝓖 𝓡)) (Reads'4.known record {
-        M = M;
-        𝓤 = 𝓤;
-        H = H;
-        𝓜 =
-            𝓜;
         𝓖 = 𝓖;
         𝓡 = 𝓡;
       } Code.env Symbol'4.name Symbol'4.routine Code.calls-store·search·names-aside (Met'4.met 𝓤 H 𝓜 𝓖 𝓡))

@@ -501,23 +501,23 @@ abbrev pub r·8 : Kinds.RK 0
 r·8 = Bool.rBool
 
 abbrev pub ps·9 : List.List (Kinds.PK 1)
-ps·9 = ShrSlice.pShrS SlotAs.row 0 tt ∷ Num.pNum Syntax.w64 ∷ (Value.pVal record {
+ps·9 = ShrSlice.pShrS SlotAs.row 0 tt ∷ Num.pNum Syntax.w64 ∷ SlotAs.param ∷ (Value.pVal record {
   ty = Declared.row Line.the-type;
   one = Path'.refl;
-  val = Laws'5.val
-      Line.the-type Laws''.the-laws;
+  val =
+      Laws'5.val Line.the-type Laws''.the-laws;
   tells = Laws'5.tells Line.the-type Laws''.the-laws;
   still = Laws'5.still Line.the-type Laws''.the-copy Exit.yes;
-  row =
-      Rows'.whole (Declared.row Line.the-type);
+  row = Rows'.whole (Declared.row Line.the-type);
   rd = λ x. x;
   mk = λ x. x;
 } λ M 𝓤 H A W. record {
-  copies = Laws'5.copy Line.the-type Laws''.the-copy 𝓤 H A W;
+  copies = Laws'5.copy Line.the-type Laws''.the-copy 𝓤 H A
+      W;
   lawful = Laws'5.lawful Line.the-type Laws''.the-laws 𝓤 H A W tt;
   makes = Laws'5.makes Line.the-type Laws''.the-plain 𝓤 H A;
-  in-mem = Local.mem-whole 𝓤 H A
-      W (Declared.row Line.the-type);
+  in-mem = Local.mem-whole 𝓤 H
+      A W (Declared.row Line.the-type);
   of-mem = Local.whole-mem 𝓤 H A W (Declared.row Line.the-type);
 }) ∷ []
 
@@ -687,8 +687,8 @@ abbrev b25 : Syntax.Body
 b25 = Syntax.call "ascii::both_of" (Syntax.copy (Syntax.place 7 []) ∷ Syntax.copy (Syntax.place 13 []) ∷ []) (Syntax.place 7 [])
 
 abbrev b26 : Syntax.Body
-b26 = Syntax.call "store::search::stays" (Syntax.copy (Syntax.place 2 []) ∷ Syntax.copy (Syntax.place 6 []) ∷ Syntax.copy (Syntax.place 9 []) ∷
-    []) (Syntax.place 14 [])
+b26 = Syntax.call "store::search::stays" (Syntax.copy (Syntax.place 2 []) ∷ Syntax.copy (Syntax.place 6 []) ∷ Syntax.copy (Syntax.place 12 []) ∷
+    Syntax.copy (Syntax.place 9 []) ∷ []) (Syntax.place 14 [])
 
 abbrev b27 : Syntax.Body
 b27 = Syntax.call "store::survey::one_if" (Syntax.copy (Syntax.place 14 []) ∷ []) (Syntax.place 16 [])
@@ -3506,13 +3506,14 @@ t31 = (
       Syntax.w64),
 ) ∷ (4, Rows'.whole (Declared'.row State.the-type)) ∷ (5, Rows'.whole (Declared'.row Span.the-type)) ∷ (6, Rows'.sc-here (Row.sInt Syntax.w64))
     ∷ (7, Rows'.sc-here Row.sBool) ∷ (8, Rows'.sc-here (Row.sInt Syntax.w64)) ∷ (9, Rows'.whole (Declared.row Line.the-type)) ∷ (10, Rows'.sc-here Row.sBool) ∷
-    (11, Rows'.sc-here (Row.sInt Syntax.w8)) ∷ (12, Rows'.any-gone SlotAs.ty) ∷ (13, Rows'.sc-here Row.sBool) ∷ (14, Rows'.any-gone Syntax.tyBool) ∷ (
+    (11, Rows'.sc-here (Row.sInt Syntax.w8)) ∷ (12, SlotAs.whole) ∷ (13, Rows'.sc-here Row.sBool) ∷ (14, Rows'.sc-here Row.sBool) ∷ (
       15,
-      Rows'.any-gone (Syntax.tyStruct (103 ∷ 97 ∷ 116 ∷ 101 ∷ 58 ∷ 58 ∷ 86 ∷ 101 ∷ 114 ∷ 100 ∷ 105 ∷ 99 ∷ 116 ∷ []) (Syntax.tcons (Syntax.tyInt Syntax.w8)
-          (Syntax.tcons (Syntax.tyInt Syntax.w64) (Syntax.tcons (Syntax.tyInt Syntax.w64) (Syntax.tcons (Syntax.tyStruct (114 ∷ 117 ∷ 108 ∷ 101 ∷ 115 ∷ 58 ∷ 58 ∷ 67
-          ∷ 111 ∷ 117 ∷ 110 ∷ 116 ∷ 115 ∷ []) (Syntax.tcons (Syntax.tyInt Syntax.w64) (Syntax.tcons (Syntax.tyInt Syntax.w64) (Syntax.tcons (Syntax.tyInt Syntax.w64)
-          (Syntax.tcons (Syntax.tyInt Syntax.w64) (Syntax.tcons (Syntax.tyInt Syntax.w64) (Syntax.tcons (Syntax.tyInt Syntax.w64) (Syntax.tcons (Syntax.tyInt
-          Syntax.w64) (Syntax.tcons (Syntax.tyInt Syntax.w64) (Syntax.tcons (Syntax.tyInt Syntax.w64) Syntax.tnil)))))))))) Syntax.tnil))))),
+      Rows'.any-gone
+          (Syntax.tyStruct (103 ∷ 97 ∷ 116 ∷ 101 ∷ 58 ∷ 58 ∷ 86 ∷ 101 ∷ 114 ∷ 100 ∷ 105 ∷ 99 ∷ 116 ∷ []) (Syntax.tcons (Syntax.tyInt Syntax.w8) (Syntax.tcons
+          (Syntax.tyInt Syntax.w64) (Syntax.tcons (Syntax.tyInt Syntax.w64) (Syntax.tcons (Syntax.tyStruct (114 ∷ 117 ∷ 108 ∷ 101 ∷ 115 ∷ 58 ∷ 58 ∷ 67 ∷ 111 ∷ 117 ∷
+          110 ∷ 116 ∷ 115 ∷ []) (Syntax.tcons (Syntax.tyInt Syntax.w64) (Syntax.tcons (Syntax.tyInt Syntax.w64) (Syntax.tcons (Syntax.tyInt Syntax.w64) (Syntax.tcons
+          (Syntax.tyInt Syntax.w64) (Syntax.tcons (Syntax.tyInt Syntax.w64) (Syntax.tcons (Syntax.tyInt Syntax.w64) (Syntax.tcons (Syntax.tyInt Syntax.w64)
+          (Syntax.tcons (Syntax.tyInt Syntax.w64) (Syntax.tcons (Syntax.tyInt Syntax.w64) Syntax.tnil)))))))))) Syntax.tnil))))),
     ) ∷ []
 
 abbrev pub t32 : List.List Row.Entry
@@ -5067,7 +5068,7 @@ abbrev pub T41 : Row.Cx
 T41 = record { locals = List._++_ t30 t1; slots = [] }
 
 abbrev pub T42 : Row.Cx
-T42 = record { locals = List._++_ t31 t1; slots = [] }
+T42 = record { locals = List._++_ t30 t1; slots = [] }
 
 abbrev pub T43 : Row.Cx
 T43 = record { locals = List._++_ t31 t1; slots = [] }
@@ -5588,17 +5589,18 @@ module _ (claims· : Claims) where
     ),
   ) 13 [] Syntax.tyBool
 
-  abbrev s37 : Typed.Mo T41 → Typed.Mo T42
-  s37 = Scalar.n-room T41 12 SlotAs.ty
+  abbrev s37 : Typed.Both T41 T42
+  s37 = Call.callB ps·8 r·8 (claims· .16) (claims· .17) T41 (Bool.bAt 7 λ x. x, (Bool.bAt 13 λ x. x, tt)) 7 [] Syntax.tyBool
 
   abbrev s38 : Typed.Both T42 T43
-  s38 = Call.callB ps·8 r·8 (claims· .16) (claims· .17) T42 (Bool.bAt 7 λ x. x, (Bool.bAt 13 λ x. x, tt)) 7 [] Syntax.tyBool
-
-  abbrev s39 : Typed.Both T43 T44
-  s39 = Call.callB ps·9 r·9 (claims· .18) (claims· .19) T43 (
+  s38 = Call.callB ps·9 r·9 (claims· .18) (claims· .19) T42 (
     record { pos = 2; ty = Syntax.tyRef (Syntax.named 1) Syntax.imm SlotAs.pointee; ref = λ x. x },
-    (Num.vAt 6 λ x. x, (record { pos = 9; st = []; d = 0; at = λ x. x }, tt)),
-  ) 14 (1 ∷ []) Syntax.tyBool
+    (Num.vAt 6 λ x. x, (record { pos = 12; st = []; d = 0; at = λ x. x }, (record { pos = 9; st = []; d = 0; at = λ x. x }, tt))),
+  ) 14 (1 ∷ [])
+      Syntax.tyBool
+
+  abbrev s39 : Typed.Mo T43 → Typed.Mo T44
+  s39 = Scalar.n-room T43 12 SlotAs.ty
 
   abbrev s40 : Typed.Both T44 T45
   s40 = Call.callB ps·10 r·10 (claims· .20) (claims· .21) T44 (Bool.bAt 14 λ x. x, tt) 16 [] (Syntax.tyInt Syntax.w64)
@@ -5909,13 +5911,13 @@ module _ (claims· : Claims) where
         at31 = λ Ψ. Typed.both s40 (at30 Ψ)
 
         abbrev at32 : Typed.TF T43 O3
-        at32 = λ Ψ. Typed.both s39 (at31 Ψ)
+        at32 = λ Ψ. Typed.pass T43 T44 s39 (at31 Ψ)
 
         abbrev at33 : Typed.TF T42 O3
         at33 = λ Ψ. Typed.both s38 (at32 Ψ)
 
         abbrev at34 : Typed.TF T41 O3
-        at34 = λ Ψ. Typed.pass T41 T42 s37 (at33 Ψ)
+        at34 = λ Ψ. Typed.both s37 (at33 Ψ)
 
         abbrev at35 : Typed.TF T40 O3
         at35 = λ Ψ. Typed.both s36 (at34 Ψ)
@@ -6165,7 +6167,7 @@ module _ (claims· : Claims) where
           G41 = record { locals = List._++_ t30 t1; slots = Row.lease (κs .0) (qs .0) ∷ Row.lease (κs .1 .0) (qs .1 .0) ∷ [] }
 
           abbrev G42 : Row.Cx
-          G42 = record { locals = List._++_ t31 t1; slots = Row.lease (κs .0) (qs .0) ∷ Row.lease (κs .1 .0) (qs .1 .0) ∷ [] }
+          G42 = record { locals = List._++_ t30 t1; slots = Row.lease (κs .0) (qs .0) ∷ Row.lease (κs .1 .0) (qs .1 .0) ∷ [] }
 
           abbrev G43 : Row.Cx
           G43 = record { locals = List._++_ t31 t1; slots = Row.lease (κs .0) (qs .0) ∷ Row.lease (κs .1 .0) (qs .1 .0) ∷ [] }
@@ -6861,44 +6863,51 @@ module _ (claims· : Claims) where
                   tt,
                 ) (Reads'.room-gone 𝓤 H A (Syntax.tyInt Syntax.w64)) tt Path'.refl) d30
 
-            d32 : Typed.Typed 𝓤 H A 𝓣 E G43 b36 Δ3 at32
-            d32 = Typed.s-seq 𝓤 H A W 𝓣 E G43 G44 b26 b35 Δ3 (Typed.both s39) at31 (Plain.t-call-plain 𝓤 H A W 𝓣 1 ps·9 r·9 (claims· .18) (claims· .19)
-                "store::search::stays" (known .9) E (λ pos β. β) G43 (
+            d32 : Typed.Typed 𝓤 H A 𝓣 E G43 b35 Δ3 at32
+            d32 = Typed.g-pre 𝓤 H A W 𝓣 E G43 G44 b35 Δ3 (Typed.pass T43 T44 s39) at31 (Scalar.g-room 𝓤 H A W E G43 12 SlotAs.ty (SlotAs.room 𝓤 H A W)) d31
+
+            d33 : Typed.Typed 𝓤 H A 𝓣 E G42 b36 Δ3 at33
+            d33 = Typed.s-seq 𝓤 H A W 𝓣 E G42 G43 b26 b35 Δ3 (Typed.both s38) at32 (Plain.t-call-plain 𝓤 H A W 𝓣 1 ps·9 r·9 (claims· .18) (claims· .19)
+                "store::search::stays" (known .9) E (λ pos β. β) G42 (
                   record {
                     pos = 2;
                     ty = Syntax.tyRef (Syntax.named 1) Syntax.imm SlotAs.pointee;
                     ref = λ x.
                         x;
                   },
-                  (Num.vAt 6 λ x. x, (record { pos = 9; st = []; d = 0; at = λ x. x }, tt)),
-                ) 14 (1 ∷ []) (Call.sub-id 𝓤 H A W (G43 .slots)) (
-                  ShrSlice.spares-sslice 𝓤 H A W SlotAs.row (Syntax.tyRef (Syntax.named 1) Syntax.imm SlotAs.pointee) 1,
-                  Shared.reads-sslice 𝓤 H A W SlotAs.row
-                      (Syntax.tyRef (Syntax.named 1) Syntax.imm SlotAs.pointee) 1,
+                  (Num.vAt 6 λ x. x, (record { pos = 12; st = []; d = 0; at = λ x. x }, (record { pos = 9; st = []; d = 0; at = λ x. x }, tt))),
+                ) 14
+                (1 ∷ []) (Call.sub-id 𝓤 H A W (G42 .slots)) (
+                  ShrSlice.spares-sslice 𝓤 H A W SlotAs.row (Syntax.tyRef (Syntax.named 1) Syntax.imm SlotAs.pointee)
+                      1,
+                  Shared.reads-sslice 𝓤 H A W SlotAs.row (Syntax.tyRef (Syntax.named 1) Syntax.imm SlotAs.pointee) 1,
                   Path'.refl,
                   (
-                    (Scalar.reads-sc 𝓤 H A W (Row.sInt Syntax.w64), Path'.refl),
                     (
+                      Scalar.reads-sc 𝓤 H A W
+                          (Row.sInt Syntax.w64),
+                      Path'.refl,
+                    ),
+                    (
+                      (SlotAs.yields 𝓤 H A W, Path'.refl),
                       (
-                        Yields.yields-copy 𝓤 H A W (λ ρ. Unit) (Declared.row Line.the-type) Path'.refl (Copies.cEnum Line.the-type Laws''.the-laws Laws''.the-copy
-                            .copy 𝓤 H A W) (Rows'.whole (Declared.row Line.the-type)) (λ x. x) (λ x. x) (λ ρ told. Local.mem-whole 𝓤 H A W (Declared.row Line.the-type) ρ) λ
-                            ρ told. Local.whole-mem 𝓤 H A W (Declared.row Line.the-type) ρ,
-                        Path'.refl,
+                        (
+                          Yields.yields-copy 𝓤 H A W (λ ρ. Unit) (Declared.row Line.the-type)
+                              Path'.refl (Copies.cEnum Line.the-type Laws''.the-laws Laws''.the-copy .copy 𝓤 H A W) (Rows'.whole (Declared.row Line.the-type)) (λ x. x) (λ x.
+                              x) (λ ρ told. Local.mem-whole 𝓤 H A W (Declared.row Line.the-type) ρ) λ ρ told. Local.whole-mem 𝓤 H A W (Declared.row Line.the-type) ρ,
+                          Path'.refl,
+                        ),
+                        tt,
                       ),
-                      tt,
                     ),
                   ),
-                ) (Reads'.room-gone 𝓤 H A Syntax.tyBool) (tt, tt) Path'.refl)
-                d31
-
-            d33 : Typed.Typed 𝓤 H A 𝓣 E G42 b37 Δ3 at33
-            d33 = Typed.s-seq 𝓤 H A W 𝓣 E G42 G43 b25 b36 Δ3 (Typed.both s38) at32 (Plain.t-call-plain 𝓤 H A W 𝓣 0 ps·8 r·8 (claims· .16) (claims· .17)
-                "ascii::both_of" (known .8) E (λ pos β. β) G42 (Bool.bAt 7 λ x. x, (Bool.bAt 13 λ x. x, tt)) 7 [] (Call.sub-id 𝓤 H A W (G42 .slots))
-                ((Scalar.reads-sc 𝓤 H A W Row.sBool, Path'.refl), ((Scalar.reads-sc 𝓤 H A W Row.sBool, Path'.refl), tt)) (Scalar.room-sc 𝓤 H A W Row.sBool) tt
-                Path'.refl) d32
+                ) (Reads'.room-gone 𝓤 H A Syntax.tyBool) (tt, tt) Path'.refl) d32
 
             d34 : Typed.Typed 𝓤 H A 𝓣 E G41 b37 Δ3 at34
-            d34 = Typed.g-pre 𝓤 H A W 𝓣 E G41 G42 b37 Δ3 (Typed.pass T41 T42 s37) at33 (Scalar.g-room 𝓤 H A W E G41 12 SlotAs.ty (SlotAs.room 𝓤 H A W)) d33
+            d34 = Typed.s-seq 𝓤 H A W 𝓣 E G41 G42 b25 b36 Δ3 (Typed.both s37) at33 (Plain.t-call-plain 𝓤 H A W 𝓣 0 ps·8 r·8 (claims· .16) (claims· .17)
+                "ascii::both_of" (known .8) E (λ pos β. β) G41 (Bool.bAt 7 λ x. x, (Bool.bAt 13 λ x. x, tt)) 7 [] (Call.sub-id 𝓤 H A W (G41 .slots))
+                ((Scalar.reads-sc 𝓤 H A W Row.sBool, Path'.refl), ((Scalar.reads-sc 𝓤 H A W Row.sBool, Path'.refl), tt)) (Scalar.room-sc 𝓤 H A W Row.sBool) tt
+                Path'.refl) d33
 
             d35 : Typed.Typed 𝓤 H A 𝓣 E G40 b38 Δ3 at35
             d35 = Typed.s-seq 𝓤 H A W 𝓣 E G40 G41 b24 b37 Δ3 (Typed.both s36) at34 (Plain.t-call-plain 𝓤 H A W 𝓣 0 ps·7 r·7 (claims· .14) (claims· .15)
@@ -8045,61 +8054,62 @@ module _ (claims· : Claims) where
           ),
         ) (m37 (c .before .before) (After-slot-at·gave (c .before))) (c .fits2)
 
-        abbrev pub m39 : (before : After-slot-at) → (given : s36 .gives (m37 (before .before) (After-slot-at·gave before))) → Typed.Mo T42
-        m39 = λ before given. s37 (m38 before given)
-
         abbrev pub Need-both-of-requires : Type 0
-        Need-both-of-requires = (c : After-fits2) → s38 .asks (m39 (c .before) (After-fits2·gave c))
+        Need-both-of-requires = (c : After-fits2) → s37 .asks (m38 (c .before) (After-fits2·gave c))
 
-        abbrev pub m40 : (before : After-fits2) → (given : s38 .gives (m39 (before .before) (After-fits2·gave before))) → Typed.Mo T43
-        m40 = λ before given. s38 .next (m39 (before .before) (After-fits2·gave before)) given
+        abbrev pub m39 : (before : After-fits2) → (given : s37 .gives (m38 (before .before) (After-fits2·gave before))) → Typed.Mo T42
+        m39 = λ before given. s37 .next (m38 (before .before) (After-fits2·gave before)) given
 
         module _ (before· : After-fits2) where
           abbrev pub After-both-of·own : Type 0
-          After-both-of·own = Called.Called ps·8 r·8 (claims· .17) T42 (Bool.bAt 7 λ x. x, (Bool.bAt 13 λ x. x, tt)) (m39 (before· .before) (After-fits2·gave
+          After-both-of·own = Called.Called ps·8 r·8 (claims· .17) T41 (Bool.bAt 7 λ x. x, (Bool.bAt 13 λ x. x, tt)) (m38 (before· .before) (After-fits2·gave
               before·))
 
         pub record After-both-of : Type 0 where
           pub before : After-fits2
           pub both-of : After-both-of·own before
 
-        abbrev pub After-both-of·gave : (c : After-both-of) → s38 .gives (m39 (c .before .before) (After-fits2·gave (c .before)))
-        After-both-of·gave = λ c. Called.given ps·8 r·8 (claims· .17) T42 (Bool.bAt 7 λ x. x, (Bool.bAt 13 λ x. x, tt)) (m39 (c .before .before)
+        abbrev pub After-both-of·gave : (c : After-both-of) → s37 .gives (m38 (c .before .before) (After-fits2·gave (c .before)))
+        After-both-of·gave = λ c. Called.given ps·8 r·8 (claims· .17) T41 (Bool.bAt 7 λ x. x, (Bool.bAt 13 λ x. x, tt)) (m38 (c .before .before)
             (After-fits2·gave (c .before))) (c .both-of)
 
         abbrev pub Need-stays-requires : Type 0
-        Need-stays-requires = (c : After-both-of) → s39 .asks (m40 (c .before) (After-both-of·gave c))
+        Need-stays-requires = (c : After-both-of) → s38 .asks (m39 (c .before) (After-both-of·gave c))
 
-        abbrev pub m41 : (before : After-both-of) → (given : s39 .gives (m40 (before .before) (After-both-of·gave before))) → Typed.Mo T44
-        m41 = λ before given. s39 .next (m40 (before .before) (After-both-of·gave before)) given
+        abbrev pub m40 : (before : After-both-of) → (given : s38 .gives (m39 (before .before) (After-both-of·gave before))) → Typed.Mo T43
+        m40 = λ before given. s38 .next (m39 (before .before) (After-both-of·gave before)) given
 
         module _ (before· : After-both-of) where
           abbrev pub After-stays·own : Type 0
-          After-stays·own = Called.Called ps·9 r·9 (claims· .19) T43 (
+          After-stays·own = Called.Called ps·9 r·9 (claims· .19) T42 (
             record {
               pos = 2;
               ty = Syntax.tyRef (Syntax.named 1) Syntax.imm SlotAs.pointee;
               ref = λ x.
                   x;
             },
-            (Num.vAt 6 λ x. x, (record { pos = 9; st = []; d = 0; at = λ x. x }, tt)),
-          ) (m40 (before· .before) (After-both-of·gave before·))
+            (Num.vAt 6 λ x. x, (record { pos = 12; st = []; d = 0; at = λ x. x }, (record { pos = 9; st = []; d = 0; at = λ x. x }, tt))),
+          ) (m39
+              (before· .before) (After-both-of·gave before·))
 
         pub record After-stays : Type 0 where
           pub before : After-both-of
           pub stays : After-stays·own before
 
-        abbrev pub After-stays·gave : (c : After-stays) → s39 .gives (m40 (c .before .before) (After-both-of·gave (c .before)))
-        After-stays·gave = λ c. Called.given ps·9 r·9 (claims· .19) T43 (
+        abbrev pub After-stays·gave : (c : After-stays) → s38 .gives (m39 (c .before .before) (After-both-of·gave (c .before)))
+        After-stays·gave = λ c. Called.given ps·9 r·9 (claims· .19) T42 (
           record {
             pos = 2;
             ty = Syntax.tyRef (Syntax.named 1) Syntax.imm SlotAs.pointee;
             ref = λ
                 x. x;
           },
-          (Num.vAt 6 λ x. x, (record { pos = 9; st = []; d = 0; at = λ x. x }, tt)),
-        ) (m40 (c .before .before) (After-both-of·gave (c .before)))
-            (c .stays)
+          (Num.vAt 6 λ x. x, (record { pos = 12; st = []; d = 0; at = λ x. x }, (record { pos = 9; st = []; d = 0; at = λ x. x }, tt))),
+        )
+            (m39 (c .before .before) (After-both-of·gave (c .before))) (c .stays)
+
+        abbrev pub m41 : (before : After-both-of) → (given : s38 .gives (m39 (before .before) (After-both-of·gave before))) → Typed.Mo T44
+        m41 = λ before given. s39 (m40 before given)
 
         abbrev pub Need-one-if-requires : Type 0
         Need-one-if-requires = (c : After-stays) → s40 .asks (m41 (c .before) (After-stays·gave c))
@@ -8414,12 +8424,12 @@ module _ (claims· : Claims) where
             ),
           )
 
-          lay16 : (c : After-stays) → at31 (W3 (c .before .before .before .before .before .before .before .before .before .before .before .before) (c .before
+          lay16 : (c : After-stays) → at32 (W3 (c .before .before .before .before .before .before .before .before .before .before .before .before) (c .before
               .before .before .before .before .before .before .before .before .before .before .loop .i) (c .before .before .before .before .before .before
               .before .before .before .before .before .loop .s) (c .before .before .before .before .before .before .before .before .before .before .before .loop
               .b) (c .before .before .before .before .before .before .before .before .before .before .before .loop .k) (c .before .before .before .before .before
               .before .before .before .before .before .before .loop .fit) (c .before .before .before .before .before .before .before .before .before .before
-              .before .loop .kept)) (m41 (c .before) (After-stays·gave c))
+              .before .loop .kept)) (m40 (c .before) (After-stays·gave c))
           lay16 = λ c. (
             one-if-requires record { before = c .before; stays = c .stays },
             λ g. lay17 record {
@@ -8432,11 +8442,11 @@ module _ (claims· : Claims) where
             },
           )
 
-          lay15 : (c : After-both-of) → at32 (W3 (c .before .before .before .before .before .before .before .before .before .before .before) (c .before .before
+          lay15 : (c : After-both-of) → at33 (W3 (c .before .before .before .before .before .before .before .before .before .before .before) (c .before .before
               .before .before .before .before .before .before .before .before .loop .i) (c .before .before .before .before .before .before .before .before
               .before .before .loop .s) (c .before .before .before .before .before .before .before .before .before .before .loop .b) (c .before .before .before
               .before .before .before .before .before .before .before .loop .k) (c .before .before .before .before .before .before .before .before .before
-              .before .loop .fit) (c .before .before .before .before .before .before .before .before .before .before .loop .kept)) (m40 (c .before)
+              .before .loop .fit) (c .before .before .before .before .before .before .before .before .before .before .loop .kept)) (m39 (c .before)
               (After-both-of·gave c))
           lay15 = λ c. (
             stays-requires record { before = c .before; both-of = c .both-of },
@@ -8446,15 +8456,16 @@ module _ (claims· : Claims) where
                 both-of = c
                     .both-of;
               };
-              stays = Called.called ps·9 r·9 (claims· .19) T43 (
+              stays = Called.called ps·9 r·9 (claims· .19) T42 (
                 record {
                   pos = 2;
                   ty = Syntax.tyRef (Syntax.named 1) Syntax.imm SlotAs.pointee;
                   ref =
                       λ x. x;
                 },
-                (Num.vAt 6 λ x. x, (record { pos = 9; st = []; d = 0; at = λ x. x }, tt)),
-              ) (m40 (c .before) (After-both-of·gave c)) g;
+                (Num.vAt 6 λ x. x, (record { pos = 12; st = []; d = 0; at = λ x. x }, (record { pos = 9; st = []; d = 0; at = λ x. x }, tt))),
+              )
+                  (m39 (c .before) (After-both-of·gave c)) g;
             },
           )
 
@@ -8471,7 +8482,7 @@ module _ (claims· : Claims) where
                 fits2 = c
                     .fits2;
               };
-              both-of = Called.called ps·8 r·8 (claims· .17) T42 (Bool.bAt 7 λ x. x, (Bool.bAt 13 λ x. x, tt)) (m39 (c .before) (After-fits2·gave c))
+              both-of = Called.called ps·8 r·8 (claims· .17) T41 (Bool.bAt 7 λ x. x, (Bool.bAt 13 λ x. x, tt)) (m38 (c .before) (After-fits2·gave c))
                   g;
             },
           )

@@ -1,0 +1,24 @@
+-- The double that is exactly z / 2 ^ l. Nothing here rounds: `odd` of lib.Ieee only divides the closing zeros out of the number and counts them in the
+-- exponent, as the one way to write a float asks. That its value is z / 2 ^ l, and that no other double has it, is proved in proofs/Exactness.antt.
+use Prim.Native.Nat.{ℕ, suc}
+use mathlib.Core.Bool.{Bool, true, false}
+use lib.IntN.{ℤ, pos, negsuc}
+use lib.Ieee.{Float, odd}
+
+-- whether z is below zero
+abbrev pub negative : ℤ → Bool
+negative (pos n) = false
+negative (negsuc n) = true
+
+unfoldable pub exactly : ℤ → ℕ → Float
+unfolding odd
+exactly (pos n) l = odd 53 false n 0 l
+exactly (negsuc n) l = odd 53 true (suc n) 0 l
+
+-- the number itself
+abbrev pub whole : ℤ → Float
+whole z = exactly z 0
+
+-- its half
+abbrev pub half : ℤ → Float
+half z = exactly z 1

@@ -1,0 +1,4 @@
+pub mod Exact
+pub mod Feed
+pub mod Frame
+pub mod Promise

@@ -1,0 +1,152 @@
+-- Writing the lines of a text one after the other: what is written and what the rest gives make the whole.
+-- Assumes nothing.
+use Prim.Native.Nat.{ℕ, suc, _+_, _*_, _≤_, _<_}
+use mathlib.Core.List.{List, [], _++_, append-assoc, append-nil}
+use mathlib.Core.Bool.{Bool, true, false}
+use mathlib.Core.Path.{_≡_, refl, sym, _∙_, ap}
+use native.Mathlib.Omega.{arith}
+use native.Mathlib.Numerals.{add-one}
+use lib.ListN.{length, take, drop, length-append, length-take, length-drop, take-append-drop}
+use lib.Seq.{drop-drop, take-at, drop-at}
+use Rattle.ascii.specs.Tests.{pick}
+use Rattle.pieces.specs.declared.Line.{Line}
+use Rattle.rules.specs.declared.Counts.{Counts}
+use Rattle.rules.specs.Counts.{noCounts}
+use Rattle.rules.specs.Room.{Room}
+use Rattle.rules.specs.Rules.{judgeOf}
+use Rattle.gate.specs.Text.{cut, pieceAt, row, down}
+use Rattle.gate.specs.Gate.{checkOf, knownOf}
+use Rattle.gate.specs.Search.{isCoord}
+use Rattle.gate.proofs.Cut.{cut-next, cut-done}
+use Rattle.gate.proofs.Runs.{stateAt, GoodTo, reached, answered}
+use Rattle.slots.specs.declared.Slot.{Slot}
+use Rattle.table.specs.Table.{linesFrom, slotsOf, loadedOf, oneOf, over}
+use Rattle.table.specs.Deal.{stays, isMaster, counted, tallyOf, share, dealt, bytesOf}
+use Rattle.table.proofs.Plain.{piece-plain}
+use Rattle.table.proofs.Recount.{Under, under-start, under-next, master-fits}
+use Rattle.writing.specs.Small.{Small}
+use Rattle.writing.proofs.Recounts.{counts-small}
+use Rattle.store.specs.Judged.{Rises, Dealable}
+use Rattle.store.proofs.Lines.{need-step}
+
+-- ---- after i lines: k slots stand before, q counts those that stay, and at bytes are written
+pub record Written (t : List ℕ) (xs : List Slot) (saving : Bool) (e : List ℕ) (i k : ℕ) (q : Counts) (at : ℕ) (out : List ℕ) : Type 0 where
+  pub dealable : Dealable t xs
+  pub room : length (bytesOf saving t xs) ≤ length e
+  pub within : 81 * i ≤ length t
+  pub size : length out ≡ length e
+  pub few : k ≤ i
+  pub slots : k + length (slotsOf (linesFrom t i)) ≡ length (loadedOf t)
+  pub under : Under q (stateAt (row t) i .counts)
+  pub left : at + length (dealt saving xs k q (cut (drop (81 * i) t))) ≡ length (bytesOf saving t xs)
+  pub front : take at out ++ dealt saving xs k q (cut (drop (81 * i) t)) ≡ bytesOf saving t xs
+  pub back : drop at out ≡ drop at e
+
+pub written-start : (t : List ℕ) (xs : List Slot) (saving : Bool) (e : List ℕ) → Dealable t xs → length (bytesOf saving t xs) ≤ length e → Written t xs saving e 0 0 noCounts 0 e
+unfolding bytesOf stateAt
+written-start t xs saving e D h =
+    record { dealable = D; room = h; within = omega arith; size = refl; few = omega arith; slots = omega arith; under = under-start; left = omega arith; front = refl; back = refl }
+
+-- ---- what is known at a line
+module _ (t : List ℕ) (xs : List Slot) (saving : Bool) (e : List ℕ) (i k : ℕ) (q : Counts) (at : ℕ) (out : List ℕ) (W : Written t xs saving e i k q at out)
+    (h : 81 * i < length t) where
+  lines : length t ≡ 81 * checkOf t .good
+  lines = answered t .granted (W .dealable .good) .1
+
+  good-line : i < checkOf t .good
+  good-line = omega (arith, lines)
+
+  pub whole-line : 81 * i + 81 ≤ length t
+  whole-line = omega (arith, good-line, lines)
+
+  pub rises-here : Rises xs k
+  rises-here a b z l g = W .dealable .rises a b z l (omega (arith, W .slots))
+
+  good-here : judgeOf (knownOf (down (row t) i) (row t i)) (stateAt (row t) i) (row t i) ≡ 0
+  good-here = answered t .good-to i good-line
+
+  pub room-here : 81 * i < 9223372036854775808 → Room q
+  room-here big =
+      let F = reached t i (λ j g. answered t .good-to j (omega (arith, good-line))) .few in
+      record {
+        remark = omega (arith, F .remark, W .under .remark);
+        het = omega (arith, F .het, W .under .het);
+        helix = omega (arith, F .helix, W .under .helix);
+        sheet = omega (arith, F .sheet, W .under .sheet);
+        xform = omega (arith, F .xform, W .under .xform);
+        coord = omega (arith, F .coord, W .under .coord);
+        ter = omega (arith, F .ter, W .under .ter);
+        conect = omega (arith, F .conect, W .under .conect);
+        seq = omega (arith, F .seq, W .under .seq);
+      }
+
+  module _ (l : Line) (el : l ≡ row t i) (stay : Bool) (es : stay ≡ stays xs k l) where
+    pub small-here : isMaster l ≡ true → Small q
+    unfolding row
+    small-here m =
+        counts-small q (master-fits (knownOf (down (row t) i) (row t i)) (stateAt (row t) i) q (row t i) (piece-plain (pieceAt t i)) good-here (W .under) (rw el at m))
+
+    -- the rest is what this line gives, and the rest after it
+    rest : (u : Counts) → u ≡ counted stay q l
+        → dealt saving xs k q (cut (drop (81 * i) t)) ≡ share saving stay q (pieceAt t i) ++ dealt saving xs (k + oneOf l) u (cut (drop (81 * (i + 1)) t))
+    unfolding dealt row
+    rest u eu = ap (λ (ps : List (List ℕ)). dealt saving xs k q ps) (cut-next t i h) ∙ rw (eu, es, el)
+
+    pub room-left : at + length (share saving stay q (pieceAt t i)) ≤ length out
+    room-left =
+        let r : length (dealt saving xs k q (cut (drop (81 * i) t))) ≡ length (share saving stay q (pieceAt t i)) + length (dealt saving xs (k + oneOf l) (counted stay q l) (cut (drop (81 * (i + 1)) t))) =
+        ap length (rest (counted stay q l) refl) ∙ length-append (share saving stay q (pieceAt t i)) (dealt saving xs (k + oneOf l) (counted stay q l) (cut (drop (81 * (i + 1)) t))) in
+        omega (arith, r, W .left, W .room, W .size)
+
+    pub written-next : (u : Counts) → u ≡ counted stay q l → (at' : ℕ) → at' ≡ at + length (share saving stay q (pieceAt t i)) → (out' : List ℕ)
+        → out' ≡ take at out ++ share saving stay q (pieceAt t i) ++ drop (at + length (share saving stay q (pieceAt t i))) out
+        → Written t xs saving e (i + 1) (k + oneOf l) u at' out'
+    unfolding stateAt row
+    written-next u eu at' ea out' eo =
+        record {
+          dealable = W .dealable;
+          room = W .room;
+          within = omega (arith, whole-line);
+          size = ap length eo ∙ simp (length-append, length-take, length-drop) (omega (arith, room-left, W .size));
+          few = more (isCoord l);
+          slots = need-step t i k (length (loadedOf t)) l h el (W .slots);
+          under = rw (eu, add-one) under-more;
+          left = omega (arith, sizes, W .left);
+          front = rw (eo, take-at P _ at' (long ∙ sym ea)) (append-assoc (take at out) S D ∙ (ap (λ (r : List ℕ). take at out ++ r) (sym (rest u eu)) ∙ W .front));
+          back = rw (eo, drop-at P _ at' (long ∙ sym ea)) (behind ∙ rw ea);
+        }
+      where
+        S : List ℕ
+        S = share saving stay q (pieceAt t i)
+
+        D : List ℕ
+        D = dealt saving xs (k + oneOf l) u (cut (drop (81 * (i + 1)) t))
+
+        P : List ℕ
+        P = take at out ++ S
+
+        sizes : length (dealt saving xs k q (cut (drop (81 * i) t))) ≡ length S + length D
+        sizes = ap length (rest u eu) ∙ length-append S D
+
+        long : length P ≡ at + length S
+        long = simp (length-append, length-take) (omega (arith, room-left))
+
+        more : (b : Bool) → k + pick b 1 0 ≤ i + 1
+        more true = omega (arith, W .few)
+        more false = omega (arith, W .few)
+
+        under-more : Under (counted stay q l) (stateAt (row t) (suc i) .counts)
+        under-more = rw el (under-next (knownOf (down (row t) i) (row t i)) stay q (stateAt (row t) i) (row t i) (piece-plain (pieceAt t i)) good-here (W .under))
+
+        behind : drop (at + length S) out ≡ drop (at + length S) e
+        behind = sym (drop-drop (length S) at out) ∙ (ap (λ (r : List ℕ). drop (length S) r) (W .back) ∙ drop-drop (length S) at e)
+
+pub written-done : (t : List ℕ) (xs : List Slot) (saving : Bool) (e : List ℕ) (i k : ℕ) (q : Counts) (at : ℕ) (out : List ℕ) → Written t xs saving e i k q at out
+    → length t ≤ 81 * i → out ≡ over (bytesOf saving t xs) e
+unfolding dealt
+written-done t xs saving e i k q at out W h =
+    let z : dealt saving xs k q (cut (drop (81 * i) t)) ≡ [] = ap (λ (ps : List (List ℕ)). dealt saving xs k q ps) (cut-done t i h) in
+    let f : take at out ≡ bytesOf saving t xs = sym (append-nil (take at out)) ∙ (rw z at (W .front)) in
+    let n : at + 0 ≡ length (bytesOf saving t xs) = rw z at (W .left) in
+    let m : at ≡ length (bytesOf saving t xs) = omega arith in
+    sym (take-append-drop at out) ∙ rw (f, W .back, m)

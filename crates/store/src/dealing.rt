@@ -1,0 +1,64 @@
+// The lines of a text dealt out: to the saved entry, or to the tray.
+use super::Held;
+use super::search::slot_at;
+use super::search::stays;
+use super::survey::one_of;
+use rules::Counts;
+use slots::Slot;
+ghost use mathlib.Core.Path.{_≡_};
+ghost use Prim.Native.Nat.{_*_, _≤_};
+ghost use lib.ListN.{length};
+ghost use Rattle.ascii.specs.Tests.{pick};
+ghost use Rattle.rules.specs.Counts.{noCounts};
+ghost use Rattle.table.specs.Table.{over};
+ghost use Rattle.table.specs.Deal.{bytesOf};
+ghost use Rattle.store.specs.Judged.{Belongs, Dealable, shareOf};
+
+fn no_counts() -> Counts
+    ensures { λ q. ⌜ q ≡ noCounts ⌝ }
+{
+    Counts {
+        remark: 0,
+        het: 0,
+        helix: 0,
+        sheet: 0,
+        xform: 0,
+        coord: 0,
+        ter: 0,
+        conect: 0,
+        seq: 0,
+    }
+}
+
+// How many bytes the lines that stay have, or those that go.
+pub fn size_of(h: Held, saving: bool) -> usize
+    requires { ⌜ h .kept ≤ h .lines ⌝ }
+    requires { ⌜ 81 * h .lines ≤ 9223372036854775807 ⌝ }
+    ensures { λ r. ⌜ r ≡ 81 * shareOf h saving ⌝ }
+{
+    if saving {
+        return 81 * h.kept;
+    }
+    81 * (h.lines - h.kept)
+}
+
+// Writes the lines that stay, or those that go, one after the other.
+pub fn write_all(text: &[u8], table: &[Slot], out: &mut [u8], saving: bool)
+    requires { ⌜ Dealable (now text) (now table) ⌝ }
+    requires { ⌜ length (bytesOf saving (now text) (now table)) ≤ length (now out) ⌝ }
+    ensures { λ _. ⌜ now (out .exit) ≡ over (bytesOf saving (now (text .entry)) (now (table .entry))) (now (out .entry)) ⌝ }
+{
+    let mut i: usize = 0;
+    let mut k: usize = 0;
+    let mut at: usize = 0;
+    let mut q = no_counts();
+    while 81 * i < text.len() {
+        let l = gate::line_at(text, i);
+        let here = slot_at(table, k);
+        let stay = stays(table, k, here, l);
+        at = writing::put_share(text, i, l, saving, stay, q, out, at);
+        q = writing::count_line(stay, q, l);
+        k += one_of(l);
+        i += 1;
+    }
+}

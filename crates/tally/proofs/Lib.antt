@@ -1,0 +1,6 @@
+mod Named
+pub mod CountedAs
+pub mod Laws
+pub mod Rule
+pub mod TallyAs
+pub mod Walked

@@ -1,0 +1,104 @@
+-- The tally: nine counts, brought up to date one line at a time.
+use mathlib.Core.Path.{_≡_}
+use Prim.Native.Nat.{ℕ}
+use mathlib.Core.List.{List, [], _∷_}
+use mathlib.Core.Bool.{Bool, true, false}
+use lib.Dec.{eqb, ltb}
+use Rattle.ascii.specs.Tests.{pick}
+use Rattle.kinds.specs.declared.Kind.{Kind}
+use Rattle.kinds.specs.declared.Kind.the-variants.{Header, Title, Compnd, Source, Keywds, Expdta, Author, Revdat, Jrnl, Remark, Seqres, Het, Helix, Sheet, Cryst1, Origx1, Origx2, Origx3, Scale1, Scale2, Scale3, Atom, Hetatm, Ter, Conect, Master, End, Unknown}
+use Rattle.kinds.specs.Kinds.{kindOf}
+use Rattle.master.specs.declared.Tally.{Tally}
+use Rattle.rules.specs.Counts.{countOf, oneMore}
+use Rattle.tally.specs.declared.Counted.{Counted}
+
+-- a line under six bytes has no name, and other lines may have an unknown one
+abbrev pub isNamed : Kind → Bool
+isNamed Header = true
+isNamed Title = true
+isNamed Compnd = true
+isNamed Source = true
+isNamed Keywds = true
+isNamed Expdta = true
+isNamed Author = true
+isNamed Revdat = true
+isNamed Jrnl = true
+isNamed Remark = true
+isNamed Seqres = true
+isNamed Het = true
+isNamed Helix = true
+isNamed Sheet = true
+isNamed Cryst1 = true
+isNamed Origx1 = true
+isNamed Origx2 = true
+isNamed Origx3 = true
+isNamed Scale1 = true
+isNamed Scale2 = true
+isNamed Scale3 = true
+isNamed Atom = true
+isNamed Hetatm = true
+isNamed Ter = true
+isNamed Conect = true
+isNamed Master = true
+isNamed End = true
+isNamed Unknown = false
+
+-- no count goes above this
+abbrev pub most : ℕ
+most = 99999
+
+-- the count with that number, 0 for none
+unfoldable pub countIn : Tally → ℕ → ℕ
+countIn t which =
+    pick (eqb which 1) (t .remark)
+    (pick (eqb which 2) (t .het)
+    (pick (eqb which 3) (t .helix)
+    (pick (eqb which 4) (t .sheet)
+    (pick (eqb which 5) (t .xform)
+    (pick (eqb which 6) (t .coord)
+    (pick (eqb which 7) (t .ter)
+    (pick (eqb which 8) (t .conect)
+    (pick (eqb which 9) (t .seq) 0))))))))
+
+-- the tally with that count raised by 1
+unfoldable pub raisedTally : Tally → ℕ → Tally
+raisedTally t which =
+    record {
+      remark = oneMore which 1 (t .remark);
+      het = oneMore which 2 (t .het);
+      helix = oneMore which 3 (t .helix);
+      sheet = oneMore which 4 (t .sheet);
+      xform = oneMore which 5 (t .xform);
+      coord = oneMore which 6 (t .coord);
+      ter = oneMore which 7 (t .ter);
+      conect = oneMore which 8 (t .conect);
+      seq = oneMore which 9 (t .seq);
+    }
+
+-- the number that is answered, and what the tally then holds
+abbrev pub counted : ℕ → Tally → Counted
+counted n t = record { number = n; tally = t }
+
+-- 14: the count to be raised is 99,999 or above; a name that is not counted raises none
+unfoldable pub tallyStep : Tally → ℕ → Counted
+tallyStep t which = pick (ltb (countIn t which) most) (counted 0 (raisedTally t which)) (counted 14 t)
+
+-- 4: a line under six bytes or of unknown name
+unfoldable pub tallyLine : Tally → List ℕ → Counted
+tallyLine t l = pick (isNamed (kindOf l)) (tallyStep t (countOf (kindOf l))) (counted 4 t)
+
+-- ---- lines one after another
+-- the tally after some lines
+abbrev pub tallyAll : Tally → List (List ℕ) → Tally
+tallyAll t [] = t
+tallyAll t (l ∷ ls) = tallyAll (tallyLine t l .tally) ls
+
+-- none of them is refused
+abbrev pub Granted : Tally → List (List ℕ) → Type 0
+Granted t [] = Unit {0}
+Granted t (l ∷ ls) = (tallyLine t l .number ≡ 0) × Granted (tallyLine t l .tally) ls
+
+-- how many of them are counted under a number
+abbrev pub linesOf : ℕ → List (List ℕ) → ℕ
+linesOf n [] = 0
+linesOf n (l ∷ ls) = oneMore (countOf (kindOf l)) n (linesOf n ls)

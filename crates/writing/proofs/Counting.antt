@@ -1,0 +1,18 @@
+-- A line that stays is counted, and one that goes is not.
+-- Assumes nothing.
+use Prim.Native.Nat.{ℕ}
+use mathlib.Core.Bool.{Bool, true, false}
+use mathlib.Core.Path.{_≡_}
+use Rattle.kinds.specs.declared.Kind.{Kind}
+use Rattle.pieces.specs.declared.Line.{Line}
+use Rattle.rules.specs.declared.Counts.{Counts}
+use Rattle.rules.specs.Counts.{countOf, raised}
+use Rattle.table.specs.Deal.{lineKind, counted}
+
+pub stays-counted : (stay : Bool) (q r : Counts) (l : Line) (k : Kind) (n : ℕ) → stay ≡ true → k ≡ lineKind l → n ≡ countOf k → r ≡ raised q n → r ≡ counted stay q l
+unfolding counted
+stays-counted stay q r l k n e p1 p2 p3 = rw (e, p3, p2, p1)
+
+pub goes-uncounted : (stay : Bool) (q : Counts) (l : Line) → stay ≡ false → q ≡ counted stay q l
+unfolding counted
+goes-uncounted stay q l e = rw e
