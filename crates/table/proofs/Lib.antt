@@ -21,4 +21,5 @@ pub mod Follow
 pub mod Granted
 pub mod Again
 pub mod Lost
+pub mod Refused
 pub mod Examples
