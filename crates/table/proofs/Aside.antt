@@ -20,7 +20,7 @@ use Rattle.slots.specs.declared.Slot.{Slot}
 use Rattle.slots.specs.Slots.{markAside, noSlot}
 use Rattle.slots.specs.Fragments.{joins, stepTail, tailOf, markOf}
 use Rattle.table.specs.Table.{linesFrom, slotsOf, loadedOf, over, mine, fragments, markByte}
-use Rattle.table.specs.Orders.{Order, lastOf, kept}
+use Rattle.table.specs.Orders.{Order, ordersOf, lastOf}
 use Rattle.table.specs.Promise.{staysFrom, slotsTo, fragmentOf}
 use Rattle.table.proofs.Ready.{Ready}
 use Rattle.table.proofs.Marks.{joins-some}
@@ -85,6 +85,9 @@ byte-aside true = refl
 byte-aside false = refl
 
 -- ---- a slot of the table after loading and orders
+abbrev kept : List ℕ → List Slot → List Order → List Slot
+kept t xs os = ordersOf t (over (loadedOf t) xs) os
+
 module _ (t : List ℕ) (xs : List Slot) (os : List Order) (e : checkOf t .number ≡ 0) (j : ℕ) (h : j < length (loadedOf t)) where
   loaded : Ready t (over (loadedOf t) xs)
   loaded = fresh-ready t xs e

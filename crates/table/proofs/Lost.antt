@@ -2,16 +2,20 @@
 -- Assumes nothing.
 use Prim.Native.Nat.{ℕ, _+_}
 use mathlib.Core.List.{List, map}
-use mathlib.Core.Bool.{true, false}
-use mathlib.Core.Path.{_≡_, _∙_, ap, ap₂}
+use mathlib.Core.Bool.{Bool, true, false, not}
+use mathlib.Core.Path.{_≡_, refl, _∙_, ap, ap₂}
+use native.Mathlib.Omega.{arith}
+use borrow.Author.Tests.{eqb-true, eqb-false}
+use lib.Dec.{eqb, ltb}
 use lib.ListN.{length, length-map}
+use Rattle.ascii.specs.Tests.{pick}
 use Rattle.pieces.specs.Pieces.{lineOf}
 use Rattle.rules.specs.Counts.{noCounts}
 use Rattle.gate.specs.Text.{cut}
 use Rattle.gate.specs.Gate.{checkOf}
 use Rattle.slots.specs.declared.Slot.{Slot}
-use Rattle.table.specs.Table.{linesFrom, loadedOf, over}
-use Rattle.table.specs.Orders.{Order, kept}
+use Rattle.table.specs.Table.{Told, told, over, linesFrom, loadedOf, loadOf}
+use Rattle.table.specs.Orders.{Order, ordersOf}
 use Rattle.table.specs.Promise.{bare, NothingLost}
 use Rattle.table.proofs.Ready.{ready-table}
 use Rattle.table.proofs.Orders.{orders-ready}
@@ -21,10 +25,23 @@ use Rattle.table.proofs.Shares.{cut-bytes, shares-sum, shares-tray}
 use Rattle.table.proofs.Bare.{shares-bare}
 use Rattle.table.proofs.Again.{saved-again}
 
-pub nothing-lost : (t : List ℕ) (xs : List Slot) (os : List Order) → checkOf t .number ≡ 0 → NothingLost t xs os
+-- a load that is granted leaves the slots of an accepted text, and past them the slots as found
+granted-load : (t : List ℕ) (xs : List Slot) → loadOf t xs .number ≡ 0 → (checkOf t .number ≡ 0) × (loadOf t xs .left ≡ over (loadedOf t) xs)
+unfolding loadOf
+granted-load t xs = go (eqb (checkOf t .number) 0) refl (ltb (length xs) (length (loadedOf t)))
+  where
+    go : (p : Bool) → eqb (checkOf t .number) 0 ≡ p → (q : Bool)
+        → (pick {A = Told Slot} (not p) (told (checkOf t .number) 0 xs) (pick {A = Told Slot} q (told 13 0 xs) (told 0 (length (loadedOf t)) (over (loadedOf t) xs)))) .number ≡ 0
+        → (checkOf t .number ≡ 0)
+        × ((pick {A = Told Slot} (not p) (told (checkOf t .number) 0 xs) (pick {A = Told Slot} q (told 13 0 xs) (told 0 (length (loadedOf t)) (over (loadedOf t) xs)))) .left ≡ over (loadedOf t) xs)
+    go false e q z = absurd (eqb-false _ _ e z)
+    go true e true z = absurd (omega arith)
+    go true e false z = (eqb-true _ _ e, refl)
+
+after-loading : (t : List ℕ) (xs : List Slot) (os : List Order) → checkOf t .number ≡ 0 → NothingLost t (over (loadedOf t) xs) os
 unfolding linesFrom
-nothing-lost t xs os e =
-    let ys = kept t xs os in
+after-loading t xs os e =
+    let ys = ordersOf t (over (loadedOf t) xs) os in
     let R = orders-ready t (over (loadedOf t) xs) os (fresh-ready t xs e) in
     record {
       belongs = ready-table t ys R;
@@ -34,3 +51,7 @@ nothing-lost t xs os e =
       aside = λ i h c. line-goes t xs os e i (rw (length-map (cut t) lineOf) h) c;
       sum = ap₂ _+_ (ap length (cut-bytes true t ys e)) (ap length (cut-bytes false t ys e)) ∙ shares-sum ys 0 noCounts (cut t);
     }
+
+-- a text loaded into any slots, and any orders
+pub nothing-lost : (t : List ℕ) (xs : List Slot) (os : List Order) → loadOf t xs .number ≡ 0 → NothingLost t (loadOf t xs .left) os
+nothing-lost t xs os z = rw (granted-load t xs z .1) (after-loading t xs os (granted-load t xs z .0))

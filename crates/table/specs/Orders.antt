@@ -5,7 +5,7 @@ use mathlib.Core.Bool.{Bool}
 use lib.Dec.{eqb}
 use Rattle.ascii.specs.Tests.{pick, both}
 use Rattle.slots.specs.declared.Slot.{Slot}
-use Rattle.table.specs.Table.{loadedOf, over, orderOf}
+use Rattle.table.specs.Table.{orderOf}
 
 -- an order: the number of a fragment, and whether to set it aside or to put it back
 pub data Order : Type 0 where
@@ -21,7 +21,3 @@ unfoldable pub lastOf : List ℕ → List Slot → ℕ → Bool → List Order �
 lastOf t xs f now [] = now
 lastOf t xs f now (order g aside ∷ os) =
     lastOf t (orderOf t xs g aside .left) f (pick (both (eqb g f) (eqb (orderOf t xs g aside .number) 0)) aside now) os
-
--- the table of a text, loaded into the slots xs and then ordered about
-abbrev pub kept : List ℕ → List Slot → List Order → List Slot
-kept t xs os = ordersOf t (over (loadedOf t) xs) os

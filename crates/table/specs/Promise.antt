@@ -12,9 +12,9 @@ use Rattle.gate.specs.Gate.{checkOf}
 use Rattle.gate.specs.Search.{isCoord}
 use Rattle.slots.specs.declared.Slot.{Slot}
 use Rattle.slots.specs.Fragments.{tailOf}
-use Rattle.table.specs.Table.{linesFrom, slotsOf, loadedOf, over, oneOf, mine, tableOf, fragments}
+use Rattle.table.specs.Table.{linesFrom, slotsOf, oneOf, mine, tableOf, fragments}
 use Rattle.table.specs.Deal.{stays, isMaster, bytesOf}
-use Rattle.table.specs.Orders.{Order, lastOf, kept}
+use Rattle.table.specs.Orders.{Order, ordersOf, lastOf}
 
 -- whether each line stays
 unfoldable pub staysFrom : List Slot → ℕ → List Line → List Bool
@@ -39,18 +39,18 @@ slotsTo t i = length (slotsOf (take i (linesFrom t 0)))
 unfoldable pub fragmentOf : List ℕ → List Slot → ℕ → ℕ
 fragmentOf t xs j = fragments t xs + 1 - tailOf (drop j (mine t xs)) .count
 
--- the text t, loaded into the slots xs, after the orders os
+-- the text t with the slots xs that loading left, after the orders os
 pub record NothingLost (t : List ℕ) (xs : List Slot) (os : List Order) : Type 0 where
   -- the table belongs to the text: saving and the tray are granted where there is room
-  pub belongs : tableOf t (kept t xs os) ≡ 0
+  pub belongs : tableOf t (ordersOf t xs os) ≡ 0
   -- the saved entry is accepted again
-  pub again : checkOf (bytesOf true t (kept t xs os)) .number ≡ 0
+  pub again : checkOf (bytesOf true t (ordersOf t xs os)) .number ≡ 0
   -- the saved entry has the lines that stay, byte for byte and in order; of MASTER the counts alone are written anew
-  pub saved : map bare (cut (bytesOf true t (kept t xs os))) ≡ map bare (those true (staysFrom (kept t xs os) 0 (linesFrom t 0)) (cut t))
+  pub saved : map bare (cut (bytesOf true t (ordersOf t xs os))) ≡ map bare (those true (staysFrom (ordersOf t xs os) 0 (linesFrom t 0)) (cut t))
   -- the tray has the lines that go, byte for byte and in order
-  pub tray : cut (bytesOf false t (kept t xs os)) ≡ those false (staysFrom (kept t xs os) 0 (linesFrom t 0)) (cut t)
+  pub tray : cut (bytesOf false t (ordersOf t xs os)) ≡ those false (staysFrom (ordersOf t xs os) 0 (linesFrom t 0)) (cut t)
   -- a coordinate line goes exactly if the last order granted for its fragment set it aside
   pub aside : (i : ℕ) → i < length (cut t) → isCoord (row t i) ≡ true
-      → getD (staysFrom (kept t xs os) 0 (linesFrom t 0)) i true ≡ not (lastOf t (over (loadedOf t) xs) (fragmentOf t (over (loadedOf t) xs) (slotsTo t i)) false os)
+      → getD (staysFrom (ordersOf t xs os) 0 (linesFrom t 0)) i true ≡ not (lastOf t xs (fragmentOf t xs (slotsTo t i)) false os)
   -- the lines of the two add up to the lines read
-  pub sum : length (cut (bytesOf true t (kept t xs os))) + length (cut (bytesOf false t (kept t xs os))) ≡ length (cut t)
+  pub sum : length (cut (bytesOf true t (ordersOf t xs os))) + length (cut (bytesOf false t (ordersOf t xs os))) ≡ length (cut t)
