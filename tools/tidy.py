@@ -24,7 +24,7 @@ def tidy(path):
             if not left:
                 continue
             l = m.group(1) + ".{" + ", ".join(left) + "}"
-        m = re.match(r"use \S+ as (\S+)$", l)
+        m = re.match(r"use [^\s{]+ as ([^\s{}]+)$", l)
         if m and m.group(1) not in used:
             continue
         kept.append(l)
@@ -35,5 +35,5 @@ def tidy(path):
 for crate in sys.argv[1:]:
     for top, _, files in os.walk(f"crates/{crate}"):
         for f in files:
-            if f.endswith(".antt"):
+            if f.endswith(".antt") and not os.path.join(top, f).endswith(("/Proof/Lts.antt", "/Proof/Tie.antt")) and "/Walked" not in top and not f.endswith("As.antt"):
                 tidy(os.path.join(top, f))

@@ -3,7 +3,7 @@
 use Prim.Native.Nat.{ℕ, _+_, _*_, _≤_, _<_}
 use mathlib.Core.List.{List}
 use mathlib.Core.Bool.{Bool, true, false, false≢true, true≢false}
-use mathlib.Core.Path.{_≡_, refl, sym, _∙_, ap}
+use mathlib.Core.Path.{_≡_, refl, sym, _∙_}
 use native.Mathlib.Omega.{arith}
 use borrow.Author.Tests.{eqb-true, ltb-true, ltb-false, lt-ltb}
 use lib.Dec.{eqb, ltb, leb}
@@ -17,7 +17,7 @@ use Rattle.rules.specs.declared.State.{State}
 use Rattle.gate.specs.declared.Span.{Span}
 use Rattle.gate.specs.Text.{row}
 use Rattle.gate.specs.Search.{isSpot, isCoord, spotSerial, serialOf, growOf, Block}
-use Rattle.gate.proofs.Sofar.{Sofar, sofar-start}
+use Rattle.gate.proofs.Sofar.{Sofar}
 use Rattle.slots.specs.declared.Slot.{Slot}
 use Rattle.slots.specs.Slots.{markAside, noSlot, recordSlot, lineSlot, sameSlot}
 use Rattle.table.specs.Table.{linesFrom, slotsOf, loadedOf, fits, oneOf, fitsFrom}

@@ -18,10 +18,10 @@ use Rattle.gate.specs.Text.{cut, pieceAt, row, down}
 use Rattle.gate.specs.Gate.{checkOf, knownOf}
 use Rattle.gate.specs.Search.{isCoord}
 use Rattle.gate.proofs.Cut.{cut-next, cut-done}
-use Rattle.gate.proofs.Runs.{stateAt, GoodTo, reached, answered}
+use Rattle.gate.proofs.Runs.{stateAt, reached, answered}
 use Rattle.slots.specs.declared.Slot.{Slot}
 use Rattle.table.specs.Table.{linesFrom, slotsOf, loadedOf, oneOf, over}
-use Rattle.table.specs.Deal.{stays, isMaster, counted, tallyOf, share, dealt, bytesOf}
+use Rattle.table.specs.Deal.{stays, isMaster, counted, share, dealt, bytesOf}
 use Rattle.table.proofs.Plain.{piece-plain}
 use Rattle.table.proofs.Recount.{Under, under-start, under-next, master-fits}
 use Rattle.writing.specs.Small.{Small}

@@ -2,56 +2,40 @@ use Rattle.slots.proofs.Returns.{line-small}
 use borrow.Author.Needs.{needs}
 use Rattle.slots.proofs.line_slot.Statement.{statement}
 use Rattle.slots.proofs.line_slot.Tie as tie
-use Rattle.slots.proofs.line_slot.Reads as reads
-use Rattle.slots.proofs.line_slot.Lts as lts
-use Rattle.slots.proofs.no_slot.Reads as no-slot-reads
-use Rattle.slots.proofs.record_slot.Reads as record-slot-reads
 
--- src/lib.rt:260:25
 enum-told : tie.Need-enum-told
 enum-told c = search needs
 
--- src/lib.rt:260:25
 no-slot-requires : tie.Need-no-slot-requires
 no-slot-requires c κs = search needs
 
--- src/lib.rt:261:30
 enum-told-2 : tie.Need-enum-told-2
 enum-told-2 c = search needs
 
--- src/lib.rt:261:30
 no-slot-requires-2 : tie.Need-no-slot-requires-2
 no-slot-requires-2 c κs = search needs
 
--- src/lib.rt:262:29
 enum-told-3 : tie.Need-enum-told-3
 enum-told-3 c = search needs
 
--- src/lib.rt:262:29
 no-slot-requires-3 : tie.Need-no-slot-requires-3
 no-slot-requires-3 c κs = search needs
 
--- src/lib.rt:263:21
 enum-known-l : tie.Need-enum-known-l
 enum-known-l c = search needs
 
--- src/lib.rt:263:27
 record-slot-requires : tie.Need-record-slot-requires
 record-slot-requires c κs = line-small _ _ (c .before .l .given .1) (c .before .before .before .pre)
 
--- src/lib.rt:255:1
 returns : tie.Need-returns
 returns c = rw (c .before .enum-told .given .1) (c .no-slot .ensures)
 
--- src/lib.rt:255:1
 returns-2 : tie.Need-returns-2
 returns-2 c = rw (c .before .enum-told2 .given .1) (c .no-slot2 .ensures)
 
--- src/lib.rt:255:1
 returns-3 : tie.Need-returns-3
 returns-3 c = rw (c .before .enum-told3 .given .1) (c .no-slot3 .ensures)
 
--- src/lib.rt:255:1
 returns-4 : tie.Need-returns-4
 returns-4 c = rw (c .before .before .l .given .1) (c .record-slot .ensures)
 

@@ -2,93 +2,67 @@ use Rattle.slots.proofs.Returns.{coordinate-small}
 use borrow.Author.Needs.{needs}
 use Rattle.slots.proofs.record_slot.Statement.{statement}
 use Rattle.slots.proofs.record_slot.Tie as tie
-use Rattle.slots.proofs.record_slot.Reads as reads
-use Rattle.slots.proofs.record_slot.Lts as lts
-use Rattle.slots.proofs.no_slot.Reads as no-slot-reads
-use Rattle.slots.proofs.slot_of_atom.Reads as slot-of-atom-reads
-use Rattle.slots.proofs.slot_of_ter.Reads as slot-of-ter-reads
 
--- src/lib.rt:244:28
 enum-known-r : tie.Need-enum-known-r
 enum-known-r c = search needs
 
--- src/lib.rt:244:39
 slot-of-atom-requires : tie.Need-slot-of-atom-requires
 slot-of-atom-requires c κs = coordinate-small _ _ _ (c .before .r .given .1) (c .before .before .before .pre)
 
--- src/lib.rt:245:21
 enum-known-r-2 : tie.Need-enum-known-r-2
 enum-known-r-2 c = search needs
 
--- src/lib.rt:245:27
 slot-of-ter-requires : tie.Need-slot-of-ter-requires
 slot-of-ter-requires c κs = search needs
 
--- src/lib.rt:246:29
 enum-told : tie.Need-enum-told
 enum-told c = search needs
 
--- src/lib.rt:246:29
 no-slot-requires : tie.Need-no-slot-requires
 no-slot-requires c κs = search needs
 
--- src/lib.rt:247:29
 enum-told-2 : tie.Need-enum-told-2
 enum-told-2 c = search needs
 
--- src/lib.rt:247:29
 no-slot-requires-2 : tie.Need-no-slot-requires-2
 no-slot-requires-2 c κs = search needs
 
--- src/lib.rt:248:30
 enum-told-3 : tie.Need-enum-told-3
 enum-told-3 c = search needs
 
--- src/lib.rt:248:30
 no-slot-requires-3 : tie.Need-no-slot-requires-3
 no-slot-requires-3 c κs = search needs
 
--- src/lib.rt:249:30
 enum-told-4 : tie.Need-enum-told-4
 enum-told-4 c = search needs
 
--- src/lib.rt:249:30
 no-slot-requires-4 : tie.Need-no-slot-requires-4
 no-slot-requires-4 c κs = search needs
 
--- src/lib.rt:250:24
 enum-told-5 : tie.Need-enum-told-5
 enum-told-5 c = search needs
 
--- src/lib.rt:250:24
 no-slot-requires-5 : tie.Need-no-slot-requires-5
 no-slot-requires-5 c κs = search needs
 
--- src/lib.rt:239:1
 returns : tie.Need-returns
 returns c = rw (c .before .before .r .given .1) (c .slot-of-atom .ensures)
 
--- src/lib.rt:239:1
 returns-2 : tie.Need-returns-2
 returns-2 c = rw (c .before .before .r2 .given .1) (c .slot-of-ter .ensures)
 
--- src/lib.rt:239:1
 returns-3 : tie.Need-returns-3
 returns-3 c = rw (c .before .enum-told .given .1) (c .no-slot .ensures)
 
--- src/lib.rt:239:1
 returns-4 : tie.Need-returns-4
 returns-4 c = rw (c .before .enum-told2 .given .1) (c .no-slot2 .ensures)
 
--- src/lib.rt:239:1
 returns-5 : tie.Need-returns-5
 returns-5 c = rw (c .before .enum-told3 .given .1) (c .no-slot3 .ensures)
 
--- src/lib.rt:239:1
 returns-6 : tie.Need-returns-6
 returns-6 c = rw (c .before .enum-told4 .given .1) (c .no-slot4 .ensures)
 
--- src/lib.rt:239:1
 returns-7 : tie.Need-returns-7
 returns-7 c = rw (c .before .enum-told5 .given .1) (c .no-slot5 .ensures)
 

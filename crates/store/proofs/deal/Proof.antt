@@ -1,8 +1,7 @@
 use Rattle.table.specs.Deal.{bytesOf}
-use Prim.Native.Nat.{_≤_}
 use lib.ListN.{length}
 use native.Mathlib.Omega.{arith}
-use mathlib.Core.Path.{_≡_, refl, sym, _∙_}
+use mathlib.Core.Path.{_≡_, sym, _∙_}
 use Rattle.table.proofs.Ready.{ready}
 use Rattle.store.proofs.Answers.{put-bad, put-short, put-good, kept-few, size-dealt}
 -- `store::deal` meets its contract. `Proof/` has its derivation, written by tools/walk.py. Assumes nothing.
@@ -11,8 +10,6 @@ mod Tie
 use borrow.Author.Needs.{needs}
 use Rattle.store.proofs.deal.Statement.{statement}
 use Rattle.store.proofs.deal.Proof.Tie as tie
-use Rattle.store.proofs.Walked.deal.Reads as reads
-use Rattle.store.proofs.deal.Proof.Lts as lts
 
 judge-requires : tie.Need-judge-requires
 judge-requires c = search needs

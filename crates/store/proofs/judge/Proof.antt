@@ -1,6 +1,6 @@
 use native.Mathlib.Omega.{arith}
 use borrow.Author.Tests.{not-true, not-false}
-use mathlib.Core.Path.{_≡_, refl, sym, _∙_}
+use mathlib.Core.Path.{sym, _∙_}
 use Rattle.store.proofs.Answers.{take-size, table-bad, table-short, table-other, table-torn, table-good, held-good}
 -- `store::judge` meets its contract. `Proof/` has its derivation, written by tools/walk.py. Assumes nothing.
 mod Lts
@@ -8,8 +8,6 @@ mod Tie
 use borrow.Author.Needs.{needs}
 use Rattle.store.proofs.judge.Statement.{statement}
 use Rattle.store.proofs.judge.Proof.Tie as tie
-use Rattle.store.proofs.Walked.judge.Reads as reads
-use Rattle.store.proofs.judge.Proof.Lts as lts
 
 look-over-requires : tie.Need-look-over-requires
 look-over-requires c = search needs

@@ -1,7 +1,6 @@
 use Prim.Native.Nat.{_≤_, _+_, _*_, _-_}
 use lib.ListN.{length}
 use native.Mathlib.Omega.{arith}
-use mathlib.Core.Path.{_≡_, refl, sym, _∙_}
 use Rattle.store.proofs.Lines.{need-step, row-small}
 use Rattle.store.proofs.Filling.{Filled, filled-start, filled-next, filled-done}
 use Rattle.store.proofs.Answers.{load-bad, load-short, load-good}
@@ -11,8 +10,6 @@ mod Tie
 use borrow.Author.Needs.{needs}
 use Rattle.store.proofs.load.Statement.{statement}
 use Rattle.store.proofs.load.Proof.Tie as tie
-use Rattle.store.proofs.Walked.load.Reads as reads
-use Rattle.store.proofs.load.Proof.Lts as lts
 
 abbrev Inv-loop : tie.InvT-loop
 Inv-loop text table₀ n i₀ k₀ table i k = Filled text table₀ n i k table × (81 * i ≤ length text + 80)

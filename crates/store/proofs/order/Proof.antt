@@ -1,5 +1,5 @@
 use native.Mathlib.Omega.{arith}
-use mathlib.Core.Path.{_≡_, refl, sym, _∙_}
+use mathlib.Core.Path.{refl}
 use Rattle.store.proofs.Answers.{take-size, order-bad, order-zero, order-past, order-there, order-done}
 -- `store::order` meets its contract. `Proof/` has its derivation, written by tools/walk.py. Assumes nothing.
 mod Lts
@@ -7,8 +7,6 @@ mod Tie
 use borrow.Author.Needs.{needs}
 use Rattle.store.proofs.order.Statement.{statement}
 use Rattle.store.proofs.order.Proof.Tie as tie
-use Rattle.store.proofs.Walked.order.Reads as reads
-use Rattle.store.proofs.order.Proof.Lts as lts
 
 judge-requires : tie.Need-judge-requires
 judge-requires c = search needs

@@ -7,8 +7,6 @@ mod Tie
 use borrow.Author.Needs.{needs}
 use Rattle.store.proofs.put_slot.Statement.{statement}
 use Rattle.store.proofs.put_slot.Proof.Tie as tie
-use Rattle.store.proofs.Walked.put_slot.Reads as reads
-use Rattle.store.proofs.put_slot.Proof.Lts as lts
 
 is-coord-requires : tie.Need-is-coord-requires
 is-coord-requires c = search needs

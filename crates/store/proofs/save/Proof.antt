@@ -4,8 +4,6 @@ mod Tie
 use borrow.Author.Needs.{needs}
 use Rattle.store.proofs.save.Statement.{statement}
 use Rattle.store.proofs.save.Proof.Tie as tie
-use Rattle.store.proofs.Walked.save.Reads as reads
-use Rattle.store.proofs.save.Proof.Lts as lts
 
 deal-requires : tie.Need-deal-requires
 deal-requires c = search needs

@@ -4,8 +4,6 @@ mod Tie
 use borrow.Author.Needs.{needs}
 use Rattle.store.proofs.tray.Statement.{statement}
 use Rattle.store.proofs.tray.Proof.Tie as tie
-use Rattle.store.proofs.Walked.tray.Reads as reads
-use Rattle.store.proofs.tray.Proof.Lts as lts
 
 deal-requires : tie.Need-deal-requires
 deal-requires c = search needs

@@ -1,18 +1,13 @@
 use borrow.Author.Needs.{needs}
 use Rattle.slots.proofs.fragments.one_more_unless.Statement.{statement}
 use Rattle.slots.proofs.fragments.one_more_unless.Tie as tie
-use Rattle.slots.proofs.fragments.one_more_unless.Reads as reads
-use Rattle.slots.proofs.fragments.one_more_unless.Lts as lts
 
--- src/fragments.rt:59:9
 returns : tie.Need-returns
 returns c = search needs
 
--- src/fragments.rt:61:5
 add-result : tie.Need-add-result
 add-result c = search needs
 
--- src/fragments.rt:54:1
 returns-2 : tie.Need-returns-2
 returns-2 c = simp (c .if1 .left)
 

@@ -1,14 +1,10 @@
 use borrow.Author.Tests.{eq-eqb, ne-eqb}
 use Rattle.slots.proofs.fragments.pick_mark.Statement.{statement}
 use Rattle.slots.proofs.fragments.pick_mark.Tie as tie
-use Rattle.slots.proofs.fragments.pick_mark.Reads as reads
-use Rattle.slots.proofs.fragments.pick_mark.Lts as lts
 
--- src/fragments.rt:96:9
 returns : tie.Need-returns
 returns c = rw (eq-eqb _ _ (c .if1 .taken))
 
--- src/fragments.rt:92:1
 returns-2 : tie.Need-returns-2
 returns-2 c = rw (ne-eqb _ _ (c .if1 .left))
 

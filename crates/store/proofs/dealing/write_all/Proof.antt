@@ -1,7 +1,6 @@
 use Prim.Native.Nat.{_*_, _+_, _-_}
 use lib.ListN.{length}
 use native.Mathlib.Omega.{arith}
-use mathlib.Core.Path.{_≡_, refl, sym, _∙_}
 use Rattle.store.proofs.Written.{Written, written-start, written-next, written-done, whole-line, rises-here, room-here, small-here, room-left}
 -- `store::dealing::write_all` meets its contract. `Proof/` has its derivation, written by tools/walk.py. Assumes nothing.
 mod Lts
@@ -9,8 +8,6 @@ mod Tie
 use borrow.Author.Needs.{needs}
 use Rattle.store.proofs.dealing.write_all.Statement.{statement}
 use Rattle.store.proofs.dealing.write_all.Proof.Tie as tie
-use Rattle.store.proofs.Walked.dealing.write_all.Reads as reads
-use Rattle.store.proofs.dealing.write_all.Proof.Lts as lts
 
 abbrev Inv-loop : tie.InvT-loop
 Inv-loop text table out₀ saving i₀ k₀ at₀ q₀ out i k at q = Written text table saving out₀ i k q at out

@@ -7,8 +7,6 @@ mod Tie
 use borrow.Author.Needs.{needs}
 use Rattle.store.proofs.marking.mark_all.Statement.{statement}
 use Rattle.store.proofs.marking.mark_all.Proof.Tie as tie
-use Rattle.store.proofs.Walked.marking.mark_all.Reads as reads
-use Rattle.store.proofs.marking.mark_all.Proof.Lts as lts
 
 abbrev Inv-loop : tie.InvT-loop
 Inv-loop table₀ b m k₀ t₀ table k t = Marking table₀ b m k t table

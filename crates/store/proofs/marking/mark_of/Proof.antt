@@ -10,8 +10,6 @@ mod Tie
 use borrow.Author.Needs.{needs}
 use Rattle.store.proofs.marking.mark_of.Statement.{statement}
 use Rattle.store.proofs.marking.mark_of.Proof.Tie as tie
-use Rattle.store.proofs.Walked.marking.mark_of.Reads as reads
-use Rattle.store.proofs.marking.mark_of.Proof.Lts as lts
 
 abbrev Inv-loop : tie.InvT-loop
 Inv-loop table b k₀ t₀ m₀ k t m = (k ≤ length table) × (t .count + k ≤ length table) × (t ≡ tailOf (drop k table)) × (m ≡ markOf b (drop k table))

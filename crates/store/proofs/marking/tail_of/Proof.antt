@@ -10,8 +10,6 @@ mod Tie
 use borrow.Author.Needs.{needs}
 use Rattle.store.proofs.marking.tail_of.Statement.{statement}
 use Rattle.store.proofs.marking.tail_of.Proof.Tie as tie
-use Rattle.store.proofs.Walked.marking.tail_of.Reads as reads
-use Rattle.store.proofs.marking.tail_of.Proof.Lts as lts
 
 abbrev Inv-loop : tie.InvT-loop
 Inv-loop table k₀ t₀ k t = (k ≤ length table) × (t .count + k ≤ length table) × (t ≡ tailOf (drop k table))

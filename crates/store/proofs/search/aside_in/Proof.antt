@@ -5,8 +5,6 @@ mod Tie
 use borrow.Author.Needs.{needs}
 use Rattle.store.proofs.search.aside_in.Statement.{statement}
 use Rattle.store.proofs.search.aside_in.Proof.Tie as tie
-use Rattle.store.proofs.Walked.search.aside_in.Reads as reads
-use Rattle.store.proofs.search.aside_in.Proof.Lts as lts
 
 lower-requires : tie.Need-lower-requires
 lower-requires c = search needs

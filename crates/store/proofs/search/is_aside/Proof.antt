@@ -2,24 +2,16 @@ use Rattle.table.specs.Deal.{isAside}
 use borrow.Author.Needs.{needs}
 use Rattle.store.proofs.search.is_aside.Statement.{statement}
 use Rattle.store.proofs.search.is_aside.Tie as tie
-use Rattle.store.proofs.search.is_aside.Reads as reads
-use Rattle.store.proofs.search.is_aside.Lts as lts
-use Rattle.ascii.proofs.both_of.Reads as both-of-reads
-use Rattle.slots.proofs.is_ter.Reads as is-ter-reads
 
--- src/search.rt:57:9
 is-ter-requires : tie.Need-is-ter-requires
 is-ter-requires c κs = search needs
 
--- src/search.rt:58:9
 both-of-requires : tie.Need-both-of-requires
 both-of-requires c κs = search needs
 
--- src/search.rt:59:5
 both-of-requires-2 : tie.Need-both-of-requires-2
 both-of-requires-2 c κs = search needs
 
--- src/search.rt:53:1
 returns : tie.Need-returns
 unfolding isAside
 returns c = cc

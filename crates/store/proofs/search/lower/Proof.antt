@@ -10,8 +10,6 @@ mod Tie
 use borrow.Author.Needs.{needs}
 use Rattle.store.proofs.search.lower.Statement.{statement}
 use Rattle.store.proofs.search.lower.Proof.Tie as tie
-use Rattle.store.proofs.Walked.search.lower.Reads as reads
-use Rattle.store.proofs.search.lower.Proof.Lts as lts
 
 abbrev Inv-loop : tie.InvT-loop
 Inv-loop table hi x a₀ z₀ a z = (a ≤ z) × (z ≤ hi) × (Rises table hi → Bracket (serialAt table) 0 hi x a z)

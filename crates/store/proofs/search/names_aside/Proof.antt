@@ -5,8 +5,6 @@ mod Tie
 use borrow.Author.Needs.{needs}
 use Rattle.store.proofs.search.names_aside.Statement.{statement}
 use Rattle.store.proofs.search.names_aside.Proof.Tie as tie
-use Rattle.store.proofs.Walked.search.names_aside.Reads as reads
-use Rattle.store.proofs.search.names_aside.Proof.Lts as lts
 
 aside-in-requires : tie.Need-aside-in-requires
 aside-in-requires c = search needs

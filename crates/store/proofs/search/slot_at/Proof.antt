@@ -6,8 +6,6 @@ mod Tie
 use borrow.Author.Needs.{needs}
 use Rattle.store.proofs.search.slot_at.Statement.{statement}
 use Rattle.store.proofs.search.slot_at.Proof.Tie as tie
-use Rattle.store.proofs.Walked.search.slot_at.Reads as reads
-use Rattle.store.proofs.search.slot_at.Proof.Lts as lts
 
 mul-result : tie.Need-mul-result
 mul-result c = search needs

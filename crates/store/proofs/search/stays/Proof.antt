@@ -1,4 +1,4 @@
-use mathlib.Core.Path.{_≡_, refl, sym, _∙_}
+use mathlib.Core.Path.{refl}
 use Rattle.store.proofs.Seeking.{stays-spot, stays-bond, stays-other}
 -- `store::search::stays` meets its contract. `Proof/` has its derivation, written by tools/walk.py. Assumes nothing.
 mod Lts
@@ -6,8 +6,6 @@ mod Tie
 use borrow.Author.Needs.{needs}
 use Rattle.store.proofs.search.stays.Statement.{statement}
 use Rattle.store.proofs.search.stays.Proof.Tie as tie
-use Rattle.store.proofs.Walked.search.stays.Reads as reads
-use Rattle.store.proofs.search.stays.Proof.Lts as lts
 
 is-coord-requires : tie.Need-is-coord-requires
 is-coord-requires c = search needs

@@ -4,7 +4,6 @@ use Prim.Native.Nat.{_*_, _-_}
 use lib.ListN.{length}
 use native.Mathlib.Omega.{arith}
 use mathlib.Core.Path.{ap}
-use mathlib.Core.Path.{_≡_, refl, sym, _∙_}
 use Rattle.gate.proofs.Sofar.{sofar-start, sofar-rising, sofar-done, turn-refused, turn-next}
 use Rattle.store.proofs.Lines.{row-small, need-done, fits-done, kept-done}
 use Rattle.store.proofs.Looking.{Looked, looked-start, looked-next, looked-rises}
@@ -14,8 +13,6 @@ mod Tie
 use borrow.Author.Needs.{needs}
 use Rattle.store.proofs.survey.look_over.Statement.{statement}
 use Rattle.store.proofs.survey.look_over.Proof.Tie as tie
-use Rattle.store.proofs.Walked.survey.look_over.Reads as reads
-use Rattle.store.proofs.survey.look_over.Proof.Lts as lts
 
 abbrev Inv-loop : tie.InvT-loop
 Inv-loop text table i₀ s₀ b₀ k₀ fit₀ kept₀ i s b k fit kept = Looked text table i b s k fit kept
