@@ -1,12 +1,13 @@
 -- What the C functions answer, and what they leave in the memory that is lent to them.
 use Prim.Native.Nat.{ℕ}
-use mathlib.Core.List.{List, [], _∷_}
+use mathlib.Core.List.{List, [], _∷_, _++_}
 use mathlib.Core.Bool.{Bool, not}
 use lib.Dec.{eqb, ltb}
-use lib.ListN.{length}
+use lib.ListN.{length, drop}
 use lib.Ieee.{Float}
 use Rattle.ascii.specs.Tests.{pick}
-use Rattle.line.specs.Lines.{readLine, numberOf}
+use Rattle.line.specs.declared.Answer.{Answer}
+use Rattle.line.specs.declared.Answer.the-variants as line
 use Rattle.gate.specs.declared.Verdict.{Verdict}
 use Rattle.slots.specs.declared.Slot.{Slot}
 use Rattle.slots.specs.declared.Filling.{Filling}
@@ -15,7 +16,6 @@ use Rattle.feed.specs.declared.Drawn.{Drawn}
 use Rattle.feed.specs.declared.Drawn.the-variants.{Dot, Stroke, Nothing}
 use Rattle.feed.specs.declared.Framed.{Framed}
 use Rattle.feed.specs.declared.Framed.the-variants as framed
-use Rattle.table.specs.Table.{over}
 
 -- the number that is returned, and what the lent memory then holds
 pub record Answered (A : Type 0) : Type 0 where
@@ -51,12 +51,10 @@ abbrev pub slotAnswer : Filling → Slot → Answered Slot
 slotAnswer (Filled s) found = answered 0 s
 slotAnswer (Refused n) found = answered n found
 
--- 1, 3, 4, 6, then 17; the line's own bytes are written over the first 80
-unfoldable pub rewriteAnswer : List ℕ → List ℕ → Answered (List ℕ)
-rewriteAnswer l out =
-    pick (not (eqb (numberOf (readLine l)) 0)) (answered (numberOf (readLine l)) out)
-    (pick (ltb (length out) 80) (answered 17 out)
-    (answered 0 (over l out)))
+-- 17: there is no room; else the line's own bytes are the first 80; a refused line leaves all as found
+abbrev pub rewriteAnswer : Answer → List ℕ → List ℕ → Answered (List ℕ)
+rewriteAnswer (line.Read r) l found = pick (ltb (length found) 80) (answered 17 found) (answered 0 (l ++ drop 80 found))
+rewriteAnswer (line.Refused n) l found = answered n found
 
 -- 1: drawn; 0: nothing to draw, all as found
 abbrev pub dotAnswer : Drawn → List Float → Answered (List Float)

@@ -2,8 +2,17 @@
 use feed::Drawn;
 use feed::Framed;
 use gate::Verdict;
+use slots::Filling;
+use slots::Slot;
 ghost use mathlib.Core.Path.{_≡_};
-ghost use Rattle.station.specs.Boundary.{answered, twelveOf, dotAnswer, strokeAnswer, frameAnswer};
+ghost use Rattle.slots.specs.Slots.{slotLine};
+ghost use Rattle.station.specs.Boundary.{answered, twelveOf, slotAnswer, dotAnswer, strokeAnswer, frameAnswer};
+
+// What filling a slot answers, and what the slot then holds.
+pub struct Filled {
+    pub number: u32,
+    pub slot: Slot,
+}
 
 // Number, offending line, good lines, then the nine counts.
 pub fn twelve(v: Verdict) -> [u64; 12]
@@ -13,7 +22,45 @@ pub fn twelve(v: Verdict) -> [u64; 12]
     let line = v.line;
     let good = v.good;
     let c = v.counts;
-    [number, line, good, c.remark, c.het, c.helix, c.sheet, c.xform, c.coord, c.ter, c.conect, c.seq]
+    [
+        number,
+        line,
+        good,
+        c.remark,
+        c.het,
+        c.helix,
+        c.sheet,
+        c.xform,
+        c.coord,
+        c.ter,
+        c.conect,
+        c.seq,
+    ]
+}
+
+// The slot of a line, or the one that was found.
+pub fn fill(line: &[u8], found: Slot) -> Filled
+    ensures { λ r. ⌜ answered (r .number) (r .slot) ≡ slotAnswer (slotLine (now (line .entry))) found ⌝ }
+{
+    match slots::slot_of_line(line) {
+        Filling::Filled(s) => Filled { number: 0, slot: s },
+        Filling::Refused(n) => Filled {
+            number: n as u32,
+            slot: found,
+        },
+    }
+}
+
+pub fn filled_number(f: Filled) -> u32
+    ensures { λ r. ⌜ r ≡ f .number ⌝ }
+{
+    f.number
+}
+
+pub fn filled_slot(f: Filled) -> Slot
+    ensures { λ r. ⌜ r ≡ f .slot ⌝ }
+{
+    f.slot
 }
 
 pub fn put_dot(d: Drawn, out: &mut [f64; 3]) -> u32
