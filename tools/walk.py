@@ -34,24 +34,32 @@ def generate(repo, name, out):
     if "generated=" not in r.stdout + r.stderr:
         sys.exit((r.stdout + r.stderr)[:4000])
 
-bare = f"{tmp}/bare"  # the crates with no proofs, for the structs' sizes: what is half written does not stand in the way
+bare = f"{tmp}/bare"  # CRATE with no proofs, for the structs' sizes: what is half written does not stand in the way
 shutil.rmtree(f"{bare}/crates", ignore_errors=True)  # target/ stays: what bare depends on is not proved again
 os.makedirs(f"{bare}/crates", exist_ok=True)
 shutil.copy("crates.txt", f"{bare}/crates.txt")
 for c in os.listdir("crates"):
-    os.makedirs(f"{bare}/crates/{c}")
-    for d in ("src", "specs") if c in {s.crate for s in structs} else ("src", "specs", "proofs"):
-        if os.path.exists(f"crates/{c}/{d}"): os.symlink(os.path.abspath(f"crates/{c}/{d}"), f"{bare}/crates/{c}/{d}")
+    if c != crate: os.symlink(os.path.abspath(f"crates/{c}"), f"{bare}/crates/{c}")
+for d in ("src", "specs"):
+    os.makedirs(f"{bare}/{here}", exist_ok=True)
+    if os.path.exists(f"{here}/{d}"): os.symlink(os.path.abspath(f"{here}/{d}"), f"{bare}/{here}/{d}")
 for c in {s.crate for s in structs}:
     generate(bare, c, f"{tmp}/real/{c}")
 needs = {l.split(":")[0]: l.split(":")[1].split() for l in open("crates.txt") if ":" in l}
-between = {c for c in needs[crate] if {s.crate for s in structs} & set(needs.get(c, []))}  # crates that know a struct: they too are twins
-sources = {c: {} for c in {s.crate for s in structs} | {crate} | between}
-for c in sources:
-    for d, _, fs in os.walk(f"crates/{c}/src"):
-        for f in fs:
-            p = os.path.join(d, f)
-            sources[c][os.path.relpath(p, f"crates/{c}")] = re.sub(r"//.*", "", open(p).read())
+
+def source(c):  # the files of a crate, with no comments
+    paths = [os.path.join(d, f) for d, _, fs in os.walk(f"crates/{c}/src") for f in fs]
+    return {os.path.relpath(p, f"crates/{c}"): re.sub(r"//.*", "", open(p).read()) for p in paths}
+
+def lends(c):  # whether CRATE calls a function of the crate c that takes or gives a struct
+    text, own = "".join(source(c).values()), "".join(source(crate).values())
+    heads = re.findall(r"\bfn (\w+)\s*(\([^{]*?)(?=\brequires\b|\bensures\b|\{)", text)
+    return any(re.search(rf"\b{s.name}\b", h) for n, h in heads for s in structs if re.search(rf"\b{c}::{n}\b", own))
+
+twins = {c for c in needs[crate] if c in needs and lends(c)}  # they too are twins, and so are the crates between
+while more := {c for c in needs[crate] if c not in twins and twins & set(needs.get(c, []))}:
+    twins |= more
+sources = {c: source(c) for c in twins | {crate}}
 everything = "".join(t for fs in sources.values() for t in fs.values())
 for s in structs:
     laws = f"{tmp}/real/{s.crate}/Rattle.{s.crate}.proofs/proofs/" + "/".join(s.mods) + "/Laws.antt"
@@ -108,7 +116,9 @@ def twin(text, c, mod, kept):
     text = re.sub(r"^\s*ghost use .*?;", "", text, flags=re.M | re.S)
     text = re.sub(r"#\[[^\]]*\]|extern \"C\" (?=fn)", "", text)  # an array is not passed to C by value
     for s in structs:
-        if s.crate == c and s.mods[:-1] == mod:
+        if s.crate not in sources:  # its crate is no twin: the array stands in each file that names the struct
+            text = re.sub(rf"^\s*(?:pub )?use {s.crate}::{s.path};", f"\ntype {s.name} = [u{s.w}; {s.n}];", text, flags=re.M)
+        elif s.crate == c and s.mods[:-1] == mod:
             m = re.search(rf"^\s*(?:pub )?struct {s.name}\s*([({{])", text, re.M)
             e = close(text, m.start(1))
             text = text[:m.start()] + f"\npub type {s.name} = [u{s.w}; {s.n}];\n" + text[e + (m.group(1) == "("):]
@@ -139,7 +149,7 @@ def twin(text, c, mod, kept):
         out += "\n" + (text[b:i] if "::".join(mod + [m.group(1)]) == kept or r and "&" in r.group(1) else "{ " + (value(r.group(1), c) if r else "") + " }")
     return "ghost use Prim.Native.Nat.{_≤_};\n" + out + text[i:]
 
-repo = f"{tmp}/twin"
+repo = f"{tmp}/twin-" + "-".join(s.name for s in structs)  # one for each list of structs, since other crates are twins
 shutil.rmtree(f"{repo}/crates", ignore_errors=True)
 os.makedirs(f"{repo}/crates", exist_ok=True)
 shutil.copy("crates.txt", f"{repo}/crates.txt")

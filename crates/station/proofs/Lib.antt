@@ -1,0 +1,5 @@
+mod Rewriting
+pub mod FilledAs
+pub mod SlotAs
+pub mod TallyAs
+pub mod Walked

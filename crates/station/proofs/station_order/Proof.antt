@@ -1,0 +1,29 @@
+-- `station::station_order` meets its contract. `Proof/` has its derivation, written by tools/walk.py. Assumes nothing.
+mod Lts
+mod Tie
+use borrow.Author.Needs.{needs}
+use Rattle.station.proofs.station_order.Statement.{statement}
+use Rattle.station.proofs.station_order.Proof.Tie as tie
+use Rattle.station.proofs.Walked.station_order.Reads as reads
+use Rattle.station.proofs.station_order.Proof.Lts as lts
+
+order-requires : tie.Need-order-requires
+order-requires c = search needs
+
+cast-result : tie.Need-cast-result
+cast-result c = search needs
+
+same-length : tie.Need-same-length
+same-length c = search needs
+
+returns : tie.Need-returns
+returns c = c .before .order .ensures
+
+pub station-order-spec : {M : Type 1} → statement M
+station-order-spec =
+    tie.close
+    (tie.spec
+    order-requires
+    cast-result
+    same-length
+    returns)

@@ -1,0 +1,127 @@
+// The names that C calls. Each function is a thin cover over a proved one, and says the same.
+mod answers;
+
+use answers::fill;
+use answers::filled_number;
+use answers::filled_slot;
+use answers::put_dot;
+use answers::put_frame;
+use answers::put_stroke;
+use answers::twelve;
+use fields::FragmentNumber;
+use line::Answer;
+use master::Tally;
+use slots::Slot;
+ghost use mathlib.Core.Path.{_≡_};
+ghost use Rattle.gate.specs.Gate.{checkOf};
+ghost use Rattle.line.specs.Lines.{readLine};
+ghost use Rattle.slots.specs.Slots.{slotLine};
+ghost use Rattle.table.specs.Table.{told, loadOf, orderOf};
+ghost use Rattle.table.specs.Deal.{saveOf, trayOf};
+ghost use Rattle.tally.specs.Tally.{counted, tallyLine};
+ghost use Rattle.feed.specs.Feed.{dotOf, strokeOf};
+ghost use Rattle.feed.specs.Frame.{frameOf};
+ghost use Rattle.station.specs.Boundary.{answered, twelveOf, asideOf, slotAnswer, rewriteAnswer, dotAnswer, strokeAnswer, frameAnswer};
+
+// The check of a text: 0, 1-12.
+#[no_mangle]
+pub extern "C" fn station_check(text: &[u8], answer: &mut [u64; 12]) -> u32
+    ensures { λ r. ⌜ r ≡ checkOf (now (text .entry)) .number ⌝ }
+    ensures { λ r. ⌜ now (answer .exit) ≡ twelveOf (checkOf (now (text .entry))) ⌝ }
+{
+    let v = gate::check(text);
+    *answer = twelve(v);
+    v.number as u32
+}
+
+// Fills the table from the text: 0, 1-12, 13; how many slots, 0 if refused.
+#[no_mangle]
+pub extern "C" fn station_load(text: &[u8], table: &mut [Slot], count: &mut u64) -> u32
+    ensures { λ r. ⌜ told r (now (count .exit)) (now (table .exit)) ≡ loadOf (now (text .entry)) (now (table .entry)) ⌝ }
+{
+    let o = store::load(text, table);
+    *count = o.count as u64;
+    o.number as u32
+}
+
+// Sets a fragment aside, or puts it back where `aside` is 0: 0, 1-12, 13, 18, 15, 16.
+#[no_mangle]
+pub extern "C" fn station_order(text: &[u8], table: &mut [Slot], fragment: u32, aside: u8) -> u32
+    ensures { λ r. ⌜ told r 0 (now (table .exit)) ≡ orderOf (now (text .entry)) (now (table .entry)) fragment (asideOf aside) ⌝ }
+{
+    let n = store::order(text, table, FragmentNumber(fragment), aside != 0);
+    n as u32
+}
+
+// Writes the text without what is set aside, MASTER recounted: 0, 1-12, 13, 18, 17; how many bytes, 0 if refused.
+#[no_mangle]
+pub extern "C" fn station_save(text: &[u8], table: &[Slot], out: &mut [u8], count: &mut u64) -> u32
+    ensures { λ r. ⌜ told r (now (count .exit)) (now (out .exit)) ≡ saveOf (now (text .entry)) (now (table .entry)) (now (out .entry)) ⌝ }
+{
+    let o = store::save(text, table, out);
+    *count = o.count as u64;
+    o.number as u32
+}
+
+// Writes the lines that saving drops: likewise.
+#[no_mangle]
+pub extern "C" fn station_tray(text: &[u8], table: &[Slot], out: &mut [u8], count: &mut u64) -> u32
+    ensures { λ r. ⌜ told r (now (count .exit)) (now (out .exit)) ≡ trayOf (now (text .entry)) (now (table .entry)) (now (out .entry)) ⌝ }
+{
+    let o = store::tray(text, table, out);
+    *count = o.count as u64;
+    o.number as u32
+}
+
+// The slot of one line: 0; or 1, 3, 4, 6 and the slot as found.
+#[no_mangle]
+pub extern "C" fn station_slot_of_line(line: &[u8], slot: &mut Slot) -> u32
+    ensures { λ r. ⌜ answered r (now (slot .exit)) ≡ slotAnswer (slotLine (now (line .entry))) (now (slot .entry)) ⌝ }
+{
+    let f = fill(line, *slot);
+    *slot = filled_slot(f);
+    filled_number(f)
+}
+
+// Reads one typed line and writes its record, which is the line again: 0; or 1, 3, 4, 6, 17 and all as found.
+#[no_mangle]
+pub extern "C" fn station_rewrite_line(line: &[u8], out: &mut [u8]) -> u32
+    ensures { λ r. ⌜ answered r (now (out .exit)) ≡ rewriteAnswer (readLine (now (line .entry))) (now (line .entry)) (now (out .entry)) ⌝ }
+{
+    match line::read_line(line) {
+        Answer::Read(x) => line::write_record(out, x) as u32,
+        Answer::Refused(n) => n as u32,
+    }
+}
+
+// The dot of a slot: 1; or 0 and all as found.
+#[no_mangle]
+pub extern "C" fn station_dot(slot: &Slot, out: &mut [f64; 3]) -> u32
+    ensures { λ r. ⌜ answered r (now (out .exit)) ≡ dotAnswer (dotOf (now (slot .entry))) (now (out .entry)) ⌝ }
+{
+    put_dot(feed::dot(*slot), out)
+}
+
+// The stroke from one slot to another: 1; or 0 and all as found.
+#[no_mangle]
+pub extern "C" fn station_stroke(a: &Slot, b: &Slot, out: &mut [f64; 6]) -> u32
+    ensures { λ r. ⌜ answered r (now (out .exit)) ≡ strokeAnswer (strokeOf (now (a .entry)) (now (b .entry))) (now (out .entry)) ⌝ }
+{
+    put_stroke(feed::stroke(*a, *b), out)
+}
+
+// The frame of a table: 0; or 19 and all as found.
+#[no_mangle]
+pub extern "C" fn station_frame(table: &[Slot], out: &mut [f64; 9]) -> u32
+    ensures { λ r. ⌜ answered r (now (out .exit)) ≡ frameAnswer (frameOf (now (table .entry))) (now (out .entry)) ⌝ }
+{
+    put_frame(feed::frame(table), out)
+}
+
+// Counts a line in: 0; or 4, 14 and the tally as found.
+#[no_mangle]
+pub extern "C" fn station_count_line(tally: &mut Tally, line: &[u8]) -> u32
+    ensures { λ r. ⌜ counted r (now (tally .exit)) ≡ tallyLine (now (tally .entry)) (now (line .entry)) ⌝ }
+{
+    tally::count_line(tally, line) as u32
+}
