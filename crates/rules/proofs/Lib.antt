@@ -1,2 +1,3 @@
+mod Others
 pub mod Returns
 pub mod Laws

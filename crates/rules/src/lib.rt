@@ -229,9 +229,9 @@ pub fn next(s: State, l: Line) -> State
     ensures { λ r. ⌜ r ≡ nextOf s l ⌝ }
 {
     match l {
-        Line::Bad(_) => s,
-        Line::Wrong(_, _) => s,
-        Line::Carried(k) => carried_next(s, k),
-        Line::Typed(r) => typed_next(s, r),
+        Line::Carried(k) => return carried_next(s, k),
+        Line::Typed(r) => return typed_next(s, r),
+        _ => (),
     }
+    s
 }

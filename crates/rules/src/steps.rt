@@ -15,14 +15,11 @@ pub fn last_next(last: u32, r: Record) -> u32
     ensures { λ n. ⌜ n ≡ lastNext last r ⌝ }
 {
     match r {
-        Record::Coordinate(_, a) => a.identity.serial.0,
-        Record::Ter(t) => t.serial.0,
-        Record::Helix(_) => last,
-        Record::Sheet(_) => last,
-        Record::Conect(_) => last,
-        Record::Master(_) => last,
-        Record::End => last,
+        Record::Coordinate(_, a) => return a.identity.serial.0,
+        Record::Ter(t) => return t.serial.0,
+        _ => (),
     }
+    last
 }
 
 pub fn no_run() -> Run
@@ -59,61 +56,41 @@ pub fn run_next(u: Run, r: Record) -> Run
     ensures { λ b. ⌜ b ≡ runNext u r ⌝ }
 {
     match r {
-        Record::Coordinate(het, a) => site_next(u, het, a.identity.residue),
-        Record::Ter(_) => no_run(),
-        Record::Helix(_) => u,
-        Record::Sheet(_) => u,
-        Record::Conect(_) => u,
-        Record::Master(_) => u,
-        Record::End => u,
+        Record::Coordinate(het, a) => return site_next(u, het, a.identity.residue),
+        Record::Ter(_) => return no_run(),
+        _ => (),
     }
+    u
 }
 
 pub fn bond_next(last: u32, r: Record) -> u32
     ensures { λ n. ⌜ n ≡ bondNext last r ⌝ }
 {
-    match r {
-        Record::Coordinate(_, _) => last,
-        Record::Ter(_) => last,
-        Record::Helix(_) => last,
-        Record::Sheet(_) => last,
-        Record::Conect(c) => c.serial.0,
-        Record::Master(_) => last,
-        Record::End => last,
+    if let Record::Conect(c) = r {
+        return c.serial.0;
     }
+    last
 }
 
 pub fn helix_next(helix: u32, r: Record) -> u32
     ensures { λ n. ⌜ n ≡ helixNext helix r ⌝ }
 {
-    match r {
-        Record::Coordinate(_, _) => helix,
-        Record::Ter(_) => helix,
-        Record::Helix(h) => h.extent.serial,
-        Record::Sheet(_) => helix,
-        Record::Conect(_) => helix,
-        Record::Master(_) => helix,
-        Record::End => helix,
+    if let Record::Helix(h) = r {
+        return h.extent.serial;
     }
+    helix
 }
 
 pub fn ladder_next(d: Ladder, r: Record) -> Ladder
     ensures { λ b. ⌜ b ≡ ladderNext d r ⌝ }
 {
-    match r {
-        Record::Coordinate(_, _) => d,
-        Record::Ter(_) => d,
-        Record::Helix(_) => d,
-        Record::Sheet(s) => {
-            let id = s.strand.id;
-            Ladder {
-                id: id,
-                strand: s.strand.strand,
-                strands: s.strand.strands,
-            }
-        }
-        Record::Conect(_) => d,
-        Record::Master(_) => d,
-        Record::End => d,
+    if let Record::Sheet(s) = r {
+        let id = s.strand.id;
+        return Ladder {
+            id: id,
+            strand: s.strand.strand,
+            strands: s.strand.strands,
+        };
     }
+    d
 }

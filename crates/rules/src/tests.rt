@@ -24,14 +24,11 @@ pub fn serial_bad(last: u32, r: Record) -> bool
     ensures { λ b. ⌜ b ≡ serialBad last r ⌝ }
 {
     match r {
-        Record::Coordinate(_, a) => a.identity.serial.0 <= last,
-        Record::Ter(t) => t.serial.0 <= last,
-        Record::Helix(_) => false,
-        Record::Sheet(_) => false,
-        Record::Conect(_) => false,
-        Record::Master(_) => false,
-        Record::End => false,
+        Record::Coordinate(_, a) => return a.identity.serial.0 <= last,
+        Record::Ter(t) => return t.serial.0 <= last,
+        _ => (),
     }
+    false
 }
 
 // ---- 8: a run is the coordinate lines since the last TER
@@ -89,29 +86,21 @@ pub fn run_bad(u: Run, r: Record) -> bool
     ensures { λ b. ⌜ b ≡ runBad u r ⌝ }
 {
     match r {
-        Record::Coordinate(het, a) => site_bad(u, het, a.identity.residue.chain),
-        Record::Ter(t) => close_bad(u, t.residue),
-        Record::Helix(_) => u.atom,
-        Record::Sheet(_) => u.atom,
-        Record::Conect(_) => u.atom,
-        Record::Master(_) => u.atom,
-        Record::End => u.atom,
+        Record::Coordinate(het, a) => return site_bad(u, het, a.identity.residue.chain),
+        Record::Ter(t) => return close_bad(u, t.residue),
+        _ => (),
     }
+    u.atom
 }
 
 // ---- 9: CONECT serials do not fall, and each number on the line is the serial of an atom (known)
 pub fn bond_bad(known: bool, last: u32, r: Record) -> bool
     ensures { λ b. ⌜ b ≡ bondBad known last r ⌝ }
 {
-    match r {
-        Record::Coordinate(_, _) => false,
-        Record::Ter(_) => false,
-        Record::Helix(_) => false,
-        Record::Sheet(_) => false,
-        Record::Conect(c) => or_of(not_of(known), c.serial.0 < last),
-        Record::Master(_) => false,
-        Record::End => false,
+    if let Record::Conect(c) = r {
+        return or_of(not_of(known), c.serial.0 < last);
     }
+    false
 }
 
 // ---- 10: helix serials are 1, 2, 3, ..; a sheet is strands 1 to n
@@ -147,27 +136,19 @@ pub fn fold_bad(helix: u32, d: Ladder, r: Record) -> bool
     ensures { λ b. ⌜ b ≡ foldBad helix d r ⌝ }
 {
     match r {
-        Record::Coordinate(_, _) => unfinished(d),
-        Record::Ter(_) => unfinished(d),
-        Record::Helix(h) => helix_bad(helix, d, h.extent.serial),
-        Record::Sheet(s) => strand_bad(d, s.strand),
-        Record::Conect(_) => unfinished(d),
-        Record::Master(_) => unfinished(d),
-        Record::End => unfinished(d),
+        Record::Helix(h) => return helix_bad(helix, d, h.extent.serial),
+        Record::Sheet(s) => return strand_bad(d, s.strand),
+        _ => (),
     }
+    unfinished(d)
 }
 
 // ---- 11: MASTER holds the true counts
 pub fn count_bad(n: Counts, r: Record) -> bool
     ensures { λ b. ⌜ b ≡ countBad n r ⌝ }
 {
-    match r {
-        Record::Coordinate(_, _) => false,
-        Record::Ter(_) => false,
-        Record::Helix(_) => false,
-        Record::Sheet(_) => false,
-        Record::Conect(_) => false,
-        Record::Master(t) => not_of(same_counts(t, n)),
-        Record::End => false,
+    if let Record::Master(t) = r {
+        return not_of(same_counts(t, n));
     }
+    false
 }

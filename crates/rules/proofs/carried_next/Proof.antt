@@ -4,13 +4,13 @@ use Rattle.rules.proofs.carried_next.Statement.{statement}
 use Rattle.rules.proofs.carried_next.Tie as tie
 
 place-of-requires : tie.Need-place-of-requires
-place-of-requires c κs = search needs
+place-of-requires c κs = tt
 
 count-of-requires : tie.Need-count-of-requires
-count-of-requires c κs = search needs
+count-of-requires c κs = tt
 
 raise-requires : tie.Need-raise-requires
-raise-requires c κs = search needs
+raise-requires c κs = c .before .before .before .before .before .pre .0
 
 add-t9 : tie.Need-add-t9
 add-t9 c = search needs

@@ -1,31 +1,30 @@
 use Rattle.rules.specs.Rules.{judgeOf}
-use borrow.Author.Needs.{needs}
 use Rattle.rules.proofs.judge.Statement.{statement}
 use Rattle.rules.proofs.judge.Tie as tie
 
 enum-known-l : tie.Need-enum-known-l
-enum-known-l c = search needs
+enum-known-l c = c .match .keys1
 
 enum-known-l-2 : tie.Need-enum-known-l-2
-enum-known-l-2 c = search needs
+enum-known-l-2 c = c .match .keys2
 
 place-bad-requires : tie.Need-place-bad-requires
-place-bad-requires c κs = search needs
+place-bad-requires c κs = tt
 
 choose-requires : tie.Need-choose-requires
-choose-requires c κs = search needs
+choose-requires c κs = tt
 
 enum-known-l-3 : tie.Need-enum-known-l-3
-enum-known-l-3 c = search needs
+enum-known-l-3 c = c .match .keys3
 
 carried-bad-requires : tie.Need-carried-bad-requires
-carried-bad-requires c κs = search needs
+carried-bad-requires c κs = tt
 
 enum-known-l-4 : tie.Need-enum-known-l-4
-enum-known-l-4 c = search needs
+enum-known-l-4 c = c .match .keys4
 
 typed-bad-requires : tie.Need-typed-bad-requires
-typed-bad-requires c κs = search needs
+typed-bad-requires c κs = tt
 
 returns : tie.Need-returns
 unfolding judgeOf

@@ -1,10 +1,9 @@
 use Rattle.rules.specs.Rules.{startOf}
-use borrow.Author.Needs.{needs}
 use Rattle.rules.proofs.start.Statement.{statement}
 use Rattle.rules.proofs.start.Tie as tie
 
 no-run-requires : tie.Need-no-run-requires
-no-run-requires c κs = search needs
+no-run-requires c κs = tt
 
 returns : tie.Need-returns
 unfolding startOf

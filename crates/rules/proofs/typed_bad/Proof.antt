@@ -1,46 +1,45 @@
 use Rattle.rules.specs.Rules.{typedBad}
-use borrow.Author.Needs.{needs}
 use Rattle.rules.proofs.typed_bad.Statement.{statement}
 use Rattle.rules.proofs.typed_bad.Tie as tie
 
 count-bad-requires : tie.Need-count-bad-requires
-count-bad-requires c κs = search needs
+count-bad-requires c κs = tt
 
 choose-requires : tie.Need-choose-requires
-choose-requires c κs = search needs
+choose-requires c κs = tt
 
 fold-bad-requires : tie.Need-fold-bad-requires
-fold-bad-requires c κs = search needs
+fold-bad-requires c κs = tt
 
 choose-requires-2 : tie.Need-choose-requires-2
-choose-requires-2 c κs = search needs
+choose-requires-2 c κs = tt
 
 bond-bad-requires : tie.Need-bond-bad-requires
-bond-bad-requires c κs = search needs
+bond-bad-requires c κs = tt
 
 choose-requires-3 : tie.Need-choose-requires-3
-choose-requires-3 c κs = search needs
+choose-requires-3 c κs = tt
 
 run-bad-requires : tie.Need-run-bad-requires
-run-bad-requires c κs = search needs
+run-bad-requires c κs = tt
 
 choose-requires-4 : tie.Need-choose-requires-4
-choose-requires-4 c κs = search needs
+choose-requires-4 c κs = tt
 
 serial-bad-requires : tie.Need-serial-bad-requires
-serial-bad-requires c κs = search needs
+serial-bad-requires c κs = tt
 
 choose-requires-5 : tie.Need-choose-requires-5
-choose-requires-5 c κs = search needs
+choose-requires-5 c κs = tt
 
 record-kind-requires : tie.Need-record-kind-requires
-record-kind-requires c κs = search needs
+record-kind-requires c κs = tt
 
 place-bad-requires : tie.Need-place-bad-requires
-place-bad-requires c κs = search needs
+place-bad-requires c κs = tt
 
 choose-requires-6 : tie.Need-choose-requires-6
-choose-requires-6 c κs = search needs
+choose-requires-6 c κs = tt
 
 returns : tie.Need-returns
 unfolding typedBad

@@ -1,16 +1,15 @@
 use Rattle.rules.specs.Places.{placeBad}
-use borrow.Author.Needs.{needs}
 use Rattle.rules.proofs.order.place_bad.Statement.{statement}
 use Rattle.rules.proofs.order.place_bad.Tie as tie
 
 place-of-requires : tie.Need-place-of-requires
-place-of-requires c κs = search needs
+place-of-requires c κs = tt
 
 and-of-requires : tie.Need-and-of-requires
-and-of-requires c κs = search needs
+and-of-requires c κs = tt
 
 not-of-requires : tie.Need-not-of-requires
-not-of-requires c κs = search needs
+not-of-requires c κs = tt
 
 returns : tie.Need-returns
 unfolding placeBad

@@ -1,174 +1,173 @@
-use borrow.Author.Needs.{needs}
 use Rattle.rules.proofs.order.place_of.Statement.{statement}
 use Rattle.rules.proofs.order.place_of.Tie as tie
 
 enum-told : tie.Need-enum-told
-enum-told c = search needs
+enum-told c = c .match .keys1
 
 follows-requires : tie.Need-follows-requires
-follows-requires c κs = search needs
+follows-requires c κs = tt
 
 enum-told-2 : tie.Need-enum-told-2
-enum-told-2 c = search needs
+enum-told-2 c = c .match .keys2
 
 follows-requires-2 : tie.Need-follows-requires-2
-follows-requires-2 c κs = search needs
+follows-requires-2 c κs = tt
 
 enum-told-3 : tie.Need-enum-told-3
-enum-told-3 c = search needs
+enum-told-3 c = c .match .keys3
 
 follows-requires-3 : tie.Need-follows-requires-3
-follows-requires-3 c κs = search needs
+follows-requires-3 c κs = tt
 
 enum-told-4 : tie.Need-enum-told-4
-enum-told-4 c = search needs
+enum-told-4 c = c .match .keys4
 
 follows-requires-4 : tie.Need-follows-requires-4
-follows-requires-4 c κs = search needs
+follows-requires-4 c κs = tt
 
 enum-told-5 : tie.Need-enum-told-5
-enum-told-5 c = search needs
+enum-told-5 c = c .match .keys5
 
 follows-requires-5 : tie.Need-follows-requires-5
-follows-requires-5 c κs = search needs
+follows-requires-5 c κs = tt
 
 enum-told-6 : tie.Need-enum-told-6
-enum-told-6 c = search needs
+enum-told-6 c = c .match .keys6
 
 follows-requires-6 : tie.Need-follows-requires-6
-follows-requires-6 c κs = search needs
+follows-requires-6 c κs = tt
 
 enum-told-7 : tie.Need-enum-told-7
-enum-told-7 c = search needs
+enum-told-7 c = c .match .keys7
 
 follows-requires-7 : tie.Need-follows-requires-7
-follows-requires-7 c κs = search needs
+follows-requires-7 c κs = tt
 
 enum-told-8 : tie.Need-enum-told-8
-enum-told-8 c = search needs
+enum-told-8 c = c .match .keys8
 
 follows-requires-8 : tie.Need-follows-requires-8
-follows-requires-8 c κs = search needs
+follows-requires-8 c κs = tt
 
 enum-told-9 : tie.Need-enum-told-9
-enum-told-9 c = search needs
+enum-told-9 c = c .match .keys9
 
 follows-requires-9 : tie.Need-follows-requires-9
-follows-requires-9 c κs = search needs
+follows-requires-9 c κs = tt
 
 enum-told-10 : tie.Need-enum-told-10
-enum-told-10 c = search needs
+enum-told-10 c = c .match .keys10
 
 follows-requires-10 : tie.Need-follows-requires-10
-follows-requires-10 c κs = search needs
+follows-requires-10 c κs = tt
 
 enum-told-11 : tie.Need-enum-told-11
-enum-told-11 c = search needs
+enum-told-11 c = c .match .keys11
 
 follows-requires-11 : tie.Need-follows-requires-11
-follows-requires-11 c κs = search needs
+follows-requires-11 c κs = tt
 
 enum-told-12 : tie.Need-enum-told-12
-enum-told-12 c = search needs
+enum-told-12 c = c .match .keys12
 
 follows-requires-12 : tie.Need-follows-requires-12
-follows-requires-12 c κs = search needs
+follows-requires-12 c κs = tt
 
 enum-told-13 : tie.Need-enum-told-13
-enum-told-13 c = search needs
+enum-told-13 c = c .match .keys13
 
 follows-requires-13 : tie.Need-follows-requires-13
-follows-requires-13 c κs = search needs
+follows-requires-13 c κs = tt
 
 enum-told-14 : tie.Need-enum-told-14
-enum-told-14 c = search needs
+enum-told-14 c = c .match .keys14
 
 follows-requires-14 : tie.Need-follows-requires-14
-follows-requires-14 c κs = search needs
+follows-requires-14 c κs = tt
 
 enum-told-15 : tie.Need-enum-told-15
-enum-told-15 c = search needs
+enum-told-15 c = c .match .keys15
 
 follows-requires-15 : tie.Need-follows-requires-15
-follows-requires-15 c κs = search needs
+follows-requires-15 c κs = tt
 
 enum-told-16 : tie.Need-enum-told-16
-enum-told-16 c = search needs
+enum-told-16 c = c .match .keys16
 
 follows-requires-16 : tie.Need-follows-requires-16
-follows-requires-16 c κs = search needs
+follows-requires-16 c κs = tt
 
 enum-told-17 : tie.Need-enum-told-17
-enum-told-17 c = search needs
+enum-told-17 c = c .match .keys17
 
 follows-requires-17 : tie.Need-follows-requires-17
-follows-requires-17 c κs = search needs
+follows-requires-17 c κs = tt
 
 enum-told-18 : tie.Need-enum-told-18
-enum-told-18 c = search needs
+enum-told-18 c = c .match .keys18
 
 follows-requires-18 : tie.Need-follows-requires-18
-follows-requires-18 c κs = search needs
+follows-requires-18 c κs = tt
 
 enum-told-19 : tie.Need-enum-told-19
-enum-told-19 c = search needs
+enum-told-19 c = c .match .keys19
 
 follows-requires-19 : tie.Need-follows-requires-19
-follows-requires-19 c κs = search needs
+follows-requires-19 c κs = tt
 
 enum-told-20 : tie.Need-enum-told-20
-enum-told-20 c = search needs
+enum-told-20 c = c .match .keys20
 
 follows-requires-20 : tie.Need-follows-requires-20
-follows-requires-20 c κs = search needs
+follows-requires-20 c κs = tt
 
 enum-told-21 : tie.Need-enum-told-21
-enum-told-21 c = search needs
+enum-told-21 c = c .match .keys21
 
 follows-requires-21 : tie.Need-follows-requires-21
-follows-requires-21 c κs = search needs
+follows-requires-21 c κs = tt
 
 enum-told-22 : tie.Need-enum-told-22
-enum-told-22 c = search needs
+enum-told-22 c = c .match .keys22
 
 follows-requires-22 : tie.Need-follows-requires-22
-follows-requires-22 c κs = search needs
+follows-requires-22 c κs = tt
 
 enum-told-23 : tie.Need-enum-told-23
-enum-told-23 c = search needs
+enum-told-23 c = c .match .keys23
 
 follows-requires-23 : tie.Need-follows-requires-23
-follows-requires-23 c κs = search needs
+follows-requires-23 c κs = tt
 
 enum-told-24 : tie.Need-enum-told-24
-enum-told-24 c = search needs
+enum-told-24 c = c .match .keys24
 
 follows-requires-24 : tie.Need-follows-requires-24
-follows-requires-24 c κs = search needs
+follows-requires-24 c κs = tt
 
 enum-told-25 : tie.Need-enum-told-25
-enum-told-25 c = search needs
+enum-told-25 c = c .match .keys25
 
 follows-requires-25 : tie.Need-follows-requires-25
-follows-requires-25 c κs = search needs
+follows-requires-25 c κs = tt
 
 enum-told-26 : tie.Need-enum-told-26
-enum-told-26 c = search needs
+enum-told-26 c = c .match .keys26
 
 follows-requires-26 : tie.Need-follows-requires-26
-follows-requires-26 c κs = search needs
+follows-requires-26 c κs = tt
 
 enum-told-27 : tie.Need-enum-told-27
-enum-told-27 c = search needs
+enum-told-27 c = c .match .keys27
 
 follows-requires-27 : tie.Need-follows-requires-27
-follows-requires-27 c κs = search needs
+follows-requires-27 c κs = tt
 
 enum-told-28 : tie.Need-enum-told-28
-enum-told-28 c = search needs
+enum-told-28 c = c .match .keys28
 
 follows-requires-28 : tie.Need-follows-requires-28
-follows-requires-28 c κs = search needs
+follows-requires-28 c κs = tt
 
 returns : tie.Need-returns
 returns c = rw (c .before .enum-told .given .1, c .follows .ensures)

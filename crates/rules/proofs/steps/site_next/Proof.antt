@@ -1,22 +1,21 @@
 use Rattle.rules.specs.Rules.{siteNext}
-use borrow.Author.Needs.{needs}
 use Rattle.rules.proofs.steps.site_next.Statement.{statement}
 use Rattle.rules.proofs.steps.site_next.Tie as tie
 
 not-of-requires : tie.Need-not-of-requires
-not-of-requires c κs = search needs
+not-of-requires c κs = tt
 
 and-of-requires : tie.Need-and-of-requires
-and-of-requires c κs = search needs
+and-of-requires c κs = tt
 
 or-of-requires : tie.Need-or-of-requires
-or-of-requires c κs = search needs
+or-of-requires c κs = tt
 
 not-of-requires-2 : tie.Need-not-of-requires-2
-not-of-requires-2 c κs = search needs
+not-of-requires-2 c κs = tt
 
 or-of-requires-2 : tie.Need-or-of-requires-2
-or-of-requires-2 c κs = search needs
+or-of-requires-2 c κs = tt
 
 returns : tie.Need-returns
 unfolding siteNext

@@ -1,16 +1,15 @@
 use Rattle.rules.specs.Rules.{closeBad}
-use borrow.Author.Needs.{needs}
 use Rattle.rules.proofs.tests.close_bad.Statement.{statement}
 use Rattle.rules.proofs.tests.close_bad.Tie as tie
 
 same-residue-requires : tie.Need-same-residue-requires
-same-residue-requires c κs = search needs
+same-residue-requires c κs = tt
 
 and-of-requires : tie.Need-and-of-requires
-and-of-requires c κs = search needs
+and-of-requires c κs = tt
 
 not-of-requires : tie.Need-not-of-requires
-not-of-requires c κs = search needs
+not-of-requires c κs = tt
 
 returns : tie.Need-returns
 unfolding closeBad

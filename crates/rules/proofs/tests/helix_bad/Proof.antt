@@ -6,13 +6,13 @@ add-e : tie.Need-add-e
 add-e c = search needs
 
 unfinished-requires : tie.Need-unfinished-requires
-unfinished-requires c κs = search needs
+unfinished-requires c κs = tt
 
 not-of-requires : tie.Need-not-of-requires
-not-of-requires c κs = search needs
+not-of-requires c κs = tt
 
 or-of-requires : tie.Need-or-of-requires
-or-of-requires c κs = search needs
+or-of-requires c κs = tt
 
 returns : tie.Need-returns
 returns c = rw (c .or-of .ensures, c .before .not-of .ensures, c .before .before .unfinished .ensures)

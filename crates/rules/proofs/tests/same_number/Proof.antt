@@ -1,28 +1,27 @@
 use Rattle.rules.proofs.Returns.{numbers}
-use borrow.Author.Needs.{needs}
 use Rattle.rules.proofs.tests.same_number.Statement.{statement}
 use Rattle.rules.proofs.tests.same_number.Tie as tie
 
 negative-requires : tie.Need-negative-requires
-negative-requires c κs = search needs
+negative-requires c κs = tt
 
 negative-requires-2 : tie.Need-negative-requires-2
-negative-requires-2 c κs = search needs
+negative-requires-2 c κs = tt
 
 magnitude-requires : tie.Need-magnitude-requires
-magnitude-requires c κs = search needs
+magnitude-requires c κs = tt
 
 magnitude-requires-2 : tie.Need-magnitude-requires-2
-magnitude-requires-2 c κs = search needs
+magnitude-requires-2 c κs = tt
 
 not-of-requires : tie.Need-not-of-requires
-not-of-requires c κs = search needs
+not-of-requires c κs = tt
 
 choose-requires : tie.Need-choose-requires
-choose-requires c κs = search needs
+choose-requires c κs = tt
 
 and-of-requires : tie.Need-and-of-requires
-and-of-requires c κs = search needs
+and-of-requires c κs = tt
 
 returns : tie.Need-returns
 returns c = search numbers

@@ -1,22 +1,21 @@
 use Rattle.rules.specs.Rules.{sameResidue}
-use borrow.Author.Needs.{needs}
 use Rattle.rules.proofs.tests.same_residue.Statement.{statement}
 use Rattle.rules.proofs.tests.same_residue.Tie as tie
 
 same-three-requires : tie.Need-same-three-requires
-same-three-requires c κs = search needs
+same-three-requires c κs = tt
 
 same-number-requires : tie.Need-same-number-requires
-same-number-requires c κs = search needs
+same-number-requires c κs = tt
 
 and-of-requires : tie.Need-and-of-requires
-and-of-requires c κs = search needs
+and-of-requires c κs = tt
 
 and-of-requires-2 : tie.Need-and-of-requires-2
-and-of-requires-2 c κs = search needs
+and-of-requires-2 c κs = tt
 
 and-of-requires-3 : tie.Need-and-of-requires-3
-and-of-requires-3 c κs = search needs
+and-of-requires-3 c κs = tt
 
 returns : tie.Need-returns
 unfolding sameResidue

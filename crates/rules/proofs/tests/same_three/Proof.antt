@@ -1,13 +1,12 @@
 use Rattle.rules.specs.Rules.{sameThree}
-use borrow.Author.Needs.{needs}
 use Rattle.rules.proofs.tests.same_three.Statement.{statement}
 use Rattle.rules.proofs.tests.same_three.Tie as tie
 
 and-of-requires : tie.Need-and-of-requires
-and-of-requires c κs = search needs
+and-of-requires c κs = tt
 
 and-of-requires-2 : tie.Need-and-of-requires-2
-and-of-requires-2 c κs = search needs
+and-of-requires-2 c κs = tt
 
 returns : tie.Need-returns
 unfolding sameThree

@@ -1,25 +1,24 @@
 use Rattle.rules.specs.Rules.{siteBad}
-use borrow.Author.Needs.{needs}
 use Rattle.rules.proofs.tests.site_bad.Statement.{statement}
 use Rattle.rules.proofs.tests.site_bad.Tie as tie
 
 not-of-requires : tie.Need-not-of-requires
-not-of-requires c κs = search needs
+not-of-requires c κs = tt
 
 and-of-requires : tie.Need-and-of-requires
-and-of-requires c κs = search needs
+and-of-requires c κs = tt
 
 and-of-requires-2 : tie.Need-and-of-requires-2
-and-of-requires-2 c κs = search needs
+and-of-requires-2 c κs = tt
 
 not-of-requires-2 : tie.Need-not-of-requires-2
-not-of-requires-2 c κs = search needs
+not-of-requires-2 c κs = tt
 
 and-of-requires-3 : tie.Need-and-of-requires-3
-and-of-requires-3 c κs = search needs
+and-of-requires-3 c κs = tt
 
 choose-requires : tie.Need-choose-requires
-choose-requires c κs = search needs
+choose-requires c κs = tt
 
 returns : tie.Need-returns
 unfolding siteBad

@@ -4,7 +4,7 @@ use Rattle.rules.proofs.tests.strand_bad.Statement.{statement}
 use Rattle.rules.proofs.tests.strand_bad.Tie as tie
 
 same-three-requires : tie.Need-same-three-requires
-same-three-requires c κs = search needs
+same-three-requires c κs = tt
 
 cast-next : tie.Need-cast-next
 cast-next c = search needs
@@ -16,28 +16,28 @@ add-next : tie.Need-add-next
 add-next c = search needs
 
 and-of-requires : tie.Need-and-of-requires
-and-of-requires c κs = search needs
+and-of-requires c κs = tt
 
 and-of-requires-2 : tie.Need-and-of-requires-2
-and-of-requires-2 c κs = search needs
+and-of-requires-2 c κs = tt
 
 and-of-requires-3 : tie.Need-and-of-requires-3
-and-of-requires-3 c κs = search needs
+and-of-requires-3 c κs = tt
 
 not-of-requires : tie.Need-not-of-requires
-not-of-requires c κs = search needs
+not-of-requires c κs = tt
 
 or-of-requires : tie.Need-or-of-requires
-or-of-requires c κs = search needs
+or-of-requires c κs = tt
 
 unfinished-requires : tie.Need-unfinished-requires
-unfinished-requires c κs = search needs
+unfinished-requires c κs = tt
 
 not-of-requires-2 : tie.Need-not-of-requires-2
-not-of-requires-2 c κs = search needs
+not-of-requires-2 c κs = tt
 
 choose-requires : tie.Need-choose-requires
-choose-requires c κs = search needs
+choose-requires c κs = tt
 
 returns : tie.Need-returns
 unfolding strandBad

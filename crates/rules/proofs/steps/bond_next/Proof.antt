@@ -1,0 +1,15 @@
+use Rattle.rules.proofs.Others.{bond-next-others}
+use Rattle.rules.proofs.steps.bond_next.Statement.{statement}
+use Rattle.rules.proofs.steps.bond_next.Tie as tie
+
+enum-known-r : tie.Need-enum-known-r
+enum-known-r c = c .match .keys1
+
+returns : tie.Need-returns
+returns c = rw (c .before .r .given .1)
+
+returns-2 : tie.Need-returns-2
+returns-2 c = rw (bond-next-others (c .before .args .last) (c .before .args .r) (c .match .keys2))
+
+pub bond-next-spec : {M : Type 1} → statement M
+bond-next-spec = tie.close (tie.spec enum-known-r returns returns-2)
