@@ -138,14 +138,14 @@ impl Above {
             Some(Record::Ter(ter)) => ter.serial,
             _ => return true,
         };
-        self.serial.map_or(true, |last| serial > last)
+        self.serial.is_none_or(|last| serial > last)
     }
 
     /// 8: runs and TER.
     fn run_allows(&self, record: Option<Record>) -> bool {
         let run = &self.run;
         match record {
-            Some(Record::Atom(atom)) => run.chain.map_or(true, |chain| run.one_chain && chain == atom.residue.chain),
+            Some(Record::Atom(atom)) => run.chain.is_none_or(|chain| run.one_chain && chain == atom.residue.chain),
             Some(Record::Hetatm(atom)) => !run.holds_atom || run.chain == Some(atom.residue.chain),
             Some(Record::Ter(ter)) => run.holds_atom && run.last == Some(ter.residue),
             Some(Record::Conect(_) | Record::Master(_) | Record::End) => !run.holds_atom,
@@ -174,7 +174,7 @@ impl Above {
                 next.strand == last.strand + 1 && next.strands == last.strands && next.identifier == last.identifier
             }
             (Some(Record::Sheet(next)), None) => {
-                next.strand == 1 && self.strand.map_or(true, |last| next.identifier != last.identifier)
+                next.strand == 1 && self.strand.is_none_or(|last| next.identifier != last.identifier)
             }
             (_, Some(_)) => false,
             (Some(Record::Helix(helix)), None) => u64::try_from(helix.serial) == Ok(self.tally.helix + 1),
