@@ -29,11 +29,11 @@ pub fn run(paths: &[PathBuf], report: bool, out: &mut Console) -> Result<Status,
     let many = files.len() > 1;
     for (index, file) in files.iter().enumerate() {
         if many && out.shows_progress() {
-            out.progress(&format!("{} of {}: {}", index + 1, files.len(), file.display()));
+            out.progress(&format!("{} of {}: {}", index + 1, files.len(), words::path_name(file)));
         }
         match input::read(file) {
             Ok(read) => {
-                let name = read.name.display().to_string();
+                let name = &read.name;
                 let verdict = if report { report_on(&read.text) } else { Entry::check(&read.text) };
                 if many {
                     out.clear_progress()?;
@@ -41,7 +41,7 @@ pub fn run(paths: &[PathBuf], report: bool, out: &mut Console) -> Result<Status,
                 match (report, many) {
                     (true, true) => out.say(format_args!("file={name}\n{}", verdict.report()))?,
                     (true, false) => out.say(verdict.report())?,
-                    _ => out.say_line(words::describe(&name, &read.text, &verdict))?,
+                    _ => out.say_line(words::describe(name, &read.text, &verdict))?,
                 }
                 if verdict.is_granted() {
                     counts.granted += 1;

@@ -11,9 +11,9 @@ use crate::words;
 
 /// Loads an accepted entry and sets fragments aside.
 pub fn load<'t>(input: &'t Input, aside: &[FragmentNumber]) -> Result<Table<'t>, Problem> {
-    let name = input.name.display();
-    let entry = Entry::accept(&input.text)
-        .map_err(|verdict| Problem::Refused(words::describe(&name.to_string(), &input.text, &verdict)))?;
+    let name = &input.name;
+    let entry =
+        Entry::accept(&input.text).map_err(|verdict| Problem::Refused(words::describe(name, &input.text, &verdict)))?;
     let mut table = entry.load().map_err(|refusal| Problem::Refused(format!("{name}: {refusal}")))?;
     for &fragment in aside {
         table

@@ -6,6 +6,7 @@ use std::io::{self, Read};
 use std::path::{Path, PathBuf};
 
 use crate::problem::Problem;
+use crate::words::path_name;
 
 /// The longest text that is read, in bytes. No entry is near it; a device that never ends is.
 const LONGEST: u64 = 1 << 30;
@@ -13,7 +14,7 @@ const LONGEST: u64 = 1 << 30;
 /// A text that was read, and the file it came from.
 pub struct Input {
     /// Its name, to show.
-    pub name: PathBuf,
+    pub name: String,
     /// Its bytes.
     pub text: Vec<u8>,
     /// The file, to tell it from others; standard input has none.
@@ -65,14 +66,14 @@ pub fn read(path: &Path) -> Result<Input, Problem> {
     if path == OsStr::new("-") {
         let identity = Identity::of_standard_input();
         let text = read_all(io::stdin().lock()).map_err(failed)?;
-        return Ok(Input { name: PathBuf::from("standard input"), text, identity });
+        return Ok(Input { name: "standard input".to_owned(), text, identity });
     }
     if fs::metadata(path).map_err(failed)?.is_dir() {
         return Err(failed(io::Error::other("it is a folder")));
     }
     let identity = Identity::of(path).map_err(failed)?;
     let text = read_all(File::open(path).map_err(failed)?).map_err(failed)?;
-    Ok(Input { name: path.to_owned(), text, identity: Some(identity) })
+    Ok(Input { name: path_name(path), text, identity: Some(identity) })
 }
 
 fn read_all(source: impl Read) -> io::Result<Vec<u8>> {

@@ -6,6 +6,7 @@ use std::path::{Path, PathBuf};
 
 use crate::input::Identity;
 use crate::problem::Problem;
+use crate::words::path_name;
 
 /// Where answers go.
 pub struct Console {
@@ -77,12 +78,15 @@ pub fn write_all(orders: &[Order], input: Option<&Identity>, force: bool) -> Res
     for order in orders {
         let target = Target::of(order, input, force)?;
         if targets.iter().any(|other| other.is_file() && other.resolved == target.resolved) {
-            return Err(Problem::Target(format!("{}: two outputs go to the same file", order.path.display())));
+            return Err(Problem::Target(format!("{}: two outputs go to the same file", path_name(order.path))));
         }
         targets.push(target);
     }
+    // Streams come last: what they were given cannot be taken back.
+    let mut waiting: Vec<(Target, &Order)> = targets.into_iter().zip(orders).collect();
+    waiting.sort_by_key(|(target, _)| !target.is_file());
     let mut staged = Vec::new();
-    for (target, order) in targets.into_iter().zip(orders) {
+    for (target, order) in waiting {
         let failed = |error| Problem::Write(order.path.to_owned(), error);
         staged.push((target.stage(order.bytes).map_err(failed)?, order.path));
     }
@@ -122,7 +126,7 @@ impl Target {
 
     fn of(order: &Order, input: Option<&Identity>, force: bool) -> Result<Target, Problem> {
         let path = order.path;
-        let refuse = |words: &str| Err(Problem::Target(format!("{}: {words}", path.display())));
+        let refuse = |words: &str| Err(Problem::Target(format!("{}: {words}", path_name(path))));
         let failed = |error| Problem::Write(path.to_owned(), error);
         if input.is_some() && Identity::of(path).ok().as_ref() == input {
             return refuse("this is the input, which is never written to");

@@ -4,6 +4,8 @@ use std::fmt;
 use std::io;
 use std::path::PathBuf;
 
+use crate::words::path_name;
+
 /// The exit status.
 #[derive(Clone, Copy, Debug, PartialEq, Eq, PartialOrd, Ord)]
 #[repr(u8)]
@@ -52,9 +54,9 @@ impl fmt::Display for Problem {
     fn fmt(&self, f: &mut fmt::Formatter<'_>) -> fmt::Result {
         match self {
             Problem::Usage(words) => write!(f, "{words} (see station --help)"),
-            Problem::Read(path, error) => write!(f, "{}: could not be read: {error}", path.display()),
+            Problem::Read(path, error) => write!(f, "{}: could not be read: {error}", path_name(path)),
             Problem::Write(path, error) => {
-                write!(f, "{}: could not be written, no file was made or changed: {error}", path.display())
+                write!(f, "{}: could not be written, no file was made or changed: {error}", path_name(path))
             }
             Problem::Console(error) => write!(f, "the answers could not be written: {error}"),
             Problem::Target(words) | Problem::Refused(words) => f.write_str(words),

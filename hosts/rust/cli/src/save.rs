@@ -8,7 +8,7 @@ use crate::fragments;
 use crate::input;
 use crate::output::{write_all, Console, Order};
 use crate::problem::{Problem, Status};
-use crate::words::several;
+use crate::words::{path_name, several};
 
 /// Saves an entry without some fragments, and the tray.
 pub fn run(
@@ -21,7 +21,7 @@ pub fn run(
 ) -> Result<Status, Problem> {
     let input = input::read(file)?;
     let table = fragments::load(&input, aside)?;
-    let refused = |refusal| Problem::Refused(format!("{}: {refusal}", input.name.display()));
+    let refused = |refusal| Problem::Refused(format!("{}: {refusal}", input.name));
     let saved = table.save().map_err(refused)?;
     let dropped = table.tray().map_err(refused)?;
     let mut orders = vec![Order { option: "--out", path: out, bytes: &saved }];
@@ -30,9 +30,9 @@ pub fn run(
     }
     write_all(&orders, input.identity.as_ref(), force)?;
     let lines = |bytes: &[u8]| several(bytes.len() as u64 / 81, "line");
-    console.say_line(format_args!("{}: {}", out.display(), lines(&saved)))?;
+    console.say_line(format_args!("{}: {}", path_name(out), lines(&saved)))?;
     if let Some(path) = tray {
-        console.say_line(format_args!("{}: {}", path.display(), lines(&dropped)))?;
+        console.say_line(format_args!("{}: {}", path_name(path), lines(&dropped)))?;
     }
     Ok(Status::Done)
 }

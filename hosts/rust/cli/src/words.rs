@@ -1,6 +1,7 @@
 //! Verdicts in words.
 
 use std::fmt::Write;
+use std::path::Path;
 
 use station::{pieces, Refusal, Verdict};
 
@@ -25,6 +26,12 @@ pub fn describe(name: &str, text: &[u8], verdict: &Verdict) -> String {
         let _ = write!(words, "\n  {cause}");
     }
     words
+}
+
+/// The name of a file, to show: a name may hold bytes that would upset a terminal or a listing.
+pub fn path_name(path: &Path) -> String {
+    let name = path.display().to_string();
+    name.chars().map(|character| if character.is_control() { '?' } else { character }).collect()
 }
 
 /// A number of things.
