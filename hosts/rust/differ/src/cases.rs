@@ -5,14 +5,28 @@ use station::raw::{Library, Slot, Tally};
 use crate::chance::Chance;
 use crate::damage::{damage_line, damage_lines, damage_table, damage_text, recount, rename};
 use crate::entry::{entry, text, typed_line};
+use crate::fence;
 use crate::harness::{Findings, Harness};
+use crate::lent::Sides;
 
-/// Runs the cases of a seed against a library.
+/// Runs the cases of a seed against a library, with guards round all buffers.
 pub fn run(library: Library, seed: u64, cases: impl Iterator<Item = u64>) -> Findings {
-    let mut harness = Harness::new(library);
+    run_with(Harness::new(library), seed, cases, &[Sides::Guards])
+}
+
+/// Runs the cases of a seed against a library, with guards and fences in turn.
+pub fn run_fenced(library: Library, seed: u64, cases: impl Iterator<Item = u64>) -> Findings {
+    let sides = [Sides::Guards, Sides::FenceBefore, Sides::FenceBehind];
+    run_with(Harness::new(library), seed, cases, &sides)
+}
+
+fn run_with(mut harness: Harness, seed: u64, cases: impl Iterator<Item = u64>, sides: &[Sides]) -> Findings {
     for case in cases {
+        fence::at_case(case);
         harness.case = case;
-        one(&mut harness, &mut Chance::of_case(seed, case));
+        let mut chance = Chance::of_case(seed, case);
+        harness.sides = *chance.pick(sides);
+        one(&mut harness, &mut chance);
     }
     harness.findings
 }

@@ -5,7 +5,7 @@ use std::collections::BTreeMap;
 use reference::{FragmentNumber, Mark, Refusal};
 use station::raw::{Library, Slot, Tally};
 
-use crate::lent::Lent;
+use crate::lent::{Lent, Sides};
 
 /// Which call was made.
 #[derive(Clone, Copy, Debug, PartialEq, Eq, PartialOrd, Ord)]
@@ -90,6 +90,8 @@ pub struct Harness {
     pub case: u64,
     /// What the guards are filled with.
     pub guard: u8,
+    /// What stands at the sides of all buffers.
+    pub sides: Sides,
 }
 
 /// The slot of the reference.
@@ -147,7 +149,7 @@ fn number<T>(answer: &Result<T, Refusal>) -> u32 {
 impl Harness {
     /// A harness for a library.
     pub fn new(library: Library) -> Harness {
-        Harness { library, findings: Findings::default(), case: 0, guard: 0 }
+        Harness { library, findings: Findings::default(), case: 0, guard: 0, sides: Sides::Guards }
     }
 
     fn guard_slot(&self) -> Slot {
@@ -155,23 +157,27 @@ impl Harness {
         Slot { serial, kind: self.guard, mark: self.guard, name: [self.guard; 4], ..Slot::default() }
     }
 
+    fn lend<T: Copy + PartialEq>(&self, content: &[T], guard: T) -> Lent<T> {
+        Lent::new(content, guard, self.sides)
+    }
+
     fn lend_text(&self, text: &[u8]) -> Lent<u8> {
-        Lent::new(text, self.guard)
+        self.lend(text, self.guard)
     }
 
     fn lend_table(&self, table: &[Slot]) -> Lent<Slot> {
-        Lent::new(table, self.guard_slot())
+        self.lend(table, self.guard_slot())
     }
 
     /// A lent place for one count, holding anything before.
     fn lend_count(&self) -> Lent<u64> {
-        Lent::new(&[u64::from_ne_bytes([self.guard ^ 0x5a; 8])], u64::from_ne_bytes([self.guard; 8]))
+        self.lend(&[u64::from_ne_bytes([self.guard ^ 0x5a; 8])], u64::from_ne_bytes([self.guard; 8]))
     }
 
     /// Lent room for doubles, by their bits, holding anything before.
     fn lend_doubles(&self, count: usize) -> Lent<u64> {
         let bits = u64::from_ne_bytes([self.guard ^ 0xa5; 8]);
-        Lent::new(&vec![bits; count], u64::from_ne_bytes([self.guard; 8]))
+        self.lend(&vec![bits; count], u64::from_ne_bytes([self.guard; 8]))
     }
 
     /// Takes down one call: the number that is due, the number that came, and where memory is wrong.
@@ -194,7 +200,7 @@ impl Harness {
     /// Checks a text.
     pub fn check(&mut self, text: &[u8]) -> u32 {
         let lent = self.lend_text(text);
-        let mut answer = Lent::new(&[u64::from(self.guard) + 1; 12], u64::from(self.guard));
+        let mut answer = self.lend(&[u64::from(self.guard) + 1; 12], u64::from(self.guard));
         // SAFETY: all that is lent is as long as said.
         let came = unsafe { (self.library.check)(lent.start(), lent.len(), answer.start_mut()) };
         let verdict = reference::check(text);
@@ -258,7 +264,7 @@ impl Harness {
     fn written(&mut self, call: Call, text: &[u8], table: &[Slot], room: usize) -> u32 {
         let lent = self.lend_text(text);
         let slots = self.lend_table(table);
-        let mut out = Lent::new(&vec![self.guard ^ 0x3c; room], self.guard);
+        let mut out = self.lend(&vec![self.guard ^ 0x3c; room], self.guard);
         let mut count = self.lend_count();
         let name = if call == Call::Save { self.library.save } else { self.library.tray };
         // SAFETY: all that is lent is as long as said.
@@ -304,7 +310,7 @@ impl Harness {
     /// Reads a line and writes its record into a room of so many bytes.
     pub fn rewrite_line(&mut self, line: &[u8], room: usize) -> u32 {
         let lent = self.lend_text(line);
-        let mut out = Lent::new(&vec![self.guard ^ 0x3c; room], self.guard);
+        let mut out = self.lend(&vec![self.guard ^ 0x3c; room], self.guard);
         // SAFETY: all that is lent is as long as said.
         let came = unsafe { (self.library.rewrite_line)(lent.start(), lent.len(), out.start_mut(), room) };
         let answer = reference::rewrite_line(line, out.due());
@@ -377,7 +383,7 @@ impl Harness {
         let lent = self.lend_text(line);
         let guard = u32::from_ne_bytes([self.guard; 4]);
         let guard = Tally { remark: guard, seq: guard, ..Tally::default() };
-        let mut counts = Lent::new(&[*tally], guard);
+        let mut counts = self.lend(&[*tally], guard);
         // SAFETY: all that is lent is as long as said.
         let came = unsafe { (self.library.count_line)(counts.start_mut(), lent.start(), lent.len()) };
         let mut own = reference::Tally {

@@ -15,7 +15,8 @@ usage: differ [--cases N] [--seed S] [--only CASE]
   --seed S     the seed of the run (1)
   --only CASE  this one case of the seed, by its number
 
-Exit status: 0 no difference, 1 a difference or a number of refusal that was not reached, 2 wrong arguments.
+Exit status: 0 no difference, 1 a difference or a number of refusal that was not reached, 2 wrong arguments,
+3 the library touched memory that was not lent to it.
 Runs of fewer than 5000 cases do not ask that every number be reached.
 ";
 
@@ -69,7 +70,8 @@ fn main() -> ExitCode {
     let begun = Instant::now();
     let cases = options.only.map_or(0..options.cases, |case| case..case.saturating_add(1));
     let count = cases.end - cases.start;
-    let findings = differ::run(LINKED, options.seed, cases);
+    differ::fence::watch();
+    let findings = differ::run_fenced(LINKED, options.seed, cases);
     print(&findings);
     let unreached = findings.unreached();
     let asked = count >= ENOUGH;

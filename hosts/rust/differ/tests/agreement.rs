@@ -6,7 +6,7 @@ use station::raw::LINKED;
 
 #[test]
 fn no_difference_and_every_number_reached() {
-    let findings = differ::run(LINKED, 7, 0..8_000);
+    let findings = differ::run_fenced(LINKED, 7, 0..8_000);
     assert_eq!(findings.differences, 0, "{:#?}", findings.shown);
     assert_eq!(findings.unreached(), []);
 }
