@@ -37,7 +37,7 @@ fn one(harness: &mut Harness, chance: &mut Chance) {
     match chance.below(16) {
         0..=4 => a_text(harness, chance),
         5..=8 => a_table(harness, chance),
-        9..=12 => a_line(harness, chance),
+        9..=12 => some_lines(harness, chance),
         13 => a_tally(harness, chance),
         14 => a_feed(harness, chance),
         _ => noise(harness, chance),
@@ -121,17 +121,24 @@ fn a_table(harness: &mut Harness, chance: &mut Chance) {
     }
 }
 
+/// Some lines, each by itself.
+fn some_lines(harness: &mut Harness, chance: &mut Chance) {
+    for _ in 0..8 {
+        a_line(harness, chance);
+    }
+}
+
 /// One line by itself.
 fn a_line(harness: &mut Harness, chance: &mut Chance) {
     let mut columns = typed_line(chance);
-    for _ in 0..chance.below(3) {
+    for _ in 0..*chance.pick(&[0, 1, 1, 1, 1, 2]) {
         damage_line(chance, &mut columns);
     }
     if chance.once_in(10) {
         rename(chance, &mut columns);
     }
     let mut line = columns.to_vec();
-    if chance.once_in(6) {
+    if chance.once_in(12) {
         let length = if chance.once_in(2) { *chance.pick(&[0, 5, 6, 79, 81, 160, 162]) } else { chance.below(201) };
         line.resize(length, *chance.pick(b" \nx"));
     }
@@ -139,7 +146,7 @@ fn a_line(harness: &mut Harness, chance: &mut Chance) {
     harness.slot_of_line(&line, before);
     let room = if chance.once_in(2) { 80 } else { any_room(chance, 80) };
     harness.rewrite_line(&line, room);
-    if chance.once_in(4) {
+    if chance.once_in(16) {
         harness.check(&[&line[..], b"\n"].concat());
     }
 }

@@ -13,117 +13,130 @@ const NAMES: [&str; 44] = [
     "TER  x", "ORIGX4", "SCALE0", "ORIGX ", "HETATN", "SITE  ", "      ", "LINK  ", "HET  A", "END  1", "CONEC ",
 ];
 
-/// The fields of a typed line: first and last column.
-fn fields(line: &Columns) -> &'static [(usize, usize)] {
+/// What sort of text stands in a field.
+#[derive(Clone, Copy, Debug)]
+enum Sort {
+    /// An integer of a range.
+    Integer(i64, i64),
+    /// A real with decimals, of a range of its last place.
+    Real(usize, i64, i64),
+    /// Some bytes, blank or not.
+    Bytes,
+    /// An element, which stands in two places.
+    Element,
+}
+
+use Sort::{Bytes, Element, Integer, Real};
+
+const SERIAL: Sort = Integer(1, 99_999);
+const NUMBER: Sort = Integer(-999, 9_999);
+const PLACE: Sort = Real(3, -999_999, 9_999_999);
+const COUNT: Sort = Integer(0, 99_999);
+const FIXED: Sort = Integer(0, 0);
+
+/// The fields of a typed line: first and last column, and sort.
+#[rustfmt::skip]
+fn fields(line: &Columns) -> &'static [(usize, usize, Sort)] {
     match &line[..6] {
         b"ATOM  " | b"HETATM" => &[
-            (7, 11),
-            (13, 14),
-            (15, 16),
-            (13, 16),
-            (17, 17),
-            (18, 20),
-            (22, 22),
-            (23, 26),
-            (27, 27),
-            (31, 38),
-            (39, 46),
-            (47, 54),
-            (55, 60),
-            (61, 66),
-            (77, 78),
-            (79, 80),
+            (7, 11, SERIAL), (13, 16, Bytes), (17, 17, Bytes), (18, 20, Bytes), (22, 22, Bytes), (23, 26, NUMBER),
+            (27, 27, Bytes), (31, 38, PLACE), (39, 46, PLACE), (47, 54, PLACE), (55, 60, Real(2, 0, 100)),
+            (61, 66, Real(2, -9_999, 99_999)), (77, 78, Element), (79, 80, Bytes),
         ],
-        b"TER   " => &[(7, 11), (18, 20), (22, 22), (23, 26), (27, 27)],
+        b"TER   " => &[(7, 11, SERIAL), (18, 20, Bytes), (22, 22, Bytes), (23, 26, NUMBER), (27, 27, Bytes)],
         b"HELIX " => &[
-            (8, 10),
-            (12, 14),
-            (16, 18),
-            (20, 20),
-            (22, 25),
-            (26, 26),
-            (28, 30),
-            (32, 32),
-            (34, 37),
-            (38, 38),
-            (39, 40),
-            (41, 70),
-            (72, 76),
+            (8, 10, Integer(1, 999)), (12, 14, Bytes), (16, 18, Bytes), (20, 20, Bytes), (22, 25, NUMBER),
+            (26, 26, Bytes), (28, 30, Bytes), (32, 32, Bytes), (34, 37, NUMBER), (38, 38, Bytes),
+            (39, 40, Integer(1, 10)), (41, 70, Bytes), (72, 76, Integer(1, 99_999)),
         ],
         b"SHEET " => &[
-            (8, 10),
-            (12, 14),
-            (15, 16),
-            (18, 20),
-            (22, 22),
-            (23, 26),
-            (27, 27),
-            (29, 31),
-            (33, 33),
-            (34, 37),
-            (38, 38),
-            (39, 40),
-            (42, 45),
-            (46, 48),
-            (50, 50),
-            (51, 54),
-            (55, 55),
-            (57, 60),
-            (61, 63),
-            (65, 65),
-            (66, 69),
-            (70, 70),
-            (42, 70),
-            (42, 55),
-            (57, 70),
+            (8, 10, Integer(1, 999)), (12, 14, Bytes), (15, 16, Integer(1, 99)), (18, 20, Bytes), (22, 22, Bytes),
+            (23, 26, NUMBER), (27, 27, Bytes), (29, 31, Bytes), (33, 33, Bytes), (34, 37, NUMBER), (38, 38, Bytes),
+            (39, 40, Integer(-1, 1)), (42, 45, Bytes), (46, 48, Bytes), (50, 50, Bytes), (51, 54, NUMBER), (55, 55, Bytes),
+            (57, 60, Bytes), (61, 63, Bytes), (65, 65, Bytes), (66, 69, NUMBER), (70, 70, Bytes),
         ],
-        b"CONECT" => &[(7, 11), (12, 16), (17, 21), (22, 26), (27, 31), (32, 36), (17, 31)],
+        b"CONECT" => &[(7, 11, SERIAL), (12, 16, SERIAL), (17, 21, SERIAL), (22, 26, SERIAL), (27, 31, SERIAL)],
         b"MASTER" => &[
-            (11, 15),
-            (16, 20),
-            (21, 25),
-            (26, 30),
-            (31, 35),
-            (36, 40),
-            (41, 45),
-            (46, 50),
-            (51, 55),
-            (56, 60),
-            (61, 65),
-            (66, 70),
+            (11, 15, COUNT), (16, 20, FIXED), (21, 25, COUNT), (26, 30, COUNT), (31, 35, COUNT), (36, 40, FIXED),
+            (41, 45, FIXED), (46, 50, COUNT), (51, 55, COUNT), (56, 60, COUNT), (61, 65, COUNT), (66, 70, COUNT),
         ],
-        _ => &[(7, 80), (7, 7), (80, 80)],
+        _ => &[],
     }
 }
 
-/// A text that is right or nearly right for a field of some kind.
-fn nearly(chance: &mut Chance) -> String {
-    let texts = [
-        "", "0", "1", "-1", "-0", "00", "01", "+1", "- 1", "1 ", "9", "10", "11", "99", "100", "999", "1000", "9999",
-        "-99", "-999", "-1000", "99999", "00001", "-0001", "0.00", "1.00", "1.01", "-0.00", "-0.01", "01.00", "1.0",
-        "1.000", ".50", "0.50", "-.50", "99.99", "-99.99", "999.99", "0.000", "-0.000", "-0.001", "011.281", "11.281 ",
-        ".281", "9999.999", "-999.999", "99999.99", "1,000", "1.00.0", "1e3", "0x10", "A", "a", "Z", "z", "'", "*",
-        "\"", "AB", "A ", "A B", "ab", "ALA", "AL ", "A1", "CA", " C", "C ", "Fe", "X", "XX", "D", "H", "1+", "+1",
-        "0+", "9-", "5-", "1", "N O", "HH11", " N  ", "  N ", "N   ", "-", ".", "~", "!", "/", ":", "@", "[", "`", "{",
-        "\t", "\u{7f}",
-    ];
-    if chance.once_in(6) {
-        return chance.within(-1_200, 120_000).to_string();
+/// Bytes at the edges of what fields take.
+const EDGES: &[u8] = b" !'*+-./09:@AZ[`az{~";
+
+fn edge(chance: &mut Chance) -> u8 {
+    if chance.once_in(3) {
+        chance.printable()
+    } else {
+        *chance.pick(EDGES)
     }
-    chance.pick(&texts).to_string()
 }
 
-/// Puts a text into columns, to the right, to the left, or over them.
-fn put_nearly(chance: &mut Chance, line: &mut Columns, from: usize, to: usize) {
-    let mut text = nearly(chance).into_bytes();
+/// A number in or near a range.
+fn near(chance: &mut Chance, low: i64, high: i64) -> i64 {
+    match chance.below(8) {
+        0 => low - 1,
+        1 => low,
+        2 => high,
+        3 => high + 1,
+        4 => 0,
+        5 => chance.within(-1, 1),
+        _ => chance.within(low, high),
+    }
+}
+
+/// The text of a number with so many decimals, or one that is nearly so.
+fn number_text(chance: &mut Chance, number: i64, decimals: usize) -> String {
+    let minus = if number < 0 { "-" } else { "" };
+    let (size, scale) = (number.abs(), 10i64.pow(decimals as u32));
+    let point = if decimals == 0 { String::new() } else { format!(".{:0decimals$}", size % scale) };
+    let whole = size / scale;
+    match chance.below(16) {
+        0 => format!("{minus}0{whole}{point}"),
+        1 => format!("+{whole}{point}"),
+        2 => format!("-{whole}{point}"),
+        3 => format!("{minus} {whole}{point}"),
+        4 => format!("{minus}{whole}{point} "),
+        5 => format!("{minus}{point}"),
+        6 => format!("{minus}{whole}{point}0"),
+        7 => format!("{minus}{whole}.{}", point.trim_start_matches('.')),
+        8 => format!("{minus}{whole}"),
+        _ => format!("{minus}{whole}{point}"),
+    }
+}
+
+/// Puts something into a field that is right for it, or nearly so.
+fn put_nearly(chance: &mut Chance, line: &mut Columns, (from, to, sort): (usize, usize, Sort)) {
     let width = to + 1 - from;
+    let (low, high, decimals) = match sort {
+        Integer(low, high) => (low, high, 0),
+        Real(decimals, low, high) => (low, high, decimals),
+        Bytes => {
+            // All of them, or one of them.
+            let (first, last) = if chance.once_in(2) { (from, to) } else { (from + chance.below(width), 0) };
+            for at in first..=last.max(first) {
+                put(line, at, &[edge(chance)]);
+            }
+            return;
+        }
+        Element => {
+            let first = if chance.once_in(3) { b' ' } else { b'A' + chance.below(26) as u8 };
+            let pair = [first, b'A' + chance.below(26) as u8];
+            put(line, from, &pair);
+            if !chance.once_in(8) {
+                put(line, 13, &pair);
+            }
+            return;
+        }
+    };
+    let number = near(chance, low, high);
+    let mut text = number_text(chance, number, decimals).into_bytes();
     text.truncate(width);
     let blanks = vec![b' '; width - text.len()];
-    let whole = match chance.below(8) {
-        0 => [text, blanks].concat(),
-        1 => text,
-        _ => [blanks, text].concat(),
-    };
+    let whole = if chance.once_in(16) { [text, blanks].concat() } else { [blanks, text].concat() };
     put(line, from, &whole);
 }
 
@@ -135,37 +148,31 @@ pub fn rename(chance: &mut Chance, line: &mut Columns) {
 
 /// Damages one line. It may come out right all the same.
 pub fn damage_line(chance: &mut Chance, line: &mut Columns) {
-    let at = 1 + chance.below(80);
-    match chance.below(14) {
-        0 => put(line, at, &[chance.byte()]),
-        1 | 2 => put(line, at, &[chance.printable()]),
-        3 => put(line, at, b" "),
-        4 => rename(chance, line),
-        5 => {
-            let free: Vec<usize> = (7..=80).filter(|&at| line[at - 1] == b' ').collect();
-            if !free.is_empty() {
-                put(line, *chance.pick(&free), &[*chance.pick(b"xA01-.")]);
+    let fields = fields(line);
+    let any = 1 + chance.below(80);
+    let field = if fields.is_empty() { (7, 80, Bytes) } else { *chance.pick(fields) };
+    let (from, to, _) = field;
+    match chance.below(16) {
+        0 => put(line, any, &[chance.byte()]),
+        1 => put(line, any, &[chance.printable()]),
+        2 => rename(chance, line),
+        3 => put(line, from, &vec![b' '; to + 1 - from]),
+        4 => line[from - 1..to].rotate_left(1),
+        5 => line[6..].rotate_right(1),
+        6..=8 => {
+            let blank = |at: &usize| !fields.iter().any(|(from, to, _)| (*from..=*to).contains(at));
+            let blanks: Vec<usize> = (7..=80).filter(blank).collect();
+            if !blanks.is_empty() {
+                put(line, *chance.pick(&blanks), &[edge(chance)]);
             }
         }
-        6 => {
-            // An element, right or not, in both of its places.
-            let first = if chance.once_in(3) { b' ' } else { b'A' + chance.below(26) as u8 };
-            let pair = [first, b'A' + chance.below(26) as u8];
-            put(line, 13, &pair);
-            put(line, 77, &pair);
+        9 if line.starts_with(b"SHEET") && chance.once_in(2) => put(line, 42, &[b' '; 29]),
+        9 if line.starts_with(b"SHEET") => {
+            // Strand 1, whatever stands in its registration.
+            put(line, 8, b"  1");
+            put(line, 39, b" 0");
         }
-        7 => {
-            let (from, to) = *chance.pick(fields(line));
-            put(line, from, &vec![b' '; to + 1 - from]);
-        }
-        8 => {
-            let (from, to) = *chance.pick(fields(line));
-            line[from - 1..to].rotate_left(1);
-        }
-        _ => {
-            let (from, to) = *chance.pick(fields(line));
-            put_nearly(chance, line, from, to);
-        }
+        _ => put_nearly(chance, line, field),
     }
 }
 
@@ -199,7 +206,7 @@ pub fn damage_lines(chance: &mut Chance, lines: &mut Vec<Columns>) {
         one_of(&[b"SHEET "]),
         one_of(&[b"MASTER"]),
     );
-    match chance.below(20) {
+    match chance.below(22) {
         0 => {
             lines.remove(at);
         }
@@ -243,8 +250,22 @@ pub fn damage_lines(chance: &mut Chance, lines: &mut Vec<Columns>) {
             let name = *chance.pick(&NAMES);
             lines.insert(at, line(name));
         }
+        19 => repeat(lines, at, 1 + chance.below(4)),
+        20 => {
+            // A trio once more.
+            if let Some(&last) = named(lines, &[b"ORIGX3", b"SCALE3"]).first() {
+                repeat(lines, last.saturating_sub(2), 3);
+            }
+        }
         _ => damage_line(chance, &mut lines[at]),
     }
+}
+
+/// Repeats some lines right behind themselves.
+fn repeat(lines: &mut Vec<Columns>, from: usize, count: usize) {
+    let end = (from + count).min(lines.len());
+    let block = lines[from..end].to_vec();
+    lines.splice(end..end, block);
 }
 
 fn one_of_again(chance: &mut Chance, lines: &[Columns], names: &[&[u8; 6]], otherwise: usize) -> usize {

@@ -13,6 +13,8 @@ pub mod entry;
 pub mod fence;
 pub mod harness;
 pub mod lent;
+mod sweep;
 
 pub use cases::{run, run_fenced};
 pub use harness::{Call, Findings};
+pub use sweep::sweep;

@@ -15,6 +15,9 @@ usage: differ [--cases N] [--seed S] [--only CASE]
   --seed S     the seed of the run (1)
   --only CASE  this one case of the seed, by its number
 
+The cases are followed by a sweep: every byte in every column of a line of each kind, every element, every narrow number,
+every length, every name.
+
 Exit status: 0 no difference, 1 a difference or a number of refusal that was not reached, 2 wrong arguments,
 3 the library touched memory that was not lent to it.
 Runs of fewer than 5000 cases do not ask that every number be reached.
@@ -72,7 +75,12 @@ fn main() -> ExitCode {
     let count = cases.end - cases.start;
     differ::fence::watch();
     let findings = differ::run_fenced(LINKED, options.seed, cases);
+    let seconds = begun.elapsed().as_secs_f64();
     print(&findings);
+    let swept = if options.only.is_some() { Findings::default() } else { differ::sweep(LINKED) };
+    for difference in &swept.shown {
+        println!("sweep: {difference}");
+    }
     let unreached = findings.unreached();
     let asked = count >= ENOUGH;
     if asked {
@@ -80,10 +88,11 @@ fn main() -> ExitCode {
             println!("{call:?} never answered {number}");
         }
     }
-    let seconds = begun.elapsed().as_secs_f64();
+    let differences = findings.differences + swept.differences;
     println!("{} calls in {seconds:.1} s, {:.0} cases/s", findings.calls, count as f64 / seconds);
-    println!("{count} cases, {} differences", findings.differences);
-    if findings.differences > 0 || (asked && !unreached.is_empty()) {
+    println!("{} calls of the sweep, {} differences", swept.calls, swept.differences);
+    println!("{count} cases, {differences} differences");
+    if differences > 0 || (asked && !unreached.is_empty()) {
         ExitCode::FAILURE
     } else {
         ExitCode::SUCCESS

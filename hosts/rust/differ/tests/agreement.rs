@@ -12,6 +12,12 @@ fn no_difference_and_every_number_reached() {
 }
 
 #[test]
+fn no_difference_in_the_sweep() {
+    let findings = differ::sweep(LINKED);
+    assert_eq!(findings.differences, 0, "{:#?}", findings.shown);
+}
+
+#[test]
 fn made_up_entries_are_accepted() {
     let mut chance = Chance::new(3);
     for _ in 0..2_000 {
