@@ -9,6 +9,10 @@ fn main() {
         std::process::exit(1);
     };
     let library = Path::new(&folder).join("libstation.a");
+    if !library.is_absolute() {
+        eprintln!("STATION_LIB has to be an absolute path: {}", Path::new(&folder).display());
+        std::process::exit(1);
+    }
     if !library.is_file() {
         eprintln!("STATION_LIB names a folder without libstation.a: {}", library.display());
         std::process::exit(1);

@@ -9,7 +9,7 @@ use crate::problem::Problem;
 use crate::words::path_name;
 
 /// The longest text that is read, in bytes. No entry is near it; a device that never ends is.
-const LONGEST: u64 = 1 << 30;
+const LONGEST: u64 = 1 << 29;
 
 /// A text that was read, and the file it came from.
 pub struct Input {
@@ -80,7 +80,7 @@ fn read_all(source: impl Read) -> io::Result<Vec<u8>> {
     let mut text = Vec::new();
     source.take(LONGEST + 1).read_to_end(&mut text)?;
     if text.len() as u64 > LONGEST {
-        return Err(io::Error::other("it is longer than a gigabyte"));
+        return Err(io::Error::other("it is longer than 512 megabytes"));
     }
     Ok(text)
 }

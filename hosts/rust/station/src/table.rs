@@ -107,7 +107,7 @@ impl<'t> Table<'t> {
     pub fn load(text: &'t [u8]) -> Result<Table<'t>, Refusal> {
         let verdict = Entry::check(text);
         verdict.granted()?;
-        // The text has as many bytes for each slot as a line has, so the number of slots is below its length.
+        // Each slot is a line of the text, so their number fits.
         let needed = usize::try_from(verdict.counts.coord + verdict.counts.ter).unwrap_or(text.len());
         let mut slots = vec![Slot::default(); needed];
         let mut count = 0;
