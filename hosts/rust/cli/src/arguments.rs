@@ -1,0 +1,276 @@
+//! The arguments.
+
+use std::ffi::{OsStr, OsString};
+use std::path::PathBuf;
+
+use station::FragmentNumber;
+
+use crate::problem::Problem;
+
+/// What is to be done.
+#[derive(Debug)]
+pub enum Command {
+    /// Show a text of help.
+    Help(&'static str),
+    /// Check files and folders.
+    Check { files: Vec<PathBuf>, report: bool },
+    /// List the fragments of an entry.
+    Fragments { file: PathBuf, aside: Vec<FragmentNumber> },
+    /// Save an entry without some fragments.
+    Save { file: PathBuf, aside: Vec<FragmentNumber>, out: PathBuf, tray: Option<PathBuf>, force: bool },
+    /// Draw an entry.
+    Draw { file: PathBuf, aside: Vec<FragmentNumber>, svg: PathBuf, force: bool },
+}
+
+const HELP: &str = "\
+The station checks, lists, saves and draws PDB coordinate entries.
+
+usage:
+  station check FILE.. [--report]
+  station fragments FILE [--aside LIST]
+  station save FILE --aside LIST --out FILE --tray FILE [--force]
+  station draw FILE --svg FILE [--aside LIST] [--force]
+  station COMMAND --help
+
+examples:
+  station check 1abc.pdb
+  station check incoming/ archive/2024/
+  station fragments 1abc.pdb
+  station save 1abc.pdb --aside 2,5 --out bare.pdb --tray tray.pdb
+  station draw 1abc.pdb --svg 1abc.svg
+
+Exit status: 0 granted and done, 1 refused, 2 could not be read or written, or not understood.
+";
+
+const CHECK_HELP: &str = "\
+usage: station check FILE.. [--report]
+
+Checks each FILE, each file in a folder and its folders, or standard input (-), and says in words whether it is
+granted; the line that is refused is shown.
+
+  --report  print the listing of the report program instead: twelve lines key=value. Like that program it takes
+            at most 65529 bytes and answers verdict=20 above. With several files a line file=NAME comes first.
+
+examples:
+  station check 1abc.pdb
+  station check incoming/
+  station check --report 1abc.pdb
+  zcat 1abc.pdb.gz | station check -
+
+Exit status: 0 all granted, 1 one or more refused, 2 one or more could not be read.
+";
+
+const FRAGMENTS_HELP: &str = "\
+usage: station fragments FILE [--aside LIST]
+
+Lists the fragments of an accepted entry: number, chain, residues, atoms, first and last residue, and whether it is in
+or set aside.
+
+  --aside LIST  set these fragments aside first, such as 2,5 or 2,7-9
+
+example:
+  station fragments 1abc.pdb --aside 2,5
+
+Exit status: 0 listed, 1 refused, 2 could not be read.
+";
+
+const SAVE_HELP: &str = "\
+usage: station save FILE [--aside LIST] --out FILE [--tray FILE] [--force]
+
+Saves an accepted entry without the fragments set aside, and what is left out of it to the tray. Both files are
+written whole or not at all. The input is never written to.
+
+  --aside LIST  the fragments to set aside, such as 2,5 or 2,7-9
+  --out FILE    where the entry goes
+  --tray FILE   where the lines go that are left out; needed if a fragment is set aside
+  --force       replace files that exist
+
+examples:
+  station save 1abc.pdb --aside 2,5 --out bare.pdb --tray tray.pdb
+  station save 1abc.pdb --aside 3-40 --out dry.pdb --tray water.pdb --force
+
+Exit status: 0 saved, 1 refused, 2 could not be read or written.
+";
+
+const DRAW_HELP: &str = "\
+usage: station draw FILE --svg FILE [--aside LIST] [--force]
+
+Draws a dot for each atom and a stroke for each bond of a CONECT line, seen along z. Of a refused entry the good lines
+are drawn, and a note says so.
+
+  --svg FILE    where the picture goes; it is written whole or not at all
+  --aside LIST  fragments to leave out (of an accepted entry), such as 2,5 or 2,7-9
+  --force       replace a file that exists
+
+example:
+  station draw 1abc.pdb --aside 2 --svg 1abc.svg
+
+Exit status: 0 drawn, 1 refused or nothing to draw, 2 could not be read or written.
+";
+
+/// The options of a command as they were given.
+#[derive(Default)]
+struct Given {
+    files: Vec<PathBuf>,
+    help: bool,
+    report: bool,
+    force: bool,
+    aside: Option<OsString>,
+    out: Option<OsString>,
+    tray: Option<OsString>,
+    svg: Option<OsString>,
+}
+
+fn usage<T>(words: impl Into<String>) -> Result<T, Problem> {
+    Err(Problem::Usage(words.into()))
+}
+
+/// Reads the arguments.
+pub fn parse(mut arguments: impl Iterator<Item = OsString>) -> Result<Command, Problem> {
+    let Some(command) = arguments.next() else {
+        return usage("what is to be done?");
+    };
+    let (help, allowed): (_, &[&str]) = match command.to_str() {
+        Some("help" | "--help" | "-h") => return Ok(Command::Help(HELP)),
+        Some("check") => (CHECK_HELP, &["--report"]),
+        Some("fragments") => (FRAGMENTS_HELP, &["--aside"]),
+        Some("save") => (SAVE_HELP, &["--aside", "--out", "--tray", "--force"]),
+        Some("draw") => (DRAW_HELP, &["--aside", "--svg", "--force"]),
+        _ => return usage(format!("{}: no such command", command.to_string_lossy())),
+    };
+    let given = given(arguments, allowed)?;
+    if given.help {
+        return Ok(Command::Help(help));
+    }
+    match command.to_str() {
+        Some("check") if given.files.is_empty() => usage("check needs one or more files"),
+        Some("check") => Ok(Command::Check { files: given.files, report: given.report }),
+        Some("fragments") => {
+            let (file, aside) = (given.one_file("fragments")?, given.aside()?);
+            Ok(Command::Fragments { file, aside })
+        }
+        Some("save") => {
+            let (file, aside) = (given.one_file("save")?, given.aside()?);
+            let out = needed(given.out, "save needs --out FILE")?;
+            let tray = given.tray.map(PathBuf::from);
+            if !aside.is_empty() && tray.is_none() {
+                return usage("save needs --tray FILE, so that what is set aside is not lost");
+            }
+            Ok(Command::Save { file, aside, out, tray, force: given.force })
+        }
+        _ => {
+            let (file, aside) = (given.one_file("draw")?, given.aside()?);
+            let svg = needed(given.svg, "draw needs --svg FILE")?;
+            Ok(Command::Draw { file, aside, svg, force: given.force })
+        }
+    }
+}
+
+fn needed(path: Option<OsString>, words: &str) -> Result<PathBuf, Problem> {
+    path.filter(|path| !path.is_empty()).map(PathBuf::from).ok_or_else(|| Problem::Usage(words.to_owned()))
+}
+
+/// Sorts the arguments of a command that allows these options.
+fn given(mut arguments: impl Iterator<Item = OsString>, allowed: &[&str]) -> Result<Given, Problem> {
+    let mut given = Given::default();
+    let mut only_files = false;
+    while let Some(argument) = arguments.next() {
+        let text = argument.to_str().unwrap_or_default();
+        if only_files || argument == OsStr::new("-") || !argument.as_encoded_bytes().starts_with(b"-") {
+            given.files.push(argument.into());
+            continue;
+        }
+        let (name, attached) = match text.split_once('=') {
+            Some((name, value)) => (name, Some(OsString::from(value))),
+            None => (text, None),
+        };
+        match name {
+            "--" => only_files = true,
+            "--help" | "-h" => given.help = true,
+            _ if !allowed.contains(&name) => {
+                return usage(format!("{}: no such option here", argument.to_string_lossy()));
+            }
+            "--report" | "--force" if attached.is_some() => return usage(format!("{name} takes no value")),
+            "--report" => given.report = true,
+            "--force" => given.force = true,
+            _ => {
+                let Some(value) = attached.or_else(|| arguments.next()) else {
+                    return usage(format!("{name} needs a value"));
+                };
+                let place = match name {
+                    "--aside" => &mut given.aside,
+                    "--out" => &mut given.out,
+                    "--tray" => &mut given.tray,
+                    _ => &mut given.svg,
+                };
+                if place.replace(value).is_some() {
+                    return usage(format!("{name} is given twice"));
+                }
+            }
+        }
+    }
+    Ok(given)
+}
+
+impl Given {
+    fn one_file(&self, command: &str) -> Result<PathBuf, Problem> {
+        match &self.files[..] {
+            [file] => Ok(file.clone()),
+            _ => usage(format!("{command} needs one file")),
+        }
+    }
+
+    fn aside(&self) -> Result<Vec<FragmentNumber>, Problem> {
+        let Some(list) = &self.aside else {
+            return Ok(Vec::new());
+        };
+        let list = list.to_string_lossy();
+        match fragment_list(&list) {
+            Some(numbers) => Ok(numbers),
+            None => usage(format!("--aside {list}: needs fragment numbers such as 2,5 or 2,7-9")),
+        }
+    }
+}
+
+/// The most fragments that a list may name: more than an entry of the largest size can have.
+const MOST_FRAGMENTS: usize = 1_000_000;
+
+/// The numbers of a list such as `2,7-9`.
+fn fragment_list(list: &str) -> Option<Vec<FragmentNumber>> {
+    let number = |text: &str| {
+        let digits = !text.is_empty() && text.bytes().all(|byte| byte.is_ascii_digit());
+        if digits {
+            text.parse::<u32>().ok()
+        } else {
+            None
+        }
+    };
+    let mut numbers = Vec::new();
+    for part in list.split(',').map(str::trim) {
+        let (low, high) = match part.split_once('-') {
+            Some((low, high)) => (number(low)?, number(high)?),
+            None => (number(part)?, number(part)?),
+        };
+        if low > high || (high - low) as usize >= MOST_FRAGMENTS - numbers.len() {
+            return None;
+        }
+        numbers.extend((low..=high).map(FragmentNumber));
+    }
+    Some(numbers)
+}
+
+#[cfg(test)]
+mod tests {
+    use super::*;
+
+    #[test]
+    fn lists() {
+        let numbers = |list| fragment_list(list).map(|found| found.iter().map(|number| number.0).collect::<Vec<_>>());
+        assert_eq!(numbers("2,5"), Some(vec![2, 5]));
+        assert_eq!(numbers("2, 7-9"), Some(vec![2, 7, 8, 9]));
+        assert_eq!(numbers("0"), Some(vec![0]));
+        for wrong in ["", ",", "2,", "a", "-1", "1-", "5-2", "+1", "1-4294967295", "99999999999"] {
+            assert_eq!(numbers(wrong), None, "{wrong}");
+        }
+    }
+}

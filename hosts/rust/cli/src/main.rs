@@ -1,0 +1,47 @@
+//! The command line of the station: `station --help`.
+
+mod arguments;
+mod check;
+mod draw;
+mod fragments;
+mod input;
+mod output;
+mod problem;
+mod save;
+mod svg;
+mod words;
+
+use std::io::Write;
+use std::process::ExitCode;
+
+use arguments::Command;
+use problem::{Problem, Status};
+
+fn run() -> Result<Status, Problem> {
+    let mut out = output::Console::new();
+    let status = match arguments::parse(std::env::args_os().skip(1))? {
+        Command::Help(text) => {
+            out.say(text)?;
+            Status::Done
+        }
+        Command::Check { files, report } => check::run(&files, report, &mut out)?,
+        Command::Fragments { file, aside } => fragments::run(&file, &aside, &mut out)?,
+        Command::Save { file, aside, out: to, tray, force } => {
+            save::run(&file, &aside, &to, tray.as_deref(), force, &mut out)?
+        }
+        Command::Draw { file, aside, svg, force } => draw::run(&file, &aside, &svg, force, &mut out)?,
+    };
+    out.finish()?;
+    Ok(status)
+}
+
+fn main() -> ExitCode {
+    let status = run().unwrap_or_else(|problem| {
+        if !problem.is_closed_pipe() {
+            // Where the message cannot be shown, the exit status still tells.
+            let _ = writeln!(std::io::stderr(), "station: {problem}");
+        }
+        problem.status()
+    });
+    ExitCode::from(status as u8)
+}

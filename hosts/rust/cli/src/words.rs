@@ -1,0 +1,183 @@
+//! Verdicts in words.
+
+use std::fmt::Write;
+use std::path::Path;
+
+use station::{pieces, Refusal, Verdict};
+
+/// What the check found, in words: one line, and for a refusal the line that is refused and a cause.
+pub fn describe(name: &str, text: &[u8], verdict: &Verdict) -> String {
+    let Some(refusal) = verdict.refusal else {
+        let counts = &verdict.counts;
+        return format!(
+            "{name}: granted: {}, {}, {}, {}",
+            several(verdict.good_lines, "line"),
+            several(counts.coord, "atom"),
+            several(counts.ter, "TER"),
+            several(counts.conect, "CONECT"),
+        );
+    };
+    let mut words = format!("{name}: line {}: {refusal}", verdict.line);
+    if let Some(piece) = refused_piece(text, verdict) {
+        // Writing to a string does not fail.
+        let _ = write!(words, "\n  |{}|", shown(piece));
+    }
+    if let Some(cause) = cause(text, verdict, refusal) {
+        let _ = write!(words, "\n  {cause}");
+    }
+    words
+}
+
+/// The name of a file, to show: a name may hold bytes that would upset a terminal or a listing.
+pub fn path_name(path: &Path) -> String {
+    let name = path.display().to_string();
+    name.chars().map(|character| if character.is_control() { '?' } else { character }).collect()
+}
+
+/// A number of things.
+pub fn several(count: u64, thing: &str) -> String {
+    match (count, thing) {
+        (1, _) | (_, "TER" | "CONECT") => format!("{count} {thing}"),
+        _ => format!("{count} {thing}s"),
+    }
+}
+
+/// The line that is refused; there is none if the text is over too soon.
+fn refused_piece<'t>(text: &'t [u8], verdict: &Verdict) -> Option<&'t [u8]> {
+    let index = usize::try_from(verdict.line.checked_sub(1)?).ok()?;
+    pieces(text).nth(index)
+}
+
+/// A line with its bytes made visible; its newline is left out.
+pub fn shown(piece: &[u8]) -> String {
+    let columns = if piece.len() == 81 && piece[80] == b'\n' { &piece[..80] } else { piece };
+    let mut shown = String::new();
+    for &byte in columns {
+        match byte {
+            b'\n' => shown.push_str("\\n"),
+            b'\r' => shown.push_str("\\r"),
+            b'\t' => shown.push_str("\\t"),
+            32..=126 => shown.push(char::from(byte)),
+            _ => {
+                let _ = write!(shown, "\\x{byte:02x}");
+            }
+        }
+    }
+    shown
+}
+
+/// Beginnings of files that are no PDB entries at all, and what they are.
+const FOREIGN: [(&[u8], &str); 7] = [
+    (b"\x1f\x8b", "the file is compressed (gzip); unpack it first"),
+    (b"PK\x03\x04", "the file is an archive (zip); unpack it first"),
+    (b"BZh", "the file is compressed (bzip2); unpack it first"),
+    (b"\xef\xbb\xbf", "the file begins with a byte order mark (UTF-8); it has to be plain ASCII"),
+    (b"\xff\xfe", "the file is in UTF-16; it has to be plain ASCII"),
+    (b"\xfe\xff", "the file is in UTF-16; it has to be plain ASCII"),
+    (b"data_", "this looks like mmCIF; only the PDB format is read"),
+];
+
+/// What is likely behind a refusal, where the number alone does not say.
+fn cause(text: &[u8], verdict: &Verdict, refusal: Refusal) -> Option<String> {
+    if text.is_empty() {
+        return Some("the file is empty".to_owned());
+    }
+    if let Some((_, words)) = FOREIGN.iter().find(|(start, _)| text.starts_with(start)) {
+        return Some((*words).to_owned());
+    }
+    let piece = refused_piece(text, verdict)?;
+    match refusal {
+        Refusal::LENGTH | Refusal::NEWLINE | Refusal::BYTE => form(text, verdict, piece),
+        Refusal::NAME => piece.get(..6).map(unknown_name),
+        _ => None,
+    }
+}
+
+/// What is wrong with the form of a line.
+fn form(text: &[u8], verdict: &Verdict, piece: &[u8]) -> Option<String> {
+    let index = usize::try_from(verdict.line.checked_sub(1)?).ok()?;
+    let behind = &text[(81 * index).min(text.len())..];
+    let with_next = &behind[..behind.len().min(piece.len() + 1)];
+    if with_next.windows(2).any(|pair| pair == b"\r\n") {
+        return Some(
+            "the file has Windows line ends (carriage return and newline); a line ends with a newline alone".to_owned(),
+        );
+    }
+    if let Some(columns) = piece.iter().take(80).position(|&byte| byte == b'\n') {
+        return Some(match (columns, piece.len()) {
+            (0, 1) => "there is a newline too many at the end of the file".to_owned(),
+            _ => format!(
+                "the line ends after {}; it has to be filled up with blanks to 80",
+                several(columns as u64, "column")
+            ),
+        });
+    }
+    if let Some(at) = piece.iter().take(80).position(|byte| !(32..=126).contains(byte)) {
+        let byte = piece[at];
+        let what = match byte {
+            b'\t' => "a tab".to_owned(),
+            b'\r' => "a carriage return".to_owned(),
+            128.. => format!("a byte that is not ASCII (0x{byte:02x})"),
+            _ => format!("a control byte (0x{byte:02x})"),
+        };
+        return Some(format!("column {} holds {what}", at + 1));
+    }
+    match piece.len() {
+        80 => Some("the newline at the end of the file is missing".to_owned()),
+        81 => Some("the line goes on past column 80".to_owned()),
+        length => Some(format!("the file ends after {} of the line", several(length as u64, "column"))),
+    }
+}
+
+fn unknown_name(name: &[u8]) -> String {
+    match name {
+        b"MODEL " | b"ENDMDL" => "entries with models are not handled".to_owned(),
+        _ => format!("the name is \"{}\"", shown(name)),
+    }
+}
+
+#[cfg(test)]
+mod tests {
+    use super::*;
+    use station::Entry;
+
+    fn words(text: &[u8]) -> String {
+        describe("f", text, &Entry::check(text))
+    }
+
+    fn padded(line: &str, end: &str) -> String {
+        format!("{line:80}{end}")
+    }
+
+    #[test]
+    fn causes_are_named() {
+        let header = padded("HEADER", "\n");
+        for (text, cause) in [
+            (String::new(), "the file is empty"),
+            (padded("HEADER", "\r\n") + &padded("END", "\r\n"), "Windows line ends"),
+            ("HEADER\r\nTITLE\r\n".to_owned(), "Windows line ends"),
+            ("HEADER\nTITLE\nEND\n".to_owned(), "ends after 6 columns"),
+            (padded("HEADER", ""), "newline at the end of the file is missing"),
+            (header.clone() + "TITLE", "ends after 5 columns of the line"),
+            (header.clone() + "\n", "a newline too many"),
+            (padded("HEADER  \t", "\n"), "column 9 holds a tab"),
+            (padded("HEADER  x", "x"), "goes on past column 80"),
+            (header.clone() + &padded("MODEL        1", "\n"), "models are not handled"),
+            (header + &padded("DBREF", "\n"), "the name is \"DBREF \""),
+            ("data_1ABC\n".to_owned(), "mmCIF"),
+        ] {
+            let words = words(text.as_bytes());
+            assert!(words.contains(cause), "{words}");
+        }
+        assert!(words(&[200; 100]).contains("not ASCII (0xc8)"));
+    }
+
+    #[test]
+    fn every_refusal_of_noise_has_words() {
+        for length in 0..300 {
+            for byte in [0, 9, 10, 13, 32, 65, 255] {
+                assert!(words(&vec![byte; length]).starts_with("f: line 1: refused with "));
+            }
+        }
+    }
+}

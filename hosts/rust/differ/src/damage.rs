@@ -1,0 +1,344 @@
+//! Damage to lines, texts and tables.
+
+use station::raw::Slot;
+
+use crate::chance::Chance;
+use crate::entry::{line, master, put, put_number, Columns};
+
+/// Names that a line may be given: known ones, and ones that are nearly so.
+const NAMES: [&str; 44] = [
+    "HEADER", "TITLE ", "COMPND", "SOURCE", "KEYWDS", "EXPDTA", "AUTHOR", "REVDAT", "JRNL  ", "REMARK", "SEQRES",
+    "HET   ", "HELIX ", "SHEET ", "CRYST1", "ORIGX1", "ORIGX2", "ORIGX3", "SCALE1", "SCALE2", "SCALE3", "ATOM  ",
+    "HETATM", "TER   ", "CONECT", "MASTER", "END   ", "ENDMDL", "MODEL ", "ANISOU", "DBREF ", "atom  ", " ATOM ",
+    "TER  x", "ORIGX4", "SCALE0", "ORIGX ", "HETATN", "SITE  ", "      ", "LINK  ", "HET  A", "END  1", "CONEC ",
+];
+
+/// What sort of text stands in a field.
+#[derive(Clone, Copy, Debug)]
+enum Sort {
+    /// An integer of a range.
+    Integer(i64, i64),
+    /// A real with decimals, of a range of its last place.
+    Real(usize, i64, i64),
+    /// Some bytes, blank or not.
+    Bytes,
+    /// An element, which stands in two places.
+    Element,
+}
+
+use Sort::{Bytes, Element, Integer, Real};
+
+const SERIAL: Sort = Integer(1, 99_999);
+const NUMBER: Sort = Integer(-999, 9_999);
+const PLACE: Sort = Real(3, -999_999, 9_999_999);
+const COUNT: Sort = Integer(0, 99_999);
+const FIXED: Sort = Integer(0, 0);
+
+/// The fields of a typed line: first and last column, and sort.
+#[rustfmt::skip]
+fn fields(line: &Columns) -> &'static [(usize, usize, Sort)] {
+    match &line[..6] {
+        b"ATOM  " | b"HETATM" => &[
+            (7, 11, SERIAL), (13, 16, Bytes), (17, 17, Bytes), (18, 20, Bytes), (22, 22, Bytes), (23, 26, NUMBER),
+            (27, 27, Bytes), (31, 38, PLACE), (39, 46, PLACE), (47, 54, PLACE), (55, 60, Real(2, 0, 100)),
+            (61, 66, Real(2, -9_999, 99_999)), (77, 78, Element), (79, 80, Bytes),
+        ],
+        b"TER   " => &[(7, 11, SERIAL), (18, 20, Bytes), (22, 22, Bytes), (23, 26, NUMBER), (27, 27, Bytes)],
+        b"HELIX " => &[
+            (8, 10, Integer(1, 999)), (12, 14, Bytes), (16, 18, Bytes), (20, 20, Bytes), (22, 25, NUMBER),
+            (26, 26, Bytes), (28, 30, Bytes), (32, 32, Bytes), (34, 37, NUMBER), (38, 38, Bytes),
+            (39, 40, Integer(1, 10)), (41, 70, Bytes), (72, 76, Integer(1, 99_999)),
+        ],
+        b"SHEET " => &[
+            (8, 10, Integer(1, 999)), (12, 14, Bytes), (15, 16, Integer(1, 99)), (18, 20, Bytes), (22, 22, Bytes),
+            (23, 26, NUMBER), (27, 27, Bytes), (29, 31, Bytes), (33, 33, Bytes), (34, 37, NUMBER), (38, 38, Bytes),
+            (39, 40, Integer(-1, 1)), (42, 45, Bytes), (46, 48, Bytes), (50, 50, Bytes), (51, 54, NUMBER), (55, 55, Bytes),
+            (57, 60, Bytes), (61, 63, Bytes), (65, 65, Bytes), (66, 69, NUMBER), (70, 70, Bytes),
+        ],
+        b"CONECT" => &[(7, 11, SERIAL), (12, 16, SERIAL), (17, 21, SERIAL), (22, 26, SERIAL), (27, 31, SERIAL)],
+        b"MASTER" => &[
+            (11, 15, COUNT), (16, 20, FIXED), (21, 25, COUNT), (26, 30, COUNT), (31, 35, COUNT), (36, 40, FIXED),
+            (41, 45, FIXED), (46, 50, COUNT), (51, 55, COUNT), (56, 60, COUNT), (61, 65, COUNT), (66, 70, COUNT),
+        ],
+        _ => &[],
+    }
+}
+
+/// Bytes at the edges of what fields take.
+const EDGES: &[u8] = b" !'*+-./09:@AZ[`az{~";
+
+fn edge(chance: &mut Chance) -> u8 {
+    if chance.once_in(3) {
+        chance.printable()
+    } else {
+        *chance.pick(EDGES)
+    }
+}
+
+/// A number in or near a range.
+fn near(chance: &mut Chance, low: i64, high: i64) -> i64 {
+    match chance.below(8) {
+        0 => low - 1,
+        1 => low,
+        2 => high,
+        3 => high + 1,
+        4 => 0,
+        5 => chance.within(-1, 1),
+        _ => chance.within(low, high),
+    }
+}
+
+/// The text of a number with so many decimals, or one that is nearly so.
+fn number_text(chance: &mut Chance, number: i64, decimals: usize) -> String {
+    let minus = if number < 0 { "-" } else { "" };
+    let (size, scale) = (number.abs(), 10i64.pow(decimals as u32));
+    let point = if decimals == 0 { String::new() } else { format!(".{:0decimals$}", size % scale) };
+    let whole = size / scale;
+    match chance.below(16) {
+        0 => format!("{minus}0{whole}{point}"),
+        1 => format!("+{whole}{point}"),
+        2 => format!("-{whole}{point}"),
+        3 => format!("{minus} {whole}{point}"),
+        4 => format!("{minus}{whole}{point} "),
+        5 => format!("{minus}{point}"),
+        6 => format!("{minus}{whole}{point}0"),
+        7 => format!("{minus}{whole}.{}", point.trim_start_matches('.')),
+        8 => format!("{minus}{whole}"),
+        _ => format!("{minus}{whole}{point}"),
+    }
+}
+
+/// Puts something into a field that is right for it, or nearly so.
+fn put_nearly(chance: &mut Chance, line: &mut Columns, (from, to, sort): (usize, usize, Sort)) {
+    let width = to + 1 - from;
+    let (low, high, decimals) = match sort {
+        Integer(low, high) => (low, high, 0),
+        Real(decimals, low, high) => (low, high, decimals),
+        Bytes => {
+            // All of them, or one of them.
+            let (first, last) = if chance.once_in(2) { (from, to) } else { (from + chance.below(width), 0) };
+            for at in first..=last.max(first) {
+                put(line, at, &[edge(chance)]);
+            }
+            return;
+        }
+        Element => {
+            let first = if chance.once_in(3) { b' ' } else { b'A' + chance.below(26) as u8 };
+            let pair = [first, b'A' + chance.below(26) as u8];
+            put(line, from, &pair);
+            if !chance.once_in(8) {
+                put(line, 13, &pair);
+            }
+            return;
+        }
+    };
+    let number = near(chance, low, high);
+    let mut text = number_text(chance, number, decimals).into_bytes();
+    text.truncate(width);
+    let blanks = vec![b' '; width - text.len()];
+    let whole = if chance.once_in(16) { [text, blanks].concat() } else { [blanks, text].concat() };
+    put(line, from, &whole);
+}
+
+/// Gives a line another name, known or not.
+pub fn rename(chance: &mut Chance, line: &mut Columns) {
+    let name = *chance.pick(&NAMES);
+    put(line, 1, name.as_bytes());
+}
+
+/// Damages one line. It may come out right all the same.
+pub fn damage_line(chance: &mut Chance, line: &mut Columns) {
+    let fields = fields(line);
+    let any = 1 + chance.below(80);
+    let field = if fields.is_empty() { (7, 80, Bytes) } else { *chance.pick(fields) };
+    let (from, to, _) = field;
+    match chance.below(16) {
+        0 => put(line, any, &[chance.byte()]),
+        1 => put(line, any, &[chance.printable()]),
+        2 => rename(chance, line),
+        3 => put(line, from, &vec![b' '; to + 1 - from]),
+        4 => line[from - 1..to].rotate_left(1),
+        5 => line[6..].rotate_right(1),
+        6..=8 => {
+            let blank = |at: &usize| !fields.iter().any(|(from, to, _)| (*from..=*to).contains(at));
+            let blanks: Vec<usize> = (7..=80).filter(blank).collect();
+            if !blanks.is_empty() {
+                put(line, *chance.pick(&blanks), &[edge(chance)]);
+            }
+        }
+        9 if line.starts_with(b"SHEET") && chance.once_in(2) => put(line, 42, &[b' '; 29]),
+        9 if line.starts_with(b"SHEET") => {
+            // Strand 1, whatever stands in its registration.
+            put(line, 8, b"  1");
+            put(line, 39, b" 0");
+        }
+        _ => put_nearly(chance, line, field),
+    }
+}
+
+/// The indices of the lines with one of these names.
+fn named(lines: &[Columns], names: &[&[u8; 6]]) -> Vec<usize> {
+    (0..lines.len()).filter(|&index| names.iter().any(|name| lines[index][..6] == name[..])).collect()
+}
+
+const COORDINATES: &[&[u8; 6]] = &[b"ATOM  ", b"HETATM", b"TER   "];
+
+/// Damages the order, number or links of the lines of an entry.
+pub fn damage_lines(chance: &mut Chance, lines: &mut Vec<Columns>) {
+    if lines.is_empty() {
+        return;
+    }
+    let at = chance.below(lines.len());
+    let other = chance.below(lines.len());
+    let mut one_of = |names: &[&[u8; 6]]| {
+        let found = named(lines, names);
+        if found.is_empty() {
+            at
+        } else {
+            *chance.pick(&found)
+        }
+    };
+    let (coordinate, ter, bond, helix, sheet, count) = (
+        one_of(COORDINATES),
+        one_of(&[b"TER   "]),
+        one_of(&[b"CONECT"]),
+        one_of(&[b"HELIX "]),
+        one_of(&[b"SHEET "]),
+        one_of(&[b"MASTER"]),
+    );
+    match chance.below(22) {
+        0 => {
+            lines.remove(at);
+        }
+        1 => lines.insert(at, lines[at]),
+        2 => lines.swap(at, other),
+        3 => {
+            let moved = lines.remove(at);
+            lines.insert(other.min(lines.len()), moved);
+        }
+        4 => {
+            // A serial that does not rise, or rises too far for the next.
+            let serial = lines[one_of_again(chance, lines, COORDINATES, coordinate)][6..11].to_vec();
+            put(&mut lines[coordinate], 7, &serial);
+        }
+        5 => put(&mut lines[coordinate], 22, &[*chance.pick(b"ABCa0")]),
+        6 => put(&mut lines[ter], 23, chance.pick(&["   1", "  -3", "9999"]).as_bytes()),
+        7 => put(&mut lines[ter], 18, b"XXX"),
+        8 => put(&mut lines[ter], 27, chance.pick(&[" ", "A", "B"]).as_bytes()),
+        9 => {
+            let name = *chance.pick(&["ATOM  ", "HETATM", "TER   "]);
+            put(&mut lines[coordinate], 1, name.as_bytes());
+        }
+        10 | 11 => {
+            // A number on a CONECT line becomes another line's serial, a TER's among them.
+            let serial = lines[coordinate][6..11].to_vec();
+            put(&mut lines[bond], 7 + 5 * chance.below(5), &serial);
+        }
+        12 => {
+            let number = chance.within(1, 60);
+            put_number(&mut lines[bond], 7, 11, number);
+        }
+        13 => put_number(&mut lines[helix], 8, 10, chance.within(1, 5)),
+        14 => put_number(&mut lines[sheet], 8, 10, chance.within(1, 6)),
+        15 => put_number(&mut lines[sheet], 15, 16, chance.within(1, 6)),
+        16 => put(&mut lines[sheet], 12, chance.pick(&["  A", "  B", "AB1", "  ~"]).as_bytes()),
+        17 => {
+            let from = 11 + 5 * chance.below(12);
+            put_number(&mut lines[count], from, from + 4, chance.within(0, 3));
+        }
+        18 => {
+            let name = *chance.pick(&NAMES);
+            lines.insert(at, line(name));
+        }
+        19 => repeat(lines, at, 1 + chance.below(4)),
+        20 => {
+            // A trio once more.
+            if let Some(&last) = named(lines, &[b"ORIGX3", b"SCALE3"]).first() {
+                repeat(lines, last.saturating_sub(2), 3);
+            }
+        }
+        _ => damage_line(chance, &mut lines[at]),
+    }
+}
+
+/// Repeats some lines right behind themselves.
+fn repeat(lines: &mut Vec<Columns>, from: usize, count: usize) {
+    let end = (from + count).min(lines.len());
+    let block = lines[from..end].to_vec();
+    lines.splice(end..end, block);
+}
+
+fn one_of_again(chance: &mut Chance, lines: &[Columns], names: &[&[u8; 6]], otherwise: usize) -> usize {
+    let found = named(lines, names);
+    if found.is_empty() {
+        otherwise
+    } else {
+        *chance.pick(&found)
+    }
+}
+
+/// Counts MASTER again after damage, so that the damage is what decides.
+pub fn recount(lines: &mut [Columns]) {
+    if let Some(&at) = named(lines, &[b"MASTER"]).first() {
+        lines[at] = master(lines);
+    }
+}
+
+/// Damages the bytes of a text.
+pub fn damage_text(chance: &mut Chance, text: &mut Vec<u8>) {
+    let at = chance.below(text.len());
+    let lines = text.len() / 81;
+    match chance.below(10) {
+        0 => text.truncate(at),
+        1 => text.truncate(81 * chance.below(lines + 1)),
+        2 => text.push(chance.byte()),
+        3 => text.push(b'\n'),
+        4 => text.extend_from_slice(&text.clone()[..81.min(text.len())]),
+        5 if lines > 0 => text[81 * chance.below(lines) + 80] = *chance.pick(b"\r \0X\x0b"),
+        6 if lines > 0 => {
+            let line = 81 * chance.below(lines);
+            text[line + chance.below(80)] = *chance.pick(&[0, 9, 10, 13, 31, 127, 128, 255]);
+        }
+        7 => {
+            // Carriage returns before all newlines.
+            let returned = text.iter().flat_map(|&byte| if byte == b'\n' { vec![b'\r', b'\n'] } else { vec![byte] });
+            *text = returned.collect();
+        }
+        8 if !text.is_empty() => {
+            text.remove(at);
+        }
+        _ if !text.is_empty() => text[at] = chance.byte(),
+        _ => {}
+    }
+}
+
+/// Damages a table.
+pub fn damage_table(chance: &mut Chance, table: &mut [Slot]) {
+    if table.is_empty() {
+        return;
+    }
+    let at = chance.below(table.len());
+    let other = chance.below(table.len());
+    let slot = &mut table[at];
+    match chance.below(20) {
+        0 => slot.serial = slot.serial.wrapping_add(1),
+        1 => slot.number ^= 1,
+        2 => slot.x ^= 1,
+        3 => slot.y = slot.y.wrapping_neg(),
+        4 => slot.z ^= i32::MIN,
+        5 => slot.occupancy ^= 1,
+        6 => slot.temperature ^= 0x100,
+        7 => slot.kind = *chance.pick(&[0, 1, 2, 3, 4, 255]),
+        8 | 9 => slot.mark ^= 1,
+        10 => slot.mark = *chance.pick(&[2, 3, 128, 255]),
+        11 => slot.name[chance.below(4)] ^= 1 << chance.below(8),
+        12 => slot.alternate ^= 1 << chance.below(8),
+        13 => slot.residue[chance.below(3)] ^= 1 << chance.below(8),
+        14 => slot.chain ^= 1 << chance.below(8),
+        15 => slot.insertion ^= 1 << chance.below(8),
+        16 => slot.element[chance.below(2)] ^= 1 << chance.below(8),
+        17 => slot.charge[chance.below(2)] ^= 1 << chance.below(8),
+        18 => table.swap(at, other),
+        _ => table[at] = table[other],
+    }
+}

@@ -1,0 +1,360 @@
+//! Entries and lines made up by chance that obey the rules. Nothing here comes from the reference.
+
+use crate::chance::Chance;
+
+/// A line of 80 columns.
+pub type Columns = [u8; 80];
+
+/// Names of the carried kinds before HELIX, by place, HEADER left out.
+const CARRIED: [&str; 11] =
+    ["TITLE", "COMPND", "SOURCE", "KEYWDS", "EXPDTA", "AUTHOR", "REVDAT", "JRNL", "REMARK", "SEQRES", "HET"];
+
+/// Elements of good atoms; single lines try every pair of letters.
+const ELEMENTS: [&str; 16] =
+    [" C", " N", " O", " H", " D", " S", " P", "CA", "FE", "ZN", "NA", "CL", "OG", " U", "HG", " K"];
+
+const RESIDUES: [&str; 8] = ["ALA", "GLY", " DA", "  U", "HOH", "5MC", "  7", "ZN2"];
+
+const CHAINS: &[u8] = b"AAABBCa0z9";
+
+/// A residue as its columns have it.
+#[derive(Clone, Copy, Debug)]
+pub struct Residue {
+    name: [u8; 3],
+    chain: u8,
+    number: i64,
+    insertion: u8,
+}
+
+/// A line with a text at its left.
+pub fn line(text: &str) -> Columns {
+    let mut line = [b' '; 80];
+    put(&mut line, 1, text.as_bytes());
+    line
+}
+
+/// Puts bytes at a column.
+pub fn put(line: &mut Columns, from: usize, bytes: &[u8]) {
+    for (column, byte) in line[from - 1..].iter_mut().zip(bytes) {
+        *column = *byte;
+    }
+}
+
+/// Puts a number right-justified.
+pub fn put_number(line: &mut Columns, from: usize, to: usize, number: i64) {
+    let width = to + 1 - from;
+    put(line, from, format!("{number:width$}").as_bytes());
+}
+
+fn put_real(line: &mut Columns, from: usize, to: usize, decimals: usize, value: i64) {
+    let width = to + 1 - from;
+    let scale = 10i64.pow(decimals as u32);
+    let (whole, rest) = (value.abs() / scale, value.abs() % scale);
+    let minus = if value < 0 { "-" } else { "" };
+    let text = format!("{minus}{whole}.{rest:0decimals$}");
+    put(line, from, format!("{text:>width$}").as_bytes());
+}
+
+fn put_residue(line: &mut Columns, residue: &Residue, name: usize, chain: usize, number: usize) {
+    put(line, name, &residue.name);
+    put(line, chain, &[residue.chain]);
+    put_number(line, number, number + 3, residue.number);
+    put(line, number + 4, &[residue.insertion]);
+}
+
+/// A number of a range: its ends, small ones, or any.
+fn number(chance: &mut Chance, low: i64, high: i64) -> i64 {
+    match chance.below(8) {
+        0 => low,
+        1 => high,
+        2..=4 => chance.within(low.max(-12), high.min(12)),
+        _ => chance.within(low, high),
+    }
+}
+
+fn free(chance: &mut Chance, line: &mut Columns, from: usize, to: usize) {
+    if chance.once_in(3) {
+        for column in &mut line[from - 1..to] {
+            *column = chance.printable();
+        }
+    }
+}
+
+/// Any residue of a chain.
+pub fn residue(chance: &mut Chance, chain: u8) -> Residue {
+    let name = chance.pick(&RESIDUES).as_bytes();
+    Residue {
+        name: [name[0], name[1], name[2]],
+        chain,
+        number: number(chance, -999, 9_999),
+        insertion: *chance.pick(b"    AZ"),
+    }
+}
+
+/// Any chain.
+pub fn chain(chance: &mut Chance) -> u8 {
+    *chance.pick(CHAINS)
+}
+
+/// A good ATOM or HETATM line.
+pub fn atom(chance: &mut Chance, name: &str, serial: i64, residue: &Residue) -> Columns {
+    let mut line = line(name);
+    put_number(&mut line, 7, 11, serial);
+    let element = chance.pick(&ELEMENTS).as_bytes();
+    put(&mut line, 13, element);
+    put(&mut line, 15, chance.pick(&["  ", "A ", "1 ", "' ", "* ", "B1", "H1", "''"]).as_bytes());
+    put(&mut line, 17, &[*chance.pick(b"    ABZ0129")]);
+    put_residue(&mut line, residue, 18, 22, 23);
+    for from in [31, 39, 47] {
+        let place = number(chance, -999_999, 9_999_999);
+        put_real(&mut line, from, from + 7, 3, place);
+    }
+    put_real(&mut line, 55, 60, 2, number(chance, 0, 100));
+    put_real(&mut line, 61, 66, 2, number(chance, -9_999, 99_999));
+    put(&mut line, 77, element);
+    put(&mut line, 79, chance.pick(&["  ", "  ", "  ", "1+", "9-", "2-"]).as_bytes());
+    line
+}
+
+/// A good TER line.
+pub fn ter(serial: i64, residue: &Residue) -> Columns {
+    let mut line = line("TER");
+    put_number(&mut line, 7, 11, serial);
+    put_residue(&mut line, residue, 18, 22, 23);
+    line
+}
+
+fn identifier(chance: &mut Chance) -> [u8; 3] {
+    let mut text = [b' '; 3];
+    let from = chance.below(3);
+    for byte in &mut text[from..] {
+        *byte = if chance.once_in(4) { 33 + chance.below(94) as u8 } else { *chance.pick(b"AB1") };
+    }
+    text
+}
+
+/// A good HELIX line.
+pub fn helix(chance: &mut Chance, serial: i64) -> Columns {
+    let mut line = line("HELIX");
+    put_number(&mut line, 8, 10, serial);
+    put(&mut line, 12, &identifier(chance));
+    let chain = chain(chance);
+    put_residue(&mut line, &residue(chance, chain), 16, 20, 22);
+    put_residue(&mut line, &residue(chance, chain), 28, 32, 34);
+    put_number(&mut line, 39, 40, number(chance, 1, 10));
+    free(chance, &mut line, 41, 70);
+    put_number(&mut line, 72, 76, number(chance, 1, 99_999));
+    line
+}
+
+/// A good SHEET line: strand so of so many.
+pub fn strand(chance: &mut Chance, strand: i64, identifier: [u8; 3], strands: i64) -> Columns {
+    let mut line = line("SHEET");
+    put_number(&mut line, 8, 10, strand);
+    put(&mut line, 12, &identifier);
+    put_number(&mut line, 15, 16, strands);
+    for (name, bond, number) in [(18, 22, 23), (29, 33, 34)] {
+        let chain = chain(chance);
+        put_residue(&mut line, &residue(chance, chain), name, bond, number);
+    }
+    let sense = if strand == 1 { 0 } else { *chance.pick(&[1, -1]) };
+    put_number(&mut line, 39, 40, sense);
+    if strand > 1 && !chance.once_in(3) {
+        for from in [42, 57] {
+            put(&mut line, from, chance.pick(&[" N  ", "N   ", "HH11", " CA ", "O'  ", " *  ", " O1*"]).as_bytes());
+            let chain = chain(chance);
+            put_residue(&mut line, &residue(chance, chain), from + 4, from + 8, from + 9);
+        }
+    }
+    line
+}
+
+/// A good CONECT line between some of these serials, or nothing if there are too few.
+pub fn conect(chance: &mut Chance, serial: i64, atoms: &[i64]) -> Option<Columns> {
+    let others: Vec<i64> = atoms.iter().copied().filter(|&other| other != serial).collect();
+    if others.is_empty() {
+        return None;
+    }
+    let mut line = line("CONECT");
+    put_number(&mut line, 7, 11, serial);
+    for index in 0..1 + chance.below(4) {
+        put_number(&mut line, 12 + 5 * index, 16 + 5 * index, *chance.pick(&others));
+    }
+    Some(line)
+}
+
+/// The MASTER line of these lines.
+pub fn master(lines: &[Columns]) -> Columns {
+    let count = |names: &[&str]| {
+        lines.iter().filter(|line| names.iter().any(|name| &line[..6] == format!("{name:6}").as_bytes())).count() as i64
+    };
+    let counts = [
+        count(&["REMARK"]),
+        0,
+        count(&["HET"]),
+        count(&["HELIX"]),
+        count(&["SHEET"]),
+        0,
+        0,
+        count(&["ORIGX1", "ORIGX2", "ORIGX3", "SCALE1", "SCALE2", "SCALE3"]),
+        count(&["ATOM", "HETATM"]),
+        count(&["TER"]),
+        count(&["CONECT"]),
+        count(&["SEQRES"]),
+    ];
+    let mut line = line("MASTER");
+    for (index, count) in counts.into_iter().enumerate() {
+        put_number(&mut line, 11 + 5 * index, 15 + 5 * index, count);
+    }
+    line
+}
+
+fn carried(chance: &mut Chance, name: &str) -> Columns {
+    let mut line = line(name);
+    free(chance, &mut line, 7, 80);
+    line
+}
+
+/// The head of an entry: all that stands before the coordinates.
+fn head(chance: &mut Chance) -> Vec<Columns> {
+    let mut lines = vec![carried(chance, "HEADER")];
+    if chance.once_in(2) {
+        return lines;
+    }
+    for name in CARRIED {
+        if chance.once_in(4) {
+            for _ in 0..1 + chance.below(3) {
+                lines.push(carried(chance, name));
+            }
+        }
+    }
+    if chance.once_in(2) {
+        for serial in 0..chance.below(4) {
+            lines.push(helix(chance, serial as i64 + 1));
+        }
+    }
+    if chance.once_in(2) {
+        let mut before = [0; 3];
+        for _ in 0..chance.below(4) {
+            let name = identifier(chance);
+            if name != before {
+                before = name;
+                let strands = if chance.once_in(40) { 99 } else { 1 + chance.below(5) as i64 };
+                lines.extend((1..=strands).map(|number| strand(chance, number, name, strands)));
+            }
+        }
+    }
+    if chance.once_in(3) {
+        lines.push(carried(chance, "CRYST1"));
+    }
+    for trio in ["ORIGX", "SCALE"] {
+        if chance.once_in(3) {
+            lines.extend((1..=3).map(|row| carried(chance, &format!("{trio}{row}"))));
+        }
+    }
+    lines
+}
+
+/// Coordinates of an entry: closed runs, then a tail of heterogens. Answers the serials of the atoms.
+fn coordinates(chance: &mut Chance, lines: &mut Vec<Columns>, most: usize) -> Vec<i64> {
+    let mut atoms = Vec::new();
+    let mut serial = if chance.once_in(20) { 99_000 } else { chance.within(0, 40) };
+    let mut next = |chance: &mut Chance| {
+        serial += if chance.once_in(4) { chance.within(1, 9) } else { 1 };
+        serial
+    };
+    for _ in 0..chance.below(4) {
+        let chain = chain(chance);
+        let length = 1 + chance.below(most);
+        let first_atom = chance.below(length);
+        let mut place = residue(chance, chain);
+        for index in 0..length {
+            if chance.once_in(2) {
+                place = residue(chance, chain);
+            }
+            let name =
+                if index == first_atom || (index > first_atom && !chance.once_in(4)) { "ATOM" } else { "HETATM" };
+            let serial = next(chance);
+            atoms.push(serial);
+            lines.push(atom(chance, name, serial, &place));
+        }
+        lines.push(ter(next(chance), &place));
+    }
+    let chain_of_tail = chain(chance);
+    let mut place = residue(chance, chain_of_tail);
+    for _ in 0..chance.below(most) {
+        match chance.below(6) {
+            0 => place = residue(chance, place.chain),
+            1 => place.number = (place.number + 1).min(9_999),
+            2 => place.insertion = *chance.pick(b" AB"),
+            3 => place.chain = chain(chance),
+            _ => {}
+        }
+        let serial = next(chance);
+        atoms.push(serial);
+        lines.push(atom(chance, "HETATM", serial, &place));
+    }
+    atoms
+}
+
+/// An accepted entry.
+pub fn entry(chance: &mut Chance) -> Vec<Columns> {
+    let mut lines = head(chance);
+    let most = if chance.once_in(50) { 60 } else { 6 };
+    let atoms = coordinates(chance, &mut lines, most);
+    if chance.once_in(2) {
+        for &serial in &atoms {
+            if chance.once_in(3) {
+                lines.extend(conect(chance, serial, &atoms));
+            }
+            if chance.once_in(8) {
+                lines.extend(conect(chance, serial, &atoms));
+            }
+        }
+    }
+    lines.push(master(&lines));
+    lines.push(line("END"));
+    lines
+}
+
+/// The text of some lines.
+pub fn text(lines: &[Columns]) -> Vec<u8> {
+    let mut text = Vec::with_capacity(81 * lines.len());
+    for line in lines {
+        text.extend_from_slice(line);
+        text.push(b'\n');
+    }
+    text
+}
+
+/// A good line of any typed kind, by itself.
+pub fn typed_line(chance: &mut Chance) -> Columns {
+    let chain = chain(chance);
+    let place = residue(chance, chain);
+    let serial = number(chance, 1, 99_999);
+    match chance.below(10) {
+        0..=2 => atom(chance, "ATOM", serial, &place),
+        3 => atom(chance, "HETATM", serial, &place),
+        4 => ter(serial, &place),
+        5 => {
+            let serial = number(chance, 1, 999);
+            helix(chance, serial)
+        }
+        6 => {
+            let (identifier, number, strands) = (identifier(chance), number(chance, 1, 999), number(chance, 1, 99));
+            strand(chance, number, identifier, strands)
+        }
+        7 => {
+            let atoms: Vec<i64> = (0..5).map(|_| number(chance, 1, 99_999)).collect();
+            conect(chance, serial, &atoms).unwrap_or(line("CONECT    1    2"))
+        }
+        8 => {
+            let mut line = master(&[]);
+            for index in [0, 2, 3, 4, 7, 8, 9, 10, 11] {
+                put_number(&mut line, 11 + 5 * index, 15 + 5 * index, number(chance, 0, 99_999));
+            }
+            line
+        }
+        _ => line("END"),
+    }
+}

@@ -1,0 +1,407 @@
+//! One call through the C names and through the reference, and all that may differ.
+
+use std::collections::BTreeMap;
+
+use reference::{FragmentNumber, Mark, Refusal};
+use station::raw::{Library, Slot, Tally};
+
+use crate::lent::{Lent, Sides};
+
+/// Which call was made.
+#[derive(Clone, Copy, Debug, PartialEq, Eq, PartialOrd, Ord)]
+#[allow(missing_docs)]
+pub enum Call {
+    Check,
+    Load,
+    Order,
+    Save,
+    Tray,
+    SlotOfLine,
+    RewriteLine,
+    Dot,
+    Stroke,
+    Frame,
+    CountLine,
+}
+
+impl Call {
+    /// All calls.
+    pub const ALL: [Call; 11] = [
+        Call::Check,
+        Call::Load,
+        Call::Order,
+        Call::Save,
+        Call::Tray,
+        Call::SlotOfLine,
+        Call::RewriteLine,
+        Call::Dot,
+        Call::Stroke,
+        Call::Frame,
+        Call::CountLine,
+    ];
+
+    /// The numbers that the call can answer.
+    pub fn numbers(self) -> &'static [u32] {
+        match self {
+            Call::Check => &[0, 1, 2, 3, 4, 5, 6, 7, 8, 9, 10, 11, 12],
+            Call::Load => &[0, 1, 2, 3, 4, 5, 6, 7, 8, 9, 10, 11, 12, 13],
+            Call::Order => &[0, 1, 2, 3, 4, 5, 6, 7, 8, 9, 10, 11, 12, 13, 15, 16, 18],
+            Call::Save | Call::Tray => &[0, 1, 2, 3, 4, 5, 6, 7, 8, 9, 10, 11, 12, 13, 17, 18],
+            Call::SlotOfLine => &[0, 1, 3, 4, 6],
+            Call::RewriteLine => &[0, 1, 3, 4, 6, 17],
+            Call::Dot | Call::Stroke => &[0, 1],
+            Call::Frame => &[0, 19],
+            Call::CountLine => &[0, 4, 14],
+        }
+    }
+}
+
+/// What a run found.
+#[derive(Default)]
+pub struct Findings {
+    /// Calls made.
+    pub calls: u64,
+    /// Calls that differ.
+    pub differences: u64,
+    /// The first of them, in words.
+    pub shown: Vec<String>,
+    /// How often a call answered a number.
+    pub reached: BTreeMap<(Call, u32), u64>,
+}
+
+/// Differences that are kept in words.
+const SHOWN: usize = 20;
+
+impl Findings {
+    /// The numbers that a call can answer and never did.
+    pub fn unreached(&self) -> Vec<(Call, u32)> {
+        let possible = Call::ALL.iter().flat_map(|call| call.numbers().iter().map(|number| (*call, *number)));
+        possible.filter(|answer| !self.reached.contains_key(answer)).collect()
+    }
+}
+
+/// The two sides of the comparison.
+pub struct Harness {
+    /// The library, through its C names.
+    pub library: Library,
+    /// What was found.
+    pub findings: Findings,
+    /// The case at hand, for the words of a difference.
+    pub case: u64,
+    /// What the guards are filled with.
+    pub guard: u8,
+    /// What stands at the sides of all buffers.
+    pub sides: Sides,
+}
+
+/// The slot of the reference.
+pub fn to_reference(slot: &Slot) -> reference::Slot {
+    let Slot { serial, number, x, y, z, occupancy, temperature, kind, mark, .. } = *slot;
+    let Slot { name, alternate, residue, chain, insertion, element, charge, .. } = *slot;
+    reference::Slot {
+        serial,
+        number,
+        x,
+        y,
+        z,
+        occupancy,
+        temperature,
+        kind,
+        mark,
+        name,
+        alternate,
+        residue,
+        chain,
+        insertion,
+        element,
+        charge,
+    }
+}
+
+/// The slot of the library.
+pub fn to_library(slot: &reference::Slot) -> Slot {
+    let reference::Slot { serial, number, x, y, z, occupancy, temperature, kind, mark, .. } = *slot;
+    let reference::Slot { name, alternate, residue, chain, insertion, element, charge, .. } = *slot;
+    Slot {
+        serial,
+        number,
+        x,
+        y,
+        z,
+        occupancy,
+        temperature,
+        kind,
+        mark,
+        name,
+        alternate,
+        residue,
+        chain,
+        insertion,
+        element,
+        charge,
+    }
+}
+
+fn number<T>(answer: &Result<T, Refusal>) -> u32 {
+    answer.as_ref().map_or_else(|refusal| refusal.number(), |_| 0)
+}
+
+impl Harness {
+    /// A harness for a library.
+    pub fn new(library: Library) -> Harness {
+        Harness { library, findings: Findings::default(), case: 0, guard: 0, sides: Sides::Guards }
+    }
+
+    fn guard_slot(&self) -> Slot {
+        let serial = u32::from_ne_bytes([self.guard; 4]);
+        Slot { serial, kind: self.guard, mark: self.guard, name: [self.guard; 4], ..Slot::default() }
+    }
+
+    fn lend<T: Copy + PartialEq>(&self, content: &[T], guard: T) -> Lent<T> {
+        Lent::new(content, guard, self.sides)
+    }
+
+    fn lend_text(&self, text: &[u8]) -> Lent<u8> {
+        self.lend(text, self.guard)
+    }
+
+    fn lend_table(&self, table: &[Slot]) -> Lent<Slot> {
+        self.lend(table, self.guard_slot())
+    }
+
+    /// A lent place for one count, holding anything before.
+    fn lend_count(&self) -> Lent<u64> {
+        self.lend(&[u64::from_ne_bytes([self.guard ^ 0x5a; 8])], u64::from_ne_bytes([self.guard; 8]))
+    }
+
+    /// Lent room for doubles, by their bits, holding anything before.
+    fn lend_doubles(&self, count: usize) -> Lent<u64> {
+        let bits = u64::from_ne_bytes([self.guard ^ 0xa5; 8]);
+        self.lend(&vec![bits; count], u64::from_ne_bytes([self.guard; 8]))
+    }
+
+    /// Takes down one call: the number that is due, the number that came, and where memory is wrong.
+    fn note(&mut self, call: Call, due: u32, came: u32, memory: &[(&str, Option<isize>)]) {
+        self.findings.calls += 1;
+        *self.findings.reached.entry((call, due)).or_insert(0) += 1;
+        let wrong: Vec<String> =
+            memory.iter().filter_map(|(name, wrong)| wrong.map(|at| format!("{name} wrong from {at} on"))).collect();
+        if due == came && wrong.is_empty() {
+            return;
+        }
+        self.findings.differences += 1;
+        if self.findings.shown.len() < SHOWN {
+            let case = self.case;
+            let words = format!("case {case}, {call:?}: reference {due}, library {came}; {}", wrong.join(", "));
+            self.findings.shown.push(words.trim_end_matches("; ").to_owned());
+        }
+    }
+
+    /// Checks a text.
+    pub fn check(&mut self, text: &[u8]) -> u32 {
+        let lent = self.lend_text(text);
+        let mut answer = self.lend(&[u64::from(self.guard) + 1; 12], u64::from(self.guard));
+        // SAFETY: all that is lent is as long as said.
+        let came = unsafe { (self.library.check)(lent.start(), lent.len(), answer.start_mut()) };
+        let verdict = reference::check(text);
+        let due = verdict.refusal.map_or(0, Refusal::number);
+        let head = [u64::from(due), verdict.line, verdict.good_lines];
+        answer.due()[..3].copy_from_slice(&head);
+        answer.due()[3..].copy_from_slice(&verdict.tally.counts());
+        self.note(Call::Check, due, came, &[("text", lent.first_wrong()), ("answer", answer.first_wrong())]);
+        due
+    }
+
+    /// Loads a text into a table, which then holds what is due.
+    pub fn load(&mut self, text: &[u8], table: &mut [Slot]) -> u32 {
+        let lent = self.lend_text(text);
+        let mut slots = self.lend_table(table);
+        let mut count = self.lend_count();
+        let room = slots.len();
+        // SAFETY: all that is lent is as long as said.
+        let came = unsafe { (self.library.load)(lent.start(), lent.len(), slots.start_mut(), room, count.start_mut()) };
+        let mut own: Vec<reference::Slot> = table.iter().map(to_reference).collect();
+        let answer = reference::load(text, &mut own);
+        for (slot, own) in table.iter_mut().zip(&own) {
+            *slot = to_library(own);
+        }
+        slots.due().copy_from_slice(table);
+        count.due()[0] = answer.map_or(0, |filled| filled as u64);
+        let memory = [("text", lent.first_wrong()), ("table", slots.first_wrong()), ("count", count.first_wrong())];
+        self.note(Call::Load, number(&answer), came, &memory);
+        number(&answer)
+    }
+
+    /// Orders a fragment aside or back in a table, which then holds what is due.
+    pub fn order(&mut self, text: &[u8], table: &mut [Slot], fragment: u32, aside: u8) -> u32 {
+        let lent = self.lend_text(text);
+        let mut slots = self.lend_table(table);
+        let room = slots.len();
+        // SAFETY: all that is lent is as long as said.
+        let came = unsafe { (self.library.order)(lent.start(), lent.len(), slots.start_mut(), room, fragment, aside) };
+        let mut own: Vec<reference::Slot> = table.iter().map(to_reference).collect();
+        let mark = if aside == 0 { Mark::In } else { Mark::Aside };
+        let answer = reference::order(text, &mut own, FragmentNumber(fragment), mark);
+        for (slot, own) in table.iter_mut().zip(&own) {
+            *slot = to_library(own);
+        }
+        slots.due().copy_from_slice(table);
+        let memory = [("text", lent.first_wrong()), ("table", slots.first_wrong())];
+        self.note(Call::Order, number(&answer), came, &memory);
+        number(&answer)
+    }
+
+    /// Saves into a room of so many bytes.
+    pub fn save(&mut self, text: &[u8], table: &[Slot], room: usize) -> u32 {
+        self.written(Call::Save, text, table, room)
+    }
+
+    /// Writes the tray into a room of so many bytes.
+    pub fn tray(&mut self, text: &[u8], table: &[Slot], room: usize) -> u32 {
+        self.written(Call::Tray, text, table, room)
+    }
+
+    fn written(&mut self, call: Call, text: &[u8], table: &[Slot], room: usize) -> u32 {
+        let lent = self.lend_text(text);
+        let slots = self.lend_table(table);
+        let mut out = self.lend(&vec![self.guard ^ 0x3c; room], self.guard);
+        let mut count = self.lend_count();
+        let name = if call == Call::Save { self.library.save } else { self.library.tray };
+        // SAFETY: all that is lent is as long as said.
+        let came = unsafe {
+            name(lent.start(), lent.len(), slots.start(), slots.len(), out.start_mut(), room, count.start_mut())
+        };
+        let own: Vec<reference::Slot> = table.iter().map(to_reference).collect();
+        let answer = if call == Call::Save {
+            reference::save(text, &own, out.due())
+        } else {
+            reference::tray(text, &own, out.due())
+        };
+        count.due()[0] = answer.map_or(0, |bytes| bytes as u64);
+        let memory = [
+            ("text", lent.first_wrong()),
+            ("table", slots.first_wrong()),
+            ("output", out.first_wrong()),
+            ("count", count.first_wrong()),
+        ];
+        self.note(call, number(&answer), came, &memory);
+        number(&answer)
+    }
+
+    /// Fills a slot from a line.
+    pub fn slot_of_line(&mut self, line: &[u8], before: Slot) -> u32 {
+        let lent = self.lend_text(line);
+        let mut slot = self.lend_table(&[before]);
+        // SAFETY: all that is lent is as long as said.
+        let came = unsafe { (self.library.slot_of_line)(lent.start(), lent.len(), slot.start_mut()) };
+        let answer = reference::slot_of_line(line);
+        if let Ok(filled) = &answer {
+            slot.due()[0] = to_library(filled);
+        }
+        self.note(
+            Call::SlotOfLine,
+            number(&answer),
+            came,
+            &[("line", lent.first_wrong()), ("slot", slot.first_wrong())],
+        );
+        number(&answer)
+    }
+
+    /// Reads a line and writes its record into a room of so many bytes.
+    pub fn rewrite_line(&mut self, line: &[u8], room: usize) -> u32 {
+        let lent = self.lend_text(line);
+        let mut out = self.lend(&vec![self.guard ^ 0x3c; room], self.guard);
+        // SAFETY: all that is lent is as long as said.
+        let came = unsafe { (self.library.rewrite_line)(lent.start(), lent.len(), out.start_mut(), room) };
+        let answer = reference::rewrite_line(line, out.due());
+        self.note(
+            Call::RewriteLine,
+            number(&answer),
+            came,
+            &[("line", lent.first_wrong()), ("output", out.first_wrong())],
+        );
+        number(&answer)
+    }
+
+    /// The dot of a slot.
+    pub fn dot(&mut self, slot: &Slot) {
+        let lent = self.lend_table(&[*slot]);
+        let mut out = self.lend_doubles(3);
+        // SAFETY: all that is lent is as long as said.
+        let came = unsafe { (self.library.dot)(lent.start(), out.start_mut().cast()) };
+        let due = reference::dot(&to_reference(slot));
+        if let Some(doubles) = due {
+            out.due().copy_from_slice(&doubles.map(f64::to_bits));
+        }
+        let memory = [("slot", lent.first_wrong()), ("doubles", out.first_wrong())];
+        self.note(Call::Dot, u32::from(due.is_some()), came, &memory);
+    }
+
+    /// The stroke of two slots, or of one with itself.
+    pub fn stroke(&mut self, a: &Slot, b: Option<&Slot>) {
+        let first = self.lend_table(&[*a]);
+        let second = self.lend_table(&[*b.unwrap_or(a)]);
+        let mut out = self.lend_doubles(6);
+        let to = if b.is_some() { second.start() } else { first.start() };
+        // SAFETY: all that is lent is as long as said.
+        let came = unsafe { (self.library.stroke)(first.start(), to, out.start_mut().cast()) };
+        let due = reference::stroke(&to_reference(a), &to_reference(b.unwrap_or(a)));
+        if let Some(doubles) = due {
+            out.due().copy_from_slice(&doubles.map(f64::to_bits));
+        }
+        let memory = [
+            ("first slot", first.first_wrong()),
+            ("second slot", second.first_wrong()),
+            ("doubles", out.first_wrong()),
+        ];
+        self.note(Call::Stroke, u32::from(due.is_some()), came, &memory);
+    }
+
+    /// The frame of some slots.
+    pub fn frame(&mut self, table: &[Slot]) {
+        let slots = self.lend_table(table);
+        let mut out = self.lend_doubles(9);
+        // SAFETY: all that is lent is as long as said.
+        let came = unsafe { (self.library.frame)(slots.start(), slots.len(), out.start_mut().cast()) };
+        let own: Vec<reference::Slot> = table.iter().map(to_reference).collect();
+        let answer = reference::frame(&own);
+        if let Ok(frame) = &answer {
+            for (place, doubles) in out.due().chunks_mut(3).zip([frame.lowest, frame.highest, frame.middle]) {
+                place.copy_from_slice(&doubles.map(f64::to_bits));
+            }
+        }
+        self.note(
+            Call::Frame,
+            number(&answer),
+            came,
+            &[("table", slots.first_wrong()), ("doubles", out.first_wrong())],
+        );
+    }
+
+    /// Counts a line in a tally, which then holds what is due.
+    pub fn count_line(&mut self, tally: &mut Tally, line: &[u8]) {
+        let lent = self.lend_text(line);
+        let guard = u32::from_ne_bytes([self.guard; 4]);
+        let guard = Tally { remark: guard, seq: guard, ..Tally::default() };
+        let mut counts = self.lend(&[*tally], guard);
+        // SAFETY: all that is lent is as long as said.
+        let came = unsafe { (self.library.count_line)(counts.start_mut(), lent.start(), lent.len()) };
+        let mut own = reference::Tally {
+            remark: tally.remark.into(),
+            het: tally.het.into(),
+            helix: tally.helix.into(),
+            sheet: tally.sheet.into(),
+            xform: tally.xform.into(),
+            coord: tally.coord.into(),
+            ter: tally.ter.into(),
+            conect: tally.conect.into(),
+            seq: tally.seq.into(),
+        };
+        let answer = reference::count_line(&mut own, line);
+        let [remark, het, helix, sheet, xform, coord, ter, conect, seq] = own.counts().map(|count| count as u32);
+        *tally = Tally { remark, het, helix, sheet, xform, coord, ter, conect, seq };
+        counts.due()[0] = *tally;
+        let memory = [("line", lent.first_wrong()), ("tally", counts.first_wrong())];
+        self.note(Call::CountLine, number(&answer), came, &memory);
+    }
+}

@@ -1,0 +1,20 @@
+//! Holds the proved library against the reference, call by call, through the C names.
+//!
+//! A case is made up by a seeded source of chance: an entry that obeys the rules, damaged or not; a table, ordered about
+//! or damaged; a single line; a tally; slots to draw. Each call is made on both sides with the same input. Compared are
+//! the number, the counts and all memory lent to the call, with guards at its sides or fences that may not be touched.
+
+#![warn(missing_docs)]
+
+pub mod cases;
+pub mod chance;
+mod damage;
+pub mod entry;
+pub mod fence;
+pub mod harness;
+pub mod lent;
+mod sweep;
+
+pub use cases::{run, run_fenced};
+pub use harness::{Call, Findings};
+pub use sweep::sweep;

@@ -1,0 +1,100 @@
+//! The differential test: `differ --cases 200000 --seed 1`.
+
+use std::process::ExitCode;
+use std::time::Instant;
+
+use differ::{Call, Findings};
+use station::raw::LINKED;
+
+const HELP: &str = "\
+Holds the linked library against the reference, call by call.
+
+usage: differ [--cases N] [--seed S] [--only CASE]
+
+  --cases N    how many cases (200000)
+  --seed S     the seed of the run (1)
+  --only CASE  this one case of the seed, by its number
+
+The cases are followed by a sweep: every byte in every column of a line of each kind, every element, every narrow number,
+every length, every name.
+
+Exit status: 0 no difference, 1 a difference or a number of refusal that was not reached, 2 wrong arguments,
+3 the library touched memory that was not lent to it.
+Runs of fewer than 5000 cases do not ask that every number be reached.
+";
+
+/// Runs below this are too short to reach every number.
+const ENOUGH: u64 = 5_000;
+
+struct Options {
+    cases: u64,
+    seed: u64,
+    only: Option<u64>,
+}
+
+fn options() -> Result<Options, String> {
+    let mut options = Options { cases: 200_000, seed: 1, only: None };
+    let mut arguments = std::env::args().skip(1);
+    while let Some(name) = arguments.next() {
+        if name == "--help" || name == "-h" {
+            return Err(HELP.to_owned());
+        }
+        let value = arguments.next().and_then(|value| value.parse().ok());
+        let value = value.ok_or_else(|| format!("differ: {name} needs a number\n\n{HELP}"))?;
+        match name.as_str() {
+            "--cases" => options.cases = value,
+            "--seed" => options.seed = value,
+            "--only" => options.only = Some(value),
+            _ => return Err(format!("differ: {name} is unknown\n\n{HELP}")),
+        }
+    }
+    Ok(options)
+}
+
+fn print(findings: &Findings) {
+    for call in Call::ALL {
+        let reached = |number: &u32| format!("{number}:{}", findings.reached.get(&(call, *number)).unwrap_or(&0));
+        let numbers: Vec<String> = call.numbers().iter().map(reached).collect();
+        println!("{:12} {}", format!("{call:?}"), numbers.join(" "));
+    }
+    for difference in &findings.shown {
+        println!("{difference}");
+    }
+}
+
+fn main() -> ExitCode {
+    let options = match options() {
+        Ok(options) => options,
+        Err(words) => {
+            eprint!("{words}");
+            return ExitCode::from(2);
+        }
+    };
+    let begun = Instant::now();
+    let cases = options.only.map_or(0..options.cases, |case| case..case.saturating_add(1));
+    let count = cases.end - cases.start;
+    differ::fence::watch();
+    let findings = differ::run_fenced(LINKED, options.seed, cases);
+    let seconds = begun.elapsed().as_secs_f64();
+    print(&findings);
+    let swept = if options.only.is_some() { Findings::default() } else { differ::sweep(LINKED) };
+    for difference in &swept.shown {
+        println!("sweep: {difference}");
+    }
+    let unreached = findings.unreached();
+    let asked = count >= ENOUGH;
+    if asked {
+        for (call, number) in &unreached {
+            println!("{call:?} never answered {number}");
+        }
+    }
+    let differences = findings.differences + swept.differences;
+    println!("{} calls in {seconds:.1} s, {:.0} cases/s", findings.calls, count as f64 / seconds);
+    println!("{} calls of the sweep, {} differences", swept.calls, swept.differences);
+    println!("{count} cases, {differences} differences");
+    if differences > 0 || (asked && !unreached.is_empty()) {
+        ExitCode::FAILURE
+    } else {
+        ExitCode::SUCCESS
+    }
+}

@@ -1,0 +1,141 @@
+//! What is few enough to be tried out in full: every byte in every column of a line of each kind, every element, every
+//! number of the narrow fields, every length, every name.
+
+use station::raw::{Library, Slot, Tally};
+
+use crate::entry::{line, put, put_number, Columns};
+use crate::harness::{Findings, Harness};
+
+/// Good lines of the typed kinds.
+const LINES: [&str; 12] = [
+    "ATOM     32  N  AARG A  -3      11.281  86.699  94.383  0.50 35.88           N",
+    "HETATM99999 CA    CA b9999Z   -999.9999999.999  -0.001  1.00-99.99          CA2+",
+    "ATOM      1  D1*  DG 0   0       0.000   0.000   0.000  0.00  0.00           D1-",
+    "TER      33      ARG A  -3",
+    "HELIX    1  HA GLY A   86  GLY A   94  1                                   9",
+    "HELIX  999 ~~~   U z -999A 1MA z 9999Z10any comment, to the last one ~ 99999",
+    "SHEET    1   A 5 THR A 107  ARG A 110  0",
+    "SHEET    2   A 5 ILE A  96  THR B  99 -1  N  LYS A  98   O  THR A 107",
+    "SHEET  999 XYZ99 ILE A  96A THR B  99B 1 HH11  A 0-999Z N*    U z9999A",
+    "CONECT 1179  746 1184 1195 1203",
+    "MASTER       40    0    1    2    3    0    0    6  768    2   20   18",
+    "END",
+];
+
+/// The names that MASTER counts or not.
+#[rustfmt::skip]
+const NAMES: [&str; 27] = [
+    "HEADER", "TITLE ", "COMPND", "SOURCE", "KEYWDS", "EXPDTA", "AUTHOR", "REVDAT", "JRNL  ", "REMARK", "SEQRES", "HET   ",
+    "HELIX ", "SHEET ", "CRYST1", "ORIGX1", "ORIGX2", "ORIGX3", "SCALE1", "SCALE2", "SCALE3", "ATOM  ", "HETATM", "TER   ",
+    "CONECT", "MASTER", "END   ",
+];
+
+/// Runs the sweep against a library.
+pub fn sweep(library: Library) -> Findings {
+    let mut harness = Harness::new(library);
+    for base in LINES.map(line) {
+        columns(&mut harness, base);
+        lengths(&mut harness, base);
+    }
+    elements(&mut harness);
+    numbers(&mut harness);
+    names(&mut harness);
+    harness.findings
+}
+
+fn try_line(harness: &mut Harness, line: &[u8]) {
+    harness.slot_of_line(line, Slot::default());
+    harness.rewrite_line(line, 80);
+}
+
+/// Every byte in every column.
+fn columns(harness: &mut Harness, base: Columns) {
+    for at in 1..=80 {
+        for byte in 0..=255 {
+            let mut line = base;
+            put(&mut line, at, &[byte]);
+            try_line(harness, &line);
+        }
+    }
+}
+
+/// Every length of line and of room.
+fn lengths(harness: &mut Harness, base: Columns) {
+    let long = [base, base, base].concat();
+    for length in 0..=200 {
+        try_line(harness, &long[..length]);
+        harness.rewrite_line(&base, length);
+    }
+}
+
+/// Every pair of bytes that could be an element, in both places and in one.
+fn elements(harness: &mut Harness) {
+    for first in b' '..=b'z' {
+        for second in b' '..=b'z' {
+            let mut line = line(LINES[0]);
+            put(&mut line, 77, &[first, second]);
+            try_line(harness, &line);
+            put(&mut line, 13, &[first, second]);
+            try_line(harness, &line);
+        }
+    }
+}
+
+/// Every number of the narrow fields, with one more on either side.
+fn numbers(harness: &mut Harness) {
+    for (base, from, to, low, high) in [
+        (0, 23, 26, -999, 9_999),
+        (3, 23, 26, -999, 9_999),
+        (4, 8, 10, -99, 999),
+        (4, 39, 40, -9, 99),
+        (6, 8, 10, -99, 999),
+        (7, 8, 10, -99, 999),
+        (6, 39, 40, -9, 99),
+        (7, 39, 40, -9, 99),
+        (7, 15, 16, -9, 99),
+        (9, 7, 11, -10, 2_000),
+        (9, 27, 31, -10, 2_000),
+        (10, 16, 20, -10, 100),
+        (10, 66, 70, -10, 2_000),
+    ] {
+        for number in low..=high {
+            let mut line = line(LINES[base]);
+            put_number(&mut line, from, to, number);
+            try_line(harness, &line);
+        }
+    }
+    for hundredths in 0..=1_000 {
+        let mut line = line(LINES[0]);
+        put(&mut line, 55, format!("{:3}.{:02}", hundredths / 100, hundredths % 100).as_bytes());
+        try_line(harness, &line);
+    }
+}
+
+/// Every name with every byte in each of its columns, and every length of it.
+fn names(harness: &mut Harness) {
+    for name in NAMES {
+        for at in 0..6 {
+            for byte in 0..=255 {
+                let mut bytes = name.as_bytes().to_vec();
+                bytes[at] = byte;
+                harness.count_line(&mut Tally::default(), &bytes);
+            }
+        }
+        for length in 0..=6 {
+            harness.count_line(&mut Tally::default(), &name.as_bytes()[..length]);
+        }
+        harness.check(&[line(name).as_slice(), b"\n"].concat());
+    }
+}
+
+#[cfg(test)]
+mod tests {
+    use super::*;
+
+    #[test]
+    fn the_lines_are_good() {
+        for text in LINES {
+            assert!(reference::read_line(&line(text)).is_ok(), "{text}");
+        }
+    }
+}

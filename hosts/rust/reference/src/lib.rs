@@ -1,0 +1,46 @@
+//! The rules of the station in plain Rust.
+//!
+//! This crate says what the proved library has to answer, in the plainest way its author could find, and was
+//! written from the rules alone, without a look at the library. Speed and memory are not its concern. The
+//! differential test holds the two against each other.
+//!
+//! One module for each part of the rules: [`columns`] (fields), [`element`], [`line`] (names and places),
+//! [`record`] (one line read and written), [`check`] (a whole text), [`table`] (slots, fragments, orders),
+//! [`saved`] (saving and tray), [`tally`] and [`feed`] (dots, strokes, frame).
+
+#![forbid(unsafe_code)]
+#![warn(missing_docs)]
+
+pub mod check;
+pub mod columns;
+pub mod element;
+pub mod feed;
+pub mod line;
+pub mod record;
+mod refusal;
+#[cfg(test)]
+mod samples;
+pub mod saved;
+pub mod table;
+pub mod tally;
+
+pub use check::{check, Verdict};
+pub use feed::{dot, frame, stroke, Frame};
+pub use line::LineName;
+pub use record::{read_line, rewrite_line, write_record, Record};
+pub use refusal::Refusal;
+pub use saved::{save, tray};
+pub use table::{fragments, load, order, slot_of_line, Mark, Slot};
+pub use tally::{count_line, Tally};
+
+/// The number of an atom, a TER or an end of a bond: 1 to 99,999.
+#[derive(Clone, Copy, Debug, Default, PartialEq, Eq, PartialOrd, Ord)]
+pub struct Serial(pub u32);
+
+/// The number of a residue in its chain: -999 to 9999.
+#[derive(Clone, Copy, Debug, Default, PartialEq, Eq)]
+pub struct ResidueNumber(pub i32);
+
+/// The number of a fragment of an entry, from 1.
+#[derive(Clone, Copy, Debug, Default, PartialEq, Eq)]
+pub struct FragmentNumber(pub u32);

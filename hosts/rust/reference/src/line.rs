@@ -1,0 +1,163 @@
+//! Names of lines, the places they may stand in, and which count they raise.
+
+use crate::tally::Tally;
+
+/// The name of a line: its first six columns.
+#[derive(Clone, Copy, Debug, PartialEq, Eq, PartialOrd, Ord)]
+#[allow(missing_docs)]
+pub enum LineName {
+    Header,
+    Title,
+    Compnd,
+    Source,
+    Keywds,
+    Expdta,
+    Author,
+    Revdat,
+    Jrnl,
+    Remark,
+    Seqres,
+    Het,
+    Helix,
+    Sheet,
+    Cryst1,
+    Origx1,
+    Origx2,
+    Origx3,
+    Scale1,
+    Scale2,
+    Scale3,
+    Atom,
+    Hetatm,
+    Ter,
+    Conect,
+    Master,
+    End,
+}
+
+use LineName::*;
+
+/// All names with their six bytes, by place.
+pub const NAMES: [(&[u8; 6], LineName); 27] = [
+    (b"HEADER", Header),
+    (b"TITLE ", Title),
+    (b"COMPND", Compnd),
+    (b"SOURCE", Source),
+    (b"KEYWDS", Keywds),
+    (b"EXPDTA", Expdta),
+    (b"AUTHOR", Author),
+    (b"REVDAT", Revdat),
+    (b"JRNL  ", Jrnl),
+    (b"REMARK", Remark),
+    (b"SEQRES", Seqres),
+    (b"HET   ", Het),
+    (b"HELIX ", Helix),
+    (b"SHEET ", Sheet),
+    (b"CRYST1", Cryst1),
+    (b"ORIGX1", Origx1),
+    (b"ORIGX2", Origx2),
+    (b"ORIGX3", Origx3),
+    (b"SCALE1", Scale1),
+    (b"SCALE2", Scale2),
+    (b"SCALE3", Scale3),
+    (b"ATOM  ", Atom),
+    (b"HETATM", Hetatm),
+    (b"TER   ", Ter),
+    (b"CONECT", Conect),
+    (b"MASTER", Master),
+    (b"END   ", End),
+];
+
+/// Lines of which the second comes right after the first, and neither without the other.
+const TIED: [(LineName, LineName); 5] =
+    [(Origx1, Origx2), (Origx2, Origx3), (Scale1, Scale2), (Scale2, Scale3), (Master, End)];
+
+impl LineName {
+    /// The name of a line with these bytes, if it has six and they are a known name.
+    pub fn of(line: &[u8]) -> Option<LineName> {
+        let six = line.get(..6)?;
+        NAMES.iter().find(|(bytes, _)| *bytes == six).map(|(_, name)| *name)
+    }
+
+    /// The place of the line. Lines never go back to an earlier place.
+    fn place(self) -> u8 {
+        match self {
+            Origx1 | Origx2 | Origx3 => Origx1 as u8,
+            Scale1 | Scale2 | Scale3 => Scale1 as u8,
+            Atom | Hetatm | Ter => Atom as u8,
+            other => other as u8,
+        }
+    }
+
+    /// Whether a line of this name may follow the line before it; `None` is the start of the text.
+    pub fn may_follow(self, before: Option<LineName>) -> bool {
+        let Some(before) = before else {
+            return self == Header;
+        };
+        let tied = TIED.iter().all(|&(first, second)| (before == first) == (self == second));
+        let placed = match self {
+            Header | Cryst1 | Origx1 | Scale1 | Master => before.place() < self.place(),
+            _ => before.place() <= self.place(),
+        };
+        tied && placed
+    }
+
+    /// Whether the line is carried: its columns from 7 on are free.
+    pub fn carried(self) -> bool {
+        !matches!(self, Helix | Sheet | Atom | Hetatm | Ter | Conect | Master | End)
+    }
+
+    /// The count of MASTER that a line of this name raises, if any.
+    pub fn count(self, tally: &mut Tally) -> Option<&mut u64> {
+        match self {
+            Remark => Some(&mut tally.remark),
+            Het => Some(&mut tally.het),
+            Helix => Some(&mut tally.helix),
+            Sheet => Some(&mut tally.sheet),
+            Origx1 | Origx2 | Origx3 | Scale1 | Scale2 | Scale3 => Some(&mut tally.xform),
+            Atom | Hetatm => Some(&mut tally.coord),
+            Ter => Some(&mut tally.ter),
+            Conect => Some(&mut tally.conect),
+            Seqres => Some(&mut tally.seq),
+            _ => None,
+        }
+    }
+}
+
+#[cfg(test)]
+mod tests {
+    use super::*;
+
+    #[test]
+    fn names_are_six_bytes() {
+        assert_eq!(LineName::of(b"TER   "), Some(Ter));
+        assert_eq!(LineName::of(b"END   and more"), Some(End));
+        for unknown in [&b"TER"[..], b"ENDMDL", b" ATOM ", b"atom  ", b"TER\n  ", b"MODEL ", b""] {
+            assert_eq!(LineName::of(unknown), None);
+        }
+        for (index, (_, name)) in NAMES.iter().enumerate() {
+            assert_eq!(*name as usize, index);
+        }
+    }
+
+    /// The lines that may follow a line, by the list of places written out.
+    #[test]
+    fn places() {
+        let follows = |before: LineName| -> Vec<LineName> {
+            NAMES.iter().map(|(_, name)| *name).filter(|name| name.may_follow(Some(before))).collect()
+        };
+        assert_eq!(follows(Origx1), [Origx2]);
+        assert_eq!(follows(Origx2), [Origx3]);
+        assert_eq!(follows(Origx3), [Scale1, Atom, Hetatm, Ter, Conect, Master]);
+        assert_eq!(follows(Scale2), [Scale3]);
+        assert_eq!(follows(Scale3), [Atom, Hetatm, Ter, Conect, Master]);
+        assert_eq!(follows(Cryst1), [Origx1, Scale1, Atom, Hetatm, Ter, Conect, Master]);
+        assert_eq!(follows(Ter), [Atom, Hetatm, Ter, Conect, Master]);
+        assert_eq!(follows(Conect), [Conect, Master]);
+        assert_eq!(follows(Master), [End]);
+        assert_eq!(follows(End), []);
+        assert_eq!(follows(Header).len(), 27 - 1 - 4 - 1);
+        assert!(Remark.may_follow(Some(Remark)) && !Jrnl.may_follow(Some(Remark)));
+        assert!(Header.may_follow(None) && !Title.may_follow(None) && !End.may_follow(None));
+    }
+}

@@ -1,0 +1,117 @@
+//! Saving an entry without what was set aside, and the tray with what was.
+
+use crate::check::{walk, GoodLine};
+use crate::line::LineName;
+use crate::record::{line_of, Record};
+use crate::table::{belonging, Mark, Slot};
+use crate::tally::Tally;
+use crate::{Refusal, Serial};
+
+/// Writes the entry without what was set aside, MASTER counted again, and tells how many bytes.
+pub fn save(text: &[u8], table: &[Slot], out: &mut [u8]) -> Result<usize, Refusal> {
+    let (kept, _) = parted(text, table)?;
+    let mut tally = Tally::default();
+    let mut saved = Vec::new();
+    for line in kept {
+        if let Some(count) = line.name.count(&mut tally) {
+            *count += 1;
+        }
+        if line.name == LineName::Master {
+            let master = line_of(&Record::Master(tally)).ok_or(Refusal::Field)?;
+            saved.extend(master);
+            saved.push(b'\n');
+        } else {
+            saved.extend(line.bytes);
+        }
+    }
+    give(&saved, out)
+}
+
+/// Writes the lines that saving leaves out, and tells how many bytes.
+pub fn tray(text: &[u8], table: &[Slot], out: &mut [u8]) -> Result<usize, Refusal> {
+    let (_, dropped) = parted(text, table)?;
+    let tray: Vec<u8> = dropped.iter().flat_map(|line| line.bytes).copied().collect();
+    give(&tray, out)
+}
+
+fn give(bytes: &[u8], out: &mut [u8]) -> Result<usize, Refusal> {
+    let place = out.get_mut(..bytes.len()).ok_or(Refusal::ShortOutput)?;
+    place.copy_from_slice(bytes);
+    Ok(bytes.len())
+}
+
+/// The lines that are kept and the lines that are dropped.
+fn parted<'t>(text: &'t [u8], table: &[Slot]) -> Result<(Vec<GoodLine<'t>>, Vec<GoodLine<'t>>), Refusal> {
+    let own = belonging(text, table)?;
+    let (_, lines) = walk(text);
+    let aside: Vec<Serial> = own
+        .iter()
+        .filter(|slot| slot.is_coordinate() && slot.mark() == Some(Mark::Aside))
+        .map(|slot| Serial(slot.serial))
+        .collect();
+    let mut slots = own.iter();
+    Ok(lines.into_iter().partition(|line| match line.record {
+        Some(Record::Atom(_) | Record::Hetatm(_) | Record::Ter(_)) => {
+            slots.next().and_then(Slot::mark) == Some(Mark::In)
+        }
+        Some(Record::Conect(conect)) => !conect.serials().any(|serial| aside.contains(&serial)),
+        _ => true,
+    }))
+}
+
+#[cfg(test)]
+mod tests {
+    use super::*;
+    use crate::samples::*;
+    use crate::table::{loaded, order};
+    use crate::{check, FragmentNumber};
+
+    /// The saved text and the tray after setting fragments aside.
+    fn saved(text: &[u8], aside: &[u32]) -> (Vec<u8>, Vec<u8>) {
+        let mut slots = loaded(text).expect("an accepted entry");
+        for &fragment in aside {
+            order(text, &mut slots, FragmentNumber(fragment), Mark::Aside).expect("a fragment");
+        }
+        let mut out = vec![b'?'; 2 * text.len()];
+        let length = save(text, &slots, &mut out).expect("room");
+        assert!(out[length..].iter().all(|&byte| byte == b'?'));
+        assert_eq!(save(text, &slots, &mut out[..length - 1]), Err(Refusal::ShortOutput));
+        let kept = out[..length].to_vec();
+        let length = tray(text, &slots, &mut out).expect("room");
+        (kept, out[..length].to_vec())
+    }
+
+    #[test]
+    fn second_of_three() {
+        let (kept, dropped) = saved(&three_fragments(&["CONECT    1    3", "CONECT    1    4"]), &[2]);
+        let expected = text(&[
+            line("HEADER"),
+            atom("ATOM", 1, 'A', 1),
+            ter(2, 'A', 1),
+            atom("HETATM", 4, 'B', 8),
+            line("CONECT    1    4"),
+            master([0, 0, 0, 0, 0, 2, 1, 1, 0]),
+            line("END"),
+        ]);
+        assert_eq!(kept, expected);
+        assert_eq!(dropped, text(&[atom("HETATM", 3, 'B', 7), line("CONECT    1    3")]));
+        assert_eq!(check(&kept).refusal, None);
+    }
+
+    #[test]
+    fn nothing_aside() {
+        let entry = three_fragments(&["CONECT    1    3"]);
+        assert_eq!(saved(&entry, &[]), (entry, vec![]));
+        let slots = loaded(&arginine_entry()).expect("an accepted entry");
+        assert_eq!(tray(&arginine_entry(), &slots, &mut []), Ok(0));
+        assert_eq!(tray(&arginine_entry(), &slots[..1], &mut []), Err(Refusal::ShortTable));
+    }
+
+    #[test]
+    fn everything_aside() {
+        let entry = three_fragments(&["CONECT    1    3"]);
+        let (kept, dropped) = saved(&entry, &[3, 1, 2]);
+        assert_eq!(kept, text(&[line("HEADER"), master([0; 9]), line("END")]));
+        assert_eq!(dropped, entry[81..entry.len() - 2 * 81]);
+    }
+}

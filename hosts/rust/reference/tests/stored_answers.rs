@@ -1,0 +1,90 @@
+//! The reference against the answers stored beside the library's own test programs.
+//!
+//! A file of cases holds each case as its length, the low byte first, and its bytes.
+
+use std::path::{Path, PathBuf};
+
+use reference::{check, read_line, rewrite_line, Refusal};
+
+/// The report takes no more than this.
+const REPORT_LIMIT: usize = 65_529;
+
+fn crates() -> PathBuf {
+    Path::new(env!("CARGO_MANIFEST_DIR")).join("../../../crates")
+}
+
+/// The cases of a file whose lengths have so many bytes.
+fn cases(path: &Path, width: usize) -> Vec<Vec<u8>> {
+    let bytes = std::fs::read(path).unwrap_or_else(|error| panic!("{}: {error}", path.display()));
+    let mut rest = &bytes[..];
+    let mut found = Vec::new();
+    while rest.len() >= width {
+        let length = rest[..width].iter().rev().fold(0, |length, &byte| 256 * length + usize::from(byte));
+        found.push(rest[width..width + length].to_vec());
+        rest = &rest[width + length..];
+    }
+    found
+}
+
+fn lines(path: &Path) -> Vec<String> {
+    let text = std::fs::read_to_string(path).unwrap_or_else(|error| panic!("{}: {error}", path.display()));
+    text.lines().map(str::to_owned).collect()
+}
+
+/// The twelve numbers of the report.
+fn report(text: &[u8]) -> String {
+    if text.len() > REPORT_LIMIT {
+        return "20 0 0 0 0 0 0 0 0 0 0 0".to_owned();
+    }
+    let verdict = check(text);
+    let number = u64::from(verdict.refusal.map_or(0, Refusal::number));
+    let head = [number, verdict.line, verdict.good_lines];
+    let numbers: Vec<String> = head.iter().chain(&verdict.tally.counts()).map(u64::to_string).collect();
+    numbers.join(" ")
+}
+
+/// The number of a line read by itself.
+fn reading(line: &[u8]) -> String {
+    match read_line(line) {
+        Ok(_) => {
+            let mut out = [b'#'; 100];
+            assert_eq!(rewrite_line(line, &mut out), Ok(()));
+            assert_eq!(out[..80], *line);
+            assert!(out[80..].iter().all(|&byte| byte == b'#'));
+            "0".to_owned()
+        }
+        Err(refusal) => refusal.number().to_string(),
+    }
+}
+
+fn compare(folder: &str, data: &str, width: usize, answer: fn(&[u8]) -> String) {
+    let folder = crates().join(folder);
+    if !folder.exists() {
+        eprintln!("skipped: no {}", folder.display());
+        return;
+    }
+    let cases = cases(&folder.join("data").join(data), width);
+    let labels = lines(&folder.join("labels"));
+    let stored = lines(&folder.join("stdout"));
+    assert!(cases.len() == labels.len() && cases.len() <= stored.len());
+    let mut differences = 0;
+    for ((case, label), stored) in cases.iter().zip(&labels).zip(&stored) {
+        let own = answer(case);
+        if own != *stored {
+            differences += 1;
+            println!("{label}: stored {stored}, reference {own}");
+        }
+    }
+    println!("{}: {} cases, {differences} differences", folder.display(), cases.len());
+    assert_eq!(differences, 0);
+}
+
+#[test]
+fn verdicts() {
+    compare("verdicts", "texts", 3, report);
+}
+
+#[test]
+fn examples() {
+    compare("examples", "lines", 2, reading);
+}

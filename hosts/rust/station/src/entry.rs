@@ -1,0 +1,163 @@
+//! A whole text: the check.
+
+use std::fmt;
+
+use crate::raw::station_check;
+use crate::{Refusal, Table};
+
+/// The bytes of a line with its newline.
+const PIECE: usize = 81;
+
+/// The nine counts of MASTER over the good lines of a text.
+#[derive(Clone, Copy, Debug, Default, PartialEq, Eq)]
+pub struct Counts {
+    /// REMARK lines.
+    pub remark: u64,
+    /// HET lines.
+    pub het: u64,
+    /// HELIX lines.
+    pub helix: u64,
+    /// SHEET lines.
+    pub sheet: u64,
+    /// ORIGX and SCALE lines.
+    pub xform: u64,
+    /// ATOM and HETATM lines.
+    pub coord: u64,
+    /// TER lines.
+    pub ter: u64,
+    /// CONECT lines.
+    pub conect: u64,
+    /// SEQRES lines.
+    pub seq: u64,
+}
+
+/// What the check answers.
+#[derive(Clone, Copy, Debug, PartialEq, Eq)]
+pub struct Verdict {
+    /// The refusal, if the text is refused.
+    pub refusal: Option<Refusal>,
+    /// The line that is refused, from 1; 0 if none is.
+    pub line: u64,
+    /// The good lines.
+    pub good_lines: u64,
+    /// The counts over the good lines.
+    pub counts: Counts,
+}
+
+impl Verdict {
+    /// Whether the text is an accepted entry.
+    pub fn is_granted(&self) -> bool {
+        self.refusal.is_none()
+    }
+
+    /// The verdict as a result, for `?`.
+    pub fn granted(&self) -> Result<(), Refusal> {
+        self.refusal.map_or(Ok(()), Err)
+    }
+
+    /// The verdict as the report lists it: twelve lines of key and value.
+    pub fn report(&self) -> Report {
+        Report(*self)
+    }
+
+    /// The verdict of the report on an input that is too long for it: it is not judged.
+    pub fn too_long() -> Verdict {
+        Verdict { refusal: Some(Refusal::LONG_INPUT), line: 0, good_lines: 0, counts: Counts::default() }
+    }
+}
+
+/// A verdict that shows itself as the report does.
+#[derive(Clone, Copy, Debug)]
+pub struct Report(Verdict);
+
+impl Report {
+    /// The longest input that the report program takes, in bytes.
+    pub const LIMIT: usize = 65_529;
+}
+
+impl fmt::Display for Report {
+    fn fmt(&self, f: &mut fmt::Formatter<'_>) -> fmt::Result {
+        let Verdict { refusal, line, good_lines, counts } = self.0;
+        let values = [
+            ("verdict", u64::from(refusal.map_or(0, Refusal::number))),
+            ("line", line),
+            ("lines", good_lines),
+            ("remark", counts.remark),
+            ("het", counts.het),
+            ("helix", counts.helix),
+            ("sheet", counts.sheet),
+            ("xform", counts.xform),
+            ("coord", counts.coord),
+            ("ter", counts.ter),
+            ("conect", counts.conect),
+            ("seq", counts.seq),
+        ];
+        values.iter().try_for_each(|(key, value)| writeln!(f, "{key}={value}"))
+    }
+}
+
+/// A text that the check has granted.
+#[derive(Clone, Copy, Debug)]
+pub struct Entry<'t> {
+    text: &'t [u8],
+    verdict: Verdict,
+}
+
+impl<'t> Entry<'t> {
+    /// Checks a text.
+    ///
+    /// ```
+    /// use station::{Entry, Refusal};
+    ///
+    /// let verdict = Entry::check(b"");
+    /// assert_eq!(verdict.refusal, Some(Refusal::OVER));
+    /// assert_eq!(verdict.line, 1);
+    /// ```
+    pub fn check(text: &[u8]) -> Verdict {
+        let mut answer = [0; 12];
+        // SAFETY: the text is as long as said, and the answer has room for twelve numbers.
+        let number = unsafe { station_check(text.as_ptr(), text.len(), answer.as_mut_ptr()) };
+        let [_, line, good_lines, remark, het, helix, sheet, xform, coord, ter, conect, seq] = answer;
+        let counts = Counts { remark, het, helix, sheet, xform, coord, ter, conect, seq };
+        Verdict { refusal: Refusal::of(number).err(), line, good_lines, counts }
+    }
+
+    /// Checks a text and takes it as an entry if it is granted.
+    ///
+    /// ```
+    /// # fn main() -> Result<(), station::Verdict> {
+    /// let zeros = format!("MASTER    {}", "    0".repeat(12));
+    /// let text = format!("{:80}\n{zeros:80}\n{:80}\n", "HEADER", "END");
+    /// let entry = station::Entry::accept(text.as_bytes())?;
+    /// assert_eq!(entry.verdict().good_lines, 3);
+    /// # Ok(()) }
+    /// ```
+    pub fn accept(text: &'t [u8]) -> Result<Entry<'t>, Verdict> {
+        let verdict = Entry::check(text);
+        if verdict.is_granted() {
+            Ok(Entry { text, verdict })
+        } else {
+            Err(verdict)
+        }
+    }
+
+    /// The text.
+    pub fn text(&self) -> &'t [u8] {
+        self.text
+    }
+
+    /// The verdict.
+    pub fn verdict(&self) -> Verdict {
+        self.verdict
+    }
+
+    /// The table of its coordinates.
+    pub fn load(&self) -> Result<Table<'t>, Refusal> {
+        Table::load(self.text)
+    }
+}
+
+/// The lines of a text as the check cuts it: 81 bytes each, but for a shorter last one.
+pub fn pieces(text: &[u8]) -> impl DoubleEndedIterator<Item = &[u8]> + ExactSizeIterator {
+    text.chunks(PIECE)
+}

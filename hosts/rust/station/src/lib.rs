@@ -1,0 +1,29 @@
+//! The proved library of the station, in Rust's own manners.
+//!
+//! [`Entry::check`] judges a text; [`Table`] holds the coordinates of an accepted one, sets fragments aside, puts them
+//! back and saves; [`Line`] is one line by itself; [`Tally`] counts lines; [`Dot`], [`Stroke`] and [`Frame`] are what a
+//! renderer draws. Everything that can be refused is a [`Result`] with a [`Refusal`].
+//!
+//! ```
+//! let verdict = station::Entry::check(b"no entry at all");
+//! assert_eq!(verdict.refusal.map(|refusal| refusal.number()), Some(1));
+//! println!("{}", verdict.report());
+//! ```
+//!
+//! The C names themselves are in [`raw`].
+
+#![warn(missing_docs)]
+
+mod entry;
+mod feed;
+mod line;
+pub mod raw;
+mod refusal;
+mod table;
+
+pub use entry::{pieces, Counts, Entry, Report, Verdict};
+pub use feed::{Dot, Frame, Stroke};
+pub use line::Line;
+pub use raw::{Slot, Tally};
+pub use refusal::Refusal;
+pub use table::{Fragment, FragmentNumber, Fragments, Kind, Mark, Table};

@@ -1,0 +1,87 @@
+//! Single lines.
+
+use crate::raw::{station_count_line, station_rewrite_line, station_slot_of_line, Slot, Tally};
+use crate::Refusal;
+
+/// A line of one of the eight typed kinds, read by itself: 80 columns, all of them right.
+///
+/// ```
+/// # fn main() -> Result<(), station::Refusal> {
+/// use station::{Line, Refusal};
+///
+/// let columns = b"ATOM     32  N  AARG A  -3      11.281  86.699  94.383  0.50 35.88           N  ";
+/// let line = Line::read(columns)?;
+/// assert_eq!(line.name(), "ATOM");
+/// let slot = line.slot()?;
+/// assert_eq!((slot.x, slot.occupancy, slot.number), (11_281, 50, -3));
+/// assert_eq!(Line::read(&columns[..79]), Err(Refusal::LENGTH));
+/// # Ok(()) }
+/// ```
+#[derive(Clone, Copy, Debug, PartialEq, Eq)]
+pub struct Line {
+    columns: [u8; 80],
+}
+
+impl Line {
+    /// Reads a line of 80 bytes, without its newline, to its record and keeps what the record writes.
+    pub fn read(line: &[u8]) -> Result<Line, Refusal> {
+        let mut columns = [0; 80];
+        // SAFETY: line and output are as long as said and do not overlap.
+        let number = unsafe { station_rewrite_line(line.as_ptr(), line.len(), columns.as_mut_ptr(), columns.len()) };
+        Refusal::of(number)?;
+        Ok(Line { columns })
+    }
+
+    /// The 80 columns.
+    pub fn columns(&self) -> &[u8; 80] {
+        &self.columns
+    }
+
+    /// The name, without the blanks behind it.
+    pub fn name(&self) -> &str {
+        std::str::from_utf8(&self.columns[..6]).unwrap_or_default().trim_end()
+    }
+
+    /// The slot of an ATOM, HETATM or TER line, marked in. Other kinds are refused with 4.
+    pub fn slot(&self) -> Result<Slot, Refusal> {
+        Line::slot_of(&self.columns)
+    }
+
+    /// The slot of an ATOM, HETATM or TER line of 80 bytes, marked in. Other kinds are refused with 4.
+    pub fn slot_of(line: &[u8]) -> Result<Slot, Refusal> {
+        let mut slot = Slot::default();
+        // SAFETY: the line is as long as said and does not overlap the slot.
+        let number = unsafe { station_slot_of_line(line.as_ptr(), line.len(), &mut slot) };
+        Refusal::of(number)?;
+        Ok(slot)
+    }
+
+    /// The serials on a CONECT line: the atom, then its partners. Other kinds have none.
+    pub fn bonds(&self) -> Vec<u32> {
+        if self.name() != "CONECT" {
+            return Vec::new();
+        }
+        let number = |field: &[u8]| std::str::from_utf8(field).ok()?.trim_start().parse().ok();
+        self.columns[6..31].chunks(5).map_while(number).collect()
+    }
+}
+
+impl Tally {
+    /// Counts one more line by its first six bytes.
+    ///
+    /// ```
+    /// # fn main() -> Result<(), station::Refusal> {
+    /// use station::{Refusal, Tally};
+    ///
+    /// let mut tally = Tally::default();
+    /// tally.count(b"HETATM")?;
+    /// tally.count(b"END   ")?;
+    /// assert_eq!(tally, Tally { coord: 1, ..Tally::default() });
+    /// assert_eq!(tally.count(b"TER"), Err(Refusal::NAME));
+    /// # Ok(()) }
+    /// ```
+    pub fn count(&mut self, line: &[u8]) -> Result<(), Refusal> {
+        // SAFETY: the line is as long as said and does not overlap the tally.
+        Refusal::of(unsafe { station_count_line(self, line.as_ptr(), line.len()) })
+    }
+}

@@ -1,0 +1,110 @@
+//! The C names, as `include/station.h` declares them. The rest of the crate is the safe way to them.
+
+/// One slot of the table: 44 bytes without padding. A foreign table may hold any bytes at all.
+#[derive(Clone, Copy, Debug, Default, PartialEq, Eq)]
+#[repr(C)]
+pub struct Slot {
+    /// The serial.
+    pub serial: u32,
+    /// The number of the residue.
+    pub number: i32,
+    /// In thousandths.
+    pub x: i32,
+    /// In thousandths.
+    pub y: i32,
+    /// In thousandths.
+    pub z: i32,
+    /// In hundredths.
+    pub occupancy: i32,
+    /// In hundredths.
+    pub temperature: i32,
+    /// 1 ATOM, 2 HETATM, 3 TER; any other byte: damaged.
+    pub kind: u8,
+    /// 0 in, 1 aside; any other byte: damaged.
+    pub mark: u8,
+    /// The name of the atom, as its columns have it; so are the rest.
+    pub name: [u8; 4],
+    /// The alternate location.
+    pub alternate: u8,
+    /// The name of the residue.
+    pub residue: [u8; 3],
+    /// The chain.
+    pub chain: u8,
+    /// The insertion code.
+    pub insertion: u8,
+    /// The element.
+    pub element: [u8; 2],
+    /// The charge.
+    pub charge: [u8; 2],
+}
+
+/// The nine counts of MASTER.
+#[derive(Clone, Copy, Debug, Default, PartialEq, Eq)]
+#[repr(C)]
+pub struct Tally {
+    /// REMARK lines.
+    pub remark: u32,
+    /// HET lines.
+    pub het: u32,
+    /// HELIX lines.
+    pub helix: u32,
+    /// SHEET lines.
+    pub sheet: u32,
+    /// ORIGX and SCALE lines.
+    pub xform: u32,
+    /// ATOM and HETATM lines.
+    pub coord: u32,
+    /// TER lines.
+    pub ter: u32,
+    /// CONECT lines.
+    pub conect: u32,
+    /// SEQRES lines.
+    pub seq: u32,
+}
+
+/// Declares the functions, and with them a struct that holds one function for each name.
+macro_rules! names {
+    ($($(#[$doc:meta])* fn $name:ident as $field:ident ($($argument:ident: $kind:ty),* $(,)?);)*) => {
+        extern "C" {
+            $($(#[$doc])* pub fn $name($($argument: $kind),*) -> u32;)*
+        }
+
+        /// A library that offers the C names: the linked one, or another that a test puts in its place.
+        #[derive(Clone, Copy)]
+        pub struct Library {
+            $($(#[$doc])* pub $field: unsafe extern "C" fn($($argument: $kind),*) -> u32,)*
+        }
+
+        /// The library that this program is linked with.
+        pub const LINKED: Library = Library { $($field: $name,)* };
+    };
+}
+
+names! {
+    /// Checks a text; `answer` has room for twelve numbers.
+    fn station_check as check(text: *const u8, n: usize, answer: *mut u64);
+    /// Loads a text into a table.
+    fn station_load as load(text: *const u8, n: usize, table: *mut Slot, slots: usize, count: *mut u64);
+    /// Sets a fragment aside, or puts it back.
+    fn station_order as order(text: *const u8, n: usize, table: *mut Slot, slots: usize, fragment: u32, aside: u8);
+    /// Writes the entry without what was set aside.
+    fn station_save as save(
+        text: *const u8, n: usize, table: *const Slot, slots: usize, out: *mut u8, room: usize, count: *mut u64,
+    );
+    /// Writes what saving leaves out.
+    fn station_tray as tray(
+        text: *const u8, n: usize, table: *const Slot, slots: usize, out: *mut u8, room: usize, count: *mut u64,
+    );
+    /// Fills a slot from one line.
+    fn station_slot_of_line as slot_of_line(line: *const u8, n: usize, slot: *mut Slot);
+    /// Reads one line and writes its record.
+    fn station_rewrite_line as rewrite_line(line: *const u8, n: usize, out: *mut u8, room: usize);
+    /// The dot of a slot; `out` has room for three doubles. 1 if there is one.
+    fn station_dot as dot(slot: *const Slot, out: *mut f64);
+    /// The stroke of two slots; `out` has room for six doubles. 1 if there is one.
+    fn station_stroke as stroke(a: *const Slot, b: *const Slot, out: *mut f64);
+    /// The frame of some slots; `out` has room for nine doubles.
+    fn station_frame as frame(table: *const Slot, slots: usize, out: *mut f64);
+    /// Counts one line.
+    fn station_count_line as count_line(tally: *mut Tally, line: *const u8, n: usize);
+}

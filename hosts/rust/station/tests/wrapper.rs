@@ -1,0 +1,145 @@
+//! The safe wrapper, from outside.
+
+use std::collections::BTreeSet;
+
+use station::{Dot, Entry, FragmentNumber, Frame, Kind, Line, Mark, Refusal, Slot, Stroke, Table, Tally};
+
+fn line(text: &str) -> String {
+    format!("{text:80}\n")
+}
+
+fn atom(name: &str, serial: u32, residue: &str, x: &str) -> String {
+    line(&format!("{name:6}{serial:5}  C   {residue:10}   {x:>8}   2.000   3.000  1.00  0.00           C"))
+}
+
+fn master(coordinates: u32, ter: u32, conect: u32) -> String {
+    line(&format!("MASTER    {}{coordinates:5}{ter:5}{conect:5}    0", "    0".repeat(8)))
+}
+
+/// A chain of two residues, a heterogen of two atoms, and another of one.
+fn entry() -> String {
+    [
+        line("HEADER"),
+        atom("ATOM", 1, "ALA A   1", "0.000"),
+        atom("ATOM", 2, "ALA A   1", "1.000"),
+        atom("ATOM", 3, "GLY A   2A", "2.000"),
+        line("TER       4      GLY A   2A"),
+        atom("HETATM", 5, "HEM B   7", "-4.000"),
+        atom("HETATM", 6, "HEM B   7", "4.001"),
+        atom("HETATM", 9, "HOH B   7", "9.000"),
+        line("CONECT    5    6    9"),
+        master(6, 1, 1),
+        line("END"),
+    ]
+    .concat()
+}
+
+#[test]
+fn fragments_are_a_view() -> Result<(), Refusal> {
+    let text = entry();
+    let mut table = Table::load(text.as_bytes())?;
+    table.set_aside(FragmentNumber(2))?;
+    let seen: Vec<_> = table
+        .fragments()
+        .map(|fragment| {
+            let residues = fragment.residues().count();
+            (fragment.number.0, fragment.chain(), residues, fragment.atoms(), fragment.mark())
+        })
+        .collect();
+    let expected = [(1, 'A', 2, 3, Some(Mark::In)), (2, 'B', 1, 2, Some(Mark::Aside)), (3, 'B', 1, 1, Some(Mark::In))];
+    assert_eq!(seen, expected);
+    assert_eq!(table.slots()[3].kind(), Some(Kind::Ter));
+    Ok(())
+}
+
+#[test]
+fn orders_are_refused_by_number() -> Result<(), Refusal> {
+    let text = entry();
+    let mut table = Table::load(text.as_bytes())?;
+    assert_eq!(table.set_aside(FragmentNumber(0)), Err(Refusal::NO_FRAGMENT));
+    assert_eq!(table.set_aside(FragmentNumber(4)), Err(Refusal::NO_FRAGMENT));
+    assert_eq!(table.put_back(FragmentNumber(1)), Err(Refusal::ALREADY_THERE));
+    assert_eq!(table.save()?, text.as_bytes());
+    assert_eq!(table.tray()?, b"");
+    assert_eq!(Table::load(b"").map(|table| table.slots().len()), Err(Refusal::OVER));
+    Ok(())
+}
+
+#[test]
+fn whatever_is_set_aside_the_saved_entry_is_granted() -> Result<(), Refusal> {
+    let text = entry();
+    for choice in 0..8u32 {
+        let mut table = Table::load(text.as_bytes())?;
+        for fragment in (1..=3).filter(|fragment| choice & (1 << (fragment - 1)) != 0) {
+            table.set_aside(FragmentNumber(fragment))?;
+        }
+        let (saved, tray) = (table.save()?, table.tray()?);
+        Entry::check(&saved).granted()?;
+        assert_eq!(saved.len() + tray.len(), text.len());
+        for kept in saved.chunks(81).chain(tray.chunks(81)).filter(|kept| !kept.starts_with(b"MASTER")) {
+            assert!(text.as_bytes().chunks(81).any(|read| read == kept));
+        }
+    }
+    Ok(())
+}
+
+#[test]
+fn the_feed() -> Result<(), Refusal> {
+    let text = entry();
+    let mut table = Table::load(text.as_bytes())?;
+    table.set_aside(FragmentNumber(3))?;
+    let slots = table.slots();
+    assert_eq!(slots[4].dot(), Some(Dot([-4_000.0, 2_000.0, 3_000.0])));
+    assert_eq!((slots[3].dot(), slots[6].dot()), (None, None));
+    let stroke = Stroke { from: Dot([-4_000.0, 2_000.0, 3_000.0]), to: Dot([4_001.0, 2_000.0, 3_000.0]) };
+    assert_eq!(slots[4].stroke(&slots[5]), Some(stroke));
+    assert_eq!(slots[4].stroke(&slots[6]), None);
+    assert_eq!(table.frame()?.middle, [0.5, 2_000.0, 3_000.0]);
+    assert_eq!(Frame::of(&[Slot { kind: 9, ..slots[0] }]), Err(Refusal::NOTHING_TO_FRAME));
+    Ok(())
+}
+
+#[test]
+fn lines_by_themselves() -> Result<(), Refusal> {
+    let conect = Line::read(&line("CONECT    5    6    9").as_bytes()[..80])?;
+    assert_eq!((conect.name(), conect.bonds()), ("CONECT", vec![5, 6, 9]));
+    assert_eq!(conect.slot(), Err(Refusal::NAME));
+    assert_eq!(Line::read(line("END").as_bytes()), Err(Refusal::LENGTH));
+    assert_eq!(Line::read(&[b'\t'; 80]), Err(Refusal::BYTE));
+    assert_eq!(Line::read(&[b'A'; 80]), Err(Refusal::NAME));
+    assert_eq!(Line::read(&line("TER").as_bytes()[..80]), Err(Refusal::FIELD));
+    let mut tally = Tally { ter: 99_999, ..Tally::default() };
+    assert_eq!(tally.count(b"TER   "), Err(Refusal::FULL));
+    Ok(())
+}
+
+#[test]
+fn refusals_in_words() {
+    let all = [
+        Refusal::LENGTH,
+        Refusal::NEWLINE,
+        Refusal::BYTE,
+        Refusal::NAME,
+        Refusal::PLACE,
+        Refusal::FIELD,
+        Refusal::SERIAL,
+        Refusal::RUN,
+        Refusal::BOND,
+        Refusal::SEQUENCE,
+        Refusal::COUNT,
+        Refusal::OVER,
+        Refusal::SHORT_TABLE,
+        Refusal::FULL,
+        Refusal::NO_FRAGMENT,
+        Refusal::ALREADY_THERE,
+        Refusal::SHORT_OUTPUT,
+        Refusal::OTHER_TABLE,
+        Refusal::NOTHING_TO_FRAME,
+        Refusal::LONG_INPUT,
+    ];
+    assert!(all.iter().map(|refusal| refusal.number()).eq(1..=20));
+    assert_eq!(all.iter().map(|refusal| refusal.meaning()).collect::<BTreeSet<_>>().len(), 20);
+    let error: Box<dyn std::error::Error> = Box::new(Refusal::OVER);
+    assert_eq!(error.to_string(), "refused with 12: the text is over before END");
+    assert_eq!(format!("{:?}", Refusal::OVER), "Refusal(12: the text is over before END)");
+}

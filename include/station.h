@@ -1,0 +1,104 @@
+/* The station: the C names of the proved library.
+ *
+ * A text is any bytes; an accepted text is one PDB coordinate entry that obeys docs/FORMAT.md, where the numbers of
+ * refusal are listed. Unless its comment says otherwise a function returns the number of refusal, 0 if it grants.
+ * A refusal leaves every lent buffer, slot and tally as it was; a grant changes only the bytes or slots it needs.
+ * Nothing is kept between calls and nothing is taken on trust: each call judges the text and the table anew. The
+ * caller sees to it that pointers and lengths describe memory of its own, and that memory the call writes to
+ * overlaps no other memory lent to the same call.
+ */
+#ifndef STATION_H
+#define STATION_H
+
+#include <stddef.h>
+#include <stdint.h>
+
+#ifdef __cplusplus
+extern "C" {
+#endif
+
+/* Kinds of slots. A slot of any other kind is damaged: it is no text's and is never drawn. */
+enum { STATION_ATOM = 1, STATION_HETATM = 2, STATION_TER = 3 };
+
+/* Marks of slots. A slot with any other mark is damaged likewise. */
+enum { STATION_IN = 0, STATION_ASIDE = 1 };
+
+/* One coordinate or TER line: 44 bytes without padding. Columns are kept as the bytes that stand in them; what a TER
+ * does not have is 0, or blank. */
+typedef struct {
+    uint32_t serial;      /* 1 to 99,999 */
+    int32_t number;       /* the residue's number, -999 to 9999 */
+    int32_t x, y, z;      /* thousandths */
+    int32_t occupancy;    /* hundredths, 0 to 100 */
+    int32_t temperature;  /* hundredths */
+    uint8_t kind;         /* STATION_ATOM, STATION_HETATM or STATION_TER */
+    uint8_t mark;         /* STATION_IN or STATION_ASIDE */
+    uint8_t name[4];
+    uint8_t alternate;
+    uint8_t residue[3];
+    uint8_t chain;
+    uint8_t insertion;
+    uint8_t element[2];
+    uint8_t charge[2];
+} station_slot;
+
+/* The nine counts of MASTER, in the order of the report. */
+typedef struct {
+    uint32_t remark, het, helix, sheet;
+    uint32_t xform;  /* ORIGX and SCALE */
+    uint32_t coord;  /* ATOM and HETATM */
+    uint32_t ter, conect, seq;
+} station_tally;
+
+/* Checks a text. `answer` receives the number, the line refused (0 if none), the good lines, and the nine counts over
+ * the good lines in the order of station_tally. Returns the number as well: 0, or 1 to 12. */
+uint32_t station_check(const uint8_t *text, size_t n, uint64_t answer[12]);
+
+/* Loads an accepted text: one slot for each ATOM, HETATM and TER line, in order, all marked in. `count` receives the
+ * slots filled, 0 if refused. 1 to 12 for the text; 13 if `slots` is below what the text needs. */
+uint32_t station_load(const uint8_t *text, size_t n, station_slot *table, size_t slots, uint64_t *count);
+
+/* Sets one fragment aside (`aside` not 0) or puts it back (0) by marking its slots. Fragments count from 1. 1 to 12 for
+ * the text; 13; 18 if the table is not this text's; 15 if there is no such fragment; 16 if it has that mark already. */
+uint32_t station_order(const uint8_t *text, size_t n, station_slot *table, size_t slots, uint32_t fragment,
+                       uint8_t aside);
+
+/* Writes the entry without the fragments set aside, without the CONECT lines that name one of their atoms, and with
+ * MASTER counted again. `count` receives the bytes written, 0 if refused; `n` bytes of room are always enough. 1 to 12
+ * for the text; 13; 18; 17 if `room` is below the bytes to be written. */
+uint32_t station_save(const uint8_t *text, size_t n, const station_slot *table, size_t slots, uint8_t *out,
+                      size_t room, uint64_t *count);
+
+/* Writes the lines that station_save leaves out, in order. The rest is as for station_save. */
+uint32_t station_tray(const uint8_t *text, size_t n, const station_slot *table, size_t slots, uint8_t *out,
+                      size_t room, uint64_t *count);
+
+/* Fills a slot from one ATOM, HETATM or TER line by itself (80 bytes, no newline), marked in. 1, 3, 4 (another kind of
+ * line too), 6. */
+uint32_t station_slot_of_line(const uint8_t *line, size_t n, station_slot *slot);
+
+/* Reads one line of the eight typed kinds by itself (80 bytes, no newline) to its record and writes the record: the
+ * first 80 bytes of `out` are then the line. 1, 3, 4 (a carried kind too), 6, 17. */
+uint32_t station_rewrite_line(const uint8_t *line, size_t n, uint8_t *out, size_t room);
+
+/* The dot of a slot: x, y, z in thousandths. Returns 1 if the slot is an atom marked in; 0 if there is nothing to draw,
+ * and `out` is as it was. */
+uint32_t station_dot(const station_slot *slot, double out[3]);
+
+/* The stroke between two slots: x, y, z of the first, then of the second. Returns 1 if both are atoms marked in (they
+ * may be the same slot); 0 if there is nothing to draw, and `out` is as it was. */
+uint32_t station_stroke(const station_slot *a, const station_slot *b, double out[6]);
+
+/* The frame of the atoms marked in among these slots: lowest x, y, z, highest x, y, z, middle x, y, z, in thousandths,
+ * the middle exact to half a thousandth. 19 if there is none. */
+uint32_t station_frame(const station_slot *table, size_t slots, double out[9]);
+
+/* Raises by 1 the count that the line's name has on MASTER, if it has one. Only the first six bytes are looked at. 4 if
+ * there are fewer or they are no known name; 14 if the count to be raised is 99,999 or more. */
+uint32_t station_count_line(station_tally *tally, const uint8_t *line, size_t n);
+
+#ifdef __cplusplus
+}
+#endif
+
+#endif
