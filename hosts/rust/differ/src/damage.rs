@@ -198,7 +198,8 @@ pub fn damage_lines(chance: &mut Chance, lines: &mut Vec<Columns>) {
             *chance.pick(&found)
         }
     };
-    let (coordinate, ter, bond, helix, sheet, count) = (
+    let (coordinate, neighbour, ter, bond, helix, sheet, count) = (
+        one_of(COORDINATES),
         one_of(COORDINATES),
         one_of(&[b"TER   "]),
         one_of(&[b"CONECT"]),
@@ -218,7 +219,7 @@ pub fn damage_lines(chance: &mut Chance, lines: &mut Vec<Columns>) {
         }
         4 => {
             // A serial that does not rise, or rises too far for the next.
-            let serial = lines[one_of_again(chance, lines, COORDINATES, coordinate)][6..11].to_vec();
+            let serial = lines[neighbour][6..11].to_vec();
             put(&mut lines[coordinate], 7, &serial);
         }
         5 => put(&mut lines[coordinate], 22, &[*chance.pick(b"ABCa0")]),
@@ -266,15 +267,6 @@ fn repeat(lines: &mut Vec<Columns>, from: usize, count: usize) {
     let end = (from + count).min(lines.len());
     let block = lines[from..end].to_vec();
     lines.splice(end..end, block);
-}
-
-fn one_of_again(chance: &mut Chance, lines: &[Columns], names: &[&[u8; 6]], otherwise: usize) -> usize {
-    let found = named(lines, names);
-    if found.is_empty() {
-        otherwise
-    } else {
-        *chance.pick(&found)
-    }
 }
 
 /// Counts MASTER again after damage, so that the damage is what decides.
