@@ -185,28 +185,22 @@ const COORDINATES: &[&[u8; 6]] = &[b"ATOM  ", b"HETATM", b"TER   "];
 
 /// Damages the order, number or links of the lines of an entry.
 pub fn damage_lines(chance: &mut Chance, lines: &mut Vec<Columns>) {
+    // Not every damage finds the line that it needs.
+    for _ in 0..8 {
+        if try_damage(chance, lines).is_some() {
+            return;
+        }
+    }
+}
+
+/// Damages some line, if there is one for the damage that was chosen.
+fn try_damage(chance: &mut Chance, lines: &mut Vec<Columns>) -> Option<()> {
     if lines.is_empty() {
-        return;
+        return None;
     }
     let at = chance.below(lines.len());
     let other = chance.below(lines.len());
-    let mut one_of = |names: &[&[u8; 6]]| {
-        let found = named(lines, names);
-        if found.is_empty() {
-            at
-        } else {
-            *chance.pick(&found)
-        }
-    };
-    let (coordinate, ter, bond, helix, sheet, count) = (
-        one_of(COORDINATES),
-        one_of(&[b"TER   "]),
-        one_of(&[b"CONECT"]),
-        one_of(&[b"HELIX "]),
-        one_of(&[b"SHEET "]),
-        one_of(&[b"MASTER"]),
-    );
-    match chance.below(22) {
+    match chance.below(23) {
         0 => {
             lines.remove(at);
         }
@@ -218,32 +212,40 @@ pub fn damage_lines(chance: &mut Chance, lines: &mut Vec<Columns>) {
         }
         4 => {
             // A serial that does not rise, or rises too far for the next.
-            let serial = lines[one_of_again(chance, lines, COORDINATES, coordinate)][6..11].to_vec();
-            put(&mut lines[coordinate], 7, &serial);
+            let (to, from) = (one_of(chance, lines, COORDINATES)?, one_of(chance, lines, COORDINATES)?);
+            let serial = lines[from][6..11].to_vec();
+            put(&mut lines[to], 7, &serial);
         }
-        5 => put(&mut lines[coordinate], 22, &[*chance.pick(b"ABCa0")]),
-        6 => put(&mut lines[ter], 23, chance.pick(&["   1", "  -3", "9999"]).as_bytes()),
-        7 => put(&mut lines[ter], 18, b"XXX"),
-        8 => put(&mut lines[ter], 27, chance.pick(&[" ", "A", "B"]).as_bytes()),
+        5 => put(named_line(chance, lines, COORDINATES)?, 22, &[*chance.pick(b"ABCa0")]),
+        6 => {
+            let number = *chance.pick(&["   1", "  -3", "9999"]);
+            put(named_line(chance, lines, &[b"TER   "])?, 23, number.as_bytes());
+        }
+        7 => put(named_line(chance, lines, &[b"TER   "])?, 18, b"XXX"),
+        8 => put(named_line(chance, lines, &[b"TER   "])?, 27, &[*chance.pick(b" AB")]),
         9 => {
             let name = *chance.pick(&["ATOM  ", "HETATM", "TER   "]);
-            put(&mut lines[coordinate], 1, name.as_bytes());
+            put(named_line(chance, lines, COORDINATES)?, 1, name.as_bytes());
         }
         10 | 11 => {
             // A number on a CONECT line becomes another line's serial, a TER's among them.
-            let serial = lines[coordinate][6..11].to_vec();
+            let (bond, from) = (one_of(chance, lines, &[b"CONECT"])?, one_of(chance, lines, COORDINATES)?);
+            let serial = lines[from][6..11].to_vec();
             put(&mut lines[bond], 7 + 5 * chance.below(5), &serial);
         }
-        12 => {
-            let number = chance.within(1, 60);
-            put_number(&mut lines[bond], 7, 11, number);
+        12 => put_number(named_line(chance, lines, &[b"CONECT"])?, 7, 11, chance.within(1, 60)),
+        13 => put_number(named_line(chance, lines, &[b"HELIX "])?, 8, 10, chance.within(1, 5)),
+        14 => put_number(named_line(chance, lines, &[b"SHEET "])?, 8, 10, chance.within(1, 6)),
+        15 => put_number(named_line(chance, lines, &[b"SHEET "])?, 15, 16, chance.within(1, 6)),
+        16 => {
+            // The identifier of another strand, or another.
+            let (to, from) = (one_of(chance, lines, &[b"SHEET "])?, one_of(chance, lines, &[b"SHEET "])?);
+            let identifier = if chance.once_in(2) { lines[from][11..14].to_vec() } else { b"  ~".to_vec() };
+            put(&mut lines[to], 12, &identifier);
         }
-        13 => put_number(&mut lines[helix], 8, 10, chance.within(1, 5)),
-        14 => put_number(&mut lines[sheet], 8, 10, chance.within(1, 6)),
-        15 => put_number(&mut lines[sheet], 15, 16, chance.within(1, 6)),
-        16 => put(&mut lines[sheet], 12, chance.pick(&["  A", "  B", "AB1", "  ~"]).as_bytes()),
         17 => {
             let from = 11 + 5 * chance.below(12);
+            let count = one_of(chance, lines, &[b"MASTER"])?;
             put_number(&mut lines[count], from, from + 4, chance.within(0, 3));
         }
         18 => {
@@ -253,12 +255,38 @@ pub fn damage_lines(chance: &mut Chance, lines: &mut Vec<Columns>) {
         19 => repeat(lines, at, 1 + chance.below(4)),
         20 => {
             // A trio once more.
-            if let Some(&last) = named(lines, &[b"ORIGX3", b"SCALE3"]).first() {
-                repeat(lines, last.saturating_sub(2), 3);
+            let last = one_of(chance, lines, &[b"ORIGX3", b"SCALE3"])?;
+            repeat(lines, last.saturating_sub(2), 3);
+        }
+        21 => {
+            // One of those that stand once, once more, or one of a trio less.
+            let at =
+                one_of(chance, lines, &[b"CRYST1", b"ORIGX1", b"ORIGX2", b"ORIGX3", b"SCALE1", b"SCALE2", b"SCALE3"])?;
+            if chance.once_in(2) {
+                repeat(lines, at, 1);
+            } else {
+                lines.remove(at);
             }
         }
         _ => damage_line(chance, &mut lines[at]),
     }
+    Some(())
+}
+
+/// One of the lines with these names, if there is one.
+fn one_of(chance: &mut Chance, lines: &[Columns], names: &[&[u8; 6]]) -> Option<usize> {
+    let found = named(lines, names);
+    if found.is_empty() {
+        None
+    } else {
+        Some(*chance.pick(&found))
+    }
+}
+
+/// One of the lines with these names, to be changed.
+fn named_line<'a>(chance: &mut Chance, lines: &'a mut [Columns], names: &[&[u8; 6]]) -> Option<&'a mut Columns> {
+    let at = one_of(chance, lines, names)?;
+    lines.get_mut(at)
 }
 
 /// Repeats some lines right behind themselves.
@@ -266,15 +294,6 @@ fn repeat(lines: &mut Vec<Columns>, from: usize, count: usize) {
     let end = (from + count).min(lines.len());
     let block = lines[from..end].to_vec();
     lines.splice(end..end, block);
-}
-
-fn one_of_again(chance: &mut Chance, lines: &[Columns], names: &[&[u8; 6]], otherwise: usize) -> usize {
-    let found = named(lines, names);
-    if found.is_empty() {
-        otherwise
-    } else {
-        *chance.pick(&found)
-    }
 }
 
 /// Counts MASTER again after damage, so that the damage is what decides.

@@ -218,7 +218,7 @@ fn carried(chance: &mut Chance, name: &str) -> Columns {
 /// The head of an entry: all that stands before the coordinates.
 fn head(chance: &mut Chance) -> Vec<Columns> {
     let mut lines = vec![carried(chance, "HEADER")];
-    if chance.once_in(2) {
+    if chance.once_in(4) {
         return lines;
     }
     for name in CARRIED {

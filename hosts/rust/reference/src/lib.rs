@@ -4,8 +4,8 @@
 //! written from the rules alone, without a look at the library. Speed and memory are not its concern. The
 //! differential test holds the two against each other.
 //!
-//! One module for each part of the rules: [`columns`] (fields), [`element`], [`line`] (names and places),
-//! [`record`] (one line read and written), [`check`] (a whole text), [`table`] (slots, fragments, orders),
+//! One module for each part of the rules: [`columns`] (fields), [`element`], [`mod@line`] (names and places),
+//! [`record`] (one line read and written), [`mod@check`] (a whole text), [`table`] (slots, fragments, orders),
 //! [`saved`] (saving and tray), [`tally`] and [`feed`] (dots, strokes, frame).
 
 #![forbid(unsafe_code)]
