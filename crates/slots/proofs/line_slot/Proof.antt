@@ -1,5 +1,4 @@
 use Rattle.slots.proofs.Returns.{line-small}
-use borrow.Author.Needs.{needs}
 use Rattle.slots.proofs.line_slot.Statement.{statement}
 use Rattle.slots.proofs.line_slot.Tie as tie
 use Rattle.slots.proofs.line_slot.Reads as reads
@@ -9,31 +8,31 @@ use Rattle.slots.proofs.record_slot.Reads as record-slot-reads
 
 -- src/lib.rt:260:25
 enum-told : tie.Need-enum-told
-enum-told c = search needs
+enum-told c = c .match .keys1
 
 -- src/lib.rt:260:25
 no-slot-requires : tie.Need-no-slot-requires
-no-slot-requires c κs = search needs
+no-slot-requires c κs = tt
 
 -- src/lib.rt:261:30
 enum-told-2 : tie.Need-enum-told-2
-enum-told-2 c = search needs
+enum-told-2 c = c .match .keys2
 
 -- src/lib.rt:261:30
 no-slot-requires-2 : tie.Need-no-slot-requires-2
-no-slot-requires-2 c κs = search needs
+no-slot-requires-2 c κs = tt
 
 -- src/lib.rt:262:29
 enum-told-3 : tie.Need-enum-told-3
-enum-told-3 c = search needs
+enum-told-3 c = c .match .keys3
 
 -- src/lib.rt:262:29
 no-slot-requires-3 : tie.Need-no-slot-requires-3
-no-slot-requires-3 c κs = search needs
+no-slot-requires-3 c κs = tt
 
 -- src/lib.rt:263:21
 enum-known-l : tie.Need-enum-known-l
-enum-known-l c = search needs
+enum-known-l c = c .match .keys4
 
 -- src/lib.rt:263:27
 record-slot-requires : tie.Need-record-slot-requires

@@ -1,5 +1,4 @@
 use Rattle.slots.proofs.Returns.{coordinate-small}
-use borrow.Author.Needs.{needs}
 use Rattle.slots.proofs.record_slot.Statement.{statement}
 use Rattle.slots.proofs.record_slot.Tie as tie
 use Rattle.slots.proofs.record_slot.Reads as reads
@@ -10,7 +9,7 @@ use Rattle.slots.proofs.slot_of_ter.Reads as slot-of-ter-reads
 
 -- src/lib.rt:244:28
 enum-known-r : tie.Need-enum-known-r
-enum-known-r c = search needs
+enum-known-r c = c .match .keys1
 
 -- src/lib.rt:244:39
 slot-of-atom-requires : tie.Need-slot-of-atom-requires
@@ -18,51 +17,51 @@ slot-of-atom-requires c κs = coordinate-small _ _ _ (c .before .r .given .1) (c
 
 -- src/lib.rt:245:21
 enum-known-r-2 : tie.Need-enum-known-r-2
-enum-known-r-2 c = search needs
+enum-known-r-2 c = c .match .keys2
 
 -- src/lib.rt:245:27
 slot-of-ter-requires : tie.Need-slot-of-ter-requires
-slot-of-ter-requires c κs = search needs
+slot-of-ter-requires c κs = tt
 
 -- src/lib.rt:246:29
 enum-told : tie.Need-enum-told
-enum-told c = search needs
+enum-told c = c .match .keys3
 
 -- src/lib.rt:246:29
 no-slot-requires : tie.Need-no-slot-requires
-no-slot-requires c κs = search needs
+no-slot-requires c κs = tt
 
 -- src/lib.rt:247:29
 enum-told-2 : tie.Need-enum-told-2
-enum-told-2 c = search needs
+enum-told-2 c = c .match .keys4
 
 -- src/lib.rt:247:29
 no-slot-requires-2 : tie.Need-no-slot-requires-2
-no-slot-requires-2 c κs = search needs
+no-slot-requires-2 c κs = tt
 
 -- src/lib.rt:248:30
 enum-told-3 : tie.Need-enum-told-3
-enum-told-3 c = search needs
+enum-told-3 c = c .match .keys5
 
 -- src/lib.rt:248:30
 no-slot-requires-3 : tie.Need-no-slot-requires-3
-no-slot-requires-3 c κs = search needs
+no-slot-requires-3 c κs = tt
 
 -- src/lib.rt:249:30
 enum-told-4 : tie.Need-enum-told-4
-enum-told-4 c = search needs
+enum-told-4 c = c .match .keys6
 
 -- src/lib.rt:249:30
 no-slot-requires-4 : tie.Need-no-slot-requires-4
-no-slot-requires-4 c κs = search needs
+no-slot-requires-4 c κs = tt
 
 -- src/lib.rt:250:24
 enum-told-5 : tie.Need-enum-told-5
-enum-told-5 c = search needs
+enum-told-5 c = c .match .keys7
 
 -- src/lib.rt:250:24
 no-slot-requires-5 : tie.Need-no-slot-requires-5
-no-slot-requires-5 c κs = search needs
+no-slot-requires-5 c κs = tt
 
 -- src/lib.rt:239:1
 returns : tie.Need-returns

@@ -1,5 +1,4 @@
 use Rattle.slots.specs.Fragments.{joins}
-use borrow.Author.Needs.{needs}
 use Rattle.slots.proofs.fragments.joins.Statement.{statement}
 use Rattle.slots.proofs.fragments.joins.Tie as tie
 use Rattle.slots.proofs.fragments.joins.Reads as reads
@@ -12,32 +11,32 @@ use Rattle.slots.proofs.residue_of.Reads as residue-of-reads
 
 -- src/fragments.rt:48:9
 is-ter-requires : tie.Need-is-ter-requires
-is-ter-requires c κs = search needs
+is-ter-requires c κs = tt
 
 -- src/fragments.rt:49:33
 residue-of-requires : tie.Need-residue-of-requires
-residue-of-requires c κs = search needs
+residue-of-requires c κs = tt
 
 -- src/fragments.rt:49:9
 same-residue-requires : tie.Need-same-residue-requires
-same-residue-requires c κs = search needs
+same-residue-requires c κs = tt
 
 -- src/fragments.rt:50:9
 both-of-requires : tie.Need-both-of-requires
-both-of-requires c κs = search needs
+both-of-requires c κs = tt
 
 -- src/fragments.rt:51:26
 either-of-requires : tie.Need-either-of-requires
-either-of-requires c κs = search needs
+either-of-requires c κs = tt
 
 -- src/fragments.rt:51:5
 both-of-requires-2 : tie.Need-both-of-requires-2
-both-of-requires-2 c κs = search needs
+both-of-requires-2 c κs = tt
 
 -- src/fragments.rt:44:1
 returns : tie.Need-returns
 unfolding joins
-returns c = cc
+returns c = rw (c .both-of2 .ensures, c .before .either-of .ensures, c .before .before .both-of .ensures, c .before .before .before .same-residue .ensures, c .before .before .before .before .residue-of .ensures, c .before .before .before .before .before .is-ter .ensures)
 
 pub joins-spec : {M : Type 1} → statement M
 joins-spec =

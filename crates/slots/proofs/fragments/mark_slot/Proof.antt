@@ -1,5 +1,4 @@
 use borrow.Author.Tests.{eq-eqb, ne-eqb}
-use borrow.Author.Needs.{needs}
 use Rattle.slots.proofs.fragments.mark_slot.Statement.{statement}
 use Rattle.slots.proofs.fragments.mark_slot.Tie as tie
 use Rattle.slots.proofs.fragments.mark_slot.Reads as reads
@@ -8,7 +7,7 @@ use Rattle.slots.proofs.with_mark.Reads as with-mark-reads
 
 -- src/fragments.rt:106:9
 with-mark-requires : tie.Need-with-mark-requires
-with-mark-requires c κs = search needs
+with-mark-requires c κs = tt
 
 -- src/fragments.rt:106:9
 returns : tie.Need-returns

@@ -14,19 +14,19 @@ use Rattle.slots.proofs.residue_of.Reads as residue-of-reads
 
 -- src/fragments.rt:75:9
 joins-requires : tie.Need-joins-requires
-joins-requires c κs = search needs
+joins-requires c κs = tt
 
 -- src/fragments.rt:76:9
 is-ter-requires : tie.Need-is-ter-requires
-is-ter-requires c κs = search needs
+is-ter-requires c κs = tt
 
 -- src/fragments.rt:77:9
 residue-of-requires : tie.Need-residue-of-requires
-residue-of-requires c κs = search needs
+residue-of-requires c κs = tt
 
 -- src/fragments.rt:78:9
 either-of-requires : tie.Need-either-of-requires
-either-of-requires c κs = search needs
+either-of-requires c κs = tt
 
 -- src/fragments.rt:79:9
 one-more-unless-requires : tie.Need-one-more-unless-requires
@@ -34,16 +34,16 @@ one-more-unless-requires c κs = search needs
 
 -- src/fragments.rt:80:41
 agrees-requires : tie.Need-agrees-requires
-agrees-requires c κs = search needs
+agrees-requires c κs = tt
 
 -- src/fragments.rt:80:9
 both-of-requires : tie.Need-both-of-requires
-both-of-requires c κs = search needs
+both-of-requires c κs = tt
 
 -- src/fragments.rt:71:1
 returns : tie.Need-returns
 unfolding stepTail
-returns c = cc
+returns c = rw (c .both-of .ensures, c .before .agrees .ensures, c .before .before .one-more-unless .ensures, c .before .before .before .either-of .ensures, c .before .before .before .before .residue-of .ensures, c .before .before .before .before .before .is-ter .ensures, c .before .before .before .before .before .before .joins .ensures)
 
 pub step-tail-spec : {M : Type 1} → statement M
 step-tail-spec =
