@@ -1,28 +1,27 @@
 use Rattle.coordinate.proofs.Returns.{atom-judges}
-use borrow.Author.Needs.{needs}
 use Rattle.coordinate.proofs.is_good.Statement.{statement}
 use Rattle.coordinate.proofs.is_good.Tie as tie
 
 identity-is-good-requires : tie.Need-identity-is-good-requires
-identity-is-good-requires c κs = search needs
+identity-is-good-requires c κs = tt
 
 measure-is-good-requires : tie.Need-measure-is-good-requires
-measure-is-good-requires c κs = search needs
+measure-is-good-requires c κs = tt
 
 species-is-good-requires : tie.Need-species-is-good-requires
-species-is-good-requires c κs = search needs
+species-is-good-requires c κs = tt
 
 leads-requires : tie.Need-leads-requires
-leads-requires c κs = search needs
+leads-requires c κs = tt
 
 both-of-requires : tie.Need-both-of-requires
-both-of-requires c κs = search needs
+both-of-requires c κs = tt
 
 both-of-requires-2 : tie.Need-both-of-requires-2
-both-of-requires-2 c κs = search needs
+both-of-requires-2 c κs = tt
 
 both-of-requires-3 : tie.Need-both-of-requires-3
-both-of-requires-3 c κs = search needs
+both-of-requires-3 c κs = tt
 
 returns : tie.Need-returns
 returns c = search atom-judges

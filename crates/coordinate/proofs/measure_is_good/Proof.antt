@@ -1,22 +1,21 @@
 use Rattle.coordinate.proofs.Returns.{measure-judges}
-use borrow.Author.Needs.{needs}
 use Rattle.coordinate.proofs.measure_is_good.Statement.{statement}
 use Rattle.coordinate.proofs.measure_is_good.Tie as tie
 
 position-is-good-requires : tie.Need-position-is-good-requires
-position-is-good-requires c κs = search needs
+position-is-good-requires c κs = tt
 
 ranged-requires : tie.Need-ranged-requires
-ranged-requires c κs = search needs
+ranged-requires c κs = tt
 
 spans-requires : tie.Need-spans-requires
-spans-requires c κs = search needs
+spans-requires c κs = tt
 
 both-of-requires : tie.Need-both-of-requires
-both-of-requires c κs = search needs
+both-of-requires c κs = tt
 
 both-of-requires-2 : tie.Need-both-of-requires-2
-both-of-requires-2 c κs = search needs
+both-of-requires-2 c κs = tt
 
 returns : tie.Need-returns
 returns c = search measure-judges

@@ -19,25 +19,25 @@ read-species-requires : tie.Need-read-species-requires
 read-species-requires c κs = search needs
 
 leads-requires : tie.Need-leads-requires
-leads-requires c κs = search needs
+leads-requires c κs = tt
 
 judged-requires : tie.Need-judged-requires
 judged-requires c κs = search needs
 
 first-requires : tie.Need-first-requires
-first-requires c κs = search needs
+first-requires c κs = tt
 
 first-requires-2 : tie.Need-first-requires-2
-first-requires-2 c κs = search needs
+first-requires-2 c κs = tt
 
 first-requires-3 : tie.Need-first-requires-3
-first-requires-3 c κs = search needs
+first-requires-3 c κs = tt
 
 first-requires-4 : tie.Need-first-requires-4
-first-requires-4 c κs = search needs
+first-requires-4 c κs = tt
 
 lower-requires : tie.Need-lower-requires
-lower-requires c κs = search needs
+lower-requires c κs = tt
 
 returns : tie.Need-returns
 returns c = search atom-reads

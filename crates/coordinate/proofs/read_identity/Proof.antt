@@ -13,7 +13,7 @@ read-four-requires : tie.Need-read-four-requires
 read-four-requires c κs = search needs
 
 is-atom-name-requires : tie.Need-is-atom-name-requires
-is-atom-name-requires c κs = search needs
+is-atom-name-requires c κs = tt
 
 judged-requires : tie.Need-judged-requires
 judged-requires c κs = search needs
@@ -22,7 +22,7 @@ shared-slice-read-alternate : tie.Need-shared-slice-read-alternate
 shared-slice-read-alternate c = search needs
 
 is-alternate-requires : tie.Need-is-alternate-requires
-is-alternate-requires c κs = search needs
+is-alternate-requires c κs = tt
 
 judged-requires-2 : tie.Need-judged-requires-2
 judged-requires-2 c κs = search needs
@@ -31,16 +31,16 @@ read-residue-requires : tie.Need-read-residue-requires
 read-residue-requires c κs = search needs
 
 first-requires : tie.Need-first-requires
-first-requires c κs = search needs
+first-requires c κs = tt
 
 first-requires-2 : tie.Need-first-requires-2
-first-requires-2 c κs = search needs
+first-requires-2 c κs = tt
 
 first-requires-3 : tie.Need-first-requires-3
-first-requires-3 c κs = search needs
+first-requires-3 c κs = tt
 
 first-requires-4 : tie.Need-first-requires-4
-first-requires-4 c κs = search needs
+first-requires-4 c κs = tt
 
 returns : tie.Need-returns
 returns c = search identity-reads

@@ -13,10 +13,10 @@ read-integer-requires-3 : tie.Need-read-integer-requires-3
 read-integer-requires-3 c κs = search needs
 
 first-requires : tie.Need-first-requires
-first-requires c κs = search needs
+first-requires c κs = tt
 
 first-requires-2 : tie.Need-first-requires-2
-first-requires-2 c κs = search needs
+first-requires-2 c κs = tt
 
 returns : tie.Need-returns
 returns c = search position-reads

@@ -10,19 +10,19 @@ read-pair-requires-2 : tie.Need-read-pair-requires-2
 read-pair-requires-2 c κs = search needs
 
 is-element-requires : tie.Need-is-element-requires
-is-element-requires c κs = search needs
+is-element-requires c κs = tt
 
 judged-requires : tie.Need-judged-requires
 judged-requires c κs = search needs
 
 is-charge-requires : tie.Need-is-charge-requires
-is-charge-requires c κs = search needs
+is-charge-requires c κs = tt
 
 judged-requires-2 : tie.Need-judged-requires-2
 judged-requires-2 c κs = search needs
 
 first-requires : tie.Need-first-requires
-first-requires c κs = search needs
+first-requires c κs = tt
 
 returns : tie.Need-returns
 returns c = search species-reads

@@ -1,16 +1,15 @@
 use Rattle.coordinate.proofs.Returns.{species-judges}
-use borrow.Author.Needs.{needs}
 use Rattle.coordinate.proofs.species_is_good.Statement.{statement}
 use Rattle.coordinate.proofs.species_is_good.Tie as tie
 
 is-element-requires : tie.Need-is-element-requires
-is-element-requires c κs = search needs
+is-element-requires c κs = tt
 
 is-charge-requires : tie.Need-is-charge-requires
-is-charge-requires c κs = search needs
+is-charge-requires c κs = tt
 
 both-of-requires : tie.Need-both-of-requires
-both-of-requires c κs = search needs
+both-of-requires c κs = tt
 
 returns : tie.Need-returns
 returns c = search species-judges

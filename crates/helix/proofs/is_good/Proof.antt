@@ -1,31 +1,30 @@
 use Rattle.helix.proofs.Returns.{helix-judges}
-use borrow.Author.Needs.{needs}
 use Rattle.helix.proofs.is_good.Statement.{statement}
 use Rattle.helix.proofs.is_good.Tie as tie
 
 extent-is-good-requires : tie.Need-extent-is-good-requires
-extent-is-good-requires c κs = search needs
+extent-is-good-requires c κs = tt
 
 ranged-requires : tie.Need-ranged-requires
-ranged-requires c κs = search needs
+ranged-requires c κs = tt
 
 comment-is-good-requires : tie.Need-comment-is-good-requires
-comment-is-good-requires c κs = search needs
+comment-is-good-requires c κs = tt
 
 ranged-requires-2 : tie.Need-ranged-requires-2
-ranged-requires-2 c κs = search needs
+ranged-requires-2 c κs = tt
 
 both-of-requires : tie.Need-both-of-requires
-both-of-requires c κs = search needs
+both-of-requires c κs = tt
 
 both-of-requires-2 : tie.Need-both-of-requires-2
-both-of-requires-2 c κs = search needs
+both-of-requires-2 c κs = tt
 
 both-of-requires-3 : tie.Need-both-of-requires-3
-both-of-requires-3 c κs = search needs
+both-of-requires-3 c κs = tt
 
 both-of-requires-4 : tie.Need-both-of-requires-4
-both-of-requires-4 c κs = search needs
+both-of-requires-4 c κs = tt
 
 returns : tie.Need-returns
 returns c = search helix-judges

@@ -28,13 +28,13 @@ judged-requires-4 : tie.Need-judged-requires-4
 judged-requires-4 c κs = search needs
 
 first-requires : tie.Need-first-requires
-first-requires c κs = search needs
+first-requires c κs = tt
 
 first-requires-2 : tie.Need-first-requires-2
-first-requires-2 c κs = search needs
+first-requires-2 c κs = tt
 
 first-requires-3 : tie.Need-first-requires-3
-first-requires-3 c κs = search needs
+first-requires-3 c κs = tt
 
 word-requires : tie.Need-word-requires
 word-requires c κs = search needs

@@ -16,7 +16,7 @@ read-three-requires : tie.Need-read-three-requires
 read-three-requires c κs = search needs
 
 is-identifier-requires : tie.Need-is-identifier-requires
-is-identifier-requires c κs = search needs
+is-identifier-requires c κs = tt
 
 judged-requires : tie.Need-judged-requires
 judged-requires c κs = search needs
@@ -34,34 +34,34 @@ read-residue-requires-2 : tie.Need-read-residue-requires-2
 read-residue-requires-2 c κs = search needs
 
 first-requires : tie.Need-first-requires
-first-requires c κs = search needs
+first-requires c κs = tt
 
 first-requires-2 : tie.Need-first-requires-2
-first-requires-2 c κs = search needs
+first-requires-2 c κs = tt
 
 first-requires-3 : tie.Need-first-requires-3
-first-requires-3 c κs = search needs
+first-requires-3 c κs = tt
 
 first-requires-4 : tie.Need-first-requires-4
-first-requires-4 c κs = search needs
+first-requires-4 c κs = tt
 
 first-requires-5 : tie.Need-first-requires-5
-first-requires-5 c κs = search needs
+first-requires-5 c κs = tt
 
 first-requires-6 : tie.Need-first-requires-6
-first-requires-6 c κs = search needs
+first-requires-6 c κs = tt
 
 first-requires-7 : tie.Need-first-requires-7
-first-requires-7 c κs = search needs
+first-requires-7 c κs = tt
 
 is-requires : tie.Need-is-requires
-is-requires c κs = search needs
+is-requires c κs = tt
 
 judged-requires-2 : tie.Need-judged-requires-2
 judged-requires-2 c κs = search needs
 
 lower-requires : tie.Need-lower-requires
-lower-requires c κs = search needs
+lower-requires c κs = tt
 
 returns : tie.Need-returns
 returns c = extent-reads _ _ _ _ _ _ _ _ _ _ _ _ _ _ _ _ _ _ _ _ _

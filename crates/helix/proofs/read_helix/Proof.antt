@@ -22,22 +22,22 @@ gap-requires-2 : tie.Need-gap-requires-2
 gap-requires-2 c κs = search needs
 
 first-requires : tie.Need-first-requires
-first-requires c κs = search needs
+first-requires c κs = tt
 
 first-requires-2 : tie.Need-first-requires-2
-first-requires-2 c κs = search needs
+first-requires-2 c κs = tt
 
 first-requires-3 : tie.Need-first-requires-3
-first-requires-3 c κs = search needs
+first-requires-3 c κs = tt
 
 first-requires-4 : tie.Need-first-requires-4
-first-requires-4 c κs = search needs
+first-requires-4 c κs = tt
 
 first-requires-5 : tie.Need-first-requires-5
-first-requires-5 c κs = search needs
+first-requires-5 c κs = tt
 
 first-requires-6 : tie.Need-first-requires-6
-first-requires-6 c κs = search needs
+first-requires-6 c κs = tt
 
 returns : tie.Need-returns
 returns c = search helix-reads

@@ -2,12 +2,11 @@ use mathlib.Core.Path.{ap}
 use Rattle.conect.specs.declared.ReadConect.{ReadConect}
 use Rattle.line.specs.declared.Record.the-variants as rec
 use Rattle.line.proofs.Returns.{judged-good, judged-wrong}
-use borrow.Author.Needs.{needs}
 use Rattle.line.proofs.read_conect.Statement.{statement}
 use Rattle.line.proofs.read_conect.Tie as tie
 
 read-conect-requires : tie.Need-read-conect-requires
-read-conect-requires c κs = search needs
+read-conect-requires c κs = c .before .pre
 
 returns : tie.Need-returns
 returns c = judged-good _ _ _ _ (ap (λ (x : ReadConect). x .column) (c .before .before .read-conect .ensures)) (ap (λ (x : ReadConect). rec.Conect (x .value)) (c .before .before .read-conect .ensures)) (c .if1 .taken)

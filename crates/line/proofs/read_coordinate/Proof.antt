@@ -2,12 +2,11 @@ use mathlib.Core.Path.{ap}
 use Rattle.coordinate.specs.declared.ReadAtom.{ReadAtom}
 use Rattle.line.specs.declared.Record.the-variants as rec
 use Rattle.line.proofs.Returns.{judged-good, judged-wrong}
-use borrow.Author.Needs.{needs}
 use Rattle.line.proofs.read_coordinate.Statement.{statement}
 use Rattle.line.proofs.read_coordinate.Tie as tie
 
 read-atom-requires : tie.Need-read-atom-requires
-read-atom-requires c κs = search needs
+read-atom-requires c κs = c .before .pre
 
 returns : tie.Need-returns
 returns c = judged-good _ _ _ _ (ap (λ (x : ReadAtom). x .column) (c .before .before .read-atom .ensures)) (ap (λ (x : ReadAtom). rec.Coordinate (c .before .before .before .before .args .het) (x .value)) (c .before .before .read-atom .ensures)) (c .if1 .taken)

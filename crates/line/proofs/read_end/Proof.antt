@@ -9,7 +9,7 @@ gap-requires : tie.Need-gap-requires
 gap-requires c κs = search needs
 
 first-requires : tie.Need-first-requires
-first-requires c κs = search needs
+first-requires c κs = tt
 
 returns : tie.Need-returns
 returns c = judged-good _ _ _ _ (end-column _ _ _ (c .before .before .gap .ensures) (c .before .first .ensures)) refl (c .if1 .taken)

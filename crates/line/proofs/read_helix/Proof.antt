@@ -2,12 +2,11 @@ use mathlib.Core.Path.{ap}
 use Rattle.helix.specs.declared.ReadHelix.{ReadHelix}
 use Rattle.line.specs.declared.Record.the-variants as rec
 use Rattle.line.proofs.Returns.{judged-good, judged-wrong}
-use borrow.Author.Needs.{needs}
 use Rattle.line.proofs.read_helix.Statement.{statement}
 use Rattle.line.proofs.read_helix.Tie as tie
 
 read-helix-requires : tie.Need-read-helix-requires
-read-helix-requires c κs = search needs
+read-helix-requires c κs = c .before .pre
 
 returns : tie.Need-returns
 returns c = judged-good _ _ _ _ (ap (λ (x : ReadHelix). x .column) (c .before .before .read-helix .ensures)) (ap (λ (x : ReadHelix). rec.Helix (x .value)) (c .before .before .read-helix .ensures)) (c .if1 .taken)

@@ -1,115 +1,55 @@
 use Rattle.line.specs.Lines.{readingOf}
-use borrow.Author.Needs.{needs}
+use Rattle.line.proofs.Untyped.{untyped}
 use Rattle.line.proofs.read_kind.Statement.{statement}
 use Rattle.line.proofs.read_kind.Tie as tie
 
 enum-told : tie.Need-enum-told
-enum-told c = search needs
+enum-told c = c .match .keys1
 
 read-coordinate-requires : tie.Need-read-coordinate-requires
-read-coordinate-requires c κs = search needs
+read-coordinate-requires c κs = c .before .before .before .pre
 
 enum-told-2 : tie.Need-enum-told-2
-enum-told-2 c = search needs
+enum-told-2 c = c .match .keys2
 
 read-coordinate-requires-2 : tie.Need-read-coordinate-requires-2
-read-coordinate-requires-2 c κs = search needs
+read-coordinate-requires-2 c κs = c .before .before .before .pre
 
 enum-told-3 : tie.Need-enum-told-3
-enum-told-3 c = search needs
+enum-told-3 c = c .match .keys3
 
 read-ter-requires : tie.Need-read-ter-requires
-read-ter-requires c κs = search needs
+read-ter-requires c κs = c .before .before .before .pre
 
 enum-told-4 : tie.Need-enum-told-4
-enum-told-4 c = search needs
+enum-told-4 c = c .match .keys4
 
 read-helix-requires : tie.Need-read-helix-requires
-read-helix-requires c κs = search needs
+read-helix-requires c κs = c .before .before .before .pre
 
 enum-told-5 : tie.Need-enum-told-5
-enum-told-5 c = search needs
+enum-told-5 c = c .match .keys5
 
 read-sheet-requires : tie.Need-read-sheet-requires
-read-sheet-requires c κs = search needs
+read-sheet-requires c κs = c .before .before .before .pre
 
 enum-told-6 : tie.Need-enum-told-6
-enum-told-6 c = search needs
+enum-told-6 c = c .match .keys6
 
 read-conect-requires : tie.Need-read-conect-requires
-read-conect-requires c κs = search needs
+read-conect-requires c κs = c .before .before .before .pre
 
 enum-told-7 : tie.Need-enum-told-7
-enum-told-7 c = search needs
+enum-told-7 c = c .match .keys7
 
 read-master-requires : tie.Need-read-master-requires
-read-master-requires c κs = search needs
+read-master-requires c κs = c .before .before .before .pre
 
 enum-told-8 : tie.Need-enum-told-8
-enum-told-8 c = search needs
+enum-told-8 c = c .match .keys8
 
 read-end-requires : tie.Need-read-end-requires
-read-end-requires c κs = search needs
-
-enum-told-9 : tie.Need-enum-told-9
-enum-told-9 c = search needs
-
-enum-told-10 : tie.Need-enum-told-10
-enum-told-10 c = search needs
-
-enum-told-11 : tie.Need-enum-told-11
-enum-told-11 c = search needs
-
-enum-told-12 : tie.Need-enum-told-12
-enum-told-12 c = search needs
-
-enum-told-13 : tie.Need-enum-told-13
-enum-told-13 c = search needs
-
-enum-told-14 : tie.Need-enum-told-14
-enum-told-14 c = search needs
-
-enum-told-15 : tie.Need-enum-told-15
-enum-told-15 c = search needs
-
-enum-told-16 : tie.Need-enum-told-16
-enum-told-16 c = search needs
-
-enum-told-17 : tie.Need-enum-told-17
-enum-told-17 c = search needs
-
-enum-told-18 : tie.Need-enum-told-18
-enum-told-18 c = search needs
-
-enum-told-19 : tie.Need-enum-told-19
-enum-told-19 c = search needs
-
-enum-told-20 : tie.Need-enum-told-20
-enum-told-20 c = search needs
-
-enum-told-21 : tie.Need-enum-told-21
-enum-told-21 c = search needs
-
-enum-told-22 : tie.Need-enum-told-22
-enum-told-22 c = search needs
-
-enum-told-23 : tie.Need-enum-told-23
-enum-told-23 c = search needs
-
-enum-told-24 : tie.Need-enum-told-24
-enum-told-24 c = search needs
-
-enum-told-25 : tie.Need-enum-told-25
-enum-told-25 c = search needs
-
-enum-told-26 : tie.Need-enum-told-26
-enum-told-26 c = search needs
-
-enum-told-27 : tie.Need-enum-told-27
-enum-told-27 c = search needs
-
-enum-told-28 : tie.Need-enum-told-28
-enum-told-28 c = search needs
+read-end-requires c κs = c .before .before .before .pre
 
 returns : tie.Need-returns
 unfolding readingOf
@@ -144,84 +84,7 @@ unfolding readingOf
 returns-8 c = rw (c .before .enum-told8 .given .1) (c .read-end .ensures)
 
 returns-9 : tie.Need-returns-9
-unfolding readingOf
-returns-9 c = rw (c .enum-told9 .given .1)
-
-returns-10 : tie.Need-returns-10
-unfolding readingOf
-returns-10 c = rw (c .enum-told10 .given .1)
-
-returns-11 : tie.Need-returns-11
-unfolding readingOf
-returns-11 c = rw (c .enum-told11 .given .1)
-
-returns-12 : tie.Need-returns-12
-unfolding readingOf
-returns-12 c = rw (c .enum-told12 .given .1)
-
-returns-13 : tie.Need-returns-13
-unfolding readingOf
-returns-13 c = rw (c .enum-told13 .given .1)
-
-returns-14 : tie.Need-returns-14
-unfolding readingOf
-returns-14 c = rw (c .enum-told14 .given .1)
-
-returns-15 : tie.Need-returns-15
-unfolding readingOf
-returns-15 c = rw (c .enum-told15 .given .1)
-
-returns-16 : tie.Need-returns-16
-unfolding readingOf
-returns-16 c = rw (c .enum-told16 .given .1)
-
-returns-17 : tie.Need-returns-17
-unfolding readingOf
-returns-17 c = rw (c .enum-told17 .given .1)
-
-returns-18 : tie.Need-returns-18
-unfolding readingOf
-returns-18 c = rw (c .enum-told18 .given .1)
-
-returns-19 : tie.Need-returns-19
-unfolding readingOf
-returns-19 c = rw (c .enum-told19 .given .1)
-
-returns-20 : tie.Need-returns-20
-unfolding readingOf
-returns-20 c = rw (c .enum-told20 .given .1)
-
-returns-21 : tie.Need-returns-21
-unfolding readingOf
-returns-21 c = rw (c .enum-told21 .given .1)
-
-returns-22 : tie.Need-returns-22
-unfolding readingOf
-returns-22 c = rw (c .enum-told22 .given .1)
-
-returns-23 : tie.Need-returns-23
-unfolding readingOf
-returns-23 c = rw (c .enum-told23 .given .1)
-
-returns-24 : tie.Need-returns-24
-unfolding readingOf
-returns-24 c = rw (c .enum-told24 .given .1)
-
-returns-25 : tie.Need-returns-25
-unfolding readingOf
-returns-25 c = rw (c .enum-told25 .given .1)
-
-returns-26 : tie.Need-returns-26
-unfolding readingOf
-returns-26 c = rw (c .enum-told26 .given .1)
-
-returns-27 : tie.Need-returns-27
-unfolding readingOf
-returns-27 c = rw (c .enum-told27 .given .1)
-
-returns-28 : tie.Need-returns-28
-unfolding readingOf
-returns-28 c = rw (c .enum-told28 .given .1)
+returns-9 c = rw (untyped (c .before .before .args .k) _ (c .match .keys9))
 
 pub read-kind-spec : {M : Type 1} → statement M
 read-kind-spec =
@@ -243,26 +106,6 @@ read-kind-spec =
     read-master-requires
     enum-told-8
     read-end-requires
-    enum-told-9
-    enum-told-10
-    enum-told-11
-    enum-told-12
-    enum-told-13
-    enum-told-14
-    enum-told-15
-    enum-told-16
-    enum-told-17
-    enum-told-18
-    enum-told-19
-    enum-told-20
-    enum-told-21
-    enum-told-22
-    enum-told-23
-    enum-told-24
-    enum-told-25
-    enum-told-26
-    enum-told-27
-    enum-told-28
     returns
     returns-2
     returns-3
@@ -271,23 +114,4 @@ read-kind-spec =
     returns-6
     returns-7
     returns-8
-    returns-9
-    returns-10
-    returns-11
-    returns-12
-    returns-13
-    returns-14
-    returns-15
-    returns-16
-    returns-17
-    returns-18
-    returns-19
-    returns-20
-    returns-21
-    returns-22
-    returns-23
-    returns-24
-    returns-25
-    returns-26
-    returns-27
-    returns-28)
+    returns-9)

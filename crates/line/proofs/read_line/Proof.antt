@@ -7,13 +7,13 @@ is-clean-requires : tie.Need-is-clean-requires
 is-clean-requires c κs = search needs
 
 kind-of-requires : tie.Need-kind-of-requires
-kind-of-requires c κs = search needs
+kind-of-requires c κs = tt
 
 read-kind-requires : tie.Need-read-kind-requires
 read-kind-requires c κs = search needs
 
 answered-requires : tie.Need-answered-requires
-answered-requires c κs = search needs
+answered-requires c κs = tt
 
 returns : tie.Need-returns
 returns c = search line-read

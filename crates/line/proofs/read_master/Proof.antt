@@ -2,12 +2,11 @@ use mathlib.Core.Path.{ap}
 use Rattle.master.specs.declared.ReadMaster.{ReadMaster}
 use Rattle.line.specs.declared.Record.the-variants as rec
 use Rattle.line.proofs.Returns.{judged-good, judged-wrong}
-use borrow.Author.Needs.{needs}
 use Rattle.line.proofs.read_master.Statement.{statement}
 use Rattle.line.proofs.read_master.Tie as tie
 
 read-master-requires : tie.Need-read-master-requires
-read-master-requires c κs = search needs
+read-master-requires c κs = c .before .pre
 
 returns : tie.Need-returns
 returns c = judged-good _ _ _ _ (ap (λ (x : ReadMaster). x .column) (c .before .before .read-master .ensures)) (ap (λ (x : ReadMaster). rec.Master (x .value)) (c .before .before .read-master .ensures)) (c .if1 .taken)

@@ -2,12 +2,11 @@ use mathlib.Core.Path.{ap}
 use Rattle.ter.specs.declared.ReadTer.{ReadTer}
 use Rattle.line.specs.declared.Record.the-variants as rec
 use Rattle.line.proofs.Returns.{judged-good, judged-wrong}
-use borrow.Author.Needs.{needs}
 use Rattle.line.proofs.read_ter.Statement.{statement}
 use Rattle.line.proofs.read_ter.Tie as tie
 
 read-ter-requires : tie.Need-read-ter-requires
-read-ter-requires c κs = search needs
+read-ter-requires c κs = c .before .pre
 
 returns : tie.Need-returns
 returns c = judged-good _ _ _ _ (ap (λ (x : ReadTer). x .column) (c .before .before .read-ter .ensures)) (ap (λ (x : ReadTer). rec.Ter (x .value)) (c .before .before .read-ter .ensures)) (c .if1 .taken)

@@ -4,46 +4,46 @@ use Rattle.line.proofs.write_record.Statement.{statement}
 use Rattle.line.proofs.write_record.Tie as tie
 
 enum-known-r : tie.Need-enum-known-r
-enum-known-r c = search needs
+enum-known-r c = c .match .keys1
 
 write-atom-requires : tie.Need-write-atom-requires
-write-atom-requires c κs = search needs
+write-atom-requires c κs = tt
 
 enum-known-r-2 : tie.Need-enum-known-r-2
-enum-known-r-2 c = search needs
+enum-known-r-2 c = c .match .keys2
 
 write-ter-requires : tie.Need-write-ter-requires
-write-ter-requires c κs = search needs
+write-ter-requires c κs = tt
 
 enum-known-r-3 : tie.Need-enum-known-r-3
-enum-known-r-3 c = search needs
+enum-known-r-3 c = c .match .keys3
 
 write-helix-requires : tie.Need-write-helix-requires
-write-helix-requires c κs = search needs
+write-helix-requires c κs = tt
 
 enum-known-r-4 : tie.Need-enum-known-r-4
-enum-known-r-4 c = search needs
+enum-known-r-4 c = c .match .keys4
 
 write-sheet-requires : tie.Need-write-sheet-requires
-write-sheet-requires c κs = search needs
+write-sheet-requires c κs = tt
 
 enum-known-r-5 : tie.Need-enum-known-r-5
-enum-known-r-5 c = search needs
+enum-known-r-5 c = c .match .keys5
 
 write-conect-requires : tie.Need-write-conect-requires
-write-conect-requires c κs = search needs
+write-conect-requires c κs = tt
 
 enum-known-r-6 : tie.Need-enum-known-r-6
-enum-known-r-6 c = search needs
+enum-known-r-6 c = c .match .keys6
 
 write-master-requires : tie.Need-write-master-requires
-write-master-requires c κs = search needs
+write-master-requires c κs = tt
 
 enum-told : tie.Need-enum-told
-enum-told c = search needs
+enum-told c = c .match .keys7
 
 write-end-requires : tie.Need-write-end-requires
-write-end-requires c κs = search needs
+write-end-requires c κs = tt
 
 same-length : tie.Need-same-length
 same-length c = search needs

@@ -1,19 +1,18 @@
 use Rattle.sheet.proofs.Returns.{sheet-judges}
-use borrow.Author.Needs.{needs}
 use Rattle.sheet.proofs.is_good.Statement.{statement}
 use Rattle.sheet.proofs.is_good.Tie as tie
 
 strand-is-good-requires : tie.Need-strand-is-good-requires
-strand-is-good-requires c κs = search needs
+strand-is-good-requires c κs = tt
 
 registration-is-good-requires : tie.Need-registration-is-good-requires
-registration-is-good-requires c κs = search needs
+registration-is-good-requires c κs = tt
 
 both-of-requires : tie.Need-both-of-requires
-both-of-requires c κs = search needs
+both-of-requires c κs = tt
 
 both-of-requires-2 : tie.Need-both-of-requires-2
-both-of-requires-2 c κs = search needs
+both-of-requires-2 c κs = tt
 
 returns : tie.Need-returns
 returns c = search sheet-judges

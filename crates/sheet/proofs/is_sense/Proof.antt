@@ -1,13 +1,12 @@
 use Rattle.sheet.proofs.Returns.{sense-minus, sense-plus}
-use borrow.Author.Needs.{needs}
 use Rattle.sheet.proofs.is_sense.Statement.{statement}
 use Rattle.sheet.proofs.is_sense.Tie as tie
 
 negative-requires : tie.Need-negative-requires
-negative-requires c κs = search needs
+negative-requires c κs = tt
 
 magnitude-requires : tie.Need-magnitude-requires
-magnitude-requires c κs = search needs
+magnitude-requires c κs = tt
 
 returns : tie.Need-returns
 returns c = search sense-minus

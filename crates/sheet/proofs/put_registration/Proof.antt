@@ -13,13 +13,13 @@ returns : tie.Need-returns
 returns c = registration-first _ _ _ _ (c .before .before .before .before .if1 .taken) (c .before .before .put-blanks .ensures)
 
 enum-told : tie.Need-enum-told
-enum-told c = search needs
+enum-told c = c .match .keys1
 
 put-blanks-requires-2 : tie.Need-put-blanks-requires-2
 put-blanks-requires-2 c κs = search needs
 
 enum-known-r : tie.Need-enum-known-r
-enum-known-r c = search needs
+enum-known-r c = c .match .keys2
 
 put-bond-requires : tie.Need-put-bond-requires
 put-bond-requires c κs = search needs

@@ -19,28 +19,28 @@ read-residue-requires-2 : tie.Need-read-residue-requires-2
 read-residue-requires-2 c κs = search needs
 
 is-bond-name-requires : tie.Need-is-bond-name-requires
-is-bond-name-requires c κs = search needs
+is-bond-name-requires c κs = tt
 
 judged-requires : tie.Need-judged-requires
 judged-requires c κs = search needs
 
 is-bond-name-requires-2 : tie.Need-is-bond-name-requires-2
-is-bond-name-requires-2 c κs = search needs
+is-bond-name-requires-2 c κs = tt
 
 judged-requires-2 : tie.Need-judged-requires-2
 judged-requires-2 c κs = search needs
 
 first-requires : tie.Need-first-requires
-first-requires c κs = search needs
+first-requires c κs = tt
 
 first-requires-2 : tie.Need-first-requires-2
-first-requires-2 c κs = search needs
+first-requires-2 c κs = tt
 
 first-requires-3 : tie.Need-first-requires-3
-first-requires-3 c κs = search needs
+first-requires-3 c κs = tt
 
 first-requires-4 : tie.Need-first-requires-4
-first-requires-4 c κs = search needs
+first-requires-4 c κs = tt
 
 returns : tie.Need-returns
 returns c = bond-reads _ _ _ _ _ _ _ _ _ _ _ _ _ _

@@ -1,19 +1,18 @@
 use Rattle.sheet.proofs.Returns.{registration-refused, registration-absent, registration-judged}
-use borrow.Author.Needs.{needs}
 use Rattle.sheet.proofs.registration_is_good.Statement.{statement}
 use Rattle.sheet.proofs.registration_is_good.Tie as tie
 
 enum-told : tie.Need-enum-told
-enum-told c = search needs
+enum-told c = c .match .keys1
 
 enum-known-r : tie.Need-enum-known-r
-enum-known-r c = search needs
+enum-known-r c = c .match .keys2
 
 returns : tie.Need-returns
 returns c = registration-refused _ _ _ (c .before .before .r .given .1) (c .if1 .taken)
 
 bond-is-good-requires : tie.Need-bond-is-good-requires
-bond-is-good-requires c κs = search needs
+bond-is-good-requires c κs = tt
 
 returns-2 : tie.Need-returns-2
 returns-2 c = registration-absent _ _ (c .enum-told .given .1)

@@ -1,10 +1,9 @@
 use Rattle.sheet.proofs.Returns.{fits-first, fits-other}
-use borrow.Author.Needs.{needs}
 use Rattle.sheet.proofs.sense_fits.Statement.{statement}
 use Rattle.sheet.proofs.sense_fits.Tie as tie
 
 magnitude-requires : tie.Need-magnitude-requires
-magnitude-requires c κs = search needs
+magnitude-requires c κs = tt
 
 returns : tie.Need-returns
 returns c = search fits-first

@@ -1,52 +1,51 @@
 use Rattle.sheet.proofs.Returns.{strand-judges}
-use borrow.Author.Needs.{needs}
 use Rattle.sheet.proofs.strand_is_good.Statement.{statement}
 use Rattle.sheet.proofs.strand_is_good.Tie as tie
 
 ranged-requires : tie.Need-ranged-requires
-ranged-requires c κs = search needs
+ranged-requires c κs = tt
 
 is-identifier-requires : tie.Need-is-identifier-requires
-is-identifier-requires c κs = search needs
+is-identifier-requires c κs = tt
 
 ranged-requires-2 : tie.Need-ranged-requires-2
-ranged-requires-2 c κs = search needs
+ranged-requires-2 c κs = tt
 
 is-good-requires : tie.Need-is-good-requires
-is-good-requires c κs = search needs
+is-good-requires c κs = tt
 
 is-good-requires-2 : tie.Need-is-good-requires-2
-is-good-requires-2 c κs = search needs
+is-good-requires-2 c κs = tt
 
 spans-requires : tie.Need-spans-requires
-spans-requires c κs = search needs
+spans-requires c κs = tt
 
 is-sense-requires : tie.Need-is-sense-requires
-is-sense-requires c κs = search needs
+is-sense-requires c κs = tt
 
 both-of-requires : tie.Need-both-of-requires
-both-of-requires c κs = search needs
+both-of-requires c κs = tt
 
 both-of-requires-2 : tie.Need-both-of-requires-2
-both-of-requires-2 c κs = search needs
+both-of-requires-2 c κs = tt
 
 both-of-requires-3 : tie.Need-both-of-requires-3
-both-of-requires-3 c κs = search needs
+both-of-requires-3 c κs = tt
 
 both-of-requires-4 : tie.Need-both-of-requires-4
-both-of-requires-4 c κs = search needs
+both-of-requires-4 c κs = tt
 
 both-of-requires-5 : tie.Need-both-of-requires-5
-both-of-requires-5 c κs = search needs
+both-of-requires-5 c κs = tt
 
 both-of-requires-6 : tie.Need-both-of-requires-6
-both-of-requires-6 c κs = search needs
+both-of-requires-6 c κs = tt
 
 sense-fits-requires : tie.Need-sense-fits-requires
-sense-fits-requires c κs = search needs
+sense-fits-requires c κs = tt
 
 both-of-requires-7 : tie.Need-both-of-requires-7
-both-of-requires-7 c κs = search needs
+both-of-requires-7 c κs = tt
 
 returns : tie.Need-returns
 returns c = strand-judges _ _ _ _ _ _ _ _ _ _ _ _ _ _ _ _

@@ -4,16 +4,16 @@ use Rattle.slots.proofs.fill_in.Statement.{statement}
 use Rattle.slots.proofs.fill_in.Tie as tie
 
 enum-known-r : tie.Need-enum-known-r
-enum-known-r c = search needs
+enum-known-r c = c .match .keys1
 
 filling-of-requires : tie.Need-filling-of-requires
 filling-of-requires c κs = typed-small _ _ (c .before .r .given .1) (c .before .before .before .pre)
 
 enum-told : tie.Need-enum-told
-enum-told c = search needs
+enum-told c = c .match .keys2
 
 enum-told-2 : tie.Need-enum-told-2
-enum-told-2 c = search needs
+enum-told-2 c = c .match .keys3
 
 returns : tie.Need-returns
 returns c = rw (c .before .before .r .given .1) (c .filling-of .ensures)

@@ -6,31 +6,31 @@ use Rattle.slots.proofs.filling_of.Statement.{statement}
 use Rattle.slots.proofs.filling_of.Tie as tie
 
 enum-known-r : tie.Need-enum-known-r
-enum-known-r c = search needs
+enum-known-r c = c .match .keys1
 
 slot-of-atom-requires : tie.Need-slot-of-atom-requires
 slot-of-atom-requires c κs = coordinate-small _ _ _ (c .before .r .given .1) (c .before .before .before .pre)
 
 enum-known-r-2 : tie.Need-enum-known-r-2
-enum-known-r-2 c = search needs
+enum-known-r-2 c = c .match .keys2
 
 slot-of-ter-requires : tie.Need-slot-of-ter-requires
-slot-of-ter-requires c κs = search needs
+slot-of-ter-requires c κs = tt
 
 enum-told : tie.Need-enum-told
-enum-told c = search needs
+enum-told c = c .match .keys3
 
 enum-told-2 : tie.Need-enum-told-2
-enum-told-2 c = search needs
+enum-told-2 c = c .match .keys4
 
 enum-told-3 : tie.Need-enum-told-3
-enum-told-3 c = search needs
+enum-told-3 c = c .match .keys5
 
 enum-told-4 : tie.Need-enum-told-4
-enum-told-4 c = search needs
+enum-told-4 c = c .match .keys6
 
 enum-told-5 : tie.Need-enum-told-5
-enum-told-5 c = search needs
+enum-told-5 c = c .match .keys7
 
 returns : tie.Need-returns
 returns c = rw (c .before .before .r .given .1) (ap Filled (c .slot-of-atom .ensures))

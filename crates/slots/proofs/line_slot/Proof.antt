@@ -1,28 +1,27 @@
 use Rattle.slots.proofs.Returns.{line-small}
-use borrow.Author.Needs.{needs}
 use Rattle.slots.proofs.line_slot.Statement.{statement}
 use Rattle.slots.proofs.line_slot.Tie as tie
 
 enum-told : tie.Need-enum-told
-enum-told c = search needs
+enum-told c = c .match .keys1
 
 no-slot-requires : tie.Need-no-slot-requires
-no-slot-requires c κs = search needs
+no-slot-requires c κs = tt
 
 enum-told-2 : tie.Need-enum-told-2
-enum-told-2 c = search needs
+enum-told-2 c = c .match .keys2
 
 no-slot-requires-2 : tie.Need-no-slot-requires-2
-no-slot-requires-2 c κs = search needs
+no-slot-requires-2 c κs = tt
 
 enum-told-3 : tie.Need-enum-told-3
-enum-told-3 c = search needs
+enum-told-3 c = c .match .keys3
 
 no-slot-requires-3 : tie.Need-no-slot-requires-3
-no-slot-requires-3 c κs = search needs
+no-slot-requires-3 c κs = tt
 
 enum-known-l : tie.Need-enum-known-l
-enum-known-l c = search needs
+enum-known-l c = c .match .keys4
 
 record-slot-requires : tie.Need-record-slot-requires
 record-slot-requires c κs = line-small _ _ (c .before .l .given .1) (c .before .before .before .pre)

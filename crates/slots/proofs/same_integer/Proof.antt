@@ -1,25 +1,24 @@
 use Rattle.slots.proofs.Returns.{integers}
-use borrow.Author.Needs.{needs}
 use Rattle.slots.proofs.same_integer.Statement.{statement}
 use Rattle.slots.proofs.same_integer.Tie as tie
 
 negative-requires : tie.Need-negative-requires
-negative-requires c κs = search needs
+negative-requires c κs = tt
 
 negative-requires-2 : tie.Need-negative-requires-2
-negative-requires-2 c κs = search needs
+negative-requires-2 c κs = tt
 
 magnitude-requires : tie.Need-magnitude-requires
-magnitude-requires c κs = search needs
+magnitude-requires c κs = tt
 
 magnitude-requires-2 : tie.Need-magnitude-requires-2
-magnitude-requires-2 c κs = search needs
+magnitude-requires-2 c κs = tt
 
 same-sign-requires : tie.Need-same-sign-requires
-same-sign-requires c κs = search needs
+same-sign-requires c κs = tt
 
 both-of-requires : tie.Need-both-of-requires
-both-of-requires c κs = search needs
+both-of-requires c κs = tt
 
 returns : tie.Need-returns
 returns c = search integers

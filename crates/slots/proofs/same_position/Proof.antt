@@ -1,22 +1,21 @@
 use Rattle.slots.proofs.Returns.{positions}
-use borrow.Author.Needs.{needs}
 use Rattle.slots.proofs.same_position.Statement.{statement}
 use Rattle.slots.proofs.same_position.Tie as tie
 
 same-integer-requires : tie.Need-same-integer-requires
-same-integer-requires c κs = search needs
+same-integer-requires c κs = tt
 
 same-integer-requires-2 : tie.Need-same-integer-requires-2
-same-integer-requires-2 c κs = search needs
+same-integer-requires-2 c κs = tt
 
 same-integer-requires-3 : tie.Need-same-integer-requires-3
-same-integer-requires-3 c κs = search needs
+same-integer-requires-3 c κs = tt
 
 both-of-requires : tie.Need-both-of-requires
-both-of-requires c κs = search needs
+both-of-requires c κs = tt
 
 both-of-requires-2 : tie.Need-both-of-requires-2
-both-of-requires-2 c κs = search needs
+both-of-requires-2 c κs = tt
 
 returns : tie.Need-returns
 returns c = search positions

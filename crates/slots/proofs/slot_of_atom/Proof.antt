@@ -7,7 +7,7 @@ cast-t14 : tie.Need-cast-t14
 cast-t14 c = search needs
 
 kind-byte-requires : tie.Need-kind-byte-requires
-kind-byte-requires c κs = search needs
+kind-byte-requires c κs = tt
 
 returns : tie.Need-returns
 returns c = search atom-slot

@@ -7,10 +7,10 @@ is-clean-requires : tie.Need-is-clean-requires
 is-clean-requires c κs = search needs
 
 kind-of-requires : tie.Need-kind-of-requires
-kind-of-requires c κs = search needs
+kind-of-requires c κs = tt
 
 has-slot-requires : tie.Need-has-slot-requires
-has-slot-requires c κs = search needs
+has-slot-requires c κs = tt
 
 read-kind-requires : tie.Need-read-kind-requires
 read-kind-requires c κs = search needs

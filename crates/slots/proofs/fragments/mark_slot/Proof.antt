@@ -1,10 +1,9 @@
 use borrow.Author.Tests.{eq-eqb, ne-eqb}
-use borrow.Author.Needs.{needs}
 use Rattle.slots.proofs.fragments.mark_slot.Statement.{statement}
 use Rattle.slots.proofs.fragments.mark_slot.Tie as tie
 
 with-mark-requires : tie.Need-with-mark-requires
-with-mark-requires c κs = search needs
+with-mark-requires c κs = tt
 
 returns : tie.Need-returns
 returns c = rw (eq-eqb _ _ (c .before .if1 .taken)) (c .with-mark .ensures)

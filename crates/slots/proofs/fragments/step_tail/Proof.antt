@@ -4,29 +4,29 @@ use Rattle.slots.proofs.fragments.step_tail.Statement.{statement}
 use Rattle.slots.proofs.fragments.step_tail.Tie as tie
 
 joins-requires : tie.Need-joins-requires
-joins-requires c κs = search needs
+joins-requires c κs = tt
 
 is-ter-requires : tie.Need-is-ter-requires
-is-ter-requires c κs = search needs
+is-ter-requires c κs = tt
 
 residue-of-requires : tie.Need-residue-of-requires
-residue-of-requires c κs = search needs
+residue-of-requires c κs = tt
 
 either-of-requires : tie.Need-either-of-requires
-either-of-requires c κs = search needs
+either-of-requires c κs = tt
 
 one-more-unless-requires : tie.Need-one-more-unless-requires
 one-more-unless-requires c κs = search needs
 
 agrees-requires : tie.Need-agrees-requires
-agrees-requires c κs = search needs
+agrees-requires c κs = tt
 
 both-of-requires : tie.Need-both-of-requires
-both-of-requires c κs = search needs
+both-of-requires c κs = tt
 
 returns : tie.Need-returns
 unfolding stepTail
-returns c = cc
+returns c = rw (c .both-of .ensures, c .before .agrees .ensures, c .before .before .one-more-unless .ensures, c .before .before .before .either-of .ensures, c .before .before .before .before .residue-of .ensures, c .before .before .before .before .before .is-ter .ensures, c .before .before .before .before .before .before .joins .ensures)
 
 pub step-tail-spec : {M : Type 1} → statement M
 step-tail-spec =
