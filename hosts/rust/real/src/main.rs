@@ -1,0 +1,46 @@
+//! The real entries of `hosts/rust/entries`, through the library and through the reference.
+//!
+//! Each has to be answered as `entries.txt` says, on both sides. An accepted one is loaded, some of its fragments are set
+//! aside, it is saved, and they are put back. Then each entry is damaged a few times: both sides have to answer alike.
+
+mod entries;
+mod trial;
+
+use std::process::ExitCode;
+use std::time::Instant;
+
+use entries::Listed;
+use trial::Trial;
+
+/// Runs the entries and tells how many there are and how many differences were found.
+fn run() -> Result<(usize, usize), String> {
+    let listed = entries::listed()?;
+    let mut differences = 0;
+    for listed in &listed {
+        let text = listed.unpacked()?;
+        let mut trial = Trial::new(listed, &text);
+        trial.run();
+        let Listed { file, number, line, .. } = listed;
+        println!("{file:20} {number:2} at line {line:3}, {}", trial.summary());
+        for difference in &trial.differences {
+            println!("{file}: {difference}");
+        }
+        differences += trial.differences.len();
+    }
+    Ok((listed.len(), differences))
+}
+
+fn main() -> ExitCode {
+    let begun = Instant::now();
+    match run() {
+        Ok((entries, differences)) => {
+            println!("{:.1} s", begun.elapsed().as_secs_f64());
+            println!("{entries} entries, {differences} differences");
+            ExitCode::from(u8::from(differences > 0 || entries == 0))
+        }
+        Err(words) => {
+            eprintln!("real: {words}");
+            ExitCode::from(2)
+        }
+    }
+}

@@ -1,0 +1,307 @@
+//! What is asked of an entry.
+
+use std::collections::BTreeMap;
+use std::fmt::Display;
+
+use differ::chance::Chance;
+use differ::harness::to_reference;
+use reference::{Mark, Slot};
+use station::{pieces, Entry, FragmentNumber, Line, Refusal, Table};
+
+use crate::entries::Listed;
+
+const SEED: u64 = 1;
+/// How many sets of fragments are made up.
+const SETS: usize = 3;
+/// How many times an entry is damaged.
+const DAMAGES: usize = 60;
+
+/// Lines that the table holds.
+const COORDINATES: [&[u8; 6]; 3] = [b"ATOM  ", b"HETATM", b"TER   "];
+/// The other lines with typed columns.
+const OTHER_TYPED: [&[u8; 6]; 5] = [b"HELIX ", b"SHEET ", b"CONECT", b"MASTER", b"END   "];
+
+fn named(piece: &[u8], names: &[&[u8; 6]]) -> bool {
+    names.iter().any(|name| piece.starts_with(*name))
+}
+
+/// A line without its newline.
+fn columns(piece: &[u8]) -> &[u8] {
+    piece.strip_suffix(b"\n").unwrap_or(piece)
+}
+
+/// What the check answers: number, line, good lines, nine counts.
+type Answer = [u64; 12];
+
+fn of_library(text: &[u8]) -> Answer {
+    let verdict = Entry::check(text);
+    let c = verdict.counts;
+    let number = u64::from(verdict.refusal.map_or(0, Refusal::number));
+    let (line, lines) = (verdict.line, verdict.good_lines);
+    [number, line, lines, c.remark, c.het, c.helix, c.sheet, c.xform, c.coord, c.ter, c.conect, c.seq]
+}
+
+fn of_reference(text: &[u8]) -> Answer {
+    let verdict = reference::check(text);
+    let mut answer = [0; 12];
+    answer[0] = u64::from(verdict.refusal.map_or(0, reference::Refusal::number));
+    (answer[1], answer[2]) = (verdict.line, verdict.good_lines);
+    answer[3..].copy_from_slice(&verdict.tally.counts());
+    answer
+}
+
+/// A result of either side by its number of refusal.
+fn by_number<T>(result: Result<T, Refusal>) -> Result<T, u32> {
+    result.map_err(Refusal::number)
+}
+
+fn own_by_number<T>(result: Result<T, reference::Refusal>) -> Result<T, u32> {
+    result.map_err(reference::Refusal::number)
+}
+
+/// Save or tray of the reference.
+type Write = fn(&[u8], &[Slot], &mut [u8]) -> Result<usize, reference::Refusal>;
+
+/// What the reference writes.
+fn written(text: &[u8], table: &[Slot], call: Write) -> Result<Vec<u8>, u32> {
+    let mut out = vec![0; text.len()];
+    let count = own_by_number(call(text, table, &mut out))?;
+    out.truncate(count);
+    Ok(out)
+}
+
+/// Sets of fragments to set aside: the first, the last, one in the middle, some by chance, all.
+fn choices(chance: &mut Chance, count: usize) -> Vec<Vec<u32>> {
+    let all: Vec<u32> = (1..).take(count).collect();
+    let (Some(&first), Some(&last)) = (all.first(), all.last()) else {
+        return Vec::new();
+    };
+    let middle = all.get(1 + chance.below(count.saturating_sub(2))).copied().unwrap_or(first);
+    let mut choices = vec![vec![first], vec![last], vec![middle]];
+    choices.extend((0..SETS).map(|_| all.iter().copied().filter(|_| chance.once_in(2)).collect()));
+    choices.push(all);
+    choices
+}
+
+/// The text with one thing wrong, mostly: a byte, a line that is gone, there twice or too early, or the end missing.
+fn damaged(chance: &mut Chance, text: &[u8]) -> Vec<u8> {
+    let mut lines: Vec<Vec<u8>> = pieces(text).map(<[u8]>::to_vec).collect();
+    if lines.len() < 2 {
+        return Vec::new();
+    }
+    let at = chance.below(lines.len() - 1);
+    match chance.below(6) {
+        0 => drop(lines.remove(at)),
+        1 => lines.insert(at, lines[at].clone()),
+        2 => lines.swap(at, at + 1),
+        3 => lines.truncate(at),
+        kind => {
+            let column = chance.below(lines[at].len());
+            lines[at][column] = if kind == 4 { chance.printable() } else { chance.byte() };
+        }
+    }
+    lines.concat()
+}
+
+/// One entry under trial.
+pub struct Trial<'e> {
+    listed: &'e Listed,
+    text: &'e [u8],
+    chance: Chance,
+    /// How many sets of fragments were set aside.
+    choices: usize,
+    /// The numbers that the damaged texts were answered with.
+    reached: BTreeMap<u64, usize>,
+    /// What was found, in words.
+    pub differences: Vec<String>,
+}
+
+impl<'e> Trial<'e> {
+    pub fn new(listed: &'e Listed, text: &'e [u8]) -> Trial<'e> {
+        let chance = Chance::of_case(SEED, text.len() as u64);
+        Trial { listed, text, chance, choices: 0, reached: BTreeMap::new(), differences: Vec::new() }
+    }
+
+    /// What was done, in words.
+    pub fn summary(&self) -> String {
+        let reached: Vec<String> = self.reached.iter().map(|(number, count)| format!("{number}:{count}")).collect();
+        format!("{:3} good lines, {} sets aside, damaged {}", self.listed.good_lines, self.choices, reached.join(" "))
+    }
+
+    fn hold(&mut self, what: impl Display, holds: bool) {
+        if !holds {
+            self.differences.push(what.to_string());
+        }
+    }
+
+    /// Everything.
+    pub fn run(&mut self) {
+        self.verdict();
+        self.single_lines();
+        if self.listed.accepted.is_some() {
+            self.fragments();
+        }
+        self.damage();
+    }
+
+    /// The verdict is the one in the list, on both sides.
+    fn verdict(&mut self) {
+        let (library, reference) = (of_library(self.text), of_reference(self.text));
+        self.hold(format_args!("check: library {library:?}, reference {reference:?}"), library == reference);
+        let Listed { number, line, good_lines, accepted, .. } = *self.listed;
+        self.hold(format_args!("check: {library:?} is not as listed"), library[..3] == [number, line, good_lines]);
+        if let Some((coordinates, _)) = accepted {
+            self.hold(format_args!("{} coordinates, not as listed", library[8]), library[8] == coordinates);
+            self.hold("not all lines are good", good_lines == pieces(self.text).len() as u64);
+        }
+    }
+
+    /// Each line by itself is answered alike; a line that is read is written as it was. All typed lines of an accepted
+    /// entry are read.
+    fn single_lines(&mut self) {
+        for (index, piece) in pieces(self.text).enumerate() {
+            let (line, number) = (columns(piece), index + 1);
+            let library = by_number(Line::read(line)).map(|line| *line.columns());
+            let mut out = [0; 80];
+            let reference = own_by_number(reference::rewrite_line(line, &mut out)).map(|()| out);
+            self.hold(format_args!("line {number} rewritten: sides differ"), library == reference);
+            let typed = named(piece, &COORDINATES) || named(piece, &OTHER_TYPED);
+            match library {
+                Ok(rewritten) => self.hold(format_args!("line {number}: rewritten otherwise"), rewritten == line),
+                Err(refused) => {
+                    let right = self.listed.accepted.is_none() || (!typed && refused == 4);
+                    self.hold(format_args!("line {number}: read by itself refused with {refused}"), right);
+                }
+            }
+            let library = by_number(Line::slot_of(line)).map(|slot| to_reference(&slot));
+            let reference = own_by_number(reference::slot_of_line(line));
+            self.hold(format_args!("line {number}: slots differ"), library == reference);
+        }
+    }
+
+    /// Loads the entry, and tries the sets of fragments.
+    fn fragments(&mut self) {
+        let mut table = match Table::load(self.text) {
+            Ok(table) => table,
+            Err(refusal) => return self.hold(format_args!("load: {refusal}"), false),
+        };
+        let mut own = vec![Slot::default(); table.slots().len()];
+        let loaded = own_by_number(reference::load(self.text, &mut own));
+        self.hold(format_args!("load: reference {loaded:?}"), loaded == Ok(own.len()));
+        self.same_slots(&table, &own);
+        let count = table.fragments().count();
+        self.hold(
+            format_args!("{count} fragments, not as listed"),
+            self.listed.accepted.map(|(_, n)| n) == Some(count),
+        );
+        self.hold("the reference has other fragments", reference::fragments(&own).len() == count);
+        for choice in choices(&mut self.chance, count) {
+            self.choices += 1;
+            self.set_aside(&mut table, &mut own, &choice);
+        }
+    }
+
+    fn same_slots(&mut self, table: &Table<'_>, own: &[Slot]) {
+        self.hold("the tables differ", table.slots().iter().map(to_reference).eq(own.iter().copied()));
+    }
+
+    /// One order on both sides.
+    fn order(&mut self, table: &mut Table<'_>, own: &mut [Slot], fragment: u32, mark: Mark, due: Result<(), u32>) {
+        let library = by_number(match mark {
+            Mark::Aside => table.set_aside(FragmentNumber(fragment)),
+            Mark::In => table.put_back(FragmentNumber(fragment)),
+        });
+        let reference = own_by_number(reference::order(self.text, own, reference::FragmentNumber(fragment), mark));
+        let right = library == due && reference == due;
+        self.hold(format_args!("fragment {fragment} {mark:?}: library {library:?}, reference {reference:?}"), right);
+    }
+
+    /// Save and tray, equal on both sides.
+    fn outputs(&mut self, table: &Table<'_>, own: &[Slot]) -> Option<(Vec<u8>, Vec<u8>)> {
+        let library = (by_number(table.save()), by_number(table.tray()));
+        let reference = (written(self.text, own, reference::save), written(self.text, own, reference::tray));
+        self.hold("save or tray differ", library == reference);
+        match library {
+            (Ok(saved), Ok(tray)) => Some((saved, tray)),
+            (saved, tray) => {
+                let numbers = (saved.err(), tray.err());
+                self.hold(format_args!("save and tray are refused with {numbers:?}"), false);
+                None
+            }
+        }
+    }
+
+    /// Sets some fragments aside, looks at what is saved and at the tray, and puts them back.
+    fn set_aside(&mut self, table: &mut Table<'_>, own: &mut [Slot], choice: &[u32]) {
+        for &fragment in choice {
+            self.order(table, own, fragment, Mark::Aside, Ok(()));
+        }
+        if let Some(&fragment) = choice.first() {
+            self.order(table, own, fragment, Mark::Aside, Err(16));
+        }
+        self.same_slots(table, own);
+        if let Some((saved, tray)) = self.outputs(table, own) {
+            let (library, reference) = (of_library(&saved), of_reference(&saved));
+            self.hold(format_args!("saved: {library:?} and {reference:?}"), library == reference && library[0] == 0);
+            self.parted(&saved, &tray);
+            self.in_the_tray(table, choice, &tray);
+        }
+        for &fragment in choice.iter().rev() {
+            self.order(table, own, fragment, Mark::In, Ok(()));
+        }
+        if let Some((saved, tray)) = self.outputs(table, own) {
+            self.hold("put back, another entry is saved", saved == self.text && tray.is_empty());
+        }
+    }
+
+    /// Each line stands once, in the saved entry or in the tray, in order. Only MASTER may be another.
+    fn parted(&mut self, saved: &[u8], tray: &[u8]) {
+        let (mut kept, mut dropped) = (pieces(saved).peekable(), pieces(tray).peekable());
+        self.hold("the lines do not add up", kept.len() + dropped.len() == pieces(self.text).len());
+        let (mut seen, mut coordinates) = (0, 0);
+        for piece in pieces(self.text) {
+            let master = piece.starts_with(b"MASTER");
+            let taken = if master {
+                kept.next_if(|line| line.starts_with(b"MASTER"))
+            } else {
+                kept.next_if_eq(&piece).or_else(|| dropped.next_if_eq(&piece))
+            };
+            seen += usize::from(taken.is_some());
+            coordinates += usize::from(taken.is_some() && named(piece, &COORDINATES));
+        }
+        let all = pieces(self.text).filter(|piece| named(piece, &COORDINATES)).count();
+        self.hold(format_args!("{coordinates} of {all} coordinate lines are found"), coordinates == all);
+        self.hold(format_args!("{seen} lines are found"), seen == pieces(self.text).len());
+        self.hold("lines that the entry does not have", kept.next().is_none() && dropped.next().is_none());
+    }
+
+    /// The coordinate lines in the tray are those of the fragments, and its other lines are CONECT lines.
+    fn in_the_tray(&mut self, table: &Table<'_>, choice: &[u32], tray: &[u8]) {
+        let mut coordinates = pieces(self.text).filter(|piece| named(piece, &COORDINATES));
+        let mut due = Vec::new();
+        for fragment in table.fragments() {
+            let lines = coordinates.by_ref().take(fragment.slots.len());
+            if choice.contains(&fragment.number.0) {
+                due.extend(lines);
+            } else {
+                lines.for_each(drop);
+            }
+        }
+        let (lines, others): (Vec<_>, Vec<_>) = pieces(tray).partition(|piece| named(piece, &COORDINATES));
+        self.hold("other coordinate lines in the tray", lines == due);
+        self.hold("the tray has more than CONECT lines", others.iter().all(|piece| piece.starts_with(b"CONECT")));
+    }
+
+    /// Damaged texts are answered alike.
+    fn damage(&mut self) {
+        for index in 0..DAMAGES {
+            let text = damaged(&mut self.chance, self.text);
+            let (library, reference) = (of_library(&text), of_reference(&text));
+            self.hold(
+                format_args!("damage {index}: library {library:?}, reference {reference:?}"),
+                library == reference,
+            );
+            *self.reached.entry(library[0]).or_default() += 1;
+        }
+    }
+}
