@@ -1,11 +1,10 @@
--- `station::station_count_line` meets its contract. `Proof/` has its derivation, written by tools/walk.py. Assumes nothing.
+-- `station::station_count_line` meets its contract. `Proof/` has its derivation, made by tools/walk.py.
+-- Assumes nothing.
 mod Lts
 mod Tie
 use borrow.Author.Needs.{needs}
 use Rattle.station.proofs.station_count_line.Statement.{statement}
 use Rattle.station.proofs.station_count_line.Proof.Tie as tie
-use Rattle.station.proofs.Walked.station_count_line.Reads as reads
-use Rattle.station.proofs.station_count_line.Proof.Lts as lts
 
 count-line-requires : tie.Need-count-line-requires
 count-line-requires c = search needs

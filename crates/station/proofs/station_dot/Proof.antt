@@ -1,13 +1,12 @@
-use Rattle.station.specs.Boundary.{dotAnswer}
-use mathlib.Core.Path.{ap, _∙_}
--- `station::station_dot` meets its contract. `Proof/` has its derivation, written by tools/walk.py. Assumes nothing.
+-- `station::station_dot` meets its contract. `Proof/` has its derivation, made by tools/walk.py.
+-- Assumes nothing.
 mod Lts
 mod Tie
+use Rattle.station.specs.Boundary.{dotAnswer}
+use mathlib.Core.Path.{ap, _∙_}
 use borrow.Author.Needs.{needs}
 use Rattle.station.proofs.station_dot.Statement.{statement}
 use Rattle.station.proofs.station_dot.Proof.Tie as tie
-use Rattle.station.proofs.Walked.station_dot.Reads as reads
-use Rattle.station.proofs.station_dot.Proof.Lts as lts
 
 dot-requires : tie.Need-dot-requires
 dot-requires c = search needs

@@ -1,13 +1,12 @@
-use Rattle.station.specs.Boundary.{frameAnswer}
-use mathlib.Core.Path.{ap, _∙_}
--- `station::station_frame` meets its contract. `Proof/` has its derivation, written by tools/walk.py. Assumes nothing.
+-- `station::station_frame` meets its contract. `Proof/` has its derivation, made by tools/walk.py.
+-- Assumes nothing.
 mod Lts
 mod Tie
+use Rattle.station.specs.Boundary.{frameAnswer}
+use mathlib.Core.Path.{ap, _∙_}
 use borrow.Author.Needs.{needs}
 use Rattle.station.proofs.station_frame.Statement.{statement}
 use Rattle.station.proofs.station_frame.Proof.Tie as tie
-use Rattle.station.proofs.Walked.station_frame.Reads as reads
-use Rattle.station.proofs.station_frame.Proof.Lts as lts
 
 frame-requires : tie.Need-frame-requires
 frame-requires c = search needs

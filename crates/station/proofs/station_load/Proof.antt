@@ -1,11 +1,10 @@
--- `station::station_load` meets its contract. `Proof/` has its derivation, written by tools/walk.py. Assumes nothing.
+-- `station::station_load` meets its contract. `Proof/` has its derivation, made by tools/walk.py.
+-- Assumes nothing.
 mod Lts
 mod Tie
 use borrow.Author.Needs.{needs}
 use Rattle.station.proofs.station_load.Statement.{statement}
 use Rattle.station.proofs.station_load.Proof.Tie as tie
-use Rattle.station.proofs.Walked.station_load.Reads as reads
-use Rattle.station.proofs.station_load.Proof.Lts as lts
 
 load-requires : tie.Need-load-requires
 load-requires c = search needs

@@ -1,11 +1,10 @@
--- `station::station_order` meets its contract. `Proof/` has its derivation, written by tools/walk.py. Assumes nothing.
+-- `station::station_order` meets its contract. `Proof/` has its derivation, made by tools/walk.py.
+-- Assumes nothing.
 mod Lts
 mod Tie
 use borrow.Author.Needs.{needs}
 use Rattle.station.proofs.station_order.Statement.{statement}
 use Rattle.station.proofs.station_order.Proof.Tie as tie
-use Rattle.station.proofs.Walked.station_order.Reads as reads
-use Rattle.station.proofs.station_order.Proof.Lts as lts
 
 order-requires : tie.Need-order-requires
 order-requires c = search needs

@@ -3,44 +3,31 @@ use mathlib.Core.Path.{refl}
 use borrow.Author.Needs.{needs}
 use Rattle.station.proofs.station_rewrite_line.Statement.{statement}
 use Rattle.station.proofs.station_rewrite_line.Tie as tie
-use Rattle.station.proofs.station_rewrite_line.Reads as reads
-use Rattle.station.proofs.station_rewrite_line.Lts as lts
-use Rattle.line.proofs.read_line.Reads as read-line-reads
-use Rattle.line.proofs.write_record.Reads as write-record-reads
 
--- src/lib.rt:91:11
 read-line-requires : tie.Need-read-line-requires
 read-line-requires c κs = search needs
 
--- src/lib.rt:92:22
 enum-known-x : tie.Need-enum-known-x
 enum-known-x c = search needs
 
--- src/lib.rt:92:28
 write-record-requires : tie.Need-write-record-requires
 write-record-requires c κs = search needs
 
--- src/lib.rt:92:28
 cast-result : tie.Need-cast-result
 cast-result c = search needs
 
--- src/lib.rt:93:25
 enum-known-n : tie.Need-enum-known-n
 enum-known-n c = search needs
 
--- src/lib.rt:93:31
 cast-result-2 : tie.Need-cast-result-2
 cast-result-2 c = search needs
 
--- src/lib.rt:87:1
 same-length : tie.Need-same-length
 same-length c = search needs
 
--- src/lib.rt:87:1
 returns : tie.Need-returns
 returns c = rewrite-read _ _ _ _ _ _ (c .before .before .before .before .before .before .before .read-line .ensures) (c .before .before .before .before .before .x .given .1) (c .before .before .write-record .ensures .0) (c .before .before .write-record .ensures .1)
 
--- src/lib.rt:87:1
 returns-2 : tie.Need-returns-2
 returns-2 c = rw (← c .before .before .before .read-line .ensures, c .before .n .given .1) refl
 

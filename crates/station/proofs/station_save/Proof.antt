@@ -1,11 +1,10 @@
--- `station::station_save` meets its contract. `Proof/` has its derivation, written by tools/walk.py. Assumes nothing.
+-- `station::station_save` meets its contract. `Proof/` has its derivation, made by tools/walk.py.
+-- Assumes nothing.
 mod Lts
 mod Tie
 use borrow.Author.Needs.{needs}
 use Rattle.station.proofs.station_save.Statement.{statement}
 use Rattle.station.proofs.station_save.Proof.Tie as tie
-use Rattle.station.proofs.Walked.station_save.Reads as reads
-use Rattle.station.proofs.station_save.Proof.Lts as lts
 
 save-requires : tie.Need-save-requires
 save-requires c = search needs

@@ -1,11 +1,10 @@
--- `station::station_slot_of_line` meets its contract. `Proof/` has its derivation, written by tools/walk.py. Assumes nothing.
+-- `station::station_slot_of_line` meets its contract. `Proof/` has its derivation, made by tools/walk.py.
+-- Assumes nothing.
 mod Lts
 mod Tie
 use borrow.Author.Needs.{needs}
 use Rattle.station.proofs.station_slot_of_line.Statement.{statement}
 use Rattle.station.proofs.station_slot_of_line.Proof.Tie as tie
-use Rattle.station.proofs.Walked.station_slot_of_line.Reads as reads
-use Rattle.station.proofs.station_slot_of_line.Proof.Lts as lts
 
 fill-requires : tie.Need-fill-requires
 fill-requires c = search needs

@@ -1,13 +1,12 @@
-use Rattle.station.specs.Boundary.{strokeAnswer}
-use mathlib.Core.Path.{ap, _∙_}
--- `station::station_stroke` meets its contract. `Proof/` has its derivation, written by tools/walk.py. Assumes nothing.
+-- `station::station_stroke` meets its contract. `Proof/` has its derivation, made by tools/walk.py.
+-- Assumes nothing.
 mod Lts
 mod Tie
+use Rattle.station.specs.Boundary.{strokeAnswer}
+use mathlib.Core.Path.{ap, _∙_}
 use borrow.Author.Needs.{needs}
 use Rattle.station.proofs.station_stroke.Statement.{statement}
 use Rattle.station.proofs.station_stroke.Proof.Tie as tie
-use Rattle.station.proofs.Walked.station_stroke.Reads as reads
-use Rattle.station.proofs.station_stroke.Proof.Lts as lts
 
 stroke-requires : tie.Need-stroke-requires
 stroke-requires c = search needs

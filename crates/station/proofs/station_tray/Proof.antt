@@ -1,11 +1,10 @@
--- `station::station_tray` meets its contract. `Proof/` has its derivation, written by tools/walk.py. Assumes nothing.
+-- `station::station_tray` meets its contract. `Proof/` has its derivation, made by tools/walk.py.
+-- Assumes nothing.
 mod Lts
 mod Tie
 use borrow.Author.Needs.{needs}
 use Rattle.station.proofs.station_tray.Statement.{statement}
 use Rattle.station.proofs.station_tray.Proof.Tie as tie
-use Rattle.station.proofs.Walked.station_tray.Reads as reads
-use Rattle.station.proofs.station_tray.Proof.Lts as lts
 
 tray-requires : tie.Need-tray-requires
 tray-requires c = search needs

@@ -2,31 +2,22 @@ use mathlib.Core.Path.{refl}
 use borrow.Author.Needs.{needs}
 use Rattle.station.proofs.answers.fill.Statement.{statement}
 use Rattle.station.proofs.answers.fill.Tie as tie
-use Rattle.station.proofs.answers.fill.Reads as reads
-use Rattle.station.proofs.answers.fill.Lts as lts
-use Rattle.slots.proofs.slot_of_line.Reads as slot-of-line-reads
 
--- src/answers.rt:32:11
 slot-of-line-requires : tie.Need-slot-of-line-requires
 slot-of-line-requires c κs = search needs
 
--- src/answers.rt:33:25
 enum-known-s : tie.Need-enum-known-s
 enum-known-s c = search needs
 
--- src/answers.rt:34:26
 enum-known-n : tie.Need-enum-known-n
 enum-known-n c = search needs
 
--- src/answers.rt:35:21
 cast-t7 : tie.Need-cast-t7
 cast-t7 c = search needs
 
--- src/answers.rt:29:1
 returns : tie.Need-returns
 returns c = rw (← c .before .before .before .slot-of-line .ensures, c .before .s .given .1) refl
 
--- src/answers.rt:29:1
 returns-2 : tie.Need-returns-2
 returns-2 c = rw (← c .before .before .before .slot-of-line .ensures, c .before .n .given .1) refl
 
