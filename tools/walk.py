@@ -3,10 +3,11 @@
 
     tools/walk.py CRATE STRUCT[=SPECMODULE.NAME].. -- FN..         (in the repository; needs `rt`)
 
-STRUCT is the path of a struct, as `Slot`, `table::Slot` of a module, or `slots/Slot` of the crate `slots` that CRATE depends on. FN is the path of a
-function, as `load` or `table::load`. The twin is the crate with `type STRUCT = [u8; N]` for each STRUCT, N being its size: there the borrow
-checker covers FN. Its code is kept, every other function gets a stub body, and each clause of a contract becomes a trivial one, since a
-derivation does not depend on what the clauses say. What Rattle makes of the twin's FN is rewritten: what speaks of the array speaks of the
+STRUCT is the path of a struct, as `Slot`, `table::Slot` of a module, or `slots/Slot` of the crate `slots` that CRATE depends on: each file that names
+it has the line `use slots::Slot;`. FN is the path of a function, as `load` or `table::load`. The twin is the crate with `type STRUCT = [u8; N]` for
+each STRUCT, N being its size: there the borrow checker covers FN. Its code is kept, every other function gets a stub body, and each clause of a
+contract becomes a trivial one, since a derivation does not depend on what the clauses say. Crates of which CRATE calls a function that takes or gives
+a STRUCT are twins too, and so are those between. What Rattle makes of the twin's FN is rewritten: what speaks of the array speaks of the
 struct, through the module proofs/STRUCTAs.antt, which is written if it is not there. specs/SPECMODULE.antt defines NAME, a value of the struct,
 for what stands past a slice's end. Written: proofs/FN/Proof/{Lts,Tie}.antt, proofs/Walked/FN/{Kinds,Reads}.antt, and proofs/FN/Proof.antt with a
 hole for each loop's invariant and measure, if it is not there. Run it again, for all FN of the crate, when the code of one changes."""
