@@ -1,0 +1,179 @@
+//! Accepted entries of a wanted length, the same in every run.
+
+use std::fmt::Write;
+
+/// Closed runs in each entry; the HETATM lines behind them are a tenth of the coordinates.
+const RUNS: usize = 8;
+
+/// Names and elements of the atoms of a residue.
+const ATOMS: [(&str, &str); 8] = [
+    (" N  ", " N"),
+    (" CA ", " C"),
+    (" C  ", " C"),
+    (" O  ", " O"),
+    (" CB ", " C"),
+    (" CG ", " C"),
+    (" SD ", " S"),
+    (" H  ", " H"),
+];
+
+/// An entry, and what it is called in the tables.
+pub struct Entry {
+    /// What it is called.
+    pub name: String,
+    /// Its text.
+    pub text: Vec<u8>,
+    /// Its ATOM and HETATM lines.
+    pub atoms: usize,
+}
+
+impl Entry {
+    /// An entry of so many lines, nearly all of them ATOM, HETATM and TER.
+    pub fn of_lines(lines: usize) -> Entry {
+        let remarks = lines / 1_000;
+        let mut writer = Writer::default();
+        writer.head(remarks);
+        writer.coordinates(lines - remarks - 3);
+        writer.finish(format!("{} lines", grouped(lines)))
+    }
+
+    /// An entry of so many atoms and CONECT lines.
+    pub fn with_bonds(atoms: usize, bonds: usize) -> Entry {
+        let mut writer = Writer::default();
+        writer.head(0);
+        writer.coordinates(atoms + RUNS);
+        writer.bonds(bonds);
+        writer.finish(format!("{} atoms, {} CONECT", grouped(atoms), grouped(bonds)))
+    }
+
+    /// Its lines.
+    pub fn lines(&self) -> usize {
+        self.text.len() / 81
+    }
+}
+
+/// A number with commas between thousands.
+pub fn grouped(number: usize) -> String {
+    match number {
+        0..=999 => number.to_string(),
+        _ => format!("{},{:03}", grouped(number / 1_000), number % 1_000),
+    }
+}
+
+#[derive(Default)]
+struct Writer {
+    text: String,
+    chance: Chance,
+    remarks: usize,
+    serial: usize,
+    /// The serials of the atoms.
+    atoms: Vec<usize>,
+    bonds: usize,
+}
+
+impl Writer {
+    fn line(&mut self, columns: &str) {
+        // Writing to a string does not fail.
+        let _ = writeln!(self.text, "{columns:80}");
+    }
+
+    fn head(&mut self, remarks: usize) {
+        self.remarks = remarks;
+        self.line("HEADER    MADE UP FOR THE BENCHMARK");
+        for _ in 0..remarks {
+            self.line("REMARK   2 RESOLUTION.    1.74 ANGSTROMS.");
+        }
+    }
+
+    /// So many ATOM, TER and HETATM lines.
+    fn coordinates(&mut self, lines: usize) {
+        let tail = lines / 10;
+        let closed = lines - tail;
+        for (run, chain) in (b'A'..).map(char::from).take(RUNS).enumerate() {
+            self.run(chain, closed * (run + 1) / RUNS - closed * run / RUNS);
+        }
+        for water in 0..tail {
+            self.atom("HETATM", " O  ", &format!("HOH W{:4}", 1 + water % 9_999), " O");
+        }
+    }
+
+    /// A run of ATOM lines, and its TER.
+    fn run(&mut self, chain: char, lines: usize) {
+        let residue = |atom: usize| format!("MET {chain}{:4}", 1 + atom / ATOMS.len() % 9_999);
+        for atom in 0..lines - 1 {
+            let (name, element) = ATOMS[atom % ATOMS.len()];
+            self.atom("ATOM", name, &residue(atom), element);
+        }
+        self.serial += 1;
+        self.line(&format!("TER   {:5}      {}", self.serial, residue(lines - 2)));
+    }
+
+    fn atom(&mut self, kind: &str, name: &str, residue: &str, element: &str) {
+        self.serial += 1;
+        self.atoms.push(self.serial);
+        let [x, y, z] = [(); 3].map(|()| self.chance.below(300_000) as f64 / 1_000.0 - 100.0);
+        let temperature = self.chance.below(10_000) as f64 / 100.0;
+        let place = format!("{x:8.3}{y:8.3}{z:8.3}  1.00{temperature:6.2}").replace("-0.000", " 0.000");
+        self.line(&format!("{kind:6}{:5} {name} {residue}    {place}          {element}", self.serial));
+    }
+
+    /// So many CONECT lines, each with up to four partners anywhere in the entry.
+    fn bonds(&mut self, bonds: usize) {
+        self.bonds = bonds;
+        for bond in 0..bonds {
+            let atom = bond * self.atoms.len() / bonds;
+            let mut line = format!("CONECT{:5}", self.atoms[atom]);
+            for _ in 0..1 + self.chance.below(4) {
+                let partner = (atom + 1 + self.chance.below(self.atoms.len() - 1)) % self.atoms.len();
+                let _ = write!(line, "{:5}", self.atoms[partner]);
+            }
+            self.line(&line);
+        }
+    }
+
+    fn finish(mut self, name: String) -> Entry {
+        let zeros = "    0".repeat(7);
+        let (remarks, atoms, bonds) = (self.remarks, self.atoms.len(), self.bonds);
+        self.line(&format!("MASTER    {remarks:5}{zeros}{atoms:5}{RUNS:5}{bonds:5}    0"));
+        self.line("END");
+        Entry { name, text: self.text.into_bytes(), atoms }
+    }
+}
+
+/// Numbers that look like chance and are the same in every run.
+#[derive(Default)]
+struct Chance(u64);
+
+impl Chance {
+    /// A number below a limit.
+    fn below(&mut self, limit: usize) -> usize {
+        self.0 = self.0.wrapping_mul(6_364_136_223_846_793_005).wrapping_add(1_442_695_040_888_963_407);
+        (self.0 >> 33) as usize % limit
+    }
+}
+
+#[cfg(test)]
+mod tests {
+    use super::*;
+
+    #[test]
+    fn entries_are_accepted_and_as_long_as_asked() {
+        for lines in [1_000, 10_000, 100_000] {
+            let entry = Entry::of_lines(lines);
+            assert_eq!(entry.lines(), lines);
+            assert_eq!(reference::check(&entry.text).refusal, None);
+        }
+    }
+
+    #[test]
+    fn bonds_are_accepted() {
+        let entry = Entry::with_bonds(60_000, 30_000);
+        let verdict = reference::check(&entry.text);
+        assert_eq!((verdict.refusal, verdict.tally.conect, entry.atoms), (None, 30_000, 60_000));
+    }
+
+    #[test]
+    fn thousands() {
+        assert_eq!([0, 999, 1_000, 1_002_030].map(grouped), ["0", "999", "1,000", "1,002,030"]);
+    }
+}

@@ -1,0 +1,165 @@
+//! The calls that are measured, on the library and on the reference.
+
+use std::hint::black_box;
+
+use station::raw::{station_check, station_frame, station_load, station_order, station_save, station_tray};
+
+/// The fragment that is aside when saving, and the one that orders move.
+const ASIDE: u32 = 2;
+const MOVED: u32 = 3;
+
+/// A call.
+#[derive(Clone, Copy, Debug, PartialEq, Eq)]
+#[allow(missing_docs)]
+pub enum Call {
+    Check,
+    Load,
+    Order,
+    Save,
+    Tray,
+    Frame,
+}
+
+impl Call {
+    /// All of them, in the order of the tables.
+    pub const ALL: [Call; 6] = [Call::Check, Call::Load, Call::Order, Call::Save, Call::Tray, Call::Frame];
+
+    /// Its name in the tables.
+    pub fn name(self) -> String {
+        format!("{self:?}").to_lowercase()
+    }
+}
+
+/// Who answers the calls.
+pub trait Side {
+    /// Makes a call. It has to be granted; an order moves its fragment to where it is not.
+    fn call(&mut self, call: Call);
+}
+
+/// The library, with the memory it is lent.
+pub struct Library<'t> {
+    text: &'t [u8],
+    /// The table, one fragment aside.
+    pub table: Vec<station::Slot>,
+    /// The table that loading fills.
+    pub loaded: Vec<station::Slot>,
+    /// What was written last.
+    pub out: Vec<u8>,
+    /// How many bytes or slots.
+    pub count: u64,
+    /// The last frame.
+    pub frame: [f64; 9],
+    answer: [u64; 12],
+    /// Whether the fragment that orders move is aside.
+    moved: bool,
+}
+
+impl<'t> Library<'t> {
+    /// The library on an accepted text.
+    pub fn on(text: &'t [u8]) -> Library<'t> {
+        let mut table = station::Table::load(text).expect("an accepted entry");
+        table.set_aside(station::FragmentNumber(ASIDE)).expect("a second fragment");
+        let table = table.slots().to_vec();
+        let (loaded, out) = (table.clone(), vec![0; text.len()]);
+        Library { text, table, loaded, out, count: 0, frame: [0.0; 9], answer: [0; 12], moved: false }
+    }
+
+    /// The number that the library answers.
+    fn number(&mut self, call: Call) -> u32 {
+        let Library { text, table, loaded, out, count, frame, answer, moved } = self;
+        let (text, n) = (text.as_ptr(), text.len());
+        let (slots, length) = (table.as_mut_ptr(), table.len());
+        // SAFETY: all memory is as long as said, and no two pieces of it overlap.
+        unsafe {
+            match call {
+                Call::Check => station_check(text, n, answer.as_mut_ptr()),
+                Call::Load => station_load(text, n, loaded.as_mut_ptr(), loaded.len(), count),
+                Call::Order => {
+                    *moved = !*moved;
+                    station_order(text, n, slots, length, MOVED, u8::from(*moved))
+                }
+                Call::Save => station_save(text, n, slots, length, out.as_mut_ptr(), out.len(), count),
+                Call::Tray => station_tray(text, n, slots, length, out.as_mut_ptr(), out.len(), count),
+                Call::Frame => station_frame(slots, length, frame.as_mut_ptr()),
+            }
+        }
+    }
+}
+
+impl Side for Library<'_> {
+    fn call(&mut self, call: Call) {
+        assert_eq!(self.number(call), 0, "{call:?}");
+        black_box(self);
+    }
+}
+
+/// The reference, with the memory it is lent.
+pub struct Reference<'t> {
+    text: &'t [u8],
+    /// The table, one fragment aside.
+    pub table: Vec<reference::Slot>,
+    /// The table that loading fills.
+    pub loaded: Vec<reference::Slot>,
+    /// What was written last.
+    pub out: Vec<u8>,
+    /// How many bytes or slots.
+    pub count: usize,
+    /// The last frame.
+    pub frame: [f64; 9],
+    /// Whether the fragment that orders move is aside.
+    moved: bool,
+}
+
+impl<'t> Reference<'t> {
+    /// The reference on an accepted text.
+    pub fn on(text: &'t [u8]) -> Reference<'t> {
+        let loaded = reference::table::loaded(text).expect("an accepted entry");
+        let mut table = loaded.clone();
+        reference::order(text, &mut table, reference::FragmentNumber(ASIDE), reference::Mark::Aside)
+            .expect("a second fragment");
+        Reference { text, table, loaded, out: vec![0; text.len()], count: 0, frame: [0.0; 9], moved: false }
+    }
+
+    fn number(&mut self, call: Call) -> Result<(), reference::Refusal> {
+        match call {
+            Call::Check => black_box(reference::check(self.text)).accepted()?,
+            Call::Load => self.count = reference::load(self.text, &mut self.loaded)?,
+            Call::Order => {
+                self.moved = !self.moved;
+                let mark = if self.moved { reference::Mark::Aside } else { reference::Mark::In };
+                reference::order(self.text, &mut self.table, reference::FragmentNumber(MOVED), mark)?;
+            }
+            Call::Save => self.count = reference::save(self.text, &self.table, &mut self.out)?,
+            Call::Tray => self.count = reference::tray(self.text, &self.table, &mut self.out)?,
+            Call::Frame => {
+                let reference::Frame { lowest, highest, middle } = reference::frame(&self.table)?;
+                let axis = |index: usize| [lowest, highest, middle][index / 3][index % 3];
+                self.frame = std::array::from_fn(axis);
+            }
+        }
+        Ok(())
+    }
+}
+
+impl Side for Reference<'_> {
+    fn call(&mut self, call: Call) {
+        assert_eq!(self.number(call), Ok(()), "{call:?}");
+        black_box(self);
+    }
+}
+
+/// Makes each call once on both sides and sees to it that they answer alike: only then are their times worth comparing.
+pub fn agree(library: &mut Library, reference: &mut Reference) {
+    for call in Call::ALL {
+        library.call(call);
+        reference.call(call);
+        if matches!(call, Call::Load | Call::Save | Call::Tray) {
+            assert_eq!(library.count, reference.count as u64, "{call:?}");
+            assert!(library.out == reference.out, "{call:?} differs");
+        }
+    }
+    let same = |(a, b): (&station::Slot, &reference::Slot)| (a.serial, a.mark, a.x) == (b.serial, b.mark, b.x);
+    assert!(library.table.iter().zip(&reference.table).all(same));
+    assert!(library.loaded.iter().zip(&reference.loaded).all(same));
+    assert_eq!(library.frame, reference.frame);
+}

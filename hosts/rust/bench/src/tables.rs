@@ -1,0 +1,108 @@
+//! What is measured, as Markdown.
+
+use std::fmt::Write;
+
+use crate::entry::grouped;
+use crate::measure::{Stacks, Times};
+use crate::sides::Call;
+
+/// A granted order may cost so many checks, and a frame so many plain loops.
+const BAR: f64 = 2.0;
+
+/// Each call against the check and the reference.
+pub fn calls(times: &[Times]) -> String {
+    let mut rows = Vec::new();
+    for entry in times {
+        for (call, library, reference) in &entry.calls {
+            let per_line = |time: f64| number(time / entry.lines as f64);
+            rows.push(vec![
+                label(entry),
+                call.name(),
+                per_line(library.0),
+                ratio(Some(library.0), entry.library(Call::Check)),
+                per_line(reference.0),
+                ratio(Some(reference.0), Some(library.0)),
+            ]);
+        }
+    }
+    table(&["Entry", "Call", "ns a line", "/ check", "reference, ns a line", "reference / library"], &rows)
+}
+
+/// The check and the frame against their peers.
+pub fn peers(times: &[Times]) -> String {
+    let row = |entry: &Times| {
+        let per_line = |time: Option<f64>| time.map_or("-".into(), |time| number(time / entry.lines as f64));
+        let check = entry.library(Call::Check);
+        let bytes = Some(entry.byte_loop.0);
+        let gemmi = entry.gemmi.map(|best| best.0);
+        vec![label(entry), per_line(check), per_line(bytes), ratio(check, bytes), per_line(gemmi), ratio(gemmi, check)]
+    };
+    let rows: Vec<_> = times.iter().map(row).collect();
+    table(&["Entry", "check, ns a line", "byte loop", "check / byte loop", "gemmi", "gemmi / check"], &rows)
+}
+
+/// The two ratios that have a bar.
+pub fn bars(times: &[Times]) -> String {
+    let row = |entry: &Times| {
+        let order = ratio(entry.library(Call::Order), entry.library(Call::Check));
+        let plain = entry.plain_frame.0;
+        let frame = ratio(entry.library(Call::Frame), Some(plain));
+        vec![label(entry), order, number(plain / entry.lines as f64), frame]
+    };
+    let order = format!("order / check (at most {BAR})");
+    let frame = format!("frame / plain loop (at most {BAR})");
+    table(&["Entry", &order, "plain loop, ns a line", &frame], &times.iter().map(row).collect::<Vec<_>>())
+}
+
+/// The stack of each call, entry by entry.
+pub fn stacks(stacks: &[Stacks]) -> String {
+    let names = Call::ALL.map(Call::name);
+    let head: Vec<&str> = ["Stack, bytes"].into_iter().chain(names.iter().map(String::as_str)).collect();
+    let bytes = |used: Option<usize>| used.map_or("-".into(), grouped);
+    let row = |entry: &Stacks| [entry.name.clone()].into_iter().chain(entry.used.map(bytes)).collect();
+    table(&head, &stacks.iter().map(row).collect::<Vec<_>>())
+}
+
+/// An entry with its size.
+fn label(entry: &Times) -> String {
+    format!("{}, {} kB", entry.name, grouped(entry.bytes / 1_000))
+}
+
+/// A ratio of two times, `-` where one was not taken.
+fn ratio(time: Option<f64>, to: Option<f64>) -> String {
+    match (time, to) {
+        (Some(time), Some(to)) => format!("{:.2}", time / to),
+        _ => "-".into(),
+    }
+}
+
+/// Nanoseconds, with a decimal where they are few.
+fn number(time: f64) -> String {
+    if time < 20.0 {
+        format!("{time:.1}")
+    } else {
+        format!("{time:.0}")
+    }
+}
+
+fn table(head: &[&str], rows: &[Vec<String>]) -> String {
+    let mut text = format!("| {} |\n|{}\n", head.join(" | "), "---|".repeat(head.len()));
+    for row in rows {
+        // Writing to a string does not fail.
+        let _ = writeln!(text, "| {} |", row.join(" | "));
+    }
+    text
+}
+
+#[cfg(test)]
+mod tests {
+    use super::*;
+
+    #[test]
+    fn a_table() {
+        assert_eq!(table(&["a", "b"], &[vec!["1".into(), "2".into()]]), "| a | b |\n|---|---|\n| 1 | 2 |\n");
+        assert_eq!(ratio(Some(3.0), Some(2.0)), "1.50");
+        assert_eq!(ratio(None, Some(2.0)), "-");
+        assert_eq!([1.26, 123.4].map(number), ["1.3", "123"]);
+    }
+}
