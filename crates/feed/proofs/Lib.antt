@@ -1,6 +1,5 @@
 -- What is shown of the definitions, and what the proofs of several functions use.
 pub mod Alike
-pub mod Examples
 pub mod Exactness
 pub mod Order
 mod Returns

@@ -5,4 +5,3 @@ pub mod Halving
 pub mod Sofar
 pub mod Runs
 pub mod Consequences
-pub mod Examples

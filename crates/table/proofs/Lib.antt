@@ -22,4 +22,3 @@ pub mod Granted
 pub mod Again
 pub mod Lost
 pub mod Refused
-pub mod Examples

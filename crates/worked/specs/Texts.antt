@@ -1,0 +1,129 @@
+-- The lines, texts and slots of the worked examples.
+use Prim.Native.Nat.{ℕ, _-_}
+use Prim.Native.String.{String}
+use mathlib.Core.List.{List, [], _∷_, _++_}
+use lib.IntN.{ℤ, pos, negsuc}
+use lib.ListN.{length}
+use Rattle.ascii.specs.Bytes.{byte, bytes}
+use Rattle.columns.specs.Columns.{blanks}
+use Rattle.fields.specs.declared.Whole.{Whole}
+use Rattle.fields.specs.declared.Signed.{Signed}
+use Rattle.fields.specs.Field.{wholeOf, integerOf}
+use Rattle.coordinate.specs.declared.Atom.{Atom}
+use Rattle.slots.specs.declared.Slot.{Slot}
+use Rattle.slots.specs.Slots.{atomKind, markIn, noSlot}
+
+-- ---- fields by themselves
+-- Real(8.3), in thousandths
+abbrev pub coordinate : String → Signed
+coordinate t = integerOf 8 4 (bytes t) 0
+
+-- Real(6.2) from 0.00 to 1.00, in hundredths
+abbrev pub occupancy : String → Whole
+occupancy t = wholeOf 6 3 0 100 (bytes t) 0
+
+abbrev pub serial : String → Whole
+serial t = wholeOf 5 0 1 99999 (bytes t) 0
+
+-- ---- one line
+unfoldable pub atomLine : List ℕ
+atomLine = bytes "ATOM     32  N  AARG A  -3      11.281  86.699  94.383  0.50 35.88           N  "
+
+-- x 11281, occupancy 50, number -3
+unfoldable pub atomRecord : Atom
+atomRecord =
+    record {
+      identity =
+          record {
+            serial = record { 0 = 32 };
+            name = record { a = byte " "; b = byte "N"; c = byte " "; d = byte " " };
+            alternate = byte "A";
+            residue =
+                record {
+                  name = record { a = byte "A"; b = byte "R"; c = byte "G" };
+                  chain = byte "A";
+                  number = record { 0 = negsuc 2 };
+                  insertion = byte " ";
+                };
+          };
+      measure = record { position = record { x = pos 11281; y = pos 86699; z = pos 94383 }; occupancy = 50; temperature = pos 3588 };
+      species = record { element = record { a = byte " "; b = byte "N" }; charge = record { a = byte " "; b = byte " " } };
+    }
+
+-- ---- texts
+-- lines, each filled up with blanks to 80 columns and closed by a newline
+abbrev pub textOf : List String → List ℕ
+textOf [] = []
+textOf (s ∷ ss) = (bytes s ++ (blanks (80 - length (bytes s)) ++ (byte "\n" ∷ []))) ++ textOf ss
+
+-- the shortest entry, and the same with one byte after END
+unfoldable pub shortest : List ℕ
+shortest =
+    textOf
+    ("HEADER"
+    ∷ "MASTER        0    0    0    0    0    0    0    0    0    0    0    0"
+    ∷ "END"
+    ∷ [])
+
+unfoldable pub beyond : List ℕ
+beyond = shortest ++ (byte " " ∷ [])
+
+-- two ATOM lines with serial 5
+unfoldable pub twice : List ℕ
+twice =
+    textOf
+    ("HEADER"
+    ∷ "ATOM      5  N   ARG A   1      11.281  86.699  94.383  0.50 35.88           N"
+    ∷ "ATOM      5  CA  ARG A   1      11.281  86.699  94.383  0.50 35.88           C"
+    ∷ [])
+
+-- a chain of one atom, closed, and two waters
+abbrev pub chain : String
+chain = "ATOM      1  N   ARG A   1      11.281  86.699  94.383  0.50 35.88           N"
+
+abbrev pub close : String
+close = "TER       2      ARG A   1"
+
+abbrev pub water7 : String
+water7 = "HETATM    3  O   HOH B   7      11.281  86.699  94.383  1.00 35.88           O"
+
+abbrev pub water8 : String
+water8 = "HETATM    4  O   HOH B   8      12.281  86.699  94.383  1.00 35.88           O"
+
+unfoldable pub entry : List ℕ
+entry = textOf ("HEADER" ∷ chain ∷ close ∷ water7 ∷ water8 ∷ "MASTER        0    0    0    0    0    0    0    0    3    1    0    0" ∷ "END" ∷ [])
+
+-- the same without the first water: one coordinate line fewer, and MASTER says so
+unfoldable pub rest : List ℕ
+rest = textOf ("HEADER" ∷ chain ∷ close ∷ water8 ∷ "MASTER        0    0    0    0    0    0    0    0    2    1    0    0" ∷ "END" ∷ [])
+
+-- two waters with a bond between them, and what is left without the first
+abbrev pub bond : String
+bond = "CONECT    3    4"
+
+unfoldable pub bonded : List ℕ
+bonded = textOf ("HEADER" ∷ water7 ∷ water8 ∷ bond ∷ "MASTER        0    0    0    0    0    0    0    0    2    0    1    0" ∷ "END" ∷ [])
+
+unfoldable pub single : List ℕ
+single = textOf ("HEADER" ∷ water8 ∷ "MASTER        0    0    0    0    0    0    0    0    1    0    0    0" ∷ "END" ∷ [])
+
+-- ---- slots
+-- an atom that is in, at some thousandths
+abbrev pub slotAt : ℤ → ℤ → ℤ → Slot
+slotAt x y z =
+    record {
+      serial = noSlot .serial;
+      number = noSlot .number;
+      position = record { x = x; y = y; z = z };
+      occupancy = noSlot .occupancy;
+      temperature = noSlot .temperature;
+      kind = atomKind;
+      mark = markIn;
+      name = noSlot .name;
+      alternate = noSlot .alternate;
+      residue = noSlot .residue;
+      chain = noSlot .chain;
+      insertion = noSlot .insertion;
+      element = noSlot .element;
+      charge = noSlot .charge;
+    }
