@@ -1,3 +1,4 @@
+mod Others
 pub mod Cut
 pub mod Rows
 pub mod Block

@@ -102,15 +102,10 @@ const END_PLACE: u8 = 21;
 fn is_atom(n: u32, r: Record) -> bool
     ensures { λ b. ⌜ b ≡ isAtom n r ⌝ }
 {
-    match r {
-        Record::Coordinate(_, a) => has_serial(a, n),
-        Record::Ter(_) => false,
-        Record::Helix(_) => false,
-        Record::Sheet(_) => false,
-        Record::Conect(_) => false,
-        Record::Master(_) => false,
-        Record::End => false,
+    if let Record::Coordinate(_, a) = r {
+        return has_serial(a, n);
     }
+    false
 }
 
 fn has_serial(a: Atom, n: u32) -> bool
@@ -125,12 +120,10 @@ fn has_serial(a: Atom, n: u32) -> bool
 fn is_site(n: u32, l: Line) -> bool
     ensures { λ b. ⌜ b ≡ isSite n l ⌝ }
 {
-    match l {
-        Line::Bad(_) => false,
-        Line::Wrong(_, _) => false,
-        Line::Carried(_) => false,
-        Line::Typed(r) => is_atom(n, r),
+    if let Line::Typed(r) = l {
+        return is_atom(n, r);
     }
+    false
 }
 
 // The serial in columns 7-11 of line i.
@@ -226,15 +219,10 @@ fn record_known(text: &[u8], b: Span, r: Record) -> bool
     requires { ⌜ Rising (now text) (b .lo) (b .hi) ⌝ }
     ensures { λ k. ⌜ ((n : ℕ) (s : StateOf) → Block (row (now (text .entry))) n b s → k ≡ recordKnown (down (row (now (text .entry))) n) r) ⌝ }
 {
-    match r {
-        Record::Coordinate(_, _) => true,
-        Record::Ter(_) => true,
-        Record::Helix(_) => true,
-        Record::Sheet(_) => true,
-        Record::Conect(c) => conect_known(text, b, c),
-        Record::Master(_) => true,
-        Record::End => true,
+    if let Record::Conect(c) = r {
+        return conect_known(text, b, c);
     }
+    true
 }
 
 // Whether each number on a CONECT line is the serial of an ATOM or HETATM line so far.
@@ -242,25 +230,18 @@ pub fn known(text: &[u8], b: Span, l: Line) -> bool
     requires { ⌜ Rising (now text) (b .lo) (b .hi) ⌝ }
     ensures { λ k. ⌜ ((n : ℕ) (s : StateOf) → Block (row (now (text .entry))) n b s → k ≡ knownOf (down (row (now (text .entry))) n) l) ⌝ }
 {
-    match l {
-        Line::Bad(_) => true,
-        Line::Wrong(_, _) => true,
-        Line::Carried(_) => true,
-        Line::Typed(r) => record_known(text, b, r),
+    if let Line::Typed(r) = l {
+        return record_known(text, b, r);
     }
+    true
 }
 
 fn is_spot(r: Record) -> bool
     ensures { λ b. ⌜ b ≡ isSpot r ⌝ }
 {
     match r {
-        Record::Coordinate(_, _) => true,
-        Record::Ter(_) => true,
-        Record::Helix(_) => false,
-        Record::Sheet(_) => false,
-        Record::Conect(_) => false,
-        Record::Master(_) => false,
-        Record::End => false,
+        Record::Coordinate(_, _) | Record::Ter(_) => true,
+        _ => false,
     }
 }
 
@@ -268,12 +249,10 @@ fn is_spot(r: Record) -> bool
 pub fn is_coord(l: Line) -> bool
     ensures { λ b. ⌜ b ≡ isCoord l ⌝ }
 {
-    match l {
-        Line::Bad(_) => false,
-        Line::Wrong(_, _) => false,
-        Line::Carried(_) => false,
-        Line::Typed(r) => is_spot(r),
+    if let Line::Typed(r) = l {
+        return is_spot(r);
     }
+    false
 }
 
 // The block with line n taken in.

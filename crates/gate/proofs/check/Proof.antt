@@ -14,7 +14,7 @@ abbrev μ-loop : tie.MeasureT-loop
 μ-loop text i₀ s₀ b₀ i s b = length text - 81 * i
 
 start-requires : tie.Need-start-requires Inv-loop μ-loop
-start-requires c κs = search needs
+start-requires c κs = tt
 
 loop-holds : tie.Need-loop-holds Inv-loop μ-loop
 loop-holds c = rw (c .start .ensures) (sofar-start _)
@@ -29,7 +29,7 @@ known-requires : tie.Need-known-requires Inv-loop μ-loop
 known-requires c κs = sofar-rising _ _ _ _ (c .before .before .loop .inv)
 
 judge-requires : tie.Need-judge-requires Inv-loop μ-loop
-judge-requires c κs = search needs
+judge-requires c κs = tt
 
 refused-requires : tie.Need-refused-requires Inv-loop μ-loop
 refused-requires c κs = omega arith

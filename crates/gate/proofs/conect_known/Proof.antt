@@ -1,34 +1,33 @@
 use Rattle.gate.proofs.Halving.{conect-known}
-use borrow.Author.Needs.{needs}
 use Rattle.gate.proofs.conect_known.Statement.{statement}
 use Rattle.gate.proofs.conect_known.Tie as tie
 
 spoken-requires : tie.Need-spoken-requires
-spoken-requires c κs = search needs
+spoken-requires c κs = c .before .before .before .before .before .before .pre
 
 partner-spoken-requires : tie.Need-partner-spoken-requires
-partner-spoken-requires c κs = search needs
+partner-spoken-requires c κs = c .before .before .before .before .before .before .before .pre
 
 partner-spoken-requires-2 : tie.Need-partner-spoken-requires-2
-partner-spoken-requires-2 c κs = search needs
+partner-spoken-requires-2 c κs = c .before .before .before .before .before .before .before .before .pre
 
 partner-spoken-requires-3 : tie.Need-partner-spoken-requires-3
-partner-spoken-requires-3 c κs = search needs
+partner-spoken-requires-3 c κs = c .before .before .before .before .before .before .before .before .before .pre
 
 partner-spoken-requires-4 : tie.Need-partner-spoken-requires-4
-partner-spoken-requires-4 c κs = search needs
+partner-spoken-requires-4 c κs = c .before .before .before .before .before .before .before .before .before .before .pre
 
 and-of-requires : tie.Need-and-of-requires
-and-of-requires c κs = search needs
+and-of-requires c κs = tt
 
 and-of-requires-2 : tie.Need-and-of-requires-2
-and-of-requires-2 c κs = search needs
+and-of-requires-2 c κs = tt
 
 and-of-requires-3 : tie.Need-and-of-requires-3
-and-of-requires-3 c κs = search needs
+and-of-requires-3 c κs = tt
 
 and-of-requires-4 : tie.Need-and-of-requires-4
-and-of-requires-4 c κs = search needs
+and-of-requires-4 c κs = tt
 
 returns : tie.Need-returns
 returns c n s B = conect-known _ (c .before .before .before .before .before .before .before .before .before .before .before .before .before .before .before .args .c) _ _ _ _ _ _ _ _ _ (c .before .before .before .before .before .before .before .before .spoken .ensures n s B) (c .before .before .before .before .before .before .before .partner-spoken .ensures n s B) (c .before .before .before .before .before .before .partner-spoken2 .ensures n s B) (c .before .before .before .before .before .partner-spoken3 .ensures n s B) (c .before .before .before .before .partner-spoken4 .ensures n s B) (c .before .before .before .and-of .ensures) (c .before .before .and-of2 .ensures) (c .before .and-of3 .ensures) (c .and-of4 .ensures)

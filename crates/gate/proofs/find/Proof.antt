@@ -7,13 +7,13 @@ use Rattle.gate.proofs.find.Statement.{statement}
 use Rattle.gate.proofs.find.Tie as tie
 
 lower-requires : tie.Need-lower-requires
-lower-requires c κs = search needs
+lower-requires c κs = c .before .pre
 
 line-at-requires : tie.Need-line-at-requires
 line-at-requires c κs = search needs
 
 is-site-requires : tie.Need-is-site-requires
-is-site-requires c κs = search needs
+is-site-requires c κs = tt
 
 returns : tie.Need-returns
 returns c = finds-at (row (c .before .before .before .before .before .args .text .now)) _ _ _ _ (c .before .before .before .before .before .pre .rise) (c .before .before .before .lower .ensures) (c .before .before .if1 .taken) _ (ap (isSite (c .before .before .before .before .before .args .x)) (sym (c .before .line-at .ensures)) ∙ sym (c .is-site .ensures))

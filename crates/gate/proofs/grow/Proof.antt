@@ -4,7 +4,7 @@ use Rattle.gate.proofs.grow.Statement.{statement}
 use Rattle.gate.proofs.grow.Tie as tie
 
 is-coord-requires : tie.Need-is-coord-requires
-is-coord-requires c κs = search needs
+is-coord-requires c κs = tt
 
 add-t10 : tie.Need-add-t10
 add-t10 c = search needs

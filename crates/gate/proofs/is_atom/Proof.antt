@@ -1,68 +1,18 @@
-use borrow.Author.Needs.{needs}
+use Rattle.gate.proofs.Others.{atom-others}
 use Rattle.gate.proofs.is_atom.Statement.{statement}
 use Rattle.gate.proofs.is_atom.Tie as tie
 
 enum-known-r : tie.Need-enum-known-r
-enum-known-r c = search needs
+enum-known-r c = c .match .keys1
 
 has-serial-requires : tie.Need-has-serial-requires
-has-serial-requires c κs = search needs
-
-enum-told : tie.Need-enum-told
-enum-told c = search needs
-
-enum-told-2 : tie.Need-enum-told-2
-enum-told-2 c = search needs
-
-enum-told-3 : tie.Need-enum-told-3
-enum-told-3 c = search needs
-
-enum-told-4 : tie.Need-enum-told-4
-enum-told-4 c = search needs
-
-enum-told-5 : tie.Need-enum-told-5
-enum-told-5 c = search needs
-
-enum-told-6 : tie.Need-enum-told-6
-enum-told-6 c = search needs
+has-serial-requires c κs = tt
 
 returns : tie.Need-returns
 returns c = rw (c .before .before .r .given .1) (c .has-serial .ensures)
 
 returns-2 : tie.Need-returns-2
-returns-2 c = search needs
-
-returns-3 : tie.Need-returns-3
-returns-3 c = search needs
-
-returns-4 : tie.Need-returns-4
-returns-4 c = search needs
-
-returns-5 : tie.Need-returns-5
-returns-5 c = search needs
-
-returns-6 : tie.Need-returns-6
-returns-6 c = search needs
-
-returns-7 : tie.Need-returns-7
-returns-7 c = search needs
+returns-2 c = rw (atom-others (c .before .args .n) (c .before .args .r) (c .match .keys2))
 
 pub is-atom-spec : {M : Type 1} → statement M
-is-atom-spec =
-    tie.close
-    (tie.spec
-    enum-known-r
-    has-serial-requires
-    enum-told
-    enum-told-2
-    enum-told-3
-    enum-told-4
-    enum-told-5
-    enum-told-6
-    returns
-    returns-2
-    returns-3
-    returns-4
-    returns-5
-    returns-6
-    returns-7)
+is-atom-spec = tie.close (tie.spec enum-known-r has-serial-requires returns returns-2)

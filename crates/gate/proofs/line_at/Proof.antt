@@ -23,7 +23,7 @@ part-line-of-end : tie.Need-part-line-of-end
 part-line-of-end c = search needs
 
 line-of-requires : tie.Need-line-of-requires
-line-of-requires c κs = search needs
+line-of-requires c κs = tt
 
 add-e : tie.Need-add-e
 add-e c = search needs
@@ -38,7 +38,7 @@ part-line-of-end-2 : tie.Need-part-line-of-end-2
 part-line-of-end-2 c = search needs
 
 line-of-requires-2 : tie.Need-line-of-requires-2
-line-of-requires-2 c κs = search needs
+line-of-requires-2 c κs = tt
 
 returns : tie.Need-returns
 unfolding row

@@ -1,68 +1,18 @@
-use borrow.Author.Needs.{needs}
+use Rattle.gate.proofs.Others.{record-others}
 use Rattle.gate.proofs.record_known.Statement.{statement}
 use Rattle.gate.proofs.record_known.Tie as tie
 
-enum-told : tie.Need-enum-told
-enum-told c = search needs
-
-enum-told-2 : tie.Need-enum-told-2
-enum-told-2 c = search needs
-
-enum-told-3 : tie.Need-enum-told-3
-enum-told-3 c = search needs
-
-enum-told-4 : tie.Need-enum-told-4
-enum-told-4 c = search needs
-
 enum-known-r : tie.Need-enum-known-r
-enum-known-r c = search needs
+enum-known-r c = c .match .keys1
 
 conect-known-requires : tie.Need-conect-known-requires
-conect-known-requires c κs = search needs
-
-enum-told-5 : tie.Need-enum-told-5
-enum-told-5 c = search needs
-
-enum-told-6 : tie.Need-enum-told-6
-enum-told-6 c = search needs
+conect-known-requires c κs = c .before .before .before .before .pre
 
 returns : tie.Need-returns
-returns c n s B = rw (c .enum-told .given .1)
+returns c n s B = rw (c .before .before .r .given .1) (c .conect-known .ensures n s B)
 
 returns-2 : tie.Need-returns-2
-returns-2 c n s B = rw (c .enum-told2 .given .1)
-
-returns-3 : tie.Need-returns-3
-returns-3 c n s B = rw (c .enum-told3 .given .1)
-
-returns-4 : tie.Need-returns-4
-returns-4 c n s B = rw (c .enum-told4 .given .1)
-
-returns-5 : tie.Need-returns-5
-returns-5 c n s B = rw (c .before .before .r .given .1) (c .conect-known .ensures n s B)
-
-returns-6 : tie.Need-returns-6
-returns-6 c n s B = rw (c .enum-told5 .given .1)
-
-returns-7 : tie.Need-returns-7
-returns-7 c n s B = rw (c .enum-told6 .given .1)
+returns-2 c n s B = rw (record-others _ (c .before .before .args .r) (c .match .keys2))
 
 pub record-known-spec : {M : Type 1} → statement M
-record-known-spec =
-    tie.close
-    (tie.spec
-    enum-told
-    enum-told-2
-    enum-told-3
-    enum-told-4
-    enum-known-r
-    conect-known-requires
-    enum-told-5
-    enum-told-6
-    returns
-    returns-2
-    returns-3
-    returns-4
-    returns-5
-    returns-6
-    returns-7)
+record-known-spec = tie.close (tie.spec enum-known-r conect-known-requires returns returns-2)

@@ -1,11 +1,10 @@
 use Rattle.gate.specs.Text.{row}
 use Rattle.gate.proofs.Halving.{spoken-known}
-use borrow.Author.Needs.{needs}
 use Rattle.gate.proofs.spoken.Statement.{statement}
 use Rattle.gate.proofs.spoken.Tie as tie
 
 find-requires : tie.Need-find-requires
-find-requires c κs = search needs
+find-requires c κs = c .before .pre
 
 returns : tie.Need-returns
 returns c n s B = spoken-known (row (c .before .before .args .text .now)) n (c .before .before .args .b) s _ _ (c .find .ensures) B
