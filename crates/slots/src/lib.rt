@@ -93,34 +93,8 @@ pub fn has_slot(k: Kind) -> bool
     ensures { λ r. ⌜ r ≡ hasSlot k ⌝ }
 {
     match k {
-        Kind::Header => false,
-        Kind::Title => false,
-        Kind::Compnd => false,
-        Kind::Source => false,
-        Kind::Keywds => false,
-        Kind::Expdta => false,
-        Kind::Author => false,
-        Kind::Revdat => false,
-        Kind::Jrnl => false,
-        Kind::Remark => false,
-        Kind::Seqres => false,
-        Kind::Het => false,
-        Kind::Helix => false,
-        Kind::Sheet => false,
-        Kind::Cryst1 => false,
-        Kind::Origx1 => false,
-        Kind::Origx2 => false,
-        Kind::Origx3 => false,
-        Kind::Scale1 => false,
-        Kind::Scale2 => false,
-        Kind::Scale3 => false,
-        Kind::Atom => true,
-        Kind::Hetatm => true,
-        Kind::Ter => true,
-        Kind::Conect => false,
-        Kind::Master => false,
-        Kind::End => false,
-        Kind::Unknown => false,
+        Kind::Atom | Kind::Hetatm | Kind::Ter => true,
+        _ => false,
     }
 }
 
@@ -140,14 +114,11 @@ fn filling_of(r: Record) -> Filling
     ensures { λ f. ⌜ f ≡ fillingOf r ⌝ }
 {
     match r {
-        Record::Coordinate(het, a) => Filling::Filled(slot_of_atom(het, a)),
-        Record::Ter(t) => Filling::Filled(slot_of_ter(t)),
-        Record::Helix(_) => Filling::Refused(4),
-        Record::Sheet(_) => Filling::Refused(4),
-        Record::Conect(_) => Filling::Refused(4),
-        Record::Master(_) => Filling::Refused(4),
-        Record::End => Filling::Refused(4),
+        Record::Coordinate(het, a) => return Filling::Filled(slot_of_atom(het, a)),
+        Record::Ter(t) => return Filling::Filled(slot_of_ter(t)),
+        _ => (),
     }
+    Filling::Refused(4)
 }
 
 fn slot_of_atom(het: bool, a: Atom) -> Slot
@@ -259,14 +230,11 @@ fn record_slot(r: Record) -> Slot
     ensures { λ s. ⌜ s ≡ recordSlot r ⌝ }
 {
     match r {
-        Record::Coordinate(het, a) => slot_of_atom(het, a),
-        Record::Ter(t) => slot_of_ter(t),
-        Record::Helix(_) => no_slot(),
-        Record::Sheet(_) => no_slot(),
-        Record::Conect(_) => no_slot(),
-        Record::Master(_) => no_slot(),
-        Record::End => no_slot(),
+        Record::Coordinate(het, a) => return slot_of_atom(het, a),
+        Record::Ter(t) => return slot_of_ter(t),
+        _ => (),
     }
+    no_slot()
 }
 
 // The slot of a line of a text.
@@ -274,12 +242,10 @@ pub fn line_slot(l: Line) -> Slot
     requires { ⌜ SmallLine l ⌝ }
     ensures { λ s. ⌜ s ≡ lineSlot l ⌝ }
 {
-    match l {
-        Line::Bad(_) => no_slot(),
-        Line::Wrong(_, _) => no_slot(),
-        Line::Carried(_) => no_slot(),
-        Line::Typed(r) => record_slot(r),
+    if let Line::Typed(r) = l {
+        return record_slot(r);
     }
+    no_slot()
 }
 
 fn same_integer(a: i32, b: i32) -> bool
