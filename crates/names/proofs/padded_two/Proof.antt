@@ -1,36 +1,35 @@
-use borrow.Author.Needs.{needs}
 use Rattle.names.proofs.padded_two.Statement.{statement}
 use Rattle.names.proofs.padded_two.Tie as tie
 
 is-name-byte-requires : tie.Need-is-name-byte-requires
-is-name-byte-requires c κs = search needs
+is-name-byte-requires c κs = tt
 
 is-name-byte-requires-2 : tie.Need-is-name-byte-requires-2
-is-name-byte-requires-2 c κs = search needs
+is-name-byte-requires-2 c κs = tt
 
 is-blank-requires : tie.Need-is-blank-requires
-is-blank-requires c κs = search needs
+is-blank-requires c κs = tt
 
 either-of-requires : tie.Need-either-of-requires
-either-of-requires c κs = search needs
+either-of-requires c κs = tt
 
 both-of-requires : tie.Need-both-of-requires
-both-of-requires c κs = search needs
+both-of-requires c κs = tt
 
 is-blank-requires-2 : tie.Need-is-blank-requires-2
-is-blank-requires-2 c κs = search needs
+is-blank-requires-2 c κs = tt
 
 is-blank-requires-3 : tie.Need-is-blank-requires-3
-is-blank-requires-3 c κs = search needs
+is-blank-requires-3 c κs = tt
 
 both-of-requires-2 : tie.Need-both-of-requires-2
-both-of-requires-2 c κs = search needs
+both-of-requires-2 c κs = tt
 
 either-of-requires-2 : tie.Need-either-of-requires-2
-either-of-requires-2 c κs = search needs
+either-of-requires-2 c κs = tt
 
 returns : tie.Need-returns
-returns c = cc
+returns c = rw (c .either-of2 .ensures, c .before .both-of2 .ensures, c .before .before .is-blank3 .ensures, c .before .before .before .is-blank2 .ensures, c .before .before .before .before .both-of .ensures, c .before .before .before .before .before .either-of .ensures, c .before .before .before .before .before .before .is-blank .ensures, c .before .before .before .before .before .before .before .is-name-byte2 .ensures, c .before .before .before .before .before .before .before .before .is-name-byte .ensures)
 
 pub padded-two-spec : {M : Type 1} → statement M
 padded-two-spec =
