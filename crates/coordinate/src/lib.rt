@@ -175,9 +175,7 @@ pub fn read_atom(line: &[u8]) -> ReadAtom
     let w = identity.value;
     let s = measure.value;
     let t = species.value;
-    let name = w.name;
-    let element = t.element;
-    let k = columns::judged(leads(name, element), 76);
+    let k = columns::judged(leads(w.name, t.element), 76);
     let fields = columns::first(
         identity.column,
         columns::first(
@@ -209,20 +207,17 @@ fn identity_is_good(w: Identity) -> bool
     ensures { λ r. ⌜ r ≡ identityOk w ⌝ }
 {
     let serial = w.serial;
-    let name = w.name;
-    let place = w.residue;
     let a = fields::ranged(serial.0, 1, 99999);
-    let b = names::is_atom_name(name);
+    let b = names::is_atom_name(w.name);
     let c = names::is_alternate(w.alternate);
-    let d = residue::is_good(place);
+    let d = residue::is_good(w.residue);
     ascii::both_of(a, ascii::both_of(b, ascii::both_of(c, d)))
 }
 
 fn measure_is_good(s: Measure) -> bool
     ensures { λ r. ⌜ r ≡ measureOk s ⌝ }
 {
-    let p = s.position;
-    let a = position_is_good(p);
+    let a = position_is_good(s.position);
     let b = fields::ranged(s.occupancy, 0, 100);
     let c = fields::spans(s.temperature, 9999, 99999);
     ascii::both_of(a, ascii::both_of(b, c))
@@ -231,23 +226,18 @@ fn measure_is_good(s: Measure) -> bool
 fn species_is_good(t: Species) -> bool
     ensures { λ r. ⌜ r ≡ speciesOk t ⌝ }
 {
-    let e = t.element;
-    let c = t.charge;
-    ascii::both_of(elements::is_element(e), names::is_charge(c))
+    ascii::both_of(elements::is_element(t.element), names::is_charge(t.charge))
 }
 
 pub fn is_good(a: Atom) -> bool
     ensures { λ r. ⌜ r ≡ atomOk a ⌝ }
 {
     let w = a.identity;
-    let s = a.measure;
     let t = a.species;
-    let name = w.name;
-    let element = t.element;
     let p = identity_is_good(w);
-    let q = measure_is_good(s);
+    let q = measure_is_good(a.measure);
     let r = species_is_good(t);
-    let k = leads(name, element);
+    let k = leads(w.name, t.element);
     ascii::both_of(ascii::both_of(p, ascii::both_of(q, r)), k)
 }
 
@@ -265,21 +255,18 @@ fn put_identity(line: &mut [u8], w: Identity)
     ensures { λ _. ⌜ Put (now (line .entry)) 6 21 (identityText w) (now (line .exit)) ⌝ }
 {
     let serial = w.serial;
-    let name = w.name;
-    let place = w.residue;
     fields::put_whole(line, 6, 5, 0, serial.0);
     columns::put_blanks(line, 11, 1);
-    names::put_four(line, 12, name);
+    names::put_four(line, 12, w.name);
     columns::put_one(line, 16, w.alternate);
-    residue::put_residue(line, 17, 0, place);
+    residue::put_residue(line, 17, 0, w.residue);
 }
 
 fn put_measure(line: &mut [u8], s: Measure)
     requires { ⌜ 80 ≤ length (now line) ⌝ }
     ensures { λ _. ⌜ Put (now (line .entry)) 30 36 (measureText s) (now (line .exit)) ⌝ }
 {
-    let p = s.position;
-    put_position(line, p);
+    put_position(line, s.position);
     fields::put_whole(line, 54, 6, 3, s.occupancy);
     fields::put_integer(line, 60, 6, 3, s.temperature);
 }
@@ -288,10 +275,8 @@ fn put_species(line: &mut [u8], t: Species)
     requires { ⌜ 80 ≤ length (now line) ⌝ }
     ensures { λ _. ⌜ Put (now (line .entry)) 76 4 (speciesText t) (now (line .exit)) ⌝ }
 {
-    let e = t.element;
-    let c = t.charge;
-    names::put_pair(line, 76, e);
-    names::put_pair(line, 78, c);
+    names::put_pair(line, 76, t.element);
+    names::put_pair(line, 78, t.charge);
 }
 
 // The name of the line.
@@ -310,15 +295,12 @@ fn put_atom(line: &mut [u8], het: bool, a: Atom)
     requires { ⌜ 80 ≤ length (now line) ⌝ }
     ensures { λ _. ⌜ Put (now (line .entry)) 0 80 (atomLine het a) (now (line .exit)) ⌝ }
 {
-    let w = a.identity;
-    let s = a.measure;
-    let t = a.species;
     put_kind(line, het);
-    put_identity(line, w);
+    put_identity(line, a.identity);
     columns::put_blanks(line, 27, 3);
-    put_measure(line, s);
+    put_measure(line, a.measure);
     columns::put_blanks(line, 66, 10);
-    put_species(line, t);
+    put_species(line, a.species);
 }
 
 // Writes the line, 80 bytes: 0; or leaves all as found: 6 where a field is out of its range, 17 where there is no room.

@@ -133,11 +133,10 @@ pub fn read_helix(line: &[u8]) -> ReadHelix
 fn extent_is_good(e: Extent) -> bool
     ensures { λ r. ⌜ r ≡ extentOk e ⌝ }
 {
-    let id = e.id;
     let first = e.first;
     let last = e.last;
     let a = fields::ranged(e.serial, 1, 999);
-    let b = names::is_identifier(id);
+    let b = names::is_identifier(e.id);
     let c = residue::is_good(first);
     let d = residue::is_good(last);
     let fields = ascii::both_of(a, ascii::both_of(b, ascii::both_of(c, d)));
@@ -158,11 +157,9 @@ fn comment_is_good(c: Comment) -> bool
 pub fn is_good(h: Helix) -> bool
     ensures { λ r. ⌜ r ≡ helixOk h ⌝ }
 {
-    let extent = h.extent;
-    let comment = h.comment;
-    let a = extent_is_good(extent);
+    let a = extent_is_good(h.extent);
     let b = fields::ranged(h.class, 1, 10);
-    let c = comment_is_good(comment);
+    let c = comment_is_good(h.comment);
     let d = fields::ranged(h.length, 1, 99999);
     ascii::both_of(
         a,
@@ -174,17 +171,14 @@ fn put_extent(line: &mut [u8], e: Extent)
     requires { ⌜ 80 ≤ length (now line) ⌝ }
     ensures { λ _. ⌜ Put (now (line .entry)) 6 32 (extentText e) (now (line .exit)) ⌝ }
 {
-    let id = e.id;
-    let first = e.first;
-    let last = e.last;
     columns::put_blanks(line, 6, 1);
     fields::put_whole(line, 7, 3, 0, e.serial);
     columns::put_blanks(line, 10, 1);
-    names::put_three(line, 11, id);
+    names::put_three(line, 11, e.id);
     columns::put_blanks(line, 14, 1);
-    residue::put_residue(line, 15, 1, first);
+    residue::put_residue(line, 15, 1, e.first);
     columns::put_blanks(line, 26, 1);
-    residue::put_residue(line, 27, 1, last);
+    residue::put_residue(line, 27, 1, e.last);
 }
 
 fn put_comment(line: &mut [u8], c: Comment)
@@ -201,12 +195,10 @@ fn put_helix(line: &mut [u8], h: Helix)
     requires { ⌜ 80 ≤ length (now line) ⌝ }
     ensures { λ _. ⌜ Put (now (line .entry)) 0 80 (helixLine h) (now (line .exit)) ⌝ }
 {
-    let extent = h.extent;
-    let comment = h.comment;
     words::put_word(line, 0, 6, kinds::HELIX);
-    put_extent(line, extent);
+    put_extent(line, h.extent);
     fields::put_whole(line, 38, 2, 0, h.class);
-    put_comment(line, comment);
+    put_comment(line, h.comment);
     columns::put_blanks(line, 70, 1);
     fields::put_whole(line, 71, 5, 0, h.length);
     columns::put_blanks(line, 76, 4);

@@ -205,14 +205,10 @@ pub fn read_sheet(line: &[u8]) -> ReadSheet
 fn bond_is_good(b: Bond) -> bool
     ensures { λ r. ⌜ r ≡ bondOk b ⌝ }
 {
-    let a = b.atom;
-    let p = b.residue;
-    let c = b.other_atom;
-    let q = b.other;
-    let w = names::is_bond_name(a);
-    let x = residue::is_good(p);
-    let y = names::is_bond_name(c);
-    let z = residue::is_good(q);
+    let w = names::is_bond_name(b.atom);
+    let x = residue::is_good(b.residue);
+    let y = names::is_bond_name(b.other_atom);
+    let z = residue::is_good(b.other);
     ascii::both_of(w, ascii::both_of(x, ascii::both_of(y, z)))
 }
 
@@ -233,14 +229,11 @@ fn registration_is_good(strand: u32, r: Registration) -> bool
 fn strand_is_good(s: Strand) -> bool
     ensures { λ r. ⌜ r ≡ strandOk s ⌝ }
 {
-    let id = s.id;
-    let first = s.first;
-    let last = s.last;
     let a = fields::ranged(s.strand, 1, 999);
-    let b = names::is_identifier(id);
+    let b = names::is_identifier(s.id);
     let c = fields::ranged(s.strands, 1, 99);
-    let d = residue::is_good(first);
-    let e = residue::is_good(last);
+    let d = residue::is_good(s.first);
+    let e = residue::is_good(s.last);
     let f = ascii::both_of(fields::spans(s.sense, 9, 99), is_sense(s.sense));
     let g = ascii::both_of(
         a,
@@ -266,15 +259,11 @@ fn put_bond(line: &mut [u8], b: Bond)
     requires { ⌜ 80 ≤ length (now line) ⌝ }
     ensures { λ _. ⌜ Put (now (line .entry)) 41 29 (bondText b) (now (line .exit)) ⌝ }
 {
-    let a = b.atom;
-    let p = b.residue;
-    let c = b.other_atom;
-    let q = b.other;
-    names::put_four(line, 41, a);
-    residue::put_residue(line, 45, 0, p);
+    names::put_four(line, 41, b.atom);
+    residue::put_residue(line, 45, 0, b.residue);
     columns::put_blanks(line, 55, 1);
-    names::put_four(line, 56, c);
-    residue::put_residue(line, 60, 0, q);
+    names::put_four(line, 56, b.other_atom);
+    residue::put_residue(line, 60, 0, b.other);
 }
 
 fn put_registration(line: &mut [u8], strand: u32, r: Registration)
@@ -295,18 +284,15 @@ fn put_strand(line: &mut [u8], s: Strand)
     requires { ⌜ 80 ≤ length (now line) ⌝ }
     ensures { λ _. ⌜ Put (now (line .entry)) 6 34 (strandText s) (now (line .exit)) ⌝ }
 {
-    let id = s.id;
-    let first = s.first;
-    let last = s.last;
     columns::put_blanks(line, 6, 1);
     fields::put_whole(line, 7, 3, 0, s.strand);
     columns::put_blanks(line, 10, 1);
-    names::put_three(line, 11, id);
+    names::put_three(line, 11, s.id);
     fields::put_whole(line, 14, 2, 0, s.strands);
     columns::put_blanks(line, 16, 1);
-    residue::put_residue(line, 17, 0, first);
+    residue::put_residue(line, 17, 0, s.first);
     columns::put_blanks(line, 27, 1);
-    residue::put_residue(line, 28, 0, last);
+    residue::put_residue(line, 28, 0, s.last);
     fields::put_integer(line, 38, 2, 0, s.sense);
 }
 

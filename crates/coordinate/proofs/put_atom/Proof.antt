@@ -26,7 +26,7 @@ same-length c = search needs
 
 returns : tie.Need-returns
 returns c = atom-writes _ _ _ _ _ _ _
-    (c .before .before .before .before .before .before .before .before .before .before .before .before .before .before .before .before .before .before .before .before .before .before .before .before .before .before .before .before .args .het) _
+    (c .before .before .before .before .before .before .before .before .before .before .before .before .before .before .before .before .before .before .before .before .before .before .before .before .before .args .het) _
     (c .before .before .before .before .before .before .before .before .before .before .before .before .before .before .before .before .before .before .before .before .before .before .put-kind .ensures)
     (c .before .before .before .before .before .before .before .before .before .before .before .before .before .before .before .before .before .before .put-identity .ensures)
     (c .before .before .before .before .before .before .before .before .before .before .before .before .before .before .put-blanks .ensures)
