@@ -1,7 +1,7 @@
 -- What a choice by a test has, and what tests say together.
 -- Assumes nothing.
-use mathlib.Core.Path.{_≡_, refl}
-use mathlib.Core.Bool.{Bool, true, false}
+use mathlib.Core.Path.{_≡_, refl, sym}
+use mathlib.Core.Bool.{Bool, true, false, not}
 use Prim.Native.Nat.{ℕ, _≤_}
 use native.Mathlib.Omega.{arith}
 use lib.Dec.{ltb, leb}
@@ -24,6 +24,25 @@ both-split false b e = never e
 pub both-join : (a b : Bool) → a ≡ true → b ≡ true → both a b ≡ true
 unfolding both
 both-join a b p q = rw (p, q)
+
+pub not-false : (a : Bool) → not a ≡ false → a ≡ true
+not-false true e = refl
+not-false false e = sym e
+
+-- one of two tests holds, or neither does
+pub either-left : (a b : Bool) → a ≡ true → either a b ≡ true
+unfolding either
+either-left a b p = rw (p)
+
+pub either-right : (a b : Bool) → b ≡ true → either a b ≡ true
+unfolding either
+either-right true b p = refl
+either-right false b p = p
+
+pub either-none : (a b : Bool) → either a b ≡ false → (a ≡ false) × (b ≡ false)
+unfolding either
+either-none true b e = never (sym e)
+either-none false b e = (refl, e)
 
 -- one of two tests holds: what follows from each follows
 pub either-split : {P : Type 0} (a b : Bool) → (a ≡ true → P) → (b ≡ true → P) → either a b ≡ true → P

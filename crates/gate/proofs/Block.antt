@@ -1,14 +1,15 @@
 -- The coordinate lines of a text stand in one block, in the order of their serials. So a serial can be looked for by halving.
 -- Assumes nothing.
 use Prim.Native.Nat.{ℕ, suc, zero, _+_, _≤_, _<_}
-use mathlib.Core.Bool.{Bool, true, false, _||_}
+use mathlib.Core.Bool.{Bool, true, false}
 use mathlib.Core.Path.{_≡_, refl, sym, ap}
 use mathlib.Core.Logic.{inl, inr, ⊎-elim}
 use native.Mathlib.Omega.{arith}
 use borrow.Author.Count.{below-more}
 use borrow.Author.Tests.{ltb-true, ltb-false, leb-false}
 use lib.Dec.{ltb}
-use Rattle.ascii.specs.Tests.{pick}
+use Rattle.ascii.specs.Tests.{pick, either}
+use Rattle.ascii.proofs.Choice.{either-left, either-right}
 use Rattle.kinds.specs.declared.Kind.{Kind}
 use Rattle.kinds.specs.declared.Kind.the-variants.{Header, Title, Compnd, Source, Keywds, Expdta, Author, Revdat, Jrnl, Remark, Seqres, Het, Helix, Sheet, Cryst1, Origx1, Origx2, Origx3, Scale1, Scale2, Scale3, Atom, Hetatm, Ter, Conect, Master, End, Unknown}
 use Rattle.line.specs.declared.Record.{Record}
@@ -160,20 +161,13 @@ unfolding someOf down
 some-at f L zero j h e = absurd (omega arith)
 some-at f L (suc n) j h e = go (λ g. some-at f L n j g e) (ltb j n) refl
   where
-    or-right : (a b : Bool) → b ≡ true → (a || b) ≡ true
-    or-right true b q = refl
-    or-right false b q = q
-
-    or-left : (a b : Bool) → a ≡ true → (a || b) ≡ true
-    or-left a b q = rw q
-
-    go : (j < n → someOf f (down L n) ≡ true) → (y : Bool) → ltb j n ≡ y → (f (L n) || someOf f (down L n)) ≡ true
-    go r true u = or-right (f (L n)) (someOf f (down L n)) (r (ltb-true _ _ u))
+    go : (j < n → someOf f (down L n) ≡ true) → (y : Bool) → ltb j n ≡ y → either (f (L n)) (someOf f (down L n)) ≡ true
+    go r true u = either-right (f (L n)) (someOf f (down L n)) (r (ltb-true _ _ u))
     go r false u =
         let same : j ≡ n = omega (arith, ltb-false j n u) in
-        or-left (f (L n)) (someOf f (down L n)) (rw same at e)
+        either-left (f (L n)) (someOf f (down L n)) (rw same at e)
 
 pub some-none : (f : Line → Bool) (L : ℕ → Line) (n : ℕ) → ((j : ℕ) → j < n → f (L j) ≡ false) → someOf f (down L n) ≡ false
-unfolding someOf down
+unfolding someOf down either
 some-none f L zero h = refl
 some-none f L (suc n) h = rw (h n (omega arith)) (some-none f L n (λ j g. h j (omega arith)))

@@ -2,7 +2,7 @@
 -- Assumes nothing.
 use Prim.Native.Nat.{ℕ, zero, suc, _+_, _*_, _≤_, _<_}
 use mathlib.Core.List.{List, [], _∷_, map}
-use mathlib.Core.Bool.{Bool, true, false, not, _&&_, _||_, false≢true, true≢false}
+use mathlib.Core.Bool.{Bool, true, false, not, false≢true}
 use mathlib.Core.Path.{_≡_, refl, sym, _∙_, ap, ap₂}
 use mathlib.Core.Logic.{_⊎_, inl, inr, ⊎-elim}
 use native.Mathlib.Omega.{arith}
@@ -10,11 +10,9 @@ use borrow.Author.Tests.{eqb-true, ltb-true, ltb-false}
 use lib.Dec.{eqb, ltb}
 use lib.ListN.{length, take, drop, length-take}
 use lib.Seq.{take-take}
-use Rattle.ascii.specs.Tests.{pick}
-use Rattle.ascii.proofs.Choice.{picks}
+use Rattle.ascii.specs.Tests.{pick, either}
+use Rattle.ascii.proofs.Choice.{picks, not-false, both-split, either-split, either-none}
 use Rattle.master.specs.declared.Tally.{Tally}
-use Rattle.kinds.specs.declared.Kind.{Kind}
-use Rattle.kinds.specs.declared.Kind.the-variants as kind
 use Rattle.conect.specs.declared.Conect.{Conect as ConectOf}
 use Rattle.line.specs.declared.Record.{Record}
 use Rattle.line.specs.declared.Record.the-variants.{Coordinate, Ter, Helix, Sheet, Conect, Master, End}
@@ -25,7 +23,7 @@ use Rattle.rules.specs.declared.Counts.{Counts}
 use Rattle.rules.specs.declared.State.{State}
 use Rattle.rules.specs.Places.{placeOf, endPlace}
 use Rattle.rules.specs.Counts.{countOf, oneMore, raised, sameCounts}
-use Rattle.rules.specs.Rules.{recordKind, judgeOf, nextOf, carriedNext, typedNext, startOf}
+use Rattle.rules.specs.Rules.{recordKind, lineKind, judgeOf, nextOf, carriedNext, typedNext, startOf}
 use Rattle.rules.proofs.Laws.{judge-typed, judge-wrong}
 use Rattle.gate.specs.declared.Verdict.{Verdict}
 use Rattle.gate.specs.Text.{pieceAt, row, down}
@@ -56,23 +54,14 @@ rising t n g j k h l cj ck =
 abbrev Before : List ℕ → ℕ → ℕ → Type 0
 Before t i x = (j : ℕ) × (j < i) × (isSite x (row t j) ≡ true)
 
-or-cases : (a b : Bool) → (a || b) ≡ true → (a ≡ true) ⊎ (b ≡ true)
-or-cases true b e = inl refl
-or-cases false b e = inr e
-
-and-both : (a b : Bool) → (a && b) ≡ true → (a ≡ true) × (b ≡ true)
-and-both true b e = (refl, e)
-and-both false b e = absurd (false≢true e)
-
 some-where : (f : Line → Bool) (L : ℕ → Line) (n : ℕ) → someOf f (down L n) ≡ true → (j : ℕ) × (j < n) × (f (L j) ≡ true)
 unfolding someOf down
 some-where f L zero e = absurd (false≢true e)
 some-where f L (suc n) e =
-    ⊎-elim (λ y. (n, omega arith, y)) (λ y. let w = some-where f L n y in (w .0, omega (arith, w .1), w .2)) (or-cases (f (L n)) _ e)
+    either-split (f (L n)) (someOf f (down L n)) (λ y. (n, omega arith, y)) (λ y. let w = some-where f L n y in (w .0, omega (arith, w .1), w .2)) e
 
-known-of : (known b : Bool) → (not known || b) ≡ false → known ≡ true
-known-of true b e = refl
-known-of false b e = absurd (true≢false e)
+known-of : (known b : Bool) → either (not known) b ≡ false → known ≡ true
+known-of known b e = not-false known (either-none (not known) b e .0)
 
 pub record Names (t : List ℕ) (i : ℕ) (bond : ConectOf) : Type 0 where
   pub serial : Before t i (bond .serial .0)
@@ -82,14 +71,14 @@ pub record Names (t : List ℕ) (i : ℕ) (bond : ConectOf) : Type 0 where
   pub d : (bond .d .0 ≡ 0) ⊎ Before t i (bond .d .0)
 
 partner-where : (t : List ℕ) (i x : ℕ) → partnerKnown (down (row t) i) x ≡ true → (x ≡ 0) ⊎ Before t i x
-partner-where t i x e = ⊎-elim (λ y. inl (eqb-true x 0 y)) (λ y. inr (some-where (isSite x) (row t) i y)) (or-cases (eqb x 0) _ e)
+partner-where t i x e = either-split (eqb x 0) (named (down (row t) i) x) (λ y. inl (eqb-true x 0 y)) (λ y. inr (some-where (isSite x) (row t) i y)) e
 
 names-of : (t : List ℕ) (i : ℕ) (c : ConectOf) → recordKnown (down (row t) i) (Conect c) ≡ true → Names t i c
 names-of t i c e =
-    let x = and-both (named (down (row t) i) (c .serial .0)) _ e in
-    let y = and-both (partnerKnown (down (row t) i) (c .a .0)) _ (x .1) in
-    let z = and-both (partnerKnown (down (row t) i) (c .b .0)) _ (y .1) in
-    let w = and-both (partnerKnown (down (row t) i) (c .c .0)) _ (z .1) in
+    let x = both-split (named (down (row t) i) (c .serial .0)) _ e in
+    let y = both-split (partnerKnown (down (row t) i) (c .a .0)) _ (x .1) in
+    let z = both-split (partnerKnown (down (row t) i) (c .b .0)) _ (y .1) in
+    let w = both-split (partnerKnown (down (row t) i) (c .c .0)) _ (z .1) in
     record {
       serial = some-where (isSite (c .serial .0)) (row t) i (x .0);
       a = partner-where t i (c .a .0) (y .0);
@@ -104,13 +93,6 @@ conect-names t n i c g h e =
     names-of t i c (known-of _ _ (judge-typed _ (stateAt (row t) i) (Conect c) j .bond))
 
 -- ---- the counts are the numbers of such lines
--- the kind of a line
-abbrev pub lineKind : Line → Kind
-lineKind (Bad n) = kind.Unknown
-lineKind (Wrong k c) = k
-lineKind (Carried k) = k
-lineKind (Typed r) = recordKind r
-
 -- how many of the first n lines are counted in w
 unfoldable pub linesOf : ℕ → (ℕ → Line) → ℕ → ℕ
 linesOf w L zero = 0
@@ -170,21 +152,17 @@ pub record Totals (t : List ℕ) (i : ℕ) (m : Tally) : Type 0 where
   pub conect : m .conect ≡ linesOf 8 (row t) i
   pub seq : m .seq ≡ linesOf 9 (row t) i
 
-not-false : (b : Bool) → not b ≡ false → b ≡ true
-not-false true e = refl
-not-false false e = absurd (true≢false e)
-
 totals-of : (t : List ℕ) (i : ℕ) (m : Tally) (c : Counts) → sameCounts m c ≡ true → Counted (row t) i c → Totals t i m
 unfolding sameCounts
 totals-of t i m c e C =
-    let x0 = and-both (eqb (m .remark) (c .remark)) _ (e) in
-    let x1 = and-both (eqb (m .het) (c .het)) _ (x0 .1) in
-    let x2 = and-both (eqb (m .helix) (c .helix)) _ (x1 .1) in
-    let x3 = and-both (eqb (m .sheet) (c .sheet)) _ (x2 .1) in
-    let x4 = and-both (eqb (m .xform) (c .xform)) _ (x3 .1) in
-    let x5 = and-both (eqb (m .coord) (c .coord)) _ (x4 .1) in
-    let x6 = and-both (eqb (m .ter) (c .ter)) _ (x5 .1) in
-    let x7 = and-both (eqb (m .conect) (c .conect)) _ (x6 .1) in
+    let x0 = both-split (eqb (m .remark) (c .remark)) _ (e) in
+    let x1 = both-split (eqb (m .het) (c .het)) _ (x0 .1) in
+    let x2 = both-split (eqb (m .helix) (c .helix)) _ (x1 .1) in
+    let x3 = both-split (eqb (m .sheet) (c .sheet)) _ (x2 .1) in
+    let x4 = both-split (eqb (m .xform) (c .xform)) _ (x3 .1) in
+    let x5 = both-split (eqb (m .coord) (c .coord)) _ (x4 .1) in
+    let x6 = both-split (eqb (m .ter) (c .ter)) _ (x5 .1) in
+    let x7 = both-split (eqb (m .conect) (c .conect)) _ (x6 .1) in
     record {
       remark = eqb-true _ _ (x0 .0) ∙ C .remark;
       het = eqb-true _ _ (x1 .0) ∙ C .het;

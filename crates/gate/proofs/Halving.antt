@@ -2,7 +2,7 @@
 -- Assumes nothing.
 use Prim.Native.Nat.{ℕ, _+_, _≤_, _<_}
 use mathlib.Core.List.{List}
-use mathlib.Core.Bool.{Bool, true, false, _&&_, false≢true, true≢false}
+use mathlib.Core.Bool.{Bool, true, false, false≢true, true≢false}
 use mathlib.Core.Path.{_≡_, refl, sym, _∙_}
 use native.Mathlib.Omega.{arith}
 use native.Mathlib.Nat.{lt-trans, lt-of-lt-of-le, le-of-lt, le-trans, lt-of-le-of-lt}
@@ -10,6 +10,7 @@ use borrow.Author.Count.{below-more}
 use borrow.Author.Tests.{ltb-true, ltb-false, eqb-true, ne-eqb}
 use lib.Dec.{ltb}
 use lib.ListN.{take}
+use Rattle.ascii.specs.Tests.{both, either}
 use Rattle.fields.specs.Field.{wholeOf}
 use Rattle.conect.specs.declared.Conect.{Conect as ConectOf}
 use Rattle.line.specs.declared.Record.{Record}
@@ -160,13 +161,15 @@ pub spoken-known : (L : ℕ → Line) (n : ℕ) (b : Span) (s : State) (x : ℕ)
 spoken-known L n b s x r f B = finds-named L n b s x B r f
 
 pub partner-absent : (seen : List Line) (x : ℕ) → x ≡ 0 → true ≡ partnerKnown seen x
+unfolding either
 partner-absent seen x z = rw z
 
 pub partner-there : (seen : List Line) (x : ℕ) (r : Bool) → (x ≡ 0 → ⊥) → r ≡ named seen x → r ≡ partnerKnown seen x
+unfolding either
 partner-there seen x r z e = rw (ne-eqb x 0 z) e
 
 pub conect-known : (seen : List Line) (c : ConectOf) (k0 k1 k2 k3 k4 a1 a2 a3 a4 : Bool)
     → k0 ≡ named seen (c .serial .0) → k1 ≡ partnerKnown seen (c .a .0) → k2 ≡ partnerKnown seen (c .b .0)
     → k3 ≡ partnerKnown seen (c .c .0) → k4 ≡ partnerKnown seen (c .d .0)
-    → a1 ≡ (k3 && k4) → a2 ≡ (k2 && a1) → a3 ≡ (k1 && a2) → a4 ≡ (k0 && a3) → a4 ≡ recordKnown seen (Conect c)
+    → a1 ≡ both k3 k4 → a2 ≡ both k2 a1 → a3 ≡ both k1 a2 → a4 ≡ both k0 a3 → a4 ≡ recordKnown seen (Conect c)
 conect-known seen c k0 k1 k2 k3 k4 a1 a2 a3 a4 p0 p1 p2 p3 p4 q1 q2 q3 q4 = q4 ∙ rw (q3, q2, q1, p0, p1, p2, p3, p4)

@@ -1,9 +1,9 @@
 -- The gate over a whole text: each line is judged against what the good lines before it left.
 use Prim.Native.Nat.{ℕ, _+_}
 use mathlib.Core.List.{List, [], _∷_, map}
-use mathlib.Core.Bool.{Bool, true, false, _&&_, _||_}
+use mathlib.Core.Bool.{Bool, true, false}
 use lib.Dec.{eqb}
-use Rattle.ascii.specs.Tests.{pick}
+use Rattle.ascii.specs.Tests.{pick, both, either}
 use Rattle.line.specs.declared.Record.{Record}
 use Rattle.line.specs.declared.Record.the-variants.{Coordinate, Ter, Helix, Sheet, Conect, Master, End}
 use Rattle.pieces.specs.declared.Line.{Line}
@@ -36,7 +36,7 @@ isSite n (Typed r) = isAtom n r
 -- one of the lines passes the test
 unfoldable pub someOf : (Line → Bool) → List Line → Bool
 someOf f [] = false
-someOf f (l ∷ ls) = f l || someOf f ls
+someOf f (l ∷ ls) = either (f l) (someOf f ls)
 
 -- n is the serial of an ATOM or HETATM line among those seen
 abbrev pub named : List Line → ℕ → Bool
@@ -44,7 +44,7 @@ named seen n = someOf (isSite n) seen
 
 -- a partner is known where it is there
 abbrev pub partnerKnown : List Line → ℕ → Bool
-partnerKnown seen n = eqb n 0 || named seen n
+partnerKnown seen n = either (eqb n 0) (named seen n)
 
 -- each number on a CONECT line is the serial of an ATOM or HETATM line among those seen
 abbrev pub recordKnown : List Line → Record → Bool
@@ -53,8 +53,10 @@ recordKnown seen (Ter t) = true
 recordKnown seen (Helix h) = true
 recordKnown seen (Sheet s) = true
 recordKnown seen (Conect c) =
-    named seen (c .serial .0)
-    && (partnerKnown seen (c .a .0) && (partnerKnown seen (c .b .0) && (partnerKnown seen (c .c .0) && partnerKnown seen (c .d .0))))
+    both (named seen (c .serial .0))
+    (both (partnerKnown seen (c .a .0))
+    (both (partnerKnown seen (c .b .0))
+    (both (partnerKnown seen (c .c .0)) (partnerKnown seen (c .d .0)))))
 recordKnown seen (Master t) = true
 recordKnown seen End = true
 

@@ -1,4 +1,5 @@
 // The gate over a whole text.
+use ascii::both_of;
 use conect::Conect;
 use coordinate::Atom;
 use line::Record;
@@ -6,7 +7,6 @@ use pieces::Line;
 use rules::Counts;
 use rules::State;
 ghost use mathlib.Core.Path.{_≡_};
-ghost use mathlib.Core.Bool.{_&&_};
 ghost use lib.Dec.{eqb};
 ghost use Prim.Native.Nat.{ℕ, _+_, _*_, _≤_, _<_};
 ghost use lib.ListN.{length, take};
@@ -189,15 +189,6 @@ fn partner_spoken(text: &[u8], b: Span, x: u32) -> bool
     spoken(text, b, x)
 }
 
-fn and_of(a: bool, b: bool) -> bool
-    ensures { λ r. ⌜ r ≡ (a && b) ⌝ }
-{
-    if a {
-        return b;
-    }
-    false
-}
-
 fn conect_known(text: &[u8], b: Span, c: Conect) -> bool
     requires { ⌜ Rising (now text) (b .lo) (b .hi) ⌝ }
     ensures { λ r. ⌜ ((n : ℕ) (s : StateOf) → Block (row (now (text .entry))) n b s → r ≡ recordKnown (down (row (now (text .entry))) n) (rec.Conect c)) ⌝ }
@@ -212,7 +203,7 @@ fn conect_known(text: &[u8], b: Span, c: Conect) -> bool
     let k2 = partner_spoken(text, b, q.0);
     let k3 = partner_spoken(text, b, u.0);
     let k4 = partner_spoken(text, b, v.0);
-    and_of(k0, and_of(k1, and_of(k2, and_of(k3, k4))))
+    both_of(k0, both_of(k1, both_of(k2, both_of(k3, k4))))
 }
 
 fn record_known(text: &[u8], b: Span, r: Record) -> bool

@@ -1,12 +1,12 @@
 -- A line is good exactly if each test of it says no. Assumes nothing.
-use mathlib.Core.Path.{_≡_, refl, sym}
-use mathlib.Core.Bool.{Bool, true, false, not, _&&_}
+use mathlib.Core.Path.{_≡_, refl}
+use mathlib.Core.Bool.{Bool, true, false, not}
 use Prim.Native.Nat.{ℕ, _≤_, _<_}
 use native.Mathlib.Omega.{arith}
 use lib.Dec.{leb}
 use borrow.Author.Tests.{leb-true}
-use Rattle.ascii.specs.Tests.{pick}
-use Rattle.ascii.proofs.Choice.{never}
+use Rattle.ascii.specs.Tests.{pick, both}
+use Rattle.ascii.proofs.Choice.{not-false, both-split}
 use Rattle.kinds.specs.declared.Kind.{Kind}
 use Rattle.line.specs.declared.Record.{Record}
 use Rattle.pieces.specs.declared.Line.the-variants.{Wrong, Carried, Typed}
@@ -72,10 +72,8 @@ judge-wrong known s k column e =
     omega arith
 
 -- ---- places
-both-yes : (a b : Bool) → not (a && b) ≡ false → (a ≡ true) × (b ≡ true)
-both-yes true true e = (refl, refl)
-both-yes true false e = never (sym e)
-both-yes false b e = never (sym e)
+both-yes : (a b : Bool) → not (both a b) ≡ false → (a ≡ true) × (b ≡ true)
+both-yes a b e = both-split a b (not-false (both a b) e)
 
 pub place-low : (p : ℕ) (k : Kind) → placeBad p k ≡ false → placeOf k .low ≤ p
 unfolding placeBad

@@ -1,8 +1,8 @@
 -- The nine counts of MASTER.
 use Prim.Native.Nat.{ℕ, _+_}
-use mathlib.Core.Bool.{Bool, _&&_}
+use mathlib.Core.Bool.{Bool}
 use lib.Dec.{eqb}
-use Rattle.ascii.specs.Tests.{pick}
+use Rattle.ascii.specs.Tests.{pick, both}
 use Rattle.kinds.specs.declared.Kind.{Kind}
 use Rattle.kinds.specs.declared.Kind.the-variants.{Header, Title, Compnd, Source, Keywds, Expdta, Author, Revdat, Jrnl, Remark, Seqres, Het, Helix, Sheet, Cryst1, Origx1, Origx2, Origx3, Scale1, Scale2, Scale3, Atom, Hetatm, Ter, Conect, Master, End, Unknown}
 use Rattle.master.specs.declared.Tally.{Tally}
@@ -65,4 +65,12 @@ raised c which =
 -- MASTER's numbers are these counts
 unfoldable pub sameCounts : Tally → Counts → Bool
 sameCounts t c =
-    eqb (t .remark) (c .remark) && (eqb (t .het) (c .het) && (eqb (t .helix) (c .helix) && (eqb (t .sheet) (c .sheet) && (eqb (t .xform) (c .xform) && (eqb (t .coord) (c .coord) && (eqb (t .ter) (c .ter) && (eqb (t .conect) (c .conect) && (eqb (t .seq) (c .seq)))))))))
+    both (eqb (t .remark) (c .remark))
+    (both (eqb (t .het) (c .het))
+    (both (eqb (t .helix) (c .helix))
+    (both (eqb (t .sheet) (c .sheet))
+    (both (eqb (t .xform) (c .xform))
+    (both (eqb (t .coord) (c .coord))
+    (both (eqb (t .ter) (c .ter))
+    (both (eqb (t .conect) (c .conect))
+    (eqb (t .seq) (c .seq)))))))))

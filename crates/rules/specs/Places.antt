@@ -1,7 +1,8 @@
 -- The order of the lines: each kind has its place, and places never go back.
 use Prim.Native.Nat.{ℕ}
-use mathlib.Core.Bool.{Bool, not, _&&_}
+use mathlib.Core.Bool.{Bool, not}
 use lib.Dec.{leb}
+use Rattle.ascii.specs.Tests.{both}
 use Rattle.kinds.specs.declared.Kind.{Kind}
 use Rattle.kinds.specs.declared.Kind.the-variants.{Header, Title, Compnd, Source, Keywds, Expdta, Author, Revdat, Jrnl, Remark, Seqres, Het, Helix, Sheet, Cryst1, Origx1, Origx2, Origx3, Scale1, Scale2, Scale3, Atom, Hetatm, Ter, Conect, Master, End, Unknown}
 use Rattle.rules.specs.declared.Place.{Place}
@@ -51,4 +52,4 @@ endPlace = 21
 
 -- 5: wrong place or repeated
 unfoldable pub placeBad : ℕ → Kind → Bool
-placeBad last k = not (leb (placeOf k .low) last && leb last (placeOf k .high))
+placeBad last k = not (both (leb (placeOf k .low) last) (leb last (placeOf k .high)))

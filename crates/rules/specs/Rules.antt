@@ -1,9 +1,9 @@
 -- The rules between lines: a line is judged against what the good lines before it left.
 use Prim.Native.Nat.{ℕ, _+_}
-use mathlib.Core.Bool.{Bool, true, false, not, _&&_, _||_}
+use mathlib.Core.Bool.{Bool, true, false, not}
 use lib.Dec.{ltb, leb, eqb}
 use lib.IntN.{pos, natAbs}
-use Rattle.ascii.specs.Tests.{pick}
+use Rattle.ascii.specs.Tests.{pick, both, either}
 use Rattle.fields.specs.Field.{isNeg}
 use Rattle.names.specs.declared.Three.{Three}
 use Rattle.residue.specs.declared.Residue.{Residue}
@@ -31,6 +31,13 @@ recordKind (Conect c) = kind.Conect
 recordKind (Master t) = kind.Master
 recordKind End = kind.End
 
+-- the kind of a line; a piece that is refused by itself has none
+abbrev pub lineKind : Line → Kind
+lineKind (Bad n) = kind.Unknown
+lineKind (Wrong k column) = k
+lineKind (Carried k) = k
+lineKind (Typed r) = recordKind r
+
 -- ---- 7: serials rise strictly over ATOM, HETATM and TER together
 abbrev pub serialBad : ℕ → Record → Bool
 serialBad last (Coordinate het a) = leb (a .identity .serial .0) last
@@ -54,7 +61,7 @@ lastNext last End = last
 -- ---- 8: a run is the coordinate lines since the last TER
 -- equal names of three columns
 unfoldable pub sameThree : Three → Three → Bool
-sameThree a b = eqb (a .a) (b .a) && (eqb (a .b) (b .b) && eqb (a .c) (b .c))
+sameThree a b = both (eqb (a .a) (b .a)) (both (eqb (a .b) (b .b)) (eqb (a .c) (b .c)))
 
 -- both below zero, or neither
 abbrev pub sameSign : Bool → Bool → Bool
@@ -63,8 +70,10 @@ sameSign x y = pick x y (not y)
 -- equal residue name, chain, number and insertion code
 unfoldable pub sameResidue : Residue → Residue → Bool
 sameResidue a b =
-    sameThree (a .name) (b .name) && (eqb (a .chain) (b .chain)
-    && ((sameSign (isNeg (a .number .0)) (isNeg (b .number .0)) && eqb (natAbs (a .number .0)) (natAbs (b .number .0))) && eqb (a .insertion) (b .insertion)))
+    both (sameThree (a .name) (b .name))
+    (both (eqb (a .chain) (b .chain))
+    (both (both (sameSign (isNeg (a .number .0)) (isNeg (b .number .0))) (eqb (natAbs (a .number .0)) (natAbs (b .number .0))))
+    (eqb (a .insertion) (b .insertion))))
 
 -- a run without a line
 abbrev pub noRun : Run
@@ -80,12 +89,12 @@ noRun =
 unfoldable pub siteBad : Run → Bool → ℕ → Bool
 siteBad r het chain =
     pick het
-    (r .atom && not (eqb chain (r .residue .chain)))
-    (r .some && not (r .same && eqb chain (r .residue .chain)))
+    (both (r .atom) (not (eqb chain (r .residue .chain))))
+    (both (r .some) (not (both (r .same) (eqb chain (r .residue .chain)))))
 
 -- TER closes a run that holds an ATOM, and repeats the residue of its last line
 unfoldable pub closeBad : Run → Residue → Bool
-closeBad r residue = not (r .atom && sameResidue residue (r .residue))
+closeBad r residue = not (both (r .atom) (sameResidue residue (r .residue)))
 
 -- a run that holds an ATOM is closed before any other kind of line
 abbrev pub runBad : Run → Record → Bool
@@ -102,8 +111,8 @@ unfoldable pub siteNext : Run → Bool → Residue → Run
 siteNext r het residue =
     record {
       some = true;
-      same = not (r .some) || (r .same && eqb (residue .chain) (r .residue .chain));
-      atom = r .atom || not het;
+      same = either (not (r .some)) (both (r .same) (eqb (residue .chain) (r .residue .chain)));
+      atom = either (r .atom) (not het);
       residue = residue;
     }
 
@@ -123,7 +132,7 @@ bondBad known last (Coordinate het a) = false
 bondBad known last (Ter t) = false
 bondBad known last (Helix h) = false
 bondBad known last (Sheet s) = false
-bondBad known last (Conect c) = not known || ltb (c .serial .0) last
+bondBad known last (Conect c) = either (not known) (ltb (c .serial .0) last)
 bondBad known last (Master t) = false
 bondBad known last End = false
 
@@ -151,14 +160,14 @@ noLadder = record { id = record { a = 0; b = 0; c = 0 }; strand = 0; strands = 0
 unfoldable pub strandBad : Ladder → Strand → Bool
 strandBad d s =
     pick (unfinished d)
-    (not (sameThree (s .id) (d .id) && (eqb (s .strands) (d .strands) && eqb (s .strand) (d .strand + 1))))
-    (not (eqb (s .strand) 1) || (ltb 0 (d .strands) && sameThree (s .id) (d .id)))
+    (not (both (sameThree (s .id) (d .id)) (both (eqb (s .strands) (d .strands)) (eqb (s .strand) (d .strand + 1)))))
+    (either (not (eqb (s .strand) 1)) (both (ltb 0 (d .strands)) (sameThree (s .id) (d .id))))
 
 -- every kind but SHEET starts only after the last strand
 abbrev pub foldBad : ℕ → Ladder → Record → Bool
 foldBad helix d (Coordinate het a) = unfinished d
 foldBad helix d (Ter t) = unfinished d
-foldBad helix d (Helix h) = unfinished d || not (eqb (h .extent .serial) (helix + 1))
+foldBad helix d (Helix h) = either (unfinished d) (not (eqb (h .extent .serial) (helix + 1)))
 foldBad helix d (Sheet s) = strandBad d (s .strand)
 foldBad helix d (Conect c) = unfinished d
 foldBad helix d (Master t) = unfinished d

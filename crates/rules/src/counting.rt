@@ -1,6 +1,6 @@
 // The nine counts of MASTER.
 use super::Counts;
-use super::logic::and_of;
+use ascii::both_of;
 use kinds::Kind;
 use master::Tally;
 ghost use mathlib.Core.Path.{_≡_};
@@ -86,12 +86,12 @@ pub fn same_counts(t: Tally, c: Counts) -> bool
     ensures { λ r. ⌜ r ≡ sameCounts t c ⌝ }
 {
     let i = t.seq as u64 == c.seq;
-    let h = and_of(t.conect as u64 == c.conect, i);
-    let g = and_of(t.ter as u64 == c.ter, h);
-    let f = and_of(t.coord as u64 == c.coord, g);
-    let e = and_of(t.xform as u64 == c.xform, f);
-    let d = and_of(t.sheet as u64 == c.sheet, e);
-    let b = and_of(t.helix as u64 == c.helix, d);
-    let a = and_of(t.het as u64 == c.het, b);
-    and_of(t.remark as u64 == c.remark, a)
+    let h = both_of(t.conect as u64 == c.conect, i);
+    let g = both_of(t.ter as u64 == c.ter, h);
+    let f = both_of(t.coord as u64 == c.coord, g);
+    let e = both_of(t.xform as u64 == c.xform, f);
+    let d = both_of(t.sheet as u64 == c.sheet, e);
+    let b = both_of(t.helix as u64 == c.helix, d);
+    let a = both_of(t.het as u64 == c.het, b);
+    both_of(t.remark as u64 == c.remark, a)
 }

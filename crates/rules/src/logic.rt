@@ -1,30 +1,12 @@
 // Choices by value: what calls them is straight-line code.
 ghost use mathlib.Core.Path.{_≡_};
-ghost use mathlib.Core.Bool.{not, _&&_, _||_};
+ghost use mathlib.Core.Bool.{not};
 ghost use Rattle.ascii.specs.Tests.{pick};
 
 pub fn not_of(a: bool) -> bool
     ensures { λ r. ⌜ r ≡ not a ⌝ }
 {
     !a
-}
-
-pub fn and_of(a: bool, b: bool) -> bool
-    ensures { λ r. ⌜ r ≡ (a && b) ⌝ }
-{
-    if a {
-        return b;
-    }
-    false
-}
-
-pub fn or_of(a: bool, b: bool) -> bool
-    ensures { λ r. ⌜ r ≡ (a || b) ⌝ }
-{
-    if a {
-        return true;
-    }
-    b
 }
 
 pub fn choose(b: bool, x: u8, y: u8) -> u8

@@ -1,7 +1,7 @@
 // 5: the order of the lines: each kind has its place, and places never go back.
 use super::Place;
-use super::logic::and_of;
 use super::logic::not_of;
+use ascii::both_of;
 use kinds::Kind;
 ghost use mathlib.Core.Path.{_≡_};
 ghost use Rattle.rules.specs.Places.{follows as followsOf, placeOf, placeBad};
@@ -56,5 +56,5 @@ pub fn place_bad(last: u8, k: Kind) -> bool
     ensures { λ r. ⌜ r ≡ placeBad last k ⌝ }
 {
     let p = place_of(k);
-    not_of(and_of(p.low <= last, last <= p.high))
+    not_of(both_of(p.low <= last, last <= p.high))
 }

@@ -1,9 +1,9 @@
 // What a good typed line leaves, part by part.
 use super::Ladder;
 use super::Run;
-use super::logic::and_of;
 use super::logic::not_of;
-use super::logic::or_of;
+use ascii::both_of;
+use ascii::either_of;
 use fields::ResidueNumber;
 use line::Record;
 use names::Three;
@@ -42,8 +42,8 @@ fn site_next(r: Run, het: bool, residue: Residue) -> Run
     ensures { λ b. ⌜ b ≡ siteNext r het residue ⌝ }
 {
     let e = residue.chain == r.residue.chain;
-    let same = or_of(not_of(r.some), and_of(r.same, e));
-    let atom = or_of(r.atom, not_of(het));
+    let same = either_of(not_of(r.some), both_of(r.same, e));
+    let atom = either_of(r.atom, not_of(het));
     Run {
         some: true,
         same: same,

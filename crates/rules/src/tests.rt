@@ -3,19 +3,20 @@ use super::Counts;
 use super::Ladder;
 use super::Run;
 use super::counting::same_counts;
-use super::logic::and_of;
 use super::logic::not_of;
-use super::logic::or_of;
+use ascii::both_of;
+use ascii::either_of;
 use fields::ResidueNumber;
 use line::Record;
 use names::Three;
 use residue::Residue;
 use sheet::Strand;
 ghost use mathlib.Core.Path.{_≡_};
-ghost use mathlib.Core.Bool.{not, _&&_, _||_};
+ghost use mathlib.Core.Bool.{not};
 ghost use Prim.Native.Nat.{_+_};
 ghost use lib.Dec.{eqb};
 ghost use lib.IntN.{natAbs};
+ghost use Rattle.ascii.specs.Tests.{both, either};
 ghost use Rattle.fields.specs.Field.{isNeg};
 ghost use Rattle.rules.specs.Rules.{serialBad, sameThree, sameSign, sameResidue, siteBad, closeBad, runBad, bondBad, unfinished as unfinishedOf, strandBad, foldBad, countBad};
 
@@ -35,17 +36,17 @@ pub fn serial_bad(last: u32, r: Record) -> bool
 pub fn same_three(a: Three, b: Three) -> bool
     ensures { λ r. ⌜ r ≡ sameThree a b ⌝ }
 {
-    and_of(a.a == b.a, and_of(a.b == b.b, a.c == b.c))
+    both_of(a.a == b.a, both_of(a.b == b.b, a.c == b.c))
 }
 
 fn same_number(a: ResidueNumber, b: ResidueNumber) -> bool
-    ensures { λ r. ⌜ r ≡ (sameSign (isNeg (a .0)) (isNeg (b .0)) && eqb (natAbs (a .0)) (natAbs (b .0))) ⌝ }
+    ensures { λ r. ⌜ r ≡ both (sameSign (isNeg (a .0)) (isNeg (b .0))) (eqb (natAbs (a .0)) (natAbs (b .0))) ⌝ }
 {
     let m = fields::negative(a.0);
     let n = fields::negative(b.0);
     let v = fields::magnitude(a.0);
     let w = fields::magnitude(b.0);
-    and_of(ascii::choose(m, n, not_of(n)), v == w)
+    both_of(ascii::choose(m, n, not_of(n)), v == w)
 }
 
 // Equal residue name, chain, number and insertion code.
@@ -58,8 +59,8 @@ pub fn same_residue(a: Residue, b: Residue) -> bool
     let n = b.number;
     let name = same_three(x, y);
     let number = same_number(m, n);
-    let rest = and_of(number, a.insertion == b.insertion);
-    and_of(name, and_of(a.chain == b.chain, rest))
+    let rest = both_of(number, a.insertion == b.insertion);
+    both_of(name, both_of(a.chain == b.chain, rest))
 }
 
 // All lines before an ATOM in its run have its chain; a HETATM in a run that holds an ATOM has that chain.
@@ -67,8 +68,8 @@ fn site_bad(r: Run, het: bool, chain: u8) -> bool
     ensures { λ b. ⌜ b ≡ siteBad r het chain ⌝ }
 {
     let e = chain == r.residue.chain;
-    let h = and_of(r.atom, not_of(e));
-    let a = and_of(r.some, not_of(and_of(r.same, e)));
+    let h = both_of(r.atom, not_of(e));
+    let a = both_of(r.some, not_of(both_of(r.same, e)));
     ascii::choose(het, h, a)
 }
 
@@ -78,7 +79,7 @@ fn close_bad(r: Run, residue: Residue) -> bool
 {
     let last = r.residue;
     let e = same_residue(residue, last);
-    not_of(and_of(r.atom, e))
+    not_of(both_of(r.atom, e))
 }
 
 // A run that holds an ATOM is closed before any other kind of line.
@@ -98,7 +99,7 @@ pub fn bond_bad(known: bool, last: u32, r: Record) -> bool
     ensures { λ b. ⌜ b ≡ bondBad known last r ⌝ }
 {
     if let Record::Conect(c) = r {
-        return or_of(not_of(known), c.serial.0 < last);
+        return either_of(not_of(known), c.serial.0 < last);
     }
     false
 }
@@ -119,17 +120,17 @@ fn strand_bad(d: Ladder, s: Strand) -> bool
     let y = d.id;
     let same = same_three(x, y);
     let next = s.strand as u64 == d.strand as u64 + 1;
-    let goes = and_of(same, and_of(s.strands == d.strands, next));
-    let again = and_of(0 < d.strands, same);
-    let begins = or_of(not_of(s.strand == 1), again);
+    let goes = both_of(same, both_of(s.strands == d.strands, next));
+    let again = both_of(0 < d.strands, same);
+    let begins = either_of(not_of(s.strand == 1), again);
     ascii::choose(unfinished(d), not_of(goes), begins)
 }
 
 fn helix_bad(helix: u32, d: Ladder, serial: u32) -> bool
-    ensures { λ b. ⌜ b ≡ (unfinishedOf d || not (eqb serial (helix + 1))) ⌝ }
+    ensures { λ b. ⌜ b ≡ either (unfinishedOf d) (not (eqb serial (helix + 1))) ⌝ }
 {
     let e = serial as u64 == helix as u64 + 1;
-    or_of(unfinished(d), not_of(e))
+    either_of(unfinished(d), not_of(e))
 }
 
 pub fn fold_bad(helix: u32, d: Ladder, r: Record) -> bool

@@ -2,12 +2,12 @@
 -- Assumes nothing.
 use Prim.Native.Nat.{ℕ, _≤_, _<_}
 use mathlib.Core.List.{List, [], _∷_}
-use mathlib.Core.Bool.{Bool, true, false, not, _||_}
+use mathlib.Core.Bool.{Bool, true, false, not}
 use mathlib.Core.Path.{_≡_, refl, sym, _∙_, ap}
 use mathlib.Core.Logic.{inl, ⊎-elim}
 use native.Mathlib.Omega.{arith}
 use Rattle.ascii.specs.Tests.{pick, either}
-use Rattle.ascii.proofs.Choice.{never}
+use Rattle.ascii.proofs.Choice.{never, either-none}
 use Rattle.kinds.specs.declared.Kind.the-variants as kind
 use Rattle.line.specs.declared.Record.{Record}
 use Rattle.line.specs.declared.Record.the-variants.{Coordinate, Ter, Helix, Sheet, Conect, Master, End}
@@ -19,7 +19,6 @@ use Rattle.rules.specs.Places.{placeOf, placeBad, coordinatePlace, endPlace}
 use Rattle.rules.specs.Rules.{noRun, siteNext, judgeOf, carriedNext, typedNext, nextOf}
 use Rattle.rules.proofs.Laws.{Good, judge-typed, judge-carried, judge-wrong, place-high}
 use Rattle.gate.specs.Search.{Before}
-use Rattle.table.proofs.Tests.{or-none}
 use Rattle.table.proofs.Plain.{Plain}
 use Rattle.table.proofs.Fine.{Fine}
 use Rattle.table.proofs.Paired.{closes}
@@ -94,7 +93,7 @@ no-atom seen s (Bad n ∷ ls) S f c = absurd (omega (arith, f .0, f .1))
 no-atom seen s (Wrong k column ∷ ls) S f c = absurd (judge-wrong true s k column (f .1))
 no-atom seen s (Carried k ∷ ls) S f c = ap (λ (r : Run). r .atom) (S .early (f .0 .after (s .place) (judge-carried true s k (f .1) .0)))
 no-atom seen s (Typed (Coordinate het a) ∷ ls) S f c =
-    or-none (s .run .atom) (not het) (no-atom _ (nextOf s (Typed (Coordinate het a))) ls (sane-next _ s (Typed (Coordinate het a)) S (f .0) (f .1)) (f .2) c) .0
+    either-none (s .run .atom) (not het) (no-atom _ (nextOf s (Typed (Coordinate het a))) ls (sane-next _ s (Typed (Coordinate het a)) S (f .0) (f .1)) (f .2) c) .0
 no-atom seen s (Typed (Ter t) ∷ ls) S f c = never (sym c)
 no-atom seen s (Typed (Helix x) ∷ ls) S f c = judge-typed _ s _ (f .1) .run
 no-atom seen s (Typed (Sheet x) ∷ ls) S f c = judge-typed _ s _ (f .1) .run
@@ -103,5 +102,5 @@ no-atom seen s (Typed (Master t) ∷ ls) S f c = judge-typed _ s _ (f .1) .run
 no-atom seen s (Typed End ∷ ls) S f c = judge-typed _ s _ (f .1) .run
 
 -- in the open tail every coordinate line is a HETATM
-pub tail-het : (seen : List Line) (s : State) (r : Run) (het : Bool) (ls : List Line) → Sane s → Fine seen s ls → s .run .atom ≡ (r .atom || not het) → closes ls ≡ false → not het ≡ false
-tail-het seen s r het ls S f e c = or-none (r .atom) (not het) (sym e ∙ no-atom seen s ls S f c) .1
+pub tail-het : (seen : List Line) (s : State) (r : Run) (het : Bool) (ls : List Line) → Sane s → Fine seen s ls → s .run .atom ≡ either (r .atom) (not het) → closes ls ≡ false → not het ≡ false
+tail-het seen s r het ls S f e c = either-none (r .atom) (not het) (sym e ∙ no-atom seen s ls S f c) .1

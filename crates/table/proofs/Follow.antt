@@ -8,7 +8,7 @@ use mathlib.Core.Logic.{inl, inr}
 use native.Mathlib.Omega.{arith}
 use native.Mathlib.Nat.{le-trans, le-of-lt, le-refl}
 use borrow.Author.Tests.{leb-false, not-false}
-use Rattle.ascii.specs.Tests.{either}
+use Rattle.ascii.specs.Tests.{both, either}
 use Rattle.ascii.proofs.Choice.{never}
 use Rattle.kinds.specs.declared.Kind.the-variants as kind
 use Rattle.coordinate.specs.declared.Atom.{Atom}
@@ -88,7 +88,7 @@ back-next xs j t u ls c a h g T =
 -- ---- ATOM and HETATM lines
 site-run : (r k : Run) (het : Bool) (chain : ℕ) (c : Bool) → (c ≡ true → k ≡ r) → (c ≡ false → k .atom ≡ false) → (c ≡ false → not het ≡ false)
     → siteBad r het chain ≡ false → siteBad k het chain ≡ false
-unfolding siteBad
+unfolding siteBad both
 site-run r k het chain true x y z g = rw (x refl) g
 site-run r k het chain false x y z g = rw (not-false het (z refl), y refl)
 
@@ -121,7 +121,7 @@ module _ (xs : List Slot) (j : ℕ) (seen : List Line) (s k : State) (het : Bool
       refl refl
 
   pub site-in : isIn xs j ≡ true → Follows xs (j + 1) (nextOf s (Typed (Coordinate het a))) (nextOf k (Typed (Coordinate het a))) ls
-  unfolding nextOf typedNext siteNext
+  unfolding nextOf typedNext siteNext either
   site-in i =
       record {
         trails = record { place = inl refl; last = le-refl _; bond = M .trails .bond; helix = M .trails .helix; ladder = M .trails .ladder };

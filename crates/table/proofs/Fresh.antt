@@ -52,11 +52,14 @@ four-self p = both-join _ _ (both-join _ _ (equal (p .a)) (equal (p .b))) (both-
 
 three-self : (p : Three) → sameThree p p ≡ true
 unfolding sameThree
-three-self p = rw (equal (p .a), equal (p .b), equal (p .c))
+three-self p = both-join _ _ (equal (p .a)) (both-join _ _ (equal (p .b)) (equal (p .c)))
 
 residue-self : (r : Residue) → sameResidue r r ≡ true
 unfolding sameResidue
-residue-self r = rw (three-self (r .name), equal (r .chain), sign-self (isNeg (r .number .0)), equal (natAbs (r .number .0)), equal (r .insertion))
+residue-self r =
+    both-join _ _ (three-self (r .name))
+    (both-join _ _ (equal (r .chain))
+    (both-join _ _ (both-join _ _ (sign-self (isNeg (r .number .0))) (equal (natAbs (r .number .0)))) (equal (r .insertion))))
 
 position-self : (p : Position) → samePosition p p ≡ true
 unfolding samePosition

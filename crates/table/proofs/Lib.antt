@@ -4,7 +4,6 @@ pub mod Orders
 pub mod Fresh
 pub mod Rows
 pub mod Aside
-pub mod Tests
 pub mod Plain
 pub mod Master
 pub mod Fine

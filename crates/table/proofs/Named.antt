@@ -10,7 +10,7 @@ use lib.Dec.{eqb}
 use lib.ListN.{length, take, getD}
 use lib.Seq.{take-suc}
 use Rattle.ascii.specs.Tests.{both, either}
-use Rattle.ascii.proofs.Choice.{never}
+use Rattle.ascii.proofs.Choice.{never, both-split, either-split, either-left, either-right, either-none}
 use Rattle.conect.specs.declared.Conect.{Conect as ConectOf}
 use Rattle.line.specs.declared.Record.the-variants.{Coordinate, Ter, Helix, Sheet, Conect, Master, End}
 use Rattle.pieces.specs.declared.Line.{Line}
@@ -20,7 +20,6 @@ use Rattle.gate.specs.Search.{serialOf}
 use Rattle.slots.specs.declared.Slot.{Slot}
 use Rattle.slots.specs.Slots.{markAside, noSlot}
 use Rattle.table.specs.Deal.{isAside, aside, namesAside}
-use Rattle.table.proofs.Tests.{and-split, or-split, or-left, or-right, either-none}
 use Rattle.table.proofs.Paired.{lineCloses, isIn, Beside}
 
 -- every atom among the lines seen whose slot is not set aside is among those kept; j slots stand before
@@ -65,36 +64,37 @@ module _ (xs : List Slot) (j : ℕ) (seen kept : List Line) (H : Held xs j seen 
   pub held-in : (l : Line) (ls : List Line) → Beside xs j l ls → Held xs (j + 1) (l ∷ seen) (l ∷ kept)
   unfolding someOf
   held-in l ls B n e a =
-      or-split (isSite n l) (named seen n) (λ s. or-left (isSite n l) (named kept n) s)
-      (λ s. or-right (isSite n l) (named kept n) (H n s (aside-more xs j n (B .within) a .0))) e
+      either-split (isSite n l) (named seen n) (λ s. either-left (isSite n l) (named kept n) s)
+      (λ s. either-right (isSite n l) (named kept n) (H n s (aside-more xs j n (B .within) a .0))) e
 
   -- one that is set aside
   pub held-out : (l : Line) (ls : List Line) → Beside xs j l ls → isIn xs j ≡ false → Held xs (j + 1) (l ∷ seen) kept
   unfolding someOf
   held-out l ls B out n e a =
       let b = aside-more xs j n (B .within) a in
-      or-split (isSite n l) (named seen n) (λ s. never (sym (b .1) ∙ site-aside xs j n l ls B out s)) (λ s. H n s (b .0)) e
+      either-split (isSite n l) (named seen n) (λ s. never (sym (b .1) ∙ site-aside xs j n l ls B out s)) (λ s. H n s (b .0)) e
 
   -- a line that is no atom, dropped or kept as m
   pub held-skip : (l : Line) → ((n : ℕ) → isSite n l ≡ false) → Held xs j (l ∷ seen) kept
   unfolding someOf
-  held-skip l none n e a = or-split (isSite n l) (named seen n) (λ s. never (sym (none n) ∙ s)) (λ s. H n s a) e
+  held-skip l none n e a = either-split (isSite n l) (named seen n) (λ s. never (sym (none n) ∙ s)) (λ s. H n s a) e
 
   pub held-other : (l m : Line) → ((n : ℕ) → isSite n l ≡ false) → Held xs j (l ∷ seen) (m ∷ kept)
   unfolding someOf
-  held-other l m none n e a = or-right (isSite n m) (named kept n) (held-skip l none n e a)
+  held-other l m none n e a = either-right (isSite n m) (named kept n) (held-skip l none n e a)
 
   held-partner : (n : ℕ) → partnerKnown seen n ≡ true → aside (take j xs) n ≡ false → partnerKnown kept n ≡ true
   held-partner n e a =
-      or-split (eqb n 0) (named seen n) (λ z. or-left (eqb n 0) (named kept n) z) (λ s. or-right (eqb n 0) (named kept n) (H n s a)) e
+      either-split (eqb n 0) (named seen n) (λ z. either-left (eqb n 0) (named kept n) z) (λ s. either-right (eqb n 0) (named kept n) (H n s a)) e
 
   -- the numbers on a CONECT line that stays are known among the lines kept
   pub held-bond : (c : ConectOf) → knownOf seen (Typed (Conect c)) ≡ true → namesAside (take j xs) c ≡ false → knownOf kept (Typed (Conect c)) ≡ true
+  unfolding both
   held-bond c e a =
-      let k0 = and-split (named seen (c .serial .0)) _ e in
-      let k1 = and-split (partnerKnown seen (c .a .0)) _ (k0 .1) in
-      let k2 = and-split (partnerKnown seen (c .b .0)) _ (k1 .1) in
-      let k3 = and-split (partnerKnown seen (c .c .0)) _ (k2 .1) in
+      let k0 = both-split (named seen (c .serial .0)) _ e in
+      let k1 = both-split (partnerKnown seen (c .a .0)) _ (k0 .1) in
+      let k2 = both-split (partnerKnown seen (c .b .0)) _ (k1 .1) in
+      let k3 = both-split (partnerKnown seen (c .c .0)) _ (k2 .1) in
       let a0 = either-none (aside (take j xs) (c .serial .0)) _ a in
       let a1 = either-none (aside (take j xs) (c .a .0)) _ (a0 .1) in
       let a2 = either-none (aside (take j xs) (c .b .0)) _ (a1 .1) in

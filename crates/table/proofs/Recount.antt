@@ -8,7 +8,7 @@ use native.Mathlib.Omega.{arith}
 use borrow.Author.Tests.{eqb-true, not-false}
 use lib.Dec.{eqb}
 use Rattle.ascii.specs.Tests.{pick}
-use Rattle.ascii.proofs.Choice.{picks}
+use Rattle.ascii.proofs.Choice.{picks, both-split}
 use Rattle.line.specs.declared.Record.the-variants.{Coordinate, Ter, Helix, Sheet, Conect, Master, End}
 use Rattle.master.specs.declared.Tally.{Tally}
 use Rattle.pieces.specs.declared.Line.{Line}
@@ -17,10 +17,9 @@ use Rattle.pieces.specs.Pieces.{lineOf}
 use Rattle.rules.specs.declared.Counts.{Counts}
 use Rattle.rules.specs.declared.State.{State}
 use Rattle.rules.specs.Counts.{countOf, noCounts, oneMore, raised, sameCounts}
-use Rattle.rules.specs.Rules.{judgeOf, carriedNext, typedNext, nextOf, startOf}
+use Rattle.rules.specs.Rules.{lineKind, judgeOf, carriedNext, typedNext, nextOf, startOf}
 use Rattle.rules.proofs.Laws.{judge-typed, judge-wrong}
-use Rattle.table.specs.Deal.{lineKind, counted, tallyOf, masterPiece, isMaster}
-use Rattle.table.proofs.Tests.{and-split}
+use Rattle.table.specs.Deal.{counted, tallyOf, masterPiece, isMaster}
 use Rattle.table.proofs.Plain.{Small, Plain}
 use Rattle.table.proofs.Master.{master-line}
 
@@ -98,14 +97,14 @@ under-next known false q s l p e u = rw (counts-next known s l p e) (under-skip 
 small-under : (m : Tally) (c q : Counts) → Small m → sameCounts m c ≡ true → Under q c → Small (tallyOf q)
 unfolding sameCounts
 small-under m c q s e u =
-    let e1 = and-split (eqb (m .remark) (c .remark)) _ e in
-    let e2 = and-split (eqb (m .het) (c .het)) _ (e1 .1) in
-    let e3 = and-split (eqb (m .helix) (c .helix)) _ (e2 .1) in
-    let e4 = and-split (eqb (m .sheet) (c .sheet)) _ (e3 .1) in
-    let e5 = and-split (eqb (m .xform) (c .xform)) _ (e4 .1) in
-    let e6 = and-split (eqb (m .coord) (c .coord)) _ (e5 .1) in
-    let e7 = and-split (eqb (m .ter) (c .ter)) _ (e6 .1) in
-    let e8 = and-split (eqb (m .conect) (c .conect)) _ (e7 .1) in
+    let e1 = both-split (eqb (m .remark) (c .remark)) _ e in
+    let e2 = both-split (eqb (m .het) (c .het)) _ (e1 .1) in
+    let e3 = both-split (eqb (m .helix) (c .helix)) _ (e2 .1) in
+    let e4 = both-split (eqb (m .sheet) (c .sheet)) _ (e3 .1) in
+    let e5 = both-split (eqb (m .xform) (c .xform)) _ (e4 .1) in
+    let e6 = both-split (eqb (m .coord) (c .coord)) _ (e5 .1) in
+    let e7 = both-split (eqb (m .ter) (c .ter)) _ (e6 .1) in
+    let e8 = both-split (eqb (m .conect) (c .conect)) _ (e7 .1) in
     record {
       remark = top (m .remark) (c .remark) (q .remark) (s .remark) (e1 .0) (u .remark);
       het = top (m .het) (c .het) (q .het) (s .het) (e2 .0) (u .het);

@@ -12,7 +12,8 @@ use Rattle.rules.specs.Counts.{countOf, raised}
 use Rattle.gate.specs.Search.{isCoord}
 use Rattle.slots.specs.declared.Slot.{Slot}
 use Rattle.table.specs.Table.{oneOf}
-use Rattle.table.specs.Deal.{stays, lineKind, counted}
+use Rattle.rules.specs.Rules.{lineKind}
+use Rattle.table.specs.Deal.{stays, counted}
 use Rattle.table.proofs.Recount.{recounted}
 use Rattle.table.proofs.Paired.{isIn, Paired}
 

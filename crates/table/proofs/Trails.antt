@@ -7,6 +7,7 @@ use mathlib.Core.Logic.{_⊎_, inl, inr}
 use native.Mathlib.Omega.{arith}
 use native.Mathlib.Nat.{lt-of-le-of-lt, le-trans}
 use borrow.Author.Tests.{leb-false, lt-leb, ltb-false, le-ltb, le-leb, eq-eqb}
+use Rattle.ascii.specs.Tests.{both, either}
 use Rattle.ascii.proofs.Choice.{never}
 use Rattle.kinds.specs.declared.Kind.{Kind}
 use Rattle.kinds.specs.declared.Kind.the-variants as kind
@@ -56,7 +57,7 @@ behind-before k s (inl e) b = e
 behind-before k s (inr g) b = absurd (not-before s (g .2) (omega (arith, g .3)) b)
 
 place-ok : (p : ℕ) (k : Kind) → placeOf k .low ≤ p → p ≤ placeOf k .high → placeBad p k ≡ false
-unfolding placeBad
+unfolding placeBad both
 place-ok p k h g = rw (le-leb (placeOf k .low) p h, le-leb p (placeOf k .high) g)
 
 -- a kind that may follow every place from HEADER's on
@@ -78,10 +79,12 @@ serial-trails a b End h e = refl
 
 -- a CONECT line's serial is not below the last one's, and its numbers are known
 pub bond-split : (known : Bool) (last : ℕ) (c : ConectOf) → bondBad known last (Conect c) ≡ false → (known ≡ true) × (last ≤ c .serial .0)
+unfolding either
 bond-split true last c e = (refl, ltb-false _ _ e)
 bond-split false last c e = never (sym e)
 
 pub bond-join : (known : Bool) (last : ℕ) (c : ConectOf) → known ≡ true → last ≤ c .serial .0 → bondBad known last (Conect c) ≡ false
+unfolding either
 bond-join known last c e h = rw (e, le-ltb (c .serial .0) last h)
 
 -- ---- a typed line among the kept ones, where its place, its run, its bonds and its counts are right
@@ -101,7 +104,7 @@ good-trails known v s k r T g p run bond count =
 
 -- MASTER counted again
 same-tally : (q : Counts) → sameCounts (tallyOf q) q ≡ true
-unfolding sameCounts
+unfolding sameCounts both
 same-tally q =
     rw (eq-eqb (q .remark) (q .remark) refl, eq-eqb (q .het) (q .het) refl, eq-eqb (q .helix) (q .helix) refl, eq-eqb (q .sheet) (q .sheet) refl, eq-eqb (q .xform) (q .xform) refl, eq-eqb (q .coord) (q .coord) refl, eq-eqb (q .ter) (q .ter) refl, eq-eqb (q .conect) (q .conect) refl, eq-eqb (q .seq) (q .seq) refl)
 

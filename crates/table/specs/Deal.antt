@@ -6,8 +6,6 @@ use lib.ListN.{length, take, getD}
 use lib.Dec.{eqb, ltb}
 use Rattle.ascii.specs.Bytes.{bytes}
 use Rattle.ascii.specs.Tests.{pick, both, either}
-use Rattle.kinds.specs.declared.Kind.{Kind}
-use Rattle.kinds.specs.declared.Kind.the-variants as kind
 use Rattle.conect.specs.declared.Conect.{Conect as ConectOf}
 use Rattle.line.specs.declared.Record.{Record}
 use Rattle.line.specs.declared.Record.the-variants.{Coordinate, Ter, Helix, Sheet, Conect, Master, End}
@@ -18,7 +16,7 @@ use Rattle.pieces.specs.declared.Line.the-variants as line
 use Rattle.pieces.specs.Pieces.{lineOf}
 use Rattle.rules.specs.declared.Counts.{Counts}
 use Rattle.rules.specs.Counts.{countOf, noCounts, raised}
-use Rattle.rules.specs.Rules.{recordKind, sameSign}
+use Rattle.rules.specs.Rules.{lineKind, sameSign}
 use Rattle.gate.specs.Text.{cut}
 use Rattle.gate.specs.Search.{isCoord}
 use Rattle.slots.specs.declared.Slot.{Slot}
@@ -60,13 +58,6 @@ lineAside xs (line.Typed r) = recordAside xs r
 -- k slots stand before the line: a line with a slot stays unless that is set aside, a CONECT line unless it names an atom set aside
 unfoldable pub stays : List Slot → ℕ → Line → Bool
 stays xs k l = pick (isCoord l) (not (eqb (getD xs k noSlot .mark) markAside)) (not (lineAside (take k xs) l))
-
--- the kind of a line
-abbrev pub lineKind : Line → Kind
-lineKind (line.Bad n) = kind.Unknown
-lineKind (line.Wrong k column) = k
-lineKind (line.Carried k) = k
-lineKind (line.Typed r) = recordKind r
 
 -- the counts of the lines that stay, with this one
 unfoldable pub counted : Bool → Counts → Line → Counts

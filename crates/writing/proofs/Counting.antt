@@ -7,7 +7,8 @@ use Rattle.kinds.specs.declared.Kind.{Kind}
 use Rattle.pieces.specs.declared.Line.{Line}
 use Rattle.rules.specs.declared.Counts.{Counts}
 use Rattle.rules.specs.Counts.{countOf, raised}
-use Rattle.table.specs.Deal.{lineKind, counted}
+use Rattle.rules.specs.Rules.{lineKind}
+use Rattle.table.specs.Deal.{counted}
 
 pub stays-counted : (stay : Bool) (q r : Counts) (l : Line) (k : Kind) (n : ℕ) → stay ≡ true → k ≡ lineKind l → n ≡ countOf k → r ≡ raised q n → r ≡ counted stay q l
 unfolding counted

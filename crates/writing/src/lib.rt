@@ -11,9 +11,9 @@ ghost use Prim.Native.Nat.{_+_, _*_, _≤_};
 ghost use lib.ListN.{length, take, drop};
 ghost use Rattle.columns.specs.Columns.{Put};
 ghost use Rattle.rules.specs.Room.{Room};
-ghost use Rattle.rules.specs.Rules.{sameSign};
+ghost use Rattle.rules.specs.Rules.{lineKind, sameSign};
 ghost use Rattle.gate.specs.Text.{pieceAt, row};
-ghost use Rattle.table.specs.Deal.{lineKind, counted, tallyOf, masterPiece, recordMaster, isMaster, share};
+ghost use Rattle.table.specs.Deal.{counted, tallyOf, masterPiece, recordMaster, isMaster, share};
 ghost use Rattle.writing.specs.Small.{Small};
 
 fn line_kind(l: Line) -> Kind

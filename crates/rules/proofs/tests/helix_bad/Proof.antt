@@ -11,12 +11,12 @@ unfinished-requires c κs = tt
 not-of-requires : tie.Need-not-of-requires
 not-of-requires c κs = tt
 
-or-of-requires : tie.Need-or-of-requires
-or-of-requires c κs = tt
+either-of-requires : tie.Need-either-of-requires
+either-of-requires c κs = tt
 
 returns : tie.Need-returns
-returns c = rw (c .or-of .ensures, c .before .not-of .ensures, c .before .before .unfinished .ensures)
+returns c = rw (c .either-of .ensures, c .before .not-of .ensures, c .before .before .unfinished .ensures)
 
 pub helix-bad-spec : {M : Type 1} → statement M
 helix-bad-spec =
-    tie.close (tie.spec add-e unfinished-requires not-of-requires or-of-requires returns)
+    tie.close (tie.spec add-e unfinished-requires not-of-requires either-of-requires returns)

@@ -20,8 +20,8 @@ not-of-requires c κs = tt
 choose-requires : tie.Need-choose-requires
 choose-requires c κs = tt
 
-and-of-requires : tie.Need-and-of-requires
-and-of-requires c κs = tt
+both-of-requires : tie.Need-both-of-requires
+both-of-requires c κs = tt
 
 returns : tie.Need-returns
 returns c = search numbers
@@ -36,5 +36,5 @@ same-number-spec =
     magnitude-requires-2
     not-of-requires
     choose-requires
-    and-of-requires
+    both-of-requires
     returns)

@@ -8,18 +8,18 @@ same-three-requires c κs = tt
 same-number-requires : tie.Need-same-number-requires
 same-number-requires c κs = tt
 
-and-of-requires : tie.Need-and-of-requires
-and-of-requires c κs = tt
+both-of-requires : tie.Need-both-of-requires
+both-of-requires c κs = tt
 
-and-of-requires-2 : tie.Need-and-of-requires-2
-and-of-requires-2 c κs = tt
+both-of-requires-2 : tie.Need-both-of-requires-2
+both-of-requires-2 c κs = tt
 
-and-of-requires-3 : tie.Need-and-of-requires-3
-and-of-requires-3 c κs = tt
+both-of-requires-3 : tie.Need-both-of-requires-3
+both-of-requires-3 c κs = tt
 
 returns : tie.Need-returns
 unfolding sameResidue
-returns c = rw (c .and-of3 .ensures, c .before .and-of2 .ensures, c .before .before .before .before .and-of .ensures, c .before .before .before .before .before .before .before .same-number .ensures, c .before .before .before .before .before .before .before .before .same-three .ensures)
+returns c = rw (c .both-of3 .ensures, c .before .both-of2 .ensures, c .before .before .before .before .both-of .ensures, c .before .before .before .before .before .before .before .same-number .ensures, c .before .before .before .before .before .before .before .before .same-three .ensures)
 
 pub same-residue-spec : {M : Type 1} → statement M
 same-residue-spec =
@@ -27,7 +27,7 @@ same-residue-spec =
     (tie.spec
     same-three-requires
     same-number-requires
-    and-of-requires
-    and-of-requires-2
-    and-of-requires-3
+    both-of-requires
+    both-of-requires-2
+    both-of-requires-3
     returns)

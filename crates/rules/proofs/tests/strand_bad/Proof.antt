@@ -15,20 +15,20 @@ cast-next-2 c = search needs
 add-next : tie.Need-add-next
 add-next c = search needs
 
-and-of-requires : tie.Need-and-of-requires
-and-of-requires c κs = tt
+both-of-requires : tie.Need-both-of-requires
+both-of-requires c κs = tt
 
-and-of-requires-2 : tie.Need-and-of-requires-2
-and-of-requires-2 c κs = tt
+both-of-requires-2 : tie.Need-both-of-requires-2
+both-of-requires-2 c κs = tt
 
-and-of-requires-3 : tie.Need-and-of-requires-3
-and-of-requires-3 c κs = tt
+both-of-requires-3 : tie.Need-both-of-requires-3
+both-of-requires-3 c κs = tt
 
 not-of-requires : tie.Need-not-of-requires
 not-of-requires c κs = tt
 
-or-of-requires : tie.Need-or-of-requires
-or-of-requires c κs = tt
+either-of-requires : tie.Need-either-of-requires
+either-of-requires c κs = tt
 
 unfinished-requires : tie.Need-unfinished-requires
 unfinished-requires c κs = tt
@@ -41,7 +41,7 @@ choose-requires c κs = tt
 
 returns : tie.Need-returns
 unfolding strandBad
-returns c = rw (c .choose .ensures, c .before .not-of2 .ensures, c .before .before .unfinished .ensures, c .before .before .before .or-of .ensures, c .before .before .before .before .not-of .ensures, c .before .before .before .before .before .before .and-of3 .ensures, c .before .before .before .before .before .before .before .before .and-of2 .ensures, c .before .before .before .before .before .before .before .before .before .and-of .ensures, c .before .before .before .before .before .before .before .before .before .before .before .before .before .before .same-three .ensures)
+returns c = rw (c .choose .ensures, c .before .not-of2 .ensures, c .before .before .unfinished .ensures, c .before .before .before .either-of .ensures, c .before .before .before .before .not-of .ensures, c .before .before .before .before .before .before .both-of3 .ensures, c .before .before .before .before .before .before .before .before .both-of2 .ensures, c .before .before .before .before .before .before .before .before .before .both-of .ensures, c .before .before .before .before .before .before .before .before .before .before .before .before .before .before .same-three .ensures)
 
 pub strand-bad-spec : {M : Type 1} → statement M
 strand-bad-spec =
@@ -51,11 +51,11 @@ strand-bad-spec =
     cast-next
     cast-next-2
     add-next
-    and-of-requires
-    and-of-requires-2
-    and-of-requires-3
+    both-of-requires
+    both-of-requires-2
+    both-of-requires-3
     not-of-requires
-    or-of-requires
+    either-of-requires
     unfinished-requires
     not-of-requires-2
     choose-requires
