@@ -22,8 +22,8 @@ use borrow.Table.Copies
 use borrow.Table.Reads as Reads
 use borrow.Table.Row.{Row}
 use borrow.Table.Rows as Rows
-use Rattle.station.proofs.answers.Filled as Filled
-use Rattle.station.proofs.answers.Filled.Laws as Laws
+use Rattle.answers.proofs.Filled as Filled
+use Rattle.answers.proofs.Filled.Laws as Laws
 
 abbrev pub row : RattleType
 row = Declared.row Filled.the-type

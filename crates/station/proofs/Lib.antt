@@ -1,4 +1,3 @@
-mod Rewriting
 pub mod FilledAs
 pub mod SlotAs
 pub mod TallyAs

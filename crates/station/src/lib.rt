@@ -1,13 +1,5 @@
 // The names that C calls. Each function is a thin cover over a proved one, and says the same.
-mod answers;
-
-use answers::fill;
-use answers::filled_number;
-use answers::filled_slot;
-use answers::put_dot;
-use answers::put_frame;
-use answers::put_stroke;
-use answers::twelve;
+use answers::Filled;
 use fields::FragmentNumber;
 use line::Answer;
 use master::Tally;
@@ -21,7 +13,7 @@ ghost use Rattle.table.specs.Deal.{saveOf, trayOf};
 ghost use Rattle.tally.specs.Tally.{counted, tallyLine};
 ghost use Rattle.feed.specs.Feed.{dotOf, strokeOf};
 ghost use Rattle.feed.specs.Frame.{frameOf};
-ghost use Rattle.station.specs.Boundary.{answered, twelveOf, asideOf, slotAnswer, rewriteAnswer, dotAnswer, strokeAnswer, frameAnswer};
+ghost use Rattle.answers.specs.Boundary.{answered, twelveOf, asideOf, slotAnswer, rewriteAnswer, dotAnswer, strokeAnswer, frameAnswer};
 
 // The check of a text: 0, 1-12.
 #[no_mangle]
@@ -30,7 +22,7 @@ pub extern "C" fn station_check(text: &[u8], answer: &mut [u64; 12]) -> u32
     ensures { λ r. ⌜ now (answer .exit) ≡ twelveOf (checkOf (now (text .entry))) ⌝ }
 {
     let v = gate::check(text);
-    *answer = twelve(v);
+    *answer = answers::twelve(v);
     v.number as u32
 }
 
@@ -49,7 +41,12 @@ pub extern "C" fn station_load(text: &[u8], table: &mut [Slot], count: &mut u64)
 pub extern "C" fn station_order(text: &[u8], table: &mut [Slot], fragment: u32, aside: u8) -> u32
     ensures { λ r. ⌜ told r 0 (now (table .exit)) ≡ orderOf (now (text .entry)) (now (table .entry)) fragment (asideOf aside) ⌝ }
 {
-    let n = store::order(text, table, FragmentNumber(fragment), aside != 0);
+    let n = store::order(
+        text,
+        table,
+        FragmentNumber(fragment),
+        answers::is_aside(aside),
+    );
     n as u32
 }
 
@@ -73,14 +70,21 @@ pub extern "C" fn station_tray(text: &[u8], table: &[Slot], out: &mut [u8], coun
     o.number as u32
 }
 
+// The slot of a line, or the one that was found.
+fn fill(line: &[u8], found: Slot) -> Filled
+    ensures { λ r. ⌜ answered (r .number) (r .slot) ≡ slotAnswer (slotLine (now (line .entry))) found ⌝ }
+{
+    answers::slot_answer(slots::slot_of_line(line), found)
+}
+
 // The slot of one line: 0; or 1, 3, 4, 6 and the slot as found.
 #[no_mangle]
 pub extern "C" fn station_slot_of_line(line: &[u8], slot: &mut Slot) -> u32
     ensures { λ r. ⌜ answered r (now (slot .exit)) ≡ slotAnswer (slotLine (now (line .entry))) (now (slot .entry)) ⌝ }
 {
     let f = fill(line, *slot);
-    *slot = filled_slot(f);
-    filled_number(f)
+    *slot = answers::filled_slot(f);
+    answers::filled_number(f)
 }
 
 // Reads one typed line and writes its record, which is the line again: 0; or 1, 3, 4, 6, 17 and all as found.
@@ -99,7 +103,7 @@ pub extern "C" fn station_rewrite_line(line: &[u8], out: &mut [u8]) -> u32
 pub extern "C" fn station_dot(slot: &Slot, out: &mut [f64; 3]) -> u32
     ensures { λ r. ⌜ answered r (now (out .exit)) ≡ dotAnswer (dotOf (now (slot .entry))) (now (out .entry)) ⌝ }
 {
-    put_dot(feed::dot(*slot), out)
+    answers::put_dot(feed::dot(*slot), out)
 }
 
 // The stroke from one slot to another: 1; or 0 and all as found.
@@ -107,7 +111,7 @@ pub extern "C" fn station_dot(slot: &Slot, out: &mut [f64; 3]) -> u32
 pub extern "C" fn station_stroke(a: &Slot, b: &Slot, out: &mut [f64; 6]) -> u32
     ensures { λ r. ⌜ answered r (now (out .exit)) ≡ strokeAnswer (strokeOf (now (a .entry)) (now (b .entry))) (now (out .entry)) ⌝ }
 {
-    put_stroke(feed::stroke(*a, *b), out)
+    answers::put_stroke(feed::stroke(*a, *b), out)
 }
 
 // The frame of a table: 0; or 19 and all as found.
@@ -115,7 +119,7 @@ pub extern "C" fn station_stroke(a: &Slot, b: &Slot, out: &mut [f64; 6]) -> u32
 pub extern "C" fn station_frame(table: &[Slot], out: &mut [f64; 9]) -> u32
     ensures { λ r. ⌜ answered r (now (out .exit)) ≡ frameAnswer (frameOf (now (table .entry))) (now (out .entry)) ⌝ }
 {
-    put_frame(feed::frame(table), out)
+    answers::put_frame(feed::frame(table), out)
 }
 
 // Counts a line in: 0; or 4, 14 and the tally as found.

@@ -1,4 +1,4 @@
-use Rattle.station.specs.Boundary.{twelveOf}
+use Rattle.answers.specs.Boundary.{twelveOf}
 use mathlib.Core.Path.{ap, _∙_}
 use borrow.Author.Needs.{needs}
 use Rattle.station.proofs.station_check.Statement.{statement}

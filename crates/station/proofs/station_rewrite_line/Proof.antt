@@ -1,4 +1,4 @@
-use Rattle.station.proofs.Rewriting.{rewrite-read}
+use Rattle.answers.proofs.Rewriting.{rewrite-read}
 use mathlib.Core.Path.{refl}
 use borrow.Author.Needs.{needs}
 use Rattle.station.proofs.station_rewrite_line.Statement.{statement}

@@ -123,7 +123,7 @@ abbrev b2 : Syntax.Body
 b2 = Syntax.assign (Syntax.place 5 []) (Syntax.addrOf (Syntax.place 2 (Syntax.deref (Syntax.tyArray (Syntax.tyFloat Ieee.binary64) 3) ∷ [])))
 
 abbrev b3 : Syntax.Body
-b3 = Syntax.call "station::answers::put_dot" (Syntax.copy (Syntax.place 3 []) ∷ Syntax.copy (Syntax.place 5 []) ∷ []) (Syntax.place 0 [])
+b3 = Syntax.call "answers::put_dot" (Syntax.copy (Syntax.place 3 []) ∷ Syntax.copy (Syntax.place 5 []) ∷ []) (Syntax.place 0 [])
 
 abbrev b4 : Syntax.Body
 b4 = Syntax.return
@@ -345,7 +345,7 @@ module _ (claims· : Claims) where
       module _ (M : Type 1) where
         abbrev pub Closed : Type 2
         Closed = (𝓤 : URA.URA M) (H : Wp.Heap 𝓤) (A : Atoms.Atoms 𝓤) (W : Kit.Given 𝓤 H A) (𝓣 : Wp.Tables 𝓤 H) (known0 : Plain.Known 𝓤 H A W 𝓣 0 ps·0 r·0
-            (claims· .0) (claims· .1) "feed::dot") (known1 : Plain.Known 𝓤 H A W 𝓣 1 ps·1 r·1 (claims· .2) (claims· .3) "station::answers::put_dot") →
+            (claims· .0) (claims· .1) "feed::dot") (known1 : Plain.Known 𝓤 H A W 𝓣 1 ps·1 r·1 (claims· .2) (claims· .3) "answers::put_dot") →
             Statement.Triple 𝓤 (Wp.WpFn 𝓤 H (𝓣 .C) (𝓣 .Λ) (Function.fnOf 2 ps r xs m hs body)) (Function.plainOf 𝓤 H A 2 ps r Pre· Post·)
 
       module _ where
@@ -388,7 +388,7 @@ module _ (claims· : Claims) where
         module _ {M : Type 1} (𝓤 : URA.URA M) (H : Wp.Heap 𝓤) (A : Atoms.Atoms 𝓤) (W : Kit.Given 𝓤 H A) (𝓣 : Wp.Tables 𝓤 H) where
           abbrev Knowns : Type 1
           Knowns = Plain.Known 𝓤 H A W 𝓣 0 ps·0 r·0 (claims· .0) (claims· .1) "feed::dot" × Plain.Known 𝓤 H A W 𝓣 1 ps·1 r·1 (claims· .2) (claims· .3)
-              "station::answers::put_dot"
+              "answers::put_dot"
 
         module _ (κs : Lifetimes.Lfts 2) (qs : Lifetimes.Shares 2) where
           abbrev g5 : List.List Row.Entry
@@ -518,7 +518,7 @@ module _ (claims· : Claims) where
 
             d5 : Typed.Typed 𝓤 H A 𝓣 E G6 b5 Δ0 at5
             d5 = Typed.s-seq 𝓤 H A W 𝓣 E G6 G7 b3 b4 Δ0 (Typed.both s5) at4 (Plain.t-call-plain 𝓤 H A W 𝓣 1 ps·1 r·1 (claims· .2) (claims· .3)
-                "station::answers::put_dot" (known .1) E (λ pos β. β) G6 (
+                "answers::put_dot" (known .1) E (λ pos β. β) G6 (
                   record { pos = 3; st = []; d = 0; at = λ x. x },
                   (
                     record {
@@ -756,7 +756,7 @@ module _ (claims· : Claims) where
             asked = λ a good pre bs. laid record { κs = κs; args = record { slot = a .0; out = a .1 .0 }; good = good; pre = pre }
 
           module _ {M : Type 1} (𝓤 : URA.URA M) (H : Wp.Heap 𝓤) (A : Atoms.Atoms 𝓤) (W : Kit.Given 𝓤 H A) (𝓣 : Wp.Tables 𝓤 H) (known0 : Plain.Known 𝓤 H A W 𝓣 0
-              ps·0 r·0 (claims· .0) (claims· .1) "feed::dot") (known1 : Plain.Known 𝓤 H A W 𝓣 1 ps·1 r·1 (claims· .2) (claims· .3) "station::answers::put_dot")
+              ps·0 r·0 (claims· .0) (claims· .1) "feed::dot") (known1 : Plain.Known 𝓤 H A W 𝓣 1 ps·1 r·1 (claims· .2) (claims· .3) "answers::put_dot")
             where
               pub spec : Statement.Triple 𝓤 (Wp.WpFn 𝓤 H (𝓣 .C) (𝓣 .Λ) (Function.fnOf 2 ps r xs m hs body)) (Function.plainOf 𝓤 H A 2 ps r Pre· Post·)
               spec = Plain.t-fn-plain 𝓤 H A W 𝓣 2 ps r xs m hs body (λ κs qs bs. Φ) (λ κs qs bs bd. typed κs qs 𝓤 H A W 𝓣 (known0, known1) bs bd) Pre· Post· asked

@@ -2,9 +2,9 @@
 use Rattle.feed.proofs.dot.Met
 use Rattle.feed.proofs.dot.Reads
 use Rattle.feed.proofs.dot.Symbol
-use Rattle.station.proofs.answers.put_dot.Met as Met'
-use Rattle.station.proofs.answers.put_dot.Reads as Reads'
-use Rattle.station.proofs.answers.put_dot.Symbol as Symbol'
+use Rattle.answers.proofs.put_dot.Met as Met'
+use Rattle.answers.proofs.put_dot.Reads as Reads'
+use Rattle.answers.proofs.put_dot.Symbol as Symbol'
 use Rattle.station.proofs.station_dot.Code
 use Rattle.station.proofs.station_dot.Key
 use Rattle.station.proofs.Walked.station_dot.Kinds
@@ -55,4 +55,4 @@ module _ {M : Type 1} where
       Reads''.owns κs record { M = M; 𝓤 = 𝓤; H = H; 𝓜 = 𝓜; 𝓖 = 𝓖; 𝓡 = 𝓡 }) (Reads''.passes record { M = M; 𝓤 = 𝓤; H = H; 𝓜 = 𝓜; 𝓖 = 𝓖; 𝓡 = 𝓡 }) λ g. closed 𝓤 H
       (𝓖 .A) (Running.givenOf 𝓤 H 𝓜 𝓖) (Run.Over 𝓤 H 𝓜 𝓖 𝓡 Code.env) (Reads.known record { M = M; 𝓤 = 𝓤; H = H; 𝓜 = 𝓜; 𝓖 = 𝓖; 𝓡 = 𝓡 } Code.env Symbol.name
       Symbol.routine Code.calls-feed·dot (Met.met 𝓤 H 𝓜 𝓖 𝓡)) (Reads'.known record { M = M; 𝓤 = 𝓤; H = H; 𝓜 = 𝓜; 𝓖 = 𝓖; 𝓡 = 𝓡 } Code.env Symbol'.name
-      Symbol'.routine Code.calls-station·answers·put-dot (Met'.met 𝓤 H 𝓜 𝓖 𝓡))
+      Symbol'.routine Code.calls-answers·put-dot (Met'.met 𝓤 H 𝓜 𝓖 𝓡))

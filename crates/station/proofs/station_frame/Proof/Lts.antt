@@ -121,7 +121,7 @@ abbrev b1 : Syntax.Body
 b1 = Syntax.assign (Syntax.place 4 []) (Syntax.addrOf (Syntax.place 2 (Syntax.deref (Syntax.tyArray (Syntax.tyFloat Ieee.binary64) 9) ∷ [])))
 
 abbrev b2 : Syntax.Body
-b2 = Syntax.call "station::answers::put_frame" (Syntax.copy (Syntax.place 3 []) ∷ Syntax.copy (Syntax.place 4 []) ∷ []) (Syntax.place 0 [])
+b2 = Syntax.call "answers::put_frame" (Syntax.copy (Syntax.place 3 []) ∷ Syntax.copy (Syntax.place 4 []) ∷ []) (Syntax.place 0 [])
 
 abbrev b3 : Syntax.Body
 b3 = Syntax.return
@@ -296,7 +296,7 @@ module _ (claims· : Claims) where
       module _ (M : Type 1) where
         abbrev pub Closed : Type 2
         Closed = (𝓤 : URA.URA M) (H : Wp.Heap 𝓤) (A : Atoms.Atoms 𝓤) (W : Kit.Given 𝓤 H A) (𝓣 : Wp.Tables 𝓤 H) (known0 : Plain.Known 𝓤 H A W 𝓣 1 ps·0 r·0
-            (claims· .0) (claims· .1) "feed::frame") (known1 : Plain.Known 𝓤 H A W 𝓣 1 ps·1 r·1 (claims· .2) (claims· .3) "station::answers::put_frame") →
+            (claims· .0) (claims· .1) "feed::frame") (known1 : Plain.Known 𝓤 H A W 𝓣 1 ps·1 r·1 (claims· .2) (claims· .3) "answers::put_frame") →
             Statement.Triple 𝓤 (Wp.WpFn 𝓤 H (𝓣 .C) (𝓣 .Λ) (Function.fnOf 2 ps r xs m hs body)) (Function.plainOf 𝓤 H A 2 ps r Pre· Post·)
 
       module _ where
@@ -333,7 +333,7 @@ module _ (claims· : Claims) where
         module _ {M : Type 1} (𝓤 : URA.URA M) (H : Wp.Heap 𝓤) (A : Atoms.Atoms 𝓤) (W : Kit.Given 𝓤 H A) (𝓣 : Wp.Tables 𝓤 H) where
           abbrev Knowns : Type 1
           Knowns = Plain.Known 𝓤 H A W 𝓣 1 ps·0 r·0 (claims· .0) (claims· .1) "feed::frame" × Plain.Known 𝓤 H A W 𝓣 1 ps·1 r·1 (claims· .2) (claims· .3)
-              "station::answers::put_frame"
+              "answers::put_frame"
 
         module _ (κs : Lifetimes.Lfts 2) (qs : Lifetimes.Shares 2) where
           abbrev g3 : List.List Row.Entry
@@ -451,7 +451,7 @@ module _ (claims· : Claims) where
 
             d5 : Typed.Typed 𝓤 H A 𝓣 E G4 b4 Δ0 at5
             d5 = Typed.s-seq 𝓤 H A W 𝓣 E G4 G5 b2 b3 Δ0 (Typed.both s3) at4 (Plain.t-call-plain 𝓤 H A W 𝓣 1 ps·1 r·1 (claims· .2) (claims· .3)
-                "station::answers::put_frame" (known .1) E (λ pos β. β) G4 (
+                "answers::put_frame" (known .1) E (λ pos β. β) G4 (
                   record { pos = 3; st = []; d = 0; at = λ x. x },
                   (
                     record {
@@ -681,6 +681,6 @@ module _ (claims· : Claims) where
 
           module _ {M : Type 1} (𝓤 : URA.URA M) (H : Wp.Heap 𝓤) (A : Atoms.Atoms 𝓤) (W : Kit.Given 𝓤 H A) (𝓣 : Wp.Tables 𝓤 H) (known0 : Plain.Known 𝓤 H A W 𝓣 1
               ps·0 r·0 (claims· .0) (claims· .1) "feed::frame") (known1 : Plain.Known 𝓤 H A W 𝓣 1 ps·1 r·1 (claims· .2) (claims· .3)
-              "station::answers::put_frame") where
+              "answers::put_frame") where
             pub spec : Statement.Triple 𝓤 (Wp.WpFn 𝓤 H (𝓣 .C) (𝓣 .Λ) (Function.fnOf 2 ps r xs m hs body)) (Function.plainOf 𝓤 H A 2 ps r Pre· Post·)
             spec = Plain.t-fn-plain 𝓤 H A W 𝓣 2 ps r xs m hs body (λ κs qs bs. Φ) (λ κs qs bs bd. typed κs qs 𝓤 H A W 𝓣 (known0, known1) bs bd) Pre· Post· asked

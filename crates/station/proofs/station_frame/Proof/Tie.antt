@@ -2,9 +2,9 @@
 use Rattle.feed.proofs.frame.Met
 use Rattle.station.proofs.Walked.feed.frame.Reads
 use Rattle.feed.proofs.frame.Symbol
-use Rattle.station.proofs.answers.put_frame.Met as Met'
-use Rattle.station.proofs.answers.put_frame.Reads as Reads'
-use Rattle.station.proofs.answers.put_frame.Symbol as Symbol'
+use Rattle.answers.proofs.put_frame.Met as Met'
+use Rattle.answers.proofs.put_frame.Reads as Reads'
+use Rattle.answers.proofs.put_frame.Symbol as Symbol'
 use Rattle.station.proofs.station_frame.Code
 use Rattle.station.proofs.station_frame.Key
 use Rattle.station.proofs.Walked.station_frame.Kinds
@@ -52,4 +52,4 @@ module _ {M : Type 1} where
       Reads''.owns κs record { M = M; 𝓤 = 𝓤; H = H; 𝓜 = 𝓜; 𝓖 = 𝓖; 𝓡 = 𝓡 }) (Reads''.passes record { M = M; 𝓤 = 𝓤; H = H; 𝓜 = 𝓜; 𝓖 = 𝓖; 𝓡 = 𝓡 }) λ g. closed 𝓤 H
       (𝓖 .A) (Running.givenOf 𝓤 H 𝓜 𝓖) (Run.Over 𝓤 H 𝓜 𝓖 𝓡 Code.env) (Reads.known record { M = M; 𝓤 = 𝓤; H = H; 𝓜 = 𝓜; 𝓖 = 𝓖; 𝓡 = 𝓡 } Code.env Symbol.name
       Symbol.routine Code.calls-feed·frame (Met.met 𝓤 H 𝓜 𝓖 𝓡)) (Reads'.known record { M = M; 𝓤 = 𝓤; H = H; 𝓜 = 𝓜; 𝓖 = 𝓖; 𝓡 = 𝓡 } Code.env Symbol'.name
-      Symbol'.routine Code.calls-station·answers·put-frame (Met'.met 𝓤 H 𝓜 𝓖 𝓡))
+      Symbol'.routine Code.calls-answers·put-frame (Met'.met 𝓤 H 𝓜 𝓖 𝓡))

@@ -67,8 +67,14 @@ xs = Syntax.tyInt Syntax.w8 ∷ Syntax.tyRef Syntax.erased Syntax.mut SlotAs.poi
 abbrev pub m : Nat.ℕ
 m = 1
 
-abbrev pub ps·0 : List.List (Kinds.PK 2)
-ps·0 = ShrSlice.pShrS (Referent.rtF (Referent.fInt Syntax.w8)) 0 tt ∷ MutSlice.pMutS SlotAs.row 1 tt ∷ (Value.pVal record {
+abbrev pub ps·0 : List.List (Kinds.PK 0)
+ps·0 = Num.pNum Syntax.w8 ∷ []
+
+abbrev pub r·0 : Kinds.RK 0
+r·0 = Bool.rBool
+
+abbrev pub ps·1 : List.List (Kinds.PK 2)
+ps·1 = ShrSlice.pShrS (Referent.rtF (Referent.fInt Syntax.w8)) 0 tt ∷ MutSlice.pMutS SlotAs.row 1 tt ∷ (Value.pVal record {
   ty = Declared.row
       FragmentNumber.the-type;
   one = Path'.refl;
@@ -90,8 +96,8 @@ ps·0 = ShrSlice.pShrS (Referent.rtF (Referent.fInt Syntax.w8)) 0 tt ∷ MutSlic
   of-mem = Local.whole-mem 𝓤 H A W (Declared.row FragmentNumber.the-type);
 }) ∷ Bool.pBool ∷ []
 
-abbrev pub r·0 : Kinds.RK 2
-r·0 = Num.rNum Syntax.w8
+abbrev pub r·1 : Kinds.RK 2
+r·1 = Num.rNum Syntax.w8
 
 abbrev pub hs : List.List Syntax.Home
 hs = Syntax.valueLocal ∷ Syntax.valueLocal ∷ Syntax.valueLocal ∷ Syntax.valueLocal ∷ Syntax.valueLocal ∷ Syntax.valueLocal ∷ Syntax.valueLocal ∷
@@ -107,7 +113,7 @@ abbrev b2 : Syntax.Body
 b2 = Syntax.assign (Syntax.place 8 []) (Syntax.aggregate (Syntax.copy (Syntax.place 3 []) ∷ []))
 
 abbrev b3 : Syntax.Body
-b3 = Syntax.assign (Syntax.place 9 []) (Syntax.op2 Syntax.ne (Syntax.copy (Syntax.place 4 [])) (Syntax.int Syntax.w8 0))
+b3 = Syntax.call "answers::is_aside" (Syntax.copy (Syntax.place 4 []) ∷ []) (Syntax.place 9 [])
 
 abbrev b4 : Syntax.Body
 b4 = Syntax.call "store::order" (Syntax.copy (Syntax.place 1 []) ∷ Syntax.copy (Syntax.place 7 []) ∷ Syntax.copy (Syntax.place 8 []) ∷
@@ -141,7 +147,7 @@ abbrev pub body : Syntax.Body
 body = b12
 
 abbrev pub Claims : Type 1
-Claims = Kinds.In 2 ps·0 × Kinds.Out 2 ps·0 r·0
+Claims = Kinds.In 0 ps·0 × Kinds.Out 0 ps·0 r·0 × Kinds.In 2 ps·1 × Kinds.Out 2 ps·1 r·1
 
 abbrev pub t0 : List.List Row.Entry
 t0 = (0, Rows.any-gone (Syntax.tyInt Syntax.w32)) ∷ (
@@ -530,15 +536,14 @@ module _ (claims· : Claims) where
   abbrev s4 : Typed.Mo T5 → Typed.Mo T6
   s4 = Make.n-struct-make (Apart.apartT FragmentNumber.the-type) T5 8 λ m. (m .1 .1 .1 .0, tt)
 
-  abbrev s5 : Typed.Asks T6 T7
-  s5 = Scalar.k-op2 T6 Syntax.ne (Scalar.oAt 4 (Syntax.tyInt Syntax.w8) (Row.valS (Row.sInt Syntax.w8))) (Scalar.oInt Syntax.w8 0) 9 (Rows.sc-here Row.sBool)
-      (Row.sBool .of)
+  abbrev s5 : Typed.Both T6 T7
+  s5 = Call.callB ps·0 r·0 (claims· .0) (claims· .1) T6 (Num.vAt 4 λ x. x, tt) 9 [] Syntax.tyBool
 
   abbrev s6 : Typed.Mo T7 → Typed.Mo T8
   s6 = AtSlots.n-as-by T7 8 (Rows.whole (Declared.row FragmentNumber.the-type)) λ v. FragmentNumber.struct .make v tt
 
   abbrev s7 : Typed.Both T8 T9
-  s7 = Call.callB ps·0 r·0 (claims· .0) (claims· .1) T8 (
+  s7 = Call.callB ps·1 r·1 (claims· .2) (claims· .3) T8 (
     record {
       pos = 1;
       ty = Syntax.tyRef (Syntax.named 0) Syntax.imm (Syntax.tyInt Syntax.w8);
@@ -587,9 +592,9 @@ module _ (claims· : Claims) where
     where
       module _ (M : Type 1) where
         abbrev pub Closed : Type 2
-        Closed = (𝓤 : URA.URA M) (H : Wp.Heap 𝓤) (A : Atoms.Atoms 𝓤) (W : Kit.Given 𝓤 H A) (𝓣 : Wp.Tables 𝓤 H) (known0 : Plain.Known 𝓤 H A W 𝓣 2 ps·0 r·0
-            (claims· .0) (claims· .1) "store::order") → Statement.Triple 𝓤 (Wp.WpFn 𝓤 H (𝓣 .C) (𝓣 .Λ) (Function.fnOf 2 ps r xs m hs body)) (Function.plainOf 𝓤 H
-            A 2 ps r Pre· Post·)
+        Closed = (𝓤 : URA.URA M) (H : Wp.Heap 𝓤) (A : Atoms.Atoms 𝓤) (W : Kit.Given 𝓤 H A) (𝓣 : Wp.Tables 𝓤 H) (known0 : Plain.Known 𝓤 H A W 𝓣 0 ps·0 r·0
+            (claims· .0) (claims· .1) "answers::is_aside") (known1 : Plain.Known 𝓤 H A W 𝓣 2 ps·1 r·1 (claims· .2) (claims· .3) "store::order") →
+            Statement.Triple 𝓤 (Wp.WpFn 𝓤 H (𝓣 .C) (𝓣 .Λ) (Function.fnOf 2 ps r xs m hs body)) (Function.plainOf 𝓤 H A 2 ps r Pre· Post·)
 
       module _ where
         abbrev at0 : Typed.TF T18 O0
@@ -629,7 +634,7 @@ module _ (claims· : Claims) where
         at11 = λ Ψ. Typed.pass T7 T8 s6 (at10 Ψ)
 
         abbrev at12 : Typed.TF T6 O0
-        at12 = λ Ψ. Typed.ask s5 (at11 Ψ)
+        at12 = λ Ψ. Typed.both s5 (at11 Ψ)
 
         abbrev at13 : Typed.TF T5 O0
         at13 = λ Ψ. Typed.pass T5 T6 s4 (at12 Ψ)
@@ -651,7 +656,8 @@ module _ (claims· : Claims) where
 
         module _ {M : Type 1} (𝓤 : URA.URA M) (H : Wp.Heap 𝓤) (A : Atoms.Atoms 𝓤) (W : Kit.Given 𝓤 H A) (𝓣 : Wp.Tables 𝓤 H) where
           abbrev Knowns : Type 1
-          Knowns = Plain.Known 𝓤 H A W 𝓣 2 ps·0 r·0 (claims· .0) (claims· .1) "store::order"
+          Knowns = Plain.Known 𝓤 H A W 𝓣 0 ps·0 r·0 (claims· .0) (claims· .1) "answers::is_aside" × Plain.Known 𝓤 H A W 𝓣 2 ps·1 r·1 (claims· .2) (claims· .3)
+              "store::order"
 
         module _ (κs : Lifetimes.Lfts 2) (qs : Lifetimes.Shares 2) where
           abbrev g2 : List.List Row.Entry
@@ -915,47 +921,42 @@ module _ (claims· : Claims) where
                 Path'.refl)) d8
 
             d10 : Typed.Typed 𝓤 H A 𝓣 E G8 b8 Δ0 at10
-            d10 = Typed.s-seq 𝓤 H A W 𝓣 E G8 G9 b4 b7 Δ0 (Typed.both s7) at9 (Plain.t-call-plain 𝓤 H A W 𝓣 2 ps·0 r·0 (claims· .0) (claims· .1) "store::order"
-                known E (λ pos β. β) G8 (
+            d10 = Typed.s-seq 𝓤 H A W 𝓣 E G8 G9 b4 b7 Δ0 (Typed.both s7) at9 (Plain.t-call-plain 𝓤 H A W 𝓣 2 ps·1 r·1 (claims· .2) (claims· .3) "store::order"
+                (known .1) E (λ pos β. β) G8 (
                   record { pos = 1; ty = Syntax.tyRef (Syntax.named 0) Syntax.imm (Syntax.tyInt Syntax.w8); ref = λ x. x },
                   (
-                    record {
-                      pos
-                          = 7;
-                      ty = Syntax.tyRef Syntax.erased Syntax.mut SlotAs.pointee;
-                      ref = λ x. x;
-                    },
+                    record
+                        { pos = 7; ty = Syntax.tyRef Syntax.erased Syntax.mut SlotAs.pointee; ref = λ x. x },
                     (
                       record { pos = 8; st = []; d = 0; at = λ x. x },
-                      (
-                        Bool.bAt
-                            9 λ x. x,
-                        tt,
-                      ),
+                      (Bool.bAt 9 λ x. x, tt),
                     ),
                   ),
                 ) 5 (0 ∷ 2 ∷ []) (Call.sub-id 𝓤 H A W (G8 .slots)) (
-                  ShrSlice.spares-sslice 𝓤 H A W (Referent.rtF (Referent.fInt Syntax.w8))
-                      (Syntax.tyRef (Syntax.named 0) Syntax.imm (Syntax.tyInt Syntax.w8)) 0,
-                  Shared.reads-sslice 𝓤 H A W (Referent.rtF (Referent.fInt Syntax.w8))
-                      (Syntax.tyRef (Syntax.named 0) Syntax.imm (Syntax.tyInt Syntax.w8)) 0,
+                  ShrSlice.spares-sslice 𝓤 H A W (Referent.rtF (Referent.fInt
+                      Syntax.w8)) (Syntax.tyRef (Syntax.named 0) Syntax.imm (Syntax.tyInt Syntax.w8)) 0,
+                  Shared.reads-sslice 𝓤 H A W (Referent.rtF (Referent.fInt
+                      Syntax.w8)) (Syntax.tyRef (Syntax.named 0) Syntax.imm (Syntax.tyInt Syntax.w8)) 0,
                   Path'.refl,
                   (
-                    Reads.as-is 𝓤 H A (Mut.mslice SlotAs.row (Syntax.tyRef
-                        Syntax.erased Syntax.mut SlotAs.pointee) 2),
-                    Mut.reads-mslice 𝓤 H A W SlotAs.row (Syntax.tyRef Syntax.erased Syntax.mut SlotAs.pointee) 2,
+                    Reads.as-is 𝓤 H A (Mut.mslice SlotAs.row
+                        (Syntax.tyRef Syntax.erased Syntax.mut SlotAs.pointee) 2),
+                    Mut.reads-mslice 𝓤 H A W SlotAs.row (Syntax.tyRef Syntax.erased Syntax.mut
+                        SlotAs.pointee) 2,
                     Path'.refl,
                     (
                       (
-                        Yields.yields-copy 𝓤 H A W (λ ρ. Unit) (Declared.row FragmentNumber.the-type) Path'.refl (Copies.cStruct FragmentNumber.the-type
-                            Laws.the-laws Laws.the-copy .copy 𝓤 H A W) (Rows.whole (Declared.row FragmentNumber.the-type)) (λ x. x) (λ x. x) (λ ρ told. Local.mem-whole 𝓤 H A
-                            W (Declared.row FragmentNumber.the-type) ρ) λ ρ told. Local.whole-mem 𝓤 H A W (Declared.row FragmentNumber.the-type) ρ,
+                        Yields.yields-copy 𝓤 H A W (λ ρ. Unit) (Declared.row FragmentNumber.the-type) Path'.refl (Copies.cStruct
+                            FragmentNumber.the-type Laws.the-laws Laws.the-copy .copy 𝓤 H A W) (Rows.whole (Declared.row FragmentNumber.the-type)) (λ x. x) (λ x. x) (λ ρ
+                            told. Local.mem-whole 𝓤 H A W (Declared.row FragmentNumber.the-type) ρ) λ ρ told. Local.whole-mem 𝓤 H A W (Declared.row FragmentNumber.the-type)
+                            ρ,
                         Path'.refl,
                       ),
                       ((Scalar.reads-sc 𝓤 H A W Row.sBool, Path'.refl), tt),
                     ),
                   ),
-                ) (Reads.room-gone 𝓤 H A (Syntax.tyInt Syntax.w8)) (tt, (tt, tt)) Path'.refl) d9
+                ) (Reads.room-gone 𝓤 H A (Syntax.tyInt Syntax.w8)) (tt, (tt, tt))
+                Path'.refl) d9
 
             d11 : Typed.Typed 𝓤 H A 𝓣 E G7 b8 Δ0 at11
             d11 = Typed.g-pre 𝓤 H A W 𝓣 E G7 G8 b8 Δ0 (Typed.pass T7 T8 s6) at10 (AtSlots.g-as-by 𝓤 H A W E (λ ρ. Unit) G7 8 (Rows.whole (Declared.row
@@ -963,10 +964,15 @@ module _ (claims· : Claims) where
                 FragmentNumber.the-type (FragmentNumber.struct .Ghost) (FragmentNumber.struct .make) (λ v g. Path'.refl) ρ v tt b) d10
 
             d12 : Typed.Typed 𝓤 H A 𝓣 E G6 b9 Δ0 at12
-            d12 = Typed.s-seq 𝓤 H A W 𝓣 E G6 G7 b3 b8 Δ0 (Typed.ask s5) at11 (Scalar.t-op2 𝓤 H A W E 𝓣 G6 Syntax.ne (Scalar.oAt 4 (Syntax.tyInt Syntax.w8)
-                (Row.valS (Row.sInt Syntax.w8))) (Scalar.oInt Syntax.w8 0) 9 (Rows.sc-here Row.sBool) Syntax.tyBool (Row.valS Row.sBool) (Row.sBool .of)
-                (Scalar.reads-sc 𝓤 H A W (Row.sInt Syntax.w8), Path'.refl) tt (Reads.room-gone 𝓤 H A Syntax.tyBool) (Scalar.holds-sc 𝓤 H A W Row.sBool)
-                Path'.refl (λ u. Path'.refl) λ u. tt) d11
+            d12 = Typed.s-seq 𝓤 H A W 𝓣 E G6 G7 b3 b8 Δ0 (Typed.both s5) at11 (Plain.t-call-plain 𝓤 H A W 𝓣 0 ps·0 r·0 (claims· .0) (claims· .1)
+                "answers::is_aside" (known .0) E (λ pos β. β) G6 (Num.vAt 4 λ x. x, tt) 9 [] (Call.sub-id 𝓤 H A W (G6 .slots)) (
+                  (
+                    Scalar.reads-sc 𝓤 H A W
+                        (Row.sInt Syntax.w8),
+                    Path'.refl,
+                  ),
+                  tt,
+                ) (Reads.room-gone 𝓤 H A Syntax.tyBool) tt Path'.refl) d11
 
             d13 : Typed.Typed 𝓤 H A 𝓣 E G5 b10 Δ0 at13
             d13 = Typed.s-seq 𝓤 H A W 𝓣 E G5 G6 b2 b9 Δ0 (Typed.pass T5 T6 s4) at12 (Make.t-struct-make 𝓤 H A W E 𝓣 (Apart.apartT FragmentNumber.the-type)
@@ -1089,12 +1095,6 @@ module _ (claims· : Claims) where
         abbrev pub m4 : (before : After-shared-slice-known) → (given : s2 .gives (m1 (before .before) (before .shared-slice-known .given))) → Typed.Mo T6
         m4 = λ before given. s4 (m3 before given)
 
-        abbrev pub m5 : (before : After-shared-slice-known) → (given : s2 .gives (m1 (before .before) (before .shared-slice-known .given))) → Typed.Mo T7
-        m5 = λ before given. s5 .next (m4 before given)
-
-        abbrev pub m6 : (before : After-shared-slice-known) → (given : s2 .gives (m1 (before .before) (before .shared-slice-known .given))) → Typed.Mo T8
-        m6 = λ before given. s6 (m5 before given)
-
         module _ (before· : After-shared-slice-known) where
           pub record After-order-arg·own : Type 0 where
             pub given : s2 .gives (m1 (before· .before) (before· .shared-slice-known .given))
@@ -1103,15 +1103,36 @@ module _ (claims· : Claims) where
           pub before : After-shared-slice-known
           pub order-arg : After-order-arg·own before
 
-        abbrev pub Need-order-requires : Type 0
-        Need-order-requires = (c : After-order-arg) → s7 .asks (m6 (c .before) (c .order-arg .given))
+        abbrev pub Need-is-aside-requires : Type 0
+        Need-is-aside-requires = (c : After-order-arg) → s5 .asks (m4 (c .before) (c .order-arg .given))
 
-        abbrev pub m7 : (before : After-order-arg) → (given : s7 .gives (m6 (before .before) (before .order-arg .given))) → Typed.Mo T9
-        m7 = λ before given. s7 .next (m6 (before .before) (before .order-arg .given)) given
+        abbrev pub m5 : (before : After-order-arg) → (given : s5 .gives (m4 (before .before) (before .order-arg .given))) → Typed.Mo T7
+        m5 = λ before given. s5 .next (m4 (before .before) (before .order-arg .given)) given
 
         module _ (before· : After-order-arg) where
+          abbrev pub After-is-aside·own : Type 0
+          After-is-aside·own = Called.Called ps·0 r·0 (claims· .1) T6 (Num.vAt 4 λ x. x, tt) (m4 (before· .before) (before· .order-arg .given))
+
+        pub record After-is-aside : Type 0 where
+          pub before : After-order-arg
+          pub is-aside : After-is-aside·own before
+
+        abbrev pub After-is-aside·gave : (c : After-is-aside) → s5 .gives (m4 (c .before .before) (c .before .order-arg .given))
+        After-is-aside·gave = λ c. Called.given ps·0 r·0 (claims· .1) T6 (Num.vAt 4 λ x. x, tt) (m4 (c .before .before) (c .before .order-arg .given)) (c
+            .is-aside)
+
+        abbrev pub m6 : (before : After-order-arg) → (given : s5 .gives (m4 (before .before) (before .order-arg .given))) → Typed.Mo T8
+        m6 = λ before given. s6 (m5 before given)
+
+        abbrev pub Need-order-requires : Type 0
+        Need-order-requires = (c : After-is-aside) → s7 .asks (m6 (c .before) (After-is-aside·gave c))
+
+        abbrev pub m7 : (before : After-is-aside) → (given : s7 .gives (m6 (before .before) (After-is-aside·gave before))) → Typed.Mo T9
+        m7 = λ before given. s7 .next (m6 (before .before) (After-is-aside·gave before)) given
+
+        module _ (before· : After-is-aside) where
           abbrev pub After-order·own : Type 0
-          After-order·own = Called.Called ps·0 r·0 (claims· .1) T8 (
+          After-order·own = Called.Called ps·1 r·1 (claims· .3) T8 (
             record {
               pos = 1;
               ty = Syntax.tyRef (Syntax.named 0) Syntax.imm (Syntax.tyInt Syntax.w8);
@@ -1130,14 +1151,14 @@ module _ (claims· : Claims) where
                 (Bool.bAt 9 λ x. x, tt),
               ),
             ),
-          ) (m6 (before· .before) (before· .order-arg .given))
+          ) (m6 (before· .before) (After-is-aside·gave before·))
 
         pub record After-order : Type 0 where
-          pub before : After-order-arg
+          pub before : After-is-aside
           pub order : After-order·own before
 
-        abbrev pub After-order·gave : (c : After-order) → s7 .gives (m6 (c .before .before) (c .before .order-arg .given))
-        After-order·gave = λ c. Called.given ps·0 r·0 (claims· .1) T8 (
+        abbrev pub After-order·gave : (c : After-order) → s7 .gives (m6 (c .before .before) (After-is-aside·gave (c .before)))
+        After-order·gave = λ c. Called.given ps·1 r·1 (claims· .3) T8 (
           record {
             pos = 1;
             ty = Syntax.tyRef (Syntax.named 0) Syntax.imm (Syntax.tyInt Syntax.w8);
@@ -1156,12 +1177,12 @@ module _ (claims· : Claims) where
               (Bool.bAt 9 λ x. x, tt),
             ),
           ),
-        ) (m6 (c .before .before) (c .before .order-arg .given)) (c .order)
+        ) (m6 (c .before .before) (After-is-aside·gave (c .before))) (c .order)
 
-        abbrev pub m8 : (before : After-order-arg) → (given : s7 .gives (m6 (before .before) (before .order-arg .given))) → Typed.Mo T10
+        abbrev pub m8 : (before : After-is-aside) → (given : s7 .gives (m6 (before .before) (After-is-aside·gave before))) → Typed.Mo T10
         m8 = λ before given. s8 (m7 before given)
 
-        abbrev pub m9 : (before : After-order-arg) → (given : s7 .gives (m6 (before .before) (before .order-arg .given))) → Typed.Mo T11
+        abbrev pub m9 : (before : After-is-aside) → (given : s7 .gives (m6 (before .before) (After-is-aside·gave before))) → Typed.Mo T11
         m9 = λ before given. s9 (m8 before given)
 
         abbrev pub m10 : (before : After-order) → (given : s11 .gives (m9 (before .before) (After-order·gave before))) → Typed.Mo T13
@@ -1192,18 +1213,20 @@ module _ (claims· : Claims) where
 
         abbrev pub Need-same-length : Type 0
         Need-same-length = (c : After-table) → MutSlice.SameLen (Row.get 2 (T18 .locals) (m14 (c .before) (c .table .given))) (dens (c .before .before .before
-            .before .κs) (c .before .before .before .before .args) .1 .0)
+            .before .before .κs) (c .before .before .before .before .before .args) .1 .0)
 
         abbrev pub Need-returns : Type 0
-        Need-returns = (c : After-table) → Post· (c .before .before .before .before .κs) (dens (c .before .before .before .before .κs) (c .before .before .before
-            .before .args)) (Function.resV r (c .before .before .before .before .κs) (m14 (c .before) (c .table .given) .0)) (Clauses.atExit (Kinds.endedOf 2 ps
-            r) (c .before .before .before .before .κs) (dens (c .before .before .before .before .κs) (c .before .before .before .before .args)) (Enter.lastsP (c
-            .before .before .before .before .κs) 1 ps xs (dens (c .before .before .before .before .κs) (c .before .before .before .before .args)) (m14 (c
-            .before) (c .table .given) .1)))
+        Need-returns = (c : After-table) → Post· (c .before .before .before .before .before .κs) (dens (c .before .before .before .before .before .κs) (c .before
+            .before .before .before .before .args)) (Function.resV r (c .before .before .before .before .before .κs) (m14 (c .before) (c .table .given) .0))
+            (Clauses.atExit (Kinds.endedOf 2 ps r) (c .before .before .before .before .before .κs) (dens (c .before .before .before .before .before .κs) (c
+            .before .before .before .before .before .args)) (Enter.lastsP (c .before .before .before .before .before .κs) 1 ps xs (dens (c .before .before
+            .before .before .before .κs) (c .before .before .before .before .before .args)) (m14 (c .before) (c .table .given) .1)))
 
-        module _ (order-requires : Need-order-requires) (cast-result : Need-cast-result) (same-length : Need-same-length) (returns : Need-returns) where
-          lay1 : (c : After-order) → at9 (W0 (c .before .before .before .κs) (c .before .before .before .args)) (m7 (c .before) (After-order·gave c))
-          lay1 = λ c. (
+        module _ (is-aside-requires : Need-is-aside-requires) (order-requires : Need-order-requires) (cast-result : Need-cast-result) (same-length :
+            Need-same-length) (returns : Need-returns) where
+          lay2 : (c : After-order) → at9 (W0 (c .before .before .before .before .κs) (c .before .before .before .before .args)) (m7 (c .before) (After-order·gave
+              c))
+          lay2 = λ c. (
             Path'.refl,
             λ g. (
               cast-result record { before = record { before = c .before; order = c .order }; table = record { given = g } },
@@ -1213,10 +1236,9 @@ module _ (claims· : Claims) where
                   (
                     MutSlice.fix-len (Row.get 2 (T18 .locals) (m14 record { before = c .before; order = c .order } g) .ptr) (Row.get 2 (T18 .locals)
                         (m14 record { before = c .before; order = c .order } g) .name) (Row.get 2 (T18 .locals) (m14 record { before = c .before; order = c .order } g)
-                        .now) (dens (c .before .before .before .κs) (c .before .before .before .args) .1 .0 .now) (same-length record {
+                        .now) (dens (c .before .before .before .before .κs) (c .before .before .before .before .args) .1 .0 .now) (same-length record {
                           before = record {
-                            before = c
-                                .before;
+                            before = c .before;
                             order = c .order;
                           };
                           table = record { given = g };
@@ -1227,8 +1249,7 @@ module _ (claims· : Claims) where
                 returns record {
                   before = record {
                     before = c .before;
-                    order = c
-                        .order;
+                    order = c .order;
                   };
                   table = record { given = g };
                 },
@@ -1236,46 +1257,58 @@ module _ (claims· : Claims) where
             ),
           )
 
+          lay1 : (c : After-is-aside) → at11 (W0 (c .before .before .before .κs) (c .before .before .before .args)) (m5 (c .before) (After-is-aside·gave c))
+          lay1 = λ c. (
+            order-requires record { before = c .before; is-aside = c .is-aside },
+            λ g. lay2 record {
+              before = record {
+                before = c .before;
+                is-aside =
+                    c .is-aside;
+              };
+              order = Called.called ps·1 r·1 (claims· .3) T8 (
+                record {
+                  pos = 1;
+                  ty = Syntax.tyRef (Syntax.named 0) Syntax.imm (Syntax.tyInt
+                      Syntax.w8);
+                  ref = λ x. x;
+                },
+                (
+                  record { pos = 7; ty = Syntax.tyRef Syntax.erased Syntax.mut SlotAs.pointee; ref = λ x. x },
+                  (
+                    record {
+                      pos = 8;
+                      st =
+                          [];
+                      d = 0;
+                      at = λ x. x;
+                    },
+                    (Bool.bAt 9 λ x. x, tt),
+                  ),
+                ),
+              ) (m6 (c .before) (After-is-aside·gave c)) g;
+            },
+          )
+
           pub laid : (c : Start) → at17 (W0 (c .κs) (c .args)) (m0 (c .κs) (c .args))
           laid = λ c. λ g. λ g'. (
             Path'.refl,
             (
-              tt,
-              (
-                order-requires record {
+              is-aside-requires record {
+                before = record { before = c; shared-slice-known = record { given = g } };
+                order-arg =
+                    record { given = g' };
+              },
+              λ g''. lay1 record {
+                before = record {
                   before = record { before = c; shared-slice-known = record { given = g } };
-                  order-arg
-                      = record { given = g' };
-                },
-                λ g''. lay1 record {
-                  before = record {
-                    before = record { before = c; shared-slice-known = record { given = g } };
-                    order-arg = record { given = g' };
-                  };
-                  order = Called.called ps·0 r·0 (claims· .1) T8 (
-                    record {
-                      pos = 1;
-                      ty = Syntax.tyRef (Syntax.named 0)
-                          Syntax.imm (Syntax.tyInt Syntax.w8);
-                      ref = λ x. x;
-                    },
-                    (
-                      record {
-                        pos = 7;
-                        ty = Syntax.tyRef Syntax.erased Syntax.mut SlotAs.pointee;
-                        ref = λ x. x;
-                      },
-                      (record { pos = 8; st = []; d = 0; at = λ x. x }, (Bool.bAt 9 λ x. x, tt)),
-                    ),
-                  ) (m6 record {
-                    before = c;
-                    shared-slice-known = record {
-                      given =
-                          g;
-                    };
-                  } g') g'';
-                },
-              ),
+                  order-arg = record { given = g' };
+                };
+                is-aside = Called.called ps·0 r·0 (claims· .1) T6 (Num.vAt 4 λ x. x, tt) (m4 record {
+                  before = c;
+                  shared-slice-known = record { given = g };
+                } g') g'';
+              },
             ),
           )
 
@@ -1291,7 +1324,7 @@ module _ (claims· : Claims) where
               pre = pre;
             }
 
-          module _ {M : Type 1} (𝓤 : URA.URA M) (H : Wp.Heap 𝓤) (A : Atoms.Atoms 𝓤) (W : Kit.Given 𝓤 H A) (𝓣 : Wp.Tables 𝓤 H) (known0 : Plain.Known 𝓤 H A W 𝓣 2
-              ps·0 r·0 (claims· .0) (claims· .1) "store::order") where
+          module _ {M : Type 1} (𝓤 : URA.URA M) (H : Wp.Heap 𝓤) (A : Atoms.Atoms 𝓤) (W : Kit.Given 𝓤 H A) (𝓣 : Wp.Tables 𝓤 H) (known0 : Plain.Known 𝓤 H A W 𝓣 0
+              ps·0 r·0 (claims· .0) (claims· .1) "answers::is_aside") (known1 : Plain.Known 𝓤 H A W 𝓣 2 ps·1 r·1 (claims· .2) (claims· .3) "store::order") where
             pub spec : Statement.Triple 𝓤 (Wp.WpFn 𝓤 H (𝓣 .C) (𝓣 .Λ) (Function.fnOf 2 ps r xs m hs body)) (Function.plainOf 𝓤 H A 2 ps r Pre· Post·)
-            spec = Plain.t-fn-plain 𝓤 H A W 𝓣 2 ps r xs m hs body (λ κs qs bs. Φ) (λ κs qs bs bd. typed κs qs 𝓤 H A W 𝓣 known0 bs bd) Pre· Post· asked
+            spec = Plain.t-fn-plain 𝓤 H A W 𝓣 2 ps r xs m hs body (λ κs qs bs. Φ) (λ κs qs bs bd. typed κs qs 𝓤 H A W 𝓣 (known0, known1) bs bd) Pre· Post· asked

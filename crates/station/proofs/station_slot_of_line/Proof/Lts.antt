@@ -74,16 +74,16 @@ abbrev b0 : Syntax.Body
 b0 = Syntax.assign (Syntax.place 4 []) (Syntax.rvOpd (Syntax.copy (Syntax.place 2 (Syntax.deref SlotAs.ty ∷ []))))
 
 abbrev b1 : Syntax.Body
-b1 = Syntax.call "station::answers::fill" (Syntax.copy (Syntax.place 1 []) ∷ Syntax.copy (Syntax.place 4 []) ∷ []) (Syntax.place 3 [])
+b1 = Syntax.call "station::fill" (Syntax.copy (Syntax.place 1 []) ∷ Syntax.copy (Syntax.place 4 []) ∷ []) (Syntax.place 3 [])
 
 abbrev b2 : Syntax.Body
-b2 = Syntax.call "station::answers::filled_slot" (Syntax.copy (Syntax.place 3 []) ∷ []) (Syntax.place 4 [])
+b2 = Syntax.call "answers::filled_slot" (Syntax.copy (Syntax.place 3 []) ∷ []) (Syntax.place 4 [])
 
 abbrev b3 : Syntax.Body
 b3 = Syntax.assign (Syntax.place 2 (Syntax.deref SlotAs.ty ∷ [])) (Syntax.rvOpd (Syntax.copy (Syntax.place 4 [])))
 
 abbrev b4 : Syntax.Body
-b4 = Syntax.call "station::answers::filled_number" (Syntax.copy (Syntax.place 3 []) ∷ []) (Syntax.place 0 [])
+b4 = Syntax.call "answers::filled_number" (Syntax.copy (Syntax.place 3 []) ∷ []) (Syntax.place 0 [])
 
 abbrev b5 : Syntax.Body
 b5 = Syntax.return
@@ -241,8 +241,8 @@ module _ (claims· : Claims) where
       module _ (M : Type 1) where
         abbrev pub Closed : Type 2
         Closed = (𝓤 : URA.URA M) (H : Wp.Heap 𝓤) (A : Atoms.Atoms 𝓤) (W : Kit.Given 𝓤 H A) (𝓣 : Wp.Tables 𝓤 H) (known0 : Plain.Known 𝓤 H A W 𝓣 1 ps·0 r·0
-            (claims· .0) (claims· .1) "station::answers::fill") (known1 : Plain.Known 𝓤 H A W 𝓣 0 ps·1 r·1 (claims· .2) (claims· .3)
-            "station::answers::filled_slot") (known2 : Plain.Known 𝓤 H A W 𝓣 0 ps·2 r·2 (claims· .4) (claims· .5) "station::answers::filled_number") →
+            (claims· .0) (claims· .1) "station::fill") (known1 : Plain.Known 𝓤 H A W 𝓣 0 ps·1 r·1 (claims· .2) (claims· .3)
+            "answers::filled_slot") (known2 : Plain.Known 𝓤 H A W 𝓣 0 ps·2 r·2 (claims· .4) (claims· .5) "answers::filled_number") →
             Statement.Triple 𝓤 (Wp.WpFn 𝓤 H (𝓣 .C) (𝓣 .Λ) (Function.fnOf 2 ps r xs m hs body)) (Function.plainOf 𝓤 H A 2 ps r Pre· Post·)
 
       module _ where
@@ -281,8 +281,8 @@ module _ (claims· : Claims) where
 
         module _ {M : Type 1} (𝓤 : URA.URA M) (H : Wp.Heap 𝓤) (A : Atoms.Atoms 𝓤) (W : Kit.Given 𝓤 H A) (𝓣 : Wp.Tables 𝓤 H) where
           abbrev Knowns : Type 1
-          Knowns = Plain.Known 𝓤 H A W 𝓣 1 ps·0 r·0 (claims· .0) (claims· .1) "station::answers::fill" × Plain.Known 𝓤 H A W 𝓣 0 ps·1 r·1 (claims· .2) (claims·
-              .3) "station::answers::filled_slot" × Plain.Known 𝓤 H A W 𝓣 0 ps·2 r·2 (claims· .4) (claims· .5) "station::answers::filled_number"
+          Knowns = Plain.Known 𝓤 H A W 𝓣 1 ps·0 r·0 (claims· .0) (claims· .1) "station::fill" × Plain.Known 𝓤 H A W 𝓣 0 ps·1 r·1 (claims· .2) (claims·
+              .3) "answers::filled_slot" × Plain.Known 𝓤 H A W 𝓣 0 ps·2 r·2 (claims· .4) (claims· .5) "answers::filled_number"
 
         module _ (κs : Lifetimes.Lfts 2) (qs : Lifetimes.Shares 2) where
           abbrev G0 : Row.Cx
@@ -334,7 +334,7 @@ module _ (claims· : Claims) where
 
             d2 : Typed.Typed 𝓤 H A 𝓣 E G8 b6 Δ0 at2
             d2 = Typed.s-seq 𝓤 H A W 𝓣 E G8 G9 b4 b5 Δ0 (Typed.both s7) at1 (Plain.t-call-plain 𝓤 H A W 𝓣 0 ps·2 r·2 (claims· .4) (claims· .5)
-                "station::answers::filled_number" (known .2) E (λ pos β. β) G8 (record { pos = 3; st = []; d = 0; at = λ x. x }, tt) 0 [] (Call.sub-id
+                "answers::filled_number" (known .2) E (λ pos β. β) G8 (record { pos = 3; st = []; d = 0; at = λ x. x }, tt) 0 [] (Call.sub-id
                 𝓤 H A W (G8 .slots)) ((FilledAs.yields 𝓤 H A W, Path'.refl), tt) (Reads.room-gone 𝓤 H A (Syntax.tyInt Syntax.w32)) tt Path'.refl) d1
 
             d3 : Typed.Typed 𝓤 H A 𝓣 E G7 b6 Δ0 at3
@@ -349,7 +349,7 @@ module _ (claims· : Claims) where
 
             d5 : Typed.Typed 𝓤 H A 𝓣 E G5 b8 Δ0 at5
             d5 = Typed.s-seq 𝓤 H A W 𝓣 E G5 G6 b2 b7 Δ0 (Typed.both s4) at4 (Plain.t-call-plain 𝓤 H A W 𝓣 0 ps·1 r·1 (claims· .2) (claims· .3)
-                "station::answers::filled_slot" (known .1) E (λ pos β. β) G5 (record { pos = 3; st = []; d = 0; at = λ x. x }, tt) 4 [] (Call.sub-id 𝓤
+                "answers::filled_slot" (known .1) E (λ pos β. β) G5 (record { pos = 3; st = []; d = 0; at = λ x. x }, tt) 4 [] (Call.sub-id 𝓤
                 H A W (G5 .slots)) ((FilledAs.yields 𝓤 H A W, Path'.refl), tt) (Reads.room-gone 𝓤 H A SlotAs.ty) tt Path'.refl) d4
 
             d6 : Typed.Typed 𝓤 H A 𝓣 E G4 b8 Δ0 at6
@@ -357,7 +357,7 @@ module _ (claims· : Claims) where
 
             d7 : Typed.Typed 𝓤 H A 𝓣 E G3 b9 Δ0 at7
             d7 = Typed.s-seq 𝓤 H A W 𝓣 E G3 G4 b1 b8 Δ0 (Typed.both s2) at6 (Plain.t-call-plain 𝓤 H A W 𝓣 1 ps·0 r·0 (claims· .0) (claims· .1)
-                "station::answers::fill" (known .0) E (λ pos β. β) G3 (
+                "station::fill" (known .0) E (λ pos β. β) G3 (
                   record {
                     pos = 1;
                     ty = Syntax.tyRef (Syntax.named 0) Syntax.imm (Syntax.tyInt Syntax.w8);
@@ -614,8 +614,8 @@ module _ (claims· : Claims) where
             asked = λ a good pre bs. laid record { κs = κs; args = record { line = a .0; slot = a .1 .0 }; good = good; pre = pre }
 
           module _ {M : Type 1} (𝓤 : URA.URA M) (H : Wp.Heap 𝓤) (A : Atoms.Atoms 𝓤) (W : Kit.Given 𝓤 H A) (𝓣 : Wp.Tables 𝓤 H) (known0 : Plain.Known 𝓤 H A W 𝓣 1
-              ps·0 r·0 (claims· .0) (claims· .1) "station::answers::fill") (known1 : Plain.Known 𝓤 H A W 𝓣 0 ps·1 r·1 (claims· .2) (claims· .3)
-              "station::answers::filled_slot") (known2 : Plain.Known 𝓤 H A W 𝓣 0 ps·2 r·2 (claims· .4) (claims· .5) "station::answers::filled_number") where
+              ps·0 r·0 (claims· .0) (claims· .1) "station::fill") (known1 : Plain.Known 𝓤 H A W 𝓣 0 ps·1 r·1 (claims· .2) (claims· .3)
+              "answers::filled_slot") (known2 : Plain.Known 𝓤 H A W 𝓣 0 ps·2 r·2 (claims· .4) (claims· .5) "answers::filled_number") where
             pub spec : Statement.Triple 𝓤 (Wp.WpFn 𝓤 H (𝓣 .C) (𝓣 .Λ) (Function.fnOf 2 ps r xs m hs body)) (Function.plainOf 𝓤 H A 2 ps r Pre· Post·)
             spec = Plain.t-fn-plain 𝓤 H A W 𝓣 2 ps r xs m hs body (λ κs qs bs. Φ) (λ κs qs bs bd. typed κs qs 𝓤 H A W 𝓣 (known0, known1, known2) bs bd) Pre·
                 Post· asked

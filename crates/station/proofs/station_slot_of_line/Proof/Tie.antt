@@ -1,13 +1,13 @@
 -- Made by tools/walk.py.
-use Rattle.station.proofs.answers.fill.Met
-use Rattle.station.proofs.answers.fill.Reads
-use Rattle.station.proofs.answers.fill.Symbol
-use Rattle.station.proofs.answers.filled_number.Met as Met'
-use Rattle.station.proofs.answers.filled_number.Reads as Reads'
-use Rattle.station.proofs.answers.filled_number.Symbol as Symbol'
-use Rattle.station.proofs.answers.filled_slot.Met as Met''
-use Rattle.station.proofs.answers.filled_slot.Reads as Reads''
-use Rattle.station.proofs.answers.filled_slot.Symbol as Symbol''
+use Rattle.station.proofs.fill.Met
+use Rattle.station.proofs.fill.Reads
+use Rattle.station.proofs.fill.Symbol
+use Rattle.answers.proofs.filled_number.Met as Met'
+use Rattle.answers.proofs.filled_number.Reads as Reads'
+use Rattle.answers.proofs.filled_number.Symbol as Symbol'
+use Rattle.answers.proofs.filled_slot.Met as Met''
+use Rattle.answers.proofs.filled_slot.Reads as Reads''
+use Rattle.answers.proofs.filled_slot.Symbol as Symbol''
 use Rattle.station.proofs.station_slot_of_line.Code
 use Rattle.station.proofs.station_slot_of_line.Key
 use Rattle.station.proofs.Walked.station_slot_of_line.Kinds
@@ -64,8 +64,8 @@ module _ {M : Type 1} where
       Reads'3.post-read record { M = M; 𝓤 = 𝓤; H = H; 𝓜 = 𝓜; 𝓖 = 𝓖; 𝓡 = 𝓡 } Code.env Key.name Code.function (Code.unfolded 𝓤 H 𝓜 𝓡) (λ κs a g. tt) (λ κs.
       Reads'3.owns κs record { M = M; 𝓤 = 𝓤; H = H; 𝓜 = 𝓜; 𝓖 = 𝓖; 𝓡 = 𝓡 }) (Reads'3.passes record { M = M; 𝓤 = 𝓤; H = H; 𝓜 = 𝓜; 𝓖 = 𝓖; 𝓡 = 𝓡 }) λ g. closed 𝓤 H
       (𝓖 .A) (Running.givenOf 𝓤 H 𝓜 𝓖) (Run.Over 𝓤 H 𝓜 𝓖 𝓡 Code.env) (Reads.known record { M = M; 𝓤 = 𝓤; H = H; 𝓜 = 𝓜; 𝓖 = 𝓖; 𝓡 = 𝓡 } Code.env Symbol.name
-      Symbol.routine Code.calls-station·answers·fill (Met.met 𝓤 H 𝓜 𝓖 𝓡)) (Reads''.known record { M = M; 𝓤 = 𝓤; H = H; 𝓜 = 𝓜; 𝓖 = 𝓖; 𝓡 = 𝓡 } Code.env
-      Symbol''.name Symbol''.routine Code.calls-station·answers·filled-slot (Met''.met 𝓤 H 𝓜 𝓖 𝓡)) (Reads'.known record {
+      Symbol.routine Code.calls-station·fill (Met.met 𝓤 H 𝓜 𝓖 𝓡)) (Reads''.known record { M = M; 𝓤 = 𝓤; H = H; 𝓜 = 𝓜; 𝓖 = 𝓖; 𝓡 = 𝓡 } Code.env
+      Symbol''.name Symbol''.routine Code.calls-answers·filled-slot (Met''.met 𝓤 H 𝓜 𝓖 𝓡)) (Reads'.known record {
         M = M;
         𝓤 = 𝓤;
         H = H;
@@ -73,4 +73,4 @@ module _ {M : Type 1} where
         𝓖 = 𝓖;
         𝓡
             = 𝓡;
-      } Code.env Symbol'.name Symbol'.routine Code.calls-station·answers·filled-number (Met'.met 𝓤 H 𝓜 𝓖 𝓡))
+      } Code.env Symbol'.name Symbol'.routine Code.calls-answers·filled-number (Met'.met 𝓤 H 𝓜 𝓖 𝓡))

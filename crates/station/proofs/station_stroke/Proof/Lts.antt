@@ -127,7 +127,7 @@ abbrev b3 : Syntax.Body
 b3 = Syntax.assign (Syntax.place 7 []) (Syntax.addrOf (Syntax.place 3 (Syntax.deref (Syntax.tyArray (Syntax.tyFloat Ieee.binary64) 6) ∷ [])))
 
 abbrev b4 : Syntax.Body
-b4 = Syntax.call "station::answers::put_stroke" (Syntax.copy (Syntax.place 4 []) ∷ Syntax.copy (Syntax.place 7 []) ∷ []) (Syntax.place 0 [])
+b4 = Syntax.call "answers::put_stroke" (Syntax.copy (Syntax.place 4 []) ∷ Syntax.copy (Syntax.place 7 []) ∷ []) (Syntax.place 0 [])
 
 abbrev b5 : Syntax.Body
 b5 = Syntax.return
@@ -455,7 +455,7 @@ module _ (claims· : Claims) where
       module _ (M : Type 1) where
         abbrev pub Closed : Type 2
         Closed = (𝓤 : URA.URA M) (H : Wp.Heap 𝓤) (A : Atoms.Atoms 𝓤) (W : Kit.Given 𝓤 H A) (𝓣 : Wp.Tables 𝓤 H) (known0 : Plain.Known 𝓤 H A W 𝓣 0 ps·0 r·0
-            (claims· .0) (claims· .1) "feed::stroke") (known1 : Plain.Known 𝓤 H A W 𝓣 1 ps·1 r·1 (claims· .2) (claims· .3) "station::answers::put_stroke") →
+            (claims· .0) (claims· .1) "feed::stroke") (known1 : Plain.Known 𝓤 H A W 𝓣 1 ps·1 r·1 (claims· .2) (claims· .3) "answers::put_stroke") →
             Statement.Triple 𝓤 (Wp.WpFn 𝓤 H (𝓣 .C) (𝓣 .Λ) (Function.fnOf 3 ps r xs m hs body)) (Function.plainOf 𝓤 H A 3 ps r Pre· Post·)
 
       module _ where
@@ -504,7 +504,7 @@ module _ (claims· : Claims) where
         module _ {M : Type 1} (𝓤 : URA.URA M) (H : Wp.Heap 𝓤) (A : Atoms.Atoms 𝓤) (W : Kit.Given 𝓤 H A) (𝓣 : Wp.Tables 𝓤 H) where
           abbrev Knowns : Type 1
           Knowns = Plain.Known 𝓤 H A W 𝓣 0 ps·0 r·0 (claims· .0) (claims· .1) "feed::stroke" × Plain.Known 𝓤 H A W 𝓣 1 ps·1 r·1 (claims· .2) (claims· .3)
-              "station::answers::put_stroke"
+              "answers::put_stroke"
 
         module _ (κs : Lifetimes.Lfts 3) (qs : Lifetimes.Shares 3) where
           abbrev g7 : List.List Row.Entry
@@ -676,7 +676,7 @@ module _ (claims· : Claims) where
 
             d5 : Typed.Typed 𝓤 H A 𝓣 E G8 b6 Δ0 at5
             d5 = Typed.s-seq 𝓤 H A W 𝓣 E G8 G9 b4 b5 Δ0 (Typed.both s7) at4 (Plain.t-call-plain 𝓤 H A W 𝓣 1 ps·1 r·1 (claims· .2) (claims· .3)
-                "station::answers::put_stroke" (known .1) E (λ pos β. β) G8 (
+                "answers::put_stroke" (known .1) E (λ pos β. β) G8 (
                   record { pos = 4; st = []; d = 0; at = λ x. x },
                   (
                     record {
@@ -980,6 +980,6 @@ module _ (claims· : Claims) where
 
           module _ {M : Type 1} (𝓤 : URA.URA M) (H : Wp.Heap 𝓤) (A : Atoms.Atoms 𝓤) (W : Kit.Given 𝓤 H A) (𝓣 : Wp.Tables 𝓤 H) (known0 : Plain.Known 𝓤 H A W 𝓣 0
               ps·0 r·0 (claims· .0) (claims· .1) "feed::stroke") (known1 : Plain.Known 𝓤 H A W 𝓣 1 ps·1 r·1 (claims· .2) (claims· .3)
-              "station::answers::put_stroke") where
+              "answers::put_stroke") where
             pub spec : Statement.Triple 𝓤 (Wp.WpFn 𝓤 H (𝓣 .C) (𝓣 .Λ) (Function.fnOf 3 ps r xs m hs body)) (Function.plainOf 𝓤 H A 3 ps r Pre· Post·)
             spec = Plain.t-fn-plain 𝓤 H A W 𝓣 3 ps r xs m hs body (λ κs qs bs. Φ) (λ κs qs bs bd. typed κs qs 𝓤 H A W 𝓣 (known0, known1) bs bd) Pre· Post· asked

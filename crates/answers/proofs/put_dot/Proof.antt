@@ -1,7 +1,7 @@
 use mathlib.Core.Path.{refl}
 use borrow.Author.Needs.{needs}
-use Rattle.station.proofs.answers.put_dot.Statement.{statement}
-use Rattle.station.proofs.answers.put_dot.Tie as tie
+use Rattle.answers.proofs.put_dot.Statement.{statement}
+use Rattle.answers.proofs.put_dot.Tie as tie
 
 enum-known-d : tie.Need-enum-known-d
 enum-known-d c = search needs

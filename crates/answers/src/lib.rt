@@ -1,12 +1,11 @@
-// Answers by value, and what they leave in the memory of the caller.
+// What C passes and is answered, by value: bytes and arrays for what the library says in enums and structs.
 use feed::Drawn;
 use feed::Framed;
 use gate::Verdict;
 use slots::Filling;
 use slots::Slot;
 ghost use mathlib.Core.Path.{_≡_};
-ghost use Rattle.slots.specs.Slots.{slotLine};
-ghost use Rattle.station.specs.Boundary.{answered, twelveOf, slotAnswer, dotAnswer, strokeAnswer, frameAnswer};
+ghost use Rattle.answers.specs.Boundary.{answered, twelveOf, asideOf, slotAnswer, dotAnswer, strokeAnswer, frameAnswer};
 
 // What filling a slot answers, and what the slot then holds.
 pub struct Filled {
@@ -38,11 +37,18 @@ pub fn twelve(v: Verdict) -> [u64; 12]
     ]
 }
 
-// The slot of a line, or the one that was found.
-pub fn fill(line: &[u8], found: Slot) -> Filled
-    ensures { λ r. ⌜ answered (r .number) (r .slot) ≡ slotAnswer (slotLine (now (line .entry))) found ⌝ }
+// Whether an order's byte sets aside.
+pub fn is_aside(aside: u8) -> bool
+    ensures { λ r. ⌜ r ≡ asideOf aside ⌝ }
 {
-    match slots::slot_of_line(line) {
+    aside != 0
+}
+
+// The slot that a line fills, or the one that was found.
+pub fn slot_answer(f: Filling, found: Slot) -> Filled
+    ensures { λ r. ⌜ answered (r .number) (r .slot) ≡ slotAnswer f found ⌝ }
+{
+    match f {
         Filling::Filled(s) => Filled { number: 0, slot: s },
         Filling::Refused(n) => Filled {
             number: n as u32,

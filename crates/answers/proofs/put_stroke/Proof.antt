@@ -1,7 +1,7 @@
 use mathlib.Core.Path.{refl}
 use borrow.Author.Needs.{needs}
-use Rattle.station.proofs.answers.put_stroke.Statement.{statement}
-use Rattle.station.proofs.answers.put_stroke.Tie as tie
+use Rattle.answers.proofs.put_stroke.Statement.{statement}
+use Rattle.answers.proofs.put_stroke.Tie as tie
 
 enum-told : tie.Need-enum-told
 enum-told c = search needs

@@ -1,7 +1,7 @@
 use mathlib.Core.Path.{refl}
 use borrow.Author.Needs.{needs}
-use Rattle.station.proofs.answers.put_frame.Statement.{statement}
-use Rattle.station.proofs.answers.put_frame.Tie as tie
+use Rattle.answers.proofs.put_frame.Statement.{statement}
+use Rattle.answers.proofs.put_frame.Tie as tie
 
 enum-known-f : tie.Need-enum-known-f
 enum-known-f c = search needs

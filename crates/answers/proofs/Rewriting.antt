@@ -12,7 +12,7 @@ use Rattle.line.specs.declared.Answer.{Answer}
 use Rattle.line.specs.declared.Answer.the-variants.{Read}
 use Rattle.line.specs.Lines.{readLine, recordOk, recordLine}
 use Rattle.line.proofs.RoundTrip.{kept}
-use Rattle.station.specs.Boundary.{answered, rewriteAnswer}
+use Rattle.answers.specs.Boundary.{answered, rewriteAnswer}
 
 pub rewrite-read : (l found left : List ℕ) (n : ℕ) (a : Answer) (r : Record) → a ≡ readLine l → a ≡ Read r
     → n ≡ writeNumber (recordOk r) found → left ≡ writeLine (recordOk r) (recordLine r) found
