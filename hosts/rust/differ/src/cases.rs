@@ -6,8 +6,10 @@ use crate::chance::Chance;
 use crate::damage::{damage_line, damage_lines, damage_table, damage_text, recount, rename};
 use crate::entry::{entry, text, typed_line};
 use crate::fence;
-use crate::harness::{Findings, Harness};
+use crate::findings::Findings;
+use crate::harness::Harness;
 use crate::lent::Sides;
+use crate::slots::to_reference;
 
 /// Runs the cases of a seed against a library, with guards round all buffers.
 pub fn run(library: Library, seed: u64, cases: impl Iterator<Item = u64>) -> Findings {
@@ -93,7 +95,7 @@ fn a_table(harness: &mut Harness, chance: &mut Chance) {
     let spare = if chance.once_in(2) { 0 } else { chance.below(3) };
     let mut table = vec![any_slot(chance); needed + spare];
     harness.load(&bytes, &mut table);
-    let own: Vec<reference::Slot> = table[..needed].iter().map(crate::harness::to_reference).collect();
+    let own: Vec<reference::Slot> = table[..needed].iter().map(to_reference).collect();
     let fragments = reference::fragments(&own).len();
     for _ in 0..chance.below(6) {
         let (fragment, aside) = any_order(chance, fragments);
@@ -109,7 +111,7 @@ fn a_table(harness: &mut Harness, chance: &mut Chance) {
         let (fragment, aside) = any_order(chance, fragments);
         harness.order(&bytes, &mut table, fragment, aside);
     }
-    let own: Vec<reference::Slot> = table.iter().map(crate::harness::to_reference).collect();
+    let own: Vec<reference::Slot> = table.iter().map(to_reference).collect();
     let mut out = vec![0; bytes.len()];
     let saved = reference::save(&bytes, &own, &mut out).unwrap_or(bytes.len());
     let dropped = reference::tray(&bytes, &own, &mut out).unwrap_or(bytes.len());

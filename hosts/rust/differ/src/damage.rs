@@ -221,7 +221,7 @@ fn try_damage(chance: &mut Chance, lines: &mut Vec<Columns>) -> Option<()> {
             let number = *chance.pick(&["   1", "  -3", "9999"]);
             put(named_line(chance, lines, &[b"TER   "])?, 23, number.as_bytes());
         }
-        7 => put(named_line(chance, lines, &[b"TER   "])?, 18, b"XXX"),
+        7 => put(named_line(chance, lines, &[b"TER   "])?, 18, b"QQQ"),
         8 => put(named_line(chance, lines, &[b"TER   "])?, 27, &[*chance.pick(b" AB")]),
         9 => {
             let name = *chance.pick(&["ATOM  ", "HETATM", "TER   "]);

@@ -11,10 +11,12 @@ pub mod chance;
 mod damage;
 pub mod entry;
 pub mod fence;
+mod findings;
 pub mod harness;
 pub mod lent;
+pub mod slots;
 mod sweep;
 
 pub use cases::{run, run_fenced};
-pub use harness::{Call, Findings};
+pub use findings::{Call, Findings};
 pub use sweep::sweep;

@@ -4,7 +4,8 @@
 use station::raw::{Library, Slot, Tally};
 
 use crate::entry::{line, put, put_number, Columns};
-use crate::harness::{Findings, Harness};
+use crate::findings::Findings;
+use crate::harness::Harness;
 
 /// Good lines of the typed kinds.
 const LINES: [&str; 12] = [

@@ -4,7 +4,7 @@ use std::collections::BTreeMap;
 use std::fmt::Display;
 
 use differ::chance::Chance;
-use differ::harness::to_reference;
+use differ::slots::to_reference;
 use reference::{Mark, Slot};
 use station::{pieces, Entry, FragmentNumber, Line, Refusal, Table};
 

@@ -2,7 +2,8 @@
 
 use crate::columns::Columns;
 use crate::line::LineName;
-use crate::record::{read_fields, Conect, Record, Residue, Sheet};
+use crate::reading::read_fields;
+use crate::record::{Conect, Record, Residue, Sheet};
 use crate::tally::Tally;
 use crate::{Refusal, Serial};
 

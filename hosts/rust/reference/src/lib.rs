@@ -5,8 +5,8 @@
 //! differential test holds the two against each other.
 //!
 //! One module for each part of the rules: [`columns`] (fields), [`element`], [`mod@line`] (names and places),
-//! [`record`] (one line read and written), [`mod@check`] (a whole text), [`table`] (slots, fragments, orders),
-//! [`saved`] (saving and tray), [`tally`] and [`feed`] (dots, strokes, frame).
+//! [`record`] (what a line says), [`reading`] and [`writing`] (one line by itself), [`mod@check`] (a whole text),
+//! [`table`] (slots, fragments, orders), [`saved`] (saving and tray), [`tally`] and [`feed`] (dots, strokes, frame).
 
 #![forbid(unsafe_code)]
 #![warn(missing_docs)]
@@ -16,6 +16,7 @@ pub mod columns;
 pub mod element;
 pub mod feed;
 pub mod line;
+pub mod reading;
 pub mod record;
 mod refusal;
 #[cfg(test)]
@@ -23,15 +24,18 @@ mod samples;
 pub mod saved;
 pub mod table;
 pub mod tally;
+pub mod writing;
 
 pub use check::{check, Verdict};
 pub use feed::{dot, frame, stroke, Frame};
 pub use line::LineName;
-pub use record::{read_line, rewrite_line, write_record, Record};
+pub use reading::read_line;
+pub use record::Record;
 pub use refusal::Refusal;
 pub use saved::{save, tray};
 pub use table::{fragments, load, order, slot_of_line, Mark, Slot};
 pub use tally::{count_line, Tally};
+pub use writing::{rewrite_line, write_record};
 
 /// The number of an atom, a TER or an end of a bond: 1 to 99,999.
 #[derive(Clone, Copy, Debug, Default, PartialEq, Eq, PartialOrd, Ord)]

@@ -2,9 +2,10 @@
 
 use crate::check::{walk, GoodLine};
 use crate::line::LineName;
-use crate::record::{line_of, Record};
+use crate::record::Record;
 use crate::table::{belonging, Mark, Slot};
 use crate::tally::Tally;
+use crate::writing::line_of;
 use crate::{Refusal, Serial};
 
 /// Writes the entry without what was set aside, MASTER counted again, and tells how many bytes.

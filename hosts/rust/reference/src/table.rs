@@ -4,7 +4,8 @@ use std::ops::Range;
 
 use crate::check::walk;
 use crate::line::LineName;
-use crate::record::{read_line, Atom, Record, Residue, Ter};
+use crate::reading::read_line;
+use crate::record::{Atom, Record, Residue, Ter};
 use crate::{FragmentNumber, Refusal, ResidueNumber};
 
 /// The kind of an ATOM slot.

@@ -1,0 +1,368 @@
+/* Calls each of the eleven names of include/station.h, and holds what comes against docs/FORMAT.md.
+ *
+ *     cc -std=c11 -I include hosts/c/try.c LIBRARY/libstation.a -o try && ./try <crates/report/stdin
+ *
+ * Standard input is the first worked example: HEADER, ATOM, TER, MASTER, END. All that is lent stands between guard
+ * bytes, and texts begin at an odd address. A line is printed for each thing tried; the last one is 'N passed, M
+ * failed', and the exit status is 0 exactly if M is 0. */
+#include <stdarg.h>
+#include <stdio.h>
+#include <stdlib.h>
+#include <string.h>
+
+#include "station.h"
+
+static unsigned passed, failed;
+
+static void told(int good, const char *format, ...)
+{
+    va_list words;
+    va_start(words, format);
+    printf("%s  ", good ? "ok    " : "NOT OK");
+    vprintf(format, words);
+    putchar('\n');
+    va_end(words);
+    if (good) passed++; else failed++;
+}
+
+/* ---- lent memory */
+
+enum { GUARD = 64, LINE = 81 };
+
+typedef struct {
+    uint8_t *block, *before; /* guard, content, guard; the content as it was lent */
+    size_t front, size;
+} lent;
+
+/* Lends `size` bytes, with this content or with anything; bytes begin at an odd address, all else at an even one. */
+static lent lend(const void *content, size_t size, int bytes)
+{
+    lent l = {NULL, NULL, GUARD + (bytes ? 1 : 0), size};
+    l.block = malloc(l.front + size + GUARD);
+    l.before = malloc(size + 1);
+    if (!l.block || !l.before) exit(2);
+    memset(l.block, 0xa7, l.front + size + GUARD);
+    if (content) memcpy(l.block + l.front, content, size); else memset(l.block + l.front, 0x5c, size);
+    memcpy(l.before, l.block + l.front, size);
+    return l;
+}
+
+static void *at(const lent *l) { return l->block + l->front; }
+
+static int guarded(const lent *l)
+{
+    size_t i;
+    for (i = 0; i < l->front + GUARD; i++)
+        if (l->block[i < l->front ? i : i + l->size] != 0xa7) return 0;
+    return 1;
+}
+
+/* Whether the content is as it was lent from the byte `from` on. */
+static int as_lent_from(const lent *l, size_t from)
+{
+    return guarded(l) && memcmp(l->block + l->front + from, l->before + from, l->size - from) == 0;
+}
+
+static int as_lent(const lent *l) { return as_lent_from(l, 0); }
+
+static void give_back(lent *l)
+{
+    free(l->block);
+    free(l->before);
+}
+
+/* ---- texts */
+
+typedef struct { char bytes[12 * LINE]; size_t size; } text;
+
+/* Adds a line, filled up with blanks to 80 columns. */
+static void add(text *t, const char *columns)
+{
+    memset(t->bytes + t->size, ' ', LINE - 1);
+    memcpy(t->bytes + t->size, columns, strlen(columns));
+    t->bytes[t->size + LINE - 1] = '\n';
+    t->size += LINE;
+}
+
+/* The entry of the worked example on orders, with a CONECT line: three fragments. */
+static text three(void)
+{
+    text t = {{0}, 0};
+    add(&t, "HEADER");
+    add(&t, "ATOM      1  C   ALA A   1       0.000   2.000   3.000  1.00  0.00           C");
+    add(&t, "TER       2      ALA A   1");
+    add(&t, "HETATM    3  O   HOH B   7      -1.500   2.000   3.000  1.00  0.00           O");
+    add(&t, "HETATM    4  O   HOH B   8       9.000   2.000   3.000  1.00  0.00           O");
+    add(&t, "CONECT    3    4");
+    add(&t, "MASTER        0    0    0    0    0    0    0    0    3    1    1    0");
+    add(&t, "END");
+    return t;
+}
+
+/* ---- the layout */
+
+#define SLOT(field, byte) \
+    told(offsetof(station_slot, field) == (byte), "slot: %s at %zu", #field, offsetof(station_slot, field))
+#define TALLY(field, byte) \
+    told(offsetof(station_tally, field) == (byte), "tally: %s at %zu", #field, offsetof(station_tally, field))
+
+static void layout(void)
+{
+    told(sizeof(station_slot) == 44, "slot: %zu bytes", sizeof(station_slot));
+    told(_Alignof(station_slot) == 4, "slot: at a multiple of %zu", _Alignof(station_slot));
+    SLOT(serial, 0), SLOT(number, 4), SLOT(x, 8), SLOT(y, 12), SLOT(z, 16), SLOT(occupancy, 20), SLOT(temperature, 24);
+    SLOT(kind, 28), SLOT(mark, 29), SLOT(name, 30), SLOT(alternate, 34), SLOT(residue, 35), SLOT(chain, 38);
+    SLOT(insertion, 39), SLOT(element, 40), SLOT(charge, 42);
+    told(sizeof(station_tally) == 36, "tally: %zu bytes", sizeof(station_tally));
+    told(_Alignof(station_tally) == 4, "tally: at a multiple of %zu", _Alignof(station_tally));
+    TALLY(remark, 0), TALLY(het, 4), TALLY(helix, 8), TALLY(sheet, 12), TALLY(xform, 16), TALLY(coord, 20);
+    TALLY(ter, 24), TALLY(conect, 28), TALLY(seq, 32);
+}
+
+/* ---- the check */
+
+static void check(const char *what, const char *bytes, size_t n, uint64_t number, uint64_t line, uint64_t good,
+                  uint64_t coord, uint64_t ter, uint64_t conect)
+{
+    const uint64_t due[12] = {number, line, good, 0, 0, 0, 0, 0, coord, ter, conect, 0};
+    lent t = lend(bytes, n, 1), answer = lend(NULL, sizeof due, 0);
+    uint32_t came = station_check(at(&t), n, at(&answer));
+    uint64_t a[12];
+    memcpy(a, at(&answer), sizeof a);
+    told(came == number && memcmp(a, due, sizeof due) == 0 && as_lent(&t) && guarded(&answer),
+         "check: %s: %u, line %llu, %llu good, coord %llu, ter %llu, conect %llu", what, (unsigned)came,
+         (unsigned long long)a[1], (unsigned long long)a[2], (unsigned long long)a[8], (unsigned long long)a[9],
+         (unsigned long long)a[10]);
+    give_back(&t), give_back(&answer);
+}
+
+static void checks(const char *entry, const text *wrong)
+{
+    char more[5 * LINE + 1];
+    text t = three();
+    memcpy(more, entry, 5 * LINE);
+    more[5 * LINE] = ' ';
+    check("the example", entry, 5 * LINE, 0, 0, 5, 1, 1, 0);
+    check("three fragments", t.bytes, t.size, 0, 0, 8, 3, 1, 1);
+    check("a field wrong", wrong->bytes, wrong->size, 6, 2, 1, 0, 0, 0);
+    check("one byte more", more, 5 * LINE + 1, 1, 6, 5, 1, 1, 0);
+    check("no last newline", entry, 5 * LINE - 1, 1, 5, 4, 1, 1, 0);
+    check("no END", entry, 4 * LINE, 12, 5, 4, 1, 1, 0);
+    check("no HEADER", entry + LINE, 4 * LINE, 5, 1, 0, 0, 0, 0);
+    check("nothing", entry, 0, 12, 1, 0, 0, 0, 0);
+}
+
+/* ---- the table */
+
+/* The two slots of the worked example. */
+static const station_slot ARGININE[2] = {
+    {32, -3, 11281, 86699, 94383, 50, 3588, STATION_ATOM, STATION_IN, " N  ", 'A', "ARG", 'A', ' ', " N", "  "},
+    {33, -3, 0, 0, 0, 0, 0, STATION_TER, STATION_IN, "    ", ' ', "ARG", 'A', ' ', "  ", "  "},
+};
+
+static void load(const char *what, const char *bytes, size_t n, size_t slots, uint32_t number)
+{
+    lent t = lend(bytes, n, 1), table = lend(NULL, slots * sizeof(station_slot), 0), count = lend(NULL, 8, 0);
+    uint32_t came = station_load(at(&t), n, at(&table), slots, at(&count));
+    size_t filled = number ? 0 : 2;
+    uint64_t counted;
+    memcpy(&counted, at(&count), sizeof counted);
+    told(came == number && counted == filled && memcmp(at(&table), ARGININE, filled * sizeof(station_slot)) == 0 &&
+             as_lent_from(&table, filled * sizeof(station_slot)) && as_lent(&t) && guarded(&count),
+         "load: %s: %u, %llu slots", what, (unsigned)came, (unsigned long long)counted);
+    give_back(&t), give_back(&table), give_back(&count);
+}
+
+/* An order over the table `is`, which then has these marks. */
+static void order(const char *what, const text *t, station_slot *is, size_t slots, uint32_t fragment, uint8_t aside,
+                  uint32_t number, const char *marks)
+{
+    lent b = lend(t->bytes, t->size, 1), table = lend(is, slots * sizeof *is, 0);
+    uint32_t came = station_order(at(&b), t->size, at(&table), slots, fragment, aside);
+    size_t i;
+    for (i = 0; number == 0 && i < slots; i++) is[i].mark = (uint8_t)(marks[i] - '0');
+    told(came == number && memcmp(at(&table), is, slots * sizeof *is) == 0 && guarded(&table) && as_lent(&b),
+         "order: %s: %u", what, (unsigned)came);
+    give_back(&b), give_back(&table);
+}
+
+typedef uint32_t writes(const uint8_t *, size_t, const station_slot *, size_t, uint8_t *, size_t, uint64_t *);
+
+/* What save or tray writes into `room` bytes, if it is granted: these bytes. */
+static void write(const char *what, writes *call, const text *t, const station_slot *is, size_t slots, size_t room,
+                  uint32_t number, const text *due)
+{
+    lent b = lend(t->bytes, t->size, 1), table = lend(is, slots * sizeof *is, 0), out = lend(NULL, room, 1);
+    lent count = lend(NULL, 8, 0);
+    uint32_t came = call(at(&b), t->size, at(&table), slots, at(&out), room, at(&count));
+    size_t size = number ? 0 : due->size;
+    uint64_t counted;
+    memcpy(&counted, at(&count), sizeof counted);
+    told(came == number && counted == size && memcmp(at(&out), due->bytes, size) == 0 && as_lent_from(&out, size) &&
+             as_lent(&b) && as_lent(&table) && guarded(&count),
+         "%s: %u, %llu bytes", what, (unsigned)came, (unsigned long long)counted);
+    give_back(&b), give_back(&table), give_back(&out), give_back(&count);
+}
+
+static void orders(const text *wrong)
+{
+    text t = three(), saved = {{0}, 0}, tray = {{0}, 0}, none = {{0}, 0};
+    station_slot is[4], other[4];
+    uint64_t count;
+    station_load((const uint8_t *)t.bytes, t.size, is, 4, &count);
+    memcpy(saved.bytes, t.bytes, 3 * LINE);
+    memcpy(saved.bytes + 3 * LINE, t.bytes + 4 * LINE, LINE);
+    saved.size = 4 * LINE;
+    add(&saved, "MASTER        0    0    0    0    0    0    0    0    2    1    0    0");
+    add(&saved, "END");
+    memcpy(tray.bytes, t.bytes + 3 * LINE, LINE);
+    memcpy(tray.bytes + LINE, t.bytes + 5 * LINE, LINE);
+    tray.size = 2 * LINE;
+
+    order("fragment 2 aside", &t, is, 4, 2, 1, 0, "0010");
+    order("fragment 2 aside again", &t, is, 4, 2, 1, 16, NULL);
+    order("fragment 0", &t, is, 4, 0, 1, 15, NULL);
+    order("fragment 4", &t, is, 4, 4, 1, 15, NULL);
+    order("a short table", &t, is, 3, 1, 1, 13, NULL);
+    order("a wrong text", wrong, is, 4, 1, 1, 6, NULL);
+    memcpy(other, is, sizeof other);
+    other[3].x++;
+    order("another text's table", &t, other, 4, 1, 1, 18, NULL);
+    write("save: with room to spare", station_save, &t, is, 4, t.size, 0, &saved);
+    write("save: into just enough", station_save, &t, is, 4, saved.size, 0, &saved);
+    write("save: into a byte less", station_save, &t, is, 4, saved.size - 1, 17, &saved);
+    write("save: a short table", station_save, &t, is, 3, t.size, 13, &saved);
+    write("save: another text's table", station_save, &t, other, 4, t.size, 18, &saved);
+    write("save: a wrong text", station_save, wrong, is, 4, t.size, 6, &saved);
+    write("tray: with room to spare", station_tray, &t, is, 4, t.size, 0, &tray);
+    write("tray: into just enough", station_tray, &t, is, 4, tray.size, 0, &tray);
+    write("tray: into a byte less", station_tray, &t, is, 4, tray.size - 1, 17, &tray);
+    write("tray: into nothing", station_tray, &t, is, 4, 0, 17, &tray);
+    order("fragment 1 aside, by 255", &t, is, 4, 1, 255, 0, "1110");
+    order("fragment 1 back", &t, is, 4, 1, 0, 0, "0010");
+    order("fragment 2 back", &t, is, 4, 2, 0, 0, "0000");
+    write("save: all in", station_save, &t, is, 4, t.size, 0, &t);
+    write("tray: nothing to write, into nothing", station_tray, &t, is, 4, 0, 0, &none);
+}
+
+/* ---- single lines */
+
+static void slot(const char *what, const char *line, size_t n, uint32_t number)
+{
+    lent l = lend(line, n, 1), s = lend(NULL, sizeof(station_slot), 0);
+    uint32_t came = station_slot_of_line(at(&l), n, at(&s));
+    told(came == number && (number ? as_lent(&s) : memcmp(at(&s), &ARGININE[0], sizeof(station_slot)) == 0) &&
+             guarded(&s) && as_lent(&l),
+         "slot_of_line: %s: %u", what, (unsigned)came);
+    give_back(&l), give_back(&s);
+}
+
+static void rewrite(const char *what, const char *line, size_t n, size_t room, uint32_t number)
+{
+    lent l = lend(line, n, 1), out = lend(NULL, room, 1);
+    uint32_t came = station_rewrite_line(at(&l), n, at(&out), room);
+    size_t size = number ? 0 : 80;
+    told(came == number && memcmp(at(&out), line, size) == 0 && as_lent_from(&out, size) && as_lent(&l),
+         "rewrite_line: %s: %u", what, (unsigned)came);
+    give_back(&l), give_back(&out);
+}
+
+static void count(const char *what, const char *line, uint32_t before, uint32_t after, uint32_t number)
+{
+    const station_tally was = {1, 2, 3, 4, 5, before, 6, 7, 8}, due = {1, 2, 3, 4, 5, after, 6, 7, 8};
+    lent l = lend(line, strlen(line), 1), tally = lend(&was, sizeof was, 0);
+    uint32_t came = station_count_line(at(&tally), at(&l), strlen(line));
+    told(came == number && memcmp(at(&tally), &due, sizeof due) == 0 && guarded(&tally) && as_lent(&l),
+         "count_line: %s: %u, coord %u", what, (unsigned)came, (unsigned)((station_tally *)at(&tally))->coord);
+    give_back(&l), give_back(&tally);
+}
+
+static void lines(const char *entry, const text *wrong)
+{
+    static const char *names[5] = {"HEADER", "ATOM", "TER", "MASTER", "END"};
+    char byte[80];
+    size_t i;
+    memcpy(byte, entry + LINE, 80);
+    byte[79] = '\n';
+    slot("ATOM", entry + LINE, 80, 0);
+    slot("79 columns", entry + LINE, 79, 1);
+    slot("81 columns", entry + LINE, 81, 1);
+    slot("a byte wrong", byte, 80, 3);
+    slot("MASTER", entry + 3 * LINE, 80, 4);
+    slot("a field wrong", wrong->bytes + LINE, 80, 6);
+    for (i = 0; i < 5; i++) rewrite(names[i], entry + i * LINE, 80, 100, i ? 0 : 4);
+    rewrite("79 columns", entry + LINE, 79, 80, 1);
+    rewrite("a byte wrong", byte, 80, 80, 3);
+    rewrite("a field wrong", wrong->bytes + LINE, 80, 80, 6);
+    rewrite("into just enough", entry + LINE, 80, 80, 0);
+    rewrite("into a byte less", entry + LINE, 80, 79, 17);
+    count("HETATM", "HETATM", 9, 10, 0);
+    count("END", "END   ", 9, 9, 0);
+    count("three bytes", "END", 9, 9, 4);
+    count("no name", "ATOMS ", 9, 9, 4);
+    count("the last that fits", "ATOM  ", 99998, 99999, 0);
+    count("one too many", "ATOM  ", 99999, 99999, 14);
+}
+
+/* ---- the feed */
+
+enum { DOT, STROKE, FRAME };
+
+/* A dot, a stroke or a frame of two slots: its doubles, if something is to be drawn. */
+static void feed(const char *what, int which, const station_slot *slots, size_t n, uint32_t number, const double *due)
+{
+    const size_t doubles = which == DOT ? 3 : which == STROKE ? 6 : 9, size = doubles * sizeof(double);
+    lent s = lend(slots, n * sizeof *slots, 0), out = lend(NULL, size, 0);
+    const station_slot *first = at(&s);
+    uint32_t came = which == DOT      ? station_dot(first, at(&out))
+                    : which == STROKE ? station_stroke(first, first + 1, at(&out))
+                                      : station_frame(first, n, at(&out));
+    const double *d = at(&out);
+    size_t i;
+    told(came == number && (due ? memcmp(d, due, size) == 0 : as_lent(&out)) && guarded(&out) && as_lent(&s),
+         "%s: %u", what, (unsigned)came);
+    for (i = 0; due && i < doubles; i++) printf("        %.1f\n", d[i]);
+    give_back(&s), give_back(&out);
+}
+
+static void feeds(void)
+{
+    static const double dot[3] = {11281, 86699, 94383}, stroke[6] = {-1, 0, 5, 2, 0, 5};
+    static const double frame[9] = {-1, 0, 5, 2, 0, 5, 0.5, 0, 5};
+    station_slot two[2] = {ARGININE[0], ARGININE[0]}, aside[2];
+    two[0].x = -1, two[0].y = 0, two[0].z = 5;
+    two[1].x = 2, two[1].y = 0, two[1].z = 5;
+    memcpy(aside, two, sizeof two);
+    aside[1].mark = STATION_ASIDE;
+    feed("dot: of an atom", DOT, &ARGININE[0], 1, 1, dot);
+    feed("dot: of a TER", DOT, &ARGININE[1], 1, 0, NULL);
+    feed("dot: of an atom aside", DOT, &aside[1], 1, 0, NULL);
+    feed("stroke: of two atoms", STROKE, two, 2, 1, stroke);
+    feed("stroke: of one in, one aside", STROKE, aside, 2, 0, NULL);
+    feed("frame: of two atoms", FRAME, two, 2, 0, frame);
+    feed("frame: of a TER", FRAME, &ARGININE[1], 1, 19, NULL);
+    feed("frame: of nothing", FRAME, two, 0, 19, NULL);
+}
+
+int main(void)
+{
+    char entry[5 * LINE + 1];
+    text wrong = {{0}, 5 * LINE};
+    if (fread(entry, 1, sizeof entry, stdin) != 5 * LINE) {
+        fputs("standard input is not the first worked example (crates/report/stdin)\n", stderr);
+        return 2;
+    }
+    memcpy(wrong.bytes, entry, 5 * LINE);
+    memcpy(wrong.bytes + LINE + 54, "  1.50", 6); /* an occupancy above 1 */
+    layout();
+    checks(entry, &wrong);
+    load("two slots", entry, 5 * LINE, 2, 0);
+    load("a slot to spare", entry, 5 * LINE, 3, 0);
+    load("a slot too few", entry, 5 * LINE, 1, 13);
+    load("a wrong text", wrong.bytes, 5 * LINE, 2, 6);
+    orders(&wrong);
+    lines(entry, &wrong);
+    feeds();
+    printf("%u passed, %u failed\n", passed, failed);
+    return failed != 0;
+}

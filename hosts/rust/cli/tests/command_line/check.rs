@@ -1,0 +1,73 @@
+//! `station check`.
+
+use std::fs;
+use std::os::unix::fs::symlink;
+
+use crate::folder::Folder;
+use crate::texts::{arginine, three};
+
+#[test]
+fn check_grants() {
+    let folder = Folder::new("grants");
+    folder.file("a.pdb", arginine());
+    let answer = folder.station(&["check", "a.pdb"]);
+    answer.is(0, "a.pdb: granted: 5 lines, 1 atom, 1 TER, 0 CONECT");
+    assert_eq!(answer.err, "");
+}
+
+#[test]
+fn check_refuses_and_shows_the_line() {
+    let folder = Folder::new("refuses");
+    folder.file("a.pdb", arginine().replace("  0.50", "  1.50"));
+    let answer = folder.station(&["check", "a.pdb"]);
+    answer.is(1, "a.pdb: line 2: refused with 6: a field or a blank column is wrong");
+    answer.is(1, "|ATOM     32  N  AARG A  -3      11.281  86.699  94.383  1.50 35.88           N  |");
+}
+
+#[test]
+fn check_lists_the_report() {
+    let folder = Folder::new("report");
+    folder.file("a.pdb", arginine());
+    let answer = folder.station(&["check", "--report", "a.pdb"]);
+    let listing =
+        "verdict=0\nline=0\nlines=5\nremark=0\nhet=0\nhelix=0\nsheet=0\nxform=0\ncoord=1\nter=1\nconect=0\nseq=0\n";
+    assert_eq!((answer.status, answer.out.as_str()), (0, listing));
+    folder.file("long.pdb", vec![b' '; 65_530]);
+    let answer = folder.station(&["check", "--report", "long.pdb"]);
+    answer.is(1, "verdict=20\nline=0\nlines=0\nremark=0\n");
+    let answer = folder.station(&["check", "--report", "a.pdb", "long.pdb"]);
+    answer.is(1, "file=long.pdb\nverdict=20\n");
+}
+
+#[test]
+fn check_takes_folders_and_standard_input() {
+    let folder = Folder::new("folders");
+    folder.file("in/a.pdb", arginine());
+    folder.file("in/deep/b.pdb", "");
+    folder.file("in/deep/c.pdb", three());
+    symlink(folder.0.join("in"), folder.0.join("in/loop")).expect("a link");
+    let answer = folder.station(&["check", "in"]);
+    answer.is(1, "3 files: 2 granted, 1 refused, 0 not read");
+    let answer = folder.station(&["check", "in", "missing.pdb"]);
+    answer.is(2, "4 files: 2 granted, 1 refused, 1 not read");
+    answer.is(2, "missing.pdb: could not be read");
+    fs::create_dir(folder.0.join("empty")).expect("a folder");
+    folder.station(&["check", "empty"]).is(2, "there is no file in this folder");
+    folder.shell("$S check - < in/a.pdb").is(0, "standard input: granted");
+}
+
+#[test]
+fn check_names_the_cause() {
+    let folder = Folder::new("causes");
+    folder.file("empty.pdb", "");
+    folder.station(&["check", "empty.pdb"]).is(1, "the file is empty");
+    folder.file("open.pdb", arginine().trim_end_matches('\n'));
+    folder.station(&["check", "open.pdb"]).is(1, "the newline at the end of the file is missing");
+    folder.file("windows.pdb", arginine().replace('\n', "\r\n"));
+    folder.station(&["check", "windows.pdb"]).is(1, "Windows line ends");
+    let trimmed: String = arginine().lines().map(|line| format!("{}\r\n", line.trim_end())).collect();
+    folder.file("trimmed.pdb", trimmed);
+    folder.station(&["check", "trimmed.pdb"]).is(1, "Windows line ends");
+    folder.file("packed.pdb.gz", b"\x1f\x8b\x08\x00rest");
+    folder.station(&["check", "packed.pdb.gz"]).is(1, "compressed (gzip)");
+}

@@ -1,0 +1,8 @@
+//! The built program, from outside: what it prints, its exit status, and what it leaves in the file system.
+
+mod check;
+mod draw;
+mod folder;
+mod manners;
+mod save;
+mod texts;

@@ -1,0 +1,100 @@
+//! What all commands have in common: help, wrong arguments, noise, and places that cannot be written to.
+
+use std::fs;
+use std::process::{Command, Stdio};
+
+use crate::folder::{Folder, STATION};
+use crate::texts::{arginine, three};
+
+#[test]
+fn help_and_wrong_arguments() {
+    let folder = Folder::new("help");
+    for command in
+        [&["--help"][..], &["check", "--help"], &["fragments", "-h"], &["save", "--help"], &["draw", "--help"]]
+    {
+        let answer = folder.station(command);
+        answer.is(0, "example");
+        assert_eq!(answer.err, "");
+    }
+    for wrong in [
+        &[][..],
+        &["frobnicate"],
+        &["check"],
+        &["check", "--force", "a"],
+        &["check", "--report=1", "a"],
+        &["save", "a"],
+        &["save", "a", "b", "--out", "c"],
+        &["save", "a", "--out"],
+        &["save", "a", "--out", "b", "--out", "c"],
+        &["save", "a", "--out", ""],
+        &["draw", "a"],
+        &["draw", "a", "--svg", "b", "--aside", "x"],
+    ] {
+        let answer = folder.station(wrong);
+        answer.is(2, "see station --help");
+        assert_eq!(answer.out, "");
+    }
+}
+
+#[test]
+fn a_reader_that_goes_away_is_no_panic() {
+    let folder = Folder::new("pipe");
+    let file = folder.file("a.pdb", arginine());
+    let mut command = Command::new(STATION);
+    command.arg("check").args(std::iter::repeat_n(file, 3_000)).stdout(Stdio::piped()).stderr(Stdio::piped());
+    let mut running = command.spawn().expect("the program runs");
+    drop(running.stdout.take());
+    let output = running.wait_with_output().expect("the program ends");
+    assert_eq!(output.status.code(), Some(2));
+    assert_eq!(String::from_utf8_lossy(&output.stderr), "");
+}
+
+#[test]
+fn noise_of_a_hundred_megabytes() {
+    let folder = Folder::new("noise");
+    let mut state = 1u64;
+    let noise: Vec<u8> = (0..100_000_000u32 / 8)
+        .flat_map(|_| {
+            state ^= state << 13;
+            state ^= state >> 7;
+            state ^= state << 17;
+            state.to_ne_bytes()
+        })
+        .collect();
+    folder.file("noise", &noise);
+    folder.station(&["check", "noise"]).is(1, "noise: line 1: refused with 2");
+    folder.station(&["fragments", "noise"]).is(1, "refused with 2");
+    folder.station(&["draw", "noise", "--svg", "noise.svg"]).is(1, "refused with 19");
+    folder.station(&["save", "noise", "--out", "out"]).is(1, "refused with 2");
+    assert_eq!(folder.names(), ["noise"]);
+}
+
+#[test]
+fn a_full_disk_leaves_nothing() {
+    let folder = Folder::new("full");
+    folder.file("a.pdb", three());
+    folder.file("old", "old");
+    let save = |more: &[&str]| folder.station(&[&["save", "a.pdb", "--aside", "1"], more].concat());
+    save(&["--out", "/dev/full", "--tray", "tray"]).is(2, "/dev/full: could not be written");
+    save(&["--out", "out", "--tray", "/dev/full"]).is(2, "No space left on device");
+    folder.station(&["draw", "a.pdb", "--svg", "/dev/full"]).is(2, "No space left on device");
+    folder.shell("$S check a.pdb > /dev/full").is(2, "the answers could not be written");
+    folder.shell("$S fragments a.pdb > /dev/full").is(2, "the answers could not be written");
+    folder.shell("$S --help > /dev/full").is(2, "the answers could not be written");
+    // No byte may be written to a file, as on a disk that is full.
+    let limited = "trap '' XFSZ; ulimit -f 0; exec $S save a.pdb --aside 1 --force";
+    folder.shell(&format!("{limited} --out out --tray tray")).is(2, "could not be written");
+    folder.shell(&format!("{limited} --out old --tray tray")).is(2, "could not be written");
+    assert_eq!(folder.names(), ["a.pdb", "old"]);
+    assert_eq!(folder.read("old"), "old");
+    assert!(fs::metadata("/dev/full").is_ok_and(|metadata| !metadata.is_file()));
+}
+
+#[test]
+fn devices_are_written_to_as_they_are() {
+    let folder = Folder::new("devices");
+    folder.file("a.pdb", three());
+    let answer = folder.station(&["save", "a.pdb", "--aside", "2", "--out", "/dev/stdout", "--tray", "/dev/null"]);
+    answer.is(0, "HEADER");
+    assert!(fs::metadata("/dev/null").is_ok_and(|metadata| !metadata.is_file()));
+}
