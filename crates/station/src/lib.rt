@@ -10,7 +10,7 @@ ghost use Rattle.line.specs.Lines.{readLine};
 ghost use Rattle.slots.specs.Slots.{slotLine};
 ghost use Rattle.table.specs.Table.{told, loadOf, orderOf};
 ghost use Rattle.table.specs.Deal.{saveOf, trayOf};
-ghost use Rattle.tally.specs.Tally.{counted, tallyLine};
+ghost use Rattle.tally.specs.Tally.{toldTally, tallyLine};
 ghost use Rattle.feed.specs.Feed.{dotOf, strokeOf};
 ghost use Rattle.feed.specs.Frame.{frameOf};
 ghost use Rattle.answers.specs.Boundary.{answered, twelveOf, asideOf, slotAnswer, rewriteAnswer, dotAnswer, strokeAnswer, frameAnswer};
@@ -125,7 +125,7 @@ pub extern "C" fn station_frame(table: &[Slot], out: &mut [f64; 9]) -> u32
 // Counts a line in: 0; or 4, 14 and the tally as found.
 #[no_mangle]
 pub extern "C" fn station_count_line(tally: &mut Tally, line: &[u8]) -> u32
-    ensures { λ r. ⌜ counted r (now (tally .exit)) ≡ tallyLine (now (tally .entry)) (now (line .entry)) ⌝ }
+    ensures { λ r. ⌜ toldTally r (now (tally .exit)) ≡ tallyLine (now (tally .entry)) (now (line .entry)) ⌝ }
 {
     tally::count_line(tally, line) as u32
 }

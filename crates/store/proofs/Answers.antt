@@ -20,11 +20,11 @@ use Rattle.slots.specs.declared.Tail.{Tail}
 use Rattle.slots.specs.Fragments.{tailOf, markOf, marked}
 use Rattle.table.specs.Table.{told, over, linesFrom, loadedOf, loadOf, fitsFrom, oneOf, belongs, tableOf, fragments, markByte, orderOf}
 use Rattle.table.specs.Deal.{stays, counted, written, bytesOf, putOf}
+use Rattle.table.proofs.Marks.{marked-size}
 use Rattle.table.proofs.Shares.{shares, shares-sum, bytes-size}
 use Rattle.store.specs.declared.Findings.{Findings}
 use Rattle.store.specs.declared.Held.{Held}
 use Rattle.store.specs.Judged.{Surveyed, Belongs, keptFrom, shareOf}
-use Rattle.store.proofs.Tails.{marked-size}
 
 pub take-size : (xs : List Slot) (n : ℕ) → n ≤ length xs → n ≡ length (take n xs)
 take-size xs n h = simp length-take (omega arith)

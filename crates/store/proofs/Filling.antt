@@ -1,14 +1,13 @@
 -- Filling the table from the front.
 -- Assumes nothing.
-use Prim.Native.Nat.{ℕ, zero, suc, _+_, _*_, _≤_, _<_}
+use Prim.Native.Nat.{ℕ, suc, _+_, _*_, _≤_, _<_}
 use mathlib.Core.List.{List, [], _∷_, _++_, append-nil}
 use mathlib.Core.Bool.{Bool, true, false}
 use mathlib.Core.Path.{_≡_, refl, sym, _∙_, ap}
 use native.Mathlib.Omega.{arith}
-use native.Mathlib.Nat.{not-suc-le-zero, le-of-suc-le-suc}
 use native.Mathlib.Numerals.{add-one}
-use lib.ListN.{length, set, take, drop, take-append-drop}
-use lib.Seq.{append-snoc}
+use lib.ListN.{length, set, take, drop, length-set, take-append-drop}
+use lib.Seq.{append-snoc, drop-drop, drop-set-lt, take-suc-set}
 use Rattle.ascii.specs.Tests.{pick}
 use Rattle.pieces.specs.declared.Line.{Line}
 use Rattle.gate.specs.Text.{row}
@@ -16,32 +15,11 @@ use Rattle.gate.specs.Search.{isCoord}
 use Rattle.slots.specs.declared.Slot.{Slot}
 use Rattle.slots.specs.Slots.{lineSlot}
 use Rattle.table.specs.Table.{linesFrom, slotsOf, loadedOf, oneOf}
-use Rattle.store.proofs.Lines.{lines-next, lines-done, need-done}
-
-take-set : (xs : List Slot) (k : ℕ) (v : Slot) → k < length xs → take (suc k) (set xs k v) ≡ take k xs ++ (v ∷ [])
-take-set [] k v h = absurd (not-suc-le-zero h)
-take-set (x ∷ []) zero v h = refl
-take-set (x ∷ (y ∷ xs)) zero v h = refl
-take-set (x ∷ xs) (suc k) v h = ap (λ (r : List Slot). x ∷ r) (take-set xs k v (le-of-suc-le-suc h))
-
-drop-set : (xs : List Slot) (k : ℕ) (v : Slot) → drop (suc k) (set xs k v) ≡ drop (suc k) xs
-drop-set [] k v = refl
-drop-set (x ∷ xs) zero v = refl
-drop-set (x ∷ xs) (suc k) v = drop-set xs k v
+use Rattle.table.proofs.Rows.{lines-next, lines-done}
+use Rattle.store.proofs.Lines.{need-done}
 
 drop-more : (xs ys : List Slot) (k : ℕ) → drop k xs ≡ drop k ys → drop (suc k) xs ≡ drop (suc k) ys
-drop-more xs ys k e = sym (drop-one xs k) ∙ (ap (λ (r : List Slot). drop 1 r) e ∙ drop-one ys k)
-  where
-    drop-one : (xs : List Slot) (k : ℕ) → drop 1 (drop k xs) ≡ drop (suc k) xs
-    drop-one [] zero = refl
-    drop-one [] (suc k) = refl
-    drop-one (x ∷ xs) zero = refl
-    drop-one (x ∷ xs) (suc k) = drop-one xs k
-
-pub set-size : (xs : List Slot) (k : ℕ) (v : Slot) → length (set xs k v) ≡ length xs
-set-size [] k v = refl
-set-size (x ∷ xs) zero v = refl
-set-size (x ∷ xs) (suc k) v = ap suc (set-size xs k v)
+drop-more xs ys k e = rw (← add-one) (sym (drop-drop 1 k xs) ∙ (ap (drop 1) e ∙ drop-drop 1 k ys))
 
 -- the slots of the first i lines stand in the first k slots; the rest is as found
 pub record Filled (t : List ℕ) (e : List Slot) (n i k : ℕ) (xs : List Slot) : Type 0 where
@@ -71,12 +49,12 @@ module _ (t : List ℕ) (e : List Slot) (n i k : ℕ) (xs : List Slot) (F : Fill
           let a : length (slotsOf (linesFrom t i)) ≡ 1 + length (slotsOf (linesFrom t (i + 1))) = ap length (here true u) ∙ omega arith in
           let r : k < length xs = omega (arith, F .size, F .fits, F .room) in
           record {
-            size = ap length v ∙ (set-size xs k (lineSlot l) ∙ F .size);
+            size = ap length v ∙ (length-set xs k (lineSlot l) ∙ F .size);
             fits = F .fits;
             need = F .need;
             room = omega (arith, F .room);
-            front = rw (v, add-one, take-set xs k (lineSlot l) r, append-snoc) (rw (here true u) at (F .front));
-            back = rw (v, add-one, drop-set xs k (lineSlot l)) (drop-more xs e k (F .back));
+            front = rw (v, add-one, take-suc-set xs k (lineSlot l) r, append-snoc) (rw (here true u) at (F .front));
+            back = rw (v, add-one, drop-set-lt (suc k) xs k (lineSlot l) (omega arith)) (drop-more xs e k (F .back));
           }
       go false u v =
           let z : k + 0 ≡ k = omega arith in

@@ -1,31 +1,22 @@
 -- The lines of a text one after the other: what is done and what the rest gives make the whole.
 -- Assumes nothing.
 use Prim.Native.Nat.{ℕ, _+_, _*_, _≤_, _<_}
-use mathlib.Core.List.{List, [], _∷_, map}
+use mathlib.Core.List.{List, _∷_}
 use mathlib.Core.Bool.{Bool, true, false}
 use mathlib.Core.Path.{_≡_, refl, sym, _∙_, ap}
 use native.Mathlib.Omega.{arith}
 use lib.ListN.{length, getD}
 use Rattle.ascii.specs.Tests.{pick, both}
 use Rattle.pieces.specs.declared.Line.{Line}
-use Rattle.pieces.specs.Pieces.{lineOf}
 use Rattle.gate.specs.Text.{row}
 use Rattle.gate.specs.Search.{isCoord}
-use Rattle.gate.proofs.Cut.{cut-next, cut-done}
 use Rattle.slots.specs.declared.Slot.{Slot}
 use Rattle.slots.specs.Slots.{SmallLine, lineSlot, noSlot}
 use Rattle.slots.proofs.Returns.{piece-small}
 use Rattle.table.specs.Table.{linesFrom, slotsOf, fits, fitsFrom, oneOf}
 use Rattle.table.specs.Deal.{stays}
+use Rattle.table.proofs.Rows.{lines-next, lines-done}
 use Rattle.store.specs.Judged.{keptFrom}
-
-pub lines-next : (t : List ℕ) (i : ℕ) → 81 * i < length t → linesFrom t i ≡ row t i ∷ linesFrom t (i + 1)
-unfolding linesFrom row
-lines-next t i h = ap (λ (ps : List (List ℕ)). map lineOf ps) (cut-next t i h)
-
-pub lines-done : (t : List ℕ) (i : ℕ) → length t ≤ 81 * i → linesFrom t i ≡ []
-unfolding linesFrom
-lines-done t i h = ap (λ (ps : List (List ℕ)). map lineOf ps) (cut-done t i h)
 
 -- an occupancy read from a line is one that a slot can hold
 pub row-small : (t : List ℕ) (i : ℕ) (l : Line) → l ≡ row t i → SmallLine l

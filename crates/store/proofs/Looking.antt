@@ -9,6 +9,7 @@ use borrow.Author.Tests.{eqb-true, ltb-true, ltb-false, lt-ltb}
 use lib.Dec.{eqb, ltb, leb}
 use lib.ListN.{length, getD}
 use Rattle.ascii.specs.Tests.{pick, both}
+use Rattle.ascii.proofs.Choice.{both-split}
 use Rattle.line.specs.declared.Record.{Record}
 use Rattle.line.specs.declared.Record.the-variants.{Coordinate, Ter, Helix, Sheet, Conect, Master, End}
 use Rattle.pieces.specs.declared.Line.{Line}
@@ -24,17 +25,6 @@ use Rattle.table.specs.Table.{linesFrom, slotsOf, loadedOf, fits, oneOf, fitsFr
 use Rattle.table.specs.Deal.{stays}
 use Rattle.store.specs.Judged.{serialAt, Rises, keptFrom}
 use Rattle.store.proofs.Lines.{need-step, fits-step, kept-step}
-
--- ---- both of two tests
-pub both-left : (a b : Bool) → both a b ≡ true → a ≡ true
-unfolding both
-both-left true b e = refl
-both-left false b e = e
-
-pub both-right : (a b : Bool) → both a b ≡ true → b ≡ true
-unfolding both
-both-right true b e = e
-both-right false b e = absurd (false≢true e)
 
 -- ---- a slot that fits a coordinate line has its serial
 spot-serial : (r : Record) → isSpot r ≡ true → recordSlot r .serial .0 ≡ spotSerial r
@@ -55,13 +45,13 @@ line-serial (Typed r) e = spot-serial r e
 same-serial : (s t : Slot) → sameSlot s t ≡ true → s .serial .0 ≡ t .serial .0
 unfolding sameSlot
 same-serial s t e =
-    eqb-true _ _ (both-right (eqb (s .kind) (t .kind)) (eqb (s .serial .0) (t .serial .0)) (both-left (both (eqb (s .kind) (t .kind)) (eqb (s .serial .0) (t .serial .0))) _ e))
+    eqb-true _ _ (both-split (eqb (s .kind) (t .kind)) (eqb (s .serial .0) (t .serial .0)) (both-split (both (eqb (s .kind) (t .kind)) (eqb (s .serial .0) (t .serial .0))) _ e .0) .1)
 
 fits-serial : (s : Slot) (l : Line) → isCoord l ≡ true → fits s l ≡ true → s .serial .0 ≡ serialOf l
 unfolding fits
 fits-serial s l c f =
     let g : both (leb (s .mark) markAside) (sameSlot s (lineSlot l)) ≡ true = rw c at f in
-    same-serial s (lineSlot l) (both-right (leb (s .mark) markAside) (sameSlot s (lineSlot l)) g) ∙ line-serial l c
+    same-serial s (lineSlot l) (both-split (leb (s .mark) markAside) (sameSlot s (lineSlot l)) g .1) ∙ line-serial l c
 
 -- ---- after i good lines: k slots stand before, whether they fit, and how many lines stay
 pub record Looked (t : List ℕ) (xs : List Slot) (i : ℕ) (b : Span) (s : State) (k : ℕ) (fit : Bool) (n : ℕ) : Type 0 where
@@ -119,14 +109,14 @@ module _ (t : List ℕ) (xs : List Slot) (i : ℕ) (b : Span) (s : State) (k : �
   grown : (c : Bool) → isCoord l ≡ c → (b' .lo + (k + pick c 1 0) ≡ b' .hi) × (both fit good ≡ true → (j : ℕ) → j < k + pick c 1 0 → serialAt xs j ≡ serialOf (row t (b' .lo + j)))
   grown false e =
       let q : b' ≡ b = eb ∙ rw e in
-      (rw q (omega (arith, K .spots)), λ f j g. rw q (K .serials (both-left fit good f) j (omega arith)))
+      (rw q (omega (arith, K .spots)), λ f j g. rw q (K .serials (both-split fit good f .0) j (omega arith)))
   grown true e = inside (ltb (b .lo) (b .hi)) refl
     where
       q : b' ≡ record { lo = pick (ltb (b .lo) (b .hi)) (b .lo) i; hi = i + 1 }
       q = eb ∙ rw e
 
       last : both fit good ≡ true → serialAt xs k ≡ serialOf (row t i)
-      last f = rw el at (fits-serial (getD xs k noSlot) l e (sym good-here ∙ both-right fit good f))
+      last f = rw el at (fits-serial (getD xs k noSlot) l e (sym good-here ∙ both-split fit good f .1))
 
       inside : (x : Bool) → ltb (b .lo) (b .hi) ≡ x
           → (b' .lo + (k + 1) ≡ b' .hi) × (both fit good ≡ true → (j : ℕ) → j < k + 1 → serialAt xs j ≡ serialOf (row t (b' .lo + j)))
@@ -138,7 +128,7 @@ module _ (t : List ℕ) (xs : List Slot) (i : ℕ) (b : Span) (s : State) (k : �
           (omega arith, λ f j w. rw lo (up-to f j w at (ltb j k) refl))
         where
           up-to : both fit good ≡ true → (j : ℕ) → j < k + 1 → b .lo + k ≡ i → (y : Bool) → ltb j k ≡ y → serialAt xs j ≡ serialOf (row t (b .lo + j))
-          up-to f j w a true v = K .serials (both-left fit good f) j (ltb-true _ _ v)
+          up-to f j w a true v = K .serials (both-split fit good f .0) j (ltb-true _ _ v)
           up-to f j w a false v = let z : j ≡ k = omega (arith, ltb-false j k v) in rw (z, a) (last f)
       inside false u =
           let g : b .hi ≤ b .lo = ltb-false _ _ u in
@@ -155,7 +145,7 @@ module _ (t : List ℕ) (xs : List Slot) (i : ℕ) (b : Span) (s : State) (k : �
         need = need-step t i k (length (loadedOf t)) l h el (K .need);
         fitted = fits-step t xs i k l (fitsFrom xs 0 (linesFrom t 0)) fit good h el good-here (K .fitted);
         serials = grown (isCoord l) refl .1;
-        kept = λ f. let e = both-left fit good f in kept-step t xs i k kept (keptFrom xs 0 (linesFrom t 0)) l stay h el (es (looked-rises t xs i b s k fit kept K e)) (K .kept e);
+        kept = λ f. let e = both-split fit good f .0 in kept-step t xs i k kept (keptFrom xs 0 (linesFrom t 0)) l stay h el (es (looked-rises t xs i b s k fit kept K e)) (K .kept e);
         few = more stay;
       }
     where

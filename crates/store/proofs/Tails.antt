@@ -8,14 +8,13 @@ use native.Mathlib.Omega.{arith}
 use native.Mathlib.Nat.{not-suc-le-zero, le-of-suc-le-suc}
 use native.Mathlib.Numerals.{add-one}
 use lib.Dec.{eqb}
-use lib.ListN.{length, getD, set, take, drop, drop-of-length-le}
-use lib.Seq.{drop-cons, take-all}
+use lib.ListN.{length, getD, set, take, drop, length-set, length-take, drop-of-length-le, List·getD-append}
+use lib.Seq.{drop-cons, getD-take, take-all}
 use Rattle.ascii.specs.Tests.{pick}
 use Rattle.slots.specs.declared.Slot.{Slot}
 use Rattle.slots.specs.declared.Tail.{Tail}
 use Rattle.slots.specs.Slots.{noSlot, withMark}
 use Rattle.slots.specs.Fragments.{joins, stepTail, tailOf, markOf, marked}
-use Rattle.store.proofs.Filling.{set-size}
 
 module _ (xs : List Slot) (k j : ℕ) (e : k ≡ j + 1) (h : j < length xs) where
   rest : drop j xs ≡ getD xs j noSlot ∷ drop k xs
@@ -50,14 +49,9 @@ set-front (x ∷ (y ∷ xs)) r zero v h = refl
 set-front (x ∷ xs) r (suc j) v h = ap (λ (q : List Slot). x ∷ q) (set-front xs r j v (le-of-suc-le-suc h))
 
 get-front : (xs r : List Slot) (j : ℕ) → j < length xs → getD (take (suc j) xs ++ r) j noSlot ≡ getD xs j noSlot
-get-front [] r j h = absurd (not-suc-le-zero h)
-get-front (x ∷ xs) r zero h = refl
-get-front (x ∷ xs) r (suc j) h = get-front xs r j (le-of-suc-le-suc h)
-
-pub marked-size : (b m : ℕ) (xs : List Slot) → length (marked b m xs) ≡ length xs
-unfolding marked
-marked-size b m [] = refl
-marked-size b m (s ∷ ss) = ap suc (marked-size b m ss)
+get-front xs r j h =
+    let inside : j < length (take (suc j) xs) = omega (arith, length-take (suc j) xs) in
+    List·getD-append (take (suc j) xs) r noSlot j inside ∙ getD-take (suc j) xs j noSlot (omega arith)
 
 -- the slots from k on are done
 pub record Marking (e : List Slot) (b m k : ℕ) (t : Tail) (xs : List Slot) : Type 0 where
@@ -90,7 +84,7 @@ module _ (e : List Slot) (b m k : ℕ) (t : Tail) (xs : List Slot) (M : Marking 
       let d2 : v ≡ pick (eqb (u .count) b) (withMark (getD e j noSlot) m) (getD e j noSlot) = rw g at d in
       let p : u ≡ tailOf (drop j e) = tail-step e k j q h t u (M .tail) c2 in
       record {
-        size = set-size xs j v ∙ M .size;
+        size = length-set xs j v ∙ M .size;
         inside = omega arith;
         few = omega (arith, tail-count (getD e j noSlot) t u c2, M .few);
         tail = p;
@@ -103,9 +97,3 @@ marking-done e b m k t xs M z = M .held ∙ rw z (at-zero e)
     at-zero : (e : List Slot) → take 0 e ++ marked b m (drop 0 e) ≡ marked b m e
     at-zero [] = refl
     at-zero (x ∷ e) = refl
-
--- past the end stands no slot
-pub get-past : (xs : List Slot) (k : ℕ) → length xs ≤ k → getD xs k noSlot ≡ noSlot
-get-past [] k h = refl
-get-past (x ∷ xs) zero h = absurd (not-suc-le-zero h)
-get-past (x ∷ xs) (suc k) h = get-past xs k (le-of-suc-le-suc h)

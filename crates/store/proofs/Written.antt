@@ -21,11 +21,10 @@ use Rattle.gate.proofs.Cut.{cut-next, cut-done}
 use Rattle.gate.proofs.Runs.{stateAt, reached, answered}
 use Rattle.slots.specs.declared.Slot.{Slot}
 use Rattle.table.specs.Table.{linesFrom, slotsOf, loadedOf, oneOf, over}
-use Rattle.table.specs.Deal.{stays, isMaster, counted, share, dealt, bytesOf}
+use Rattle.table.specs.Deal.{stays, isMaster, tallyOf, counted, share, dealt, bytesOf}
+use Rattle.table.specs.FiveDigits.{FiveDigits}
 use Rattle.table.proofs.Plain.{piece-plain}
 use Rattle.table.proofs.Recount.{Under, under-start, under-next, master-fits}
-use Rattle.writing.specs.Small.{Small}
-use Rattle.writing.proofs.Recounts.{counts-small}
 use Rattle.store.specs.Judged.{Rises, Dealable}
 use Rattle.store.proofs.Lines.{need-step}
 
@@ -81,10 +80,10 @@ module _ (t : List ℕ) (xs : List Slot) (saving : Bool) (e : List ℕ) (i k : �
       }
 
   module _ (l : Line) (el : l ≡ row t i) (stay : Bool) (es : stay ≡ stays xs k l) where
-    pub small-here : isMaster l ≡ true → Small q
+    pub small-here : isMaster l ≡ true → FiveDigits (tallyOf q)
     unfolding row
     small-here m =
-        counts-small q (master-fits (knownOf (down (row t) i) (row t i)) (stateAt (row t) i) q (row t i) (piece-plain (pieceAt t i)) good-here (W .under) (rw el at m))
+        master-fits (knownOf (down (row t) i) (row t i)) (stateAt (row t) i) q (row t i) (piece-plain (pieceAt t i)) good-here (W .under) (rw el at m)
 
     -- the rest is what this line gives, and the rest after it
     rest : (u : Counts) → u ≡ counted stay q l

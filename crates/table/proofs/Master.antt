@@ -21,9 +21,10 @@ use Rattle.pieces.specs.declared.Line.the-variants.{Typed}
 use Rattle.pieces.specs.Pieces.{lineOf, columnsOf}
 use Rattle.rules.specs.declared.Counts.{Counts}
 use Rattle.table.specs.Deal.{tallyOf, masterPiece}
-use Rattle.table.proofs.Plain.{Small, small-ok}
+use Rattle.table.specs.FiveDigits.{FiveDigits}
+use Rattle.table.proofs.Plain.{small-ok}
 
-line-80 : (t : Tally) → length (masterLine t) ≡ 80
+pub line-80 : (t : Tally) → length (masterLine t) ≡ 80
 line-80 t = line-long masterF master-lawful refl (nameText kind.Master) refl t
 
 pub master-81 : (q : Counts) → length (masterPiece q) ≡ 81
@@ -38,7 +39,7 @@ columns-read t ok =
     rw (c, kind-first (masterText t) kind.Master, x .0, x .1)
 
 -- what is written reads as what was to be written
-pub master-line : (q : Counts) → Small (tallyOf q) → lineOf (masterPiece q) ≡ Typed (Master (tallyOf q))
+pub master-line : (q : Counts) → FiveDigits (tallyOf q) → lineOf (masterPiece q) ≡ Typed (Master (tallyOf q))
 unfolding lineOf masterPiece
 master-line q s =
     let t = tallyOf q in

@@ -1,4 +1,4 @@
--- What is known of a line whatever its piece is: MASTER's counts are small, and a carried line stands before the coordinate lines.
+-- What is known of a line whatever its piece is: MASTER's columns hold its counts, and a carried line stands before the coordinate lines.
 -- Assumes nothing.
 use Prim.Native.Nat.{ℕ, _≤_, _<_}
 use mathlib.Core.List.{List}
@@ -30,18 +30,7 @@ use Rattle.pieces.specs.Pieces.{lineIn, columnsOf, lineOf}
 use Rattle.rules.specs.Places.{placeOf, placeBad, coordinatePlace, endPlace}
 use Rattle.rules.proofs.Laws.{place-low, place-high}
 use Rattle.gate.specs.Search.{Before}
-
--- counts that MASTER's five columns hold
-pub record Small (t : Tally) : Type 0 where
-  pub remark : t .remark ≤ 99999
-  pub het : t .het ≤ 99999
-  pub helix : t .helix ≤ 99999
-  pub sheet : t .sheet ≤ 99999
-  pub xform : t .xform ≤ 99999
-  pub coord : t .coord ≤ 99999
-  pub ter : t .ter ≤ 99999
-  pub conect : t .conect ≤ 99999
-  pub seq : t .seq ≤ 99999
+use Rattle.table.specs.FiveDigits.{FiveDigits}
 
 ranged-top : (v : ℕ) → rangedOf 0 99999 v ≡ true → v ≤ 99999
 unfolding rangedOf
@@ -51,8 +40,8 @@ top-ranged : (v : ℕ) → v ≤ 99999 → rangedOf 0 99999 v ≡ true
 unfolding rangedOf
 top-ranged v h = both-join (leb 0 v) (leb v 99999) (le-leb 0 v (omega arith)) (le-leb v 99999 h)
 
--- MASTER is within its ranges exactly if its counts are small
-pub ok-small : (t : Tally) → masterOk t ≡ true → Small t
+-- MASTER is within its ranges exactly if its columns hold its counts
+pub ok-small : (t : Tally) → masterOk t ≡ true → FiveDigits t
 unfolding masterOk notesOk shapeOk atomsOk
 ok-small t e =
     let a = both-split _ _ e in
@@ -77,7 +66,7 @@ ok-small t e =
       seq = ranged-top _ (m3 .1);
     }
 
-pub small-ok : (t : Tally) → Small t → masterOk t ≡ true
+pub small-ok : (t : Tally) → FiveDigits t → masterOk t ≡ true
 unfolding masterOk notesOk shapeOk atomsOk both
 small-ok t s =
     rw (top-ranged (t .remark) (s .remark), top-ranged (t .het) (s .het), top-ranged (t .helix) (s .helix), top-ranged (t .sheet) (s .sheet), top-ranged (t .xform) (s .xform), top-ranged (t .coord) (s .coord), top-ranged (t .ter) (s .ter), top-ranged (t .conect) (s .conect), top-ranged (t .seq) (s .seq))
@@ -99,7 +88,7 @@ PlainRecord (rec.Ter t) = Unit {0}
 PlainRecord (rec.Helix h) = Unit {0}
 PlainRecord (rec.Sheet s) = Unit {0}
 PlainRecord (rec.Conect c) = Unit {0}
-PlainRecord (rec.Master t) = Small t
+PlainRecord (rec.Master t) = FiveDigits t
 PlainRecord rec.End = Unit {0}
 
 abbrev pub Plain : Line → Type 0

@@ -20,7 +20,8 @@ use Rattle.rules.specs.Counts.{countOf, noCounts, oneMore, raised, sameCounts}
 use Rattle.rules.specs.Rules.{lineKind, judgeOf, carriedNext, typedNext, nextOf, startOf}
 use Rattle.rules.proofs.Laws.{judge-typed, judge-wrong}
 use Rattle.table.specs.Deal.{counted, tallyOf, masterPiece, isMaster}
-use Rattle.table.proofs.Plain.{Small, Plain}
+use Rattle.table.specs.FiveDigits.{FiveDigits}
+use Rattle.table.proofs.Plain.{Plain}
 use Rattle.table.proofs.Master.{master-line}
 
 -- ---- counts over fewer lines are not larger
@@ -94,7 +95,7 @@ under-next known true q s l p e u = rw (counts-next known s l p e) (under-both q
 under-next known false q s l p e u = rw (counts-next known s l p e) (under-skip q (s .counts) (countOf (lineKind l)) u)
 
 -- ---- counts under those of a MASTER line that holds the true ones are small
-small-under : (m : Tally) (c q : Counts) → Small m → sameCounts m c ≡ true → Under q c → Small (tallyOf q)
+small-under : (m : Tally) (c q : Counts) → FiveDigits m → sameCounts m c ≡ true → Under q c → FiveDigits (tallyOf q)
 unfolding sameCounts
 small-under m c q s e u =
     let e1 = both-split (eqb (m .remark) (c .remark)) _ e in
@@ -121,7 +122,7 @@ small-under m c q s e u =
     top x y z h k g = omega (arith, eqb-true x y k)
 
 -- so at a good MASTER line they fit its columns
-pub master-fits : (known : Bool) (s : State) (q : Counts) (l : Line) → Plain l → judgeOf known s l ≡ 0 → Under q (s .counts) → isMaster l ≡ true → Small (tallyOf q)
+pub master-fits : (known : Bool) (s : State) (q : Counts) (l : Line) → Plain l → judgeOf known s l ≡ 0 → Under q (s .counts) → isMaster l ≡ true → FiveDigits (tallyOf q)
 master-fits known s q (Bad n) plain g u m = absurd (false≢true m)
 master-fits known s q (Wrong k column) plain g u m = absurd (false≢true m)
 master-fits known s q (Carried k) plain g u m = absurd (false≢true m)

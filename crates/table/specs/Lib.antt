@@ -1,4 +1,5 @@
 pub mod Table
 pub mod Deal
+pub mod FiveDigits
 pub mod Orders
 pub mod Promise

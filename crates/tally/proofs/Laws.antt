@@ -10,18 +10,18 @@ use Rattle.kinds.specs.Kinds.{kindOf}
 use Rattle.master.specs.declared.Tally.{Tally}
 use Rattle.rules.specs.Counts.{countOf}
 use Rattle.tally.specs.declared.Counted.{Counted}
-use Rattle.tally.specs.Tally.{isNamed, most, countIn, raisedTally, counted, tallyStep, tallyLine}
+use Rattle.tally.specs.Tally.{isNamed, most, countIn, raisedTally, toldTally, tallyStep, tallyLine}
 
 -- a count that has room has it under its number
 pub room : (t : Tally) (which n : ℕ) → countIn t which < most → which ≡ n → countIn t n < most
 room t which n h e = rw e at h
 
 -- ---- a step
-pub step-raised : (t u : Tally) (which n : ℕ) → n ≡ countIn t which → n < most → u ≡ raisedTally t which → counted 0 u ≡ tallyStep t which
+pub step-raised : (t u : Tally) (which n : ℕ) → n ≡ countIn t which → n < most → u ≡ raisedTally t which → toldTally 0 u ≡ tallyStep t which
 unfolding tallyStep
 step-raised t u which n e h q = rw (← e, lt-ltb _ _ h, q)
 
-pub step-full : (t : Tally) (which n : ℕ) → n ≡ countIn t which → most ≤ n → counted 14 t ≡ tallyStep t which
+pub step-full : (t : Tally) (which n : ℕ) → n ≡ countIn t which → most ≤ n → toldTally 14 t ≡ tallyStep t which
 unfolding tallyStep
 step-full t which n e h = rw (← e, le-ltb _ _ h)
 
@@ -31,10 +31,10 @@ module _ (t : Tally) (l : List ℕ) (k : Kind) (named : Bool) (ek : k ≡ kindOf
   unfolding tallyLine
   line-named which r h e q = rw (← ek, sym en ∙ h) (q ∙ ap (tallyStep t) e)
 
-  pub line-unknown : named ≡ false → counted 4 t ≡ tallyLine t l
+  pub line-unknown : named ≡ false → toldTally 4 t ≡ tallyLine t l
   unfolding tallyLine
   line-unknown h = rw (← ek, sym en ∙ h)
 
 -- ---- what is stored
-pub stored : (t u : Tally) (l : List ℕ) (c : Counted) (n : ℕ) → c ≡ tallyLine t l → u ≡ c .tally → n ≡ c .number → counted n u ≡ tallyLine t l
+pub stored : (t u : Tally) (l : List ℕ) (c : Counted) (n : ℕ) → c ≡ tallyLine t l → u ≡ c .tally → n ≡ c .number → toldTally n u ≡ tallyLine t l
 stored t u l c n e p q = rw (p, q) e

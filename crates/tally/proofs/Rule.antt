@@ -14,10 +14,10 @@ use Rattle.kinds.proofs.Returns.{no-name}
 use Rattle.master.specs.declared.Tally.{Tally}
 use Rattle.rules.specs.Counts.{countOf, oneMore}
 use Rattle.tally.specs.declared.Counted.{Counted}
-use Rattle.tally.specs.Tally.{isNamed, most, countIn, raisedTally, counted, tallyStep, tallyLine, tallyAll, Granted, linesOf}
+use Rattle.tally.specs.Tally.{isNamed, most, countIn, raisedTally, toldTally, tallyStep, tallyLine, tallyAll, Granted, linesOf}
 
 -- a line under six bytes gets 4
-pub short-line : (t : Tally) (l : List ℕ) → length l < 6 → tallyLine t l ≡ counted 4 t
+pub short-line : (t : Tally) (l : List ℕ) → length l < 6 → tallyLine t l ≡ toldTally 4 t
 unfolding tallyLine
 short-line t l h = rw (← no-name l h)
 
@@ -27,14 +27,14 @@ Kept t c = (c .number ≡ 0 → ⊥) → c .tally ≡ t
 
 step-kept : (t : Tally) (which : ℕ) → Kept t (tallyStep t which)
 unfolding tallyStep
-step-kept t which = picks (Kept t) (ltb (countIn t which) most) (counted 0 (raisedTally t which)) (counted 14 t) (λ _ z. absurd (z refl)) (λ _ _. refl)
+step-kept t which = picks (Kept t) (ltb (countIn t which) most) (toldTally 0 (raisedTally t which)) (toldTally 14 t) (λ _ z. absurd (z refl)) (λ _ _. refl)
 
 pub refused-kept : (t : Tally) (l : List ℕ) → Kept t (tallyLine t l)
 unfolding tallyLine
-refused-kept t l = picks (Kept t) (isNamed (kindOf l)) (tallyStep t (countOf (kindOf l))) (counted 4 t) (λ _. step-kept t (countOf (kindOf l))) (λ _ _. refl)
+refused-kept t l = picks (Kept t) (isNamed (kindOf l)) (tallyStep t (countOf (kindOf l))) (toldTally 4 t) (λ _. step-kept t (countOf (kindOf l))) (λ _ _. refl)
 
 -- a known name that MASTER does not count changes nothing, and never gets 14
-pub uncounted : (t : Tally) (l : List ℕ) → isNamed (kindOf l) ≡ true → countOf (kindOf l) ≡ 0 → tallyLine t l ≡ counted 0 t
+pub uncounted : (t : Tally) (l : List ℕ) → isNamed (kindOf l) ≡ true → countOf (kindOf l) ≡ 0 → tallyLine t l ≡ toldTally 0 t
 unfolding tallyLine tallyStep countIn raisedTally
 uncounted t l h e = rw (h, e)
 
@@ -55,11 +55,11 @@ raised-in t which (suc (suc (suc (suc (suc (suc (suc (suc (suc (suc n)))))))))) 
 
 step-in : (t : Tally) (which n : ℕ) → 0 < n → n ≤ 9 → tallyStep t which .number ≡ 0 → countIn (tallyStep t which .tally) n ≡ oneMore which n (countIn t n)
 unfolding tallyStep
-step-in t which n h k = picks (λ (c : Counted). c .number ≡ 0 → countIn (c .tally) n ≡ oneMore which n (countIn t n)) (ltb (countIn t which) most) (counted 0 (raisedTally t which)) (counted 14 t) (λ _ _. raised-in t which n h k) (λ _ e. absurd (omega arith))
+step-in t which n h k = picks (λ (c : Counted). c .number ≡ 0 → countIn (c .tally) n ≡ oneMore which n (countIn t n)) (ltb (countIn t which) most) (toldTally 0 (raisedTally t which)) (toldTally 14 t) (λ _ _. raised-in t which n h k) (λ _ e. absurd (omega arith))
 
 line-in : (t : Tally) (l : List ℕ) (n : ℕ) → 0 < n → n ≤ 9 → tallyLine t l .number ≡ 0 → countIn (tallyLine t l .tally) n ≡ oneMore (countOf (kindOf l)) n (countIn t n)
 unfolding tallyLine
-line-in t l n h k = picks (λ (c : Counted). c .number ≡ 0 → countIn (c .tally) n ≡ oneMore (countOf (kindOf l)) n (countIn t n)) (isNamed (kindOf l)) (tallyStep t (countOf (kindOf l))) (counted 4 t) (λ _. step-in t (countOf (kindOf l)) n h k) (λ _ e. absurd (omega arith))
+line-in t l n h k = picks (λ (c : Counted). c .number ≡ 0 → countIn (c .tally) n ≡ oneMore (countOf (kindOf l)) n (countIn t n)) (isNamed (kindOf l)) (tallyStep t (countOf (kindOf l))) (toldTally 4 t) (λ _. step-in t (countOf (kindOf l)) n h k) (λ _ e. absurd (omega arith))
 
 one-more-add : (which n a b : ℕ) → oneMore which n a + b ≡ a + oneMore which n b
 one-more-add which n a b = go (eqb which n)

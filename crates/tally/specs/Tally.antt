@@ -76,16 +76,16 @@ raisedTally t which =
     }
 
 -- the number that is answered, and what the tally then holds
-abbrev pub counted : ℕ → Tally → Counted
-counted n t = record { number = n; tally = t }
+abbrev pub toldTally : ℕ → Tally → Counted
+toldTally n t = record { number = n; tally = t }
 
 -- 14: the count to be raised is 99,999 or above; a name that is not counted raises none
 unfoldable pub tallyStep : Tally → ℕ → Counted
-tallyStep t which = pick (ltb (countIn t which) most) (counted 0 (raisedTally t which)) (counted 14 t)
+tallyStep t which = pick (ltb (countIn t which) most) (toldTally 0 (raisedTally t which)) (toldTally 14 t)
 
 -- 4: a line under six bytes or of unknown name
 unfoldable pub tallyLine : Tally → List ℕ → Counted
-tallyLine t l = pick (isNamed (kindOf l)) (tallyStep t (countOf (kindOf l))) (counted 4 t)
+tallyLine t l = pick (isNamed (kindOf l)) (tallyStep t (countOf (kindOf l))) (toldTally 4 t)
 
 -- ---- lines one after another
 -- the tally after some lines

@@ -4,7 +4,7 @@ use master::Tally;
 ghost use mathlib.Core.Path.{_≡_};
 ghost use Prim.Native.Nat.{_<_};
 ghost use Rattle.rules.specs.Counts.{oneMore};
-ghost use Rattle.tally.specs.Tally.{isNamed, countIn, raisedTally, counted, tallyStep, tallyLine};
+ghost use Rattle.tally.specs.Tally.{isNamed, countIn, raisedTally, toldTally, tallyStep, tallyLine};
 
 // What a line is answered, 0 or the number of the refusal, and what the tally then holds.
 pub struct Counted {
@@ -17,7 +17,7 @@ const MOST: u32 = 99999;
 
 // Counts the line in: 0, or leaves the tally as found: 4 where the line has no known name, 14 where its count is full.
 pub fn count_line(tally: &mut Tally, line: &[u8]) -> u8
-    ensures { λ r. ⌜ counted r (now (tally .exit)) ≡ tallyLine (now (tally .entry)) (now (line .entry)) ⌝ }
+    ensures { λ r. ⌜ toldTally r (now (tally .exit)) ≡ tallyLine (now (tally .entry)) (now (line .entry)) ⌝ }
 {
     let c = tally_after(*tally, line);
     *tally = tally_of(c);

@@ -16,9 +16,9 @@ use Rattle.master.specs.declared.Tally.{Tally}
 use Rattle.master.specs.Masters.{masterOk, masterLine}
 use Rattle.rules.specs.declared.Counts.{Counts}
 use Rattle.table.specs.Deal.{tallyOf, masterPiece}
-use Rattle.table.proofs.Plain.{Small as SmallTally, small-ok}
-use Rattle.table.proofs.Master.{master-81}
-use Rattle.writing.specs.Small.{Small}
+use Rattle.table.specs.FiveDigits.{FiveDigits}
+use Rattle.table.proofs.Plain.{small-ok}
+use Rattle.table.proofs.Master.{line-80}
 
 -- x is put back in the place of the part that was lent
 part-put : (l x : List ℕ) (at n : ℕ) → at + n ≤ length l → length x ≡ n → Put l at n x (putMid at (at + n - at) l x)
@@ -39,41 +39,8 @@ line-fills x m e =
     let short : length m ≤ 80 = omega (arith, e) in
     rw (le-ltb (length m) 80 long, drop-of-length-le m short) (append-nil x)
 
--- counts that MASTER holds, said of the counts and of the tally of them
-pub tally-small : (q : Counts) → Small q → SmallTally (tallyOf q)
-tally-small q s =
-    record {
-      remark = s .remark;
-      het = s .het;
-      helix = s .helix;
-      sheet = s .sheet;
-      xform = s .xform;
-      coord = s .coord;
-      ter = s .ter;
-      conect = s .conect;
-      seq = s .seq;
-    }
-
-pub counts-small : (q : Counts) → SmallTally (tallyOf q) → Small q
-counts-small q s =
-    record {
-      remark = s .remark;
-      het = s .het;
-      helix = s .helix;
-      sheet = s .sheet;
-      xform = s .xform;
-      coord = s .coord;
-      ter = s .ter;
-      conect = s .conect;
-      seq = s .seq;
-    }
-
-line-80 : (q : Counts) → length (masterLine (tallyOf q)) ≡ 80
-unfolding masterPiece
-line-80 q = let e : length (masterLine (tallyOf q)) + 1 ≡ 81 = sym (length-append (masterLine (tallyOf q)) (10 ∷ [])) ∙ master-81 q in omega (arith, e)
-
 -- t was written into the 80 bytes from `at`, and left x there
-pub recounted : (q : Counts) (t : Tally) (l x : List ℕ) (at : ℕ) → Small q → at + 81 ≤ length l → t ≡ tallyOf q
+pub recounted : (q : Counts) (t : Tally) (l x : List ℕ) (at : ℕ) → FiveDigits (tallyOf q) → at + 81 ≤ length l → t ≡ tallyOf q
     → x ≡ writeLine (masterOk t) (masterLine t) (midOf at (at + 80 - at) l)
     → Put l at 81 (masterPiece q) (set (putMid at (at + 80 - at) l x) (at + 80) 10)
 unfolding masterPiece
@@ -81,9 +48,9 @@ recounted q t l x at s h e w =
     let m : List ℕ = midOf at (at + 80 - at) l in
     let n : length m ≡ 80 = omega (arith, mid-len at (at + 80) l (omega arith)) in
     let y : x ≡ masterLine (tallyOf q) =
-    w ∙ ap (λ (t : Tally). writeLine (masterOk t) (masterLine t) m) e ∙ ap (λ (ok : Bool). writeLine ok (masterLine (tallyOf q)) m) (small-ok (tallyOf q) (tally-small q s))
+    w ∙ ap (λ (t : Tally). writeLine (masterOk t) (masterLine t) m) e ∙ ap (λ (ok : Bool). writeLine ok (masterLine (tallyOf q)) m) (small-ok (tallyOf q) s)
     ∙ line-fills (masterLine (tallyOf q)) m n in
-    let k : length x ≡ 80 = ap length y ∙ line-80 q in
+    let k : length x ≡ 80 = ap length y ∙ line-80 (tallyOf q) in
     let same : length (putMid at (at + 80 - at) l x) ≡ length l = same-len-mid at (at + 80 - at) l x (k ∙ sym n) in
     subst (λ (z : List ℕ). Put l at 81 (z ++ (10 ∷ [])) (set (putMid at (at + 80 - at) l x) (at + 80) 10)) y
     (put-then (part-put l x at 80 (omega arith) k) (one-put (putMid at (at + 80 - at) l x) (at + 80) 10 (omega arith)))

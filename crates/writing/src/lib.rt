@@ -14,7 +14,7 @@ ghost use Rattle.rules.specs.Room.{Room};
 ghost use Rattle.rules.specs.Rules.{lineKind, sameSign};
 ghost use Rattle.gate.specs.Text.{pieceAt, row};
 ghost use Rattle.table.specs.Deal.{counted, tallyOf, masterPiece, recordMaster, isMaster, share};
-ghost use Rattle.writing.specs.Small.{Small};
+ghost use Rattle.table.specs.FiveDigits.{FiveDigits};
 
 fn line_kind(l: Line) -> Kind
     ensures { λ k. ⌜ k ≡ lineKind l ⌝ }
@@ -71,7 +71,7 @@ fn is_due(saving: bool, stay: bool) -> bool
 }
 
 fn tally_of(q: Counts) -> Tally
-    requires { ⌜ Small q ⌝ }
+    requires { ⌜ FiveDigits (tallyOf q) ⌝ }
     ensures { λ t. ⌜ t ≡ tallyOf q ⌝ }
 {
     Tally {
@@ -89,7 +89,7 @@ fn tally_of(q: Counts) -> Tally
 
 // MASTER with these counts. They are in its range and there is room, so the writer's number is 0.
 fn put_master(q: Counts, out: &mut [u8], at: usize)
-    requires { ⌜ Small q ⌝ }
+    requires { ⌜ FiveDigits (tallyOf q) ⌝ }
     requires { ⌜ at + 81 ≤ length (now out) ⌝ }
     ensures { λ _. ⌜ Put (now (out .entry)) at 81 (masterPiece q) (now (out .exit)) ⌝ }
 {
@@ -129,7 +129,7 @@ pub fn put_share(
     requires { ⌜ 81 * i + 81 ≤ length (now text) ⌝ }
     requires { ⌜ l ≡ row (now text) i ⌝ }
     requires { ⌜ at + length (share saving stay q (pieceAt (now text) i)) ≤ length (now out) ⌝ }
-    requires { ⌜ (isMaster l ≡ true → Small q) ⌝ }
+    requires { ⌜ (isMaster l ≡ true → FiveDigits (tallyOf q)) ⌝ }
     ensures { λ r. ⌜ (r ≡ at + length (share saving stay q (pieceAt (now (text .entry)) i))) × (now (out .exit) ≡ take at (now (out .entry)) ++ share saving stay q (pieceAt (now (text .entry)) i) ++ drop (at + length (share saving stay q (pieceAt (now (text .entry)) i))) (now (out .entry))) ⌝ }
 {
     if is_due(saving, stay) {

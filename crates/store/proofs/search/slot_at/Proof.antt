@@ -1,5 +1,5 @@
 use mathlib.Core.Path.{sym, _∙_}
-use Rattle.store.proofs.Tails.{get-past}
+use lib.ListN.{List·getD-eq-default}
 -- `store::search::slot_at` meets its contract. `Proof/` has its derivation, written by tools/walk.py. Assumes nothing.
 mod Lts
 mod Tie
@@ -20,7 +20,7 @@ returns : tie.Need-returns
 returns c = search needs
 
 returns-2 : tie.Need-returns-2
-returns-2 c = c .no-slot .ensures ∙ sym (get-past (c .before .before .args .table .now) (c .before .before .args .k) (c .before .if1 .left))
+returns-2 c = c .no-slot .ensures ∙ sym (List·getD-eq-default (c .before .before .args .table .now) _ (c .before .if1 .left))
 
 pub slot-at-spec : {M : Type 1} → statement M
 slot-at-spec =
