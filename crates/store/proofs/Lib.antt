@@ -2,7 +2,6 @@ pub mod Lines
 pub mod Filling
 pub mod Tails
 pub mod Seeking
-pub mod Fitting
 pub mod Looking
 pub mod Answers
 pub mod Written

@@ -9,18 +9,17 @@ use native.Mathlib.Nat.{not-suc-le-zero, le-of-suc-le-suc}
 use borrow.Author.Tests.{ltb-true, ltb-false, ne-eqb}
 use lib.Dec.{eqb, ltb}
 use lib.ListN.{getD, take}
-use Rattle.ascii.specs.Tests.{pick, both, either}
+use Rattle.ascii.specs.Tests.{both, either}
 use Rattle.conect.specs.declared.Conect.{Conect as ConectOf}
-use Rattle.line.specs.declared.Record.{Record}
-use Rattle.line.specs.declared.Record.the-variants.{Coordinate, Ter, Helix, Sheet, Conect, Master, End}
 use Rattle.pieces.specs.declared.Line.{Line}
-use Rattle.pieces.specs.declared.Line.the-variants.{Bad, Wrong, Carried, Typed}
 use Rattle.gate.specs.Search.{isCoord, Bracket}
 use Rattle.slots.specs.declared.Slot.{Slot}
 use Rattle.slots.specs.Slots.{noSlot, markAside}
 use Rattle.slots.specs.Fragments.{isTer}
-use Rattle.table.specs.Deal.{isAside, aside, namesAside, recordAside, lineAside, stays}
-use Rattle.store.specs.Judged.{serialAt, Rises, conectOf, conectIn, isBond, isConect}
+use Rattle.table.specs.Deal.{isAside, aside, namesAside, stays}
+use Rattle.marks.specs.Bonds.{conectIn, isConect}
+use Rattle.marks.proofs.Naming.{line-aside}
+use Rattle.store.specs.Judged.{serialAt, Rises}
 
 -- ---- one step of the halving
 pub serial-below : (xs : List Slot) (m x : ℕ) (s : Slot) (b : Bool) → s ≡ getD xs m noSlot → b ≡ ltb (s .serial .0) x → b ≡ true → serialAt xs m < x
@@ -104,21 +103,6 @@ pub names-found : (xs : List Slot) (c : ConectOf) (g0 g1 g2 g3 g4 h3 h2 h1 r : B
 names-found xs c g0 g1 g2 g3 g4 h3 h2 h1 r e0 e1 e2 e3 e4 f3 f2 f1 f0 = f0 ∙ rw (f1, f2, f3, e0, e1, e2, e3, e4)
 
 -- ---- whether a line stays
-record-aside : (xs : List Slot) (r : Record) → recordAside xs r ≡ pick (isBond r) (namesAside xs (conectOf r)) false
-record-aside xs (Coordinate het a) = refl
-record-aside xs (Ter t) = refl
-record-aside xs (Helix h) = refl
-record-aside xs (Sheet s) = refl
-record-aside xs (Conect c) = refl
-record-aside xs (Master t) = refl
-record-aside xs End = refl
-
-line-aside : (xs : List Slot) (l : Line) → lineAside xs l ≡ pick (isConect l) (namesAside xs (conectIn l)) false
-line-aside xs (Bad n) = refl
-line-aside xs (Wrong k c) = refl
-line-aside xs (Carried k) = refl
-line-aside xs (Typed r) = record-aside xs r
-
 module _ (xs : List Slot) (k : ℕ) (l : Line) (a : Bool) (ea : a ≡ isCoord l) where
   pub stays-spot : a ≡ true → (s : Slot) → s ≡ getD xs k noSlot → (r : Bool) → r ≡ not (eqb (s .mark) markAside) → r ≡ stays xs k l
   unfolding stays

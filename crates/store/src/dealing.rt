@@ -2,33 +2,13 @@
 use super::Held;
 use super::search::slot_at;
 use super::search::stays;
-use super::survey::one_of;
-use rules::Counts;
 use slots::Slot;
 ghost use mathlib.Core.Path.{_≡_};
 ghost use Prim.Native.Nat.{_*_, _≤_};
 ghost use lib.ListN.{length};
-ghost use Rattle.ascii.specs.Tests.{pick};
-ghost use Rattle.rules.specs.Counts.{noCounts};
 ghost use Rattle.table.specs.Table.{over};
 ghost use Rattle.table.specs.Deal.{bytesOf};
-ghost use Rattle.store.specs.Judged.{Belongs, Dealable, shareOf};
-
-fn no_counts() -> Counts
-    ensures { λ q. ⌜ q ≡ noCounts ⌝ }
-{
-    Counts {
-        remark: 0,
-        het: 0,
-        helix: 0,
-        sheet: 0,
-        xform: 0,
-        coord: 0,
-        ter: 0,
-        conect: 0,
-        seq: 0,
-    }
-}
+ghost use Rattle.store.specs.Judged.{Dealable, shareOf};
 
 // How many bytes the lines that stay have, or those that go.
 pub fn size_of(h: Held, saving: bool) -> usize
@@ -51,14 +31,14 @@ pub fn write_all(text: &[u8], table: &[Slot], out: &mut [u8], saving: bool)
     let mut i: usize = 0;
     let mut k: usize = 0;
     let mut at: usize = 0;
-    let mut q = no_counts();
+    let mut q = marks::no_counts();
     while 81 * i < text.len() {
         let l = gate::line_at(text, i);
         let here = slot_at(table, k);
         let stay = stays(table, k, here, l);
         at = writing::put_share(text, i, l, saving, stay, q, out, at);
         q = writing::count_line(stay, q, l);
-        k += one_of(l);
+        k += marks::one_of(l);
         i += 1;
     }
 }

@@ -13,14 +13,13 @@ use marking::tail_of;
 use pieces::Line;
 use slots::Slot;
 use survey::look_over;
-use survey::one_of;
 ghost use mathlib.Core.Path.{_≡_};
 ghost use Prim.Native.Nat.{_+_, _≤_};
 ghost use lib.ListN.{length, set};
 ghost use Rattle.ascii.specs.Tests.{pick};
 ghost use Rattle.gate.specs.Search.{isCoord};
 ghost use Rattle.slots.specs.Slots.{lineSlot, SmallLine};
-ghost use Rattle.table.specs.Table.{told, oneOf, loadOf, tableOf, markByte, orderOf};
+ghost use Rattle.table.specs.Table.{told, oneOf, loadOf, tableOf, orderOf};
 ghost use Rattle.table.specs.Deal.{putOf, saveOf, trayOf};
 ghost use Rattle.store.specs.Judged.{Belongs};
 
@@ -137,15 +136,6 @@ fn judge(text: &[u8], table: &[Slot]) -> Held
     }
 }
 
-fn mark_byte(aside: bool) -> u8
-    ensures { λ r. ⌜ r ≡ markByte aside ⌝ }
-{
-    if aside {
-        return 1;
-    }
-    0
-}
-
 // Sets a fragment aside, or puts it back: 1-12, 13, 18, 15, 16.
 pub fn order(text: &[u8], table: &mut [Slot], fragment: FragmentNumber, aside: bool) -> u8
     ensures { λ r. ⌜ told r 0 (now (table .exit)) ≡ orderOf (now (text .entry)) (now (table .entry)) (fragment .0) aside ⌝ }
@@ -164,7 +154,7 @@ pub fn order(text: &[u8], table: &mut [Slot], fragment: FragmentNumber, aside: b
         return 15;
     }
     let b = c + 1 - f;
-    let m = mark_byte(aside);
+    let m = marks::mark_byte(aside);
     if mark_of(&table[..n], b) == m {
         return 16;
     }

@@ -222,7 +222,7 @@ b25 = Syntax.assign (Syntax.place 9 []) (Syntax.op2 (Syntax.sub Syntax.unsigned)
     [])))
 
 abbrev b26 : Syntax.Body
-b26 = Syntax.call "store::mark_byte" (Syntax.copy (Syntax.place 4 []) ∷ []) (Syntax.place 10 [])
+b26 = Syntax.call "marks::mark_byte" (Syntax.copy (Syntax.place 4 []) ∷ []) (Syntax.place 10 [])
 
 abbrev b27 : Syntax.Body
 b27 = Syntax.assign (Syntax.place 16 []) (Syntax.addrOf (Syntax.place 2 (Syntax.field 0 ∷ Syntax.deref SlotAs.ty ∷ [])))
@@ -2172,7 +2172,7 @@ module _ (claims· : Claims) where
       module _ (M : Type 1) where
         abbrev pub Closed : Type 2
         Closed = (𝓤 : URA.URA M) (H : Wp.Heap 𝓤) (A : Atoms.Atoms 𝓤) (W : Kit.Given 𝓤 H A) (𝓣 : Wp.Tables 𝓤 H) (known0 : Plain.Known 𝓤 H A W 𝓣 2 ps·0 r·0
-            (claims· .0) (claims· .1) "store::judge") (known1 : Plain.Known 𝓤 H A W 𝓣 0 ps·1 r·1 (claims· .2) (claims· .3) "store::mark_byte") (known2 :
+            (claims· .0) (claims· .1) "store::judge") (known1 : Plain.Known 𝓤 H A W 𝓣 0 ps·1 r·1 (claims· .2) (claims· .3) "marks::mark_byte") (known2 :
             Plain.Known 𝓤 H A W 𝓣 1 ps·2 r·2 (claims· .4) (claims· .5) "store::marking::mark_of") (known3 : Plain.Known 𝓤 H A W 𝓣 1 ps·3 r·3 (claims· .6)
             (claims· .7) "store::marking::mark_all") → Statement.Triple 𝓤 (Wp.WpFn 𝓤 H (𝓣 .C) (𝓣 .Λ) (Function.fnOf 2 ps r xs m hs body)) (Function.plainOf 𝓤 H A
             2 ps r Pre· Post·)
@@ -2466,7 +2466,7 @@ module _ (claims· : Claims) where
         module _ {M : Type 1} (𝓤 : URA.URA M) (H : Wp.Heap 𝓤) (A : Atoms.Atoms 𝓤) (W : Kit.Given 𝓤 H A) (𝓣 : Wp.Tables 𝓤 H) where
           abbrev Knowns : Type 1
           Knowns = Plain.Known 𝓤 H A W 𝓣 2 ps·0 r·0 (claims· .0) (claims· .1) "store::judge" × Plain.Known 𝓤 H A W 𝓣 0 ps·1 r·1 (claims· .2) (claims· .3)
-              "store::mark_byte" × Plain.Known 𝓤 H A W 𝓣 1 ps·2 r·2 (claims· .4) (claims· .5) "store::marking::mark_of" × Plain.Known 𝓤 H A W 𝓣 1 ps·3 r·3
+              "marks::mark_byte" × Plain.Known 𝓤 H A W 𝓣 1 ps·2 r·2 (claims· .4) (claims· .5) "store::marking::mark_of" × Plain.Known 𝓤 H A W 𝓣 1 ps·3 r·3
               (claims· .6) (claims· .7) "store::marking::mark_all"
 
         module _ (κs : Lifetimes.Lfts 2) (qs : Lifetimes.Shares 2) where
@@ -3355,7 +3355,7 @@ module _ (claims· : Claims) where
 
             d68 : Typed.Typed 𝓤 H A 𝓣 E G46 b50 Δ0 at68
             d68 = Typed.s-seq 𝓤 H A W 𝓣 E G46 G47 b26 b49 Δ0 (Typed.both s42) at67 (Plain.t-call-plain 𝓤 H A W 𝓣 0 ps·1 r·1 (claims· .2) (claims· .3)
-                "store::mark_byte" (known .1) E (λ pos β. β) G46 (Bool.bAt 4 λ x. x, tt) 10 [] (Call.sub-id 𝓤 H A W (G46 .slots)) (
+                "marks::mark_byte" (known .1) E (λ pos β. β) G46 (Bool.bAt 4 λ x. x, tt) 10 [] (Call.sub-id 𝓤 H A W (G46 .slots)) (
                   (
                     Scalar.reads-sc 𝓤 H A W
                         Row.sBool,
@@ -4533,7 +4533,7 @@ module _ (claims· : Claims) where
             }
 
           module _ {M : Type 1} (𝓤 : URA.URA M) (H : Wp.Heap 𝓤) (A : Atoms.Atoms 𝓤) (W : Kit.Given 𝓤 H A) (𝓣 : Wp.Tables 𝓤 H) (known0 : Plain.Known 𝓤 H A W 𝓣 2
-              ps·0 r·0 (claims· .0) (claims· .1) "store::judge") (known1 : Plain.Known 𝓤 H A W 𝓣 0 ps·1 r·1 (claims· .2) (claims· .3) "store::mark_byte") (known2
+              ps·0 r·0 (claims· .0) (claims· .1) "store::judge") (known1 : Plain.Known 𝓤 H A W 𝓣 0 ps·1 r·1 (claims· .2) (claims· .3) "marks::mark_byte") (known2
               : Plain.Known 𝓤 H A W 𝓣 1 ps·2 r·2 (claims· .4) (claims· .5) "store::marking::mark_of") (known3 : Plain.Known 𝓤 H A W 𝓣 1 ps·3 r·3 (claims· .6)
               (claims· .7) "store::marking::mark_all") where
             pub spec : Statement.Triple 𝓤 (Wp.WpFn 𝓤 H (𝓣 .C) (𝓣 .Λ) (Function.fnOf 2 ps r xs m hs body)) (Function.plainOf 𝓤 H A 2 ps r Pre· Post·)

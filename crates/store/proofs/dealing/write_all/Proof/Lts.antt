@@ -392,7 +392,7 @@ abbrev b2 : Syntax.Body
 b2 = Syntax.assign (Syntax.place 7 []) (Syntax.rvOpd (Syntax.int Syntax.w64 0))
 
 abbrev b3 : Syntax.Body
-b3 = Syntax.call "store::dealing::no_counts" [] (Syntax.place 8 [])
+b3 = Syntax.call "marks::counting::no_counts" [] (Syntax.place 8 [])
 
 abbrev b4 : Syntax.Body
 b4 = Syntax.assign (Syntax.place 12 []) (Syntax.op2 (Syntax.mul Syntax.unsigned) (Syntax.int Syntax.w64 81) (Syntax.copy (Syntax.place 5 [])))
@@ -440,7 +440,7 @@ b16 = Syntax.call "writing::count_line" (Syntax.copy (Syntax.place 11 []) ∷ Sy
     []) (Syntax.place 8 [])
 
 abbrev b17 : Syntax.Body
-b17 = Syntax.call "store::survey::one_of" (Syntax.copy (Syntax.place 9 []) ∷ []) (Syntax.place 12 [])
+b17 = Syntax.call "marks::counting::one_of" (Syntax.copy (Syntax.place 9 []) ∷ []) (Syntax.place 12 [])
 
 abbrev b18 : Syntax.Body
 b18 = Syntax.assign (Syntax.place 6 []) (Syntax.op2 (Syntax.add Syntax.unsigned) (Syntax.copy (Syntax.place 6 [])) (Syntax.copy (Syntax.place 12
@@ -3342,11 +3342,11 @@ module _ (claims· : Claims) where
       module _ (M : Type 1) where
         abbrev pub Closed : Type 2
         Closed = (𝓤 : URA.URA M) (H : Wp.Heap 𝓤) (A : Atoms.Atoms 𝓤) (W : Kit.Given 𝓤 H A) (𝓣 : Wp.Tables 𝓤 H) (known0 : Plain.Known 𝓤 H A W 𝓣 0 ps·0 r·0
-            (claims· .0) (claims· .1) "store::dealing::no_counts") (known1 : Plain.Known 𝓤 H A W 𝓣 1 ps·1 r·1 (claims· .2) (claims· .3) "gate::line_at") (known2
+            (claims· .0) (claims· .1) "marks::counting::no_counts") (known1 : Plain.Known 𝓤 H A W 𝓣 1 ps·1 r·1 (claims· .2) (claims· .3) "gate::line_at") (known2
             : Plain.Known 𝓤 H A W 𝓣 1 ps·2 r·2 (claims· .4) (claims· .5) "store::search::slot_at") (known3 : Plain.Known 𝓤 H A W 𝓣 1 ps·3 r·3 (claims· .6)
             (claims· .7) "store::search::stays") (known4 : Plain.Known 𝓤 H A W 𝓣 2 ps·4 r·4 (claims· .8) (claims· .9) "writing::put_share") (known5 : Plain.Known
             𝓤 H A W 𝓣 0 ps·5 r·5 (claims· .10) (claims· .11) "writing::count_line") (known6 : Plain.Known 𝓤 H A W 𝓣 0 ps·6 r·6 (claims· .12) (claims· .13)
-            "store::survey::one_of") → Statement.Triple 𝓤 (Wp.WpFn 𝓤 H (𝓣 .C) (𝓣 .Λ) (Function.fnOf 3 ps r xs m hs body)) (Function.plainOf 𝓤 H A 3 ps r Pre·
+            "marks::counting::one_of") → Statement.Triple 𝓤 (Wp.WpFn 𝓤 H (𝓣 .C) (𝓣 .Λ) (Function.fnOf 3 ps r xs m hs body)) (Function.plainOf 𝓤 H A 3 ps r Pre·
             Post·)
 
       module _ (Inv·0 : InvT-loop) (μ·0 : MeasureT-loop) where
@@ -3494,11 +3494,11 @@ module _ (claims· : Claims) where
 
         module _ {M : Type 1} (𝓤 : URA.URA M) (H : Wp.Heap 𝓤) (A : Atoms.Atoms 𝓤) (W : Kit.Given 𝓤 H A) (𝓣 : Wp.Tables 𝓤 H) where
           abbrev Knowns : Type 1
-          Knowns = Plain.Known 𝓤 H A W 𝓣 0 ps·0 r·0 (claims· .0) (claims· .1) "store::dealing::no_counts" × Plain.Known 𝓤 H A W 𝓣 1 ps·1 r·1 (claims· .2)
+          Knowns = Plain.Known 𝓤 H A W 𝓣 0 ps·0 r·0 (claims· .0) (claims· .1) "marks::counting::no_counts" × Plain.Known 𝓤 H A W 𝓣 1 ps·1 r·1 (claims· .2)
               (claims· .3) "gate::line_at" × Plain.Known 𝓤 H A W 𝓣 1 ps·2 r·2 (claims· .4) (claims· .5) "store::search::slot_at" × Plain.Known 𝓤 H A W 𝓣 1 ps·3
               r·3 (claims· .6) (claims· .7) "store::search::stays" × Plain.Known 𝓤 H A W 𝓣 2 ps·4 r·4 (claims· .8) (claims· .9) "writing::put_share" ×
               Plain.Known 𝓤 H A W 𝓣 0 ps·5 r·5 (claims· .10) (claims· .11) "writing::count_line" × Plain.Known 𝓤 H A W 𝓣 0 ps·6 r·6 (claims· .12) (claims· .13)
-              "store::survey::one_of"
+              "marks::counting::one_of"
 
         module _ (κs : Lifetimes.Lfts 3) (qs : Lifetimes.Shares 3) where
           abbrev g17 : List.List Row.Entry
@@ -4107,8 +4107,8 @@ module _ (claims· : Claims) where
 
             d12 : Typed.Typed 𝓤 H A 𝓣 E G30 b21 Δ3 at12
             d12 = Typed.s-seq 𝓤 H A W 𝓣 E G30 G31 b17 b20 Δ3 (Typed.both s27) at11 (Plain.t-call-plain 𝓤 H A W 𝓣 0 ps·6 r·6 (claims· .12) (claims· .13)
-                "store::survey::one_of" (known .6) E (λ pos β. β) G30 (record { pos = 9; st = []; d = 0; at = λ x. x }, tt) 12 [] (Call.sub-id 𝓤 H A W
-                (G30 .slots)) (
+                "marks::counting::one_of" (known .6) E (λ pos β. β) G30 (record { pos = 9; st = []; d = 0; at = λ x. x }, tt) 12 [] (Call.sub-id 𝓤 H A
+                W (G30 .slots)) (
                   (
                     Yields.yields-copy 𝓤 H A W (λ ρ. Unit) (Declared.row Line.the-type) Path'.refl (Copies.cEnum Line.the-type Laws.the-laws
                         Laws.the-copy .copy 𝓤 H A W) (Rows'.whole (Declared.row Line.the-type)) (λ x. x) (λ x. x) (λ ρ told. Local.mem-whole 𝓤 H A W (Declared.row
@@ -4563,7 +4563,7 @@ module _ (claims· : Claims) where
 
             d39 : Typed.Typed 𝓤 H A 𝓣 E G6 b39 Δ0 at39
             d39 = Typed.s-seq 𝓤 H A W 𝓣 E G6 G7 b3 b38 Δ0 (Typed.both s5) at38 (Plain.t-call-plain 𝓤 H A W 𝓣 0 ps·0 r·0 (claims· .0) (claims· .1)
-                "store::dealing::no_counts" (known .0) E (λ pos β. β) G6 tt 8 [] (Call.sub-id 𝓤 H A W (G6 .slots)) tt (Reads.room-gone 𝓤 H A
+                "marks::counting::no_counts" (known .0) E (λ pos β. β) G6 tt 8 [] (Call.sub-id 𝓤 H A W (G6 .slots)) tt (Reads.room-gone 𝓤 H A
                 (Syntax.tyStruct (114 ∷ 117 ∷ 108 ∷ 101 ∷ 115 ∷ 58 ∷ 58 ∷ 67 ∷ 111 ∷ 117 ∷ 110 ∷ 116 ∷ 115 ∷ []) (Syntax.tcons (Syntax.tyInt Syntax.w64)
                 (Syntax.tcons (Syntax.tyInt Syntax.w64) (Syntax.tcons (Syntax.tyInt Syntax.w64) (Syntax.tcons (Syntax.tyInt Syntax.w64) (Syntax.tcons
                 (Syntax.tyInt Syntax.w64) (Syntax.tcons (Syntax.tyInt Syntax.w64) (Syntax.tcons (Syntax.tyInt Syntax.w64) (Syntax.tcons (Syntax.tyInt Syntax.w64)
@@ -5574,11 +5574,11 @@ module _ (claims· : Claims) where
             }
 
           module _ {M : Type 1} (𝓤 : URA.URA M) (H : Wp.Heap 𝓤) (A : Atoms.Atoms 𝓤) (W : Kit.Given 𝓤 H A) (𝓣 : Wp.Tables 𝓤 H) (known0 : Plain.Known 𝓤 H A W 𝓣 0
-              ps·0 r·0 (claims· .0) (claims· .1) "store::dealing::no_counts") (known1 : Plain.Known 𝓤 H A W 𝓣 1 ps·1 r·1 (claims· .2) (claims· .3)
+              ps·0 r·0 (claims· .0) (claims· .1) "marks::counting::no_counts") (known1 : Plain.Known 𝓤 H A W 𝓣 1 ps·1 r·1 (claims· .2) (claims· .3)
               "gate::line_at") (known2 : Plain.Known 𝓤 H A W 𝓣 1 ps·2 r·2 (claims· .4) (claims· .5) "store::search::slot_at") (known3 : Plain.Known 𝓤 H A W 𝓣 1
               ps·3 r·3 (claims· .6) (claims· .7) "store::search::stays") (known4 : Plain.Known 𝓤 H A W 𝓣 2 ps·4 r·4 (claims· .8) (claims· .9)
               "writing::put_share") (known5 : Plain.Known 𝓤 H A W 𝓣 0 ps·5 r·5 (claims· .10) (claims· .11) "writing::count_line") (known6 : Plain.Known 𝓤 H A W 𝓣
-              0 ps·6 r·6 (claims· .12) (claims· .13) "store::survey::one_of") where
+              0 ps·6 r·6 (claims· .12) (claims· .13) "marks::counting::one_of") where
             pub spec : Statement.Triple 𝓤 (Wp.WpFn 𝓤 H (𝓣 .C) (𝓣 .Λ) (Function.fnOf 3 ps r xs m hs body)) (Function.plainOf 𝓤 H A 3 ps r Pre· Post·)
             spec = Plain.t-fn-plain 𝓤 H A W 𝓣 3 ps r xs m hs body (λ κs qs bs. Φ) (λ κs qs bs bd. typed κs qs 𝓤 H A W 𝓣 (
               known0,

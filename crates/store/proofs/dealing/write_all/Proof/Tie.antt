@@ -2,24 +2,24 @@
 use Rattle.gate.proofs.line_at.Met
 use Rattle.gate.proofs.line_at.Reads
 use Rattle.gate.proofs.line_at.Symbol
-use Rattle.store.proofs.dealing.no_counts.Met as Met'
-use Rattle.store.proofs.dealing.no_counts.Reads as Reads'
-use Rattle.store.proofs.dealing.no_counts.Symbol as Symbol'
+use Rattle.marks.proofs.no_counts.Met as Met'
+use Rattle.marks.proofs.no_counts.Reads as Reads'
+use Rattle.marks.proofs.no_counts.Symbol as Symbol'
+use Rattle.marks.proofs.one_of.Met as Met''
+use Rattle.marks.proofs.one_of.Reads as Reads''
+use Rattle.marks.proofs.one_of.Symbol as Symbol''
 use Rattle.store.proofs.dealing.write_all.Code
 use Rattle.store.proofs.dealing.write_all.Key
 use Rattle.store.proofs.Walked.dealing.write_all.Kinds
 use Rattle.store.proofs.dealing.write_all.Proof.Lts
-use Rattle.store.proofs.Walked.dealing.write_all.Reads as Reads''
+use Rattle.store.proofs.Walked.dealing.write_all.Reads as Reads'3
 use Rattle.store.proofs.dealing.write_all.Statement
-use Rattle.store.proofs.search.slot_at.Met as Met''
-use Rattle.store.proofs.Walked.search.slot_at.Reads as Reads'3
-use Rattle.store.proofs.search.slot_at.Symbol as Symbol''
-use Rattle.store.proofs.search.stays.Met as Met'3
-use Rattle.store.proofs.Walked.search.stays.Reads as Reads'4
-use Rattle.store.proofs.search.stays.Symbol as Symbol'3
-use Rattle.store.proofs.survey.one_of.Met as Met'4
-use Rattle.store.proofs.survey.one_of.Reads as Reads'5
-use Rattle.store.proofs.survey.one_of.Symbol as Symbol'4
+use Rattle.store.proofs.search.slot_at.Met as Met'3
+use Rattle.store.proofs.Walked.search.slot_at.Reads as Reads'4
+use Rattle.store.proofs.search.slot_at.Symbol as Symbol'3
+use Rattle.store.proofs.search.stays.Met as Met'4
+use Rattle.store.proofs.Walked.search.stays.Reads as Reads'5
+use Rattle.store.proofs.search.stays.Symbol as Symbol'4
 use Rattle.writing.proofs.count_line.Met as Met'5
 use Rattle.writing.proofs.count_line.Reads as Reads'6
 use Rattle.writing.proofs.count_line.Symbol as Symbol'5
@@ -42,17 +42,17 @@ Start = λ Inv μ. Lts.Start (
   Reads'.Learnt,
   Reads.Asked,
   Reads.Learnt,
-  Reads'3.Asked,
-  Reads'3.Learnt,
   Reads'4.Asked,
   Reads'4.Learnt,
+  Reads'5.Asked,
+  Reads'5.Learnt,
   Reads'7.Asked,
   Reads'7.Learnt,
   Reads'6.Asked,
   Reads'6.Learnt,
-  Reads'5.Asked,
-  Reads'5.Learnt,
-) Reads''.Pre Reads''.Post Inv μ
+  Reads''.Asked,
+  Reads''.Learnt,
+) Reads'3.Pre Reads'3.Post Inv μ
 
 abbrev pub After-shared-slice-known : (Inv : InvT-loop) → (μ : MeasureT-loop) → Type 0
 After-shared-slice-known = λ Inv μ. Lts.After-shared-slice-known (
@@ -60,17 +60,17 @@ After-shared-slice-known = λ Inv μ. Lts.After-shared-slice-known (
   Reads'.Learnt,
   Reads.Asked,
   Reads.Learnt,
-  Reads'3.Asked,
-  Reads'3.Learnt,
   Reads'4.Asked,
   Reads'4.Learnt,
+  Reads'5.Asked,
+  Reads'5.Learnt,
   Reads'7.Asked,
   Reads'7.Learnt,
   Reads'6.Asked,
   Reads'6.Learnt,
-  Reads'5.Asked,
-  Reads'5.Learnt,
-) Reads''.Pre Reads''.Post Inv μ
+  Reads''.Asked,
+  Reads''.Learnt,
+) Reads'3.Pre Reads'3.Post Inv μ
 
 abbrev pub After-slice-known : (Inv : InvT-loop) → (μ : MeasureT-loop) → Type 0
 After-slice-known = λ Inv μ. Lts.After-slice-known (
@@ -78,17 +78,17 @@ After-slice-known = λ Inv μ. Lts.After-slice-known (
   Reads'.Learnt,
   Reads.Asked,
   Reads.Learnt,
-  Reads'3.Asked,
-  Reads'3.Learnt,
   Reads'4.Asked,
   Reads'4.Learnt,
+  Reads'5.Asked,
+  Reads'5.Learnt,
   Reads'7.Asked,
   Reads'7.Learnt,
   Reads'6.Asked,
   Reads'6.Learnt,
-  Reads'5.Asked,
-  Reads'5.Learnt,
-) Reads''.Pre Reads''.Post Inv μ
+  Reads''.Asked,
+  Reads''.Learnt,
+) Reads'3.Pre Reads'3.Post Inv μ
 
 abbrev pub After-no-counts : (Inv : InvT-loop) → (μ : MeasureT-loop) → Type 0
 After-no-counts = λ Inv μ. Lts.After-no-counts (
@@ -96,17 +96,17 @@ After-no-counts = λ Inv μ. Lts.After-no-counts (
   Reads'.Learnt,
   Reads.Asked,
   Reads.Learnt,
-  Reads'3.Asked,
-  Reads'3.Learnt,
   Reads'4.Asked,
   Reads'4.Learnt,
+  Reads'5.Asked,
+  Reads'5.Learnt,
   Reads'7.Asked,
   Reads'7.Learnt,
   Reads'6.Asked,
   Reads'6.Learnt,
-  Reads'5.Asked,
-  Reads'5.Learnt,
-) Reads''.Pre Reads''.Post Inv μ
+  Reads''.Asked,
+  Reads''.Learnt,
+) Reads'3.Pre Reads'3.Post Inv μ
 
 abbrev pub At-loop : (Inv : InvT-loop) → (μ : MeasureT-loop) → Type 0
 At-loop = λ Inv μ. Lts.At-loop (
@@ -114,17 +114,17 @@ At-loop = λ Inv μ. Lts.At-loop (
   Reads'.Learnt,
   Reads.Asked,
   Reads.Learnt,
-  Reads'3.Asked,
-  Reads'3.Learnt,
   Reads'4.Asked,
   Reads'4.Learnt,
+  Reads'5.Asked,
+  Reads'5.Learnt,
   Reads'7.Asked,
   Reads'7.Learnt,
   Reads'6.Asked,
   Reads'6.Learnt,
-  Reads'5.Asked,
-  Reads'5.Learnt,
-) Reads''.Pre Reads''.Post Inv μ
+  Reads''.Asked,
+  Reads''.Learnt,
+) Reads'3.Pre Reads'3.Post Inv μ
 
 abbrev pub In-loop : (Inv : InvT-loop) → (μ : MeasureT-loop) → Type 0
 In-loop = λ Inv μ. Lts.In-loop (
@@ -132,17 +132,17 @@ In-loop = λ Inv μ. Lts.In-loop (
   Reads'.Learnt,
   Reads.Asked,
   Reads.Learnt,
-  Reads'3.Asked,
-  Reads'3.Learnt,
   Reads'4.Asked,
   Reads'4.Learnt,
+  Reads'5.Asked,
+  Reads'5.Learnt,
   Reads'7.Asked,
   Reads'7.Learnt,
   Reads'6.Asked,
   Reads'6.Learnt,
-  Reads'5.Asked,
-  Reads'5.Learnt,
-) Reads''.Pre Reads''.Post Inv μ
+  Reads''.Asked,
+  Reads''.Learnt,
+) Reads'3.Pre Reads'3.Post Inv μ
 
 abbrev pub After-loop : (Inv : InvT-loop) → (μ : MeasureT-loop) → Type 0
 After-loop = λ Inv μ. Lts.After-loop (
@@ -150,17 +150,17 @@ After-loop = λ Inv μ. Lts.After-loop (
   Reads'.Learnt,
   Reads.Asked,
   Reads.Learnt,
-  Reads'3.Asked,
-  Reads'3.Learnt,
   Reads'4.Asked,
   Reads'4.Learnt,
+  Reads'5.Asked,
+  Reads'5.Learnt,
   Reads'7.Asked,
   Reads'7.Learnt,
   Reads'6.Asked,
   Reads'6.Learnt,
-  Reads'5.Asked,
-  Reads'5.Learnt,
-) Reads''.Pre Reads''.Post Inv μ
+  Reads''.Asked,
+  Reads''.Learnt,
+) Reads'3.Pre Reads'3.Post Inv μ
 
 abbrev pub After-line-at : (Inv : InvT-loop) → (μ : MeasureT-loop) → Type 0
 After-line-at = λ Inv μ. Lts.After-line-at (
@@ -168,17 +168,17 @@ After-line-at = λ Inv μ. Lts.After-line-at (
   Reads'.Learnt,
   Reads.Asked,
   Reads.Learnt,
-  Reads'3.Asked,
-  Reads'3.Learnt,
   Reads'4.Asked,
   Reads'4.Learnt,
+  Reads'5.Asked,
+  Reads'5.Learnt,
   Reads'7.Asked,
   Reads'7.Learnt,
   Reads'6.Asked,
   Reads'6.Learnt,
-  Reads'5.Asked,
-  Reads'5.Learnt,
-) Reads''.Pre Reads''.Post Inv μ
+  Reads''.Asked,
+  Reads''.Learnt,
+) Reads'3.Pre Reads'3.Post Inv μ
 
 abbrev pub After-slot-at : (Inv : InvT-loop) → (μ : MeasureT-loop) → Type 0
 After-slot-at = λ Inv μ. Lts.After-slot-at (
@@ -186,17 +186,17 @@ After-slot-at = λ Inv μ. Lts.After-slot-at (
   Reads'.Learnt,
   Reads.Asked,
   Reads.Learnt,
-  Reads'3.Asked,
-  Reads'3.Learnt,
   Reads'4.Asked,
   Reads'4.Learnt,
+  Reads'5.Asked,
+  Reads'5.Learnt,
   Reads'7.Asked,
   Reads'7.Learnt,
   Reads'6.Asked,
   Reads'6.Learnt,
-  Reads'5.Asked,
-  Reads'5.Learnt,
-) Reads''.Pre Reads''.Post Inv μ
+  Reads''.Asked,
+  Reads''.Learnt,
+) Reads'3.Pre Reads'3.Post Inv μ
 
 abbrev pub After-stays : (Inv : InvT-loop) → (μ : MeasureT-loop) → Type 0
 After-stays = λ Inv μ. Lts.After-stays (
@@ -204,17 +204,17 @@ After-stays = λ Inv μ. Lts.After-stays (
   Reads'.Learnt,
   Reads.Asked,
   Reads.Learnt,
-  Reads'3.Asked,
-  Reads'3.Learnt,
   Reads'4.Asked,
   Reads'4.Learnt,
+  Reads'5.Asked,
+  Reads'5.Learnt,
   Reads'7.Asked,
   Reads'7.Learnt,
   Reads'6.Asked,
   Reads'6.Learnt,
-  Reads'5.Asked,
-  Reads'5.Learnt,
-) Reads''.Pre Reads''.Post Inv μ
+  Reads''.Asked,
+  Reads''.Learnt,
+) Reads'3.Pre Reads'3.Post Inv μ
 
 abbrev pub After-put-share-arg : (Inv : InvT-loop) → (μ : MeasureT-loop) → Type 0
 After-put-share-arg = λ Inv μ. Lts.After-put-share-arg (
@@ -222,17 +222,17 @@ After-put-share-arg = λ Inv μ. Lts.After-put-share-arg (
   Reads'.Learnt,
   Reads.Asked,
   Reads.Learnt,
-  Reads'3.Asked,
-  Reads'3.Learnt,
   Reads'4.Asked,
   Reads'4.Learnt,
+  Reads'5.Asked,
+  Reads'5.Learnt,
   Reads'7.Asked,
   Reads'7.Learnt,
   Reads'6.Asked,
   Reads'6.Learnt,
-  Reads'5.Asked,
-  Reads'5.Learnt,
-) Reads''.Pre Reads''.Post Inv μ
+  Reads''.Asked,
+  Reads''.Learnt,
+) Reads'3.Pre Reads'3.Post Inv μ
 
 abbrev pub After-put-share : (Inv : InvT-loop) → (μ : MeasureT-loop) → Type 0
 After-put-share = λ Inv μ. Lts.After-put-share (
@@ -240,17 +240,17 @@ After-put-share = λ Inv μ. Lts.After-put-share (
   Reads'.Learnt,
   Reads.Asked,
   Reads.Learnt,
-  Reads'3.Asked,
-  Reads'3.Learnt,
   Reads'4.Asked,
   Reads'4.Learnt,
+  Reads'5.Asked,
+  Reads'5.Learnt,
   Reads'7.Asked,
   Reads'7.Learnt,
   Reads'6.Asked,
   Reads'6.Learnt,
-  Reads'5.Asked,
-  Reads'5.Learnt,
-) Reads''.Pre Reads''.Post Inv μ
+  Reads''.Asked,
+  Reads''.Learnt,
+) Reads'3.Pre Reads'3.Post Inv μ
 
 abbrev pub After-out : (Inv : InvT-loop) → (μ : MeasureT-loop) → Type 0
 After-out = λ Inv μ. Lts.After-out (
@@ -258,17 +258,17 @@ After-out = λ Inv μ. Lts.After-out (
   Reads'.Learnt,
   Reads.Asked,
   Reads.Learnt,
-  Reads'3.Asked,
-  Reads'3.Learnt,
   Reads'4.Asked,
   Reads'4.Learnt,
+  Reads'5.Asked,
+  Reads'5.Learnt,
   Reads'7.Asked,
   Reads'7.Learnt,
   Reads'6.Asked,
   Reads'6.Learnt,
-  Reads'5.Asked,
-  Reads'5.Learnt,
-) Reads''.Pre Reads''.Post Inv μ
+  Reads''.Asked,
+  Reads''.Learnt,
+) Reads'3.Pre Reads'3.Post Inv μ
 
 abbrev pub After-slice-known2 : (Inv : InvT-loop) → (μ : MeasureT-loop) → Type 0
 After-slice-known2 = λ Inv μ. Lts.After-slice-known2 (
@@ -276,17 +276,17 @@ After-slice-known2 = λ Inv μ. Lts.After-slice-known2 (
   Reads'.Learnt,
   Reads.Asked,
   Reads.Learnt,
-  Reads'3.Asked,
-  Reads'3.Learnt,
   Reads'4.Asked,
   Reads'4.Learnt,
+  Reads'5.Asked,
+  Reads'5.Learnt,
   Reads'7.Asked,
   Reads'7.Learnt,
   Reads'6.Asked,
   Reads'6.Learnt,
-  Reads'5.Asked,
-  Reads'5.Learnt,
-) Reads''.Pre Reads''.Post Inv μ
+  Reads''.Asked,
+  Reads''.Learnt,
+) Reads'3.Pre Reads'3.Post Inv μ
 
 abbrev pub After-count-line : (Inv : InvT-loop) → (μ : MeasureT-loop) → Type 0
 After-count-line = λ Inv μ. Lts.After-count-line (
@@ -294,17 +294,17 @@ After-count-line = λ Inv μ. Lts.After-count-line (
   Reads'.Learnt,
   Reads.Asked,
   Reads.Learnt,
-  Reads'3.Asked,
-  Reads'3.Learnt,
   Reads'4.Asked,
   Reads'4.Learnt,
+  Reads'5.Asked,
+  Reads'5.Learnt,
   Reads'7.Asked,
   Reads'7.Learnt,
   Reads'6.Asked,
   Reads'6.Learnt,
-  Reads'5.Asked,
-  Reads'5.Learnt,
-) Reads''.Pre Reads''.Post Inv μ
+  Reads''.Asked,
+  Reads''.Learnt,
+) Reads'3.Pre Reads'3.Post Inv μ
 
 abbrev pub After-one-of : (Inv : InvT-loop) → (μ : MeasureT-loop) → Type 0
 After-one-of = λ Inv μ. Lts.After-one-of (
@@ -312,17 +312,17 @@ After-one-of = λ Inv μ. Lts.After-one-of (
   Reads'.Learnt,
   Reads.Asked,
   Reads.Learnt,
-  Reads'3.Asked,
-  Reads'3.Learnt,
   Reads'4.Asked,
   Reads'4.Learnt,
+  Reads'5.Asked,
+  Reads'5.Learnt,
   Reads'7.Asked,
   Reads'7.Learnt,
   Reads'6.Asked,
   Reads'6.Learnt,
-  Reads'5.Asked,
-  Reads'5.Learnt,
-) Reads''.Pre Reads''.Post Inv μ
+  Reads''.Asked,
+  Reads''.Learnt,
+) Reads'3.Pre Reads'3.Post Inv μ
 
 abbrev pub Need-no-counts-requires : (Inv : InvT-loop) → (μ : MeasureT-loop) → Type 0
 Need-no-counts-requires = λ Inv μ. Lts.Need-no-counts-requires (
@@ -330,17 +330,17 @@ Need-no-counts-requires = λ Inv μ. Lts.Need-no-counts-requires (
   Reads'.Learnt,
   Reads.Asked,
   Reads.Learnt,
-  Reads'3.Asked,
-  Reads'3.Learnt,
   Reads'4.Asked,
   Reads'4.Learnt,
+  Reads'5.Asked,
+  Reads'5.Learnt,
   Reads'7.Asked,
   Reads'7.Learnt,
   Reads'6.Asked,
   Reads'6.Learnt,
-  Reads'5.Asked,
-  Reads'5.Learnt,
-) Reads''.Pre Reads''.Post Inv μ
+  Reads''.Asked,
+  Reads''.Learnt,
+) Reads'3.Pre Reads'3.Post Inv μ
 
 abbrev pub Need-loop-holds : (Inv : InvT-loop) → (μ : MeasureT-loop) → Type 0
 Need-loop-holds = λ Inv μ. Lts.Need-loop-holds (
@@ -348,17 +348,17 @@ Need-loop-holds = λ Inv μ. Lts.Need-loop-holds (
   Reads'.Learnt,
   Reads.Asked,
   Reads.Learnt,
-  Reads'3.Asked,
-  Reads'3.Learnt,
   Reads'4.Asked,
   Reads'4.Learnt,
+  Reads'5.Asked,
+  Reads'5.Learnt,
   Reads'7.Asked,
   Reads'7.Learnt,
   Reads'6.Asked,
   Reads'6.Learnt,
-  Reads'5.Asked,
-  Reads'5.Learnt,
-) Reads''.Pre Reads''.Post Inv μ
+  Reads''.Asked,
+  Reads''.Learnt,
+) Reads'3.Pre Reads'3.Post Inv μ
 
 abbrev pub Need-mul-loop : (Inv : InvT-loop) → (μ : MeasureT-loop) → Type 0
 Need-mul-loop = λ Inv μ. Lts.Need-mul-loop (
@@ -366,17 +366,17 @@ Need-mul-loop = λ Inv μ. Lts.Need-mul-loop (
   Reads'.Learnt,
   Reads.Asked,
   Reads.Learnt,
-  Reads'3.Asked,
-  Reads'3.Learnt,
   Reads'4.Asked,
   Reads'4.Learnt,
+  Reads'5.Asked,
+  Reads'5.Learnt,
   Reads'7.Asked,
   Reads'7.Learnt,
   Reads'6.Asked,
   Reads'6.Learnt,
-  Reads'5.Asked,
-  Reads'5.Learnt,
-) Reads''.Pre Reads''.Post Inv μ
+  Reads''.Asked,
+  Reads''.Learnt,
+) Reads'3.Pre Reads'3.Post Inv μ
 
 abbrev pub Need-line-at-requires : (Inv : InvT-loop) → (μ : MeasureT-loop) → Type 0
 Need-line-at-requires = λ Inv μ. Lts.Need-line-at-requires (
@@ -384,17 +384,17 @@ Need-line-at-requires = λ Inv μ. Lts.Need-line-at-requires (
   Reads'.Learnt,
   Reads.Asked,
   Reads.Learnt,
-  Reads'3.Asked,
-  Reads'3.Learnt,
   Reads'4.Asked,
   Reads'4.Learnt,
+  Reads'5.Asked,
+  Reads'5.Learnt,
   Reads'7.Asked,
   Reads'7.Learnt,
   Reads'6.Asked,
   Reads'6.Learnt,
-  Reads'5.Asked,
-  Reads'5.Learnt,
-) Reads''.Pre Reads''.Post Inv μ
+  Reads''.Asked,
+  Reads''.Learnt,
+) Reads'3.Pre Reads'3.Post Inv μ
 
 abbrev pub Need-slot-at-requires : (Inv : InvT-loop) → (μ : MeasureT-loop) → Type 0
 Need-slot-at-requires = λ Inv μ. Lts.Need-slot-at-requires (
@@ -402,17 +402,17 @@ Need-slot-at-requires = λ Inv μ. Lts.Need-slot-at-requires (
   Reads'.Learnt,
   Reads.Asked,
   Reads.Learnt,
-  Reads'3.Asked,
-  Reads'3.Learnt,
   Reads'4.Asked,
   Reads'4.Learnt,
+  Reads'5.Asked,
+  Reads'5.Learnt,
   Reads'7.Asked,
   Reads'7.Learnt,
   Reads'6.Asked,
   Reads'6.Learnt,
-  Reads'5.Asked,
-  Reads'5.Learnt,
-) Reads''.Pre Reads''.Post Inv μ
+  Reads''.Asked,
+  Reads''.Learnt,
+) Reads'3.Pre Reads'3.Post Inv μ
 
 abbrev pub Need-stays-requires : (Inv : InvT-loop) → (μ : MeasureT-loop) → Type 0
 Need-stays-requires = λ Inv μ. Lts.Need-stays-requires (
@@ -420,17 +420,17 @@ Need-stays-requires = λ Inv μ. Lts.Need-stays-requires (
   Reads'.Learnt,
   Reads.Asked,
   Reads.Learnt,
-  Reads'3.Asked,
-  Reads'3.Learnt,
   Reads'4.Asked,
   Reads'4.Learnt,
+  Reads'5.Asked,
+  Reads'5.Learnt,
   Reads'7.Asked,
   Reads'7.Learnt,
   Reads'6.Asked,
   Reads'6.Learnt,
-  Reads'5.Asked,
-  Reads'5.Learnt,
-) Reads''.Pre Reads''.Post Inv μ
+  Reads''.Asked,
+  Reads''.Learnt,
+) Reads'3.Pre Reads'3.Post Inv μ
 
 abbrev pub Need-put-share-requires : (Inv : InvT-loop) → (μ : MeasureT-loop) → Type 0
 Need-put-share-requires = λ Inv μ. Lts.Need-put-share-requires (
@@ -438,17 +438,17 @@ Need-put-share-requires = λ Inv μ. Lts.Need-put-share-requires (
   Reads'.Learnt,
   Reads.Asked,
   Reads.Learnt,
-  Reads'3.Asked,
-  Reads'3.Learnt,
   Reads'4.Asked,
   Reads'4.Learnt,
+  Reads'5.Asked,
+  Reads'5.Learnt,
   Reads'7.Asked,
   Reads'7.Learnt,
   Reads'6.Asked,
   Reads'6.Learnt,
-  Reads'5.Asked,
-  Reads'5.Learnt,
-) Reads''.Pre Reads''.Post Inv μ
+  Reads''.Asked,
+  Reads''.Learnt,
+) Reads'3.Pre Reads'3.Post Inv μ
 
 abbrev pub Need-count-line-requires : (Inv : InvT-loop) → (μ : MeasureT-loop) → Type 0
 Need-count-line-requires = λ Inv μ. Lts.Need-count-line-requires (
@@ -456,17 +456,17 @@ Need-count-line-requires = λ Inv μ. Lts.Need-count-line-requires (
   Reads'.Learnt,
   Reads.Asked,
   Reads.Learnt,
-  Reads'3.Asked,
-  Reads'3.Learnt,
   Reads'4.Asked,
   Reads'4.Learnt,
+  Reads'5.Asked,
+  Reads'5.Learnt,
   Reads'7.Asked,
   Reads'7.Learnt,
   Reads'6.Asked,
   Reads'6.Learnt,
-  Reads'5.Asked,
-  Reads'5.Learnt,
-) Reads''.Pre Reads''.Post Inv μ
+  Reads''.Asked,
+  Reads''.Learnt,
+) Reads'3.Pre Reads'3.Post Inv μ
 
 abbrev pub Need-one-of-requires : (Inv : InvT-loop) → (μ : MeasureT-loop) → Type 0
 Need-one-of-requires = λ Inv μ. Lts.Need-one-of-requires (
@@ -474,17 +474,17 @@ Need-one-of-requires = λ Inv μ. Lts.Need-one-of-requires (
   Reads'.Learnt,
   Reads.Asked,
   Reads.Learnt,
-  Reads'3.Asked,
-  Reads'3.Learnt,
   Reads'4.Asked,
   Reads'4.Learnt,
+  Reads'5.Asked,
+  Reads'5.Learnt,
   Reads'7.Asked,
   Reads'7.Learnt,
   Reads'6.Asked,
   Reads'6.Learnt,
-  Reads'5.Asked,
-  Reads'5.Learnt,
-) Reads''.Pre Reads''.Post Inv μ
+  Reads''.Asked,
+  Reads''.Learnt,
+) Reads'3.Pre Reads'3.Post Inv μ
 
 abbrev pub Need-add-k : (Inv : InvT-loop) → (μ : MeasureT-loop) → Type 0
 Need-add-k = λ Inv μ. Lts.Need-add-k (
@@ -492,17 +492,17 @@ Need-add-k = λ Inv μ. Lts.Need-add-k (
   Reads'.Learnt,
   Reads.Asked,
   Reads.Learnt,
-  Reads'3.Asked,
-  Reads'3.Learnt,
   Reads'4.Asked,
   Reads'4.Learnt,
+  Reads'5.Asked,
+  Reads'5.Learnt,
   Reads'7.Asked,
   Reads'7.Learnt,
   Reads'6.Asked,
   Reads'6.Learnt,
-  Reads'5.Asked,
-  Reads'5.Learnt,
-) Reads''.Pre Reads''.Post Inv μ
+  Reads''.Asked,
+  Reads''.Learnt,
+) Reads'3.Pre Reads'3.Post Inv μ
 
 abbrev pub Need-add-i : (Inv : InvT-loop) → (μ : MeasureT-loop) → Type 0
 Need-add-i = λ Inv μ. Lts.Need-add-i (
@@ -510,17 +510,17 @@ Need-add-i = λ Inv μ. Lts.Need-add-i (
   Reads'.Learnt,
   Reads.Asked,
   Reads.Learnt,
-  Reads'3.Asked,
-  Reads'3.Learnt,
   Reads'4.Asked,
   Reads'4.Learnt,
+  Reads'5.Asked,
+  Reads'5.Learnt,
   Reads'7.Asked,
   Reads'7.Learnt,
   Reads'6.Asked,
   Reads'6.Learnt,
-  Reads'5.Asked,
-  Reads'5.Learnt,
-) Reads''.Pre Reads''.Post Inv μ
+  Reads''.Asked,
+  Reads''.Learnt,
+) Reads'3.Pre Reads'3.Post Inv μ
 
 abbrev pub Need-loop-less : (Inv : InvT-loop) → (μ : MeasureT-loop) → Type 0
 Need-loop-less = λ Inv μ. Lts.Need-loop-less (
@@ -528,17 +528,17 @@ Need-loop-less = λ Inv μ. Lts.Need-loop-less (
   Reads'.Learnt,
   Reads.Asked,
   Reads.Learnt,
-  Reads'3.Asked,
-  Reads'3.Learnt,
   Reads'4.Asked,
   Reads'4.Learnt,
+  Reads'5.Asked,
+  Reads'5.Learnt,
   Reads'7.Asked,
   Reads'7.Learnt,
   Reads'6.Asked,
   Reads'6.Learnt,
-  Reads'5.Asked,
-  Reads'5.Learnt,
-) Reads''.Pre Reads''.Post Inv μ
+  Reads''.Asked,
+  Reads''.Learnt,
+) Reads'3.Pre Reads'3.Post Inv μ
 
 abbrev pub Need-loop-again : (Inv : InvT-loop) → (μ : MeasureT-loop) → Type 0
 Need-loop-again = λ Inv μ. Lts.Need-loop-again (
@@ -546,17 +546,17 @@ Need-loop-again = λ Inv μ. Lts.Need-loop-again (
   Reads'.Learnt,
   Reads.Asked,
   Reads.Learnt,
-  Reads'3.Asked,
-  Reads'3.Learnt,
   Reads'4.Asked,
   Reads'4.Learnt,
+  Reads'5.Asked,
+  Reads'5.Learnt,
   Reads'7.Asked,
   Reads'7.Learnt,
   Reads'6.Asked,
   Reads'6.Learnt,
-  Reads'5.Asked,
-  Reads'5.Learnt,
-) Reads''.Pre Reads''.Post Inv μ
+  Reads''.Asked,
+  Reads''.Learnt,
+) Reads'3.Pre Reads'3.Post Inv μ
 
 abbrev pub Need-same-length : (Inv : InvT-loop) → (μ : MeasureT-loop) → Type 0
 Need-same-length = λ Inv μ. Lts.Need-same-length (
@@ -564,17 +564,17 @@ Need-same-length = λ Inv μ. Lts.Need-same-length (
   Reads'.Learnt,
   Reads.Asked,
   Reads.Learnt,
-  Reads'3.Asked,
-  Reads'3.Learnt,
   Reads'4.Asked,
   Reads'4.Learnt,
+  Reads'5.Asked,
+  Reads'5.Learnt,
   Reads'7.Asked,
   Reads'7.Learnt,
   Reads'6.Asked,
   Reads'6.Learnt,
-  Reads'5.Asked,
-  Reads'5.Learnt,
-) Reads''.Pre Reads''.Post Inv μ
+  Reads''.Asked,
+  Reads''.Learnt,
+) Reads'3.Pre Reads'3.Post Inv μ
 
 abbrev pub Need-returns : (Inv : InvT-loop) → (μ : MeasureT-loop) → Type 0
 Need-returns = λ Inv μ. Lts.Need-returns (
@@ -582,17 +582,17 @@ Need-returns = λ Inv μ. Lts.Need-returns (
   Reads'.Learnt,
   Reads.Asked,
   Reads.Learnt,
-  Reads'3.Asked,
-  Reads'3.Learnt,
   Reads'4.Asked,
   Reads'4.Learnt,
+  Reads'5.Asked,
+  Reads'5.Learnt,
   Reads'7.Asked,
   Reads'7.Learnt,
   Reads'6.Asked,
   Reads'6.Learnt,
-  Reads'5.Asked,
-  Reads'5.Learnt,
-) Reads''.Pre Reads''.Post Inv μ
+  Reads''.Asked,
+  Reads''.Learnt,
+) Reads'3.Pre Reads'3.Post Inv μ
 
 module _ {M : Type 1} where
   pub spec : (Inv : InvT-loop) → (μ : MeasureT-loop) → (answer : Need-no-counts-requires Inv μ) → (answer : Need-loop-holds Inv μ) → (answer : Need-mul-loop
@@ -604,34 +604,34 @@ module _ {M : Type 1} where
         Reads'.Learnt,
         Reads.Asked,
         Reads.Learnt,
-        Reads'3.Asked,
-        Reads'3.Learnt,
         Reads'4.Asked,
         Reads'4.Learnt,
+        Reads'5.Asked,
+        Reads'5.Learnt,
         Reads'7.Asked,
         Reads'7.Learnt,
         Reads'6.Asked,
         Reads'6.Learnt,
-        Reads'5.Asked,
-        Reads'5.Learnt,
-      ) Reads''.Pre Reads''.Post M
+        Reads''.Asked,
+        Reads''.Learnt,
+      ) Reads'3.Pre Reads'3.Post M
   spec = λ Inv μ answer answer' answer'' answer'3 answer'4 answer'5 answer'6 answer'7 answer'8 answer'9 answer'10 answer'11 answer'12 answer'13 answer'14.
       Lts.spec (
         Reads'.Asked,
         Reads'.Learnt,
         Reads.Asked,
         Reads.Learnt,
-        Reads'3.Asked,
-        Reads'3.Learnt,
         Reads'4.Asked,
         Reads'4.Learnt,
+        Reads'5.Asked,
+        Reads'5.Learnt,
         Reads'7.Asked,
         Reads'7.Learnt,
         Reads'6.Asked,
         Reads'6.Learnt,
-        Reads'5.Asked,
-        Reads'5.Learnt,
-      ) Reads''.Pre Reads''.Post Inv μ answer answer' answer'' answer'3 answer'4
+        Reads''.Asked,
+        Reads''.Learnt,
+      ) Reads'3.Pre Reads'3.Post Inv μ answer answer' answer'' answer'3 answer'4
       answer'5 answer'6 answer'7 answer'8 answer'9 answer'10 answer'11 answer'12 answer'13 answer'14
 
   pub close : Lts.Closed (
@@ -639,26 +639,27 @@ module _ {M : Type 1} where
     Reads'.Learnt,
     Reads.Asked,
     Reads.Learnt,
-    Reads'3.Asked,
-    Reads'3.Learnt,
     Reads'4.Asked,
     Reads'4.Learnt,
+    Reads'5.Asked,
+    Reads'5.Learnt,
     Reads'7.Asked,
     Reads'7.Learnt,
     Reads'6.Asked,
     Reads'6.Learnt,
-    Reads'5.Asked,
-    Reads'5.Learnt,
-  ) Reads''.Pre Reads''.Post M → Statement.statement M
+    Reads''.Asked,
+    Reads''.Learnt,
+  ) Reads'3.Pre Reads'3.Post M → Statement.statement M
   unfolding Code.routine Running.tablesOf
-  close = λ closed 𝓤 H 𝓜 𝓖 𝓡. Written.close 3 Kinds.ps Kinds.r Reads''.Ghost Reads''.requires Reads''.ensures Reads''.pre-read Reads''.Pinned Reads''.Owned
-      Reads''.post-read record { M = M; 𝓤 = 𝓤; H = H; 𝓜 = 𝓜; 𝓖 = 𝓖; 𝓡 = 𝓡 } Code.env Key.name Code.function (Code.unfolded 𝓤 H 𝓜 𝓡) (λ κs a g. tt) (λ κs.
-      Reads''.owns κs record { M = M; 𝓤 = 𝓤; H = H; 𝓜 = 𝓜; 𝓖 = 𝓖; 𝓡 = 𝓡 }) (Reads''.passes record { M = M; 𝓤 = 𝓤; H = H; 𝓜 = 𝓜; 𝓖 = 𝓖; 𝓡 = 𝓡 }) λ g. closed 𝓤 H
+  close = λ closed 𝓤 H 𝓜 𝓖 𝓡. Written.close 3 Kinds.ps Kinds.r Reads'3.Ghost Reads'3.requires Reads'3.ensures Reads'3.pre-read Reads'3.Pinned Reads'3.Owned
+      Reads'3.post-read record { M = M; 𝓤 = 𝓤; H = H; 𝓜 = 𝓜; 𝓖 = 𝓖; 𝓡 = 𝓡 } Code.env Key.name Code.function (Code.unfolded 𝓤 H 𝓜 𝓡) (λ κs a g. tt) (λ κs.
+      Reads'3.owns κs record { M = M; 𝓤 = 𝓤; H = H; 𝓜 = 𝓜; 𝓖 = 𝓖; 𝓡 = 𝓡 }) (Reads'3.passes record { M = M; 𝓤 = 𝓤; H = H; 𝓜 = 𝓜; 𝓖 = 𝓖; 𝓡 = 𝓡 }) λ g. closed 𝓤 H
       (𝓖 .A) (Running.givenOf 𝓤 H 𝓜 𝓖) (Run.Over 𝓤 H 𝓜 𝓖 𝓡 Code.env) (Reads'.known record { M = M; 𝓤 = 𝓤; H = H; 𝓜 = 𝓜; 𝓖 = 𝓖; 𝓡 = 𝓡 } Code.env Symbol'.name
-      Symbol'.routine Code.calls-store·dealing·no-counts (Met'.met 𝓤 H 𝓜 𝓖 𝓡)) (Reads.known record { M = M; 𝓤 = 𝓤; H = H; 𝓜 = 𝓜; 𝓖 = 𝓖; 𝓡 = 𝓡 } Code.env
-      Symbol.name Symbol.routine Code.calls-gate·line-at (Met.met 𝓤 H 𝓜 𝓖 𝓡)) (Reads'3.known record { M = M; 𝓤 = 𝓤; H = H; 𝓜 = 𝓜; 𝓖 = 𝓖; 𝓡 = 𝓡 } Code.env
-      Symbol''.name Symbol''.routine Code.calls-store·search·slot-at (Met''.met 𝓤 H 𝓜 𝓖 𝓡)) (Reads'4.known record { M = M; 𝓤 = 𝓤; H = H; 𝓜 = 𝓜; 𝓖 = 𝓖; 𝓡 = 𝓡 }
-      Code.env Symbol'3.name Symbol'3.routine Code.calls-store·search·stays (Met'3.met 𝓤 H 𝓜 𝓖 𝓡)) (Reads'7.known record {
+      Symbol'.routine Code.calls-marks·no-counts (Met'.met 𝓤 H 𝓜 𝓖 𝓡)) (Reads.known record { M = M; 𝓤 = 𝓤; H = H; 𝓜 = 𝓜; 𝓖 = 𝓖; 𝓡 = 𝓡 } Code.env Symbol.name
+      Symbol.routine Code.calls-gate·line-at (Met.met 𝓤 H 𝓜 𝓖 𝓡)) (Reads'4.known record { M = M; 𝓤 = 𝓤; H = H; 𝓜 = 𝓜; 𝓖 = 𝓖; 𝓡 = 𝓡 } Code.env Symbol'3.name
+      Symbol'3.routine Code.calls-store·search·slot-at (Met'3.met 𝓤 H 𝓜 𝓖 𝓡)) (Reads'5.known record { M = M; 𝓤 = 𝓤; H = H; 𝓜 = 𝓜; 𝓖 = 𝓖; 𝓡 = 𝓡 } Code.env
+      Symbol'4.name Symbol'4.routine Code.calls-store·search·stays (Met'4.met 𝓤 H 𝓜 𝓖 𝓡)) (Reads'7.known record { M = M; 𝓤 = 𝓤; H = H; 𝓜 = 𝓜; 𝓖 = 𝓖; 𝓡 = 𝓡 }
+      Code.env Symbol'6.name Symbol'6.routine Code.calls-writing·put-share (Met'6.met 𝓤 H 𝓜 𝓖 𝓡)) (Reads'6.known record {
         M = M;
         𝓤 = 𝓤;
         H = H;
@@ -666,20 +667,12 @@ module _ {M : Type 1} where
         𝓖 = 𝓖;
         𝓡
             = 𝓡;
-      } Code.env Symbol'6.name Symbol'6.routine Code.calls-writing·put-share (Met'6.met 𝓤 H 𝓜 𝓖 𝓡)) (Reads'6.known record {
+      } Code.env Symbol'5.name Symbol'5.routine Code.calls-writing·count-line (Met'5.met 𝓤 H 𝓜 𝓖 𝓡)) (Reads''.known record {
         M = M;
         𝓤 = 𝓤;
         H = H;
         𝓜 = 𝓜;
-        𝓖 =
-            𝓖;
+        𝓖
+            = 𝓖;
         𝓡 = 𝓡;
-      } Code.env Symbol'5.name Symbol'5.routine Code.calls-writing·count-line (Met'5.met 𝓤 H 𝓜 𝓖 𝓡)) (Reads'5.known record {
-        M = M;
-        𝓤 = 𝓤;
-        H = H;
-        𝓜 =
-            𝓜;
-        𝓖 = 𝓖;
-        𝓡 = 𝓡;
-      } Code.env Symbol'4.name Symbol'4.routine Code.calls-store·survey·one-of (Met'4.met 𝓤 H 𝓜 𝓖 𝓡))
+      } Code.env Symbol''.name Symbol''.routine Code.calls-marks·one-of (Met''.met 𝓤 H 𝓜 𝓖 𝓡))

@@ -2,15 +2,15 @@
 use Rattle.ascii.proofs.both_of.Met
 use Rattle.ascii.proofs.both_of.Reads
 use Rattle.ascii.proofs.both_of.Symbol
+use Rattle.marks.proofs.is_aside.Met as Met'
+use Rattle.marks.proofs.is_aside.Reads as Reads'
+use Rattle.marks.proofs.is_aside.Symbol as Symbol'
 use Rattle.store.proofs.search.aside_in.Code
 use Rattle.store.proofs.search.aside_in.Key
 use Rattle.store.proofs.Walked.search.aside_in.Kinds
 use Rattle.store.proofs.search.aside_in.Proof.Lts
-use Rattle.store.proofs.Walked.search.aside_in.Reads as Reads'
+use Rattle.store.proofs.Walked.search.aside_in.Reads as Reads''
 use Rattle.store.proofs.search.aside_in.Statement
-use Rattle.store.proofs.search.is_aside.Met as Met'
-use Rattle.store.proofs.search.is_aside.Reads as Reads''
-use Rattle.store.proofs.search.is_aside.Symbol as Symbol'
 use Rattle.store.proofs.search.lower.Met as Met''
 use Rattle.store.proofs.Walked.search.lower.Reads as Reads'3
 use Rattle.store.proofs.search.lower.Symbol as Symbol''
@@ -22,24 +22,24 @@ use borrow.Fn.Written
 use contract.Running
 
 abbrev pub Start : Type 0
-Start = Lts.Start (Reads'3.Asked, Reads'3.Learnt, Reads'4.Asked, Reads'4.Learnt, Reads''.Asked, Reads''.Learnt, Reads.Asked, Reads.Learnt) Reads'.Pre
-    Reads'.Post
+Start = Lts.Start (Reads'3.Asked, Reads'3.Learnt, Reads'4.Asked, Reads'4.Learnt, Reads'.Asked, Reads'.Learnt, Reads.Asked, Reads.Learnt) Reads''.Pre
+    Reads''.Post
 
 abbrev pub After-lower : Type 0
-After-lower = Lts.After-lower (Reads'3.Asked, Reads'3.Learnt, Reads'4.Asked, Reads'4.Learnt, Reads''.Asked, Reads''.Learnt, Reads.Asked, Reads.Learnt)
-    Reads'.Pre Reads'.Post
+After-lower = Lts.After-lower (Reads'3.Asked, Reads'3.Learnt, Reads'4.Asked, Reads'4.Learnt, Reads'.Asked, Reads'.Learnt, Reads.Asked, Reads.Learnt)
+    Reads''.Pre Reads''.Post
 
 abbrev pub After-slot-at : Type 0
-After-slot-at = Lts.After-slot-at (Reads'3.Asked, Reads'3.Learnt, Reads'4.Asked, Reads'4.Learnt, Reads''.Asked, Reads''.Learnt, Reads.Asked, Reads.Learnt)
-    Reads'.Pre Reads'.Post
+After-slot-at = Lts.After-slot-at (Reads'3.Asked, Reads'3.Learnt, Reads'4.Asked, Reads'4.Learnt, Reads'.Asked, Reads'.Learnt, Reads.Asked, Reads.Learnt)
+    Reads''.Pre Reads''.Post
 
 abbrev pub After-is-aside : Type 0
-After-is-aside = Lts.After-is-aside (Reads'3.Asked, Reads'3.Learnt, Reads'4.Asked, Reads'4.Learnt, Reads''.Asked, Reads''.Learnt, Reads.Asked, Reads.Learnt)
-    Reads'.Pre Reads'.Post
+After-is-aside = Lts.After-is-aside (Reads'3.Asked, Reads'3.Learnt, Reads'4.Asked, Reads'4.Learnt, Reads'.Asked, Reads'.Learnt, Reads.Asked, Reads.Learnt)
+    Reads''.Pre Reads''.Post
 
 abbrev pub After-both-of : Type 0
-After-both-of = Lts.After-both-of (Reads'3.Asked, Reads'3.Learnt, Reads'4.Asked, Reads'4.Learnt, Reads''.Asked, Reads''.Learnt, Reads.Asked, Reads.Learnt)
-    Reads'.Pre Reads'.Post
+After-both-of = Lts.After-both-of (Reads'3.Asked, Reads'3.Learnt, Reads'4.Asked, Reads'4.Learnt, Reads'.Asked, Reads'.Learnt, Reads.Asked, Reads.Learnt)
+    Reads''.Pre Reads''.Post
 
 abbrev pub Need-lower-requires : Type 0
 Need-lower-requires = Lts.Need-lower-requires (
@@ -47,11 +47,11 @@ Need-lower-requires = Lts.Need-lower-requires (
   Reads'3.Learnt,
   Reads'4.Asked,
   Reads'4.Learnt,
-  Reads''.Asked,
-  Reads''.Learnt,
+  Reads'.Asked,
+  Reads'.Learnt,
   Reads.Asked,
   Reads.Learnt,
-) Reads'.Pre Reads'.Post
+) Reads''.Pre Reads''.Post
 
 abbrev pub Need-slot-at-requires : Type 0
 Need-slot-at-requires = Lts.Need-slot-at-requires (
@@ -59,11 +59,11 @@ Need-slot-at-requires = Lts.Need-slot-at-requires (
   Reads'3.Learnt,
   Reads'4.Asked,
   Reads'4.Learnt,
-  Reads''.Asked,
-  Reads''.Learnt,
+  Reads'.Asked,
+  Reads'.Learnt,
   Reads.Asked,
   Reads.Learnt,
-) Reads'.Pre Reads'.Post
+) Reads''.Pre Reads''.Post
 
 abbrev pub Need-is-aside-requires : Type 0
 Need-is-aside-requires = Lts.Need-is-aside-requires (
@@ -71,11 +71,11 @@ Need-is-aside-requires = Lts.Need-is-aside-requires (
   Reads'3.Learnt,
   Reads'4.Asked,
   Reads'4.Learnt,
-  Reads''.Asked,
-  Reads''.Learnt,
+  Reads'.Asked,
+  Reads'.Learnt,
   Reads.Asked,
   Reads.Learnt,
-) Reads'.Pre Reads'.Post
+) Reads''.Pre Reads''.Post
 
 abbrev pub Need-both-of-requires : Type 0
 Need-both-of-requires = Lts.Need-both-of-requires (
@@ -83,46 +83,39 @@ Need-both-of-requires = Lts.Need-both-of-requires (
   Reads'3.Learnt,
   Reads'4.Asked,
   Reads'4.Learnt,
-  Reads''.Asked,
-  Reads''.Learnt,
+  Reads'.Asked,
+  Reads'.Learnt,
   Reads.Asked,
   Reads.Learnt,
-) Reads'.Pre Reads'.Post
+) Reads''.Pre Reads''.Post
 
 abbrev pub Need-returns : Type 0
-Need-returns = Lts.Need-returns (Reads'3.Asked, Reads'3.Learnt, Reads'4.Asked, Reads'4.Learnt, Reads''.Asked, Reads''.Learnt, Reads.Asked, Reads.Learnt)
-    Reads'.Pre Reads'.Post
+Need-returns = Lts.Need-returns (Reads'3.Asked, Reads'3.Learnt, Reads'4.Asked, Reads'4.Learnt, Reads'.Asked, Reads'.Learnt, Reads.Asked, Reads.Learnt)
+    Reads''.Pre Reads''.Post
 
 module _ {M : Type 1} where
   pub spec : (answer : Need-lower-requires) → (answer : Need-slot-at-requires) → (answer : Need-is-aside-requires) → (answer : Need-both-of-requires) → (answer
-      : Need-returns) → Lts.Closed (Reads'3.Asked, Reads'3.Learnt, Reads'4.Asked, Reads'4.Learnt, Reads''.Asked, Reads''.Learnt, Reads.Asked, Reads.Learnt)
-      Reads'.Pre Reads'.Post M
+      : Need-returns) → Lts.Closed (Reads'3.Asked, Reads'3.Learnt, Reads'4.Asked, Reads'4.Learnt, Reads'.Asked, Reads'.Learnt, Reads.Asked, Reads.Learnt)
+      Reads''.Pre Reads''.Post M
   spec = λ answer answer' answer'' answer'3 answer'4. Lts.spec (
     Reads'3.Asked,
     Reads'3.Learnt,
     Reads'4.Asked,
     Reads'4.Learnt,
-    Reads''.Asked,
-    Reads''.Learnt,
+    Reads'.Asked,
+    Reads'.Learnt,
     Reads.Asked,
     Reads.Learnt,
-  ) Reads'.Pre Reads'.Post answer answer' answer'' answer'3 answer'4
+  ) Reads''.Pre Reads''.Post answer answer' answer'' answer'3 answer'4
 
-  pub close : Lts.Closed (Reads'3.Asked, Reads'3.Learnt, Reads'4.Asked, Reads'4.Learnt, Reads''.Asked, Reads''.Learnt, Reads.Asked, Reads.Learnt) Reads'.Pre
-      Reads'.Post M → Statement.statement M
+  pub close : Lts.Closed (Reads'3.Asked, Reads'3.Learnt, Reads'4.Asked, Reads'4.Learnt, Reads'.Asked, Reads'.Learnt, Reads.Asked, Reads.Learnt) Reads''.Pre
+      Reads''.Post M → Statement.statement M
   unfolding Code.routine Running.tablesOf
-  close = λ closed 𝓤 H 𝓜 𝓖 𝓡. Written.close 1 Kinds.ps Kinds.r Reads'.Ghost Reads'.requires Reads'.ensures Reads'.pre-read Reads'.Pinned Reads'.Owned
-      Reads'.post-read record { M = M; 𝓤 = 𝓤; H = H; 𝓜 = 𝓜; 𝓖 = 𝓖; 𝓡 = 𝓡 } Code.env Key.name Code.function (Code.unfolded 𝓤 H 𝓜 𝓡) (λ κs a g. tt) (λ κs.
-      Reads'.owns κs record { M = M; 𝓤 = 𝓤; H = H; 𝓜 = 𝓜; 𝓖 = 𝓖; 𝓡 = 𝓡 }) (Reads'.passes record { M = M; 𝓤 = 𝓤; H = H; 𝓜 = 𝓜; 𝓖 = 𝓖; 𝓡 = 𝓡 }) λ g. closed 𝓤 H
+  close = λ closed 𝓤 H 𝓜 𝓖 𝓡. Written.close 1 Kinds.ps Kinds.r Reads''.Ghost Reads''.requires Reads''.ensures Reads''.pre-read Reads''.Pinned Reads''.Owned
+      Reads''.post-read record { M = M; 𝓤 = 𝓤; H = H; 𝓜 = 𝓜; 𝓖 = 𝓖; 𝓡 = 𝓡 } Code.env Key.name Code.function (Code.unfolded 𝓤 H 𝓜 𝓡) (λ κs a g. tt) (λ κs.
+      Reads''.owns κs record { M = M; 𝓤 = 𝓤; H = H; 𝓜 = 𝓜; 𝓖 = 𝓖; 𝓡 = 𝓡 }) (Reads''.passes record { M = M; 𝓤 = 𝓤; H = H; 𝓜 = 𝓜; 𝓖 = 𝓖; 𝓡 = 𝓡 }) λ g. closed 𝓤 H
       (𝓖 .A) (Running.givenOf 𝓤 H 𝓜 𝓖) (Run.Over 𝓤 H 𝓜 𝓖 𝓡 Code.env) (Reads'3.known record { M = M; 𝓤 = 𝓤; H = H; 𝓜 = 𝓜; 𝓖 = 𝓖; 𝓡 = 𝓡 } Code.env Symbol''.name
       Symbol''.routine Code.calls-store·search·lower (Met''.met 𝓤 H 𝓜 𝓖 𝓡)) (Reads'4.known record { M = M; 𝓤 = 𝓤; H = H; 𝓜 = 𝓜; 𝓖 = 𝓖; 𝓡 = 𝓡 } Code.env
-      Symbol'3.name Symbol'3.routine Code.calls-store·search·slot-at (Met'3.met 𝓤 H 𝓜 𝓖 𝓡)) (Reads''.known record { M = M; 𝓤 = 𝓤; H = H; 𝓜 = 𝓜; 𝓖 = 𝓖; 𝓡 = 𝓡 }
-      Code.env Symbol'.name Symbol'.routine Code.calls-store·search·is-aside (Met'.met 𝓤 H 𝓜 𝓖 𝓡)) (Reads.known record {
-        M = M;
-        𝓤 = 𝓤;
-        H = H;
-        𝓜 = 𝓜;
-        𝓖 = 𝓖;
-        𝓡 =
-            𝓡;
-      } Code.env Symbol.name Symbol.routine Code.calls-ascii·both-of (Met.met 𝓤 H 𝓜 𝓖 𝓡))
+      Symbol'3.name Symbol'3.routine Code.calls-store·search·slot-at (Met'3.met 𝓤 H 𝓜 𝓖 𝓡)) (Reads'.known record { M = M; 𝓤 = 𝓤; H = H; 𝓜 = 𝓜; 𝓖 = 𝓖; 𝓡 = 𝓡 }
+      Code.env Symbol'.name Symbol'.routine Code.calls-marks·is-aside (Met'.met 𝓤 H 𝓜 𝓖 𝓡)) (Reads.known record { M = M; 𝓤 = 𝓤; H = H; 𝓜 = 𝓜; 𝓖 = 𝓖; 𝓡 = 𝓡 }
+      Code.env Symbol.name Symbol.routine Code.calls-ascii·both-of (Met.met 𝓤 H 𝓜 𝓖 𝓡))

@@ -2,15 +2,15 @@
 use Rattle.gate.proofs.is_coord.Met
 use Rattle.gate.proofs.is_coord.Reads
 use Rattle.gate.proofs.is_coord.Symbol
-use Rattle.store.proofs.search.conect_in.Met as Met'
-use Rattle.store.proofs.search.conect_in.Reads as Reads'
-use Rattle.store.proofs.search.conect_in.Symbol as Symbol'
-use Rattle.store.proofs.search.is_conect.Met as Met''
-use Rattle.store.proofs.search.is_conect.Reads as Reads''
-use Rattle.store.proofs.search.is_conect.Symbol as Symbol''
-use Rattle.store.proofs.search.is_kept.Met as Met'3
-use Rattle.store.proofs.search.is_kept.Reads as Reads'3
-use Rattle.store.proofs.search.is_kept.Symbol as Symbol'3
+use Rattle.marks.proofs.conect_in.Met as Met'
+use Rattle.marks.proofs.conect_in.Reads as Reads'
+use Rattle.marks.proofs.conect_in.Symbol as Symbol'
+use Rattle.marks.proofs.is_conect.Met as Met''
+use Rattle.marks.proofs.is_conect.Reads as Reads''
+use Rattle.marks.proofs.is_conect.Symbol as Symbol''
+use Rattle.marks.proofs.is_kept.Met as Met'3
+use Rattle.marks.proofs.is_kept.Reads as Reads'3
+use Rattle.marks.proofs.is_kept.Symbol as Symbol'3
 use Rattle.store.proofs.search.names_aside.Met as Met'4
 use Rattle.store.proofs.Walked.search.names_aside.Reads as Reads'4
 use Rattle.store.proofs.search.names_aside.Symbol as Symbol'4
@@ -323,13 +323,7 @@ module _ {M : Type 1} where
       Reads'5.owns κs record { M = M; 𝓤 = 𝓤; H = H; 𝓜 = 𝓜; 𝓖 = 𝓖; 𝓡 = 𝓡 }) (Reads'5.passes record { M = M; 𝓤 = 𝓤; H = H; 𝓜 = 𝓜; 𝓖 = 𝓖; 𝓡 = 𝓡 }) λ g. closed 𝓤 H
       (𝓖 .A) (Running.givenOf 𝓤 H 𝓜 𝓖) (Run.Over 𝓤 H 𝓜 𝓖 𝓡 Code.env) (Reads.known record { M = M; 𝓤 = 𝓤; H = H; 𝓜 = 𝓜; 𝓖 = 𝓖; 𝓡 = 𝓡 } Code.env Symbol.name
       Symbol.routine Code.calls-gate·is-coord (Met.met 𝓤 H 𝓜 𝓖 𝓡)) (Reads'3.known record { M = M; 𝓤 = 𝓤; H = H; 𝓜 = 𝓜; 𝓖 = 𝓖; 𝓡 = 𝓡 } Code.env Symbol'3.name
-      Symbol'3.routine Code.calls-store·search·is-kept (Met'3.met 𝓤 H 𝓜 𝓖 𝓡)) (Reads''.known record { M = M; 𝓤 = 𝓤; H = H; 𝓜 = 𝓜; 𝓖 = 𝓖; 𝓡 = 𝓡 } Code.env
-      Symbol''.name Symbol''.routine Code.calls-store·search·is-conect (Met''.met 𝓤 H 𝓜 𝓖 𝓡)) (Reads'.known record { M = M; 𝓤 = 𝓤; H = H; 𝓜 = 𝓜; 𝓖 = 𝓖; 𝓡 = 𝓡 }
-      Code.env Symbol'.name Symbol'.routine Code.calls-store·search·conect-in (Met'.met 𝓤 H 𝓜 𝓖 𝓡)) (Reads'4.known record {
-        M = M;
-        𝓤 = 𝓤;
-        H = H;
-        𝓜 = 𝓜;
-        𝓖 = 𝓖;
-        𝓡 = 𝓡;
-      } Code.env Symbol'4.name Symbol'4.routine Code.calls-store·search·names-aside (Met'4.met 𝓤 H 𝓜 𝓖 𝓡))
+      Symbol'3.routine Code.calls-marks·is-kept (Met'3.met 𝓤 H 𝓜 𝓖 𝓡)) (Reads''.known record { M = M; 𝓤 = 𝓤; H = H; 𝓜 = 𝓜; 𝓖 = 𝓖; 𝓡 = 𝓡 } Code.env
+      Symbol''.name Symbol''.routine Code.calls-marks·is-conect (Met''.met 𝓤 H 𝓜 𝓖 𝓡)) (Reads'.known record { M = M; 𝓤 = 𝓤; H = H; 𝓜 = 𝓜; 𝓖 = 𝓖; 𝓡 = 𝓡 }
+      Code.env Symbol'.name Symbol'.routine Code.calls-marks·conect-in (Met'.met 𝓤 H 𝓜 𝓖 𝓡)) (Reads'4.known record { M = M; 𝓤 = 𝓤; H = H; 𝓜 = 𝓜; 𝓖 = 𝓖; 𝓡 = 𝓡 }
+      Code.env Symbol'4.name Symbol'4.routine Code.calls-store·search·names-aside (Met'4.met 𝓤 H 𝓜 𝓖 𝓡))

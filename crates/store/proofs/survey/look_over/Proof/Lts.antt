@@ -681,7 +681,7 @@ abbrev b23 : Syntax.Body
 b23 = Syntax.call "store::search::slot_at" (Syntax.copy (Syntax.place 2 []) ∷ Syntax.copy (Syntax.place 6 []) ∷ []) (Syntax.place 12 [])
 
 abbrev b24 : Syntax.Body
-b24 = Syntax.call "store::survey::fits" (Syntax.copy (Syntax.place 12 []) ∷ Syntax.copy (Syntax.place 9 []) ∷ []) (Syntax.place 13 [])
+b24 = Syntax.call "marks::fits" (Syntax.copy (Syntax.place 12 []) ∷ Syntax.copy (Syntax.place 9 []) ∷ []) (Syntax.place 13 [])
 
 abbrev b25 : Syntax.Body
 b25 = Syntax.call "ascii::both_of" (Syntax.copy (Syntax.place 7 []) ∷ Syntax.copy (Syntax.place 13 []) ∷ []) (Syntax.place 7 [])
@@ -691,14 +691,14 @@ b26 = Syntax.call "store::search::stays" (Syntax.copy (Syntax.place 2 []) ∷ Sy
     Syntax.copy (Syntax.place 9 []) ∷ []) (Syntax.place 14 [])
 
 abbrev b27 : Syntax.Body
-b27 = Syntax.call "store::survey::one_if" (Syntax.copy (Syntax.place 14 []) ∷ []) (Syntax.place 16 [])
+b27 = Syntax.call "marks::counting::one_if" (Syntax.copy (Syntax.place 14 []) ∷ []) (Syntax.place 16 [])
 
 abbrev b28 : Syntax.Body
 b28 = Syntax.assign (Syntax.place 8 []) (Syntax.op2 (Syntax.add Syntax.unsigned) (Syntax.copy (Syntax.place 8 [])) (Syntax.copy (Syntax.place 16
     [])))
 
 abbrev b29 : Syntax.Body
-b29 = Syntax.call "store::survey::one_of" (Syntax.copy (Syntax.place 9 []) ∷ []) (Syntax.place 17 [])
+b29 = Syntax.call "marks::counting::one_of" (Syntax.copy (Syntax.place 9 []) ∷ []) (Syntax.place 17 [])
 
 abbrev b30 : Syntax.Body
 b30 = Syntax.assign (Syntax.place 6 []) (Syntax.op2 (Syntax.add Syntax.unsigned) (Syntax.copy (Syntax.place 6 [])) (Syntax.copy (Syntax.place 17
@@ -5807,11 +5807,11 @@ module _ (claims· : Claims) where
             𝓤 H A W 𝓣 1 ps·2 r·2 (claims· .4) (claims· .5) "gate::known") (known3 : Plain.Known 𝓤 H A W 𝓣 0 ps·3 r·3 (claims· .6) (claims· .7) "rules::judge")
             (known4 : Plain.Known 𝓤 H A W 𝓣 0 ps·4 r·4 (claims· .8) (claims· .9) "gate::grow") (known5 : Plain.Known 𝓤 H A W 𝓣 0 ps·5 r·5 (claims· .10) (claims·
             .11) "rules::next") (known6 : Plain.Known 𝓤 H A W 𝓣 1 ps·6 r·6 (claims· .12) (claims· .13) "store::search::slot_at") (known7 : Plain.Known 𝓤 H A W 𝓣
-            0 ps·7 r·7 (claims· .14) (claims· .15) "store::survey::fits") (known8 : Plain.Known 𝓤 H A W 𝓣 0 ps·8 r·8 (claims· .16) (claims· .17)
-            "ascii::both_of") (known9 : Plain.Known 𝓤 H A W 𝓣 1 ps·9 r·9 (claims· .18) (claims· .19) "store::search::stays") (known10 : Plain.Known 𝓤 H A W 𝓣 0
-            ps·10 r·10 (claims· .20) (claims· .21) "store::survey::one_if") (known11 : Plain.Known 𝓤 H A W 𝓣 0 ps·11 r·11 (claims· .22) (claims· .23)
-            "store::survey::one_of") (known12 : Plain.Known 𝓤 H A W 𝓣 0 ps·12 r·12 (claims· .24) (claims· .25) "gate::finish") → Statement.Triple 𝓤 (Wp.WpFn 𝓤 H
-            (𝓣 .C) (𝓣 .Λ) (Function.fnOf 2 ps r xs m hs body)) (Function.plainOf 𝓤 H A 2 ps r Pre· Post·)
+            0 ps·7 r·7 (claims· .14) (claims· .15) "marks::fits") (known8 : Plain.Known 𝓤 H A W 𝓣 0 ps·8 r·8 (claims· .16) (claims· .17) "ascii::both_of")
+            (known9 : Plain.Known 𝓤 H A W 𝓣 1 ps·9 r·9 (claims· .18) (claims· .19) "store::search::stays") (known10 : Plain.Known 𝓤 H A W 𝓣 0 ps·10 r·10 (claims·
+            .20) (claims· .21) "marks::counting::one_if") (known11 : Plain.Known 𝓤 H A W 𝓣 0 ps·11 r·11 (claims· .22) (claims· .23) "marks::counting::one_of")
+            (known12 : Plain.Known 𝓤 H A W 𝓣 0 ps·12 r·12 (claims· .24) (claims· .25) "gate::finish") → Statement.Triple 𝓤 (Wp.WpFn 𝓤 H (𝓣 .C) (𝓣 .Λ)
+            (Function.fnOf 2 ps r xs m hs body)) (Function.plainOf 𝓤 H A 2 ps r Pre· Post·)
 
       module _ (Inv·0 : InvT-loop) (μ·0 : MeasureT-loop) where
         abbrev at0 : Typed.TF T17 O4
@@ -6034,10 +6034,10 @@ module _ (claims· : Claims) where
               "gate::line_at" × Plain.Known 𝓤 H A W 𝓣 1 ps·2 r·2 (claims· .4) (claims· .5) "gate::known" × Plain.Known 𝓤 H A W 𝓣 0 ps·3 r·3 (claims· .6) (claims·
               .7) "rules::judge" × Plain.Known 𝓤 H A W 𝓣 0 ps·4 r·4 (claims· .8) (claims· .9) "gate::grow" × Plain.Known 𝓤 H A W 𝓣 0 ps·5 r·5 (claims· .10)
               (claims· .11) "rules::next" × Plain.Known 𝓤 H A W 𝓣 1 ps·6 r·6 (claims· .12) (claims· .13) "store::search::slot_at" × Plain.Known 𝓤 H A W 𝓣 0 ps·7
-              r·7 (claims· .14) (claims· .15) "store::survey::fits" × Plain.Known 𝓤 H A W 𝓣 0 ps·8 r·8 (claims· .16) (claims· .17) "ascii::both_of" × Plain.Known
-              𝓤 H A W 𝓣 1 ps·9 r·9 (claims· .18) (claims· .19) "store::search::stays" × Plain.Known 𝓤 H A W 𝓣 0 ps·10 r·10 (claims· .20) (claims· .21)
-              "store::survey::one_if" × Plain.Known 𝓤 H A W 𝓣 0 ps·11 r·11 (claims· .22) (claims· .23) "store::survey::one_of" × Plain.Known 𝓤 H A W 𝓣 0 ps·12
-              r·12 (claims· .24) (claims· .25) "gate::finish"
+              r·7 (claims· .14) (claims· .15) "marks::fits" × Plain.Known 𝓤 H A W 𝓣 0 ps·8 r·8 (claims· .16) (claims· .17) "ascii::both_of" × Plain.Known 𝓤 H A W
+              𝓣 1 ps·9 r·9 (claims· .18) (claims· .19) "store::search::stays" × Plain.Known 𝓤 H A W 𝓣 0 ps·10 r·10 (claims· .20) (claims· .21)
+              "marks::counting::one_if" × Plain.Known 𝓤 H A W 𝓣 0 ps·11 r·11 (claims· .22) (claims· .23) "marks::counting::one_of" × Plain.Known 𝓤 H A W 𝓣 0
+              ps·12 r·12 (claims· .24) (claims· .25) "gate::finish"
 
         module _ (κs : Lifetimes.Lfts 2) (qs : Lifetimes.Shares 2) where
           abbrev G0 : Row.Cx
@@ -6826,8 +6826,8 @@ module _ (claims· : Claims) where
 
             d28 : Typed.Typed 𝓤 H A 𝓣 E G47 b33 Δ3 at28
             d28 = Typed.s-seq 𝓤 H A W 𝓣 E G47 G48 b29 b32 Δ3 (Typed.both s43) at27 (Plain.t-call-plain 𝓤 H A W 𝓣 0 ps·11 r·11 (claims· .22) (claims· .23)
-                "store::survey::one_of" (known .11) E (λ pos β. β) G47 (record { pos = 9; st = []; d = 0; at = λ x. x }, tt) 17 [] (Call.sub-id 𝓤 H A W
-                (G47 .slots)) (
+                "marks::counting::one_of" (known .11) E (λ pos β. β) G47 (record { pos = 9; st = []; d = 0; at = λ x. x }, tt) 17 [] (Call.sub-id 𝓤 H A
+                W (G47 .slots)) (
                   (
                     Yields.yields-copy 𝓤 H A W (λ ρ. Unit) (Declared.row Line.the-type) Path'.refl (Copies.cEnum Line.the-type Laws''.the-laws
                         Laws''.the-copy .copy 𝓤 H A W) (Rows'.whole (Declared.row Line.the-type)) (λ x. x) (λ x. x) (λ ρ told. Local.mem-whole 𝓤 H A W (Declared.row
@@ -6854,10 +6854,10 @@ module _ (claims· : Claims) where
 
             d31 : Typed.Typed 𝓤 H A 𝓣 E G44 b35 Δ3 at31
             d31 = Typed.s-seq 𝓤 H A W 𝓣 E G44 G45 b27 b34 Δ3 (Typed.both s40) at30 (Plain.t-call-plain 𝓤 H A W 𝓣 0 ps·10 r·10 (claims· .20) (claims· .21)
-                "store::survey::one_if" (known .10) E (λ pos β. β) G44 (Bool.bAt 14 λ x. x, tt) 16 [] (Call.sub-id 𝓤 H A W (G44 .slots)) (
+                "marks::counting::one_if" (known .10) E (λ pos β. β) G44 (Bool.bAt 14 λ x. x, tt) 16 [] (Call.sub-id 𝓤 H A W (G44 .slots)) (
                   (
-                    Scalar.reads-sc 𝓤
-                        H A W Row.sBool,
+                    Scalar.reads-sc
+                        𝓤 H A W Row.sBool,
                     Path'.refl,
                   ),
                   tt,
@@ -6911,15 +6911,15 @@ module _ (claims· : Claims) where
 
             d35 : Typed.Typed 𝓤 H A 𝓣 E G40 b38 Δ3 at35
             d35 = Typed.s-seq 𝓤 H A W 𝓣 E G40 G41 b24 b37 Δ3 (Typed.both s36) at34 (Plain.t-call-plain 𝓤 H A W 𝓣 0 ps·7 r·7 (claims· .14) (claims· .15)
-                "store::survey::fits" (known .7) E (λ pos β. β) G40 (
+                "marks::fits" (known .7) E (λ pos β. β) G40 (
                   record { pos = 12; st = []; d = 0; at = λ x. x },
                   (
                     record {
                       pos = 9;
                       st = [];
-                      d =
-                          0;
-                      at = λ x. x;
+                      d = 0;
+                      at =
+                          λ x. x;
                     },
                     tt,
                   ),
@@ -6927,10 +6927,10 @@ module _ (claims· : Claims) where
                   (SlotAs.yields 𝓤 H A W, Path'.refl),
                   (
                     (
-                      Yields.yields-copy 𝓤 H A W (λ ρ.
-                          Unit) (Declared.row Line.the-type) Path'.refl (Copies.cEnum Line.the-type Laws''.the-laws Laws''.the-copy .copy 𝓤 H A W) (Rows'.whole
-                          (Declared.row Line.the-type)) (λ x. x) (λ x. x) (λ ρ told. Local.mem-whole 𝓤 H A W (Declared.row Line.the-type) ρ) λ ρ told. Local.whole-mem 𝓤 H
-                          A W (Declared.row Line.the-type) ρ,
+                      Yields.yields-copy 𝓤 H A W (λ ρ. Unit)
+                          (Declared.row Line.the-type) Path'.refl (Copies.cEnum Line.the-type Laws''.the-laws Laws''.the-copy .copy 𝓤 H A W) (Rows'.whole (Declared.row
+                          Line.the-type)) (λ x. x) (λ x. x) (λ ρ told. Local.mem-whole 𝓤 H A W (Declared.row Line.the-type) ρ) λ ρ told. Local.whole-mem 𝓤 H A W
+                          (Declared.row Line.the-type) ρ,
                       Path'.refl,
                     ),
                     tt,
@@ -8797,10 +8797,10 @@ module _ (claims· : Claims) where
               Plain.Known 𝓤 H A W 𝓣 1 ps·2 r·2 (claims· .4) (claims· .5) "gate::known") (known3 : Plain.Known 𝓤 H A W 𝓣 0 ps·3 r·3 (claims· .6) (claims· .7)
               "rules::judge") (known4 : Plain.Known 𝓤 H A W 𝓣 0 ps·4 r·4 (claims· .8) (claims· .9) "gate::grow") (known5 : Plain.Known 𝓤 H A W 𝓣 0 ps·5 r·5
               (claims· .10) (claims· .11) "rules::next") (known6 : Plain.Known 𝓤 H A W 𝓣 1 ps·6 r·6 (claims· .12) (claims· .13) "store::search::slot_at") (known7
-              : Plain.Known 𝓤 H A W 𝓣 0 ps·7 r·7 (claims· .14) (claims· .15) "store::survey::fits") (known8 : Plain.Known 𝓤 H A W 𝓣 0 ps·8 r·8 (claims· .16)
-              (claims· .17) "ascii::both_of") (known9 : Plain.Known 𝓤 H A W 𝓣 1 ps·9 r·9 (claims· .18) (claims· .19) "store::search::stays") (known10 :
-              Plain.Known 𝓤 H A W 𝓣 0 ps·10 r·10 (claims· .20) (claims· .21) "store::survey::one_if") (known11 : Plain.Known 𝓤 H A W 𝓣 0 ps·11 r·11 (claims· .22)
-              (claims· .23) "store::survey::one_of") (known12 : Plain.Known 𝓤 H A W 𝓣 0 ps·12 r·12 (claims· .24) (claims· .25) "gate::finish") where
+              : Plain.Known 𝓤 H A W 𝓣 0 ps·7 r·7 (claims· .14) (claims· .15) "marks::fits") (known8 : Plain.Known 𝓤 H A W 𝓣 0 ps·8 r·8 (claims· .16) (claims·
+              .17) "ascii::both_of") (known9 : Plain.Known 𝓤 H A W 𝓣 1 ps·9 r·9 (claims· .18) (claims· .19) "store::search::stays") (known10 : Plain.Known 𝓤 H A
+              W 𝓣 0 ps·10 r·10 (claims· .20) (claims· .21) "marks::counting::one_if") (known11 : Plain.Known 𝓤 H A W 𝓣 0 ps·11 r·11 (claims· .22) (claims· .23)
+              "marks::counting::one_of") (known12 : Plain.Known 𝓤 H A W 𝓣 0 ps·12 r·12 (claims· .24) (claims· .25) "gate::finish") where
             pub spec : Statement.Triple 𝓤 (Wp.WpFn 𝓤 H (𝓣 .C) (𝓣 .Λ) (Function.fnOf 2 ps r xs m hs body)) (Function.plainOf 𝓤 H A 2 ps r Pre· Post·)
             spec = Plain.t-fn-plain 𝓤 H A W 𝓣 2 ps r xs m hs body (λ κs qs bs. Φ) (λ κs qs bs bd. typed κs qs 𝓤 H A W 𝓣 (
               known0,

@@ -1,7 +1,7 @@
-use Rattle.store.proofs.Fitting.{fits-spot, fits-any}
+use Rattle.marks.proofs.Fitting.{fits-spot, fits-any}
 use borrow.Author.Needs.{needs}
-use Rattle.store.proofs.survey.fits.Statement.{statement}
-use Rattle.store.proofs.survey.fits.Tie as tie
+use Rattle.marks.proofs.fits.Statement.{statement}
+use Rattle.marks.proofs.fits.Tie as tie
 
 is-coord-requires : tie.Need-is-coord-requires
 is-coord-requires c κs = search needs

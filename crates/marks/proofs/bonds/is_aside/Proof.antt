@@ -1,7 +1,7 @@
 use Rattle.table.specs.Deal.{isAside}
 use borrow.Author.Needs.{needs}
-use Rattle.store.proofs.search.is_aside.Statement.{statement}
-use Rattle.store.proofs.search.is_aside.Tie as tie
+use Rattle.marks.proofs.bonds.is_aside.Statement.{statement}
+use Rattle.marks.proofs.bonds.is_aside.Tie as tie
 
 is-ter-requires : tie.Need-is-ter-requires
 is-ter-requires c κs = search needs

@@ -1,0 +1,92 @@
+// CONECT lines: whether a line is one, the numbers on it, and whether a slot is an atom that one of these names.
+use conect::Conect;
+use fields::Serial;
+use line::Record;
+use pieces::Line;
+use slots::Slot;
+ghost use mathlib.Core.Path.{_≡_};
+ghost use lib.Dec.{ltb};
+ghost use Rattle.table.specs.Deal.{isAside};
+ghost use Rattle.marks.specs.Bonds.{noConect, conectOf, conectIn, isBond, isConect};
+
+fn is_bond(r: Record) -> bool
+    ensures { λ b. ⌜ b ≡ isBond r ⌝ }
+{
+    match r {
+        Record::Coordinate(_, _) => false,
+        Record::Ter(_) => false,
+        Record::Helix(_) => false,
+        Record::Sheet(_) => false,
+        Record::Conect(_) => true,
+        Record::Master(_) => false,
+        Record::End => false,
+    }
+}
+
+// Whether the line is a CONECT line.
+pub fn is_conect(l: Line) -> bool
+    ensures { λ b. ⌜ b ≡ isConect l ⌝ }
+{
+    match l {
+        Line::Bad(_) => false,
+        Line::Wrong(_, _) => false,
+        Line::Carried(_) => false,
+        Line::Typed(r) => is_bond(r),
+    }
+}
+
+fn no_conect() -> Conect
+    ensures { λ c. ⌜ c ≡ noConect ⌝ }
+{
+    Conect {
+        serial: Serial(0),
+        a: Serial(0),
+        b: Serial(0),
+        c: Serial(0),
+        d: Serial(0),
+    }
+}
+
+fn conect_of(r: Record) -> Conect
+    ensures { λ c. ⌜ c ≡ conectOf r ⌝ }
+{
+    match r {
+        Record::Coordinate(_, _) => no_conect(),
+        Record::Ter(_) => no_conect(),
+        Record::Helix(_) => no_conect(),
+        Record::Sheet(_) => no_conect(),
+        Record::Conect(c) => c,
+        Record::Master(_) => no_conect(),
+        Record::End => no_conect(),
+    }
+}
+
+// The numbers on a CONECT line; zeros on another.
+pub fn conect_in(l: Line) -> Conect
+    ensures { λ c. ⌜ c ≡ conectIn l ⌝ }
+{
+    match l {
+        Line::Bad(_) => no_conect(),
+        Line::Wrong(_, _) => no_conect(),
+        Line::Carried(_) => no_conect(),
+        Line::Typed(r) => conect_of(r),
+    }
+}
+
+// Whether the slot comes before serial x.
+pub fn is_below(s: Slot, x: u32) -> bool
+    ensures { λ r. ⌜ r ≡ ltb (s .serial .0) x ⌝ }
+{
+    let serial = s.serial;
+    serial.0 < x
+}
+
+// Whether the slot is the atom with serial n, and set aside.
+pub fn is_aside(n: u32, s: Slot) -> bool
+    ensures { λ r. ⌜ r ≡ isAside n s ⌝ }
+{
+    let serial = s.serial;
+    let e = slots::is_ter(s);
+    let a = ascii::both_of(!e, serial.0 == n);
+    ascii::both_of(s.mark == 1, a)
+}

@@ -1,0 +1,48 @@
+// What one slot and one line are to each other, by value.
+mod bonds;
+mod counting;
+
+pub use bonds::conect_in;
+pub use bonds::is_aside;
+pub use bonds::is_below;
+pub use bonds::is_conect;
+pub use counting::no_counts;
+pub use counting::one_if;
+pub use counting::one_of;
+use pieces::Line;
+use slots::Slot;
+ghost use mathlib.Core.Path.{_≡_};
+ghost use mathlib.Core.Bool.{not};
+ghost use lib.Dec.{eqb};
+ghost use Rattle.slots.specs.Slots.{SmallLine, markAside};
+ghost use Rattle.table.specs.Table.{fits as fitsOf, markByte};
+
+// Whether a slot fits a line.
+pub fn fits(s: Slot, l: Line) -> bool
+    requires { ⌜ SmallLine l ⌝ }
+    ensures { λ r. ⌜ r ≡ fitsOf s l ⌝ }
+{
+    if gate::is_coord(l) {
+        let q = slots::same_slot(s, slots::line_slot(l));
+        return ascii::both_of(s.mark <= 1, q);
+    }
+    true
+}
+
+// Whether the line whose slot this is stays.
+pub fn is_kept(s: Slot) -> bool
+    ensures { λ r. ⌜ r ≡ not (eqb (s .mark) markAside) ⌝ }
+{
+    let e = s.mark == 1;
+    !e
+}
+
+// The mark that an order sets.
+pub fn mark_byte(aside: bool) -> u8
+    ensures { λ r. ⌜ r ≡ markByte aside ⌝ }
+{
+    if aside {
+        return 1;
+    }
+    0
+}
