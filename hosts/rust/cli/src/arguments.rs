@@ -28,9 +28,11 @@ The station checks, lists, saves and draws PDB coordinate entries.
 usage:
   station check FILE.. [--report]
   station fragments FILE [--aside LIST]
-  station save FILE --aside LIST --out FILE --tray FILE [--force]
+  station save FILE [--aside LIST] --out FILE [--tray FILE] [--force]
   station draw FILE --svg FILE [--aside LIST] [--force]
   station COMMAND --help
+
+A FILE that is read may be - for standard input, one that is written - for standard output.
 
 examples:
   station check 1abc.pdb
@@ -81,12 +83,13 @@ Saves an accepted entry without the fragments set aside, and what is left out of
 written whole or not at all. The input is never written to.
 
   --aside LIST  the fragments to set aside, such as 2,5 or 2,7-9
-  --out FILE    where the entry goes
-  --tray FILE   where the lines go that are left out; needed if a fragment is set aside
+  --out FILE    where the entry goes; - is standard output
+  --tray FILE   where the lines go that are left out, likewise; needed if a fragment is set aside
   --force       replace files that exist
 
 examples:
   station save 1abc.pdb --aside 2,5 --out bare.pdb --tray tray.pdb
+  station save 1abc.pdb --aside 2,5 --out - --tray tray.pdb | station check -
   station save 1abc.pdb --aside 3-40 --out dry.pdb --tray water.pdb --force
 
 Exit status: 0 saved, 1 refused, 2 could not be read or written.
@@ -98,7 +101,7 @@ usage: station draw FILE --svg FILE [--aside LIST] [--force]
 Draws a dot for each atom and a stroke for each bond of a CONECT line, seen along z. Of a refused entry the good lines
 are drawn, and a note says so.
 
-  --svg FILE    where the picture goes; it is written whole or not at all
+  --svg FILE    where the picture goes; a file is written whole or not at all, - is standard output
   --aside LIST  fragments to leave out (of an accepted entry), such as 2,5 or 2,7-9
   --force       replace a file that exists
 
@@ -125,25 +128,35 @@ fn usage<T>(words: impl Into<String>) -> Result<T, Problem> {
     Err(Problem::Usage(words.into()))
 }
 
+/// The help of a command, and the options that it allows.
+fn about(command: &OsStr) -> Option<(&'static str, &'static [&'static str])> {
+    match command.to_str()? {
+        "check" => Some((CHECK_HELP, &["--report"])),
+        "fragments" => Some((FRAGMENTS_HELP, &["--aside"])),
+        "save" => Some((SAVE_HELP, &["--aside", "--out", "--tray", "--force"])),
+        "draw" => Some((DRAW_HELP, &["--aside", "--svg", "--force"])),
+        _ => None,
+    }
+}
+
 /// Reads the arguments.
 pub fn parse(mut arguments: impl Iterator<Item = OsString>) -> Result<Command, Problem> {
     let Some(command) = arguments.next() else {
         return usage("what is to be done?");
     };
-    let (help, allowed): (_, &[&str]) = match command.to_str() {
-        Some("help" | "--help" | "-h") => return Ok(Command::Help(HELP)),
-        Some("check") => (CHECK_HELP, &["--report"]),
-        Some("fragments") => (FRAGMENTS_HELP, &["--aside"]),
-        Some("save") => (SAVE_HELP, &["--aside", "--out", "--tray", "--force"]),
-        Some("draw") => (DRAW_HELP, &["--aside", "--svg", "--force"]),
-        _ => return usage(format!("{}: no such command", command.to_string_lossy())),
+    if matches!(command.to_str(), Some("help" | "--help" | "-h")) {
+        let about = arguments.next().and_then(|command| about(&command));
+        return Ok(Command::Help(about.map_or(HELP, |(help, _)| help)));
+    }
+    let Some((help, allowed)) = about(&command) else {
+        return usage(format!("{}: no such command", command.to_string_lossy()));
     };
     let given = given(arguments, allowed)?;
     if given.help {
         return Ok(Command::Help(help));
     }
     match command.to_str() {
-        Some("check") if given.files.is_empty() => usage("check needs one or more files"),
+        Some("check") if given.files.is_empty() => usage("check needs one or more files, or - for standard input"),
         Some("check") => Ok(Command::Check { files: given.files, report: given.report }),
         Some("fragments") => {
             let (file, aside) = (given.one_file("fragments")?, given.aside()?);
@@ -186,7 +199,11 @@ fn given(mut arguments: impl Iterator<Item = OsString>, allowed: &[&str]) -> Res
         };
         match name {
             "--" => only_files = true,
-            "--help" | "-h" => given.help = true,
+            "--help" | "-h" => {
+                // What else was given does not matter then.
+                given.help = true;
+                break;
+            }
             _ if !allowed.contains(&name) => {
                 return usage(format!("{}: no such option here", argument.to_string_lossy()));
             }

@@ -10,7 +10,7 @@ use crate::input;
 use crate::output::{write_all, Console, Order};
 use crate::problem::{Problem, Status};
 use crate::svg;
-use crate::words::{self, path_name, several};
+use crate::words::{self, output_name, several};
 
 /// Draws an entry, or the good lines of a refused one.
 pub fn run(
@@ -33,14 +33,22 @@ pub fn run(
         let words = words::describe(name, &input.text, &verdict);
         return Err(Problem::Refused(format!("{words}\n  fragments are set aside in an accepted entry only")));
     };
-    let frame = Frame::of(&slots).map_err(|refusal| Problem::Refused(format!("{name}: {refusal}")))?;
+    let frame = Frame::of(&slots).map_err(|refusal| {
+        Problem::Refused(if verdict.is_granted() {
+            format!("{name}: {refusal}")
+        } else {
+            // That there is nothing to draw is not the cause.
+            let words = words::describe(name, &input.text, &verdict);
+            format!("{words}\n  there is no atom among the good lines, so nothing is drawn")
+        })
+    })?;
     let strokes = strokes(&lines, &slots);
     let picture = svg::picture(name, &slots, &strokes, &frame);
     let order = Order { option: "--svg", path: svg, bytes: picture.as_bytes() };
-    write_all(&[order], input.identity.as_ref(), force)?;
+    write_all(&[order], input.identity.as_ref(), force, console)?;
     let dots = slots.iter().filter(|slot| slot.dot().is_some()).count();
     let drawn = [several(dots as u64, "dot"), several(strokes.len() as u64, "stroke")].join(", ");
-    console.say_line(format_args!("{}: {drawn}", path_name(svg)))?;
+    console.say_line(format_args!("{}: {drawn}", output_name(svg)))?;
     if !verdict.is_granted() {
         console.note(format_args!("only the good lines were drawn: {}", words::describe(name, &input.text, &verdict)));
     }

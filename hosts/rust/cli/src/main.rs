@@ -3,6 +3,7 @@
 mod arguments;
 mod check;
 mod draw;
+mod fields;
 mod fragments;
 mod input;
 mod output;

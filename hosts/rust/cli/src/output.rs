@@ -2,22 +2,24 @@
 
 use std::fs::{self, File, OpenOptions};
 use std::io::{self, BufWriter, IsTerminal, StdoutLock, Write};
-use std::path::{Path, PathBuf};
+use std::path::{is_separator, Path, PathBuf};
 
 use crate::input::Identity;
 use crate::problem::Problem;
-use crate::words::path_name;
+use crate::words::{output_name, path_name};
 
 /// Where answers go.
 pub struct Console {
     out: BufWriter<StdoutLock<'static>>,
     progress: bool,
+    /// Whether answers go to standard error, since standard output may have what was asked to be written.
+    beside: bool,
 }
 
 impl Console {
     /// Standard output.
     pub fn new() -> Console {
-        Console { out: BufWriter::new(io::stdout().lock()), progress: io::stderr().is_terminal() }
+        Console { out: BufWriter::new(io::stdout().lock()), progress: io::stderr().is_terminal(), beside: false }
     }
 
     /// Shows a text as it is.
@@ -27,6 +29,10 @@ impl Console {
 
     /// Shows a line.
     pub fn say_line(&mut self, line: impl std::fmt::Display) -> Result<(), Problem> {
+        if self.beside {
+            self.note(line);
+            return Ok(());
+        }
         writeln!(self.out, "{line}").map_err(Problem::Console)
     }
 
@@ -72,22 +78,33 @@ pub struct Order<'a> {
     pub bytes: &'a [u8],
 }
 
-/// Writes files: all of them whole, or none. Files that exist are replaced only with `force`, the input never.
-pub fn write_all(orders: &[Order], input: Option<&Identity>, force: bool) -> Result<(), Problem> {
+/// Writes files: all of them whole, or none. Files that exist are replaced only with `force`, the input never. The answers
+/// of the command go beside what is written to standard output, or to anything else that is no file.
+pub fn write_all(
+    orders: &[Order],
+    input: Option<&Identity>,
+    force: bool,
+    console: &mut Console,
+) -> Result<(), Problem> {
     let mut targets: Vec<Target> = Vec::new();
     for order in orders {
         let target = Target::of(order, input, force)?;
-        if targets.iter().any(|other| other.is_file() && other.resolved == target.resolved) {
-            return Err(Problem::Target(format!("{}: two outputs go to the same file", path_name(order.path))));
+        if targets.iter().any(|other| !other.is_stream() && other.resolved == target.resolved) {
+            return Err(Problem::Target(format!("{}: two outputs go to the same place", output_name(order.path))));
         }
         targets.push(target);
     }
+    console.beside |= targets.iter().any(|target| !target.is_file());
     // Streams come last: what they were given cannot be taken back.
     let mut waiting: Vec<(Target, &Order)> = targets.into_iter().zip(orders).collect();
     waiting.sort_by_key(|(target, _)| !target.is_file());
     let mut staged = Vec::new();
     for (target, order) in waiting {
-        let failed = |error| Problem::Write(order.path.to_owned(), error);
+        let output = matches!(target.kind, TargetKind::Output);
+        let failed = |error| match output {
+            true => Problem::Console(error),
+            false => Problem::Write(order.path.to_owned(), error),
+        };
         staged.push((target.stage(order.bytes).map_err(failed)?, order.path));
     }
     let mut done: Vec<Placed> = Vec::new();
@@ -117,17 +134,26 @@ enum TargetKind {
     Replaced(fs::Permissions),
     /// Something that is no file, such as a device or a pipe: it is written to as it is.
     Stream,
+    /// Standard output.
+    Output,
 }
 
 impl Target {
     fn is_file(&self) -> bool {
-        !matches!(self.kind, TargetKind::Stream)
+        !matches!(self.kind, TargetKind::Stream | TargetKind::Output)
+    }
+
+    fn is_stream(&self) -> bool {
+        matches!(self.kind, TargetKind::Stream)
     }
 
     fn of(order: &Order, input: Option<&Identity>, force: bool) -> Result<Target, Problem> {
         let path = order.path;
         let refuse = |words: &str| Err(Problem::Target(format!("{}: {words}", path_name(path))));
         let failed = |error| Problem::Write(path.to_owned(), error);
+        if path == Path::new("-") {
+            return Ok(Target { resolved: path.to_owned(), kind: TargetKind::Output });
+        }
         if input.is_some() && Identity::of(path).ok().as_ref() == input {
             return refuse("this is the input, which is never written to");
         }
@@ -148,6 +174,9 @@ impl Target {
                 if fs::symlink_metadata(path).is_ok() {
                     return refuse("this is a link to nothing");
                 }
+                if path.as_os_str().as_encoded_bytes().last().is_some_and(|&last| is_separator(char::from(last))) {
+                    return refuse(&format!("there is no such folder, and {} needs a file", order.option));
+                }
                 let Some(name) = path.file_name() else {
                     return refuse(&format!("{} needs the name of a file", order.option));
                 };
@@ -161,7 +190,10 @@ impl Target {
     /// Writes the bytes beside the target, or straight to it if it is no file.
     fn stage(self, bytes: &[u8]) -> io::Result<Staged> {
         if !self.is_file() {
-            let mut stream = OpenOptions::new().write(true).open(&self.resolved)?;
+            let mut stream: Box<dyn Write> = match self.kind {
+                TargetKind::Output => Box::new(io::stdout()),
+                _ => Box::new(OpenOptions::new().write(true).open(&self.resolved)?),
+            };
             stream.write_all(bytes)?;
             stream.flush()?;
             return Ok(Staged { target: self, beside: None });

@@ -58,7 +58,7 @@ impl fmt::Display for Problem {
             Problem::Write(path, error) => {
                 write!(f, "{}: could not be written, no file was made or changed: {error}", path_name(path))
             }
-            Problem::Console(error) => write!(f, "the answers could not be written: {error}"),
+            Problem::Console(error) => write!(f, "standard output could not be written to: {error}"),
             Problem::Target(words) | Problem::Refused(words) => f.write_str(words),
         }
     }

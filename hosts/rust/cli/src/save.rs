@@ -8,7 +8,7 @@ use crate::fragments;
 use crate::input;
 use crate::output::{write_all, Console, Order};
 use crate::problem::{Problem, Status};
-use crate::words::{path_name, several};
+use crate::words::{output_name, several};
 
 /// Saves an entry without some fragments, and the tray.
 pub fn run(
@@ -28,11 +28,11 @@ pub fn run(
     if let Some(path) = tray {
         orders.push(Order { option: "--tray", path, bytes: &dropped });
     }
-    write_all(&orders, input.identity.as_ref(), force)?;
+    write_all(&orders, input.identity.as_ref(), force, console)?;
     let lines = |bytes: &[u8]| several(bytes.len() as u64 / 81, "line");
-    console.say_line(format_args!("{}: {}", path_name(out), lines(&saved)))?;
+    console.say_line(format_args!("{}: {}", output_name(out), lines(&saved)))?;
     if let Some(path) = tray {
-        console.say_line(format_args!("{}: {}", path_name(path), lines(&dropped)))?;
+        console.say_line(format_args!("{}: {}", output_name(path), lines(&dropped)))?;
     }
     Ok(Status::Done)
 }

@@ -5,6 +5,8 @@ use std::path::Path;
 
 use station::{pieces, Refusal, Verdict};
 
+use crate::fields;
+
 /// What the check found, in words: one line, and for a refusal the line that is refused and a cause.
 pub fn describe(name: &str, text: &[u8], verdict: &Verdict) -> String {
     let Some(refusal) = verdict.refusal else {
@@ -32,6 +34,15 @@ pub fn describe(name: &str, text: &[u8], verdict: &Verdict) -> String {
 pub fn path_name(path: &Path) -> String {
     let name = path.display().to_string();
     name.chars().map(|character| if character.is_control() { '?' } else { character }).collect()
+}
+
+/// The name of a file that is written, to show.
+pub fn output_name(path: &Path) -> String {
+    if path == Path::new("-") {
+        "standard output".to_owned()
+    } else {
+        path_name(path)
+    }
 }
 
 /// A number of things.
@@ -89,6 +100,8 @@ fn cause(text: &[u8], verdict: &Verdict, refusal: Refusal) -> Option<String> {
     match refusal {
         Refusal::LENGTH | Refusal::NEWLINE | Refusal::BYTE => form(text, verdict, piece),
         Refusal::NAME => piece.get(..6).map(unknown_name),
+        Refusal::FIELD => fields::cause(piece.first_chunk()?),
+        Refusal::COUNT => fields::wrong_counts(piece.first_chunk()?, &verdict.counts),
         _ => None,
     }
 }
@@ -103,7 +116,9 @@ fn form(text: &[u8], verdict: &Verdict, piece: &[u8]) -> Option<String> {
             "the file has Windows line ends (carriage return and newline); a line ends with a newline alone".to_owned(),
         );
     }
-    if let Some(columns) = piece.iter().take(80).position(|&byte| byte == b'\n') {
+    let foreign = piece.iter().take(80).position(|&byte| byte != b'\n' && !(32..=126).contains(&byte));
+    let ends = piece.iter().take(80).position(|&byte| byte == b'\n');
+    if let Some(columns) = ends.filter(|&ends| foreign.is_none_or(|foreign| ends < foreign)) {
         return Some(match (columns, piece.len()) {
             (0, 1) => "there is a newline too many at the end of the file".to_owned(),
             _ => format!(
@@ -112,7 +127,7 @@ fn form(text: &[u8], verdict: &Verdict, piece: &[u8]) -> Option<String> {
             ),
         });
     }
-    if let Some(at) = piece.iter().take(80).position(|byte| !(32..=126).contains(byte)) {
+    if let Some(at) = foreign {
         let byte = piece[at];
         let what = match byte {
             b'\t' => "a tab".to_owned(),
@@ -170,6 +185,8 @@ mod tests {
             assert!(words.contains(cause), "{words}");
         }
         assert!(words(&[200; 100]).contains("not ASCII (0xc8)"));
+        assert!(words(b"HEADER \x07 and\nTITLE\n").contains("column 8 holds a control byte (0x07)"));
+        assert!(words(b"HEADER and\nTITLE \x07\n").contains("ends after 10 columns"));
     }
 
     #[test]

@@ -29,6 +29,10 @@ fn pictures_of_good_lines() {
     answer.is(0, "only the good lines were drawn: a.pdb: line 7: refused with 9");
     folder.station(&["draw", "a.pdb", "--svg", "b.svg", "--aside", "1"]).is(1, "in an accepted entry only");
     folder.file("empty.pdb", "");
-    folder.station(&["draw", "empty.pdb", "--svg", "b.svg"]).is(1, "refused with 19");
-    assert_eq!(folder.names(), ["a.pdb", "a.svg", "empty.pdb"]);
+    let answer = folder.station(&["draw", "empty.pdb", "--svg", "b.svg"]);
+    answer.is(1, "the file is empty");
+    answer.is(1, "there is no atom among the good lines, so nothing is drawn");
+    folder.file("windows.pdb", three().replace('\n', "\r\n"));
+    folder.station(&["draw", "windows.pdb", "--svg", "b.svg"]).is(1, "Windows line ends");
+    assert_eq!(folder.names(), ["a.pdb", "a.svg", "empty.pdb", "windows.pdb"]);
 }

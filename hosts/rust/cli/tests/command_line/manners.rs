@@ -37,6 +37,37 @@ fn help_and_wrong_arguments() {
 }
 
 #[test]
+fn help_of_a_command() {
+    let folder = Folder::new("help-of");
+    for about in [&["help", "save"][..], &["--help", "save"], &["save", "a.pdb", "--help", "--out"]] {
+        folder.station(about).is(0, "usage: station save FILE");
+    }
+    let answer = folder.station(&["help", "frobnicate"]);
+    answer.is(0, "station COMMAND --help");
+    // The list of commands and the help of each say the same.
+    for command in ["check", "fragments", "save", "draw"] {
+        let own = folder.station(&[command, "--help"]).out;
+        let usage = own.lines().next().and_then(|line| line.strip_prefix("usage: ")).expect("a usage");
+        assert!(answer.out.contains(&format!("\n  {usage}\n")), "{usage}");
+    }
+}
+
+#[test]
+fn what_goes_to_standard_output_is_alone_there() {
+    let folder = Folder::new("output");
+    folder.file("a.pdb", three());
+    let answer = folder.station(&["save", "a.pdb", "--out", "-"]);
+    answer.is(0, "station: standard output: 9 lines");
+    assert_eq!(answer.out, three());
+    folder
+        .shell("$S save - --aside 2 --out - --tray tray < a.pdb | $S check -")
+        .is(0, "standard input: granted: 6 lines");
+    let answer = folder.station(&["draw", "a.pdb", "--svg", "-"]);
+    assert!(answer.out.starts_with("<svg ") && answer.out.ends_with("</svg>\n"), "{answer:?}");
+    assert_eq!(folder.names(), ["a.pdb", "tray"]);
+}
+
+#[test]
 fn a_reader_that_goes_away_is_no_panic() {
     let folder = Folder::new("pipe");
     let file = folder.file("a.pdb", arginine());
@@ -64,7 +95,7 @@ fn noise_of_a_hundred_megabytes() {
     folder.file("noise", &noise);
     folder.station(&["check", "noise"]).is(1, "noise: line 1: refused with 2");
     folder.station(&["fragments", "noise"]).is(1, "refused with 2");
-    folder.station(&["draw", "noise", "--svg", "noise.svg"]).is(1, "refused with 19");
+    folder.station(&["draw", "noise", "--svg", "noise.svg"]).is(1, "nothing is drawn");
     folder.station(&["save", "noise", "--out", "out"]).is(1, "refused with 2");
     assert_eq!(folder.names(), ["noise"]);
 }
@@ -78,9 +109,10 @@ fn a_full_disk_leaves_nothing() {
     save(&["--out", "/dev/full", "--tray", "tray"]).is(2, "/dev/full: could not be written");
     save(&["--out", "out", "--tray", "/dev/full"]).is(2, "No space left on device");
     folder.station(&["draw", "a.pdb", "--svg", "/dev/full"]).is(2, "No space left on device");
-    folder.shell("$S check a.pdb > /dev/full").is(2, "the answers could not be written");
-    folder.shell("$S fragments a.pdb > /dev/full").is(2, "the answers could not be written");
-    folder.shell("$S --help > /dev/full").is(2, "the answers could not be written");
+    folder.shell("$S check a.pdb > /dev/full").is(2, "standard output could not be written to");
+    folder.shell("$S fragments a.pdb > /dev/full").is(2, "standard output could not be written to");
+    folder.shell("$S save a.pdb --aside 1 --out - --tray tray > /dev/full").is(2, "standard output could not be");
+    folder.shell("$S --help > /dev/full").is(2, "standard output could not be written to");
     // No byte may be written to a file, as on a disk that is full.
     let limited = "trap '' XFSZ; ulimit -f 0; exec $S save a.pdb --aside 1 --force";
     folder.shell(&format!("{limited} --out out --tray tray")).is(2, "could not be written");
@@ -95,6 +127,7 @@ fn devices_are_written_to_as_they_are() {
     let folder = Folder::new("devices");
     folder.file("a.pdb", three());
     let answer = folder.station(&["save", "a.pdb", "--aside", "2", "--out", "/dev/stdout", "--tray", "/dev/null"]);
-    answer.is(0, "HEADER");
+    answer.is(0, "/dev/stdout: 6 lines");
+    assert!(answer.out.starts_with("HEADER") && answer.out.len() == 6 * 81, "{answer:?}");
     assert!(fs::metadata("/dev/null").is_ok_and(|metadata| !metadata.is_file()));
 }

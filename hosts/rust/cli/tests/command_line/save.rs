@@ -56,9 +56,11 @@ fn save_replaces_only_when_told() {
     save(&["--out", "old", "--tray", "tray", "--force"]).is(0, "old: 5 lines");
     assert_eq!(folder.names(), ["a.pdb", "old", "tray"]);
     assert!(folder.read("old").starts_with("HEADER"));
-    save(&["--out", "both", "--tray", "./both"]).is(2, "two outputs go to the same file");
+    save(&["--out", "both", "--tray", "./both"]).is(2, "two outputs go to the same place");
+    save(&["--out", "-", "--tray", "-"]).is(2, "two outputs go to the same place");
     save(&["--out", "both"]).is(2, "needs --tray");
     save(&["--out", ".", "--tray", "t"]).is(2, "this is a folder");
+    save(&["--out", "new/", "--tray", "t"]).is(2, "new/: there is no such folder, and --out needs a file");
     save(&["--out", "none/out", "--tray", "t"]).is(2, "could not be written");
     assert_eq!(folder.names(), ["a.pdb", "old", "tray"]);
 }

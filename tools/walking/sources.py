@@ -1,0 +1,66 @@
+"""The structs, the crates that are twins, and their code."""
+import os, re, sys
+
+
+class Struct:
+    def __init__(self, crate, path, past=None):
+        self.crate, self.path = path.split("/") if "/" in path else (crate, path)
+        self.mods, self.name, self.past = self.path.split("::"), self.path.split("::")[-1], past
+        self.As = self.name + "As"
+        self.lib = f"Rattle.{crate}.proofs" if self.crate == crate else f"Rattle.{self.crate}.proofs"
+        self.specs = f"Rattle.{crate}.specs"
+
+
+def source(c):  # the files of a crate, with no comments
+    paths = [os.path.join(d, f) for d, _, fs in os.walk(f"crates/{c}/src") for f in fs]
+    return {os.path.relpath(p, f"crates/{c}"): re.sub(r"//.*", "", open(p).read()) for p in paths}
+
+
+def close(t, i):  # the index past the bracket that matches the one at i
+    d = 0
+    while True:
+        m = re.compile(r"""b"(?:\\.|[^"\\])*"|b'(?:\\.|[^'\\])'""").match(t, i)
+        if m:
+            i = m.end()
+            continue
+        d += (t[i] in "({[") - (t[i] in ")}]")
+        i += 1
+        if d == 0:
+            return i
+
+
+class Sources:
+    def __init__(self, crate, structs):
+        self.crate, self.structs = crate, structs
+        needs = {l.split(":")[0]: l.split(":")[1].split() for l in open("crates.txt") if ":" in l}
+        self.needs = needs[crate]
+        twins = {c for c in self.needs if c in needs and self.lends(c)}  # they too are twins, and so are the crates between
+        while more := {c for c in self.needs if c not in twins and twins & set(needs.get(c, []))}:
+            twins |= more
+        self.files = {c: source(c) for c in twins | {crate}}
+        self.stand_in("".join(t for fs in self.files.values() for t in fs.values()))
+
+    def lends(self, c):  # whether CRATE calls a function of the crate c that takes or gives a struct
+        text, own = "".join(source(c).values()), "".join(source(self.crate).values())
+        heads = re.findall(r"\bfn (\w+)\s*(\([^{]*?)(?=\brequires\b|\bensures\b|\{)", text)
+        return any(re.search(rf"\b{s.name}\b", h) for n, h in heads for s in self.structs if re.search(rf"\b{c}::{n}\b", own))
+
+    def stand_in(self, everything):  # the array that stands for each struct: one of its size that stands for nothing else
+        for s in self.structs:
+            for w in (8, 16, 32, 64):
+                n = s.size * 8 // w
+                if s.size * 8 % w == 0 and (w, n) not in [(t.w, t.n) for t in self.structs if hasattr(t, "w")] and not re.search(rf"\[u{w};\s*{n}\]", everything):
+                    s.w, s.n = w, n
+                    break
+            else:
+                sys.exit(f"no array stands for {s.path}")
+
+    def declared(self):  # of each struct and enum of CRATE and what it depends on: its kind of bracket, what it holds, and its crate
+        found = {}
+        others = [(c, t) for c in self.needs if c not in self.files for t in source(c).values()]
+        for c, t in others + [(c, t) for c, fs in self.files.items() for t in fs.values()]:
+            for m in re.finditer(r"^\s*(?:pub )?struct (\w+)\s*(?:<[^>]*>)?\s*([({])", t, re.M):
+                found[m.group(1)] = (m.group(2), t[m.start(2) + 1:close(t, m.start(2)) - 1], c)
+            for m in re.finditer(r"^\s*(?:pub )?enum (\w+)\s*(\{)", t, re.M):
+                found[m.group(1)] = ("enum", t[m.start(2) + 1:close(t, m.start(2)) - 1], c)
+        return found
