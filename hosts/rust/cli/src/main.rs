@@ -2,8 +2,8 @@
 
 mod arguments;
 mod check;
+mod counts;
 mod draw;
-mod fields;
 mod fragments;
 mod input;
 mod output;

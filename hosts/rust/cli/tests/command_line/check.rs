@@ -22,11 +22,10 @@ fn check_refuses_and_shows_the_line() {
     let answer = folder.station(&["check", "a.pdb"]);
     answer.is(1, "a.pdb: line 2: refused with 6: a field or a blank column is wrong");
     answer.is(1, "|ATOM     32  N  AARG A  -3      11.281  86.699  94.383  1.50 35.88           N  |");
-    answer.is(1, "the occupancy (columns 55-60) is wrong");
     folder.file("b.pdb", arginine().replace("    1    1    0    0", "    1    2    0    3"));
     let answer = folder.station(&["check", "b.pdb"]);
     answer.is(1, "b.pdb: line 4: refused with 11: a count on MASTER is not the true one");
-    answer.is(1, "the count of TER (columns 56-60) is 2, and there are 1\n  the count of SEQRES (columns 66-70) is 3, and there are 0");
+    answer.is(1, "the count of TER is 2, and there are 1\n  the count of SEQRES is 3, and there are 0");
 }
 
 #[test]
