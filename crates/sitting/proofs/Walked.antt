@@ -1,0 +1,14 @@
+pub mod damage
+pub mod feed
+pub mod keep
+pub mod load
+pub mod load_nowhere
+pub mod part
+pub mod put_back
+pub mod save
+pub mod set_aside
+pub mod sit
+pub mod slot_at
+pub mod store
+pub mod tray
+pub mod view

@@ -1,0 +1,12 @@
+-- Made by tools/walk.py.
+use Rattle.sitting.proofs.SlotAs
+use borrow.Fn.Kinds
+use borrow.Kind.MutSlice
+use mathlib.Core.List
+use mathlib.Core.List.{[], _∷_}
+
+abbrev pub ps : List.List (Kinds.PK 1)
+ps = MutSlice.pMutS SlotAs.row 0 tt ∷ []
+
+abbrev pub r : Kinds.RK 1
+r = Kinds.rUnit

@@ -1,0 +1,4 @@
+pub mod load
+pub mod order
+pub mod save
+pub mod tray

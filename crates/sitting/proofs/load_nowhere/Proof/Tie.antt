@@ -1,0 +1,56 @@
+-- Made by tools/walk.py.
+use Rattle.sitting.proofs.load.Met
+use Rattle.sitting.proofs.Walked.load.Reads
+use Rattle.sitting.proofs.load.Symbol
+use Rattle.sitting.proofs.load_nowhere.Code
+use Rattle.sitting.proofs.load_nowhere.Key
+use Rattle.sitting.proofs.Walked.load_nowhere.Kinds
+use Rattle.sitting.proofs.load_nowhere.Proof.Lts
+use Rattle.sitting.proofs.Walked.load_nowhere.Reads as Reads'
+use Rattle.sitting.proofs.load_nowhere.Statement
+use borrow.Fn.Run
+use borrow.Fn.Written
+use contract.Running
+
+abbrev pub Start : Type 0
+Start = Lts.Start (Reads.Asked, Reads.Learnt) Reads'.Pre Reads'.Post
+
+abbrev pub After-shared-slice-known : Type 0
+After-shared-slice-known = Lts.After-shared-slice-known (Reads.Asked, Reads.Learnt) Reads'.Pre Reads'.Post
+
+abbrev pub After-load-arg : Type 0
+After-load-arg = Lts.After-load-arg (Reads.Asked, Reads.Learnt) Reads'.Pre Reads'.Post
+
+abbrev pub After-load : Type 0
+After-load = Lts.After-load (Reads.Asked, Reads.Learnt) Reads'.Pre Reads'.Post
+
+abbrev pub After-table : Type 0
+After-table = Lts.After-table (Reads.Asked, Reads.Learnt) Reads'.Pre Reads'.Post
+
+abbrev pub Need-slice-relend-prefix-load : Type 0
+Need-slice-relend-prefix-load = Lts.Need-slice-relend-prefix-load (Reads.Asked, Reads.Learnt) Reads'.Pre Reads'.Post
+
+abbrev pub Need-slice-aggregate-load : Type 0
+Need-slice-aggregate-load = Lts.Need-slice-aggregate-load (Reads.Asked, Reads.Learnt) Reads'.Pre Reads'.Post
+
+abbrev pub Need-load-requires : Type 0
+Need-load-requires = Lts.Need-load-requires (Reads.Asked, Reads.Learnt) Reads'.Pre Reads'.Post
+
+abbrev pub Need-same-length : Type 0
+Need-same-length = Lts.Need-same-length (Reads.Asked, Reads.Learnt) Reads'.Pre Reads'.Post
+
+abbrev pub Need-returns : Type 0
+Need-returns = Lts.Need-returns (Reads.Asked, Reads.Learnt) Reads'.Pre Reads'.Post
+
+module _ {M : Type 1} where
+  pub spec : (answer : Need-slice-relend-prefix-load) → (answer : Need-slice-aggregate-load) → (answer : Need-load-requires) → (answer : Need-same-length) →
+      (answer : Need-returns) → Lts.Closed (Reads.Asked, Reads.Learnt) Reads'.Pre Reads'.Post M
+  spec = λ answer answer' answer'' answer'3 answer'4. Lts.spec (Reads.Asked, Reads.Learnt) Reads'.Pre Reads'.Post answer answer' answer'' answer'3 answer'4
+
+  pub close : Lts.Closed (Reads.Asked, Reads.Learnt) Reads'.Pre Reads'.Post M → Statement.statement M
+  unfolding Code.routine Running.tablesOf
+  close = λ closed 𝓤 H 𝓜 𝓖 𝓡. Written.close 2 Kinds.ps Kinds.r Reads'.Ghost Reads'.requires Reads'.ensures Reads'.pre-read Reads'.Pinned Reads'.Owned
+      Reads'.post-read record { M = M; 𝓤 = 𝓤; H = H; 𝓜 = 𝓜; 𝓖 = 𝓖; 𝓡 = 𝓡 } Code.env Key.name Code.function (Code.unfolded 𝓤 H 𝓜 𝓡) (λ κs a g. tt) (λ κs.
+      Reads'.owns κs record { M = M; 𝓤 = 𝓤; H = H; 𝓜 = 𝓜; 𝓖 = 𝓖; 𝓡 = 𝓡 }) (Reads'.passes record { M = M; 𝓤 = 𝓤; H = H; 𝓜 = 𝓜; 𝓖 = 𝓖; 𝓡 = 𝓡 }) λ g. closed 𝓤 H
+      (𝓖 .A) (Running.givenOf 𝓤 H 𝓜 𝓖) (Run.Over 𝓤 H 𝓜 𝓖 𝓡 Code.env) (Reads.known record { M = M; 𝓤 = 𝓤; H = H; 𝓜 = 𝓜; 𝓖 = 𝓖; 𝓡 = 𝓡 } Code.env Symbol.name
+      Symbol.routine Code.calls-sitting·load (Met.met 𝓤 H 𝓜 𝓖 𝓡))
