@@ -14,7 +14,7 @@ use lib.Dec.{eqb, lit<}
 use borrow.Author.Tests.{eq-eqb, ne-eqb, eqb-true, lt-ltb}
 use Rattle.ascii.specs.Tests.{same, between, pick, both, isDigit}
 use Rattle.columns.specs.Columns.{firstOf, blankAt, gapOf}
-use Rattle.ascii.proofs.Choice.{picks}
+use Rattle.ascii.proofs.Choice.{picks, both-split}
 use Rattle.numbers.specs.declared.Number.{Number}
 use Rattle.numbers.specs.declared.Scan.{Scan}
 use Rattle.numbers.specs.Number.{none, endsDigit, leadOf, furtherOf, grownOf, numberOf}
@@ -92,12 +92,6 @@ eqb-same : (x y : ℕ) → (x ≡ 0 → y ≡ 0) → (y ≡ 0 → x ≡ 0) → e
 eqb-same zero y f g = sym (eq-eqb y 0 (f refl))
 eqb-same (suc x) y f g = ne-eqb (suc x) 0 (λ (q : suc x ≡ 0). omega arith) ∙ sym (ne-eqb y 0 (λ (q : y ≡ 0). omega (arith, g q)))
 
-both-true : (a b : Bool) → both a b ≡ true → (a ≡ true) × (b ≡ true)
-unfolding both
-both-true true true e = (refl, refl)
-both-true true false e = let z : _≡_ {A = ℕ} 0 1 = cc in absurd (omega arith)
-both-true false b e = let z : _≡_ {A = ℕ} 0 1 = cc in absurd (omega arith)
-
 -- ---- n columns
 record Known (l : List ℕ) (at n : ℕ) (s : Scan) : Type 0 where
   all-blank : s .blank ≡ eqb (gapOf l at n) 0
@@ -131,10 +125,10 @@ value-blank : (b : ℕ) → b < 48 → valueOf b ≡ 0
 value-blank b h = value-none b (low b h)
 
 clear-step : (t m : Bool) (b : ℕ) → (t ≡ true → m ≡ false) → both t (eqb b 32) ≡ true → pick (eqb b 45) true m ≡ false
-clear-step t m b f e = let p : t ≡ true = both-true t (eqb b 32) e .0 in let q : eqb b 32 ≡ true = both-true t (eqb b 32) e .1 in rw (not-both b q) (f p)
+clear-step t m b f e = let p : t ≡ true = both-split t (eqb b 32) e .0 in let q : eqb b 32 ≡ true = both-split t (eqb b 32) e .1 in rw (not-both b q) (f p)
 
 code-step : (t : Bool) (c b : ℕ) (x : Bool) → (t ≡ true → c ≡ 0) → (x ≡ true → valueOf b ≡ 0) → both t x ≡ true → 16 * c + valueOf b ≡ 0
-code-step t c b x f g e = let p : c ≡ 0 = f (both-true t x e .0) in let q : valueOf b ≡ 0 = g (both-true t x e .1) in omega arith
+code-step t c b x f g e = let p : c ≡ 0 = f (both-split t x e .0) in let q : valueOf b ≡ 0 = g (both-split t x e .1) in omega arith
 
 number-step : (l : List ℕ) (at n : ℕ) (s : Scan) → Known l at n s → numberOf l at (suc n) 0 ≡ madeOf (both (isDigit (getD l (at + n) 0)) (pick (s .ends) (both (s .good) (pick (eqb (s .code) 0) false true)) (s .lead))) (pick (eqb (getD l (at + n) 0) 45) true (s .minus)) (decOf (16 * s .code + valueOf (getD l (at + n) 0)) (suc n))
 unfolding numberOf
@@ -258,19 +252,16 @@ decimals l at w (suc k) (suc m) e =
     rw i (taken-step l at (tailOf l (at + w + 1) (pointed l at w) k) (getD l (at + w + 1 + k) 0) m k (numberOf l at (suc m) (suc k)) (decimals l at w k m q))
 
 -- ---- the returns of read_number
-short : (l : List ℕ) (at n e : ℕ) → n < e → none ≡ numberOf l at n e
+pub num-short : (l : List ℕ) (at n e : ℕ) → n < e → none ≡ numberOf l at n e
 unfolding numberOf furtherOf
-short l at zero e h = refl
-short l at (suc n) zero h = absurd (omega arith)
-short l at (suc n) (suc zero) h = absurd (omega arith)
-short l at (suc n) (suc (suc e)) h = let q : n < suc e = omega arith in rw (sym (short l at n (suc e) q)) (go (isDigit (getD l (at + n) 0)))
+num-short l at zero e h = refl
+num-short l at (suc n) zero h = absurd (omega arith)
+num-short l at (suc n) (suc zero) h = absurd (omega arith)
+num-short l at (suc n) (suc (suc e)) h = let q : n < suc e = omega arith in rw (sym (num-short l at n (suc e) q)) (go (isDigit (getD l (at + n) 0)))
   where
     go : (t : Bool) → none ≡ pick t none none
     go true = refl
     go false = refl
-
-pub num-short : (l : List ℕ) (at n e : ℕ) → n < e → none ≡ numberOf l at n e
-num-short l at n e h = short l at n e h
 
 pub num-whole : (l : List ℕ) (at n e : ℕ) (s : Scan) (d : ℕ) (r : Number) → e ≡ 0 → s ≡ scanOf l at (n - e) → d ≡ decOf (s .code) (n - e) → r ≡ madeOf (s .good) (s .minus) d → r ≡ numberOf l at n e
 num-whole l at n e s d r z p q f =
