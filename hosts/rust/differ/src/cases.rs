@@ -4,7 +4,7 @@ use station::raw::{Library, Slot, Tally};
 
 use crate::chance::Chance;
 use crate::damage::{damage_line, damage_lines, damage_table, damage_text, recount, rename};
-use crate::entry::{entry, text, typed_line};
+use crate::entry::{entry, named, text, typed_line, COORDINATES};
 use crate::fence;
 use crate::findings::Findings;
 use crate::harness::Harness;
@@ -49,7 +49,7 @@ fn one(harness: &mut Harness, chance: &mut Chance) {
 /// A text, mostly damaged, in every call that takes one.
 fn a_text(harness: &mut Harness, chance: &mut Chance) {
     let mut lines = entry(chance);
-    let coordinates = lines.iter().filter(|line| [&b"ATOM  "[..], b"HETATM", b"TER   "].contains(&&line[..6])).count();
+    let coordinates = lines.iter().filter(|line| named(&line[..], COORDINATES)).count();
     if !chance.once_in(8) {
         for _ in 0..1 + chance.below(2) {
             damage_lines(chance, &mut lines);

@@ -3,15 +3,19 @@
 use station::raw::Slot;
 
 use crate::chance::Chance;
-use crate::entry::{line, master, put, put_number, Columns};
+use crate::entry::{line, master, named, put, put_number, Columns, COORDINATES, NAMES};
 
-/// Names that a line may be given: known ones, and ones that are nearly so.
-const NAMES: [&str; 44] = [
-    "HEADER", "TITLE ", "COMPND", "SOURCE", "KEYWDS", "EXPDTA", "AUTHOR", "REVDAT", "JRNL  ", "REMARK", "SEQRES",
-    "HET   ", "HELIX ", "SHEET ", "CRYST1", "ORIGX1", "ORIGX2", "ORIGX3", "SCALE1", "SCALE2", "SCALE3", "ATOM  ",
-    "HETATM", "TER   ", "CONECT", "MASTER", "END   ", "ENDMDL", "MODEL ", "ANISOU", "DBREF ", "atom  ", " ATOM ",
-    "TER  x", "ORIGX4", "SCALE0", "ORIGX ", "HETATN", "SITE  ", "      ", "LINK  ", "HET  A", "END  1", "CONEC ",
+/// Names that are nearly known.
+const NEARLY: [&str; 17] = [
+    "ENDMDL", "MODEL ", "ANISOU", "DBREF ", "atom  ", " ATOM ", "TER  x", "ORIGX4", "SCALE0", "ORIGX ", "HETATN",
+    "SITE  ", "      ", "LINK  ", "HET  A", "END  1", "CONEC ",
 ];
+
+/// A name that a line may be given, known or nearly so.
+fn any_name(chance: &mut Chance) -> &'static str {
+    let at = chance.below(NAMES.len() + NEARLY.len());
+    NAMES.get(at).unwrap_or_else(|| &NEARLY[at - NAMES.len()])
+}
 
 /// What sort of text stands in a field.
 #[derive(Clone, Copy, Debug)]
@@ -142,8 +146,7 @@ fn put_nearly(chance: &mut Chance, line: &mut Columns, (from, to, sort): (usize,
 
 /// Gives a line another name, known or not.
 pub fn rename(chance: &mut Chance, line: &mut Columns) {
-    let name = *chance.pick(&NAMES);
-    put(line, 1, name.as_bytes());
+    put(line, 1, any_name(chance).as_bytes());
 }
 
 /// Damages one line. It may come out right all the same.
@@ -175,13 +178,6 @@ pub fn damage_line(chance: &mut Chance, line: &mut Columns) {
         _ => put_nearly(chance, line, field),
     }
 }
-
-/// The indices of the lines with one of these names.
-fn named(lines: &[Columns], names: &[&[u8; 6]]) -> Vec<usize> {
-    (0..lines.len()).filter(|&index| names.iter().any(|name| lines[index][..6] == name[..])).collect()
-}
-
-const COORDINATES: &[&[u8; 6]] = &[b"ATOM  ", b"HETATM", b"TER   "];
 
 /// Damages the order, number or links of the lines of an entry.
 pub fn damage_lines(chance: &mut Chance, lines: &mut Vec<Columns>) {
@@ -249,8 +245,7 @@ fn try_damage(chance: &mut Chance, lines: &mut Vec<Columns>) -> Option<()> {
             put_number(&mut lines[count], from, from + 4, chance.within(0, 3));
         }
         18 => {
-            let name = *chance.pick(&NAMES);
-            lines.insert(at, line(name));
+            lines.insert(at, line(any_name(chance)));
         }
         19 => repeat(lines, at, 1 + chance.below(4)),
         20 => {
@@ -275,7 +270,7 @@ fn try_damage(chance: &mut Chance, lines: &mut Vec<Columns>) -> Option<()> {
 
 /// One of the lines with these names, if there is one.
 fn one_of(chance: &mut Chance, lines: &[Columns], names: &[&[u8; 6]]) -> Option<usize> {
-    let found = named(lines, names);
+    let found: Vec<usize> = (0..lines.len()).filter(|&index| named(&lines[index], names)).collect();
     if found.is_empty() {
         None
     } else {
@@ -298,7 +293,7 @@ fn repeat(lines: &mut Vec<Columns>, from: usize, count: usize) {
 
 /// Counts MASTER again after damage, so that the damage is what decides.
 pub fn recount(lines: &mut [Columns]) {
-    if let Some(&at) = named(lines, &[b"MASTER"]).first() {
+    if let Some(at) = lines.iter().position(|line| named(line, &[b"MASTER"])) {
         lines[at] = master(lines);
     }
 }

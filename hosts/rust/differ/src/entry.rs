@@ -5,6 +5,22 @@ use crate::chance::Chance;
 /// A line of 80 columns.
 pub type Columns = [u8; 80];
 
+/// The names of lines.
+#[rustfmt::skip]
+pub const NAMES: [&str; 27] = [
+    "HEADER", "TITLE ", "COMPND", "SOURCE", "KEYWDS", "EXPDTA", "AUTHOR", "REVDAT", "JRNL  ", "REMARK", "SEQRES", "HET   ",
+    "HELIX ", "SHEET ", "CRYST1", "ORIGX1", "ORIGX2", "ORIGX3", "SCALE1", "SCALE2", "SCALE3", "ATOM  ", "HETATM", "TER   ",
+    "CONECT", "MASTER", "END   ",
+];
+
+/// The names of lines that a table has slots for.
+pub const COORDINATES: &[&[u8; 6]] = &[b"ATOM  ", b"HETATM", b"TER   "];
+
+/// Whether a line has one of these names.
+pub fn named(line: &[u8], names: &[&[u8; 6]]) -> bool {
+    names.iter().any(|name| line.starts_with(*name))
+}
+
 /// Names of the carried kinds before HELIX, by place, HEADER left out.
 const CARRIED: [&str; 11] =
     ["TITLE", "COMPND", "SOURCE", "KEYWDS", "EXPDTA", "AUTHOR", "REVDAT", "JRNL", "REMARK", "SEQRES", "HET"];

@@ -32,12 +32,13 @@ struct Options {
     only: Option<u64>,
 }
 
-fn options() -> Result<Options, String> {
+/// The options that were given, or help, if it is asked for.
+fn options() -> Result<Option<Options>, String> {
     let mut options = Options { cases: 200_000, seed: 1, only: None };
     let mut arguments = std::env::args().skip(1);
     while let Some(name) = arguments.next() {
         if name == "--help" || name == "-h" {
-            return Err(HELP.to_owned());
+            return Ok(None);
         }
         let value = arguments.next().and_then(|value| value.parse().ok());
         let value = value.ok_or_else(|| format!("differ: {name} needs a number\n\n{HELP}"))?;
@@ -48,7 +49,7 @@ fn options() -> Result<Options, String> {
             _ => return Err(format!("differ: {name} is unknown\n\n{HELP}")),
         }
     }
-    Ok(options)
+    Ok(Some(options))
 }
 
 fn print(findings: &Findings) {
@@ -64,7 +65,11 @@ fn print(findings: &Findings) {
 
 fn main() -> ExitCode {
     let options = match options() {
-        Ok(options) => options,
+        Ok(Some(options)) => options,
+        Ok(None) => {
+            print!("{HELP}");
+            return ExitCode::SUCCESS;
+        }
         Err(words) => {
             eprint!("{words}");
             return ExitCode::from(2);

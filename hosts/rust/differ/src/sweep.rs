@@ -3,7 +3,7 @@
 
 use station::raw::{Library, Slot, Tally};
 
-use crate::entry::{line, put, put_number, Columns};
+use crate::entry::{line, put, put_number, Columns, NAMES};
 use crate::findings::Findings;
 use crate::harness::Harness;
 
@@ -21,14 +21,6 @@ const LINES: [&str; 12] = [
     "CONECT 1179  746 1184 1195 1203",
     "MASTER       40    0    1    2    3    0    0    6  768    2   20   18",
     "END",
-];
-
-/// The names that MASTER counts or not.
-#[rustfmt::skip]
-const NAMES: [&str; 27] = [
-    "HEADER", "TITLE ", "COMPND", "SOURCE", "KEYWDS", "EXPDTA", "AUTHOR", "REVDAT", "JRNL  ", "REMARK", "SEQRES", "HET   ",
-    "HELIX ", "SHEET ", "CRYST1", "ORIGX1", "ORIGX2", "ORIGX3", "SCALE1", "SCALE2", "SCALE3", "ATOM  ", "HETATM", "TER   ",
-    "CONECT", "MASTER", "END   ",
 ];
 
 /// Runs the sweep against a library.

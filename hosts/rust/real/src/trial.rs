@@ -4,6 +4,7 @@ use std::collections::BTreeMap;
 use std::fmt::Display;
 
 use differ::chance::Chance;
+use differ::entry::{named, COORDINATES};
 use differ::slots::to_reference;
 use reference::{Mark, Slot};
 use station::{pieces, Entry, FragmentNumber, Line, Refusal, Table};
@@ -16,14 +17,8 @@ const SETS: usize = 3;
 /// How many times an entry is damaged.
 const DAMAGES: usize = 60;
 
-/// Lines that the table holds.
-const COORDINATES: [&[u8; 6]; 3] = [b"ATOM  ", b"HETATM", b"TER   "];
 /// The other lines with typed columns.
 const OTHER_TYPED: [&[u8; 6]; 5] = [b"HELIX ", b"SHEET ", b"CONECT", b"MASTER", b"END   "];
-
-fn named(piece: &[u8], names: &[&[u8; 6]]) -> bool {
-    names.iter().any(|name| piece.starts_with(*name))
-}
 
 /// A line without its newline.
 fn columns(piece: &[u8]) -> &[u8] {
@@ -165,7 +160,7 @@ impl<'e> Trial<'e> {
             let mut out = [0; 80];
             let reference = own_by_number(reference::rewrite_line(line, &mut out)).map(|()| out);
             self.hold(format_args!("line {number} rewritten: sides differ"), library == reference);
-            let typed = named(piece, &COORDINATES) || named(piece, &OTHER_TYPED);
+            let typed = named(piece, COORDINATES) || named(piece, &OTHER_TYPED);
             match library {
                 Ok(rewritten) => self.hold(format_args!("line {number}: rewritten otherwise"), rewritten == line),
                 Err(refused) => {
@@ -267,9 +262,9 @@ impl<'e> Trial<'e> {
                 kept.next_if_eq(&piece).or_else(|| dropped.next_if_eq(&piece))
             };
             seen += usize::from(taken.is_some());
-            coordinates += usize::from(taken.is_some() && named(piece, &COORDINATES));
+            coordinates += usize::from(taken.is_some() && named(piece, COORDINATES));
         }
-        let all = pieces(self.text).filter(|piece| named(piece, &COORDINATES)).count();
+        let all = pieces(self.text).filter(|piece| named(piece, COORDINATES)).count();
         self.hold(format_args!("{coordinates} of {all} coordinate lines are found"), coordinates == all);
         self.hold(format_args!("{seen} lines are found"), seen == pieces(self.text).len());
         self.hold("lines that the entry does not have", kept.next().is_none() && dropped.next().is_none());
@@ -277,7 +272,7 @@ impl<'e> Trial<'e> {
 
     /// The coordinate lines in the tray are those of the fragments, and its other lines are CONECT lines.
     fn in_the_tray(&mut self, table: &Table<'_>, choice: &[u32], tray: &[u8]) {
-        let mut coordinates = pieces(self.text).filter(|piece| named(piece, &COORDINATES));
+        let mut coordinates = pieces(self.text).filter(|piece| named(piece, COORDINATES));
         let mut due = Vec::new();
         for fragment in table.fragments() {
             let lines = coordinates.by_ref().take(fragment.slots.len());
@@ -287,7 +282,7 @@ impl<'e> Trial<'e> {
                 lines.for_each(drop);
             }
         }
-        let (lines, others): (Vec<_>, Vec<_>) = pieces(tray).partition(|piece| named(piece, &COORDINATES));
+        let (lines, others): (Vec<_>, Vec<_>) = pieces(tray).partition(|piece| named(piece, COORDINATES));
         self.hold("other coordinate lines in the tray", lines == due);
         self.hold("the tray has more than CONECT lines", others.iter().all(|piece| piece.starts_with(b"CONECT")));
     }
