@@ -10,7 +10,7 @@ use mir.ValLaws.{toZ-ofZ}
 use Rattle.ascii.specs.Tests.{pick, both}
 use Rattle.fields.specs.Field.{isNeg}
 use Rattle.fields.specs.declared.ResidueNumber.{ResidueNumber}
-use Rattle.rules.specs.Rules.{sameSign}
+use Rattle.rules.specs.Rules.{sameInteger}
 
 abbrev held : ℤ → ℤ
 held z = toZ w32 (ofZ w32 z)
@@ -19,5 +19,5 @@ pub numbers : (a b : ResidueNumber) (m n o e r : Bool) (v w : ℕ)
     → SFits w32 (a .0) → SFits w32 (b .0)
     → m ≡ isNeg (held (a .0)) → n ≡ isNeg (held (b .0)) → v ≡ natAbs (held (a .0)) → w ≡ natAbs (held (b .0))
     → o ≡ not n → e ≡ pick m n o → r ≡ both e (eqb v w)
-    → r ≡ both (sameSign (isNeg (a .0)) (isNeg (b .0))) (eqb (natAbs (a .0)) (natAbs (b .0)))
+    → r ≡ sameInteger (a .0) (b .0)
 numbers a b m n o e r v w f g p1 p2 p3 p4 q1 q2 q3 = rw (q3, q2, q1, p1, p2, p3, p4, toZ-ofZ w32 (a .0) f, toZ-ofZ w32 (b .0) g)

@@ -2,7 +2,7 @@
 use Prim.Native.Nat.{ℕ, _+_}
 use mathlib.Core.Bool.{Bool, true, false, not}
 use lib.Dec.{ltb, leb, eqb}
-use lib.IntN.{pos, natAbs}
+use lib.IntN.{ℤ, pos, natAbs}
 use Rattle.ascii.specs.Tests.{pick, both, either}
 use Rattle.fields.specs.Field.{isNeg}
 use Rattle.names.specs.declared.Three.{Three}
@@ -67,13 +67,16 @@ sameThree a b = both (eqb (a .a) (b .a)) (both (eqb (a .b) (b .b)) (eqb (a .c) (
 abbrev pub sameSign : Bool → Bool → Bool
 sameSign x y = pick x y (not y)
 
+-- equal numbers of either sign
+abbrev pub sameInteger : ℤ → ℤ → Bool
+sameInteger a b = both (sameSign (isNeg a) (isNeg b)) (eqb (natAbs a) (natAbs b))
+
 -- equal residue name, chain, number and insertion code
 unfoldable pub sameResidue : Residue → Residue → Bool
 sameResidue a b =
     both (sameThree (a .name) (b .name))
     (both (eqb (a .chain) (b .chain))
-    (both (both (sameSign (isNeg (a .number .0)) (isNeg (b .number .0))) (eqb (natAbs (a .number .0)) (natAbs (b .number .0))))
-    (eqb (a .insertion) (b .insertion))))
+    (both (sameInteger (a .number .0) (b .number .0)) (eqb (a .insertion) (b .insertion))))
 
 -- a run without a line
 abbrev pub noRun : Run

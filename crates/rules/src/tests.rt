@@ -15,10 +15,8 @@ ghost use mathlib.Core.Path.{_≡_};
 ghost use mathlib.Core.Bool.{not};
 ghost use Prim.Native.Nat.{_+_};
 ghost use lib.Dec.{eqb};
-ghost use lib.IntN.{natAbs};
-ghost use Rattle.ascii.specs.Tests.{both, either};
-ghost use Rattle.fields.specs.Field.{isNeg};
-ghost use Rattle.rules.specs.Rules.{serialBad, sameThree, sameSign, sameResidue, siteBad, closeBad, runBad, bondBad, unfinished as unfinishedOf, strandBad, foldBad, countBad};
+ghost use Rattle.ascii.specs.Tests.{either};
+ghost use Rattle.rules.specs.Rules.{serialBad, sameThree, sameInteger, sameResidue, siteBad, closeBad, runBad, bondBad, unfinished as unfinishedOf, strandBad, foldBad, countBad};
 
 // ---- 7: serials rise strictly over ATOM, HETATM and TER together
 pub fn serial_bad(last: u32, r: Record) -> bool
@@ -40,7 +38,7 @@ pub fn same_three(a: Three, b: Three) -> bool
 }
 
 fn same_number(a: ResidueNumber, b: ResidueNumber) -> bool
-    ensures { λ r. ⌜ r ≡ both (sameSign (isNeg (a .0)) (isNeg (b .0))) (eqb (natAbs (a .0)) (natAbs (b .0))) ⌝ }
+    ensures { λ r. ⌜ r ≡ sameInteger (a .0) (b .0) ⌝ }
 {
     let m = fields::negative(a.0);
     let n = fields::negative(b.0);

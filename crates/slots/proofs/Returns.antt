@@ -32,11 +32,11 @@ use Rattle.line.specs.Lines.{judged, readingOf}
 use Rattle.pieces.specs.declared.Line.{Line}
 use Rattle.pieces.specs.declared.Line.the-variants as line
 use Rattle.pieces.specs.Pieces.{carriedOf, lineIn, columnsOf, lineOf}
-use Rattle.rules.specs.Rules.{sameSign}
+use Rattle.rules.specs.Rules.{sameSign, sameInteger}
 use Rattle.slots.specs.declared.Slot.{Slot}
 use Rattle.slots.specs.declared.Filling.{Filling}
 use Rattle.slots.specs.declared.Filling.the-variants.{Refused}
-use Rattle.slots.specs.Slots.{atomKind, hetatmKind, slotOfAtom, SmallRecord, Small, SmallLine, hasSlot, fillIn, slotLine, sameInteger, samePosition, sameMeasures}
+use Rattle.slots.specs.Slots.{atomKind, hetatmKind, slotOfAtom, SmallRecord, Small, SmallLine, hasSlot, fillIn, slotLine, samePosition, sameMeasures}
 
 -- a number that was held is itself
 abbrev held : ℤ → ℤ

@@ -4,11 +4,10 @@ use mathlib.Core.List.{List}
 use mathlib.Core.Bool.{Bool, true, false}
 use lib.ListN.{length}
 use lib.Dec.{eqb}
-use lib.IntN.{ℤ, pos, natAbs}
+use lib.IntN.{pos}
 use Rattle.ascii.specs.Bytes.{byte}
 use Rattle.ascii.specs.Tests.{pick, both}
 use Rattle.columns.specs.Columns.{cleanAt}
-use Rattle.fields.specs.Field.{isNeg}
 use Rattle.names.specs.declared.Pair.{Pair}
 use Rattle.names.specs.declared.Four.{Four}
 use Rattle.coordinate.specs.declared.Atom.{Atom}
@@ -25,7 +24,7 @@ use Rattle.line.specs.Lines.{readingOf}
 use Rattle.residue.specs.declared.Residue.{Residue}
 use Rattle.pieces.specs.declared.Line.{Line}
 use Rattle.pieces.specs.declared.Line.the-variants as line
-use Rattle.rules.specs.Rules.{sameSign, sameResidue}
+use Rattle.rules.specs.Rules.{sameInteger, sameResidue}
 use Rattle.slots.specs.declared.Slot.{Slot}
 use Rattle.slots.specs.declared.Filling.{Filling}
 use Rattle.slots.specs.declared.Filling.the-variants.{Filled, Refused}
@@ -199,9 +198,6 @@ slotLine l =
     (Refused 1)
 
 -- ---- slots compared, and marked
-abbrev pub sameInteger : ℤ → ℤ → Bool
-sameInteger a b = both (sameSign (isNeg a) (isNeg b)) (eqb (natAbs a) (natAbs b))
-
 unfoldable pub samePair : Pair → Pair → Bool
 samePair a b = both (eqb (a .a) (b .a)) (eqb (a .b) (b .b))
 

@@ -24,8 +24,8 @@ ghost use mathlib.Core.Bool.{not};
 ghost use Prim.Native.Nat.{_≤_};
 ghost use lib.ListN.{length};
 ghost use Rattle.ascii.specs.Tests.{pick};
-ghost use Rattle.rules.specs.Rules.{sameSign};
-ghost use Rattle.slots.specs.Slots.{atomKind, hetatmKind, Small, SmallRecord, slotOfAtom, slotOfTer, fillingOf, hasSlot, fillIn, slotLine, sameInteger, samePair, sameFour, samePosition, sameMeasures, sameNames, sameSlot, withMark, residueOf, noSlot, recordSlot, lineSlot, SmallLine};
+ghost use Rattle.rules.specs.Rules.{sameSign, sameInteger};
+ghost use Rattle.slots.specs.Slots.{atomKind, hetatmKind, Small, SmallRecord, slotOfAtom, slotOfTer, fillingOf, hasSlot, fillIn, slotLine, samePair, sameFour, samePosition, sameMeasures, sameNames, sameSlot, withMark, residueOf, noSlot, recordSlot, lineSlot, SmallLine};
 
 // 44 bytes, no padding. Kind 1 ATOM, 2 HETATM, 3 TER; mark 0 in, 1 aside; any other byte is damage.
 #[repr(C)]

@@ -22,11 +22,11 @@ use Rattle.line.specs.declared.Record.{Record}
 use Rattle.line.specs.declared.Record.the-variants.{Coordinate, Ter, Helix, Sheet, Conect, Master, End}
 use Rattle.pieces.specs.declared.Line.{Line}
 use Rattle.pieces.specs.declared.Line.the-variants.{Bad, Wrong, Carried, Typed}
-use Rattle.rules.specs.Rules.{sameThree, sameSign, sameResidue}
+use Rattle.rules.specs.Rules.{sameThree, sameSign, sameInteger, sameResidue}
 use Rattle.gate.specs.Gate.{checkOf}
 use Rattle.gate.specs.Search.{isCoord}
 use Rattle.slots.specs.declared.Slot.{Slot}
-use Rattle.slots.specs.Slots.{markIn, markAside, noSlot, recordSlot, lineSlot, sameInteger, samePair, sameFour, samePosition, sameMeasures, residueOf, sameNames, sameSlot}
+use Rattle.slots.specs.Slots.{markIn, markAside, noSlot, recordSlot, lineSlot, samePair, sameFour, samePosition, sameMeasures, residueOf, sameNames, sameSlot}
 use Rattle.slots.specs.Fragments.{joins, stepTail, tailOf, markOf}
 use Rattle.table.specs.Table.{over, linesFrom, slotsOf, loadedOf, fits, fitsFrom, mine}
 use Rattle.table.proofs.Ready.{Ready}
