@@ -2,7 +2,7 @@
 -- Assumes nothing.
 use mathlib.Core.Path.{_≡_, refl, sym, ap, _∙_, subst}
 use Prim.Native.Nat.{ℕ, zero, suc, _+_, _-_, _*_, _/_, _%_, _^_, _≤_, _<_}
-use native.Mathlib.Nat.{zero-lt-suc, lt-irrefl, le-of-lt, lt-trans, lt-of-lt-of-le, lt-of-le-of-lt, add-le-add, zero-add, add-mul, mul-sub, mul-one, one-mul, zero-mul, mul-pos, mul-le-mul-right, mul-comm, mul-assoc, mul-left-comm, mul-right-comm, pow-suc, pow-succ', eq-of-mul-eq-mul-right, mul-lt-mul-of-pos-right}
+use native.Mathlib.Nat.{zero-lt-suc, add-right-comm, lt-irrefl, le-of-lt, lt-trans, lt-of-lt-of-le, lt-of-le-of-lt, add-le-add, zero-add, add-mul, mul-sub, mul-one, one-mul, zero-mul, mul-pos, mul-le-mul-right, mul-comm, mul-assoc, mul-left-comm, mul-right-comm, pow-suc, pow-succ', eq-of-mul-eq-mul-right, mul-lt-mul-of-pos-right}
 use native.Mathlib.Omega.{arith}
 use mathlib.Core.Bool.{Bool, true, false, not, _&&_, Bool·beq, cond}
 use lib.IntN.{ℤ, pos, negsuc, natAbs, _+ℤ_}
@@ -124,15 +124,12 @@ minus-shift a b c =
     pick ℤ (leb (b + c) (a + c)) (leb b a) (pos (a + c - (b + c))) (negsuc (b + c - suc (a + c))) (pos (a - b)) (negsuc (b - suc a))
     (leb-shift a b c) (λ h. ap pos (same-gap a b c)) (λ h. ap negsuc (same-gap-suc a b c))
 
-move : (k c t : ℕ) → k + c + t ≡ k + t + c
-move k c t = omega arith
-
 odd-shift : (d : ℕ) (s : Bool) (q k l c : ℕ) → odd d s q (k + c) (l + c) ≡ odd d s q k l
 unfolding odd
 odd-shift d s zero k l c = refl
 odd-shift d s (suc q) k l c =
     let t = trailingZeros d (suc q) in
-    ap (λ (x : ℕ). fin s (suc q / 2 ^ t) (minus x (l + c))) (move k c t) ∙ ap (λ (e : ℤ). fin s (suc q / 2 ^ t) e) (minus-shift (k + t) l c)
+    ap (λ (x : ℕ). fin s (suc q / 2 ^ t) (minus x (l + c))) (add-right-comm k c t) ∙ ap (λ (e : ℤ). fin s (suc q / 2 ^ t) e) (minus-shift (k + t) l c)
 
 up-to : (l : ℕ) → l ≤ 1074 → l + (1074 - l) ≡ 1074
 up-to l h = omega arith
