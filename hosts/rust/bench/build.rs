@@ -15,7 +15,9 @@ fn main() {
     let header = Path::new(&include).join("gemmi/pdb.hpp");
     println!("cargo:rerun-if-changed={}", header.display());
     let folder = env::var("OUT_DIR").unwrap_or_default();
-    if !header.is_file() {
+    // c++ compiles for this machine, which need not be the one that the benchmark is for.
+    let here = env::var_os("TARGET") == env::var_os("HOST");
+    if !here || !header.is_file() {
         return;
     }
     match compile(&include, &folder) {
