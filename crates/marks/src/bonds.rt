@@ -12,27 +12,20 @@ ghost use Rattle.marks.specs.Bonds.{noConect, conectOf, conectIn, isBond
 fn is_bond(r: Record) -> bool
     ensures { λ b. ⌜ b ≡ isBond r ⌝ }
 {
-    match r {
-        Record::Coordinate(_, _) => false,
-        Record::Ter(_) => false,
-        Record::Helix(_) => false,
-        Record::Sheet(_) => false,
-        Record::Conect(_) => true,
-        Record::Master(_) => false,
-        Record::End => false,
+    if let Record::Conect(_) = r {
+        return true;
     }
+    false
 }
 
 // Whether the line is a CONECT line.
 pub fn is_conect(l: Line) -> bool
     ensures { λ b. ⌜ b ≡ isConect l ⌝ }
 {
-    match l {
-        Line::Bad(_) => false,
-        Line::Wrong(_, _) => false,
-        Line::Carried(_) => false,
-        Line::Typed(r) => is_bond(r),
+    if let Line::Typed(r) = l {
+        return is_bond(r);
     }
+    false
 }
 
 fn no_conect() -> Conect
@@ -50,27 +43,20 @@ fn no_conect() -> Conect
 fn conect_of(r: Record) -> Conect
     ensures { λ c. ⌜ c ≡ conectOf r ⌝ }
 {
-    match r {
-        Record::Coordinate(_, _) => no_conect(),
-        Record::Ter(_) => no_conect(),
-        Record::Helix(_) => no_conect(),
-        Record::Sheet(_) => no_conect(),
-        Record::Conect(c) => c,
-        Record::Master(_) => no_conect(),
-        Record::End => no_conect(),
+    if let Record::Conect(c) = r {
+        return c;
     }
+    no_conect()
 }
 
 // The numbers on a CONECT line; zeros on another.
 pub fn conect_in(l: Line) -> Conect
     ensures { λ c. ⌜ c ≡ conectIn l ⌝ }
 {
-    match l {
-        Line::Bad(_) => no_conect(),
-        Line::Wrong(_, _) => no_conect(),
-        Line::Carried(_) => no_conect(),
-        Line::Typed(r) => conect_of(r),
+    if let Line::Typed(r) = l {
+        return conect_of(r);
     }
+    no_conect()
 }
 
 // Whether the slot comes before serial x.

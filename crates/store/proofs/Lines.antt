@@ -1,7 +1,7 @@
 -- The lines of a text one after the other: what is done and what the rest gives make the whole.
 -- Assumes nothing.
 use Prim.Native.Nat.{ℕ, _+_, _*_, _≤_, _<_}
-use mathlib.Core.List.{List, _∷_}
+use mathlib.Core.List.{List}
 use mathlib.Core.Bool.{Bool, true, false}
 use mathlib.Core.Path.{_≡_, refl, sym, _∙_, ap}
 use native.Mathlib.Omega.{arith}
@@ -9,13 +9,12 @@ use lib.ListN.{length, getD}
 use Rattle.ascii.specs.Tests.{pick, both}
 use Rattle.pieces.specs.declared.Line.{Line}
 use Rattle.gate.specs.Text.{row}
-use Rattle.gate.specs.Search.{isCoord}
 use Rattle.slots.specs.declared.Slot.{Slot}
-use Rattle.slots.specs.Slots.{SmallLine, lineSlot, noSlot}
+use Rattle.slots.specs.Slots.{SmallLine, noSlot}
 use Rattle.slots.proofs.Returns.{piece-small}
 use Rattle.table.specs.Table.{linesFrom, slotsOf, fits, fitsFrom, oneOf}
 use Rattle.table.specs.Deal.{stays}
-use Rattle.table.proofs.Rows.{lines-next, lines-done}
+use Rattle.table.proofs.Rows.{lines-next, lines-done, slots-count}
 use Rattle.store.specs.Judged.{keptFrom}
 
 -- an occupancy read from a line is one that a slot can hold
@@ -24,14 +23,6 @@ unfolding row
 row-small t i l e = rw e (piece-small _)
 
 -- ---- counting the slots
-slots-count : (l : Line) (ls : List Line) → length (slotsOf (l ∷ ls)) ≡ oneOf l + length (slotsOf ls)
-unfolding slotsOf
-slots-count l ls = go (isCoord l)
-  where
-    go : (b : Bool) → length (pick b (lineSlot l ∷ slotsOf ls) (slotsOf ls)) ≡ pick b 1 0 + length (slotsOf ls)
-    go true = omega arith
-    go false = omega arith
-
 pub need-step : (t : List ℕ) (i k n : ℕ) (l : Line) → 81 * i < length t → l ≡ row t i → k + length (slotsOf (linesFrom t i)) ≡ n
     → k + oneOf l + length (slotsOf (linesFrom t (i + 1))) ≡ n
 need-step t i k n l h e q =

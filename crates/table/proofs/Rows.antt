@@ -47,26 +47,30 @@ line-row t d (suc i) k h =
     let z : length (linesFrom t k) ≡ suc (length (linesFrom t (k + 1))) = ap length n in
     rw (n, ← e) (line-row t d i (k + 1) (omega arith))
 
+-- a line with a slot gives one slot more
+pub slots-count : (l : Line) (ls : List Line) → length (slotsOf (l ∷ ls)) ≡ oneOf l + length (slotsOf ls)
+unfolding slotsOf
+slots-count l ls = go (isCoord l)
+  where
+    go : (b : Bool) → length (pick b (lineSlot l ∷ slotsOf ls) (slotsOf ls)) ≡ pick b 1 0 + length (slotsOf ls)
+    go true = omega arith
+    go false = omega arith
+
 -- a coordinate line stays unless the slot after those of the lines before it is aside
 pub stays-at : (xs : List Slot) (d : Line) (ls : List Line) (i k : ℕ) → i < length ls → isCoord (getD ls i d) ≡ true
     → getD (staysFrom xs k ls) i true ≡ not (eqb (getD xs (k + length (slotsOf (take i ls))) noSlot .mark) markAside)
 unfolding staysFrom slotsOf stays
 stays-at xs d [] i k h c = absurd (omega arith)
 stays-at xs d (l ∷ ls) zero k h c = let e : k + 0 ≡ k = omega arith in rw (c, e)
-stays-at xs d (l ∷ ls) (suc i) k h c = stays-at xs d ls i (k + oneOf l) (omega arith) c ∙ ap (λ (n : ℕ). not (eqb (getD xs n noSlot .mark) markAside)) (go (isCoord l))
-  where
-    go : (b : Bool) → k + pick b 1 0 + length (slotsOf (take i ls)) ≡ k + length (pick b (lineSlot l ∷ slotsOf (take i ls)) (slotsOf (take i ls)))
-    go true = omega arith
-    go false = omega arith
+stays-at xs d (l ∷ ls) (suc i) k h c =
+    let e : k + oneOf l + length (slotsOf (take i ls)) ≡ k + length (slotsOf (l ∷ take i ls)) = omega (arith, slots-count l (take i ls)) in
+    stays-at xs d ls i (k + oneOf l) (omega arith) c ∙ ap (λ (n : ℕ). not (eqb (getD xs n noSlot .mark) markAside)) e
 
 -- it has a slot of its own
 pub slot-inside : (d : Line) (ls : List Line) (i : ℕ) → i < length ls → isCoord (getD ls i d) ≡ true → length (slotsOf (take i ls)) < length (slotsOf ls)
 unfolding slotsOf
 slot-inside d [] i h c = absurd (omega arith)
 slot-inside d (l ∷ ls) zero h c = rw c (omega arith)
-slot-inside d (l ∷ ls) (suc i) h c = go (isCoord l) (slot-inside d ls i (omega arith) c)
-  where
-    go : (b : Bool) → length (slotsOf (take i ls)) < length (slotsOf ls)
-        → length (pick b (lineSlot l ∷ slotsOf (take i ls)) (slotsOf (take i ls))) < length (pick b (lineSlot l ∷ slotsOf ls) (slotsOf ls))
-    go true u = omega arith
-    go false u = u
+slot-inside d (l ∷ ls) (suc i) h c =
+    let u : length (slotsOf (take i ls)) < length (slotsOf ls) = slot-inside d ls i (omega arith) c in
+    omega (arith, slots-count l (take i ls), slots-count l ls)

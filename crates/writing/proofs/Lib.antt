@@ -1,3 +1,4 @@
+pub mod Others
 pub mod Counting
 pub mod Copies
 pub mod Recounts

@@ -41,26 +41,19 @@ pub fn count_line(stay: bool, q: Counts, l: Line) -> Counts
 fn is_master_record(r: Record) -> bool
     ensures { λ b. ⌜ b ≡ recordMaster r ⌝ }
 {
-    match r {
-        Record::Coordinate(_, _) => false,
-        Record::Ter(_) => false,
-        Record::Helix(_) => false,
-        Record::Sheet(_) => false,
-        Record::Conect(_) => false,
-        Record::Master(_) => true,
-        Record::End => false,
+    if let Record::Master(_) = r {
+        return true;
     }
+    false
 }
 
 fn is_master(l: Line) -> bool
     ensures { λ b. ⌜ b ≡ isMaster l ⌝ }
 {
-    match l {
-        Line::Bad(_) => false,
-        Line::Wrong(_, _) => false,
-        Line::Carried(_) => false,
-        Line::Typed(r) => is_master_record(r),
+    if let Line::Typed(r) = l {
+        return is_master_record(r);
     }
+    false
 }
 
 // Whether the line is one to be written: one that stays is saved, one that goes is laid on the tray.
