@@ -5,7 +5,7 @@ use mathlib.Core.List.{List}
 use mathlib.Core.Bool.{Bool, true, false, false≢true, true≢false}
 use mathlib.Core.Path.{_≡_, refl, sym, _∙_}
 use native.Mathlib.Omega.{arith}
-use native.Mathlib.Nat.{lt-trans, lt-of-lt-of-le, le-of-lt, le-trans, lt-of-le-of-lt}
+use native.Mathlib.Nat.{lt-trans, lt-of-lt-of-le, le-of-lt, le-trans, le-refl, lt-of-le-of-lt}
 use borrow.Author.Count.{below-more}
 use borrow.Author.Tests.{ltb-true, ltb-false, eqb-true, ne-eqb}
 use lib.Dec.{ltb}
@@ -144,6 +144,25 @@ pub step-down : (t : List ℕ) (lo hi x a z m v : ℕ) → Rising t lo hi → Br
 step-down t lo hi x a z m v R B h g e q =
     let w : serialOf (row t m) ≡ readAt t m = coord-serial t m (R .coord m (le-trans (B .lo-a) h) (lt-of-lt-of-le g (B .z-hi))) in
     bracket-down (λ j. serialOf (row t j)) lo hi x a z m (R .rise) B h g (rw (w, ← e) q)
+
+-- the line guessed has the number: the search need not begin
+pub seek-there : (t : List ℕ) (lo hi x m v : ℕ) → Rising t lo hi → lo ≤ m → m < hi → v ≡ readAt t m → v ≡ x → Bracket (λ j. serialOf (row t j)) lo hi x m m
+seek-there t lo hi x m v R h g e q =
+    let w : serialOf (row t m) ≡ x = coord-serial t m (R .coord m h g) ∙ sym e ∙ q in
+    record {
+      lo-a = h;
+      a-z = le-refl m;
+      z-hi = omega arith;
+      below = λ j l k. omega (arith, w, R .rise j m l k g);
+      above = λ j l k. go j l k (ltb m j) refl w;
+    }
+  where
+    go : (j : ℕ) → m ≤ j → j < hi → (b : Bool) → ltb m j ≡ b → serialOf (row t m) ≡ x → x ≤ serialOf (row t j)
+    go j l k true u w = omega (arith, w, R .rise m j h (ltb-true m j u) k)
+    go j l k false u w =
+        let same : m ≡ j = omega (arith, ltb-false m j u) in
+        let y : serialOf (row t j) ≡ x = rw same at w in
+        omega (arith, y)
 
 -- the ends have met
 pub bracket-met : (S : ℕ → ℕ) (lo hi x a z : ℕ) → Bracket S lo hi x a z → z ≤ a → Bracket S lo hi x a a

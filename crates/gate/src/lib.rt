@@ -155,12 +155,41 @@ fn lower(text: &[u8], lo: usize, hi: usize, x: u32) -> usize
     a
 }
 
+// Where x stands if serials rise by 1 from line lo on, as they mostly do.
+fn guess(text: &[u8], lo: usize, hi: usize, x: u32) -> usize
+    requires { ⌜ Rising (now text) lo hi ⌝ }
+    ensures { λ r. ⌜ lo ≤ r ⌝ }
+{
+    if lo < hi {
+        let first = serial_at(text, lo);
+        if first <= x {
+            return lo + (x - first) as usize;
+        }
+    }
+    hi
+}
+
+// The first line from lo to hi whose serial is at least x, or hi: where it is guessed, else by halving.
+fn seek(text: &[u8], lo: usize, hi: usize, x: u32) -> usize
+    requires { ⌜ Rising (now text) lo hi ⌝ }
+    ensures { λ r. ⌜ Bracket (λ j. serialOf (row (now (text .entry)) j)) lo hi x r r ⌝ }
+{
+    let g = guess(text, lo, hi, x);
+    if g < hi {
+        let there = serial_at(text, g);
+        if there == x {
+            return g;
+        }
+    }
+    lower(text, lo, hi, x)
+}
+
 // Whether x is the serial of an ATOM or HETATM line from lo to hi.
 fn find(text: &[u8], lo: usize, hi: usize, x: u32) -> bool
     requires { ⌜ Rising (now text) lo hi ⌝ }
     ensures { λ r. ⌜ Finds (row (now (text .entry))) lo hi x r ⌝ }
 {
-    let m = lower(text, lo, hi, x);
+    let m = seek(text, lo, hi, x);
     if m < hi {
         is_site(x, line_at(text, m))
     } else {
