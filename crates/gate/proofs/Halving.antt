@@ -64,6 +64,24 @@ bracket-down S lo hi x a z m r B h g e =
         let same : m ≡ j = omega (arith, ltb-false m j u) in
         rw same at e
 
+-- of numbers that rise, x is the one with index m
+pub bracket-there : (S : ℕ → ℕ) (lo hi x m : ℕ) → ((j k : ℕ) → lo ≤ j → j < k → k < hi → S j < S k) → lo ≤ m → m < hi → S m ≡ x → Bracket S lo hi x m m
+bracket-there S lo hi x m r h g e =
+    record {
+      lo-a = h;
+      a-z = le-refl m;
+      z-hi = omega arith;
+      below = λ j l k. omega (arith, e, r j m l k g);
+      above = λ j l k. go j l k (ltb m j) refl;
+    }
+  where
+    go : (j : ℕ) → m ≤ j → j < hi → (b : Bool) → ltb m j ≡ b → x ≤ S j
+    go j l k true u = omega (arith, e, r m j h (ltb-true m j u) k)
+    go j l k false u =
+        let same : m ≡ j = omega (arith, ltb-false m j u) in
+        let y : S j ≡ x = rw same at e in
+        omega (arith, y)
+
 -- ---- an ATOM or HETATM line with serial x is a coordinate line with that serial
 atom-serial : (r : Record) (x : ℕ) → isAtom x r ≡ true → spotSerial r ≡ x
 atom-serial (Coordinate het a) x e = eqb-true _ _ e
@@ -147,22 +165,7 @@ step-down t lo hi x a z m v R B h g e q =
 
 -- the line guessed has the number: the search need not begin
 pub seek-there : (t : List ℕ) (lo hi x m v : ℕ) → Rising t lo hi → lo ≤ m → m < hi → v ≡ readAt t m → v ≡ x → Bracket (λ j. serialOf (row t j)) lo hi x m m
-seek-there t lo hi x m v R h g e q =
-    let w : serialOf (row t m) ≡ x = coord-serial t m (R .coord m h g) ∙ sym e ∙ q in
-    record {
-      lo-a = h;
-      a-z = le-refl m;
-      z-hi = omega arith;
-      below = λ j l k. omega (arith, w, R .rise j m l k g);
-      above = λ j l k. go j l k (ltb m j) refl w;
-    }
-  where
-    go : (j : ℕ) → m ≤ j → j < hi → (b : Bool) → ltb m j ≡ b → serialOf (row t m) ≡ x → x ≤ serialOf (row t j)
-    go j l k true u w = omega (arith, w, R .rise m j h (ltb-true m j u) k)
-    go j l k false u w =
-        let same : m ≡ j = omega (arith, ltb-false m j u) in
-        let y : serialOf (row t j) ≡ x = rw same at w in
-        omega (arith, y)
+seek-there t lo hi x m v R h g e q = bracket-there (λ j. serialOf (row t j)) lo hi x m (R .rise) h g (coord-serial t m (R .coord m h g) ∙ sym e ∙ q)
 
 -- the ends have met
 pub bracket-met : (S : ℕ → ℕ) (lo hi x a z : ℕ) → Bracket S lo hi x a z → z ≤ a → Bracket S lo hi x a a

@@ -5,7 +5,8 @@ use line::Record;
 use pieces::Line;
 use slots::Slot;
 ghost use mathlib.Core.Path.{_≡_};
-ghost use lib.Dec.{ltb};
+ghost use lib.Dec.{ltb, eqb};
+ghost use Prim.Native.Nat.{_-_};
 ghost use Rattle.table.specs.Deal.{isAside};
 ghost use Rattle.marks.specs.Bonds.{noConect, conectOf, conectIn, isBond, isConect};
 
@@ -57,6 +58,25 @@ pub fn conect_in(l: Line) -> Conect
         return conect_of(r);
     }
     no_conect()
+}
+
+// Whether the slot has serial x.
+pub fn is_at(s: Slot, x: u32) -> bool
+    ensures { λ r. ⌜ r ≡ eqb (s .serial .0) x ⌝ }
+{
+    let n = s.serial;
+    n.0 == x
+}
+
+// How far behind the slot serial x stands if serials rise by 1, as they mostly do.
+pub fn guess(s: Slot, x: u32) -> usize
+    ensures { λ r. ⌜ r ≡ x - s .serial .0 ⌝ }
+{
+    let n = s.serial;
+    if n.0 <= x {
+        return (x - n.0) as usize;
+    }
+    0
 }
 
 // Whether the slot comes before serial x.

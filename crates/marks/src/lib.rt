@@ -3,7 +3,9 @@ mod bonds;
 mod counting;
 
 pub use bonds::conect_in;
+pub use bonds::guess;
 pub use bonds::is_aside;
+pub use bonds::is_at;
 pub use bonds::is_below;
 pub use bonds::is_conect;
 pub use counting::no_counts;

@@ -6,13 +6,15 @@ use mathlib.Core.Bool.{Bool, true, false, not, false≢true}
 use mathlib.Core.Path.{_≡_, refl, sym, _∙_}
 use native.Mathlib.Omega.{arith}
 use native.Mathlib.Nat.{not-suc-le-zero, le-of-suc-le-suc}
-use borrow.Author.Tests.{ltb-true, ltb-false, ne-eqb}
+use borrow.Author.Tests.{ltb-true, ltb-false, eqb-true, ne-eqb}
 use lib.Dec.{eqb, ltb}
 use lib.ListN.{getD, take}
 use Rattle.ascii.specs.Tests.{both, either}
+use Rattle.ascii.proofs.Choice.{both-split}
 use Rattle.conect.specs.declared.Conect.{Conect as ConectOf}
 use Rattle.pieces.specs.declared.Line.{Line}
 use Rattle.gate.specs.Search.{isCoord, Bracket}
+use Rattle.gate.proofs.Halving.{bracket-there}
 use Rattle.slots.specs.declared.Slot.{Slot}
 use Rattle.slots.specs.Slots.{noSlot, markAside}
 use Rattle.slots.specs.Fragments.{isTer}
@@ -27,6 +29,14 @@ serial-below xs m x s b e f t = rw e at (ltb-true (s .serial .0) x (sym f ∙ t)
 
 pub serial-reached : (xs : List Slot) (m x : ℕ) (s : Slot) (b : Bool) → s ≡ getD xs m noSlot → b ≡ ltb (s .serial .0) x → b ≡ false → x ≤ serialAt xs m
 serial-reached xs m x s b e f t = rw e at (ltb-false (s .serial .0) x (sym f ∙ t))
+
+-- the slot guessed has the serial: the halving need not begin
+pub serial-there : (xs : List Slot) (hi x g : ℕ) (s : Slot) (e b : Bool) → s ≡ getD xs g noSlot → e ≡ eqb (s .serial .0) x → b ≡ both (ltb g hi) e → b ≡ true
+    → Rises xs hi → Bracket (serialAt xs) 0 hi x g g
+serial-there xs hi x g s e b es ee eb t rise =
+    let h = both-split (ltb g hi) e (sym eb ∙ t) in
+    let q : serialAt xs g ≡ x = rw es at (eqb-true (s .serial .0) x (sym ee ∙ h .1)) in
+    bracket-there (serialAt xs) 0 hi x g rise (omega arith) (ltb-true g hi (h .0)) q
 
 -- ---- an atom set aside among the first k slots
 both-no : (a : Bool) → both a false ≡ false

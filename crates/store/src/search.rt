@@ -1,4 +1,4 @@
-// Looking for the atoms that a CONECT line names, in a lent table, by halving.
+// Looking for the atoms that a CONECT line names, in a lent table: where serials say, else by halving.
 use conect::Conect;
 use pieces::Line;
 use slots::Slot;
@@ -38,11 +38,25 @@ pub fn lower(table: &[Slot], hi: usize, x: u32) -> usize
     a
 }
 
+// The same slot: where it is guessed, else by halving.
+pub fn seek(table: &[Slot], hi: usize, x: u32) -> usize
+    ensures { λ r. ⌜ (Rises (now (table .entry)) hi → Bracket (serialAt (now (table .entry))) 0 hi x r r) ⌝ }
+{
+    let f = slot_at(table, 0);
+    let g = marks::guess(f, x);
+    let s = slot_at(table, g);
+    let e = marks::is_at(s, x);
+    if ascii::both_of(g < hi, e) {
+        return g;
+    }
+    lower(table, hi, x)
+}
+
 // Whether x is the serial of an atom set aside, among the first k slots.
 pub fn aside_in(table: &[Slot], k: usize, x: u32) -> bool
     ensures { λ r. ⌜ (Rises (now (table .entry)) k → r ≡ aside (take k (now (table .entry))) x) ⌝ }
 {
-    let m = lower(table, k, x);
+    let m = seek(table, k, x);
     let s = slot_at(table, m);
     let e = marks::is_aside(x, s);
     ascii::both_of(m < k, e)

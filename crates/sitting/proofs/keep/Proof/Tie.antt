@@ -83,8 +83,12 @@ Need-returns = Lts.Need-returns (Reads'.Asked, Reads'.Learnt, Reads''.Asked, Rea
 
 module _ {M : Type 1} where
   pub spec : (answer : Need-slice-relend-prefix-save) → (answer : Need-slice-aggregate-save) → (answer : Need-save-requires) → (answer : Need-save-requires-2)
-      → (answer : Need-tray-requires) → (answer : Need-same-length) → (answer : Need-returns) → Lts.Closed (Reads'.Asked, Reads'.Learnt, Reads''.Asked,
-      Reads''.Learnt) Reads.Pre Reads.Post M
+      → (answer : Need-tray-requires) → (answer : Need-same-length) → (answer : Need-returns) → Lts.Closed (
+        Reads'.Asked,
+        Reads'.Learnt,
+        Reads''.Asked,
+        Reads''.Learnt,
+      ) Reads.Pre Reads.Post M
   spec = λ answer answer' answer'' answer'3 answer'4 answer'5 answer'6. Lts.spec (Reads'.Asked, Reads'.Learnt, Reads''.Asked, Reads''.Learnt) Reads.Pre
       Reads.Post answer answer' answer'' answer'3 answer'4 answer'5 answer'6
 
@@ -92,7 +96,13 @@ module _ {M : Type 1} where
   unfolding Code.routine Running.tablesOf
   close = λ closed 𝓤 H 𝓜 𝓖 𝓡. Written.close 3 Kinds.ps Kinds.r Reads.Ghost Reads.requires Reads.ensures Reads.pre-read Reads.Pinned Reads.Owned Reads.post-read
       record { M = M; 𝓤 = 𝓤; H = H; 𝓜 = 𝓜; 𝓖 = 𝓖; 𝓡 = 𝓡 } Code.env Key.name Code.function (Code.unfolded 𝓤 H 𝓜 𝓡) (λ κs a g. tt) (λ κs. Reads.owns κs record {
-      M = M; 𝓤 = 𝓤; H = H; 𝓜 = 𝓜; 𝓖 = 𝓖; 𝓡 = 𝓡 }) (Reads.passes record { M = M; 𝓤 = 𝓤; H = H; 𝓜 = 𝓜; 𝓖 = 𝓖; 𝓡 = 𝓡 }) λ g. closed 𝓤 H (𝓖 .A) (Running.givenOf 𝓤
+        M = M;
+        𝓤 = 𝓤;
+        H = H;
+        𝓜 = 𝓜;
+        𝓖 = 𝓖;
+        𝓡 = 𝓡;
+      }) (Reads.passes record { M = M; 𝓤 = 𝓤; H = H; 𝓜 = 𝓜; 𝓖 = 𝓖; 𝓡 = 𝓡 }) λ g. closed 𝓤 H (𝓖 .A) (Running.givenOf 𝓤
       H 𝓜 𝓖) (Run.Over 𝓤 H 𝓜 𝓖 𝓡 Code.env) (Reads'.known record { M = M; 𝓤 = 𝓤; H = H; 𝓜 = 𝓜; 𝓖 = 𝓖; 𝓡 = 𝓡 } Code.env Symbol.name Symbol.routine
       Code.calls-sitting·save (Met.met 𝓤 H 𝓜 𝓖 𝓡)) (Reads''.known record { M = M; 𝓤 = 𝓤; H = H; 𝓜 = 𝓜; 𝓖 = 𝓖; 𝓡 = 𝓡 } Code.env Symbol'.name Symbol'.routine
       Code.calls-sitting·tray (Met'.met 𝓤 H 𝓜 𝓖 𝓡))

@@ -65,17 +65,35 @@ Need-returns = Lts.Need-returns (Reads'3.Asked, Reads'3.Learnt, Reads''.Asked, R
 
 module _ {M : Type 1} where
   pub spec : (answer : Need-load-requires) → (answer : Need-slice-aggregate-say) → (answer : Need-say-requires) → (answer : Need-print-outcome-requires) →
-      (answer : Need-same-length) → (answer : Need-returns) → Lts.Closed (Reads'3.Asked, Reads'3.Learnt, Reads''.Asked, Reads''.Learnt, Reads'.Asked,
-      Reads'.Learnt) Reads.Pre Reads.Post M
-  spec = λ answer answer' answer'' answer'3 answer'4 answer'5. Lts.spec (Reads'3.Asked, Reads'3.Learnt, Reads''.Asked, Reads''.Learnt, Reads'.Asked,
-      Reads'.Learnt) Reads.Pre Reads.Post answer answer' answer'' answer'3 answer'4 answer'5
+      (answer : Need-same-length) → (answer : Need-returns) → Lts.Closed (
+        Reads'3.Asked,
+        Reads'3.Learnt,
+        Reads''.Asked,
+        Reads''.Learnt,
+        Reads'.Asked,
+        Reads'.Learnt,
+      ) Reads.Pre Reads.Post M
+  spec = λ answer answer' answer'' answer'3 answer'4 answer'5. Lts.spec (
+    Reads'3.Asked,
+    Reads'3.Learnt,
+    Reads''.Asked,
+    Reads''.Learnt,
+    Reads'.Asked,
+    Reads'.Learnt,
+  ) Reads.Pre Reads.Post answer answer' answer'' answer'3 answer'4 answer'5
 
   pub close : Lts.Closed (Reads'3.Asked, Reads'3.Learnt, Reads''.Asked, Reads''.Learnt, Reads'.Asked, Reads'.Learnt) Reads.Pre Reads.Post M →
       Statement.statement M
   unfolding Code.routine Running.tablesOf
   close = λ closed 𝓤 H 𝓜 𝓖 𝓡. Written.close 2 Kinds.ps Kinds.r Reads.Ghost Reads.requires Reads.ensures Reads.pre-read Reads.Pinned Reads.Owned Reads.post-read
       record { M = M; 𝓤 = 𝓤; H = H; 𝓜 = 𝓜; 𝓖 = 𝓖; 𝓡 = 𝓡 } Code.env Key.name Code.function (Code.unfolded 𝓤 H 𝓜 𝓡) (λ κs a g. tt) (λ κs. Reads.owns κs record {
-      M = M; 𝓤 = 𝓤; H = H; 𝓜 = 𝓜; 𝓖 = 𝓖; 𝓡 = 𝓡 }) (Reads.passes record { M = M; 𝓤 = 𝓤; H = H; 𝓜 = 𝓜; 𝓖 = 𝓖; 𝓡 = 𝓡 }) λ g. closed 𝓤 H (𝓖 .A) (Running.givenOf 𝓤
+        M = M;
+        𝓤 = 𝓤;
+        H = H;
+        𝓜 = 𝓜;
+        𝓖 = 𝓖;
+        𝓡 = 𝓡;
+      }) (Reads.passes record { M = M; 𝓤 = 𝓤; H = H; 𝓜 = 𝓜; 𝓖 = 𝓖; 𝓡 = 𝓡 }) λ g. closed 𝓤 H (𝓖 .A) (Running.givenOf 𝓤
       H 𝓜 𝓖) (Run.Over 𝓤 H 𝓜 𝓖 𝓡 Code.env) (Reads'3.known record { M = M; 𝓤 = 𝓤; H = H; 𝓜 = 𝓜; 𝓖 = 𝓖; 𝓡 = 𝓡 } Code.env Symbol''.name Symbol''.routine
       Code.calls-store·load (Met''.met 𝓤 H 𝓜 𝓖 𝓡)) (Reads''.known record { M = M; 𝓤 = 𝓤; H = H; 𝓜 = 𝓜; 𝓖 = 𝓖; 𝓡 = 𝓡 } Code.env Symbol'.name Symbol'.routine
       Code.calls-sitting·say (Met'.met 𝓤 H 𝓜 𝓖 𝓡)) (Reads'.known record { M = M; 𝓤 = 𝓤; H = H; 𝓜 = 𝓜; 𝓖 = 𝓖; 𝓡 = 𝓡 } Code.env Symbol.name Symbol.routine

@@ -94,40 +94,81 @@ abbrev pub Claims : Type 1
 Claims = Kinds.In 2 ps·0 × Kinds.Out 2 ps·0 r·0
 
 abbrev pub t0 : List.List Row.Entry
-t0 = (0, Rows.any-gone Syntax.tyUnit) ∷ (1, Rows.sslice (Referent.rtF (Referent.fInt Syntax.w8)) (Syntax.tyRef (Syntax.named 0) Syntax.imm (Syntax.tyInt
-    Syntax.w8)) 0) ∷ (2, Mut.mslice SlotAs.row (Syntax.tyRef (Syntax.named 1) Syntax.mut SlotAs.pointee) 1) ∷ (3, Rows.any-gone Syntax.tyUnit) ∷ (4,
-    Rows.any-gone (Syntax.tyRef Syntax.erased Syntax.mut SlotAs.pointee)) ∷ (5, Rows.any-gone (Syntax.tyStruct (38 ∷ 91 ∷ 93 ∷ []) (Syntax.tcons (Syntax.tyRef
-    Syntax.erased Syntax.mut SlotAs.pointee) (Syntax.tcons (Syntax.tyInt Syntax.w64) Syntax.tnil)))) ∷ []
+t0 = (0, Rows.any-gone Syntax.tyUnit) ∷ (
+  1,
+  Rows.sslice (Referent.rtF (Referent.fInt Syntax.w8)) (Syntax.tyRef (Syntax.named 0) Syntax.imm (Syntax.tyInt
+      Syntax.w8)) 0,
+) ∷ (2, Mut.mslice SlotAs.row (Syntax.tyRef (Syntax.named 1) Syntax.mut SlotAs.pointee) 1) ∷ (3, Rows.any-gone Syntax.tyUnit) ∷ (
+  4,
+  Rows.any-gone (Syntax.tyRef Syntax.erased Syntax.mut SlotAs.pointee),
+) ∷ (
+  5,
+  Rows.any-gone (Syntax.tyStruct (38 ∷ 91 ∷ 93 ∷ []) (Syntax.tcons (Syntax.tyRef
+      Syntax.erased Syntax.mut SlotAs.pointee) (Syntax.tcons (Syntax.tyInt Syntax.w64) Syntax.tnil))),
+) ∷ []
 
 abbrev pub t1 : List.List Row.Entry
-t1 = (0, Rows.sc-here Row.sUnit) ∷ (1, Rows.sslice (Referent.rtF (Referent.fInt Syntax.w8)) (Syntax.tyRef (Syntax.named 0) Syntax.imm (Syntax.tyInt Syntax.w8))
-    0) ∷ (2, Mut.mslice SlotAs.row (Syntax.tyRef (Syntax.named 1) Syntax.mut SlotAs.pointee) 1) ∷ (3, Rows.any-gone Syntax.tyUnit) ∷ (4, Rows.any-gone
-    (Syntax.tyRef Syntax.erased Syntax.mut SlotAs.pointee)) ∷ (5, Rows.any-gone (Syntax.tyStruct (38 ∷ 91 ∷ 93 ∷ []) (Syntax.tcons (Syntax.tyRef Syntax.erased
-    Syntax.mut SlotAs.pointee) (Syntax.tcons (Syntax.tyInt Syntax.w64) Syntax.tnil)))) ∷ []
+t1 = (0, Rows.sc-here Row.sUnit) ∷ (
+  1,
+  Rows.sslice (Referent.rtF (Referent.fInt Syntax.w8)) (Syntax.tyRef (Syntax.named 0) Syntax.imm (Syntax.tyInt Syntax.w8))
+      0,
+) ∷ (2, Mut.mslice SlotAs.row (Syntax.tyRef (Syntax.named 1) Syntax.mut SlotAs.pointee) 1) ∷ (3, Rows.any-gone Syntax.tyUnit) ∷ (
+  4,
+  Rows.any-gone
+      (Syntax.tyRef Syntax.erased Syntax.mut SlotAs.pointee),
+) ∷ (
+  5,
+  Rows.any-gone (Syntax.tyStruct (38 ∷ 91 ∷ 93 ∷ []) (Syntax.tcons (Syntax.tyRef Syntax.erased
+      Syntax.mut SlotAs.pointee) (Syntax.tcons (Syntax.tyInt Syntax.w64) Syntax.tnil))),
+) ∷ []
 
 abbrev pub t2 : List.List Row.Entry
-t2 = (0, Rows.any-gone Syntax.tyUnit) ∷ (1, Rows.sslice (Referent.rtF (Referent.fInt Syntax.w8)) (Syntax.tyRef (Syntax.named 0) Syntax.imm (Syntax.tyInt
-    Syntax.w8)) 0) ∷ (2, Part.mslice-owedP SlotAs.row (Syntax.tyRef (Syntax.named 1) Syntax.mut SlotAs.pointee) 1 2 Row.off) ∷ (3, Rows.any-gone Syntax.tyUnit)
-    ∷ (4, Relend.msptr SlotAs.row (Syntax.tyRef Syntax.erased Syntax.mut SlotAs.pointee) 2) ∷ (5, Rows.any-gone (Syntax.tyStruct (38 ∷ 91 ∷ 93 ∷ [])
-    (Syntax.tcons (Syntax.tyRef Syntax.erased Syntax.mut SlotAs.pointee) (Syntax.tcons (Syntax.tyInt Syntax.w64) Syntax.tnil)))) ∷ []
+t2 = (0, Rows.any-gone Syntax.tyUnit) ∷ (
+  1,
+  Rows.sslice (Referent.rtF (Referent.fInt Syntax.w8)) (Syntax.tyRef (Syntax.named 0) Syntax.imm (Syntax.tyInt
+      Syntax.w8)) 0,
+) ∷ (2, Part.mslice-owedP SlotAs.row (Syntax.tyRef (Syntax.named 1) Syntax.mut SlotAs.pointee) 1 2 Row.off) ∷ (3, Rows.any-gone Syntax.tyUnit)
+    ∷ (4, Relend.msptr SlotAs.row (Syntax.tyRef Syntax.erased Syntax.mut SlotAs.pointee) 2) ∷ (
+      5,
+      Rows.any-gone (Syntax.tyStruct (38 ∷ 91 ∷ 93 ∷ [])
+          (Syntax.tcons (Syntax.tyRef Syntax.erased Syntax.mut SlotAs.pointee) (Syntax.tcons (Syntax.tyInt Syntax.w64) Syntax.tnil))),
+    ) ∷ []
 
 abbrev pub t3 : List.List Row.Entry
-t3 = (0, Rows.any-gone Syntax.tyUnit) ∷ (1, Rows.sslice (Referent.rtF (Referent.fInt Syntax.w8)) (Syntax.tyRef (Syntax.named 0) Syntax.imm (Syntax.tyInt
-    Syntax.w8)) 0) ∷ (2, Part.mslice-owedP SlotAs.row (Syntax.tyRef (Syntax.named 1) Syntax.mut SlotAs.pointee) 1 2 Row.off) ∷ (3, Rows.any-gone Syntax.tyUnit)
-    ∷ (4, Rows.any-gone (Syntax.tyRef Syntax.erased Syntax.mut SlotAs.pointee)) ∷ (5, Mut.mslice SlotAs.row (Syntax.tyRef Syntax.erased Syntax.mut
-    SlotAs.pointee) 2) ∷ []
+t3 = (0, Rows.any-gone Syntax.tyUnit) ∷ (
+  1,
+  Rows.sslice (Referent.rtF (Referent.fInt Syntax.w8)) (Syntax.tyRef (Syntax.named 0) Syntax.imm (Syntax.tyInt
+      Syntax.w8)) 0,
+) ∷ (2, Part.mslice-owedP SlotAs.row (Syntax.tyRef (Syntax.named 1) Syntax.mut SlotAs.pointee) 1 2 Row.off) ∷ (3, Rows.any-gone Syntax.tyUnit)
+    ∷ (4, Rows.any-gone (Syntax.tyRef Syntax.erased Syntax.mut SlotAs.pointee)) ∷ (
+      5,
+      Mut.mslice SlotAs.row (Syntax.tyRef Syntax.erased Syntax.mut
+          SlotAs.pointee) 2,
+    ) ∷ []
 
 abbrev pub t4 : List.List Row.Entry
-t4 = (0, Rows.any-gone Syntax.tyUnit) ∷ (1, Rows.sslice (Referent.rtF (Referent.fInt Syntax.w8)) (Syntax.tyRef (Syntax.named 0) Syntax.imm (Syntax.tyInt
-    Syntax.w8)) 0) ∷ (2, Part.mslice-owedP SlotAs.row (Syntax.tyRef (Syntax.named 1) Syntax.mut SlotAs.pointee) 1 2 Row.off) ∷ (3, Rows.sc-here Row.sUnit) ∷
-    (4, Rows.any-gone (Syntax.tyRef Syntax.erased Syntax.mut SlotAs.pointee)) ∷ (5, Mut.msleft SlotAs.row (Syntax.tyRef Syntax.erased Syntax.mut
-    SlotAs.pointee)) ∷ []
+t4 = (0, Rows.any-gone Syntax.tyUnit) ∷ (
+  1,
+  Rows.sslice (Referent.rtF (Referent.fInt Syntax.w8)) (Syntax.tyRef (Syntax.named 0) Syntax.imm (Syntax.tyInt
+      Syntax.w8)) 0,
+) ∷ (2, Part.mslice-owedP SlotAs.row (Syntax.tyRef (Syntax.named 1) Syntax.mut SlotAs.pointee) 1 2 Row.off) ∷ (3, Rows.sc-here Row.sUnit) ∷
+    (4, Rows.any-gone (Syntax.tyRef Syntax.erased Syntax.mut SlotAs.pointee)) ∷ (
+      5,
+      Mut.msleft SlotAs.row (Syntax.tyRef Syntax.erased Syntax.mut
+          SlotAs.pointee),
+    ) ∷ []
 
 abbrev pub t5 : List.List Row.Entry
-t5 = (0, Rows.any-gone Syntax.tyUnit) ∷ (1, Rows.sslice (Referent.rtF (Referent.fInt Syntax.w8)) (Syntax.tyRef (Syntax.named 0) Syntax.imm (Syntax.tyInt
-    Syntax.w8)) 0) ∷ (2, Part.mslice-owedP SlotAs.row (Syntax.tyRef (Syntax.named 1) Syntax.mut SlotAs.pointee) 1 2 Row.off) ∷ (3, Rows.any-gone Syntax.tyUnit)
-    ∷ (4, Rows.any-gone (Syntax.tyRef Syntax.erased Syntax.mut SlotAs.pointee)) ∷ (5, Mut.msleft SlotAs.row (Syntax.tyRef Syntax.erased Syntax.mut
-    SlotAs.pointee)) ∷ []
+t5 = (0, Rows.any-gone Syntax.tyUnit) ∷ (
+  1,
+  Rows.sslice (Referent.rtF (Referent.fInt Syntax.w8)) (Syntax.tyRef (Syntax.named 0) Syntax.imm (Syntax.tyInt
+      Syntax.w8)) 0,
+) ∷ (2, Part.mslice-owedP SlotAs.row (Syntax.tyRef (Syntax.named 1) Syntax.mut SlotAs.pointee) 1 2 Row.off) ∷ (3, Rows.any-gone Syntax.tyUnit)
+    ∷ (4, Rows.any-gone (Syntax.tyRef Syntax.erased Syntax.mut SlotAs.pointee)) ∷ (
+      5,
+      Mut.msleft SlotAs.row (Syntax.tyRef Syntax.erased Syntax.mut
+          SlotAs.pointee),
+    ) ∷ []
 
 abbrev pub T0 : Row.Cx
 T0 = record { locals = t0; slots = [] }
@@ -172,8 +213,15 @@ module _ (claims· : Claims) where
       Syntax.mut SlotAs.pointee) (λ x. x) (Scalar.oInt Syntax.w64 0)
 
   abbrev s4 : Typed.Both T5 T6
-  s4 = Call.callB ps·0 r·0 (claims· .0) (claims· .1) T5 (record { pos = 1; ty = Syntax.tyRef (Syntax.named 0) Syntax.imm (Syntax.tyInt Syntax.w8); ref = λ x.
-      x; }, (record { pos = 5; ty = Syntax.tyRef Syntax.erased Syntax.mut SlotAs.pointee; ref = λ x. x; }, tt)) 3 (0 ∷ 2 ∷ []) Syntax.tyUnit
+  s4 = Call.callB ps·0 r·0 (claims· .0) (claims· .1) T5 (
+    record {
+      pos = 1;
+      ty = Syntax.tyRef (Syntax.named 0) Syntax.imm (Syntax.tyInt Syntax.w8);
+      ref = λ x.
+          x;
+    },
+    (record { pos = 5; ty = Syntax.tyRef Syntax.erased Syntax.mut SlotAs.pointee; ref = λ x. x }, tt),
+  ) 3 (0 ∷ 2 ∷ []) Syntax.tyUnit
 
   abbrev s5 : Typed.Mo T6 → Typed.Mo T7
   s5 = Scalar.n-room T6 3 Syntax.tyUnit
@@ -186,306 +234,440 @@ module _ (claims· : Claims) where
   s9 = Scalar.n-use T9 Scalar.oUnit 0 (Rows.sc-here Row.sUnit) (Row.sUnit .of)
 
   module _ (Pre· : (κs : Lifetimes.Lfts 2) → Kinds.Dens κs ps → Type 0) (Post· : (κs : Lifetimes.Lfts 2) → (a : Kinds.Dens κs ps) → Kinds.Plain 2 ps r κs)
-      where
-    module _ (M : Type 1) where
-      abbrev pub Closed : Type 2
-      Closed = (𝓤 : URA.URA M) (H : Wp.Heap 𝓤) (A : Atoms.Atoms 𝓤) (W : Kit.Given 𝓤 H A) (𝓣 : Wp.Tables 𝓤 H) (known0 : Plain.Known 𝓤 H A W 𝓣 2 ps·0 r·0
-          (claims· .0) (claims· .1) "sitting::load") → Statement.Triple 𝓤 (Wp.WpFn 𝓤 H (𝓣 .C) (𝓣 .Λ) (Function.fnOf 2 ps r xs m hs body)) (Function.plainOf 𝓤 H
-          A 2 ps r Pre· Post·)
+    where
+      module _ (M : Type 1) where
+        abbrev pub Closed : Type 2
+        Closed = (𝓤 : URA.URA M) (H : Wp.Heap 𝓤) (A : Atoms.Atoms 𝓤) (W : Kit.Given 𝓤 H A) (𝓣 : Wp.Tables 𝓤 H) (known0 : Plain.Known 𝓤 H A W 𝓣 2 ps·0 r·0
+            (claims· .0) (claims· .1) "sitting::load") → Statement.Triple 𝓤 (Wp.WpFn 𝓤 H (𝓣 .C) (𝓣 .Λ) (Function.fnOf 2 ps r xs m hs body)) (Function.plainOf 𝓤 H
+            A 2 ps r Pre· Post·)
 
-    module _ where
-      abbrev at0 : Typed.TF T11 O0
-      at0 = Typed.atRet O0
+      module _ where
+        abbrev at0 : Typed.TF T11 O0
+        at0 = Typed.atRet O0
 
-      abbrev at1 : Typed.TF T9 O0
-      at1 = λ Ψ. Typed.pass T9 T11 s9 (at0 Ψ)
+        abbrev at1 : Typed.TF T9 O0
+        at1 = λ Ψ. Typed.pass T9 T11 s9 (at0 Ψ)
 
-      abbrev at2 : Typed.TF T9 O0
-      at2 = λ Ψ. at1 Ψ
+        abbrev at2 : Typed.TF T9 O0
+        at2 = λ Ψ. at1 Ψ
 
-      abbrev at3 : Typed.TF T7 O0
-      at3 = λ Ψ. Typed.both s7 (at2 Ψ)
+        abbrev at3 : Typed.TF T7 O0
+        at3 = λ Ψ. Typed.both s7 (at2 Ψ)
 
-      abbrev at4 : Typed.TF T7 O0
-      at4 = λ Ψ. at3 Ψ
+        abbrev at4 : Typed.TF T7 O0
+        at4 = λ Ψ. at3 Ψ
 
-      abbrev at5 : Typed.TF T6 O0
-      at5 = λ Ψ. Typed.pass T6 T7 s5 (at4 Ψ)
+        abbrev at5 : Typed.TF T6 O0
+        at5 = λ Ψ. Typed.pass T6 T7 s5 (at4 Ψ)
 
-      abbrev at6 : Typed.TF T5 O0
-      at6 = λ Ψ. Typed.both s4 (at5 Ψ)
+        abbrev at6 : Typed.TF T5 O0
+        at6 = λ Ψ. Typed.both s4 (at5 Ψ)
 
-      abbrev at7 : Typed.TF T4 O0
-      at7 = λ Ψ. Typed.ask s3 (at6 Ψ)
+        abbrev at7 : Typed.TF T4 O0
+        at7 = λ Ψ. Typed.ask s3 (at6 Ψ)
 
-      abbrev at8 : Typed.TF T2 O0
-      at8 = λ Ψ. Typed.both s2 (at7 Ψ)
+        abbrev at8 : Typed.TF T2 O0
+        at8 = λ Ψ. Typed.both s2 (at7 Ψ)
 
-      abbrev at9 : Typed.TF T2 O0
-      at9 = λ Ψ. at8 Ψ
+        abbrev at9 : Typed.TF T2 O0
+        at9 = λ Ψ. at8 Ψ
 
-      abbrev at10 : Typed.TF T0 O0
-      at10 = λ Ψ. Typed.give s0 (at9 Ψ)
+        abbrev at10 : Typed.TF T0 O0
+        at10 = λ Ψ. Typed.give s0 (at9 Ψ)
 
-      abbrev pub Φ : Typed.TF T0 O0
-      Φ = at10
+        abbrev pub Φ : Typed.TF T0 O0
+        Φ = at10
 
-      module _ {M : Type 1} (𝓤 : URA.URA M) (H : Wp.Heap 𝓤) (A : Atoms.Atoms 𝓤) (W : Kit.Given 𝓤 H A) (𝓣 : Wp.Tables 𝓤 H) where
-        abbrev Knowns : Type 1
-        Knowns = Plain.Known 𝓤 H A W 𝓣 2 ps·0 r·0 (claims· .0) (claims· .1) "sitting::load"
-
-      module _ (κs : Lifetimes.Lfts 2) (qs : Lifetimes.Shares 2) where
-        abbrev g2 : List.List Row.Entry
-        g2 = (0, Rows.any-gone Syntax.tyUnit) ∷ (1, Rows.sslice (Referent.rtF (Referent.fInt Syntax.w8)) (Syntax.tyRef (Syntax.named 0) Syntax.imm
-            (Syntax.tyInt Syntax.w8)) 0) ∷ (2, Part.mslice-owedP SlotAs.row (Syntax.tyRef (Syntax.named 1) Syntax.mut SlotAs.pointee) 1 2 (Row.lease (κs .1 .0)
-            (qs .1 .0))) ∷ (3, Rows.any-gone Syntax.tyUnit) ∷ (4, Relend.msptr SlotAs.row (Syntax.tyRef Syntax.erased Syntax.mut SlotAs.pointee) 2) ∷ (5,
-            Rows.any-gone (Syntax.tyStruct (38 ∷ 91 ∷ 93 ∷ []) (Syntax.tcons (Syntax.tyRef Syntax.erased Syntax.mut SlotAs.pointee) (Syntax.tcons (Syntax.tyInt
-            Syntax.w64) Syntax.tnil)))) ∷ []
-
-        abbrev g3 : List.List Row.Entry
-        g3 = (0, Rows.any-gone Syntax.tyUnit) ∷ (1, Rows.sslice (Referent.rtF (Referent.fInt Syntax.w8)) (Syntax.tyRef (Syntax.named 0) Syntax.imm
-            (Syntax.tyInt Syntax.w8)) 0) ∷ (2, Part.mslice-owedP SlotAs.row (Syntax.tyRef (Syntax.named 1) Syntax.mut SlotAs.pointee) 1 2 (Row.lease (κs .1 .0)
-            (qs .1 .0))) ∷ (3, Rows.any-gone Syntax.tyUnit) ∷ (4, Rows.any-gone (Syntax.tyRef Syntax.erased Syntax.mut SlotAs.pointee)) ∷ (5, Mut.mslice
-            SlotAs.row (Syntax.tyRef Syntax.erased Syntax.mut SlotAs.pointee) 2) ∷ []
-
-        abbrev g4 : List.List Row.Entry
-        g4 = (0, Rows.any-gone Syntax.tyUnit) ∷ (1, Rows.sslice (Referent.rtF (Referent.fInt Syntax.w8)) (Syntax.tyRef (Syntax.named 0) Syntax.imm
-            (Syntax.tyInt Syntax.w8)) 0) ∷ (2, Part.mslice-owedP SlotAs.row (Syntax.tyRef (Syntax.named 1) Syntax.mut SlotAs.pointee) 1 2 (Row.lease (κs .1 .0)
-            (qs .1 .0))) ∷ (3, Rows.sc-here Row.sUnit) ∷ (4, Rows.any-gone (Syntax.tyRef Syntax.erased Syntax.mut SlotAs.pointee)) ∷ (5, Mut.msleft SlotAs.row
-            (Syntax.tyRef Syntax.erased Syntax.mut SlotAs.pointee)) ∷ []
-
-        abbrev g5 : List.List Row.Entry
-        g5 = (0, Rows.any-gone Syntax.tyUnit) ∷ (1, Rows.sslice (Referent.rtF (Referent.fInt Syntax.w8)) (Syntax.tyRef (Syntax.named 0) Syntax.imm
-            (Syntax.tyInt Syntax.w8)) 0) ∷ (2, Part.mslice-owedP SlotAs.row (Syntax.tyRef (Syntax.named 1) Syntax.mut SlotAs.pointee) 1 2 (Row.lease (κs .1 .0)
-            (qs .1 .0))) ∷ (3, Rows.any-gone Syntax.tyUnit) ∷ (4, Rows.any-gone (Syntax.tyRef Syntax.erased Syntax.mut SlotAs.pointee)) ∷ (5, Mut.msleft
-            SlotAs.row (Syntax.tyRef Syntax.erased Syntax.mut SlotAs.pointee)) ∷ []
-
-        abbrev G0 : Row.Cx
-        G0 = record { locals = t0; slots = Row.lease (κs .0) (qs .0) ∷ Row.lease (κs .1 .0) (qs .1 .0) ∷ Row.off ∷ []; }
-
-        abbrev G1 : Row.Cx
-        G1 = record { locals = t1; slots = Row.lease (κs .0) (qs .0) ∷ Row.lease (κs .1 .0) (qs .1 .0) ∷ Row.off ∷ []; }
-
-        abbrev G2 : Row.Cx
-        G2 = record { locals = t0; slots = Row.lease (κs .0) (qs .0) ∷ Row.lease (κs .1 .0) (qs .1 .0) ∷ Row.off ∷ []; }
-
-        abbrev G3 : Row.Cx
-        G3 = record { locals = t0; slots = Row.lease (κs .0) (qs .0) ∷ Row.lease (κs .1 .0) (qs .1 .0) ∷ Row.alive ∷ []; }
-
-        abbrev G4 : Row.Cx
-        G4 = record { locals = g2; slots = Row.lease (κs .0) (qs .0) ∷ Row.off ∷ Row.alive ∷ []; }
-
-        abbrev G5 : Row.Cx
-        G5 = record { locals = g3; slots = Row.lease (κs .0) (qs .0) ∷ Row.off ∷ Row.alive ∷ []; }
-
-        abbrev G6 : Row.Cx
-        G6 = record { locals = g4; slots = Row.lease (κs .0) (qs .0) ∷ Row.off ∷ Row.alive ∷ []; }
-
-        abbrev G7 : Row.Cx
-        G7 = record { locals = g5; slots = Row.lease (κs .0) (qs .0) ∷ Row.off ∷ Row.alive ∷ []; }
-
-        abbrev G8 : Row.Cx
-        G8 = record { locals = g5; slots = Row.lease (κs .0) (qs .0) ∷ Row.off ∷ Row.dead ∷ []; }
-
-        abbrev G9 : Row.Cx
-        G9 = record { locals = t0; slots = Row.lease (κs .0) (qs .0) ∷ Row.lease (κs .1 .0) (qs .1 .0) ∷ Row.dead ∷ []; }
-
-        abbrev G10 : Row.Cx
-        G10 = record { locals = t0; slots = Row.lease (κs .0) (qs .0) ∷ Row.lease (κs .1 .0) (qs .1 .0) ∷ Row.off ∷ []; }
-
-        abbrev G11 : Row.Cx
-        G11 = record { locals = t1; slots = Row.lease (κs .0) (qs .0) ∷ Row.lease (κs .1 .0) (qs .1 .0) ∷ Row.off ∷ []; }
-
-        abbrev Δ0 : Typed.Outs
-        Δ0 = record { next = Option.none; exits = []; returns = Option.some G1 }
-
-        module _ {M : Type 1} (𝓤 : URA.URA M) (H : Wp.Heap 𝓤) (A : Atoms.Atoms 𝓤) (W : Kit.Given 𝓤 H A) (𝓣 : Wp.Tables 𝓤 H) (known : Knowns 𝓤 H A W 𝓣) (bs :
-            List.List Nat.ℕ) (bd : Lifetimes.AllOutlive 2 (Kinds.osR r) κs) where
-          abbrev E : Wp.Env 𝓤 H
-          E = Frame.EnvOf 𝓤 H (Kinds.tyR r ∷ (Enter.tysP ps xs)) bs
-
-          d0 : Typed.Typed 𝓤 H A 𝓣 E G11 b4 Δ0 at0
-          d0 = Typed.t-return 𝓤 H A W 𝓣 E Δ0 tt
-
-          d1 : Typed.Typed 𝓤 H A 𝓣 E G10 b5 Δ0 at1
-          d1 = Typed.s-seq 𝓤 H A W 𝓣 E G10 G11 b3 b4 Δ0 (Typed.pass T9 T11 s9) at0 (Scalar.t-use 𝓤 H A W E 𝓣 G10 Scalar.oUnit 0 (Rows.sc-here Row.sUnit)
-              Syntax.tyUnit (Row.valS Row.sUnit) (Row.sUnit .of) tt (Reads.room-gone 𝓤 H A Syntax.tyUnit) (Scalar.holds-sc 𝓤 H A W Row.sUnit) Path'.refl (λ u.
-              Path'.refl) λ u. tt) d0
-
-          d2 : Typed.Typed 𝓤 H A 𝓣 E G9 b5 Δ0 at2
-          d2 = Typed.g-pre 𝓤 H A W 𝓣 E G9 G10 b5 Δ0 (λ Ψ. Ψ) at1 (Lifetime.g-forget 𝓤 H A W E G9 2 Row.dead Path'.refl) d1
-
-          d3 : Typed.Typed 𝓤 H A 𝓣 E G8 b5 Δ0 at3
-          d3 = Typed.g-pre 𝓤 H A W 𝓣 E G8 G9 b5 Δ0 (Typed.both s7) at2 (Part.g-back-slᵖ 𝓤 H A W E SlotAs.row G8 5 2 1 2 (Syntax.tyRef (Syntax.named 1)
-              Syntax.mut SlotAs.pointee) (Syntax.tyRef Syntax.erased Syntax.mut SlotAs.pointee) (Row.lease (κs .1 .0) (qs .1 .0)) (λ x. x) (λ x. x)
-              (Reads.as-is 𝓤 H A (Mut.msleft SlotAs.row (Syntax.tyRef Syntax.erased Syntax.mut SlotAs.pointee))) (Reads.as-is 𝓤 H A (Part.mslice-owedP
-              SlotAs.row (Syntax.tyRef (Syntax.named 1) Syntax.mut SlotAs.pointee) 1 2 (Row.lease (κs .1 .0) (qs .1 .0)))) Path'.refl Path'.refl) d2
-
-          d4 : Typed.Typed 𝓤 H A 𝓣 E G7 b5 Δ0 at4
-          d4 = Typed.g-pre 𝓤 H A W 𝓣 E G7 G8 b5 Δ0 (λ Ψ. Ψ) at3 (Lifetime.g-end 𝓤 H A W E G7 2 Path'.refl) d3
-
-          d5 : Typed.Typed 𝓤 H A 𝓣 E G6 b5 Δ0 at5
-          d5 = Typed.g-pre 𝓤 H A W 𝓣 E G6 G7 b5 Δ0 (Typed.pass T6 T7 s5) at4 (Scalar.g-room 𝓤 H A W E G6 3 Syntax.tyUnit (Scalar.room-sc 𝓤 H A W Row.sUnit)) d4
-
-          d6 : Typed.Typed 𝓤 H A 𝓣 E G5 b6 Δ0 at6
-          d6 = Typed.s-seq 𝓤 H A W 𝓣 E G5 G6 b2 b5 Δ0 (Typed.both s4) at5 (Plain.t-call-plain 𝓤 H A W 𝓣 2 ps·0 r·0 (claims· .0) (claims· .1) "sitting::load"
-              known E (λ pos β. β) G5 (record { pos = 1; ty = Syntax.tyRef (Syntax.named 0) Syntax.imm (Syntax.tyInt Syntax.w8); ref = λ x. x; }, (record { pos
-              = 5; ty = Syntax.tyRef Syntax.erased Syntax.mut SlotAs.pointee; ref = λ x. x; }, tt)) 3 (0 ∷ 2 ∷ []) (Call.sub-id 𝓤 H A W (G5 .slots))
-              (ShrSlice.spares-sslice 𝓤 H A W (Referent.rtF (Referent.fInt Syntax.w8)) (Syntax.tyRef (Syntax.named 0) Syntax.imm (Syntax.tyInt Syntax.w8)) 0,
-              Shared.reads-sslice 𝓤 H A W (Referent.rtF (Referent.fInt Syntax.w8)) (Syntax.tyRef (Syntax.named 0) Syntax.imm (Syntax.tyInt Syntax.w8)) 0,
-              Path'.refl, (Reads.as-is 𝓤 H A (Mut.mslice SlotAs.row (Syntax.tyRef Syntax.erased Syntax.mut SlotAs.pointee) 2), Mut.reads-mslice 𝓤 H A W
-              SlotAs.row (Syntax.tyRef Syntax.erased Syntax.mut SlotAs.pointee) 2, Path'.refl, tt)) (Reads.room-gone 𝓤 H A Syntax.tyUnit) (tt, (tt, tt))
-              Path'.refl) d5
-
-          d7 : Typed.Typed 𝓤 H A 𝓣 E G4 b7 Δ0 at7
-          d7 = Typed.s-seq 𝓤 H A W 𝓣 E G4 G5 b1 b6 Δ0 (Typed.ask s3) at6 (Relend.t-sl-aggregate 𝓤 H A W E SlotAs.row 𝓣 (Relend.asMut SlotAs.row) G4 4 5 2
-              (Syntax.tyRef Syntax.erased Syntax.mut SlotAs.pointee) (Syntax.tyRef Syntax.erased Syntax.mut SlotAs.pointee) (λ x. x) (Scalar.oInt Syntax.w64 0)
-              (Reads.as-is 𝓤 H A (Relend.msptr SlotAs.row (Syntax.tyRef Syntax.erased Syntax.mut SlotAs.pointee) 2)) (Reads.room-gone 𝓤 H A (Syntax.tyStruct
-              (38 ∷ 91 ∷ 93 ∷ []) (Syntax.tcons (Syntax.tyRef Syntax.erased Syntax.mut SlotAs.pointee) (Syntax.tcons (Syntax.tyInt Syntax.w64) Syntax.tnil))))
-              tt Path'.refl Path'.refl λ b o k. tt) d6
-
-          d8 : Typed.Typed 𝓤 H A 𝓣 E G3 b8 Δ0 at8
-          d8 = Typed.s-seq 𝓤 H A W 𝓣 E G3 G4 b0 b7 Δ0 (Typed.both s2) at7 (Part.t-sl-relendᵖ 𝓤 H A W E SlotAs.row 𝓣 G3 2 4 1 2 (Syntax.tyRef (Syntax.named 1)
-              Syntax.mut SlotAs.pointee) (Syntax.tyRef Syntax.erased Syntax.mut SlotAs.pointee) (Row.lease (κs .1 .0) (qs .1 .0)) 0 (λ x. x) (λ u. 0)
-              (Reads.as-is 𝓤 H A (Mut.mslice SlotAs.row (Syntax.tyRef (Syntax.named 1) Syntax.mut SlotAs.pointee) 1)) (Reads.room-gone 𝓤 H A (Syntax.tyRef
-              Syntax.erased Syntax.mut SlotAs.pointee)) Path'.refl tt Path'.refl Path'.refl Path'.refl λ b o. tt) d7
-
-          d9 : Typed.Typed 𝓤 H A 𝓣 E G2 b8 Δ0 at9
-          d9 = Typed.g-pre 𝓤 H A W 𝓣 E G2 G3 b8 Δ0 (λ Ψ. Ψ) at8 (Lifetime.g-begin 𝓤 H A W E G2 2 (tt, (tt, (tt, (tt, (tt, (tt, tt))))))) d8
-
-          d10 : Typed.Typed 𝓤 H A 𝓣 E G0 b8 Δ0 at10
-          d10 = Typed.g-pre 𝓤 H A W 𝓣 E G0 G2 b8 Δ0 (Typed.give s0) at9 (Know.g-shs-known 𝓤 H A W (Referent.fInt Syntax.w8) E G0 1 0 (Syntax.tyRef
-              (Syntax.named 0) Syntax.imm (Syntax.tyInt Syntax.w8)) (Row.lease (κs .0) (qs .0)) 0 (λ x. x) record { fits = Dec'.lit< tt } (Reads.as-is 𝓤 H A
-              (Rows.sslice (Referent.rtF (Referent.fInt Syntax.w8)) (Syntax.tyRef (Syntax.named 0) Syntax.imm (Syntax.tyInt Syntax.w8)) 0)) Path'.refl tt) d9
-
-          pub typed : Typed.Typed 𝓤 H A 𝓣 E (Function.Γin 2 ps r xs m κs qs) b8 (Function.Δret 2 ps r xs m κs qs) Φ
-          typed = d10
-
-      module _ (κs : Lifetimes.Lfts 2) where
-        pub record Args : Type 0 where
-          pub text : Kinds.Den {n = 2} κs (ShrSlice.pShrS (Referent.rtF (Referent.fInt Syntax.w8)) 0 tt)
-          pub table : Kinds.Den {n = 2} κs (MutSlice.pMutS SlotAs.row 1 tt)
-
-        abbrev pub dens : (a : Args) → Kinds.Dens κs ps
-        dens = λ a. (a .text, (a .table, tt))
-
-      abbrev pub m0 : (κs : Lifetimes.Lfts 2) → (args : Args κs) → Typed.Mo T0
-      m0 = λ κs args. (tt, Enter.partsP κs 1 ps xs (dens κs args))
-
-      abbrev W0 : (κs : Lifetimes.Lfts 2) → (args : Args κs) → Typed.Want O0
-      W0 = λ κs args. (λ u. ⊥, tt, λ u. Enter.Fixs κs 1 ps xs (dens κs args) (u .1) × Post· κs (dens κs args) (Function.resV r κs (u .0)) (Clauses.atExit
-          (Kinds.endedOf 2 ps r) κs (dens κs args) (Enter.lastsP κs 1 ps xs (dens κs args) (u .1))))
-
-      pub record Start : Type 0 where
-        pub κs : Lifetimes.Lfts 2
-        pub args : Args κs
-        pub good : Kinds.GoodsP κs ps (dens κs args)
-        pub pre : Pre· κs (dens κs args)
-
-      abbrev pub m1 : (before : Start) → (given : s0 .gives (m0 (before .κs) (before .args))) → Typed.Mo T2
-      m1 = λ before given. s0 .next (m0 (before .κs) (before .args)) given
-
-      module _ (before· : Start) where
-        pub record After-shared-slice-known·own : Type 0 where
-          pub given : s0 .gives (m0 (before· .κs) (before· .args))
-
-      pub record After-shared-slice-known : Type 0 where
-        pub before : Start
-        pub shared-slice-known : After-shared-slice-known·own before
-
-      abbrev pub Need-slice-relend-prefix-load : Type 0
-      Need-slice-relend-prefix-load = (c : After-shared-slice-known) → s2 .asks (m1 (c .before) (c .shared-slice-known .given))
-
-      abbrev pub m2 : (before : After-shared-slice-known) → (given : s2 .gives (m1 (before .before) (before .shared-slice-known .given))) → Typed.Mo T4
-      m2 = λ before given. s2 .next (m1 (before .before) (before .shared-slice-known .given)) given
-
-      module _ (before· : After-shared-slice-known) where
-        pub record After-load-arg·own : Type 0 where
-          pub given : s2 .gives (m1 (before· .before) (before· .shared-slice-known .given))
-
-      pub record After-load-arg : Type 0 where
-        pub before : After-shared-slice-known
-        pub load-arg : After-load-arg·own before
-
-      abbrev pub Need-slice-aggregate-load : Type 0
-      Need-slice-aggregate-load = (c : After-load-arg) → Relend.CountIs T4 4 5 (λ x. x) (λ u. 0) (m2 (c .before) (c .load-arg .given))
-
-      abbrev pub m3 : (before : After-shared-slice-known) → (given : s2 .gives (m1 (before .before) (before .shared-slice-known .given))) → Typed.Mo T5
-      m3 = λ before given. s3 .next (m2 before given)
-
-      abbrev pub Need-load-requires : Type 0
-      Need-load-requires = (c : After-load-arg) → s4 .asks (m3 (c .before) (c .load-arg .given))
-
-      abbrev pub m4 : (before : After-load-arg) → (given : s4 .gives (m3 (before .before) (before .load-arg .given))) → Typed.Mo T6
-      m4 = λ before given. s4 .next (m3 (before .before) (before .load-arg .given)) given
-
-      module _ (before· : After-load-arg) where
-        abbrev pub After-load·own : Type 0
-        After-load·own = Called.Called ps·0 r·0 (claims· .1) T5 (record { pos = 1; ty = Syntax.tyRef (Syntax.named 0) Syntax.imm (Syntax.tyInt Syntax.w8); ref
-            = λ x. x; }, (record { pos = 5; ty = Syntax.tyRef Syntax.erased Syntax.mut SlotAs.pointee; ref = λ x. x; }, tt)) (m3 (before· .before) (before·
-            .load-arg .given))
-
-      pub record After-load : Type 0 where
-        pub before : After-load-arg
-        pub load : After-load·own before
-
-      abbrev pub After-load·gave : (c : After-load) → s4 .gives (m3 (c .before .before) (c .before .load-arg .given))
-      After-load·gave = λ c. Called.given ps·0 r·0 (claims· .1) T5 (record { pos = 1; ty = Syntax.tyRef (Syntax.named 0) Syntax.imm (Syntax.tyInt Syntax.w8);
-          ref = λ x. x; }, (record { pos = 5; ty = Syntax.tyRef Syntax.erased Syntax.mut SlotAs.pointee; ref = λ x. x; }, tt)) (m3 (c .before .before) (c
-          .before .load-arg .given)) (c .load)
-
-      abbrev pub m5 : (before : After-load-arg) → (given : s4 .gives (m3 (before .before) (before .load-arg .given))) → Typed.Mo T7
-      m5 = λ before given. s5 (m4 before given)
-
-      abbrev pub m6 : (before : After-load) → (given : s7 .gives (m5 (before .before) (After-load·gave before))) → Typed.Mo T9
-      m6 = λ before given. s7 .next (m5 (before .before) (After-load·gave before)) given
-
-      abbrev pub m7 : (before : After-load) → (given : s7 .gives (m5 (before .before) (After-load·gave before))) → Typed.Mo T11
-      m7 = λ before given. s9 (m6 before given)
-
-      module _ (before· : After-load) where
-        pub record After-table·own : Type 0 where
-          pub given : s7 .gives (m5 (before· .before) (After-load·gave before·))
-
-      pub record After-table : Type 0 where
-        pub before : After-load
-        pub table : After-table·own before
-
-      abbrev pub Need-same-length : Type 0
-      Need-same-length = (c : After-table) → MutSlice.SameLen (Row.get 2 (T11 .locals) (m7 (c .before) (c .table .given))) (dens (c .before .before .before
-          .before .κs) (c .before .before .before .before .args) .1 .0)
-
-      abbrev pub Need-returns : Type 0
-      Need-returns = (c : After-table) → Post· (c .before .before .before .before .κs) (dens (c .before .before .before .before .κs) (c .before .before .before
-          .before .args)) (Function.resV r (c .before .before .before .before .κs) (m7 (c .before) (c .table .given) .0)) (Clauses.atExit (Kinds.endedOf 2 ps
-          r) (c .before .before .before .before .κs) (dens (c .before .before .before .before .κs) (c .before .before .before .before .args)) (Enter.lastsP (c
-          .before .before .before .before .κs) 1 ps xs (dens (c .before .before .before .before .κs) (c .before .before .before .before .args)) (m7 (c .before)
-          (c .table .given) .1)))
-
-      module _ (slice-relend-prefix-load : Need-slice-relend-prefix-load) (slice-aggregate-load : Need-slice-aggregate-load) (load-requires :
-          Need-load-requires) (same-length : Need-same-length) (returns : Need-returns) where
-        lay1 : (c : After-load) → at5 (W0 (c .before .before .before .κs) (c .before .before .before .args)) (m4 (c .before) (After-load·gave c))
-        lay1 = λ c. (Path'.refl, λ g. ((Path'.refl, (MutSlice.fix-len (Row.get 2 (T11 .locals) (m7 record { before = c .before; load = c .load; } g) .ptr)
-            (Row.get 2 (T11 .locals) (m7 record { before = c .before; load = c .load; } g) .name) (Row.get 2 (T11 .locals) (m7 record { before = c .before;
-            load = c .load; } g) .now) (dens (c .before .before .before .κs) (c .before .before .before .args) .1 .0 .now) (same-length record { before =
-            record { before = c .before; load = c .load }; table = record { given = g }; }), tt)), returns record { before = record { before = c .before; load
-            = c .load }; table = record { given = g }; }))
-
-        pub laid : (c : Start) → at10 (W0 (c .κs) (c .args)) (m0 (c .κs) (c .args))
-        laid = λ c. λ g. (slice-relend-prefix-load record { before = c; shared-slice-known = record { given = g }; }, λ g'. (Relend.count-is T4 4 5 (λ x. x) (λ
-            u. 0) (m2 record { before = c; shared-slice-known = record { given = g }; } g') (slice-aggregate-load record { before = record { before = c;
-            shared-slice-known = record { given = g } }; load-arg = record { given = g' }; }), (load-requires record { before = record { before = c;
-            shared-slice-known = record { given = g } }; load-arg = record { given = g' }; }, λ g''. lay1 record { before = record { before = record { before =
-            c; shared-slice-known = record { given = g } }; load-arg = record { given = g' }; }; load = Called.called ps·0 r·0 (claims· .1) T5 (record { pos =
-            1; ty = Syntax.tyRef (Syntax.named 0) Syntax.imm (Syntax.tyInt Syntax.w8); ref = λ x. x; }, (record { pos = 5; ty = Syntax.tyRef Syntax.erased
-            Syntax.mut SlotAs.pointee; ref = λ x. x; }, tt)) (m3 record { before = c; shared-slice-known = record { given = g } } g') g''; })))
+        module _ {M : Type 1} (𝓤 : URA.URA M) (H : Wp.Heap 𝓤) (A : Atoms.Atoms 𝓤) (W : Kit.Given 𝓤 H A) (𝓣 : Wp.Tables 𝓤 H) where
+          abbrev Knowns : Type 1
+          Knowns = Plain.Known 𝓤 H A W 𝓣 2 ps·0 r·0 (claims· .0) (claims· .1) "sitting::load"
 
         module _ (κs : Lifetimes.Lfts 2) (qs : Lifetimes.Shares 2) where
-          pub asked : (a : Kinds.Dens κs ps) → (good : Kinds.GoodsP κs ps a) → (pre : Pre· κs a) → (bs : List.List Nat.ℕ) → Φ (Any.wantQ 2 ps r xs m κs qs a
-              (Post· κs a)) (Function.init 2 ps r xs m κs qs a)
-          asked = λ a good pre bs. laid record { κs = κs; args = record { text = a .0; table = a .1 .0 }; good = good; pre = pre; }
+          abbrev g2 : List.List Row.Entry
+          g2 = (0, Rows.any-gone Syntax.tyUnit) ∷ (
+            1,
+            Rows.sslice (Referent.rtF (Referent.fInt Syntax.w8)) (Syntax.tyRef (Syntax.named 0) Syntax.imm
+                (Syntax.tyInt Syntax.w8)) 0,
+          ) ∷ (
+            2,
+            Part.mslice-owedP SlotAs.row (Syntax.tyRef (Syntax.named 1) Syntax.mut SlotAs.pointee) 1 2 (Row.lease (κs .1 .0)
+                (qs .1 .0)),
+          ) ∷ (3, Rows.any-gone Syntax.tyUnit) ∷ (4, Relend.msptr SlotAs.row (Syntax.tyRef Syntax.erased Syntax.mut SlotAs.pointee) 2) ∷ (
+            5,
+            Rows.any-gone (Syntax.tyStruct (38 ∷ 91 ∷ 93 ∷ []) (Syntax.tcons (Syntax.tyRef Syntax.erased Syntax.mut SlotAs.pointee) (Syntax.tcons (Syntax.tyInt
+                Syntax.w64) Syntax.tnil))),
+          ) ∷ []
 
-        module _ {M : Type 1} (𝓤 : URA.URA M) (H : Wp.Heap 𝓤) (A : Atoms.Atoms 𝓤) (W : Kit.Given 𝓤 H A) (𝓣 : Wp.Tables 𝓤 H) (known0 : Plain.Known 𝓤 H A W 𝓣 2
-            ps·0 r·0 (claims· .0) (claims· .1) "sitting::load") where
-          pub spec : Statement.Triple 𝓤 (Wp.WpFn 𝓤 H (𝓣 .C) (𝓣 .Λ) (Function.fnOf 2 ps r xs m hs body)) (Function.plainOf 𝓤 H A 2 ps r Pre· Post·)
-          spec = Plain.t-fn-plain 𝓤 H A W 𝓣 2 ps r xs m hs body (λ κs qs bs. Φ) (λ κs qs bs bd. typed κs qs 𝓤 H A W 𝓣 known0 bs bd) Pre· Post· asked
+          abbrev g3 : List.List Row.Entry
+          g3 = (0, Rows.any-gone Syntax.tyUnit) ∷ (
+            1,
+            Rows.sslice (Referent.rtF (Referent.fInt Syntax.w8)) (Syntax.tyRef (Syntax.named 0) Syntax.imm
+                (Syntax.tyInt Syntax.w8)) 0,
+          ) ∷ (
+            2,
+            Part.mslice-owedP SlotAs.row (Syntax.tyRef (Syntax.named 1) Syntax.mut SlotAs.pointee) 1 2 (Row.lease (κs .1 .0)
+                (qs .1 .0)),
+          ) ∷ (3, Rows.any-gone Syntax.tyUnit) ∷ (4, Rows.any-gone (Syntax.tyRef Syntax.erased Syntax.mut SlotAs.pointee)) ∷ (
+            5,
+            Mut.mslice
+                SlotAs.row (Syntax.tyRef Syntax.erased Syntax.mut SlotAs.pointee) 2,
+          ) ∷ []
+
+          abbrev g4 : List.List Row.Entry
+          g4 = (0, Rows.any-gone Syntax.tyUnit) ∷ (
+            1,
+            Rows.sslice (Referent.rtF (Referent.fInt Syntax.w8)) (Syntax.tyRef (Syntax.named 0) Syntax.imm
+                (Syntax.tyInt Syntax.w8)) 0,
+          ) ∷ (
+            2,
+            Part.mslice-owedP SlotAs.row (Syntax.tyRef (Syntax.named 1) Syntax.mut SlotAs.pointee) 1 2 (Row.lease (κs .1 .0)
+                (qs .1 .0)),
+          ) ∷ (3, Rows.sc-here Row.sUnit) ∷ (4, Rows.any-gone (Syntax.tyRef Syntax.erased Syntax.mut SlotAs.pointee)) ∷ (
+            5,
+            Mut.msleft SlotAs.row
+                (Syntax.tyRef Syntax.erased Syntax.mut SlotAs.pointee),
+          ) ∷ []
+
+          abbrev g5 : List.List Row.Entry
+          g5 = (0, Rows.any-gone Syntax.tyUnit) ∷ (
+            1,
+            Rows.sslice (Referent.rtF (Referent.fInt Syntax.w8)) (Syntax.tyRef (Syntax.named 0) Syntax.imm
+                (Syntax.tyInt Syntax.w8)) 0,
+          ) ∷ (
+            2,
+            Part.mslice-owedP SlotAs.row (Syntax.tyRef (Syntax.named 1) Syntax.mut SlotAs.pointee) 1 2 (Row.lease (κs .1 .0)
+                (qs .1 .0)),
+          ) ∷ (3, Rows.any-gone Syntax.tyUnit) ∷ (4, Rows.any-gone (Syntax.tyRef Syntax.erased Syntax.mut SlotAs.pointee)) ∷ (
+            5,
+            Mut.msleft
+                SlotAs.row (Syntax.tyRef Syntax.erased Syntax.mut SlotAs.pointee),
+          ) ∷ []
+
+          abbrev G0 : Row.Cx
+          G0 = record { locals = t0; slots = Row.lease (κs .0) (qs .0) ∷ Row.lease (κs .1 .0) (qs .1 .0) ∷ Row.off ∷ [] }
+
+          abbrev G1 : Row.Cx
+          G1 = record { locals = t1; slots = Row.lease (κs .0) (qs .0) ∷ Row.lease (κs .1 .0) (qs .1 .0) ∷ Row.off ∷ [] }
+
+          abbrev G2 : Row.Cx
+          G2 = record { locals = t0; slots = Row.lease (κs .0) (qs .0) ∷ Row.lease (κs .1 .0) (qs .1 .0) ∷ Row.off ∷ [] }
+
+          abbrev G3 : Row.Cx
+          G3 = record { locals = t0; slots = Row.lease (κs .0) (qs .0) ∷ Row.lease (κs .1 .0) (qs .1 .0) ∷ Row.alive ∷ [] }
+
+          abbrev G4 : Row.Cx
+          G4 = record { locals = g2; slots = Row.lease (κs .0) (qs .0) ∷ Row.off ∷ Row.alive ∷ [] }
+
+          abbrev G5 : Row.Cx
+          G5 = record { locals = g3; slots = Row.lease (κs .0) (qs .0) ∷ Row.off ∷ Row.alive ∷ [] }
+
+          abbrev G6 : Row.Cx
+          G6 = record { locals = g4; slots = Row.lease (κs .0) (qs .0) ∷ Row.off ∷ Row.alive ∷ [] }
+
+          abbrev G7 : Row.Cx
+          G7 = record { locals = g5; slots = Row.lease (κs .0) (qs .0) ∷ Row.off ∷ Row.alive ∷ [] }
+
+          abbrev G8 : Row.Cx
+          G8 = record { locals = g5; slots = Row.lease (κs .0) (qs .0) ∷ Row.off ∷ Row.dead ∷ [] }
+
+          abbrev G9 : Row.Cx
+          G9 = record { locals = t0; slots = Row.lease (κs .0) (qs .0) ∷ Row.lease (κs .1 .0) (qs .1 .0) ∷ Row.dead ∷ [] }
+
+          abbrev G10 : Row.Cx
+          G10 = record { locals = t0; slots = Row.lease (κs .0) (qs .0) ∷ Row.lease (κs .1 .0) (qs .1 .0) ∷ Row.off ∷ [] }
+
+          abbrev G11 : Row.Cx
+          G11 = record { locals = t1; slots = Row.lease (κs .0) (qs .0) ∷ Row.lease (κs .1 .0) (qs .1 .0) ∷ Row.off ∷ [] }
+
+          abbrev Δ0 : Typed.Outs
+          Δ0 = record { next = Option.none; exits = []; returns = Option.some G1 }
+
+          module _ {M : Type 1} (𝓤 : URA.URA M) (H : Wp.Heap 𝓤) (A : Atoms.Atoms 𝓤) (W : Kit.Given 𝓤 H A) (𝓣 : Wp.Tables 𝓤 H) (known : Knowns 𝓤 H A W 𝓣) (bs :
+              List.List Nat.ℕ) (bd : Lifetimes.AllOutlive 2 (Kinds.osR r) κs) where
+            abbrev E : Wp.Env 𝓤 H
+            E = Frame.EnvOf 𝓤 H (Kinds.tyR r ∷ (Enter.tysP ps xs)) bs
+
+            d0 : Typed.Typed 𝓤 H A 𝓣 E G11 b4 Δ0 at0
+            d0 = Typed.t-return 𝓤 H A W 𝓣 E Δ0 tt
+
+            d1 : Typed.Typed 𝓤 H A 𝓣 E G10 b5 Δ0 at1
+            d1 = Typed.s-seq 𝓤 H A W 𝓣 E G10 G11 b3 b4 Δ0 (Typed.pass T9 T11 s9) at0 (Scalar.t-use 𝓤 H A W E 𝓣 G10 Scalar.oUnit 0 (Rows.sc-here Row.sUnit)
+                Syntax.tyUnit (Row.valS Row.sUnit) (Row.sUnit .of) tt (Reads.room-gone 𝓤 H A Syntax.tyUnit) (Scalar.holds-sc 𝓤 H A W Row.sUnit) Path'.refl (λ u.
+                Path'.refl) λ u. tt) d0
+
+            d2 : Typed.Typed 𝓤 H A 𝓣 E G9 b5 Δ0 at2
+            d2 = Typed.g-pre 𝓤 H A W 𝓣 E G9 G10 b5 Δ0 (λ Ψ. Ψ) at1 (Lifetime.g-forget 𝓤 H A W E G9 2 Row.dead Path'.refl) d1
+
+            d3 : Typed.Typed 𝓤 H A 𝓣 E G8 b5 Δ0 at3
+            d3 = Typed.g-pre 𝓤 H A W 𝓣 E G8 G9 b5 Δ0 (Typed.both s7) at2 (Part.g-back-slᵖ 𝓤 H A W E SlotAs.row G8 5 2 1 2 (Syntax.tyRef (Syntax.named 1)
+                Syntax.mut SlotAs.pointee) (Syntax.tyRef Syntax.erased Syntax.mut SlotAs.pointee) (Row.lease (κs .1 .0) (qs .1 .0)) (λ x. x) (λ x. x)
+                (Reads.as-is 𝓤 H A (Mut.msleft SlotAs.row (Syntax.tyRef Syntax.erased Syntax.mut SlotAs.pointee))) (Reads.as-is 𝓤 H A (Part.mslice-owedP
+                SlotAs.row (Syntax.tyRef (Syntax.named 1) Syntax.mut SlotAs.pointee) 1 2 (Row.lease (κs .1 .0) (qs .1 .0)))) Path'.refl Path'.refl) d2
+
+            d4 : Typed.Typed 𝓤 H A 𝓣 E G7 b5 Δ0 at4
+            d4 = Typed.g-pre 𝓤 H A W 𝓣 E G7 G8 b5 Δ0 (λ Ψ. Ψ) at3 (Lifetime.g-end 𝓤 H A W E G7 2 Path'.refl) d3
+
+            d5 : Typed.Typed 𝓤 H A 𝓣 E G6 b5 Δ0 at5
+            d5 = Typed.g-pre 𝓤 H A W 𝓣 E G6 G7 b5 Δ0 (Typed.pass T6 T7 s5) at4 (Scalar.g-room 𝓤 H A W E G6 3 Syntax.tyUnit (Scalar.room-sc 𝓤 H A W Row.sUnit)) d4
+
+            d6 : Typed.Typed 𝓤 H A 𝓣 E G5 b6 Δ0 at6
+            d6 = Typed.s-seq 𝓤 H A W 𝓣 E G5 G6 b2 b5 Δ0 (Typed.both s4) at5 (Plain.t-call-plain 𝓤 H A W 𝓣 2 ps·0 r·0 (claims· .0) (claims· .1) "sitting::load"
+                known E (λ pos β. β) G5 (
+                  record { pos = 1; ty = Syntax.tyRef (Syntax.named 0) Syntax.imm (Syntax.tyInt Syntax.w8); ref = λ x. x },
+                  (
+                    record {
+                      pos
+                          = 5;
+                      ty = Syntax.tyRef Syntax.erased Syntax.mut SlotAs.pointee;
+                      ref = λ x. x;
+                    },
+                    tt,
+                  ),
+                ) 3 (0 ∷ 2 ∷ []) (Call.sub-id 𝓤 H A W (G5 .slots)) (
+                  ShrSlice.spares-sslice 𝓤 H A W (Referent.rtF (Referent.fInt Syntax.w8)) (Syntax.tyRef (Syntax.named 0) Syntax.imm (Syntax.tyInt Syntax.w8)) 0,
+                  Shared.reads-sslice 𝓤 H A W (Referent.rtF (Referent.fInt Syntax.w8)) (Syntax.tyRef (Syntax.named 0) Syntax.imm (Syntax.tyInt Syntax.w8)) 0,
+                  Path'.refl,
+                  (
+                    Reads.as-is 𝓤 H A (Mut.mslice SlotAs.row (Syntax.tyRef Syntax.erased Syntax.mut SlotAs.pointee) 2),
+                    Mut.reads-mslice 𝓤 H A W
+                        SlotAs.row (Syntax.tyRef Syntax.erased Syntax.mut SlotAs.pointee) 2,
+                    Path'.refl,
+                    tt,
+                  ),
+                ) (Reads.room-gone 𝓤 H A Syntax.tyUnit) (tt, (tt, tt))
+                Path'.refl) d5
+
+            d7 : Typed.Typed 𝓤 H A 𝓣 E G4 b7 Δ0 at7
+            d7 = Typed.s-seq 𝓤 H A W 𝓣 E G4 G5 b1 b6 Δ0 (Typed.ask s3) at6 (Relend.t-sl-aggregate 𝓤 H A W E SlotAs.row 𝓣 (Relend.asMut SlotAs.row) G4 4 5 2
+                (Syntax.tyRef Syntax.erased Syntax.mut SlotAs.pointee) (Syntax.tyRef Syntax.erased Syntax.mut SlotAs.pointee) (λ x. x) (Scalar.oInt Syntax.w64 0)
+                (Reads.as-is 𝓤 H A (Relend.msptr SlotAs.row (Syntax.tyRef Syntax.erased Syntax.mut SlotAs.pointee) 2)) (Reads.room-gone 𝓤 H A (Syntax.tyStruct
+                (38 ∷ 91 ∷ 93 ∷ []) (Syntax.tcons (Syntax.tyRef Syntax.erased Syntax.mut SlotAs.pointee) (Syntax.tcons (Syntax.tyInt Syntax.w64) Syntax.tnil))))
+                tt Path'.refl Path'.refl λ b o k. tt) d6
+
+            d8 : Typed.Typed 𝓤 H A 𝓣 E G3 b8 Δ0 at8
+            d8 = Typed.s-seq 𝓤 H A W 𝓣 E G3 G4 b0 b7 Δ0 (Typed.both s2) at7 (Part.t-sl-relendᵖ 𝓤 H A W E SlotAs.row 𝓣 G3 2 4 1 2 (Syntax.tyRef (Syntax.named 1)
+                Syntax.mut SlotAs.pointee) (Syntax.tyRef Syntax.erased Syntax.mut SlotAs.pointee) (Row.lease (κs .1 .0) (qs .1 .0)) 0 (λ x. x) (λ u. 0)
+                (Reads.as-is 𝓤 H A (Mut.mslice SlotAs.row (Syntax.tyRef (Syntax.named 1) Syntax.mut SlotAs.pointee) 1)) (Reads.room-gone 𝓤 H A (Syntax.tyRef
+                Syntax.erased Syntax.mut SlotAs.pointee)) Path'.refl tt Path'.refl Path'.refl Path'.refl λ b o. tt) d7
+
+            d9 : Typed.Typed 𝓤 H A 𝓣 E G2 b8 Δ0 at9
+            d9 = Typed.g-pre 𝓤 H A W 𝓣 E G2 G3 b8 Δ0 (λ Ψ. Ψ) at8 (Lifetime.g-begin 𝓤 H A W E G2 2 (tt, (tt, (tt, (tt, (tt, (tt, tt))))))) d8
+
+            d10 : Typed.Typed 𝓤 H A 𝓣 E G0 b8 Δ0 at10
+            d10 = Typed.g-pre 𝓤 H A W 𝓣 E G0 G2 b8 Δ0 (Typed.give s0) at9 (Know.g-shs-known 𝓤 H A W (Referent.fInt Syntax.w8) E G0 1 0 (Syntax.tyRef
+                (Syntax.named 0) Syntax.imm (Syntax.tyInt Syntax.w8)) (Row.lease (κs .0) (qs .0)) 0 (λ x. x) record { fits = Dec'.lit< tt } (Reads.as-is 𝓤 H A
+                (Rows.sslice (Referent.rtF (Referent.fInt Syntax.w8)) (Syntax.tyRef (Syntax.named 0) Syntax.imm (Syntax.tyInt Syntax.w8)) 0)) Path'.refl tt) d9
+
+            pub typed : Typed.Typed 𝓤 H A 𝓣 E (Function.Γin 2 ps r xs m κs qs) b8 (Function.Δret 2 ps r xs m κs qs) Φ
+            typed = d10
+
+        module _ (κs : Lifetimes.Lfts 2) where
+          pub record Args : Type 0 where
+            pub text : Kinds.Den {n = 2} κs (ShrSlice.pShrS (Referent.rtF (Referent.fInt Syntax.w8)) 0 tt)
+            pub table : Kinds.Den {n = 2} κs (MutSlice.pMutS SlotAs.row 1 tt)
+
+          abbrev pub dens : (a : Args) → Kinds.Dens κs ps
+          dens = λ a. (a .text, (a .table, tt))
+
+        abbrev pub m0 : (κs : Lifetimes.Lfts 2) → (args : Args κs) → Typed.Mo T0
+        m0 = λ κs args. (tt, Enter.partsP κs 1 ps xs (dens κs args))
+
+        abbrev W0 : (κs : Lifetimes.Lfts 2) → (args : Args κs) → Typed.Want O0
+        W0 = λ κs args. (
+          λ u. ⊥,
+          tt,
+          λ u. Enter.Fixs κs 1 ps xs (dens κs args) (u .1) × Post· κs (dens κs args) (Function.resV r κs (u .0)) (Clauses.atExit
+              (Kinds.endedOf 2 ps r) κs (dens κs args) (Enter.lastsP κs 1 ps xs (dens κs args) (u .1))),
+        )
+
+        pub record Start : Type 0 where
+          pub κs : Lifetimes.Lfts 2
+          pub args : Args κs
+          pub good : Kinds.GoodsP κs ps (dens κs args)
+          pub pre : Pre· κs (dens κs args)
+
+        abbrev pub m1 : (before : Start) → (given : s0 .gives (m0 (before .κs) (before .args))) → Typed.Mo T2
+        m1 = λ before given. s0 .next (m0 (before .κs) (before .args)) given
+
+        module _ (before· : Start) where
+          pub record After-shared-slice-known·own : Type 0 where
+            pub given : s0 .gives (m0 (before· .κs) (before· .args))
+
+        pub record After-shared-slice-known : Type 0 where
+          pub before : Start
+          pub shared-slice-known : After-shared-slice-known·own before
+
+        abbrev pub Need-slice-relend-prefix-load : Type 0
+        Need-slice-relend-prefix-load = (c : After-shared-slice-known) → s2 .asks (m1 (c .before) (c .shared-slice-known .given))
+
+        abbrev pub m2 : (before : After-shared-slice-known) → (given : s2 .gives (m1 (before .before) (before .shared-slice-known .given))) → Typed.Mo T4
+        m2 = λ before given. s2 .next (m1 (before .before) (before .shared-slice-known .given)) given
+
+        module _ (before· : After-shared-slice-known) where
+          pub record After-load-arg·own : Type 0 where
+            pub given : s2 .gives (m1 (before· .before) (before· .shared-slice-known .given))
+
+        pub record After-load-arg : Type 0 where
+          pub before : After-shared-slice-known
+          pub load-arg : After-load-arg·own before
+
+        abbrev pub Need-slice-aggregate-load : Type 0
+        Need-slice-aggregate-load = (c : After-load-arg) → Relend.CountIs T4 4 5 (λ x. x) (λ u. 0) (m2 (c .before) (c .load-arg .given))
+
+        abbrev pub m3 : (before : After-shared-slice-known) → (given : s2 .gives (m1 (before .before) (before .shared-slice-known .given))) → Typed.Mo T5
+        m3 = λ before given. s3 .next (m2 before given)
+
+        abbrev pub Need-load-requires : Type 0
+        Need-load-requires = (c : After-load-arg) → s4 .asks (m3 (c .before) (c .load-arg .given))
+
+        abbrev pub m4 : (before : After-load-arg) → (given : s4 .gives (m3 (before .before) (before .load-arg .given))) → Typed.Mo T6
+        m4 = λ before given. s4 .next (m3 (before .before) (before .load-arg .given)) given
+
+        module _ (before· : After-load-arg) where
+          abbrev pub After-load·own : Type 0
+          After-load·own = Called.Called ps·0 r·0 (claims· .1) T5 (
+            record {
+              pos = 1;
+              ty = Syntax.tyRef (Syntax.named 0) Syntax.imm (Syntax.tyInt Syntax.w8);
+              ref
+                  = λ x. x;
+            },
+            (record { pos = 5; ty = Syntax.tyRef Syntax.erased Syntax.mut SlotAs.pointee; ref = λ x. x }, tt),
+          ) (m3 (before· .before) (before·
+              .load-arg .given))
+
+        pub record After-load : Type 0 where
+          pub before : After-load-arg
+          pub load : After-load·own before
+
+        abbrev pub After-load·gave : (c : After-load) → s4 .gives (m3 (c .before .before) (c .before .load-arg .given))
+        After-load·gave = λ c. Called.given ps·0 r·0 (claims· .1) T5 (
+          record {
+            pos = 1;
+            ty = Syntax.tyRef (Syntax.named 0) Syntax.imm (Syntax.tyInt Syntax.w8);
+            ref = λ x. x;
+          },
+          (record { pos = 5; ty = Syntax.tyRef Syntax.erased Syntax.mut SlotAs.pointee; ref = λ x. x }, tt),
+        ) (m3 (c .before .before) (c
+            .before .load-arg .given)) (c .load)
+
+        abbrev pub m5 : (before : After-load-arg) → (given : s4 .gives (m3 (before .before) (before .load-arg .given))) → Typed.Mo T7
+        m5 = λ before given. s5 (m4 before given)
+
+        abbrev pub m6 : (before : After-load) → (given : s7 .gives (m5 (before .before) (After-load·gave before))) → Typed.Mo T9
+        m6 = λ before given. s7 .next (m5 (before .before) (After-load·gave before)) given
+
+        abbrev pub m7 : (before : After-load) → (given : s7 .gives (m5 (before .before) (After-load·gave before))) → Typed.Mo T11
+        m7 = λ before given. s9 (m6 before given)
+
+        module _ (before· : After-load) where
+          pub record After-table·own : Type 0 where
+            pub given : s7 .gives (m5 (before· .before) (After-load·gave before·))
+
+        pub record After-table : Type 0 where
+          pub before : After-load
+          pub table : After-table·own before
+
+        abbrev pub Need-same-length : Type 0
+        Need-same-length = (c : After-table) → MutSlice.SameLen (Row.get 2 (T11 .locals) (m7 (c .before) (c .table .given))) (dens (c .before .before .before
+            .before .κs) (c .before .before .before .before .args) .1 .0)
+
+        abbrev pub Need-returns : Type 0
+        Need-returns = (c : After-table) → Post· (c .before .before .before .before .κs) (dens (c .before .before .before .before .κs) (c .before .before .before
+            .before .args)) (Function.resV r (c .before .before .before .before .κs) (m7 (c .before) (c .table .given) .0)) (Clauses.atExit (Kinds.endedOf 2 ps
+            r) (c .before .before .before .before .κs) (dens (c .before .before .before .before .κs) (c .before .before .before .before .args)) (Enter.lastsP (c
+            .before .before .before .before .κs) 1 ps xs (dens (c .before .before .before .before .κs) (c .before .before .before .before .args)) (m7 (c .before)
+            (c .table .given) .1)))
+
+        module _ (slice-relend-prefix-load : Need-slice-relend-prefix-load) (slice-aggregate-load : Need-slice-aggregate-load) (load-requires :
+            Need-load-requires) (same-length : Need-same-length) (returns : Need-returns) where
+          lay1 : (c : After-load) → at5 (W0 (c .before .before .before .κs) (c .before .before .before .args)) (m4 (c .before) (After-load·gave c))
+          lay1 = λ c. (
+            Path'.refl,
+            λ g. (
+              (
+                Path'.refl,
+                (
+                  MutSlice.fix-len (Row.get 2 (T11 .locals) (m7 record { before = c .before; load = c .load } g) .ptr)
+                      (Row.get 2 (T11 .locals) (m7 record { before = c .before; load = c .load } g) .name) (Row.get 2 (T11 .locals) (m7 record {
+                        before = c .before;
+                        load = c .load;
+                      } g) .now) (dens (c .before .before .before .κs) (c .before .before .before .args) .1 .0 .now) (same-length record {
+                        before =
+                            record { before = c .before; load = c .load };
+                        table = record { given = g };
+                      }),
+                  tt,
+                ),
+              ),
+              returns record {
+                before = record {
+                  before = c .before;
+                  load
+                      = c .load;
+                };
+                table = record { given = g };
+              },
+            ),
+          )
+
+          pub laid : (c : Start) → at10 (W0 (c .κs) (c .args)) (m0 (c .κs) (c .args))
+          laid = λ c. λ g. (
+            slice-relend-prefix-load record { before = c; shared-slice-known = record { given = g } },
+            λ g'. (
+              Relend.count-is T4 4 5 (λ x. x) (λ
+                  u. 0) (m2 record { before = c; shared-slice-known = record { given = g } } g') (slice-aggregate-load record {
+                    before = record {
+                      before = c;
+                      shared-slice-known = record { given = g };
+                    };
+                    load-arg = record { given = g' };
+                  }),
+              (
+                load-requires record {
+                  before = record {
+                    before = c;
+                    shared-slice-known = record { given = g };
+                  };
+                  load-arg = record { given = g' };
+                },
+                λ g''. lay1 record {
+                  before = record {
+                    before = record {
+                      before =
+                          c;
+                      shared-slice-known = record { given = g };
+                    };
+                    load-arg = record { given = g' };
+                  };
+                  load = Called.called ps·0 r·0 (claims· .1) T5 (
+                    record {
+                      pos =
+                          1;
+                      ty = Syntax.tyRef (Syntax.named 0) Syntax.imm (Syntax.tyInt Syntax.w8);
+                      ref = λ x. x;
+                    },
+                    (
+                      record {
+                        pos = 5;
+                        ty = Syntax.tyRef Syntax.erased
+                            Syntax.mut SlotAs.pointee;
+                        ref = λ x. x;
+                      },
+                      tt,
+                    ),
+                  ) (m3 record { before = c; shared-slice-known = record { given = g } } g') g'';
+                },
+              ),
+            ),
+          )
+
+          module _ (κs : Lifetimes.Lfts 2) (qs : Lifetimes.Shares 2) where
+            pub asked : (a : Kinds.Dens κs ps) → (good : Kinds.GoodsP κs ps a) → (pre : Pre· κs a) → (bs : List.List Nat.ℕ) → Φ (Any.wantQ 2 ps r xs m κs qs a
+                (Post· κs a)) (Function.init 2 ps r xs m κs qs a)
+            asked = λ a good pre bs. laid record { κs = κs; args = record { text = a .0; table = a .1 .0 }; good = good; pre = pre }
+
+          module _ {M : Type 1} (𝓤 : URA.URA M) (H : Wp.Heap 𝓤) (A : Atoms.Atoms 𝓤) (W : Kit.Given 𝓤 H A) (𝓣 : Wp.Tables 𝓤 H) (known0 : Plain.Known 𝓤 H A W 𝓣 2
+              ps·0 r·0 (claims· .0) (claims· .1) "sitting::load") where
+            pub spec : Statement.Triple 𝓤 (Wp.WpFn 𝓤 H (𝓣 .C) (𝓣 .Λ) (Function.fnOf 2 ps r xs m hs body)) (Function.plainOf 𝓤 H A 2 ps r Pre· Post·)
+            spec = Plain.t-fn-plain 𝓤 H A W 𝓣 2 ps r xs m hs body (λ κs qs bs. Φ) (λ κs qs bs bd. typed κs qs 𝓤 H A W 𝓣 known0 bs bd) Pre· Post· asked

@@ -127,64 +127,121 @@ abbrev pub Claims : Type 1
 Claims = Kinds.In 0 ps·0 × Kinds.Out 0 ps·0 r·0
 
 abbrev pub t0 : List.List Row.Entry
-t0 = (0, Rows'.any-gone SlotAs.ty) ∷ (1, Rows'.sslice SlotAs.row (Syntax.tyRef (Syntax.named 0) Syntax.imm SlotAs.pointee) 0) ∷ (2, Rows'.sc-here (Row.sInt
-    Syntax.w64)) ∷ (3, Rows'.any-gone (Syntax.tyInt Syntax.w64)) ∷ (4, Rows'.any-gone Syntax.tyBool) ∷ (5, Rows'.any-gone (Syntax.tyInt Syntax.w64)) ∷ (6,
-    Rows'.any-gone Syntax.tyPtr) ∷ (7, Rows'.any-gone SlotAs.ty) ∷ []
+t0 = (0, Rows'.any-gone SlotAs.ty) ∷ (1, Rows'.sslice SlotAs.row (Syntax.tyRef (Syntax.named 0) Syntax.imm SlotAs.pointee) 0) ∷ (
+  2,
+  Rows'.sc-here (Row.sInt
+      Syntax.w64),
+) ∷ (3, Rows'.any-gone (Syntax.tyInt Syntax.w64)) ∷ (4, Rows'.any-gone Syntax.tyBool) ∷ (5, Rows'.any-gone (Syntax.tyInt Syntax.w64)) ∷ (
+  6,
+  Rows'.any-gone Syntax.tyPtr,
+) ∷ (7, Rows'.any-gone SlotAs.ty) ∷ []
 
 abbrev pub t1 : List.List Row.Entry
-t1 = (0, SlotAs.whole) ∷ (1, Rows'.sslice SlotAs.row (Syntax.tyRef (Syntax.named 0) Syntax.imm SlotAs.pointee) 0) ∷ (2, Rows'.any-gone (Syntax.tyInt
-    Syntax.w64)) ∷ (3, Rows'.any-gone (Syntax.tyInt Syntax.w64)) ∷ (4, Rows'.any-gone Syntax.tyBool) ∷ (5, Rows'.any-gone (Syntax.tyInt Syntax.w64)) ∷ (6,
-    Rows'.any-gone Syntax.tyPtr) ∷ (7, Rows'.any-gone SlotAs.ty) ∷ []
+t1 = (0, SlotAs.whole) ∷ (1, Rows'.sslice SlotAs.row (Syntax.tyRef (Syntax.named 0) Syntax.imm SlotAs.pointee) 0) ∷ (
+  2,
+  Rows'.any-gone (Syntax.tyInt
+      Syntax.w64),
+) ∷ (3, Rows'.any-gone (Syntax.tyInt Syntax.w64)) ∷ (4, Rows'.any-gone Syntax.tyBool) ∷ (5, Rows'.any-gone (Syntax.tyInt Syntax.w64)) ∷ (
+  6,
+  Rows'.any-gone Syntax.tyPtr,
+) ∷ (7, Rows'.any-gone SlotAs.ty) ∷ []
 
 abbrev pub t2 : List.List Row.Entry
-t2 = (0, Rows'.any-gone SlotAs.ty) ∷ (1, Rows'.sslice SlotAs.row (Syntax.tyRef (Syntax.named 0) Syntax.imm SlotAs.pointee) 0) ∷ (2, Rows'.sc-here (Row.sInt
-    Syntax.w64)) ∷ (3, Rows'.sc-here (Row.sInt Syntax.w64)) ∷ (4, Rows'.any-gone Syntax.tyBool) ∷ (5, Rows'.any-gone (Syntax.tyInt Syntax.w64)) ∷ (6,
-    Rows'.any-gone Syntax.tyPtr) ∷ (7, Rows'.any-gone SlotAs.ty) ∷ []
+t2 = (0, Rows'.any-gone SlotAs.ty) ∷ (1, Rows'.sslice SlotAs.row (Syntax.tyRef (Syntax.named 0) Syntax.imm SlotAs.pointee) 0) ∷ (
+  2,
+  Rows'.sc-here (Row.sInt
+      Syntax.w64),
+) ∷ (3, Rows'.sc-here (Row.sInt Syntax.w64)) ∷ (4, Rows'.any-gone Syntax.tyBool) ∷ (5, Rows'.any-gone (Syntax.tyInt Syntax.w64)) ∷ (
+  6,
+  Rows'.any-gone Syntax.tyPtr,
+) ∷ (7, Rows'.any-gone SlotAs.ty) ∷ []
 
 abbrev pub t3 : List.List Row.Entry
-t3 = (0, Rows'.any-gone SlotAs.ty) ∷ (1, Rows'.sslice SlotAs.row (Syntax.tyRef (Syntax.named 0) Syntax.imm SlotAs.pointee) 0) ∷ (2, Rows'.sc-here (Row.sInt
-    Syntax.w64)) ∷ (3, Rows'.sc-here (Row.sInt Syntax.w64)) ∷ (4, Rows'.sc-here Row.sBool) ∷ (5, Rows'.any-gone (Syntax.tyInt Syntax.w64)) ∷ (6, Rows'.any-gone
-    Syntax.tyPtr) ∷ (7, Rows'.any-gone SlotAs.ty) ∷ []
+t3 = (0, Rows'.any-gone SlotAs.ty) ∷ (1, Rows'.sslice SlotAs.row (Syntax.tyRef (Syntax.named 0) Syntax.imm SlotAs.pointee) 0) ∷ (
+  2,
+  Rows'.sc-here (Row.sInt
+      Syntax.w64),
+) ∷ (3, Rows'.sc-here (Row.sInt Syntax.w64)) ∷ (4, Rows'.sc-here Row.sBool) ∷ (5, Rows'.any-gone (Syntax.tyInt Syntax.w64)) ∷ (
+  6,
+  Rows'.any-gone
+      Syntax.tyPtr,
+) ∷ (7, Rows'.any-gone SlotAs.ty) ∷ []
 
 abbrev pub t4 : List.List Row.Entry
-t4 = (0, Rows'.any-gone SlotAs.ty) ∷ (1, Rows'.sslice SlotAs.row (Syntax.tyRef (Syntax.named 0) Syntax.imm SlotAs.pointee) 0) ∷ (2, Rows'.sc-here (Row.sInt
-    Syntax.w64)) ∷ (3, Rows'.any-gone (Syntax.tyInt Syntax.w64)) ∷ (4, Rows'.sc-here Row.sBool) ∷ (5, Rows'.any-gone (Syntax.tyInt Syntax.w64)) ∷ (6,
-    Rows'.any-gone Syntax.tyPtr) ∷ (7, Rows'.any-gone SlotAs.ty) ∷ []
+t4 = (0, Rows'.any-gone SlotAs.ty) ∷ (1, Rows'.sslice SlotAs.row (Syntax.tyRef (Syntax.named 0) Syntax.imm SlotAs.pointee) 0) ∷ (
+  2,
+  Rows'.sc-here (Row.sInt
+      Syntax.w64),
+) ∷ (3, Rows'.any-gone (Syntax.tyInt Syntax.w64)) ∷ (4, Rows'.sc-here Row.sBool) ∷ (5, Rows'.any-gone (Syntax.tyInt Syntax.w64)) ∷ (
+  6,
+  Rows'.any-gone Syntax.tyPtr,
+) ∷ (7, Rows'.any-gone SlotAs.ty) ∷ []
 
 abbrev pub t5 : List.List Row.Entry
-t5 = (0, Rows'.any-gone SlotAs.ty) ∷ (1, Rows'.sslice SlotAs.row (Syntax.tyRef (Syntax.named 0) Syntax.imm SlotAs.pointee) 0) ∷ (2, Rows'.sc-here (Row.sInt
-    Syntax.w64)) ∷ (3, Rows'.any-gone (Syntax.tyInt Syntax.w64)) ∷ (4, Rows'.any-gone Syntax.tyBool) ∷ (5, Rows'.sc-here (Row.sInt Syntax.w64)) ∷ (6,
-    Rows'.any-gone Syntax.tyPtr) ∷ (7, Rows'.any-gone SlotAs.ty) ∷ []
+t5 = (0, Rows'.any-gone SlotAs.ty) ∷ (1, Rows'.sslice SlotAs.row (Syntax.tyRef (Syntax.named 0) Syntax.imm SlotAs.pointee) 0) ∷ (
+  2,
+  Rows'.sc-here (Row.sInt
+      Syntax.w64),
+) ∷ (3, Rows'.any-gone (Syntax.tyInt Syntax.w64)) ∷ (4, Rows'.any-gone Syntax.tyBool) ∷ (5, Rows'.sc-here (Row.sInt Syntax.w64)) ∷ (
+  6,
+  Rows'.any-gone Syntax.tyPtr,
+) ∷ (7, Rows'.any-gone SlotAs.ty) ∷ []
 
 abbrev pub t6 : List.List Row.Entry
-t6 = (0, Rows'.any-gone SlotAs.ty) ∷ (1, Rows'.sslice SlotAs.row (Syntax.tyRef (Syntax.named 0) Syntax.imm SlotAs.pointee) 0) ∷ (2, Rows'.sc-here (Row.sInt
-    Syntax.w64)) ∷ (3, Rows'.any-gone (Syntax.tyInt Syntax.w64)) ∷ (4, Rows'.any-gone Syntax.tyBool) ∷ (5, Rows'.sc-here (Row.sInt Syntax.w64)) ∷ (6,
-    Rows'.sc-here Row.sPtr) ∷ (7, Rows'.any-gone SlotAs.ty) ∷ []
+t6 = (0, Rows'.any-gone SlotAs.ty) ∷ (1, Rows'.sslice SlotAs.row (Syntax.tyRef (Syntax.named 0) Syntax.imm SlotAs.pointee) 0) ∷ (
+  2,
+  Rows'.sc-here (Row.sInt
+      Syntax.w64),
+) ∷ (3, Rows'.any-gone (Syntax.tyInt Syntax.w64)) ∷ (4, Rows'.any-gone Syntax.tyBool) ∷ (5, Rows'.sc-here (Row.sInt Syntax.w64)) ∷ (
+  6,
+  Rows'.sc-here Row.sPtr,
+) ∷ (7, Rows'.any-gone SlotAs.ty) ∷ []
 
 abbrev pub t7 : List.List Row.Entry
-t7 = (0, Rows'.any-gone SlotAs.ty) ∷ (1, Rows'.sslice SlotAs.row (Syntax.tyRef (Syntax.named 0) Syntax.imm SlotAs.pointee) 0) ∷ (2, Rows'.sc-here (Row.sInt
-    Syntax.w64)) ∷ (3, Rows'.any-gone (Syntax.tyInt Syntax.w64)) ∷ (4, Rows'.any-gone Syntax.tyBool) ∷ (5, Rows'.sc-here (Row.sInt Syntax.w64)) ∷ (6,
-    Rows'.sc-here Row.sPtr) ∷ (7, SlotAs.whole) ∷ []
+t7 = (0, Rows'.any-gone SlotAs.ty) ∷ (1, Rows'.sslice SlotAs.row (Syntax.tyRef (Syntax.named 0) Syntax.imm SlotAs.pointee) 0) ∷ (
+  2,
+  Rows'.sc-here (Row.sInt
+      Syntax.w64),
+) ∷ (3, Rows'.any-gone (Syntax.tyInt Syntax.w64)) ∷ (4, Rows'.any-gone Syntax.tyBool) ∷ (5, Rows'.sc-here (Row.sInt Syntax.w64)) ∷ (
+  6,
+  Rows'.sc-here Row.sPtr,
+) ∷ (7, SlotAs.whole) ∷ []
 
 abbrev pub t8 : List.List Row.Entry
-t8 = (0, Rows'.any-gone SlotAs.ty) ∷ (1, Rows'.sslice SlotAs.row (Syntax.tyRef (Syntax.named 0) Syntax.imm SlotAs.pointee) 0) ∷ (2, Rows'.sc-here (Row.sInt
-    Syntax.w64)) ∷ (3, Rows'.any-gone (Syntax.tyInt Syntax.w64)) ∷ (4, Rows'.any-gone Syntax.tyBool) ∷ (5, Rows'.any-gone (Syntax.tyInt Syntax.w64)) ∷ (6,
-    Rows'.sc-here Row.sPtr) ∷ (7, SlotAs.whole) ∷ []
+t8 = (0, Rows'.any-gone SlotAs.ty) ∷ (1, Rows'.sslice SlotAs.row (Syntax.tyRef (Syntax.named 0) Syntax.imm SlotAs.pointee) 0) ∷ (
+  2,
+  Rows'.sc-here (Row.sInt
+      Syntax.w64),
+) ∷ (3, Rows'.any-gone (Syntax.tyInt Syntax.w64)) ∷ (4, Rows'.any-gone Syntax.tyBool) ∷ (5, Rows'.any-gone (Syntax.tyInt Syntax.w64)) ∷ (
+  6,
+  Rows'.sc-here Row.sPtr,
+) ∷ (7, SlotAs.whole) ∷ []
 
 abbrev pub t9 : List.List Row.Entry
-t9 = (0, Rows'.any-gone SlotAs.ty) ∷ (1, Rows'.sslice SlotAs.row (Syntax.tyRef (Syntax.named 0) Syntax.imm SlotAs.pointee) 0) ∷ (2, Rows'.sc-here (Row.sInt
-    Syntax.w64)) ∷ (3, Rows'.any-gone (Syntax.tyInt Syntax.w64)) ∷ (4, Rows'.any-gone Syntax.tyBool) ∷ (5, Rows'.any-gone (Syntax.tyInt Syntax.w64)) ∷ (6,
-    Rows'.any-gone Syntax.tyPtr) ∷ (7, SlotAs.whole) ∷ []
+t9 = (0, Rows'.any-gone SlotAs.ty) ∷ (1, Rows'.sslice SlotAs.row (Syntax.tyRef (Syntax.named 0) Syntax.imm SlotAs.pointee) 0) ∷ (
+  2,
+  Rows'.sc-here (Row.sInt
+      Syntax.w64),
+) ∷ (3, Rows'.any-gone (Syntax.tyInt Syntax.w64)) ∷ (4, Rows'.any-gone Syntax.tyBool) ∷ (5, Rows'.any-gone (Syntax.tyInt Syntax.w64)) ∷ (
+  6,
+  Rows'.any-gone Syntax.tyPtr,
+) ∷ (7, SlotAs.whole) ∷ []
 
 abbrev pub t10 : List.List Row.Entry
 t10 = (0, SlotAs.whole) ∷ (1, Rows'.sslice SlotAs.row (Syntax.tyRef (Syntax.named 0) Syntax.imm SlotAs.pointee) 0) ∷ (2, Rows'.sc-here (Row.sInt Syntax.w64)) ∷
-    (3, Rows'.any-gone (Syntax.tyInt Syntax.w64)) ∷ (4, Rows'.any-gone Syntax.tyBool) ∷ (5, Rows'.any-gone (Syntax.tyInt Syntax.w64)) ∷ (6, Rows'.any-gone
-    Syntax.tyPtr) ∷ (7, SlotAs.whole) ∷ []
+    (3, Rows'.any-gone (Syntax.tyInt Syntax.w64)) ∷ (4, Rows'.any-gone Syntax.tyBool) ∷ (5, Rows'.any-gone (Syntax.tyInt Syntax.w64)) ∷ (
+      6,
+      Rows'.any-gone
+          Syntax.tyPtr,
+    ) ∷ (7, SlotAs.whole) ∷ []
 
 abbrev pub t11 : List.List Row.Entry
 t11 = (0, SlotAs.whole) ∷ (1, Rows'.sslice SlotAs.row (Syntax.tyRef (Syntax.named 0) Syntax.imm SlotAs.pointee) 0) ∷ (2, Rows'.sc-here (Row.sInt Syntax.w64)) ∷
-    (3, Rows'.any-gone (Syntax.tyInt Syntax.w64)) ∷ (4, Rows'.any-gone Syntax.tyBool) ∷ (5, Rows'.any-gone (Syntax.tyInt Syntax.w64)) ∷ (6, Rows'.any-gone
-    Syntax.tyPtr) ∷ (7, Rows'.any-gone SlotAs.ty) ∷ []
+    (3, Rows'.any-gone (Syntax.tyInt Syntax.w64)) ∷ (4, Rows'.any-gone Syntax.tyBool) ∷ (5, Rows'.any-gone (Syntax.tyInt Syntax.w64)) ∷ (
+      6,
+      Rows'.any-gone
+          Syntax.tyPtr,
+    ) ∷ (7, Rows'.any-gone SlotAs.ty) ∷ []
 
 abbrev pub T0 : Row.Cx
 T0 = record { locals = t0; slots = [] }
@@ -298,402 +355,465 @@ module _ (claims· : Claims) where
   s14 = Scalar.n-room T16 2 (Syntax.tyInt Syntax.w64)
 
   module _ (Pre· : (κs : Lifetimes.Lfts 1) → Kinds.Dens κs ps → Type 0) (Post· : (κs : Lifetimes.Lfts 1) → (a : Kinds.Dens κs ps) → Kinds.Plain 1 ps r κs)
-      where
-    module _ (M : Type 1) where
-      abbrev pub Closed : Type 2
-      Closed = (𝓤 : URA.URA M) (H : Wp.Heap 𝓤) (A : Atoms.Atoms 𝓤) (W : Kit.Given 𝓤 H A) (𝓣 : Wp.Tables 𝓤 H) (known0 : Plain.Known 𝓤 H A W 𝓣 0 ps·0 r·0
-          (claims· .0) (claims· .1) "slots::no_slot") → Statement.Triple 𝓤 (Wp.WpFn 𝓤 H (𝓣 .C) (𝓣 .Λ) (Function.fnOf 1 ps r xs m hs body)) (Function.plainOf 𝓤
-          H A 1 ps r Pre· Post·)
+    where
+      module _ (M : Type 1) where
+        abbrev pub Closed : Type 2
+        Closed = (𝓤 : URA.URA M) (H : Wp.Heap 𝓤) (A : Atoms.Atoms 𝓤) (W : Kit.Given 𝓤 H A) (𝓣 : Wp.Tables 𝓤 H) (known0 : Plain.Known 𝓤 H A W 𝓣 0 ps·0 r·0
+            (claims· .0) (claims· .1) "slots::no_slot") → Statement.Triple 𝓤 (Wp.WpFn 𝓤 H (𝓣 .C) (𝓣 .Λ) (Function.fnOf 1 ps r xs m hs body)) (Function.plainOf 𝓤
+            H A 1 ps r Pre· Post·)
 
-    module _ where
-      abbrev at0 : Typed.TF T14 O1
-      at0 = Typed.atRet O1
+      module _ where
+        abbrev at0 : Typed.TF T14 O1
+        at0 = Typed.atRet O1
 
-      abbrev at1 : Typed.TF T13 O1
-      at1 = λ Ψ. Typed.pass T13 T14 s11 (at0 Ψ)
+        abbrev at1 : Typed.TF T13 O1
+        at1 = λ Ψ. Typed.pass T13 T14 s11 (at0 Ψ)
 
-      abbrev at2 : Typed.TF T12 O1
-      at2 = λ Ψ. Typed.pass T12 T13 s10 (at1 Ψ)
+        abbrev at2 : Typed.TF T12 O1
+        at2 = λ Ψ. Typed.pass T12 T13 s10 (at1 Ψ)
 
-      abbrev at3 : Typed.TF T11 O1
-      at3 = λ Ψ. Typed.pass T11 T12 s9 (at2 Ψ)
+        abbrev at3 : Typed.TF T11 O1
+        at3 = λ Ψ. Typed.pass T11 T12 s9 (at2 Ψ)
 
-      abbrev at4 : Typed.TF T10 O1
-      at4 = λ Ψ. Typed.pass T10 T11 s8 (at3 Ψ)
+        abbrev at4 : Typed.TF T10 O1
+        at4 = λ Ψ. Typed.pass T10 T11 s8 (at3 Ψ)
 
-      abbrev at5 : Typed.TF T9 O1
-      at5 = λ Ψ. Typed.pass T9 T10 s7 (at4 Ψ)
+        abbrev at5 : Typed.TF T9 O1
+        at5 = λ Ψ. Typed.pass T9 T10 s7 (at4 Ψ)
 
-      abbrev at6 : Typed.TF T8 O1
-      at6 = λ Ψ. Typed.both s6 (at5 Ψ)
+        abbrev at6 : Typed.TF T8 O1
+        at6 = λ Ψ. Typed.both s6 (at5 Ψ)
 
-      abbrev at7 : Typed.TF T7 O1
-      at7 = λ Ψ. Typed.ask s5 (at6 Ψ)
+        abbrev at7 : Typed.TF T7 O1
+        at7 = λ Ψ. Typed.ask s5 (at6 Ψ)
 
-      abbrev at8 : Typed.TF T6 O1
-      at8 = λ Ψ. Typed.ask s4 (at7 Ψ)
+        abbrev at8 : Typed.TF T6 O1
+        at8 = λ Ψ. Typed.ask s4 (at7 Ψ)
 
-      abbrev at9 : Typed.TF T5 O1
-      at9 = λ Ψ. Typed.pass T5 T6 s3 (at8 Ψ)
+        abbrev at9 : Typed.TF T5 O1
+        at9 = λ Ψ. Typed.pass T5 T6 s3 (at8 Ψ)
 
-      abbrev at10 : Typed.TF T15 O1
-      at10 = Typed.atNext O1
+        abbrev at10 : Typed.TF T15 O1
+        at10 = Typed.atNext O1
 
-      abbrev at11 : Typed.TF T5 O1
-      at11 = λ Ψ. Typed.pass T5 T15 s12 (at10 Ψ)
+        abbrev at11 : Typed.TF T5 O1
+        at11 = λ Ψ. Typed.pass T5 T15 s12 (at10 Ψ)
 
-      abbrev at12 : Typed.TF T5 O1
-      at12 = Scalar.Φcond T5 O1 4 (λ x. x) at9 at11
+        abbrev at12 : Typed.TF T5 O1
+        at12 = Scalar.Φcond T5 O1 4 (λ x. x) at9 at11
 
-      abbrev at13 : Typed.TF T3 O1
-      at13 = λ Ψ. Typed.pass T3 T5 s2 (at12 Ψ)
+        abbrev at13 : Typed.TF T3 O1
+        at13 = λ Ψ. Typed.pass T3 T5 s2 (at12 Ψ)
 
-      abbrev at14 : Typed.TF T17 O0
-      at14 = Typed.atRet O0
+        abbrev at14 : Typed.TF T17 O0
+        at14 = Typed.atRet O0
 
-      abbrev at15 : Typed.TF T16 O0
-      at15 = λ Ψ. Typed.pass T16 T17 s14 (at14 Ψ)
+        abbrev at15 : Typed.TF T16 O0
+        at15 = λ Ψ. Typed.pass T16 T17 s14 (at14 Ψ)
 
-      abbrev at16 : Typed.TF T4 O0
-      at16 = λ Ψ. Typed.both s13 (at15 Ψ)
+        abbrev at16 : Typed.TF T4 O0
+        at16 = λ Ψ. Typed.both s13 (at15 Ψ)
 
-      abbrev at17 : Typed.TF T3 O0
-      at17 = λ Ψ. at13 (Typed.wantNext T4 O0 (at16 Ψ) Ψ)
+        abbrev at17 : Typed.TF T3 O0
+        at17 = λ Ψ. at13 (Typed.wantNext T4 O0 (at16 Ψ) Ψ)
 
-      abbrev at18 : Typed.TF T2 O0
-      at18 = λ Ψ. Typed.ask s1 (at17 Ψ)
+        abbrev at18 : Typed.TF T2 O0
+        at18 = λ Ψ. Typed.ask s1 (at17 Ψ)
 
-      abbrev at19 : Typed.TF T0 O0
-      at19 = λ Ψ. Typed.pass T0 T2 s0 (at18 Ψ)
+        abbrev at19 : Typed.TF T0 O0
+        at19 = λ Ψ. Typed.pass T0 T2 s0 (at18 Ψ)
 
-      abbrev pub Φ : Typed.TF T0 O0
-      Φ = at19
+        abbrev pub Φ : Typed.TF T0 O0
+        Φ = at19
 
-      module _ {M : Type 1} (𝓤 : URA.URA M) (H : Wp.Heap 𝓤) (A : Atoms.Atoms 𝓤) (W : Kit.Given 𝓤 H A) (𝓣 : Wp.Tables 𝓤 H) where
-        abbrev Knowns : Type 1
-        Knowns = Plain.Known 𝓤 H A W 𝓣 0 ps·0 r·0 (claims· .0) (claims· .1) "slots::no_slot"
-
-      module _ (κs : Lifetimes.Lfts 1) (qs : Lifetimes.Shares 1) where
-        abbrev G0 : Row.Cx
-        G0 = record { locals = t0; slots = Row.lease (κs .0) (qs .0) ∷ [] }
-
-        abbrev G1 : Row.Cx
-        G1 = record { locals = t1; slots = Row.lease (κs .0) (qs .0) ∷ [] }
-
-        abbrev G2 : Row.Cx
-        G2 = record { locals = t2; slots = Row.lease (κs .0) (qs .0) ∷ [] }
-
-        abbrev G3 : Row.Cx
-        G3 = record { locals = t3; slots = Row.lease (κs .0) (qs .0) ∷ [] }
-
-        abbrev G4 : Row.Cx
-        G4 = record { locals = t0; slots = Row.lease (κs .0) (qs .0) ∷ [] }
-
-        abbrev G5 : Row.Cx
-        G5 = record { locals = t4; slots = Row.lease (κs .0) (qs .0) ∷ [] }
-
-        abbrev G6 : Row.Cx
-        G6 = record { locals = t0; slots = Row.lease (κs .0) (qs .0) ∷ [] }
-
-        abbrev G7 : Row.Cx
-        G7 = record { locals = t5; slots = Row.lease (κs .0) (qs .0) ∷ [] }
-
-        abbrev G8 : Row.Cx
-        G8 = record { locals = t6; slots = Row.lease (κs .0) (qs .0) ∷ [] }
-
-        abbrev G9 : Row.Cx
-        G9 = record { locals = t7; slots = Row.lease (κs .0) (qs .0) ∷ [] }
-
-        abbrev G10 : Row.Cx
-        G10 = record { locals = t8; slots = Row.lease (κs .0) (qs .0) ∷ [] }
-
-        abbrev G11 : Row.Cx
-        G11 = record { locals = t9; slots = Row.lease (κs .0) (qs .0) ∷ [] }
-
-        abbrev G12 : Row.Cx
-        G12 = record { locals = t10; slots = Row.lease (κs .0) (qs .0) ∷ [] }
-
-        abbrev G13 : Row.Cx
-        G13 = record { locals = t11; slots = Row.lease (κs .0) (qs .0) ∷ [] }
-
-        abbrev G14 : Row.Cx
-        G14 = record { locals = t1; slots = Row.lease (κs .0) (qs .0) ∷ [] }
-
-        abbrev G15 : Row.Cx
-        G15 = record { locals = t0; slots = Row.lease (κs .0) (qs .0) ∷ [] }
-
-        abbrev G16 : Row.Cx
-        G16 = record { locals = t11; slots = Row.lease (κs .0) (qs .0) ∷ [] }
-
-        abbrev G17 : Row.Cx
-        G17 = record { locals = t1; slots = Row.lease (κs .0) (qs .0) ∷ [] }
-
-        abbrev Δ0 : Typed.Outs
-        Δ0 = record { next = Option.none; exits = []; returns = Option.some G1 }
-
-        abbrev Δ1 : Typed.Outs
-        Δ1 = Typed.withNext (Option.some G4) Δ0
-
-        module _ {M : Type 1} (𝓤 : URA.URA M) (H : Wp.Heap 𝓤) (A : Atoms.Atoms 𝓤) (W : Kit.Given 𝓤 H A) (𝓣 : Wp.Tables 𝓤 H) (known : Knowns 𝓤 H A W 𝓣) (bs :
-            List.List Nat.ℕ) (bd : Lifetimes.AllOutlive 1 (Kinds.osR r) κs) where
-          abbrev E : Wp.Env 𝓤 H
-          E = Frame.EnvOf 𝓤 H (Kinds.tyR r ∷ (Enter.tysP ps xs)) bs
-
-          d0 : Typed.Typed 𝓤 H A 𝓣 E G14 b6 Δ1 at0
-          d0 = Typed.t-return 𝓤 H A W 𝓣 E Δ1 tt
-
-          d1 : Typed.Typed 𝓤 H A 𝓣 E G13 b6 Δ1 at1
-          d1 = Typed.g-pre 𝓤 H A W 𝓣 E G13 G14 b6 Δ1 (Typed.pass T13 T14 s11) at0 (Scalar.g-room 𝓤 H A W E G13 2 (Syntax.tyInt Syntax.w64) (Scalar.room-sc 𝓤 H
-              A W (Row.sInt Syntax.w64))) d0
-
-          d2 : Typed.Typed 𝓤 H A 𝓣 E G12 b6 Δ1 at2
-          d2 = Typed.g-pre 𝓤 H A W 𝓣 E G12 G13 b6 Δ1 (Typed.pass T12 T13 s10) at1 (Scalar.g-room 𝓤 H A W E G12 7 SlotAs.ty (SlotAs.room 𝓤 H A W)) d1
-
-          d3 : Typed.Typed 𝓤 H A 𝓣 E G11 b7 Δ1 at3
-          d3 = Typed.s-seq 𝓤 H A W 𝓣 E G11 G12 b5 b6 Δ1 (Typed.pass T11 T12 s9) at2 (LocalCopy.t-val-copy 𝓤 H A W E 𝓣 (λ ρ. Unit) G11 7 0 SlotAs.row SlotAs.ty
-              SlotAs.ty SlotAs.whole SlotAs.whole (λ x. x) (λ x. x) (λ x. x) Path'.refl (Own.told-none 𝓤 H A (G11 .slots)) (Yields.yields-copy 𝓤 H A W (λ ρ.
-              Unit) SlotAs.row Path'.refl (SlotAs.copies .copy 𝓤 H A W) SlotAs.whole (λ x. x) (λ x. x) (λ ρ told. SlotAs.mem 𝓤 H A W ρ) λ ρ told. SlotAs.of-mem
-              𝓤 H A W ρ) (Reads.room-gone 𝓤 H A SlotAs.ty) (Yields.makes-mem 𝓤 H A W (λ ρ. Unit) SlotAs.row Path'.refl SlotAs.whole (λ x. x) λ ρ told.
-              SlotAs.of-mem 𝓤 H A W ρ) Path'.refl Path'.refl) d2
-
-          d4 : Typed.Typed 𝓤 H A 𝓣 E G10 b7 Δ1 at4
-          d4 = Typed.g-pre 𝓤 H A W 𝓣 E G10 G11 b7 Δ1 (Typed.pass T10 T11 s8) at3 (Scalar.g-room 𝓤 H A W E G10 6 Syntax.tyPtr (Scalar.room-sc 𝓤 H A W Row.sPtr))
-              d3
-
-          d5 : Typed.Typed 𝓤 H A 𝓣 E G9 b7 Δ1 at5
-          d5 = Typed.g-pre 𝓤 H A W 𝓣 E G9 G10 b7 Δ1 (Typed.pass T9 T10 s7) at4 (Scalar.g-room 𝓤 H A W E G9 5 (Syntax.tyInt Syntax.w64) (Scalar.room-sc 𝓤 H A W
-              (Row.sInt Syntax.w64))) d4
-
-          d6 : Typed.Typed 𝓤 H A 𝓣 E G8 b8 Δ1 at6
-          d6 = Typed.s-seq 𝓤 H A W 𝓣 E G8 G9 b4 b7 Δ1 (Typed.both s6) at5 (Move.t-shs-copy-out 𝓤 H A W E SlotAs.row 𝓣 Path'.refl (SlotAs.copies .copy 𝓤 H A W)
-              (Copies.halved 𝓤 H A W SlotAs.copies) (λ ρ. Unit) G8 1 6 7 0 (Syntax.tyRef (Syntax.named 0) Syntax.imm SlotAs.pointee) (Row.lease (κs .0) (qs
-              .0)) SlotAs.ty SlotAs.ty SlotAs.whole (Shared.bySize 44) (λ u. u .1 .1 .0) (λ x. x) SlotAs.none (λ x. Unit) (λ x. x) (λ x. x) (λ i o.
-              Elements.at-mul o 44 i) Path'.refl Path'.refl (Own.told-none 𝓤 H A (G8 .slots)) (DerefMove.learns-nothing 𝓤 H A SlotAs.row) (Reads.as-is 𝓤 H A
-              (Rows'.sslice SlotAs.row (Syntax.tyRef (Syntax.named 0) Syntax.imm SlotAs.pointee) 0)) (Reads.as-is 𝓤 H A (Rows'.sc-here Row.sPtr))
-              (Reads.room-gone 𝓤 H A SlotAs.ty) (Yields.makes-mem 𝓤 H A W (λ ρ. Unit) SlotAs.row Path'.refl SlotAs.whole (λ x. x) λ ρ told. SlotAs.of-mem 𝓤 H A
-              W ρ) Path'.refl tt Path'.refl Path'.refl) d5
-
-          d7 : Typed.Typed 𝓤 H A 𝓣 E G7 b9 Δ1 at7
-          d7 = Typed.s-seq 𝓤 H A W 𝓣 E G7 G8 b3 b8 Δ1 (Typed.ask s5) at6 (Scalar.t-op2 𝓤 H A W E 𝓣 G7 Syntax.offset (Scalar.oFld 1 (Syntax.field 0 ∷ [])
-              (Syntax.tyRef (Syntax.named 0) Syntax.imm SlotAs.pointee) 0 Reads.ptrVal) (Scalar.oAt 5 (Syntax.tyInt Syntax.w64) (Row.valS (Row.sInt
-              Syntax.w64))) 6 (Rows'.sc-here Row.sPtr) Syntax.tyPtr (Row.valS Row.sPtr) (Row.sPtr .of) (Shared.reads-sslice-ptr 𝓤 H A W SlotAs.row
-              (Syntax.tyRef (Syntax.named 0) Syntax.imm SlotAs.pointee) 0 0 Path'.refl, Path'.refl) (Scalar.reads-sc 𝓤 H A W (Row.sInt Syntax.w64), Path'.refl)
-              (Reads.room-gone 𝓤 H A Syntax.tyPtr) (Scalar.holds-sc 𝓤 H A W Row.sPtr) Path'.refl (λ u. Path'.refl) λ u. tt) d6
-
-          d8 : Typed.Typed 𝓤 H A 𝓣 E G6 b10 Δ1 at8
-          d8 = Typed.s-seq 𝓤 H A W 𝓣 E G6 G7 b2 b9 Δ1 (Typed.ask s4) at7 (Scalar.t-op2 𝓤 H A W E 𝓣 G6 (Syntax.mul Syntax.unsigned) (Scalar.oAt 2 (Syntax.tyInt
-              Syntax.w64) (Row.valS (Row.sInt Syntax.w64))) (Scalar.oInt Syntax.w64 44) 5 (Rows'.sc-here (Row.sInt Syntax.w64)) (Syntax.tyInt Syntax.w64)
-              (Row.valS (Row.sInt Syntax.w64)) (Row.sInt Syntax.w64 .of) (Scalar.reads-sc 𝓤 H A W (Row.sInt Syntax.w64), Path'.refl) tt (Reads.room-gone 𝓤 H A
-              (Syntax.tyInt Syntax.w64)) (Scalar.holds-sc 𝓤 H A W (Row.sInt Syntax.w64)) Path'.refl (λ u. Path'.refl) λ u. tt) d7
-
-          d9 : Typed.Typed 𝓤 H A 𝓣 E G5 b10 Δ1 at9
-          d9 = Typed.g-pre 𝓤 H A W 𝓣 E G5 G6 b10 Δ1 (Typed.pass T5 T6 s3) at8 (Scalar.g-room 𝓤 H A W E G5 4 Syntax.tyBool (Scalar.room-sc 𝓤 H A W Row.sBool))
-              d8
-
-          d10 : Typed.Typed 𝓤 H A 𝓣 E G15 b11 Δ1 at10
-          d10 = Typed.t-skip 𝓤 H A W 𝓣 E Δ1 tt
-
-          d11 : Typed.Typed 𝓤 H A 𝓣 E G5 b11 Δ1 at11
-          d11 = Typed.g-pre 𝓤 H A W 𝓣 E G5 G15 b11 Δ1 (Typed.pass T5 T15 s12) at10 (Scalar.g-room 𝓤 H A W E G5 4 Syntax.tyBool (Scalar.room-sc 𝓤 H A W
-              Row.sBool)) d10
-
-          d12 : Typed.Typed 𝓤 H A 𝓣 E G5 b12 Δ1 at12
-          d12 = Scalar.t-cond 𝓤 H A W E 𝓣 G5 4 (λ x. x) b10 b11 Δ1 at9 at11 (Scalar.reads-sc 𝓤 H A W Row.sBool) Path'.refl d9 d11
-
-          d13 : Typed.Typed 𝓤 H A 𝓣 E G3 b12 Δ1 at13
-          d13 = Typed.g-pre 𝓤 H A W 𝓣 E G3 G5 b12 Δ1 (Typed.pass T3 T5 s2) at12 (Scalar.g-room 𝓤 H A W E G3 3 (Syntax.tyInt Syntax.w64) (Scalar.room-sc 𝓤 H A W
-              (Row.sInt Syntax.w64))) d12
-
-          d14 : Typed.Typed 𝓤 H A 𝓣 E G17 b14 Δ0 at14
-          d14 = Typed.t-return 𝓤 H A W 𝓣 E Δ0 tt
-
-          d15 : Typed.Typed 𝓤 H A 𝓣 E G16 b14 Δ0 at15
-          d15 = Typed.g-pre 𝓤 H A W 𝓣 E G16 G17 b14 Δ0 (Typed.pass T16 T17 s14) at14 (Scalar.g-room 𝓤 H A W E G16 2 (Syntax.tyInt Syntax.w64) (Scalar.room-sc 𝓤
-              H A W (Row.sInt Syntax.w64))) d14
-
-          d16 : Typed.Typed 𝓤 H A 𝓣 E G4 b15 Δ0 at16
-          d16 = Typed.s-seq 𝓤 H A W 𝓣 E G4 G16 b13 b14 Δ0 (Typed.both s13) at15 (Plain.t-call-plain 𝓤 H A W 𝓣 0 ps·0 r·0 (claims· .0) (claims· .1)
-              "slots::no_slot" known E (λ pos β. β) G4 tt 0 [] (Call.sub-id 𝓤 H A W (G4 .slots)) tt (Reads.room-gone 𝓤 H A SlotAs.ty) tt Path'.refl) d15
-
-          d17 : Typed.Typed 𝓤 H A 𝓣 E G3 b16 Δ0 at17
-          d17 = Typed.t-seq 𝓤 H A W 𝓣 E G3 G4 b12 b15 Δ0 at13 at16 d13 d16
-
-          d18 : Typed.Typed 𝓤 H A 𝓣 E G2 b17 Δ0 at18
-          d18 = Typed.s-seq 𝓤 H A W 𝓣 E G2 G3 b1 b16 Δ0 (Typed.ask s1) at17 (Scalar.t-op2 𝓤 H A W E 𝓣 G2 (Syntax.lt Syntax.unsigned) (Scalar.oAt 2
-              (Syntax.tyInt Syntax.w64) (Row.valS (Row.sInt Syntax.w64))) (Scalar.oAt 3 (Syntax.tyInt Syntax.w64) (Row.valS (Row.sInt Syntax.w64))) 4
-              (Rows'.sc-here Row.sBool) Syntax.tyBool (Row.valS Row.sBool) (Row.sBool .of) (Scalar.reads-sc 𝓤 H A W (Row.sInt Syntax.w64), Path'.refl)
-              (Scalar.reads-sc 𝓤 H A W (Row.sInt Syntax.w64), Path'.refl) (Reads.room-gone 𝓤 H A Syntax.tyBool) (Scalar.holds-sc 𝓤 H A W Row.sBool) Path'.refl
-              (λ u. Path'.refl) λ u. tt) d17
-
-          d19 : Typed.Typed 𝓤 H A 𝓣 E G0 b18 Δ0 at19
-          d19 = Typed.s-seq 𝓤 H A W 𝓣 E G0 G2 b0 b17 Δ0 (Typed.pass T0 T2 s0) at18 (Scalar.t-use 𝓤 H A W E 𝓣 G0 (Scalar.oFld 1 (Syntax.field 1 ∷ [])
-              (Syntax.tyInt Syntax.w64) 8 Shared.lenV) 3 (Rows'.sc-here (Row.sInt Syntax.w64)) (Syntax.tyInt Syntax.w64) (Row.valS (Row.sInt Syntax.w64))
-              (Row.sInt Syntax.w64 .of) (Shared.reads-sslice-len 𝓤 H A W SlotAs.row (Syntax.tyRef (Syntax.named 0) Syntax.imm SlotAs.pointee) 0 8 Path'.refl,
-              Path'.refl) (Reads.room-gone 𝓤 H A (Syntax.tyInt Syntax.w64)) (Scalar.holds-sc 𝓤 H A W (Row.sInt Syntax.w64)) Path'.refl (λ u. Path'.refl) λ u.
-              tt) d18
-
-          pub typed : Typed.Typed 𝓤 H A 𝓣 E (Function.Γin 1 ps r xs m κs qs) b18 (Function.Δret 1 ps r xs m κs qs) Φ
-          typed = d19
-
-      module _ (κs : Lifetimes.Lfts 1) where
-        pub record Args : Type 0 where
-          pub table : Kinds.Den {n = 1} κs (ShrSlice.pShrS SlotAs.row 0 tt)
-          pub k : Kinds.Den {n = 1} κs (Num.pNum Syntax.w64)
-
-        abbrev pub dens : (a : Args) → Kinds.Dens κs ps
-        dens = λ a. (a .table, (a .k, tt))
-
-        module _ (args· : Args) where
-          pub record Ranges : Type 0 where
-            pub k : Val.Fits Syntax.w64 (args· .k)
-
-      abbrev pub m0 : (κs : Lifetimes.Lfts 1) → (args : Args κs) → Typed.Mo T0
-      m0 = λ κs args. (tt, Enter.partsP κs 1 ps xs (dens κs args))
-
-      abbrev W0 : (κs : Lifetimes.Lfts 1) → (args : Args κs) → Typed.Want O0
-      W0 = λ κs args. (λ u. ⊥, tt, λ u. Enter.Fixs κs 1 ps xs (dens κs args) (u .1) × Post· κs (dens κs args) (Function.resV r κs (u .0)) (Clauses.atExit
-          (Kinds.endedOf 1 ps r) κs (dens κs args) (Enter.lastsP κs 1 ps xs (dens κs args) (u .1))))
-
-      pub record Start : Type 0 where
-        pub κs : Lifetimes.Lfts 1
-        pub args : Args κs
-        pub good : Kinds.GoodsP κs ps (dens κs args)
-        pub fits : Ranges κs args
-        pub pre : Pre· κs (dens κs args)
-
-      abbrev pub m1 : (κs : Lifetimes.Lfts 1) → (args : Args κs) → Typed.Mo T2
-      m1 = λ κs args. s0 (m0 κs args)
-
-      abbrev pub m2 : (κs : Lifetimes.Lfts 1) → (args : Args κs) → Typed.Mo T3
-      m2 = λ κs args. s1 .next (m1 κs args)
-
-      abbrev W1 : (κs : Lifetimes.Lfts 1) → (args : Args κs) → Typed.Want O1
-      W1 = λ κs args. Typed.wantNext T4 O0 (at16 (W0 κs args)) (W0 κs args)
-
-      abbrev pub m3 : (κs : Lifetimes.Lfts 1) → (args : Args κs) → Typed.Mo T5
-      m3 = λ κs args. s2 (m2 κs args)
-
-      module _ (before· : Start) where
-        pub record Then1·own : Type 0 where
-          pub taken : Nat._<_ (Row.get 2 (T2 .locals) (m1 (before· .κs) (before· .args))) (Row.get 3 (T2 .locals) (m1 (before· .κs) (before· .args)))
-
-      pub record Then1 : Type 0 where
-        pub before : Start
-        pub if1 : Then1·own before
-
-      abbrev pub m4 : (before : Start) → Typed.Mo T6
-      m4 = λ before. s3 (m3 (before .κs) (before .args))
-
-      abbrev pub Need-mul-result : Type 0
-      Need-mul-result = (c : Then1) → s4 .asks (m4 (c .before))
-
-      abbrev pub m5 : (before : Start) → Typed.Mo T7
-      m5 = λ before. s4 .next (m4 before)
-
-      abbrev pub m6 : (before : Start) → Typed.Mo T8
-      m6 = λ before. s5 .next (m5 before)
-
-      abbrev pub Need-shared-slice-copy-out-result : Type 0
-      Need-shared-slice-copy-out-result = (c : Then1) → Shared.InSlice T8 1 6 (λ x. x) (λ u. u .1 .1 .0) (m6 (c .before))
-
-      abbrev pub m7 : (before : Then1) → (given : s6 .gives (m6 (before .before))) → Typed.Mo T9
-      m7 = λ before given. s6 .next (m6 (before .before)) given
-
-      abbrev pub m8 : (before : Then1) → (given : s6 .gives (m6 (before .before))) → Typed.Mo T10
-      m8 = λ before given. s7 (m7 before given)
-
-      abbrev pub m9 : (before : Then1) → (given : s6 .gives (m6 (before .before))) → Typed.Mo T11
-      m9 = λ before given. s8 (m8 before given)
-
-      abbrev pub m10 : (before : Then1) → (given : s6 .gives (m6 (before .before))) → Typed.Mo T12
-      m10 = λ before given. s9 (m9 before given)
-
-      abbrev pub m11 : (before : Then1) → (given : s6 .gives (m6 (before .before))) → Typed.Mo T13
-      m11 = λ before given. s10 (m10 before given)
-
-      abbrev pub m12 : (before : Then1) → (given : s6 .gives (m6 (before .before))) → Typed.Mo T14
-      m12 = λ before given. s11 (m11 before given)
-
-      module _ (before· : Then1) where
-        pub record After-result·own : Type 0 where
-          pub given : s6 .gives (m6 (before· .before))
-
-      pub record After-result : Type 0 where
-        pub before : Then1
-        pub result : After-result·own before
-
-      abbrev pub Need-returns : Type 0
-      Need-returns = (c : After-result) → Post· (c .before .before .κs) (dens (c .before .before .κs) (c .before .before .args)) (Function.resV r (c .before
-          .before .κs) (m12 (c .before) (c .result .given) .0)) (Clauses.atExit (Kinds.endedOf 1 ps r) (c .before .before .κs) (dens (c .before .before .κs) (c
-          .before .before .args)) (Enter.lastsP (c .before .before .κs) 1 ps xs (dens (c .before .before .κs) (c .before .before .args)) (m12 (c .before) (c
-          .result .given) .1)))
-
-      module _ (before· : Start) where
-        pub record Else1·own : Type 0 where
-          pub left : Nat._≤_ (Row.get 3 (T2 .locals) (m1 (before· .κs) (before· .args))) (Row.get 2 (T2 .locals) (m1 (before· .κs) (before· .args)))
-
-      pub record Else1 : Type 0 where
-        pub before : Start
-        pub if1 : Else1·own before
-
-      abbrev pub m13 : (before : Start) → Typed.Mo T15
-      m13 = λ before. s12 (m3 (before .κs) (before .args))
-
-      abbrev pub Need-no-slot-requires : Type 0
-      Need-no-slot-requires = (c : Else1) → s13 .asks (m13 (c .before))
-
-      abbrev pub m14 : (before : Else1) → (given : s13 .gives (m13 (before .before))) → Typed.Mo T16
-      m14 = λ before given. s13 .next (m13 (before .before)) given
-
-      module _ (before· : Else1) where
-        abbrev pub After-no-slot·own : Type 0
-        After-no-slot·own = Called.Called ps·0 r·0 (claims· .1) T4 tt (m13 (before· .before))
-
-      pub record After-no-slot : Type 0 where
-        pub before : Else1
-        pub no-slot : After-no-slot·own before
-
-      abbrev pub After-no-slot·gave : (c : After-no-slot) → s13 .gives (m13 (c .before .before))
-      After-no-slot·gave = λ c. Called.given ps·0 r·0 (claims· .1) T4 tt (m13 (c .before .before)) (c .no-slot)
-
-      abbrev pub m15 : (before : Else1) → (given : s13 .gives (m13 (before .before))) → Typed.Mo T17
-      m15 = λ before given. s14 (m14 before given)
-
-      abbrev pub Need-returns-2 : Type 0
-      Need-returns-2 = (c : After-no-slot) → Post· (c .before .before .κs) (dens (c .before .before .κs) (c .before .before .args)) (Function.resV r (c .before
-          .before .κs) (m15 (c .before) (After-no-slot·gave c) .0)) (Clauses.atExit (Kinds.endedOf 1 ps r) (c .before .before .κs) (dens (c .before .before
-          .κs) (c .before .before .args)) (Enter.lastsP (c .before .before .κs) 1 ps xs (dens (c .before .before .κs) (c .before .before .args)) (m15 (c
-          .before) (After-no-slot·gave c) .1)))
-
-      module _ (mul-result : Need-mul-result) (shared-slice-copy-out-result : Need-shared-slice-copy-out-result) (returns : Need-returns) (no-slot-requires :
-          Need-no-slot-requires) (returns-2 : Need-returns-2) where
-        lay4 : (c : After-no-slot) → at15 (W0 (c .before .before .κs) (c .before .before .args)) (m14 (c .before) (After-no-slot·gave c))
-        lay4 = λ c. ((Path'.refl, (tt, tt)), returns-2 record { before = c .before; no-slot = c .no-slot })
-
-        lay3 : (c : Else1) → at16 (W0 (c .before .κs) (c .before .args)) (m13 (c .before))
-        lay3 = λ c. (no-slot-requires record { before = c .before; if1 = c .if1 }, λ g. lay4 record { before = record { before = c .before; if1 = c .if1 };
-            no-slot = Called.called ps·0 r·0 (claims· .1) T4 tt (m13 (c .before)) g; })
-
-        lay2 : (c : Else1) → at11 (W1 (c .before .κs) (c .before .args)) (m3 (c .before .κs) (c .before .args))
-        lay2 = λ c. lay3 record { before = c .before; if1 = c .if1 }
-
-        lay1 : (c : Then1) → at9 (W1 (c .before .κs) (c .before .args)) (m3 (c .before .κs) (c .before .args))
-        lay1 = λ c. (mul-result record { before = c .before; if1 = c .if1 }, (tt, ((Path'.refl, Path'.refl, shared-slice-copy-out-result record { before = c
-            .before; if1 = c .if1 }), λ g. ((Path'.refl, (tt, tt)), returns record { before = record { before = c .before; if1 = c .if1 }; result = record {
-            given = g }; }))))
-
-        pub laid : (c : Start) → at19 (W0 (c .κs) (c .args)) (m0 (c .κs) (c .args))
-        laid = λ c. (tt, (λ taken. lay1 record { before = c; if1 = record { taken = Tests.ltb-true (Row.get 2 (T2 .locals) (m1 (c .κs) (c .args))) (Row.get 3
-            (T2 .locals) (m1 (c .κs) (c .args))) taken; }; }, λ left. lay2 record { before = c; if1 = record { left = Tests.ltb-false (Row.get 2 (T2 .locals)
-            (m1 (c .κs) (c .args))) (Row.get 3 (T2 .locals) (m1 (c .κs) (c .args))) left; }; }))
+        module _ {M : Type 1} (𝓤 : URA.URA M) (H : Wp.Heap 𝓤) (A : Atoms.Atoms 𝓤) (W : Kit.Given 𝓤 H A) (𝓣 : Wp.Tables 𝓤 H) where
+          abbrev Knowns : Type 1
+          Knowns = Plain.Known 𝓤 H A W 𝓣 0 ps·0 r·0 (claims· .0) (claims· .1) "slots::no_slot"
 
         module _ (κs : Lifetimes.Lfts 1) (qs : Lifetimes.Shares 1) where
-          pub asked : (a : Kinds.Dens κs ps) → (good : Kinds.GoodsP κs ps a) → (pre : Pre· κs a) → (bs : List.List Nat.ℕ) → Φ (Any.wantQ 1 ps r xs m κs qs a
-              (Post· κs a)) (Function.init 1 ps r xs m κs qs a)
-          asked = λ a good pre bs. laid record { κs = κs; args = record { table = a .0; k = a .1 .0 }; good = good; fits = record { k = record { fits = good .1
-              .0 .1 } }; pre = pre; }
+          abbrev G0 : Row.Cx
+          G0 = record { locals = t0; slots = Row.lease (κs .0) (qs .0) ∷ [] }
 
-        module _ {M : Type 1} (𝓤 : URA.URA M) (H : Wp.Heap 𝓤) (A : Atoms.Atoms 𝓤) (W : Kit.Given 𝓤 H A) (𝓣 : Wp.Tables 𝓤 H) (known0 : Plain.Known 𝓤 H A W 𝓣 0
-            ps·0 r·0 (claims· .0) (claims· .1) "slots::no_slot") where
-          pub spec : Statement.Triple 𝓤 (Wp.WpFn 𝓤 H (𝓣 .C) (𝓣 .Λ) (Function.fnOf 1 ps r xs m hs body)) (Function.plainOf 𝓤 H A 1 ps r Pre· Post·)
-          spec = Plain.t-fn-plain 𝓤 H A W 𝓣 1 ps r xs m hs body (λ κs qs bs. Φ) (λ κs qs bs bd. typed κs qs 𝓤 H A W 𝓣 known0 bs bd) Pre· Post· asked
+          abbrev G1 : Row.Cx
+          G1 = record { locals = t1; slots = Row.lease (κs .0) (qs .0) ∷ [] }
+
+          abbrev G2 : Row.Cx
+          G2 = record { locals = t2; slots = Row.lease (κs .0) (qs .0) ∷ [] }
+
+          abbrev G3 : Row.Cx
+          G3 = record { locals = t3; slots = Row.lease (κs .0) (qs .0) ∷ [] }
+
+          abbrev G4 : Row.Cx
+          G4 = record { locals = t0; slots = Row.lease (κs .0) (qs .0) ∷ [] }
+
+          abbrev G5 : Row.Cx
+          G5 = record { locals = t4; slots = Row.lease (κs .0) (qs .0) ∷ [] }
+
+          abbrev G6 : Row.Cx
+          G6 = record { locals = t0; slots = Row.lease (κs .0) (qs .0) ∷ [] }
+
+          abbrev G7 : Row.Cx
+          G7 = record { locals = t5; slots = Row.lease (κs .0) (qs .0) ∷ [] }
+
+          abbrev G8 : Row.Cx
+          G8 = record { locals = t6; slots = Row.lease (κs .0) (qs .0) ∷ [] }
+
+          abbrev G9 : Row.Cx
+          G9 = record { locals = t7; slots = Row.lease (κs .0) (qs .0) ∷ [] }
+
+          abbrev G10 : Row.Cx
+          G10 = record { locals = t8; slots = Row.lease (κs .0) (qs .0) ∷ [] }
+
+          abbrev G11 : Row.Cx
+          G11 = record { locals = t9; slots = Row.lease (κs .0) (qs .0) ∷ [] }
+
+          abbrev G12 : Row.Cx
+          G12 = record { locals = t10; slots = Row.lease (κs .0) (qs .0) ∷ [] }
+
+          abbrev G13 : Row.Cx
+          G13 = record { locals = t11; slots = Row.lease (κs .0) (qs .0) ∷ [] }
+
+          abbrev G14 : Row.Cx
+          G14 = record { locals = t1; slots = Row.lease (κs .0) (qs .0) ∷ [] }
+
+          abbrev G15 : Row.Cx
+          G15 = record { locals = t0; slots = Row.lease (κs .0) (qs .0) ∷ [] }
+
+          abbrev G16 : Row.Cx
+          G16 = record { locals = t11; slots = Row.lease (κs .0) (qs .0) ∷ [] }
+
+          abbrev G17 : Row.Cx
+          G17 = record { locals = t1; slots = Row.lease (κs .0) (qs .0) ∷ [] }
+
+          abbrev Δ0 : Typed.Outs
+          Δ0 = record { next = Option.none; exits = []; returns = Option.some G1 }
+
+          abbrev Δ1 : Typed.Outs
+          Δ1 = Typed.withNext (Option.some G4) Δ0
+
+          module _ {M : Type 1} (𝓤 : URA.URA M) (H : Wp.Heap 𝓤) (A : Atoms.Atoms 𝓤) (W : Kit.Given 𝓤 H A) (𝓣 : Wp.Tables 𝓤 H) (known : Knowns 𝓤 H A W 𝓣) (bs :
+              List.List Nat.ℕ) (bd : Lifetimes.AllOutlive 1 (Kinds.osR r) κs) where
+            abbrev E : Wp.Env 𝓤 H
+            E = Frame.EnvOf 𝓤 H (Kinds.tyR r ∷ (Enter.tysP ps xs)) bs
+
+            d0 : Typed.Typed 𝓤 H A 𝓣 E G14 b6 Δ1 at0
+            d0 = Typed.t-return 𝓤 H A W 𝓣 E Δ1 tt
+
+            d1 : Typed.Typed 𝓤 H A 𝓣 E G13 b6 Δ1 at1
+            d1 = Typed.g-pre 𝓤 H A W 𝓣 E G13 G14 b6 Δ1 (Typed.pass T13 T14 s11) at0 (Scalar.g-room 𝓤 H A W E G13 2 (Syntax.tyInt Syntax.w64) (Scalar.room-sc 𝓤 H
+                A W (Row.sInt Syntax.w64))) d0
+
+            d2 : Typed.Typed 𝓤 H A 𝓣 E G12 b6 Δ1 at2
+            d2 = Typed.g-pre 𝓤 H A W 𝓣 E G12 G13 b6 Δ1 (Typed.pass T12 T13 s10) at1 (Scalar.g-room 𝓤 H A W E G12 7 SlotAs.ty (SlotAs.room 𝓤 H A W)) d1
+
+            d3 : Typed.Typed 𝓤 H A 𝓣 E G11 b7 Δ1 at3
+            d3 = Typed.s-seq 𝓤 H A W 𝓣 E G11 G12 b5 b6 Δ1 (Typed.pass T11 T12 s9) at2 (LocalCopy.t-val-copy 𝓤 H A W E 𝓣 (λ ρ. Unit) G11 7 0 SlotAs.row SlotAs.ty
+                SlotAs.ty SlotAs.whole SlotAs.whole (λ x. x) (λ x. x) (λ x. x) Path'.refl (Own.told-none 𝓤 H A (G11 .slots)) (Yields.yields-copy 𝓤 H A W (λ ρ.
+                Unit) SlotAs.row Path'.refl (SlotAs.copies .copy 𝓤 H A W) SlotAs.whole (λ x. x) (λ x. x) (λ ρ told. SlotAs.mem 𝓤 H A W ρ) λ ρ told. SlotAs.of-mem
+                𝓤 H A W ρ) (Reads.room-gone 𝓤 H A SlotAs.ty) (Yields.makes-mem 𝓤 H A W (λ ρ. Unit) SlotAs.row Path'.refl SlotAs.whole (λ x. x) λ ρ told.
+                SlotAs.of-mem 𝓤 H A W ρ) Path'.refl Path'.refl) d2
+
+            d4 : Typed.Typed 𝓤 H A 𝓣 E G10 b7 Δ1 at4
+            d4 = Typed.g-pre 𝓤 H A W 𝓣 E G10 G11 b7 Δ1 (Typed.pass T10 T11 s8) at3 (Scalar.g-room 𝓤 H A W E G10 6 Syntax.tyPtr (Scalar.room-sc 𝓤 H A W Row.sPtr))
+                d3
+
+            d5 : Typed.Typed 𝓤 H A 𝓣 E G9 b7 Δ1 at5
+            d5 = Typed.g-pre 𝓤 H A W 𝓣 E G9 G10 b7 Δ1 (Typed.pass T9 T10 s7) at4 (Scalar.g-room 𝓤 H A W E G9 5 (Syntax.tyInt Syntax.w64) (Scalar.room-sc 𝓤 H A W
+                (Row.sInt Syntax.w64))) d4
+
+            d6 : Typed.Typed 𝓤 H A 𝓣 E G8 b8 Δ1 at6
+            d6 = Typed.s-seq 𝓤 H A W 𝓣 E G8 G9 b4 b7 Δ1 (Typed.both s6) at5 (Move.t-shs-copy-out 𝓤 H A W E SlotAs.row 𝓣 Path'.refl (SlotAs.copies .copy 𝓤 H A W)
+                (Copies.halved 𝓤 H A W SlotAs.copies) (λ ρ. Unit) G8 1 6 7 0 (Syntax.tyRef (Syntax.named 0) Syntax.imm SlotAs.pointee) (Row.lease (κs .0) (qs
+                .0)) SlotAs.ty SlotAs.ty SlotAs.whole (Shared.bySize 44) (λ u. u .1 .1 .0) (λ x. x) SlotAs.none (λ x. Unit) (λ x. x) (λ x. x) (λ i o.
+                Elements.at-mul o 44 i) Path'.refl Path'.refl (Own.told-none 𝓤 H A (G8 .slots)) (DerefMove.learns-nothing 𝓤 H A SlotAs.row) (Reads.as-is 𝓤 H A
+                (Rows'.sslice SlotAs.row (Syntax.tyRef (Syntax.named 0) Syntax.imm SlotAs.pointee) 0)) (Reads.as-is 𝓤 H A (Rows'.sc-here Row.sPtr))
+                (Reads.room-gone 𝓤 H A SlotAs.ty) (Yields.makes-mem 𝓤 H A W (λ ρ. Unit) SlotAs.row Path'.refl SlotAs.whole (λ x. x) λ ρ told. SlotAs.of-mem 𝓤 H A
+                W ρ) Path'.refl tt Path'.refl Path'.refl) d5
+
+            d7 : Typed.Typed 𝓤 H A 𝓣 E G7 b9 Δ1 at7
+            d7 = Typed.s-seq 𝓤 H A W 𝓣 E G7 G8 b3 b8 Δ1 (Typed.ask s5) at6 (Scalar.t-op2 𝓤 H A W E 𝓣 G7 Syntax.offset (Scalar.oFld 1 (Syntax.field 0 ∷ [])
+                (Syntax.tyRef (Syntax.named 0) Syntax.imm SlotAs.pointee) 0 Reads.ptrVal) (Scalar.oAt 5 (Syntax.tyInt Syntax.w64) (Row.valS (Row.sInt
+                Syntax.w64))) 6 (Rows'.sc-here Row.sPtr) Syntax.tyPtr (Row.valS Row.sPtr) (Row.sPtr .of) (
+                  Shared.reads-sslice-ptr 𝓤 H A W SlotAs.row
+                      (Syntax.tyRef (Syntax.named 0) Syntax.imm SlotAs.pointee) 0 0 Path'.refl,
+                  Path'.refl,
+                ) (Scalar.reads-sc 𝓤 H A W (Row.sInt Syntax.w64), Path'.refl)
+                (Reads.room-gone 𝓤 H A Syntax.tyPtr) (Scalar.holds-sc 𝓤 H A W Row.sPtr) Path'.refl (λ u. Path'.refl) λ u. tt) d6
+
+            d8 : Typed.Typed 𝓤 H A 𝓣 E G6 b10 Δ1 at8
+            d8 = Typed.s-seq 𝓤 H A W 𝓣 E G6 G7 b2 b9 Δ1 (Typed.ask s4) at7 (Scalar.t-op2 𝓤 H A W E 𝓣 G6 (Syntax.mul Syntax.unsigned) (Scalar.oAt 2 (Syntax.tyInt
+                Syntax.w64) (Row.valS (Row.sInt Syntax.w64))) (Scalar.oInt Syntax.w64 44) 5 (Rows'.sc-here (Row.sInt Syntax.w64)) (Syntax.tyInt Syntax.w64)
+                (Row.valS (Row.sInt Syntax.w64)) (Row.sInt Syntax.w64 .of) (Scalar.reads-sc 𝓤 H A W (Row.sInt Syntax.w64), Path'.refl) tt (Reads.room-gone 𝓤 H A
+                (Syntax.tyInt Syntax.w64)) (Scalar.holds-sc 𝓤 H A W (Row.sInt Syntax.w64)) Path'.refl (λ u. Path'.refl) λ u. tt) d7
+
+            d9 : Typed.Typed 𝓤 H A 𝓣 E G5 b10 Δ1 at9
+            d9 = Typed.g-pre 𝓤 H A W 𝓣 E G5 G6 b10 Δ1 (Typed.pass T5 T6 s3) at8 (Scalar.g-room 𝓤 H A W E G5 4 Syntax.tyBool (Scalar.room-sc 𝓤 H A W Row.sBool))
+                d8
+
+            d10 : Typed.Typed 𝓤 H A 𝓣 E G15 b11 Δ1 at10
+            d10 = Typed.t-skip 𝓤 H A W 𝓣 E Δ1 tt
+
+            d11 : Typed.Typed 𝓤 H A 𝓣 E G5 b11 Δ1 at11
+            d11 = Typed.g-pre 𝓤 H A W 𝓣 E G5 G15 b11 Δ1 (Typed.pass T5 T15 s12) at10 (Scalar.g-room 𝓤 H A W E G5 4 Syntax.tyBool (Scalar.room-sc 𝓤 H A W
+                Row.sBool)) d10
+
+            d12 : Typed.Typed 𝓤 H A 𝓣 E G5 b12 Δ1 at12
+            d12 = Scalar.t-cond 𝓤 H A W E 𝓣 G5 4 (λ x. x) b10 b11 Δ1 at9 at11 (Scalar.reads-sc 𝓤 H A W Row.sBool) Path'.refl d9 d11
+
+            d13 : Typed.Typed 𝓤 H A 𝓣 E G3 b12 Δ1 at13
+            d13 = Typed.g-pre 𝓤 H A W 𝓣 E G3 G5 b12 Δ1 (Typed.pass T3 T5 s2) at12 (Scalar.g-room 𝓤 H A W E G3 3 (Syntax.tyInt Syntax.w64) (Scalar.room-sc 𝓤 H A W
+                (Row.sInt Syntax.w64))) d12
+
+            d14 : Typed.Typed 𝓤 H A 𝓣 E G17 b14 Δ0 at14
+            d14 = Typed.t-return 𝓤 H A W 𝓣 E Δ0 tt
+
+            d15 : Typed.Typed 𝓤 H A 𝓣 E G16 b14 Δ0 at15
+            d15 = Typed.g-pre 𝓤 H A W 𝓣 E G16 G17 b14 Δ0 (Typed.pass T16 T17 s14) at14 (Scalar.g-room 𝓤 H A W E G16 2 (Syntax.tyInt Syntax.w64) (Scalar.room-sc 𝓤
+                H A W (Row.sInt Syntax.w64))) d14
+
+            d16 : Typed.Typed 𝓤 H A 𝓣 E G4 b15 Δ0 at16
+            d16 = Typed.s-seq 𝓤 H A W 𝓣 E G4 G16 b13 b14 Δ0 (Typed.both s13) at15 (Plain.t-call-plain 𝓤 H A W 𝓣 0 ps·0 r·0 (claims· .0) (claims· .1)
+                "slots::no_slot" known E (λ pos β. β) G4 tt 0 [] (Call.sub-id 𝓤 H A W (G4 .slots)) tt (Reads.room-gone 𝓤 H A SlotAs.ty) tt Path'.refl) d15
+
+            d17 : Typed.Typed 𝓤 H A 𝓣 E G3 b16 Δ0 at17
+            d17 = Typed.t-seq 𝓤 H A W 𝓣 E G3 G4 b12 b15 Δ0 at13 at16 d13 d16
+
+            d18 : Typed.Typed 𝓤 H A 𝓣 E G2 b17 Δ0 at18
+            d18 = Typed.s-seq 𝓤 H A W 𝓣 E G2 G3 b1 b16 Δ0 (Typed.ask s1) at17 (Scalar.t-op2 𝓤 H A W E 𝓣 G2 (Syntax.lt Syntax.unsigned) (Scalar.oAt 2
+                (Syntax.tyInt Syntax.w64) (Row.valS (Row.sInt Syntax.w64))) (Scalar.oAt 3 (Syntax.tyInt Syntax.w64) (Row.valS (Row.sInt Syntax.w64))) 4
+                (Rows'.sc-here Row.sBool) Syntax.tyBool (Row.valS Row.sBool) (Row.sBool .of) (Scalar.reads-sc 𝓤 H A W (Row.sInt Syntax.w64), Path'.refl)
+                (Scalar.reads-sc 𝓤 H A W (Row.sInt Syntax.w64), Path'.refl) (Reads.room-gone 𝓤 H A Syntax.tyBool) (Scalar.holds-sc 𝓤 H A W Row.sBool) Path'.refl
+                (λ u. Path'.refl) λ u. tt) d17
+
+            d19 : Typed.Typed 𝓤 H A 𝓣 E G0 b18 Δ0 at19
+            d19 = Typed.s-seq 𝓤 H A W 𝓣 E G0 G2 b0 b17 Δ0 (Typed.pass T0 T2 s0) at18 (Scalar.t-use 𝓤 H A W E 𝓣 G0 (Scalar.oFld 1 (Syntax.field 1 ∷ [])
+                (Syntax.tyInt Syntax.w64) 8 Shared.lenV) 3 (Rows'.sc-here (Row.sInt Syntax.w64)) (Syntax.tyInt Syntax.w64) (Row.valS (Row.sInt Syntax.w64))
+                (Row.sInt Syntax.w64 .of) (
+                  Shared.reads-sslice-len 𝓤 H A W SlotAs.row (Syntax.tyRef (Syntax.named 0) Syntax.imm SlotAs.pointee) 0 8 Path'.refl,
+                  Path'.refl,
+                ) (Reads.room-gone 𝓤 H A (Syntax.tyInt Syntax.w64)) (Scalar.holds-sc 𝓤 H A W (Row.sInt Syntax.w64)) Path'.refl (λ u. Path'.refl) λ u.
+                tt) d18
+
+            pub typed : Typed.Typed 𝓤 H A 𝓣 E (Function.Γin 1 ps r xs m κs qs) b18 (Function.Δret 1 ps r xs m κs qs) Φ
+            typed = d19
+
+        module _ (κs : Lifetimes.Lfts 1) where
+          pub record Args : Type 0 where
+            pub table : Kinds.Den {n = 1} κs (ShrSlice.pShrS SlotAs.row 0 tt)
+            pub k : Kinds.Den {n = 1} κs (Num.pNum Syntax.w64)
+
+          abbrev pub dens : (a : Args) → Kinds.Dens κs ps
+          dens = λ a. (a .table, (a .k, tt))
+
+          module _ (args· : Args) where
+            pub record Ranges : Type 0 where
+              pub k : Val.Fits Syntax.w64 (args· .k)
+
+        abbrev pub m0 : (κs : Lifetimes.Lfts 1) → (args : Args κs) → Typed.Mo T0
+        m0 = λ κs args. (tt, Enter.partsP κs 1 ps xs (dens κs args))
+
+        abbrev W0 : (κs : Lifetimes.Lfts 1) → (args : Args κs) → Typed.Want O0
+        W0 = λ κs args. (
+          λ u. ⊥,
+          tt,
+          λ u. Enter.Fixs κs 1 ps xs (dens κs args) (u .1) × Post· κs (dens κs args) (Function.resV r κs (u .0)) (Clauses.atExit
+              (Kinds.endedOf 1 ps r) κs (dens κs args) (Enter.lastsP κs 1 ps xs (dens κs args) (u .1))),
+        )
+
+        pub record Start : Type 0 where
+          pub κs : Lifetimes.Lfts 1
+          pub args : Args κs
+          pub good : Kinds.GoodsP κs ps (dens κs args)
+          pub fits : Ranges κs args
+          pub pre : Pre· κs (dens κs args)
+
+        abbrev pub m1 : (κs : Lifetimes.Lfts 1) → (args : Args κs) → Typed.Mo T2
+        m1 = λ κs args. s0 (m0 κs args)
+
+        abbrev pub m2 : (κs : Lifetimes.Lfts 1) → (args : Args κs) → Typed.Mo T3
+        m2 = λ κs args. s1 .next (m1 κs args)
+
+        abbrev W1 : (κs : Lifetimes.Lfts 1) → (args : Args κs) → Typed.Want O1
+        W1 = λ κs args. Typed.wantNext T4 O0 (at16 (W0 κs args)) (W0 κs args)
+
+        abbrev pub m3 : (κs : Lifetimes.Lfts 1) → (args : Args κs) → Typed.Mo T5
+        m3 = λ κs args. s2 (m2 κs args)
+
+        module _ (before· : Start) where
+          pub record Then1·own : Type 0 where
+            pub taken : Nat._<_ (Row.get 2 (T2 .locals) (m1 (before· .κs) (before· .args))) (Row.get 3 (T2 .locals) (m1 (before· .κs) (before· .args)))
+
+        pub record Then1 : Type 0 where
+          pub before : Start
+          pub if1 : Then1·own before
+
+        abbrev pub m4 : (before : Start) → Typed.Mo T6
+        m4 = λ before. s3 (m3 (before .κs) (before .args))
+
+        abbrev pub Need-mul-result : Type 0
+        Need-mul-result = (c : Then1) → s4 .asks (m4 (c .before))
+
+        abbrev pub m5 : (before : Start) → Typed.Mo T7
+        m5 = λ before. s4 .next (m4 before)
+
+        abbrev pub m6 : (before : Start) → Typed.Mo T8
+        m6 = λ before. s5 .next (m5 before)
+
+        abbrev pub Need-shared-slice-copy-out-result : Type 0
+        Need-shared-slice-copy-out-result = (c : Then1) → Shared.InSlice T8 1 6 (λ x. x) (λ u. u .1 .1 .0) (m6 (c .before))
+
+        abbrev pub m7 : (before : Then1) → (given : s6 .gives (m6 (before .before))) → Typed.Mo T9
+        m7 = λ before given. s6 .next (m6 (before .before)) given
+
+        abbrev pub m8 : (before : Then1) → (given : s6 .gives (m6 (before .before))) → Typed.Mo T10
+        m8 = λ before given. s7 (m7 before given)
+
+        abbrev pub m9 : (before : Then1) → (given : s6 .gives (m6 (before .before))) → Typed.Mo T11
+        m9 = λ before given. s8 (m8 before given)
+
+        abbrev pub m10 : (before : Then1) → (given : s6 .gives (m6 (before .before))) → Typed.Mo T12
+        m10 = λ before given. s9 (m9 before given)
+
+        abbrev pub m11 : (before : Then1) → (given : s6 .gives (m6 (before .before))) → Typed.Mo T13
+        m11 = λ before given. s10 (m10 before given)
+
+        abbrev pub m12 : (before : Then1) → (given : s6 .gives (m6 (before .before))) → Typed.Mo T14
+        m12 = λ before given. s11 (m11 before given)
+
+        module _ (before· : Then1) where
+          pub record After-result·own : Type 0 where
+            pub given : s6 .gives (m6 (before· .before))
+
+        pub record After-result : Type 0 where
+          pub before : Then1
+          pub result : After-result·own before
+
+        abbrev pub Need-returns : Type 0
+        Need-returns = (c : After-result) → Post· (c .before .before .κs) (dens (c .before .before .κs) (c .before .before .args)) (Function.resV r (c .before
+            .before .κs) (m12 (c .before) (c .result .given) .0)) (Clauses.atExit (Kinds.endedOf 1 ps r) (c .before .before .κs) (dens (c .before .before .κs) (c
+            .before .before .args)) (Enter.lastsP (c .before .before .κs) 1 ps xs (dens (c .before .before .κs) (c .before .before .args)) (m12 (c .before) (c
+            .result .given) .1)))
+
+        module _ (before· : Start) where
+          pub record Else1·own : Type 0 where
+            pub left : Nat._≤_ (Row.get 3 (T2 .locals) (m1 (before· .κs) (before· .args))) (Row.get 2 (T2 .locals) (m1 (before· .κs) (before· .args)))
+
+        pub record Else1 : Type 0 where
+          pub before : Start
+          pub if1 : Else1·own before
+
+        abbrev pub m13 : (before : Start) → Typed.Mo T15
+        m13 = λ before. s12 (m3 (before .κs) (before .args))
+
+        abbrev pub Need-no-slot-requires : Type 0
+        Need-no-slot-requires = (c : Else1) → s13 .asks (m13 (c .before))
+
+        abbrev pub m14 : (before : Else1) → (given : s13 .gives (m13 (before .before))) → Typed.Mo T16
+        m14 = λ before given. s13 .next (m13 (before .before)) given
+
+        module _ (before· : Else1) where
+          abbrev pub After-no-slot·own : Type 0
+          After-no-slot·own = Called.Called ps·0 r·0 (claims· .1) T4 tt (m13 (before· .before))
+
+        pub record After-no-slot : Type 0 where
+          pub before : Else1
+          pub no-slot : After-no-slot·own before
+
+        abbrev pub After-no-slot·gave : (c : After-no-slot) → s13 .gives (m13 (c .before .before))
+        After-no-slot·gave = λ c. Called.given ps·0 r·0 (claims· .1) T4 tt (m13 (c .before .before)) (c .no-slot)
+
+        abbrev pub m15 : (before : Else1) → (given : s13 .gives (m13 (before .before))) → Typed.Mo T17
+        m15 = λ before given. s14 (m14 before given)
+
+        abbrev pub Need-returns-2 : Type 0
+        Need-returns-2 = (c : After-no-slot) → Post· (c .before .before .κs) (dens (c .before .before .κs) (c .before .before .args)) (Function.resV r (c .before
+            .before .κs) (m15 (c .before) (After-no-slot·gave c) .0)) (Clauses.atExit (Kinds.endedOf 1 ps r) (c .before .before .κs) (dens (c .before .before
+            .κs) (c .before .before .args)) (Enter.lastsP (c .before .before .κs) 1 ps xs (dens (c .before .before .κs) (c .before .before .args)) (m15 (c
+            .before) (After-no-slot·gave c) .1)))
+
+        module _ (mul-result : Need-mul-result) (shared-slice-copy-out-result : Need-shared-slice-copy-out-result) (returns : Need-returns) (no-slot-requires :
+            Need-no-slot-requires) (returns-2 : Need-returns-2) where
+          lay4 : (c : After-no-slot) → at15 (W0 (c .before .before .κs) (c .before .before .args)) (m14 (c .before) (After-no-slot·gave c))
+          lay4 = λ c. ((Path'.refl, (tt, tt)), returns-2 record { before = c .before; no-slot = c .no-slot })
+
+          lay3 : (c : Else1) → at16 (W0 (c .before .κs) (c .before .args)) (m13 (c .before))
+          lay3 = λ c. (
+            no-slot-requires record { before = c .before; if1 = c .if1 },
+            λ g. lay4 record {
+              before = record { before = c .before; if1 = c .if1 };
+              no-slot = Called.called ps·0 r·0 (claims· .1) T4 tt (m13 (c .before)) g;
+            },
+          )
+
+          lay2 : (c : Else1) → at11 (W1 (c .before .κs) (c .before .args)) (m3 (c .before .κs) (c .before .args))
+          lay2 = λ c. lay3 record { before = c .before; if1 = c .if1 }
+
+          lay1 : (c : Then1) → at9 (W1 (c .before .κs) (c .before .args)) (m3 (c .before .κs) (c .before .args))
+          lay1 = λ c. (
+            mul-result record { before = c .before; if1 = c .if1 },
+            (
+              tt,
+              (
+                (
+                  Path'.refl,
+                  Path'.refl,
+                  shared-slice-copy-out-result record {
+                    before = c
+                        .before;
+                    if1 = c .if1;
+                  },
+                ),
+                λ g. (
+                  (Path'.refl, (tt, tt)),
+                  returns record {
+                    before = record { before = c .before; if1 = c .if1 };
+                    result = record {
+                      given = g;
+                    };
+                  },
+                ),
+              ),
+            ),
+          )
+
+          pub laid : (c : Start) → at19 (W0 (c .κs) (c .args)) (m0 (c .κs) (c .args))
+          laid = λ c. (
+            tt,
+            (
+              λ taken. lay1 record {
+                before = c;
+                if1 = record {
+                  taken = Tests.ltb-true (Row.get 2 (T2 .locals) (m1 (c .κs) (c .args))) (Row.get 3
+                      (T2 .locals) (m1 (c .κs) (c .args))) taken;
+                };
+              },
+              λ left. lay2 record {
+                before = c;
+                if1 = record {
+                  left = Tests.ltb-false (Row.get 2 (T2 .locals)
+                      (m1 (c .κs) (c .args))) (Row.get 3 (T2 .locals) (m1 (c .κs) (c .args))) left;
+                };
+              },
+            ),
+          )
+
+          module _ (κs : Lifetimes.Lfts 1) (qs : Lifetimes.Shares 1) where
+            pub asked : (a : Kinds.Dens κs ps) → (good : Kinds.GoodsP κs ps a) → (pre : Pre· κs a) → (bs : List.List Nat.ℕ) → Φ (Any.wantQ 1 ps r xs m κs qs a
+                (Post· κs a)) (Function.init 1 ps r xs m κs qs a)
+            asked = λ a good pre bs. laid record {
+              κs = κs;
+              args = record { table = a .0; k = a .1 .0 };
+              good = good;
+              fits = record {
+                k = record {
+                  fits = good .1
+                      .0 .1;
+                };
+              };
+              pre = pre;
+            }
+
+          module _ {M : Type 1} (𝓤 : URA.URA M) (H : Wp.Heap 𝓤) (A : Atoms.Atoms 𝓤) (W : Kit.Given 𝓤 H A) (𝓣 : Wp.Tables 𝓤 H) (known0 : Plain.Known 𝓤 H A W 𝓣 0
+              ps·0 r·0 (claims· .0) (claims· .1) "slots::no_slot") where
+            pub spec : Statement.Triple 𝓤 (Wp.WpFn 𝓤 H (𝓣 .C) (𝓣 .Λ) (Function.fnOf 1 ps r xs m hs body)) (Function.plainOf 𝓤 H A 1 ps r Pre· Post·)
+            spec = Plain.t-fn-plain 𝓤 H A W 𝓣 1 ps r xs m hs body (λ κs qs bs. Φ) (λ κs qs bs bd. typed κs qs 𝓤 H A W 𝓣 known0 bs bd) Pre· Post· asked

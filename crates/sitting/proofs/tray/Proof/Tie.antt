@@ -75,8 +75,14 @@ Need-returns = Lts.Need-returns (Reads'3.Asked, Reads'3.Learnt, Reads'.Asked, Re
 
 module _ {M : Type 1} where
   pub spec : (answer : Need-tray-requires) → (answer : Need-slice-aggregate-say) → (answer : Need-say-requires) → (answer : Need-print-written-requires) →
-      (answer : Need-same-length) → (answer : Need-returns) → Lts.Closed (Reads'3.Asked, Reads'3.Learnt, Reads'.Asked, Reads'.Learnt, Reads.Asked,
-      Reads.Learnt) Reads''.Pre Reads''.Post M
+      (answer : Need-same-length) → (answer : Need-returns) → Lts.Closed (
+        Reads'3.Asked,
+        Reads'3.Learnt,
+        Reads'.Asked,
+        Reads'.Learnt,
+        Reads.Asked,
+        Reads.Learnt,
+      ) Reads''.Pre Reads''.Post M
   spec = λ answer answer' answer'' answer'3 answer'4 answer'5. Lts.spec (Reads'3.Asked, Reads'3.Learnt, Reads'.Asked, Reads'.Learnt, Reads.Asked, Reads.Learnt)
       Reads''.Pre Reads''.Post answer answer' answer'' answer'3 answer'4 answer'5
 

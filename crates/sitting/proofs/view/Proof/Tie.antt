@@ -25,80 +25,260 @@ use borrow.Fn.Written
 use contract.Running
 
 abbrev pub Start : Type 0
-Start = Lts.Start (Reads.Asked, Reads.Learnt, Reads'3.Asked, Reads'3.Learnt, Reads''.Asked, Reads''.Learnt, Reads'4.Asked, Reads'4.Learnt, Reads'.Asked,
-    Reads'.Learnt) Reads'5.Pre Reads'5.Post
+Start = Lts.Start (
+  Reads.Asked,
+  Reads.Learnt,
+  Reads'3.Asked,
+  Reads'3.Learnt,
+  Reads''.Asked,
+  Reads''.Learnt,
+  Reads'4.Asked,
+  Reads'4.Learnt,
+  Reads'.Asked,
+  Reads'.Learnt,
+) Reads'5.Pre Reads'5.Post
 
 abbrev pub After-frame : Type 0
-After-frame = Lts.After-frame (Reads.Asked, Reads.Learnt, Reads'3.Asked, Reads'3.Learnt, Reads''.Asked, Reads''.Learnt, Reads'4.Asked, Reads'4.Learnt,
-    Reads'.Asked, Reads'.Learnt) Reads'5.Pre Reads'5.Post
+After-frame = Lts.After-frame (
+  Reads.Asked,
+  Reads.Learnt,
+  Reads'3.Asked,
+  Reads'3.Learnt,
+  Reads''.Asked,
+  Reads''.Learnt,
+  Reads'4.Asked,
+  Reads'4.Learnt,
+  Reads'.Asked,
+  Reads'.Learnt,
+) Reads'5.Pre Reads'5.Post
 
 abbrev pub After-say-arg : Type 0
-After-say-arg = Lts.After-say-arg (Reads.Asked, Reads.Learnt, Reads'3.Asked, Reads'3.Learnt, Reads''.Asked, Reads''.Learnt, Reads'4.Asked, Reads'4.Learnt,
-    Reads'.Asked, Reads'.Learnt) Reads'5.Pre Reads'5.Post
+After-say-arg = Lts.After-say-arg (
+  Reads.Asked,
+  Reads.Learnt,
+  Reads'3.Asked,
+  Reads'3.Learnt,
+  Reads''.Asked,
+  Reads''.Learnt,
+  Reads'4.Asked,
+  Reads'4.Learnt,
+  Reads'.Asked,
+  Reads'.Learnt,
+) Reads'5.Pre Reads'5.Post
 
 abbrev pub After-say : Type 0
-After-say = Lts.After-say (Reads.Asked, Reads.Learnt, Reads'3.Asked, Reads'3.Learnt, Reads''.Asked, Reads''.Learnt, Reads'4.Asked, Reads'4.Learnt,
-    Reads'.Asked, Reads'.Learnt) Reads'5.Pre Reads'5.Post
+After-say = Lts.After-say (
+  Reads.Asked,
+  Reads.Learnt,
+  Reads'3.Asked,
+  Reads'3.Learnt,
+  Reads''.Asked,
+  Reads''.Learnt,
+  Reads'4.Asked,
+  Reads'4.Learnt,
+  Reads'.Asked,
+  Reads'.Learnt,
+) Reads'5.Pre Reads'5.Post
 
 abbrev pub After-print-framed : Type 0
-After-print-framed = Lts.After-print-framed (Reads.Asked, Reads.Learnt, Reads'3.Asked, Reads'3.Learnt, Reads''.Asked, Reads''.Learnt, Reads'4.Asked,
-    Reads'4.Learnt, Reads'.Asked, Reads'.Learnt) Reads'5.Pre Reads'5.Post
+After-print-framed = Lts.After-print-framed (
+  Reads.Asked,
+  Reads.Learnt,
+  Reads'3.Asked,
+  Reads'3.Learnt,
+  Reads''.Asked,
+  Reads''.Learnt,
+  Reads'4.Asked,
+  Reads'4.Learnt,
+  Reads'.Asked,
+  Reads'.Learnt,
+) Reads'5.Pre Reads'5.Post
 
 abbrev pub After-slot-at : Type 0
-After-slot-at = Lts.After-slot-at (Reads.Asked, Reads.Learnt, Reads'3.Asked, Reads'3.Learnt, Reads''.Asked, Reads''.Learnt, Reads'4.Asked, Reads'4.Learnt,
-    Reads'.Asked, Reads'.Learnt) Reads'5.Pre Reads'5.Post
+After-slot-at = Lts.After-slot-at (
+  Reads.Asked,
+  Reads.Learnt,
+  Reads'3.Asked,
+  Reads'3.Learnt,
+  Reads''.Asked,
+  Reads''.Learnt,
+  Reads'4.Asked,
+  Reads'4.Learnt,
+  Reads'.Asked,
+  Reads'.Learnt,
+) Reads'5.Pre Reads'5.Post
 
 abbrev pub After-slot-at2 : Type 0
-After-slot-at2 = Lts.After-slot-at2 (Reads.Asked, Reads.Learnt, Reads'3.Asked, Reads'3.Learnt, Reads''.Asked, Reads''.Learnt, Reads'4.Asked, Reads'4.Learnt,
-    Reads'.Asked, Reads'.Learnt) Reads'5.Pre Reads'5.Post
+After-slot-at2 = Lts.After-slot-at2 (
+  Reads.Asked,
+  Reads.Learnt,
+  Reads'3.Asked,
+  Reads'3.Learnt,
+  Reads''.Asked,
+  Reads''.Learnt,
+  Reads'4.Asked,
+  Reads'4.Learnt,
+  Reads'.Asked,
+  Reads'.Learnt,
+) Reads'5.Pre Reads'5.Post
 
 abbrev pub After-draw : Type 0
-After-draw = Lts.After-draw (Reads.Asked, Reads.Learnt, Reads'3.Asked, Reads'3.Learnt, Reads''.Asked, Reads''.Learnt, Reads'4.Asked, Reads'4.Learnt,
-    Reads'.Asked, Reads'.Learnt) Reads'5.Pre Reads'5.Post
+After-draw = Lts.After-draw (
+  Reads.Asked,
+  Reads.Learnt,
+  Reads'3.Asked,
+  Reads'3.Learnt,
+  Reads''.Asked,
+  Reads''.Learnt,
+  Reads'4.Asked,
+  Reads'4.Learnt,
+  Reads'.Asked,
+  Reads'.Learnt,
+) Reads'5.Pre Reads'5.Post
 
 abbrev pub Need-frame-requires : Type 0
-Need-frame-requires = Lts.Need-frame-requires (Reads.Asked, Reads.Learnt, Reads'3.Asked, Reads'3.Learnt, Reads''.Asked, Reads''.Learnt, Reads'4.Asked,
-    Reads'4.Learnt, Reads'.Asked, Reads'.Learnt) Reads'5.Pre Reads'5.Post
+Need-frame-requires = Lts.Need-frame-requires (
+  Reads.Asked,
+  Reads.Learnt,
+  Reads'3.Asked,
+  Reads'3.Learnt,
+  Reads''.Asked,
+  Reads''.Learnt,
+  Reads'4.Asked,
+  Reads'4.Learnt,
+  Reads'.Asked,
+  Reads'.Learnt,
+) Reads'5.Pre Reads'5.Post
 
 abbrev pub Need-slice-aggregate-say : Type 0
-Need-slice-aggregate-say = Lts.Need-slice-aggregate-say (Reads.Asked, Reads.Learnt, Reads'3.Asked, Reads'3.Learnt, Reads''.Asked, Reads''.Learnt,
-    Reads'4.Asked, Reads'4.Learnt, Reads'.Asked, Reads'.Learnt) Reads'5.Pre Reads'5.Post
+Need-slice-aggregate-say = Lts.Need-slice-aggregate-say (
+  Reads.Asked,
+  Reads.Learnt,
+  Reads'3.Asked,
+  Reads'3.Learnt,
+  Reads''.Asked,
+  Reads''.Learnt,
+  Reads'4.Asked,
+  Reads'4.Learnt,
+  Reads'.Asked,
+  Reads'.Learnt,
+) Reads'5.Pre Reads'5.Post
 
 abbrev pub Need-say-requires : Type 0
-Need-say-requires = Lts.Need-say-requires (Reads.Asked, Reads.Learnt, Reads'3.Asked, Reads'3.Learnt, Reads''.Asked, Reads''.Learnt, Reads'4.Asked,
-    Reads'4.Learnt, Reads'.Asked, Reads'.Learnt) Reads'5.Pre Reads'5.Post
+Need-say-requires = Lts.Need-say-requires (
+  Reads.Asked,
+  Reads.Learnt,
+  Reads'3.Asked,
+  Reads'3.Learnt,
+  Reads''.Asked,
+  Reads''.Learnt,
+  Reads'4.Asked,
+  Reads'4.Learnt,
+  Reads'.Asked,
+  Reads'.Learnt,
+) Reads'5.Pre Reads'5.Post
 
 abbrev pub Need-print-framed-requires : Type 0
-Need-print-framed-requires = Lts.Need-print-framed-requires (Reads.Asked, Reads.Learnt, Reads'3.Asked, Reads'3.Learnt, Reads''.Asked, Reads''.Learnt,
-    Reads'4.Asked, Reads'4.Learnt, Reads'.Asked, Reads'.Learnt) Reads'5.Pre Reads'5.Post
+Need-print-framed-requires = Lts.Need-print-framed-requires (
+  Reads.Asked,
+  Reads.Learnt,
+  Reads'3.Asked,
+  Reads'3.Learnt,
+  Reads''.Asked,
+  Reads''.Learnt,
+  Reads'4.Asked,
+  Reads'4.Learnt,
+  Reads'.Asked,
+  Reads'.Learnt,
+) Reads'5.Pre Reads'5.Post
 
 abbrev pub Need-slot-at-requires : Type 0
-Need-slot-at-requires = Lts.Need-slot-at-requires (Reads.Asked, Reads.Learnt, Reads'3.Asked, Reads'3.Learnt, Reads''.Asked, Reads''.Learnt, Reads'4.Asked,
-    Reads'4.Learnt, Reads'.Asked, Reads'.Learnt) Reads'5.Pre Reads'5.Post
+Need-slot-at-requires = Lts.Need-slot-at-requires (
+  Reads.Asked,
+  Reads.Learnt,
+  Reads'3.Asked,
+  Reads'3.Learnt,
+  Reads''.Asked,
+  Reads''.Learnt,
+  Reads'4.Asked,
+  Reads'4.Learnt,
+  Reads'.Asked,
+  Reads'.Learnt,
+) Reads'5.Pre Reads'5.Post
 
 abbrev pub Need-slot-at-requires-2 : Type 0
-Need-slot-at-requires-2 = Lts.Need-slot-at-requires-2 (Reads.Asked, Reads.Learnt, Reads'3.Asked, Reads'3.Learnt, Reads''.Asked, Reads''.Learnt, Reads'4.Asked,
-    Reads'4.Learnt, Reads'.Asked, Reads'.Learnt) Reads'5.Pre Reads'5.Post
+Need-slot-at-requires-2 = Lts.Need-slot-at-requires-2 (
+  Reads.Asked,
+  Reads.Learnt,
+  Reads'3.Asked,
+  Reads'3.Learnt,
+  Reads''.Asked,
+  Reads''.Learnt,
+  Reads'4.Asked,
+  Reads'4.Learnt,
+  Reads'.Asked,
+  Reads'.Learnt,
+) Reads'5.Pre Reads'5.Post
 
 abbrev pub Need-draw-requires : Type 0
-Need-draw-requires = Lts.Need-draw-requires (Reads.Asked, Reads.Learnt, Reads'3.Asked, Reads'3.Learnt, Reads''.Asked, Reads''.Learnt, Reads'4.Asked,
-    Reads'4.Learnt, Reads'.Asked, Reads'.Learnt) Reads'5.Pre Reads'5.Post
+Need-draw-requires = Lts.Need-draw-requires (
+  Reads.Asked,
+  Reads.Learnt,
+  Reads'3.Asked,
+  Reads'3.Learnt,
+  Reads''.Asked,
+  Reads''.Learnt,
+  Reads'4.Asked,
+  Reads'4.Learnt,
+  Reads'.Asked,
+  Reads'.Learnt,
+) Reads'5.Pre Reads'5.Post
 
 abbrev pub Need-returns : Type 0
-Need-returns = Lts.Need-returns (Reads.Asked, Reads.Learnt, Reads'3.Asked, Reads'3.Learnt, Reads''.Asked, Reads''.Learnt, Reads'4.Asked, Reads'4.Learnt,
-    Reads'.Asked, Reads'.Learnt) Reads'5.Pre Reads'5.Post
+Need-returns = Lts.Need-returns (
+  Reads.Asked,
+  Reads.Learnt,
+  Reads'3.Asked,
+  Reads'3.Learnt,
+  Reads''.Asked,
+  Reads''.Learnt,
+  Reads'4.Asked,
+  Reads'4.Learnt,
+  Reads'.Asked,
+  Reads'.Learnt,
+) Reads'5.Pre Reads'5.Post
 
 module _ {M : Type 1} where
   pub spec : (answer : Need-frame-requires) → (answer : Need-slice-aggregate-say) → (answer : Need-say-requires) → (answer : Need-print-framed-requires) →
       (answer : Need-slot-at-requires) → (answer : Need-slot-at-requires-2) → (answer : Need-draw-requires) → (answer : Need-returns) → Lts.Closed
       (Reads.Asked, Reads.Learnt, Reads'3.Asked, Reads'3.Learnt, Reads''.Asked, Reads''.Learnt, Reads'4.Asked, Reads'4.Learnt, Reads'.Asked, Reads'.Learnt)
       Reads'5.Pre Reads'5.Post M
-  spec = λ answer answer' answer'' answer'3 answer'4 answer'5 answer'6 answer'7. Lts.spec (Reads.Asked, Reads.Learnt, Reads'3.Asked, Reads'3.Learnt,
-      Reads''.Asked, Reads''.Learnt, Reads'4.Asked, Reads'4.Learnt, Reads'.Asked, Reads'.Learnt) Reads'5.Pre Reads'5.Post answer answer' answer'' answer'3
+  spec = λ answer answer' answer'' answer'3 answer'4 answer'5 answer'6 answer'7. Lts.spec (
+    Reads.Asked,
+    Reads.Learnt,
+    Reads'3.Asked,
+    Reads'3.Learnt,
+    Reads''.Asked,
+    Reads''.Learnt,
+    Reads'4.Asked,
+    Reads'4.Learnt,
+    Reads'.Asked,
+    Reads'.Learnt,
+  ) Reads'5.Pre Reads'5.Post answer answer' answer'' answer'3
       answer'4 answer'5 answer'6 answer'7
 
-  pub close : Lts.Closed (Reads.Asked, Reads.Learnt, Reads'3.Asked, Reads'3.Learnt, Reads''.Asked, Reads''.Learnt, Reads'4.Asked, Reads'4.Learnt, Reads'.Asked,
-      Reads'.Learnt) Reads'5.Pre Reads'5.Post M → Statement.statement M
+  pub close : Lts.Closed (
+    Reads.Asked,
+    Reads.Learnt,
+    Reads'3.Asked,
+    Reads'3.Learnt,
+    Reads''.Asked,
+    Reads''.Learnt,
+    Reads'4.Asked,
+    Reads'4.Learnt,
+    Reads'.Asked,
+    Reads'.Learnt,
+  ) Reads'5.Pre Reads'5.Post M → Statement.statement M
   unfolding Code.routine Running.tablesOf
   close = λ closed 𝓤 H 𝓜 𝓖 𝓡. Written.close 1 Kinds.ps Kinds.r Reads'5.Ghost Reads'5.requires Reads'5.ensures Reads'5.pre-read Reads'5.Pinned Reads'5.Owned
       Reads'5.post-read record { M = M; 𝓤 = 𝓤; H = H; 𝓜 = 𝓜; 𝓖 = 𝓖; 𝓡 = 𝓡 } Code.env Key.name Code.function (Code.unfolded 𝓤 H 𝓜 𝓡) (λ κs a g. tt) (λ κs.

@@ -6,8 +6,8 @@ use borrow.Author.Needs.{needs}
 use Rattle.store.proofs.search.aside_in.Statement.{statement}
 use Rattle.store.proofs.search.aside_in.Proof.Tie as tie
 
-lower-requires : tie.Need-lower-requires
-lower-requires c = search needs
+seek-requires : tie.Need-seek-requires
+seek-requires c = search needs
 
 slot-at-requires : tie.Need-slot-at-requires
 slot-at-requires c = search needs
@@ -19,13 +19,13 @@ both-of-requires : tie.Need-both-of-requires
 both-of-requires c = search needs
 
 returns : tie.Need-returns
-returns c = λ r. aside-found _ _ _ _ _ _ _ r (c .before .before .before .lower .ensures r) (c .before .before .slot-at .ensures) (c .before .is-aside .ensures) (c .both-of .ensures)
+returns c = λ r. aside-found _ _ _ _ _ _ _ r (c .before .before .before .seek .ensures r) (c .before .before .slot-at .ensures) (c .before .is-aside .ensures) (c .both-of .ensures)
 
 pub aside-in-spec : {M : Type 1} → statement M
 aside-in-spec =
     tie.close
     (tie.spec
-    lower-requires
+    seek-requires
     slot-at-requires
     is-aside-requires
     both-of-requires

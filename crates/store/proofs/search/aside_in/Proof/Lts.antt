@@ -73,7 +73,7 @@ hs = Syntax.valueLocal ∷ Syntax.valueLocal ∷ Syntax.valueLocal ∷ Syntax.va
     Syntax.valueLocal ∷ []
 
 abbrev b0 : Syntax.Body
-b0 = Syntax.call "store::search::lower" (Syntax.copy (Syntax.place 1 []) ∷ Syntax.copy (Syntax.place 2 []) ∷ Syntax.copy (Syntax.place 3 []) ∷
+b0 = Syntax.call "store::search::seek" (Syntax.copy (Syntax.place 1 []) ∷ Syntax.copy (Syntax.place 2 []) ∷ Syntax.copy (Syntax.place 3 []) ∷
     []) (Syntax.place 4 [])
 
 abbrev b1 : Syntax.Body
@@ -325,7 +325,7 @@ module _ (claims· : Claims) where
       module _ (M : Type 1) where
         abbrev pub Closed : Type 2
         Closed = (𝓤 : URA.URA M) (H : Wp.Heap 𝓤) (A : Atoms.Atoms 𝓤) (W : Kit.Given 𝓤 H A) (𝓣 : Wp.Tables 𝓤 H) (known0 : Plain.Known 𝓤 H A W 𝓣 1 ps·0 r·0
-            (claims· .0) (claims· .1) "store::search::lower") (known1 : Plain.Known 𝓤 H A W 𝓣 1 ps·1 r·1 (claims· .2) (claims· .3) "store::search::slot_at")
+            (claims· .0) (claims· .1) "store::search::seek") (known1 : Plain.Known 𝓤 H A W 𝓣 1 ps·1 r·1 (claims· .2) (claims· .3) "store::search::slot_at")
             (known2 : Plain.Known 𝓤 H A W 𝓣 0 ps·2 r·2 (claims· .4) (claims· .5) "marks::bonds::is_aside") (known3 : Plain.Known 𝓤 H A W 𝓣 0 ps·3 r·3 (claims·
             .6) (claims· .7) "ascii::both_of") → Statement.Triple 𝓤 (Wp.WpFn 𝓤 H (𝓣 .C) (𝓣 .Λ) (Function.fnOf 1 ps r xs m hs body)) (Function.plainOf 𝓤 H A 1 ps
             r Pre· Post·)
@@ -372,7 +372,7 @@ module _ (claims· : Claims) where
 
         module _ {M : Type 1} (𝓤 : URA.URA M) (H : Wp.Heap 𝓤) (A : Atoms.Atoms 𝓤) (W : Kit.Given 𝓤 H A) (𝓣 : Wp.Tables 𝓤 H) where
           abbrev Knowns : Type 1
-          Knowns = Plain.Known 𝓤 H A W 𝓣 1 ps·0 r·0 (claims· .0) (claims· .1) "store::search::lower" × Plain.Known 𝓤 H A W 𝓣 1 ps·1 r·1 (claims· .2) (claims· .3)
+          Knowns = Plain.Known 𝓤 H A W 𝓣 1 ps·0 r·0 (claims· .0) (claims· .1) "store::search::seek" × Plain.Known 𝓤 H A W 𝓣 1 ps·1 r·1 (claims· .2) (claims· .3)
               "store::search::slot_at" × Plain.Known 𝓤 H A W 𝓣 0 ps·2 r·2 (claims· .4) (claims· .5) "marks::bonds::is_aside" × Plain.Known 𝓤 H A W 𝓣 0 ps·3 r·3
               (claims· .6) (claims· .7) "ascii::both_of"
 
@@ -496,12 +496,11 @@ module _ (claims· : Claims) where
 
             d11 : Typed.Typed 𝓤 H A 𝓣 E G0 b10 Δ0 at11
             d11 = Typed.s-seq 𝓤 H A W 𝓣 E G0 G2 b0 b9 Δ0 (Typed.both s0) at10 (Plain.t-call-plain 𝓤 H A W 𝓣 1 ps·0 r·0 (claims· .0) (claims· .1)
-                "store::search::lower" (known .0) E (λ pos β. β) G0 (
+                "store::search::seek" (known .0) E (λ pos β. β) G0 (
                   record {
                     pos = 1;
                     ty = Syntax.tyRef (Syntax.named 0) Syntax.imm SlotAs.pointee;
-                    ref = λ x.
-                        x;
+                    ref = λ x. x;
                   },
                   (Num.vAt 2 λ x. x, (Num.vAt 3 λ x. x, tt)),
                 ) 4 (0 ∷ []) (Call.sub-id 𝓤 H A W (G0 .slots)) (
@@ -557,15 +556,15 @@ module _ (claims· : Claims) where
           pub fits : Ranges κs args
           pub pre : Pre· κs (dens κs args)
 
-        abbrev pub Need-lower-requires : Type 0
-        Need-lower-requires = (c : Start) → s0 .asks (m0 (c .κs) (c .args))
+        abbrev pub Need-seek-requires : Type 0
+        Need-seek-requires = (c : Start) → s0 .asks (m0 (c .κs) (c .args))
 
         abbrev pub m1 : (before : Start) → (given : s0 .gives (m0 (before .κs) (before .args))) → Typed.Mo T2
         m1 = λ before given. s0 .next (m0 (before .κs) (before .args)) given
 
         module _ (before· : Start) where
-          abbrev pub After-lower·own : Type 0
-          After-lower·own = Called.Called ps·0 r·0 (claims· .1) T0 (
+          abbrev pub After-seek·own : Type 0
+          After-seek·own = Called.Called ps·0 r·0 (claims· .1) T0 (
             record {
               pos = 1;
               ty = Syntax.tyRef (Syntax.named 0) Syntax.imm SlotAs.pointee;
@@ -574,12 +573,12 @@ module _ (claims· : Claims) where
             (Num.vAt 2 λ x. x, (Num.vAt 3 λ x. x, tt)),
           ) (m0 (before· .κs) (before· .args))
 
-        pub record After-lower : Type 0 where
+        pub record After-seek : Type 0 where
           pub before : Start
-          pub lower : After-lower·own before
+          pub seek : After-seek·own before
 
-        abbrev pub After-lower·gave : (c : After-lower) → s0 .gives (m0 (c .before .κs) (c .before .args))
-        After-lower·gave = λ c. Called.given ps·0 r·0 (claims· .1) T0 (
+        abbrev pub After-seek·gave : (c : After-seek) → s0 .gives (m0 (c .before .κs) (c .before .args))
+        After-seek·gave = λ c. Called.given ps·0 r·0 (claims· .1) T0 (
           record {
             pos = 1;
             ty = Syntax.tyRef (Syntax.named 0) Syntax.imm SlotAs.pointee;
@@ -587,15 +586,15 @@ module _ (claims· : Claims) where
                 x;
           },
           (Num.vAt 2 λ x. x, (Num.vAt 3 λ x. x, tt)),
-        ) (m0 (c .before .κs) (c .before .args)) (c .lower)
+        ) (m0 (c .before .κs) (c .before .args)) (c .seek)
 
         abbrev pub Need-slot-at-requires : Type 0
-        Need-slot-at-requires = (c : After-lower) → s1 .asks (m1 (c .before) (After-lower·gave c))
+        Need-slot-at-requires = (c : After-seek) → s1 .asks (m1 (c .before) (After-seek·gave c))
 
-        abbrev pub m2 : (before : After-lower) → (given : s1 .gives (m1 (before .before) (After-lower·gave before))) → Typed.Mo T3
-        m2 = λ before given. s1 .next (m1 (before .before) (After-lower·gave before)) given
+        abbrev pub m2 : (before : After-seek) → (given : s1 .gives (m1 (before .before) (After-seek·gave before))) → Typed.Mo T3
+        m2 = λ before given. s1 .next (m1 (before .before) (After-seek·gave before)) given
 
-        module _ (before· : After-lower) where
+        module _ (before· : After-seek) where
           abbrev pub After-slot-at·own : Type 0
           After-slot-at·own = Called.Called ps·1 r·1 (claims· .3) T2 (
             record {
@@ -605,13 +604,13 @@ module _ (claims· : Claims) where
                   x;
             },
             (Num.vAt 4 λ x. x, tt),
-          ) (m1 (before· .before) (After-lower·gave before·))
+          ) (m1 (before· .before) (After-seek·gave before·))
 
         pub record After-slot-at : Type 0 where
-          pub before : After-lower
+          pub before : After-seek
           pub slot-at : After-slot-at·own before
 
-        abbrev pub After-slot-at·gave : (c : After-slot-at) → s1 .gives (m1 (c .before .before) (After-lower·gave (c .before)))
+        abbrev pub After-slot-at·gave : (c : After-slot-at) → s1 .gives (m1 (c .before .before) (After-seek·gave (c .before)))
         After-slot-at·gave = λ c. Called.given ps·1 r·1 (claims· .3) T2 (
           record {
             pos = 1;
@@ -620,7 +619,7 @@ module _ (claims· : Claims) where
                 x. x;
           },
           (Num.vAt 4 λ x. x, tt),
-        ) (m1 (c .before .before) (After-lower·gave (c .before))) (c .slot-at)
+        ) (m1 (c .before .before) (After-seek·gave (c .before))) (c .slot-at)
 
         abbrev pub Need-is-aside-requires : Type 0
         Need-is-aside-requires = (c : After-slot-at) → s2 .asks (m2 (c .before) (After-slot-at·gave c))
@@ -688,8 +687,8 @@ module _ (claims· : Claims) where
             .args)) (Enter.lastsP (c .before .before .before .before .κs) 1 ps xs (dens (c .before .before .before .before .κs) (c .before .before .before
             .before .args)) (m11 (c .before) (After-both-of·gave c) .1)))
 
-        module _ (lower-requires : Need-lower-requires) (slot-at-requires : Need-slot-at-requires) (is-aside-requires : Need-is-aside-requires) (both-of-requires
-            : Need-both-of-requires) (returns : Need-returns) where
+        module _ (seek-requires : Need-seek-requires) (slot-at-requires : Need-slot-at-requires) (is-aside-requires : Need-is-aside-requires) (both-of-requires :
+            Need-both-of-requires) (returns : Need-returns) where
           lay4 : (c : After-both-of) → at5 (W0 (c .before .before .before .before .κs) (c .before .before .before .before .args)) (m6 (c .before)
               (After-both-of·gave c))
           lay4 = λ c. ((Path'.refl, (tt, (tt, tt))), returns record { before = c .before; both-of = c .both-of })
@@ -724,33 +723,24 @@ module _ (claims· : Claims) where
             },
           )
 
-          lay1 : (c : After-lower) → at10 (W0 (c .before .κs) (c .before .args)) (m1 (c .before) (After-lower·gave c))
+          lay1 : (c : After-seek) → at10 (W0 (c .before .κs) (c .before .args)) (m1 (c .before) (After-seek·gave c))
           lay1 = λ c. (
-            slot-at-requires record { before = c .before; lower = c .lower },
+            slot-at-requires record { before = c .before; seek = c .seek },
             λ g. lay2 record {
-              before = record {
-                before = c .before;
-                lower = c
-                    .lower;
-              };
+              before = record { before = c .before; seek = c .seek };
               slot-at = Called.called ps·1 r·1 (claims· .3) T2 (
-                record {
-                  pos = 1;
-                  ty = Syntax.tyRef (Syntax.named 0) Syntax.imm SlotAs.pointee;
-                  ref = λ
-                      x. x;
-                },
+                record { pos = 1; ty = Syntax.tyRef (Syntax.named 0) Syntax.imm SlotAs.pointee; ref = λ x. x },
                 (Num.vAt 4 λ x. x, tt),
-              ) (m1 (c .before) (After-lower·gave c)) g;
+              ) (m1 (c .before) (After-seek·gave c)) g;
             },
           )
 
           pub laid : (c : Start) → at11 (W0 (c .κs) (c .args)) (m0 (c .κs) (c .args))
           laid = λ c. (
-            lower-requires c,
+            seek-requires c,
             λ g. lay1 record {
               before = c;
-              lower = Called.called ps·0 r·0 (claims· .1) T0 (
+              seek = Called.called ps·0 r·0 (claims· .1) T0 (
                 record {
                   pos = 1;
                   ty = Syntax.tyRef
@@ -778,7 +768,7 @@ module _ (claims· : Claims) where
             }
 
           module _ {M : Type 1} (𝓤 : URA.URA M) (H : Wp.Heap 𝓤) (A : Atoms.Atoms 𝓤) (W : Kit.Given 𝓤 H A) (𝓣 : Wp.Tables 𝓤 H) (known0 : Plain.Known 𝓤 H A W 𝓣 1
-              ps·0 r·0 (claims· .0) (claims· .1) "store::search::lower") (known1 : Plain.Known 𝓤 H A W 𝓣 1 ps·1 r·1 (claims· .2) (claims· .3)
+              ps·0 r·0 (claims· .0) (claims· .1) "store::search::seek") (known1 : Plain.Known 𝓤 H A W 𝓣 1 ps·1 r·1 (claims· .2) (claims· .3)
               "store::search::slot_at") (known2 : Plain.Known 𝓤 H A W 𝓣 0 ps·2 r·2 (claims· .4) (claims· .5) "marks::bonds::is_aside") (known3 : Plain.Known 𝓤 H
               A W 𝓣 0 ps·3 r·3 (claims· .6) (claims· .7) "ascii::both_of") where
             pub spec : Statement.Triple 𝓤 (Wp.WpFn 𝓤 H (𝓣 .C) (𝓣 .Λ) (Function.fnOf 1 ps r xs m hs body)) (Function.plainOf 𝓤 H A 1 ps r Pre· Post·)

@@ -11,9 +11,9 @@ use Rattle.store.proofs.Walked.search.aside_in.Kinds
 use Rattle.store.proofs.search.aside_in.Proof.Lts
 use Rattle.store.proofs.Walked.search.aside_in.Reads as Reads''
 use Rattle.store.proofs.search.aside_in.Statement
-use Rattle.store.proofs.search.lower.Met as Met''
-use Rattle.store.proofs.Walked.search.lower.Reads as Reads'3
-use Rattle.store.proofs.search.lower.Symbol as Symbol''
+use Rattle.store.proofs.search.seek.Met as Met''
+use Rattle.store.proofs.Walked.search.seek.Reads as Reads'3
+use Rattle.store.proofs.search.seek.Symbol as Symbol''
 use Rattle.store.proofs.search.slot_at.Met as Met'3
 use Rattle.store.proofs.Walked.search.slot_at.Reads as Reads'4
 use Rattle.store.proofs.search.slot_at.Symbol as Symbol'3
@@ -25,9 +25,9 @@ abbrev pub Start : Type 0
 Start = Lts.Start (Reads'3.Asked, Reads'3.Learnt, Reads'4.Asked, Reads'4.Learnt, Reads'.Asked, Reads'.Learnt, Reads.Asked, Reads.Learnt) Reads''.Pre
     Reads''.Post
 
-abbrev pub After-lower : Type 0
-After-lower = Lts.After-lower (Reads'3.Asked, Reads'3.Learnt, Reads'4.Asked, Reads'4.Learnt, Reads'.Asked, Reads'.Learnt, Reads.Asked, Reads.Learnt)
-    Reads''.Pre Reads''.Post
+abbrev pub After-seek : Type 0
+After-seek = Lts.After-seek (Reads'3.Asked, Reads'3.Learnt, Reads'4.Asked, Reads'4.Learnt, Reads'.Asked, Reads'.Learnt, Reads.Asked, Reads.Learnt) Reads''.Pre
+    Reads''.Post
 
 abbrev pub After-slot-at : Type 0
 After-slot-at = Lts.After-slot-at (Reads'3.Asked, Reads'3.Learnt, Reads'4.Asked, Reads'4.Learnt, Reads'.Asked, Reads'.Learnt, Reads.Asked, Reads.Learnt)
@@ -41,8 +41,8 @@ abbrev pub After-both-of : Type 0
 After-both-of = Lts.After-both-of (Reads'3.Asked, Reads'3.Learnt, Reads'4.Asked, Reads'4.Learnt, Reads'.Asked, Reads'.Learnt, Reads.Asked, Reads.Learnt)
     Reads''.Pre Reads''.Post
 
-abbrev pub Need-lower-requires : Type 0
-Need-lower-requires = Lts.Need-lower-requires (
+abbrev pub Need-seek-requires : Type 0
+Need-seek-requires = Lts.Need-seek-requires (
   Reads'3.Asked,
   Reads'3.Learnt,
   Reads'4.Asked,
@@ -94,7 +94,7 @@ Need-returns = Lts.Need-returns (Reads'3.Asked, Reads'3.Learnt, Reads'4.Asked, R
     Reads''.Pre Reads''.Post
 
 module _ {M : Type 1} where
-  pub spec : (answer : Need-lower-requires) → (answer : Need-slot-at-requires) → (answer : Need-is-aside-requires) → (answer : Need-both-of-requires) → (answer
+  pub spec : (answer : Need-seek-requires) → (answer : Need-slot-at-requires) → (answer : Need-is-aside-requires) → (answer : Need-both-of-requires) → (answer
       : Need-returns) → Lts.Closed (Reads'3.Asked, Reads'3.Learnt, Reads'4.Asked, Reads'4.Learnt, Reads'.Asked, Reads'.Learnt, Reads.Asked, Reads.Learnt)
       Reads''.Pre Reads''.Post M
   spec = λ answer answer' answer'' answer'3 answer'4. Lts.spec (
@@ -115,7 +115,7 @@ module _ {M : Type 1} where
       Reads''.post-read record { M = M; 𝓤 = 𝓤; H = H; 𝓜 = 𝓜; 𝓖 = 𝓖; 𝓡 = 𝓡 } Code.env Key.name Code.function (Code.unfolded 𝓤 H 𝓜 𝓡) (λ κs a g. tt) (λ κs.
       Reads''.owns κs record { M = M; 𝓤 = 𝓤; H = H; 𝓜 = 𝓜; 𝓖 = 𝓖; 𝓡 = 𝓡 }) (Reads''.passes record { M = M; 𝓤 = 𝓤; H = H; 𝓜 = 𝓜; 𝓖 = 𝓖; 𝓡 = 𝓡 }) λ g. closed 𝓤 H
       (𝓖 .A) (Running.givenOf 𝓤 H 𝓜 𝓖) (Run.Over 𝓤 H 𝓜 𝓖 𝓡 Code.env) (Reads'3.known record { M = M; 𝓤 = 𝓤; H = H; 𝓜 = 𝓜; 𝓖 = 𝓖; 𝓡 = 𝓡 } Code.env Symbol''.name
-      Symbol''.routine Code.calls-store·search·lower (Met''.met 𝓤 H 𝓜 𝓖 𝓡)) (Reads'4.known record { M = M; 𝓤 = 𝓤; H = H; 𝓜 = 𝓜; 𝓖 = 𝓖; 𝓡 = 𝓡 } Code.env
+      Symbol''.routine Code.calls-store·search·seek (Met''.met 𝓤 H 𝓜 𝓖 𝓡)) (Reads'4.known record { M = M; 𝓤 = 𝓤; H = H; 𝓜 = 𝓜; 𝓖 = 𝓖; 𝓡 = 𝓡 } Code.env
       Symbol'3.name Symbol'3.routine Code.calls-store·search·slot-at (Met'3.met 𝓤 H 𝓜 𝓖 𝓡)) (Reads'.known record { M = M; 𝓤 = 𝓤; H = H; 𝓜 = 𝓜; 𝓖 = 𝓖; 𝓡 = 𝓡 }
       Code.env Symbol'.name Symbol'.routine Code.calls-marks·is-aside (Met'.met 𝓤 H 𝓜 𝓖 𝓡)) (Reads.known record { M = M; 𝓤 = 𝓤; H = H; 𝓜 = 𝓜; 𝓖 = 𝓖; 𝓡 = 𝓡 }
       Code.env Symbol.name Symbol.routine Code.calls-ascii·both-of (Met.met 𝓤 H 𝓜 𝓖 𝓡))
