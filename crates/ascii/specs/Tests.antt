@@ -1,6 +1,6 @@
 -- Tests of bytes, and the one way in which the definitions choose.
 use Prim.Native.Nat.{ℕ}
-use mathlib.Core.Bool.{Bool, true, false}
+use mathlib.Core.Bool.{Bool, true, false, not}
 use lib.Dec.{leb, ltb, eqb}
 use Rattle.ascii.specs.Bytes.{byte}
 
@@ -9,12 +9,15 @@ abbrev pub pick {ℓ} : {A : Type ℓ} → Bool → A → A → A
 pick true x y = x
 pick false x y = y
 
--- both tests hold; one of them does; two numbers are the same
+-- both tests hold; one of them does; both do or neither does; two numbers are the same
 unfoldable pub both : Bool → Bool → Bool
 both a b = pick a b false
 
 unfoldable pub either : Bool → Bool → Bool
 either a b = pick a true b
+
+abbrev pub alike : Bool → Bool → Bool
+alike a b = pick a b (not b)
 
 unfoldable pub same : ℕ → ℕ → Bool
 same a b = eqb a b

@@ -1,6 +1,7 @@
 // Tests of bytes without a branch: what calls them is straight-line code.
 ghost use mathlib.Core.Path.{_≡_};
-ghost use Rattle.ascii.specs.Tests.{pick, both, either, same, between, isDigit, isUpper, isCode};
+ghost use mathlib.Core.Bool.{not};
+ghost use Rattle.ascii.specs.Tests.{pick, both, either, alike, same, between, isDigit, isUpper, isCode};
 
 pub fn both_of(a: bool, b: bool) -> bool
     ensures { λ r. ⌜ r ≡ both a b ⌝ }
@@ -18,6 +19,21 @@ pub fn either_of(a: bool, b: bool) -> bool
         return true;
     }
     b
+}
+
+pub fn not_of(a: bool) -> bool
+    ensures { λ r. ⌜ r ≡ not a ⌝ }
+{
+    !a
+}
+
+pub fn alike_of(a: bool, b: bool) -> bool
+    ensures { λ r. ⌜ r ≡ alike a b ⌝ }
+{
+    if a {
+        return b;
+    }
+    !b
 }
 
 pub fn choose(t: bool, a: bool, b: bool) -> bool

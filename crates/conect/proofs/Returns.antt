@@ -17,7 +17,7 @@ use Rattle.kinds.specs.Kinds.{packed, nameText}
 use Rattle.kinds.specs.declared.Kind.the-variants as kind
 use Rattle.conect.specs.declared.Conect.{Conect}
 use Rattle.conect.specs.declared.ReadConect.{ReadConect}
-use Rattle.conect.specs.Conects.{partnerOf, partnerText, partnerOk, partnersText, plainOk, differs, follows, conectAt, conectFault, conectValue, conectText, conectOk, conectLine}
+use Rattle.conect.specs.Conects.{partnerOf, partnerText, partnerOk, partnersText, plainOk, differs, unbroken, conectAt, conectFault, conectValue, conectText, conectOk, conectLine}
 
 pub partner-blank : (l : List ℕ) (at g : ℕ) → g ≡ gapOf l at 5 → g ≡ 0 → _≡_ {A = Whole} (record { column = 0; value = 0 }) (partnerOf l at)
 unfolding partnerOf
@@ -35,12 +35,12 @@ pub differs-yes : (a b : ℕ) → (a ≡ b → ⊥) → true ≡ differs a b
 unfolding differs
 differs-yes a b e = rw (ne-eqb a b e)
 
-pub follows-none : (a n : ℕ) → n ≡ 0 → true ≡ follows a n
-unfolding follows
+pub follows-none : (a n : ℕ) → n ≡ 0 → true ≡ unbroken a n
+unfolding unbroken
 follows-none a n e = rw e
 
-pub follows-some : (a n : ℕ) → (n ≡ 0 → ⊥) → ltb 0 a ≡ follows a n
-unfolding follows
+pub follows-some : (a n : ℕ) → (n ≡ 0 → ⊥) → ltb 0 a ≡ unbroken a n
+unfolding unbroken
 follows-some a n e = rw (ne-eqb n 0 e)
 
 pub reads : (l : List ℕ) (s a b c d : Whole) (g f1 f2 f3 f4 f5 f6 : ℕ) (o1 o2 o3 t3 y3 o4 t4 y4 : Bool) (p q u v x1 x2 x3 x4 : ℕ)
@@ -48,8 +48,8 @@ pub reads : (l : List ℕ) (s a b c d : Whole) (g f1 f2 f3 f4 f5 f6 : ℕ) (o1 o
     → f1 ≡ firstOf g 0 → f2 ≡ firstOf (d .column) f1 → f3 ≡ firstOf (c .column) f2 → f4 ≡ firstOf (b .column) f3 → f5 ≡ firstOf (a .column) f4 → f6 ≡ firstOf (s .column) f5
     → o1 ≡ differs (a .value) (s .value) → p ≡ blame o1 11
     → o2 ≡ differs (b .value) (s .value) → q ≡ blame o2 16
-    → o3 ≡ differs (c .value) (s .value) → t3 ≡ follows (b .value) (c .value) → y3 ≡ both o3 t3 → u ≡ blame y3 21
-    → o4 ≡ differs (d .value) (s .value) → t4 ≡ follows (c .value) (d .value) → y4 ≡ both o4 t4 → v ≡ blame y4 26
+    → o3 ≡ differs (c .value) (s .value) → t3 ≡ unbroken (b .value) (c .value) → y3 ≡ both o3 t3 → u ≡ blame y3 21
+    → o4 ≡ differs (d .value) (s .value) → t4 ≡ unbroken (c .value) (d .value) → y4 ≡ both o4 t4 → v ≡ blame y4 26
     → x1 ≡ leftmost f6 p → x2 ≡ leftmost x1 q → x3 ≡ leftmost x2 u → x4 ≡ leftmost x3 v
     → _≡_ {A = ReadConect} (record { column = x4; value = record { serial = record { 0 = s .value }; a = record { 0 = a .value }; b = record { 0 = b .value }; c = record { 0 = c .value }; d = record { 0 = d .value } } }) (conectAt l)
 unfolding conectFault conectValue
@@ -65,8 +65,8 @@ plain-judges r p q t u v e1 e2 e3 e4 e5 p1 p2 p3 p4 p5 q1 q2 q3 q4 q5 = q5 ∙ r
 
 pub judges : (r : Conect) (p e f c1 c2 g d1 d2 h x1 x2 x3 x4 : Bool)
     → p ≡ plainOk r → e ≡ differs (r .a .0) (r .serial .0) → f ≡ differs (r .b .0) (r .serial .0)
-    → c1 ≡ differs (r .c .0) (r .serial .0) → c2 ≡ follows (r .b .0) (r .c .0) → g ≡ both c1 c2
-    → d1 ≡ differs (r .d .0) (r .serial .0) → d2 ≡ follows (r .c .0) (r .d .0) → h ≡ both d1 d2
+    → c1 ≡ differs (r .c .0) (r .serial .0) → c2 ≡ unbroken (r .b .0) (r .c .0) → g ≡ both c1 c2
+    → d1 ≡ differs (r .d .0) (r .serial .0) → d2 ≡ unbroken (r .c .0) (r .d .0) → h ≡ both d1 d2
     → x1 ≡ both p e → x2 ≡ both x1 f → x3 ≡ both x2 g → x4 ≡ both x3 h → x4 ≡ conectOk r
 unfolding conectOk plainOk
 judges r p e f c1 c2 g d1 d2 h x1 x2 x3 x4 p1 p2 p3 p4 p5 p6 p7 p8 p9 q1 q2 q3 q4 = q4 ∙ rw (q3, q2, q1, p6, p9, p1, p2, p3, p4, p5, p7, p8)

@@ -34,8 +34,8 @@ unfoldable pub differs : ℕ → ℕ → Bool
 differs a b = pick (eqb a b) false true
 
 -- the next partner is there only if this one is
-unfoldable pub follows : ℕ → ℕ → Bool
-follows a next = pick (eqb next 0) true (ltb 0 a)
+unfoldable pub unbroken : ℕ → ℕ → Bool
+unbroken a next = pick (eqb next 0) true (ltb 0 a)
 
 abbrev pub Fields : Type 0
 Fields = ℕ × (ℕ × (ℕ × (ℕ × (ℕ × Unit {0}))))
@@ -54,10 +54,10 @@ abbrev pub ruleB : Conect → Bool
 ruleB r = differs (r .b .0) (r .serial .0)
 
 abbrev pub ruleC : Conect → Bool
-ruleC r = both (differs (r .c .0) (r .serial .0)) (follows (r .b .0) (r .c .0))
+ruleC r = both (differs (r .c .0) (r .serial .0)) (unbroken (r .b .0) (r .c .0))
 
 abbrev pub ruleD : Conect → Bool
-ruleD r = both (differs (r .d .0) (r .serial .0)) (follows (r .c .0) (r .d .0))
+ruleD r = both (differs (r .d .0) (r .serial .0)) (unbroken (r .c .0) (r .d .0))
 
 -- serial 7-11, partners 12-16, 17-21, 22-26, 27-31, the first of them filled
 abbrev pub plain : Format Conect

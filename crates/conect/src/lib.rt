@@ -6,7 +6,7 @@ ghost use Prim.Native.Nat.{_+_, _≤_, _<_};
 ghost use lib.ListN.{length};
 ghost use Rattle.columns.specs.Columns.{Put};
 ghost use Rattle.fields.specs.Format.{writeNumber, writeLine};
-ghost use Rattle.conect.specs.Conects.{partnerOf, partnerText, partnerOk, differs, follows, partnersText, plainOk, conectAt, conectOk, conectLine};
+ghost use Rattle.conect.specs.Conects.{partnerOf, partnerText, partnerOk, differs, unbroken, partnersText, plainOk, conectAt, conectOk, conectLine};
 
 pub struct Conect {
     pub serial: Serial,
@@ -47,7 +47,7 @@ fn other(a: u32, b: u32) -> bool
 
 // The next one is there only if this one is.
 fn in_turn(a: u32, next: u32) -> bool
-    ensures { λ r. ⌜ r ≡ follows a next ⌝ }
+    ensures { λ r. ⌜ r ≡ unbroken a next ⌝ }
 {
     if next == 0 {
         return true;

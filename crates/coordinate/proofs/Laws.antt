@@ -7,7 +7,7 @@ use Rattle.names.proofs.Classes.{atom-name-fine, alternate-fine, charge-fine}
 use Rattle.elements.specs.Elements.{isElement}
 use Rattle.elements.proofs.Rule.{element-fine}
 use Rattle.residue.proofs.Returns.{residue-lawful}
-use Rattle.coordinate.specs.Atoms.{coordinateF, toPosition, fromPosition, positionF, positionFault, positionValue, positionText, positionOk, toIdentity, fromIdentity, identityF, identityFault, identityValue, identityText, identityOk, toMeasure, fromMeasure, measureF, measureFault, measureValue, measureText, measureOk, toSpecies, fromSpecies, speciesF, speciesFault, speciesValue, speciesText, speciesOk, toAtom, fromAtom, named, atomF, atomFault, atomValue, atomText, atomOk}
+use Rattle.coordinate.specs.Atoms.{coordinateF, toPosition, fromPosition, positionF, positionFault, positionValue, positionText, positionOk, toIdentity, fromIdentity, identityF, identityFault, identityValue, identityText, identityOk, toMeasure, fromMeasure, measureF, measureFault, measureValue, measureText, measureOk, toSpecies, fromSpecies, speciesF, speciesFault, speciesValue, speciesText, speciesOk, toAtom, fromAtom, nameFits, atomF, atomFault, atomValue, atomText, atomOk}
 
 coordinate-lawful : Lawful coordinateF
 coordinate-lawful = integer-lawful 8 4 999999 9999999 refl refl
@@ -37,5 +37,5 @@ species-lawful =
 pub atom-lawful : Lawful atomF
 unfolding atomFault atomValue atomText atomOk
 atom-lawful =
-    under-lawful named 76
+    under-lawful nameFits 76
     (held-lawful toAtom fromAtom (λ p. refl) (λ f. refl) (then-lawful identity-lawful (after-lawful 3 (then-lawful measure-lawful (after-lawful 10 species-lawful)))))

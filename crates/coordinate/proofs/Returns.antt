@@ -34,7 +34,7 @@ use Rattle.coordinate.specs.declared.ReadIdentity.{ReadIdentity}
 use Rattle.coordinate.specs.declared.ReadMeasure.{ReadMeasure}
 use Rattle.coordinate.specs.declared.ReadSpecies.{ReadSpecies}
 use Rattle.coordinate.specs.declared.ReadAtom.{ReadAtom}
-use Rattle.coordinate.specs.Atoms.{positionAt, positionFault, positionValue, positionText, positionOk, identityAt, identityFault, identityValue, identityText, identityOk, measureAt, measureFault, measureValue, measureText, measureOk, speciesAt, speciesFault, speciesValue, speciesText, speciesOk, atomAt, atomFault, atomValue, atomText, atomOk, atomKind, atomLine, leadsElement}
+use Rattle.coordinate.specs.Atoms.{positionAt, positionFault, positionValue, positionText, positionOk, identityAt, identityFault, identityValue, identityText, identityOk, measureAt, measureFault, measureValue, measureText, measureOk, speciesAt, speciesFault, speciesValue, speciesText, speciesOk, atomAt, atomFault, atomValue, atomText, atomOk, coordinateKind, atomLine, leadsElement}
 
 -- a number that was held is itself
 abbrev held : ℤ → ℤ
@@ -144,16 +144,16 @@ module _ (l l1 l2 : List ℕ) where
   unfolding speciesText
   species-writes t a b = put-then a b
 
-  pub het-writes : (het : Bool) → het ≡ true → Put l 0 6 (bytesOf 6 (packed 0 (nameText kind.Hetatm))) l1 → Put l 0 6 (nameText (atomKind het)) l1
+  pub het-writes : (het : Bool) → het ≡ true → Put l 0 6 (bytesOf 6 (packed 0 (nameText kind.Hetatm))) l1 → Put l 0 6 (nameText (coordinateKind het)) l1
   unfolding bytesOf
   het-writes het t p = rw t p
 
-  pub name-writes : (het : Bool) → het ≡ false → Put l 0 6 (bytesOf 6 (packed 0 (nameText kind.Atom))) l1 → Put l 0 6 (nameText (atomKind het)) l1
+  pub name-writes : (het : Bool) → het ≡ false → Put l 0 6 (bytesOf 6 (packed 0 (nameText kind.Atom))) l1 → Put l 0 6 (nameText (coordinateKind het)) l1
   unfolding bytesOf
   name-writes het t p = rw t p
 
   pub atom-writes : (l3 l4 l5 l6 : List ℕ) (het : Bool) (a : Atom)
-      → Put l 0 6 (nameText (atomKind het)) l1 → Put l1 6 21 (identityText (a .identity)) l2 → Put l2 27 3 (blanks 3) l3
+      → Put l 0 6 (nameText (coordinateKind het)) l1 → Put l1 6 21 (identityText (a .identity)) l2 → Put l2 27 3 (blanks 3) l3
       → Put l3 30 36 (measureText (a .measure)) l4 → Put l4 66 10 (blanks 10) l5 → Put l5 76 4 (speciesText (a .species)) l6
       → Put l 0 80 (atomLine het a) l6
   unfolding atomText

@@ -151,11 +151,11 @@ fromAtom a = (a .identity, (a .measure, a .species))
 unfoldable pub leadsElement : Four → Pair → Bool
 leadsElement n e = both (same (n .a) (e .a)) (same (n .b) (e .b))
 
-abbrev pub named : Atom → Bool
-named a = leadsElement (a .identity .name) (a .species .element)
+abbrev pub nameFits : Atom → Bool
+nameFits a = leadsElement (a .identity .name) (a .species .element)
 
 abbrev pub atomColumns : Format Atom
-atomColumns = under (held (identityF then after 3 (measureF then after 10 speciesF)) toAtom fromAtom) named 76
+atomColumns = under (held (identityF then after 3 (measureF then after 10 speciesF)) toAtom fromAtom) nameFits 76
 
 unfoldable pub atomFault : List ℕ → ℕ → ℕ
 atomFault = atomColumns .fault
@@ -176,8 +176,8 @@ abbrev pub atomAt : List ℕ → ReadAtom
 atomAt l = record { column = atomFault l 6; value = atomValue l 6 }
 
 -- HETATM, or ATOM
-abbrev pub atomKind : Bool → Kind
-atomKind het = pick het kind.Hetatm kind.Atom
+abbrev pub coordinateKind : Bool → Kind
+coordinateKind het = pick het kind.Hetatm kind.Atom
 
 abbrev pub atomLine : Bool → Atom → List ℕ
-atomLine het a = nameText (atomKind het) ++ atomText a
+atomLine het a = nameText (coordinateKind het) ++ atomText a

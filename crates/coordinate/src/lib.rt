@@ -9,7 +9,7 @@ ghost use lib.ListN.{length};
 ghost use Rattle.columns.specs.Columns.{Put};
 ghost use Rattle.fields.specs.Format.{writeNumber, writeLine};
 ghost use Rattle.kinds.specs.Kinds.{nameText};
-ghost use Rattle.coordinate.specs.Atoms.{positionAt, positionOk, positionText, identityAt, identityOk, identityText, measureAt, measureOk, measureText, speciesAt, speciesOk, speciesText, leadsElement, atomAt, atomOk, atomKind, atomLine};
+ghost use Rattle.coordinate.specs.Atoms.{positionAt, positionOk, positionText, identityAt, identityOk, identityText, measureAt, measureOk, measureText, speciesAt, speciesOk, speciesText, leadsElement, atomAt, atomOk, coordinateKind, atomLine};
 
 // Coordinates, in thousandths.
 #[repr(C)]
@@ -282,7 +282,7 @@ fn put_species(line: &mut [u8], t: Species)
 // The name of the line.
 fn put_kind(line: &mut [u8], het: bool)
     requires { ⌜ 80 ≤ length (now line) ⌝ }
-    ensures { λ _. ⌜ Put (now (line .entry)) 0 6 (nameText (atomKind het)) (now (line .exit)) ⌝ }
+    ensures { λ _. ⌜ Put (now (line .entry)) 0 6 (nameText (coordinateKind het)) (now (line .exit)) ⌝ }
 {
     if het {
         words::put_word(line, 0, 6, kinds::HETATM);

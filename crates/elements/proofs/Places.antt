@@ -8,7 +8,7 @@ use borrow.Author.Tests.{eq-eqb, ne-eqb}
 use Rattle.ascii.specs.Tests.{isUpper}
 use Rattle.ascii.proofs.Choice.{between-low}
 use Rattle.names.specs.declared.Pair.{Pair}
-use Rattle.elements.specs.Elements.{placeOf}
+use Rattle.elements.specs.Elements.{entryOf}
 
 pub upper-low : (t : Bool) (b : ℕ) → t ≡ isUpper b → t ≡ true → 65 ≤ b
 upper-low t b e q = between-low 65 90 b (sym e ∙ q)
@@ -17,18 +17,18 @@ pub upper-past : (t : Bool) (b : ℕ) → t ≡ isUpper b → t ≡ true → 64 
 upper-past t b e q = omega (arith, upper-low t b e q)
 
 module _ (p : Pair) (t : Bool) (e : t ≡ isUpper (p .b)) where
-  pub place-one : t ≡ true → p .a ≡ 32 → p .b - 65 ≡ placeOf p
-  unfolding placeOf
+  pub place-one : t ≡ true → p .a ≡ 32 → p .b - 65 ≡ entryOf p
+  unfolding entryOf
   place-one q z = rw (sym e ∙ q, eq-eqb _ _ z)
 
-  pub place-two : (u : Bool) → t ≡ true → (p .a ≡ 32 → ⊥) → u ≡ isUpper (p .a) → u ≡ true → 26 * (p .a - 64) + (p .b - 65) ≡ placeOf p
-  unfolding placeOf
+  pub place-two : (u : Bool) → t ≡ true → (p .a ≡ 32 → ⊥) → u ≡ isUpper (p .a) → u ≡ true → 26 * (p .a - 64) + (p .b - 65) ≡ entryOf p
+  unfolding entryOf
   place-two u q z f r = rw (sym e ∙ q, ne-eqb _ _ z, sym f ∙ r)
 
-  pub place-odd : (u : Bool) → t ≡ true → (p .a ≡ 32 → ⊥) → u ≡ isUpper (p .a) → u ≡ false → 702 ≡ placeOf p
-  unfolding placeOf
+  pub place-odd : (u : Bool) → t ≡ true → (p .a ≡ 32 → ⊥) → u ≡ isUpper (p .a) → u ≡ false → 702 ≡ entryOf p
+  unfolding entryOf
   place-odd u q z f r = rw (sym e ∙ q, ne-eqb _ _ z, sym f ∙ r)
 
-  pub place-none : t ≡ false → 702 ≡ placeOf p
-  unfolding placeOf
+  pub place-none : t ≡ false → 702 ≡ entryOf p
+  unfolding entryOf
   place-none q = rw (sym e ∙ q)

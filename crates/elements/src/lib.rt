@@ -4,11 +4,11 @@ mod table;
 use names::Pair;
 use table::ELEMENTS;
 ghost use mathlib.Core.Path.{_≡_};
-ghost use Rattle.elements.specs.Elements.{placeOf, atomicOf, isElement, usualOf};
+ghost use Rattle.elements.specs.Elements.{entryOf, atomicOf, isElement, usualOf};
 
 // The place of a pair in the table; 702 where it is no such pair.
 fn place(p: Pair) -> usize
-    ensures { λ r. ⌜ r ≡ placeOf p ⌝ }
+    ensures { λ r. ⌜ r ≡ entryOf p ⌝ }
 {
     let a = p.a;
     let b = p.b;

@@ -5,16 +5,16 @@ use mathlib.Core.List.{List}
 use mathlib.Core.Bool.{Bool, true, false}
 use Prim.Native.Nat.{ℕ, _≤_, _<_}
 use lib.IntN.{ℤ, natAbs}
-use lib.Dec.{leb}
+use lib.Dec.{leb, eqb}
 use mir.Syntax.{w32}
 use mir.Val.{SFits, toZ, ofZ}
 use mir.ValLaws.{toZ-ofZ}
 use borrow.Author.Tests.{lt-ltb, le-ltb, ne-eqb, le-leb, lt-leb}
-use Rattle.ascii.specs.Tests.{both}
+use Rattle.ascii.specs.Tests.{both, alike}
 use Rattle.columns.specs.Columns.{Put}
 use Rattle.numbers.specs.declared.Number.{Number}
 use Rattle.numbers.specs.Number.{numberOf, render}
-use Rattle.fields.specs.Field.{signedOf, wholeOf, wholeIn, wrongWhole, integerOf, integerIn, wrongSigned, rangedOf, spansOf, isNeg}
+use Rattle.fields.specs.Field.{signedOf, wholeOf, wholeIn, wrongWhole, integerOf, integerIn, wrongSigned, rangedOf, spansOf, isNeg, sameInteger}
 
 module _ (l : List ℕ) (at n e : ℕ) (h : Number) (q : h ≡ numberOf l at n e) where
   module _ (lo hi : ℕ) where
@@ -79,3 +79,8 @@ module _ (z : ℤ) (v : ℕ) (m : Bool) (f : SFits w32 z) (a' : v ≡ natAbs (to
 
   pub integer-put : (l l' : List ℕ) (at n e : ℕ) → Put l at n (render n e m v) l' → Put l at n (render n e (isNeg z) (natAbs z)) l'
   integer-put l l' at n e p = rw (← a, ← s) p
+
+pub integers : (a b : ℤ) (s t u r : Bool) (x y : ℕ) → SFits w32 a → SFits w32 b
+    → s ≡ isNeg (toZ w32 (ofZ w32 a)) → t ≡ isNeg (toZ w32 (ofZ w32 b)) → x ≡ natAbs (toZ w32 (ofZ w32 a)) → y ≡ natAbs (toZ w32 (ofZ w32 b))
+    → u ≡ alike s t → r ≡ both u (eqb x y) → r ≡ sameInteger a b
+integers a b s t u r x y fa fb es et ex ey eu er = er ∙ rw (eu, es, et, ex, ey, toZ-ofZ w32 a fa, toZ-ofZ w32 b fb)

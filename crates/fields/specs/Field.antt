@@ -4,7 +4,7 @@ use mathlib.Core.List.{List}
 use mathlib.Core.Bool.{Bool, true, false}
 use lib.Dec.{leb, ltb, eqb}
 use lib.IntN.{ℤ, pos, negsuc, natAbs}
-use Rattle.ascii.specs.Tests.{pick, both}
+use Rattle.ascii.specs.Tests.{pick, both, alike}
 use Rattle.numbers.specs.declared.Number.{Number}
 use Rattle.numbers.specs.Number.{numberOf}
 use Rattle.fields.specs.declared.Whole.{Whole}
@@ -20,6 +20,10 @@ signedOf true (suc v) = negsuc v
 unfoldable pub isNeg : ℤ → Bool
 isNeg (pos n) = false
 isNeg (negsuc n) = true
+
+-- equal numbers of either sign
+abbrev pub sameInteger : ℤ → ℤ → Bool
+sameInteger a b = both (alike (isNeg a) (isNeg b)) (eqb (natAbs a) (natAbs b))
 
 -- one more than the largest number that n columns hold, with or without a minus
 abbrev pub capOf : ℕ → ℕ → Bool → ℕ

@@ -6,7 +6,7 @@ ghost use mathlib.Core.Bool.{true, false};
 ghost use lib.ListN.{length};
 ghost use lib.IntN.{natAbs};
 ghost use Rattle.columns.specs.Columns.{Put};
-ghost use Rattle.fields.specs.Field.{signedOf, isNeg, wholeOf, integerOf, capOf, rangedOf, spansOf};
+ghost use Rattle.fields.specs.Field.{signedOf, isNeg, sameInteger, wholeOf, integerOf, capOf, rangedOf, spansOf};
 ghost use Rattle.numbers.specs.Number.{render};
 
 // Serials, residue numbers and fragment numbers are types of their own, so that none lands where another belongs.
@@ -55,6 +55,16 @@ pub fn magnitude(z: i32) -> u64
         return (-w) as u64;
     }
     w as u64
+}
+
+pub fn same_integer(a: i32, b: i32) -> bool
+    ensures { λ r. ⌜ r ≡ sameInteger a b ⌝ }
+{
+    let s = negative(a);
+    let t = negative(b);
+    let x = magnitude(a);
+    let y = magnitude(b);
+    ascii::both_of(ascii::alike_of(s, t), x == y)
 }
 
 // A number from lo to hi.

@@ -18,13 +18,14 @@ use Rattle.line.specs.declared.Record.the-variants as rec
 use Rattle.pieces.specs.declared.Line.{Line}
 use Rattle.pieces.specs.declared.Line.the-variants.{Typed}
 use Rattle.rules.specs.declared.State.{State}
-use Rattle.rules.specs.Places.{placeOf, placeBad, coordinatePlace}
+use Rattle.places.specs.Places.{placeOf, placeBad, coordinatePlace}
 use Rattle.rules.specs.Rules.{carriedNext, typedNext}
-use Rattle.rules.proofs.Laws.{Good, place-low, place-high}
+use Rattle.places.proofs.Laws.{place-low, place-high}
+use Rattle.rules.proofs.Laws.{Good}
 use Rattle.gate.specs.declared.Span.{Span}
-use Rattle.gate.specs.Text.{down}
+use Rattle.gate.specs.Text.{down, isCoord}
 use Rattle.gate.specs.Gate.{someOf}
-use Rattle.gate.specs.Search.{isCoord, serialOf, growOf, Before, Block}
+use Rattle.gate.specs.Search.{serialOf, growOf, Before, Block}
 
 -- a line that is no coordinate line leaves the block
 grow-other : (L : ℕ → Line) (n : ℕ) (b : Span) (s t : State) → Block L n b s → isCoord (L n) ≡ false → t .last ≡ s .last

@@ -4,7 +4,7 @@ use Prim.Native.Nat.{ℕ, zero, suc, _+_, _*_, _≤_, _<_}
 use mathlib.Core.List.{List, [], _∷_, map}
 use mathlib.Core.Bool.{Bool, true, false, not, false≢true}
 use mathlib.Core.Path.{_≡_, refl, sym, _∙_, ap, ap₂}
-use mathlib.Core.Logic.{_⊎_, inl, inr, ⊎-elim}
+use mathlib.Core.Logic.{_⊎_, inl, inr}
 use native.Mathlib.Omega.{arith}
 use borrow.Author.Tests.{eqb-true, ltb-true, ltb-false}
 use lib.Dec.{eqb, ltb}
@@ -19,16 +19,16 @@ use Rattle.line.specs.declared.Record.the-variants.{Coordinate, Ter, Helix, She
 use Rattle.pieces.specs.declared.Line.{Line}
 use Rattle.pieces.specs.declared.Line.the-variants.{Bad, Wrong, Carried, Typed}
 use Rattle.pieces.specs.Pieces.{lineOf}
-use Rattle.rules.specs.declared.Counts.{Counts}
+use Rattle.places.specs.declared.Counts.{Counts}
 use Rattle.rules.specs.declared.State.{State}
-use Rattle.rules.specs.Places.{placeOf, endPlace}
-use Rattle.rules.specs.Counts.{countOf, oneMore, raised, sameCounts}
+use Rattle.places.specs.Places.{placeOf, endPlace}
+use Rattle.places.specs.Counts.{countOf, oneMore, raised, sameCounts}
 use Rattle.rules.specs.Rules.{recordKind, lineKind, judgeOf, nextOf, carriedNext, typedNext, startOf}
 use Rattle.rules.proofs.Laws.{judge-typed, judge-wrong}
 use Rattle.gate.specs.declared.Verdict.{Verdict}
-use Rattle.gate.specs.Text.{pieceAt, row, down}
+use Rattle.gate.specs.Text.{pieceAt, row, down, isCoord}
 use Rattle.gate.specs.Gate.{isSite, someOf, named, partnerKnown, recordKnown, refusedOf, finishOf, checkLines, checkOf}
-use Rattle.gate.specs.Search.{isCoord, serialOf}
+use Rattle.gate.specs.Search.{serialOf}
 use Rattle.gate.proofs.Cut.{cut-done}
 use Rattle.gate.proofs.Rows.{carried-ends, bad-number}
 use Rattle.gate.proofs.Runs.{stateAt, GoodTo, Reached, reached, unrolled, answered}

@@ -19,9 +19,9 @@ use Rattle.pieces.specs.declared.Line.{Line}
 use Rattle.pieces.specs.declared.Line.the-variants.{Bad, Wrong, Carried, Typed}
 use Rattle.rules.specs.declared.State.{State}
 use Rattle.gate.specs.declared.Span.{Span}
-use Rattle.gate.specs.Text.{pieceAt, row, down}
+use Rattle.gate.specs.Text.{pieceAt, row, down, isSpot, isCoord}
 use Rattle.gate.specs.Gate.{isAtom, isSite, named, partnerKnown, recordKnown}
-use Rattle.gate.specs.Search.{isSpot, isCoord, spotSerial, serialOf, Block, Rising, Bracket, Finds}
+use Rattle.gate.specs.Search.{spotSerial, serialOf, Block, Rising, Bracket, Finds}
 use Rattle.gate.proofs.Block.{some-at, some-none}
 use Rattle.gate.proofs.Rows.{coord-serial}
 

@@ -1,6 +1,6 @@
 -- What the tests say of the records and the lines that they are not about: of each such one the same. Assumes nothing.
 use Prim.Native.Nat.{ℕ}
-use mathlib.Core.Bool.{Bool, true, false}
+use mathlib.Core.Bool.{true, false}
 use mathlib.Core.List.{List, [], _∷_}
 use mathlib.Core.Path.{_≡_, refl}
 use denote.Enum.Declared.{tagOf}
@@ -12,7 +12,7 @@ use Rattle.pieces.proofs.Line as line-type
 use Rattle.pieces.specs.declared.Line.{Line}
 use Rattle.pieces.specs.declared.Line.the-variants.{Bad, Wrong, Carried, Typed}
 use Rattle.gate.specs.Gate.{isAtom, isSite, recordKnown, knownOf}
-use Rattle.gate.specs.Search.{isSpot, isCoord}
+use Rattle.gate.specs.Text.{isSpot, isCoord}
 
 pub atom-others : (n : ℕ) (r : Record) → OneOf (1 ∷ 2 ∷ 3 ∷ 4 ∷ 5 ∷ 6 ∷ []) (tagOf record-type.the-type r) → isAtom n r ≡ false
 atom-others n (Coordinate het a) e = absurd (miss (1 ∷ 2 ∷ 3 ∷ 4 ∷ 5 ∷ 6 ∷ []) 0 tt e)

@@ -23,9 +23,9 @@ use Rattle.line.specs.Lines.{judged, readingOf}
 use Rattle.pieces.specs.declared.Line.{Line}
 use Rattle.pieces.specs.declared.Line.the-variants.{Bad, Wrong, Carried, Typed}
 use Rattle.pieces.specs.Pieces.{lineIn, columnsOf, lineOf}
-use Rattle.rules.specs.Places.{placeOf, coordinatePlace, endPlace}
-use Rattle.gate.specs.Text.{pieceAt, row}
-use Rattle.gate.specs.Search.{isSpot, isCoord, spotSerial, serialOf}
+use Rattle.places.specs.Places.{placeOf, coordinatePlace, endPlace}
+use Rattle.gate.specs.Text.{pieceAt, row, isSpot, isCoord}
+use Rattle.gate.specs.Search.{spotSerial, serialOf}
 
 record Reads (l : List ℕ) (x : Line) : Type 0 where
   -- the serial of a coordinate line is the number in its columns 7-11

@@ -14,7 +14,7 @@ use Rattle.ascii.proofs.Choice.{picks}
 use Rattle.pieces.specs.declared.Line.{Line}
 use Rattle.pieces.specs.Pieces.{lineOf}
 use Rattle.rules.specs.declared.State.{State}
-use Rattle.rules.specs.Places.{endPlace}
+use Rattle.places.specs.Places.{endPlace}
 use Rattle.rules.specs.Rules.{nextOf, startOf}
 use Rattle.gate.specs.declared.Span.{Span}
 use Rattle.gate.specs.declared.Verdict.{Verdict}

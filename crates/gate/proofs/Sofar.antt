@@ -13,17 +13,16 @@ use Rattle.ascii.proofs.Choice.{picks}
 use Rattle.pieces.specs.declared.Line.{Line}
 use Rattle.pieces.specs.declared.Line.the-variants.{Bad, Wrong, Carried, Typed}
 use Rattle.pieces.specs.Pieces.{lineOf}
-use Rattle.rules.specs.declared.Counts.{Counts}
+use Rattle.places.specs.declared.Counts.{Counts}
 use Rattle.rules.specs.declared.State.{State}
-use Rattle.rules.specs.Counts.{oneMore, raised}
-use Rattle.rules.specs.Room.{Room}
+use Rattle.places.specs.Counts.{oneMore, raised}
 use Rattle.rules.specs.Rules.{judgeOf, nextOf, carriedNext, typedNext, startOf}
 use Rattle.rules.proofs.Laws.{judge-typed, judge-carried, judge-wrong}
 use Rattle.gate.specs.declared.Span.{Span}
 use Rattle.gate.specs.declared.Verdict.{Verdict}
-use Rattle.gate.specs.Text.{cut, pieceAt, row, down}
+use Rattle.gate.specs.Text.{cut, pieceAt, row, down, isCoord}
 use Rattle.gate.specs.Gate.{knownOf, numberIn, checkLines, checkOf, refusedOf, finishOf}
-use Rattle.gate.specs.Search.{isCoord, growOf, Block, Rising}
+use Rattle.gate.specs.Search.{growOf, Block, Rising}
 use Rattle.gate.proofs.Cut.{cut-next, cut-done}
 use Rattle.gate.proofs.Rows.{carried-away, bad-number, piece-long}
 use Rattle.gate.proofs.Block.{grow-carried, grow-typed}

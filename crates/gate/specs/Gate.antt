@@ -10,7 +10,7 @@ use Rattle.pieces.specs.declared.Line.{Line}
 use Rattle.pieces.specs.declared.Line.the-variants.{Bad, Wrong, Carried, Typed}
 use Rattle.pieces.specs.Pieces.{lineOf}
 use Rattle.rules.specs.declared.State.{State}
-use Rattle.rules.specs.Places.{endPlace}
+use Rattle.places.specs.Places.{endPlace}
 use Rattle.rules.specs.Rules.{judgeOf, nextOf, startOf}
 use Rattle.gate.specs.declared.Verdict.{Verdict}
 use Rattle.gate.specs.Text.{cut}

@@ -12,29 +12,12 @@ use Rattle.line.specs.declared.Record.the-variants.{Coordinate, Ter, Helix, She
 use Rattle.pieces.specs.declared.Line.{Line}
 use Rattle.pieces.specs.declared.Line.the-variants.{Bad, Wrong, Carried, Typed}
 use Rattle.rules.specs.declared.State.{State}
-use Rattle.rules.specs.Places.{coordinatePlace, endPlace}
+use Rattle.places.specs.Places.{coordinatePlace, endPlace}
 use Rattle.gate.specs.declared.Span.{Span}
 use Rattle.gate.specs.Gate.{isSite}
-use Rattle.gate.specs.Text.{row}
+use Rattle.gate.specs.Text.{row, isCoord}
 
--- an ATOM, HETATM or TER line
-abbrev pub isSpot : Record → Bool
-isSpot (Coordinate het a) = true
-isSpot (Ter t) = true
-isSpot (Helix h) = false
-isSpot (Sheet s) = false
-isSpot (Conect c) = false
-isSpot (Master t) = false
-isSpot End = false
-
--- the same of a line
-abbrev pub isCoord : Line → Bool
-isCoord (Bad k) = false
-isCoord (Wrong k column) = false
-isCoord (Carried k) = false
-isCoord (Typed r) = isSpot r
-
--- its serial
+-- the serial of an ATOM, HETATM or TER line
 abbrev pub spotSerial : Record → ℕ
 spotSerial (Coordinate het a) = a .identity .serial .0
 spotSerial (Ter t) = t .serial .0

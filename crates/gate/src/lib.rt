@@ -4,7 +4,7 @@ use conect::Conect;
 use coordinate::Atom;
 use line::Record;
 use pieces::Line;
-use rules::Counts;
+use places::Counts;
 use rules::State;
 ghost use mathlib.Core.Path.{_≡_};
 ghost use lib.Dec.{eqb};
@@ -13,9 +13,9 @@ ghost use lib.ListN.{length, take};
 ghost use Rattle.fields.specs.Field.{wholeOf};
 ghost use Rattle.line.specs.declared.Record.the-variants as rec;
 ghost use Rattle.rules.specs.declared.State.{State as StateOf};
-ghost use Rattle.gate.specs.Text.{pieceAt, row, down};
+ghost use Rattle.gate.specs.Text.{pieceAt, row, down, isSpot, isCoord};
 ghost use Rattle.gate.specs.Gate.{isAtom, isSite, named, partnerKnown, recordKnown, knownOf, refusedOf, finishOf, checkOf};
-ghost use Rattle.gate.specs.Search.{isSpot, isCoord, serialOf, growOf, Block, Rising, Bracket, Finds};
+ghost use Rattle.gate.specs.Search.{serialOf, growOf, Block, Rising, Bracket, Finds};
 
 // The answer: the number of refusal, the offending line (0 if granted), the count of good lines, and the nine counts over those.
 pub struct Verdict {

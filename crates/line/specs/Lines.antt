@@ -73,9 +73,9 @@ unfoldable pub readLine : List ℕ → Answer
 readLine l = pick (eqb (length l) 80) (pick (cleanAt l 0 80) (answerOf (readingOf (kindOf l) l)) (Refused 3)) (Refused 1)
 
 -- the number of an answer
-abbrev pub numberOf : Answer → ℕ
-numberOf (Read r) = 0
-numberOf (Refused n) = n
+abbrev pub answerNumber : Answer → ℕ
+answerNumber (Read r) = 0
+answerNumber (Refused n) = n
 
 -- each field of a record is within its range
 abbrev pub recordOk : Record → Bool

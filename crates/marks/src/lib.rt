@@ -8,7 +8,6 @@ pub use bonds::is_aside;
 pub use bonds::is_at;
 pub use bonds::is_below;
 pub use bonds::is_conect;
-pub use counting::no_counts;
 pub use counting::one_if;
 pub use counting::one_of;
 use pieces::Line;

@@ -3,6 +3,7 @@ use Prim.Native.Nat.{ℕ, _+_}
 use mathlib.Core.List.{List, [], _∷_}
 use mathlib.Core.Bool.{Bool}
 use lib.ListN.{getD}
+use lib.Dec.{eqb}
 use Rattle.ascii.specs.Bytes.{byte}
 use Rattle.ascii.specs.Tests.{both, either, same, between, isUpper, isCode}
 use Rattle.fields.specs.Format.{Format, rawF}
@@ -28,6 +29,16 @@ threeF test = rawF 3 threeAt (λ p. p .a ∷ p .b ∷ p .c ∷ []) test
 
 abbrev pub fourF : (Four → Bool) → Format Four
 fourF test = rawF 4 fourAt (λ p. p .a ∷ p .b ∷ p .c ∷ p .d ∷ []) test
+
+-- equal in each column
+unfoldable pub samePair : Pair → Pair → Bool
+samePair a b = both (eqb (a .a) (b .a)) (eqb (a .b) (b .b))
+
+unfoldable pub sameThree : Three → Three → Bool
+sameThree a b = both (eqb (a .a) (b .a)) (both (eqb (a .b) (b .b)) (eqb (a .c) (b .c)))
+
+unfoldable pub sameFour : Four → Four → Bool
+sameFour a b = both (both (eqb (a .a) (b .a)) (eqb (a .b) (b .b))) (both (eqb (a .c) (b .c)) (eqb (a .d) (b .d)))
 
 -- ---- one column
 abbrev pub isBlank : ℕ → Bool

@@ -4,7 +4,7 @@ ghost use Prim.Native.Nat.{_+_, _≤_};
 ghost use mathlib.Core.List.{_∷_, []};
 ghost use lib.ListN.{length};
 ghost use Rattle.columns.specs.Columns.{Put};
-ghost use Rattle.names.specs.Names.{pairAt, threeAt, fourAt, isBlank, isChain, isInsertion, isAlternate, isFilled, isColumn, isNameByte, rightThree, isResidue, isIdentifier, isCharge, paddedTwo, paddedThree, isAtomName, isBondName};
+ghost use Rattle.names.specs.Names.{pairAt, threeAt, fourAt, samePair, sameThree, sameFour, isBlank, isChain, isInsertion, isAlternate, isFilled, isColumn, isNameByte, rightThree, isResidue, isIdentifier, isCharge, paddedTwo, paddedThree, isAtomName, isBondName};
 
 #[repr(C)]
 pub struct Pair {
@@ -88,6 +88,27 @@ pub fn put_four(line: &mut [u8], at: usize, p: Four)
     let s = q + 1;
     columns::put_one(line, s, p.c);
     columns::put_one(line, s + 1, p.d);
+}
+
+pub fn same_pair(a: Pair, b: Pair) -> bool
+    ensures { λ r. ⌜ r ≡ samePair a b ⌝ }
+{
+    ascii::both_of(a.a == b.a, a.b == b.b)
+}
+
+pub fn same_three(a: Three, b: Three) -> bool
+    ensures { λ r. ⌜ r ≡ sameThree a b ⌝ }
+{
+    ascii::both_of(a.a == b.a, ascii::both_of(a.b == b.b, a.c == b.c))
+}
+
+pub fn same_four(a: Four, b: Four) -> bool
+    ensures { λ r. ⌜ r ≡ sameFour a b ⌝ }
+{
+    ascii::both_of(
+        ascii::both_of(a.a == b.a, a.b == b.b),
+        ascii::both_of(a.c == b.c, a.d == b.d),
+    )
 }
 
 pub fn is_blank(b: u8) -> bool

@@ -18,7 +18,7 @@ use Rattle.ascii.proofs.Choice.{picks, both-split}
 use Rattle.numbers.specs.declared.Number.{Number}
 use Rattle.numbers.specs.declared.Scan.{Scan}
 use Rattle.numbers.specs.Number.{none, endsDigit, leadOf, furtherOf, grownOf, numberOf}
-use Rattle.numbers.specs.Runs.{valueOf, decOf, stepOf, scanOf, takenOf, tailOf, madeOf}
+use Rattle.numbers.specs.Runs.{valueOf, decOf, stepOf, scanOf, takenOf, decimalsOf, madeOf}
 use Rattle.numbers.proofs.Steps.{digit-low, digit-high, down}
 
 -- ---- digits in four bits
@@ -175,8 +175,8 @@ unfolding scanOf stepOf
 code-below l at zero = lit< tt
 code-below l at (suc n) = rw pow-suc (omega (arith, code-below l at n, value-small (getD l (at + n) 0)))
 
-pub mag-below : (l : List ℕ) (at k : ℕ) (h : Number) (n : ℕ) → h .mag < 16 ^ k → (tailOf l at h n) .mag < 16 ^ (k + n)
-unfolding tailOf takenOf
+pub mag-below : (l : List ℕ) (at k : ℕ) (h : Number) (n : ℕ) → h .mag < 16 ^ k → (decimalsOf l at h n) .mag < 16 ^ (k + n)
+unfolding decimalsOf takenOf
 mag-below l at k h zero b = rw add-zero b
 mag-below l at k h (suc n) b = rw (add-suc, pow-suc) (omega (arith, mag-below l at k h n b, value-small (getD l (at + n) 0)))
 
@@ -189,7 +189,7 @@ scan-small l at n i s e a b =
     let p : 16 ^ i ≤ 16 ^ 8 = pow-le-pow-right (lit< tt) j in
     omega (arith, scan-below l at i s e)
 
-pub tail-small : (l : List ℕ) (at n k i : ℕ) (h t : Number) → t ≡ tailOf l at h i → h .mag < 16 ^ k → i < n → n + k ≤ 8 → t .mag ≤ 4294967296
+pub tail-small : (l : List ℕ) (at n k i : ℕ) (h t : Number) → t ≡ decimalsOf l at h i → h .mag < 16 ^ k → i < n → n + k ≤ 8 → t .mag ≤ 4294967296
 tail-small l at n k i h t e m a b =
     let j : k + i ≤ 8 = omega arith in
     let p : 16 ^ (k + i) ≤ 16 ^ 8 = pow-le-pow-right (lit< tt) j in
@@ -207,16 +207,16 @@ scan-next l at i s r e q = rw add-one (q ∙ ap (λ x. stepOf x (getD l (at + i)
 pub scan-end : (l : List ℕ) (at n i : ℕ) (s : Scan) → i ≤ n → n ≤ i → s ≡ scanOf l at i → s ≡ scanOf l at n
 scan-end l at n i s a b e = let q : i ≡ n = omega arith in e ∙ ap (scanOf l at) q
 
-pub tail-start : (l : List ℕ) (at : ℕ) (h : Number) → h ≡ tailOf l at h 0
-unfolding tailOf
+pub tail-start : (l : List ℕ) (at : ℕ) (h : Number) → h ≡ decimalsOf l at h 0
+unfolding decimalsOf
 tail-start l at h = refl
 
-pub tail-next : (l : List ℕ) (at i : ℕ) (h t r : Number) → t ≡ tailOf l at h i → r ≡ takenOf t (getD l (at + i) 0) → r ≡ tailOf l at h (i + 1)
-unfolding tailOf
+pub tail-next : (l : List ℕ) (at i : ℕ) (h t r : Number) → t ≡ decimalsOf l at h i → r ≡ takenOf t (getD l (at + i) 0) → r ≡ decimalsOf l at h (i + 1)
+unfolding decimalsOf
 tail-next l at i h t r e q = rw add-one (q ∙ ap (λ x. takenOf x (getD l (at + i) 0)) e)
 
-pub tail-end : (l : List ℕ) (at n i : ℕ) (h t : Number) → i ≤ n → n ≤ i → t ≡ tailOf l at h i → t ≡ tailOf l at h n
-tail-end l at n i h t a b e = let q : i ≡ n = omega arith in e ∙ ap (tailOf l at h) q
+pub tail-end : (l : List ℕ) (at n i : ℕ) (h t : Number) → i ≤ n → n ≤ i → t ≡ decimalsOf l at h i → t ≡ decimalsOf l at h n
+tail-end l at n i h t a b e = let q : i ≡ n = omega arith in e ∙ ap (decimalsOf l at h) q
 
 -- ---- the point and the decimals
 point-step : (y g m : Bool) (D : ℕ) → pick y (madeOf g m D) none ≡ madeOf (both g y) m D
@@ -240,8 +240,8 @@ taken-step : (l : List ℕ) (at : ℕ) (h : Number) (b m k : ℕ) (q : Number) �
 unfolding takenOf
 taken-step l at h b m k q e = rw (e, dec-step (h .mag) (valueOf b) m (value-small b)) (take-step (isDigit b) (h .good) (h .minus) b (decOf (h .mag) m) (valueOf b) (value-digit b))
 
-decimals : (l : List ℕ) (at w k m : ℕ) → m ≡ w + k → numberOf l at (suc m) (suc k) ≡ madeOf ((tailOf l (at + w + 1) (pointed l at w) k) .good) ((tailOf l (at + w + 1) (pointed l at w) k) .minus) (decOf ((tailOf l (at + w + 1) (pointed l at w) k) .mag) m)
-unfolding tailOf numberOf
+decimals : (l : List ℕ) (at w k m : ℕ) → m ≡ w + k → numberOf l at (suc m) (suc k) ≡ madeOf ((decimalsOf l (at + w + 1) (pointed l at w) k) .good) ((decimalsOf l (at + w + 1) (pointed l at w) k) .minus) (decOf ((decimalsOf l (at + w + 1) (pointed l at w) k) .mag) m)
+unfolding decimalsOf numberOf
 decimals l at w zero m e =
     let q : m ≡ w = omega arith in
     rw (q, known l at w .number) (point-step (eqb (getD l (at + w) 0) 46) ((scanOf l at w) .good) ((scanOf l at w) .minus) (decOf ((scanOf l at w) .code) w))
@@ -249,7 +249,7 @@ decimals l at w (suc k) zero e = absurd (omega arith)
 decimals l at w (suc k) (suc m) e =
     let q : m ≡ w + k = omega arith in
     let i : at + suc m ≡ at + w + 1 + k = omega arith in
-    rw i (taken-step l at (tailOf l (at + w + 1) (pointed l at w) k) (getD l (at + w + 1 + k) 0) m k (numberOf l at (suc m) (suc k)) (decimals l at w k m q))
+    rw i (taken-step l at (decimalsOf l (at + w + 1) (pointed l at w) k) (getD l (at + w + 1 + k) 0) m k (numberOf l at (suc m) (suc k)) (decimals l at w k m q))
 
 -- ---- the returns of read_number
 pub num-short : (l : List ℕ) (at n e : ℕ) → n < e → none ≡ numberOf l at n e
@@ -268,7 +268,7 @@ num-whole l at n e s d r z p q f =
     let j : n - e ≡ n = omega arith in
     rw z (f ∙ rw (q, p, j) (sym (known l at n .number)))
 
-pub num-real : (l : List ℕ) (at n e : ℕ) (s : Scan) (y g : Bool) (h : Number) (d : ℕ) (r : Number) → (e ≡ 0 → ⊥) → e ≤ n → s ≡ scanOf l at (n - e) → y ≡ same (getD l (at + (n - e)) 0) 46 → g ≡ both (s .good) y → h ≡ tailOf l (at + (n - e) + 1) (record { good = g; minus = s .minus; mag = s .code }) (e - 1) → d ≡ decOf (h .mag) (n - 1) → r ≡ madeOf (h .good) (h .minus) d → r ≡ numberOf l at n e
+pub num-real : (l : List ℕ) (at n e : ℕ) (s : Scan) (y g : Bool) (h : Number) (d : ℕ) (r : Number) → (e ≡ 0 → ⊥) → e ≤ n → s ≡ scanOf l at (n - e) → y ≡ same (getD l (at + (n - e)) 0) 46 → g ≡ both (s .good) y → h ≡ decimalsOf l (at + (n - e) + 1) (record { good = g; minus = s .minus; mag = s .code }) (e - 1) → d ≡ decOf (h .mag) (n - 1) → r ≡ madeOf (h .good) (h .minus) d → r ≡ numberOf l at n e
 unfolding same
 num-real l at n e s y g h d r z a p t b u q f =
     let i : n - 1 ≡ (n - e) + (e - 1) = omega arith in

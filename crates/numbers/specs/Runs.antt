@@ -41,9 +41,9 @@ unfoldable pub takenOf : Number → ℕ → Number
 takenOf h b = record { good = both (h .good) (isDigit b); minus = h .minus; mag = 16 * h .mag + valueOf b }
 
 -- n decimals from `at`, after what h has
-unfoldable pub tailOf : List ℕ → ℕ → Number → ℕ → Number
-tailOf l at h zero = h
-tailOf l at h (suc n) = takenOf (tailOf l at h n) (getD l (at + n) 0)
+unfoldable pub decimalsOf : List ℕ → ℕ → Number → ℕ → Number
+decimalsOf l at h zero = h
+decimalsOf l at h (suc n) = takenOf (decimalsOf l at h n) (getD l (at + n) 0)
 
 -- the number of a sign and a magnitude, or none
 unfoldable pub madeOf : Bool → Bool → ℕ → Number

@@ -7,7 +7,7 @@ ghost use lib.Dec.{eqb};
 ghost use Rattle.ascii.specs.Tests.{pick};
 ghost use Rattle.columns.specs.Columns.{Put};
 ghost use Rattle.numbers.specs.Number.{numberOf, digitOf, leader, render};
-ghost use Rattle.numbers.specs.Runs.{valueOf, decOf, stepOf, scanOf, takenOf, tailOf, madeOf};
+ghost use Rattle.numbers.specs.Runs.{valueOf, decOf, stepOf, scanOf, takenOf, decimalsOf, madeOf};
 
 // A number as it stands in its columns. All is 0 and false where the columns hold none.
 pub struct Number {
@@ -131,7 +131,7 @@ fn taken(h: Number, b: u8) -> Number
 // n decimals from `at`, after what h has.
 fn tail(line: &[u8], at: usize, n: usize, k: usize, h: Number) -> Number
     requires { ⌜ (at + n ≤ length (now line)) × (at + n ≤ 80) × (n + k ≤ 8) × (h .mag < 16 ^ k) ⌝ }
-    ensures { λ r. ⌜ r ≡ tailOf (now (line .entry)) at h n ⌝ }
+    ensures { λ r. ⌜ r ≡ decimalsOf (now (line .entry)) at h n ⌝ }
 {
     let mut t = h;
     let mut i: usize = 0;

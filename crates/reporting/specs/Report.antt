@@ -4,7 +4,7 @@ use mathlib.Core.List.{List}
 use lib.Dec.{ltb}
 use lib.ListN.{length}
 use Rattle.ascii.specs.Tests.{pick}
-use Rattle.rules.specs.Counts.{noCounts}
+use Rattle.places.specs.Counts.{noCounts}
 use Rattle.gate.specs.declared.Verdict.{Verdict}
 use Rattle.gate.specs.Gate.{checkOf}
 

@@ -5,6 +5,7 @@ use mathlib.Core.Bool.{Bool}
 use Prim.Native.Nat.{ℕ, _+_}
 use native.Mathlib.Omega.{arith}
 use lib.ListN.{getD}
+use lib.Dec.{eqb}
 use lib.IntN.{natAbs}
 use mir.Syntax.{w32}
 use mir.Val.{SFits, toZ, ofZ}
@@ -14,11 +15,11 @@ use Rattle.columns.specs.Columns.{firstOf, gapOf, Put, blanks, blame}
 use Rattle.columns.proofs.Puts.{put-then}
 use Rattle.numbers.specs.Number.{render}
 use Rattle.fields.specs.declared.Signed.{Signed}
-use Rattle.fields.specs.Field.{integerOf, spansOf, isNeg}
+use Rattle.fields.specs.Field.{integerOf, spansOf, isNeg, sameInteger}
 use Rattle.names.specs.declared.Three.{Three}
-use Rattle.names.specs.Names.{threeAt, isResidue, isChain, isInsertion}
+use Rattle.names.specs.Names.{threeAt, sameThree, isResidue, isChain, isInsertion}
 use Rattle.residue.specs.declared.ReadResidue.{ReadResidue}
-use Rattle.residue.specs.Residues.{residueF, residueAt, residueFault, residueValue, residueText, residueOk}
+use Rattle.residue.specs.Residues.{sameResidue, residueF, residueAt, residueFault, residueValue, residueText, residueOk}
 use Rattle.residue.specs.declared.Residue.{Residue}
 use Rattle.fields.proofs.Formats.{Lawful, wide, then-lawful, after-lawful, held-lawful, integer-lawful}
 use Rattle.names.proofs.Shapes.{byte-lawful, three-lawful}
@@ -74,3 +75,9 @@ residue-lawful gap =
     (after-lawful 1
     (then-lawful (byte-lawful isChain chain-fine)
     (after-lawful gap (then-lawful (integer-lawful 4 0 999 9999 refl refl) (byte-lawful isInsertion insertion-fine)))))))
+
+pub equals : (a b : Residue) (name number rest tail r : Bool) → SFits w32 (a .number .0) → SFits w32 (b .number .0)
+    → name ≡ sameThree (a .name) (b .name) → number ≡ sameInteger (toZ w32 (ofZ w32 (a .number .0))) (toZ w32 (ofZ w32 (b .number .0)))
+    → rest ≡ both number (eqb (a .insertion) (b .insertion)) → tail ≡ both (eqb (a .chain) (b .chain)) rest → r ≡ both name tail → r ≡ sameResidue a b
+unfolding sameResidue
+equals a b name number rest tail r fa fb en em er et e = e ∙ rw (et, er, em, en, toZ-ofZ w32 (a .number .0) fa, toZ-ofZ w32 (b .number .0) fb)

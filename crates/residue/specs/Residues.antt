@@ -2,13 +2,28 @@
 use Prim.Native.Nat.{ℕ, _+_}
 use mathlib.Core.List.{List}
 use mathlib.Core.Bool.{Bool}
-use lib.IntN.{ℤ}
+use lib.Dec.{eqb}
+use lib.IntN.{ℤ, pos}
+use Rattle.ascii.specs.Tests.{both}
+use Rattle.fields.specs.Field.{sameInteger}
 use Rattle.fields.specs.Format.{Format, integerF, byteF, _then_, after, held}
 use Rattle.names.specs.declared.Three.{Three}
-use Rattle.names.specs.Names.{threeF, isResidue, isChain, isInsertion}
+use Rattle.names.specs.Names.{threeF, sameThree, isResidue, isChain, isInsertion}
 use Rattle.residue.specs.declared.Residue.{Residue}
 use Rattle.residue.specs.declared.ReadResidue.{ReadResidue}
 
+-- no residue
+abbrev pub noResidue : Residue
+noResidue = record { name = record { a = 0; b = 0; c = 0 }; chain = 0; number = record { 0 = pos 0 }; insertion = 0 }
+
+-- equal residue name, chain, number and insertion code
+unfoldable pub sameResidue : Residue → Residue → Bool
+sameResidue a b =
+    both (sameThree (a .name) (b .name))
+    (both (eqb (a .chain) (b .chain))
+    (both (sameInteger (a .number .0) (b .number .0)) (eqb (a .insertion) (b .insertion))))
+
+-- ---- its columns
 abbrev pub Fields : Type 0
 Fields = Three × (ℕ × (ℤ × ℕ))
 

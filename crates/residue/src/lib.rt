@@ -5,7 +5,7 @@ ghost use mathlib.Core.Path.{_≡_};
 ghost use Prim.Native.Nat.{_+_, _≤_, _<_};
 ghost use lib.ListN.{length};
 ghost use Rattle.columns.specs.Columns.{Put};
-ghost use Rattle.residue.specs.Residues.{residueOk, residueText, residueAt};
+ghost use Rattle.residue.specs.Residues.{noResidue, sameResidue, residueOk, residueText, residueAt};
 
 pub struct Residue {
     pub name: Three,
@@ -17,6 +17,31 @@ pub struct Residue {
 pub struct ReadResidue {
     pub column: u32,
     pub value: Residue,
+}
+
+pub fn no_residue() -> Residue
+    ensures { λ r. ⌜ r ≡ noResidue ⌝ }
+{
+    Residue {
+        name: Three { a: 0, b: 0, c: 0 },
+        chain: 0,
+        number: ResidueNumber(0),
+        insertion: 0,
+    }
+}
+
+// Equal residue name, chain, number and insertion code.
+pub fn same_residue(a: Residue, b: Residue) -> bool
+    ensures { λ r. ⌜ r ≡ sameResidue a b ⌝ }
+{
+    let x = a.name;
+    let y = b.name;
+    let m = a.number;
+    let n = b.number;
+    let name = names::same_three(x, y);
+    let number = fields::same_integer(m.0, n.0);
+    let rest = ascii::both_of(number, a.insertion == b.insertion);
+    ascii::both_of(name, ascii::both_of(a.chain == b.chain, rest))
 }
 
 pub fn read_residue(line: &[u8], at: usize, gap: usize) -> ReadResidue

@@ -1,17 +1,14 @@
 -- A line is good exactly if each test of it says no. Assumes nothing.
 use mathlib.Core.Path.{_≡_, refl}
-use mathlib.Core.Bool.{Bool, true, false, not}
-use Prim.Native.Nat.{ℕ, _≤_, _<_}
+use mathlib.Core.Bool.{Bool, true, false}
+use Prim.Native.Nat.{ℕ, _<_}
 use native.Mathlib.Omega.{arith}
-use lib.Dec.{leb}
-use borrow.Author.Tests.{leb-true}
-use Rattle.ascii.specs.Tests.{pick, both}
-use Rattle.ascii.proofs.Choice.{not-false, both-split}
+use Rattle.ascii.specs.Tests.{pick}
 use Rattle.kinds.specs.declared.Kind.{Kind}
 use Rattle.line.specs.declared.Record.{Record}
 use Rattle.pieces.specs.declared.Line.the-variants.{Wrong, Carried, Typed}
 use Rattle.rules.specs.declared.State.{State}
-use Rattle.rules.specs.Places.{placeOf, placeBad}
+use Rattle.places.specs.Places.{placeBad}
 use Rattle.rules.specs.Rules.{recordKind, serialBad, runBad, bondBad, unfinished, foldBad, countBad, typedBad, judgeOf}
 
 -- a choice of a number above 0 and a rest is 0 exactly if the test says no and the rest is 0
@@ -70,15 +67,3 @@ unfolding judgeOf
 judge-wrong known s k column e =
     let z : _≡_ {A = ℕ} 6 0 = pick-rest (placeBad (s .place) k) 5 6 (omega arith) e in
     omega arith
-
--- ---- places
-both-yes : (a b : Bool) → not (both a b) ≡ false → (a ≡ true) × (b ≡ true)
-both-yes a b e = both-split a b (not-false (both a b) e)
-
-pub place-low : (p : ℕ) (k : Kind) → placeBad p k ≡ false → placeOf k .low ≤ p
-unfolding placeBad
-place-low p k e = leb-true (placeOf k .low) p (both-yes (leb (placeOf k .low) p) (leb p (placeOf k .high)) e .0)
-
-pub place-high : (p : ℕ) (k : Kind) → placeBad p k ≡ false → p ≤ placeOf k .high
-unfolding placeBad
-place-high p k e = leb-true p (placeOf k .high) (both-yes (leb (placeOf k .low) p) (leb p (placeOf k .high)) e .1)

@@ -1,3 +1,2 @@
 mod Others
-pub mod Returns
 pub mod Laws

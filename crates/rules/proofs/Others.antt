@@ -1,7 +1,7 @@
 -- What the tests and the steps say of the records that they are not about: of each such record the same. Assumes nothing.
 use Prim.Native.Nat.{ℕ}
 use mathlib.Core.Bool.{Bool, false}
-use mathlib.Core.List.{List, [], _∷_}
+use mathlib.Core.List.{[], _∷_}
 use mathlib.Core.Path.{_≡_, refl}
 use denote.Enum.Declared.{tagOf}
 use types.Run.{OneOf, miss}
@@ -11,7 +11,7 @@ use Rattle.line.specs.declared.Record.the-variants.{Coordinate, Ter, Helix, She
 use Rattle.pieces.proofs.Line as line-type
 use Rattle.pieces.specs.declared.Line.{Line}
 use Rattle.pieces.specs.declared.Line.the-variants.{Bad, Wrong, Carried, Typed}
-use Rattle.rules.specs.declared.Counts.{Counts}
+use Rattle.places.specs.declared.Counts.{Counts}
 use Rattle.rules.specs.declared.Ladder.{Ladder}
 use Rattle.rules.specs.declared.Run.{Run}
 use Rattle.rules.specs.declared.State.{State}

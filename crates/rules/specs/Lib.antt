@@ -1,4 +1,1 @@
-pub mod Places
-pub mod Counts
-pub mod Room
 pub mod Rules

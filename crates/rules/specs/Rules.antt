@@ -2,11 +2,11 @@
 use Prim.Native.Nat.{ℕ, _+_}
 use mathlib.Core.Bool.{Bool, true, false, not}
 use lib.Dec.{ltb, leb, eqb}
-use lib.IntN.{ℤ, pos, natAbs}
 use Rattle.ascii.specs.Tests.{pick, both, either}
-use Rattle.fields.specs.Field.{isNeg}
-use Rattle.names.specs.declared.Three.{Three}
+use Rattle.names.specs.Names.{sameThree}
 use Rattle.residue.specs.declared.Residue.{Residue}
+use Rattle.residue.specs.Residues.{noResidue, sameResidue}
+use Rattle.coordinate.specs.Atoms.{coordinateKind}
 use Rattle.sheet.specs.declared.Strand.{Strand}
 use Rattle.kinds.specs.declared.Kind.{Kind}
 use Rattle.kinds.specs.declared.Kind.the-variants as kind
@@ -14,16 +14,16 @@ use Rattle.line.specs.declared.Record.{Record}
 use Rattle.line.specs.declared.Record.the-variants.{Coordinate, Ter, Helix, Sheet, Conect, Master, End}
 use Rattle.pieces.specs.declared.Line.{Line}
 use Rattle.pieces.specs.declared.Line.the-variants.{Bad, Wrong, Carried, Typed}
+use Rattle.places.specs.declared.Counts.{Counts}
+use Rattle.places.specs.Places.{placeOf, placeBad}
+use Rattle.places.specs.Counts.{countOf, noCounts, raised, sameCounts}
 use Rattle.rules.specs.declared.Run.{Run}
 use Rattle.rules.specs.declared.Ladder.{Ladder}
-use Rattle.rules.specs.declared.Counts.{Counts}
 use Rattle.rules.specs.declared.State.{State}
-use Rattle.rules.specs.Places.{placeOf, placeBad}
-use Rattle.rules.specs.Counts.{countOf, noCounts, raised, sameCounts}
 
 -- the kind of a record's line
 abbrev pub recordKind : Record → Kind
-recordKind (Coordinate het a) = pick het kind.Hetatm kind.Atom
+recordKind (Coordinate het a) = coordinateKind het
 recordKind (Ter t) = kind.Ter
 recordKind (Helix h) = kind.Helix
 recordKind (Sheet s) = kind.Sheet
@@ -59,25 +59,6 @@ lastNext last (Master t) = last
 lastNext last End = last
 
 -- ---- 8: a run is the coordinate lines since the last TER
--- equal names of three columns
-unfoldable pub sameThree : Three → Three → Bool
-sameThree a b = both (eqb (a .a) (b .a)) (both (eqb (a .b) (b .b)) (eqb (a .c) (b .c)))
-
--- both below zero, or neither
-abbrev pub sameSign : Bool → Bool → Bool
-sameSign x y = pick x y (not y)
-
--- equal numbers of either sign
-abbrev pub sameInteger : ℤ → ℤ → Bool
-sameInteger a b = both (sameSign (isNeg a) (isNeg b)) (eqb (natAbs a) (natAbs b))
-
--- equal residue name, chain, number and insertion code
-unfoldable pub sameResidue : Residue → Residue → Bool
-sameResidue a b =
-    both (sameThree (a .name) (b .name))
-    (both (eqb (a .chain) (b .chain))
-    (both (sameInteger (a .number .0) (b .number .0)) (eqb (a .insertion) (b .insertion))))
-
 -- a run without a line
 abbrev pub noRun : Run
 noRun =
@@ -85,7 +66,7 @@ noRun =
       some = false;
       same = true;
       atom = false;
-      residue = record { name = record { a = 0; b = 0; c = 0 }; chain = 0; number = record { 0 = pos 0 }; insertion = 0 };
+      residue = noResidue;
     }
 
 -- all lines before an ATOM in its run have its chain; a HETATM in a run that holds an ATOM has that chain

@@ -1,19 +1,14 @@
 // The rules between lines: a line is judged against what the good lines before it left.
-mod counting;
 mod logic;
-mod order;
 mod steps;
 mod tests;
 
-pub use counting::count_of;
-pub use counting::raise;
 use kinds::Kind;
 use line::Record;
 use logic::choose;
 use names::Three;
-pub use order::place_bad;
-use order::place_of;
 use pieces::Line;
+use places::Counts;
 use residue::Residue;
 use steps::bond_next;
 use steps::helix_next;
@@ -25,23 +20,14 @@ use tests::bond_bad;
 use tests::count_bad;
 use tests::fold_bad;
 use tests::run_bad;
-pub use tests::same_residue;
-pub use tests::same_three;
 use tests::serial_bad;
 use tests::unfinished;
 ghost use mathlib.Core.Path.{_≡_};
 ghost use Prim.Native.Nat.{_<_};
 ghost use Rattle.ascii.specs.Tests.{pick};
-ghost use Rattle.rules.specs.Places.{placeBad};
-ghost use Rattle.rules.specs.Room.{Room};
+ghost use Rattle.places.specs.Places.{placeBad};
+ghost use Rattle.places.specs.Room.{Room};
 ghost use Rattle.rules.specs.Rules.{recordKind, unfinished as unfinishedOf, typedBad, judgeOf, startOf, carriedNext, typedNext, nextOf};
-
-// A kind may follow the places low to high, and is itself the place here.
-pub struct Place {
-    pub low: u8,
-    pub high: u8,
-    pub here: u8,
-}
 
 // The coordinate lines since the last TER: whether there is one, whether all have one chain, whether one is an ATOM, and the last one's residue.
 pub struct Run {
@@ -56,19 +42,6 @@ pub struct Ladder {
     pub id: Three,
     pub strand: u32,
     pub strands: u32,
-}
-
-// The nine counts of MASTER, without the limit of its columns.
-pub struct Counts {
-    pub remark: u64,
-    pub het: u64,
-    pub helix: u64,
-    pub sheet: u64,
-    pub xform: u64,
-    pub coord: u64,
-    pub ter: u64,
-    pub conect: u64,
-    pub seq: u64,
 }
 
 // What the good lines so far leave to judge the next by.
@@ -119,7 +92,7 @@ fn typed_bad(known: bool, s: State, r: Record) -> u8
     let n9 = choose(bond_bad(known, s.bond, r), 9, n10);
     let n8 = choose(run_bad(run, r), 8, n9);
     let n7 = choose(serial_bad(s.last, r), 7, n8);
-    choose(place_bad(s.place, record_kind(r)), 5, n7)
+    choose(places::place_bad(s.place, record_kind(r)), 5, n7)
 }
 
 fn carried_bad(s: State, k: Kind) -> u8
@@ -127,7 +100,7 @@ fn carried_bad(s: State, k: Kind) -> u8
 {
     let ladder = s.ladder;
     let n10 = choose(unfinished(ladder), 10, 0);
-    choose(place_bad(s.place, k), 5, n10)
+    choose(places::place_bad(s.place, k), 5, n10)
 }
 
 // The number of a line, 0 where it is good. known: each number on a CONECT line is the serial of an atom before it.
@@ -136,7 +109,7 @@ pub fn judge(known: bool, s: State, l: Line) -> u8
 {
     match l {
         Line::Bad(n) => n,
-        Line::Wrong(k, _) => choose(place_bad(s.place, k), 5, 6),
+        Line::Wrong(k, _) => choose(places::place_bad(s.place, k), 5, 6),
         Line::Carried(k) => carried_bad(s, k),
         Line::Typed(r) => typed_bad(known, s, r),
     }
@@ -146,6 +119,7 @@ pub fn start() -> State
     ensures { λ r. ⌜ r ≡ startOf ⌝ }
 {
     let run = no_run();
+    let counts = places::no_counts();
     State {
         place: 0,
         last: 0,
@@ -157,17 +131,7 @@ pub fn start() -> State
             strand: 0,
             strands: 0,
         },
-        counts: Counts {
-            remark: 0,
-            het: 0,
-            helix: 0,
-            sheet: 0,
-            xform: 0,
-            coord: 0,
-            ter: 0,
-            conect: 0,
-            seq: 0,
-        },
+        counts: counts,
         lines: 0,
     }
 }
@@ -180,8 +144,8 @@ fn carried_next(s: State, k: Kind) -> State
     let run = s.run;
     let ladder = s.ladder;
     let counts = s.counts;
-    let p = place_of(k);
-    let c = raise(counts, count_of(k));
+    let p = places::place_of(k);
+    let c = places::raise(counts, places::count_of(k));
     State {
         place: p.here,
         last: s.last,
@@ -203,13 +167,13 @@ fn typed_next(s: State, r: Record) -> State
     let ladder = s.ladder;
     let counts = s.counts;
     let k = record_kind(r);
-    let p = place_of(k);
+    let p = places::place_of(k);
     let last = last_next(s.last, r);
     let u = run_next(run, r);
     let bond = bond_next(s.bond, r);
     let helix = helix_next(s.helix, r);
     let d = ladder_next(ladder, r);
-    let c = raise(counts, count_of(k));
+    let c = places::raise(counts, places::count_of(k));
     State {
         place: p.here,
         last: last,

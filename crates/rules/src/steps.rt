@@ -1,12 +1,10 @@
 // What a good typed line leaves, part by part.
 use super::Ladder;
 use super::Run;
-use super::logic::not_of;
 use ascii::both_of;
 use ascii::either_of;
-use fields::ResidueNumber;
+use ascii::not_of;
 use line::Record;
-use names::Three;
 use residue::Residue;
 ghost use mathlib.Core.Path.{_≡_};
 ghost use Rattle.rules.specs.Rules.{lastNext, noRun, siteNext, runNext, bondNext, helixNext, ladderNext};
@@ -25,16 +23,12 @@ pub fn last_next(last: u32, r: Record) -> u32
 pub fn no_run() -> Run
     ensures { λ r. ⌜ r ≡ noRun ⌝ }
 {
+    let residue = residue::no_residue();
     Run {
         some: false,
         same: true,
         atom: false,
-        residue: Residue {
-            name: Three { a: 0, b: 0, c: 0 },
-            chain: 0,
-            number: ResidueNumber(0),
-            insertion: 0,
-        },
+        residue: residue,
     }
 }
 

@@ -1,14 +1,11 @@
 // The tests of a typed line against what the good lines before it left, by their numbers.
-use super::Counts;
 use super::Ladder;
 use super::Run;
-use super::counting::same_counts;
-use super::logic::not_of;
 use ascii::both_of;
 use ascii::either_of;
-use fields::ResidueNumber;
+use ascii::not_of;
 use line::Record;
-use names::Three;
+use places::Counts;
 use residue::Residue;
 use sheet::Strand;
 ghost use mathlib.Core.Path.{_≡_};
@@ -16,7 +13,7 @@ ghost use mathlib.Core.Bool.{not};
 ghost use Prim.Native.Nat.{_+_};
 ghost use lib.Dec.{eqb};
 ghost use Rattle.ascii.specs.Tests.{either};
-ghost use Rattle.rules.specs.Rules.{serialBad, sameThree, sameInteger, sameResidue, siteBad, closeBad, runBad, bondBad, unfinished as unfinishedOf, strandBad, foldBad, countBad};
+ghost use Rattle.rules.specs.Rules.{serialBad, siteBad, closeBad, runBad, bondBad, unfinished as unfinishedOf, strandBad, foldBad, countBad};
 
 // ---- 7: serials rise strictly over ATOM, HETATM and TER together
 pub fn serial_bad(last: u32, r: Record) -> bool
@@ -31,36 +28,6 @@ pub fn serial_bad(last: u32, r: Record) -> bool
 }
 
 // ---- 8: a run is the coordinate lines since the last TER
-pub fn same_three(a: Three, b: Three) -> bool
-    ensures { λ r. ⌜ r ≡ sameThree a b ⌝ }
-{
-    both_of(a.a == b.a, both_of(a.b == b.b, a.c == b.c))
-}
-
-fn same_number(a: ResidueNumber, b: ResidueNumber) -> bool
-    ensures { λ r. ⌜ r ≡ sameInteger (a .0) (b .0) ⌝ }
-{
-    let m = fields::negative(a.0);
-    let n = fields::negative(b.0);
-    let v = fields::magnitude(a.0);
-    let w = fields::magnitude(b.0);
-    both_of(ascii::choose(m, n, not_of(n)), v == w)
-}
-
-// Equal residue name, chain, number and insertion code.
-pub fn same_residue(a: Residue, b: Residue) -> bool
-    ensures { λ r. ⌜ r ≡ sameResidue a b ⌝ }
-{
-    let x = a.name;
-    let y = b.name;
-    let m = a.number;
-    let n = b.number;
-    let name = same_three(x, y);
-    let number = same_number(m, n);
-    let rest = both_of(number, a.insertion == b.insertion);
-    both_of(name, both_of(a.chain == b.chain, rest))
-}
-
 // All lines before an ATOM in its run have its chain; a HETATM in a run that holds an ATOM has that chain.
 fn site_bad(r: Run, het: bool, chain: u8) -> bool
     ensures { λ b. ⌜ b ≡ siteBad r het chain ⌝ }
@@ -76,7 +43,7 @@ fn close_bad(r: Run, residue: Residue) -> bool
     ensures { λ b. ⌜ b ≡ closeBad r residue ⌝ }
 {
     let last = r.residue;
-    let e = same_residue(residue, last);
+    let e = residue::same_residue(residue, last);
     not_of(both_of(r.atom, e))
 }
 
@@ -116,7 +83,7 @@ fn strand_bad(d: Ladder, s: Strand) -> bool
 {
     let x = s.id;
     let y = d.id;
-    let same = same_three(x, y);
+    let same = names::same_three(x, y);
     let next = s.strand as u64 == d.strand as u64 + 1;
     let goes = both_of(same, both_of(s.strands == d.strands, next));
     let again = both_of(0 < d.strands, same);
@@ -147,7 +114,7 @@ pub fn count_bad(n: Counts, r: Record) -> bool
     ensures { λ b. ⌜ b ≡ countBad n r ⌝ }
 {
     if let Record::Master(t) = r {
-        return not_of(same_counts(t, n));
+        return not_of(places::same_counts(t, n));
     }
     false
 }

@@ -1,7 +1,6 @@
 -- What the definitions say of the kinds, the records and the lines that have no slot: of each such one the same. Assumes nothing.
-use Prim.Native.Nat.{ℕ}
-use mathlib.Core.Bool.{Bool, true, false}
-use mathlib.Core.List.{List, [], _∷_}
+use mathlib.Core.Bool.{true, false}
+use mathlib.Core.List.{[], _∷_}
 use mathlib.Core.Path.{_≡_, refl}
 use denote.Enum.Declared.{tagOf}
 use types.Run.{OneOf, miss}

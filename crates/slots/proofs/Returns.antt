@@ -6,7 +6,7 @@ use Prim.Native.Nat.{ℕ, _^_, _≤_}
 use native.Mathlib.Omega.{arith}
 use lib.Dec.{eqb, ltb}
 use lib.ListN.{length, getD, take}
-use lib.IntN.{ℤ, pos, natAbs}
+use lib.IntN.{ℤ, pos}
 use mir.Syntax.{w32}
 use mir.Val.{SFits, toZ, ofZ}
 use mir.ValLaws.{toZ-ofZ}
@@ -17,7 +17,7 @@ use Rattle.columns.specs.Columns.{cleanAt}
 use Rattle.numbers.specs.declared.Number.{Number}
 use Rattle.numbers.specs.Number.{numberOf}
 use Rattle.fields.specs.declared.Whole.{Whole}
-use Rattle.fields.specs.Field.{isNeg, wholeIn}
+use Rattle.fields.specs.Field.{wholeIn, sameInteger}
 use Rattle.coordinate.specs.declared.Atom.{Atom}
 use Rattle.coordinate.specs.declared.Position.{Position}
 use Rattle.coordinate.specs.Atoms.{atomFault, atomValue, measureValue}
@@ -32,7 +32,6 @@ use Rattle.line.specs.Lines.{judged, readingOf}
 use Rattle.pieces.specs.declared.Line.{Line}
 use Rattle.pieces.specs.declared.Line.the-variants as line
 use Rattle.pieces.specs.Pieces.{carriedOf, lineIn, columnsOf, lineOf}
-use Rattle.rules.specs.Rules.{sameSign, sameInteger}
 use Rattle.slots.specs.declared.Slot.{Slot}
 use Rattle.slots.specs.declared.Filling.{Filling}
 use Rattle.slots.specs.declared.Filling.the-variants.{Refused}
@@ -41,11 +40,6 @@ use Rattle.slots.specs.Slots.{atomKind, hetatmKind, slotOfAtom, SmallRec
 -- a number that was held is itself
 abbrev held : ℤ → ℤ
 held z = toZ w32 (ofZ w32 z)
-
-pub integers : (a b : ℤ) (s t u r : Bool) (x y : ℕ) → SFits w32 a → SFits w32 b
-    → s ≡ isNeg (held a) → t ≡ isNeg (held b) → x ≡ natAbs (held a) → y ≡ natAbs (held b)
-    → u ≡ sameSign s t → r ≡ both u (eqb x y) → r ≡ sameInteger a b
-integers a b s t u r x y fa fb es et ex ey eu er = er ∙ rw (eu, es, et, ex, ey, toZ-ofZ w32 a fa, toZ-ofZ w32 b fb)
 
 pub positions : (p q : Position) (x y z a1 a2 : Bool)
     → SFits w32 (p .x) → SFits w32 (q .x) → SFits w32 (p .y) → SFits w32 (q .y) → SFits w32 (p .z) → SFits w32 (q .z)

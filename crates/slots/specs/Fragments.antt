@@ -5,7 +5,7 @@ use mathlib.Core.List.{List, [], _∷_}
 use mathlib.Core.Bool.{Bool, true, false, not}
 use lib.Dec.{eqb}
 use Rattle.ascii.specs.Tests.{pick, both, either}
-use Rattle.rules.specs.Rules.{sameResidue, noRun}
+use Rattle.residue.specs.Residues.{noResidue, sameResidue}
 use Rattle.slots.specs.declared.Slot.{Slot}
 use Rattle.slots.specs.declared.Tail.{Tail}
 use Rattle.slots.specs.Slots.{terKind, markIn, residueOf, withMark}
@@ -16,7 +16,7 @@ isTer s = eqb (s .kind) terKind
 
 -- no slot
 abbrev pub endTail : Tail
-endTail = record { some = false; closed = false; residue = noRun .residue; mark = markIn; count = 0; agree = true }
+endTail = record { some = false; closed = false; residue = noResidue; mark = markIn; count = 0; agree = true }
 
 -- the slot is of one fragment with the first of those after it: it does not close a run, and the run is closed or the residues are equal
 unfoldable pub joins : Slot → Tail → Bool

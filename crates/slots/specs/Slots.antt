@@ -8,8 +8,8 @@ use lib.IntN.{pos}
 use Rattle.ascii.specs.Bytes.{byte}
 use Rattle.ascii.specs.Tests.{pick, both}
 use Rattle.columns.specs.Columns.{cleanAt}
-use Rattle.names.specs.declared.Pair.{Pair}
-use Rattle.names.specs.declared.Four.{Four}
+use Rattle.fields.specs.Field.{sameInteger}
+use Rattle.names.specs.Names.{samePair, sameFour}
 use Rattle.coordinate.specs.declared.Atom.{Atom}
 use Rattle.coordinate.specs.declared.Position.{Position}
 use Rattle.kinds.specs.declared.Kind.{Kind}
@@ -22,9 +22,9 @@ use Rattle.line.specs.declared.Reading.{Reading}
 use Rattle.line.specs.declared.Reading.the-variants.{Typed, Wrong, Untyped}
 use Rattle.line.specs.Lines.{readingOf}
 use Rattle.residue.specs.declared.Residue.{Residue}
+use Rattle.residue.specs.Residues.{sameResidue}
 use Rattle.pieces.specs.declared.Line.{Line}
 use Rattle.pieces.specs.declared.Line.the-variants as line
-use Rattle.rules.specs.Rules.{sameInteger, sameResidue}
 use Rattle.slots.specs.declared.Slot.{Slot}
 use Rattle.slots.specs.declared.Filling.{Filling}
 use Rattle.slots.specs.declared.Filling.the-variants.{Filled, Refused}
@@ -198,12 +198,6 @@ slotLine l =
     (Refused 1)
 
 -- ---- slots compared, and marked
-unfoldable pub samePair : Pair → Pair → Bool
-samePair a b = both (eqb (a .a) (b .a)) (eqb (a .b) (b .b))
-
-unfoldable pub sameFour : Four → Four → Bool
-sameFour a b = both (both (eqb (a .a) (b .a)) (eqb (a .b) (b .b))) (both (eqb (a .c) (b .c)) (eqb (a .d) (b .d)))
-
 -- equal coordinates
 unfoldable pub samePosition : Position → Position → Bool
 samePosition p q = both (sameInteger (p .x) (q .x)) (both (sameInteger (p .y) (q .y)) (sameInteger (p .z) (q .z)))

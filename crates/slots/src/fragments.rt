@@ -3,9 +3,6 @@ use super::Slot;
 use super::Tail;
 use super::residue_of;
 use super::with_mark;
-use fields::ResidueNumber;
-use names::Three;
-use residue::Residue;
 ghost use mathlib.Core.Path.{_≡_};
 ghost use mathlib.Core.Bool.{not};
 ghost use Prim.Native.Nat.{_+_, _<_};
@@ -25,15 +22,11 @@ pub fn is_ter(s: Slot) -> bool
 pub fn end_tail() -> Tail
     ensures { λ r. ⌜ r ≡ endTail ⌝ }
 {
+    let residue = residue::no_residue();
     Tail {
         some: false,
         closed: false,
-        residue: Residue {
-            name: Three { a: 0, b: 0, c: 0 },
-            chain: 0,
-            number: ResidueNumber(0),
-            insertion: 0,
-        },
+        residue: residue,
         mark: 0,
         count: 0,
         agree: true,
@@ -46,7 +39,7 @@ fn joins(s: Slot, t: Tail) -> bool
 {
     let last = t.residue;
     let e = is_ter(s);
-    let q = rules::same_residue(residue_of(s), last);
+    let q = residue::same_residue(residue_of(s), last);
     let open = ascii::both_of(t.some, !e);
     ascii::both_of(open, ascii::either_of(t.closed, q))
 }

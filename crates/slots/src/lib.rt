@@ -24,8 +24,7 @@ ghost use mathlib.Core.Bool.{not};
 ghost use Prim.Native.Nat.{_≤_};
 ghost use lib.ListN.{length};
 ghost use Rattle.ascii.specs.Tests.{pick};
-ghost use Rattle.rules.specs.Rules.{sameSign, sameInteger};
-ghost use Rattle.slots.specs.Slots.{atomKind, hetatmKind, Small, SmallRecord, slotOfAtom, slotOfTer, fillingOf, hasSlot, fillIn, slotLine, samePair, sameFour, samePosition, sameMeasures, sameNames, sameSlot, withMark, residueOf, noSlot, recordSlot, lineSlot, SmallLine};
+ghost use Rattle.slots.specs.Slots.{atomKind, hetatmKind, Small, SmallRecord, slotOfAtom, slotOfTer, fillingOf, hasSlot, fillIn, slotLine, samePosition, sameMeasures, sameNames, sameSlot, withMark, residueOf, noSlot, recordSlot, lineSlot, SmallLine};
 
 // 44 bytes, no padding. Kind 1 ATOM, 2 HETATM, 3 TER; mark 0 in, 1 aside; any other byte is damage.
 #[repr(C)]
@@ -248,46 +247,12 @@ pub fn line_slot(l: Line) -> Slot
     no_slot()
 }
 
-fn same_integer(a: i32, b: i32) -> bool
-    ensures { λ r. ⌜ r ≡ sameInteger a b ⌝ }
-{
-    let s = fields::negative(a);
-    let t = fields::negative(b);
-    let x = fields::magnitude(a);
-    let y = fields::magnitude(b);
-    ascii::both_of(same_sign(s, t), x == y)
-}
-
-fn same_sign(s: bool, t: bool) -> bool
-    ensures { λ r. ⌜ r ≡ sameSign s t ⌝ }
-{
-    if s {
-        return t;
-    }
-    !t
-}
-
-fn same_pair(a: Pair, b: Pair) -> bool
-    ensures { λ r. ⌜ r ≡ samePair a b ⌝ }
-{
-    ascii::both_of(a.a == b.a, a.b == b.b)
-}
-
-fn same_four(a: Four, b: Four) -> bool
-    ensures { λ r. ⌜ r ≡ sameFour a b ⌝ }
-{
-    ascii::both_of(
-        ascii::both_of(a.a == b.a, a.b == b.b),
-        ascii::both_of(a.c == b.c, a.d == b.d),
-    )
-}
-
 fn same_position(p: Position, q: Position) -> bool
     ensures { λ r. ⌜ r ≡ samePosition p q ⌝ }
 {
-    let x = same_integer(p.x, q.x);
-    let y = same_integer(p.y, q.y);
-    let z = same_integer(p.z, q.z);
+    let x = fields::same_integer(p.x, q.x);
+    let y = fields::same_integer(p.y, q.y);
+    let z = fields::same_integer(p.z, q.z);
     ascii::both_of(x, ascii::both_of(y, z))
 }
 
@@ -297,8 +262,8 @@ fn same_measures(s: Slot, t: Slot) -> bool
     let p = s.position;
     let q = t.position;
     let a = same_position(p, q);
-    let o = same_integer(s.occupancy, t.occupancy);
-    let b = same_integer(s.temperature, t.temperature);
+    let o = fields::same_integer(s.occupancy, t.occupancy);
+    let b = fields::same_integer(s.temperature, t.temperature);
     ascii::both_of(a, ascii::both_of(o, b))
 }
 
@@ -325,9 +290,9 @@ fn same_names(s: Slot, t: Slot) -> bool
     let d = t.element;
     let e = s.charge;
     let f = t.charge;
-    let n = same_four(a, b);
-    let p = same_pair(c, d);
-    let q = same_pair(e, f);
+    let n = names::same_four(a, b);
+    let p = names::same_pair(c, d);
+    let q = names::same_pair(e, f);
     ascii::both_of(
         ascii::both_of(n, s.alternate == t.alternate),
         ascii::both_of(p, q),
@@ -340,7 +305,7 @@ pub fn same_slot(s: Slot, t: Slot) -> bool
 {
     let a = s.serial;
     let b = t.serial;
-    let r = rules::same_residue(residue_of(s), residue_of(t));
+    let r = residue::same_residue(residue_of(s), residue_of(t));
     let n = same_names(s, t);
     let m = same_measures(s, t);
     ascii::both_of(

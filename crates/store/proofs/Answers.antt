@@ -7,11 +7,10 @@ use mathlib.Core.Path.{_≡_, refl, sym, _∙_, ap}
 use native.Mathlib.Omega.{arith}
 use borrow.Author.Tests.{eq-eqb, ne-eqb, lt-ltb, le-ltb}
 use lib.ListN.{length, take, drop, length-take, length-drop}
-use Rattle.ascii.specs.Tests.{pick, both, either}
+use Rattle.ascii.specs.Tests.{pick, both, either, alike}
 use Rattle.pieces.specs.Pieces.{lineOf}
-use Rattle.rules.specs.declared.Counts.{Counts}
-use Rattle.rules.specs.Counts.{noCounts}
-use Rattle.rules.specs.Rules.{sameSign}
+use Rattle.places.specs.declared.Counts.{Counts}
+use Rattle.places.specs.Counts.{noCounts}
 use Rattle.gate.specs.Text.{cut, cutAtMost}
 use Rattle.gate.proofs.Cut.{cut-cons}
 use Rattle.gate.specs.Gate.{checkOf}
@@ -19,7 +18,7 @@ use Rattle.slots.specs.declared.Slot.{Slot}
 use Rattle.slots.specs.declared.Tail.{Tail}
 use Rattle.slots.specs.Fragments.{tailOf, markOf, marked}
 use Rattle.table.specs.Table.{told, over, linesFrom, loadedOf, loadOf, fitsFrom, oneOf, belongs, tableOf, fragments, markByte, orderOf}
-use Rattle.table.specs.Deal.{stays, counted, written, bytesOf, putOf}
+use Rattle.table.specs.Deal.{stays, counted, written, outputOf, putOf}
 use Rattle.table.proofs.Marks.{marked-size}
 use Rattle.table.proofs.Shares.{shares, shares-sum, bytes-size}
 use Rattle.store.specs.declared.Findings.{Findings}
@@ -113,7 +112,7 @@ kept-shares xs k q (p ∷ ps) =
     let stay : Bool = stays xs k (lineOf p) in
     go stay _ _ (kept-shares xs (k + oneOf (lineOf p)) (counted stay q (lineOf p)) ps)
   where
-    go : (b : Bool) (us : List (List ℕ)) (n : ℕ) → length us ≡ n → length (pick (sameSign true b) (written q p ∷ us) us) ≡ pick b 1 0 + n
+    go : (b : Bool) (us : List (List ℕ)) (n : ℕ) → length us ≡ n → length (pick (alike true b) (written q p ∷ us) us) ≡ pick b 1 0 + n
     go true us n e = omega arith
     go false us n e = omega arith
 
@@ -136,7 +135,7 @@ module _ (t : List ℕ) (xs : List Slot) (h : Held) (B : Belongs t xs h) (good :
   pub kept-few : h .kept ≤ h .lines
   kept-few = omega (arith, kept-lines, all-lines)
 
-  pub size-dealt : (saving : Bool) → 81 * shareOf h saving ≡ length (bytesOf saving t xs)
+  pub size-dealt : (saving : Bool) → 81 * shareOf h saving ≡ length (outputOf saving t xs)
   size-dealt true = sym (bytes-size true t xs good ∙ ap (λ (n : ℕ). 81 * n) kept-lines)
   size-dealt false =
       let n : length (shares false xs 0 noCounts (cut t)) ≡ h .lines - h .kept = omega (arith, kept-lines, all-lines) in
@@ -147,11 +146,11 @@ module _ (saving : Bool) (t : List ℕ) (xs : List Slot) (o : List ℕ) (k : ℕ
   unfolding putOf
   put-bad h = rw (← ek, ne-eqb k 0 h)
 
-  module _ (z : k ≡ 0) (n : ℕ) (en : n ≡ length (bytesOf saving t xs)) where
+  module _ (z : k ≡ 0) (n : ℕ) (en : n ≡ length (outputOf saving t xs)) where
     pub put-short : length o < n → told 17 0 o ≡ putOf saving t xs o
     unfolding putOf
     put-short h = rw (← ek, eq-eqb k 0 z, ← en, lt-ltb (length o) n h)
 
-    pub put-good : n ≤ length o → (ys : List ℕ) → ys ≡ over (bytesOf saving t xs) o → told 0 n ys ≡ putOf saving t xs o
+    pub put-good : n ≤ length o → (ys : List ℕ) → ys ≡ over (outputOf saving t xs) o → told 0 n ys ≡ putOf saving t xs o
     unfolding putOf
     put-good h ys ey = rw (ey, ← ek, eq-eqb k 0 z, ← en, le-ltb (length o) n h)

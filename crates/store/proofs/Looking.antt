@@ -16,8 +16,8 @@ use Rattle.pieces.specs.declared.Line.{Line}
 use Rattle.pieces.specs.declared.Line.the-variants.{Bad, Wrong, Carried, Typed}
 use Rattle.rules.specs.declared.State.{State}
 use Rattle.gate.specs.declared.Span.{Span}
-use Rattle.gate.specs.Text.{row}
-use Rattle.gate.specs.Search.{isSpot, isCoord, spotSerial, serialOf, growOf, Block}
+use Rattle.gate.specs.Text.{row, isSpot, isCoord}
+use Rattle.gate.specs.Search.{spotSerial, serialOf, growOf, Block}
 use Rattle.gate.proofs.Sofar.{Sofar}
 use Rattle.slots.specs.declared.Slot.{Slot}
 use Rattle.slots.specs.Slots.{markAside, noSlot, recordSlot, lineSlot, sameSlot}

@@ -13,7 +13,8 @@ use Rattle.ascii.specs.Tests.{both, either}
 use Rattle.ascii.proofs.Choice.{both-split}
 use Rattle.conect.specs.declared.Conect.{Conect as ConectOf}
 use Rattle.pieces.specs.declared.Line.{Line}
-use Rattle.gate.specs.Search.{isCoord, Bracket}
+use Rattle.gate.specs.Text.{isCoord}
+use Rattle.gate.specs.Search.{Bracket}
 use Rattle.gate.proofs.Halving.{bracket-there}
 use Rattle.slots.specs.declared.Slot.{Slot}
 use Rattle.slots.specs.Slots.{noSlot, markAside}

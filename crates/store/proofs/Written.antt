@@ -10,18 +10,17 @@ use lib.ListN.{length, take, drop, length-append, length-take, length-drop, take
 use lib.Seq.{drop-drop, take-at, drop-at}
 use Rattle.ascii.specs.Tests.{pick}
 use Rattle.pieces.specs.declared.Line.{Line}
-use Rattle.rules.specs.declared.Counts.{Counts}
-use Rattle.rules.specs.Counts.{noCounts}
-use Rattle.rules.specs.Room.{Room}
+use Rattle.places.specs.declared.Counts.{Counts}
+use Rattle.places.specs.Counts.{noCounts}
+use Rattle.places.specs.Room.{Room}
 use Rattle.rules.specs.Rules.{judgeOf}
-use Rattle.gate.specs.Text.{cut, pieceAt, row, down}
+use Rattle.gate.specs.Text.{cut, pieceAt, row, down, isCoord}
 use Rattle.gate.specs.Gate.{checkOf, knownOf}
-use Rattle.gate.specs.Search.{isCoord}
 use Rattle.gate.proofs.Cut.{cut-next, cut-done}
 use Rattle.gate.proofs.Runs.{stateAt, reached, answered}
 use Rattle.slots.specs.declared.Slot.{Slot}
 use Rattle.table.specs.Table.{linesFrom, slotsOf, loadedOf, oneOf, over}
-use Rattle.table.specs.Deal.{stays, isMaster, tallyOf, counted, share, dealt, bytesOf}
+use Rattle.table.specs.Deal.{stays, isMaster, tallyOf, counted, share, dealt, outputOf}
 use Rattle.table.specs.FiveDigits.{FiveDigits}
 use Rattle.table.proofs.Plain.{piece-plain}
 use Rattle.table.proofs.Recount.{Under, under-start, under-next, master-fits}
@@ -31,18 +30,18 @@ use Rattle.store.proofs.Lines.{need-step}
 -- ---- after i lines: k slots stand before, q counts those that stay, and at bytes are written
 pub record Written (t : List ℕ) (xs : List Slot) (saving : Bool) (e : List ℕ) (i k : ℕ) (q : Counts) (at : ℕ) (out : List ℕ) : Type 0 where
   pub dealable : Dealable t xs
-  pub room : length (bytesOf saving t xs) ≤ length e
+  pub room : length (outputOf saving t xs) ≤ length e
   pub within : 81 * i ≤ length t
   pub size : length out ≡ length e
   pub few : k ≤ i
   pub slots : k + length (slotsOf (linesFrom t i)) ≡ length (loadedOf t)
   pub under : Under q (stateAt (row t) i .counts)
-  pub left : at + length (dealt saving xs k q (cut (drop (81 * i) t))) ≡ length (bytesOf saving t xs)
-  pub front : take at out ++ dealt saving xs k q (cut (drop (81 * i) t)) ≡ bytesOf saving t xs
+  pub left : at + length (dealt saving xs k q (cut (drop (81 * i) t))) ≡ length (outputOf saving t xs)
+  pub front : take at out ++ dealt saving xs k q (cut (drop (81 * i) t)) ≡ outputOf saving t xs
   pub back : drop at out ≡ drop at e
 
-pub written-start : (t : List ℕ) (xs : List Slot) (saving : Bool) (e : List ℕ) → Dealable t xs → length (bytesOf saving t xs) ≤ length e → Written t xs saving e 0 0 noCounts 0 e
-unfolding bytesOf stateAt
+pub written-start : (t : List ℕ) (xs : List Slot) (saving : Bool) (e : List ℕ) → Dealable t xs → length (outputOf saving t xs) ≤ length e → Written t xs saving e 0 0 noCounts 0 e
+unfolding outputOf stateAt
 written-start t xs saving e D h =
     record { dealable = D; room = h; within = omega arith; size = refl; few = omega arith; slots = omega arith; under = under-start; left = omega arith; front = refl; back = refl }
 
@@ -141,11 +140,11 @@ module _ (t : List ℕ) (xs : List Slot) (saving : Bool) (e : List ℕ) (i k : �
         behind = sym (drop-drop (length S) at out) ∙ (ap (λ (r : List ℕ). drop (length S) r) (W .back) ∙ drop-drop (length S) at e)
 
 pub written-done : (t : List ℕ) (xs : List Slot) (saving : Bool) (e : List ℕ) (i k : ℕ) (q : Counts) (at : ℕ) (out : List ℕ) → Written t xs saving e i k q at out
-    → length t ≤ 81 * i → out ≡ over (bytesOf saving t xs) e
+    → length t ≤ 81 * i → out ≡ over (outputOf saving t xs) e
 unfolding dealt
 written-done t xs saving e i k q at out W h =
     let z : dealt saving xs k q (cut (drop (81 * i) t)) ≡ [] = ap (λ (ps : List (List ℕ)). dealt saving xs k q ps) (cut-done t i h) in
-    let f : take at out ≡ bytesOf saving t xs = sym (append-nil (take at out)) ∙ (rw z at (W .front)) in
-    let n : at + 0 ≡ length (bytesOf saving t xs) = rw z at (W .left) in
-    let m : at ≡ length (bytesOf saving t xs) = omega arith in
+    let f : take at out ≡ outputOf saving t xs = sym (append-nil (take at out)) ∙ (rw z at (W .front)) in
+    let n : at + 0 ≡ length (outputOf saving t xs) = rw z at (W .left) in
+    let m : at ≡ length (outputOf saving t xs) = omega arith in
     sym (take-append-drop at out) ∙ rw (f, W .back, m)

@@ -7,7 +7,7 @@ ghost use mathlib.Core.Path.{_≡_};
 ghost use Prim.Native.Nat.{_*_, _≤_};
 ghost use lib.ListN.{length};
 ghost use Rattle.table.specs.Table.{over};
-ghost use Rattle.table.specs.Deal.{bytesOf};
+ghost use Rattle.table.specs.Deal.{outputOf};
 ghost use Rattle.store.specs.Judged.{Dealable, shareOf};
 
 // How many bytes the lines that stay have, or those that go.
@@ -25,13 +25,13 @@ pub fn size_of(h: Held, saving: bool) -> usize
 // Writes the lines that stay, or those that go, one after the other.
 pub fn write_all(text: &[u8], table: &[Slot], out: &mut [u8], saving: bool)
     requires { ⌜ Dealable (now text) (now table) ⌝ }
-    requires { ⌜ length (bytesOf saving (now text) (now table)) ≤ length (now out) ⌝ }
-    ensures { λ _. ⌜ now (out .exit) ≡ over (bytesOf saving (now (text .entry)) (now (table .entry))) (now (out .entry)) ⌝ }
+    requires { ⌜ length (outputOf saving (now text) (now table)) ≤ length (now out) ⌝ }
+    ensures { λ _. ⌜ now (out .exit) ≡ over (outputOf saving (now (text .entry)) (now (table .entry))) (now (out .entry)) ⌝ }
 {
     let mut i: usize = 0;
     let mut k: usize = 0;
     let mut at: usize = 0;
-    let mut q = marks::no_counts();
+    let mut q = places::no_counts();
     while 81 * i < text.len() {
         let l = gate::line_at(text, i);
         let here = slot_at(table, k);

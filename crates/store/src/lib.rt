@@ -17,7 +17,7 @@ ghost use mathlib.Core.Path.{_≡_};
 ghost use Prim.Native.Nat.{_+_, _≤_};
 ghost use lib.ListN.{length, set};
 ghost use Rattle.ascii.specs.Tests.{pick};
-ghost use Rattle.gate.specs.Search.{isCoord};
+ghost use Rattle.gate.specs.Text.{isCoord};
 ghost use Rattle.slots.specs.Slots.{lineSlot, SmallLine};
 ghost use Rattle.table.specs.Table.{told, oneOf, loadOf, tableOf, orderOf};
 ghost use Rattle.table.specs.Deal.{putOf, saveOf, trayOf};

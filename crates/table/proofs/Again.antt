@@ -9,15 +9,15 @@ use lib.ListN.{length}
 use Rattle.ascii.specs.Tests.{pick}
 use Rattle.pieces.specs.declared.Line.{Line}
 use Rattle.pieces.specs.Pieces.{lineOf}
-use Rattle.rules.specs.declared.Counts.{Counts}
+use Rattle.places.specs.declared.Counts.{Counts}
 use Rattle.rules.specs.declared.State.{State}
-use Rattle.rules.specs.Counts.{noCounts}
+use Rattle.places.specs.Counts.{noCounts}
 use Rattle.rules.specs.Rules.{nextOf, startOf}
 use Rattle.gate.specs.Text.{cut}
 use Rattle.gate.specs.Gate.{knownOf, checkLines, checkOf}
 use Rattle.slots.specs.declared.Slot.{Slot}
 use Rattle.table.specs.Table.{linesFrom, loadedOf, oneOf, tableOf}
-use Rattle.table.specs.Deal.{stays, counted, written, bytesOf}
+use Rattle.table.specs.Deal.{stays, counted, written, outputOf}
 use Rattle.table.proofs.Ready.{Ready, ready}
 use Rattle.table.proofs.Fine.{Fine, accepted-fine}
 use Rattle.table.proofs.Shares.{shares, cut-bytes}
@@ -51,7 +51,7 @@ ready-paired t xs R =
     paired xs 0 (linesFrom t 0) (R .fit) (omega arith) (R .agree)
 
 -- the saved entry is accepted again
-pub saved-again : (t : List ℕ) (xs : List Slot) → tableOf t xs ≡ 0 → checkOf (bytesOf true t xs) .number ≡ 0
+pub saved-again : (t : List ℕ) (xs : List Slot) → tableOf t xs ≡ 0 → checkOf (outputOf true t xs) .number ≡ 0
 unfolding checkOf startOf
 saved-again t xs e =
     let R = ready t xs e in

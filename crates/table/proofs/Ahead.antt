@@ -15,9 +15,10 @@ use Rattle.pieces.specs.declared.Line.{Line}
 use Rattle.pieces.specs.declared.Line.the-variants.{Bad, Wrong, Carried, Typed}
 use Rattle.rules.specs.declared.Run.{Run}
 use Rattle.rules.specs.declared.State.{State}
-use Rattle.rules.specs.Places.{placeOf, placeBad, coordinatePlace, endPlace}
+use Rattle.places.specs.Places.{placeOf, placeBad, coordinatePlace, endPlace}
 use Rattle.rules.specs.Rules.{noRun, siteNext, judgeOf, carriedNext, typedNext, nextOf}
-use Rattle.rules.proofs.Laws.{Good, judge-typed, judge-carried, judge-wrong, place-high}
+use Rattle.places.proofs.Laws.{place-high}
+use Rattle.rules.proofs.Laws.{Good, judge-typed, judge-carried, judge-wrong}
 use Rattle.gate.specs.Search.{Before}
 use Rattle.table.proofs.Plain.{Plain}
 use Rattle.table.proofs.Fine.{Fine}

@@ -13,9 +13,8 @@ use Rattle.ascii.specs.Tests.{pick, either}
 use Rattle.ascii.proofs.Choice.{both-split}
 use Rattle.pieces.specs.declared.Line.{Line}
 use Rattle.pieces.specs.declared.Line.the-variants.{Bad}
-use Rattle.gate.specs.Text.{row}
+use Rattle.gate.specs.Text.{row, isCoord}
 use Rattle.gate.specs.Gate.{checkOf}
-use Rattle.gate.specs.Search.{isCoord}
 use Rattle.slots.specs.declared.Slot.{Slot}
 use Rattle.slots.specs.Slots.{markAside, noSlot}
 use Rattle.slots.specs.Fragments.{joins, stepTail, tailOf, markOf}

@@ -4,15 +4,15 @@ use Prim.Native.Nat.{ℕ, _+_}
 use mathlib.Core.List.{List, [], _∷_, map}
 use mathlib.Core.Bool.{Bool, true, false}
 use mathlib.Core.Path.{_≡_, refl, ap₂}
-use Rattle.ascii.specs.Tests.{pick}
+use Rattle.ascii.specs.Tests.{pick, alike}
 use Rattle.line.specs.declared.Record.the-variants.{Master}
 use Rattle.pieces.specs.declared.Line.{Line}
 use Rattle.pieces.specs.declared.Line.the-variants.{Typed}
 use Rattle.pieces.specs.Pieces.{lineOf}
-use Rattle.rules.specs.declared.Counts.{Counts}
+use Rattle.places.specs.declared.Counts.{Counts}
 use Rattle.rules.specs.declared.State.{State}
-use Rattle.rules.specs.Counts.{noCounts}
-use Rattle.rules.specs.Rules.{sameSign, judgeOf, nextOf, startOf}
+use Rattle.places.specs.Counts.{noCounts}
+use Rattle.rules.specs.Rules.{judgeOf, nextOf, startOf}
 use Rattle.gate.specs.Text.{cut}
 use Rattle.gate.specs.Gate.{knownOf, checkOf}
 use Rattle.slots.specs.declared.Slot.{Slot}
@@ -47,7 +47,7 @@ bare-from seen s xs j q (p ∷ ps) f u =
     (bare-from (l ∷ seen) (nextOf s l) xs (j + oneOf l) (counted stay q l) ps (f .2) (under-next known stay q s l (f .0) (f .1) u))
   where
     go : bare (written q p) ≡ bare p → (b : Bool) (us ws : List (List ℕ)) → map bare us ≡ map bare ws
-        → map bare (pick (sameSign true b) (written q p ∷ us) us) ≡ map bare (pick b (p ∷ ws) ws)
+        → map bare (pick (alike true b) (written q p ∷ us) us) ≡ map bare (pick b (p ∷ ws) ws)
     go one true us ws e = ap₂ _∷_ one e
     go one false us ws e = e
 

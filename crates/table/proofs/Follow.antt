@@ -18,9 +18,10 @@ use Rattle.pieces.specs.declared.Line.{Line}
 use Rattle.pieces.specs.declared.Line.the-variants.{Typed}
 use Rattle.rules.specs.declared.Run.{Run}
 use Rattle.rules.specs.declared.State.{State}
-use Rattle.rules.specs.Places.{placeBad, coordinatePlace, endPlace}
+use Rattle.places.specs.Places.{placeBad, coordinatePlace, endPlace}
 use Rattle.rules.specs.Rules.{noRun, siteBad, siteNext, judgeOf, typedNext, nextOf}
-use Rattle.rules.proofs.Laws.{Good, judge-typed, place-low, place-high}
+use Rattle.places.proofs.Laws.{place-low, place-high}
+use Rattle.rules.proofs.Laws.{Good, judge-typed}
 use Rattle.gate.specs.Search.{Before}
 use Rattle.slots.specs.declared.Slot.{Slot}
 use Rattle.table.proofs.Fine.{Fine}

@@ -10,9 +10,9 @@ use lib.Dec.{eqb, leb}
 use lib.IntN.{ℤ, natAbs}
 use lib.ListN.{length, drop, getD, length-append}
 use lib.Seq.{take-at, append-snoc, getD-append-seam}
-use Rattle.ascii.specs.Tests.{pick, both, either}
+use Rattle.ascii.specs.Tests.{pick, both, either, alike}
 use Rattle.ascii.proofs.Choice.{both-join}
-use Rattle.fields.specs.Field.{isNeg}
+use Rattle.fields.specs.Field.{isNeg, sameInteger}
 use Rattle.names.specs.declared.Pair.{Pair}
 use Rattle.names.specs.declared.Three.{Three}
 use Rattle.names.specs.declared.Four.{Four}
@@ -22,11 +22,12 @@ use Rattle.line.specs.declared.Record.{Record}
 use Rattle.line.specs.declared.Record.the-variants.{Coordinate, Ter, Helix, Sheet, Conect, Master, End}
 use Rattle.pieces.specs.declared.Line.{Line}
 use Rattle.pieces.specs.declared.Line.the-variants.{Bad, Wrong, Carried, Typed}
-use Rattle.rules.specs.Rules.{sameThree, sameSign, sameInteger, sameResidue}
+use Rattle.residue.specs.Residues.{sameResidue}
 use Rattle.gate.specs.Gate.{checkOf}
-use Rattle.gate.specs.Search.{isCoord}
+use Rattle.gate.specs.Text.{isCoord}
 use Rattle.slots.specs.declared.Slot.{Slot}
-use Rattle.slots.specs.Slots.{markIn, markAside, noSlot, recordSlot, lineSlot, samePair, sameFour, samePosition, sameMeasures, residueOf, sameNames, sameSlot}
+use Rattle.names.specs.Names.{samePair, sameFour, sameThree}
+use Rattle.slots.specs.Slots.{markIn, markAside, noSlot, recordSlot, lineSlot, samePosition, sameMeasures, residueOf, sameNames, sameSlot}
 use Rattle.slots.specs.Fragments.{joins, stepTail, tailOf, markOf}
 use Rattle.table.specs.Table.{over, linesFrom, slotsOf, loadedOf, fits, fitsFrom, mine}
 use Rattle.table.proofs.Ready.{Ready}
@@ -35,7 +36,7 @@ use Rattle.table.proofs.Ready.{Ready}
 equal : (n : ℕ) → eqb n n ≡ true
 equal n = eq-eqb n n refl
 
-sign-self : (b : Bool) → sameSign b b ≡ true
+sign-self : (b : Bool) → alike b b ≡ true
 sign-self true = refl
 sign-self false = refl
 

@@ -23,9 +23,11 @@ use Rattle.pieces.specs.declared.Line.the-variants.{Bad, Wrong, Carried, Typed}
 use Rattle.rules.specs.declared.Run.{Run}
 use Rattle.rules.specs.declared.State.{State}
 use Rattle.rules.specs.Rules.{noRun, judgeOf, carriedNext, typedNext, nextOf, startOf}
-use Rattle.rules.proofs.Laws.{Good, judge-typed, judge-carried, judge-wrong, place-low, place-high}
+use Rattle.places.proofs.Laws.{place-low, place-high}
+use Rattle.rules.proofs.Laws.{Good, judge-typed, judge-carried, judge-wrong}
 use Rattle.gate.specs.Gate.{isSite, someOf, knownOf, numberIn, checkLines}
-use Rattle.gate.specs.Search.{Before, isCoord}
+use Rattle.gate.specs.Text.{isCoord}
+use Rattle.gate.specs.Search.{Before}
 use Rattle.slots.specs.declared.Slot.{Slot}
 use Rattle.table.specs.Deal.{stays, tallyOf}
 use Rattle.table.proofs.Fine.{Fine, granted-end, granted-step}

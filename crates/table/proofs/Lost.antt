@@ -10,7 +10,7 @@ use lib.Dec.{eqb, ltb}
 use lib.ListN.{length, length-map}
 use Rattle.ascii.specs.Tests.{pick}
 use Rattle.pieces.specs.Pieces.{lineOf}
-use Rattle.rules.specs.Counts.{noCounts}
+use Rattle.places.specs.Counts.{noCounts}
 use Rattle.gate.specs.Text.{cut}
 use Rattle.gate.specs.Gate.{checkOf}
 use Rattle.slots.specs.declared.Slot.{Slot}

@@ -19,7 +19,7 @@ use Rattle.master.specs.Masters.{masterF, masterText, masterLine, masterOk}
 use Rattle.master.proofs.Laws.{master-lawful}
 use Rattle.pieces.specs.declared.Line.the-variants.{Typed}
 use Rattle.pieces.specs.Pieces.{lineOf, columnsOf}
-use Rattle.rules.specs.declared.Counts.{Counts}
+use Rattle.places.specs.declared.Counts.{Counts}
 use Rattle.table.specs.Deal.{tallyOf, masterPiece}
 use Rattle.table.specs.FiveDigits.{FiveDigits}
 use Rattle.table.proofs.Plain.{small-ok}

@@ -17,7 +17,8 @@ use Rattle.line.specs.declared.Record.{Record}
 use Rattle.line.specs.declared.Record.the-variants.{Coordinate, Ter, Helix, Sheet, Conect, Master, End}
 use Rattle.pieces.specs.declared.Line.{Line}
 use Rattle.pieces.specs.declared.Line.the-variants.{Bad, Wrong, Carried, Typed}
-use Rattle.gate.specs.Search.{isCoord, serialOf}
+use Rattle.gate.specs.Text.{isCoord}
+use Rattle.gate.specs.Search.{serialOf}
 use Rattle.slots.specs.declared.Slot.{Slot}
 use Rattle.slots.specs.declared.Tail.{Tail}
 use Rattle.slots.specs.Slots.{markAside, noSlot, lineSlot, sameSlot}

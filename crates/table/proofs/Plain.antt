@@ -27,8 +27,8 @@ use Rattle.master.proofs.Laws.{master-lawful}
 use Rattle.pieces.specs.declared.Line.{Line}
 use Rattle.pieces.specs.declared.Line.the-variants.{Bad, Wrong, Carried, Typed}
 use Rattle.pieces.specs.Pieces.{lineIn, columnsOf, lineOf}
-use Rattle.rules.specs.Places.{placeOf, placeBad, coordinatePlace, endPlace}
-use Rattle.rules.proofs.Laws.{place-low, place-high}
+use Rattle.places.specs.Places.{placeOf, placeBad, coordinatePlace, endPlace}
+use Rattle.places.proofs.Laws.{place-low, place-high}
 use Rattle.gate.specs.Search.{Before}
 use Rattle.table.specs.FiveDigits.{FiveDigits}
 

@@ -14,9 +14,9 @@ use Rattle.master.specs.declared.Tally.{Tally}
 use Rattle.pieces.specs.declared.Line.{Line}
 use Rattle.pieces.specs.declared.Line.the-variants.{Bad, Wrong, Carried, Typed}
 use Rattle.pieces.specs.Pieces.{lineOf}
-use Rattle.rules.specs.declared.Counts.{Counts}
+use Rattle.places.specs.declared.Counts.{Counts}
 use Rattle.rules.specs.declared.State.{State}
-use Rattle.rules.specs.Counts.{countOf, noCounts, oneMore, raised, sameCounts}
+use Rattle.places.specs.Counts.{countOf, noCounts, oneMore, raised, sameCounts}
 use Rattle.rules.specs.Rules.{lineKind, judgeOf, carriedNext, typedNext, nextOf, startOf}
 use Rattle.rules.proofs.Laws.{judge-typed, judge-wrong}
 use Rattle.table.specs.Deal.{counted, tallyOf, masterPiece, isMaster}

@@ -12,7 +12,7 @@ use Rattle.gate.specs.Gate.{checkOf}
 use Rattle.slots.specs.declared.Slot.{Slot}
 use Rattle.slots.specs.Fragments.{markOf}
 use Rattle.table.specs.Table.{Told, told, over, loadedOf, loadOf, mine, tableOf, fragments, backOf, markByte, orderOf}
-use Rattle.table.specs.Deal.{bytesOf, putOf}
+use Rattle.table.specs.Deal.{outputOf, putOf}
 
 -- refused, with the memory as found and nothing counted; or granted
 pub record Safe {A : Type 0} (xs : List A) (a : Told A) : Type 0 where
@@ -45,7 +45,7 @@ pub put-safe : (saving : Bool) (t : List ℕ) (xs : List Slot) (o : List ℕ) �
 unfolding putOf
 put-safe saving t xs o =
     choice o (not (eqb (tableOf t xs) 0)) _ _ (refused _ o)
-    (choice o (ltb (length o) (length (bytesOf saving t xs))) _ _ (refused 17 o) (granted _ o _))
+    (choice o (ltb (length o) (length (outputOf saving t xs))) _ _ (refused 17 o) (granted _ o _))
 
 -- past what was written, all is as found
 pub over-rest : {A : Type 0} (ys xs : List A) → drop (length ys) (over ys xs) ≡ drop (length ys) xs

@@ -11,8 +11,7 @@ use lib.ListN.{length, take, getD}
 use Rattle.ascii.specs.Tests.{pick}
 use Rattle.pieces.specs.declared.Line.{Line}
 use Rattle.pieces.specs.Pieces.{lineOf}
-use Rattle.gate.specs.Text.{row}
-use Rattle.gate.specs.Search.{isCoord}
+use Rattle.gate.specs.Text.{row, isCoord}
 use Rattle.gate.proofs.Cut.{cut-next, cut-done}
 use Rattle.slots.specs.declared.Slot.{Slot}
 use Rattle.slots.specs.Slots.{markAside, noSlot, lineSlot}

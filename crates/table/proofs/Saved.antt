@@ -7,9 +7,9 @@ use mathlib.Core.Path.{_≡_}
 use native.Mathlib.Nat.{add-zero}
 use Rattle.ascii.specs.Tests.{pick}
 use Rattle.pieces.specs.declared.Line.{Line}
-use Rattle.rules.specs.declared.Counts.{Counts}
-use Rattle.rules.specs.Counts.{countOf, raised}
-use Rattle.gate.specs.Search.{isCoord}
+use Rattle.places.specs.declared.Counts.{Counts}
+use Rattle.places.specs.Counts.{countOf, raised}
+use Rattle.gate.specs.Text.{isCoord}
 use Rattle.slots.specs.declared.Slot.{Slot}
 use Rattle.table.specs.Table.{oneOf}
 use Rattle.rules.specs.Rules.{lineKind}

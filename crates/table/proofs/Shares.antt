@@ -6,21 +6,20 @@ use mathlib.Core.Bool.{Bool, true, false, true≢false}
 use mathlib.Core.Path.{_≡_, refl, _∙_, ap}
 use native.Mathlib.Omega.{arith}
 use lib.ListN.{length, length-append}
-use Rattle.ascii.specs.Tests.{pick}
+use Rattle.ascii.specs.Tests.{pick, alike}
 use Rattle.ascii.proofs.Choice.{picks}
 use Rattle.line.specs.declared.Record.{Record}
 use Rattle.line.specs.declared.Record.the-variants.{Coordinate, Ter, Helix, Sheet, Conect, Master, End}
 use Rattle.pieces.specs.declared.Line.{Line}
 use Rattle.pieces.specs.declared.Line.the-variants.{Bad, Wrong, Carried, Typed}
 use Rattle.pieces.specs.Pieces.{lineOf}
-use Rattle.rules.specs.declared.Counts.{Counts}
-use Rattle.rules.specs.Counts.{noCounts}
-use Rattle.rules.specs.Rules.{sameSign}
+use Rattle.places.specs.declared.Counts.{Counts}
+use Rattle.places.specs.Counts.{noCounts}
 use Rattle.gate.specs.Text.{cut}
 use Rattle.gate.specs.Gate.{checkOf}
 use Rattle.slots.specs.declared.Slot.{Slot}
 use Rattle.table.specs.Table.{oneOf}
-use Rattle.table.specs.Deal.{stays, counted, masterPiece, isMaster, written, share, dealt, bytesOf}
+use Rattle.table.specs.Deal.{stays, counted, masterPiece, isMaster, written, share, dealt, outputOf}
 use Rattle.table.specs.Promise.{staysFrom, those}
 use Rattle.table.proofs.Joined.{join, All81, cut-join, accepted-81}
 use Rattle.table.proofs.Master.{master-81}
@@ -29,7 +28,7 @@ use Rattle.table.proofs.Master.{master-81}
 unfoldable pub shares : Bool → List Slot → ℕ → Counts → List (List ℕ) → List (List ℕ)
 shares saving xs j q [] = []
 shares saving xs j q (p ∷ ps) =
-    pick (sameSign saving (stays xs j (lineOf p)))
+    pick (alike saving (stays xs j (lineOf p)))
     (written q p ∷ shares saving xs (j + oneOf (lineOf p)) (counted (stays xs j (lineOf p)) q (lineOf p)) ps)
     (shares saving xs (j + oneOf (lineOf p)) (counted (stays xs j (lineOf p)) q (lineOf p)) ps)
 
@@ -42,8 +41,8 @@ unfolding dealt shares share
 dealt-shares saving xs j q [] = refl
 dealt-shares saving xs j q (p ∷ ps) =
     let stay = stays xs j (lineOf p) in
-    ap (λ (r : List ℕ). pick (sameSign saving stay) (written q p) [] ++ r) (dealt-shares saving xs (j + oneOf (lineOf p)) (counted stay q (lineOf p)) ps)
-    ∙ pick-join (sameSign saving stay) (written q p) (shares saving xs (j + oneOf (lineOf p)) (counted stay q (lineOf p)) ps)
+    ap (λ (r : List ℕ). pick (alike saving stay) (written q p) [] ++ r) (dealt-shares saving xs (j + oneOf (lineOf p)) (counted stay q (lineOf p)) ps)
+    ∙ pick-join (alike saving stay) (written q p) (shares saving xs (j + oneOf (lineOf p)) (counted stay q (lineOf p)) ps)
 
 -- ---- they have 81 bytes each, so they are what the bytes are cut into
 written-81 : (q : Counts) (p : List ℕ) → length p ≡ 81 → length (written q p) ≡ 81
@@ -55,10 +54,10 @@ unfolding shares
 shares-81 saving xs j q [] a = tt
 shares-81 saving xs j q (p ∷ ps) a =
     let r = shares-81 saving xs (j + oneOf (lineOf p)) (counted (stays xs j (lineOf p)) q (lineOf p)) ps (a .1) in
-    picks All81 (sameSign saving (stays xs j (lineOf p))) _ _ (λ _. (written-81 q p (a .0), r)) (λ _. r)
+    picks All81 (alike saving (stays xs j (lineOf p))) _ _ (λ _. (written-81 q p (a .0), r)) (λ _. r)
 
-pub cut-bytes : (saving : Bool) (t : List ℕ) (xs : List Slot) → checkOf t .number ≡ 0 → cut (bytesOf saving t xs) ≡ shares saving xs 0 noCounts (cut t)
-unfolding bytesOf
+pub cut-bytes : (saving : Bool) (t : List ℕ) (xs : List Slot) → checkOf t .number ≡ 0 → cut (outputOf saving t xs) ≡ shares saving xs 0 noCounts (cut t)
+unfolding outputOf
 cut-bytes saving t xs e =
     ap cut (dealt-shares saving xs 0 noCounts (cut t))
     ∙ cut-join (shares saving xs 0 noCounts (cut t)) (shares-81 saving xs 0 noCounts (cut t) (accepted-81 t e))
@@ -68,8 +67,8 @@ join-size : (ps : List (List ℕ)) → All81 ps → length (join ps) ≡ 81 * le
 join-size [] a = refl
 join-size (p ∷ ps) a = simp length-append (omega (arith, a .0, join-size ps (a .1)))
 
-pub bytes-size : (saving : Bool) (t : List ℕ) (xs : List Slot) → checkOf t .number ≡ 0 → length (bytesOf saving t xs) ≡ 81 * length (shares saving xs 0 noCounts (cut t))
-unfolding bytesOf
+pub bytes-size : (saving : Bool) (t : List ℕ) (xs : List Slot) → checkOf t .number ≡ 0 → length (outputOf saving t xs) ≡ 81 * length (shares saving xs 0 noCounts (cut t))
+unfolding outputOf
 bytes-size saving t xs e =
     ap length (dealt-shares saving xs 0 noCounts (cut t))
     ∙ join-size (shares saving xs 0 noCounts (cut t)) (shares-81 saving xs 0 noCounts (cut t) (accepted-81 t e))
@@ -83,7 +82,7 @@ shares-sum xs k q (p ∷ ps) =
     go stay _ _ (shares-sum xs (k + oneOf (lineOf p)) (counted stay q (lineOf p)) ps)
   where
     go : (b : Bool) (us ws : List (List ℕ)) → length us + length ws ≡ length ps
-        → length (pick (sameSign true b) (written q p ∷ us) us) + length (pick (sameSign false b) (written q p ∷ ws) ws) ≡ length (p ∷ ps)
+        → length (pick (alike true b) (written q p ∷ us) us) + length (pick (alike false b) (written q p ∷ ws) ws) ≡ length (p ∷ ps)
     go true us ws e = omega arith
     go false us ws e = omega arith
 
@@ -112,6 +111,6 @@ shares-tray xs k q (p ∷ ps) =
     go stay refl _ _ (shares-tray xs (k + oneOf (lineOf p)) (counted stay q (lineOf p)) ps)
   where
     go : (b : Bool) → stays xs k (lineOf p) ≡ b → (us ws : List (List ℕ)) → us ≡ ws
-        → pick (sameSign false b) (pick (isMaster (lineOf p)) (masterPiece q) p ∷ us) us ≡ pick b ws (p ∷ ws)
+        → pick (alike false b) (pick (isMaster (lineOf p)) (masterPiece q) p ∷ us) us ≡ pick b ws (p ∷ ws)
     go true u us ws e = e
     go false u us ws e = rw (master-stays xs k (lineOf p) u, e)

@@ -16,12 +16,13 @@ use Rattle.master.specs.declared.Tally.{Tally}
 use Rattle.line.specs.declared.Record.{Record}
 use Rattle.line.specs.declared.Record.the-variants.{Coordinate, Ter, Helix, Sheet, Conect, Master, End}
 use Rattle.pieces.specs.declared.Line.the-variants.{Carried, Typed}
-use Rattle.rules.specs.declared.Counts.{Counts}
+use Rattle.places.specs.declared.Counts.{Counts}
 use Rattle.rules.specs.declared.State.{State}
-use Rattle.rules.specs.Places.{placeOf, placeBad}
-use Rattle.rules.specs.Counts.{sameCounts}
+use Rattle.places.specs.Places.{placeOf, placeBad}
+use Rattle.places.specs.Counts.{sameCounts}
 use Rattle.rules.specs.Rules.{recordKind, serialBad, runBad, bondBad, countBad, judgeOf}
-use Rattle.rules.proofs.Laws.{Good, good-typed, place-low, place-high}
+use Rattle.places.proofs.Laws.{place-low, place-high}
+use Rattle.rules.proofs.Laws.{Good, good-typed}
 use Rattle.gate.specs.Search.{Before}
 use Rattle.table.specs.Deal.{tallyOf}
 use Rattle.table.proofs.Ahead.{not-before}

@@ -5,7 +5,7 @@ use mathlib.Core.Bool.{Bool, true, false, not}
 use lib.ListN.{length, take, getD}
 use lib.Dec.{eqb, ltb}
 use Rattle.ascii.specs.Bytes.{bytes}
-use Rattle.ascii.specs.Tests.{pick, both, either}
+use Rattle.ascii.specs.Tests.{pick, both, either, alike}
 use Rattle.conect.specs.declared.Conect.{Conect as ConectOf}
 use Rattle.line.specs.declared.Record.{Record}
 use Rattle.line.specs.declared.Record.the-variants.{Coordinate, Ter, Helix, Sheet, Conect, Master, End}
@@ -14,11 +14,10 @@ use Rattle.master.specs.Masters.{masterLine}
 use Rattle.pieces.specs.declared.Line.{Line}
 use Rattle.pieces.specs.declared.Line.the-variants as line
 use Rattle.pieces.specs.Pieces.{lineOf}
-use Rattle.rules.specs.declared.Counts.{Counts}
-use Rattle.rules.specs.Counts.{countOf, noCounts, raised}
-use Rattle.rules.specs.Rules.{lineKind, sameSign}
-use Rattle.gate.specs.Text.{cut}
-use Rattle.gate.specs.Search.{isCoord}
+use Rattle.places.specs.declared.Counts.{Counts}
+use Rattle.places.specs.Counts.{countOf, noCounts, raised}
+use Rattle.rules.specs.Rules.{lineKind}
+use Rattle.gate.specs.Text.{cut, isCoord}
 use Rattle.slots.specs.declared.Slot.{Slot}
 use Rattle.slots.specs.Slots.{markAside, noSlot}
 use Rattle.slots.specs.Fragments.{isTer}
@@ -103,7 +102,7 @@ written q p = pick (isMaster (lineOf p)) (masterPiece q) p
 
 -- what a line gives to the saved entry (saving true) or to the tray (false)
 unfoldable pub share : Bool → Bool → Counts → List ℕ → List ℕ
-share saving stay q p = pick (sameSign saving stay) (written q p) []
+share saving stay q p = pick (alike saving stay) (written q p) []
 
 -- the lines p.., after k slots, the lines kept before them counted q
 unfoldable pub dealt : Bool → List Slot → ℕ → Counts → List (List ℕ) → List ℕ
@@ -113,15 +112,15 @@ dealt saving xs k q (p ∷ ps) =
     ++ dealt saving xs (k + oneOf (lineOf p)) (counted (stays xs k (lineOf p)) q (lineOf p)) ps
 
 -- all the bytes of the saved entry, or of the tray
-unfoldable pub bytesOf : Bool → List ℕ → List Slot → List ℕ
-bytesOf saving t xs = dealt saving xs 0 noCounts (cut t)
+unfoldable pub outputOf : Bool → List ℕ → List Slot → List ℕ
+outputOf saving t xs = dealt saving xs 0 noCounts (cut t)
 
 -- 1-12, 13, 18, then 17: the output is shorter than what would be written
 unfoldable pub putOf : Bool → List ℕ → List Slot → List ℕ → Told ℕ
 putOf saving t xs o =
     pick (not (eqb (tableOf t xs) 0)) (told (tableOf t xs) 0 o)
-    (pick (ltb (length o) (length (bytesOf saving t xs))) (told 17 0 o)
-    (told 0 (length (bytesOf saving t xs)) (over (bytesOf saving t xs) o)))
+    (pick (ltb (length o) (length (outputOf saving t xs))) (told 17 0 o)
+    (told 0 (length (outputOf saving t xs)) (over (outputOf saving t xs) o)))
 
 abbrev pub saveOf : List ℕ → List Slot → List ℕ → Told ℕ
 saveOf t xs o = putOf true t xs o

@@ -7,13 +7,12 @@ use lib.ListN.{length, take, drop, getD}
 use Rattle.ascii.specs.Tests.{pick}
 use Rattle.pieces.specs.declared.Line.{Line}
 use Rattle.pieces.specs.Pieces.{lineOf}
-use Rattle.gate.specs.Text.{cut, row}
+use Rattle.gate.specs.Text.{cut, row, isCoord}
 use Rattle.gate.specs.Gate.{checkOf}
-use Rattle.gate.specs.Search.{isCoord}
 use Rattle.slots.specs.declared.Slot.{Slot}
 use Rattle.slots.specs.Fragments.{tailOf}
 use Rattle.table.specs.Table.{linesFrom, slotsOf, oneOf, mine, tableOf, fragments}
-use Rattle.table.specs.Deal.{stays, isMaster, bytesOf}
+use Rattle.table.specs.Deal.{stays, isMaster, outputOf}
 use Rattle.table.specs.Orders.{Order, ordersOf, lastOf}
 
 -- whether each line stays
@@ -44,13 +43,13 @@ pub record NothingLost (t : List ℕ) (xs : List Slot) (os : List Order) : Type 
   -- the table belongs to the text: saving and the tray are granted where there is room
   pub belongs : tableOf t (ordersOf t xs os) ≡ 0
   -- the saved entry is accepted again
-  pub again : checkOf (bytesOf true t (ordersOf t xs os)) .number ≡ 0
+  pub again : checkOf (outputOf true t (ordersOf t xs os)) .number ≡ 0
   -- the saved entry has the lines that stay, byte for byte and in order; of MASTER the counts alone are written anew
-  pub saved : map bare (cut (bytesOf true t (ordersOf t xs os))) ≡ map bare (those true (staysFrom (ordersOf t xs os) 0 (linesFrom t 0)) (cut t))
+  pub saved : map bare (cut (outputOf true t (ordersOf t xs os))) ≡ map bare (those true (staysFrom (ordersOf t xs os) 0 (linesFrom t 0)) (cut t))
   -- the tray has the lines that go, byte for byte and in order
-  pub tray : cut (bytesOf false t (ordersOf t xs os)) ≡ those false (staysFrom (ordersOf t xs os) 0 (linesFrom t 0)) (cut t)
+  pub tray : cut (outputOf false t (ordersOf t xs os)) ≡ those false (staysFrom (ordersOf t xs os) 0 (linesFrom t 0)) (cut t)
   -- a coordinate line goes exactly if the last order granted for its fragment set it aside
   pub aside : (i : ℕ) → i < length (cut t) → isCoord (row t i) ≡ true
       → getD (staysFrom (ordersOf t xs os) 0 (linesFrom t 0)) i true ≡ not (lastOf t xs (fragmentOf t xs (slotsTo t i)) false os)
   -- the lines of the two add up to the lines read
-  pub sum : length (cut (bytesOf true t (ordersOf t xs os))) + length (cut (bytesOf false t (ordersOf t xs os))) ≡ length (cut t)
+  pub sum : length (cut (outputOf true t (ordersOf t xs os))) + length (cut (outputOf false t (ordersOf t xs os))) ≡ length (cut t)

@@ -7,9 +7,8 @@ use lib.Dec.{eqb, ltb, leb}
 use Rattle.ascii.specs.Tests.{pick, both, either}
 use Rattle.pieces.specs.declared.Line.{Line}
 use Rattle.pieces.specs.Pieces.{lineOf}
-use Rattle.gate.specs.Text.{cut}
+use Rattle.gate.specs.Text.{cut, isCoord}
 use Rattle.gate.specs.Gate.{checkOf}
-use Rattle.gate.specs.Search.{isCoord}
 use Rattle.slots.specs.declared.Slot.{Slot}
 use Rattle.slots.specs.Slots.{markIn, markAside, noSlot, lineSlot, sameSlot}
 use Rattle.slots.specs.Fragments.{tailOf, markOf, marked}

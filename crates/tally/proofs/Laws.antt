@@ -8,7 +8,7 @@ use borrow.Author.Tests.{lt-ltb, le-ltb}
 use Rattle.kinds.specs.declared.Kind.{Kind}
 use Rattle.kinds.specs.Kinds.{kindOf}
 use Rattle.master.specs.declared.Tally.{Tally}
-use Rattle.rules.specs.Counts.{countOf}
+use Rattle.places.specs.Counts.{countOf}
 use Rattle.tally.specs.declared.Counted.{Counted}
 use Rattle.tally.specs.Tally.{isNamed, most, countIn, raisedTally, toldTally, tallyStep, tallyLine}
 

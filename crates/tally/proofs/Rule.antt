@@ -12,7 +12,7 @@ use Rattle.ascii.proofs.Choice.{picks}
 use Rattle.kinds.specs.Kinds.{kindOf}
 use Rattle.kinds.proofs.Returns.{no-name}
 use Rattle.master.specs.declared.Tally.{Tally}
-use Rattle.rules.specs.Counts.{countOf, oneMore}
+use Rattle.places.specs.Counts.{countOf, oneMore}
 use Rattle.tally.specs.declared.Counted.{Counted}
 use Rattle.tally.specs.Tally.{isNamed, most, countIn, raisedTally, toldTally, tallyStep, tallyLine, tallyAll, Granted, linesOf}
 

@@ -9,7 +9,7 @@ use Rattle.kinds.specs.declared.Kind.{Kind}
 use Rattle.kinds.specs.declared.Kind.the-variants.{Header, Title, Compnd, Source, Keywds, Expdta, Author, Revdat, Jrnl, Remark, Seqres, Het, Helix, Sheet, Cryst1, Origx1, Origx2, Origx3, Scale1, Scale2, Scale3, Atom, Hetatm, Ter, Conect, Master, End, Unknown}
 use Rattle.kinds.specs.Kinds.{kindOf}
 use Rattle.master.specs.declared.Tally.{Tally}
-use Rattle.rules.specs.Counts.{countOf, oneMore}
+use Rattle.places.specs.Counts.{countOf, oneMore}
 use Rattle.tally.specs.declared.Counted.{Counted}
 
 -- a line under six bytes has no name, and other lines may have an unknown one

@@ -3,7 +3,7 @@ use kinds::Kind;
 use master::Tally;
 ghost use mathlib.Core.Path.{_≡_};
 ghost use Prim.Native.Nat.{_<_};
-ghost use Rattle.rules.specs.Counts.{oneMore};
+ghost use Rattle.places.specs.Counts.{oneMore};
 ghost use Rattle.tally.specs.Tally.{isNamed, countIn, raisedTally, toldTally, tallyStep, tallyLine};
 
 // What a line is answered, 0 or the number of the refusal, and what the tally then holds.
@@ -30,7 +30,7 @@ pub fn tally_after(t: Tally, line: &[u8]) -> Counted
 {
     let k = kinds::kind_of(line);
     if is_named(k) {
-        return tally_step(t, rules::count_of(k));
+        return tally_step(t, places::count_of(k));
     }
     Counted {
         number: 4,

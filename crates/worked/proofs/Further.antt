@@ -11,26 +11,27 @@ use Rattle.ascii.specs.Tests.{both, either, between, same}
 use Rattle.columns.specs.Columns.{firstOf, blankAt, gapOf, cleanAt, blame, leftmost, blanks}
 use Rattle.numbers.specs.Number.{endsDigit, leadOf, furtherOf, grownOf, numberOf, leader, render}
 use Rattle.fields.specs.Field.{signedOf, isNeg, wholeIn, integerIn}
-use Rattle.elements.specs.Elements.{elements, placeOf, atomicOf}
+use Rattle.elements.specs.Elements.{elements, entryOf, atomicOf}
 use Rattle.words.specs.Words.{wordAt}
 use Rattle.kinds.specs.Kinds.{kindNamed, kindOf}
-use Rattle.residue.specs.Residues.{residueFault, residueValue}
+use Rattle.residue.specs.Residues.{residueFault, residueValue, sameResidue}
 use Rattle.coordinate.specs.Atoms.{positionFault, positionValue, identityFault, identityValue, measureFault, measureValue, speciesFault, speciesValue, leadsElement, atomFault, atomValue}
 use Rattle.ter.specs.Ters.{terFault, terValue}
-use Rattle.conect.specs.Conects.{partnerOf, differs, follows, conectFault, conectValue}
+use Rattle.conect.specs.Conects.{partnerOf, differs, unbroken, conectFault, conectValue}
 use Rattle.master.specs.Masters.{notesFault, notesValue, notesText, shapeFault, shapeValue, shapeText, atomsFault, atomsValue, atomsText, masterFault, masterValue, masterText}
 use Rattle.line.specs.Lines.{judged, readingOf, readLine}
 use Rattle.pieces.specs.Pieces.{columnsOf, lineOf}
-use Rattle.rules.specs.Places.{placeBad}
-use Rattle.rules.specs.Counts.{raised, sameCounts}
-use Rattle.rules.specs.Rules.{sameThree, sameResidue, siteBad, closeBad, siteNext, unfinished, typedBad, judgeOf, startOf, carriedNext, typedNext, nextOf}
+use Rattle.places.specs.Places.{placeBad}
+use Rattle.places.specs.Counts.{raised, sameCounts}
+use Rattle.rules.specs.Rules.{siteBad, closeBad, siteNext, unfinished, typedBad, judgeOf, startOf, carriedNext, typedNext, nextOf}
 use Rattle.gate.specs.Text.{cutAtMost, cut}
 use Rattle.gate.specs.Gate.{someOf, refusedOf, finishOf, checkLines, checkOf}
-use Rattle.slots.specs.Slots.{markAside, noSlot, samePair, sameFour, samePosition, sameMeasures, sameNames, sameSlot, withMark}
+use Rattle.names.specs.Names.{samePair, sameFour, sameThree}
+use Rattle.slots.specs.Slots.{markAside, noSlot, samePosition, sameMeasures, sameNames, sameSlot, withMark}
 use Rattle.slots.specs.Fragments.{joins, stepTail, tailOf, markOf, marked}
 use Rattle.table.specs.Table.{loadedOf, linesFrom, slotsOf, fits, fitsFrom, belongs, tableOf, orderOf}
 use Rattle.table.specs.Orders.{order, ordersOf}
-use Rattle.table.specs.Deal.{isAside, aside, stays, counted, masterPiece, written, share, dealt, bytesOf}
+use Rattle.table.specs.Deal.{isAside, aside, stays, counted, masterPiece, written, share, dealt, outputOf}
 use Rattle.feed.specs.Exact.{exactly}
 use Rattle.feed.specs.Feed.{isDrawn}
 use Rattle.feed.specs.Frame.{lower, higher, widened, takenIn, boundsFrom, framedOf, frameOf}
@@ -44,13 +45,13 @@ parted = orderOf bonded (loadedOf bonded) 1 true .left
 
 pub record Further : Type 0 where
   -- put back, the entry is as it was
-  pub back : bytesOf true entry (ordersOf entry loaded (order 2 true ∷ order 2 false ∷ [])) ≡ entry
+  pub back : outputOf true entry (ordersOf entry loaded (order 2 true ∷ order 2 false ∷ [])) ≡ entry
   -- there is no fourth fragment, and the second is aside already
   pub none : orderOf entry loaded 4 true .number ≡ 15
   pub already : orderOf entry ordered 2 true .number ≡ 16
   -- the bond goes with its atom
-  pub parted-saved : bytesOf true bonded parted ≡ single
-  pub parted-tray : bytesOf false bonded parted ≡ textOf (water7 ∷ bond ∷ [])
+  pub parted-saved : outputOf true bonded parted ≡ single
+  pub parted-tray : outputOf false bonded parted ≡ textOf (water7 ∷ bond ∷ [])
   -- the table of another text, and one in which the chain's atom is aside and its TER is not
   pub foreign : tableOf bonded loaded ≡ 18
   pub torn : tableOf entry (withMark (getD loaded 0 noSlot) markAside ∷ drop 1 loaded) ≡ 18
@@ -71,7 +72,7 @@ pub record Further : Type 0 where
   pub no-atom : frameOf [] ≡ Refused 19
 
 pub further : Further
-unfolding parted bonded single entry rest loaded ordered both either between same firstOf blankAt gapOf cleanAt blame leftmost blanks endsDigit leadOf furtherOf grownOf numberOf leader render signedOf isNeg wholeIn integerIn elements placeOf atomicOf wordAt kindNamed kindOf residueFault residueValue positionFault positionValue identityFault identityValue measureFault measureValue speciesFault speciesValue leadsElement atomFault atomValue terFault terValue partnerOf differs follows conectFault conectValue notesFault notesValue notesText shapeFault shapeValue shapeText atomsFault atomsValue atomsText masterFault masterValue masterText judged readingOf readLine columnsOf lineOf placeBad raised sameCounts sameThree sameResidue siteBad closeBad siteNext unfinished typedBad judgeOf startOf carriedNext typedNext nextOf cutAtMost cut someOf refusedOf finishOf checkLines checkOf samePair sameFour samePosition sameMeasures sameNames sameSlot withMark joins stepTail tailOf markOf marked linesFrom slotsOf fits fitsFrom belongs tableOf orderOf ordersOf isAside aside stays counted masterPiece written share dealt bytesOf boundsFrom takenIn isDrawn widened lower higher framedOf exactly
+unfolding parted bonded single entry rest loaded ordered both either between same firstOf blankAt gapOf cleanAt blame leftmost blanks endsDigit leadOf furtherOf grownOf numberOf leader render signedOf isNeg wholeIn integerIn elements entryOf atomicOf wordAt kindNamed kindOf residueFault residueValue positionFault positionValue identityFault identityValue measureFault measureValue speciesFault speciesValue leadsElement atomFault atomValue terFault terValue partnerOf differs unbroken conectFault conectValue notesFault notesValue notesText shapeFault shapeValue shapeText atomsFault atomsValue atomsText masterFault masterValue masterText judged readingOf readLine columnsOf lineOf placeBad raised sameCounts sameThree sameResidue siteBad closeBad siteNext unfinished typedBad judgeOf startOf carriedNext typedNext nextOf cutAtMost cut someOf refusedOf finishOf checkLines checkOf samePair sameFour samePosition sameMeasures sameNames sameSlot withMark joins stepTail tailOf markOf marked linesFrom slotsOf fits fitsFrom belongs tableOf orderOf ordersOf isAside aside stays counted masterPiece written share dealt outputOf boundsFrom takenIn isDrawn widened lower higher framedOf exactly
 further =
     record {
       back = refl;

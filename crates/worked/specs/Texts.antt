@@ -26,12 +26,12 @@ abbrev pub serial : String → Whole
 serial t = wholeOf 5 0 1 99999 (bytes t) 0
 
 -- ---- one line
-unfoldable pub atomLine : List ℕ
-atomLine = bytes "ATOM     32  N  AARG A  -3      11.281  86.699  94.383  0.50 35.88           N  "
+unfoldable pub nitrogenLine : List ℕ
+nitrogenLine = bytes "ATOM     32  N  AARG A  -3      11.281  86.699  94.383  0.50 35.88           N  "
 
 -- x 11281, occupancy 50, number -3
-unfoldable pub atomRecord : Atom
-atomRecord =
+unfoldable pub nitrogenRecord : Atom
+nitrogenRecord =
     record {
       identity =
           record {

@@ -1,5 +1,4 @@
 -- The worked examples of the format: one list, one statement. It is proved in proofs/Worked.antt.
-use Prim.Native.Nat.{ℕ}
 use mathlib.Core.List.{List, [], _∷_}
 use mathlib.Core.Bool.{true, false}
 use mathlib.Core.Path.{_≡_}
@@ -7,15 +6,15 @@ use lib.IntN.{pos, negsuc}
 use Rattle.line.specs.declared.Record.the-variants.{Coordinate}
 use Rattle.line.specs.declared.Answer.the-variants.{Read}
 use Rattle.line.specs.Lines.{readLine}
-use Rattle.rules.specs.Counts.{noCounts}
+use Rattle.places.specs.Counts.{noCounts}
 use Rattle.gate.specs.Gate.{checkOf}
 use Rattle.slots.specs.declared.Slot.{Slot}
 use Rattle.table.specs.Table.{told, loadedOf, fragments, orderOf}
-use Rattle.table.specs.Deal.{bytesOf}
+use Rattle.table.specs.Deal.{outputOf}
 use Rattle.feed.specs.declared.Framed.the-variants.{Around}
-use Rattle.feed.specs.Exact.{whole, half}
+use Rattle.feed.specs.Exact.{whole}
 use Rattle.feed.specs.Frame.{frameOf}
-use Rattle.worked.specs.Texts.{coordinate, occupancy, serial, atomLine, atomRecord, textOf, shortest, beyond, twice, water7, entry, rest, slotAt}
+use Rattle.worked.specs.Texts.{coordinate, occupancy, serial, nitrogenLine, nitrogenRecord, textOf, shortest, beyond, twice, water7, entry, rest, slotAt}
 
 -- the table of the entry just loaded, and with fragment 2 set aside
 unfoldable pub loaded : List Slot
@@ -26,7 +25,7 @@ ordered = orderOf entry loaded 2 true .left
 
 pub record Worked : Type 0 where
   -- the ATOM line: x 11281, occupancy 50, number -3
-  pub atom : readLine atomLine ≡ Read (Coordinate false atomRecord)
+  pub atom : readLine nitrogenLine ≡ Read (Coordinate false nitrogenRecord)
   -- Real(8.3): a good field has no wrong column; of a wrong one it is the first
   pub lowest : coordinate "-999.999" ≡ record { column = 0; value = negsuc 999998 }
   pub highest : coordinate "9999.999" ≡ record { column = 0; value = pos 9999999 }
@@ -49,8 +48,8 @@ pub record Worked : Type 0 where
   pub three : fragments entry loaded ≡ 3
   -- fragment 2 set aside: saved are serials 1, 2, 4, and MASTER has 2 coordinates; the tray has 3
   pub granted : orderOf entry loaded 2 true ≡ told 0 0 ordered
-  pub saved : bytesOf true entry ordered ≡ rest
-  pub tray : bytesOf false entry ordered ≡ textOf (water7 ∷ [])
+  pub saved : outputOf true entry ordered ≡ rest
+  pub tray : outputOf false entry ordered ≡ textOf (water7 ∷ [])
   -- the frame of (-1, 0, 5) and (2, 0, 5): its middle is (0.5, 0, 5)
   pub framed : frameOf (slotAt (negsuc 999) (pos 0) (pos 5000) ∷ slotAt (pos 2000) (pos 0) (pos 5000) ∷ [])
       ≡ Around (record {

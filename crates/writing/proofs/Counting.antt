@@ -5,8 +5,8 @@ use mathlib.Core.Bool.{Bool, true, false}
 use mathlib.Core.Path.{_≡_}
 use Rattle.kinds.specs.declared.Kind.{Kind}
 use Rattle.pieces.specs.declared.Line.{Line}
-use Rattle.rules.specs.declared.Counts.{Counts}
-use Rattle.rules.specs.Counts.{countOf, raised}
+use Rattle.places.specs.declared.Counts.{Counts}
+use Rattle.places.specs.Counts.{countOf, raised}
 use Rattle.rules.specs.Rules.{lineKind}
 use Rattle.table.specs.Deal.{counted}
 

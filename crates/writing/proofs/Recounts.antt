@@ -14,7 +14,7 @@ use Rattle.columns.proofs.Puts.{one-put, put-then}
 use Rattle.fields.specs.Format.{writeLine}
 use Rattle.master.specs.declared.Tally.{Tally}
 use Rattle.master.specs.Masters.{masterOk, masterLine}
-use Rattle.rules.specs.declared.Counts.{Counts}
+use Rattle.places.specs.declared.Counts.{Counts}
 use Rattle.table.specs.Deal.{tallyOf, masterPiece}
 use Rattle.table.specs.FiveDigits.{FiveDigits}
 use Rattle.table.proofs.Plain.{small-ok}

@@ -7,11 +7,10 @@ use mathlib.Core.Path.{_≡_, refl, sym, _∙_, ap, ap₂}
 use native.Mathlib.Nat.{add-zero}
 use native.Mathlib.Omega.{arith}
 use lib.ListN.{length, take, drop, length-take, length-drop, take-append-drop}
-use Rattle.ascii.specs.Tests.{pick}
+use Rattle.ascii.specs.Tests.{pick, alike}
 use Rattle.columns.specs.Columns.{Put}
 use Rattle.pieces.specs.declared.Line.{Line}
-use Rattle.rules.specs.declared.Counts.{Counts}
-use Rattle.rules.specs.Rules.{sameSign}
+use Rattle.places.specs.declared.Counts.{Counts}
 use Rattle.gate.specs.Text.{pieceAt, row}
 use Rattle.table.specs.Deal.{masterPiece, isMaster, written, share}
 
@@ -19,7 +18,7 @@ pub piece-81 : (t : List ℕ) (i : ℕ) → 81 * i + 81 ≤ length t → length 
 unfolding pieceAt
 piece-81 t i h = omega (arith, length-take 81 (drop (81 * i) t), length-drop (81 * i) t)
 
-module _ (saving stay : Bool) (q : Counts) (t : List ℕ) (i : ℕ) (l : Line) (due master : Bool) (d : due ≡ sameSign saving stay) (m : master ≡ isMaster l) (r : l ≡ row t i) where
+module _ (saving stay : Bool) (q : Counts) (t : List ℕ) (i : ℕ) (l : Line) (due master : Bool) (d : due ≡ alike saving stay) (m : master ≡ isMaster l) (r : l ≡ row t i) where
   is-written : due ≡ true → share saving stay q (pieceAt t i) ≡ written q (pieceAt t i)
   unfolding share
   is-written e = ap (λ (b : Bool). pick b (written q (pieceAt t i)) []) (sym d ∙ e)
@@ -32,7 +31,7 @@ module _ (saving stay : Bool) (q : Counts) (t : List ℕ) (i : ℕ) (l : Line) (
   unfolding written row
   gives-line e f = is-written e ∙ ap (λ (b : Bool). pick b (masterPiece q) (pieceAt t i)) (ap isMaster (sym r) ∙ sym m ∙ f)
 
-pub gives-none : (saving stay : Bool) (q : Counts) (p : List ℕ) (due : Bool) → due ≡ sameSign saving stay → due ≡ false → share saving stay q p ≡ []
+pub gives-none : (saving stay : Bool) (q : Counts) (p : List ℕ) (due : Bool) → due ≡ alike saving stay → due ≡ false → share saving stay q p ≡ []
 unfolding share
 gives-none saving stay q p due d e = ap (λ (b : Bool). pick b (written q p) []) (sym d ∙ e)
 

@@ -3,15 +3,16 @@ use kinds::Kind;
 use line::Record;
 use master::Tally;
 use pieces::Line;
-use rules::Counts;
+use places::Counts;
 ghost use mathlib.Core.Path.{_≡_};
 ghost use mathlib.Core.Bool.{true};
 ghost use mathlib.Core.List.{_++_};
 ghost use Prim.Native.Nat.{_+_, _*_, _≤_};
 ghost use lib.ListN.{length, take, drop};
 ghost use Rattle.columns.specs.Columns.{Put};
-ghost use Rattle.rules.specs.Room.{Room};
-ghost use Rattle.rules.specs.Rules.{lineKind, sameSign};
+ghost use Rattle.places.specs.Room.{Room};
+ghost use Rattle.ascii.specs.Tests.{alike};
+ghost use Rattle.rules.specs.Rules.{lineKind};
 ghost use Rattle.gate.specs.Text.{pieceAt, row};
 ghost use Rattle.table.specs.Deal.{counted, tallyOf, masterPiece, recordMaster, isMaster, share};
 ghost use Rattle.table.specs.FiveDigits.{FiveDigits};
@@ -33,7 +34,7 @@ pub fn count_line(stay: bool, q: Counts, l: Line) -> Counts
     ensures { λ r. ⌜ r ≡ counted stay q l ⌝ }
 {
     if stay {
-        return rules::raise(q, rules::count_of(line_kind(l)));
+        return places::raise(q, places::count_of(line_kind(l)));
     }
     q
 }
@@ -58,9 +59,9 @@ fn is_master(l: Line) -> bool
 
 // Whether the line is one to be written: one that stays is saved, one that goes is laid on the tray.
 fn is_due(saving: bool, stay: bool) -> bool
-    ensures { λ b. ⌜ b ≡ sameSign saving stay ⌝ }
+    ensures { λ b. ⌜ b ≡ alike saving stay ⌝ }
 {
-    ascii::choose(saving, stay, !stay)
+    ascii::alike_of(saving, stay)
 }
 
 fn tally_of(q: Counts) -> Tally

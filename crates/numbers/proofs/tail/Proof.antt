@@ -1,6 +1,6 @@
 use Prim.Native.Nat.{_≤_, _-_}
 use mathlib.Core.Path.{_≡_}
-use Rattle.numbers.specs.Runs.{tailOf}
+use Rattle.numbers.specs.Runs.{decimalsOf}
 use Rattle.numbers.proofs.Runs.{tail-small, tail-start, tail-next, tail-end}
 use native.Mathlib.Omega.{arith}
 use borrow.Author.Needs.{needs}
@@ -8,7 +8,7 @@ use Rattle.numbers.proofs.tail.Statement.{statement}
 use Rattle.numbers.proofs.tail.Tie as tie
 
 abbrev Inv-loop : tie.InvT-loop
-Inv-loop line at n k t₀ i₀ t i = (i ≤ n) × (t ≡ tailOf line at t₀ i)
+Inv-loop line at n k t₀ i₀ t i = (i ≤ n) × (t ≡ decimalsOf line at t₀ i)
 
 abbrev μ-loop : tie.MeasureT-loop
 μ-loop line at n k t₀ i₀ t i = n - i

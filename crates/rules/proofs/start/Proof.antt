@@ -5,9 +5,12 @@ use Rattle.rules.proofs.start.Tie as tie
 no-run-requires : tie.Need-no-run-requires
 no-run-requires c κs = tt
 
+no-counts-requires : tie.Need-no-counts-requires
+no-counts-requires c κs = tt
+
 returns : tie.Need-returns
 unfolding startOf
-returns c = rw (c .no-run .ensures)
+returns c = rw (c .no-counts .ensures, c .before .no-run .ensures)
 
 pub start-spec : {M : Type 1} → statement M
-start-spec = tie.close (tie.spec no-run-requires returns)
+start-spec = tie.close (tie.spec no-run-requires no-counts-requires returns)

@@ -1,4 +1,4 @@
-use Rattle.table.specs.Deal.{bytesOf}
+use Rattle.table.specs.Deal.{outputOf}
 use lib.ListN.{length}
 use native.Mathlib.Omega.{arith}
 use mathlib.Core.Path.{_≡_, sym, _∙_}
@@ -24,7 +24,7 @@ returns-2 : tie.Need-returns-2
 returns-2 c = put-short _ _ _ _ _ (c .before .before .before .before .judge .ensures .0) (c .before .before .if1 .left) _ (c .before .size-of .ensures ∙ size-dealt _ _ _ (c .before .before .before .before .judge .ensures .1 (c .before .before .if1 .left)) (ready _ _ (sym (c .before .before .before .before .judge .ensures .0) ∙ c .before .before .if1 .left) .good) _) (c .if2 .taken)
 
 write-all-requires : tie.Need-write-all-requires
-write-all-requires c = λ κs. let e : c .before .before .size-of .result ≡ length (bytesOf (c .before .before .before .before .before .before .before .before .args .saving) (c .before .before .before .before .before .before .before .before .args .text .now) (c .before .before .before .before .before .before .before .before .args .table .now)) = c .before .before .size-of .ensures ∙ size-dealt _ _ _ (c .before .before .before .before .before .judge .ensures .1 (c .before .before .before .if1 .left)) (ready _ _ (sym (c .before .before .before .before .before .judge .ensures .0) ∙ c .before .before .before .if1 .left) .good) (c .before .before .before .before .before .before .before .before .args .saving) in (record { good = (ready _ _ (sym (c .before .before .before .before .before .judge .ensures .0) ∙ c .before .before .before .if1 .left) .good); rises = rw ((c .before .before .before .before .before .judge .ensures .1 (c .before .before .before .if1 .left)) .need) at ((c .before .before .before .before .before .judge .ensures .1 (c .before .before .before .if1 .left)) .rises) }, omega (arith, e, c .before .if2 .left))
+write-all-requires c = λ κs. let e : c .before .before .size-of .result ≡ length (outputOf (c .before .before .before .before .before .before .before .before .args .saving) (c .before .before .before .before .before .before .before .before .args .text .now) (c .before .before .before .before .before .before .before .before .args .table .now)) = c .before .before .size-of .ensures ∙ size-dealt _ _ _ (c .before .before .before .before .before .judge .ensures .1 (c .before .before .before .if1 .left)) (ready _ _ (sym (c .before .before .before .before .before .judge .ensures .0) ∙ c .before .before .before .if1 .left) .good) (c .before .before .before .before .before .before .before .before .args .saving) in (record { good = (ready _ _ (sym (c .before .before .before .before .before .judge .ensures .0) ∙ c .before .before .before .if1 .left) .good); rises = rw ((c .before .before .before .before .before .judge .ensures .1 (c .before .before .before .if1 .left)) .need) at ((c .before .before .before .before .before .judge .ensures .1 (c .before .before .before .if1 .left)) .rises) }, omega (arith, e, c .before .if2 .left))
 
 same-length : tie.Need-same-length
 same-length c = search needs

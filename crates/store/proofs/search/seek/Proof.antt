@@ -5,8 +5,6 @@ mod Tie
 use borrow.Author.Needs.{needs}
 use Rattle.store.proofs.search.seek.Statement.{statement}
 use Rattle.store.proofs.search.seek.Proof.Tie as tie
-use Rattle.store.proofs.Walked.search.seek.Reads as reads
-use Rattle.store.proofs.search.seek.Proof.Lts as lts
 
 slot-at-requires : tie.Need-slot-at-requires
 slot-at-requires c = search needs

@@ -3,8 +3,8 @@ use Rattle.store.proofs.SlotAs
 use Prim.Native.Nat
 use Rattle.pieces.proofs.Line
 use Rattle.pieces.proofs.Line.Laws
-use Rattle.rules.proofs.Counts
-use Rattle.rules.proofs.Counts.Laws as Laws'
+use Rattle.places.proofs.Counts
+use Rattle.places.proofs.Counts.Laws as Laws'
 use borrow.Author.Called
 use borrow.Author.Tests
 use borrow.Fn.Any
@@ -61,27 +61,27 @@ abbrev pub r : Kinds.RK 3
 r = Unit'.rUnit
 
 abbrev pub xs : List.List Syntax.Ty
-xs = Syntax.tyInt Syntax.w64 ∷ Syntax.tyInt Syntax.w64 ∷ Syntax.tyInt Syntax.w64 ∷ (Syntax.tyStruct (114 ∷ 117 ∷ 108 ∷ 101 ∷ 115 ∷ 58 ∷ 58 ∷ 67 ∷ 111 ∷ 117 ∷
-    110 ∷ 116 ∷ 115 ∷ []) (Syntax.tcons (Syntax.tyInt Syntax.w64) (Syntax.tcons (Syntax.tyInt Syntax.w64) (Syntax.tcons (Syntax.tyInt Syntax.w64) (Syntax.tcons
-    (Syntax.tyInt Syntax.w64) (Syntax.tcons (Syntax.tyInt Syntax.w64) (Syntax.tcons (Syntax.tyInt Syntax.w64) (Syntax.tcons (Syntax.tyInt Syntax.w64)
-    (Syntax.tcons (Syntax.tyInt Syntax.w64) (Syntax.tcons (Syntax.tyInt Syntax.w64) Syntax.tnil)))))))))) ∷ (Syntax.tyEnum (112 ∷ 105 ∷ 101 ∷ 99 ∷ 101 ∷ 115 ∷
-    58 ∷ 58 ∷ 76 ∷ 105 ∷ 110 ∷ 101 ∷ []) (Syntax.ttcons (Syntax.tcons (Syntax.tyInt Syntax.w8) Syntax.tnil) (Syntax.ttcons (Syntax.tcons (Syntax.tyEnum (107 ∷
-    105 ∷ 110 ∷ 100 ∷ 115 ∷ 58 ∷ 58 ∷ 75 ∷ 105 ∷ 110 ∷ 100 ∷ []) (Syntax.ttcons Syntax.tnil (Syntax.ttcons Syntax.tnil (Syntax.ttcons Syntax.tnil
-    (Syntax.ttcons Syntax.tnil (Syntax.ttcons Syntax.tnil (Syntax.ttcons Syntax.tnil (Syntax.ttcons Syntax.tnil (Syntax.ttcons Syntax.tnil (Syntax.ttcons
-    Syntax.tnil (Syntax.ttcons Syntax.tnil (Syntax.ttcons Syntax.tnil (Syntax.ttcons Syntax.tnil (Syntax.ttcons Syntax.tnil (Syntax.ttcons Syntax.tnil
-    (Syntax.ttcons Syntax.tnil (Syntax.ttcons Syntax.tnil (Syntax.ttcons Syntax.tnil (Syntax.ttcons Syntax.tnil (Syntax.ttcons Syntax.tnil (Syntax.ttcons
-    Syntax.tnil (Syntax.ttcons Syntax.tnil (Syntax.ttcons Syntax.tnil (Syntax.ttcons Syntax.tnil (Syntax.ttcons Syntax.tnil (Syntax.ttcons Syntax.tnil
-    (Syntax.ttcons Syntax.tnil (Syntax.ttcons Syntax.tnil (Syntax.ttcons Syntax.tnil Syntax.ttnil))))))))))))))))))))))))))))) (Syntax.tcons (Syntax.tyInt
-    Syntax.w32) Syntax.tnil)) (Syntax.ttcons (Syntax.tcons (Syntax.tyEnum (107 ∷ 105 ∷ 110 ∷ 100 ∷ 115 ∷ 58 ∷ 58 ∷ 75 ∷ 105 ∷ 110 ∷ 100 ∷ []) (Syntax.ttcons
+xs = Syntax.tyInt Syntax.w64 ∷ Syntax.tyInt Syntax.w64 ∷ Syntax.tyInt Syntax.w64 ∷ (Syntax.tyStruct (112 ∷ 108 ∷ 97 ∷ 99 ∷ 101 ∷ 115 ∷ 58 ∷ 58 ∷ 67 ∷ 111 ∷ 117
+    ∷ 110 ∷ 116 ∷ 115 ∷ []) (Syntax.tcons (Syntax.tyInt Syntax.w64) (Syntax.tcons (Syntax.tyInt Syntax.w64) (Syntax.tcons (Syntax.tyInt Syntax.w64)
+    (Syntax.tcons (Syntax.tyInt Syntax.w64) (Syntax.tcons (Syntax.tyInt Syntax.w64) (Syntax.tcons (Syntax.tyInt Syntax.w64) (Syntax.tcons (Syntax.tyInt
+    Syntax.w64) (Syntax.tcons (Syntax.tyInt Syntax.w64) (Syntax.tcons (Syntax.tyInt Syntax.w64) Syntax.tnil)))))))))) ∷ (Syntax.tyEnum (112 ∷ 105 ∷ 101 ∷ 99 ∷
+    101 ∷ 115 ∷ 58 ∷ 58 ∷ 76 ∷ 105 ∷ 110 ∷ 101 ∷ []) (Syntax.ttcons (Syntax.tcons (Syntax.tyInt Syntax.w8) Syntax.tnil) (Syntax.ttcons (Syntax.tcons
+    (Syntax.tyEnum (107 ∷ 105 ∷ 110 ∷ 100 ∷ 115 ∷ 58 ∷ 58 ∷ 75 ∷ 105 ∷ 110 ∷ 100 ∷ []) (Syntax.ttcons Syntax.tnil (Syntax.ttcons Syntax.tnil (Syntax.ttcons
     Syntax.tnil (Syntax.ttcons Syntax.tnil (Syntax.ttcons Syntax.tnil (Syntax.ttcons Syntax.tnil (Syntax.ttcons Syntax.tnil (Syntax.ttcons Syntax.tnil
     (Syntax.ttcons Syntax.tnil (Syntax.ttcons Syntax.tnil (Syntax.ttcons Syntax.tnil (Syntax.ttcons Syntax.tnil (Syntax.ttcons Syntax.tnil (Syntax.ttcons
     Syntax.tnil (Syntax.ttcons Syntax.tnil (Syntax.ttcons Syntax.tnil (Syntax.ttcons Syntax.tnil (Syntax.ttcons Syntax.tnil (Syntax.ttcons Syntax.tnil
     (Syntax.ttcons Syntax.tnil (Syntax.ttcons Syntax.tnil (Syntax.ttcons Syntax.tnil (Syntax.ttcons Syntax.tnil (Syntax.ttcons Syntax.tnil (Syntax.ttcons
+    Syntax.tnil (Syntax.ttcons Syntax.tnil (Syntax.ttcons Syntax.tnil (Syntax.ttcons Syntax.tnil Syntax.ttnil))))))))))))))))))))))))))))) (Syntax.tcons
+    (Syntax.tyInt Syntax.w32) Syntax.tnil)) (Syntax.ttcons (Syntax.tcons (Syntax.tyEnum (107 ∷ 105 ∷ 110 ∷ 100 ∷ 115 ∷ 58 ∷ 58 ∷ 75 ∷ 105 ∷ 110 ∷ 100 ∷ [])
+    (Syntax.ttcons Syntax.tnil (Syntax.ttcons Syntax.tnil (Syntax.ttcons Syntax.tnil (Syntax.ttcons Syntax.tnil (Syntax.ttcons Syntax.tnil (Syntax.ttcons
     Syntax.tnil (Syntax.ttcons Syntax.tnil (Syntax.ttcons Syntax.tnil (Syntax.ttcons Syntax.tnil (Syntax.ttcons Syntax.tnil (Syntax.ttcons Syntax.tnil
-    Syntax.ttnil))))))))))))))))))))))))))))) Syntax.tnil) (Syntax.ttcons (Syntax.tcons (Syntax.tyEnum (108 ∷ 105 ∷ 110 ∷ 101 ∷ 58 ∷ 58 ∷ 82 ∷ 101 ∷ 99 ∷ 111 ∷
-    114 ∷ 100 ∷ []) (Syntax.ttcons (Syntax.tcons Syntax.tyBool (Syntax.tcons (Syntax.tyStruct (99 ∷ 111 ∷ 111 ∷ 114 ∷ 100 ∷ 105 ∷ 110 ∷ 97 ∷ 116 ∷ 101 ∷ 58 ∷
-    58 ∷ 65 ∷ 116 ∷ 111 ∷ 109 ∷ []) (Syntax.tcons (Syntax.tyStruct (99 ∷ 111 ∷ 111 ∷ 114 ∷ 100 ∷ 105 ∷ 110 ∷ 97 ∷ 116 ∷ 101 ∷ 58 ∷ 58 ∷ 73 ∷ 100 ∷ 101 ∷ 110 ∷
-    116 ∷ 105 ∷ 116 ∷ 121 ∷ []) (Syntax.tcons (Syntax.tyStruct (102 ∷ 105 ∷ 101 ∷ 108 ∷ 100 ∷ 115 ∷ 58 ∷ 58 ∷ 83 ∷ 101 ∷ 114 ∷ 105 ∷ 97 ∷ 108 ∷ [])
+    (Syntax.ttcons Syntax.tnil (Syntax.ttcons Syntax.tnil (Syntax.ttcons Syntax.tnil (Syntax.ttcons Syntax.tnil (Syntax.ttcons Syntax.tnil (Syntax.ttcons
+    Syntax.tnil (Syntax.ttcons Syntax.tnil (Syntax.ttcons Syntax.tnil (Syntax.ttcons Syntax.tnil (Syntax.ttcons Syntax.tnil (Syntax.ttcons Syntax.tnil
+    (Syntax.ttcons Syntax.tnil (Syntax.ttcons Syntax.tnil (Syntax.ttcons Syntax.tnil (Syntax.ttcons Syntax.tnil (Syntax.ttcons Syntax.tnil (Syntax.ttcons
+    Syntax.tnil Syntax.ttnil))))))))))))))))))))))))))))) Syntax.tnil) (Syntax.ttcons (Syntax.tcons (Syntax.tyEnum (108 ∷ 105 ∷ 110 ∷ 101 ∷ 58 ∷ 58 ∷ 82 ∷ 101
+    ∷ 99 ∷ 111 ∷ 114 ∷ 100 ∷ []) (Syntax.ttcons (Syntax.tcons Syntax.tyBool (Syntax.tcons (Syntax.tyStruct (99 ∷ 111 ∷ 111 ∷ 114 ∷ 100 ∷ 105 ∷ 110 ∷ 97 ∷ 116 ∷
+    101 ∷ 58 ∷ 58 ∷ 65 ∷ 116 ∷ 111 ∷ 109 ∷ []) (Syntax.tcons (Syntax.tyStruct (99 ∷ 111 ∷ 111 ∷ 114 ∷ 100 ∷ 105 ∷ 110 ∷ 97 ∷ 116 ∷ 101 ∷ 58 ∷ 58 ∷ 73 ∷ 100 ∷
+    101 ∷ 110 ∷ 116 ∷ 105 ∷ 116 ∷ 121 ∷ []) (Syntax.tcons (Syntax.tyStruct (102 ∷ 105 ∷ 101 ∷ 108 ∷ 100 ∷ 115 ∷ 58 ∷ 58 ∷ 83 ∷ 101 ∷ 114 ∷ 105 ∷ 97 ∷ 108 ∷ [])
     (Syntax.tcons (Syntax.tyInt Syntax.w32) Syntax.tnil)) (Syntax.tcons (Syntax.tyStruct (110 ∷ 97 ∷ 109 ∷ 101 ∷ 115 ∷ 58 ∷ 58 ∷ 70 ∷ 111 ∷ 117 ∷ 114 ∷ [])
     (Syntax.tcons (Syntax.tyInt Syntax.w8) (Syntax.tcons (Syntax.tyInt Syntax.w8) (Syntax.tcons (Syntax.tyInt Syntax.w8) (Syntax.tcons (Syntax.tyInt Syntax.w8)
     Syntax.tnil))))) (Syntax.tcons (Syntax.tyInt Syntax.w8) (Syntax.tcons (Syntax.tyStruct (114 ∷ 101 ∷ 115 ∷ 105 ∷ 100 ∷ 117 ∷ 101 ∷ 58 ∷ 58 ∷ 82 ∷ 101 ∷ 115
@@ -392,7 +392,7 @@ abbrev b2 : Syntax.Body
 b2 = Syntax.assign (Syntax.place 7 []) (Syntax.rvOpd (Syntax.int Syntax.w64 0))
 
 abbrev b3 : Syntax.Body
-b3 = Syntax.call "marks::counting::no_counts" [] (Syntax.place 8 [])
+b3 = Syntax.call "places::counting::no_counts" [] (Syntax.place 8 [])
 
 abbrev b4 : Syntax.Body
 b4 = Syntax.assign (Syntax.place 12 []) (Syntax.op2 (Syntax.mul Syntax.unsigned) (Syntax.int Syntax.w64 81) (Syntax.copy (Syntax.place 5 [])))
@@ -540,110 +540,113 @@ t0 = (0, Rows'.any-gone Syntax.tyUnit) ∷ (
       Syntax.w64),
 ) ∷ (6, Rows'.any-gone (Syntax.tyInt Syntax.w64)) ∷ (7, Rows'.any-gone (Syntax.tyInt Syntax.w64)) ∷ (
   8,
-  Rows'.any-gone (Syntax.tyStruct (114 ∷
-      117 ∷ 108 ∷ 101 ∷ 115 ∷ 58 ∷ 58 ∷ 67 ∷ 111 ∷ 117 ∷ 110 ∷ 116 ∷ 115 ∷ []) (Syntax.tcons (Syntax.tyInt Syntax.w64) (Syntax.tcons (Syntax.tyInt Syntax.w64)
-      (Syntax.tcons (Syntax.tyInt Syntax.w64) (Syntax.tcons (Syntax.tyInt Syntax.w64) (Syntax.tcons (Syntax.tyInt Syntax.w64) (Syntax.tcons (Syntax.tyInt
-      Syntax.w64) (Syntax.tcons (Syntax.tyInt Syntax.w64) (Syntax.tcons (Syntax.tyInt Syntax.w64) (Syntax.tcons (Syntax.tyInt Syntax.w64) Syntax.tnil)))))))))),
-)
-    ∷ (
-      9,
-      Rows'.any-gone (Syntax.tyEnum (112 ∷ 105 ∷ 101 ∷ 99 ∷ 101 ∷ 115 ∷ 58 ∷ 58 ∷ 76 ∷ 105 ∷ 110 ∷ 101 ∷ []) (Syntax.ttcons (Syntax.tcons (Syntax.tyInt
-          Syntax.w8) Syntax.tnil) (Syntax.ttcons (Syntax.tcons (Syntax.tyEnum (107 ∷ 105 ∷ 110 ∷ 100 ∷ 115 ∷ 58 ∷ 58 ∷ 75 ∷ 105 ∷ 110 ∷ 100 ∷ []) (Syntax.ttcons
-          Syntax.tnil (Syntax.ttcons Syntax.tnil (Syntax.ttcons Syntax.tnil (Syntax.ttcons Syntax.tnil (Syntax.ttcons Syntax.tnil (Syntax.ttcons Syntax.tnil
-          (Syntax.ttcons Syntax.tnil (Syntax.ttcons Syntax.tnil (Syntax.ttcons Syntax.tnil (Syntax.ttcons Syntax.tnil (Syntax.ttcons Syntax.tnil (Syntax.ttcons
-          Syntax.tnil (Syntax.ttcons Syntax.tnil (Syntax.ttcons Syntax.tnil (Syntax.ttcons Syntax.tnil (Syntax.ttcons Syntax.tnil (Syntax.ttcons Syntax.tnil
-          (Syntax.ttcons Syntax.tnil (Syntax.ttcons Syntax.tnil (Syntax.ttcons Syntax.tnil (Syntax.ttcons Syntax.tnil (Syntax.ttcons Syntax.tnil (Syntax.ttcons
-          Syntax.tnil (Syntax.ttcons Syntax.tnil (Syntax.ttcons Syntax.tnil (Syntax.ttcons Syntax.tnil (Syntax.ttcons Syntax.tnil (Syntax.ttcons Syntax.tnil
-          Syntax.ttnil))))))))))))))))))))))))))))) (Syntax.tcons (Syntax.tyInt Syntax.w32) Syntax.tnil)) (Syntax.ttcons (Syntax.tcons (Syntax.tyEnum (107 ∷ 105 ∷
-          110 ∷ 100 ∷ 115 ∷ 58 ∷ 58 ∷ 75 ∷ 105 ∷ 110 ∷ 100 ∷ []) (Syntax.ttcons Syntax.tnil (Syntax.ttcons Syntax.tnil (Syntax.ttcons Syntax.tnil (Syntax.ttcons
-          Syntax.tnil (Syntax.ttcons Syntax.tnil (Syntax.ttcons Syntax.tnil (Syntax.ttcons Syntax.tnil (Syntax.ttcons Syntax.tnil (Syntax.ttcons Syntax.tnil
-          (Syntax.ttcons Syntax.tnil (Syntax.ttcons Syntax.tnil (Syntax.ttcons Syntax.tnil (Syntax.ttcons Syntax.tnil (Syntax.ttcons Syntax.tnil (Syntax.ttcons
-          Syntax.tnil (Syntax.ttcons Syntax.tnil (Syntax.ttcons Syntax.tnil (Syntax.ttcons Syntax.tnil (Syntax.ttcons Syntax.tnil (Syntax.ttcons Syntax.tnil
-          (Syntax.ttcons Syntax.tnil (Syntax.ttcons Syntax.tnil (Syntax.ttcons Syntax.tnil (Syntax.ttcons Syntax.tnil (Syntax.ttcons Syntax.tnil (Syntax.ttcons
-          Syntax.tnil (Syntax.ttcons Syntax.tnil (Syntax.ttcons Syntax.tnil Syntax.ttnil))))))))))))))))))))))))))))) Syntax.tnil) (Syntax.ttcons (Syntax.tcons
-          (Syntax.tyEnum (108 ∷ 105 ∷ 110 ∷ 101 ∷ 58 ∷ 58 ∷ 82 ∷ 101 ∷ 99 ∷ 111 ∷ 114 ∷ 100 ∷ []) (Syntax.ttcons (Syntax.tcons Syntax.tyBool (Syntax.tcons
-          (Syntax.tyStruct (99 ∷ 111 ∷ 111 ∷ 114 ∷ 100 ∷ 105 ∷ 110 ∷ 97 ∷ 116 ∷ 101 ∷ 58 ∷ 58 ∷ 65 ∷ 116 ∷ 111 ∷ 109 ∷ []) (Syntax.tcons (Syntax.tyStruct (99 ∷ 111 ∷
-          111 ∷ 114 ∷ 100 ∷ 105 ∷ 110 ∷ 97 ∷ 116 ∷ 101 ∷ 58 ∷ 58 ∷ 73 ∷ 100 ∷ 101 ∷ 110 ∷ 116 ∷ 105 ∷ 116 ∷ 121 ∷ []) (Syntax.tcons (Syntax.tyStruct (102 ∷ 105 ∷ 101
-          ∷ 108 ∷ 100 ∷ 115 ∷ 58 ∷ 58 ∷ 83 ∷ 101 ∷ 114 ∷ 105 ∷ 97 ∷ 108 ∷ []) (Syntax.tcons (Syntax.tyInt Syntax.w32) Syntax.tnil)) (Syntax.tcons (Syntax.tyStruct
-          (110 ∷ 97 ∷ 109 ∷ 101 ∷ 115 ∷ 58 ∷ 58 ∷ 70 ∷ 111 ∷ 117 ∷ 114 ∷ []) (Syntax.tcons (Syntax.tyInt Syntax.w8) (Syntax.tcons (Syntax.tyInt Syntax.w8)
-          (Syntax.tcons (Syntax.tyInt Syntax.w8) (Syntax.tcons (Syntax.tyInt Syntax.w8) Syntax.tnil))))) (Syntax.tcons (Syntax.tyInt Syntax.w8) (Syntax.tcons
-          (Syntax.tyStruct (114 ∷ 101 ∷ 115 ∷ 105 ∷ 100 ∷ 117 ∷ 101 ∷ 58 ∷ 58 ∷ 82 ∷ 101 ∷ 115 ∷ 105 ∷ 100 ∷ 117 ∷ 101 ∷ []) (Syntax.tcons (Syntax.tyStruct (110 ∷ 97
-          ∷ 109 ∷ 101 ∷ 115 ∷ 58 ∷ 58 ∷ 84 ∷ 104 ∷ 114 ∷ 101 ∷ 101 ∷ []) (Syntax.tcons (Syntax.tyInt Syntax.w8) (Syntax.tcons (Syntax.tyInt Syntax.w8) (Syntax.tcons
-          (Syntax.tyInt Syntax.w8) Syntax.tnil)))) (Syntax.tcons (Syntax.tyInt Syntax.w8) (Syntax.tcons (Syntax.tyStruct (102 ∷ 105 ∷ 101 ∷ 108 ∷ 100 ∷ 115 ∷ 58 ∷ 58
-          ∷ 82 ∷ 101 ∷ 115 ∷ 105 ∷ 100 ∷ 117 ∷ 101 ∷ 78 ∷ 117 ∷ 109 ∷ 98 ∷ 101 ∷ 114 ∷ []) (Syntax.tcons (Syntax.tyInt Syntax.w32) Syntax.tnil)) (Syntax.tcons
-          (Syntax.tyInt Syntax.w8) Syntax.tnil))))) Syntax.tnil))))) (Syntax.tcons (Syntax.tyStruct (99 ∷ 111 ∷ 111 ∷ 114 ∷ 100 ∷ 105 ∷ 110 ∷ 97 ∷ 116 ∷ 101 ∷ 58 ∷
-          58 ∷ 77 ∷ 101 ∷ 97 ∷ 115 ∷ 117 ∷ 114 ∷ 101 ∷ []) (Syntax.tcons (Syntax.tyStruct (99 ∷ 111 ∷ 111 ∷ 114 ∷ 100 ∷ 105 ∷ 110 ∷ 97 ∷ 116 ∷ 101 ∷ 58 ∷ 58 ∷ 80 ∷
-          111 ∷ 115 ∷ 105 ∷ 116 ∷ 105 ∷ 111 ∷ 110 ∷ []) (Syntax.tcons (Syntax.tyInt Syntax.w32) (Syntax.tcons (Syntax.tyInt Syntax.w32) (Syntax.tcons (Syntax.tyInt
-          Syntax.w32) Syntax.tnil)))) (Syntax.tcons (Syntax.tyInt Syntax.w32) (Syntax.tcons (Syntax.tyInt Syntax.w32) Syntax.tnil)))) (Syntax.tcons (Syntax.tyStruct
-          (99 ∷ 111 ∷ 111 ∷ 114 ∷ 100 ∷ 105 ∷ 110 ∷ 97 ∷ 116 ∷ 101 ∷ 58 ∷ 58 ∷ 83 ∷ 112 ∷ 101 ∷ 99 ∷ 105 ∷ 101 ∷ 115 ∷ []) (Syntax.tcons (Syntax.tyStruct (110 ∷ 97 ∷
-          109 ∷ 101 ∷ 115 ∷ 58 ∷ 58 ∷ 80 ∷ 97 ∷ 105 ∷ 114 ∷ []) (Syntax.tcons (Syntax.tyInt Syntax.w8) (Syntax.tcons (Syntax.tyInt Syntax.w8) Syntax.tnil)))
-          (Syntax.tcons (Syntax.tyStruct (110 ∷ 97 ∷ 109 ∷ 101 ∷ 115 ∷ 58 ∷ 58 ∷ 80 ∷ 97 ∷ 105 ∷ 114 ∷ []) (Syntax.tcons (Syntax.tyInt Syntax.w8) (Syntax.tcons
-          (Syntax.tyInt Syntax.w8) Syntax.tnil))) Syntax.tnil))) Syntax.tnil)))) Syntax.tnil)) (Syntax.ttcons (Syntax.tcons (Syntax.tyStruct (116 ∷ 101 ∷ 114 ∷ 58 ∷
-          58 ∷ 84 ∷ 101 ∷ 114 ∷ []) (Syntax.tcons (Syntax.tyStruct (102 ∷ 105 ∷ 101 ∷ 108 ∷ 100 ∷ 115 ∷ 58 ∷ 58 ∷ 83 ∷ 101 ∷ 114 ∷ 105 ∷ 97 ∷ 108 ∷ []) (Syntax.tcons
-          (Syntax.tyInt Syntax.w32) Syntax.tnil)) (Syntax.tcons (Syntax.tyStruct (114 ∷ 101 ∷ 115 ∷ 105 ∷ 100 ∷ 117 ∷ 101 ∷ 58 ∷ 58 ∷ 82 ∷ 101 ∷ 115 ∷ 105 ∷ 100 ∷
-          117 ∷ 101 ∷ []) (Syntax.tcons (Syntax.tyStruct (110 ∷ 97 ∷ 109 ∷ 101 ∷ 115 ∷ 58 ∷ 58 ∷ 84 ∷ 104 ∷ 114 ∷ 101 ∷ 101 ∷ []) (Syntax.tcons (Syntax.tyInt
-          Syntax.w8) (Syntax.tcons (Syntax.tyInt Syntax.w8) (Syntax.tcons (Syntax.tyInt Syntax.w8) Syntax.tnil)))) (Syntax.tcons (Syntax.tyInt Syntax.w8)
-          (Syntax.tcons (Syntax.tyStruct (102 ∷ 105 ∷ 101 ∷ 108 ∷ 100 ∷ 115 ∷ 58 ∷ 58 ∷ 82 ∷ 101 ∷ 115 ∷ 105 ∷ 100 ∷ 117 ∷ 101 ∷ 78 ∷ 117 ∷ 109 ∷ 98 ∷ 101 ∷ 114 ∷
-          []) (Syntax.tcons (Syntax.tyInt Syntax.w32) Syntax.tnil)) (Syntax.tcons (Syntax.tyInt Syntax.w8) Syntax.tnil))))) Syntax.tnil))) Syntax.tnil)
-          (Syntax.ttcons (Syntax.tcons (Syntax.tyStruct (104 ∷ 101 ∷ 108 ∷ 105 ∷ 120 ∷ 58 ∷ 58 ∷ 72 ∷ 101 ∷ 108 ∷ 105 ∷ 120 ∷ []) (Syntax.tcons (Syntax.tyStruct (104
-          ∷ 101 ∷ 108 ∷ 105 ∷ 120 ∷ 58 ∷ 58 ∷ 69 ∷ 120 ∷ 116 ∷ 101 ∷ 110 ∷ 116 ∷ []) (Syntax.tcons (Syntax.tyInt Syntax.w32) (Syntax.tcons (Syntax.tyStruct (110 ∷ 97
-          ∷ 109 ∷ 101 ∷ 115 ∷ 58 ∷ 58 ∷ 84 ∷ 104 ∷ 114 ∷ 101 ∷ 101 ∷ []) (Syntax.tcons (Syntax.tyInt Syntax.w8) (Syntax.tcons (Syntax.tyInt Syntax.w8) (Syntax.tcons
-          (Syntax.tyInt Syntax.w8) Syntax.tnil)))) (Syntax.tcons (Syntax.tyStruct (114 ∷ 101 ∷ 115 ∷ 105 ∷ 100 ∷ 117 ∷ 101 ∷ 58 ∷ 58 ∷ 82 ∷ 101 ∷ 115 ∷ 105 ∷ 100 ∷
-          117 ∷ 101 ∷ []) (Syntax.tcons (Syntax.tyStruct (110 ∷ 97 ∷ 109 ∷ 101 ∷ 115 ∷ 58 ∷ 58 ∷ 84 ∷ 104 ∷ 114 ∷ 101 ∷ 101 ∷ []) (Syntax.tcons (Syntax.tyInt
-          Syntax.w8) (Syntax.tcons (Syntax.tyInt Syntax.w8) (Syntax.tcons (Syntax.tyInt Syntax.w8) Syntax.tnil)))) (Syntax.tcons (Syntax.tyInt Syntax.w8)
-          (Syntax.tcons (Syntax.tyStruct (102 ∷ 105 ∷ 101 ∷ 108 ∷ 100 ∷ 115 ∷ 58 ∷ 58 ∷ 82 ∷ 101 ∷ 115 ∷ 105 ∷ 100 ∷ 117 ∷ 101 ∷ 78 ∷ 117 ∷ 109 ∷ 98 ∷ 101 ∷ 114 ∷
-          []) (Syntax.tcons (Syntax.tyInt Syntax.w32) Syntax.tnil)) (Syntax.tcons (Syntax.tyInt Syntax.w8) Syntax.tnil))))) (Syntax.tcons (Syntax.tyStruct (114 ∷ 101
-          ∷ 115 ∷ 105 ∷ 100 ∷ 117 ∷ 101 ∷ 58 ∷ 58 ∷ 82 ∷ 101 ∷ 115 ∷ 105 ∷ 100 ∷ 117 ∷ 101 ∷ []) (Syntax.tcons (Syntax.tyStruct (110 ∷ 97 ∷ 109 ∷ 101 ∷ 115 ∷ 58 ∷ 58
-          ∷ 84 ∷ 104 ∷ 114 ∷ 101 ∷ 101 ∷ []) (Syntax.tcons (Syntax.tyInt Syntax.w8) (Syntax.tcons (Syntax.tyInt Syntax.w8) (Syntax.tcons (Syntax.tyInt Syntax.w8)
-          Syntax.tnil)))) (Syntax.tcons (Syntax.tyInt Syntax.w8) (Syntax.tcons (Syntax.tyStruct (102 ∷ 105 ∷ 101 ∷ 108 ∷ 100 ∷ 115 ∷ 58 ∷ 58 ∷ 82 ∷ 101 ∷ 115 ∷ 105 ∷
-          100 ∷ 117 ∷ 101 ∷ 78 ∷ 117 ∷ 109 ∷ 98 ∷ 101 ∷ 114 ∷ []) (Syntax.tcons (Syntax.tyInt Syntax.w32) Syntax.tnil)) (Syntax.tcons (Syntax.tyInt Syntax.w8)
-          Syntax.tnil))))) Syntax.tnil))))) (Syntax.tcons (Syntax.tyInt Syntax.w32) (Syntax.tcons (Syntax.tyStruct (104 ∷ 101 ∷ 108 ∷ 105 ∷ 120 ∷ 58 ∷ 58 ∷ 67 ∷ 111
-          ∷ 109 ∷ 109 ∷ 101 ∷ 110 ∷ 116 ∷ []) (Syntax.tcons (Syntax.tyInt Syntax.w64) (Syntax.tcons (Syntax.tyInt Syntax.w64) (Syntax.tcons (Syntax.tyInt Syntax.w64)
-          (Syntax.tcons (Syntax.tyInt Syntax.w64) Syntax.tnil))))) (Syntax.tcons (Syntax.tyInt Syntax.w32) Syntax.tnil))))) Syntax.tnil) (Syntax.ttcons (Syntax.tcons
-          (Syntax.tyStruct (115 ∷ 104 ∷ 101 ∷ 101 ∷ 116 ∷ 58 ∷ 58 ∷ 83 ∷ 104 ∷ 101 ∷ 101 ∷ 116 ∷ []) (Syntax.tcons (Syntax.tyStruct (115 ∷ 104 ∷ 101 ∷ 101 ∷ 116 ∷ 58
-          ∷ 58 ∷ 83 ∷ 116 ∷ 114 ∷ 97 ∷ 110 ∷ 100 ∷ []) (Syntax.tcons (Syntax.tyInt Syntax.w32) (Syntax.tcons (Syntax.tyStruct (110 ∷ 97 ∷ 109 ∷ 101 ∷ 115 ∷ 58 ∷ 58 ∷
-          84 ∷ 104 ∷ 114 ∷ 101 ∷ 101 ∷ []) (Syntax.tcons (Syntax.tyInt Syntax.w8) (Syntax.tcons (Syntax.tyInt Syntax.w8) (Syntax.tcons (Syntax.tyInt Syntax.w8)
-          Syntax.tnil)))) (Syntax.tcons (Syntax.tyInt Syntax.w32) (Syntax.tcons (Syntax.tyStruct (114 ∷ 101 ∷ 115 ∷ 105 ∷ 100 ∷ 117 ∷ 101 ∷ 58 ∷ 58 ∷ 82 ∷ 101 ∷ 115
-          ∷ 105 ∷ 100 ∷ 117 ∷ 101 ∷ []) (Syntax.tcons (Syntax.tyStruct (110 ∷ 97 ∷ 109 ∷ 101 ∷ 115 ∷ 58 ∷ 58 ∷ 84 ∷ 104 ∷ 114 ∷ 101 ∷ 101 ∷ []) (Syntax.tcons
-          (Syntax.tyInt Syntax.w8) (Syntax.tcons (Syntax.tyInt Syntax.w8) (Syntax.tcons (Syntax.tyInt Syntax.w8) Syntax.tnil)))) (Syntax.tcons (Syntax.tyInt
-          Syntax.w8) (Syntax.tcons (Syntax.tyStruct (102 ∷ 105 ∷ 101 ∷ 108 ∷ 100 ∷ 115 ∷ 58 ∷ 58 ∷ 82 ∷ 101 ∷ 115 ∷ 105 ∷ 100 ∷ 117 ∷ 101 ∷ 78 ∷ 117 ∷ 109 ∷ 98 ∷ 101
-          ∷ 114 ∷ []) (Syntax.tcons (Syntax.tyInt Syntax.w32) Syntax.tnil)) (Syntax.tcons (Syntax.tyInt Syntax.w8) Syntax.tnil))))) (Syntax.tcons (Syntax.tyStruct
-          (114 ∷ 101 ∷ 115 ∷ 105 ∷ 100 ∷ 117 ∷ 101 ∷ 58 ∷ 58 ∷ 82 ∷ 101 ∷ 115 ∷ 105 ∷ 100 ∷ 117 ∷ 101 ∷ []) (Syntax.tcons (Syntax.tyStruct (110 ∷ 97 ∷ 109 ∷ 101 ∷
-          115 ∷ 58 ∷ 58 ∷ 84 ∷ 104 ∷ 114 ∷ 101 ∷ 101 ∷ []) (Syntax.tcons (Syntax.tyInt Syntax.w8) (Syntax.tcons (Syntax.tyInt Syntax.w8) (Syntax.tcons (Syntax.tyInt
-          Syntax.w8) Syntax.tnil)))) (Syntax.tcons (Syntax.tyInt Syntax.w8) (Syntax.tcons (Syntax.tyStruct (102 ∷ 105 ∷ 101 ∷ 108 ∷ 100 ∷ 115 ∷ 58 ∷ 58 ∷ 82 ∷ 101 ∷
-          115 ∷ 105 ∷ 100 ∷ 117 ∷ 101 ∷ 78 ∷ 117 ∷ 109 ∷ 98 ∷ 101 ∷ 114 ∷ []) (Syntax.tcons (Syntax.tyInt Syntax.w32) Syntax.tnil)) (Syntax.tcons (Syntax.tyInt
-          Syntax.w8) Syntax.tnil))))) (Syntax.tcons (Syntax.tyInt Syntax.w32) Syntax.tnil))))))) (Syntax.tcons (Syntax.tyEnum (115 ∷ 104 ∷ 101 ∷ 101 ∷ 116 ∷ 58 ∷ 58
-          ∷ 82 ∷ 101 ∷ 103 ∷ 105 ∷ 115 ∷ 116 ∷ 114 ∷ 97 ∷ 116 ∷ 105 ∷ 111 ∷ 110 ∷ []) (Syntax.ttcons Syntax.tnil (Syntax.ttcons (Syntax.tcons (Syntax.tyStruct (115 ∷
-          104 ∷ 101 ∷ 101 ∷ 116 ∷ 58 ∷ 58 ∷ 66 ∷ 111 ∷ 110 ∷ 100 ∷ []) (Syntax.tcons (Syntax.tyStruct (110 ∷ 97 ∷ 109 ∷ 101 ∷ 115 ∷ 58 ∷ 58 ∷ 70 ∷ 111 ∷ 117 ∷ 114 ∷
-          []) (Syntax.tcons (Syntax.tyInt Syntax.w8) (Syntax.tcons (Syntax.tyInt Syntax.w8) (Syntax.tcons (Syntax.tyInt Syntax.w8) (Syntax.tcons (Syntax.tyInt
-          Syntax.w8) Syntax.tnil))))) (Syntax.tcons (Syntax.tyStruct (114 ∷ 101 ∷ 115 ∷ 105 ∷ 100 ∷ 117 ∷ 101 ∷ 58 ∷ 58 ∷ 82 ∷ 101 ∷ 115 ∷ 105 ∷ 100 ∷ 117 ∷ 101 ∷
-          []) (Syntax.tcons (Syntax.tyStruct (110 ∷ 97 ∷ 109 ∷ 101 ∷ 115 ∷ 58 ∷ 58 ∷ 84 ∷ 104 ∷ 114 ∷ 101 ∷ 101 ∷ []) (Syntax.tcons (Syntax.tyInt Syntax.w8)
-          (Syntax.tcons (Syntax.tyInt Syntax.w8) (Syntax.tcons (Syntax.tyInt Syntax.w8) Syntax.tnil)))) (Syntax.tcons (Syntax.tyInt Syntax.w8) (Syntax.tcons
-          (Syntax.tyStruct (102 ∷ 105 ∷ 101 ∷ 108 ∷ 100 ∷ 115 ∷ 58 ∷ 58 ∷ 82 ∷ 101 ∷ 115 ∷ 105 ∷ 100 ∷ 117 ∷ 101 ∷ 78 ∷ 117 ∷ 109 ∷ 98 ∷ 101 ∷ 114 ∷ [])
-          (Syntax.tcons (Syntax.tyInt Syntax.w32) Syntax.tnil)) (Syntax.tcons (Syntax.tyInt Syntax.w8) Syntax.tnil))))) (Syntax.tcons (Syntax.tyStruct (110 ∷ 97 ∷
-          109 ∷ 101 ∷ 115 ∷ 58 ∷ 58 ∷ 70 ∷ 111 ∷ 117 ∷ 114 ∷ []) (Syntax.tcons (Syntax.tyInt Syntax.w8) (Syntax.tcons (Syntax.tyInt Syntax.w8) (Syntax.tcons
-          (Syntax.tyInt Syntax.w8) (Syntax.tcons (Syntax.tyInt Syntax.w8) Syntax.tnil))))) (Syntax.tcons (Syntax.tyStruct (114 ∷ 101 ∷ 115 ∷ 105 ∷ 100 ∷ 117 ∷ 101 ∷
-          58 ∷ 58 ∷ 82 ∷ 101 ∷ 115 ∷ 105 ∷ 100 ∷ 117 ∷ 101 ∷ []) (Syntax.tcons (Syntax.tyStruct (110 ∷ 97 ∷ 109 ∷ 101 ∷ 115 ∷ 58 ∷ 58 ∷ 84 ∷ 104 ∷ 114 ∷ 101 ∷ 101 ∷
-          []) (Syntax.tcons (Syntax.tyInt Syntax.w8) (Syntax.tcons (Syntax.tyInt Syntax.w8) (Syntax.tcons (Syntax.tyInt Syntax.w8) Syntax.tnil)))) (Syntax.tcons
-          (Syntax.tyInt Syntax.w8) (Syntax.tcons (Syntax.tyStruct (102 ∷ 105 ∷ 101 ∷ 108 ∷ 100 ∷ 115 ∷ 58 ∷ 58 ∷ 82 ∷ 101 ∷ 115 ∷ 105 ∷ 100 ∷ 117 ∷ 101 ∷ 78 ∷ 117 ∷
-          109 ∷ 98 ∷ 101 ∷ 114 ∷ []) (Syntax.tcons (Syntax.tyInt Syntax.w32) Syntax.tnil)) (Syntax.tcons (Syntax.tyInt Syntax.w8) Syntax.tnil))))) Syntax.tnil)))))
-          Syntax.tnil) Syntax.ttnil))) Syntax.tnil))) Syntax.tnil) (Syntax.ttcons (Syntax.tcons (Syntax.tyStruct (99 ∷ 111 ∷ 110 ∷ 101 ∷ 99 ∷ 116 ∷ 58 ∷ 58 ∷ 67 ∷
-          111 ∷ 110 ∷ 101 ∷ 99 ∷ 116 ∷ []) (Syntax.tcons (Syntax.tyStruct (102 ∷ 105 ∷ 101 ∷ 108 ∷ 100 ∷ 115 ∷ 58 ∷ 58 ∷ 83 ∷ 101 ∷ 114 ∷ 105 ∷ 97 ∷ 108 ∷ [])
-          (Syntax.tcons (Syntax.tyInt Syntax.w32) Syntax.tnil)) (Syntax.tcons (Syntax.tyStruct (102 ∷ 105 ∷ 101 ∷ 108 ∷ 100 ∷ 115 ∷ 58 ∷ 58 ∷ 83 ∷ 101 ∷ 114 ∷ 105 ∷
-          97 ∷ 108 ∷ []) (Syntax.tcons (Syntax.tyInt Syntax.w32) Syntax.tnil)) (Syntax.tcons (Syntax.tyStruct (102 ∷ 105 ∷ 101 ∷ 108 ∷ 100 ∷ 115 ∷ 58 ∷ 58 ∷ 83 ∷ 101
-          ∷ 114 ∷ 105 ∷ 97 ∷ 108 ∷ []) (Syntax.tcons (Syntax.tyInt Syntax.w32) Syntax.tnil)) (Syntax.tcons (Syntax.tyStruct (102 ∷ 105 ∷ 101 ∷ 108 ∷ 100 ∷ 115 ∷ 58 ∷
-          58 ∷ 83 ∷ 101 ∷ 114 ∷ 105 ∷ 97 ∷ 108 ∷ []) (Syntax.tcons (Syntax.tyInt Syntax.w32) Syntax.tnil)) (Syntax.tcons (Syntax.tyStruct (102 ∷ 105 ∷ 101 ∷ 108 ∷
-          100 ∷ 115 ∷ 58 ∷ 58 ∷ 83 ∷ 101 ∷ 114 ∷ 105 ∷ 97 ∷ 108 ∷ []) (Syntax.tcons (Syntax.tyInt Syntax.w32) Syntax.tnil)) Syntax.tnil)))))) Syntax.tnil)
-          (Syntax.ttcons (Syntax.tcons (Syntax.tyStruct (109 ∷ 97 ∷ 115 ∷ 116 ∷ 101 ∷ 114 ∷ 58 ∷ 58 ∷ 84 ∷ 97 ∷ 108 ∷ 108 ∷ 121 ∷ []) (Syntax.tcons (Syntax.tyInt
-          Syntax.w32) (Syntax.tcons (Syntax.tyInt Syntax.w32) (Syntax.tcons (Syntax.tyInt Syntax.w32) (Syntax.tcons (Syntax.tyInt Syntax.w32) (Syntax.tcons
-          (Syntax.tyInt Syntax.w32) (Syntax.tcons (Syntax.tyInt Syntax.w32) (Syntax.tcons (Syntax.tyInt Syntax.w32) (Syntax.tcons (Syntax.tyInt Syntax.w32)
-          (Syntax.tcons (Syntax.tyInt Syntax.w32) Syntax.tnil)))))))))) Syntax.tnil) (Syntax.ttcons Syntax.tnil Syntax.ttnil)))))))) Syntax.tnil) Syntax.ttnil))))),
-    )
-    ∷ (10, Rows'.any-gone SlotAs.ty) ∷ (11, Rows'.any-gone Syntax.tyBool) ∷ (12, Rows'.any-gone (Syntax.tyInt Syntax.w64)) ∷ (
-      13,
-      Rows'.any-gone (Syntax.tyInt
-          Syntax.w64),
-    ) ∷ (14, Rows'.any-gone Syntax.tyBool) ∷ (15, Rows'.any-gone (Syntax.tyRef Syntax.erased Syntax.mut (Syntax.tyInt Syntax.w8))) ∷ []
+  Rows'.any-gone (Syntax.tyStruct (112 ∷
+      108 ∷ 97 ∷ 99 ∷ 101 ∷ 115 ∷ 58 ∷ 58 ∷ 67 ∷ 111 ∷ 117 ∷ 110 ∷ 116 ∷ 115 ∷ []) (Syntax.tcons (Syntax.tyInt Syntax.w64) (Syntax.tcons (Syntax.tyInt
+      Syntax.w64) (Syntax.tcons (Syntax.tyInt Syntax.w64) (Syntax.tcons (Syntax.tyInt Syntax.w64) (Syntax.tcons (Syntax.tyInt Syntax.w64) (Syntax.tcons
+      (Syntax.tyInt Syntax.w64) (Syntax.tcons (Syntax.tyInt Syntax.w64) (Syntax.tcons (Syntax.tyInt Syntax.w64) (Syntax.tcons (Syntax.tyInt Syntax.w64)
+      Syntax.tnil)))))))))),
+) ∷ (
+  9,
+  Rows'.any-gone (Syntax.tyEnum (112 ∷ 105 ∷ 101 ∷ 99 ∷ 101 ∷ 115 ∷ 58 ∷ 58 ∷ 76 ∷ 105 ∷ 110 ∷ 101 ∷ []) (Syntax.ttcons
+      (Syntax.tcons (Syntax.tyInt Syntax.w8) Syntax.tnil) (Syntax.ttcons (Syntax.tcons (Syntax.tyEnum (107 ∷ 105 ∷ 110 ∷ 100 ∷ 115 ∷ 58 ∷ 58 ∷ 75 ∷ 105 ∷ 110 ∷
+      100 ∷ []) (Syntax.ttcons Syntax.tnil (Syntax.ttcons Syntax.tnil (Syntax.ttcons Syntax.tnil (Syntax.ttcons Syntax.tnil (Syntax.ttcons Syntax.tnil
+      (Syntax.ttcons Syntax.tnil (Syntax.ttcons Syntax.tnil (Syntax.ttcons Syntax.tnil (Syntax.ttcons Syntax.tnil (Syntax.ttcons Syntax.tnil (Syntax.ttcons
+      Syntax.tnil (Syntax.ttcons Syntax.tnil (Syntax.ttcons Syntax.tnil (Syntax.ttcons Syntax.tnil (Syntax.ttcons Syntax.tnil (Syntax.ttcons Syntax.tnil
+      (Syntax.ttcons Syntax.tnil (Syntax.ttcons Syntax.tnil (Syntax.ttcons Syntax.tnil (Syntax.ttcons Syntax.tnil (Syntax.ttcons Syntax.tnil (Syntax.ttcons
+      Syntax.tnil (Syntax.ttcons Syntax.tnil (Syntax.ttcons Syntax.tnil (Syntax.ttcons Syntax.tnil (Syntax.ttcons Syntax.tnil (Syntax.ttcons Syntax.tnil
+      (Syntax.ttcons Syntax.tnil Syntax.ttnil))))))))))))))))))))))))))))) (Syntax.tcons (Syntax.tyInt Syntax.w32) Syntax.tnil)) (Syntax.ttcons (Syntax.tcons
+      (Syntax.tyEnum (107 ∷ 105 ∷ 110 ∷ 100 ∷ 115 ∷ 58 ∷ 58 ∷ 75 ∷ 105 ∷ 110 ∷ 100 ∷ []) (Syntax.ttcons Syntax.tnil (Syntax.ttcons Syntax.tnil (Syntax.ttcons
+      Syntax.tnil (Syntax.ttcons Syntax.tnil (Syntax.ttcons Syntax.tnil (Syntax.ttcons Syntax.tnil (Syntax.ttcons Syntax.tnil (Syntax.ttcons Syntax.tnil
+      (Syntax.ttcons Syntax.tnil (Syntax.ttcons Syntax.tnil (Syntax.ttcons Syntax.tnil (Syntax.ttcons Syntax.tnil (Syntax.ttcons Syntax.tnil (Syntax.ttcons
+      Syntax.tnil (Syntax.ttcons Syntax.tnil (Syntax.ttcons Syntax.tnil (Syntax.ttcons Syntax.tnil (Syntax.ttcons Syntax.tnil (Syntax.ttcons Syntax.tnil
+      (Syntax.ttcons Syntax.tnil (Syntax.ttcons Syntax.tnil (Syntax.ttcons Syntax.tnil (Syntax.ttcons Syntax.tnil (Syntax.ttcons Syntax.tnil (Syntax.ttcons
+      Syntax.tnil (Syntax.ttcons Syntax.tnil (Syntax.ttcons Syntax.tnil (Syntax.ttcons Syntax.tnil Syntax.ttnil))))))))))))))))))))))))))))) Syntax.tnil)
+      (Syntax.ttcons (Syntax.tcons (Syntax.tyEnum (108 ∷ 105 ∷ 110 ∷ 101 ∷ 58 ∷ 58 ∷ 82 ∷ 101 ∷ 99 ∷ 111 ∷ 114 ∷ 100 ∷ []) (Syntax.ttcons (Syntax.tcons
+      Syntax.tyBool (Syntax.tcons (Syntax.tyStruct (99 ∷ 111 ∷ 111 ∷ 114 ∷ 100 ∷ 105 ∷ 110 ∷ 97 ∷ 116 ∷ 101 ∷ 58 ∷ 58 ∷ 65 ∷ 116 ∷ 111 ∷ 109 ∷ []) (Syntax.tcons
+      (Syntax.tyStruct (99 ∷ 111 ∷ 111 ∷ 114 ∷ 100 ∷ 105 ∷ 110 ∷ 97 ∷ 116 ∷ 101 ∷ 58 ∷ 58 ∷ 73 ∷ 100 ∷ 101 ∷ 110 ∷ 116 ∷ 105 ∷ 116 ∷ 121 ∷ []) (Syntax.tcons
+      (Syntax.tyStruct (102 ∷ 105 ∷ 101 ∷ 108 ∷ 100 ∷ 115 ∷ 58 ∷ 58 ∷ 83 ∷ 101 ∷ 114 ∷ 105 ∷ 97 ∷ 108 ∷ []) (Syntax.tcons (Syntax.tyInt Syntax.w32) Syntax.tnil))
+      (Syntax.tcons (Syntax.tyStruct (110 ∷ 97 ∷ 109 ∷ 101 ∷ 115 ∷ 58 ∷ 58 ∷ 70 ∷ 111 ∷ 117 ∷ 114 ∷ []) (Syntax.tcons (Syntax.tyInt Syntax.w8) (Syntax.tcons
+      (Syntax.tyInt Syntax.w8) (Syntax.tcons (Syntax.tyInt Syntax.w8) (Syntax.tcons (Syntax.tyInt Syntax.w8) Syntax.tnil))))) (Syntax.tcons (Syntax.tyInt
+      Syntax.w8) (Syntax.tcons (Syntax.tyStruct (114 ∷ 101 ∷ 115 ∷ 105 ∷ 100 ∷ 117 ∷ 101 ∷ 58 ∷ 58 ∷ 82 ∷ 101 ∷ 115 ∷ 105 ∷ 100 ∷ 117 ∷ 101 ∷ []) (Syntax.tcons
+      (Syntax.tyStruct (110 ∷ 97 ∷ 109 ∷ 101 ∷ 115 ∷ 58 ∷ 58 ∷ 84 ∷ 104 ∷ 114 ∷ 101 ∷ 101 ∷ []) (Syntax.tcons (Syntax.tyInt Syntax.w8) (Syntax.tcons
+      (Syntax.tyInt Syntax.w8) (Syntax.tcons (Syntax.tyInt Syntax.w8) Syntax.tnil)))) (Syntax.tcons (Syntax.tyInt Syntax.w8) (Syntax.tcons (Syntax.tyStruct (102
+      ∷ 105 ∷ 101 ∷ 108 ∷ 100 ∷ 115 ∷ 58 ∷ 58 ∷ 82 ∷ 101 ∷ 115 ∷ 105 ∷ 100 ∷ 117 ∷ 101 ∷ 78 ∷ 117 ∷ 109 ∷ 98 ∷ 101 ∷ 114 ∷ []) (Syntax.tcons (Syntax.tyInt
+      Syntax.w32) Syntax.tnil)) (Syntax.tcons (Syntax.tyInt Syntax.w8) Syntax.tnil))))) Syntax.tnil))))) (Syntax.tcons (Syntax.tyStruct (99 ∷ 111 ∷ 111 ∷ 114 ∷
+      100 ∷ 105 ∷ 110 ∷ 97 ∷ 116 ∷ 101 ∷ 58 ∷ 58 ∷ 77 ∷ 101 ∷ 97 ∷ 115 ∷ 117 ∷ 114 ∷ 101 ∷ []) (Syntax.tcons (Syntax.tyStruct (99 ∷ 111 ∷ 111 ∷ 114 ∷ 100 ∷ 105 ∷
+      110 ∷ 97 ∷ 116 ∷ 101 ∷ 58 ∷ 58 ∷ 80 ∷ 111 ∷ 115 ∷ 105 ∷ 116 ∷ 105 ∷ 111 ∷ 110 ∷ []) (Syntax.tcons (Syntax.tyInt Syntax.w32) (Syntax.tcons (Syntax.tyInt
+      Syntax.w32) (Syntax.tcons (Syntax.tyInt Syntax.w32) Syntax.tnil)))) (Syntax.tcons (Syntax.tyInt Syntax.w32) (Syntax.tcons (Syntax.tyInt Syntax.w32)
+      Syntax.tnil)))) (Syntax.tcons (Syntax.tyStruct (99 ∷ 111 ∷ 111 ∷ 114 ∷ 100 ∷ 105 ∷ 110 ∷ 97 ∷ 116 ∷ 101 ∷ 58 ∷ 58 ∷ 83 ∷ 112 ∷ 101 ∷ 99 ∷ 105 ∷ 101 ∷ 115 ∷
+      []) (Syntax.tcons (Syntax.tyStruct (110 ∷ 97 ∷ 109 ∷ 101 ∷ 115 ∷ 58 ∷ 58 ∷ 80 ∷ 97 ∷ 105 ∷ 114 ∷ []) (Syntax.tcons (Syntax.tyInt Syntax.w8) (Syntax.tcons
+      (Syntax.tyInt Syntax.w8) Syntax.tnil))) (Syntax.tcons (Syntax.tyStruct (110 ∷ 97 ∷ 109 ∷ 101 ∷ 115 ∷ 58 ∷ 58 ∷ 80 ∷ 97 ∷ 105 ∷ 114 ∷ []) (Syntax.tcons
+      (Syntax.tyInt Syntax.w8) (Syntax.tcons (Syntax.tyInt Syntax.w8) Syntax.tnil))) Syntax.tnil))) Syntax.tnil)))) Syntax.tnil)) (Syntax.ttcons (Syntax.tcons
+      (Syntax.tyStruct (116 ∷ 101 ∷ 114 ∷ 58 ∷ 58 ∷ 84 ∷ 101 ∷ 114 ∷ []) (Syntax.tcons (Syntax.tyStruct (102 ∷ 105 ∷ 101 ∷ 108 ∷ 100 ∷ 115 ∷ 58 ∷ 58 ∷ 83 ∷ 101 ∷
+      114 ∷ 105 ∷ 97 ∷ 108 ∷ []) (Syntax.tcons (Syntax.tyInt Syntax.w32) Syntax.tnil)) (Syntax.tcons (Syntax.tyStruct (114 ∷ 101 ∷ 115 ∷ 105 ∷ 100 ∷ 117 ∷ 101 ∷
+      58 ∷ 58 ∷ 82 ∷ 101 ∷ 115 ∷ 105 ∷ 100 ∷ 117 ∷ 101 ∷ []) (Syntax.tcons (Syntax.tyStruct (110 ∷ 97 ∷ 109 ∷ 101 ∷ 115 ∷ 58 ∷ 58 ∷ 84 ∷ 104 ∷ 114 ∷ 101 ∷ 101 ∷
+      []) (Syntax.tcons (Syntax.tyInt Syntax.w8) (Syntax.tcons (Syntax.tyInt Syntax.w8) (Syntax.tcons (Syntax.tyInt Syntax.w8) Syntax.tnil)))) (Syntax.tcons
+      (Syntax.tyInt Syntax.w8) (Syntax.tcons (Syntax.tyStruct (102 ∷ 105 ∷ 101 ∷ 108 ∷ 100 ∷ 115 ∷ 58 ∷ 58 ∷ 82 ∷ 101 ∷ 115 ∷ 105 ∷ 100 ∷ 117 ∷ 101 ∷ 78 ∷ 117 ∷
+      109 ∷ 98 ∷ 101 ∷ 114 ∷ []) (Syntax.tcons (Syntax.tyInt Syntax.w32) Syntax.tnil)) (Syntax.tcons (Syntax.tyInt Syntax.w8) Syntax.tnil))))) Syntax.tnil)))
+      Syntax.tnil) (Syntax.ttcons (Syntax.tcons (Syntax.tyStruct (104 ∷ 101 ∷ 108 ∷ 105 ∷ 120 ∷ 58 ∷ 58 ∷ 72 ∷ 101 ∷ 108 ∷ 105 ∷ 120 ∷ []) (Syntax.tcons
+      (Syntax.tyStruct (104 ∷ 101 ∷ 108 ∷ 105 ∷ 120 ∷ 58 ∷ 58 ∷ 69 ∷ 120 ∷ 116 ∷ 101 ∷ 110 ∷ 116 ∷ []) (Syntax.tcons (Syntax.tyInt Syntax.w32) (Syntax.tcons
+      (Syntax.tyStruct (110 ∷ 97 ∷ 109 ∷ 101 ∷ 115 ∷ 58 ∷ 58 ∷ 84 ∷ 104 ∷ 114 ∷ 101 ∷ 101 ∷ []) (Syntax.tcons (Syntax.tyInt Syntax.w8) (Syntax.tcons
+      (Syntax.tyInt Syntax.w8) (Syntax.tcons (Syntax.tyInt Syntax.w8) Syntax.tnil)))) (Syntax.tcons (Syntax.tyStruct (114 ∷ 101 ∷ 115 ∷ 105 ∷ 100 ∷ 117 ∷ 101 ∷
+      58 ∷ 58 ∷ 82 ∷ 101 ∷ 115 ∷ 105 ∷ 100 ∷ 117 ∷ 101 ∷ []) (Syntax.tcons (Syntax.tyStruct (110 ∷ 97 ∷ 109 ∷ 101 ∷ 115 ∷ 58 ∷ 58 ∷ 84 ∷ 104 ∷ 114 ∷ 101 ∷ 101 ∷
+      []) (Syntax.tcons (Syntax.tyInt Syntax.w8) (Syntax.tcons (Syntax.tyInt Syntax.w8) (Syntax.tcons (Syntax.tyInt Syntax.w8) Syntax.tnil)))) (Syntax.tcons
+      (Syntax.tyInt Syntax.w8) (Syntax.tcons (Syntax.tyStruct (102 ∷ 105 ∷ 101 ∷ 108 ∷ 100 ∷ 115 ∷ 58 ∷ 58 ∷ 82 ∷ 101 ∷ 115 ∷ 105 ∷ 100 ∷ 117 ∷ 101 ∷ 78 ∷ 117 ∷
+      109 ∷ 98 ∷ 101 ∷ 114 ∷ []) (Syntax.tcons (Syntax.tyInt Syntax.w32) Syntax.tnil)) (Syntax.tcons (Syntax.tyInt Syntax.w8) Syntax.tnil))))) (Syntax.tcons
+      (Syntax.tyStruct (114 ∷ 101 ∷ 115 ∷ 105 ∷ 100 ∷ 117 ∷ 101 ∷ 58 ∷ 58 ∷ 82 ∷ 101 ∷ 115 ∷ 105 ∷ 100 ∷ 117 ∷ 101 ∷ []) (Syntax.tcons (Syntax.tyStruct (110 ∷ 97
+      ∷ 109 ∷ 101 ∷ 115 ∷ 58 ∷ 58 ∷ 84 ∷ 104 ∷ 114 ∷ 101 ∷ 101 ∷ []) (Syntax.tcons (Syntax.tyInt Syntax.w8) (Syntax.tcons (Syntax.tyInt Syntax.w8) (Syntax.tcons
+      (Syntax.tyInt Syntax.w8) Syntax.tnil)))) (Syntax.tcons (Syntax.tyInt Syntax.w8) (Syntax.tcons (Syntax.tyStruct (102 ∷ 105 ∷ 101 ∷ 108 ∷ 100 ∷ 115 ∷ 58 ∷ 58
+      ∷ 82 ∷ 101 ∷ 115 ∷ 105 ∷ 100 ∷ 117 ∷ 101 ∷ 78 ∷ 117 ∷ 109 ∷ 98 ∷ 101 ∷ 114 ∷ []) (Syntax.tcons (Syntax.tyInt Syntax.w32) Syntax.tnil)) (Syntax.tcons
+      (Syntax.tyInt Syntax.w8) Syntax.tnil))))) Syntax.tnil))))) (Syntax.tcons (Syntax.tyInt Syntax.w32) (Syntax.tcons (Syntax.tyStruct (104 ∷ 101 ∷ 108 ∷ 105 ∷
+      120 ∷ 58 ∷ 58 ∷ 67 ∷ 111 ∷ 109 ∷ 109 ∷ 101 ∷ 110 ∷ 116 ∷ []) (Syntax.tcons (Syntax.tyInt Syntax.w64) (Syntax.tcons (Syntax.tyInt Syntax.w64) (Syntax.tcons
+      (Syntax.tyInt Syntax.w64) (Syntax.tcons (Syntax.tyInt Syntax.w64) Syntax.tnil))))) (Syntax.tcons (Syntax.tyInt Syntax.w32) Syntax.tnil))))) Syntax.tnil)
+      (Syntax.ttcons (Syntax.tcons (Syntax.tyStruct (115 ∷ 104 ∷ 101 ∷ 101 ∷ 116 ∷ 58 ∷ 58 ∷ 83 ∷ 104 ∷ 101 ∷ 101 ∷ 116 ∷ []) (Syntax.tcons (Syntax.tyStruct (115
+      ∷ 104 ∷ 101 ∷ 101 ∷ 116 ∷ 58 ∷ 58 ∷ 83 ∷ 116 ∷ 114 ∷ 97 ∷ 110 ∷ 100 ∷ []) (Syntax.tcons (Syntax.tyInt Syntax.w32) (Syntax.tcons (Syntax.tyStruct (110 ∷ 97
+      ∷ 109 ∷ 101 ∷ 115 ∷ 58 ∷ 58 ∷ 84 ∷ 104 ∷ 114 ∷ 101 ∷ 101 ∷ []) (Syntax.tcons (Syntax.tyInt Syntax.w8) (Syntax.tcons (Syntax.tyInt Syntax.w8) (Syntax.tcons
+      (Syntax.tyInt Syntax.w8) Syntax.tnil)))) (Syntax.tcons (Syntax.tyInt Syntax.w32) (Syntax.tcons (Syntax.tyStruct (114 ∷ 101 ∷ 115 ∷ 105 ∷ 100 ∷ 117 ∷ 101 ∷
+      58 ∷ 58 ∷ 82 ∷ 101 ∷ 115 ∷ 105 ∷ 100 ∷ 117 ∷ 101 ∷ []) (Syntax.tcons (Syntax.tyStruct (110 ∷ 97 ∷ 109 ∷ 101 ∷ 115 ∷ 58 ∷ 58 ∷ 84 ∷ 104 ∷ 114 ∷ 101 ∷ 101 ∷
+      []) (Syntax.tcons (Syntax.tyInt Syntax.w8) (Syntax.tcons (Syntax.tyInt Syntax.w8) (Syntax.tcons (Syntax.tyInt Syntax.w8) Syntax.tnil)))) (Syntax.tcons
+      (Syntax.tyInt Syntax.w8) (Syntax.tcons (Syntax.tyStruct (102 ∷ 105 ∷ 101 ∷ 108 ∷ 100 ∷ 115 ∷ 58 ∷ 58 ∷ 82 ∷ 101 ∷ 115 ∷ 105 ∷ 100 ∷ 117 ∷ 101 ∷ 78 ∷ 117 ∷
+      109 ∷ 98 ∷ 101 ∷ 114 ∷ []) (Syntax.tcons (Syntax.tyInt Syntax.w32) Syntax.tnil)) (Syntax.tcons (Syntax.tyInt Syntax.w8) Syntax.tnil))))) (Syntax.tcons
+      (Syntax.tyStruct (114 ∷ 101 ∷ 115 ∷ 105 ∷ 100 ∷ 117 ∷ 101 ∷ 58 ∷ 58 ∷ 82 ∷ 101 ∷ 115 ∷ 105 ∷ 100 ∷ 117 ∷ 101 ∷ []) (Syntax.tcons (Syntax.tyStruct (110 ∷ 97
+      ∷ 109 ∷ 101 ∷ 115 ∷ 58 ∷ 58 ∷ 84 ∷ 104 ∷ 114 ∷ 101 ∷ 101 ∷ []) (Syntax.tcons (Syntax.tyInt Syntax.w8) (Syntax.tcons (Syntax.tyInt Syntax.w8) (Syntax.tcons
+      (Syntax.tyInt Syntax.w8) Syntax.tnil)))) (Syntax.tcons (Syntax.tyInt Syntax.w8) (Syntax.tcons (Syntax.tyStruct (102 ∷ 105 ∷ 101 ∷ 108 ∷ 100 ∷ 115 ∷ 58 ∷ 58
+      ∷ 82 ∷ 101 ∷ 115 ∷ 105 ∷ 100 ∷ 117 ∷ 101 ∷ 78 ∷ 117 ∷ 109 ∷ 98 ∷ 101 ∷ 114 ∷ []) (Syntax.tcons (Syntax.tyInt Syntax.w32) Syntax.tnil)) (Syntax.tcons
+      (Syntax.tyInt Syntax.w8) Syntax.tnil))))) (Syntax.tcons (Syntax.tyInt Syntax.w32) Syntax.tnil))))))) (Syntax.tcons (Syntax.tyEnum (115 ∷ 104 ∷ 101 ∷ 101 ∷
+      116 ∷ 58 ∷ 58 ∷ 82 ∷ 101 ∷ 103 ∷ 105 ∷ 115 ∷ 116 ∷ 114 ∷ 97 ∷ 116 ∷ 105 ∷ 111 ∷ 110 ∷ []) (Syntax.ttcons Syntax.tnil (Syntax.ttcons (Syntax.tcons
+      (Syntax.tyStruct (115 ∷ 104 ∷ 101 ∷ 101 ∷ 116 ∷ 58 ∷ 58 ∷ 66 ∷ 111 ∷ 110 ∷ 100 ∷ []) (Syntax.tcons (Syntax.tyStruct (110 ∷ 97 ∷ 109 ∷ 101 ∷ 115 ∷ 58 ∷ 58 ∷
+      70 ∷ 111 ∷ 117 ∷ 114 ∷ []) (Syntax.tcons (Syntax.tyInt Syntax.w8) (Syntax.tcons (Syntax.tyInt Syntax.w8) (Syntax.tcons (Syntax.tyInt Syntax.w8)
+      (Syntax.tcons (Syntax.tyInt Syntax.w8) Syntax.tnil))))) (Syntax.tcons (Syntax.tyStruct (114 ∷ 101 ∷ 115 ∷ 105 ∷ 100 ∷ 117 ∷ 101 ∷ 58 ∷ 58 ∷ 82 ∷ 101 ∷ 115
+      ∷ 105 ∷ 100 ∷ 117 ∷ 101 ∷ []) (Syntax.tcons (Syntax.tyStruct (110 ∷ 97 ∷ 109 ∷ 101 ∷ 115 ∷ 58 ∷ 58 ∷ 84 ∷ 104 ∷ 114 ∷ 101 ∷ 101 ∷ []) (Syntax.tcons
+      (Syntax.tyInt Syntax.w8) (Syntax.tcons (Syntax.tyInt Syntax.w8) (Syntax.tcons (Syntax.tyInt Syntax.w8) Syntax.tnil)))) (Syntax.tcons (Syntax.tyInt
+      Syntax.w8) (Syntax.tcons (Syntax.tyStruct (102 ∷ 105 ∷ 101 ∷ 108 ∷ 100 ∷ 115 ∷ 58 ∷ 58 ∷ 82 ∷ 101 ∷ 115 ∷ 105 ∷ 100 ∷ 117 ∷ 101 ∷ 78 ∷ 117 ∷ 109 ∷ 98 ∷ 101
+      ∷ 114 ∷ []) (Syntax.tcons (Syntax.tyInt Syntax.w32) Syntax.tnil)) (Syntax.tcons (Syntax.tyInt Syntax.w8) Syntax.tnil))))) (Syntax.tcons (Syntax.tyStruct
+      (110 ∷ 97 ∷ 109 ∷ 101 ∷ 115 ∷ 58 ∷ 58 ∷ 70 ∷ 111 ∷ 117 ∷ 114 ∷ []) (Syntax.tcons (Syntax.tyInt Syntax.w8) (Syntax.tcons (Syntax.tyInt Syntax.w8)
+      (Syntax.tcons (Syntax.tyInt Syntax.w8) (Syntax.tcons (Syntax.tyInt Syntax.w8) Syntax.tnil))))) (Syntax.tcons (Syntax.tyStruct (114 ∷ 101 ∷ 115 ∷ 105 ∷ 100
+      ∷ 117 ∷ 101 ∷ 58 ∷ 58 ∷ 82 ∷ 101 ∷ 115 ∷ 105 ∷ 100 ∷ 117 ∷ 101 ∷ []) (Syntax.tcons (Syntax.tyStruct (110 ∷ 97 ∷ 109 ∷ 101 ∷ 115 ∷ 58 ∷ 58 ∷ 84 ∷ 104 ∷ 114
+      ∷ 101 ∷ 101 ∷ []) (Syntax.tcons (Syntax.tyInt Syntax.w8) (Syntax.tcons (Syntax.tyInt Syntax.w8) (Syntax.tcons (Syntax.tyInt Syntax.w8) Syntax.tnil))))
+      (Syntax.tcons (Syntax.tyInt Syntax.w8) (Syntax.tcons (Syntax.tyStruct (102 ∷ 105 ∷ 101 ∷ 108 ∷ 100 ∷ 115 ∷ 58 ∷ 58 ∷ 82 ∷ 101 ∷ 115 ∷ 105 ∷ 100 ∷ 117 ∷ 101
+      ∷ 78 ∷ 117 ∷ 109 ∷ 98 ∷ 101 ∷ 114 ∷ []) (Syntax.tcons (Syntax.tyInt Syntax.w32) Syntax.tnil)) (Syntax.tcons (Syntax.tyInt Syntax.w8) Syntax.tnil)))))
+      Syntax.tnil))))) Syntax.tnil) Syntax.ttnil))) Syntax.tnil))) Syntax.tnil) (Syntax.ttcons (Syntax.tcons (Syntax.tyStruct (99 ∷ 111 ∷ 110 ∷ 101 ∷ 99 ∷ 116 ∷
+      58 ∷ 58 ∷ 67 ∷ 111 ∷ 110 ∷ 101 ∷ 99 ∷ 116 ∷ []) (Syntax.tcons (Syntax.tyStruct (102 ∷ 105 ∷ 101 ∷ 108 ∷ 100 ∷ 115 ∷ 58 ∷ 58 ∷ 83 ∷ 101 ∷ 114 ∷ 105 ∷ 97 ∷
+      108 ∷ []) (Syntax.tcons (Syntax.tyInt Syntax.w32) Syntax.tnil)) (Syntax.tcons (Syntax.tyStruct (102 ∷ 105 ∷ 101 ∷ 108 ∷ 100 ∷ 115 ∷ 58 ∷ 58 ∷ 83 ∷ 101 ∷
+      114 ∷ 105 ∷ 97 ∷ 108 ∷ []) (Syntax.tcons (Syntax.tyInt Syntax.w32) Syntax.tnil)) (Syntax.tcons (Syntax.tyStruct (102 ∷ 105 ∷ 101 ∷ 108 ∷ 100 ∷ 115 ∷ 58 ∷
+      58 ∷ 83 ∷ 101 ∷ 114 ∷ 105 ∷ 97 ∷ 108 ∷ []) (Syntax.tcons (Syntax.tyInt Syntax.w32) Syntax.tnil)) (Syntax.tcons (Syntax.tyStruct (102 ∷ 105 ∷ 101 ∷ 108 ∷
+      100 ∷ 115 ∷ 58 ∷ 58 ∷ 83 ∷ 101 ∷ 114 ∷ 105 ∷ 97 ∷ 108 ∷ []) (Syntax.tcons (Syntax.tyInt Syntax.w32) Syntax.tnil)) (Syntax.tcons (Syntax.tyStruct (102 ∷ 105
+      ∷ 101 ∷ 108 ∷ 100 ∷ 115 ∷ 58 ∷ 58 ∷ 83 ∷ 101 ∷ 114 ∷ 105 ∷ 97 ∷ 108 ∷ []) (Syntax.tcons (Syntax.tyInt Syntax.w32) Syntax.tnil)) Syntax.tnil))))))
+      Syntax.tnil) (Syntax.ttcons (Syntax.tcons (Syntax.tyStruct (109 ∷ 97 ∷ 115 ∷ 116 ∷ 101 ∷ 114 ∷ 58 ∷ 58 ∷ 84 ∷ 97 ∷ 108 ∷ 108 ∷ 121 ∷ []) (Syntax.tcons
+      (Syntax.tyInt Syntax.w32) (Syntax.tcons (Syntax.tyInt Syntax.w32) (Syntax.tcons (Syntax.tyInt Syntax.w32) (Syntax.tcons (Syntax.tyInt Syntax.w32)
+      (Syntax.tcons (Syntax.tyInt Syntax.w32) (Syntax.tcons (Syntax.tyInt Syntax.w32) (Syntax.tcons (Syntax.tyInt Syntax.w32) (Syntax.tcons (Syntax.tyInt
+      Syntax.w32) (Syntax.tcons (Syntax.tyInt Syntax.w32) Syntax.tnil)))))))))) Syntax.tnil) (Syntax.ttcons Syntax.tnil Syntax.ttnil)))))))) Syntax.tnil)
+      Syntax.ttnil))))),
+) ∷ (10, Rows'.any-gone SlotAs.ty) ∷ (11, Rows'.any-gone Syntax.tyBool) ∷ (12, Rows'.any-gone (Syntax.tyInt Syntax.w64)) ∷ (
+  13,
+  Rows'.any-gone (Syntax.tyInt Syntax.w64),
+) ∷ (14, Rows'.any-gone Syntax.tyBool) ∷ (
+  15,
+  Rows'.any-gone (Syntax.tyRef Syntax.erased Syntax.mut (Syntax.tyInt
+      Syntax.w8)),
+) ∷ []
 
 abbrev pub t1 : List.List Row.Entry
 t1 = (
@@ -667,110 +670,113 @@ t2 = (0, Rows'.sc-here Row.sUnit) ∷ (
       Syntax.w64),
 ) ∷ (6, Rows'.any-gone (Syntax.tyInt Syntax.w64)) ∷ (7, Rows'.any-gone (Syntax.tyInt Syntax.w64)) ∷ (
   8,
-  Rows'.any-gone (Syntax.tyStruct (114 ∷
-      117 ∷ 108 ∷ 101 ∷ 115 ∷ 58 ∷ 58 ∷ 67 ∷ 111 ∷ 117 ∷ 110 ∷ 116 ∷ 115 ∷ []) (Syntax.tcons (Syntax.tyInt Syntax.w64) (Syntax.tcons (Syntax.tyInt Syntax.w64)
-      (Syntax.tcons (Syntax.tyInt Syntax.w64) (Syntax.tcons (Syntax.tyInt Syntax.w64) (Syntax.tcons (Syntax.tyInt Syntax.w64) (Syntax.tcons (Syntax.tyInt
-      Syntax.w64) (Syntax.tcons (Syntax.tyInt Syntax.w64) (Syntax.tcons (Syntax.tyInt Syntax.w64) (Syntax.tcons (Syntax.tyInt Syntax.w64) Syntax.tnil)))))))))),
-)
-    ∷ (
-      9,
-      Rows'.any-gone (Syntax.tyEnum (112 ∷ 105 ∷ 101 ∷ 99 ∷ 101 ∷ 115 ∷ 58 ∷ 58 ∷ 76 ∷ 105 ∷ 110 ∷ 101 ∷ []) (Syntax.ttcons (Syntax.tcons (Syntax.tyInt
-          Syntax.w8) Syntax.tnil) (Syntax.ttcons (Syntax.tcons (Syntax.tyEnum (107 ∷ 105 ∷ 110 ∷ 100 ∷ 115 ∷ 58 ∷ 58 ∷ 75 ∷ 105 ∷ 110 ∷ 100 ∷ []) (Syntax.ttcons
-          Syntax.tnil (Syntax.ttcons Syntax.tnil (Syntax.ttcons Syntax.tnil (Syntax.ttcons Syntax.tnil (Syntax.ttcons Syntax.tnil (Syntax.ttcons Syntax.tnil
-          (Syntax.ttcons Syntax.tnil (Syntax.ttcons Syntax.tnil (Syntax.ttcons Syntax.tnil (Syntax.ttcons Syntax.tnil (Syntax.ttcons Syntax.tnil (Syntax.ttcons
-          Syntax.tnil (Syntax.ttcons Syntax.tnil (Syntax.ttcons Syntax.tnil (Syntax.ttcons Syntax.tnil (Syntax.ttcons Syntax.tnil (Syntax.ttcons Syntax.tnil
-          (Syntax.ttcons Syntax.tnil (Syntax.ttcons Syntax.tnil (Syntax.ttcons Syntax.tnil (Syntax.ttcons Syntax.tnil (Syntax.ttcons Syntax.tnil (Syntax.ttcons
-          Syntax.tnil (Syntax.ttcons Syntax.tnil (Syntax.ttcons Syntax.tnil (Syntax.ttcons Syntax.tnil (Syntax.ttcons Syntax.tnil (Syntax.ttcons Syntax.tnil
-          Syntax.ttnil))))))))))))))))))))))))))))) (Syntax.tcons (Syntax.tyInt Syntax.w32) Syntax.tnil)) (Syntax.ttcons (Syntax.tcons (Syntax.tyEnum (107 ∷ 105 ∷
-          110 ∷ 100 ∷ 115 ∷ 58 ∷ 58 ∷ 75 ∷ 105 ∷ 110 ∷ 100 ∷ []) (Syntax.ttcons Syntax.tnil (Syntax.ttcons Syntax.tnil (Syntax.ttcons Syntax.tnil (Syntax.ttcons
-          Syntax.tnil (Syntax.ttcons Syntax.tnil (Syntax.ttcons Syntax.tnil (Syntax.ttcons Syntax.tnil (Syntax.ttcons Syntax.tnil (Syntax.ttcons Syntax.tnil
-          (Syntax.ttcons Syntax.tnil (Syntax.ttcons Syntax.tnil (Syntax.ttcons Syntax.tnil (Syntax.ttcons Syntax.tnil (Syntax.ttcons Syntax.tnil (Syntax.ttcons
-          Syntax.tnil (Syntax.ttcons Syntax.tnil (Syntax.ttcons Syntax.tnil (Syntax.ttcons Syntax.tnil (Syntax.ttcons Syntax.tnil (Syntax.ttcons Syntax.tnil
-          (Syntax.ttcons Syntax.tnil (Syntax.ttcons Syntax.tnil (Syntax.ttcons Syntax.tnil (Syntax.ttcons Syntax.tnil (Syntax.ttcons Syntax.tnil (Syntax.ttcons
-          Syntax.tnil (Syntax.ttcons Syntax.tnil (Syntax.ttcons Syntax.tnil Syntax.ttnil))))))))))))))))))))))))))))) Syntax.tnil) (Syntax.ttcons (Syntax.tcons
-          (Syntax.tyEnum (108 ∷ 105 ∷ 110 ∷ 101 ∷ 58 ∷ 58 ∷ 82 ∷ 101 ∷ 99 ∷ 111 ∷ 114 ∷ 100 ∷ []) (Syntax.ttcons (Syntax.tcons Syntax.tyBool (Syntax.tcons
-          (Syntax.tyStruct (99 ∷ 111 ∷ 111 ∷ 114 ∷ 100 ∷ 105 ∷ 110 ∷ 97 ∷ 116 ∷ 101 ∷ 58 ∷ 58 ∷ 65 ∷ 116 ∷ 111 ∷ 109 ∷ []) (Syntax.tcons (Syntax.tyStruct (99 ∷ 111 ∷
-          111 ∷ 114 ∷ 100 ∷ 105 ∷ 110 ∷ 97 ∷ 116 ∷ 101 ∷ 58 ∷ 58 ∷ 73 ∷ 100 ∷ 101 ∷ 110 ∷ 116 ∷ 105 ∷ 116 ∷ 121 ∷ []) (Syntax.tcons (Syntax.tyStruct (102 ∷ 105 ∷ 101
-          ∷ 108 ∷ 100 ∷ 115 ∷ 58 ∷ 58 ∷ 83 ∷ 101 ∷ 114 ∷ 105 ∷ 97 ∷ 108 ∷ []) (Syntax.tcons (Syntax.tyInt Syntax.w32) Syntax.tnil)) (Syntax.tcons (Syntax.tyStruct
-          (110 ∷ 97 ∷ 109 ∷ 101 ∷ 115 ∷ 58 ∷ 58 ∷ 70 ∷ 111 ∷ 117 ∷ 114 ∷ []) (Syntax.tcons (Syntax.tyInt Syntax.w8) (Syntax.tcons (Syntax.tyInt Syntax.w8)
-          (Syntax.tcons (Syntax.tyInt Syntax.w8) (Syntax.tcons (Syntax.tyInt Syntax.w8) Syntax.tnil))))) (Syntax.tcons (Syntax.tyInt Syntax.w8) (Syntax.tcons
-          (Syntax.tyStruct (114 ∷ 101 ∷ 115 ∷ 105 ∷ 100 ∷ 117 ∷ 101 ∷ 58 ∷ 58 ∷ 82 ∷ 101 ∷ 115 ∷ 105 ∷ 100 ∷ 117 ∷ 101 ∷ []) (Syntax.tcons (Syntax.tyStruct (110 ∷ 97
-          ∷ 109 ∷ 101 ∷ 115 ∷ 58 ∷ 58 ∷ 84 ∷ 104 ∷ 114 ∷ 101 ∷ 101 ∷ []) (Syntax.tcons (Syntax.tyInt Syntax.w8) (Syntax.tcons (Syntax.tyInt Syntax.w8) (Syntax.tcons
-          (Syntax.tyInt Syntax.w8) Syntax.tnil)))) (Syntax.tcons (Syntax.tyInt Syntax.w8) (Syntax.tcons (Syntax.tyStruct (102 ∷ 105 ∷ 101 ∷ 108 ∷ 100 ∷ 115 ∷ 58 ∷ 58
-          ∷ 82 ∷ 101 ∷ 115 ∷ 105 ∷ 100 ∷ 117 ∷ 101 ∷ 78 ∷ 117 ∷ 109 ∷ 98 ∷ 101 ∷ 114 ∷ []) (Syntax.tcons (Syntax.tyInt Syntax.w32) Syntax.tnil)) (Syntax.tcons
-          (Syntax.tyInt Syntax.w8) Syntax.tnil))))) Syntax.tnil))))) (Syntax.tcons (Syntax.tyStruct (99 ∷ 111 ∷ 111 ∷ 114 ∷ 100 ∷ 105 ∷ 110 ∷ 97 ∷ 116 ∷ 101 ∷ 58 ∷
-          58 ∷ 77 ∷ 101 ∷ 97 ∷ 115 ∷ 117 ∷ 114 ∷ 101 ∷ []) (Syntax.tcons (Syntax.tyStruct (99 ∷ 111 ∷ 111 ∷ 114 ∷ 100 ∷ 105 ∷ 110 ∷ 97 ∷ 116 ∷ 101 ∷ 58 ∷ 58 ∷ 80 ∷
-          111 ∷ 115 ∷ 105 ∷ 116 ∷ 105 ∷ 111 ∷ 110 ∷ []) (Syntax.tcons (Syntax.tyInt Syntax.w32) (Syntax.tcons (Syntax.tyInt Syntax.w32) (Syntax.tcons (Syntax.tyInt
-          Syntax.w32) Syntax.tnil)))) (Syntax.tcons (Syntax.tyInt Syntax.w32) (Syntax.tcons (Syntax.tyInt Syntax.w32) Syntax.tnil)))) (Syntax.tcons (Syntax.tyStruct
-          (99 ∷ 111 ∷ 111 ∷ 114 ∷ 100 ∷ 105 ∷ 110 ∷ 97 ∷ 116 ∷ 101 ∷ 58 ∷ 58 ∷ 83 ∷ 112 ∷ 101 ∷ 99 ∷ 105 ∷ 101 ∷ 115 ∷ []) (Syntax.tcons (Syntax.tyStruct (110 ∷ 97 ∷
-          109 ∷ 101 ∷ 115 ∷ 58 ∷ 58 ∷ 80 ∷ 97 ∷ 105 ∷ 114 ∷ []) (Syntax.tcons (Syntax.tyInt Syntax.w8) (Syntax.tcons (Syntax.tyInt Syntax.w8) Syntax.tnil)))
-          (Syntax.tcons (Syntax.tyStruct (110 ∷ 97 ∷ 109 ∷ 101 ∷ 115 ∷ 58 ∷ 58 ∷ 80 ∷ 97 ∷ 105 ∷ 114 ∷ []) (Syntax.tcons (Syntax.tyInt Syntax.w8) (Syntax.tcons
-          (Syntax.tyInt Syntax.w8) Syntax.tnil))) Syntax.tnil))) Syntax.tnil)))) Syntax.tnil)) (Syntax.ttcons (Syntax.tcons (Syntax.tyStruct (116 ∷ 101 ∷ 114 ∷ 58 ∷
-          58 ∷ 84 ∷ 101 ∷ 114 ∷ []) (Syntax.tcons (Syntax.tyStruct (102 ∷ 105 ∷ 101 ∷ 108 ∷ 100 ∷ 115 ∷ 58 ∷ 58 ∷ 83 ∷ 101 ∷ 114 ∷ 105 ∷ 97 ∷ 108 ∷ []) (Syntax.tcons
-          (Syntax.tyInt Syntax.w32) Syntax.tnil)) (Syntax.tcons (Syntax.tyStruct (114 ∷ 101 ∷ 115 ∷ 105 ∷ 100 ∷ 117 ∷ 101 ∷ 58 ∷ 58 ∷ 82 ∷ 101 ∷ 115 ∷ 105 ∷ 100 ∷
-          117 ∷ 101 ∷ []) (Syntax.tcons (Syntax.tyStruct (110 ∷ 97 ∷ 109 ∷ 101 ∷ 115 ∷ 58 ∷ 58 ∷ 84 ∷ 104 ∷ 114 ∷ 101 ∷ 101 ∷ []) (Syntax.tcons (Syntax.tyInt
-          Syntax.w8) (Syntax.tcons (Syntax.tyInt Syntax.w8) (Syntax.tcons (Syntax.tyInt Syntax.w8) Syntax.tnil)))) (Syntax.tcons (Syntax.tyInt Syntax.w8)
-          (Syntax.tcons (Syntax.tyStruct (102 ∷ 105 ∷ 101 ∷ 108 ∷ 100 ∷ 115 ∷ 58 ∷ 58 ∷ 82 ∷ 101 ∷ 115 ∷ 105 ∷ 100 ∷ 117 ∷ 101 ∷ 78 ∷ 117 ∷ 109 ∷ 98 ∷ 101 ∷ 114 ∷
-          []) (Syntax.tcons (Syntax.tyInt Syntax.w32) Syntax.tnil)) (Syntax.tcons (Syntax.tyInt Syntax.w8) Syntax.tnil))))) Syntax.tnil))) Syntax.tnil)
-          (Syntax.ttcons (Syntax.tcons (Syntax.tyStruct (104 ∷ 101 ∷ 108 ∷ 105 ∷ 120 ∷ 58 ∷ 58 ∷ 72 ∷ 101 ∷ 108 ∷ 105 ∷ 120 ∷ []) (Syntax.tcons (Syntax.tyStruct (104
-          ∷ 101 ∷ 108 ∷ 105 ∷ 120 ∷ 58 ∷ 58 ∷ 69 ∷ 120 ∷ 116 ∷ 101 ∷ 110 ∷ 116 ∷ []) (Syntax.tcons (Syntax.tyInt Syntax.w32) (Syntax.tcons (Syntax.tyStruct (110 ∷ 97
-          ∷ 109 ∷ 101 ∷ 115 ∷ 58 ∷ 58 ∷ 84 ∷ 104 ∷ 114 ∷ 101 ∷ 101 ∷ []) (Syntax.tcons (Syntax.tyInt Syntax.w8) (Syntax.tcons (Syntax.tyInt Syntax.w8) (Syntax.tcons
-          (Syntax.tyInt Syntax.w8) Syntax.tnil)))) (Syntax.tcons (Syntax.tyStruct (114 ∷ 101 ∷ 115 ∷ 105 ∷ 100 ∷ 117 ∷ 101 ∷ 58 ∷ 58 ∷ 82 ∷ 101 ∷ 115 ∷ 105 ∷ 100 ∷
-          117 ∷ 101 ∷ []) (Syntax.tcons (Syntax.tyStruct (110 ∷ 97 ∷ 109 ∷ 101 ∷ 115 ∷ 58 ∷ 58 ∷ 84 ∷ 104 ∷ 114 ∷ 101 ∷ 101 ∷ []) (Syntax.tcons (Syntax.tyInt
-          Syntax.w8) (Syntax.tcons (Syntax.tyInt Syntax.w8) (Syntax.tcons (Syntax.tyInt Syntax.w8) Syntax.tnil)))) (Syntax.tcons (Syntax.tyInt Syntax.w8)
-          (Syntax.tcons (Syntax.tyStruct (102 ∷ 105 ∷ 101 ∷ 108 ∷ 100 ∷ 115 ∷ 58 ∷ 58 ∷ 82 ∷ 101 ∷ 115 ∷ 105 ∷ 100 ∷ 117 ∷ 101 ∷ 78 ∷ 117 ∷ 109 ∷ 98 ∷ 101 ∷ 114 ∷
-          []) (Syntax.tcons (Syntax.tyInt Syntax.w32) Syntax.tnil)) (Syntax.tcons (Syntax.tyInt Syntax.w8) Syntax.tnil))))) (Syntax.tcons (Syntax.tyStruct (114 ∷ 101
-          ∷ 115 ∷ 105 ∷ 100 ∷ 117 ∷ 101 ∷ 58 ∷ 58 ∷ 82 ∷ 101 ∷ 115 ∷ 105 ∷ 100 ∷ 117 ∷ 101 ∷ []) (Syntax.tcons (Syntax.tyStruct (110 ∷ 97 ∷ 109 ∷ 101 ∷ 115 ∷ 58 ∷ 58
-          ∷ 84 ∷ 104 ∷ 114 ∷ 101 ∷ 101 ∷ []) (Syntax.tcons (Syntax.tyInt Syntax.w8) (Syntax.tcons (Syntax.tyInt Syntax.w8) (Syntax.tcons (Syntax.tyInt Syntax.w8)
-          Syntax.tnil)))) (Syntax.tcons (Syntax.tyInt Syntax.w8) (Syntax.tcons (Syntax.tyStruct (102 ∷ 105 ∷ 101 ∷ 108 ∷ 100 ∷ 115 ∷ 58 ∷ 58 ∷ 82 ∷ 101 ∷ 115 ∷ 105 ∷
-          100 ∷ 117 ∷ 101 ∷ 78 ∷ 117 ∷ 109 ∷ 98 ∷ 101 ∷ 114 ∷ []) (Syntax.tcons (Syntax.tyInt Syntax.w32) Syntax.tnil)) (Syntax.tcons (Syntax.tyInt Syntax.w8)
-          Syntax.tnil))))) Syntax.tnil))))) (Syntax.tcons (Syntax.tyInt Syntax.w32) (Syntax.tcons (Syntax.tyStruct (104 ∷ 101 ∷ 108 ∷ 105 ∷ 120 ∷ 58 ∷ 58 ∷ 67 ∷ 111
-          ∷ 109 ∷ 109 ∷ 101 ∷ 110 ∷ 116 ∷ []) (Syntax.tcons (Syntax.tyInt Syntax.w64) (Syntax.tcons (Syntax.tyInt Syntax.w64) (Syntax.tcons (Syntax.tyInt Syntax.w64)
-          (Syntax.tcons (Syntax.tyInt Syntax.w64) Syntax.tnil))))) (Syntax.tcons (Syntax.tyInt Syntax.w32) Syntax.tnil))))) Syntax.tnil) (Syntax.ttcons (Syntax.tcons
-          (Syntax.tyStruct (115 ∷ 104 ∷ 101 ∷ 101 ∷ 116 ∷ 58 ∷ 58 ∷ 83 ∷ 104 ∷ 101 ∷ 101 ∷ 116 ∷ []) (Syntax.tcons (Syntax.tyStruct (115 ∷ 104 ∷ 101 ∷ 101 ∷ 116 ∷ 58
-          ∷ 58 ∷ 83 ∷ 116 ∷ 114 ∷ 97 ∷ 110 ∷ 100 ∷ []) (Syntax.tcons (Syntax.tyInt Syntax.w32) (Syntax.tcons (Syntax.tyStruct (110 ∷ 97 ∷ 109 ∷ 101 ∷ 115 ∷ 58 ∷ 58 ∷
-          84 ∷ 104 ∷ 114 ∷ 101 ∷ 101 ∷ []) (Syntax.tcons (Syntax.tyInt Syntax.w8) (Syntax.tcons (Syntax.tyInt Syntax.w8) (Syntax.tcons (Syntax.tyInt Syntax.w8)
-          Syntax.tnil)))) (Syntax.tcons (Syntax.tyInt Syntax.w32) (Syntax.tcons (Syntax.tyStruct (114 ∷ 101 ∷ 115 ∷ 105 ∷ 100 ∷ 117 ∷ 101 ∷ 58 ∷ 58 ∷ 82 ∷ 101 ∷ 115
-          ∷ 105 ∷ 100 ∷ 117 ∷ 101 ∷ []) (Syntax.tcons (Syntax.tyStruct (110 ∷ 97 ∷ 109 ∷ 101 ∷ 115 ∷ 58 ∷ 58 ∷ 84 ∷ 104 ∷ 114 ∷ 101 ∷ 101 ∷ []) (Syntax.tcons
-          (Syntax.tyInt Syntax.w8) (Syntax.tcons (Syntax.tyInt Syntax.w8) (Syntax.tcons (Syntax.tyInt Syntax.w8) Syntax.tnil)))) (Syntax.tcons (Syntax.tyInt
-          Syntax.w8) (Syntax.tcons (Syntax.tyStruct (102 ∷ 105 ∷ 101 ∷ 108 ∷ 100 ∷ 115 ∷ 58 ∷ 58 ∷ 82 ∷ 101 ∷ 115 ∷ 105 ∷ 100 ∷ 117 ∷ 101 ∷ 78 ∷ 117 ∷ 109 ∷ 98 ∷ 101
-          ∷ 114 ∷ []) (Syntax.tcons (Syntax.tyInt Syntax.w32) Syntax.tnil)) (Syntax.tcons (Syntax.tyInt Syntax.w8) Syntax.tnil))))) (Syntax.tcons (Syntax.tyStruct
-          (114 ∷ 101 ∷ 115 ∷ 105 ∷ 100 ∷ 117 ∷ 101 ∷ 58 ∷ 58 ∷ 82 ∷ 101 ∷ 115 ∷ 105 ∷ 100 ∷ 117 ∷ 101 ∷ []) (Syntax.tcons (Syntax.tyStruct (110 ∷ 97 ∷ 109 ∷ 101 ∷
-          115 ∷ 58 ∷ 58 ∷ 84 ∷ 104 ∷ 114 ∷ 101 ∷ 101 ∷ []) (Syntax.tcons (Syntax.tyInt Syntax.w8) (Syntax.tcons (Syntax.tyInt Syntax.w8) (Syntax.tcons (Syntax.tyInt
-          Syntax.w8) Syntax.tnil)))) (Syntax.tcons (Syntax.tyInt Syntax.w8) (Syntax.tcons (Syntax.tyStruct (102 ∷ 105 ∷ 101 ∷ 108 ∷ 100 ∷ 115 ∷ 58 ∷ 58 ∷ 82 ∷ 101 ∷
-          115 ∷ 105 ∷ 100 ∷ 117 ∷ 101 ∷ 78 ∷ 117 ∷ 109 ∷ 98 ∷ 101 ∷ 114 ∷ []) (Syntax.tcons (Syntax.tyInt Syntax.w32) Syntax.tnil)) (Syntax.tcons (Syntax.tyInt
-          Syntax.w8) Syntax.tnil))))) (Syntax.tcons (Syntax.tyInt Syntax.w32) Syntax.tnil))))))) (Syntax.tcons (Syntax.tyEnum (115 ∷ 104 ∷ 101 ∷ 101 ∷ 116 ∷ 58 ∷ 58
-          ∷ 82 ∷ 101 ∷ 103 ∷ 105 ∷ 115 ∷ 116 ∷ 114 ∷ 97 ∷ 116 ∷ 105 ∷ 111 ∷ 110 ∷ []) (Syntax.ttcons Syntax.tnil (Syntax.ttcons (Syntax.tcons (Syntax.tyStruct (115 ∷
-          104 ∷ 101 ∷ 101 ∷ 116 ∷ 58 ∷ 58 ∷ 66 ∷ 111 ∷ 110 ∷ 100 ∷ []) (Syntax.tcons (Syntax.tyStruct (110 ∷ 97 ∷ 109 ∷ 101 ∷ 115 ∷ 58 ∷ 58 ∷ 70 ∷ 111 ∷ 117 ∷ 114 ∷
-          []) (Syntax.tcons (Syntax.tyInt Syntax.w8) (Syntax.tcons (Syntax.tyInt Syntax.w8) (Syntax.tcons (Syntax.tyInt Syntax.w8) (Syntax.tcons (Syntax.tyInt
-          Syntax.w8) Syntax.tnil))))) (Syntax.tcons (Syntax.tyStruct (114 ∷ 101 ∷ 115 ∷ 105 ∷ 100 ∷ 117 ∷ 101 ∷ 58 ∷ 58 ∷ 82 ∷ 101 ∷ 115 ∷ 105 ∷ 100 ∷ 117 ∷ 101 ∷
-          []) (Syntax.tcons (Syntax.tyStruct (110 ∷ 97 ∷ 109 ∷ 101 ∷ 115 ∷ 58 ∷ 58 ∷ 84 ∷ 104 ∷ 114 ∷ 101 ∷ 101 ∷ []) (Syntax.tcons (Syntax.tyInt Syntax.w8)
-          (Syntax.tcons (Syntax.tyInt Syntax.w8) (Syntax.tcons (Syntax.tyInt Syntax.w8) Syntax.tnil)))) (Syntax.tcons (Syntax.tyInt Syntax.w8) (Syntax.tcons
-          (Syntax.tyStruct (102 ∷ 105 ∷ 101 ∷ 108 ∷ 100 ∷ 115 ∷ 58 ∷ 58 ∷ 82 ∷ 101 ∷ 115 ∷ 105 ∷ 100 ∷ 117 ∷ 101 ∷ 78 ∷ 117 ∷ 109 ∷ 98 ∷ 101 ∷ 114 ∷ [])
-          (Syntax.tcons (Syntax.tyInt Syntax.w32) Syntax.tnil)) (Syntax.tcons (Syntax.tyInt Syntax.w8) Syntax.tnil))))) (Syntax.tcons (Syntax.tyStruct (110 ∷ 97 ∷
-          109 ∷ 101 ∷ 115 ∷ 58 ∷ 58 ∷ 70 ∷ 111 ∷ 117 ∷ 114 ∷ []) (Syntax.tcons (Syntax.tyInt Syntax.w8) (Syntax.tcons (Syntax.tyInt Syntax.w8) (Syntax.tcons
-          (Syntax.tyInt Syntax.w8) (Syntax.tcons (Syntax.tyInt Syntax.w8) Syntax.tnil))))) (Syntax.tcons (Syntax.tyStruct (114 ∷ 101 ∷ 115 ∷ 105 ∷ 100 ∷ 117 ∷ 101 ∷
-          58 ∷ 58 ∷ 82 ∷ 101 ∷ 115 ∷ 105 ∷ 100 ∷ 117 ∷ 101 ∷ []) (Syntax.tcons (Syntax.tyStruct (110 ∷ 97 ∷ 109 ∷ 101 ∷ 115 ∷ 58 ∷ 58 ∷ 84 ∷ 104 ∷ 114 ∷ 101 ∷ 101 ∷
-          []) (Syntax.tcons (Syntax.tyInt Syntax.w8) (Syntax.tcons (Syntax.tyInt Syntax.w8) (Syntax.tcons (Syntax.tyInt Syntax.w8) Syntax.tnil)))) (Syntax.tcons
-          (Syntax.tyInt Syntax.w8) (Syntax.tcons (Syntax.tyStruct (102 ∷ 105 ∷ 101 ∷ 108 ∷ 100 ∷ 115 ∷ 58 ∷ 58 ∷ 82 ∷ 101 ∷ 115 ∷ 105 ∷ 100 ∷ 117 ∷ 101 ∷ 78 ∷ 117 ∷
-          109 ∷ 98 ∷ 101 ∷ 114 ∷ []) (Syntax.tcons (Syntax.tyInt Syntax.w32) Syntax.tnil)) (Syntax.tcons (Syntax.tyInt Syntax.w8) Syntax.tnil))))) Syntax.tnil)))))
-          Syntax.tnil) Syntax.ttnil))) Syntax.tnil))) Syntax.tnil) (Syntax.ttcons (Syntax.tcons (Syntax.tyStruct (99 ∷ 111 ∷ 110 ∷ 101 ∷ 99 ∷ 116 ∷ 58 ∷ 58 ∷ 67 ∷
-          111 ∷ 110 ∷ 101 ∷ 99 ∷ 116 ∷ []) (Syntax.tcons (Syntax.tyStruct (102 ∷ 105 ∷ 101 ∷ 108 ∷ 100 ∷ 115 ∷ 58 ∷ 58 ∷ 83 ∷ 101 ∷ 114 ∷ 105 ∷ 97 ∷ 108 ∷ [])
-          (Syntax.tcons (Syntax.tyInt Syntax.w32) Syntax.tnil)) (Syntax.tcons (Syntax.tyStruct (102 ∷ 105 ∷ 101 ∷ 108 ∷ 100 ∷ 115 ∷ 58 ∷ 58 ∷ 83 ∷ 101 ∷ 114 ∷ 105 ∷
-          97 ∷ 108 ∷ []) (Syntax.tcons (Syntax.tyInt Syntax.w32) Syntax.tnil)) (Syntax.tcons (Syntax.tyStruct (102 ∷ 105 ∷ 101 ∷ 108 ∷ 100 ∷ 115 ∷ 58 ∷ 58 ∷ 83 ∷ 101
-          ∷ 114 ∷ 105 ∷ 97 ∷ 108 ∷ []) (Syntax.tcons (Syntax.tyInt Syntax.w32) Syntax.tnil)) (Syntax.tcons (Syntax.tyStruct (102 ∷ 105 ∷ 101 ∷ 108 ∷ 100 ∷ 115 ∷ 58 ∷
-          58 ∷ 83 ∷ 101 ∷ 114 ∷ 105 ∷ 97 ∷ 108 ∷ []) (Syntax.tcons (Syntax.tyInt Syntax.w32) Syntax.tnil)) (Syntax.tcons (Syntax.tyStruct (102 ∷ 105 ∷ 101 ∷ 108 ∷
-          100 ∷ 115 ∷ 58 ∷ 58 ∷ 83 ∷ 101 ∷ 114 ∷ 105 ∷ 97 ∷ 108 ∷ []) (Syntax.tcons (Syntax.tyInt Syntax.w32) Syntax.tnil)) Syntax.tnil)))))) Syntax.tnil)
-          (Syntax.ttcons (Syntax.tcons (Syntax.tyStruct (109 ∷ 97 ∷ 115 ∷ 116 ∷ 101 ∷ 114 ∷ 58 ∷ 58 ∷ 84 ∷ 97 ∷ 108 ∷ 108 ∷ 121 ∷ []) (Syntax.tcons (Syntax.tyInt
-          Syntax.w32) (Syntax.tcons (Syntax.tyInt Syntax.w32) (Syntax.tcons (Syntax.tyInt Syntax.w32) (Syntax.tcons (Syntax.tyInt Syntax.w32) (Syntax.tcons
-          (Syntax.tyInt Syntax.w32) (Syntax.tcons (Syntax.tyInt Syntax.w32) (Syntax.tcons (Syntax.tyInt Syntax.w32) (Syntax.tcons (Syntax.tyInt Syntax.w32)
-          (Syntax.tcons (Syntax.tyInt Syntax.w32) Syntax.tnil)))))))))) Syntax.tnil) (Syntax.ttcons Syntax.tnil Syntax.ttnil)))))))) Syntax.tnil) Syntax.ttnil))))),
-    )
-    ∷ (10, Rows'.any-gone SlotAs.ty) ∷ (11, Rows'.any-gone Syntax.tyBool) ∷ (12, Rows'.any-gone (Syntax.tyInt Syntax.w64)) ∷ (
-      13,
-      Rows'.any-gone (Syntax.tyInt
-          Syntax.w64),
-    ) ∷ (14, Rows'.any-gone Syntax.tyBool) ∷ (15, Rows'.any-gone (Syntax.tyRef Syntax.erased Syntax.mut (Syntax.tyInt Syntax.w8))) ∷ []
+  Rows'.any-gone (Syntax.tyStruct (112 ∷
+      108 ∷ 97 ∷ 99 ∷ 101 ∷ 115 ∷ 58 ∷ 58 ∷ 67 ∷ 111 ∷ 117 ∷ 110 ∷ 116 ∷ 115 ∷ []) (Syntax.tcons (Syntax.tyInt Syntax.w64) (Syntax.tcons (Syntax.tyInt
+      Syntax.w64) (Syntax.tcons (Syntax.tyInt Syntax.w64) (Syntax.tcons (Syntax.tyInt Syntax.w64) (Syntax.tcons (Syntax.tyInt Syntax.w64) (Syntax.tcons
+      (Syntax.tyInt Syntax.w64) (Syntax.tcons (Syntax.tyInt Syntax.w64) (Syntax.tcons (Syntax.tyInt Syntax.w64) (Syntax.tcons (Syntax.tyInt Syntax.w64)
+      Syntax.tnil)))))))))),
+) ∷ (
+  9,
+  Rows'.any-gone (Syntax.tyEnum (112 ∷ 105 ∷ 101 ∷ 99 ∷ 101 ∷ 115 ∷ 58 ∷ 58 ∷ 76 ∷ 105 ∷ 110 ∷ 101 ∷ []) (Syntax.ttcons
+      (Syntax.tcons (Syntax.tyInt Syntax.w8) Syntax.tnil) (Syntax.ttcons (Syntax.tcons (Syntax.tyEnum (107 ∷ 105 ∷ 110 ∷ 100 ∷ 115 ∷ 58 ∷ 58 ∷ 75 ∷ 105 ∷ 110 ∷
+      100 ∷ []) (Syntax.ttcons Syntax.tnil (Syntax.ttcons Syntax.tnil (Syntax.ttcons Syntax.tnil (Syntax.ttcons Syntax.tnil (Syntax.ttcons Syntax.tnil
+      (Syntax.ttcons Syntax.tnil (Syntax.ttcons Syntax.tnil (Syntax.ttcons Syntax.tnil (Syntax.ttcons Syntax.tnil (Syntax.ttcons Syntax.tnil (Syntax.ttcons
+      Syntax.tnil (Syntax.ttcons Syntax.tnil (Syntax.ttcons Syntax.tnil (Syntax.ttcons Syntax.tnil (Syntax.ttcons Syntax.tnil (Syntax.ttcons Syntax.tnil
+      (Syntax.ttcons Syntax.tnil (Syntax.ttcons Syntax.tnil (Syntax.ttcons Syntax.tnil (Syntax.ttcons Syntax.tnil (Syntax.ttcons Syntax.tnil (Syntax.ttcons
+      Syntax.tnil (Syntax.ttcons Syntax.tnil (Syntax.ttcons Syntax.tnil (Syntax.ttcons Syntax.tnil (Syntax.ttcons Syntax.tnil (Syntax.ttcons Syntax.tnil
+      (Syntax.ttcons Syntax.tnil Syntax.ttnil))))))))))))))))))))))))))))) (Syntax.tcons (Syntax.tyInt Syntax.w32) Syntax.tnil)) (Syntax.ttcons (Syntax.tcons
+      (Syntax.tyEnum (107 ∷ 105 ∷ 110 ∷ 100 ∷ 115 ∷ 58 ∷ 58 ∷ 75 ∷ 105 ∷ 110 ∷ 100 ∷ []) (Syntax.ttcons Syntax.tnil (Syntax.ttcons Syntax.tnil (Syntax.ttcons
+      Syntax.tnil (Syntax.ttcons Syntax.tnil (Syntax.ttcons Syntax.tnil (Syntax.ttcons Syntax.tnil (Syntax.ttcons Syntax.tnil (Syntax.ttcons Syntax.tnil
+      (Syntax.ttcons Syntax.tnil (Syntax.ttcons Syntax.tnil (Syntax.ttcons Syntax.tnil (Syntax.ttcons Syntax.tnil (Syntax.ttcons Syntax.tnil (Syntax.ttcons
+      Syntax.tnil (Syntax.ttcons Syntax.tnil (Syntax.ttcons Syntax.tnil (Syntax.ttcons Syntax.tnil (Syntax.ttcons Syntax.tnil (Syntax.ttcons Syntax.tnil
+      (Syntax.ttcons Syntax.tnil (Syntax.ttcons Syntax.tnil (Syntax.ttcons Syntax.tnil (Syntax.ttcons Syntax.tnil (Syntax.ttcons Syntax.tnil (Syntax.ttcons
+      Syntax.tnil (Syntax.ttcons Syntax.tnil (Syntax.ttcons Syntax.tnil (Syntax.ttcons Syntax.tnil Syntax.ttnil))))))))))))))))))))))))))))) Syntax.tnil)
+      (Syntax.ttcons (Syntax.tcons (Syntax.tyEnum (108 ∷ 105 ∷ 110 ∷ 101 ∷ 58 ∷ 58 ∷ 82 ∷ 101 ∷ 99 ∷ 111 ∷ 114 ∷ 100 ∷ []) (Syntax.ttcons (Syntax.tcons
+      Syntax.tyBool (Syntax.tcons (Syntax.tyStruct (99 ∷ 111 ∷ 111 ∷ 114 ∷ 100 ∷ 105 ∷ 110 ∷ 97 ∷ 116 ∷ 101 ∷ 58 ∷ 58 ∷ 65 ∷ 116 ∷ 111 ∷ 109 ∷ []) (Syntax.tcons
+      (Syntax.tyStruct (99 ∷ 111 ∷ 111 ∷ 114 ∷ 100 ∷ 105 ∷ 110 ∷ 97 ∷ 116 ∷ 101 ∷ 58 ∷ 58 ∷ 73 ∷ 100 ∷ 101 ∷ 110 ∷ 116 ∷ 105 ∷ 116 ∷ 121 ∷ []) (Syntax.tcons
+      (Syntax.tyStruct (102 ∷ 105 ∷ 101 ∷ 108 ∷ 100 ∷ 115 ∷ 58 ∷ 58 ∷ 83 ∷ 101 ∷ 114 ∷ 105 ∷ 97 ∷ 108 ∷ []) (Syntax.tcons (Syntax.tyInt Syntax.w32) Syntax.tnil))
+      (Syntax.tcons (Syntax.tyStruct (110 ∷ 97 ∷ 109 ∷ 101 ∷ 115 ∷ 58 ∷ 58 ∷ 70 ∷ 111 ∷ 117 ∷ 114 ∷ []) (Syntax.tcons (Syntax.tyInt Syntax.w8) (Syntax.tcons
+      (Syntax.tyInt Syntax.w8) (Syntax.tcons (Syntax.tyInt Syntax.w8) (Syntax.tcons (Syntax.tyInt Syntax.w8) Syntax.tnil))))) (Syntax.tcons (Syntax.tyInt
+      Syntax.w8) (Syntax.tcons (Syntax.tyStruct (114 ∷ 101 ∷ 115 ∷ 105 ∷ 100 ∷ 117 ∷ 101 ∷ 58 ∷ 58 ∷ 82 ∷ 101 ∷ 115 ∷ 105 ∷ 100 ∷ 117 ∷ 101 ∷ []) (Syntax.tcons
+      (Syntax.tyStruct (110 ∷ 97 ∷ 109 ∷ 101 ∷ 115 ∷ 58 ∷ 58 ∷ 84 ∷ 104 ∷ 114 ∷ 101 ∷ 101 ∷ []) (Syntax.tcons (Syntax.tyInt Syntax.w8) (Syntax.tcons
+      (Syntax.tyInt Syntax.w8) (Syntax.tcons (Syntax.tyInt Syntax.w8) Syntax.tnil)))) (Syntax.tcons (Syntax.tyInt Syntax.w8) (Syntax.tcons (Syntax.tyStruct (102
+      ∷ 105 ∷ 101 ∷ 108 ∷ 100 ∷ 115 ∷ 58 ∷ 58 ∷ 82 ∷ 101 ∷ 115 ∷ 105 ∷ 100 ∷ 117 ∷ 101 ∷ 78 ∷ 117 ∷ 109 ∷ 98 ∷ 101 ∷ 114 ∷ []) (Syntax.tcons (Syntax.tyInt
+      Syntax.w32) Syntax.tnil)) (Syntax.tcons (Syntax.tyInt Syntax.w8) Syntax.tnil))))) Syntax.tnil))))) (Syntax.tcons (Syntax.tyStruct (99 ∷ 111 ∷ 111 ∷ 114 ∷
+      100 ∷ 105 ∷ 110 ∷ 97 ∷ 116 ∷ 101 ∷ 58 ∷ 58 ∷ 77 ∷ 101 ∷ 97 ∷ 115 ∷ 117 ∷ 114 ∷ 101 ∷ []) (Syntax.tcons (Syntax.tyStruct (99 ∷ 111 ∷ 111 ∷ 114 ∷ 100 ∷ 105 ∷
+      110 ∷ 97 ∷ 116 ∷ 101 ∷ 58 ∷ 58 ∷ 80 ∷ 111 ∷ 115 ∷ 105 ∷ 116 ∷ 105 ∷ 111 ∷ 110 ∷ []) (Syntax.tcons (Syntax.tyInt Syntax.w32) (Syntax.tcons (Syntax.tyInt
+      Syntax.w32) (Syntax.tcons (Syntax.tyInt Syntax.w32) Syntax.tnil)))) (Syntax.tcons (Syntax.tyInt Syntax.w32) (Syntax.tcons (Syntax.tyInt Syntax.w32)
+      Syntax.tnil)))) (Syntax.tcons (Syntax.tyStruct (99 ∷ 111 ∷ 111 ∷ 114 ∷ 100 ∷ 105 ∷ 110 ∷ 97 ∷ 116 ∷ 101 ∷ 58 ∷ 58 ∷ 83 ∷ 112 ∷ 101 ∷ 99 ∷ 105 ∷ 101 ∷ 115 ∷
+      []) (Syntax.tcons (Syntax.tyStruct (110 ∷ 97 ∷ 109 ∷ 101 ∷ 115 ∷ 58 ∷ 58 ∷ 80 ∷ 97 ∷ 105 ∷ 114 ∷ []) (Syntax.tcons (Syntax.tyInt Syntax.w8) (Syntax.tcons
+      (Syntax.tyInt Syntax.w8) Syntax.tnil))) (Syntax.tcons (Syntax.tyStruct (110 ∷ 97 ∷ 109 ∷ 101 ∷ 115 ∷ 58 ∷ 58 ∷ 80 ∷ 97 ∷ 105 ∷ 114 ∷ []) (Syntax.tcons
+      (Syntax.tyInt Syntax.w8) (Syntax.tcons (Syntax.tyInt Syntax.w8) Syntax.tnil))) Syntax.tnil))) Syntax.tnil)))) Syntax.tnil)) (Syntax.ttcons (Syntax.tcons
+      (Syntax.tyStruct (116 ∷ 101 ∷ 114 ∷ 58 ∷ 58 ∷ 84 ∷ 101 ∷ 114 ∷ []) (Syntax.tcons (Syntax.tyStruct (102 ∷ 105 ∷ 101 ∷ 108 ∷ 100 ∷ 115 ∷ 58 ∷ 58 ∷ 83 ∷ 101 ∷
+      114 ∷ 105 ∷ 97 ∷ 108 ∷ []) (Syntax.tcons (Syntax.tyInt Syntax.w32) Syntax.tnil)) (Syntax.tcons (Syntax.tyStruct (114 ∷ 101 ∷ 115 ∷ 105 ∷ 100 ∷ 117 ∷ 101 ∷
+      58 ∷ 58 ∷ 82 ∷ 101 ∷ 115 ∷ 105 ∷ 100 ∷ 117 ∷ 101 ∷ []) (Syntax.tcons (Syntax.tyStruct (110 ∷ 97 ∷ 109 ∷ 101 ∷ 115 ∷ 58 ∷ 58 ∷ 84 ∷ 104 ∷ 114 ∷ 101 ∷ 101 ∷
+      []) (Syntax.tcons (Syntax.tyInt Syntax.w8) (Syntax.tcons (Syntax.tyInt Syntax.w8) (Syntax.tcons (Syntax.tyInt Syntax.w8) Syntax.tnil)))) (Syntax.tcons
+      (Syntax.tyInt Syntax.w8) (Syntax.tcons (Syntax.tyStruct (102 ∷ 105 ∷ 101 ∷ 108 ∷ 100 ∷ 115 ∷ 58 ∷ 58 ∷ 82 ∷ 101 ∷ 115 ∷ 105 ∷ 100 ∷ 117 ∷ 101 ∷ 78 ∷ 117 ∷
+      109 ∷ 98 ∷ 101 ∷ 114 ∷ []) (Syntax.tcons (Syntax.tyInt Syntax.w32) Syntax.tnil)) (Syntax.tcons (Syntax.tyInt Syntax.w8) Syntax.tnil))))) Syntax.tnil)))
+      Syntax.tnil) (Syntax.ttcons (Syntax.tcons (Syntax.tyStruct (104 ∷ 101 ∷ 108 ∷ 105 ∷ 120 ∷ 58 ∷ 58 ∷ 72 ∷ 101 ∷ 108 ∷ 105 ∷ 120 ∷ []) (Syntax.tcons
+      (Syntax.tyStruct (104 ∷ 101 ∷ 108 ∷ 105 ∷ 120 ∷ 58 ∷ 58 ∷ 69 ∷ 120 ∷ 116 ∷ 101 ∷ 110 ∷ 116 ∷ []) (Syntax.tcons (Syntax.tyInt Syntax.w32) (Syntax.tcons
+      (Syntax.tyStruct (110 ∷ 97 ∷ 109 ∷ 101 ∷ 115 ∷ 58 ∷ 58 ∷ 84 ∷ 104 ∷ 114 ∷ 101 ∷ 101 ∷ []) (Syntax.tcons (Syntax.tyInt Syntax.w8) (Syntax.tcons
+      (Syntax.tyInt Syntax.w8) (Syntax.tcons (Syntax.tyInt Syntax.w8) Syntax.tnil)))) (Syntax.tcons (Syntax.tyStruct (114 ∷ 101 ∷ 115 ∷ 105 ∷ 100 ∷ 117 ∷ 101 ∷
+      58 ∷ 58 ∷ 82 ∷ 101 ∷ 115 ∷ 105 ∷ 100 ∷ 117 ∷ 101 ∷ []) (Syntax.tcons (Syntax.tyStruct (110 ∷ 97 ∷ 109 ∷ 101 ∷ 115 ∷ 58 ∷ 58 ∷ 84 ∷ 104 ∷ 114 ∷ 101 ∷ 101 ∷
+      []) (Syntax.tcons (Syntax.tyInt Syntax.w8) (Syntax.tcons (Syntax.tyInt Syntax.w8) (Syntax.tcons (Syntax.tyInt Syntax.w8) Syntax.tnil)))) (Syntax.tcons
+      (Syntax.tyInt Syntax.w8) (Syntax.tcons (Syntax.tyStruct (102 ∷ 105 ∷ 101 ∷ 108 ∷ 100 ∷ 115 ∷ 58 ∷ 58 ∷ 82 ∷ 101 ∷ 115 ∷ 105 ∷ 100 ∷ 117 ∷ 101 ∷ 78 ∷ 117 ∷
+      109 ∷ 98 ∷ 101 ∷ 114 ∷ []) (Syntax.tcons (Syntax.tyInt Syntax.w32) Syntax.tnil)) (Syntax.tcons (Syntax.tyInt Syntax.w8) Syntax.tnil))))) (Syntax.tcons
+      (Syntax.tyStruct (114 ∷ 101 ∷ 115 ∷ 105 ∷ 100 ∷ 117 ∷ 101 ∷ 58 ∷ 58 ∷ 82 ∷ 101 ∷ 115 ∷ 105 ∷ 100 ∷ 117 ∷ 101 ∷ []) (Syntax.tcons (Syntax.tyStruct (110 ∷ 97
+      ∷ 109 ∷ 101 ∷ 115 ∷ 58 ∷ 58 ∷ 84 ∷ 104 ∷ 114 ∷ 101 ∷ 101 ∷ []) (Syntax.tcons (Syntax.tyInt Syntax.w8) (Syntax.tcons (Syntax.tyInt Syntax.w8) (Syntax.tcons
+      (Syntax.tyInt Syntax.w8) Syntax.tnil)))) (Syntax.tcons (Syntax.tyInt Syntax.w8) (Syntax.tcons (Syntax.tyStruct (102 ∷ 105 ∷ 101 ∷ 108 ∷ 100 ∷ 115 ∷ 58 ∷ 58
+      ∷ 82 ∷ 101 ∷ 115 ∷ 105 ∷ 100 ∷ 117 ∷ 101 ∷ 78 ∷ 117 ∷ 109 ∷ 98 ∷ 101 ∷ 114 ∷ []) (Syntax.tcons (Syntax.tyInt Syntax.w32) Syntax.tnil)) (Syntax.tcons
+      (Syntax.tyInt Syntax.w8) Syntax.tnil))))) Syntax.tnil))))) (Syntax.tcons (Syntax.tyInt Syntax.w32) (Syntax.tcons (Syntax.tyStruct (104 ∷ 101 ∷ 108 ∷ 105 ∷
+      120 ∷ 58 ∷ 58 ∷ 67 ∷ 111 ∷ 109 ∷ 109 ∷ 101 ∷ 110 ∷ 116 ∷ []) (Syntax.tcons (Syntax.tyInt Syntax.w64) (Syntax.tcons (Syntax.tyInt Syntax.w64) (Syntax.tcons
+      (Syntax.tyInt Syntax.w64) (Syntax.tcons (Syntax.tyInt Syntax.w64) Syntax.tnil))))) (Syntax.tcons (Syntax.tyInt Syntax.w32) Syntax.tnil))))) Syntax.tnil)
+      (Syntax.ttcons (Syntax.tcons (Syntax.tyStruct (115 ∷ 104 ∷ 101 ∷ 101 ∷ 116 ∷ 58 ∷ 58 ∷ 83 ∷ 104 ∷ 101 ∷ 101 ∷ 116 ∷ []) (Syntax.tcons (Syntax.tyStruct (115
+      ∷ 104 ∷ 101 ∷ 101 ∷ 116 ∷ 58 ∷ 58 ∷ 83 ∷ 116 ∷ 114 ∷ 97 ∷ 110 ∷ 100 ∷ []) (Syntax.tcons (Syntax.tyInt Syntax.w32) (Syntax.tcons (Syntax.tyStruct (110 ∷ 97
+      ∷ 109 ∷ 101 ∷ 115 ∷ 58 ∷ 58 ∷ 84 ∷ 104 ∷ 114 ∷ 101 ∷ 101 ∷ []) (Syntax.tcons (Syntax.tyInt Syntax.w8) (Syntax.tcons (Syntax.tyInt Syntax.w8) (Syntax.tcons
+      (Syntax.tyInt Syntax.w8) Syntax.tnil)))) (Syntax.tcons (Syntax.tyInt Syntax.w32) (Syntax.tcons (Syntax.tyStruct (114 ∷ 101 ∷ 115 ∷ 105 ∷ 100 ∷ 117 ∷ 101 ∷
+      58 ∷ 58 ∷ 82 ∷ 101 ∷ 115 ∷ 105 ∷ 100 ∷ 117 ∷ 101 ∷ []) (Syntax.tcons (Syntax.tyStruct (110 ∷ 97 ∷ 109 ∷ 101 ∷ 115 ∷ 58 ∷ 58 ∷ 84 ∷ 104 ∷ 114 ∷ 101 ∷ 101 ∷
+      []) (Syntax.tcons (Syntax.tyInt Syntax.w8) (Syntax.tcons (Syntax.tyInt Syntax.w8) (Syntax.tcons (Syntax.tyInt Syntax.w8) Syntax.tnil)))) (Syntax.tcons
+      (Syntax.tyInt Syntax.w8) (Syntax.tcons (Syntax.tyStruct (102 ∷ 105 ∷ 101 ∷ 108 ∷ 100 ∷ 115 ∷ 58 ∷ 58 ∷ 82 ∷ 101 ∷ 115 ∷ 105 ∷ 100 ∷ 117 ∷ 101 ∷ 78 ∷ 117 ∷
+      109 ∷ 98 ∷ 101 ∷ 114 ∷ []) (Syntax.tcons (Syntax.tyInt Syntax.w32) Syntax.tnil)) (Syntax.tcons (Syntax.tyInt Syntax.w8) Syntax.tnil))))) (Syntax.tcons
+      (Syntax.tyStruct (114 ∷ 101 ∷ 115 ∷ 105 ∷ 100 ∷ 117 ∷ 101 ∷ 58 ∷ 58 ∷ 82 ∷ 101 ∷ 115 ∷ 105 ∷ 100 ∷ 117 ∷ 101 ∷ []) (Syntax.tcons (Syntax.tyStruct (110 ∷ 97
+      ∷ 109 ∷ 101 ∷ 115 ∷ 58 ∷ 58 ∷ 84 ∷ 104 ∷ 114 ∷ 101 ∷ 101 ∷ []) (Syntax.tcons (Syntax.tyInt Syntax.w8) (Syntax.tcons (Syntax.tyInt Syntax.w8) (Syntax.tcons
+      (Syntax.tyInt Syntax.w8) Syntax.tnil)))) (Syntax.tcons (Syntax.tyInt Syntax.w8) (Syntax.tcons (Syntax.tyStruct (102 ∷ 105 ∷ 101 ∷ 108 ∷ 100 ∷ 115 ∷ 58 ∷ 58
+      ∷ 82 ∷ 101 ∷ 115 ∷ 105 ∷ 100 ∷ 117 ∷ 101 ∷ 78 ∷ 117 ∷ 109 ∷ 98 ∷ 101 ∷ 114 ∷ []) (Syntax.tcons (Syntax.tyInt Syntax.w32) Syntax.tnil)) (Syntax.tcons
+      (Syntax.tyInt Syntax.w8) Syntax.tnil))))) (Syntax.tcons (Syntax.tyInt Syntax.w32) Syntax.tnil))))))) (Syntax.tcons (Syntax.tyEnum (115 ∷ 104 ∷ 101 ∷ 101 ∷
+      116 ∷ 58 ∷ 58 ∷ 82 ∷ 101 ∷ 103 ∷ 105 ∷ 115 ∷ 116 ∷ 114 ∷ 97 ∷ 116 ∷ 105 ∷ 111 ∷ 110 ∷ []) (Syntax.ttcons Syntax.tnil (Syntax.ttcons (Syntax.tcons
+      (Syntax.tyStruct (115 ∷ 104 ∷ 101 ∷ 101 ∷ 116 ∷ 58 ∷ 58 ∷ 66 ∷ 111 ∷ 110 ∷ 100 ∷ []) (Syntax.tcons (Syntax.tyStruct (110 ∷ 97 ∷ 109 ∷ 101 ∷ 115 ∷ 58 ∷ 58 ∷
+      70 ∷ 111 ∷ 117 ∷ 114 ∷ []) (Syntax.tcons (Syntax.tyInt Syntax.w8) (Syntax.tcons (Syntax.tyInt Syntax.w8) (Syntax.tcons (Syntax.tyInt Syntax.w8)
+      (Syntax.tcons (Syntax.tyInt Syntax.w8) Syntax.tnil))))) (Syntax.tcons (Syntax.tyStruct (114 ∷ 101 ∷ 115 ∷ 105 ∷ 100 ∷ 117 ∷ 101 ∷ 58 ∷ 58 ∷ 82 ∷ 101 ∷ 115
+      ∷ 105 ∷ 100 ∷ 117 ∷ 101 ∷ []) (Syntax.tcons (Syntax.tyStruct (110 ∷ 97 ∷ 109 ∷ 101 ∷ 115 ∷ 58 ∷ 58 ∷ 84 ∷ 104 ∷ 114 ∷ 101 ∷ 101 ∷ []) (Syntax.tcons
+      (Syntax.tyInt Syntax.w8) (Syntax.tcons (Syntax.tyInt Syntax.w8) (Syntax.tcons (Syntax.tyInt Syntax.w8) Syntax.tnil)))) (Syntax.tcons (Syntax.tyInt
+      Syntax.w8) (Syntax.tcons (Syntax.tyStruct (102 ∷ 105 ∷ 101 ∷ 108 ∷ 100 ∷ 115 ∷ 58 ∷ 58 ∷ 82 ∷ 101 ∷ 115 ∷ 105 ∷ 100 ∷ 117 ∷ 101 ∷ 78 ∷ 117 ∷ 109 ∷ 98 ∷ 101
+      ∷ 114 ∷ []) (Syntax.tcons (Syntax.tyInt Syntax.w32) Syntax.tnil)) (Syntax.tcons (Syntax.tyInt Syntax.w8) Syntax.tnil))))) (Syntax.tcons (Syntax.tyStruct
+      (110 ∷ 97 ∷ 109 ∷ 101 ∷ 115 ∷ 58 ∷ 58 ∷ 70 ∷ 111 ∷ 117 ∷ 114 ∷ []) (Syntax.tcons (Syntax.tyInt Syntax.w8) (Syntax.tcons (Syntax.tyInt Syntax.w8)
+      (Syntax.tcons (Syntax.tyInt Syntax.w8) (Syntax.tcons (Syntax.tyInt Syntax.w8) Syntax.tnil))))) (Syntax.tcons (Syntax.tyStruct (114 ∷ 101 ∷ 115 ∷ 105 ∷ 100
+      ∷ 117 ∷ 101 ∷ 58 ∷ 58 ∷ 82 ∷ 101 ∷ 115 ∷ 105 ∷ 100 ∷ 117 ∷ 101 ∷ []) (Syntax.tcons (Syntax.tyStruct (110 ∷ 97 ∷ 109 ∷ 101 ∷ 115 ∷ 58 ∷ 58 ∷ 84 ∷ 104 ∷ 114
+      ∷ 101 ∷ 101 ∷ []) (Syntax.tcons (Syntax.tyInt Syntax.w8) (Syntax.tcons (Syntax.tyInt Syntax.w8) (Syntax.tcons (Syntax.tyInt Syntax.w8) Syntax.tnil))))
+      (Syntax.tcons (Syntax.tyInt Syntax.w8) (Syntax.tcons (Syntax.tyStruct (102 ∷ 105 ∷ 101 ∷ 108 ∷ 100 ∷ 115 ∷ 58 ∷ 58 ∷ 82 ∷ 101 ∷ 115 ∷ 105 ∷ 100 ∷ 117 ∷ 101
+      ∷ 78 ∷ 117 ∷ 109 ∷ 98 ∷ 101 ∷ 114 ∷ []) (Syntax.tcons (Syntax.tyInt Syntax.w32) Syntax.tnil)) (Syntax.tcons (Syntax.tyInt Syntax.w8) Syntax.tnil)))))
+      Syntax.tnil))))) Syntax.tnil) Syntax.ttnil))) Syntax.tnil))) Syntax.tnil) (Syntax.ttcons (Syntax.tcons (Syntax.tyStruct (99 ∷ 111 ∷ 110 ∷ 101 ∷ 99 ∷ 116 ∷
+      58 ∷ 58 ∷ 67 ∷ 111 ∷ 110 ∷ 101 ∷ 99 ∷ 116 ∷ []) (Syntax.tcons (Syntax.tyStruct (102 ∷ 105 ∷ 101 ∷ 108 ∷ 100 ∷ 115 ∷ 58 ∷ 58 ∷ 83 ∷ 101 ∷ 114 ∷ 105 ∷ 97 ∷
+      108 ∷ []) (Syntax.tcons (Syntax.tyInt Syntax.w32) Syntax.tnil)) (Syntax.tcons (Syntax.tyStruct (102 ∷ 105 ∷ 101 ∷ 108 ∷ 100 ∷ 115 ∷ 58 ∷ 58 ∷ 83 ∷ 101 ∷
+      114 ∷ 105 ∷ 97 ∷ 108 ∷ []) (Syntax.tcons (Syntax.tyInt Syntax.w32) Syntax.tnil)) (Syntax.tcons (Syntax.tyStruct (102 ∷ 105 ∷ 101 ∷ 108 ∷ 100 ∷ 115 ∷ 58 ∷
+      58 ∷ 83 ∷ 101 ∷ 114 ∷ 105 ∷ 97 ∷ 108 ∷ []) (Syntax.tcons (Syntax.tyInt Syntax.w32) Syntax.tnil)) (Syntax.tcons (Syntax.tyStruct (102 ∷ 105 ∷ 101 ∷ 108 ∷
+      100 ∷ 115 ∷ 58 ∷ 58 ∷ 83 ∷ 101 ∷ 114 ∷ 105 ∷ 97 ∷ 108 ∷ []) (Syntax.tcons (Syntax.tyInt Syntax.w32) Syntax.tnil)) (Syntax.tcons (Syntax.tyStruct (102 ∷ 105
+      ∷ 101 ∷ 108 ∷ 100 ∷ 115 ∷ 58 ∷ 58 ∷ 83 ∷ 101 ∷ 114 ∷ 105 ∷ 97 ∷ 108 ∷ []) (Syntax.tcons (Syntax.tyInt Syntax.w32) Syntax.tnil)) Syntax.tnil))))))
+      Syntax.tnil) (Syntax.ttcons (Syntax.tcons (Syntax.tyStruct (109 ∷ 97 ∷ 115 ∷ 116 ∷ 101 ∷ 114 ∷ 58 ∷ 58 ∷ 84 ∷ 97 ∷ 108 ∷ 108 ∷ 121 ∷ []) (Syntax.tcons
+      (Syntax.tyInt Syntax.w32) (Syntax.tcons (Syntax.tyInt Syntax.w32) (Syntax.tcons (Syntax.tyInt Syntax.w32) (Syntax.tcons (Syntax.tyInt Syntax.w32)
+      (Syntax.tcons (Syntax.tyInt Syntax.w32) (Syntax.tcons (Syntax.tyInt Syntax.w32) (Syntax.tcons (Syntax.tyInt Syntax.w32) (Syntax.tcons (Syntax.tyInt
+      Syntax.w32) (Syntax.tcons (Syntax.tyInt Syntax.w32) Syntax.tnil)))))))))) Syntax.tnil) (Syntax.ttcons Syntax.tnil Syntax.ttnil)))))))) Syntax.tnil)
+      Syntax.ttnil))))),
+) ∷ (10, Rows'.any-gone SlotAs.ty) ∷ (11, Rows'.any-gone Syntax.tyBool) ∷ (12, Rows'.any-gone (Syntax.tyInt Syntax.w64)) ∷ (
+  13,
+  Rows'.any-gone (Syntax.tyInt Syntax.w64),
+) ∷ (14, Rows'.any-gone Syntax.tyBool) ∷ (
+  15,
+  Rows'.any-gone (Syntax.tyRef Syntax.erased Syntax.mut (Syntax.tyInt
+      Syntax.w8)),
+) ∷ []
 
 abbrev pub t3 : List.List Row.Entry
 t3 = (0, Rows'.any-gone Syntax.tyUnit) ∷ (
@@ -787,110 +793,113 @@ t3 = (0, Rows'.any-gone Syntax.tyUnit) ∷ (
       Syntax.w64),
 ) ∷ (6, Rows'.any-gone (Syntax.tyInt Syntax.w64)) ∷ (7, Rows'.any-gone (Syntax.tyInt Syntax.w64)) ∷ (
   8,
-  Rows'.any-gone (Syntax.tyStruct (114 ∷
-      117 ∷ 108 ∷ 101 ∷ 115 ∷ 58 ∷ 58 ∷ 67 ∷ 111 ∷ 117 ∷ 110 ∷ 116 ∷ 115 ∷ []) (Syntax.tcons (Syntax.tyInt Syntax.w64) (Syntax.tcons (Syntax.tyInt Syntax.w64)
-      (Syntax.tcons (Syntax.tyInt Syntax.w64) (Syntax.tcons (Syntax.tyInt Syntax.w64) (Syntax.tcons (Syntax.tyInt Syntax.w64) (Syntax.tcons (Syntax.tyInt
-      Syntax.w64) (Syntax.tcons (Syntax.tyInt Syntax.w64) (Syntax.tcons (Syntax.tyInt Syntax.w64) (Syntax.tcons (Syntax.tyInt Syntax.w64) Syntax.tnil)))))))))),
-)
-    ∷ (
-      9,
-      Rows'.any-gone (Syntax.tyEnum (112 ∷ 105 ∷ 101 ∷ 99 ∷ 101 ∷ 115 ∷ 58 ∷ 58 ∷ 76 ∷ 105 ∷ 110 ∷ 101 ∷ []) (Syntax.ttcons (Syntax.tcons (Syntax.tyInt
-          Syntax.w8) Syntax.tnil) (Syntax.ttcons (Syntax.tcons (Syntax.tyEnum (107 ∷ 105 ∷ 110 ∷ 100 ∷ 115 ∷ 58 ∷ 58 ∷ 75 ∷ 105 ∷ 110 ∷ 100 ∷ []) (Syntax.ttcons
-          Syntax.tnil (Syntax.ttcons Syntax.tnil (Syntax.ttcons Syntax.tnil (Syntax.ttcons Syntax.tnil (Syntax.ttcons Syntax.tnil (Syntax.ttcons Syntax.tnil
-          (Syntax.ttcons Syntax.tnil (Syntax.ttcons Syntax.tnil (Syntax.ttcons Syntax.tnil (Syntax.ttcons Syntax.tnil (Syntax.ttcons Syntax.tnil (Syntax.ttcons
-          Syntax.tnil (Syntax.ttcons Syntax.tnil (Syntax.ttcons Syntax.tnil (Syntax.ttcons Syntax.tnil (Syntax.ttcons Syntax.tnil (Syntax.ttcons Syntax.tnil
-          (Syntax.ttcons Syntax.tnil (Syntax.ttcons Syntax.tnil (Syntax.ttcons Syntax.tnil (Syntax.ttcons Syntax.tnil (Syntax.ttcons Syntax.tnil (Syntax.ttcons
-          Syntax.tnil (Syntax.ttcons Syntax.tnil (Syntax.ttcons Syntax.tnil (Syntax.ttcons Syntax.tnil (Syntax.ttcons Syntax.tnil (Syntax.ttcons Syntax.tnil
-          Syntax.ttnil))))))))))))))))))))))))))))) (Syntax.tcons (Syntax.tyInt Syntax.w32) Syntax.tnil)) (Syntax.ttcons (Syntax.tcons (Syntax.tyEnum (107 ∷ 105 ∷
-          110 ∷ 100 ∷ 115 ∷ 58 ∷ 58 ∷ 75 ∷ 105 ∷ 110 ∷ 100 ∷ []) (Syntax.ttcons Syntax.tnil (Syntax.ttcons Syntax.tnil (Syntax.ttcons Syntax.tnil (Syntax.ttcons
-          Syntax.tnil (Syntax.ttcons Syntax.tnil (Syntax.ttcons Syntax.tnil (Syntax.ttcons Syntax.tnil (Syntax.ttcons Syntax.tnil (Syntax.ttcons Syntax.tnil
-          (Syntax.ttcons Syntax.tnil (Syntax.ttcons Syntax.tnil (Syntax.ttcons Syntax.tnil (Syntax.ttcons Syntax.tnil (Syntax.ttcons Syntax.tnil (Syntax.ttcons
-          Syntax.tnil (Syntax.ttcons Syntax.tnil (Syntax.ttcons Syntax.tnil (Syntax.ttcons Syntax.tnil (Syntax.ttcons Syntax.tnil (Syntax.ttcons Syntax.tnil
-          (Syntax.ttcons Syntax.tnil (Syntax.ttcons Syntax.tnil (Syntax.ttcons Syntax.tnil (Syntax.ttcons Syntax.tnil (Syntax.ttcons Syntax.tnil (Syntax.ttcons
-          Syntax.tnil (Syntax.ttcons Syntax.tnil (Syntax.ttcons Syntax.tnil Syntax.ttnil))))))))))))))))))))))))))))) Syntax.tnil) (Syntax.ttcons (Syntax.tcons
-          (Syntax.tyEnum (108 ∷ 105 ∷ 110 ∷ 101 ∷ 58 ∷ 58 ∷ 82 ∷ 101 ∷ 99 ∷ 111 ∷ 114 ∷ 100 ∷ []) (Syntax.ttcons (Syntax.tcons Syntax.tyBool (Syntax.tcons
-          (Syntax.tyStruct (99 ∷ 111 ∷ 111 ∷ 114 ∷ 100 ∷ 105 ∷ 110 ∷ 97 ∷ 116 ∷ 101 ∷ 58 ∷ 58 ∷ 65 ∷ 116 ∷ 111 ∷ 109 ∷ []) (Syntax.tcons (Syntax.tyStruct (99 ∷ 111 ∷
-          111 ∷ 114 ∷ 100 ∷ 105 ∷ 110 ∷ 97 ∷ 116 ∷ 101 ∷ 58 ∷ 58 ∷ 73 ∷ 100 ∷ 101 ∷ 110 ∷ 116 ∷ 105 ∷ 116 ∷ 121 ∷ []) (Syntax.tcons (Syntax.tyStruct (102 ∷ 105 ∷ 101
-          ∷ 108 ∷ 100 ∷ 115 ∷ 58 ∷ 58 ∷ 83 ∷ 101 ∷ 114 ∷ 105 ∷ 97 ∷ 108 ∷ []) (Syntax.tcons (Syntax.tyInt Syntax.w32) Syntax.tnil)) (Syntax.tcons (Syntax.tyStruct
-          (110 ∷ 97 ∷ 109 ∷ 101 ∷ 115 ∷ 58 ∷ 58 ∷ 70 ∷ 111 ∷ 117 ∷ 114 ∷ []) (Syntax.tcons (Syntax.tyInt Syntax.w8) (Syntax.tcons (Syntax.tyInt Syntax.w8)
-          (Syntax.tcons (Syntax.tyInt Syntax.w8) (Syntax.tcons (Syntax.tyInt Syntax.w8) Syntax.tnil))))) (Syntax.tcons (Syntax.tyInt Syntax.w8) (Syntax.tcons
-          (Syntax.tyStruct (114 ∷ 101 ∷ 115 ∷ 105 ∷ 100 ∷ 117 ∷ 101 ∷ 58 ∷ 58 ∷ 82 ∷ 101 ∷ 115 ∷ 105 ∷ 100 ∷ 117 ∷ 101 ∷ []) (Syntax.tcons (Syntax.tyStruct (110 ∷ 97
-          ∷ 109 ∷ 101 ∷ 115 ∷ 58 ∷ 58 ∷ 84 ∷ 104 ∷ 114 ∷ 101 ∷ 101 ∷ []) (Syntax.tcons (Syntax.tyInt Syntax.w8) (Syntax.tcons (Syntax.tyInt Syntax.w8) (Syntax.tcons
-          (Syntax.tyInt Syntax.w8) Syntax.tnil)))) (Syntax.tcons (Syntax.tyInt Syntax.w8) (Syntax.tcons (Syntax.tyStruct (102 ∷ 105 ∷ 101 ∷ 108 ∷ 100 ∷ 115 ∷ 58 ∷ 58
-          ∷ 82 ∷ 101 ∷ 115 ∷ 105 ∷ 100 ∷ 117 ∷ 101 ∷ 78 ∷ 117 ∷ 109 ∷ 98 ∷ 101 ∷ 114 ∷ []) (Syntax.tcons (Syntax.tyInt Syntax.w32) Syntax.tnil)) (Syntax.tcons
-          (Syntax.tyInt Syntax.w8) Syntax.tnil))))) Syntax.tnil))))) (Syntax.tcons (Syntax.tyStruct (99 ∷ 111 ∷ 111 ∷ 114 ∷ 100 ∷ 105 ∷ 110 ∷ 97 ∷ 116 ∷ 101 ∷ 58 ∷
-          58 ∷ 77 ∷ 101 ∷ 97 ∷ 115 ∷ 117 ∷ 114 ∷ 101 ∷ []) (Syntax.tcons (Syntax.tyStruct (99 ∷ 111 ∷ 111 ∷ 114 ∷ 100 ∷ 105 ∷ 110 ∷ 97 ∷ 116 ∷ 101 ∷ 58 ∷ 58 ∷ 80 ∷
-          111 ∷ 115 ∷ 105 ∷ 116 ∷ 105 ∷ 111 ∷ 110 ∷ []) (Syntax.tcons (Syntax.tyInt Syntax.w32) (Syntax.tcons (Syntax.tyInt Syntax.w32) (Syntax.tcons (Syntax.tyInt
-          Syntax.w32) Syntax.tnil)))) (Syntax.tcons (Syntax.tyInt Syntax.w32) (Syntax.tcons (Syntax.tyInt Syntax.w32) Syntax.tnil)))) (Syntax.tcons (Syntax.tyStruct
-          (99 ∷ 111 ∷ 111 ∷ 114 ∷ 100 ∷ 105 ∷ 110 ∷ 97 ∷ 116 ∷ 101 ∷ 58 ∷ 58 ∷ 83 ∷ 112 ∷ 101 ∷ 99 ∷ 105 ∷ 101 ∷ 115 ∷ []) (Syntax.tcons (Syntax.tyStruct (110 ∷ 97 ∷
-          109 ∷ 101 ∷ 115 ∷ 58 ∷ 58 ∷ 80 ∷ 97 ∷ 105 ∷ 114 ∷ []) (Syntax.tcons (Syntax.tyInt Syntax.w8) (Syntax.tcons (Syntax.tyInt Syntax.w8) Syntax.tnil)))
-          (Syntax.tcons (Syntax.tyStruct (110 ∷ 97 ∷ 109 ∷ 101 ∷ 115 ∷ 58 ∷ 58 ∷ 80 ∷ 97 ∷ 105 ∷ 114 ∷ []) (Syntax.tcons (Syntax.tyInt Syntax.w8) (Syntax.tcons
-          (Syntax.tyInt Syntax.w8) Syntax.tnil))) Syntax.tnil))) Syntax.tnil)))) Syntax.tnil)) (Syntax.ttcons (Syntax.tcons (Syntax.tyStruct (116 ∷ 101 ∷ 114 ∷ 58 ∷
-          58 ∷ 84 ∷ 101 ∷ 114 ∷ []) (Syntax.tcons (Syntax.tyStruct (102 ∷ 105 ∷ 101 ∷ 108 ∷ 100 ∷ 115 ∷ 58 ∷ 58 ∷ 83 ∷ 101 ∷ 114 ∷ 105 ∷ 97 ∷ 108 ∷ []) (Syntax.tcons
-          (Syntax.tyInt Syntax.w32) Syntax.tnil)) (Syntax.tcons (Syntax.tyStruct (114 ∷ 101 ∷ 115 ∷ 105 ∷ 100 ∷ 117 ∷ 101 ∷ 58 ∷ 58 ∷ 82 ∷ 101 ∷ 115 ∷ 105 ∷ 100 ∷
-          117 ∷ 101 ∷ []) (Syntax.tcons (Syntax.tyStruct (110 ∷ 97 ∷ 109 ∷ 101 ∷ 115 ∷ 58 ∷ 58 ∷ 84 ∷ 104 ∷ 114 ∷ 101 ∷ 101 ∷ []) (Syntax.tcons (Syntax.tyInt
-          Syntax.w8) (Syntax.tcons (Syntax.tyInt Syntax.w8) (Syntax.tcons (Syntax.tyInt Syntax.w8) Syntax.tnil)))) (Syntax.tcons (Syntax.tyInt Syntax.w8)
-          (Syntax.tcons (Syntax.tyStruct (102 ∷ 105 ∷ 101 ∷ 108 ∷ 100 ∷ 115 ∷ 58 ∷ 58 ∷ 82 ∷ 101 ∷ 115 ∷ 105 ∷ 100 ∷ 117 ∷ 101 ∷ 78 ∷ 117 ∷ 109 ∷ 98 ∷ 101 ∷ 114 ∷
-          []) (Syntax.tcons (Syntax.tyInt Syntax.w32) Syntax.tnil)) (Syntax.tcons (Syntax.tyInt Syntax.w8) Syntax.tnil))))) Syntax.tnil))) Syntax.tnil)
-          (Syntax.ttcons (Syntax.tcons (Syntax.tyStruct (104 ∷ 101 ∷ 108 ∷ 105 ∷ 120 ∷ 58 ∷ 58 ∷ 72 ∷ 101 ∷ 108 ∷ 105 ∷ 120 ∷ []) (Syntax.tcons (Syntax.tyStruct (104
-          ∷ 101 ∷ 108 ∷ 105 ∷ 120 ∷ 58 ∷ 58 ∷ 69 ∷ 120 ∷ 116 ∷ 101 ∷ 110 ∷ 116 ∷ []) (Syntax.tcons (Syntax.tyInt Syntax.w32) (Syntax.tcons (Syntax.tyStruct (110 ∷ 97
-          ∷ 109 ∷ 101 ∷ 115 ∷ 58 ∷ 58 ∷ 84 ∷ 104 ∷ 114 ∷ 101 ∷ 101 ∷ []) (Syntax.tcons (Syntax.tyInt Syntax.w8) (Syntax.tcons (Syntax.tyInt Syntax.w8) (Syntax.tcons
-          (Syntax.tyInt Syntax.w8) Syntax.tnil)))) (Syntax.tcons (Syntax.tyStruct (114 ∷ 101 ∷ 115 ∷ 105 ∷ 100 ∷ 117 ∷ 101 ∷ 58 ∷ 58 ∷ 82 ∷ 101 ∷ 115 ∷ 105 ∷ 100 ∷
-          117 ∷ 101 ∷ []) (Syntax.tcons (Syntax.tyStruct (110 ∷ 97 ∷ 109 ∷ 101 ∷ 115 ∷ 58 ∷ 58 ∷ 84 ∷ 104 ∷ 114 ∷ 101 ∷ 101 ∷ []) (Syntax.tcons (Syntax.tyInt
-          Syntax.w8) (Syntax.tcons (Syntax.tyInt Syntax.w8) (Syntax.tcons (Syntax.tyInt Syntax.w8) Syntax.tnil)))) (Syntax.tcons (Syntax.tyInt Syntax.w8)
-          (Syntax.tcons (Syntax.tyStruct (102 ∷ 105 ∷ 101 ∷ 108 ∷ 100 ∷ 115 ∷ 58 ∷ 58 ∷ 82 ∷ 101 ∷ 115 ∷ 105 ∷ 100 ∷ 117 ∷ 101 ∷ 78 ∷ 117 ∷ 109 ∷ 98 ∷ 101 ∷ 114 ∷
-          []) (Syntax.tcons (Syntax.tyInt Syntax.w32) Syntax.tnil)) (Syntax.tcons (Syntax.tyInt Syntax.w8) Syntax.tnil))))) (Syntax.tcons (Syntax.tyStruct (114 ∷ 101
-          ∷ 115 ∷ 105 ∷ 100 ∷ 117 ∷ 101 ∷ 58 ∷ 58 ∷ 82 ∷ 101 ∷ 115 ∷ 105 ∷ 100 ∷ 117 ∷ 101 ∷ []) (Syntax.tcons (Syntax.tyStruct (110 ∷ 97 ∷ 109 ∷ 101 ∷ 115 ∷ 58 ∷ 58
-          ∷ 84 ∷ 104 ∷ 114 ∷ 101 ∷ 101 ∷ []) (Syntax.tcons (Syntax.tyInt Syntax.w8) (Syntax.tcons (Syntax.tyInt Syntax.w8) (Syntax.tcons (Syntax.tyInt Syntax.w8)
-          Syntax.tnil)))) (Syntax.tcons (Syntax.tyInt Syntax.w8) (Syntax.tcons (Syntax.tyStruct (102 ∷ 105 ∷ 101 ∷ 108 ∷ 100 ∷ 115 ∷ 58 ∷ 58 ∷ 82 ∷ 101 ∷ 115 ∷ 105 ∷
-          100 ∷ 117 ∷ 101 ∷ 78 ∷ 117 ∷ 109 ∷ 98 ∷ 101 ∷ 114 ∷ []) (Syntax.tcons (Syntax.tyInt Syntax.w32) Syntax.tnil)) (Syntax.tcons (Syntax.tyInt Syntax.w8)
-          Syntax.tnil))))) Syntax.tnil))))) (Syntax.tcons (Syntax.tyInt Syntax.w32) (Syntax.tcons (Syntax.tyStruct (104 ∷ 101 ∷ 108 ∷ 105 ∷ 120 ∷ 58 ∷ 58 ∷ 67 ∷ 111
-          ∷ 109 ∷ 109 ∷ 101 ∷ 110 ∷ 116 ∷ []) (Syntax.tcons (Syntax.tyInt Syntax.w64) (Syntax.tcons (Syntax.tyInt Syntax.w64) (Syntax.tcons (Syntax.tyInt Syntax.w64)
-          (Syntax.tcons (Syntax.tyInt Syntax.w64) Syntax.tnil))))) (Syntax.tcons (Syntax.tyInt Syntax.w32) Syntax.tnil))))) Syntax.tnil) (Syntax.ttcons (Syntax.tcons
-          (Syntax.tyStruct (115 ∷ 104 ∷ 101 ∷ 101 ∷ 116 ∷ 58 ∷ 58 ∷ 83 ∷ 104 ∷ 101 ∷ 101 ∷ 116 ∷ []) (Syntax.tcons (Syntax.tyStruct (115 ∷ 104 ∷ 101 ∷ 101 ∷ 116 ∷ 58
-          ∷ 58 ∷ 83 ∷ 116 ∷ 114 ∷ 97 ∷ 110 ∷ 100 ∷ []) (Syntax.tcons (Syntax.tyInt Syntax.w32) (Syntax.tcons (Syntax.tyStruct (110 ∷ 97 ∷ 109 ∷ 101 ∷ 115 ∷ 58 ∷ 58 ∷
-          84 ∷ 104 ∷ 114 ∷ 101 ∷ 101 ∷ []) (Syntax.tcons (Syntax.tyInt Syntax.w8) (Syntax.tcons (Syntax.tyInt Syntax.w8) (Syntax.tcons (Syntax.tyInt Syntax.w8)
-          Syntax.tnil)))) (Syntax.tcons (Syntax.tyInt Syntax.w32) (Syntax.tcons (Syntax.tyStruct (114 ∷ 101 ∷ 115 ∷ 105 ∷ 100 ∷ 117 ∷ 101 ∷ 58 ∷ 58 ∷ 82 ∷ 101 ∷ 115
-          ∷ 105 ∷ 100 ∷ 117 ∷ 101 ∷ []) (Syntax.tcons (Syntax.tyStruct (110 ∷ 97 ∷ 109 ∷ 101 ∷ 115 ∷ 58 ∷ 58 ∷ 84 ∷ 104 ∷ 114 ∷ 101 ∷ 101 ∷ []) (Syntax.tcons
-          (Syntax.tyInt Syntax.w8) (Syntax.tcons (Syntax.tyInt Syntax.w8) (Syntax.tcons (Syntax.tyInt Syntax.w8) Syntax.tnil)))) (Syntax.tcons (Syntax.tyInt
-          Syntax.w8) (Syntax.tcons (Syntax.tyStruct (102 ∷ 105 ∷ 101 ∷ 108 ∷ 100 ∷ 115 ∷ 58 ∷ 58 ∷ 82 ∷ 101 ∷ 115 ∷ 105 ∷ 100 ∷ 117 ∷ 101 ∷ 78 ∷ 117 ∷ 109 ∷ 98 ∷ 101
-          ∷ 114 ∷ []) (Syntax.tcons (Syntax.tyInt Syntax.w32) Syntax.tnil)) (Syntax.tcons (Syntax.tyInt Syntax.w8) Syntax.tnil))))) (Syntax.tcons (Syntax.tyStruct
-          (114 ∷ 101 ∷ 115 ∷ 105 ∷ 100 ∷ 117 ∷ 101 ∷ 58 ∷ 58 ∷ 82 ∷ 101 ∷ 115 ∷ 105 ∷ 100 ∷ 117 ∷ 101 ∷ []) (Syntax.tcons (Syntax.tyStruct (110 ∷ 97 ∷ 109 ∷ 101 ∷
-          115 ∷ 58 ∷ 58 ∷ 84 ∷ 104 ∷ 114 ∷ 101 ∷ 101 ∷ []) (Syntax.tcons (Syntax.tyInt Syntax.w8) (Syntax.tcons (Syntax.tyInt Syntax.w8) (Syntax.tcons (Syntax.tyInt
-          Syntax.w8) Syntax.tnil)))) (Syntax.tcons (Syntax.tyInt Syntax.w8) (Syntax.tcons (Syntax.tyStruct (102 ∷ 105 ∷ 101 ∷ 108 ∷ 100 ∷ 115 ∷ 58 ∷ 58 ∷ 82 ∷ 101 ∷
-          115 ∷ 105 ∷ 100 ∷ 117 ∷ 101 ∷ 78 ∷ 117 ∷ 109 ∷ 98 ∷ 101 ∷ 114 ∷ []) (Syntax.tcons (Syntax.tyInt Syntax.w32) Syntax.tnil)) (Syntax.tcons (Syntax.tyInt
-          Syntax.w8) Syntax.tnil))))) (Syntax.tcons (Syntax.tyInt Syntax.w32) Syntax.tnil))))))) (Syntax.tcons (Syntax.tyEnum (115 ∷ 104 ∷ 101 ∷ 101 ∷ 116 ∷ 58 ∷ 58
-          ∷ 82 ∷ 101 ∷ 103 ∷ 105 ∷ 115 ∷ 116 ∷ 114 ∷ 97 ∷ 116 ∷ 105 ∷ 111 ∷ 110 ∷ []) (Syntax.ttcons Syntax.tnil (Syntax.ttcons (Syntax.tcons (Syntax.tyStruct (115 ∷
-          104 ∷ 101 ∷ 101 ∷ 116 ∷ 58 ∷ 58 ∷ 66 ∷ 111 ∷ 110 ∷ 100 ∷ []) (Syntax.tcons (Syntax.tyStruct (110 ∷ 97 ∷ 109 ∷ 101 ∷ 115 ∷ 58 ∷ 58 ∷ 70 ∷ 111 ∷ 117 ∷ 114 ∷
-          []) (Syntax.tcons (Syntax.tyInt Syntax.w8) (Syntax.tcons (Syntax.tyInt Syntax.w8) (Syntax.tcons (Syntax.tyInt Syntax.w8) (Syntax.tcons (Syntax.tyInt
-          Syntax.w8) Syntax.tnil))))) (Syntax.tcons (Syntax.tyStruct (114 ∷ 101 ∷ 115 ∷ 105 ∷ 100 ∷ 117 ∷ 101 ∷ 58 ∷ 58 ∷ 82 ∷ 101 ∷ 115 ∷ 105 ∷ 100 ∷ 117 ∷ 101 ∷
-          []) (Syntax.tcons (Syntax.tyStruct (110 ∷ 97 ∷ 109 ∷ 101 ∷ 115 ∷ 58 ∷ 58 ∷ 84 ∷ 104 ∷ 114 ∷ 101 ∷ 101 ∷ []) (Syntax.tcons (Syntax.tyInt Syntax.w8)
-          (Syntax.tcons (Syntax.tyInt Syntax.w8) (Syntax.tcons (Syntax.tyInt Syntax.w8) Syntax.tnil)))) (Syntax.tcons (Syntax.tyInt Syntax.w8) (Syntax.tcons
-          (Syntax.tyStruct (102 ∷ 105 ∷ 101 ∷ 108 ∷ 100 ∷ 115 ∷ 58 ∷ 58 ∷ 82 ∷ 101 ∷ 115 ∷ 105 ∷ 100 ∷ 117 ∷ 101 ∷ 78 ∷ 117 ∷ 109 ∷ 98 ∷ 101 ∷ 114 ∷ [])
-          (Syntax.tcons (Syntax.tyInt Syntax.w32) Syntax.tnil)) (Syntax.tcons (Syntax.tyInt Syntax.w8) Syntax.tnil))))) (Syntax.tcons (Syntax.tyStruct (110 ∷ 97 ∷
-          109 ∷ 101 ∷ 115 ∷ 58 ∷ 58 ∷ 70 ∷ 111 ∷ 117 ∷ 114 ∷ []) (Syntax.tcons (Syntax.tyInt Syntax.w8) (Syntax.tcons (Syntax.tyInt Syntax.w8) (Syntax.tcons
-          (Syntax.tyInt Syntax.w8) (Syntax.tcons (Syntax.tyInt Syntax.w8) Syntax.tnil))))) (Syntax.tcons (Syntax.tyStruct (114 ∷ 101 ∷ 115 ∷ 105 ∷ 100 ∷ 117 ∷ 101 ∷
-          58 ∷ 58 ∷ 82 ∷ 101 ∷ 115 ∷ 105 ∷ 100 ∷ 117 ∷ 101 ∷ []) (Syntax.tcons (Syntax.tyStruct (110 ∷ 97 ∷ 109 ∷ 101 ∷ 115 ∷ 58 ∷ 58 ∷ 84 ∷ 104 ∷ 114 ∷ 101 ∷ 101 ∷
-          []) (Syntax.tcons (Syntax.tyInt Syntax.w8) (Syntax.tcons (Syntax.tyInt Syntax.w8) (Syntax.tcons (Syntax.tyInt Syntax.w8) Syntax.tnil)))) (Syntax.tcons
-          (Syntax.tyInt Syntax.w8) (Syntax.tcons (Syntax.tyStruct (102 ∷ 105 ∷ 101 ∷ 108 ∷ 100 ∷ 115 ∷ 58 ∷ 58 ∷ 82 ∷ 101 ∷ 115 ∷ 105 ∷ 100 ∷ 117 ∷ 101 ∷ 78 ∷ 117 ∷
-          109 ∷ 98 ∷ 101 ∷ 114 ∷ []) (Syntax.tcons (Syntax.tyInt Syntax.w32) Syntax.tnil)) (Syntax.tcons (Syntax.tyInt Syntax.w8) Syntax.tnil))))) Syntax.tnil)))))
-          Syntax.tnil) Syntax.ttnil))) Syntax.tnil))) Syntax.tnil) (Syntax.ttcons (Syntax.tcons (Syntax.tyStruct (99 ∷ 111 ∷ 110 ∷ 101 ∷ 99 ∷ 116 ∷ 58 ∷ 58 ∷ 67 ∷
-          111 ∷ 110 ∷ 101 ∷ 99 ∷ 116 ∷ []) (Syntax.tcons (Syntax.tyStruct (102 ∷ 105 ∷ 101 ∷ 108 ∷ 100 ∷ 115 ∷ 58 ∷ 58 ∷ 83 ∷ 101 ∷ 114 ∷ 105 ∷ 97 ∷ 108 ∷ [])
-          (Syntax.tcons (Syntax.tyInt Syntax.w32) Syntax.tnil)) (Syntax.tcons (Syntax.tyStruct (102 ∷ 105 ∷ 101 ∷ 108 ∷ 100 ∷ 115 ∷ 58 ∷ 58 ∷ 83 ∷ 101 ∷ 114 ∷ 105 ∷
-          97 ∷ 108 ∷ []) (Syntax.tcons (Syntax.tyInt Syntax.w32) Syntax.tnil)) (Syntax.tcons (Syntax.tyStruct (102 ∷ 105 ∷ 101 ∷ 108 ∷ 100 ∷ 115 ∷ 58 ∷ 58 ∷ 83 ∷ 101
-          ∷ 114 ∷ 105 ∷ 97 ∷ 108 ∷ []) (Syntax.tcons (Syntax.tyInt Syntax.w32) Syntax.tnil)) (Syntax.tcons (Syntax.tyStruct (102 ∷ 105 ∷ 101 ∷ 108 ∷ 100 ∷ 115 ∷ 58 ∷
-          58 ∷ 83 ∷ 101 ∷ 114 ∷ 105 ∷ 97 ∷ 108 ∷ []) (Syntax.tcons (Syntax.tyInt Syntax.w32) Syntax.tnil)) (Syntax.tcons (Syntax.tyStruct (102 ∷ 105 ∷ 101 ∷ 108 ∷
-          100 ∷ 115 ∷ 58 ∷ 58 ∷ 83 ∷ 101 ∷ 114 ∷ 105 ∷ 97 ∷ 108 ∷ []) (Syntax.tcons (Syntax.tyInt Syntax.w32) Syntax.tnil)) Syntax.tnil)))))) Syntax.tnil)
-          (Syntax.ttcons (Syntax.tcons (Syntax.tyStruct (109 ∷ 97 ∷ 115 ∷ 116 ∷ 101 ∷ 114 ∷ 58 ∷ 58 ∷ 84 ∷ 97 ∷ 108 ∷ 108 ∷ 121 ∷ []) (Syntax.tcons (Syntax.tyInt
-          Syntax.w32) (Syntax.tcons (Syntax.tyInt Syntax.w32) (Syntax.tcons (Syntax.tyInt Syntax.w32) (Syntax.tcons (Syntax.tyInt Syntax.w32) (Syntax.tcons
-          (Syntax.tyInt Syntax.w32) (Syntax.tcons (Syntax.tyInt Syntax.w32) (Syntax.tcons (Syntax.tyInt Syntax.w32) (Syntax.tcons (Syntax.tyInt Syntax.w32)
-          (Syntax.tcons (Syntax.tyInt Syntax.w32) Syntax.tnil)))))))))) Syntax.tnil) (Syntax.ttcons Syntax.tnil Syntax.ttnil)))))))) Syntax.tnil) Syntax.ttnil))))),
-    )
-    ∷ (10, Rows'.any-gone SlotAs.ty) ∷ (11, Rows'.any-gone Syntax.tyBool) ∷ (12, Rows'.any-gone (Syntax.tyInt Syntax.w64)) ∷ (
-      13,
-      Rows'.any-gone (Syntax.tyInt
-          Syntax.w64),
-    ) ∷ (14, Rows'.any-gone Syntax.tyBool) ∷ (15, Rows'.any-gone (Syntax.tyRef Syntax.erased Syntax.mut (Syntax.tyInt Syntax.w8))) ∷ []
+  Rows'.any-gone (Syntax.tyStruct (112 ∷
+      108 ∷ 97 ∷ 99 ∷ 101 ∷ 115 ∷ 58 ∷ 58 ∷ 67 ∷ 111 ∷ 117 ∷ 110 ∷ 116 ∷ 115 ∷ []) (Syntax.tcons (Syntax.tyInt Syntax.w64) (Syntax.tcons (Syntax.tyInt
+      Syntax.w64) (Syntax.tcons (Syntax.tyInt Syntax.w64) (Syntax.tcons (Syntax.tyInt Syntax.w64) (Syntax.tcons (Syntax.tyInt Syntax.w64) (Syntax.tcons
+      (Syntax.tyInt Syntax.w64) (Syntax.tcons (Syntax.tyInt Syntax.w64) (Syntax.tcons (Syntax.tyInt Syntax.w64) (Syntax.tcons (Syntax.tyInt Syntax.w64)
+      Syntax.tnil)))))))))),
+) ∷ (
+  9,
+  Rows'.any-gone (Syntax.tyEnum (112 ∷ 105 ∷ 101 ∷ 99 ∷ 101 ∷ 115 ∷ 58 ∷ 58 ∷ 76 ∷ 105 ∷ 110 ∷ 101 ∷ []) (Syntax.ttcons
+      (Syntax.tcons (Syntax.tyInt Syntax.w8) Syntax.tnil) (Syntax.ttcons (Syntax.tcons (Syntax.tyEnum (107 ∷ 105 ∷ 110 ∷ 100 ∷ 115 ∷ 58 ∷ 58 ∷ 75 ∷ 105 ∷ 110 ∷
+      100 ∷ []) (Syntax.ttcons Syntax.tnil (Syntax.ttcons Syntax.tnil (Syntax.ttcons Syntax.tnil (Syntax.ttcons Syntax.tnil (Syntax.ttcons Syntax.tnil
+      (Syntax.ttcons Syntax.tnil (Syntax.ttcons Syntax.tnil (Syntax.ttcons Syntax.tnil (Syntax.ttcons Syntax.tnil (Syntax.ttcons Syntax.tnil (Syntax.ttcons
+      Syntax.tnil (Syntax.ttcons Syntax.tnil (Syntax.ttcons Syntax.tnil (Syntax.ttcons Syntax.tnil (Syntax.ttcons Syntax.tnil (Syntax.ttcons Syntax.tnil
+      (Syntax.ttcons Syntax.tnil (Syntax.ttcons Syntax.tnil (Syntax.ttcons Syntax.tnil (Syntax.ttcons Syntax.tnil (Syntax.ttcons Syntax.tnil (Syntax.ttcons
+      Syntax.tnil (Syntax.ttcons Syntax.tnil (Syntax.ttcons Syntax.tnil (Syntax.ttcons Syntax.tnil (Syntax.ttcons Syntax.tnil (Syntax.ttcons Syntax.tnil
+      (Syntax.ttcons Syntax.tnil Syntax.ttnil))))))))))))))))))))))))))))) (Syntax.tcons (Syntax.tyInt Syntax.w32) Syntax.tnil)) (Syntax.ttcons (Syntax.tcons
+      (Syntax.tyEnum (107 ∷ 105 ∷ 110 ∷ 100 ∷ 115 ∷ 58 ∷ 58 ∷ 75 ∷ 105 ∷ 110 ∷ 100 ∷ []) (Syntax.ttcons Syntax.tnil (Syntax.ttcons Syntax.tnil (Syntax.ttcons
+      Syntax.tnil (Syntax.ttcons Syntax.tnil (Syntax.ttcons Syntax.tnil (Syntax.ttcons Syntax.tnil (Syntax.ttcons Syntax.tnil (Syntax.ttcons Syntax.tnil
+      (Syntax.ttcons Syntax.tnil (Syntax.ttcons Syntax.tnil (Syntax.ttcons Syntax.tnil (Syntax.ttcons Syntax.tnil (Syntax.ttcons Syntax.tnil (Syntax.ttcons
+      Syntax.tnil (Syntax.ttcons Syntax.tnil (Syntax.ttcons Syntax.tnil (Syntax.ttcons Syntax.tnil (Syntax.ttcons Syntax.tnil (Syntax.ttcons Syntax.tnil
+      (Syntax.ttcons Syntax.tnil (Syntax.ttcons Syntax.tnil (Syntax.ttcons Syntax.tnil (Syntax.ttcons Syntax.tnil (Syntax.ttcons Syntax.tnil (Syntax.ttcons
+      Syntax.tnil (Syntax.ttcons Syntax.tnil (Syntax.ttcons Syntax.tnil (Syntax.ttcons Syntax.tnil Syntax.ttnil))))))))))))))))))))))))))))) Syntax.tnil)
+      (Syntax.ttcons (Syntax.tcons (Syntax.tyEnum (108 ∷ 105 ∷ 110 ∷ 101 ∷ 58 ∷ 58 ∷ 82 ∷ 101 ∷ 99 ∷ 111 ∷ 114 ∷ 100 ∷ []) (Syntax.ttcons (Syntax.tcons
+      Syntax.tyBool (Syntax.tcons (Syntax.tyStruct (99 ∷ 111 ∷ 111 ∷ 114 ∷ 100 ∷ 105 ∷ 110 ∷ 97 ∷ 116 ∷ 101 ∷ 58 ∷ 58 ∷ 65 ∷ 116 ∷ 111 ∷ 109 ∷ []) (Syntax.tcons
+      (Syntax.tyStruct (99 ∷ 111 ∷ 111 ∷ 114 ∷ 100 ∷ 105 ∷ 110 ∷ 97 ∷ 116 ∷ 101 ∷ 58 ∷ 58 ∷ 73 ∷ 100 ∷ 101 ∷ 110 ∷ 116 ∷ 105 ∷ 116 ∷ 121 ∷ []) (Syntax.tcons
+      (Syntax.tyStruct (102 ∷ 105 ∷ 101 ∷ 108 ∷ 100 ∷ 115 ∷ 58 ∷ 58 ∷ 83 ∷ 101 ∷ 114 ∷ 105 ∷ 97 ∷ 108 ∷ []) (Syntax.tcons (Syntax.tyInt Syntax.w32) Syntax.tnil))
+      (Syntax.tcons (Syntax.tyStruct (110 ∷ 97 ∷ 109 ∷ 101 ∷ 115 ∷ 58 ∷ 58 ∷ 70 ∷ 111 ∷ 117 ∷ 114 ∷ []) (Syntax.tcons (Syntax.tyInt Syntax.w8) (Syntax.tcons
+      (Syntax.tyInt Syntax.w8) (Syntax.tcons (Syntax.tyInt Syntax.w8) (Syntax.tcons (Syntax.tyInt Syntax.w8) Syntax.tnil))))) (Syntax.tcons (Syntax.tyInt
+      Syntax.w8) (Syntax.tcons (Syntax.tyStruct (114 ∷ 101 ∷ 115 ∷ 105 ∷ 100 ∷ 117 ∷ 101 ∷ 58 ∷ 58 ∷ 82 ∷ 101 ∷ 115 ∷ 105 ∷ 100 ∷ 117 ∷ 101 ∷ []) (Syntax.tcons
+      (Syntax.tyStruct (110 ∷ 97 ∷ 109 ∷ 101 ∷ 115 ∷ 58 ∷ 58 ∷ 84 ∷ 104 ∷ 114 ∷ 101 ∷ 101 ∷ []) (Syntax.tcons (Syntax.tyInt Syntax.w8) (Syntax.tcons
+      (Syntax.tyInt Syntax.w8) (Syntax.tcons (Syntax.tyInt Syntax.w8) Syntax.tnil)))) (Syntax.tcons (Syntax.tyInt Syntax.w8) (Syntax.tcons (Syntax.tyStruct (102
+      ∷ 105 ∷ 101 ∷ 108 ∷ 100 ∷ 115 ∷ 58 ∷ 58 ∷ 82 ∷ 101 ∷ 115 ∷ 105 ∷ 100 ∷ 117 ∷ 101 ∷ 78 ∷ 117 ∷ 109 ∷ 98 ∷ 101 ∷ 114 ∷ []) (Syntax.tcons (Syntax.tyInt
+      Syntax.w32) Syntax.tnil)) (Syntax.tcons (Syntax.tyInt Syntax.w8) Syntax.tnil))))) Syntax.tnil))))) (Syntax.tcons (Syntax.tyStruct (99 ∷ 111 ∷ 111 ∷ 114 ∷
+      100 ∷ 105 ∷ 110 ∷ 97 ∷ 116 ∷ 101 ∷ 58 ∷ 58 ∷ 77 ∷ 101 ∷ 97 ∷ 115 ∷ 117 ∷ 114 ∷ 101 ∷ []) (Syntax.tcons (Syntax.tyStruct (99 ∷ 111 ∷ 111 ∷ 114 ∷ 100 ∷ 105 ∷
+      110 ∷ 97 ∷ 116 ∷ 101 ∷ 58 ∷ 58 ∷ 80 ∷ 111 ∷ 115 ∷ 105 ∷ 116 ∷ 105 ∷ 111 ∷ 110 ∷ []) (Syntax.tcons (Syntax.tyInt Syntax.w32) (Syntax.tcons (Syntax.tyInt
+      Syntax.w32) (Syntax.tcons (Syntax.tyInt Syntax.w32) Syntax.tnil)))) (Syntax.tcons (Syntax.tyInt Syntax.w32) (Syntax.tcons (Syntax.tyInt Syntax.w32)
+      Syntax.tnil)))) (Syntax.tcons (Syntax.tyStruct (99 ∷ 111 ∷ 111 ∷ 114 ∷ 100 ∷ 105 ∷ 110 ∷ 97 ∷ 116 ∷ 101 ∷ 58 ∷ 58 ∷ 83 ∷ 112 ∷ 101 ∷ 99 ∷ 105 ∷ 101 ∷ 115 ∷
+      []) (Syntax.tcons (Syntax.tyStruct (110 ∷ 97 ∷ 109 ∷ 101 ∷ 115 ∷ 58 ∷ 58 ∷ 80 ∷ 97 ∷ 105 ∷ 114 ∷ []) (Syntax.tcons (Syntax.tyInt Syntax.w8) (Syntax.tcons
+      (Syntax.tyInt Syntax.w8) Syntax.tnil))) (Syntax.tcons (Syntax.tyStruct (110 ∷ 97 ∷ 109 ∷ 101 ∷ 115 ∷ 58 ∷ 58 ∷ 80 ∷ 97 ∷ 105 ∷ 114 ∷ []) (Syntax.tcons
+      (Syntax.tyInt Syntax.w8) (Syntax.tcons (Syntax.tyInt Syntax.w8) Syntax.tnil))) Syntax.tnil))) Syntax.tnil)))) Syntax.tnil)) (Syntax.ttcons (Syntax.tcons
+      (Syntax.tyStruct (116 ∷ 101 ∷ 114 ∷ 58 ∷ 58 ∷ 84 ∷ 101 ∷ 114 ∷ []) (Syntax.tcons (Syntax.tyStruct (102 ∷ 105 ∷ 101 ∷ 108 ∷ 100 ∷ 115 ∷ 58 ∷ 58 ∷ 83 ∷ 101 ∷
+      114 ∷ 105 ∷ 97 ∷ 108 ∷ []) (Syntax.tcons (Syntax.tyInt Syntax.w32) Syntax.tnil)) (Syntax.tcons (Syntax.tyStruct (114 ∷ 101 ∷ 115 ∷ 105 ∷ 100 ∷ 117 ∷ 101 ∷
+      58 ∷ 58 ∷ 82 ∷ 101 ∷ 115 ∷ 105 ∷ 100 ∷ 117 ∷ 101 ∷ []) (Syntax.tcons (Syntax.tyStruct (110 ∷ 97 ∷ 109 ∷ 101 ∷ 115 ∷ 58 ∷ 58 ∷ 84 ∷ 104 ∷ 114 ∷ 101 ∷ 101 ∷
+      []) (Syntax.tcons (Syntax.tyInt Syntax.w8) (Syntax.tcons (Syntax.tyInt Syntax.w8) (Syntax.tcons (Syntax.tyInt Syntax.w8) Syntax.tnil)))) (Syntax.tcons
+      (Syntax.tyInt Syntax.w8) (Syntax.tcons (Syntax.tyStruct (102 ∷ 105 ∷ 101 ∷ 108 ∷ 100 ∷ 115 ∷ 58 ∷ 58 ∷ 82 ∷ 101 ∷ 115 ∷ 105 ∷ 100 ∷ 117 ∷ 101 ∷ 78 ∷ 117 ∷
+      109 ∷ 98 ∷ 101 ∷ 114 ∷ []) (Syntax.tcons (Syntax.tyInt Syntax.w32) Syntax.tnil)) (Syntax.tcons (Syntax.tyInt Syntax.w8) Syntax.tnil))))) Syntax.tnil)))
+      Syntax.tnil) (Syntax.ttcons (Syntax.tcons (Syntax.tyStruct (104 ∷ 101 ∷ 108 ∷ 105 ∷ 120 ∷ 58 ∷ 58 ∷ 72 ∷ 101 ∷ 108 ∷ 105 ∷ 120 ∷ []) (Syntax.tcons
+      (Syntax.tyStruct (104 ∷ 101 ∷ 108 ∷ 105 ∷ 120 ∷ 58 ∷ 58 ∷ 69 ∷ 120 ∷ 116 ∷ 101 ∷ 110 ∷ 116 ∷ []) (Syntax.tcons (Syntax.tyInt Syntax.w32) (Syntax.tcons
+      (Syntax.tyStruct (110 ∷ 97 ∷ 109 ∷ 101 ∷ 115 ∷ 58 ∷ 58 ∷ 84 ∷ 104 ∷ 114 ∷ 101 ∷ 101 ∷ []) (Syntax.tcons (Syntax.tyInt Syntax.w8) (Syntax.tcons
+      (Syntax.tyInt Syntax.w8) (Syntax.tcons (Syntax.tyInt Syntax.w8) Syntax.tnil)))) (Syntax.tcons (Syntax.tyStruct (114 ∷ 101 ∷ 115 ∷ 105 ∷ 100 ∷ 117 ∷ 101 ∷
+      58 ∷ 58 ∷ 82 ∷ 101 ∷ 115 ∷ 105 ∷ 100 ∷ 117 ∷ 101 ∷ []) (Syntax.tcons (Syntax.tyStruct (110 ∷ 97 ∷ 109 ∷ 101 ∷ 115 ∷ 58 ∷ 58 ∷ 84 ∷ 104 ∷ 114 ∷ 101 ∷ 101 ∷
+      []) (Syntax.tcons (Syntax.tyInt Syntax.w8) (Syntax.tcons (Syntax.tyInt Syntax.w8) (Syntax.tcons (Syntax.tyInt Syntax.w8) Syntax.tnil)))) (Syntax.tcons
+      (Syntax.tyInt Syntax.w8) (Syntax.tcons (Syntax.tyStruct (102 ∷ 105 ∷ 101 ∷ 108 ∷ 100 ∷ 115 ∷ 58 ∷ 58 ∷ 82 ∷ 101 ∷ 115 ∷ 105 ∷ 100 ∷ 117 ∷ 101 ∷ 78 ∷ 117 ∷
+      109 ∷ 98 ∷ 101 ∷ 114 ∷ []) (Syntax.tcons (Syntax.tyInt Syntax.w32) Syntax.tnil)) (Syntax.tcons (Syntax.tyInt Syntax.w8) Syntax.tnil))))) (Syntax.tcons
+      (Syntax.tyStruct (114 ∷ 101 ∷ 115 ∷ 105 ∷ 100 ∷ 117 ∷ 101 ∷ 58 ∷ 58 ∷ 82 ∷ 101 ∷ 115 ∷ 105 ∷ 100 ∷ 117 ∷ 101 ∷ []) (Syntax.tcons (Syntax.tyStruct (110 ∷ 97
+      ∷ 109 ∷ 101 ∷ 115 ∷ 58 ∷ 58 ∷ 84 ∷ 104 ∷ 114 ∷ 101 ∷ 101 ∷ []) (Syntax.tcons (Syntax.tyInt Syntax.w8) (Syntax.tcons (Syntax.tyInt Syntax.w8) (Syntax.tcons
+      (Syntax.tyInt Syntax.w8) Syntax.tnil)))) (Syntax.tcons (Syntax.tyInt Syntax.w8) (Syntax.tcons (Syntax.tyStruct (102 ∷ 105 ∷ 101 ∷ 108 ∷ 100 ∷ 115 ∷ 58 ∷ 58
+      ∷ 82 ∷ 101 ∷ 115 ∷ 105 ∷ 100 ∷ 117 ∷ 101 ∷ 78 ∷ 117 ∷ 109 ∷ 98 ∷ 101 ∷ 114 ∷ []) (Syntax.tcons (Syntax.tyInt Syntax.w32) Syntax.tnil)) (Syntax.tcons
+      (Syntax.tyInt Syntax.w8) Syntax.tnil))))) Syntax.tnil))))) (Syntax.tcons (Syntax.tyInt Syntax.w32) (Syntax.tcons (Syntax.tyStruct (104 ∷ 101 ∷ 108 ∷ 105 ∷
+      120 ∷ 58 ∷ 58 ∷ 67 ∷ 111 ∷ 109 ∷ 109 ∷ 101 ∷ 110 ∷ 116 ∷ []) (Syntax.tcons (Syntax.tyInt Syntax.w64) (Syntax.tcons (Syntax.tyInt Syntax.w64) (Syntax.tcons
+      (Syntax.tyInt Syntax.w64) (Syntax.tcons (Syntax.tyInt Syntax.w64) Syntax.tnil))))) (Syntax.tcons (Syntax.tyInt Syntax.w32) Syntax.tnil))))) Syntax.tnil)
+      (Syntax.ttcons (Syntax.tcons (Syntax.tyStruct (115 ∷ 104 ∷ 101 ∷ 101 ∷ 116 ∷ 58 ∷ 58 ∷ 83 ∷ 104 ∷ 101 ∷ 101 ∷ 116 ∷ []) (Syntax.tcons (Syntax.tyStruct (115
+      ∷ 104 ∷ 101 ∷ 101 ∷ 116 ∷ 58 ∷ 58 ∷ 83 ∷ 116 ∷ 114 ∷ 97 ∷ 110 ∷ 100 ∷ []) (Syntax.tcons (Syntax.tyInt Syntax.w32) (Syntax.tcons (Syntax.tyStruct (110 ∷ 97
+      ∷ 109 ∷ 101 ∷ 115 ∷ 58 ∷ 58 ∷ 84 ∷ 104 ∷ 114 ∷ 101 ∷ 101 ∷ []) (Syntax.tcons (Syntax.tyInt Syntax.w8) (Syntax.tcons (Syntax.tyInt Syntax.w8) (Syntax.tcons
+      (Syntax.tyInt Syntax.w8) Syntax.tnil)))) (Syntax.tcons (Syntax.tyInt Syntax.w32) (Syntax.tcons (Syntax.tyStruct (114 ∷ 101 ∷ 115 ∷ 105 ∷ 100 ∷ 117 ∷ 101 ∷
+      58 ∷ 58 ∷ 82 ∷ 101 ∷ 115 ∷ 105 ∷ 100 ∷ 117 ∷ 101 ∷ []) (Syntax.tcons (Syntax.tyStruct (110 ∷ 97 ∷ 109 ∷ 101 ∷ 115 ∷ 58 ∷ 58 ∷ 84 ∷ 104 ∷ 114 ∷ 101 ∷ 101 ∷
+      []) (Syntax.tcons (Syntax.tyInt Syntax.w8) (Syntax.tcons (Syntax.tyInt Syntax.w8) (Syntax.tcons (Syntax.tyInt Syntax.w8) Syntax.tnil)))) (Syntax.tcons
+      (Syntax.tyInt Syntax.w8) (Syntax.tcons (Syntax.tyStruct (102 ∷ 105 ∷ 101 ∷ 108 ∷ 100 ∷ 115 ∷ 58 ∷ 58 ∷ 82 ∷ 101 ∷ 115 ∷ 105 ∷ 100 ∷ 117 ∷ 101 ∷ 78 ∷ 117 ∷
+      109 ∷ 98 ∷ 101 ∷ 114 ∷ []) (Syntax.tcons (Syntax.tyInt Syntax.w32) Syntax.tnil)) (Syntax.tcons (Syntax.tyInt Syntax.w8) Syntax.tnil))))) (Syntax.tcons
+      (Syntax.tyStruct (114 ∷ 101 ∷ 115 ∷ 105 ∷ 100 ∷ 117 ∷ 101 ∷ 58 ∷ 58 ∷ 82 ∷ 101 ∷ 115 ∷ 105 ∷ 100 ∷ 117 ∷ 101 ∷ []) (Syntax.tcons (Syntax.tyStruct (110 ∷ 97
+      ∷ 109 ∷ 101 ∷ 115 ∷ 58 ∷ 58 ∷ 84 ∷ 104 ∷ 114 ∷ 101 ∷ 101 ∷ []) (Syntax.tcons (Syntax.tyInt Syntax.w8) (Syntax.tcons (Syntax.tyInt Syntax.w8) (Syntax.tcons
+      (Syntax.tyInt Syntax.w8) Syntax.tnil)))) (Syntax.tcons (Syntax.tyInt Syntax.w8) (Syntax.tcons (Syntax.tyStruct (102 ∷ 105 ∷ 101 ∷ 108 ∷ 100 ∷ 115 ∷ 58 ∷ 58
+      ∷ 82 ∷ 101 ∷ 115 ∷ 105 ∷ 100 ∷ 117 ∷ 101 ∷ 78 ∷ 117 ∷ 109 ∷ 98 ∷ 101 ∷ 114 ∷ []) (Syntax.tcons (Syntax.tyInt Syntax.w32) Syntax.tnil)) (Syntax.tcons
+      (Syntax.tyInt Syntax.w8) Syntax.tnil))))) (Syntax.tcons (Syntax.tyInt Syntax.w32) Syntax.tnil))))))) (Syntax.tcons (Syntax.tyEnum (115 ∷ 104 ∷ 101 ∷ 101 ∷
+      116 ∷ 58 ∷ 58 ∷ 82 ∷ 101 ∷ 103 ∷ 105 ∷ 115 ∷ 116 ∷ 114 ∷ 97 ∷ 116 ∷ 105 ∷ 111 ∷ 110 ∷ []) (Syntax.ttcons Syntax.tnil (Syntax.ttcons (Syntax.tcons
+      (Syntax.tyStruct (115 ∷ 104 ∷ 101 ∷ 101 ∷ 116 ∷ 58 ∷ 58 ∷ 66 ∷ 111 ∷ 110 ∷ 100 ∷ []) (Syntax.tcons (Syntax.tyStruct (110 ∷ 97 ∷ 109 ∷ 101 ∷ 115 ∷ 58 ∷ 58 ∷
+      70 ∷ 111 ∷ 117 ∷ 114 ∷ []) (Syntax.tcons (Syntax.tyInt Syntax.w8) (Syntax.tcons (Syntax.tyInt Syntax.w8) (Syntax.tcons (Syntax.tyInt Syntax.w8)
+      (Syntax.tcons (Syntax.tyInt Syntax.w8) Syntax.tnil))))) (Syntax.tcons (Syntax.tyStruct (114 ∷ 101 ∷ 115 ∷ 105 ∷ 100 ∷ 117 ∷ 101 ∷ 58 ∷ 58 ∷ 82 ∷ 101 ∷ 115
+      ∷ 105 ∷ 100 ∷ 117 ∷ 101 ∷ []) (Syntax.tcons (Syntax.tyStruct (110 ∷ 97 ∷ 109 ∷ 101 ∷ 115 ∷ 58 ∷ 58 ∷ 84 ∷ 104 ∷ 114 ∷ 101 ∷ 101 ∷ []) (Syntax.tcons
+      (Syntax.tyInt Syntax.w8) (Syntax.tcons (Syntax.tyInt Syntax.w8) (Syntax.tcons (Syntax.tyInt Syntax.w8) Syntax.tnil)))) (Syntax.tcons (Syntax.tyInt
+      Syntax.w8) (Syntax.tcons (Syntax.tyStruct (102 ∷ 105 ∷ 101 ∷ 108 ∷ 100 ∷ 115 ∷ 58 ∷ 58 ∷ 82 ∷ 101 ∷ 115 ∷ 105 ∷ 100 ∷ 117 ∷ 101 ∷ 78 ∷ 117 ∷ 109 ∷ 98 ∷ 101
+      ∷ 114 ∷ []) (Syntax.tcons (Syntax.tyInt Syntax.w32) Syntax.tnil)) (Syntax.tcons (Syntax.tyInt Syntax.w8) Syntax.tnil))))) (Syntax.tcons (Syntax.tyStruct
+      (110 ∷ 97 ∷ 109 ∷ 101 ∷ 115 ∷ 58 ∷ 58 ∷ 70 ∷ 111 ∷ 117 ∷ 114 ∷ []) (Syntax.tcons (Syntax.tyInt Syntax.w8) (Syntax.tcons (Syntax.tyInt Syntax.w8)
+      (Syntax.tcons (Syntax.tyInt Syntax.w8) (Syntax.tcons (Syntax.tyInt Syntax.w8) Syntax.tnil))))) (Syntax.tcons (Syntax.tyStruct (114 ∷ 101 ∷ 115 ∷ 105 ∷ 100
+      ∷ 117 ∷ 101 ∷ 58 ∷ 58 ∷ 82 ∷ 101 ∷ 115 ∷ 105 ∷ 100 ∷ 117 ∷ 101 ∷ []) (Syntax.tcons (Syntax.tyStruct (110 ∷ 97 ∷ 109 ∷ 101 ∷ 115 ∷ 58 ∷ 58 ∷ 84 ∷ 104 ∷ 114
+      ∷ 101 ∷ 101 ∷ []) (Syntax.tcons (Syntax.tyInt Syntax.w8) (Syntax.tcons (Syntax.tyInt Syntax.w8) (Syntax.tcons (Syntax.tyInt Syntax.w8) Syntax.tnil))))
+      (Syntax.tcons (Syntax.tyInt Syntax.w8) (Syntax.tcons (Syntax.tyStruct (102 ∷ 105 ∷ 101 ∷ 108 ∷ 100 ∷ 115 ∷ 58 ∷ 58 ∷ 82 ∷ 101 ∷ 115 ∷ 105 ∷ 100 ∷ 117 ∷ 101
+      ∷ 78 ∷ 117 ∷ 109 ∷ 98 ∷ 101 ∷ 114 ∷ []) (Syntax.tcons (Syntax.tyInt Syntax.w32) Syntax.tnil)) (Syntax.tcons (Syntax.tyInt Syntax.w8) Syntax.tnil)))))
+      Syntax.tnil))))) Syntax.tnil) Syntax.ttnil))) Syntax.tnil))) Syntax.tnil) (Syntax.ttcons (Syntax.tcons (Syntax.tyStruct (99 ∷ 111 ∷ 110 ∷ 101 ∷ 99 ∷ 116 ∷
+      58 ∷ 58 ∷ 67 ∷ 111 ∷ 110 ∷ 101 ∷ 99 ∷ 116 ∷ []) (Syntax.tcons (Syntax.tyStruct (102 ∷ 105 ∷ 101 ∷ 108 ∷ 100 ∷ 115 ∷ 58 ∷ 58 ∷ 83 ∷ 101 ∷ 114 ∷ 105 ∷ 97 ∷
+      108 ∷ []) (Syntax.tcons (Syntax.tyInt Syntax.w32) Syntax.tnil)) (Syntax.tcons (Syntax.tyStruct (102 ∷ 105 ∷ 101 ∷ 108 ∷ 100 ∷ 115 ∷ 58 ∷ 58 ∷ 83 ∷ 101 ∷
+      114 ∷ 105 ∷ 97 ∷ 108 ∷ []) (Syntax.tcons (Syntax.tyInt Syntax.w32) Syntax.tnil)) (Syntax.tcons (Syntax.tyStruct (102 ∷ 105 ∷ 101 ∷ 108 ∷ 100 ∷ 115 ∷ 58 ∷
+      58 ∷ 83 ∷ 101 ∷ 114 ∷ 105 ∷ 97 ∷ 108 ∷ []) (Syntax.tcons (Syntax.tyInt Syntax.w32) Syntax.tnil)) (Syntax.tcons (Syntax.tyStruct (102 ∷ 105 ∷ 101 ∷ 108 ∷
+      100 ∷ 115 ∷ 58 ∷ 58 ∷ 83 ∷ 101 ∷ 114 ∷ 105 ∷ 97 ∷ 108 ∷ []) (Syntax.tcons (Syntax.tyInt Syntax.w32) Syntax.tnil)) (Syntax.tcons (Syntax.tyStruct (102 ∷ 105
+      ∷ 101 ∷ 108 ∷ 100 ∷ 115 ∷ 58 ∷ 58 ∷ 83 ∷ 101 ∷ 114 ∷ 105 ∷ 97 ∷ 108 ∷ []) (Syntax.tcons (Syntax.tyInt Syntax.w32) Syntax.tnil)) Syntax.tnil))))))
+      Syntax.tnil) (Syntax.ttcons (Syntax.tcons (Syntax.tyStruct (109 ∷ 97 ∷ 115 ∷ 116 ∷ 101 ∷ 114 ∷ 58 ∷ 58 ∷ 84 ∷ 97 ∷ 108 ∷ 108 ∷ 121 ∷ []) (Syntax.tcons
+      (Syntax.tyInt Syntax.w32) (Syntax.tcons (Syntax.tyInt Syntax.w32) (Syntax.tcons (Syntax.tyInt Syntax.w32) (Syntax.tcons (Syntax.tyInt Syntax.w32)
+      (Syntax.tcons (Syntax.tyInt Syntax.w32) (Syntax.tcons (Syntax.tyInt Syntax.w32) (Syntax.tcons (Syntax.tyInt Syntax.w32) (Syntax.tcons (Syntax.tyInt
+      Syntax.w32) (Syntax.tcons (Syntax.tyInt Syntax.w32) Syntax.tnil)))))))))) Syntax.tnil) (Syntax.ttcons Syntax.tnil Syntax.ttnil)))))))) Syntax.tnil)
+      Syntax.ttnil))))),
+) ∷ (10, Rows'.any-gone SlotAs.ty) ∷ (11, Rows'.any-gone Syntax.tyBool) ∷ (12, Rows'.any-gone (Syntax.tyInt Syntax.w64)) ∷ (
+  13,
+  Rows'.any-gone (Syntax.tyInt Syntax.w64),
+) ∷ (14, Rows'.any-gone Syntax.tyBool) ∷ (
+  15,
+  Rows'.any-gone (Syntax.tyRef Syntax.erased Syntax.mut (Syntax.tyInt
+      Syntax.w8)),
+) ∷ []
 
 abbrev pub t4 : List.List Row.Entry
 t4 = (0, Rows'.any-gone Syntax.tyUnit) ∷ (
@@ -907,8 +916,8 @@ t4 = (0, Rows'.any-gone Syntax.tyUnit) ∷ (
       Syntax.w64),
 ) ∷ (6, Rows'.sc-here (Row.sInt Syntax.w64)) ∷ (7, Rows'.any-gone (Syntax.tyInt Syntax.w64)) ∷ (
   8,
-  Rows'.any-gone (Syntax.tyStruct (114 ∷ 117 ∷
-      108 ∷ 101 ∷ 115 ∷ 58 ∷ 58 ∷ 67 ∷ 111 ∷ 117 ∷ 110 ∷ 116 ∷ 115 ∷ []) (Syntax.tcons (Syntax.tyInt Syntax.w64) (Syntax.tcons (Syntax.tyInt Syntax.w64)
+  Rows'.any-gone (Syntax.tyStruct (112 ∷ 108 ∷
+      97 ∷ 99 ∷ 101 ∷ 115 ∷ 58 ∷ 58 ∷ 67 ∷ 111 ∷ 117 ∷ 110 ∷ 116 ∷ 115 ∷ []) (Syntax.tcons (Syntax.tyInt Syntax.w64) (Syntax.tcons (Syntax.tyInt Syntax.w64)
       (Syntax.tcons (Syntax.tyInt Syntax.w64) (Syntax.tcons (Syntax.tyInt Syntax.w64) (Syntax.tcons (Syntax.tyInt Syntax.w64) (Syntax.tcons (Syntax.tyInt
       Syntax.w64) (Syntax.tcons (Syntax.tyInt Syntax.w64) (Syntax.tcons (Syntax.tyInt Syntax.w64) (Syntax.tcons (Syntax.tyInt Syntax.w64) Syntax.tnil)))))))))),
 )
@@ -1027,104 +1036,105 @@ t5 = (0, Rows'.any-gone Syntax.tyUnit) ∷ (
       Syntax.w64),
 ) ∷ (6, Rows'.sc-here (Row.sInt Syntax.w64)) ∷ (7, Rows'.sc-here (Row.sInt Syntax.w64)) ∷ (
   8,
-  Rows'.any-gone (Syntax.tyStruct (114 ∷ 117 ∷ 108 ∷
-      101 ∷ 115 ∷ 58 ∷ 58 ∷ 67 ∷ 111 ∷ 117 ∷ 110 ∷ 116 ∷ 115 ∷ []) (Syntax.tcons (Syntax.tyInt Syntax.w64) (Syntax.tcons (Syntax.tyInt Syntax.w64) (Syntax.tcons
-      (Syntax.tyInt Syntax.w64) (Syntax.tcons (Syntax.tyInt Syntax.w64) (Syntax.tcons (Syntax.tyInt Syntax.w64) (Syntax.tcons (Syntax.tyInt Syntax.w64)
-      (Syntax.tcons (Syntax.tyInt Syntax.w64) (Syntax.tcons (Syntax.tyInt Syntax.w64) (Syntax.tcons (Syntax.tyInt Syntax.w64) Syntax.tnil)))))))))),
-) ∷ (
-  9,
-  Rows'.any-gone (Syntax.tyEnum (112 ∷ 105 ∷ 101 ∷ 99 ∷ 101 ∷ 115 ∷ 58 ∷ 58 ∷ 76 ∷ 105 ∷ 110 ∷ 101 ∷ []) (Syntax.ttcons (Syntax.tcons (Syntax.tyInt
-      Syntax.w8) Syntax.tnil) (Syntax.ttcons (Syntax.tcons (Syntax.tyEnum (107 ∷ 105 ∷ 110 ∷ 100 ∷ 115 ∷ 58 ∷ 58 ∷ 75 ∷ 105 ∷ 110 ∷ 100 ∷ []) (Syntax.ttcons
-      Syntax.tnil (Syntax.ttcons Syntax.tnil (Syntax.ttcons Syntax.tnil (Syntax.ttcons Syntax.tnil (Syntax.ttcons Syntax.tnil (Syntax.ttcons Syntax.tnil
-      (Syntax.ttcons Syntax.tnil (Syntax.ttcons Syntax.tnil (Syntax.ttcons Syntax.tnil (Syntax.ttcons Syntax.tnil (Syntax.ttcons Syntax.tnil (Syntax.ttcons
-      Syntax.tnil (Syntax.ttcons Syntax.tnil (Syntax.ttcons Syntax.tnil (Syntax.ttcons Syntax.tnil (Syntax.ttcons Syntax.tnil (Syntax.ttcons Syntax.tnil
-      (Syntax.ttcons Syntax.tnil (Syntax.ttcons Syntax.tnil (Syntax.ttcons Syntax.tnil (Syntax.ttcons Syntax.tnil (Syntax.ttcons Syntax.tnil (Syntax.ttcons
-      Syntax.tnil (Syntax.ttcons Syntax.tnil (Syntax.ttcons Syntax.tnil (Syntax.ttcons Syntax.tnil (Syntax.ttcons Syntax.tnil (Syntax.ttcons Syntax.tnil
-      Syntax.ttnil))))))))))))))))))))))))))))) (Syntax.tcons (Syntax.tyInt Syntax.w32) Syntax.tnil)) (Syntax.ttcons (Syntax.tcons (Syntax.tyEnum (107 ∷ 105 ∷
-      110 ∷ 100 ∷ 115 ∷ 58 ∷ 58 ∷ 75 ∷ 105 ∷ 110 ∷ 100 ∷ []) (Syntax.ttcons Syntax.tnil (Syntax.ttcons Syntax.tnil (Syntax.ttcons Syntax.tnil (Syntax.ttcons
-      Syntax.tnil (Syntax.ttcons Syntax.tnil (Syntax.ttcons Syntax.tnil (Syntax.ttcons Syntax.tnil (Syntax.ttcons Syntax.tnil (Syntax.ttcons Syntax.tnil
-      (Syntax.ttcons Syntax.tnil (Syntax.ttcons Syntax.tnil (Syntax.ttcons Syntax.tnil (Syntax.ttcons Syntax.tnil (Syntax.ttcons Syntax.tnil (Syntax.ttcons
-      Syntax.tnil (Syntax.ttcons Syntax.tnil (Syntax.ttcons Syntax.tnil (Syntax.ttcons Syntax.tnil (Syntax.ttcons Syntax.tnil (Syntax.ttcons Syntax.tnil
-      (Syntax.ttcons Syntax.tnil (Syntax.ttcons Syntax.tnil (Syntax.ttcons Syntax.tnil (Syntax.ttcons Syntax.tnil (Syntax.ttcons Syntax.tnil (Syntax.ttcons
-      Syntax.tnil (Syntax.ttcons Syntax.tnil (Syntax.ttcons Syntax.tnil Syntax.ttnil))))))))))))))))))))))))))))) Syntax.tnil) (Syntax.ttcons (Syntax.tcons
-      (Syntax.tyEnum (108 ∷ 105 ∷ 110 ∷ 101 ∷ 58 ∷ 58 ∷ 82 ∷ 101 ∷ 99 ∷ 111 ∷ 114 ∷ 100 ∷ []) (Syntax.ttcons (Syntax.tcons Syntax.tyBool (Syntax.tcons
-      (Syntax.tyStruct (99 ∷ 111 ∷ 111 ∷ 114 ∷ 100 ∷ 105 ∷ 110 ∷ 97 ∷ 116 ∷ 101 ∷ 58 ∷ 58 ∷ 65 ∷ 116 ∷ 111 ∷ 109 ∷ []) (Syntax.tcons (Syntax.tyStruct (99 ∷ 111 ∷
-      111 ∷ 114 ∷ 100 ∷ 105 ∷ 110 ∷ 97 ∷ 116 ∷ 101 ∷ 58 ∷ 58 ∷ 73 ∷ 100 ∷ 101 ∷ 110 ∷ 116 ∷ 105 ∷ 116 ∷ 121 ∷ []) (Syntax.tcons (Syntax.tyStruct (102 ∷ 105 ∷ 101
-      ∷ 108 ∷ 100 ∷ 115 ∷ 58 ∷ 58 ∷ 83 ∷ 101 ∷ 114 ∷ 105 ∷ 97 ∷ 108 ∷ []) (Syntax.tcons (Syntax.tyInt Syntax.w32) Syntax.tnil)) (Syntax.tcons (Syntax.tyStruct
-      (110 ∷ 97 ∷ 109 ∷ 101 ∷ 115 ∷ 58 ∷ 58 ∷ 70 ∷ 111 ∷ 117 ∷ 114 ∷ []) (Syntax.tcons (Syntax.tyInt Syntax.w8) (Syntax.tcons (Syntax.tyInt Syntax.w8)
-      (Syntax.tcons (Syntax.tyInt Syntax.w8) (Syntax.tcons (Syntax.tyInt Syntax.w8) Syntax.tnil))))) (Syntax.tcons (Syntax.tyInt Syntax.w8) (Syntax.tcons
-      (Syntax.tyStruct (114 ∷ 101 ∷ 115 ∷ 105 ∷ 100 ∷ 117 ∷ 101 ∷ 58 ∷ 58 ∷ 82 ∷ 101 ∷ 115 ∷ 105 ∷ 100 ∷ 117 ∷ 101 ∷ []) (Syntax.tcons (Syntax.tyStruct (110 ∷ 97
-      ∷ 109 ∷ 101 ∷ 115 ∷ 58 ∷ 58 ∷ 84 ∷ 104 ∷ 114 ∷ 101 ∷ 101 ∷ []) (Syntax.tcons (Syntax.tyInt Syntax.w8) (Syntax.tcons (Syntax.tyInt Syntax.w8) (Syntax.tcons
-      (Syntax.tyInt Syntax.w8) Syntax.tnil)))) (Syntax.tcons (Syntax.tyInt Syntax.w8) (Syntax.tcons (Syntax.tyStruct (102 ∷ 105 ∷ 101 ∷ 108 ∷ 100 ∷ 115 ∷ 58 ∷ 58
-      ∷ 82 ∷ 101 ∷ 115 ∷ 105 ∷ 100 ∷ 117 ∷ 101 ∷ 78 ∷ 117 ∷ 109 ∷ 98 ∷ 101 ∷ 114 ∷ []) (Syntax.tcons (Syntax.tyInt Syntax.w32) Syntax.tnil)) (Syntax.tcons
-      (Syntax.tyInt Syntax.w8) Syntax.tnil))))) Syntax.tnil))))) (Syntax.tcons (Syntax.tyStruct (99 ∷ 111 ∷ 111 ∷ 114 ∷ 100 ∷ 105 ∷ 110 ∷ 97 ∷ 116 ∷ 101 ∷ 58 ∷
-      58 ∷ 77 ∷ 101 ∷ 97 ∷ 115 ∷ 117 ∷ 114 ∷ 101 ∷ []) (Syntax.tcons (Syntax.tyStruct (99 ∷ 111 ∷ 111 ∷ 114 ∷ 100 ∷ 105 ∷ 110 ∷ 97 ∷ 116 ∷ 101 ∷ 58 ∷ 58 ∷ 80 ∷
-      111 ∷ 115 ∷ 105 ∷ 116 ∷ 105 ∷ 111 ∷ 110 ∷ []) (Syntax.tcons (Syntax.tyInt Syntax.w32) (Syntax.tcons (Syntax.tyInt Syntax.w32) (Syntax.tcons (Syntax.tyInt
-      Syntax.w32) Syntax.tnil)))) (Syntax.tcons (Syntax.tyInt Syntax.w32) (Syntax.tcons (Syntax.tyInt Syntax.w32) Syntax.tnil)))) (Syntax.tcons (Syntax.tyStruct
-      (99 ∷ 111 ∷ 111 ∷ 114 ∷ 100 ∷ 105 ∷ 110 ∷ 97 ∷ 116 ∷ 101 ∷ 58 ∷ 58 ∷ 83 ∷ 112 ∷ 101 ∷ 99 ∷ 105 ∷ 101 ∷ 115 ∷ []) (Syntax.tcons (Syntax.tyStruct (110 ∷ 97 ∷
-      109 ∷ 101 ∷ 115 ∷ 58 ∷ 58 ∷ 80 ∷ 97 ∷ 105 ∷ 114 ∷ []) (Syntax.tcons (Syntax.tyInt Syntax.w8) (Syntax.tcons (Syntax.tyInt Syntax.w8) Syntax.tnil)))
-      (Syntax.tcons (Syntax.tyStruct (110 ∷ 97 ∷ 109 ∷ 101 ∷ 115 ∷ 58 ∷ 58 ∷ 80 ∷ 97 ∷ 105 ∷ 114 ∷ []) (Syntax.tcons (Syntax.tyInt Syntax.w8) (Syntax.tcons
-      (Syntax.tyInt Syntax.w8) Syntax.tnil))) Syntax.tnil))) Syntax.tnil)))) Syntax.tnil)) (Syntax.ttcons (Syntax.tcons (Syntax.tyStruct (116 ∷ 101 ∷ 114 ∷ 58 ∷
-      58 ∷ 84 ∷ 101 ∷ 114 ∷ []) (Syntax.tcons (Syntax.tyStruct (102 ∷ 105 ∷ 101 ∷ 108 ∷ 100 ∷ 115 ∷ 58 ∷ 58 ∷ 83 ∷ 101 ∷ 114 ∷ 105 ∷ 97 ∷ 108 ∷ []) (Syntax.tcons
-      (Syntax.tyInt Syntax.w32) Syntax.tnil)) (Syntax.tcons (Syntax.tyStruct (114 ∷ 101 ∷ 115 ∷ 105 ∷ 100 ∷ 117 ∷ 101 ∷ 58 ∷ 58 ∷ 82 ∷ 101 ∷ 115 ∷ 105 ∷ 100 ∷
-      117 ∷ 101 ∷ []) (Syntax.tcons (Syntax.tyStruct (110 ∷ 97 ∷ 109 ∷ 101 ∷ 115 ∷ 58 ∷ 58 ∷ 84 ∷ 104 ∷ 114 ∷ 101 ∷ 101 ∷ []) (Syntax.tcons (Syntax.tyInt
-      Syntax.w8) (Syntax.tcons (Syntax.tyInt Syntax.w8) (Syntax.tcons (Syntax.tyInt Syntax.w8) Syntax.tnil)))) (Syntax.tcons (Syntax.tyInt Syntax.w8)
-      (Syntax.tcons (Syntax.tyStruct (102 ∷ 105 ∷ 101 ∷ 108 ∷ 100 ∷ 115 ∷ 58 ∷ 58 ∷ 82 ∷ 101 ∷ 115 ∷ 105 ∷ 100 ∷ 117 ∷ 101 ∷ 78 ∷ 117 ∷ 109 ∷ 98 ∷ 101 ∷ 114 ∷
-      []) (Syntax.tcons (Syntax.tyInt Syntax.w32) Syntax.tnil)) (Syntax.tcons (Syntax.tyInt Syntax.w8) Syntax.tnil))))) Syntax.tnil))) Syntax.tnil)
-      (Syntax.ttcons (Syntax.tcons (Syntax.tyStruct (104 ∷ 101 ∷ 108 ∷ 105 ∷ 120 ∷ 58 ∷ 58 ∷ 72 ∷ 101 ∷ 108 ∷ 105 ∷ 120 ∷ []) (Syntax.tcons (Syntax.tyStruct (104
-      ∷ 101 ∷ 108 ∷ 105 ∷ 120 ∷ 58 ∷ 58 ∷ 69 ∷ 120 ∷ 116 ∷ 101 ∷ 110 ∷ 116 ∷ []) (Syntax.tcons (Syntax.tyInt Syntax.w32) (Syntax.tcons (Syntax.tyStruct (110 ∷ 97
-      ∷ 109 ∷ 101 ∷ 115 ∷ 58 ∷ 58 ∷ 84 ∷ 104 ∷ 114 ∷ 101 ∷ 101 ∷ []) (Syntax.tcons (Syntax.tyInt Syntax.w8) (Syntax.tcons (Syntax.tyInt Syntax.w8) (Syntax.tcons
-      (Syntax.tyInt Syntax.w8) Syntax.tnil)))) (Syntax.tcons (Syntax.tyStruct (114 ∷ 101 ∷ 115 ∷ 105 ∷ 100 ∷ 117 ∷ 101 ∷ 58 ∷ 58 ∷ 82 ∷ 101 ∷ 115 ∷ 105 ∷ 100 ∷
-      117 ∷ 101 ∷ []) (Syntax.tcons (Syntax.tyStruct (110 ∷ 97 ∷ 109 ∷ 101 ∷ 115 ∷ 58 ∷ 58 ∷ 84 ∷ 104 ∷ 114 ∷ 101 ∷ 101 ∷ []) (Syntax.tcons (Syntax.tyInt
-      Syntax.w8) (Syntax.tcons (Syntax.tyInt Syntax.w8) (Syntax.tcons (Syntax.tyInt Syntax.w8) Syntax.tnil)))) (Syntax.tcons (Syntax.tyInt Syntax.w8)
-      (Syntax.tcons (Syntax.tyStruct (102 ∷ 105 ∷ 101 ∷ 108 ∷ 100 ∷ 115 ∷ 58 ∷ 58 ∷ 82 ∷ 101 ∷ 115 ∷ 105 ∷ 100 ∷ 117 ∷ 101 ∷ 78 ∷ 117 ∷ 109 ∷ 98 ∷ 101 ∷ 114 ∷
-      []) (Syntax.tcons (Syntax.tyInt Syntax.w32) Syntax.tnil)) (Syntax.tcons (Syntax.tyInt Syntax.w8) Syntax.tnil))))) (Syntax.tcons (Syntax.tyStruct (114 ∷ 101
-      ∷ 115 ∷ 105 ∷ 100 ∷ 117 ∷ 101 ∷ 58 ∷ 58 ∷ 82 ∷ 101 ∷ 115 ∷ 105 ∷ 100 ∷ 117 ∷ 101 ∷ []) (Syntax.tcons (Syntax.tyStruct (110 ∷ 97 ∷ 109 ∷ 101 ∷ 115 ∷ 58 ∷ 58
-      ∷ 84 ∷ 104 ∷ 114 ∷ 101 ∷ 101 ∷ []) (Syntax.tcons (Syntax.tyInt Syntax.w8) (Syntax.tcons (Syntax.tyInt Syntax.w8) (Syntax.tcons (Syntax.tyInt Syntax.w8)
-      Syntax.tnil)))) (Syntax.tcons (Syntax.tyInt Syntax.w8) (Syntax.tcons (Syntax.tyStruct (102 ∷ 105 ∷ 101 ∷ 108 ∷ 100 ∷ 115 ∷ 58 ∷ 58 ∷ 82 ∷ 101 ∷ 115 ∷ 105 ∷
-      100 ∷ 117 ∷ 101 ∷ 78 ∷ 117 ∷ 109 ∷ 98 ∷ 101 ∷ 114 ∷ []) (Syntax.tcons (Syntax.tyInt Syntax.w32) Syntax.tnil)) (Syntax.tcons (Syntax.tyInt Syntax.w8)
-      Syntax.tnil))))) Syntax.tnil))))) (Syntax.tcons (Syntax.tyInt Syntax.w32) (Syntax.tcons (Syntax.tyStruct (104 ∷ 101 ∷ 108 ∷ 105 ∷ 120 ∷ 58 ∷ 58 ∷ 67 ∷ 111
-      ∷ 109 ∷ 109 ∷ 101 ∷ 110 ∷ 116 ∷ []) (Syntax.tcons (Syntax.tyInt Syntax.w64) (Syntax.tcons (Syntax.tyInt Syntax.w64) (Syntax.tcons (Syntax.tyInt Syntax.w64)
-      (Syntax.tcons (Syntax.tyInt Syntax.w64) Syntax.tnil))))) (Syntax.tcons (Syntax.tyInt Syntax.w32) Syntax.tnil))))) Syntax.tnil) (Syntax.ttcons (Syntax.tcons
-      (Syntax.tyStruct (115 ∷ 104 ∷ 101 ∷ 101 ∷ 116 ∷ 58 ∷ 58 ∷ 83 ∷ 104 ∷ 101 ∷ 101 ∷ 116 ∷ []) (Syntax.tcons (Syntax.tyStruct (115 ∷ 104 ∷ 101 ∷ 101 ∷ 116 ∷ 58
-      ∷ 58 ∷ 83 ∷ 116 ∷ 114 ∷ 97 ∷ 110 ∷ 100 ∷ []) (Syntax.tcons (Syntax.tyInt Syntax.w32) (Syntax.tcons (Syntax.tyStruct (110 ∷ 97 ∷ 109 ∷ 101 ∷ 115 ∷ 58 ∷ 58 ∷
-      84 ∷ 104 ∷ 114 ∷ 101 ∷ 101 ∷ []) (Syntax.tcons (Syntax.tyInt Syntax.w8) (Syntax.tcons (Syntax.tyInt Syntax.w8) (Syntax.tcons (Syntax.tyInt Syntax.w8)
-      Syntax.tnil)))) (Syntax.tcons (Syntax.tyInt Syntax.w32) (Syntax.tcons (Syntax.tyStruct (114 ∷ 101 ∷ 115 ∷ 105 ∷ 100 ∷ 117 ∷ 101 ∷ 58 ∷ 58 ∷ 82 ∷ 101 ∷ 115
-      ∷ 105 ∷ 100 ∷ 117 ∷ 101 ∷ []) (Syntax.tcons (Syntax.tyStruct (110 ∷ 97 ∷ 109 ∷ 101 ∷ 115 ∷ 58 ∷ 58 ∷ 84 ∷ 104 ∷ 114 ∷ 101 ∷ 101 ∷ []) (Syntax.tcons
-      (Syntax.tyInt Syntax.w8) (Syntax.tcons (Syntax.tyInt Syntax.w8) (Syntax.tcons (Syntax.tyInt Syntax.w8) Syntax.tnil)))) (Syntax.tcons (Syntax.tyInt
-      Syntax.w8) (Syntax.tcons (Syntax.tyStruct (102 ∷ 105 ∷ 101 ∷ 108 ∷ 100 ∷ 115 ∷ 58 ∷ 58 ∷ 82 ∷ 101 ∷ 115 ∷ 105 ∷ 100 ∷ 117 ∷ 101 ∷ 78 ∷ 117 ∷ 109 ∷ 98 ∷ 101
-      ∷ 114 ∷ []) (Syntax.tcons (Syntax.tyInt Syntax.w32) Syntax.tnil)) (Syntax.tcons (Syntax.tyInt Syntax.w8) Syntax.tnil))))) (Syntax.tcons (Syntax.tyStruct
-      (114 ∷ 101 ∷ 115 ∷ 105 ∷ 100 ∷ 117 ∷ 101 ∷ 58 ∷ 58 ∷ 82 ∷ 101 ∷ 115 ∷ 105 ∷ 100 ∷ 117 ∷ 101 ∷ []) (Syntax.tcons (Syntax.tyStruct (110 ∷ 97 ∷ 109 ∷ 101 ∷
-      115 ∷ 58 ∷ 58 ∷ 84 ∷ 104 ∷ 114 ∷ 101 ∷ 101 ∷ []) (Syntax.tcons (Syntax.tyInt Syntax.w8) (Syntax.tcons (Syntax.tyInt Syntax.w8) (Syntax.tcons (Syntax.tyInt
-      Syntax.w8) Syntax.tnil)))) (Syntax.tcons (Syntax.tyInt Syntax.w8) (Syntax.tcons (Syntax.tyStruct (102 ∷ 105 ∷ 101 ∷ 108 ∷ 100 ∷ 115 ∷ 58 ∷ 58 ∷ 82 ∷ 101 ∷
-      115 ∷ 105 ∷ 100 ∷ 117 ∷ 101 ∷ 78 ∷ 117 ∷ 109 ∷ 98 ∷ 101 ∷ 114 ∷ []) (Syntax.tcons (Syntax.tyInt Syntax.w32) Syntax.tnil)) (Syntax.tcons (Syntax.tyInt
-      Syntax.w8) Syntax.tnil))))) (Syntax.tcons (Syntax.tyInt Syntax.w32) Syntax.tnil))))))) (Syntax.tcons (Syntax.tyEnum (115 ∷ 104 ∷ 101 ∷ 101 ∷ 116 ∷ 58 ∷ 58
-      ∷ 82 ∷ 101 ∷ 103 ∷ 105 ∷ 115 ∷ 116 ∷ 114 ∷ 97 ∷ 116 ∷ 105 ∷ 111 ∷ 110 ∷ []) (Syntax.ttcons Syntax.tnil (Syntax.ttcons (Syntax.tcons (Syntax.tyStruct (115 ∷
-      104 ∷ 101 ∷ 101 ∷ 116 ∷ 58 ∷ 58 ∷ 66 ∷ 111 ∷ 110 ∷ 100 ∷ []) (Syntax.tcons (Syntax.tyStruct (110 ∷ 97 ∷ 109 ∷ 101 ∷ 115 ∷ 58 ∷ 58 ∷ 70 ∷ 111 ∷ 117 ∷ 114 ∷
-      []) (Syntax.tcons (Syntax.tyInt Syntax.w8) (Syntax.tcons (Syntax.tyInt Syntax.w8) (Syntax.tcons (Syntax.tyInt Syntax.w8) (Syntax.tcons (Syntax.tyInt
-      Syntax.w8) Syntax.tnil))))) (Syntax.tcons (Syntax.tyStruct (114 ∷ 101 ∷ 115 ∷ 105 ∷ 100 ∷ 117 ∷ 101 ∷ 58 ∷ 58 ∷ 82 ∷ 101 ∷ 115 ∷ 105 ∷ 100 ∷ 117 ∷ 101 ∷
-      []) (Syntax.tcons (Syntax.tyStruct (110 ∷ 97 ∷ 109 ∷ 101 ∷ 115 ∷ 58 ∷ 58 ∷ 84 ∷ 104 ∷ 114 ∷ 101 ∷ 101 ∷ []) (Syntax.tcons (Syntax.tyInt Syntax.w8)
-      (Syntax.tcons (Syntax.tyInt Syntax.w8) (Syntax.tcons (Syntax.tyInt Syntax.w8) Syntax.tnil)))) (Syntax.tcons (Syntax.tyInt Syntax.w8) (Syntax.tcons
-      (Syntax.tyStruct (102 ∷ 105 ∷ 101 ∷ 108 ∷ 100 ∷ 115 ∷ 58 ∷ 58 ∷ 82 ∷ 101 ∷ 115 ∷ 105 ∷ 100 ∷ 117 ∷ 101 ∷ 78 ∷ 117 ∷ 109 ∷ 98 ∷ 101 ∷ 114 ∷ [])
-      (Syntax.tcons (Syntax.tyInt Syntax.w32) Syntax.tnil)) (Syntax.tcons (Syntax.tyInt Syntax.w8) Syntax.tnil))))) (Syntax.tcons (Syntax.tyStruct (110 ∷ 97 ∷
-      109 ∷ 101 ∷ 115 ∷ 58 ∷ 58 ∷ 70 ∷ 111 ∷ 117 ∷ 114 ∷ []) (Syntax.tcons (Syntax.tyInt Syntax.w8) (Syntax.tcons (Syntax.tyInt Syntax.w8) (Syntax.tcons
-      (Syntax.tyInt Syntax.w8) (Syntax.tcons (Syntax.tyInt Syntax.w8) Syntax.tnil))))) (Syntax.tcons (Syntax.tyStruct (114 ∷ 101 ∷ 115 ∷ 105 ∷ 100 ∷ 117 ∷ 101 ∷
-      58 ∷ 58 ∷ 82 ∷ 101 ∷ 115 ∷ 105 ∷ 100 ∷ 117 ∷ 101 ∷ []) (Syntax.tcons (Syntax.tyStruct (110 ∷ 97 ∷ 109 ∷ 101 ∷ 115 ∷ 58 ∷ 58 ∷ 84 ∷ 104 ∷ 114 ∷ 101 ∷ 101 ∷
-      []) (Syntax.tcons (Syntax.tyInt Syntax.w8) (Syntax.tcons (Syntax.tyInt Syntax.w8) (Syntax.tcons (Syntax.tyInt Syntax.w8) Syntax.tnil)))) (Syntax.tcons
-      (Syntax.tyInt Syntax.w8) (Syntax.tcons (Syntax.tyStruct (102 ∷ 105 ∷ 101 ∷ 108 ∷ 100 ∷ 115 ∷ 58 ∷ 58 ∷ 82 ∷ 101 ∷ 115 ∷ 105 ∷ 100 ∷ 117 ∷ 101 ∷ 78 ∷ 117 ∷
-      109 ∷ 98 ∷ 101 ∷ 114 ∷ []) (Syntax.tcons (Syntax.tyInt Syntax.w32) Syntax.tnil)) (Syntax.tcons (Syntax.tyInt Syntax.w8) Syntax.tnil))))) Syntax.tnil)))))
-      Syntax.tnil) Syntax.ttnil))) Syntax.tnil))) Syntax.tnil) (Syntax.ttcons (Syntax.tcons (Syntax.tyStruct (99 ∷ 111 ∷ 110 ∷ 101 ∷ 99 ∷ 116 ∷ 58 ∷ 58 ∷ 67 ∷
-      111 ∷ 110 ∷ 101 ∷ 99 ∷ 116 ∷ []) (Syntax.tcons (Syntax.tyStruct (102 ∷ 105 ∷ 101 ∷ 108 ∷ 100 ∷ 115 ∷ 58 ∷ 58 ∷ 83 ∷ 101 ∷ 114 ∷ 105 ∷ 97 ∷ 108 ∷ [])
-      (Syntax.tcons (Syntax.tyInt Syntax.w32) Syntax.tnil)) (Syntax.tcons (Syntax.tyStruct (102 ∷ 105 ∷ 101 ∷ 108 ∷ 100 ∷ 115 ∷ 58 ∷ 58 ∷ 83 ∷ 101 ∷ 114 ∷ 105 ∷
-      97 ∷ 108 ∷ []) (Syntax.tcons (Syntax.tyInt Syntax.w32) Syntax.tnil)) (Syntax.tcons (Syntax.tyStruct (102 ∷ 105 ∷ 101 ∷ 108 ∷ 100 ∷ 115 ∷ 58 ∷ 58 ∷ 83 ∷ 101
-      ∷ 114 ∷ 105 ∷ 97 ∷ 108 ∷ []) (Syntax.tcons (Syntax.tyInt Syntax.w32) Syntax.tnil)) (Syntax.tcons (Syntax.tyStruct (102 ∷ 105 ∷ 101 ∷ 108 ∷ 100 ∷ 115 ∷ 58 ∷
-      58 ∷ 83 ∷ 101 ∷ 114 ∷ 105 ∷ 97 ∷ 108 ∷ []) (Syntax.tcons (Syntax.tyInt Syntax.w32) Syntax.tnil)) (Syntax.tcons (Syntax.tyStruct (102 ∷ 105 ∷ 101 ∷ 108 ∷
-      100 ∷ 115 ∷ 58 ∷ 58 ∷ 83 ∷ 101 ∷ 114 ∷ 105 ∷ 97 ∷ 108 ∷ []) (Syntax.tcons (Syntax.tyInt Syntax.w32) Syntax.tnil)) Syntax.tnil)))))) Syntax.tnil)
-      (Syntax.ttcons (Syntax.tcons (Syntax.tyStruct (109 ∷ 97 ∷ 115 ∷ 116 ∷ 101 ∷ 114 ∷ 58 ∷ 58 ∷ 84 ∷ 97 ∷ 108 ∷ 108 ∷ 121 ∷ []) (Syntax.tcons (Syntax.tyInt
-      Syntax.w32) (Syntax.tcons (Syntax.tyInt Syntax.w32) (Syntax.tcons (Syntax.tyInt Syntax.w32) (Syntax.tcons (Syntax.tyInt Syntax.w32) (Syntax.tcons
-      (Syntax.tyInt Syntax.w32) (Syntax.tcons (Syntax.tyInt Syntax.w32) (Syntax.tcons (Syntax.tyInt Syntax.w32) (Syntax.tcons (Syntax.tyInt Syntax.w32)
-      (Syntax.tcons (Syntax.tyInt Syntax.w32) Syntax.tnil)))))))))) Syntax.tnil) (Syntax.ttcons Syntax.tnil Syntax.ttnil)))))))) Syntax.tnil) Syntax.ttnil))))),
+  Rows'.any-gone (Syntax.tyStruct (112 ∷ 108 ∷ 97 ∷
+      99 ∷ 101 ∷ 115 ∷ 58 ∷ 58 ∷ 67 ∷ 111 ∷ 117 ∷ 110 ∷ 116 ∷ 115 ∷ []) (Syntax.tcons (Syntax.tyInt Syntax.w64) (Syntax.tcons (Syntax.tyInt Syntax.w64)
+      (Syntax.tcons (Syntax.tyInt Syntax.w64) (Syntax.tcons (Syntax.tyInt Syntax.w64) (Syntax.tcons (Syntax.tyInt Syntax.w64) (Syntax.tcons (Syntax.tyInt
+      Syntax.w64) (Syntax.tcons (Syntax.tyInt Syntax.w64) (Syntax.tcons (Syntax.tyInt Syntax.w64) (Syntax.tcons (Syntax.tyInt Syntax.w64) Syntax.tnil)))))))))),
 )
+    ∷ (
+      9,
+      Rows'.any-gone (Syntax.tyEnum (112 ∷ 105 ∷ 101 ∷ 99 ∷ 101 ∷ 115 ∷ 58 ∷ 58 ∷ 76 ∷ 105 ∷ 110 ∷ 101 ∷ []) (Syntax.ttcons (Syntax.tcons (Syntax.tyInt
+          Syntax.w8) Syntax.tnil) (Syntax.ttcons (Syntax.tcons (Syntax.tyEnum (107 ∷ 105 ∷ 110 ∷ 100 ∷ 115 ∷ 58 ∷ 58 ∷ 75 ∷ 105 ∷ 110 ∷ 100 ∷ []) (Syntax.ttcons
+          Syntax.tnil (Syntax.ttcons Syntax.tnil (Syntax.ttcons Syntax.tnil (Syntax.ttcons Syntax.tnil (Syntax.ttcons Syntax.tnil (Syntax.ttcons Syntax.tnil
+          (Syntax.ttcons Syntax.tnil (Syntax.ttcons Syntax.tnil (Syntax.ttcons Syntax.tnil (Syntax.ttcons Syntax.tnil (Syntax.ttcons Syntax.tnil (Syntax.ttcons
+          Syntax.tnil (Syntax.ttcons Syntax.tnil (Syntax.ttcons Syntax.tnil (Syntax.ttcons Syntax.tnil (Syntax.ttcons Syntax.tnil (Syntax.ttcons Syntax.tnil
+          (Syntax.ttcons Syntax.tnil (Syntax.ttcons Syntax.tnil (Syntax.ttcons Syntax.tnil (Syntax.ttcons Syntax.tnil (Syntax.ttcons Syntax.tnil (Syntax.ttcons
+          Syntax.tnil (Syntax.ttcons Syntax.tnil (Syntax.ttcons Syntax.tnil (Syntax.ttcons Syntax.tnil (Syntax.ttcons Syntax.tnil (Syntax.ttcons Syntax.tnil
+          Syntax.ttnil))))))))))))))))))))))))))))) (Syntax.tcons (Syntax.tyInt Syntax.w32) Syntax.tnil)) (Syntax.ttcons (Syntax.tcons (Syntax.tyEnum (107 ∷ 105 ∷
+          110 ∷ 100 ∷ 115 ∷ 58 ∷ 58 ∷ 75 ∷ 105 ∷ 110 ∷ 100 ∷ []) (Syntax.ttcons Syntax.tnil (Syntax.ttcons Syntax.tnil (Syntax.ttcons Syntax.tnil (Syntax.ttcons
+          Syntax.tnil (Syntax.ttcons Syntax.tnil (Syntax.ttcons Syntax.tnil (Syntax.ttcons Syntax.tnil (Syntax.ttcons Syntax.tnil (Syntax.ttcons Syntax.tnil
+          (Syntax.ttcons Syntax.tnil (Syntax.ttcons Syntax.tnil (Syntax.ttcons Syntax.tnil (Syntax.ttcons Syntax.tnil (Syntax.ttcons Syntax.tnil (Syntax.ttcons
+          Syntax.tnil (Syntax.ttcons Syntax.tnil (Syntax.ttcons Syntax.tnil (Syntax.ttcons Syntax.tnil (Syntax.ttcons Syntax.tnil (Syntax.ttcons Syntax.tnil
+          (Syntax.ttcons Syntax.tnil (Syntax.ttcons Syntax.tnil (Syntax.ttcons Syntax.tnil (Syntax.ttcons Syntax.tnil (Syntax.ttcons Syntax.tnil (Syntax.ttcons
+          Syntax.tnil (Syntax.ttcons Syntax.tnil (Syntax.ttcons Syntax.tnil Syntax.ttnil))))))))))))))))))))))))))))) Syntax.tnil) (Syntax.ttcons (Syntax.tcons
+          (Syntax.tyEnum (108 ∷ 105 ∷ 110 ∷ 101 ∷ 58 ∷ 58 ∷ 82 ∷ 101 ∷ 99 ∷ 111 ∷ 114 ∷ 100 ∷ []) (Syntax.ttcons (Syntax.tcons Syntax.tyBool (Syntax.tcons
+          (Syntax.tyStruct (99 ∷ 111 ∷ 111 ∷ 114 ∷ 100 ∷ 105 ∷ 110 ∷ 97 ∷ 116 ∷ 101 ∷ 58 ∷ 58 ∷ 65 ∷ 116 ∷ 111 ∷ 109 ∷ []) (Syntax.tcons (Syntax.tyStruct (99 ∷ 111 ∷
+          111 ∷ 114 ∷ 100 ∷ 105 ∷ 110 ∷ 97 ∷ 116 ∷ 101 ∷ 58 ∷ 58 ∷ 73 ∷ 100 ∷ 101 ∷ 110 ∷ 116 ∷ 105 ∷ 116 ∷ 121 ∷ []) (Syntax.tcons (Syntax.tyStruct (102 ∷ 105 ∷ 101
+          ∷ 108 ∷ 100 ∷ 115 ∷ 58 ∷ 58 ∷ 83 ∷ 101 ∷ 114 ∷ 105 ∷ 97 ∷ 108 ∷ []) (Syntax.tcons (Syntax.tyInt Syntax.w32) Syntax.tnil)) (Syntax.tcons (Syntax.tyStruct
+          (110 ∷ 97 ∷ 109 ∷ 101 ∷ 115 ∷ 58 ∷ 58 ∷ 70 ∷ 111 ∷ 117 ∷ 114 ∷ []) (Syntax.tcons (Syntax.tyInt Syntax.w8) (Syntax.tcons (Syntax.tyInt Syntax.w8)
+          (Syntax.tcons (Syntax.tyInt Syntax.w8) (Syntax.tcons (Syntax.tyInt Syntax.w8) Syntax.tnil))))) (Syntax.tcons (Syntax.tyInt Syntax.w8) (Syntax.tcons
+          (Syntax.tyStruct (114 ∷ 101 ∷ 115 ∷ 105 ∷ 100 ∷ 117 ∷ 101 ∷ 58 ∷ 58 ∷ 82 ∷ 101 ∷ 115 ∷ 105 ∷ 100 ∷ 117 ∷ 101 ∷ []) (Syntax.tcons (Syntax.tyStruct (110 ∷ 97
+          ∷ 109 ∷ 101 ∷ 115 ∷ 58 ∷ 58 ∷ 84 ∷ 104 ∷ 114 ∷ 101 ∷ 101 ∷ []) (Syntax.tcons (Syntax.tyInt Syntax.w8) (Syntax.tcons (Syntax.tyInt Syntax.w8) (Syntax.tcons
+          (Syntax.tyInt Syntax.w8) Syntax.tnil)))) (Syntax.tcons (Syntax.tyInt Syntax.w8) (Syntax.tcons (Syntax.tyStruct (102 ∷ 105 ∷ 101 ∷ 108 ∷ 100 ∷ 115 ∷ 58 ∷ 58
+          ∷ 82 ∷ 101 ∷ 115 ∷ 105 ∷ 100 ∷ 117 ∷ 101 ∷ 78 ∷ 117 ∷ 109 ∷ 98 ∷ 101 ∷ 114 ∷ []) (Syntax.tcons (Syntax.tyInt Syntax.w32) Syntax.tnil)) (Syntax.tcons
+          (Syntax.tyInt Syntax.w8) Syntax.tnil))))) Syntax.tnil))))) (Syntax.tcons (Syntax.tyStruct (99 ∷ 111 ∷ 111 ∷ 114 ∷ 100 ∷ 105 ∷ 110 ∷ 97 ∷ 116 ∷ 101 ∷ 58 ∷
+          58 ∷ 77 ∷ 101 ∷ 97 ∷ 115 ∷ 117 ∷ 114 ∷ 101 ∷ []) (Syntax.tcons (Syntax.tyStruct (99 ∷ 111 ∷ 111 ∷ 114 ∷ 100 ∷ 105 ∷ 110 ∷ 97 ∷ 116 ∷ 101 ∷ 58 ∷ 58 ∷ 80 ∷
+          111 ∷ 115 ∷ 105 ∷ 116 ∷ 105 ∷ 111 ∷ 110 ∷ []) (Syntax.tcons (Syntax.tyInt Syntax.w32) (Syntax.tcons (Syntax.tyInt Syntax.w32) (Syntax.tcons (Syntax.tyInt
+          Syntax.w32) Syntax.tnil)))) (Syntax.tcons (Syntax.tyInt Syntax.w32) (Syntax.tcons (Syntax.tyInt Syntax.w32) Syntax.tnil)))) (Syntax.tcons (Syntax.tyStruct
+          (99 ∷ 111 ∷ 111 ∷ 114 ∷ 100 ∷ 105 ∷ 110 ∷ 97 ∷ 116 ∷ 101 ∷ 58 ∷ 58 ∷ 83 ∷ 112 ∷ 101 ∷ 99 ∷ 105 ∷ 101 ∷ 115 ∷ []) (Syntax.tcons (Syntax.tyStruct (110 ∷ 97 ∷
+          109 ∷ 101 ∷ 115 ∷ 58 ∷ 58 ∷ 80 ∷ 97 ∷ 105 ∷ 114 ∷ []) (Syntax.tcons (Syntax.tyInt Syntax.w8) (Syntax.tcons (Syntax.tyInt Syntax.w8) Syntax.tnil)))
+          (Syntax.tcons (Syntax.tyStruct (110 ∷ 97 ∷ 109 ∷ 101 ∷ 115 ∷ 58 ∷ 58 ∷ 80 ∷ 97 ∷ 105 ∷ 114 ∷ []) (Syntax.tcons (Syntax.tyInt Syntax.w8) (Syntax.tcons
+          (Syntax.tyInt Syntax.w8) Syntax.tnil))) Syntax.tnil))) Syntax.tnil)))) Syntax.tnil)) (Syntax.ttcons (Syntax.tcons (Syntax.tyStruct (116 ∷ 101 ∷ 114 ∷ 58 ∷
+          58 ∷ 84 ∷ 101 ∷ 114 ∷ []) (Syntax.tcons (Syntax.tyStruct (102 ∷ 105 ∷ 101 ∷ 108 ∷ 100 ∷ 115 ∷ 58 ∷ 58 ∷ 83 ∷ 101 ∷ 114 ∷ 105 ∷ 97 ∷ 108 ∷ []) (Syntax.tcons
+          (Syntax.tyInt Syntax.w32) Syntax.tnil)) (Syntax.tcons (Syntax.tyStruct (114 ∷ 101 ∷ 115 ∷ 105 ∷ 100 ∷ 117 ∷ 101 ∷ 58 ∷ 58 ∷ 82 ∷ 101 ∷ 115 ∷ 105 ∷ 100 ∷
+          117 ∷ 101 ∷ []) (Syntax.tcons (Syntax.tyStruct (110 ∷ 97 ∷ 109 ∷ 101 ∷ 115 ∷ 58 ∷ 58 ∷ 84 ∷ 104 ∷ 114 ∷ 101 ∷ 101 ∷ []) (Syntax.tcons (Syntax.tyInt
+          Syntax.w8) (Syntax.tcons (Syntax.tyInt Syntax.w8) (Syntax.tcons (Syntax.tyInt Syntax.w8) Syntax.tnil)))) (Syntax.tcons (Syntax.tyInt Syntax.w8)
+          (Syntax.tcons (Syntax.tyStruct (102 ∷ 105 ∷ 101 ∷ 108 ∷ 100 ∷ 115 ∷ 58 ∷ 58 ∷ 82 ∷ 101 ∷ 115 ∷ 105 ∷ 100 ∷ 117 ∷ 101 ∷ 78 ∷ 117 ∷ 109 ∷ 98 ∷ 101 ∷ 114 ∷
+          []) (Syntax.tcons (Syntax.tyInt Syntax.w32) Syntax.tnil)) (Syntax.tcons (Syntax.tyInt Syntax.w8) Syntax.tnil))))) Syntax.tnil))) Syntax.tnil)
+          (Syntax.ttcons (Syntax.tcons (Syntax.tyStruct (104 ∷ 101 ∷ 108 ∷ 105 ∷ 120 ∷ 58 ∷ 58 ∷ 72 ∷ 101 ∷ 108 ∷ 105 ∷ 120 ∷ []) (Syntax.tcons (Syntax.tyStruct (104
+          ∷ 101 ∷ 108 ∷ 105 ∷ 120 ∷ 58 ∷ 58 ∷ 69 ∷ 120 ∷ 116 ∷ 101 ∷ 110 ∷ 116 ∷ []) (Syntax.tcons (Syntax.tyInt Syntax.w32) (Syntax.tcons (Syntax.tyStruct (110 ∷ 97
+          ∷ 109 ∷ 101 ∷ 115 ∷ 58 ∷ 58 ∷ 84 ∷ 104 ∷ 114 ∷ 101 ∷ 101 ∷ []) (Syntax.tcons (Syntax.tyInt Syntax.w8) (Syntax.tcons (Syntax.tyInt Syntax.w8) (Syntax.tcons
+          (Syntax.tyInt Syntax.w8) Syntax.tnil)))) (Syntax.tcons (Syntax.tyStruct (114 ∷ 101 ∷ 115 ∷ 105 ∷ 100 ∷ 117 ∷ 101 ∷ 58 ∷ 58 ∷ 82 ∷ 101 ∷ 115 ∷ 105 ∷ 100 ∷
+          117 ∷ 101 ∷ []) (Syntax.tcons (Syntax.tyStruct (110 ∷ 97 ∷ 109 ∷ 101 ∷ 115 ∷ 58 ∷ 58 ∷ 84 ∷ 104 ∷ 114 ∷ 101 ∷ 101 ∷ []) (Syntax.tcons (Syntax.tyInt
+          Syntax.w8) (Syntax.tcons (Syntax.tyInt Syntax.w8) (Syntax.tcons (Syntax.tyInt Syntax.w8) Syntax.tnil)))) (Syntax.tcons (Syntax.tyInt Syntax.w8)
+          (Syntax.tcons (Syntax.tyStruct (102 ∷ 105 ∷ 101 ∷ 108 ∷ 100 ∷ 115 ∷ 58 ∷ 58 ∷ 82 ∷ 101 ∷ 115 ∷ 105 ∷ 100 ∷ 117 ∷ 101 ∷ 78 ∷ 117 ∷ 109 ∷ 98 ∷ 101 ∷ 114 ∷
+          []) (Syntax.tcons (Syntax.tyInt Syntax.w32) Syntax.tnil)) (Syntax.tcons (Syntax.tyInt Syntax.w8) Syntax.tnil))))) (Syntax.tcons (Syntax.tyStruct (114 ∷ 101
+          ∷ 115 ∷ 105 ∷ 100 ∷ 117 ∷ 101 ∷ 58 ∷ 58 ∷ 82 ∷ 101 ∷ 115 ∷ 105 ∷ 100 ∷ 117 ∷ 101 ∷ []) (Syntax.tcons (Syntax.tyStruct (110 ∷ 97 ∷ 109 ∷ 101 ∷ 115 ∷ 58 ∷ 58
+          ∷ 84 ∷ 104 ∷ 114 ∷ 101 ∷ 101 ∷ []) (Syntax.tcons (Syntax.tyInt Syntax.w8) (Syntax.tcons (Syntax.tyInt Syntax.w8) (Syntax.tcons (Syntax.tyInt Syntax.w8)
+          Syntax.tnil)))) (Syntax.tcons (Syntax.tyInt Syntax.w8) (Syntax.tcons (Syntax.tyStruct (102 ∷ 105 ∷ 101 ∷ 108 ∷ 100 ∷ 115 ∷ 58 ∷ 58 ∷ 82 ∷ 101 ∷ 115 ∷ 105 ∷
+          100 ∷ 117 ∷ 101 ∷ 78 ∷ 117 ∷ 109 ∷ 98 ∷ 101 ∷ 114 ∷ []) (Syntax.tcons (Syntax.tyInt Syntax.w32) Syntax.tnil)) (Syntax.tcons (Syntax.tyInt Syntax.w8)
+          Syntax.tnil))))) Syntax.tnil))))) (Syntax.tcons (Syntax.tyInt Syntax.w32) (Syntax.tcons (Syntax.tyStruct (104 ∷ 101 ∷ 108 ∷ 105 ∷ 120 ∷ 58 ∷ 58 ∷ 67 ∷ 111
+          ∷ 109 ∷ 109 ∷ 101 ∷ 110 ∷ 116 ∷ []) (Syntax.tcons (Syntax.tyInt Syntax.w64) (Syntax.tcons (Syntax.tyInt Syntax.w64) (Syntax.tcons (Syntax.tyInt Syntax.w64)
+          (Syntax.tcons (Syntax.tyInt Syntax.w64) Syntax.tnil))))) (Syntax.tcons (Syntax.tyInt Syntax.w32) Syntax.tnil))))) Syntax.tnil) (Syntax.ttcons (Syntax.tcons
+          (Syntax.tyStruct (115 ∷ 104 ∷ 101 ∷ 101 ∷ 116 ∷ 58 ∷ 58 ∷ 83 ∷ 104 ∷ 101 ∷ 101 ∷ 116 ∷ []) (Syntax.tcons (Syntax.tyStruct (115 ∷ 104 ∷ 101 ∷ 101 ∷ 116 ∷ 58
+          ∷ 58 ∷ 83 ∷ 116 ∷ 114 ∷ 97 ∷ 110 ∷ 100 ∷ []) (Syntax.tcons (Syntax.tyInt Syntax.w32) (Syntax.tcons (Syntax.tyStruct (110 ∷ 97 ∷ 109 ∷ 101 ∷ 115 ∷ 58 ∷ 58 ∷
+          84 ∷ 104 ∷ 114 ∷ 101 ∷ 101 ∷ []) (Syntax.tcons (Syntax.tyInt Syntax.w8) (Syntax.tcons (Syntax.tyInt Syntax.w8) (Syntax.tcons (Syntax.tyInt Syntax.w8)
+          Syntax.tnil)))) (Syntax.tcons (Syntax.tyInt Syntax.w32) (Syntax.tcons (Syntax.tyStruct (114 ∷ 101 ∷ 115 ∷ 105 ∷ 100 ∷ 117 ∷ 101 ∷ 58 ∷ 58 ∷ 82 ∷ 101 ∷ 115
+          ∷ 105 ∷ 100 ∷ 117 ∷ 101 ∷ []) (Syntax.tcons (Syntax.tyStruct (110 ∷ 97 ∷ 109 ∷ 101 ∷ 115 ∷ 58 ∷ 58 ∷ 84 ∷ 104 ∷ 114 ∷ 101 ∷ 101 ∷ []) (Syntax.tcons
+          (Syntax.tyInt Syntax.w8) (Syntax.tcons (Syntax.tyInt Syntax.w8) (Syntax.tcons (Syntax.tyInt Syntax.w8) Syntax.tnil)))) (Syntax.tcons (Syntax.tyInt
+          Syntax.w8) (Syntax.tcons (Syntax.tyStruct (102 ∷ 105 ∷ 101 ∷ 108 ∷ 100 ∷ 115 ∷ 58 ∷ 58 ∷ 82 ∷ 101 ∷ 115 ∷ 105 ∷ 100 ∷ 117 ∷ 101 ∷ 78 ∷ 117 ∷ 109 ∷ 98 ∷ 101
+          ∷ 114 ∷ []) (Syntax.tcons (Syntax.tyInt Syntax.w32) Syntax.tnil)) (Syntax.tcons (Syntax.tyInt Syntax.w8) Syntax.tnil))))) (Syntax.tcons (Syntax.tyStruct
+          (114 ∷ 101 ∷ 115 ∷ 105 ∷ 100 ∷ 117 ∷ 101 ∷ 58 ∷ 58 ∷ 82 ∷ 101 ∷ 115 ∷ 105 ∷ 100 ∷ 117 ∷ 101 ∷ []) (Syntax.tcons (Syntax.tyStruct (110 ∷ 97 ∷ 109 ∷ 101 ∷
+          115 ∷ 58 ∷ 58 ∷ 84 ∷ 104 ∷ 114 ∷ 101 ∷ 101 ∷ []) (Syntax.tcons (Syntax.tyInt Syntax.w8) (Syntax.tcons (Syntax.tyInt Syntax.w8) (Syntax.tcons (Syntax.tyInt
+          Syntax.w8) Syntax.tnil)))) (Syntax.tcons (Syntax.tyInt Syntax.w8) (Syntax.tcons (Syntax.tyStruct (102 ∷ 105 ∷ 101 ∷ 108 ∷ 100 ∷ 115 ∷ 58 ∷ 58 ∷ 82 ∷ 101 ∷
+          115 ∷ 105 ∷ 100 ∷ 117 ∷ 101 ∷ 78 ∷ 117 ∷ 109 ∷ 98 ∷ 101 ∷ 114 ∷ []) (Syntax.tcons (Syntax.tyInt Syntax.w32) Syntax.tnil)) (Syntax.tcons (Syntax.tyInt
+          Syntax.w8) Syntax.tnil))))) (Syntax.tcons (Syntax.tyInt Syntax.w32) Syntax.tnil))))))) (Syntax.tcons (Syntax.tyEnum (115 ∷ 104 ∷ 101 ∷ 101 ∷ 116 ∷ 58 ∷ 58
+          ∷ 82 ∷ 101 ∷ 103 ∷ 105 ∷ 115 ∷ 116 ∷ 114 ∷ 97 ∷ 116 ∷ 105 ∷ 111 ∷ 110 ∷ []) (Syntax.ttcons Syntax.tnil (Syntax.ttcons (Syntax.tcons (Syntax.tyStruct (115 ∷
+          104 ∷ 101 ∷ 101 ∷ 116 ∷ 58 ∷ 58 ∷ 66 ∷ 111 ∷ 110 ∷ 100 ∷ []) (Syntax.tcons (Syntax.tyStruct (110 ∷ 97 ∷ 109 ∷ 101 ∷ 115 ∷ 58 ∷ 58 ∷ 70 ∷ 111 ∷ 117 ∷ 114 ∷
+          []) (Syntax.tcons (Syntax.tyInt Syntax.w8) (Syntax.tcons (Syntax.tyInt Syntax.w8) (Syntax.tcons (Syntax.tyInt Syntax.w8) (Syntax.tcons (Syntax.tyInt
+          Syntax.w8) Syntax.tnil))))) (Syntax.tcons (Syntax.tyStruct (114 ∷ 101 ∷ 115 ∷ 105 ∷ 100 ∷ 117 ∷ 101 ∷ 58 ∷ 58 ∷ 82 ∷ 101 ∷ 115 ∷ 105 ∷ 100 ∷ 117 ∷ 101 ∷
+          []) (Syntax.tcons (Syntax.tyStruct (110 ∷ 97 ∷ 109 ∷ 101 ∷ 115 ∷ 58 ∷ 58 ∷ 84 ∷ 104 ∷ 114 ∷ 101 ∷ 101 ∷ []) (Syntax.tcons (Syntax.tyInt Syntax.w8)
+          (Syntax.tcons (Syntax.tyInt Syntax.w8) (Syntax.tcons (Syntax.tyInt Syntax.w8) Syntax.tnil)))) (Syntax.tcons (Syntax.tyInt Syntax.w8) (Syntax.tcons
+          (Syntax.tyStruct (102 ∷ 105 ∷ 101 ∷ 108 ∷ 100 ∷ 115 ∷ 58 ∷ 58 ∷ 82 ∷ 101 ∷ 115 ∷ 105 ∷ 100 ∷ 117 ∷ 101 ∷ 78 ∷ 117 ∷ 109 ∷ 98 ∷ 101 ∷ 114 ∷ [])
+          (Syntax.tcons (Syntax.tyInt Syntax.w32) Syntax.tnil)) (Syntax.tcons (Syntax.tyInt Syntax.w8) Syntax.tnil))))) (Syntax.tcons (Syntax.tyStruct (110 ∷ 97 ∷
+          109 ∷ 101 ∷ 115 ∷ 58 ∷ 58 ∷ 70 ∷ 111 ∷ 117 ∷ 114 ∷ []) (Syntax.tcons (Syntax.tyInt Syntax.w8) (Syntax.tcons (Syntax.tyInt Syntax.w8) (Syntax.tcons
+          (Syntax.tyInt Syntax.w8) (Syntax.tcons (Syntax.tyInt Syntax.w8) Syntax.tnil))))) (Syntax.tcons (Syntax.tyStruct (114 ∷ 101 ∷ 115 ∷ 105 ∷ 100 ∷ 117 ∷ 101 ∷
+          58 ∷ 58 ∷ 82 ∷ 101 ∷ 115 ∷ 105 ∷ 100 ∷ 117 ∷ 101 ∷ []) (Syntax.tcons (Syntax.tyStruct (110 ∷ 97 ∷ 109 ∷ 101 ∷ 115 ∷ 58 ∷ 58 ∷ 84 ∷ 104 ∷ 114 ∷ 101 ∷ 101 ∷
+          []) (Syntax.tcons (Syntax.tyInt Syntax.w8) (Syntax.tcons (Syntax.tyInt Syntax.w8) (Syntax.tcons (Syntax.tyInt Syntax.w8) Syntax.tnil)))) (Syntax.tcons
+          (Syntax.tyInt Syntax.w8) (Syntax.tcons (Syntax.tyStruct (102 ∷ 105 ∷ 101 ∷ 108 ∷ 100 ∷ 115 ∷ 58 ∷ 58 ∷ 82 ∷ 101 ∷ 115 ∷ 105 ∷ 100 ∷ 117 ∷ 101 ∷ 78 ∷ 117 ∷
+          109 ∷ 98 ∷ 101 ∷ 114 ∷ []) (Syntax.tcons (Syntax.tyInt Syntax.w32) Syntax.tnil)) (Syntax.tcons (Syntax.tyInt Syntax.w8) Syntax.tnil))))) Syntax.tnil)))))
+          Syntax.tnil) Syntax.ttnil))) Syntax.tnil))) Syntax.tnil) (Syntax.ttcons (Syntax.tcons (Syntax.tyStruct (99 ∷ 111 ∷ 110 ∷ 101 ∷ 99 ∷ 116 ∷ 58 ∷ 58 ∷ 67 ∷
+          111 ∷ 110 ∷ 101 ∷ 99 ∷ 116 ∷ []) (Syntax.tcons (Syntax.tyStruct (102 ∷ 105 ∷ 101 ∷ 108 ∷ 100 ∷ 115 ∷ 58 ∷ 58 ∷ 83 ∷ 101 ∷ 114 ∷ 105 ∷ 97 ∷ 108 ∷ [])
+          (Syntax.tcons (Syntax.tyInt Syntax.w32) Syntax.tnil)) (Syntax.tcons (Syntax.tyStruct (102 ∷ 105 ∷ 101 ∷ 108 ∷ 100 ∷ 115 ∷ 58 ∷ 58 ∷ 83 ∷ 101 ∷ 114 ∷ 105 ∷
+          97 ∷ 108 ∷ []) (Syntax.tcons (Syntax.tyInt Syntax.w32) Syntax.tnil)) (Syntax.tcons (Syntax.tyStruct (102 ∷ 105 ∷ 101 ∷ 108 ∷ 100 ∷ 115 ∷ 58 ∷ 58 ∷ 83 ∷ 101
+          ∷ 114 ∷ 105 ∷ 97 ∷ 108 ∷ []) (Syntax.tcons (Syntax.tyInt Syntax.w32) Syntax.tnil)) (Syntax.tcons (Syntax.tyStruct (102 ∷ 105 ∷ 101 ∷ 108 ∷ 100 ∷ 115 ∷ 58 ∷
+          58 ∷ 83 ∷ 101 ∷ 114 ∷ 105 ∷ 97 ∷ 108 ∷ []) (Syntax.tcons (Syntax.tyInt Syntax.w32) Syntax.tnil)) (Syntax.tcons (Syntax.tyStruct (102 ∷ 105 ∷ 101 ∷ 108 ∷
+          100 ∷ 115 ∷ 58 ∷ 58 ∷ 83 ∷ 101 ∷ 114 ∷ 105 ∷ 97 ∷ 108 ∷ []) (Syntax.tcons (Syntax.tyInt Syntax.w32) Syntax.tnil)) Syntax.tnil)))))) Syntax.tnil)
+          (Syntax.ttcons (Syntax.tcons (Syntax.tyStruct (109 ∷ 97 ∷ 115 ∷ 116 ∷ 101 ∷ 114 ∷ 58 ∷ 58 ∷ 84 ∷ 97 ∷ 108 ∷ 108 ∷ 121 ∷ []) (Syntax.tcons (Syntax.tyInt
+          Syntax.w32) (Syntax.tcons (Syntax.tyInt Syntax.w32) (Syntax.tcons (Syntax.tyInt Syntax.w32) (Syntax.tcons (Syntax.tyInt Syntax.w32) (Syntax.tcons
+          (Syntax.tyInt Syntax.w32) (Syntax.tcons (Syntax.tyInt Syntax.w32) (Syntax.tcons (Syntax.tyInt Syntax.w32) (Syntax.tcons (Syntax.tyInt Syntax.w32)
+          (Syntax.tcons (Syntax.tyInt Syntax.w32) Syntax.tnil)))))))))) Syntax.tnil) (Syntax.ttcons Syntax.tnil Syntax.ttnil)))))))) Syntax.tnil) Syntax.ttnil))))),
+    )
     ∷ (10, Rows'.any-gone SlotAs.ty) ∷ (11, Rows'.any-gone Syntax.tyBool) ∷ (12, Rows'.any-gone (Syntax.tyInt Syntax.w64)) ∷ (
       13,
       Rows'.any-gone (Syntax.tyInt
@@ -1824,104 +1834,105 @@ t12 = (0, Rows'.any-gone Syntax.tyUnit) ∷ (
       Syntax.w64),
 ) ∷ (6, Rows'.sc-here (Row.sInt Syntax.w64)) ∷ (7, Rows'.sc-here (Row.sInt Syntax.w64)) ∷ (
   8,
-  Rows'.any-gone (Syntax.tyStruct (114 ∷ 117 ∷ 108 ∷
-      101 ∷ 115 ∷ 58 ∷ 58 ∷ 67 ∷ 111 ∷ 117 ∷ 110 ∷ 116 ∷ 115 ∷ []) (Syntax.tcons (Syntax.tyInt Syntax.w64) (Syntax.tcons (Syntax.tyInt Syntax.w64) (Syntax.tcons
-      (Syntax.tyInt Syntax.w64) (Syntax.tcons (Syntax.tyInt Syntax.w64) (Syntax.tcons (Syntax.tyInt Syntax.w64) (Syntax.tcons (Syntax.tyInt Syntax.w64)
-      (Syntax.tcons (Syntax.tyInt Syntax.w64) (Syntax.tcons (Syntax.tyInt Syntax.w64) (Syntax.tcons (Syntax.tyInt Syntax.w64) Syntax.tnil)))))))))),
-) ∷ (
-  9,
-  Rows'.any-gone (Syntax.tyEnum (112 ∷ 105 ∷ 101 ∷ 99 ∷ 101 ∷ 115 ∷ 58 ∷ 58 ∷ 76 ∷ 105 ∷ 110 ∷ 101 ∷ []) (Syntax.ttcons (Syntax.tcons (Syntax.tyInt
-      Syntax.w8) Syntax.tnil) (Syntax.ttcons (Syntax.tcons (Syntax.tyEnum (107 ∷ 105 ∷ 110 ∷ 100 ∷ 115 ∷ 58 ∷ 58 ∷ 75 ∷ 105 ∷ 110 ∷ 100 ∷ []) (Syntax.ttcons
-      Syntax.tnil (Syntax.ttcons Syntax.tnil (Syntax.ttcons Syntax.tnil (Syntax.ttcons Syntax.tnil (Syntax.ttcons Syntax.tnil (Syntax.ttcons Syntax.tnil
-      (Syntax.ttcons Syntax.tnil (Syntax.ttcons Syntax.tnil (Syntax.ttcons Syntax.tnil (Syntax.ttcons Syntax.tnil (Syntax.ttcons Syntax.tnil (Syntax.ttcons
-      Syntax.tnil (Syntax.ttcons Syntax.tnil (Syntax.ttcons Syntax.tnil (Syntax.ttcons Syntax.tnil (Syntax.ttcons Syntax.tnil (Syntax.ttcons Syntax.tnil
-      (Syntax.ttcons Syntax.tnil (Syntax.ttcons Syntax.tnil (Syntax.ttcons Syntax.tnil (Syntax.ttcons Syntax.tnil (Syntax.ttcons Syntax.tnil (Syntax.ttcons
-      Syntax.tnil (Syntax.ttcons Syntax.tnil (Syntax.ttcons Syntax.tnil (Syntax.ttcons Syntax.tnil (Syntax.ttcons Syntax.tnil (Syntax.ttcons Syntax.tnil
-      Syntax.ttnil))))))))))))))))))))))))))))) (Syntax.tcons (Syntax.tyInt Syntax.w32) Syntax.tnil)) (Syntax.ttcons (Syntax.tcons (Syntax.tyEnum (107 ∷ 105 ∷
-      110 ∷ 100 ∷ 115 ∷ 58 ∷ 58 ∷ 75 ∷ 105 ∷ 110 ∷ 100 ∷ []) (Syntax.ttcons Syntax.tnil (Syntax.ttcons Syntax.tnil (Syntax.ttcons Syntax.tnil (Syntax.ttcons
-      Syntax.tnil (Syntax.ttcons Syntax.tnil (Syntax.ttcons Syntax.tnil (Syntax.ttcons Syntax.tnil (Syntax.ttcons Syntax.tnil (Syntax.ttcons Syntax.tnil
-      (Syntax.ttcons Syntax.tnil (Syntax.ttcons Syntax.tnil (Syntax.ttcons Syntax.tnil (Syntax.ttcons Syntax.tnil (Syntax.ttcons Syntax.tnil (Syntax.ttcons
-      Syntax.tnil (Syntax.ttcons Syntax.tnil (Syntax.ttcons Syntax.tnil (Syntax.ttcons Syntax.tnil (Syntax.ttcons Syntax.tnil (Syntax.ttcons Syntax.tnil
-      (Syntax.ttcons Syntax.tnil (Syntax.ttcons Syntax.tnil (Syntax.ttcons Syntax.tnil (Syntax.ttcons Syntax.tnil (Syntax.ttcons Syntax.tnil (Syntax.ttcons
-      Syntax.tnil (Syntax.ttcons Syntax.tnil (Syntax.ttcons Syntax.tnil Syntax.ttnil))))))))))))))))))))))))))))) Syntax.tnil) (Syntax.ttcons (Syntax.tcons
-      (Syntax.tyEnum (108 ∷ 105 ∷ 110 ∷ 101 ∷ 58 ∷ 58 ∷ 82 ∷ 101 ∷ 99 ∷ 111 ∷ 114 ∷ 100 ∷ []) (Syntax.ttcons (Syntax.tcons Syntax.tyBool (Syntax.tcons
-      (Syntax.tyStruct (99 ∷ 111 ∷ 111 ∷ 114 ∷ 100 ∷ 105 ∷ 110 ∷ 97 ∷ 116 ∷ 101 ∷ 58 ∷ 58 ∷ 65 ∷ 116 ∷ 111 ∷ 109 ∷ []) (Syntax.tcons (Syntax.tyStruct (99 ∷ 111 ∷
-      111 ∷ 114 ∷ 100 ∷ 105 ∷ 110 ∷ 97 ∷ 116 ∷ 101 ∷ 58 ∷ 58 ∷ 73 ∷ 100 ∷ 101 ∷ 110 ∷ 116 ∷ 105 ∷ 116 ∷ 121 ∷ []) (Syntax.tcons (Syntax.tyStruct (102 ∷ 105 ∷ 101
-      ∷ 108 ∷ 100 ∷ 115 ∷ 58 ∷ 58 ∷ 83 ∷ 101 ∷ 114 ∷ 105 ∷ 97 ∷ 108 ∷ []) (Syntax.tcons (Syntax.tyInt Syntax.w32) Syntax.tnil)) (Syntax.tcons (Syntax.tyStruct
-      (110 ∷ 97 ∷ 109 ∷ 101 ∷ 115 ∷ 58 ∷ 58 ∷ 70 ∷ 111 ∷ 117 ∷ 114 ∷ []) (Syntax.tcons (Syntax.tyInt Syntax.w8) (Syntax.tcons (Syntax.tyInt Syntax.w8)
-      (Syntax.tcons (Syntax.tyInt Syntax.w8) (Syntax.tcons (Syntax.tyInt Syntax.w8) Syntax.tnil))))) (Syntax.tcons (Syntax.tyInt Syntax.w8) (Syntax.tcons
-      (Syntax.tyStruct (114 ∷ 101 ∷ 115 ∷ 105 ∷ 100 ∷ 117 ∷ 101 ∷ 58 ∷ 58 ∷ 82 ∷ 101 ∷ 115 ∷ 105 ∷ 100 ∷ 117 ∷ 101 ∷ []) (Syntax.tcons (Syntax.tyStruct (110 ∷ 97
-      ∷ 109 ∷ 101 ∷ 115 ∷ 58 ∷ 58 ∷ 84 ∷ 104 ∷ 114 ∷ 101 ∷ 101 ∷ []) (Syntax.tcons (Syntax.tyInt Syntax.w8) (Syntax.tcons (Syntax.tyInt Syntax.w8) (Syntax.tcons
-      (Syntax.tyInt Syntax.w8) Syntax.tnil)))) (Syntax.tcons (Syntax.tyInt Syntax.w8) (Syntax.tcons (Syntax.tyStruct (102 ∷ 105 ∷ 101 ∷ 108 ∷ 100 ∷ 115 ∷ 58 ∷ 58
-      ∷ 82 ∷ 101 ∷ 115 ∷ 105 ∷ 100 ∷ 117 ∷ 101 ∷ 78 ∷ 117 ∷ 109 ∷ 98 ∷ 101 ∷ 114 ∷ []) (Syntax.tcons (Syntax.tyInt Syntax.w32) Syntax.tnil)) (Syntax.tcons
-      (Syntax.tyInt Syntax.w8) Syntax.tnil))))) Syntax.tnil))))) (Syntax.tcons (Syntax.tyStruct (99 ∷ 111 ∷ 111 ∷ 114 ∷ 100 ∷ 105 ∷ 110 ∷ 97 ∷ 116 ∷ 101 ∷ 58 ∷
-      58 ∷ 77 ∷ 101 ∷ 97 ∷ 115 ∷ 117 ∷ 114 ∷ 101 ∷ []) (Syntax.tcons (Syntax.tyStruct (99 ∷ 111 ∷ 111 ∷ 114 ∷ 100 ∷ 105 ∷ 110 ∷ 97 ∷ 116 ∷ 101 ∷ 58 ∷ 58 ∷ 80 ∷
-      111 ∷ 115 ∷ 105 ∷ 116 ∷ 105 ∷ 111 ∷ 110 ∷ []) (Syntax.tcons (Syntax.tyInt Syntax.w32) (Syntax.tcons (Syntax.tyInt Syntax.w32) (Syntax.tcons (Syntax.tyInt
-      Syntax.w32) Syntax.tnil)))) (Syntax.tcons (Syntax.tyInt Syntax.w32) (Syntax.tcons (Syntax.tyInt Syntax.w32) Syntax.tnil)))) (Syntax.tcons (Syntax.tyStruct
-      (99 ∷ 111 ∷ 111 ∷ 114 ∷ 100 ∷ 105 ∷ 110 ∷ 97 ∷ 116 ∷ 101 ∷ 58 ∷ 58 ∷ 83 ∷ 112 ∷ 101 ∷ 99 ∷ 105 ∷ 101 ∷ 115 ∷ []) (Syntax.tcons (Syntax.tyStruct (110 ∷ 97 ∷
-      109 ∷ 101 ∷ 115 ∷ 58 ∷ 58 ∷ 80 ∷ 97 ∷ 105 ∷ 114 ∷ []) (Syntax.tcons (Syntax.tyInt Syntax.w8) (Syntax.tcons (Syntax.tyInt Syntax.w8) Syntax.tnil)))
-      (Syntax.tcons (Syntax.tyStruct (110 ∷ 97 ∷ 109 ∷ 101 ∷ 115 ∷ 58 ∷ 58 ∷ 80 ∷ 97 ∷ 105 ∷ 114 ∷ []) (Syntax.tcons (Syntax.tyInt Syntax.w8) (Syntax.tcons
-      (Syntax.tyInt Syntax.w8) Syntax.tnil))) Syntax.tnil))) Syntax.tnil)))) Syntax.tnil)) (Syntax.ttcons (Syntax.tcons (Syntax.tyStruct (116 ∷ 101 ∷ 114 ∷ 58 ∷
-      58 ∷ 84 ∷ 101 ∷ 114 ∷ []) (Syntax.tcons (Syntax.tyStruct (102 ∷ 105 ∷ 101 ∷ 108 ∷ 100 ∷ 115 ∷ 58 ∷ 58 ∷ 83 ∷ 101 ∷ 114 ∷ 105 ∷ 97 ∷ 108 ∷ []) (Syntax.tcons
-      (Syntax.tyInt Syntax.w32) Syntax.tnil)) (Syntax.tcons (Syntax.tyStruct (114 ∷ 101 ∷ 115 ∷ 105 ∷ 100 ∷ 117 ∷ 101 ∷ 58 ∷ 58 ∷ 82 ∷ 101 ∷ 115 ∷ 105 ∷ 100 ∷
-      117 ∷ 101 ∷ []) (Syntax.tcons (Syntax.tyStruct (110 ∷ 97 ∷ 109 ∷ 101 ∷ 115 ∷ 58 ∷ 58 ∷ 84 ∷ 104 ∷ 114 ∷ 101 ∷ 101 ∷ []) (Syntax.tcons (Syntax.tyInt
-      Syntax.w8) (Syntax.tcons (Syntax.tyInt Syntax.w8) (Syntax.tcons (Syntax.tyInt Syntax.w8) Syntax.tnil)))) (Syntax.tcons (Syntax.tyInt Syntax.w8)
-      (Syntax.tcons (Syntax.tyStruct (102 ∷ 105 ∷ 101 ∷ 108 ∷ 100 ∷ 115 ∷ 58 ∷ 58 ∷ 82 ∷ 101 ∷ 115 ∷ 105 ∷ 100 ∷ 117 ∷ 101 ∷ 78 ∷ 117 ∷ 109 ∷ 98 ∷ 101 ∷ 114 ∷
-      []) (Syntax.tcons (Syntax.tyInt Syntax.w32) Syntax.tnil)) (Syntax.tcons (Syntax.tyInt Syntax.w8) Syntax.tnil))))) Syntax.tnil))) Syntax.tnil)
-      (Syntax.ttcons (Syntax.tcons (Syntax.tyStruct (104 ∷ 101 ∷ 108 ∷ 105 ∷ 120 ∷ 58 ∷ 58 ∷ 72 ∷ 101 ∷ 108 ∷ 105 ∷ 120 ∷ []) (Syntax.tcons (Syntax.tyStruct (104
-      ∷ 101 ∷ 108 ∷ 105 ∷ 120 ∷ 58 ∷ 58 ∷ 69 ∷ 120 ∷ 116 ∷ 101 ∷ 110 ∷ 116 ∷ []) (Syntax.tcons (Syntax.tyInt Syntax.w32) (Syntax.tcons (Syntax.tyStruct (110 ∷ 97
-      ∷ 109 ∷ 101 ∷ 115 ∷ 58 ∷ 58 ∷ 84 ∷ 104 ∷ 114 ∷ 101 ∷ 101 ∷ []) (Syntax.tcons (Syntax.tyInt Syntax.w8) (Syntax.tcons (Syntax.tyInt Syntax.w8) (Syntax.tcons
-      (Syntax.tyInt Syntax.w8) Syntax.tnil)))) (Syntax.tcons (Syntax.tyStruct (114 ∷ 101 ∷ 115 ∷ 105 ∷ 100 ∷ 117 ∷ 101 ∷ 58 ∷ 58 ∷ 82 ∷ 101 ∷ 115 ∷ 105 ∷ 100 ∷
-      117 ∷ 101 ∷ []) (Syntax.tcons (Syntax.tyStruct (110 ∷ 97 ∷ 109 ∷ 101 ∷ 115 ∷ 58 ∷ 58 ∷ 84 ∷ 104 ∷ 114 ∷ 101 ∷ 101 ∷ []) (Syntax.tcons (Syntax.tyInt
-      Syntax.w8) (Syntax.tcons (Syntax.tyInt Syntax.w8) (Syntax.tcons (Syntax.tyInt Syntax.w8) Syntax.tnil)))) (Syntax.tcons (Syntax.tyInt Syntax.w8)
-      (Syntax.tcons (Syntax.tyStruct (102 ∷ 105 ∷ 101 ∷ 108 ∷ 100 ∷ 115 ∷ 58 ∷ 58 ∷ 82 ∷ 101 ∷ 115 ∷ 105 ∷ 100 ∷ 117 ∷ 101 ∷ 78 ∷ 117 ∷ 109 ∷ 98 ∷ 101 ∷ 114 ∷
-      []) (Syntax.tcons (Syntax.tyInt Syntax.w32) Syntax.tnil)) (Syntax.tcons (Syntax.tyInt Syntax.w8) Syntax.tnil))))) (Syntax.tcons (Syntax.tyStruct (114 ∷ 101
-      ∷ 115 ∷ 105 ∷ 100 ∷ 117 ∷ 101 ∷ 58 ∷ 58 ∷ 82 ∷ 101 ∷ 115 ∷ 105 ∷ 100 ∷ 117 ∷ 101 ∷ []) (Syntax.tcons (Syntax.tyStruct (110 ∷ 97 ∷ 109 ∷ 101 ∷ 115 ∷ 58 ∷ 58
-      ∷ 84 ∷ 104 ∷ 114 ∷ 101 ∷ 101 ∷ []) (Syntax.tcons (Syntax.tyInt Syntax.w8) (Syntax.tcons (Syntax.tyInt Syntax.w8) (Syntax.tcons (Syntax.tyInt Syntax.w8)
-      Syntax.tnil)))) (Syntax.tcons (Syntax.tyInt Syntax.w8) (Syntax.tcons (Syntax.tyStruct (102 ∷ 105 ∷ 101 ∷ 108 ∷ 100 ∷ 115 ∷ 58 ∷ 58 ∷ 82 ∷ 101 ∷ 115 ∷ 105 ∷
-      100 ∷ 117 ∷ 101 ∷ 78 ∷ 117 ∷ 109 ∷ 98 ∷ 101 ∷ 114 ∷ []) (Syntax.tcons (Syntax.tyInt Syntax.w32) Syntax.tnil)) (Syntax.tcons (Syntax.tyInt Syntax.w8)
-      Syntax.tnil))))) Syntax.tnil))))) (Syntax.tcons (Syntax.tyInt Syntax.w32) (Syntax.tcons (Syntax.tyStruct (104 ∷ 101 ∷ 108 ∷ 105 ∷ 120 ∷ 58 ∷ 58 ∷ 67 ∷ 111
-      ∷ 109 ∷ 109 ∷ 101 ∷ 110 ∷ 116 ∷ []) (Syntax.tcons (Syntax.tyInt Syntax.w64) (Syntax.tcons (Syntax.tyInt Syntax.w64) (Syntax.tcons (Syntax.tyInt Syntax.w64)
-      (Syntax.tcons (Syntax.tyInt Syntax.w64) Syntax.tnil))))) (Syntax.tcons (Syntax.tyInt Syntax.w32) Syntax.tnil))))) Syntax.tnil) (Syntax.ttcons (Syntax.tcons
-      (Syntax.tyStruct (115 ∷ 104 ∷ 101 ∷ 101 ∷ 116 ∷ 58 ∷ 58 ∷ 83 ∷ 104 ∷ 101 ∷ 101 ∷ 116 ∷ []) (Syntax.tcons (Syntax.tyStruct (115 ∷ 104 ∷ 101 ∷ 101 ∷ 116 ∷ 58
-      ∷ 58 ∷ 83 ∷ 116 ∷ 114 ∷ 97 ∷ 110 ∷ 100 ∷ []) (Syntax.tcons (Syntax.tyInt Syntax.w32) (Syntax.tcons (Syntax.tyStruct (110 ∷ 97 ∷ 109 ∷ 101 ∷ 115 ∷ 58 ∷ 58 ∷
-      84 ∷ 104 ∷ 114 ∷ 101 ∷ 101 ∷ []) (Syntax.tcons (Syntax.tyInt Syntax.w8) (Syntax.tcons (Syntax.tyInt Syntax.w8) (Syntax.tcons (Syntax.tyInt Syntax.w8)
-      Syntax.tnil)))) (Syntax.tcons (Syntax.tyInt Syntax.w32) (Syntax.tcons (Syntax.tyStruct (114 ∷ 101 ∷ 115 ∷ 105 ∷ 100 ∷ 117 ∷ 101 ∷ 58 ∷ 58 ∷ 82 ∷ 101 ∷ 115
-      ∷ 105 ∷ 100 ∷ 117 ∷ 101 ∷ []) (Syntax.tcons (Syntax.tyStruct (110 ∷ 97 ∷ 109 ∷ 101 ∷ 115 ∷ 58 ∷ 58 ∷ 84 ∷ 104 ∷ 114 ∷ 101 ∷ 101 ∷ []) (Syntax.tcons
-      (Syntax.tyInt Syntax.w8) (Syntax.tcons (Syntax.tyInt Syntax.w8) (Syntax.tcons (Syntax.tyInt Syntax.w8) Syntax.tnil)))) (Syntax.tcons (Syntax.tyInt
-      Syntax.w8) (Syntax.tcons (Syntax.tyStruct (102 ∷ 105 ∷ 101 ∷ 108 ∷ 100 ∷ 115 ∷ 58 ∷ 58 ∷ 82 ∷ 101 ∷ 115 ∷ 105 ∷ 100 ∷ 117 ∷ 101 ∷ 78 ∷ 117 ∷ 109 ∷ 98 ∷ 101
-      ∷ 114 ∷ []) (Syntax.tcons (Syntax.tyInt Syntax.w32) Syntax.tnil)) (Syntax.tcons (Syntax.tyInt Syntax.w8) Syntax.tnil))))) (Syntax.tcons (Syntax.tyStruct
-      (114 ∷ 101 ∷ 115 ∷ 105 ∷ 100 ∷ 117 ∷ 101 ∷ 58 ∷ 58 ∷ 82 ∷ 101 ∷ 115 ∷ 105 ∷ 100 ∷ 117 ∷ 101 ∷ []) (Syntax.tcons (Syntax.tyStruct (110 ∷ 97 ∷ 109 ∷ 101 ∷
-      115 ∷ 58 ∷ 58 ∷ 84 ∷ 104 ∷ 114 ∷ 101 ∷ 101 ∷ []) (Syntax.tcons (Syntax.tyInt Syntax.w8) (Syntax.tcons (Syntax.tyInt Syntax.w8) (Syntax.tcons (Syntax.tyInt
-      Syntax.w8) Syntax.tnil)))) (Syntax.tcons (Syntax.tyInt Syntax.w8) (Syntax.tcons (Syntax.tyStruct (102 ∷ 105 ∷ 101 ∷ 108 ∷ 100 ∷ 115 ∷ 58 ∷ 58 ∷ 82 ∷ 101 ∷
-      115 ∷ 105 ∷ 100 ∷ 117 ∷ 101 ∷ 78 ∷ 117 ∷ 109 ∷ 98 ∷ 101 ∷ 114 ∷ []) (Syntax.tcons (Syntax.tyInt Syntax.w32) Syntax.tnil)) (Syntax.tcons (Syntax.tyInt
-      Syntax.w8) Syntax.tnil))))) (Syntax.tcons (Syntax.tyInt Syntax.w32) Syntax.tnil))))))) (Syntax.tcons (Syntax.tyEnum (115 ∷ 104 ∷ 101 ∷ 101 ∷ 116 ∷ 58 ∷ 58
-      ∷ 82 ∷ 101 ∷ 103 ∷ 105 ∷ 115 ∷ 116 ∷ 114 ∷ 97 ∷ 116 ∷ 105 ∷ 111 ∷ 110 ∷ []) (Syntax.ttcons Syntax.tnil (Syntax.ttcons (Syntax.tcons (Syntax.tyStruct (115 ∷
-      104 ∷ 101 ∷ 101 ∷ 116 ∷ 58 ∷ 58 ∷ 66 ∷ 111 ∷ 110 ∷ 100 ∷ []) (Syntax.tcons (Syntax.tyStruct (110 ∷ 97 ∷ 109 ∷ 101 ∷ 115 ∷ 58 ∷ 58 ∷ 70 ∷ 111 ∷ 117 ∷ 114 ∷
-      []) (Syntax.tcons (Syntax.tyInt Syntax.w8) (Syntax.tcons (Syntax.tyInt Syntax.w8) (Syntax.tcons (Syntax.tyInt Syntax.w8) (Syntax.tcons (Syntax.tyInt
-      Syntax.w8) Syntax.tnil))))) (Syntax.tcons (Syntax.tyStruct (114 ∷ 101 ∷ 115 ∷ 105 ∷ 100 ∷ 117 ∷ 101 ∷ 58 ∷ 58 ∷ 82 ∷ 101 ∷ 115 ∷ 105 ∷ 100 ∷ 117 ∷ 101 ∷
-      []) (Syntax.tcons (Syntax.tyStruct (110 ∷ 97 ∷ 109 ∷ 101 ∷ 115 ∷ 58 ∷ 58 ∷ 84 ∷ 104 ∷ 114 ∷ 101 ∷ 101 ∷ []) (Syntax.tcons (Syntax.tyInt Syntax.w8)
-      (Syntax.tcons (Syntax.tyInt Syntax.w8) (Syntax.tcons (Syntax.tyInt Syntax.w8) Syntax.tnil)))) (Syntax.tcons (Syntax.tyInt Syntax.w8) (Syntax.tcons
-      (Syntax.tyStruct (102 ∷ 105 ∷ 101 ∷ 108 ∷ 100 ∷ 115 ∷ 58 ∷ 58 ∷ 82 ∷ 101 ∷ 115 ∷ 105 ∷ 100 ∷ 117 ∷ 101 ∷ 78 ∷ 117 ∷ 109 ∷ 98 ∷ 101 ∷ 114 ∷ [])
-      (Syntax.tcons (Syntax.tyInt Syntax.w32) Syntax.tnil)) (Syntax.tcons (Syntax.tyInt Syntax.w8) Syntax.tnil))))) (Syntax.tcons (Syntax.tyStruct (110 ∷ 97 ∷
-      109 ∷ 101 ∷ 115 ∷ 58 ∷ 58 ∷ 70 ∷ 111 ∷ 117 ∷ 114 ∷ []) (Syntax.tcons (Syntax.tyInt Syntax.w8) (Syntax.tcons (Syntax.tyInt Syntax.w8) (Syntax.tcons
-      (Syntax.tyInt Syntax.w8) (Syntax.tcons (Syntax.tyInt Syntax.w8) Syntax.tnil))))) (Syntax.tcons (Syntax.tyStruct (114 ∷ 101 ∷ 115 ∷ 105 ∷ 100 ∷ 117 ∷ 101 ∷
-      58 ∷ 58 ∷ 82 ∷ 101 ∷ 115 ∷ 105 ∷ 100 ∷ 117 ∷ 101 ∷ []) (Syntax.tcons (Syntax.tyStruct (110 ∷ 97 ∷ 109 ∷ 101 ∷ 115 ∷ 58 ∷ 58 ∷ 84 ∷ 104 ∷ 114 ∷ 101 ∷ 101 ∷
-      []) (Syntax.tcons (Syntax.tyInt Syntax.w8) (Syntax.tcons (Syntax.tyInt Syntax.w8) (Syntax.tcons (Syntax.tyInt Syntax.w8) Syntax.tnil)))) (Syntax.tcons
-      (Syntax.tyInt Syntax.w8) (Syntax.tcons (Syntax.tyStruct (102 ∷ 105 ∷ 101 ∷ 108 ∷ 100 ∷ 115 ∷ 58 ∷ 58 ∷ 82 ∷ 101 ∷ 115 ∷ 105 ∷ 100 ∷ 117 ∷ 101 ∷ 78 ∷ 117 ∷
-      109 ∷ 98 ∷ 101 ∷ 114 ∷ []) (Syntax.tcons (Syntax.tyInt Syntax.w32) Syntax.tnil)) (Syntax.tcons (Syntax.tyInt Syntax.w8) Syntax.tnil))))) Syntax.tnil)))))
-      Syntax.tnil) Syntax.ttnil))) Syntax.tnil))) Syntax.tnil) (Syntax.ttcons (Syntax.tcons (Syntax.tyStruct (99 ∷ 111 ∷ 110 ∷ 101 ∷ 99 ∷ 116 ∷ 58 ∷ 58 ∷ 67 ∷
-      111 ∷ 110 ∷ 101 ∷ 99 ∷ 116 ∷ []) (Syntax.tcons (Syntax.tyStruct (102 ∷ 105 ∷ 101 ∷ 108 ∷ 100 ∷ 115 ∷ 58 ∷ 58 ∷ 83 ∷ 101 ∷ 114 ∷ 105 ∷ 97 ∷ 108 ∷ [])
-      (Syntax.tcons (Syntax.tyInt Syntax.w32) Syntax.tnil)) (Syntax.tcons (Syntax.tyStruct (102 ∷ 105 ∷ 101 ∷ 108 ∷ 100 ∷ 115 ∷ 58 ∷ 58 ∷ 83 ∷ 101 ∷ 114 ∷ 105 ∷
-      97 ∷ 108 ∷ []) (Syntax.tcons (Syntax.tyInt Syntax.w32) Syntax.tnil)) (Syntax.tcons (Syntax.tyStruct (102 ∷ 105 ∷ 101 ∷ 108 ∷ 100 ∷ 115 ∷ 58 ∷ 58 ∷ 83 ∷ 101
-      ∷ 114 ∷ 105 ∷ 97 ∷ 108 ∷ []) (Syntax.tcons (Syntax.tyInt Syntax.w32) Syntax.tnil)) (Syntax.tcons (Syntax.tyStruct (102 ∷ 105 ∷ 101 ∷ 108 ∷ 100 ∷ 115 ∷ 58 ∷
-      58 ∷ 83 ∷ 101 ∷ 114 ∷ 105 ∷ 97 ∷ 108 ∷ []) (Syntax.tcons (Syntax.tyInt Syntax.w32) Syntax.tnil)) (Syntax.tcons (Syntax.tyStruct (102 ∷ 105 ∷ 101 ∷ 108 ∷
-      100 ∷ 115 ∷ 58 ∷ 58 ∷ 83 ∷ 101 ∷ 114 ∷ 105 ∷ 97 ∷ 108 ∷ []) (Syntax.tcons (Syntax.tyInt Syntax.w32) Syntax.tnil)) Syntax.tnil)))))) Syntax.tnil)
-      (Syntax.ttcons (Syntax.tcons (Syntax.tyStruct (109 ∷ 97 ∷ 115 ∷ 116 ∷ 101 ∷ 114 ∷ 58 ∷ 58 ∷ 84 ∷ 97 ∷ 108 ∷ 108 ∷ 121 ∷ []) (Syntax.tcons (Syntax.tyInt
-      Syntax.w32) (Syntax.tcons (Syntax.tyInt Syntax.w32) (Syntax.tcons (Syntax.tyInt Syntax.w32) (Syntax.tcons (Syntax.tyInt Syntax.w32) (Syntax.tcons
-      (Syntax.tyInt Syntax.w32) (Syntax.tcons (Syntax.tyInt Syntax.w32) (Syntax.tcons (Syntax.tyInt Syntax.w32) (Syntax.tcons (Syntax.tyInt Syntax.w32)
-      (Syntax.tcons (Syntax.tyInt Syntax.w32) Syntax.tnil)))))))))) Syntax.tnil) (Syntax.ttcons Syntax.tnil Syntax.ttnil)))))))) Syntax.tnil) Syntax.ttnil))))),
+  Rows'.any-gone (Syntax.tyStruct (112 ∷ 108 ∷ 97 ∷
+      99 ∷ 101 ∷ 115 ∷ 58 ∷ 58 ∷ 67 ∷ 111 ∷ 117 ∷ 110 ∷ 116 ∷ 115 ∷ []) (Syntax.tcons (Syntax.tyInt Syntax.w64) (Syntax.tcons (Syntax.tyInt Syntax.w64)
+      (Syntax.tcons (Syntax.tyInt Syntax.w64) (Syntax.tcons (Syntax.tyInt Syntax.w64) (Syntax.tcons (Syntax.tyInt Syntax.w64) (Syntax.tcons (Syntax.tyInt
+      Syntax.w64) (Syntax.tcons (Syntax.tyInt Syntax.w64) (Syntax.tcons (Syntax.tyInt Syntax.w64) (Syntax.tcons (Syntax.tyInt Syntax.w64) Syntax.tnil)))))))))),
 )
+    ∷ (
+      9,
+      Rows'.any-gone (Syntax.tyEnum (112 ∷ 105 ∷ 101 ∷ 99 ∷ 101 ∷ 115 ∷ 58 ∷ 58 ∷ 76 ∷ 105 ∷ 110 ∷ 101 ∷ []) (Syntax.ttcons (Syntax.tcons (Syntax.tyInt
+          Syntax.w8) Syntax.tnil) (Syntax.ttcons (Syntax.tcons (Syntax.tyEnum (107 ∷ 105 ∷ 110 ∷ 100 ∷ 115 ∷ 58 ∷ 58 ∷ 75 ∷ 105 ∷ 110 ∷ 100 ∷ []) (Syntax.ttcons
+          Syntax.tnil (Syntax.ttcons Syntax.tnil (Syntax.ttcons Syntax.tnil (Syntax.ttcons Syntax.tnil (Syntax.ttcons Syntax.tnil (Syntax.ttcons Syntax.tnil
+          (Syntax.ttcons Syntax.tnil (Syntax.ttcons Syntax.tnil (Syntax.ttcons Syntax.tnil (Syntax.ttcons Syntax.tnil (Syntax.ttcons Syntax.tnil (Syntax.ttcons
+          Syntax.tnil (Syntax.ttcons Syntax.tnil (Syntax.ttcons Syntax.tnil (Syntax.ttcons Syntax.tnil (Syntax.ttcons Syntax.tnil (Syntax.ttcons Syntax.tnil
+          (Syntax.ttcons Syntax.tnil (Syntax.ttcons Syntax.tnil (Syntax.ttcons Syntax.tnil (Syntax.ttcons Syntax.tnil (Syntax.ttcons Syntax.tnil (Syntax.ttcons
+          Syntax.tnil (Syntax.ttcons Syntax.tnil (Syntax.ttcons Syntax.tnil (Syntax.ttcons Syntax.tnil (Syntax.ttcons Syntax.tnil (Syntax.ttcons Syntax.tnil
+          Syntax.ttnil))))))))))))))))))))))))))))) (Syntax.tcons (Syntax.tyInt Syntax.w32) Syntax.tnil)) (Syntax.ttcons (Syntax.tcons (Syntax.tyEnum (107 ∷ 105 ∷
+          110 ∷ 100 ∷ 115 ∷ 58 ∷ 58 ∷ 75 ∷ 105 ∷ 110 ∷ 100 ∷ []) (Syntax.ttcons Syntax.tnil (Syntax.ttcons Syntax.tnil (Syntax.ttcons Syntax.tnil (Syntax.ttcons
+          Syntax.tnil (Syntax.ttcons Syntax.tnil (Syntax.ttcons Syntax.tnil (Syntax.ttcons Syntax.tnil (Syntax.ttcons Syntax.tnil (Syntax.ttcons Syntax.tnil
+          (Syntax.ttcons Syntax.tnil (Syntax.ttcons Syntax.tnil (Syntax.ttcons Syntax.tnil (Syntax.ttcons Syntax.tnil (Syntax.ttcons Syntax.tnil (Syntax.ttcons
+          Syntax.tnil (Syntax.ttcons Syntax.tnil (Syntax.ttcons Syntax.tnil (Syntax.ttcons Syntax.tnil (Syntax.ttcons Syntax.tnil (Syntax.ttcons Syntax.tnil
+          (Syntax.ttcons Syntax.tnil (Syntax.ttcons Syntax.tnil (Syntax.ttcons Syntax.tnil (Syntax.ttcons Syntax.tnil (Syntax.ttcons Syntax.tnil (Syntax.ttcons
+          Syntax.tnil (Syntax.ttcons Syntax.tnil (Syntax.ttcons Syntax.tnil Syntax.ttnil))))))))))))))))))))))))))))) Syntax.tnil) (Syntax.ttcons (Syntax.tcons
+          (Syntax.tyEnum (108 ∷ 105 ∷ 110 ∷ 101 ∷ 58 ∷ 58 ∷ 82 ∷ 101 ∷ 99 ∷ 111 ∷ 114 ∷ 100 ∷ []) (Syntax.ttcons (Syntax.tcons Syntax.tyBool (Syntax.tcons
+          (Syntax.tyStruct (99 ∷ 111 ∷ 111 ∷ 114 ∷ 100 ∷ 105 ∷ 110 ∷ 97 ∷ 116 ∷ 101 ∷ 58 ∷ 58 ∷ 65 ∷ 116 ∷ 111 ∷ 109 ∷ []) (Syntax.tcons (Syntax.tyStruct (99 ∷ 111 ∷
+          111 ∷ 114 ∷ 100 ∷ 105 ∷ 110 ∷ 97 ∷ 116 ∷ 101 ∷ 58 ∷ 58 ∷ 73 ∷ 100 ∷ 101 ∷ 110 ∷ 116 ∷ 105 ∷ 116 ∷ 121 ∷ []) (Syntax.tcons (Syntax.tyStruct (102 ∷ 105 ∷ 101
+          ∷ 108 ∷ 100 ∷ 115 ∷ 58 ∷ 58 ∷ 83 ∷ 101 ∷ 114 ∷ 105 ∷ 97 ∷ 108 ∷ []) (Syntax.tcons (Syntax.tyInt Syntax.w32) Syntax.tnil)) (Syntax.tcons (Syntax.tyStruct
+          (110 ∷ 97 ∷ 109 ∷ 101 ∷ 115 ∷ 58 ∷ 58 ∷ 70 ∷ 111 ∷ 117 ∷ 114 ∷ []) (Syntax.tcons (Syntax.tyInt Syntax.w8) (Syntax.tcons (Syntax.tyInt Syntax.w8)
+          (Syntax.tcons (Syntax.tyInt Syntax.w8) (Syntax.tcons (Syntax.tyInt Syntax.w8) Syntax.tnil))))) (Syntax.tcons (Syntax.tyInt Syntax.w8) (Syntax.tcons
+          (Syntax.tyStruct (114 ∷ 101 ∷ 115 ∷ 105 ∷ 100 ∷ 117 ∷ 101 ∷ 58 ∷ 58 ∷ 82 ∷ 101 ∷ 115 ∷ 105 ∷ 100 ∷ 117 ∷ 101 ∷ []) (Syntax.tcons (Syntax.tyStruct (110 ∷ 97
+          ∷ 109 ∷ 101 ∷ 115 ∷ 58 ∷ 58 ∷ 84 ∷ 104 ∷ 114 ∷ 101 ∷ 101 ∷ []) (Syntax.tcons (Syntax.tyInt Syntax.w8) (Syntax.tcons (Syntax.tyInt Syntax.w8) (Syntax.tcons
+          (Syntax.tyInt Syntax.w8) Syntax.tnil)))) (Syntax.tcons (Syntax.tyInt Syntax.w8) (Syntax.tcons (Syntax.tyStruct (102 ∷ 105 ∷ 101 ∷ 108 ∷ 100 ∷ 115 ∷ 58 ∷ 58
+          ∷ 82 ∷ 101 ∷ 115 ∷ 105 ∷ 100 ∷ 117 ∷ 101 ∷ 78 ∷ 117 ∷ 109 ∷ 98 ∷ 101 ∷ 114 ∷ []) (Syntax.tcons (Syntax.tyInt Syntax.w32) Syntax.tnil)) (Syntax.tcons
+          (Syntax.tyInt Syntax.w8) Syntax.tnil))))) Syntax.tnil))))) (Syntax.tcons (Syntax.tyStruct (99 ∷ 111 ∷ 111 ∷ 114 ∷ 100 ∷ 105 ∷ 110 ∷ 97 ∷ 116 ∷ 101 ∷ 58 ∷
+          58 ∷ 77 ∷ 101 ∷ 97 ∷ 115 ∷ 117 ∷ 114 ∷ 101 ∷ []) (Syntax.tcons (Syntax.tyStruct (99 ∷ 111 ∷ 111 ∷ 114 ∷ 100 ∷ 105 ∷ 110 ∷ 97 ∷ 116 ∷ 101 ∷ 58 ∷ 58 ∷ 80 ∷
+          111 ∷ 115 ∷ 105 ∷ 116 ∷ 105 ∷ 111 ∷ 110 ∷ []) (Syntax.tcons (Syntax.tyInt Syntax.w32) (Syntax.tcons (Syntax.tyInt Syntax.w32) (Syntax.tcons (Syntax.tyInt
+          Syntax.w32) Syntax.tnil)))) (Syntax.tcons (Syntax.tyInt Syntax.w32) (Syntax.tcons (Syntax.tyInt Syntax.w32) Syntax.tnil)))) (Syntax.tcons (Syntax.tyStruct
+          (99 ∷ 111 ∷ 111 ∷ 114 ∷ 100 ∷ 105 ∷ 110 ∷ 97 ∷ 116 ∷ 101 ∷ 58 ∷ 58 ∷ 83 ∷ 112 ∷ 101 ∷ 99 ∷ 105 ∷ 101 ∷ 115 ∷ []) (Syntax.tcons (Syntax.tyStruct (110 ∷ 97 ∷
+          109 ∷ 101 ∷ 115 ∷ 58 ∷ 58 ∷ 80 ∷ 97 ∷ 105 ∷ 114 ∷ []) (Syntax.tcons (Syntax.tyInt Syntax.w8) (Syntax.tcons (Syntax.tyInt Syntax.w8) Syntax.tnil)))
+          (Syntax.tcons (Syntax.tyStruct (110 ∷ 97 ∷ 109 ∷ 101 ∷ 115 ∷ 58 ∷ 58 ∷ 80 ∷ 97 ∷ 105 ∷ 114 ∷ []) (Syntax.tcons (Syntax.tyInt Syntax.w8) (Syntax.tcons
+          (Syntax.tyInt Syntax.w8) Syntax.tnil))) Syntax.tnil))) Syntax.tnil)))) Syntax.tnil)) (Syntax.ttcons (Syntax.tcons (Syntax.tyStruct (116 ∷ 101 ∷ 114 ∷ 58 ∷
+          58 ∷ 84 ∷ 101 ∷ 114 ∷ []) (Syntax.tcons (Syntax.tyStruct (102 ∷ 105 ∷ 101 ∷ 108 ∷ 100 ∷ 115 ∷ 58 ∷ 58 ∷ 83 ∷ 101 ∷ 114 ∷ 105 ∷ 97 ∷ 108 ∷ []) (Syntax.tcons
+          (Syntax.tyInt Syntax.w32) Syntax.tnil)) (Syntax.tcons (Syntax.tyStruct (114 ∷ 101 ∷ 115 ∷ 105 ∷ 100 ∷ 117 ∷ 101 ∷ 58 ∷ 58 ∷ 82 ∷ 101 ∷ 115 ∷ 105 ∷ 100 ∷
+          117 ∷ 101 ∷ []) (Syntax.tcons (Syntax.tyStruct (110 ∷ 97 ∷ 109 ∷ 101 ∷ 115 ∷ 58 ∷ 58 ∷ 84 ∷ 104 ∷ 114 ∷ 101 ∷ 101 ∷ []) (Syntax.tcons (Syntax.tyInt
+          Syntax.w8) (Syntax.tcons (Syntax.tyInt Syntax.w8) (Syntax.tcons (Syntax.tyInt Syntax.w8) Syntax.tnil)))) (Syntax.tcons (Syntax.tyInt Syntax.w8)
+          (Syntax.tcons (Syntax.tyStruct (102 ∷ 105 ∷ 101 ∷ 108 ∷ 100 ∷ 115 ∷ 58 ∷ 58 ∷ 82 ∷ 101 ∷ 115 ∷ 105 ∷ 100 ∷ 117 ∷ 101 ∷ 78 ∷ 117 ∷ 109 ∷ 98 ∷ 101 ∷ 114 ∷
+          []) (Syntax.tcons (Syntax.tyInt Syntax.w32) Syntax.tnil)) (Syntax.tcons (Syntax.tyInt Syntax.w8) Syntax.tnil))))) Syntax.tnil))) Syntax.tnil)
+          (Syntax.ttcons (Syntax.tcons (Syntax.tyStruct (104 ∷ 101 ∷ 108 ∷ 105 ∷ 120 ∷ 58 ∷ 58 ∷ 72 ∷ 101 ∷ 108 ∷ 105 ∷ 120 ∷ []) (Syntax.tcons (Syntax.tyStruct (104
+          ∷ 101 ∷ 108 ∷ 105 ∷ 120 ∷ 58 ∷ 58 ∷ 69 ∷ 120 ∷ 116 ∷ 101 ∷ 110 ∷ 116 ∷ []) (Syntax.tcons (Syntax.tyInt Syntax.w32) (Syntax.tcons (Syntax.tyStruct (110 ∷ 97
+          ∷ 109 ∷ 101 ∷ 115 ∷ 58 ∷ 58 ∷ 84 ∷ 104 ∷ 114 ∷ 101 ∷ 101 ∷ []) (Syntax.tcons (Syntax.tyInt Syntax.w8) (Syntax.tcons (Syntax.tyInt Syntax.w8) (Syntax.tcons
+          (Syntax.tyInt Syntax.w8) Syntax.tnil)))) (Syntax.tcons (Syntax.tyStruct (114 ∷ 101 ∷ 115 ∷ 105 ∷ 100 ∷ 117 ∷ 101 ∷ 58 ∷ 58 ∷ 82 ∷ 101 ∷ 115 ∷ 105 ∷ 100 ∷
+          117 ∷ 101 ∷ []) (Syntax.tcons (Syntax.tyStruct (110 ∷ 97 ∷ 109 ∷ 101 ∷ 115 ∷ 58 ∷ 58 ∷ 84 ∷ 104 ∷ 114 ∷ 101 ∷ 101 ∷ []) (Syntax.tcons (Syntax.tyInt
+          Syntax.w8) (Syntax.tcons (Syntax.tyInt Syntax.w8) (Syntax.tcons (Syntax.tyInt Syntax.w8) Syntax.tnil)))) (Syntax.tcons (Syntax.tyInt Syntax.w8)
+          (Syntax.tcons (Syntax.tyStruct (102 ∷ 105 ∷ 101 ∷ 108 ∷ 100 ∷ 115 ∷ 58 ∷ 58 ∷ 82 ∷ 101 ∷ 115 ∷ 105 ∷ 100 ∷ 117 ∷ 101 ∷ 78 ∷ 117 ∷ 109 ∷ 98 ∷ 101 ∷ 114 ∷
+          []) (Syntax.tcons (Syntax.tyInt Syntax.w32) Syntax.tnil)) (Syntax.tcons (Syntax.tyInt Syntax.w8) Syntax.tnil))))) (Syntax.tcons (Syntax.tyStruct (114 ∷ 101
+          ∷ 115 ∷ 105 ∷ 100 ∷ 117 ∷ 101 ∷ 58 ∷ 58 ∷ 82 ∷ 101 ∷ 115 ∷ 105 ∷ 100 ∷ 117 ∷ 101 ∷ []) (Syntax.tcons (Syntax.tyStruct (110 ∷ 97 ∷ 109 ∷ 101 ∷ 115 ∷ 58 ∷ 58
+          ∷ 84 ∷ 104 ∷ 114 ∷ 101 ∷ 101 ∷ []) (Syntax.tcons (Syntax.tyInt Syntax.w8) (Syntax.tcons (Syntax.tyInt Syntax.w8) (Syntax.tcons (Syntax.tyInt Syntax.w8)
+          Syntax.tnil)))) (Syntax.tcons (Syntax.tyInt Syntax.w8) (Syntax.tcons (Syntax.tyStruct (102 ∷ 105 ∷ 101 ∷ 108 ∷ 100 ∷ 115 ∷ 58 ∷ 58 ∷ 82 ∷ 101 ∷ 115 ∷ 105 ∷
+          100 ∷ 117 ∷ 101 ∷ 78 ∷ 117 ∷ 109 ∷ 98 ∷ 101 ∷ 114 ∷ []) (Syntax.tcons (Syntax.tyInt Syntax.w32) Syntax.tnil)) (Syntax.tcons (Syntax.tyInt Syntax.w8)
+          Syntax.tnil))))) Syntax.tnil))))) (Syntax.tcons (Syntax.tyInt Syntax.w32) (Syntax.tcons (Syntax.tyStruct (104 ∷ 101 ∷ 108 ∷ 105 ∷ 120 ∷ 58 ∷ 58 ∷ 67 ∷ 111
+          ∷ 109 ∷ 109 ∷ 101 ∷ 110 ∷ 116 ∷ []) (Syntax.tcons (Syntax.tyInt Syntax.w64) (Syntax.tcons (Syntax.tyInt Syntax.w64) (Syntax.tcons (Syntax.tyInt Syntax.w64)
+          (Syntax.tcons (Syntax.tyInt Syntax.w64) Syntax.tnil))))) (Syntax.tcons (Syntax.tyInt Syntax.w32) Syntax.tnil))))) Syntax.tnil) (Syntax.ttcons (Syntax.tcons
+          (Syntax.tyStruct (115 ∷ 104 ∷ 101 ∷ 101 ∷ 116 ∷ 58 ∷ 58 ∷ 83 ∷ 104 ∷ 101 ∷ 101 ∷ 116 ∷ []) (Syntax.tcons (Syntax.tyStruct (115 ∷ 104 ∷ 101 ∷ 101 ∷ 116 ∷ 58
+          ∷ 58 ∷ 83 ∷ 116 ∷ 114 ∷ 97 ∷ 110 ∷ 100 ∷ []) (Syntax.tcons (Syntax.tyInt Syntax.w32) (Syntax.tcons (Syntax.tyStruct (110 ∷ 97 ∷ 109 ∷ 101 ∷ 115 ∷ 58 ∷ 58 ∷
+          84 ∷ 104 ∷ 114 ∷ 101 ∷ 101 ∷ []) (Syntax.tcons (Syntax.tyInt Syntax.w8) (Syntax.tcons (Syntax.tyInt Syntax.w8) (Syntax.tcons (Syntax.tyInt Syntax.w8)
+          Syntax.tnil)))) (Syntax.tcons (Syntax.tyInt Syntax.w32) (Syntax.tcons (Syntax.tyStruct (114 ∷ 101 ∷ 115 ∷ 105 ∷ 100 ∷ 117 ∷ 101 ∷ 58 ∷ 58 ∷ 82 ∷ 101 ∷ 115
+          ∷ 105 ∷ 100 ∷ 117 ∷ 101 ∷ []) (Syntax.tcons (Syntax.tyStruct (110 ∷ 97 ∷ 109 ∷ 101 ∷ 115 ∷ 58 ∷ 58 ∷ 84 ∷ 104 ∷ 114 ∷ 101 ∷ 101 ∷ []) (Syntax.tcons
+          (Syntax.tyInt Syntax.w8) (Syntax.tcons (Syntax.tyInt Syntax.w8) (Syntax.tcons (Syntax.tyInt Syntax.w8) Syntax.tnil)))) (Syntax.tcons (Syntax.tyInt
+          Syntax.w8) (Syntax.tcons (Syntax.tyStruct (102 ∷ 105 ∷ 101 ∷ 108 ∷ 100 ∷ 115 ∷ 58 ∷ 58 ∷ 82 ∷ 101 ∷ 115 ∷ 105 ∷ 100 ∷ 117 ∷ 101 ∷ 78 ∷ 117 ∷ 109 ∷ 98 ∷ 101
+          ∷ 114 ∷ []) (Syntax.tcons (Syntax.tyInt Syntax.w32) Syntax.tnil)) (Syntax.tcons (Syntax.tyInt Syntax.w8) Syntax.tnil))))) (Syntax.tcons (Syntax.tyStruct
+          (114 ∷ 101 ∷ 115 ∷ 105 ∷ 100 ∷ 117 ∷ 101 ∷ 58 ∷ 58 ∷ 82 ∷ 101 ∷ 115 ∷ 105 ∷ 100 ∷ 117 ∷ 101 ∷ []) (Syntax.tcons (Syntax.tyStruct (110 ∷ 97 ∷ 109 ∷ 101 ∷
+          115 ∷ 58 ∷ 58 ∷ 84 ∷ 104 ∷ 114 ∷ 101 ∷ 101 ∷ []) (Syntax.tcons (Syntax.tyInt Syntax.w8) (Syntax.tcons (Syntax.tyInt Syntax.w8) (Syntax.tcons (Syntax.tyInt
+          Syntax.w8) Syntax.tnil)))) (Syntax.tcons (Syntax.tyInt Syntax.w8) (Syntax.tcons (Syntax.tyStruct (102 ∷ 105 ∷ 101 ∷ 108 ∷ 100 ∷ 115 ∷ 58 ∷ 58 ∷ 82 ∷ 101 ∷
+          115 ∷ 105 ∷ 100 ∷ 117 ∷ 101 ∷ 78 ∷ 117 ∷ 109 ∷ 98 ∷ 101 ∷ 114 ∷ []) (Syntax.tcons (Syntax.tyInt Syntax.w32) Syntax.tnil)) (Syntax.tcons (Syntax.tyInt
+          Syntax.w8) Syntax.tnil))))) (Syntax.tcons (Syntax.tyInt Syntax.w32) Syntax.tnil))))))) (Syntax.tcons (Syntax.tyEnum (115 ∷ 104 ∷ 101 ∷ 101 ∷ 116 ∷ 58 ∷ 58
+          ∷ 82 ∷ 101 ∷ 103 ∷ 105 ∷ 115 ∷ 116 ∷ 114 ∷ 97 ∷ 116 ∷ 105 ∷ 111 ∷ 110 ∷ []) (Syntax.ttcons Syntax.tnil (Syntax.ttcons (Syntax.tcons (Syntax.tyStruct (115 ∷
+          104 ∷ 101 ∷ 101 ∷ 116 ∷ 58 ∷ 58 ∷ 66 ∷ 111 ∷ 110 ∷ 100 ∷ []) (Syntax.tcons (Syntax.tyStruct (110 ∷ 97 ∷ 109 ∷ 101 ∷ 115 ∷ 58 ∷ 58 ∷ 70 ∷ 111 ∷ 117 ∷ 114 ∷
+          []) (Syntax.tcons (Syntax.tyInt Syntax.w8) (Syntax.tcons (Syntax.tyInt Syntax.w8) (Syntax.tcons (Syntax.tyInt Syntax.w8) (Syntax.tcons (Syntax.tyInt
+          Syntax.w8) Syntax.tnil))))) (Syntax.tcons (Syntax.tyStruct (114 ∷ 101 ∷ 115 ∷ 105 ∷ 100 ∷ 117 ∷ 101 ∷ 58 ∷ 58 ∷ 82 ∷ 101 ∷ 115 ∷ 105 ∷ 100 ∷ 117 ∷ 101 ∷
+          []) (Syntax.tcons (Syntax.tyStruct (110 ∷ 97 ∷ 109 ∷ 101 ∷ 115 ∷ 58 ∷ 58 ∷ 84 ∷ 104 ∷ 114 ∷ 101 ∷ 101 ∷ []) (Syntax.tcons (Syntax.tyInt Syntax.w8)
+          (Syntax.tcons (Syntax.tyInt Syntax.w8) (Syntax.tcons (Syntax.tyInt Syntax.w8) Syntax.tnil)))) (Syntax.tcons (Syntax.tyInt Syntax.w8) (Syntax.tcons
+          (Syntax.tyStruct (102 ∷ 105 ∷ 101 ∷ 108 ∷ 100 ∷ 115 ∷ 58 ∷ 58 ∷ 82 ∷ 101 ∷ 115 ∷ 105 ∷ 100 ∷ 117 ∷ 101 ∷ 78 ∷ 117 ∷ 109 ∷ 98 ∷ 101 ∷ 114 ∷ [])
+          (Syntax.tcons (Syntax.tyInt Syntax.w32) Syntax.tnil)) (Syntax.tcons (Syntax.tyInt Syntax.w8) Syntax.tnil))))) (Syntax.tcons (Syntax.tyStruct (110 ∷ 97 ∷
+          109 ∷ 101 ∷ 115 ∷ 58 ∷ 58 ∷ 70 ∷ 111 ∷ 117 ∷ 114 ∷ []) (Syntax.tcons (Syntax.tyInt Syntax.w8) (Syntax.tcons (Syntax.tyInt Syntax.w8) (Syntax.tcons
+          (Syntax.tyInt Syntax.w8) (Syntax.tcons (Syntax.tyInt Syntax.w8) Syntax.tnil))))) (Syntax.tcons (Syntax.tyStruct (114 ∷ 101 ∷ 115 ∷ 105 ∷ 100 ∷ 117 ∷ 101 ∷
+          58 ∷ 58 ∷ 82 ∷ 101 ∷ 115 ∷ 105 ∷ 100 ∷ 117 ∷ 101 ∷ []) (Syntax.tcons (Syntax.tyStruct (110 ∷ 97 ∷ 109 ∷ 101 ∷ 115 ∷ 58 ∷ 58 ∷ 84 ∷ 104 ∷ 114 ∷ 101 ∷ 101 ∷
+          []) (Syntax.tcons (Syntax.tyInt Syntax.w8) (Syntax.tcons (Syntax.tyInt Syntax.w8) (Syntax.tcons (Syntax.tyInt Syntax.w8) Syntax.tnil)))) (Syntax.tcons
+          (Syntax.tyInt Syntax.w8) (Syntax.tcons (Syntax.tyStruct (102 ∷ 105 ∷ 101 ∷ 108 ∷ 100 ∷ 115 ∷ 58 ∷ 58 ∷ 82 ∷ 101 ∷ 115 ∷ 105 ∷ 100 ∷ 117 ∷ 101 ∷ 78 ∷ 117 ∷
+          109 ∷ 98 ∷ 101 ∷ 114 ∷ []) (Syntax.tcons (Syntax.tyInt Syntax.w32) Syntax.tnil)) (Syntax.tcons (Syntax.tyInt Syntax.w8) Syntax.tnil))))) Syntax.tnil)))))
+          Syntax.tnil) Syntax.ttnil))) Syntax.tnil))) Syntax.tnil) (Syntax.ttcons (Syntax.tcons (Syntax.tyStruct (99 ∷ 111 ∷ 110 ∷ 101 ∷ 99 ∷ 116 ∷ 58 ∷ 58 ∷ 67 ∷
+          111 ∷ 110 ∷ 101 ∷ 99 ∷ 116 ∷ []) (Syntax.tcons (Syntax.tyStruct (102 ∷ 105 ∷ 101 ∷ 108 ∷ 100 ∷ 115 ∷ 58 ∷ 58 ∷ 83 ∷ 101 ∷ 114 ∷ 105 ∷ 97 ∷ 108 ∷ [])
+          (Syntax.tcons (Syntax.tyInt Syntax.w32) Syntax.tnil)) (Syntax.tcons (Syntax.tyStruct (102 ∷ 105 ∷ 101 ∷ 108 ∷ 100 ∷ 115 ∷ 58 ∷ 58 ∷ 83 ∷ 101 ∷ 114 ∷ 105 ∷
+          97 ∷ 108 ∷ []) (Syntax.tcons (Syntax.tyInt Syntax.w32) Syntax.tnil)) (Syntax.tcons (Syntax.tyStruct (102 ∷ 105 ∷ 101 ∷ 108 ∷ 100 ∷ 115 ∷ 58 ∷ 58 ∷ 83 ∷ 101
+          ∷ 114 ∷ 105 ∷ 97 ∷ 108 ∷ []) (Syntax.tcons (Syntax.tyInt Syntax.w32) Syntax.tnil)) (Syntax.tcons (Syntax.tyStruct (102 ∷ 105 ∷ 101 ∷ 108 ∷ 100 ∷ 115 ∷ 58 ∷
+          58 ∷ 83 ∷ 101 ∷ 114 ∷ 105 ∷ 97 ∷ 108 ∷ []) (Syntax.tcons (Syntax.tyInt Syntax.w32) Syntax.tnil)) (Syntax.tcons (Syntax.tyStruct (102 ∷ 105 ∷ 101 ∷ 108 ∷
+          100 ∷ 115 ∷ 58 ∷ 58 ∷ 83 ∷ 101 ∷ 114 ∷ 105 ∷ 97 ∷ 108 ∷ []) (Syntax.tcons (Syntax.tyInt Syntax.w32) Syntax.tnil)) Syntax.tnil)))))) Syntax.tnil)
+          (Syntax.ttcons (Syntax.tcons (Syntax.tyStruct (109 ∷ 97 ∷ 115 ∷ 116 ∷ 101 ∷ 114 ∷ 58 ∷ 58 ∷ 84 ∷ 97 ∷ 108 ∷ 108 ∷ 121 ∷ []) (Syntax.tcons (Syntax.tyInt
+          Syntax.w32) (Syntax.tcons (Syntax.tyInt Syntax.w32) (Syntax.tcons (Syntax.tyInt Syntax.w32) (Syntax.tcons (Syntax.tyInt Syntax.w32) (Syntax.tcons
+          (Syntax.tyInt Syntax.w32) (Syntax.tcons (Syntax.tyInt Syntax.w32) (Syntax.tcons (Syntax.tyInt Syntax.w32) (Syntax.tcons (Syntax.tyInt Syntax.w32)
+          (Syntax.tcons (Syntax.tyInt Syntax.w32) Syntax.tnil)))))))))) Syntax.tnil) (Syntax.ttcons Syntax.tnil Syntax.ttnil)))))))) Syntax.tnil) Syntax.ttnil))))),
+    )
     ∷ (10, Rows'.any-gone SlotAs.ty) ∷ (11, Rows'.any-gone Syntax.tyBool) ∷ (12, Rows'.any-gone (Syntax.tyInt Syntax.w64)) ∷ (
       13,
       Rows'.any-gone (Syntax.tyInt
@@ -2349,104 +2360,105 @@ t24 = (0, Rows'.sc-here Row.sUnit) ∷ (
       Syntax.w64),
 ) ∷ (6, Rows'.sc-here (Row.sInt Syntax.w64)) ∷ (7, Rows'.sc-here (Row.sInt Syntax.w64)) ∷ (
   8,
-  Rows'.any-gone (Syntax.tyStruct (114 ∷ 117 ∷ 108 ∷
-      101 ∷ 115 ∷ 58 ∷ 58 ∷ 67 ∷ 111 ∷ 117 ∷ 110 ∷ 116 ∷ 115 ∷ []) (Syntax.tcons (Syntax.tyInt Syntax.w64) (Syntax.tcons (Syntax.tyInt Syntax.w64) (Syntax.tcons
-      (Syntax.tyInt Syntax.w64) (Syntax.tcons (Syntax.tyInt Syntax.w64) (Syntax.tcons (Syntax.tyInt Syntax.w64) (Syntax.tcons (Syntax.tyInt Syntax.w64)
-      (Syntax.tcons (Syntax.tyInt Syntax.w64) (Syntax.tcons (Syntax.tyInt Syntax.w64) (Syntax.tcons (Syntax.tyInt Syntax.w64) Syntax.tnil)))))))))),
-) ∷ (
-  9,
-  Rows'.any-gone (Syntax.tyEnum (112 ∷ 105 ∷ 101 ∷ 99 ∷ 101 ∷ 115 ∷ 58 ∷ 58 ∷ 76 ∷ 105 ∷ 110 ∷ 101 ∷ []) (Syntax.ttcons (Syntax.tcons (Syntax.tyInt
-      Syntax.w8) Syntax.tnil) (Syntax.ttcons (Syntax.tcons (Syntax.tyEnum (107 ∷ 105 ∷ 110 ∷ 100 ∷ 115 ∷ 58 ∷ 58 ∷ 75 ∷ 105 ∷ 110 ∷ 100 ∷ []) (Syntax.ttcons
-      Syntax.tnil (Syntax.ttcons Syntax.tnil (Syntax.ttcons Syntax.tnil (Syntax.ttcons Syntax.tnil (Syntax.ttcons Syntax.tnil (Syntax.ttcons Syntax.tnil
-      (Syntax.ttcons Syntax.tnil (Syntax.ttcons Syntax.tnil (Syntax.ttcons Syntax.tnil (Syntax.ttcons Syntax.tnil (Syntax.ttcons Syntax.tnil (Syntax.ttcons
-      Syntax.tnil (Syntax.ttcons Syntax.tnil (Syntax.ttcons Syntax.tnil (Syntax.ttcons Syntax.tnil (Syntax.ttcons Syntax.tnil (Syntax.ttcons Syntax.tnil
-      (Syntax.ttcons Syntax.tnil (Syntax.ttcons Syntax.tnil (Syntax.ttcons Syntax.tnil (Syntax.ttcons Syntax.tnil (Syntax.ttcons Syntax.tnil (Syntax.ttcons
-      Syntax.tnil (Syntax.ttcons Syntax.tnil (Syntax.ttcons Syntax.tnil (Syntax.ttcons Syntax.tnil (Syntax.ttcons Syntax.tnil (Syntax.ttcons Syntax.tnil
-      Syntax.ttnil))))))))))))))))))))))))))))) (Syntax.tcons (Syntax.tyInt Syntax.w32) Syntax.tnil)) (Syntax.ttcons (Syntax.tcons (Syntax.tyEnum (107 ∷ 105 ∷
-      110 ∷ 100 ∷ 115 ∷ 58 ∷ 58 ∷ 75 ∷ 105 ∷ 110 ∷ 100 ∷ []) (Syntax.ttcons Syntax.tnil (Syntax.ttcons Syntax.tnil (Syntax.ttcons Syntax.tnil (Syntax.ttcons
-      Syntax.tnil (Syntax.ttcons Syntax.tnil (Syntax.ttcons Syntax.tnil (Syntax.ttcons Syntax.tnil (Syntax.ttcons Syntax.tnil (Syntax.ttcons Syntax.tnil
-      (Syntax.ttcons Syntax.tnil (Syntax.ttcons Syntax.tnil (Syntax.ttcons Syntax.tnil (Syntax.ttcons Syntax.tnil (Syntax.ttcons Syntax.tnil (Syntax.ttcons
-      Syntax.tnil (Syntax.ttcons Syntax.tnil (Syntax.ttcons Syntax.tnil (Syntax.ttcons Syntax.tnil (Syntax.ttcons Syntax.tnil (Syntax.ttcons Syntax.tnil
-      (Syntax.ttcons Syntax.tnil (Syntax.ttcons Syntax.tnil (Syntax.ttcons Syntax.tnil (Syntax.ttcons Syntax.tnil (Syntax.ttcons Syntax.tnil (Syntax.ttcons
-      Syntax.tnil (Syntax.ttcons Syntax.tnil (Syntax.ttcons Syntax.tnil Syntax.ttnil))))))))))))))))))))))))))))) Syntax.tnil) (Syntax.ttcons (Syntax.tcons
-      (Syntax.tyEnum (108 ∷ 105 ∷ 110 ∷ 101 ∷ 58 ∷ 58 ∷ 82 ∷ 101 ∷ 99 ∷ 111 ∷ 114 ∷ 100 ∷ []) (Syntax.ttcons (Syntax.tcons Syntax.tyBool (Syntax.tcons
-      (Syntax.tyStruct (99 ∷ 111 ∷ 111 ∷ 114 ∷ 100 ∷ 105 ∷ 110 ∷ 97 ∷ 116 ∷ 101 ∷ 58 ∷ 58 ∷ 65 ∷ 116 ∷ 111 ∷ 109 ∷ []) (Syntax.tcons (Syntax.tyStruct (99 ∷ 111 ∷
-      111 ∷ 114 ∷ 100 ∷ 105 ∷ 110 ∷ 97 ∷ 116 ∷ 101 ∷ 58 ∷ 58 ∷ 73 ∷ 100 ∷ 101 ∷ 110 ∷ 116 ∷ 105 ∷ 116 ∷ 121 ∷ []) (Syntax.tcons (Syntax.tyStruct (102 ∷ 105 ∷ 101
-      ∷ 108 ∷ 100 ∷ 115 ∷ 58 ∷ 58 ∷ 83 ∷ 101 ∷ 114 ∷ 105 ∷ 97 ∷ 108 ∷ []) (Syntax.tcons (Syntax.tyInt Syntax.w32) Syntax.tnil)) (Syntax.tcons (Syntax.tyStruct
-      (110 ∷ 97 ∷ 109 ∷ 101 ∷ 115 ∷ 58 ∷ 58 ∷ 70 ∷ 111 ∷ 117 ∷ 114 ∷ []) (Syntax.tcons (Syntax.tyInt Syntax.w8) (Syntax.tcons (Syntax.tyInt Syntax.w8)
-      (Syntax.tcons (Syntax.tyInt Syntax.w8) (Syntax.tcons (Syntax.tyInt Syntax.w8) Syntax.tnil))))) (Syntax.tcons (Syntax.tyInt Syntax.w8) (Syntax.tcons
-      (Syntax.tyStruct (114 ∷ 101 ∷ 115 ∷ 105 ∷ 100 ∷ 117 ∷ 101 ∷ 58 ∷ 58 ∷ 82 ∷ 101 ∷ 115 ∷ 105 ∷ 100 ∷ 117 ∷ 101 ∷ []) (Syntax.tcons (Syntax.tyStruct (110 ∷ 97
-      ∷ 109 ∷ 101 ∷ 115 ∷ 58 ∷ 58 ∷ 84 ∷ 104 ∷ 114 ∷ 101 ∷ 101 ∷ []) (Syntax.tcons (Syntax.tyInt Syntax.w8) (Syntax.tcons (Syntax.tyInt Syntax.w8) (Syntax.tcons
-      (Syntax.tyInt Syntax.w8) Syntax.tnil)))) (Syntax.tcons (Syntax.tyInt Syntax.w8) (Syntax.tcons (Syntax.tyStruct (102 ∷ 105 ∷ 101 ∷ 108 ∷ 100 ∷ 115 ∷ 58 ∷ 58
-      ∷ 82 ∷ 101 ∷ 115 ∷ 105 ∷ 100 ∷ 117 ∷ 101 ∷ 78 ∷ 117 ∷ 109 ∷ 98 ∷ 101 ∷ 114 ∷ []) (Syntax.tcons (Syntax.tyInt Syntax.w32) Syntax.tnil)) (Syntax.tcons
-      (Syntax.tyInt Syntax.w8) Syntax.tnil))))) Syntax.tnil))))) (Syntax.tcons (Syntax.tyStruct (99 ∷ 111 ∷ 111 ∷ 114 ∷ 100 ∷ 105 ∷ 110 ∷ 97 ∷ 116 ∷ 101 ∷ 58 ∷
-      58 ∷ 77 ∷ 101 ∷ 97 ∷ 115 ∷ 117 ∷ 114 ∷ 101 ∷ []) (Syntax.tcons (Syntax.tyStruct (99 ∷ 111 ∷ 111 ∷ 114 ∷ 100 ∷ 105 ∷ 110 ∷ 97 ∷ 116 ∷ 101 ∷ 58 ∷ 58 ∷ 80 ∷
-      111 ∷ 115 ∷ 105 ∷ 116 ∷ 105 ∷ 111 ∷ 110 ∷ []) (Syntax.tcons (Syntax.tyInt Syntax.w32) (Syntax.tcons (Syntax.tyInt Syntax.w32) (Syntax.tcons (Syntax.tyInt
-      Syntax.w32) Syntax.tnil)))) (Syntax.tcons (Syntax.tyInt Syntax.w32) (Syntax.tcons (Syntax.tyInt Syntax.w32) Syntax.tnil)))) (Syntax.tcons (Syntax.tyStruct
-      (99 ∷ 111 ∷ 111 ∷ 114 ∷ 100 ∷ 105 ∷ 110 ∷ 97 ∷ 116 ∷ 101 ∷ 58 ∷ 58 ∷ 83 ∷ 112 ∷ 101 ∷ 99 ∷ 105 ∷ 101 ∷ 115 ∷ []) (Syntax.tcons (Syntax.tyStruct (110 ∷ 97 ∷
-      109 ∷ 101 ∷ 115 ∷ 58 ∷ 58 ∷ 80 ∷ 97 ∷ 105 ∷ 114 ∷ []) (Syntax.tcons (Syntax.tyInt Syntax.w8) (Syntax.tcons (Syntax.tyInt Syntax.w8) Syntax.tnil)))
-      (Syntax.tcons (Syntax.tyStruct (110 ∷ 97 ∷ 109 ∷ 101 ∷ 115 ∷ 58 ∷ 58 ∷ 80 ∷ 97 ∷ 105 ∷ 114 ∷ []) (Syntax.tcons (Syntax.tyInt Syntax.w8) (Syntax.tcons
-      (Syntax.tyInt Syntax.w8) Syntax.tnil))) Syntax.tnil))) Syntax.tnil)))) Syntax.tnil)) (Syntax.ttcons (Syntax.tcons (Syntax.tyStruct (116 ∷ 101 ∷ 114 ∷ 58 ∷
-      58 ∷ 84 ∷ 101 ∷ 114 ∷ []) (Syntax.tcons (Syntax.tyStruct (102 ∷ 105 ∷ 101 ∷ 108 ∷ 100 ∷ 115 ∷ 58 ∷ 58 ∷ 83 ∷ 101 ∷ 114 ∷ 105 ∷ 97 ∷ 108 ∷ []) (Syntax.tcons
-      (Syntax.tyInt Syntax.w32) Syntax.tnil)) (Syntax.tcons (Syntax.tyStruct (114 ∷ 101 ∷ 115 ∷ 105 ∷ 100 ∷ 117 ∷ 101 ∷ 58 ∷ 58 ∷ 82 ∷ 101 ∷ 115 ∷ 105 ∷ 100 ∷
-      117 ∷ 101 ∷ []) (Syntax.tcons (Syntax.tyStruct (110 ∷ 97 ∷ 109 ∷ 101 ∷ 115 ∷ 58 ∷ 58 ∷ 84 ∷ 104 ∷ 114 ∷ 101 ∷ 101 ∷ []) (Syntax.tcons (Syntax.tyInt
-      Syntax.w8) (Syntax.tcons (Syntax.tyInt Syntax.w8) (Syntax.tcons (Syntax.tyInt Syntax.w8) Syntax.tnil)))) (Syntax.tcons (Syntax.tyInt Syntax.w8)
-      (Syntax.tcons (Syntax.tyStruct (102 ∷ 105 ∷ 101 ∷ 108 ∷ 100 ∷ 115 ∷ 58 ∷ 58 ∷ 82 ∷ 101 ∷ 115 ∷ 105 ∷ 100 ∷ 117 ∷ 101 ∷ 78 ∷ 117 ∷ 109 ∷ 98 ∷ 101 ∷ 114 ∷
-      []) (Syntax.tcons (Syntax.tyInt Syntax.w32) Syntax.tnil)) (Syntax.tcons (Syntax.tyInt Syntax.w8) Syntax.tnil))))) Syntax.tnil))) Syntax.tnil)
-      (Syntax.ttcons (Syntax.tcons (Syntax.tyStruct (104 ∷ 101 ∷ 108 ∷ 105 ∷ 120 ∷ 58 ∷ 58 ∷ 72 ∷ 101 ∷ 108 ∷ 105 ∷ 120 ∷ []) (Syntax.tcons (Syntax.tyStruct (104
-      ∷ 101 ∷ 108 ∷ 105 ∷ 120 ∷ 58 ∷ 58 ∷ 69 ∷ 120 ∷ 116 ∷ 101 ∷ 110 ∷ 116 ∷ []) (Syntax.tcons (Syntax.tyInt Syntax.w32) (Syntax.tcons (Syntax.tyStruct (110 ∷ 97
-      ∷ 109 ∷ 101 ∷ 115 ∷ 58 ∷ 58 ∷ 84 ∷ 104 ∷ 114 ∷ 101 ∷ 101 ∷ []) (Syntax.tcons (Syntax.tyInt Syntax.w8) (Syntax.tcons (Syntax.tyInt Syntax.w8) (Syntax.tcons
-      (Syntax.tyInt Syntax.w8) Syntax.tnil)))) (Syntax.tcons (Syntax.tyStruct (114 ∷ 101 ∷ 115 ∷ 105 ∷ 100 ∷ 117 ∷ 101 ∷ 58 ∷ 58 ∷ 82 ∷ 101 ∷ 115 ∷ 105 ∷ 100 ∷
-      117 ∷ 101 ∷ []) (Syntax.tcons (Syntax.tyStruct (110 ∷ 97 ∷ 109 ∷ 101 ∷ 115 ∷ 58 ∷ 58 ∷ 84 ∷ 104 ∷ 114 ∷ 101 ∷ 101 ∷ []) (Syntax.tcons (Syntax.tyInt
-      Syntax.w8) (Syntax.tcons (Syntax.tyInt Syntax.w8) (Syntax.tcons (Syntax.tyInt Syntax.w8) Syntax.tnil)))) (Syntax.tcons (Syntax.tyInt Syntax.w8)
-      (Syntax.tcons (Syntax.tyStruct (102 ∷ 105 ∷ 101 ∷ 108 ∷ 100 ∷ 115 ∷ 58 ∷ 58 ∷ 82 ∷ 101 ∷ 115 ∷ 105 ∷ 100 ∷ 117 ∷ 101 ∷ 78 ∷ 117 ∷ 109 ∷ 98 ∷ 101 ∷ 114 ∷
-      []) (Syntax.tcons (Syntax.tyInt Syntax.w32) Syntax.tnil)) (Syntax.tcons (Syntax.tyInt Syntax.w8) Syntax.tnil))))) (Syntax.tcons (Syntax.tyStruct (114 ∷ 101
-      ∷ 115 ∷ 105 ∷ 100 ∷ 117 ∷ 101 ∷ 58 ∷ 58 ∷ 82 ∷ 101 ∷ 115 ∷ 105 ∷ 100 ∷ 117 ∷ 101 ∷ []) (Syntax.tcons (Syntax.tyStruct (110 ∷ 97 ∷ 109 ∷ 101 ∷ 115 ∷ 58 ∷ 58
-      ∷ 84 ∷ 104 ∷ 114 ∷ 101 ∷ 101 ∷ []) (Syntax.tcons (Syntax.tyInt Syntax.w8) (Syntax.tcons (Syntax.tyInt Syntax.w8) (Syntax.tcons (Syntax.tyInt Syntax.w8)
-      Syntax.tnil)))) (Syntax.tcons (Syntax.tyInt Syntax.w8) (Syntax.tcons (Syntax.tyStruct (102 ∷ 105 ∷ 101 ∷ 108 ∷ 100 ∷ 115 ∷ 58 ∷ 58 ∷ 82 ∷ 101 ∷ 115 ∷ 105 ∷
-      100 ∷ 117 ∷ 101 ∷ 78 ∷ 117 ∷ 109 ∷ 98 ∷ 101 ∷ 114 ∷ []) (Syntax.tcons (Syntax.tyInt Syntax.w32) Syntax.tnil)) (Syntax.tcons (Syntax.tyInt Syntax.w8)
-      Syntax.tnil))))) Syntax.tnil))))) (Syntax.tcons (Syntax.tyInt Syntax.w32) (Syntax.tcons (Syntax.tyStruct (104 ∷ 101 ∷ 108 ∷ 105 ∷ 120 ∷ 58 ∷ 58 ∷ 67 ∷ 111
-      ∷ 109 ∷ 109 ∷ 101 ∷ 110 ∷ 116 ∷ []) (Syntax.tcons (Syntax.tyInt Syntax.w64) (Syntax.tcons (Syntax.tyInt Syntax.w64) (Syntax.tcons (Syntax.tyInt Syntax.w64)
-      (Syntax.tcons (Syntax.tyInt Syntax.w64) Syntax.tnil))))) (Syntax.tcons (Syntax.tyInt Syntax.w32) Syntax.tnil))))) Syntax.tnil) (Syntax.ttcons (Syntax.tcons
-      (Syntax.tyStruct (115 ∷ 104 ∷ 101 ∷ 101 ∷ 116 ∷ 58 ∷ 58 ∷ 83 ∷ 104 ∷ 101 ∷ 101 ∷ 116 ∷ []) (Syntax.tcons (Syntax.tyStruct (115 ∷ 104 ∷ 101 ∷ 101 ∷ 116 ∷ 58
-      ∷ 58 ∷ 83 ∷ 116 ∷ 114 ∷ 97 ∷ 110 ∷ 100 ∷ []) (Syntax.tcons (Syntax.tyInt Syntax.w32) (Syntax.tcons (Syntax.tyStruct (110 ∷ 97 ∷ 109 ∷ 101 ∷ 115 ∷ 58 ∷ 58 ∷
-      84 ∷ 104 ∷ 114 ∷ 101 ∷ 101 ∷ []) (Syntax.tcons (Syntax.tyInt Syntax.w8) (Syntax.tcons (Syntax.tyInt Syntax.w8) (Syntax.tcons (Syntax.tyInt Syntax.w8)
-      Syntax.tnil)))) (Syntax.tcons (Syntax.tyInt Syntax.w32) (Syntax.tcons (Syntax.tyStruct (114 ∷ 101 ∷ 115 ∷ 105 ∷ 100 ∷ 117 ∷ 101 ∷ 58 ∷ 58 ∷ 82 ∷ 101 ∷ 115
-      ∷ 105 ∷ 100 ∷ 117 ∷ 101 ∷ []) (Syntax.tcons (Syntax.tyStruct (110 ∷ 97 ∷ 109 ∷ 101 ∷ 115 ∷ 58 ∷ 58 ∷ 84 ∷ 104 ∷ 114 ∷ 101 ∷ 101 ∷ []) (Syntax.tcons
-      (Syntax.tyInt Syntax.w8) (Syntax.tcons (Syntax.tyInt Syntax.w8) (Syntax.tcons (Syntax.tyInt Syntax.w8) Syntax.tnil)))) (Syntax.tcons (Syntax.tyInt
-      Syntax.w8) (Syntax.tcons (Syntax.tyStruct (102 ∷ 105 ∷ 101 ∷ 108 ∷ 100 ∷ 115 ∷ 58 ∷ 58 ∷ 82 ∷ 101 ∷ 115 ∷ 105 ∷ 100 ∷ 117 ∷ 101 ∷ 78 ∷ 117 ∷ 109 ∷ 98 ∷ 101
-      ∷ 114 ∷ []) (Syntax.tcons (Syntax.tyInt Syntax.w32) Syntax.tnil)) (Syntax.tcons (Syntax.tyInt Syntax.w8) Syntax.tnil))))) (Syntax.tcons (Syntax.tyStruct
-      (114 ∷ 101 ∷ 115 ∷ 105 ∷ 100 ∷ 117 ∷ 101 ∷ 58 ∷ 58 ∷ 82 ∷ 101 ∷ 115 ∷ 105 ∷ 100 ∷ 117 ∷ 101 ∷ []) (Syntax.tcons (Syntax.tyStruct (110 ∷ 97 ∷ 109 ∷ 101 ∷
-      115 ∷ 58 ∷ 58 ∷ 84 ∷ 104 ∷ 114 ∷ 101 ∷ 101 ∷ []) (Syntax.tcons (Syntax.tyInt Syntax.w8) (Syntax.tcons (Syntax.tyInt Syntax.w8) (Syntax.tcons (Syntax.tyInt
-      Syntax.w8) Syntax.tnil)))) (Syntax.tcons (Syntax.tyInt Syntax.w8) (Syntax.tcons (Syntax.tyStruct (102 ∷ 105 ∷ 101 ∷ 108 ∷ 100 ∷ 115 ∷ 58 ∷ 58 ∷ 82 ∷ 101 ∷
-      115 ∷ 105 ∷ 100 ∷ 117 ∷ 101 ∷ 78 ∷ 117 ∷ 109 ∷ 98 ∷ 101 ∷ 114 ∷ []) (Syntax.tcons (Syntax.tyInt Syntax.w32) Syntax.tnil)) (Syntax.tcons (Syntax.tyInt
-      Syntax.w8) Syntax.tnil))))) (Syntax.tcons (Syntax.tyInt Syntax.w32) Syntax.tnil))))))) (Syntax.tcons (Syntax.tyEnum (115 ∷ 104 ∷ 101 ∷ 101 ∷ 116 ∷ 58 ∷ 58
-      ∷ 82 ∷ 101 ∷ 103 ∷ 105 ∷ 115 ∷ 116 ∷ 114 ∷ 97 ∷ 116 ∷ 105 ∷ 111 ∷ 110 ∷ []) (Syntax.ttcons Syntax.tnil (Syntax.ttcons (Syntax.tcons (Syntax.tyStruct (115 ∷
-      104 ∷ 101 ∷ 101 ∷ 116 ∷ 58 ∷ 58 ∷ 66 ∷ 111 ∷ 110 ∷ 100 ∷ []) (Syntax.tcons (Syntax.tyStruct (110 ∷ 97 ∷ 109 ∷ 101 ∷ 115 ∷ 58 ∷ 58 ∷ 70 ∷ 111 ∷ 117 ∷ 114 ∷
-      []) (Syntax.tcons (Syntax.tyInt Syntax.w8) (Syntax.tcons (Syntax.tyInt Syntax.w8) (Syntax.tcons (Syntax.tyInt Syntax.w8) (Syntax.tcons (Syntax.tyInt
-      Syntax.w8) Syntax.tnil))))) (Syntax.tcons (Syntax.tyStruct (114 ∷ 101 ∷ 115 ∷ 105 ∷ 100 ∷ 117 ∷ 101 ∷ 58 ∷ 58 ∷ 82 ∷ 101 ∷ 115 ∷ 105 ∷ 100 ∷ 117 ∷ 101 ∷
-      []) (Syntax.tcons (Syntax.tyStruct (110 ∷ 97 ∷ 109 ∷ 101 ∷ 115 ∷ 58 ∷ 58 ∷ 84 ∷ 104 ∷ 114 ∷ 101 ∷ 101 ∷ []) (Syntax.tcons (Syntax.tyInt Syntax.w8)
-      (Syntax.tcons (Syntax.tyInt Syntax.w8) (Syntax.tcons (Syntax.tyInt Syntax.w8) Syntax.tnil)))) (Syntax.tcons (Syntax.tyInt Syntax.w8) (Syntax.tcons
-      (Syntax.tyStruct (102 ∷ 105 ∷ 101 ∷ 108 ∷ 100 ∷ 115 ∷ 58 ∷ 58 ∷ 82 ∷ 101 ∷ 115 ∷ 105 ∷ 100 ∷ 117 ∷ 101 ∷ 78 ∷ 117 ∷ 109 ∷ 98 ∷ 101 ∷ 114 ∷ [])
-      (Syntax.tcons (Syntax.tyInt Syntax.w32) Syntax.tnil)) (Syntax.tcons (Syntax.tyInt Syntax.w8) Syntax.tnil))))) (Syntax.tcons (Syntax.tyStruct (110 ∷ 97 ∷
-      109 ∷ 101 ∷ 115 ∷ 58 ∷ 58 ∷ 70 ∷ 111 ∷ 117 ∷ 114 ∷ []) (Syntax.tcons (Syntax.tyInt Syntax.w8) (Syntax.tcons (Syntax.tyInt Syntax.w8) (Syntax.tcons
-      (Syntax.tyInt Syntax.w8) (Syntax.tcons (Syntax.tyInt Syntax.w8) Syntax.tnil))))) (Syntax.tcons (Syntax.tyStruct (114 ∷ 101 ∷ 115 ∷ 105 ∷ 100 ∷ 117 ∷ 101 ∷
-      58 ∷ 58 ∷ 82 ∷ 101 ∷ 115 ∷ 105 ∷ 100 ∷ 117 ∷ 101 ∷ []) (Syntax.tcons (Syntax.tyStruct (110 ∷ 97 ∷ 109 ∷ 101 ∷ 115 ∷ 58 ∷ 58 ∷ 84 ∷ 104 ∷ 114 ∷ 101 ∷ 101 ∷
-      []) (Syntax.tcons (Syntax.tyInt Syntax.w8) (Syntax.tcons (Syntax.tyInt Syntax.w8) (Syntax.tcons (Syntax.tyInt Syntax.w8) Syntax.tnil)))) (Syntax.tcons
-      (Syntax.tyInt Syntax.w8) (Syntax.tcons (Syntax.tyStruct (102 ∷ 105 ∷ 101 ∷ 108 ∷ 100 ∷ 115 ∷ 58 ∷ 58 ∷ 82 ∷ 101 ∷ 115 ∷ 105 ∷ 100 ∷ 117 ∷ 101 ∷ 78 ∷ 117 ∷
-      109 ∷ 98 ∷ 101 ∷ 114 ∷ []) (Syntax.tcons (Syntax.tyInt Syntax.w32) Syntax.tnil)) (Syntax.tcons (Syntax.tyInt Syntax.w8) Syntax.tnil))))) Syntax.tnil)))))
-      Syntax.tnil) Syntax.ttnil))) Syntax.tnil))) Syntax.tnil) (Syntax.ttcons (Syntax.tcons (Syntax.tyStruct (99 ∷ 111 ∷ 110 ∷ 101 ∷ 99 ∷ 116 ∷ 58 ∷ 58 ∷ 67 ∷
-      111 ∷ 110 ∷ 101 ∷ 99 ∷ 116 ∷ []) (Syntax.tcons (Syntax.tyStruct (102 ∷ 105 ∷ 101 ∷ 108 ∷ 100 ∷ 115 ∷ 58 ∷ 58 ∷ 83 ∷ 101 ∷ 114 ∷ 105 ∷ 97 ∷ 108 ∷ [])
-      (Syntax.tcons (Syntax.tyInt Syntax.w32) Syntax.tnil)) (Syntax.tcons (Syntax.tyStruct (102 ∷ 105 ∷ 101 ∷ 108 ∷ 100 ∷ 115 ∷ 58 ∷ 58 ∷ 83 ∷ 101 ∷ 114 ∷ 105 ∷
-      97 ∷ 108 ∷ []) (Syntax.tcons (Syntax.tyInt Syntax.w32) Syntax.tnil)) (Syntax.tcons (Syntax.tyStruct (102 ∷ 105 ∷ 101 ∷ 108 ∷ 100 ∷ 115 ∷ 58 ∷ 58 ∷ 83 ∷ 101
-      ∷ 114 ∷ 105 ∷ 97 ∷ 108 ∷ []) (Syntax.tcons (Syntax.tyInt Syntax.w32) Syntax.tnil)) (Syntax.tcons (Syntax.tyStruct (102 ∷ 105 ∷ 101 ∷ 108 ∷ 100 ∷ 115 ∷ 58 ∷
-      58 ∷ 83 ∷ 101 ∷ 114 ∷ 105 ∷ 97 ∷ 108 ∷ []) (Syntax.tcons (Syntax.tyInt Syntax.w32) Syntax.tnil)) (Syntax.tcons (Syntax.tyStruct (102 ∷ 105 ∷ 101 ∷ 108 ∷
-      100 ∷ 115 ∷ 58 ∷ 58 ∷ 83 ∷ 101 ∷ 114 ∷ 105 ∷ 97 ∷ 108 ∷ []) (Syntax.tcons (Syntax.tyInt Syntax.w32) Syntax.tnil)) Syntax.tnil)))))) Syntax.tnil)
-      (Syntax.ttcons (Syntax.tcons (Syntax.tyStruct (109 ∷ 97 ∷ 115 ∷ 116 ∷ 101 ∷ 114 ∷ 58 ∷ 58 ∷ 84 ∷ 97 ∷ 108 ∷ 108 ∷ 121 ∷ []) (Syntax.tcons (Syntax.tyInt
-      Syntax.w32) (Syntax.tcons (Syntax.tyInt Syntax.w32) (Syntax.tcons (Syntax.tyInt Syntax.w32) (Syntax.tcons (Syntax.tyInt Syntax.w32) (Syntax.tcons
-      (Syntax.tyInt Syntax.w32) (Syntax.tcons (Syntax.tyInt Syntax.w32) (Syntax.tcons (Syntax.tyInt Syntax.w32) (Syntax.tcons (Syntax.tyInt Syntax.w32)
-      (Syntax.tcons (Syntax.tyInt Syntax.w32) Syntax.tnil)))))))))) Syntax.tnil) (Syntax.ttcons Syntax.tnil Syntax.ttnil)))))))) Syntax.tnil) Syntax.ttnil))))),
+  Rows'.any-gone (Syntax.tyStruct (112 ∷ 108 ∷ 97 ∷
+      99 ∷ 101 ∷ 115 ∷ 58 ∷ 58 ∷ 67 ∷ 111 ∷ 117 ∷ 110 ∷ 116 ∷ 115 ∷ []) (Syntax.tcons (Syntax.tyInt Syntax.w64) (Syntax.tcons (Syntax.tyInt Syntax.w64)
+      (Syntax.tcons (Syntax.tyInt Syntax.w64) (Syntax.tcons (Syntax.tyInt Syntax.w64) (Syntax.tcons (Syntax.tyInt Syntax.w64) (Syntax.tcons (Syntax.tyInt
+      Syntax.w64) (Syntax.tcons (Syntax.tyInt Syntax.w64) (Syntax.tcons (Syntax.tyInt Syntax.w64) (Syntax.tcons (Syntax.tyInt Syntax.w64) Syntax.tnil)))))))))),
 )
+    ∷ (
+      9,
+      Rows'.any-gone (Syntax.tyEnum (112 ∷ 105 ∷ 101 ∷ 99 ∷ 101 ∷ 115 ∷ 58 ∷ 58 ∷ 76 ∷ 105 ∷ 110 ∷ 101 ∷ []) (Syntax.ttcons (Syntax.tcons (Syntax.tyInt
+          Syntax.w8) Syntax.tnil) (Syntax.ttcons (Syntax.tcons (Syntax.tyEnum (107 ∷ 105 ∷ 110 ∷ 100 ∷ 115 ∷ 58 ∷ 58 ∷ 75 ∷ 105 ∷ 110 ∷ 100 ∷ []) (Syntax.ttcons
+          Syntax.tnil (Syntax.ttcons Syntax.tnil (Syntax.ttcons Syntax.tnil (Syntax.ttcons Syntax.tnil (Syntax.ttcons Syntax.tnil (Syntax.ttcons Syntax.tnil
+          (Syntax.ttcons Syntax.tnil (Syntax.ttcons Syntax.tnil (Syntax.ttcons Syntax.tnil (Syntax.ttcons Syntax.tnil (Syntax.ttcons Syntax.tnil (Syntax.ttcons
+          Syntax.tnil (Syntax.ttcons Syntax.tnil (Syntax.ttcons Syntax.tnil (Syntax.ttcons Syntax.tnil (Syntax.ttcons Syntax.tnil (Syntax.ttcons Syntax.tnil
+          (Syntax.ttcons Syntax.tnil (Syntax.ttcons Syntax.tnil (Syntax.ttcons Syntax.tnil (Syntax.ttcons Syntax.tnil (Syntax.ttcons Syntax.tnil (Syntax.ttcons
+          Syntax.tnil (Syntax.ttcons Syntax.tnil (Syntax.ttcons Syntax.tnil (Syntax.ttcons Syntax.tnil (Syntax.ttcons Syntax.tnil (Syntax.ttcons Syntax.tnil
+          Syntax.ttnil))))))))))))))))))))))))))))) (Syntax.tcons (Syntax.tyInt Syntax.w32) Syntax.tnil)) (Syntax.ttcons (Syntax.tcons (Syntax.tyEnum (107 ∷ 105 ∷
+          110 ∷ 100 ∷ 115 ∷ 58 ∷ 58 ∷ 75 ∷ 105 ∷ 110 ∷ 100 ∷ []) (Syntax.ttcons Syntax.tnil (Syntax.ttcons Syntax.tnil (Syntax.ttcons Syntax.tnil (Syntax.ttcons
+          Syntax.tnil (Syntax.ttcons Syntax.tnil (Syntax.ttcons Syntax.tnil (Syntax.ttcons Syntax.tnil (Syntax.ttcons Syntax.tnil (Syntax.ttcons Syntax.tnil
+          (Syntax.ttcons Syntax.tnil (Syntax.ttcons Syntax.tnil (Syntax.ttcons Syntax.tnil (Syntax.ttcons Syntax.tnil (Syntax.ttcons Syntax.tnil (Syntax.ttcons
+          Syntax.tnil (Syntax.ttcons Syntax.tnil (Syntax.ttcons Syntax.tnil (Syntax.ttcons Syntax.tnil (Syntax.ttcons Syntax.tnil (Syntax.ttcons Syntax.tnil
+          (Syntax.ttcons Syntax.tnil (Syntax.ttcons Syntax.tnil (Syntax.ttcons Syntax.tnil (Syntax.ttcons Syntax.tnil (Syntax.ttcons Syntax.tnil (Syntax.ttcons
+          Syntax.tnil (Syntax.ttcons Syntax.tnil (Syntax.ttcons Syntax.tnil Syntax.ttnil))))))))))))))))))))))))))))) Syntax.tnil) (Syntax.ttcons (Syntax.tcons
+          (Syntax.tyEnum (108 ∷ 105 ∷ 110 ∷ 101 ∷ 58 ∷ 58 ∷ 82 ∷ 101 ∷ 99 ∷ 111 ∷ 114 ∷ 100 ∷ []) (Syntax.ttcons (Syntax.tcons Syntax.tyBool (Syntax.tcons
+          (Syntax.tyStruct (99 ∷ 111 ∷ 111 ∷ 114 ∷ 100 ∷ 105 ∷ 110 ∷ 97 ∷ 116 ∷ 101 ∷ 58 ∷ 58 ∷ 65 ∷ 116 ∷ 111 ∷ 109 ∷ []) (Syntax.tcons (Syntax.tyStruct (99 ∷ 111 ∷
+          111 ∷ 114 ∷ 100 ∷ 105 ∷ 110 ∷ 97 ∷ 116 ∷ 101 ∷ 58 ∷ 58 ∷ 73 ∷ 100 ∷ 101 ∷ 110 ∷ 116 ∷ 105 ∷ 116 ∷ 121 ∷ []) (Syntax.tcons (Syntax.tyStruct (102 ∷ 105 ∷ 101
+          ∷ 108 ∷ 100 ∷ 115 ∷ 58 ∷ 58 ∷ 83 ∷ 101 ∷ 114 ∷ 105 ∷ 97 ∷ 108 ∷ []) (Syntax.tcons (Syntax.tyInt Syntax.w32) Syntax.tnil)) (Syntax.tcons (Syntax.tyStruct
+          (110 ∷ 97 ∷ 109 ∷ 101 ∷ 115 ∷ 58 ∷ 58 ∷ 70 ∷ 111 ∷ 117 ∷ 114 ∷ []) (Syntax.tcons (Syntax.tyInt Syntax.w8) (Syntax.tcons (Syntax.tyInt Syntax.w8)
+          (Syntax.tcons (Syntax.tyInt Syntax.w8) (Syntax.tcons (Syntax.tyInt Syntax.w8) Syntax.tnil))))) (Syntax.tcons (Syntax.tyInt Syntax.w8) (Syntax.tcons
+          (Syntax.tyStruct (114 ∷ 101 ∷ 115 ∷ 105 ∷ 100 ∷ 117 ∷ 101 ∷ 58 ∷ 58 ∷ 82 ∷ 101 ∷ 115 ∷ 105 ∷ 100 ∷ 117 ∷ 101 ∷ []) (Syntax.tcons (Syntax.tyStruct (110 ∷ 97
+          ∷ 109 ∷ 101 ∷ 115 ∷ 58 ∷ 58 ∷ 84 ∷ 104 ∷ 114 ∷ 101 ∷ 101 ∷ []) (Syntax.tcons (Syntax.tyInt Syntax.w8) (Syntax.tcons (Syntax.tyInt Syntax.w8) (Syntax.tcons
+          (Syntax.tyInt Syntax.w8) Syntax.tnil)))) (Syntax.tcons (Syntax.tyInt Syntax.w8) (Syntax.tcons (Syntax.tyStruct (102 ∷ 105 ∷ 101 ∷ 108 ∷ 100 ∷ 115 ∷ 58 ∷ 58
+          ∷ 82 ∷ 101 ∷ 115 ∷ 105 ∷ 100 ∷ 117 ∷ 101 ∷ 78 ∷ 117 ∷ 109 ∷ 98 ∷ 101 ∷ 114 ∷ []) (Syntax.tcons (Syntax.tyInt Syntax.w32) Syntax.tnil)) (Syntax.tcons
+          (Syntax.tyInt Syntax.w8) Syntax.tnil))))) Syntax.tnil))))) (Syntax.tcons (Syntax.tyStruct (99 ∷ 111 ∷ 111 ∷ 114 ∷ 100 ∷ 105 ∷ 110 ∷ 97 ∷ 116 ∷ 101 ∷ 58 ∷
+          58 ∷ 77 ∷ 101 ∷ 97 ∷ 115 ∷ 117 ∷ 114 ∷ 101 ∷ []) (Syntax.tcons (Syntax.tyStruct (99 ∷ 111 ∷ 111 ∷ 114 ∷ 100 ∷ 105 ∷ 110 ∷ 97 ∷ 116 ∷ 101 ∷ 58 ∷ 58 ∷ 80 ∷
+          111 ∷ 115 ∷ 105 ∷ 116 ∷ 105 ∷ 111 ∷ 110 ∷ []) (Syntax.tcons (Syntax.tyInt Syntax.w32) (Syntax.tcons (Syntax.tyInt Syntax.w32) (Syntax.tcons (Syntax.tyInt
+          Syntax.w32) Syntax.tnil)))) (Syntax.tcons (Syntax.tyInt Syntax.w32) (Syntax.tcons (Syntax.tyInt Syntax.w32) Syntax.tnil)))) (Syntax.tcons (Syntax.tyStruct
+          (99 ∷ 111 ∷ 111 ∷ 114 ∷ 100 ∷ 105 ∷ 110 ∷ 97 ∷ 116 ∷ 101 ∷ 58 ∷ 58 ∷ 83 ∷ 112 ∷ 101 ∷ 99 ∷ 105 ∷ 101 ∷ 115 ∷ []) (Syntax.tcons (Syntax.tyStruct (110 ∷ 97 ∷
+          109 ∷ 101 ∷ 115 ∷ 58 ∷ 58 ∷ 80 ∷ 97 ∷ 105 ∷ 114 ∷ []) (Syntax.tcons (Syntax.tyInt Syntax.w8) (Syntax.tcons (Syntax.tyInt Syntax.w8) Syntax.tnil)))
+          (Syntax.tcons (Syntax.tyStruct (110 ∷ 97 ∷ 109 ∷ 101 ∷ 115 ∷ 58 ∷ 58 ∷ 80 ∷ 97 ∷ 105 ∷ 114 ∷ []) (Syntax.tcons (Syntax.tyInt Syntax.w8) (Syntax.tcons
+          (Syntax.tyInt Syntax.w8) Syntax.tnil))) Syntax.tnil))) Syntax.tnil)))) Syntax.tnil)) (Syntax.ttcons (Syntax.tcons (Syntax.tyStruct (116 ∷ 101 ∷ 114 ∷ 58 ∷
+          58 ∷ 84 ∷ 101 ∷ 114 ∷ []) (Syntax.tcons (Syntax.tyStruct (102 ∷ 105 ∷ 101 ∷ 108 ∷ 100 ∷ 115 ∷ 58 ∷ 58 ∷ 83 ∷ 101 ∷ 114 ∷ 105 ∷ 97 ∷ 108 ∷ []) (Syntax.tcons
+          (Syntax.tyInt Syntax.w32) Syntax.tnil)) (Syntax.tcons (Syntax.tyStruct (114 ∷ 101 ∷ 115 ∷ 105 ∷ 100 ∷ 117 ∷ 101 ∷ 58 ∷ 58 ∷ 82 ∷ 101 ∷ 115 ∷ 105 ∷ 100 ∷
+          117 ∷ 101 ∷ []) (Syntax.tcons (Syntax.tyStruct (110 ∷ 97 ∷ 109 ∷ 101 ∷ 115 ∷ 58 ∷ 58 ∷ 84 ∷ 104 ∷ 114 ∷ 101 ∷ 101 ∷ []) (Syntax.tcons (Syntax.tyInt
+          Syntax.w8) (Syntax.tcons (Syntax.tyInt Syntax.w8) (Syntax.tcons (Syntax.tyInt Syntax.w8) Syntax.tnil)))) (Syntax.tcons (Syntax.tyInt Syntax.w8)
+          (Syntax.tcons (Syntax.tyStruct (102 ∷ 105 ∷ 101 ∷ 108 ∷ 100 ∷ 115 ∷ 58 ∷ 58 ∷ 82 ∷ 101 ∷ 115 ∷ 105 ∷ 100 ∷ 117 ∷ 101 ∷ 78 ∷ 117 ∷ 109 ∷ 98 ∷ 101 ∷ 114 ∷
+          []) (Syntax.tcons (Syntax.tyInt Syntax.w32) Syntax.tnil)) (Syntax.tcons (Syntax.tyInt Syntax.w8) Syntax.tnil))))) Syntax.tnil))) Syntax.tnil)
+          (Syntax.ttcons (Syntax.tcons (Syntax.tyStruct (104 ∷ 101 ∷ 108 ∷ 105 ∷ 120 ∷ 58 ∷ 58 ∷ 72 ∷ 101 ∷ 108 ∷ 105 ∷ 120 ∷ []) (Syntax.tcons (Syntax.tyStruct (104
+          ∷ 101 ∷ 108 ∷ 105 ∷ 120 ∷ 58 ∷ 58 ∷ 69 ∷ 120 ∷ 116 ∷ 101 ∷ 110 ∷ 116 ∷ []) (Syntax.tcons (Syntax.tyInt Syntax.w32) (Syntax.tcons (Syntax.tyStruct (110 ∷ 97
+          ∷ 109 ∷ 101 ∷ 115 ∷ 58 ∷ 58 ∷ 84 ∷ 104 ∷ 114 ∷ 101 ∷ 101 ∷ []) (Syntax.tcons (Syntax.tyInt Syntax.w8) (Syntax.tcons (Syntax.tyInt Syntax.w8) (Syntax.tcons
+          (Syntax.tyInt Syntax.w8) Syntax.tnil)))) (Syntax.tcons (Syntax.tyStruct (114 ∷ 101 ∷ 115 ∷ 105 ∷ 100 ∷ 117 ∷ 101 ∷ 58 ∷ 58 ∷ 82 ∷ 101 ∷ 115 ∷ 105 ∷ 100 ∷
+          117 ∷ 101 ∷ []) (Syntax.tcons (Syntax.tyStruct (110 ∷ 97 ∷ 109 ∷ 101 ∷ 115 ∷ 58 ∷ 58 ∷ 84 ∷ 104 ∷ 114 ∷ 101 ∷ 101 ∷ []) (Syntax.tcons (Syntax.tyInt
+          Syntax.w8) (Syntax.tcons (Syntax.tyInt Syntax.w8) (Syntax.tcons (Syntax.tyInt Syntax.w8) Syntax.tnil)))) (Syntax.tcons (Syntax.tyInt Syntax.w8)
+          (Syntax.tcons (Syntax.tyStruct (102 ∷ 105 ∷ 101 ∷ 108 ∷ 100 ∷ 115 ∷ 58 ∷ 58 ∷ 82 ∷ 101 ∷ 115 ∷ 105 ∷ 100 ∷ 117 ∷ 101 ∷ 78 ∷ 117 ∷ 109 ∷ 98 ∷ 101 ∷ 114 ∷
+          []) (Syntax.tcons (Syntax.tyInt Syntax.w32) Syntax.tnil)) (Syntax.tcons (Syntax.tyInt Syntax.w8) Syntax.tnil))))) (Syntax.tcons (Syntax.tyStruct (114 ∷ 101
+          ∷ 115 ∷ 105 ∷ 100 ∷ 117 ∷ 101 ∷ 58 ∷ 58 ∷ 82 ∷ 101 ∷ 115 ∷ 105 ∷ 100 ∷ 117 ∷ 101 ∷ []) (Syntax.tcons (Syntax.tyStruct (110 ∷ 97 ∷ 109 ∷ 101 ∷ 115 ∷ 58 ∷ 58
+          ∷ 84 ∷ 104 ∷ 114 ∷ 101 ∷ 101 ∷ []) (Syntax.tcons (Syntax.tyInt Syntax.w8) (Syntax.tcons (Syntax.tyInt Syntax.w8) (Syntax.tcons (Syntax.tyInt Syntax.w8)
+          Syntax.tnil)))) (Syntax.tcons (Syntax.tyInt Syntax.w8) (Syntax.tcons (Syntax.tyStruct (102 ∷ 105 ∷ 101 ∷ 108 ∷ 100 ∷ 115 ∷ 58 ∷ 58 ∷ 82 ∷ 101 ∷ 115 ∷ 105 ∷
+          100 ∷ 117 ∷ 101 ∷ 78 ∷ 117 ∷ 109 ∷ 98 ∷ 101 ∷ 114 ∷ []) (Syntax.tcons (Syntax.tyInt Syntax.w32) Syntax.tnil)) (Syntax.tcons (Syntax.tyInt Syntax.w8)
+          Syntax.tnil))))) Syntax.tnil))))) (Syntax.tcons (Syntax.tyInt Syntax.w32) (Syntax.tcons (Syntax.tyStruct (104 ∷ 101 ∷ 108 ∷ 105 ∷ 120 ∷ 58 ∷ 58 ∷ 67 ∷ 111
+          ∷ 109 ∷ 109 ∷ 101 ∷ 110 ∷ 116 ∷ []) (Syntax.tcons (Syntax.tyInt Syntax.w64) (Syntax.tcons (Syntax.tyInt Syntax.w64) (Syntax.tcons (Syntax.tyInt Syntax.w64)
+          (Syntax.tcons (Syntax.tyInt Syntax.w64) Syntax.tnil))))) (Syntax.tcons (Syntax.tyInt Syntax.w32) Syntax.tnil))))) Syntax.tnil) (Syntax.ttcons (Syntax.tcons
+          (Syntax.tyStruct (115 ∷ 104 ∷ 101 ∷ 101 ∷ 116 ∷ 58 ∷ 58 ∷ 83 ∷ 104 ∷ 101 ∷ 101 ∷ 116 ∷ []) (Syntax.tcons (Syntax.tyStruct (115 ∷ 104 ∷ 101 ∷ 101 ∷ 116 ∷ 58
+          ∷ 58 ∷ 83 ∷ 116 ∷ 114 ∷ 97 ∷ 110 ∷ 100 ∷ []) (Syntax.tcons (Syntax.tyInt Syntax.w32) (Syntax.tcons (Syntax.tyStruct (110 ∷ 97 ∷ 109 ∷ 101 ∷ 115 ∷ 58 ∷ 58 ∷
+          84 ∷ 104 ∷ 114 ∷ 101 ∷ 101 ∷ []) (Syntax.tcons (Syntax.tyInt Syntax.w8) (Syntax.tcons (Syntax.tyInt Syntax.w8) (Syntax.tcons (Syntax.tyInt Syntax.w8)
+          Syntax.tnil)))) (Syntax.tcons (Syntax.tyInt Syntax.w32) (Syntax.tcons (Syntax.tyStruct (114 ∷ 101 ∷ 115 ∷ 105 ∷ 100 ∷ 117 ∷ 101 ∷ 58 ∷ 58 ∷ 82 ∷ 101 ∷ 115
+          ∷ 105 ∷ 100 ∷ 117 ∷ 101 ∷ []) (Syntax.tcons (Syntax.tyStruct (110 ∷ 97 ∷ 109 ∷ 101 ∷ 115 ∷ 58 ∷ 58 ∷ 84 ∷ 104 ∷ 114 ∷ 101 ∷ 101 ∷ []) (Syntax.tcons
+          (Syntax.tyInt Syntax.w8) (Syntax.tcons (Syntax.tyInt Syntax.w8) (Syntax.tcons (Syntax.tyInt Syntax.w8) Syntax.tnil)))) (Syntax.tcons (Syntax.tyInt
+          Syntax.w8) (Syntax.tcons (Syntax.tyStruct (102 ∷ 105 ∷ 101 ∷ 108 ∷ 100 ∷ 115 ∷ 58 ∷ 58 ∷ 82 ∷ 101 ∷ 115 ∷ 105 ∷ 100 ∷ 117 ∷ 101 ∷ 78 ∷ 117 ∷ 109 ∷ 98 ∷ 101
+          ∷ 114 ∷ []) (Syntax.tcons (Syntax.tyInt Syntax.w32) Syntax.tnil)) (Syntax.tcons (Syntax.tyInt Syntax.w8) Syntax.tnil))))) (Syntax.tcons (Syntax.tyStruct
+          (114 ∷ 101 ∷ 115 ∷ 105 ∷ 100 ∷ 117 ∷ 101 ∷ 58 ∷ 58 ∷ 82 ∷ 101 ∷ 115 ∷ 105 ∷ 100 ∷ 117 ∷ 101 ∷ []) (Syntax.tcons (Syntax.tyStruct (110 ∷ 97 ∷ 109 ∷ 101 ∷
+          115 ∷ 58 ∷ 58 ∷ 84 ∷ 104 ∷ 114 ∷ 101 ∷ 101 ∷ []) (Syntax.tcons (Syntax.tyInt Syntax.w8) (Syntax.tcons (Syntax.tyInt Syntax.w8) (Syntax.tcons (Syntax.tyInt
+          Syntax.w8) Syntax.tnil)))) (Syntax.tcons (Syntax.tyInt Syntax.w8) (Syntax.tcons (Syntax.tyStruct (102 ∷ 105 ∷ 101 ∷ 108 ∷ 100 ∷ 115 ∷ 58 ∷ 58 ∷ 82 ∷ 101 ∷
+          115 ∷ 105 ∷ 100 ∷ 117 ∷ 101 ∷ 78 ∷ 117 ∷ 109 ∷ 98 ∷ 101 ∷ 114 ∷ []) (Syntax.tcons (Syntax.tyInt Syntax.w32) Syntax.tnil)) (Syntax.tcons (Syntax.tyInt
+          Syntax.w8) Syntax.tnil))))) (Syntax.tcons (Syntax.tyInt Syntax.w32) Syntax.tnil))))))) (Syntax.tcons (Syntax.tyEnum (115 ∷ 104 ∷ 101 ∷ 101 ∷ 116 ∷ 58 ∷ 58
+          ∷ 82 ∷ 101 ∷ 103 ∷ 105 ∷ 115 ∷ 116 ∷ 114 ∷ 97 ∷ 116 ∷ 105 ∷ 111 ∷ 110 ∷ []) (Syntax.ttcons Syntax.tnil (Syntax.ttcons (Syntax.tcons (Syntax.tyStruct (115 ∷
+          104 ∷ 101 ∷ 101 ∷ 116 ∷ 58 ∷ 58 ∷ 66 ∷ 111 ∷ 110 ∷ 100 ∷ []) (Syntax.tcons (Syntax.tyStruct (110 ∷ 97 ∷ 109 ∷ 101 ∷ 115 ∷ 58 ∷ 58 ∷ 70 ∷ 111 ∷ 117 ∷ 114 ∷
+          []) (Syntax.tcons (Syntax.tyInt Syntax.w8) (Syntax.tcons (Syntax.tyInt Syntax.w8) (Syntax.tcons (Syntax.tyInt Syntax.w8) (Syntax.tcons (Syntax.tyInt
+          Syntax.w8) Syntax.tnil))))) (Syntax.tcons (Syntax.tyStruct (114 ∷ 101 ∷ 115 ∷ 105 ∷ 100 ∷ 117 ∷ 101 ∷ 58 ∷ 58 ∷ 82 ∷ 101 ∷ 115 ∷ 105 ∷ 100 ∷ 117 ∷ 101 ∷
+          []) (Syntax.tcons (Syntax.tyStruct (110 ∷ 97 ∷ 109 ∷ 101 ∷ 115 ∷ 58 ∷ 58 ∷ 84 ∷ 104 ∷ 114 ∷ 101 ∷ 101 ∷ []) (Syntax.tcons (Syntax.tyInt Syntax.w8)
+          (Syntax.tcons (Syntax.tyInt Syntax.w8) (Syntax.tcons (Syntax.tyInt Syntax.w8) Syntax.tnil)))) (Syntax.tcons (Syntax.tyInt Syntax.w8) (Syntax.tcons
+          (Syntax.tyStruct (102 ∷ 105 ∷ 101 ∷ 108 ∷ 100 ∷ 115 ∷ 58 ∷ 58 ∷ 82 ∷ 101 ∷ 115 ∷ 105 ∷ 100 ∷ 117 ∷ 101 ∷ 78 ∷ 117 ∷ 109 ∷ 98 ∷ 101 ∷ 114 ∷ [])
+          (Syntax.tcons (Syntax.tyInt Syntax.w32) Syntax.tnil)) (Syntax.tcons (Syntax.tyInt Syntax.w8) Syntax.tnil))))) (Syntax.tcons (Syntax.tyStruct (110 ∷ 97 ∷
+          109 ∷ 101 ∷ 115 ∷ 58 ∷ 58 ∷ 70 ∷ 111 ∷ 117 ∷ 114 ∷ []) (Syntax.tcons (Syntax.tyInt Syntax.w8) (Syntax.tcons (Syntax.tyInt Syntax.w8) (Syntax.tcons
+          (Syntax.tyInt Syntax.w8) (Syntax.tcons (Syntax.tyInt Syntax.w8) Syntax.tnil))))) (Syntax.tcons (Syntax.tyStruct (114 ∷ 101 ∷ 115 ∷ 105 ∷ 100 ∷ 117 ∷ 101 ∷
+          58 ∷ 58 ∷ 82 ∷ 101 ∷ 115 ∷ 105 ∷ 100 ∷ 117 ∷ 101 ∷ []) (Syntax.tcons (Syntax.tyStruct (110 ∷ 97 ∷ 109 ∷ 101 ∷ 115 ∷ 58 ∷ 58 ∷ 84 ∷ 104 ∷ 114 ∷ 101 ∷ 101 ∷
+          []) (Syntax.tcons (Syntax.tyInt Syntax.w8) (Syntax.tcons (Syntax.tyInt Syntax.w8) (Syntax.tcons (Syntax.tyInt Syntax.w8) Syntax.tnil)))) (Syntax.tcons
+          (Syntax.tyInt Syntax.w8) (Syntax.tcons (Syntax.tyStruct (102 ∷ 105 ∷ 101 ∷ 108 ∷ 100 ∷ 115 ∷ 58 ∷ 58 ∷ 82 ∷ 101 ∷ 115 ∷ 105 ∷ 100 ∷ 117 ∷ 101 ∷ 78 ∷ 117 ∷
+          109 ∷ 98 ∷ 101 ∷ 114 ∷ []) (Syntax.tcons (Syntax.tyInt Syntax.w32) Syntax.tnil)) (Syntax.tcons (Syntax.tyInt Syntax.w8) Syntax.tnil))))) Syntax.tnil)))))
+          Syntax.tnil) Syntax.ttnil))) Syntax.tnil))) Syntax.tnil) (Syntax.ttcons (Syntax.tcons (Syntax.tyStruct (99 ∷ 111 ∷ 110 ∷ 101 ∷ 99 ∷ 116 ∷ 58 ∷ 58 ∷ 67 ∷
+          111 ∷ 110 ∷ 101 ∷ 99 ∷ 116 ∷ []) (Syntax.tcons (Syntax.tyStruct (102 ∷ 105 ∷ 101 ∷ 108 ∷ 100 ∷ 115 ∷ 58 ∷ 58 ∷ 83 ∷ 101 ∷ 114 ∷ 105 ∷ 97 ∷ 108 ∷ [])
+          (Syntax.tcons (Syntax.tyInt Syntax.w32) Syntax.tnil)) (Syntax.tcons (Syntax.tyStruct (102 ∷ 105 ∷ 101 ∷ 108 ∷ 100 ∷ 115 ∷ 58 ∷ 58 ∷ 83 ∷ 101 ∷ 114 ∷ 105 ∷
+          97 ∷ 108 ∷ []) (Syntax.tcons (Syntax.tyInt Syntax.w32) Syntax.tnil)) (Syntax.tcons (Syntax.tyStruct (102 ∷ 105 ∷ 101 ∷ 108 ∷ 100 ∷ 115 ∷ 58 ∷ 58 ∷ 83 ∷ 101
+          ∷ 114 ∷ 105 ∷ 97 ∷ 108 ∷ []) (Syntax.tcons (Syntax.tyInt Syntax.w32) Syntax.tnil)) (Syntax.tcons (Syntax.tyStruct (102 ∷ 105 ∷ 101 ∷ 108 ∷ 100 ∷ 115 ∷ 58 ∷
+          58 ∷ 83 ∷ 101 ∷ 114 ∷ 105 ∷ 97 ∷ 108 ∷ []) (Syntax.tcons (Syntax.tyInt Syntax.w32) Syntax.tnil)) (Syntax.tcons (Syntax.tyStruct (102 ∷ 105 ∷ 101 ∷ 108 ∷
+          100 ∷ 115 ∷ 58 ∷ 58 ∷ 83 ∷ 101 ∷ 114 ∷ 105 ∷ 97 ∷ 108 ∷ []) (Syntax.tcons (Syntax.tyInt Syntax.w32) Syntax.tnil)) Syntax.tnil)))))) Syntax.tnil)
+          (Syntax.ttcons (Syntax.tcons (Syntax.tyStruct (109 ∷ 97 ∷ 115 ∷ 116 ∷ 101 ∷ 114 ∷ 58 ∷ 58 ∷ 84 ∷ 97 ∷ 108 ∷ 108 ∷ 121 ∷ []) (Syntax.tcons (Syntax.tyInt
+          Syntax.w32) (Syntax.tcons (Syntax.tyInt Syntax.w32) (Syntax.tcons (Syntax.tyInt Syntax.w32) (Syntax.tcons (Syntax.tyInt Syntax.w32) (Syntax.tcons
+          (Syntax.tyInt Syntax.w32) (Syntax.tcons (Syntax.tyInt Syntax.w32) (Syntax.tcons (Syntax.tyInt Syntax.w32) (Syntax.tcons (Syntax.tyInt Syntax.w32)
+          (Syntax.tcons (Syntax.tyInt Syntax.w32) Syntax.tnil)))))))))) Syntax.tnil) (Syntax.ttcons Syntax.tnil Syntax.ttnil)))))))) Syntax.tnil) Syntax.ttnil))))),
+    )
     ∷ (10, Rows'.any-gone SlotAs.ty) ∷ (11, Rows'.any-gone Syntax.tyBool) ∷ (12, Rows'.any-gone (Syntax.tyInt Syntax.w64)) ∷ (
       13,
       Rows'.any-gone (Syntax.tyInt
@@ -2468,104 +2480,105 @@ t25 = (0, Rows'.sc-here Row.sUnit) ∷ (
       Syntax.w64),
 ) ∷ (6, Rows'.sc-here (Row.sInt Syntax.w64)) ∷ (7, Rows'.sc-here (Row.sInt Syntax.w64)) ∷ (
   8,
-  Rows'.any-gone (Syntax.tyStruct (114 ∷ 117 ∷ 108 ∷
-      101 ∷ 115 ∷ 58 ∷ 58 ∷ 67 ∷ 111 ∷ 117 ∷ 110 ∷ 116 ∷ 115 ∷ []) (Syntax.tcons (Syntax.tyInt Syntax.w64) (Syntax.tcons (Syntax.tyInt Syntax.w64) (Syntax.tcons
-      (Syntax.tyInt Syntax.w64) (Syntax.tcons (Syntax.tyInt Syntax.w64) (Syntax.tcons (Syntax.tyInt Syntax.w64) (Syntax.tcons (Syntax.tyInt Syntax.w64)
-      (Syntax.tcons (Syntax.tyInt Syntax.w64) (Syntax.tcons (Syntax.tyInt Syntax.w64) (Syntax.tcons (Syntax.tyInt Syntax.w64) Syntax.tnil)))))))))),
-) ∷ (
-  9,
-  Rows'.any-gone (Syntax.tyEnum (112 ∷ 105 ∷ 101 ∷ 99 ∷ 101 ∷ 115 ∷ 58 ∷ 58 ∷ 76 ∷ 105 ∷ 110 ∷ 101 ∷ []) (Syntax.ttcons (Syntax.tcons (Syntax.tyInt
-      Syntax.w8) Syntax.tnil) (Syntax.ttcons (Syntax.tcons (Syntax.tyEnum (107 ∷ 105 ∷ 110 ∷ 100 ∷ 115 ∷ 58 ∷ 58 ∷ 75 ∷ 105 ∷ 110 ∷ 100 ∷ []) (Syntax.ttcons
-      Syntax.tnil (Syntax.ttcons Syntax.tnil (Syntax.ttcons Syntax.tnil (Syntax.ttcons Syntax.tnil (Syntax.ttcons Syntax.tnil (Syntax.ttcons Syntax.tnil
-      (Syntax.ttcons Syntax.tnil (Syntax.ttcons Syntax.tnil (Syntax.ttcons Syntax.tnil (Syntax.ttcons Syntax.tnil (Syntax.ttcons Syntax.tnil (Syntax.ttcons
-      Syntax.tnil (Syntax.ttcons Syntax.tnil (Syntax.ttcons Syntax.tnil (Syntax.ttcons Syntax.tnil (Syntax.ttcons Syntax.tnil (Syntax.ttcons Syntax.tnil
-      (Syntax.ttcons Syntax.tnil (Syntax.ttcons Syntax.tnil (Syntax.ttcons Syntax.tnil (Syntax.ttcons Syntax.tnil (Syntax.ttcons Syntax.tnil (Syntax.ttcons
-      Syntax.tnil (Syntax.ttcons Syntax.tnil (Syntax.ttcons Syntax.tnil (Syntax.ttcons Syntax.tnil (Syntax.ttcons Syntax.tnil (Syntax.ttcons Syntax.tnil
-      Syntax.ttnil))))))))))))))))))))))))))))) (Syntax.tcons (Syntax.tyInt Syntax.w32) Syntax.tnil)) (Syntax.ttcons (Syntax.tcons (Syntax.tyEnum (107 ∷ 105 ∷
-      110 ∷ 100 ∷ 115 ∷ 58 ∷ 58 ∷ 75 ∷ 105 ∷ 110 ∷ 100 ∷ []) (Syntax.ttcons Syntax.tnil (Syntax.ttcons Syntax.tnil (Syntax.ttcons Syntax.tnil (Syntax.ttcons
-      Syntax.tnil (Syntax.ttcons Syntax.tnil (Syntax.ttcons Syntax.tnil (Syntax.ttcons Syntax.tnil (Syntax.ttcons Syntax.tnil (Syntax.ttcons Syntax.tnil
-      (Syntax.ttcons Syntax.tnil (Syntax.ttcons Syntax.tnil (Syntax.ttcons Syntax.tnil (Syntax.ttcons Syntax.tnil (Syntax.ttcons Syntax.tnil (Syntax.ttcons
-      Syntax.tnil (Syntax.ttcons Syntax.tnil (Syntax.ttcons Syntax.tnil (Syntax.ttcons Syntax.tnil (Syntax.ttcons Syntax.tnil (Syntax.ttcons Syntax.tnil
-      (Syntax.ttcons Syntax.tnil (Syntax.ttcons Syntax.tnil (Syntax.ttcons Syntax.tnil (Syntax.ttcons Syntax.tnil (Syntax.ttcons Syntax.tnil (Syntax.ttcons
-      Syntax.tnil (Syntax.ttcons Syntax.tnil (Syntax.ttcons Syntax.tnil Syntax.ttnil))))))))))))))))))))))))))))) Syntax.tnil) (Syntax.ttcons (Syntax.tcons
-      (Syntax.tyEnum (108 ∷ 105 ∷ 110 ∷ 101 ∷ 58 ∷ 58 ∷ 82 ∷ 101 ∷ 99 ∷ 111 ∷ 114 ∷ 100 ∷ []) (Syntax.ttcons (Syntax.tcons Syntax.tyBool (Syntax.tcons
-      (Syntax.tyStruct (99 ∷ 111 ∷ 111 ∷ 114 ∷ 100 ∷ 105 ∷ 110 ∷ 97 ∷ 116 ∷ 101 ∷ 58 ∷ 58 ∷ 65 ∷ 116 ∷ 111 ∷ 109 ∷ []) (Syntax.tcons (Syntax.tyStruct (99 ∷ 111 ∷
-      111 ∷ 114 ∷ 100 ∷ 105 ∷ 110 ∷ 97 ∷ 116 ∷ 101 ∷ 58 ∷ 58 ∷ 73 ∷ 100 ∷ 101 ∷ 110 ∷ 116 ∷ 105 ∷ 116 ∷ 121 ∷ []) (Syntax.tcons (Syntax.tyStruct (102 ∷ 105 ∷ 101
-      ∷ 108 ∷ 100 ∷ 115 ∷ 58 ∷ 58 ∷ 83 ∷ 101 ∷ 114 ∷ 105 ∷ 97 ∷ 108 ∷ []) (Syntax.tcons (Syntax.tyInt Syntax.w32) Syntax.tnil)) (Syntax.tcons (Syntax.tyStruct
-      (110 ∷ 97 ∷ 109 ∷ 101 ∷ 115 ∷ 58 ∷ 58 ∷ 70 ∷ 111 ∷ 117 ∷ 114 ∷ []) (Syntax.tcons (Syntax.tyInt Syntax.w8) (Syntax.tcons (Syntax.tyInt Syntax.w8)
-      (Syntax.tcons (Syntax.tyInt Syntax.w8) (Syntax.tcons (Syntax.tyInt Syntax.w8) Syntax.tnil))))) (Syntax.tcons (Syntax.tyInt Syntax.w8) (Syntax.tcons
-      (Syntax.tyStruct (114 ∷ 101 ∷ 115 ∷ 105 ∷ 100 ∷ 117 ∷ 101 ∷ 58 ∷ 58 ∷ 82 ∷ 101 ∷ 115 ∷ 105 ∷ 100 ∷ 117 ∷ 101 ∷ []) (Syntax.tcons (Syntax.tyStruct (110 ∷ 97
-      ∷ 109 ∷ 101 ∷ 115 ∷ 58 ∷ 58 ∷ 84 ∷ 104 ∷ 114 ∷ 101 ∷ 101 ∷ []) (Syntax.tcons (Syntax.tyInt Syntax.w8) (Syntax.tcons (Syntax.tyInt Syntax.w8) (Syntax.tcons
-      (Syntax.tyInt Syntax.w8) Syntax.tnil)))) (Syntax.tcons (Syntax.tyInt Syntax.w8) (Syntax.tcons (Syntax.tyStruct (102 ∷ 105 ∷ 101 ∷ 108 ∷ 100 ∷ 115 ∷ 58 ∷ 58
-      ∷ 82 ∷ 101 ∷ 115 ∷ 105 ∷ 100 ∷ 117 ∷ 101 ∷ 78 ∷ 117 ∷ 109 ∷ 98 ∷ 101 ∷ 114 ∷ []) (Syntax.tcons (Syntax.tyInt Syntax.w32) Syntax.tnil)) (Syntax.tcons
-      (Syntax.tyInt Syntax.w8) Syntax.tnil))))) Syntax.tnil))))) (Syntax.tcons (Syntax.tyStruct (99 ∷ 111 ∷ 111 ∷ 114 ∷ 100 ∷ 105 ∷ 110 ∷ 97 ∷ 116 ∷ 101 ∷ 58 ∷
-      58 ∷ 77 ∷ 101 ∷ 97 ∷ 115 ∷ 117 ∷ 114 ∷ 101 ∷ []) (Syntax.tcons (Syntax.tyStruct (99 ∷ 111 ∷ 111 ∷ 114 ∷ 100 ∷ 105 ∷ 110 ∷ 97 ∷ 116 ∷ 101 ∷ 58 ∷ 58 ∷ 80 ∷
-      111 ∷ 115 ∷ 105 ∷ 116 ∷ 105 ∷ 111 ∷ 110 ∷ []) (Syntax.tcons (Syntax.tyInt Syntax.w32) (Syntax.tcons (Syntax.tyInt Syntax.w32) (Syntax.tcons (Syntax.tyInt
-      Syntax.w32) Syntax.tnil)))) (Syntax.tcons (Syntax.tyInt Syntax.w32) (Syntax.tcons (Syntax.tyInt Syntax.w32) Syntax.tnil)))) (Syntax.tcons (Syntax.tyStruct
-      (99 ∷ 111 ∷ 111 ∷ 114 ∷ 100 ∷ 105 ∷ 110 ∷ 97 ∷ 116 ∷ 101 ∷ 58 ∷ 58 ∷ 83 ∷ 112 ∷ 101 ∷ 99 ∷ 105 ∷ 101 ∷ 115 ∷ []) (Syntax.tcons (Syntax.tyStruct (110 ∷ 97 ∷
-      109 ∷ 101 ∷ 115 ∷ 58 ∷ 58 ∷ 80 ∷ 97 ∷ 105 ∷ 114 ∷ []) (Syntax.tcons (Syntax.tyInt Syntax.w8) (Syntax.tcons (Syntax.tyInt Syntax.w8) Syntax.tnil)))
-      (Syntax.tcons (Syntax.tyStruct (110 ∷ 97 ∷ 109 ∷ 101 ∷ 115 ∷ 58 ∷ 58 ∷ 80 ∷ 97 ∷ 105 ∷ 114 ∷ []) (Syntax.tcons (Syntax.tyInt Syntax.w8) (Syntax.tcons
-      (Syntax.tyInt Syntax.w8) Syntax.tnil))) Syntax.tnil))) Syntax.tnil)))) Syntax.tnil)) (Syntax.ttcons (Syntax.tcons (Syntax.tyStruct (116 ∷ 101 ∷ 114 ∷ 58 ∷
-      58 ∷ 84 ∷ 101 ∷ 114 ∷ []) (Syntax.tcons (Syntax.tyStruct (102 ∷ 105 ∷ 101 ∷ 108 ∷ 100 ∷ 115 ∷ 58 ∷ 58 ∷ 83 ∷ 101 ∷ 114 ∷ 105 ∷ 97 ∷ 108 ∷ []) (Syntax.tcons
-      (Syntax.tyInt Syntax.w32) Syntax.tnil)) (Syntax.tcons (Syntax.tyStruct (114 ∷ 101 ∷ 115 ∷ 105 ∷ 100 ∷ 117 ∷ 101 ∷ 58 ∷ 58 ∷ 82 ∷ 101 ∷ 115 ∷ 105 ∷ 100 ∷
-      117 ∷ 101 ∷ []) (Syntax.tcons (Syntax.tyStruct (110 ∷ 97 ∷ 109 ∷ 101 ∷ 115 ∷ 58 ∷ 58 ∷ 84 ∷ 104 ∷ 114 ∷ 101 ∷ 101 ∷ []) (Syntax.tcons (Syntax.tyInt
-      Syntax.w8) (Syntax.tcons (Syntax.tyInt Syntax.w8) (Syntax.tcons (Syntax.tyInt Syntax.w8) Syntax.tnil)))) (Syntax.tcons (Syntax.tyInt Syntax.w8)
-      (Syntax.tcons (Syntax.tyStruct (102 ∷ 105 ∷ 101 ∷ 108 ∷ 100 ∷ 115 ∷ 58 ∷ 58 ∷ 82 ∷ 101 ∷ 115 ∷ 105 ∷ 100 ∷ 117 ∷ 101 ∷ 78 ∷ 117 ∷ 109 ∷ 98 ∷ 101 ∷ 114 ∷
-      []) (Syntax.tcons (Syntax.tyInt Syntax.w32) Syntax.tnil)) (Syntax.tcons (Syntax.tyInt Syntax.w8) Syntax.tnil))))) Syntax.tnil))) Syntax.tnil)
-      (Syntax.ttcons (Syntax.tcons (Syntax.tyStruct (104 ∷ 101 ∷ 108 ∷ 105 ∷ 120 ∷ 58 ∷ 58 ∷ 72 ∷ 101 ∷ 108 ∷ 105 ∷ 120 ∷ []) (Syntax.tcons (Syntax.tyStruct (104
-      ∷ 101 ∷ 108 ∷ 105 ∷ 120 ∷ 58 ∷ 58 ∷ 69 ∷ 120 ∷ 116 ∷ 101 ∷ 110 ∷ 116 ∷ []) (Syntax.tcons (Syntax.tyInt Syntax.w32) (Syntax.tcons (Syntax.tyStruct (110 ∷ 97
-      ∷ 109 ∷ 101 ∷ 115 ∷ 58 ∷ 58 ∷ 84 ∷ 104 ∷ 114 ∷ 101 ∷ 101 ∷ []) (Syntax.tcons (Syntax.tyInt Syntax.w8) (Syntax.tcons (Syntax.tyInt Syntax.w8) (Syntax.tcons
-      (Syntax.tyInt Syntax.w8) Syntax.tnil)))) (Syntax.tcons (Syntax.tyStruct (114 ∷ 101 ∷ 115 ∷ 105 ∷ 100 ∷ 117 ∷ 101 ∷ 58 ∷ 58 ∷ 82 ∷ 101 ∷ 115 ∷ 105 ∷ 100 ∷
-      117 ∷ 101 ∷ []) (Syntax.tcons (Syntax.tyStruct (110 ∷ 97 ∷ 109 ∷ 101 ∷ 115 ∷ 58 ∷ 58 ∷ 84 ∷ 104 ∷ 114 ∷ 101 ∷ 101 ∷ []) (Syntax.tcons (Syntax.tyInt
-      Syntax.w8) (Syntax.tcons (Syntax.tyInt Syntax.w8) (Syntax.tcons (Syntax.tyInt Syntax.w8) Syntax.tnil)))) (Syntax.tcons (Syntax.tyInt Syntax.w8)
-      (Syntax.tcons (Syntax.tyStruct (102 ∷ 105 ∷ 101 ∷ 108 ∷ 100 ∷ 115 ∷ 58 ∷ 58 ∷ 82 ∷ 101 ∷ 115 ∷ 105 ∷ 100 ∷ 117 ∷ 101 ∷ 78 ∷ 117 ∷ 109 ∷ 98 ∷ 101 ∷ 114 ∷
-      []) (Syntax.tcons (Syntax.tyInt Syntax.w32) Syntax.tnil)) (Syntax.tcons (Syntax.tyInt Syntax.w8) Syntax.tnil))))) (Syntax.tcons (Syntax.tyStruct (114 ∷ 101
-      ∷ 115 ∷ 105 ∷ 100 ∷ 117 ∷ 101 ∷ 58 ∷ 58 ∷ 82 ∷ 101 ∷ 115 ∷ 105 ∷ 100 ∷ 117 ∷ 101 ∷ []) (Syntax.tcons (Syntax.tyStruct (110 ∷ 97 ∷ 109 ∷ 101 ∷ 115 ∷ 58 ∷ 58
-      ∷ 84 ∷ 104 ∷ 114 ∷ 101 ∷ 101 ∷ []) (Syntax.tcons (Syntax.tyInt Syntax.w8) (Syntax.tcons (Syntax.tyInt Syntax.w8) (Syntax.tcons (Syntax.tyInt Syntax.w8)
-      Syntax.tnil)))) (Syntax.tcons (Syntax.tyInt Syntax.w8) (Syntax.tcons (Syntax.tyStruct (102 ∷ 105 ∷ 101 ∷ 108 ∷ 100 ∷ 115 ∷ 58 ∷ 58 ∷ 82 ∷ 101 ∷ 115 ∷ 105 ∷
-      100 ∷ 117 ∷ 101 ∷ 78 ∷ 117 ∷ 109 ∷ 98 ∷ 101 ∷ 114 ∷ []) (Syntax.tcons (Syntax.tyInt Syntax.w32) Syntax.tnil)) (Syntax.tcons (Syntax.tyInt Syntax.w8)
-      Syntax.tnil))))) Syntax.tnil))))) (Syntax.tcons (Syntax.tyInt Syntax.w32) (Syntax.tcons (Syntax.tyStruct (104 ∷ 101 ∷ 108 ∷ 105 ∷ 120 ∷ 58 ∷ 58 ∷ 67 ∷ 111
-      ∷ 109 ∷ 109 ∷ 101 ∷ 110 ∷ 116 ∷ []) (Syntax.tcons (Syntax.tyInt Syntax.w64) (Syntax.tcons (Syntax.tyInt Syntax.w64) (Syntax.tcons (Syntax.tyInt Syntax.w64)
-      (Syntax.tcons (Syntax.tyInt Syntax.w64) Syntax.tnil))))) (Syntax.tcons (Syntax.tyInt Syntax.w32) Syntax.tnil))))) Syntax.tnil) (Syntax.ttcons (Syntax.tcons
-      (Syntax.tyStruct (115 ∷ 104 ∷ 101 ∷ 101 ∷ 116 ∷ 58 ∷ 58 ∷ 83 ∷ 104 ∷ 101 ∷ 101 ∷ 116 ∷ []) (Syntax.tcons (Syntax.tyStruct (115 ∷ 104 ∷ 101 ∷ 101 ∷ 116 ∷ 58
-      ∷ 58 ∷ 83 ∷ 116 ∷ 114 ∷ 97 ∷ 110 ∷ 100 ∷ []) (Syntax.tcons (Syntax.tyInt Syntax.w32) (Syntax.tcons (Syntax.tyStruct (110 ∷ 97 ∷ 109 ∷ 101 ∷ 115 ∷ 58 ∷ 58 ∷
-      84 ∷ 104 ∷ 114 ∷ 101 ∷ 101 ∷ []) (Syntax.tcons (Syntax.tyInt Syntax.w8) (Syntax.tcons (Syntax.tyInt Syntax.w8) (Syntax.tcons (Syntax.tyInt Syntax.w8)
-      Syntax.tnil)))) (Syntax.tcons (Syntax.tyInt Syntax.w32) (Syntax.tcons (Syntax.tyStruct (114 ∷ 101 ∷ 115 ∷ 105 ∷ 100 ∷ 117 ∷ 101 ∷ 58 ∷ 58 ∷ 82 ∷ 101 ∷ 115
-      ∷ 105 ∷ 100 ∷ 117 ∷ 101 ∷ []) (Syntax.tcons (Syntax.tyStruct (110 ∷ 97 ∷ 109 ∷ 101 ∷ 115 ∷ 58 ∷ 58 ∷ 84 ∷ 104 ∷ 114 ∷ 101 ∷ 101 ∷ []) (Syntax.tcons
-      (Syntax.tyInt Syntax.w8) (Syntax.tcons (Syntax.tyInt Syntax.w8) (Syntax.tcons (Syntax.tyInt Syntax.w8) Syntax.tnil)))) (Syntax.tcons (Syntax.tyInt
-      Syntax.w8) (Syntax.tcons (Syntax.tyStruct (102 ∷ 105 ∷ 101 ∷ 108 ∷ 100 ∷ 115 ∷ 58 ∷ 58 ∷ 82 ∷ 101 ∷ 115 ∷ 105 ∷ 100 ∷ 117 ∷ 101 ∷ 78 ∷ 117 ∷ 109 ∷ 98 ∷ 101
-      ∷ 114 ∷ []) (Syntax.tcons (Syntax.tyInt Syntax.w32) Syntax.tnil)) (Syntax.tcons (Syntax.tyInt Syntax.w8) Syntax.tnil))))) (Syntax.tcons (Syntax.tyStruct
-      (114 ∷ 101 ∷ 115 ∷ 105 ∷ 100 ∷ 117 ∷ 101 ∷ 58 ∷ 58 ∷ 82 ∷ 101 ∷ 115 ∷ 105 ∷ 100 ∷ 117 ∷ 101 ∷ []) (Syntax.tcons (Syntax.tyStruct (110 ∷ 97 ∷ 109 ∷ 101 ∷
-      115 ∷ 58 ∷ 58 ∷ 84 ∷ 104 ∷ 114 ∷ 101 ∷ 101 ∷ []) (Syntax.tcons (Syntax.tyInt Syntax.w8) (Syntax.tcons (Syntax.tyInt Syntax.w8) (Syntax.tcons (Syntax.tyInt
-      Syntax.w8) Syntax.tnil)))) (Syntax.tcons (Syntax.tyInt Syntax.w8) (Syntax.tcons (Syntax.tyStruct (102 ∷ 105 ∷ 101 ∷ 108 ∷ 100 ∷ 115 ∷ 58 ∷ 58 ∷ 82 ∷ 101 ∷
-      115 ∷ 105 ∷ 100 ∷ 117 ∷ 101 ∷ 78 ∷ 117 ∷ 109 ∷ 98 ∷ 101 ∷ 114 ∷ []) (Syntax.tcons (Syntax.tyInt Syntax.w32) Syntax.tnil)) (Syntax.tcons (Syntax.tyInt
-      Syntax.w8) Syntax.tnil))))) (Syntax.tcons (Syntax.tyInt Syntax.w32) Syntax.tnil))))))) (Syntax.tcons (Syntax.tyEnum (115 ∷ 104 ∷ 101 ∷ 101 ∷ 116 ∷ 58 ∷ 58
-      ∷ 82 ∷ 101 ∷ 103 ∷ 105 ∷ 115 ∷ 116 ∷ 114 ∷ 97 ∷ 116 ∷ 105 ∷ 111 ∷ 110 ∷ []) (Syntax.ttcons Syntax.tnil (Syntax.ttcons (Syntax.tcons (Syntax.tyStruct (115 ∷
-      104 ∷ 101 ∷ 101 ∷ 116 ∷ 58 ∷ 58 ∷ 66 ∷ 111 ∷ 110 ∷ 100 ∷ []) (Syntax.tcons (Syntax.tyStruct (110 ∷ 97 ∷ 109 ∷ 101 ∷ 115 ∷ 58 ∷ 58 ∷ 70 ∷ 111 ∷ 117 ∷ 114 ∷
-      []) (Syntax.tcons (Syntax.tyInt Syntax.w8) (Syntax.tcons (Syntax.tyInt Syntax.w8) (Syntax.tcons (Syntax.tyInt Syntax.w8) (Syntax.tcons (Syntax.tyInt
-      Syntax.w8) Syntax.tnil))))) (Syntax.tcons (Syntax.tyStruct (114 ∷ 101 ∷ 115 ∷ 105 ∷ 100 ∷ 117 ∷ 101 ∷ 58 ∷ 58 ∷ 82 ∷ 101 ∷ 115 ∷ 105 ∷ 100 ∷ 117 ∷ 101 ∷
-      []) (Syntax.tcons (Syntax.tyStruct (110 ∷ 97 ∷ 109 ∷ 101 ∷ 115 ∷ 58 ∷ 58 ∷ 84 ∷ 104 ∷ 114 ∷ 101 ∷ 101 ∷ []) (Syntax.tcons (Syntax.tyInt Syntax.w8)
-      (Syntax.tcons (Syntax.tyInt Syntax.w8) (Syntax.tcons (Syntax.tyInt Syntax.w8) Syntax.tnil)))) (Syntax.tcons (Syntax.tyInt Syntax.w8) (Syntax.tcons
-      (Syntax.tyStruct (102 ∷ 105 ∷ 101 ∷ 108 ∷ 100 ∷ 115 ∷ 58 ∷ 58 ∷ 82 ∷ 101 ∷ 115 ∷ 105 ∷ 100 ∷ 117 ∷ 101 ∷ 78 ∷ 117 ∷ 109 ∷ 98 ∷ 101 ∷ 114 ∷ [])
-      (Syntax.tcons (Syntax.tyInt Syntax.w32) Syntax.tnil)) (Syntax.tcons (Syntax.tyInt Syntax.w8) Syntax.tnil))))) (Syntax.tcons (Syntax.tyStruct (110 ∷ 97 ∷
-      109 ∷ 101 ∷ 115 ∷ 58 ∷ 58 ∷ 70 ∷ 111 ∷ 117 ∷ 114 ∷ []) (Syntax.tcons (Syntax.tyInt Syntax.w8) (Syntax.tcons (Syntax.tyInt Syntax.w8) (Syntax.tcons
-      (Syntax.tyInt Syntax.w8) (Syntax.tcons (Syntax.tyInt Syntax.w8) Syntax.tnil))))) (Syntax.tcons (Syntax.tyStruct (114 ∷ 101 ∷ 115 ∷ 105 ∷ 100 ∷ 117 ∷ 101 ∷
-      58 ∷ 58 ∷ 82 ∷ 101 ∷ 115 ∷ 105 ∷ 100 ∷ 117 ∷ 101 ∷ []) (Syntax.tcons (Syntax.tyStruct (110 ∷ 97 ∷ 109 ∷ 101 ∷ 115 ∷ 58 ∷ 58 ∷ 84 ∷ 104 ∷ 114 ∷ 101 ∷ 101 ∷
-      []) (Syntax.tcons (Syntax.tyInt Syntax.w8) (Syntax.tcons (Syntax.tyInt Syntax.w8) (Syntax.tcons (Syntax.tyInt Syntax.w8) Syntax.tnil)))) (Syntax.tcons
-      (Syntax.tyInt Syntax.w8) (Syntax.tcons (Syntax.tyStruct (102 ∷ 105 ∷ 101 ∷ 108 ∷ 100 ∷ 115 ∷ 58 ∷ 58 ∷ 82 ∷ 101 ∷ 115 ∷ 105 ∷ 100 ∷ 117 ∷ 101 ∷ 78 ∷ 117 ∷
-      109 ∷ 98 ∷ 101 ∷ 114 ∷ []) (Syntax.tcons (Syntax.tyInt Syntax.w32) Syntax.tnil)) (Syntax.tcons (Syntax.tyInt Syntax.w8) Syntax.tnil))))) Syntax.tnil)))))
-      Syntax.tnil) Syntax.ttnil))) Syntax.tnil))) Syntax.tnil) (Syntax.ttcons (Syntax.tcons (Syntax.tyStruct (99 ∷ 111 ∷ 110 ∷ 101 ∷ 99 ∷ 116 ∷ 58 ∷ 58 ∷ 67 ∷
-      111 ∷ 110 ∷ 101 ∷ 99 ∷ 116 ∷ []) (Syntax.tcons (Syntax.tyStruct (102 ∷ 105 ∷ 101 ∷ 108 ∷ 100 ∷ 115 ∷ 58 ∷ 58 ∷ 83 ∷ 101 ∷ 114 ∷ 105 ∷ 97 ∷ 108 ∷ [])
-      (Syntax.tcons (Syntax.tyInt Syntax.w32) Syntax.tnil)) (Syntax.tcons (Syntax.tyStruct (102 ∷ 105 ∷ 101 ∷ 108 ∷ 100 ∷ 115 ∷ 58 ∷ 58 ∷ 83 ∷ 101 ∷ 114 ∷ 105 ∷
-      97 ∷ 108 ∷ []) (Syntax.tcons (Syntax.tyInt Syntax.w32) Syntax.tnil)) (Syntax.tcons (Syntax.tyStruct (102 ∷ 105 ∷ 101 ∷ 108 ∷ 100 ∷ 115 ∷ 58 ∷ 58 ∷ 83 ∷ 101
-      ∷ 114 ∷ 105 ∷ 97 ∷ 108 ∷ []) (Syntax.tcons (Syntax.tyInt Syntax.w32) Syntax.tnil)) (Syntax.tcons (Syntax.tyStruct (102 ∷ 105 ∷ 101 ∷ 108 ∷ 100 ∷ 115 ∷ 58 ∷
-      58 ∷ 83 ∷ 101 ∷ 114 ∷ 105 ∷ 97 ∷ 108 ∷ []) (Syntax.tcons (Syntax.tyInt Syntax.w32) Syntax.tnil)) (Syntax.tcons (Syntax.tyStruct (102 ∷ 105 ∷ 101 ∷ 108 ∷
-      100 ∷ 115 ∷ 58 ∷ 58 ∷ 83 ∷ 101 ∷ 114 ∷ 105 ∷ 97 ∷ 108 ∷ []) (Syntax.tcons (Syntax.tyInt Syntax.w32) Syntax.tnil)) Syntax.tnil)))))) Syntax.tnil)
-      (Syntax.ttcons (Syntax.tcons (Syntax.tyStruct (109 ∷ 97 ∷ 115 ∷ 116 ∷ 101 ∷ 114 ∷ 58 ∷ 58 ∷ 84 ∷ 97 ∷ 108 ∷ 108 ∷ 121 ∷ []) (Syntax.tcons (Syntax.tyInt
-      Syntax.w32) (Syntax.tcons (Syntax.tyInt Syntax.w32) (Syntax.tcons (Syntax.tyInt Syntax.w32) (Syntax.tcons (Syntax.tyInt Syntax.w32) (Syntax.tcons
-      (Syntax.tyInt Syntax.w32) (Syntax.tcons (Syntax.tyInt Syntax.w32) (Syntax.tcons (Syntax.tyInt Syntax.w32) (Syntax.tcons (Syntax.tyInt Syntax.w32)
-      (Syntax.tcons (Syntax.tyInt Syntax.w32) Syntax.tnil)))))))))) Syntax.tnil) (Syntax.ttcons Syntax.tnil Syntax.ttnil)))))))) Syntax.tnil) Syntax.ttnil))))),
+  Rows'.any-gone (Syntax.tyStruct (112 ∷ 108 ∷ 97 ∷
+      99 ∷ 101 ∷ 115 ∷ 58 ∷ 58 ∷ 67 ∷ 111 ∷ 117 ∷ 110 ∷ 116 ∷ 115 ∷ []) (Syntax.tcons (Syntax.tyInt Syntax.w64) (Syntax.tcons (Syntax.tyInt Syntax.w64)
+      (Syntax.tcons (Syntax.tyInt Syntax.w64) (Syntax.tcons (Syntax.tyInt Syntax.w64) (Syntax.tcons (Syntax.tyInt Syntax.w64) (Syntax.tcons (Syntax.tyInt
+      Syntax.w64) (Syntax.tcons (Syntax.tyInt Syntax.w64) (Syntax.tcons (Syntax.tyInt Syntax.w64) (Syntax.tcons (Syntax.tyInt Syntax.w64) Syntax.tnil)))))))))),
 )
+    ∷ (
+      9,
+      Rows'.any-gone (Syntax.tyEnum (112 ∷ 105 ∷ 101 ∷ 99 ∷ 101 ∷ 115 ∷ 58 ∷ 58 ∷ 76 ∷ 105 ∷ 110 ∷ 101 ∷ []) (Syntax.ttcons (Syntax.tcons (Syntax.tyInt
+          Syntax.w8) Syntax.tnil) (Syntax.ttcons (Syntax.tcons (Syntax.tyEnum (107 ∷ 105 ∷ 110 ∷ 100 ∷ 115 ∷ 58 ∷ 58 ∷ 75 ∷ 105 ∷ 110 ∷ 100 ∷ []) (Syntax.ttcons
+          Syntax.tnil (Syntax.ttcons Syntax.tnil (Syntax.ttcons Syntax.tnil (Syntax.ttcons Syntax.tnil (Syntax.ttcons Syntax.tnil (Syntax.ttcons Syntax.tnil
+          (Syntax.ttcons Syntax.tnil (Syntax.ttcons Syntax.tnil (Syntax.ttcons Syntax.tnil (Syntax.ttcons Syntax.tnil (Syntax.ttcons Syntax.tnil (Syntax.ttcons
+          Syntax.tnil (Syntax.ttcons Syntax.tnil (Syntax.ttcons Syntax.tnil (Syntax.ttcons Syntax.tnil (Syntax.ttcons Syntax.tnil (Syntax.ttcons Syntax.tnil
+          (Syntax.ttcons Syntax.tnil (Syntax.ttcons Syntax.tnil (Syntax.ttcons Syntax.tnil (Syntax.ttcons Syntax.tnil (Syntax.ttcons Syntax.tnil (Syntax.ttcons
+          Syntax.tnil (Syntax.ttcons Syntax.tnil (Syntax.ttcons Syntax.tnil (Syntax.ttcons Syntax.tnil (Syntax.ttcons Syntax.tnil (Syntax.ttcons Syntax.tnil
+          Syntax.ttnil))))))))))))))))))))))))))))) (Syntax.tcons (Syntax.tyInt Syntax.w32) Syntax.tnil)) (Syntax.ttcons (Syntax.tcons (Syntax.tyEnum (107 ∷ 105 ∷
+          110 ∷ 100 ∷ 115 ∷ 58 ∷ 58 ∷ 75 ∷ 105 ∷ 110 ∷ 100 ∷ []) (Syntax.ttcons Syntax.tnil (Syntax.ttcons Syntax.tnil (Syntax.ttcons Syntax.tnil (Syntax.ttcons
+          Syntax.tnil (Syntax.ttcons Syntax.tnil (Syntax.ttcons Syntax.tnil (Syntax.ttcons Syntax.tnil (Syntax.ttcons Syntax.tnil (Syntax.ttcons Syntax.tnil
+          (Syntax.ttcons Syntax.tnil (Syntax.ttcons Syntax.tnil (Syntax.ttcons Syntax.tnil (Syntax.ttcons Syntax.tnil (Syntax.ttcons Syntax.tnil (Syntax.ttcons
+          Syntax.tnil (Syntax.ttcons Syntax.tnil (Syntax.ttcons Syntax.tnil (Syntax.ttcons Syntax.tnil (Syntax.ttcons Syntax.tnil (Syntax.ttcons Syntax.tnil
+          (Syntax.ttcons Syntax.tnil (Syntax.ttcons Syntax.tnil (Syntax.ttcons Syntax.tnil (Syntax.ttcons Syntax.tnil (Syntax.ttcons Syntax.tnil (Syntax.ttcons
+          Syntax.tnil (Syntax.ttcons Syntax.tnil (Syntax.ttcons Syntax.tnil Syntax.ttnil))))))))))))))))))))))))))))) Syntax.tnil) (Syntax.ttcons (Syntax.tcons
+          (Syntax.tyEnum (108 ∷ 105 ∷ 110 ∷ 101 ∷ 58 ∷ 58 ∷ 82 ∷ 101 ∷ 99 ∷ 111 ∷ 114 ∷ 100 ∷ []) (Syntax.ttcons (Syntax.tcons Syntax.tyBool (Syntax.tcons
+          (Syntax.tyStruct (99 ∷ 111 ∷ 111 ∷ 114 ∷ 100 ∷ 105 ∷ 110 ∷ 97 ∷ 116 ∷ 101 ∷ 58 ∷ 58 ∷ 65 ∷ 116 ∷ 111 ∷ 109 ∷ []) (Syntax.tcons (Syntax.tyStruct (99 ∷ 111 ∷
+          111 ∷ 114 ∷ 100 ∷ 105 ∷ 110 ∷ 97 ∷ 116 ∷ 101 ∷ 58 ∷ 58 ∷ 73 ∷ 100 ∷ 101 ∷ 110 ∷ 116 ∷ 105 ∷ 116 ∷ 121 ∷ []) (Syntax.tcons (Syntax.tyStruct (102 ∷ 105 ∷ 101
+          ∷ 108 ∷ 100 ∷ 115 ∷ 58 ∷ 58 ∷ 83 ∷ 101 ∷ 114 ∷ 105 ∷ 97 ∷ 108 ∷ []) (Syntax.tcons (Syntax.tyInt Syntax.w32) Syntax.tnil)) (Syntax.tcons (Syntax.tyStruct
+          (110 ∷ 97 ∷ 109 ∷ 101 ∷ 115 ∷ 58 ∷ 58 ∷ 70 ∷ 111 ∷ 117 ∷ 114 ∷ []) (Syntax.tcons (Syntax.tyInt Syntax.w8) (Syntax.tcons (Syntax.tyInt Syntax.w8)
+          (Syntax.tcons (Syntax.tyInt Syntax.w8) (Syntax.tcons (Syntax.tyInt Syntax.w8) Syntax.tnil))))) (Syntax.tcons (Syntax.tyInt Syntax.w8) (Syntax.tcons
+          (Syntax.tyStruct (114 ∷ 101 ∷ 115 ∷ 105 ∷ 100 ∷ 117 ∷ 101 ∷ 58 ∷ 58 ∷ 82 ∷ 101 ∷ 115 ∷ 105 ∷ 100 ∷ 117 ∷ 101 ∷ []) (Syntax.tcons (Syntax.tyStruct (110 ∷ 97
+          ∷ 109 ∷ 101 ∷ 115 ∷ 58 ∷ 58 ∷ 84 ∷ 104 ∷ 114 ∷ 101 ∷ 101 ∷ []) (Syntax.tcons (Syntax.tyInt Syntax.w8) (Syntax.tcons (Syntax.tyInt Syntax.w8) (Syntax.tcons
+          (Syntax.tyInt Syntax.w8) Syntax.tnil)))) (Syntax.tcons (Syntax.tyInt Syntax.w8) (Syntax.tcons (Syntax.tyStruct (102 ∷ 105 ∷ 101 ∷ 108 ∷ 100 ∷ 115 ∷ 58 ∷ 58
+          ∷ 82 ∷ 101 ∷ 115 ∷ 105 ∷ 100 ∷ 117 ∷ 101 ∷ 78 ∷ 117 ∷ 109 ∷ 98 ∷ 101 ∷ 114 ∷ []) (Syntax.tcons (Syntax.tyInt Syntax.w32) Syntax.tnil)) (Syntax.tcons
+          (Syntax.tyInt Syntax.w8) Syntax.tnil))))) Syntax.tnil))))) (Syntax.tcons (Syntax.tyStruct (99 ∷ 111 ∷ 111 ∷ 114 ∷ 100 ∷ 105 ∷ 110 ∷ 97 ∷ 116 ∷ 101 ∷ 58 ∷
+          58 ∷ 77 ∷ 101 ∷ 97 ∷ 115 ∷ 117 ∷ 114 ∷ 101 ∷ []) (Syntax.tcons (Syntax.tyStruct (99 ∷ 111 ∷ 111 ∷ 114 ∷ 100 ∷ 105 ∷ 110 ∷ 97 ∷ 116 ∷ 101 ∷ 58 ∷ 58 ∷ 80 ∷
+          111 ∷ 115 ∷ 105 ∷ 116 ∷ 105 ∷ 111 ∷ 110 ∷ []) (Syntax.tcons (Syntax.tyInt Syntax.w32) (Syntax.tcons (Syntax.tyInt Syntax.w32) (Syntax.tcons (Syntax.tyInt
+          Syntax.w32) Syntax.tnil)))) (Syntax.tcons (Syntax.tyInt Syntax.w32) (Syntax.tcons (Syntax.tyInt Syntax.w32) Syntax.tnil)))) (Syntax.tcons (Syntax.tyStruct
+          (99 ∷ 111 ∷ 111 ∷ 114 ∷ 100 ∷ 105 ∷ 110 ∷ 97 ∷ 116 ∷ 101 ∷ 58 ∷ 58 ∷ 83 ∷ 112 ∷ 101 ∷ 99 ∷ 105 ∷ 101 ∷ 115 ∷ []) (Syntax.tcons (Syntax.tyStruct (110 ∷ 97 ∷
+          109 ∷ 101 ∷ 115 ∷ 58 ∷ 58 ∷ 80 ∷ 97 ∷ 105 ∷ 114 ∷ []) (Syntax.tcons (Syntax.tyInt Syntax.w8) (Syntax.tcons (Syntax.tyInt Syntax.w8) Syntax.tnil)))
+          (Syntax.tcons (Syntax.tyStruct (110 ∷ 97 ∷ 109 ∷ 101 ∷ 115 ∷ 58 ∷ 58 ∷ 80 ∷ 97 ∷ 105 ∷ 114 ∷ []) (Syntax.tcons (Syntax.tyInt Syntax.w8) (Syntax.tcons
+          (Syntax.tyInt Syntax.w8) Syntax.tnil))) Syntax.tnil))) Syntax.tnil)))) Syntax.tnil)) (Syntax.ttcons (Syntax.tcons (Syntax.tyStruct (116 ∷ 101 ∷ 114 ∷ 58 ∷
+          58 ∷ 84 ∷ 101 ∷ 114 ∷ []) (Syntax.tcons (Syntax.tyStruct (102 ∷ 105 ∷ 101 ∷ 108 ∷ 100 ∷ 115 ∷ 58 ∷ 58 ∷ 83 ∷ 101 ∷ 114 ∷ 105 ∷ 97 ∷ 108 ∷ []) (Syntax.tcons
+          (Syntax.tyInt Syntax.w32) Syntax.tnil)) (Syntax.tcons (Syntax.tyStruct (114 ∷ 101 ∷ 115 ∷ 105 ∷ 100 ∷ 117 ∷ 101 ∷ 58 ∷ 58 ∷ 82 ∷ 101 ∷ 115 ∷ 105 ∷ 100 ∷
+          117 ∷ 101 ∷ []) (Syntax.tcons (Syntax.tyStruct (110 ∷ 97 ∷ 109 ∷ 101 ∷ 115 ∷ 58 ∷ 58 ∷ 84 ∷ 104 ∷ 114 ∷ 101 ∷ 101 ∷ []) (Syntax.tcons (Syntax.tyInt
+          Syntax.w8) (Syntax.tcons (Syntax.tyInt Syntax.w8) (Syntax.tcons (Syntax.tyInt Syntax.w8) Syntax.tnil)))) (Syntax.tcons (Syntax.tyInt Syntax.w8)
+          (Syntax.tcons (Syntax.tyStruct (102 ∷ 105 ∷ 101 ∷ 108 ∷ 100 ∷ 115 ∷ 58 ∷ 58 ∷ 82 ∷ 101 ∷ 115 ∷ 105 ∷ 100 ∷ 117 ∷ 101 ∷ 78 ∷ 117 ∷ 109 ∷ 98 ∷ 101 ∷ 114 ∷
+          []) (Syntax.tcons (Syntax.tyInt Syntax.w32) Syntax.tnil)) (Syntax.tcons (Syntax.tyInt Syntax.w8) Syntax.tnil))))) Syntax.tnil))) Syntax.tnil)
+          (Syntax.ttcons (Syntax.tcons (Syntax.tyStruct (104 ∷ 101 ∷ 108 ∷ 105 ∷ 120 ∷ 58 ∷ 58 ∷ 72 ∷ 101 ∷ 108 ∷ 105 ∷ 120 ∷ []) (Syntax.tcons (Syntax.tyStruct (104
+          ∷ 101 ∷ 108 ∷ 105 ∷ 120 ∷ 58 ∷ 58 ∷ 69 ∷ 120 ∷ 116 ∷ 101 ∷ 110 ∷ 116 ∷ []) (Syntax.tcons (Syntax.tyInt Syntax.w32) (Syntax.tcons (Syntax.tyStruct (110 ∷ 97
+          ∷ 109 ∷ 101 ∷ 115 ∷ 58 ∷ 58 ∷ 84 ∷ 104 ∷ 114 ∷ 101 ∷ 101 ∷ []) (Syntax.tcons (Syntax.tyInt Syntax.w8) (Syntax.tcons (Syntax.tyInt Syntax.w8) (Syntax.tcons
+          (Syntax.tyInt Syntax.w8) Syntax.tnil)))) (Syntax.tcons (Syntax.tyStruct (114 ∷ 101 ∷ 115 ∷ 105 ∷ 100 ∷ 117 ∷ 101 ∷ 58 ∷ 58 ∷ 82 ∷ 101 ∷ 115 ∷ 105 ∷ 100 ∷
+          117 ∷ 101 ∷ []) (Syntax.tcons (Syntax.tyStruct (110 ∷ 97 ∷ 109 ∷ 101 ∷ 115 ∷ 58 ∷ 58 ∷ 84 ∷ 104 ∷ 114 ∷ 101 ∷ 101 ∷ []) (Syntax.tcons (Syntax.tyInt
+          Syntax.w8) (Syntax.tcons (Syntax.tyInt Syntax.w8) (Syntax.tcons (Syntax.tyInt Syntax.w8) Syntax.tnil)))) (Syntax.tcons (Syntax.tyInt Syntax.w8)
+          (Syntax.tcons (Syntax.tyStruct (102 ∷ 105 ∷ 101 ∷ 108 ∷ 100 ∷ 115 ∷ 58 ∷ 58 ∷ 82 ∷ 101 ∷ 115 ∷ 105 ∷ 100 ∷ 117 ∷ 101 ∷ 78 ∷ 117 ∷ 109 ∷ 98 ∷ 101 ∷ 114 ∷
+          []) (Syntax.tcons (Syntax.tyInt Syntax.w32) Syntax.tnil)) (Syntax.tcons (Syntax.tyInt Syntax.w8) Syntax.tnil))))) (Syntax.tcons (Syntax.tyStruct (114 ∷ 101
+          ∷ 115 ∷ 105 ∷ 100 ∷ 117 ∷ 101 ∷ 58 ∷ 58 ∷ 82 ∷ 101 ∷ 115 ∷ 105 ∷ 100 ∷ 117 ∷ 101 ∷ []) (Syntax.tcons (Syntax.tyStruct (110 ∷ 97 ∷ 109 ∷ 101 ∷ 115 ∷ 58 ∷ 58
+          ∷ 84 ∷ 104 ∷ 114 ∷ 101 ∷ 101 ∷ []) (Syntax.tcons (Syntax.tyInt Syntax.w8) (Syntax.tcons (Syntax.tyInt Syntax.w8) (Syntax.tcons (Syntax.tyInt Syntax.w8)
+          Syntax.tnil)))) (Syntax.tcons (Syntax.tyInt Syntax.w8) (Syntax.tcons (Syntax.tyStruct (102 ∷ 105 ∷ 101 ∷ 108 ∷ 100 ∷ 115 ∷ 58 ∷ 58 ∷ 82 ∷ 101 ∷ 115 ∷ 105 ∷
+          100 ∷ 117 ∷ 101 ∷ 78 ∷ 117 ∷ 109 ∷ 98 ∷ 101 ∷ 114 ∷ []) (Syntax.tcons (Syntax.tyInt Syntax.w32) Syntax.tnil)) (Syntax.tcons (Syntax.tyInt Syntax.w8)
+          Syntax.tnil))))) Syntax.tnil))))) (Syntax.tcons (Syntax.tyInt Syntax.w32) (Syntax.tcons (Syntax.tyStruct (104 ∷ 101 ∷ 108 ∷ 105 ∷ 120 ∷ 58 ∷ 58 ∷ 67 ∷ 111
+          ∷ 109 ∷ 109 ∷ 101 ∷ 110 ∷ 116 ∷ []) (Syntax.tcons (Syntax.tyInt Syntax.w64) (Syntax.tcons (Syntax.tyInt Syntax.w64) (Syntax.tcons (Syntax.tyInt Syntax.w64)
+          (Syntax.tcons (Syntax.tyInt Syntax.w64) Syntax.tnil))))) (Syntax.tcons (Syntax.tyInt Syntax.w32) Syntax.tnil))))) Syntax.tnil) (Syntax.ttcons (Syntax.tcons
+          (Syntax.tyStruct (115 ∷ 104 ∷ 101 ∷ 101 ∷ 116 ∷ 58 ∷ 58 ∷ 83 ∷ 104 ∷ 101 ∷ 101 ∷ 116 ∷ []) (Syntax.tcons (Syntax.tyStruct (115 ∷ 104 ∷ 101 ∷ 101 ∷ 116 ∷ 58
+          ∷ 58 ∷ 83 ∷ 116 ∷ 114 ∷ 97 ∷ 110 ∷ 100 ∷ []) (Syntax.tcons (Syntax.tyInt Syntax.w32) (Syntax.tcons (Syntax.tyStruct (110 ∷ 97 ∷ 109 ∷ 101 ∷ 115 ∷ 58 ∷ 58 ∷
+          84 ∷ 104 ∷ 114 ∷ 101 ∷ 101 ∷ []) (Syntax.tcons (Syntax.tyInt Syntax.w8) (Syntax.tcons (Syntax.tyInt Syntax.w8) (Syntax.tcons (Syntax.tyInt Syntax.w8)
+          Syntax.tnil)))) (Syntax.tcons (Syntax.tyInt Syntax.w32) (Syntax.tcons (Syntax.tyStruct (114 ∷ 101 ∷ 115 ∷ 105 ∷ 100 ∷ 117 ∷ 101 ∷ 58 ∷ 58 ∷ 82 ∷ 101 ∷ 115
+          ∷ 105 ∷ 100 ∷ 117 ∷ 101 ∷ []) (Syntax.tcons (Syntax.tyStruct (110 ∷ 97 ∷ 109 ∷ 101 ∷ 115 ∷ 58 ∷ 58 ∷ 84 ∷ 104 ∷ 114 ∷ 101 ∷ 101 ∷ []) (Syntax.tcons
+          (Syntax.tyInt Syntax.w8) (Syntax.tcons (Syntax.tyInt Syntax.w8) (Syntax.tcons (Syntax.tyInt Syntax.w8) Syntax.tnil)))) (Syntax.tcons (Syntax.tyInt
+          Syntax.w8) (Syntax.tcons (Syntax.tyStruct (102 ∷ 105 ∷ 101 ∷ 108 ∷ 100 ∷ 115 ∷ 58 ∷ 58 ∷ 82 ∷ 101 ∷ 115 ∷ 105 ∷ 100 ∷ 117 ∷ 101 ∷ 78 ∷ 117 ∷ 109 ∷ 98 ∷ 101
+          ∷ 114 ∷ []) (Syntax.tcons (Syntax.tyInt Syntax.w32) Syntax.tnil)) (Syntax.tcons (Syntax.tyInt Syntax.w8) Syntax.tnil))))) (Syntax.tcons (Syntax.tyStruct
+          (114 ∷ 101 ∷ 115 ∷ 105 ∷ 100 ∷ 117 ∷ 101 ∷ 58 ∷ 58 ∷ 82 ∷ 101 ∷ 115 ∷ 105 ∷ 100 ∷ 117 ∷ 101 ∷ []) (Syntax.tcons (Syntax.tyStruct (110 ∷ 97 ∷ 109 ∷ 101 ∷
+          115 ∷ 58 ∷ 58 ∷ 84 ∷ 104 ∷ 114 ∷ 101 ∷ 101 ∷ []) (Syntax.tcons (Syntax.tyInt Syntax.w8) (Syntax.tcons (Syntax.tyInt Syntax.w8) (Syntax.tcons (Syntax.tyInt
+          Syntax.w8) Syntax.tnil)))) (Syntax.tcons (Syntax.tyInt Syntax.w8) (Syntax.tcons (Syntax.tyStruct (102 ∷ 105 ∷ 101 ∷ 108 ∷ 100 ∷ 115 ∷ 58 ∷ 58 ∷ 82 ∷ 101 ∷
+          115 ∷ 105 ∷ 100 ∷ 117 ∷ 101 ∷ 78 ∷ 117 ∷ 109 ∷ 98 ∷ 101 ∷ 114 ∷ []) (Syntax.tcons (Syntax.tyInt Syntax.w32) Syntax.tnil)) (Syntax.tcons (Syntax.tyInt
+          Syntax.w8) Syntax.tnil))))) (Syntax.tcons (Syntax.tyInt Syntax.w32) Syntax.tnil))))))) (Syntax.tcons (Syntax.tyEnum (115 ∷ 104 ∷ 101 ∷ 101 ∷ 116 ∷ 58 ∷ 58
+          ∷ 82 ∷ 101 ∷ 103 ∷ 105 ∷ 115 ∷ 116 ∷ 114 ∷ 97 ∷ 116 ∷ 105 ∷ 111 ∷ 110 ∷ []) (Syntax.ttcons Syntax.tnil (Syntax.ttcons (Syntax.tcons (Syntax.tyStruct (115 ∷
+          104 ∷ 101 ∷ 101 ∷ 116 ∷ 58 ∷ 58 ∷ 66 ∷ 111 ∷ 110 ∷ 100 ∷ []) (Syntax.tcons (Syntax.tyStruct (110 ∷ 97 ∷ 109 ∷ 101 ∷ 115 ∷ 58 ∷ 58 ∷ 70 ∷ 111 ∷ 117 ∷ 114 ∷
+          []) (Syntax.tcons (Syntax.tyInt Syntax.w8) (Syntax.tcons (Syntax.tyInt Syntax.w8) (Syntax.tcons (Syntax.tyInt Syntax.w8) (Syntax.tcons (Syntax.tyInt
+          Syntax.w8) Syntax.tnil))))) (Syntax.tcons (Syntax.tyStruct (114 ∷ 101 ∷ 115 ∷ 105 ∷ 100 ∷ 117 ∷ 101 ∷ 58 ∷ 58 ∷ 82 ∷ 101 ∷ 115 ∷ 105 ∷ 100 ∷ 117 ∷ 101 ∷
+          []) (Syntax.tcons (Syntax.tyStruct (110 ∷ 97 ∷ 109 ∷ 101 ∷ 115 ∷ 58 ∷ 58 ∷ 84 ∷ 104 ∷ 114 ∷ 101 ∷ 101 ∷ []) (Syntax.tcons (Syntax.tyInt Syntax.w8)
+          (Syntax.tcons (Syntax.tyInt Syntax.w8) (Syntax.tcons (Syntax.tyInt Syntax.w8) Syntax.tnil)))) (Syntax.tcons (Syntax.tyInt Syntax.w8) (Syntax.tcons
+          (Syntax.tyStruct (102 ∷ 105 ∷ 101 ∷ 108 ∷ 100 ∷ 115 ∷ 58 ∷ 58 ∷ 82 ∷ 101 ∷ 115 ∷ 105 ∷ 100 ∷ 117 ∷ 101 ∷ 78 ∷ 117 ∷ 109 ∷ 98 ∷ 101 ∷ 114 ∷ [])
+          (Syntax.tcons (Syntax.tyInt Syntax.w32) Syntax.tnil)) (Syntax.tcons (Syntax.tyInt Syntax.w8) Syntax.tnil))))) (Syntax.tcons (Syntax.tyStruct (110 ∷ 97 ∷
+          109 ∷ 101 ∷ 115 ∷ 58 ∷ 58 ∷ 70 ∷ 111 ∷ 117 ∷ 114 ∷ []) (Syntax.tcons (Syntax.tyInt Syntax.w8) (Syntax.tcons (Syntax.tyInt Syntax.w8) (Syntax.tcons
+          (Syntax.tyInt Syntax.w8) (Syntax.tcons (Syntax.tyInt Syntax.w8) Syntax.tnil))))) (Syntax.tcons (Syntax.tyStruct (114 ∷ 101 ∷ 115 ∷ 105 ∷ 100 ∷ 117 ∷ 101 ∷
+          58 ∷ 58 ∷ 82 ∷ 101 ∷ 115 ∷ 105 ∷ 100 ∷ 117 ∷ 101 ∷ []) (Syntax.tcons (Syntax.tyStruct (110 ∷ 97 ∷ 109 ∷ 101 ∷ 115 ∷ 58 ∷ 58 ∷ 84 ∷ 104 ∷ 114 ∷ 101 ∷ 101 ∷
+          []) (Syntax.tcons (Syntax.tyInt Syntax.w8) (Syntax.tcons (Syntax.tyInt Syntax.w8) (Syntax.tcons (Syntax.tyInt Syntax.w8) Syntax.tnil)))) (Syntax.tcons
+          (Syntax.tyInt Syntax.w8) (Syntax.tcons (Syntax.tyStruct (102 ∷ 105 ∷ 101 ∷ 108 ∷ 100 ∷ 115 ∷ 58 ∷ 58 ∷ 82 ∷ 101 ∷ 115 ∷ 105 ∷ 100 ∷ 117 ∷ 101 ∷ 78 ∷ 117 ∷
+          109 ∷ 98 ∷ 101 ∷ 114 ∷ []) (Syntax.tcons (Syntax.tyInt Syntax.w32) Syntax.tnil)) (Syntax.tcons (Syntax.tyInt Syntax.w8) Syntax.tnil))))) Syntax.tnil)))))
+          Syntax.tnil) Syntax.ttnil))) Syntax.tnil))) Syntax.tnil) (Syntax.ttcons (Syntax.tcons (Syntax.tyStruct (99 ∷ 111 ∷ 110 ∷ 101 ∷ 99 ∷ 116 ∷ 58 ∷ 58 ∷ 67 ∷
+          111 ∷ 110 ∷ 101 ∷ 99 ∷ 116 ∷ []) (Syntax.tcons (Syntax.tyStruct (102 ∷ 105 ∷ 101 ∷ 108 ∷ 100 ∷ 115 ∷ 58 ∷ 58 ∷ 83 ∷ 101 ∷ 114 ∷ 105 ∷ 97 ∷ 108 ∷ [])
+          (Syntax.tcons (Syntax.tyInt Syntax.w32) Syntax.tnil)) (Syntax.tcons (Syntax.tyStruct (102 ∷ 105 ∷ 101 ∷ 108 ∷ 100 ∷ 115 ∷ 58 ∷ 58 ∷ 83 ∷ 101 ∷ 114 ∷ 105 ∷
+          97 ∷ 108 ∷ []) (Syntax.tcons (Syntax.tyInt Syntax.w32) Syntax.tnil)) (Syntax.tcons (Syntax.tyStruct (102 ∷ 105 ∷ 101 ∷ 108 ∷ 100 ∷ 115 ∷ 58 ∷ 58 ∷ 83 ∷ 101
+          ∷ 114 ∷ 105 ∷ 97 ∷ 108 ∷ []) (Syntax.tcons (Syntax.tyInt Syntax.w32) Syntax.tnil)) (Syntax.tcons (Syntax.tyStruct (102 ∷ 105 ∷ 101 ∷ 108 ∷ 100 ∷ 115 ∷ 58 ∷
+          58 ∷ 83 ∷ 101 ∷ 114 ∷ 105 ∷ 97 ∷ 108 ∷ []) (Syntax.tcons (Syntax.tyInt Syntax.w32) Syntax.tnil)) (Syntax.tcons (Syntax.tyStruct (102 ∷ 105 ∷ 101 ∷ 108 ∷
+          100 ∷ 115 ∷ 58 ∷ 58 ∷ 83 ∷ 101 ∷ 114 ∷ 105 ∷ 97 ∷ 108 ∷ []) (Syntax.tcons (Syntax.tyInt Syntax.w32) Syntax.tnil)) Syntax.tnil)))))) Syntax.tnil)
+          (Syntax.ttcons (Syntax.tcons (Syntax.tyStruct (109 ∷ 97 ∷ 115 ∷ 116 ∷ 101 ∷ 114 ∷ 58 ∷ 58 ∷ 84 ∷ 97 ∷ 108 ∷ 108 ∷ 121 ∷ []) (Syntax.tcons (Syntax.tyInt
+          Syntax.w32) (Syntax.tcons (Syntax.tyInt Syntax.w32) (Syntax.tcons (Syntax.tyInt Syntax.w32) (Syntax.tcons (Syntax.tyInt Syntax.w32) (Syntax.tcons
+          (Syntax.tyInt Syntax.w32) (Syntax.tcons (Syntax.tyInt Syntax.w32) (Syntax.tcons (Syntax.tyInt Syntax.w32) (Syntax.tcons (Syntax.tyInt Syntax.w32)
+          (Syntax.tcons (Syntax.tyInt Syntax.w32) Syntax.tnil)))))))))) Syntax.tnil) (Syntax.ttcons Syntax.tnil Syntax.ttnil)))))))) Syntax.tnil) Syntax.ttnil))))),
+    )
     ∷ (10, Rows'.any-gone SlotAs.ty) ∷ (11, Rows'.any-gone Syntax.tyBool) ∷ (12, Rows'.any-gone (Syntax.tyInt Syntax.w64)) ∷ (
       13,
       Rows'.any-gone (Syntax.tyInt
@@ -2587,8 +2600,8 @@ t26 = (0, Rows'.sc-here Row.sUnit) ∷ (
       Syntax.w64),
 ) ∷ (6, Rows'.any-gone (Syntax.tyInt Syntax.w64)) ∷ (7, Rows'.sc-here (Row.sInt Syntax.w64)) ∷ (
   8,
-  Rows'.any-gone (Syntax.tyStruct (114 ∷ 117 ∷
-      108 ∷ 101 ∷ 115 ∷ 58 ∷ 58 ∷ 67 ∷ 111 ∷ 117 ∷ 110 ∷ 116 ∷ 115 ∷ []) (Syntax.tcons (Syntax.tyInt Syntax.w64) (Syntax.tcons (Syntax.tyInt Syntax.w64)
+  Rows'.any-gone (Syntax.tyStruct (112 ∷ 108 ∷
+      97 ∷ 99 ∷ 101 ∷ 115 ∷ 58 ∷ 58 ∷ 67 ∷ 111 ∷ 117 ∷ 110 ∷ 116 ∷ 115 ∷ []) (Syntax.tcons (Syntax.tyInt Syntax.w64) (Syntax.tcons (Syntax.tyInt Syntax.w64)
       (Syntax.tcons (Syntax.tyInt Syntax.w64) (Syntax.tcons (Syntax.tyInt Syntax.w64) (Syntax.tcons (Syntax.tyInt Syntax.w64) (Syntax.tcons (Syntax.tyInt
       Syntax.w64) (Syntax.tcons (Syntax.tyInt Syntax.w64) (Syntax.tcons (Syntax.tyInt Syntax.w64) (Syntax.tcons (Syntax.tyInt Syntax.w64) Syntax.tnil)))))))))),
 )
@@ -2707,110 +2720,113 @@ t27 = (0, Rows'.sc-here Row.sUnit) ∷ (
       Syntax.w64),
 ) ∷ (6, Rows'.any-gone (Syntax.tyInt Syntax.w64)) ∷ (7, Rows'.any-gone (Syntax.tyInt Syntax.w64)) ∷ (
   8,
-  Rows'.any-gone (Syntax.tyStruct (114 ∷
-      117 ∷ 108 ∷ 101 ∷ 115 ∷ 58 ∷ 58 ∷ 67 ∷ 111 ∷ 117 ∷ 110 ∷ 116 ∷ 115 ∷ []) (Syntax.tcons (Syntax.tyInt Syntax.w64) (Syntax.tcons (Syntax.tyInt Syntax.w64)
-      (Syntax.tcons (Syntax.tyInt Syntax.w64) (Syntax.tcons (Syntax.tyInt Syntax.w64) (Syntax.tcons (Syntax.tyInt Syntax.w64) (Syntax.tcons (Syntax.tyInt
-      Syntax.w64) (Syntax.tcons (Syntax.tyInt Syntax.w64) (Syntax.tcons (Syntax.tyInt Syntax.w64) (Syntax.tcons (Syntax.tyInt Syntax.w64) Syntax.tnil)))))))))),
-)
-    ∷ (
-      9,
-      Rows'.any-gone (Syntax.tyEnum (112 ∷ 105 ∷ 101 ∷ 99 ∷ 101 ∷ 115 ∷ 58 ∷ 58 ∷ 76 ∷ 105 ∷ 110 ∷ 101 ∷ []) (Syntax.ttcons (Syntax.tcons (Syntax.tyInt
-          Syntax.w8) Syntax.tnil) (Syntax.ttcons (Syntax.tcons (Syntax.tyEnum (107 ∷ 105 ∷ 110 ∷ 100 ∷ 115 ∷ 58 ∷ 58 ∷ 75 ∷ 105 ∷ 110 ∷ 100 ∷ []) (Syntax.ttcons
-          Syntax.tnil (Syntax.ttcons Syntax.tnil (Syntax.ttcons Syntax.tnil (Syntax.ttcons Syntax.tnil (Syntax.ttcons Syntax.tnil (Syntax.ttcons Syntax.tnil
-          (Syntax.ttcons Syntax.tnil (Syntax.ttcons Syntax.tnil (Syntax.ttcons Syntax.tnil (Syntax.ttcons Syntax.tnil (Syntax.ttcons Syntax.tnil (Syntax.ttcons
-          Syntax.tnil (Syntax.ttcons Syntax.tnil (Syntax.ttcons Syntax.tnil (Syntax.ttcons Syntax.tnil (Syntax.ttcons Syntax.tnil (Syntax.ttcons Syntax.tnil
-          (Syntax.ttcons Syntax.tnil (Syntax.ttcons Syntax.tnil (Syntax.ttcons Syntax.tnil (Syntax.ttcons Syntax.tnil (Syntax.ttcons Syntax.tnil (Syntax.ttcons
-          Syntax.tnil (Syntax.ttcons Syntax.tnil (Syntax.ttcons Syntax.tnil (Syntax.ttcons Syntax.tnil (Syntax.ttcons Syntax.tnil (Syntax.ttcons Syntax.tnil
-          Syntax.ttnil))))))))))))))))))))))))))))) (Syntax.tcons (Syntax.tyInt Syntax.w32) Syntax.tnil)) (Syntax.ttcons (Syntax.tcons (Syntax.tyEnum (107 ∷ 105 ∷
-          110 ∷ 100 ∷ 115 ∷ 58 ∷ 58 ∷ 75 ∷ 105 ∷ 110 ∷ 100 ∷ []) (Syntax.ttcons Syntax.tnil (Syntax.ttcons Syntax.tnil (Syntax.ttcons Syntax.tnil (Syntax.ttcons
-          Syntax.tnil (Syntax.ttcons Syntax.tnil (Syntax.ttcons Syntax.tnil (Syntax.ttcons Syntax.tnil (Syntax.ttcons Syntax.tnil (Syntax.ttcons Syntax.tnil
-          (Syntax.ttcons Syntax.tnil (Syntax.ttcons Syntax.tnil (Syntax.ttcons Syntax.tnil (Syntax.ttcons Syntax.tnil (Syntax.ttcons Syntax.tnil (Syntax.ttcons
-          Syntax.tnil (Syntax.ttcons Syntax.tnil (Syntax.ttcons Syntax.tnil (Syntax.ttcons Syntax.tnil (Syntax.ttcons Syntax.tnil (Syntax.ttcons Syntax.tnil
-          (Syntax.ttcons Syntax.tnil (Syntax.ttcons Syntax.tnil (Syntax.ttcons Syntax.tnil (Syntax.ttcons Syntax.tnil (Syntax.ttcons Syntax.tnil (Syntax.ttcons
-          Syntax.tnil (Syntax.ttcons Syntax.tnil (Syntax.ttcons Syntax.tnil Syntax.ttnil))))))))))))))))))))))))))))) Syntax.tnil) (Syntax.ttcons (Syntax.tcons
-          (Syntax.tyEnum (108 ∷ 105 ∷ 110 ∷ 101 ∷ 58 ∷ 58 ∷ 82 ∷ 101 ∷ 99 ∷ 111 ∷ 114 ∷ 100 ∷ []) (Syntax.ttcons (Syntax.tcons Syntax.tyBool (Syntax.tcons
-          (Syntax.tyStruct (99 ∷ 111 ∷ 111 ∷ 114 ∷ 100 ∷ 105 ∷ 110 ∷ 97 ∷ 116 ∷ 101 ∷ 58 ∷ 58 ∷ 65 ∷ 116 ∷ 111 ∷ 109 ∷ []) (Syntax.tcons (Syntax.tyStruct (99 ∷ 111 ∷
-          111 ∷ 114 ∷ 100 ∷ 105 ∷ 110 ∷ 97 ∷ 116 ∷ 101 ∷ 58 ∷ 58 ∷ 73 ∷ 100 ∷ 101 ∷ 110 ∷ 116 ∷ 105 ∷ 116 ∷ 121 ∷ []) (Syntax.tcons (Syntax.tyStruct (102 ∷ 105 ∷ 101
-          ∷ 108 ∷ 100 ∷ 115 ∷ 58 ∷ 58 ∷ 83 ∷ 101 ∷ 114 ∷ 105 ∷ 97 ∷ 108 ∷ []) (Syntax.tcons (Syntax.tyInt Syntax.w32) Syntax.tnil)) (Syntax.tcons (Syntax.tyStruct
-          (110 ∷ 97 ∷ 109 ∷ 101 ∷ 115 ∷ 58 ∷ 58 ∷ 70 ∷ 111 ∷ 117 ∷ 114 ∷ []) (Syntax.tcons (Syntax.tyInt Syntax.w8) (Syntax.tcons (Syntax.tyInt Syntax.w8)
-          (Syntax.tcons (Syntax.tyInt Syntax.w8) (Syntax.tcons (Syntax.tyInt Syntax.w8) Syntax.tnil))))) (Syntax.tcons (Syntax.tyInt Syntax.w8) (Syntax.tcons
-          (Syntax.tyStruct (114 ∷ 101 ∷ 115 ∷ 105 ∷ 100 ∷ 117 ∷ 101 ∷ 58 ∷ 58 ∷ 82 ∷ 101 ∷ 115 ∷ 105 ∷ 100 ∷ 117 ∷ 101 ∷ []) (Syntax.tcons (Syntax.tyStruct (110 ∷ 97
-          ∷ 109 ∷ 101 ∷ 115 ∷ 58 ∷ 58 ∷ 84 ∷ 104 ∷ 114 ∷ 101 ∷ 101 ∷ []) (Syntax.tcons (Syntax.tyInt Syntax.w8) (Syntax.tcons (Syntax.tyInt Syntax.w8) (Syntax.tcons
-          (Syntax.tyInt Syntax.w8) Syntax.tnil)))) (Syntax.tcons (Syntax.tyInt Syntax.w8) (Syntax.tcons (Syntax.tyStruct (102 ∷ 105 ∷ 101 ∷ 108 ∷ 100 ∷ 115 ∷ 58 ∷ 58
-          ∷ 82 ∷ 101 ∷ 115 ∷ 105 ∷ 100 ∷ 117 ∷ 101 ∷ 78 ∷ 117 ∷ 109 ∷ 98 ∷ 101 ∷ 114 ∷ []) (Syntax.tcons (Syntax.tyInt Syntax.w32) Syntax.tnil)) (Syntax.tcons
-          (Syntax.tyInt Syntax.w8) Syntax.tnil))))) Syntax.tnil))))) (Syntax.tcons (Syntax.tyStruct (99 ∷ 111 ∷ 111 ∷ 114 ∷ 100 ∷ 105 ∷ 110 ∷ 97 ∷ 116 ∷ 101 ∷ 58 ∷
-          58 ∷ 77 ∷ 101 ∷ 97 ∷ 115 ∷ 117 ∷ 114 ∷ 101 ∷ []) (Syntax.tcons (Syntax.tyStruct (99 ∷ 111 ∷ 111 ∷ 114 ∷ 100 ∷ 105 ∷ 110 ∷ 97 ∷ 116 ∷ 101 ∷ 58 ∷ 58 ∷ 80 ∷
-          111 ∷ 115 ∷ 105 ∷ 116 ∷ 105 ∷ 111 ∷ 110 ∷ []) (Syntax.tcons (Syntax.tyInt Syntax.w32) (Syntax.tcons (Syntax.tyInt Syntax.w32) (Syntax.tcons (Syntax.tyInt
-          Syntax.w32) Syntax.tnil)))) (Syntax.tcons (Syntax.tyInt Syntax.w32) (Syntax.tcons (Syntax.tyInt Syntax.w32) Syntax.tnil)))) (Syntax.tcons (Syntax.tyStruct
-          (99 ∷ 111 ∷ 111 ∷ 114 ∷ 100 ∷ 105 ∷ 110 ∷ 97 ∷ 116 ∷ 101 ∷ 58 ∷ 58 ∷ 83 ∷ 112 ∷ 101 ∷ 99 ∷ 105 ∷ 101 ∷ 115 ∷ []) (Syntax.tcons (Syntax.tyStruct (110 ∷ 97 ∷
-          109 ∷ 101 ∷ 115 ∷ 58 ∷ 58 ∷ 80 ∷ 97 ∷ 105 ∷ 114 ∷ []) (Syntax.tcons (Syntax.tyInt Syntax.w8) (Syntax.tcons (Syntax.tyInt Syntax.w8) Syntax.tnil)))
-          (Syntax.tcons (Syntax.tyStruct (110 ∷ 97 ∷ 109 ∷ 101 ∷ 115 ∷ 58 ∷ 58 ∷ 80 ∷ 97 ∷ 105 ∷ 114 ∷ []) (Syntax.tcons (Syntax.tyInt Syntax.w8) (Syntax.tcons
-          (Syntax.tyInt Syntax.w8) Syntax.tnil))) Syntax.tnil))) Syntax.tnil)))) Syntax.tnil)) (Syntax.ttcons (Syntax.tcons (Syntax.tyStruct (116 ∷ 101 ∷ 114 ∷ 58 ∷
-          58 ∷ 84 ∷ 101 ∷ 114 ∷ []) (Syntax.tcons (Syntax.tyStruct (102 ∷ 105 ∷ 101 ∷ 108 ∷ 100 ∷ 115 ∷ 58 ∷ 58 ∷ 83 ∷ 101 ∷ 114 ∷ 105 ∷ 97 ∷ 108 ∷ []) (Syntax.tcons
-          (Syntax.tyInt Syntax.w32) Syntax.tnil)) (Syntax.tcons (Syntax.tyStruct (114 ∷ 101 ∷ 115 ∷ 105 ∷ 100 ∷ 117 ∷ 101 ∷ 58 ∷ 58 ∷ 82 ∷ 101 ∷ 115 ∷ 105 ∷ 100 ∷
-          117 ∷ 101 ∷ []) (Syntax.tcons (Syntax.tyStruct (110 ∷ 97 ∷ 109 ∷ 101 ∷ 115 ∷ 58 ∷ 58 ∷ 84 ∷ 104 ∷ 114 ∷ 101 ∷ 101 ∷ []) (Syntax.tcons (Syntax.tyInt
-          Syntax.w8) (Syntax.tcons (Syntax.tyInt Syntax.w8) (Syntax.tcons (Syntax.tyInt Syntax.w8) Syntax.tnil)))) (Syntax.tcons (Syntax.tyInt Syntax.w8)
-          (Syntax.tcons (Syntax.tyStruct (102 ∷ 105 ∷ 101 ∷ 108 ∷ 100 ∷ 115 ∷ 58 ∷ 58 ∷ 82 ∷ 101 ∷ 115 ∷ 105 ∷ 100 ∷ 117 ∷ 101 ∷ 78 ∷ 117 ∷ 109 ∷ 98 ∷ 101 ∷ 114 ∷
-          []) (Syntax.tcons (Syntax.tyInt Syntax.w32) Syntax.tnil)) (Syntax.tcons (Syntax.tyInt Syntax.w8) Syntax.tnil))))) Syntax.tnil))) Syntax.tnil)
-          (Syntax.ttcons (Syntax.tcons (Syntax.tyStruct (104 ∷ 101 ∷ 108 ∷ 105 ∷ 120 ∷ 58 ∷ 58 ∷ 72 ∷ 101 ∷ 108 ∷ 105 ∷ 120 ∷ []) (Syntax.tcons (Syntax.tyStruct (104
-          ∷ 101 ∷ 108 ∷ 105 ∷ 120 ∷ 58 ∷ 58 ∷ 69 ∷ 120 ∷ 116 ∷ 101 ∷ 110 ∷ 116 ∷ []) (Syntax.tcons (Syntax.tyInt Syntax.w32) (Syntax.tcons (Syntax.tyStruct (110 ∷ 97
-          ∷ 109 ∷ 101 ∷ 115 ∷ 58 ∷ 58 ∷ 84 ∷ 104 ∷ 114 ∷ 101 ∷ 101 ∷ []) (Syntax.tcons (Syntax.tyInt Syntax.w8) (Syntax.tcons (Syntax.tyInt Syntax.w8) (Syntax.tcons
-          (Syntax.tyInt Syntax.w8) Syntax.tnil)))) (Syntax.tcons (Syntax.tyStruct (114 ∷ 101 ∷ 115 ∷ 105 ∷ 100 ∷ 117 ∷ 101 ∷ 58 ∷ 58 ∷ 82 ∷ 101 ∷ 115 ∷ 105 ∷ 100 ∷
-          117 ∷ 101 ∷ []) (Syntax.tcons (Syntax.tyStruct (110 ∷ 97 ∷ 109 ∷ 101 ∷ 115 ∷ 58 ∷ 58 ∷ 84 ∷ 104 ∷ 114 ∷ 101 ∷ 101 ∷ []) (Syntax.tcons (Syntax.tyInt
-          Syntax.w8) (Syntax.tcons (Syntax.tyInt Syntax.w8) (Syntax.tcons (Syntax.tyInt Syntax.w8) Syntax.tnil)))) (Syntax.tcons (Syntax.tyInt Syntax.w8)
-          (Syntax.tcons (Syntax.tyStruct (102 ∷ 105 ∷ 101 ∷ 108 ∷ 100 ∷ 115 ∷ 58 ∷ 58 ∷ 82 ∷ 101 ∷ 115 ∷ 105 ∷ 100 ∷ 117 ∷ 101 ∷ 78 ∷ 117 ∷ 109 ∷ 98 ∷ 101 ∷ 114 ∷
-          []) (Syntax.tcons (Syntax.tyInt Syntax.w32) Syntax.tnil)) (Syntax.tcons (Syntax.tyInt Syntax.w8) Syntax.tnil))))) (Syntax.tcons (Syntax.tyStruct (114 ∷ 101
-          ∷ 115 ∷ 105 ∷ 100 ∷ 117 ∷ 101 ∷ 58 ∷ 58 ∷ 82 ∷ 101 ∷ 115 ∷ 105 ∷ 100 ∷ 117 ∷ 101 ∷ []) (Syntax.tcons (Syntax.tyStruct (110 ∷ 97 ∷ 109 ∷ 101 ∷ 115 ∷ 58 ∷ 58
-          ∷ 84 ∷ 104 ∷ 114 ∷ 101 ∷ 101 ∷ []) (Syntax.tcons (Syntax.tyInt Syntax.w8) (Syntax.tcons (Syntax.tyInt Syntax.w8) (Syntax.tcons (Syntax.tyInt Syntax.w8)
-          Syntax.tnil)))) (Syntax.tcons (Syntax.tyInt Syntax.w8) (Syntax.tcons (Syntax.tyStruct (102 ∷ 105 ∷ 101 ∷ 108 ∷ 100 ∷ 115 ∷ 58 ∷ 58 ∷ 82 ∷ 101 ∷ 115 ∷ 105 ∷
-          100 ∷ 117 ∷ 101 ∷ 78 ∷ 117 ∷ 109 ∷ 98 ∷ 101 ∷ 114 ∷ []) (Syntax.tcons (Syntax.tyInt Syntax.w32) Syntax.tnil)) (Syntax.tcons (Syntax.tyInt Syntax.w8)
-          Syntax.tnil))))) Syntax.tnil))))) (Syntax.tcons (Syntax.tyInt Syntax.w32) (Syntax.tcons (Syntax.tyStruct (104 ∷ 101 ∷ 108 ∷ 105 ∷ 120 ∷ 58 ∷ 58 ∷ 67 ∷ 111
-          ∷ 109 ∷ 109 ∷ 101 ∷ 110 ∷ 116 ∷ []) (Syntax.tcons (Syntax.tyInt Syntax.w64) (Syntax.tcons (Syntax.tyInt Syntax.w64) (Syntax.tcons (Syntax.tyInt Syntax.w64)
-          (Syntax.tcons (Syntax.tyInt Syntax.w64) Syntax.tnil))))) (Syntax.tcons (Syntax.tyInt Syntax.w32) Syntax.tnil))))) Syntax.tnil) (Syntax.ttcons (Syntax.tcons
-          (Syntax.tyStruct (115 ∷ 104 ∷ 101 ∷ 101 ∷ 116 ∷ 58 ∷ 58 ∷ 83 ∷ 104 ∷ 101 ∷ 101 ∷ 116 ∷ []) (Syntax.tcons (Syntax.tyStruct (115 ∷ 104 ∷ 101 ∷ 101 ∷ 116 ∷ 58
-          ∷ 58 ∷ 83 ∷ 116 ∷ 114 ∷ 97 ∷ 110 ∷ 100 ∷ []) (Syntax.tcons (Syntax.tyInt Syntax.w32) (Syntax.tcons (Syntax.tyStruct (110 ∷ 97 ∷ 109 ∷ 101 ∷ 115 ∷ 58 ∷ 58 ∷
-          84 ∷ 104 ∷ 114 ∷ 101 ∷ 101 ∷ []) (Syntax.tcons (Syntax.tyInt Syntax.w8) (Syntax.tcons (Syntax.tyInt Syntax.w8) (Syntax.tcons (Syntax.tyInt Syntax.w8)
-          Syntax.tnil)))) (Syntax.tcons (Syntax.tyInt Syntax.w32) (Syntax.tcons (Syntax.tyStruct (114 ∷ 101 ∷ 115 ∷ 105 ∷ 100 ∷ 117 ∷ 101 ∷ 58 ∷ 58 ∷ 82 ∷ 101 ∷ 115
-          ∷ 105 ∷ 100 ∷ 117 ∷ 101 ∷ []) (Syntax.tcons (Syntax.tyStruct (110 ∷ 97 ∷ 109 ∷ 101 ∷ 115 ∷ 58 ∷ 58 ∷ 84 ∷ 104 ∷ 114 ∷ 101 ∷ 101 ∷ []) (Syntax.tcons
-          (Syntax.tyInt Syntax.w8) (Syntax.tcons (Syntax.tyInt Syntax.w8) (Syntax.tcons (Syntax.tyInt Syntax.w8) Syntax.tnil)))) (Syntax.tcons (Syntax.tyInt
-          Syntax.w8) (Syntax.tcons (Syntax.tyStruct (102 ∷ 105 ∷ 101 ∷ 108 ∷ 100 ∷ 115 ∷ 58 ∷ 58 ∷ 82 ∷ 101 ∷ 115 ∷ 105 ∷ 100 ∷ 117 ∷ 101 ∷ 78 ∷ 117 ∷ 109 ∷ 98 ∷ 101
-          ∷ 114 ∷ []) (Syntax.tcons (Syntax.tyInt Syntax.w32) Syntax.tnil)) (Syntax.tcons (Syntax.tyInt Syntax.w8) Syntax.tnil))))) (Syntax.tcons (Syntax.tyStruct
-          (114 ∷ 101 ∷ 115 ∷ 105 ∷ 100 ∷ 117 ∷ 101 ∷ 58 ∷ 58 ∷ 82 ∷ 101 ∷ 115 ∷ 105 ∷ 100 ∷ 117 ∷ 101 ∷ []) (Syntax.tcons (Syntax.tyStruct (110 ∷ 97 ∷ 109 ∷ 101 ∷
-          115 ∷ 58 ∷ 58 ∷ 84 ∷ 104 ∷ 114 ∷ 101 ∷ 101 ∷ []) (Syntax.tcons (Syntax.tyInt Syntax.w8) (Syntax.tcons (Syntax.tyInt Syntax.w8) (Syntax.tcons (Syntax.tyInt
-          Syntax.w8) Syntax.tnil)))) (Syntax.tcons (Syntax.tyInt Syntax.w8) (Syntax.tcons (Syntax.tyStruct (102 ∷ 105 ∷ 101 ∷ 108 ∷ 100 ∷ 115 ∷ 58 ∷ 58 ∷ 82 ∷ 101 ∷
-          115 ∷ 105 ∷ 100 ∷ 117 ∷ 101 ∷ 78 ∷ 117 ∷ 109 ∷ 98 ∷ 101 ∷ 114 ∷ []) (Syntax.tcons (Syntax.tyInt Syntax.w32) Syntax.tnil)) (Syntax.tcons (Syntax.tyInt
-          Syntax.w8) Syntax.tnil))))) (Syntax.tcons (Syntax.tyInt Syntax.w32) Syntax.tnil))))))) (Syntax.tcons (Syntax.tyEnum (115 ∷ 104 ∷ 101 ∷ 101 ∷ 116 ∷ 58 ∷ 58
-          ∷ 82 ∷ 101 ∷ 103 ∷ 105 ∷ 115 ∷ 116 ∷ 114 ∷ 97 ∷ 116 ∷ 105 ∷ 111 ∷ 110 ∷ []) (Syntax.ttcons Syntax.tnil (Syntax.ttcons (Syntax.tcons (Syntax.tyStruct (115 ∷
-          104 ∷ 101 ∷ 101 ∷ 116 ∷ 58 ∷ 58 ∷ 66 ∷ 111 ∷ 110 ∷ 100 ∷ []) (Syntax.tcons (Syntax.tyStruct (110 ∷ 97 ∷ 109 ∷ 101 ∷ 115 ∷ 58 ∷ 58 ∷ 70 ∷ 111 ∷ 117 ∷ 114 ∷
-          []) (Syntax.tcons (Syntax.tyInt Syntax.w8) (Syntax.tcons (Syntax.tyInt Syntax.w8) (Syntax.tcons (Syntax.tyInt Syntax.w8) (Syntax.tcons (Syntax.tyInt
-          Syntax.w8) Syntax.tnil))))) (Syntax.tcons (Syntax.tyStruct (114 ∷ 101 ∷ 115 ∷ 105 ∷ 100 ∷ 117 ∷ 101 ∷ 58 ∷ 58 ∷ 82 ∷ 101 ∷ 115 ∷ 105 ∷ 100 ∷ 117 ∷ 101 ∷
-          []) (Syntax.tcons (Syntax.tyStruct (110 ∷ 97 ∷ 109 ∷ 101 ∷ 115 ∷ 58 ∷ 58 ∷ 84 ∷ 104 ∷ 114 ∷ 101 ∷ 101 ∷ []) (Syntax.tcons (Syntax.tyInt Syntax.w8)
-          (Syntax.tcons (Syntax.tyInt Syntax.w8) (Syntax.tcons (Syntax.tyInt Syntax.w8) Syntax.tnil)))) (Syntax.tcons (Syntax.tyInt Syntax.w8) (Syntax.tcons
-          (Syntax.tyStruct (102 ∷ 105 ∷ 101 ∷ 108 ∷ 100 ∷ 115 ∷ 58 ∷ 58 ∷ 82 ∷ 101 ∷ 115 ∷ 105 ∷ 100 ∷ 117 ∷ 101 ∷ 78 ∷ 117 ∷ 109 ∷ 98 ∷ 101 ∷ 114 ∷ [])
-          (Syntax.tcons (Syntax.tyInt Syntax.w32) Syntax.tnil)) (Syntax.tcons (Syntax.tyInt Syntax.w8) Syntax.tnil))))) (Syntax.tcons (Syntax.tyStruct (110 ∷ 97 ∷
-          109 ∷ 101 ∷ 115 ∷ 58 ∷ 58 ∷ 70 ∷ 111 ∷ 117 ∷ 114 ∷ []) (Syntax.tcons (Syntax.tyInt Syntax.w8) (Syntax.tcons (Syntax.tyInt Syntax.w8) (Syntax.tcons
-          (Syntax.tyInt Syntax.w8) (Syntax.tcons (Syntax.tyInt Syntax.w8) Syntax.tnil))))) (Syntax.tcons (Syntax.tyStruct (114 ∷ 101 ∷ 115 ∷ 105 ∷ 100 ∷ 117 ∷ 101 ∷
-          58 ∷ 58 ∷ 82 ∷ 101 ∷ 115 ∷ 105 ∷ 100 ∷ 117 ∷ 101 ∷ []) (Syntax.tcons (Syntax.tyStruct (110 ∷ 97 ∷ 109 ∷ 101 ∷ 115 ∷ 58 ∷ 58 ∷ 84 ∷ 104 ∷ 114 ∷ 101 ∷ 101 ∷
-          []) (Syntax.tcons (Syntax.tyInt Syntax.w8) (Syntax.tcons (Syntax.tyInt Syntax.w8) (Syntax.tcons (Syntax.tyInt Syntax.w8) Syntax.tnil)))) (Syntax.tcons
-          (Syntax.tyInt Syntax.w8) (Syntax.tcons (Syntax.tyStruct (102 ∷ 105 ∷ 101 ∷ 108 ∷ 100 ∷ 115 ∷ 58 ∷ 58 ∷ 82 ∷ 101 ∷ 115 ∷ 105 ∷ 100 ∷ 117 ∷ 101 ∷ 78 ∷ 117 ∷
-          109 ∷ 98 ∷ 101 ∷ 114 ∷ []) (Syntax.tcons (Syntax.tyInt Syntax.w32) Syntax.tnil)) (Syntax.tcons (Syntax.tyInt Syntax.w8) Syntax.tnil))))) Syntax.tnil)))))
-          Syntax.tnil) Syntax.ttnil))) Syntax.tnil))) Syntax.tnil) (Syntax.ttcons (Syntax.tcons (Syntax.tyStruct (99 ∷ 111 ∷ 110 ∷ 101 ∷ 99 ∷ 116 ∷ 58 ∷ 58 ∷ 67 ∷
-          111 ∷ 110 ∷ 101 ∷ 99 ∷ 116 ∷ []) (Syntax.tcons (Syntax.tyStruct (102 ∷ 105 ∷ 101 ∷ 108 ∷ 100 ∷ 115 ∷ 58 ∷ 58 ∷ 83 ∷ 101 ∷ 114 ∷ 105 ∷ 97 ∷ 108 ∷ [])
-          (Syntax.tcons (Syntax.tyInt Syntax.w32) Syntax.tnil)) (Syntax.tcons (Syntax.tyStruct (102 ∷ 105 ∷ 101 ∷ 108 ∷ 100 ∷ 115 ∷ 58 ∷ 58 ∷ 83 ∷ 101 ∷ 114 ∷ 105 ∷
-          97 ∷ 108 ∷ []) (Syntax.tcons (Syntax.tyInt Syntax.w32) Syntax.tnil)) (Syntax.tcons (Syntax.tyStruct (102 ∷ 105 ∷ 101 ∷ 108 ∷ 100 ∷ 115 ∷ 58 ∷ 58 ∷ 83 ∷ 101
-          ∷ 114 ∷ 105 ∷ 97 ∷ 108 ∷ []) (Syntax.tcons (Syntax.tyInt Syntax.w32) Syntax.tnil)) (Syntax.tcons (Syntax.tyStruct (102 ∷ 105 ∷ 101 ∷ 108 ∷ 100 ∷ 115 ∷ 58 ∷
-          58 ∷ 83 ∷ 101 ∷ 114 ∷ 105 ∷ 97 ∷ 108 ∷ []) (Syntax.tcons (Syntax.tyInt Syntax.w32) Syntax.tnil)) (Syntax.tcons (Syntax.tyStruct (102 ∷ 105 ∷ 101 ∷ 108 ∷
-          100 ∷ 115 ∷ 58 ∷ 58 ∷ 83 ∷ 101 ∷ 114 ∷ 105 ∷ 97 ∷ 108 ∷ []) (Syntax.tcons (Syntax.tyInt Syntax.w32) Syntax.tnil)) Syntax.tnil)))))) Syntax.tnil)
-          (Syntax.ttcons (Syntax.tcons (Syntax.tyStruct (109 ∷ 97 ∷ 115 ∷ 116 ∷ 101 ∷ 114 ∷ 58 ∷ 58 ∷ 84 ∷ 97 ∷ 108 ∷ 108 ∷ 121 ∷ []) (Syntax.tcons (Syntax.tyInt
-          Syntax.w32) (Syntax.tcons (Syntax.tyInt Syntax.w32) (Syntax.tcons (Syntax.tyInt Syntax.w32) (Syntax.tcons (Syntax.tyInt Syntax.w32) (Syntax.tcons
-          (Syntax.tyInt Syntax.w32) (Syntax.tcons (Syntax.tyInt Syntax.w32) (Syntax.tcons (Syntax.tyInt Syntax.w32) (Syntax.tcons (Syntax.tyInt Syntax.w32)
-          (Syntax.tcons (Syntax.tyInt Syntax.w32) Syntax.tnil)))))))))) Syntax.tnil) (Syntax.ttcons Syntax.tnil Syntax.ttnil)))))))) Syntax.tnil) Syntax.ttnil))))),
-    )
-    ∷ (10, Rows'.any-gone SlotAs.ty) ∷ (11, Rows'.any-gone Syntax.tyBool) ∷ (12, Rows'.any-gone (Syntax.tyInt Syntax.w64)) ∷ (
-      13,
-      Rows'.any-gone (Syntax.tyInt
-          Syntax.w64),
-    ) ∷ (14, Rows'.any-gone Syntax.tyBool) ∷ (15, Rows'.any-gone (Syntax.tyRef Syntax.erased Syntax.mut (Syntax.tyInt Syntax.w8))) ∷ []
+  Rows'.any-gone (Syntax.tyStruct (112 ∷
+      108 ∷ 97 ∷ 99 ∷ 101 ∷ 115 ∷ 58 ∷ 58 ∷ 67 ∷ 111 ∷ 117 ∷ 110 ∷ 116 ∷ 115 ∷ []) (Syntax.tcons (Syntax.tyInt Syntax.w64) (Syntax.tcons (Syntax.tyInt
+      Syntax.w64) (Syntax.tcons (Syntax.tyInt Syntax.w64) (Syntax.tcons (Syntax.tyInt Syntax.w64) (Syntax.tcons (Syntax.tyInt Syntax.w64) (Syntax.tcons
+      (Syntax.tyInt Syntax.w64) (Syntax.tcons (Syntax.tyInt Syntax.w64) (Syntax.tcons (Syntax.tyInt Syntax.w64) (Syntax.tcons (Syntax.tyInt Syntax.w64)
+      Syntax.tnil)))))))))),
+) ∷ (
+  9,
+  Rows'.any-gone (Syntax.tyEnum (112 ∷ 105 ∷ 101 ∷ 99 ∷ 101 ∷ 115 ∷ 58 ∷ 58 ∷ 76 ∷ 105 ∷ 110 ∷ 101 ∷ []) (Syntax.ttcons
+      (Syntax.tcons (Syntax.tyInt Syntax.w8) Syntax.tnil) (Syntax.ttcons (Syntax.tcons (Syntax.tyEnum (107 ∷ 105 ∷ 110 ∷ 100 ∷ 115 ∷ 58 ∷ 58 ∷ 75 ∷ 105 ∷ 110 ∷
+      100 ∷ []) (Syntax.ttcons Syntax.tnil (Syntax.ttcons Syntax.tnil (Syntax.ttcons Syntax.tnil (Syntax.ttcons Syntax.tnil (Syntax.ttcons Syntax.tnil
+      (Syntax.ttcons Syntax.tnil (Syntax.ttcons Syntax.tnil (Syntax.ttcons Syntax.tnil (Syntax.ttcons Syntax.tnil (Syntax.ttcons Syntax.tnil (Syntax.ttcons
+      Syntax.tnil (Syntax.ttcons Syntax.tnil (Syntax.ttcons Syntax.tnil (Syntax.ttcons Syntax.tnil (Syntax.ttcons Syntax.tnil (Syntax.ttcons Syntax.tnil
+      (Syntax.ttcons Syntax.tnil (Syntax.ttcons Syntax.tnil (Syntax.ttcons Syntax.tnil (Syntax.ttcons Syntax.tnil (Syntax.ttcons Syntax.tnil (Syntax.ttcons
+      Syntax.tnil (Syntax.ttcons Syntax.tnil (Syntax.ttcons Syntax.tnil (Syntax.ttcons Syntax.tnil (Syntax.ttcons Syntax.tnil (Syntax.ttcons Syntax.tnil
+      (Syntax.ttcons Syntax.tnil Syntax.ttnil))))))))))))))))))))))))))))) (Syntax.tcons (Syntax.tyInt Syntax.w32) Syntax.tnil)) (Syntax.ttcons (Syntax.tcons
+      (Syntax.tyEnum (107 ∷ 105 ∷ 110 ∷ 100 ∷ 115 ∷ 58 ∷ 58 ∷ 75 ∷ 105 ∷ 110 ∷ 100 ∷ []) (Syntax.ttcons Syntax.tnil (Syntax.ttcons Syntax.tnil (Syntax.ttcons
+      Syntax.tnil (Syntax.ttcons Syntax.tnil (Syntax.ttcons Syntax.tnil (Syntax.ttcons Syntax.tnil (Syntax.ttcons Syntax.tnil (Syntax.ttcons Syntax.tnil
+      (Syntax.ttcons Syntax.tnil (Syntax.ttcons Syntax.tnil (Syntax.ttcons Syntax.tnil (Syntax.ttcons Syntax.tnil (Syntax.ttcons Syntax.tnil (Syntax.ttcons
+      Syntax.tnil (Syntax.ttcons Syntax.tnil (Syntax.ttcons Syntax.tnil (Syntax.ttcons Syntax.tnil (Syntax.ttcons Syntax.tnil (Syntax.ttcons Syntax.tnil
+      (Syntax.ttcons Syntax.tnil (Syntax.ttcons Syntax.tnil (Syntax.ttcons Syntax.tnil (Syntax.ttcons Syntax.tnil (Syntax.ttcons Syntax.tnil (Syntax.ttcons
+      Syntax.tnil (Syntax.ttcons Syntax.tnil (Syntax.ttcons Syntax.tnil (Syntax.ttcons Syntax.tnil Syntax.ttnil))))))))))))))))))))))))))))) Syntax.tnil)
+      (Syntax.ttcons (Syntax.tcons (Syntax.tyEnum (108 ∷ 105 ∷ 110 ∷ 101 ∷ 58 ∷ 58 ∷ 82 ∷ 101 ∷ 99 ∷ 111 ∷ 114 ∷ 100 ∷ []) (Syntax.ttcons (Syntax.tcons
+      Syntax.tyBool (Syntax.tcons (Syntax.tyStruct (99 ∷ 111 ∷ 111 ∷ 114 ∷ 100 ∷ 105 ∷ 110 ∷ 97 ∷ 116 ∷ 101 ∷ 58 ∷ 58 ∷ 65 ∷ 116 ∷ 111 ∷ 109 ∷ []) (Syntax.tcons
+      (Syntax.tyStruct (99 ∷ 111 ∷ 111 ∷ 114 ∷ 100 ∷ 105 ∷ 110 ∷ 97 ∷ 116 ∷ 101 ∷ 58 ∷ 58 ∷ 73 ∷ 100 ∷ 101 ∷ 110 ∷ 116 ∷ 105 ∷ 116 ∷ 121 ∷ []) (Syntax.tcons
+      (Syntax.tyStruct (102 ∷ 105 ∷ 101 ∷ 108 ∷ 100 ∷ 115 ∷ 58 ∷ 58 ∷ 83 ∷ 101 ∷ 114 ∷ 105 ∷ 97 ∷ 108 ∷ []) (Syntax.tcons (Syntax.tyInt Syntax.w32) Syntax.tnil))
+      (Syntax.tcons (Syntax.tyStruct (110 ∷ 97 ∷ 109 ∷ 101 ∷ 115 ∷ 58 ∷ 58 ∷ 70 ∷ 111 ∷ 117 ∷ 114 ∷ []) (Syntax.tcons (Syntax.tyInt Syntax.w8) (Syntax.tcons
+      (Syntax.tyInt Syntax.w8) (Syntax.tcons (Syntax.tyInt Syntax.w8) (Syntax.tcons (Syntax.tyInt Syntax.w8) Syntax.tnil))))) (Syntax.tcons (Syntax.tyInt
+      Syntax.w8) (Syntax.tcons (Syntax.tyStruct (114 ∷ 101 ∷ 115 ∷ 105 ∷ 100 ∷ 117 ∷ 101 ∷ 58 ∷ 58 ∷ 82 ∷ 101 ∷ 115 ∷ 105 ∷ 100 ∷ 117 ∷ 101 ∷ []) (Syntax.tcons
+      (Syntax.tyStruct (110 ∷ 97 ∷ 109 ∷ 101 ∷ 115 ∷ 58 ∷ 58 ∷ 84 ∷ 104 ∷ 114 ∷ 101 ∷ 101 ∷ []) (Syntax.tcons (Syntax.tyInt Syntax.w8) (Syntax.tcons
+      (Syntax.tyInt Syntax.w8) (Syntax.tcons (Syntax.tyInt Syntax.w8) Syntax.tnil)))) (Syntax.tcons (Syntax.tyInt Syntax.w8) (Syntax.tcons (Syntax.tyStruct (102
+      ∷ 105 ∷ 101 ∷ 108 ∷ 100 ∷ 115 ∷ 58 ∷ 58 ∷ 82 ∷ 101 ∷ 115 ∷ 105 ∷ 100 ∷ 117 ∷ 101 ∷ 78 ∷ 117 ∷ 109 ∷ 98 ∷ 101 ∷ 114 ∷ []) (Syntax.tcons (Syntax.tyInt
+      Syntax.w32) Syntax.tnil)) (Syntax.tcons (Syntax.tyInt Syntax.w8) Syntax.tnil))))) Syntax.tnil))))) (Syntax.tcons (Syntax.tyStruct (99 ∷ 111 ∷ 111 ∷ 114 ∷
+      100 ∷ 105 ∷ 110 ∷ 97 ∷ 116 ∷ 101 ∷ 58 ∷ 58 ∷ 77 ∷ 101 ∷ 97 ∷ 115 ∷ 117 ∷ 114 ∷ 101 ∷ []) (Syntax.tcons (Syntax.tyStruct (99 ∷ 111 ∷ 111 ∷ 114 ∷ 100 ∷ 105 ∷
+      110 ∷ 97 ∷ 116 ∷ 101 ∷ 58 ∷ 58 ∷ 80 ∷ 111 ∷ 115 ∷ 105 ∷ 116 ∷ 105 ∷ 111 ∷ 110 ∷ []) (Syntax.tcons (Syntax.tyInt Syntax.w32) (Syntax.tcons (Syntax.tyInt
+      Syntax.w32) (Syntax.tcons (Syntax.tyInt Syntax.w32) Syntax.tnil)))) (Syntax.tcons (Syntax.tyInt Syntax.w32) (Syntax.tcons (Syntax.tyInt Syntax.w32)
+      Syntax.tnil)))) (Syntax.tcons (Syntax.tyStruct (99 ∷ 111 ∷ 111 ∷ 114 ∷ 100 ∷ 105 ∷ 110 ∷ 97 ∷ 116 ∷ 101 ∷ 58 ∷ 58 ∷ 83 ∷ 112 ∷ 101 ∷ 99 ∷ 105 ∷ 101 ∷ 115 ∷
+      []) (Syntax.tcons (Syntax.tyStruct (110 ∷ 97 ∷ 109 ∷ 101 ∷ 115 ∷ 58 ∷ 58 ∷ 80 ∷ 97 ∷ 105 ∷ 114 ∷ []) (Syntax.tcons (Syntax.tyInt Syntax.w8) (Syntax.tcons
+      (Syntax.tyInt Syntax.w8) Syntax.tnil))) (Syntax.tcons (Syntax.tyStruct (110 ∷ 97 ∷ 109 ∷ 101 ∷ 115 ∷ 58 ∷ 58 ∷ 80 ∷ 97 ∷ 105 ∷ 114 ∷ []) (Syntax.tcons
+      (Syntax.tyInt Syntax.w8) (Syntax.tcons (Syntax.tyInt Syntax.w8) Syntax.tnil))) Syntax.tnil))) Syntax.tnil)))) Syntax.tnil)) (Syntax.ttcons (Syntax.tcons
+      (Syntax.tyStruct (116 ∷ 101 ∷ 114 ∷ 58 ∷ 58 ∷ 84 ∷ 101 ∷ 114 ∷ []) (Syntax.tcons (Syntax.tyStruct (102 ∷ 105 ∷ 101 ∷ 108 ∷ 100 ∷ 115 ∷ 58 ∷ 58 ∷ 83 ∷ 101 ∷
+      114 ∷ 105 ∷ 97 ∷ 108 ∷ []) (Syntax.tcons (Syntax.tyInt Syntax.w32) Syntax.tnil)) (Syntax.tcons (Syntax.tyStruct (114 ∷ 101 ∷ 115 ∷ 105 ∷ 100 ∷ 117 ∷ 101 ∷
+      58 ∷ 58 ∷ 82 ∷ 101 ∷ 115 ∷ 105 ∷ 100 ∷ 117 ∷ 101 ∷ []) (Syntax.tcons (Syntax.tyStruct (110 ∷ 97 ∷ 109 ∷ 101 ∷ 115 ∷ 58 ∷ 58 ∷ 84 ∷ 104 ∷ 114 ∷ 101 ∷ 101 ∷
+      []) (Syntax.tcons (Syntax.tyInt Syntax.w8) (Syntax.tcons (Syntax.tyInt Syntax.w8) (Syntax.tcons (Syntax.tyInt Syntax.w8) Syntax.tnil)))) (Syntax.tcons
+      (Syntax.tyInt Syntax.w8) (Syntax.tcons (Syntax.tyStruct (102 ∷ 105 ∷ 101 ∷ 108 ∷ 100 ∷ 115 ∷ 58 ∷ 58 ∷ 82 ∷ 101 ∷ 115 ∷ 105 ∷ 100 ∷ 117 ∷ 101 ∷ 78 ∷ 117 ∷
+      109 ∷ 98 ∷ 101 ∷ 114 ∷ []) (Syntax.tcons (Syntax.tyInt Syntax.w32) Syntax.tnil)) (Syntax.tcons (Syntax.tyInt Syntax.w8) Syntax.tnil))))) Syntax.tnil)))
+      Syntax.tnil) (Syntax.ttcons (Syntax.tcons (Syntax.tyStruct (104 ∷ 101 ∷ 108 ∷ 105 ∷ 120 ∷ 58 ∷ 58 ∷ 72 ∷ 101 ∷ 108 ∷ 105 ∷ 120 ∷ []) (Syntax.tcons
+      (Syntax.tyStruct (104 ∷ 101 ∷ 108 ∷ 105 ∷ 120 ∷ 58 ∷ 58 ∷ 69 ∷ 120 ∷ 116 ∷ 101 ∷ 110 ∷ 116 ∷ []) (Syntax.tcons (Syntax.tyInt Syntax.w32) (Syntax.tcons
+      (Syntax.tyStruct (110 ∷ 97 ∷ 109 ∷ 101 ∷ 115 ∷ 58 ∷ 58 ∷ 84 ∷ 104 ∷ 114 ∷ 101 ∷ 101 ∷ []) (Syntax.tcons (Syntax.tyInt Syntax.w8) (Syntax.tcons
+      (Syntax.tyInt Syntax.w8) (Syntax.tcons (Syntax.tyInt Syntax.w8) Syntax.tnil)))) (Syntax.tcons (Syntax.tyStruct (114 ∷ 101 ∷ 115 ∷ 105 ∷ 100 ∷ 117 ∷ 101 ∷
+      58 ∷ 58 ∷ 82 ∷ 101 ∷ 115 ∷ 105 ∷ 100 ∷ 117 ∷ 101 ∷ []) (Syntax.tcons (Syntax.tyStruct (110 ∷ 97 ∷ 109 ∷ 101 ∷ 115 ∷ 58 ∷ 58 ∷ 84 ∷ 104 ∷ 114 ∷ 101 ∷ 101 ∷
+      []) (Syntax.tcons (Syntax.tyInt Syntax.w8) (Syntax.tcons (Syntax.tyInt Syntax.w8) (Syntax.tcons (Syntax.tyInt Syntax.w8) Syntax.tnil)))) (Syntax.tcons
+      (Syntax.tyInt Syntax.w8) (Syntax.tcons (Syntax.tyStruct (102 ∷ 105 ∷ 101 ∷ 108 ∷ 100 ∷ 115 ∷ 58 ∷ 58 ∷ 82 ∷ 101 ∷ 115 ∷ 105 ∷ 100 ∷ 117 ∷ 101 ∷ 78 ∷ 117 ∷
+      109 ∷ 98 ∷ 101 ∷ 114 ∷ []) (Syntax.tcons (Syntax.tyInt Syntax.w32) Syntax.tnil)) (Syntax.tcons (Syntax.tyInt Syntax.w8) Syntax.tnil))))) (Syntax.tcons
+      (Syntax.tyStruct (114 ∷ 101 ∷ 115 ∷ 105 ∷ 100 ∷ 117 ∷ 101 ∷ 58 ∷ 58 ∷ 82 ∷ 101 ∷ 115 ∷ 105 ∷ 100 ∷ 117 ∷ 101 ∷ []) (Syntax.tcons (Syntax.tyStruct (110 ∷ 97
+      ∷ 109 ∷ 101 ∷ 115 ∷ 58 ∷ 58 ∷ 84 ∷ 104 ∷ 114 ∷ 101 ∷ 101 ∷ []) (Syntax.tcons (Syntax.tyInt Syntax.w8) (Syntax.tcons (Syntax.tyInt Syntax.w8) (Syntax.tcons
+      (Syntax.tyInt Syntax.w8) Syntax.tnil)))) (Syntax.tcons (Syntax.tyInt Syntax.w8) (Syntax.tcons (Syntax.tyStruct (102 ∷ 105 ∷ 101 ∷ 108 ∷ 100 ∷ 115 ∷ 58 ∷ 58
+      ∷ 82 ∷ 101 ∷ 115 ∷ 105 ∷ 100 ∷ 117 ∷ 101 ∷ 78 ∷ 117 ∷ 109 ∷ 98 ∷ 101 ∷ 114 ∷ []) (Syntax.tcons (Syntax.tyInt Syntax.w32) Syntax.tnil)) (Syntax.tcons
+      (Syntax.tyInt Syntax.w8) Syntax.tnil))))) Syntax.tnil))))) (Syntax.tcons (Syntax.tyInt Syntax.w32) (Syntax.tcons (Syntax.tyStruct (104 ∷ 101 ∷ 108 ∷ 105 ∷
+      120 ∷ 58 ∷ 58 ∷ 67 ∷ 111 ∷ 109 ∷ 109 ∷ 101 ∷ 110 ∷ 116 ∷ []) (Syntax.tcons (Syntax.tyInt Syntax.w64) (Syntax.tcons (Syntax.tyInt Syntax.w64) (Syntax.tcons
+      (Syntax.tyInt Syntax.w64) (Syntax.tcons (Syntax.tyInt Syntax.w64) Syntax.tnil))))) (Syntax.tcons (Syntax.tyInt Syntax.w32) Syntax.tnil))))) Syntax.tnil)
+      (Syntax.ttcons (Syntax.tcons (Syntax.tyStruct (115 ∷ 104 ∷ 101 ∷ 101 ∷ 116 ∷ 58 ∷ 58 ∷ 83 ∷ 104 ∷ 101 ∷ 101 ∷ 116 ∷ []) (Syntax.tcons (Syntax.tyStruct (115
+      ∷ 104 ∷ 101 ∷ 101 ∷ 116 ∷ 58 ∷ 58 ∷ 83 ∷ 116 ∷ 114 ∷ 97 ∷ 110 ∷ 100 ∷ []) (Syntax.tcons (Syntax.tyInt Syntax.w32) (Syntax.tcons (Syntax.tyStruct (110 ∷ 97
+      ∷ 109 ∷ 101 ∷ 115 ∷ 58 ∷ 58 ∷ 84 ∷ 104 ∷ 114 ∷ 101 ∷ 101 ∷ []) (Syntax.tcons (Syntax.tyInt Syntax.w8) (Syntax.tcons (Syntax.tyInt Syntax.w8) (Syntax.tcons
+      (Syntax.tyInt Syntax.w8) Syntax.tnil)))) (Syntax.tcons (Syntax.tyInt Syntax.w32) (Syntax.tcons (Syntax.tyStruct (114 ∷ 101 ∷ 115 ∷ 105 ∷ 100 ∷ 117 ∷ 101 ∷
+      58 ∷ 58 ∷ 82 ∷ 101 ∷ 115 ∷ 105 ∷ 100 ∷ 117 ∷ 101 ∷ []) (Syntax.tcons (Syntax.tyStruct (110 ∷ 97 ∷ 109 ∷ 101 ∷ 115 ∷ 58 ∷ 58 ∷ 84 ∷ 104 ∷ 114 ∷ 101 ∷ 101 ∷
+      []) (Syntax.tcons (Syntax.tyInt Syntax.w8) (Syntax.tcons (Syntax.tyInt Syntax.w8) (Syntax.tcons (Syntax.tyInt Syntax.w8) Syntax.tnil)))) (Syntax.tcons
+      (Syntax.tyInt Syntax.w8) (Syntax.tcons (Syntax.tyStruct (102 ∷ 105 ∷ 101 ∷ 108 ∷ 100 ∷ 115 ∷ 58 ∷ 58 ∷ 82 ∷ 101 ∷ 115 ∷ 105 ∷ 100 ∷ 117 ∷ 101 ∷ 78 ∷ 117 ∷
+      109 ∷ 98 ∷ 101 ∷ 114 ∷ []) (Syntax.tcons (Syntax.tyInt Syntax.w32) Syntax.tnil)) (Syntax.tcons (Syntax.tyInt Syntax.w8) Syntax.tnil))))) (Syntax.tcons
+      (Syntax.tyStruct (114 ∷ 101 ∷ 115 ∷ 105 ∷ 100 ∷ 117 ∷ 101 ∷ 58 ∷ 58 ∷ 82 ∷ 101 ∷ 115 ∷ 105 ∷ 100 ∷ 117 ∷ 101 ∷ []) (Syntax.tcons (Syntax.tyStruct (110 ∷ 97
+      ∷ 109 ∷ 101 ∷ 115 ∷ 58 ∷ 58 ∷ 84 ∷ 104 ∷ 114 ∷ 101 ∷ 101 ∷ []) (Syntax.tcons (Syntax.tyInt Syntax.w8) (Syntax.tcons (Syntax.tyInt Syntax.w8) (Syntax.tcons
+      (Syntax.tyInt Syntax.w8) Syntax.tnil)))) (Syntax.tcons (Syntax.tyInt Syntax.w8) (Syntax.tcons (Syntax.tyStruct (102 ∷ 105 ∷ 101 ∷ 108 ∷ 100 ∷ 115 ∷ 58 ∷ 58
+      ∷ 82 ∷ 101 ∷ 115 ∷ 105 ∷ 100 ∷ 117 ∷ 101 ∷ 78 ∷ 117 ∷ 109 ∷ 98 ∷ 101 ∷ 114 ∷ []) (Syntax.tcons (Syntax.tyInt Syntax.w32) Syntax.tnil)) (Syntax.tcons
+      (Syntax.tyInt Syntax.w8) Syntax.tnil))))) (Syntax.tcons (Syntax.tyInt Syntax.w32) Syntax.tnil))))))) (Syntax.tcons (Syntax.tyEnum (115 ∷ 104 ∷ 101 ∷ 101 ∷
+      116 ∷ 58 ∷ 58 ∷ 82 ∷ 101 ∷ 103 ∷ 105 ∷ 115 ∷ 116 ∷ 114 ∷ 97 ∷ 116 ∷ 105 ∷ 111 ∷ 110 ∷ []) (Syntax.ttcons Syntax.tnil (Syntax.ttcons (Syntax.tcons
+      (Syntax.tyStruct (115 ∷ 104 ∷ 101 ∷ 101 ∷ 116 ∷ 58 ∷ 58 ∷ 66 ∷ 111 ∷ 110 ∷ 100 ∷ []) (Syntax.tcons (Syntax.tyStruct (110 ∷ 97 ∷ 109 ∷ 101 ∷ 115 ∷ 58 ∷ 58 ∷
+      70 ∷ 111 ∷ 117 ∷ 114 ∷ []) (Syntax.tcons (Syntax.tyInt Syntax.w8) (Syntax.tcons (Syntax.tyInt Syntax.w8) (Syntax.tcons (Syntax.tyInt Syntax.w8)
+      (Syntax.tcons (Syntax.tyInt Syntax.w8) Syntax.tnil))))) (Syntax.tcons (Syntax.tyStruct (114 ∷ 101 ∷ 115 ∷ 105 ∷ 100 ∷ 117 ∷ 101 ∷ 58 ∷ 58 ∷ 82 ∷ 101 ∷ 115
+      ∷ 105 ∷ 100 ∷ 117 ∷ 101 ∷ []) (Syntax.tcons (Syntax.tyStruct (110 ∷ 97 ∷ 109 ∷ 101 ∷ 115 ∷ 58 ∷ 58 ∷ 84 ∷ 104 ∷ 114 ∷ 101 ∷ 101 ∷ []) (Syntax.tcons
+      (Syntax.tyInt Syntax.w8) (Syntax.tcons (Syntax.tyInt Syntax.w8) (Syntax.tcons (Syntax.tyInt Syntax.w8) Syntax.tnil)))) (Syntax.tcons (Syntax.tyInt
+      Syntax.w8) (Syntax.tcons (Syntax.tyStruct (102 ∷ 105 ∷ 101 ∷ 108 ∷ 100 ∷ 115 ∷ 58 ∷ 58 ∷ 82 ∷ 101 ∷ 115 ∷ 105 ∷ 100 ∷ 117 ∷ 101 ∷ 78 ∷ 117 ∷ 109 ∷ 98 ∷ 101
+      ∷ 114 ∷ []) (Syntax.tcons (Syntax.tyInt Syntax.w32) Syntax.tnil)) (Syntax.tcons (Syntax.tyInt Syntax.w8) Syntax.tnil))))) (Syntax.tcons (Syntax.tyStruct
+      (110 ∷ 97 ∷ 109 ∷ 101 ∷ 115 ∷ 58 ∷ 58 ∷ 70 ∷ 111 ∷ 117 ∷ 114 ∷ []) (Syntax.tcons (Syntax.tyInt Syntax.w8) (Syntax.tcons (Syntax.tyInt Syntax.w8)
+      (Syntax.tcons (Syntax.tyInt Syntax.w8) (Syntax.tcons (Syntax.tyInt Syntax.w8) Syntax.tnil))))) (Syntax.tcons (Syntax.tyStruct (114 ∷ 101 ∷ 115 ∷ 105 ∷ 100
+      ∷ 117 ∷ 101 ∷ 58 ∷ 58 ∷ 82 ∷ 101 ∷ 115 ∷ 105 ∷ 100 ∷ 117 ∷ 101 ∷ []) (Syntax.tcons (Syntax.tyStruct (110 ∷ 97 ∷ 109 ∷ 101 ∷ 115 ∷ 58 ∷ 58 ∷ 84 ∷ 104 ∷ 114
+      ∷ 101 ∷ 101 ∷ []) (Syntax.tcons (Syntax.tyInt Syntax.w8) (Syntax.tcons (Syntax.tyInt Syntax.w8) (Syntax.tcons (Syntax.tyInt Syntax.w8) Syntax.tnil))))
+      (Syntax.tcons (Syntax.tyInt Syntax.w8) (Syntax.tcons (Syntax.tyStruct (102 ∷ 105 ∷ 101 ∷ 108 ∷ 100 ∷ 115 ∷ 58 ∷ 58 ∷ 82 ∷ 101 ∷ 115 ∷ 105 ∷ 100 ∷ 117 ∷ 101
+      ∷ 78 ∷ 117 ∷ 109 ∷ 98 ∷ 101 ∷ 114 ∷ []) (Syntax.tcons (Syntax.tyInt Syntax.w32) Syntax.tnil)) (Syntax.tcons (Syntax.tyInt Syntax.w8) Syntax.tnil)))))
+      Syntax.tnil))))) Syntax.tnil) Syntax.ttnil))) Syntax.tnil))) Syntax.tnil) (Syntax.ttcons (Syntax.tcons (Syntax.tyStruct (99 ∷ 111 ∷ 110 ∷ 101 ∷ 99 ∷ 116 ∷
+      58 ∷ 58 ∷ 67 ∷ 111 ∷ 110 ∷ 101 ∷ 99 ∷ 116 ∷ []) (Syntax.tcons (Syntax.tyStruct (102 ∷ 105 ∷ 101 ∷ 108 ∷ 100 ∷ 115 ∷ 58 ∷ 58 ∷ 83 ∷ 101 ∷ 114 ∷ 105 ∷ 97 ∷
+      108 ∷ []) (Syntax.tcons (Syntax.tyInt Syntax.w32) Syntax.tnil)) (Syntax.tcons (Syntax.tyStruct (102 ∷ 105 ∷ 101 ∷ 108 ∷ 100 ∷ 115 ∷ 58 ∷ 58 ∷ 83 ∷ 101 ∷
+      114 ∷ 105 ∷ 97 ∷ 108 ∷ []) (Syntax.tcons (Syntax.tyInt Syntax.w32) Syntax.tnil)) (Syntax.tcons (Syntax.tyStruct (102 ∷ 105 ∷ 101 ∷ 108 ∷ 100 ∷ 115 ∷ 58 ∷
+      58 ∷ 83 ∷ 101 ∷ 114 ∷ 105 ∷ 97 ∷ 108 ∷ []) (Syntax.tcons (Syntax.tyInt Syntax.w32) Syntax.tnil)) (Syntax.tcons (Syntax.tyStruct (102 ∷ 105 ∷ 101 ∷ 108 ∷
+      100 ∷ 115 ∷ 58 ∷ 58 ∷ 83 ∷ 101 ∷ 114 ∷ 105 ∷ 97 ∷ 108 ∷ []) (Syntax.tcons (Syntax.tyInt Syntax.w32) Syntax.tnil)) (Syntax.tcons (Syntax.tyStruct (102 ∷ 105
+      ∷ 101 ∷ 108 ∷ 100 ∷ 115 ∷ 58 ∷ 58 ∷ 83 ∷ 101 ∷ 114 ∷ 105 ∷ 97 ∷ 108 ∷ []) (Syntax.tcons (Syntax.tyInt Syntax.w32) Syntax.tnil)) Syntax.tnil))))))
+      Syntax.tnil) (Syntax.ttcons (Syntax.tcons (Syntax.tyStruct (109 ∷ 97 ∷ 115 ∷ 116 ∷ 101 ∷ 114 ∷ 58 ∷ 58 ∷ 84 ∷ 97 ∷ 108 ∷ 108 ∷ 121 ∷ []) (Syntax.tcons
+      (Syntax.tyInt Syntax.w32) (Syntax.tcons (Syntax.tyInt Syntax.w32) (Syntax.tcons (Syntax.tyInt Syntax.w32) (Syntax.tcons (Syntax.tyInt Syntax.w32)
+      (Syntax.tcons (Syntax.tyInt Syntax.w32) (Syntax.tcons (Syntax.tyInt Syntax.w32) (Syntax.tcons (Syntax.tyInt Syntax.w32) (Syntax.tcons (Syntax.tyInt
+      Syntax.w32) (Syntax.tcons (Syntax.tyInt Syntax.w32) Syntax.tnil)))))))))) Syntax.tnil) (Syntax.ttcons Syntax.tnil Syntax.ttnil)))))))) Syntax.tnil)
+      Syntax.ttnil))))),
+) ∷ (10, Rows'.any-gone SlotAs.ty) ∷ (11, Rows'.any-gone Syntax.tyBool) ∷ (12, Rows'.any-gone (Syntax.tyInt Syntax.w64)) ∷ (
+  13,
+  Rows'.any-gone (Syntax.tyInt Syntax.w64),
+) ∷ (14, Rows'.any-gone Syntax.tyBool) ∷ (
+  15,
+  Rows'.any-gone (Syntax.tyRef Syntax.erased Syntax.mut (Syntax.tyInt
+      Syntax.w8)),
+) ∷ []
 
 abbrev pub T0 : Row.Cx
 T0 = record { locals = List._++_ t0 t1; slots = [] }
@@ -2975,10 +2991,10 @@ module _ (claims· : Claims) where
   s4 = Scalar.n-use T5 (Scalar.oInt Syntax.w64 0) 7 (Rows'.sc-here (Row.sInt Syntax.w64)) (Row.sInt Syntax.w64 .of)
 
   abbrev s5 : Typed.Both T6 T7
-  s5 = Call.callB ps·0 r·0 (claims· .0) (claims· .1) T6 tt 8 [] (Syntax.tyStruct (114 ∷ 117 ∷ 108 ∷ 101 ∷ 115 ∷ 58 ∷ 58 ∷ 67 ∷ 111 ∷ 117 ∷ 110 ∷ 116 ∷ 115
-      ∷ []) (Syntax.tcons (Syntax.tyInt Syntax.w64) (Syntax.tcons (Syntax.tyInt Syntax.w64) (Syntax.tcons (Syntax.tyInt Syntax.w64) (Syntax.tcons (Syntax.tyInt
-      Syntax.w64) (Syntax.tcons (Syntax.tyInt Syntax.w64) (Syntax.tcons (Syntax.tyInt Syntax.w64) (Syntax.tcons (Syntax.tyInt Syntax.w64) (Syntax.tcons
-      (Syntax.tyInt Syntax.w64) (Syntax.tcons (Syntax.tyInt Syntax.w64) Syntax.tnil))))))))))
+  s5 = Call.callB ps·0 r·0 (claims· .0) (claims· .1) T6 tt 8 [] (Syntax.tyStruct (112 ∷ 108 ∷ 97 ∷ 99 ∷ 101 ∷ 115 ∷ 58 ∷ 58 ∷ 67 ∷ 111 ∷ 117 ∷ 110 ∷ 116 ∷
+      115 ∷ []) (Syntax.tcons (Syntax.tyInt Syntax.w64) (Syntax.tcons (Syntax.tyInt Syntax.w64) (Syntax.tcons (Syntax.tyInt Syntax.w64) (Syntax.tcons
+      (Syntax.tyInt Syntax.w64) (Syntax.tcons (Syntax.tyInt Syntax.w64) (Syntax.tcons (Syntax.tyInt Syntax.w64) (Syntax.tcons (Syntax.tyInt Syntax.w64)
+      (Syntax.tcons (Syntax.tyInt Syntax.w64) (Syntax.tcons (Syntax.tyInt Syntax.w64) Syntax.tnil))))))))))
 
   abbrev s6 : Typed.Asks T7 T9
   s6 = Scalar.k-op2 T7 (Syntax.mul Syntax.unsigned) (Scalar.oInt Syntax.w64 81) (Scalar.oAt 5 (Syntax.tyInt Syntax.w64) (Row.valS (Row.sInt Syntax.w64))) 12
@@ -3002,7 +3018,7 @@ module _ (claims· : Claims) where
   s11 = Scalar.n-room T14 14 Syntax.tyBool
 
   abbrev s12 : Typed.Mo T14 → Typed.Mo T16
-  s12 = Scalar.n-room T14 8 (Syntax.tyStruct (114 ∷ 117 ∷ 108 ∷ 101 ∷ 115 ∷ 58 ∷ 58 ∷ 67 ∷ 111 ∷ 117 ∷ 110 ∷ 116 ∷ 115 ∷ []) (Syntax.tcons (Syntax.tyInt
+  s12 = Scalar.n-room T14 8 (Syntax.tyStruct (112 ∷ 108 ∷ 97 ∷ 99 ∷ 101 ∷ 115 ∷ 58 ∷ 58 ∷ 67 ∷ 111 ∷ 117 ∷ 110 ∷ 116 ∷ 115 ∷ []) (Syntax.tcons (Syntax.tyInt
       Syntax.w64) (Syntax.tcons (Syntax.tyInt Syntax.w64) (Syntax.tcons (Syntax.tyInt Syntax.w64) (Syntax.tcons (Syntax.tyInt Syntax.w64) (Syntax.tcons
       (Syntax.tyInt Syntax.w64) (Syntax.tcons (Syntax.tyInt Syntax.w64) (Syntax.tcons (Syntax.tyInt Syntax.w64) (Syntax.tcons (Syntax.tyInt Syntax.w64)
       (Syntax.tcons (Syntax.tyInt Syntax.w64) Syntax.tnil))))))))))
@@ -3198,7 +3214,7 @@ module _ (claims· : Claims) where
         tt,
       ),
     ),
-  ) 8 [] (Syntax.tyStruct (114 ∷ 117 ∷ 108 ∷ 101 ∷ 115 ∷ 58 ∷ 58 ∷ 67 ∷ 111 ∷ 117 ∷ 110 ∷ 116 ∷ 115 ∷ [])
+  ) 8 [] (Syntax.tyStruct (112 ∷ 108 ∷ 97 ∷ 99 ∷ 101 ∷ 115 ∷ 58 ∷ 58 ∷ 67 ∷ 111 ∷ 117 ∷ 110 ∷ 116 ∷ 115 ∷ [])
       (Syntax.tcons (Syntax.tyInt Syntax.w64) (Syntax.tcons (Syntax.tyInt Syntax.w64) (Syntax.tcons (Syntax.tyInt Syntax.w64) (Syntax.tcons (Syntax.tyInt
       Syntax.w64) (Syntax.tcons (Syntax.tyInt Syntax.w64) (Syntax.tcons (Syntax.tyInt Syntax.w64) (Syntax.tcons (Syntax.tyInt Syntax.w64) (Syntax.tcons
       (Syntax.tyInt Syntax.w64) (Syntax.tcons (Syntax.tyInt Syntax.w64) Syntax.tnil))))))))))
@@ -3342,12 +3358,12 @@ module _ (claims· : Claims) where
       module _ (M : Type 1) where
         abbrev pub Closed : Type 2
         Closed = (𝓤 : URA.URA M) (H : Wp.Heap 𝓤) (A : Atoms.Atoms 𝓤) (W : Kit.Given 𝓤 H A) (𝓣 : Wp.Tables 𝓤 H) (known0 : Plain.Known 𝓤 H A W 𝓣 0 ps·0 r·0
-            (claims· .0) (claims· .1) "marks::counting::no_counts") (known1 : Plain.Known 𝓤 H A W 𝓣 1 ps·1 r·1 (claims· .2) (claims· .3) "gate::line_at") (known2
-            : Plain.Known 𝓤 H A W 𝓣 1 ps·2 r·2 (claims· .4) (claims· .5) "store::search::slot_at") (known3 : Plain.Known 𝓤 H A W 𝓣 1 ps·3 r·3 (claims· .6)
-            (claims· .7) "store::search::stays") (known4 : Plain.Known 𝓤 H A W 𝓣 2 ps·4 r·4 (claims· .8) (claims· .9) "writing::put_share") (known5 : Plain.Known
-            𝓤 H A W 𝓣 0 ps·5 r·5 (claims· .10) (claims· .11) "writing::count_line") (known6 : Plain.Known 𝓤 H A W 𝓣 0 ps·6 r·6 (claims· .12) (claims· .13)
-            "marks::counting::one_of") → Statement.Triple 𝓤 (Wp.WpFn 𝓤 H (𝓣 .C) (𝓣 .Λ) (Function.fnOf 3 ps r xs m hs body)) (Function.plainOf 𝓤 H A 3 ps r Pre·
-            Post·)
+            (claims· .0) (claims· .1) "places::counting::no_counts") (known1 : Plain.Known 𝓤 H A W 𝓣 1 ps·1 r·1 (claims· .2) (claims· .3) "gate::line_at")
+            (known2 : Plain.Known 𝓤 H A W 𝓣 1 ps·2 r·2 (claims· .4) (claims· .5) "store::search::slot_at") (known3 : Plain.Known 𝓤 H A W 𝓣 1 ps·3 r·3 (claims·
+            .6) (claims· .7) "store::search::stays") (known4 : Plain.Known 𝓤 H A W 𝓣 2 ps·4 r·4 (claims· .8) (claims· .9) "writing::put_share") (known5 :
+            Plain.Known 𝓤 H A W 𝓣 0 ps·5 r·5 (claims· .10) (claims· .11) "writing::count_line") (known6 : Plain.Known 𝓤 H A W 𝓣 0 ps·6 r·6 (claims· .12) (claims·
+            .13) "marks::counting::one_of") → Statement.Triple 𝓤 (Wp.WpFn 𝓤 H (𝓣 .C) (𝓣 .Λ) (Function.fnOf 3 ps r xs m hs body)) (Function.plainOf 𝓤 H A 3 ps r
+            Pre· Post·)
 
       module _ (Inv·0 : InvT-loop) (μ·0 : MeasureT-loop) where
         abbrev at0 : Typed.TF T15 O4
@@ -3494,7 +3510,7 @@ module _ (claims· : Claims) where
 
         module _ {M : Type 1} (𝓤 : URA.URA M) (H : Wp.Heap 𝓤) (A : Atoms.Atoms 𝓤) (W : Kit.Given 𝓤 H A) (𝓣 : Wp.Tables 𝓤 H) where
           abbrev Knowns : Type 1
-          Knowns = Plain.Known 𝓤 H A W 𝓣 0 ps·0 r·0 (claims· .0) (claims· .1) "marks::counting::no_counts" × Plain.Known 𝓤 H A W 𝓣 1 ps·1 r·1 (claims· .2)
+          Knowns = Plain.Known 𝓤 H A W 𝓣 0 ps·0 r·0 (claims· .0) (claims· .1) "places::counting::no_counts" × Plain.Known 𝓤 H A W 𝓣 1 ps·1 r·1 (claims· .2)
               (claims· .3) "gate::line_at" × Plain.Known 𝓤 H A W 𝓣 1 ps·2 r·2 (claims· .4) (claims· .5) "store::search::slot_at" × Plain.Known 𝓤 H A W 𝓣 1 ps·3
               r·3 (claims· .6) (claims· .7) "store::search::stays" × Plain.Known 𝓤 H A W 𝓣 2 ps·4 r·4 (claims· .8) (claims· .9) "writing::put_share" ×
               Plain.Known 𝓤 H A W 𝓣 0 ps·5 r·5 (claims· .10) (claims· .11) "writing::count_line" × Plain.Known 𝓤 H A W 𝓣 0 ps·6 r·6 (claims· .12) (claims· .13)
@@ -3864,14 +3880,14 @@ module _ (claims· : Claims) where
                 Row.sBool)) d2
 
             d4 : Typed.Typed 𝓤 H A 𝓣 E G14 b8 Δ4 at4
-            d4 = Typed.g-pre 𝓤 H A W 𝓣 E G14 G16 b8 Δ4 (Typed.pass T14 T16 s12) at3 (Scalar.g-room 𝓤 H A W E G14 8 (Syntax.tyStruct (114 ∷ 117 ∷ 108 ∷ 101 ∷ 115
-                ∷ 58 ∷ 58 ∷ 67 ∷ 111 ∷ 117 ∷ 110 ∷ 116 ∷ 115 ∷ []) (Syntax.tcons (Syntax.tyInt Syntax.w64) (Syntax.tcons (Syntax.tyInt Syntax.w64) (Syntax.tcons
+            d4 = Typed.g-pre 𝓤 H A W 𝓣 E G14 G16 b8 Δ4 (Typed.pass T14 T16 s12) at3 (Scalar.g-room 𝓤 H A W E G14 8 (Syntax.tyStruct (112 ∷ 108 ∷ 97 ∷ 99 ∷ 101 ∷
+                115 ∷ 58 ∷ 58 ∷ 67 ∷ 111 ∷ 117 ∷ 110 ∷ 116 ∷ 115 ∷ []) (Syntax.tcons (Syntax.tyInt Syntax.w64) (Syntax.tcons (Syntax.tyInt Syntax.w64)
+                (Syntax.tcons (Syntax.tyInt Syntax.w64) (Syntax.tcons (Syntax.tyInt Syntax.w64) (Syntax.tcons (Syntax.tyInt Syntax.w64) (Syntax.tcons
                 (Syntax.tyInt Syntax.w64) (Syntax.tcons (Syntax.tyInt Syntax.w64) (Syntax.tcons (Syntax.tyInt Syntax.w64) (Syntax.tcons (Syntax.tyInt Syntax.w64)
-                (Syntax.tcons (Syntax.tyInt Syntax.w64) (Syntax.tcons (Syntax.tyInt Syntax.w64) (Syntax.tcons (Syntax.tyInt Syntax.w64) Syntax.tnil))))))))))
-                (Local.room-whole 𝓤 H A W (Declared'.row Counts.the-type) (Syntax.tyStruct (114 ∷ 117 ∷ 108 ∷ 101 ∷ 115 ∷ 58 ∷ 58 ∷ 67 ∷ 111 ∷ 117 ∷ 110 ∷ 116 ∷
-                115 ∷ []) (Syntax.tcons (Syntax.tyInt Syntax.w64) (Syntax.tcons (Syntax.tyInt Syntax.w64) (Syntax.tcons (Syntax.tyInt Syntax.w64) (Syntax.tcons
-                (Syntax.tyInt Syntax.w64) (Syntax.tcons (Syntax.tyInt Syntax.w64) (Syntax.tcons (Syntax.tyInt Syntax.w64) (Syntax.tcons (Syntax.tyInt Syntax.w64)
-                (Syntax.tcons (Syntax.tyInt Syntax.w64) (Syntax.tcons (Syntax.tyInt Syntax.w64) Syntax.tnil)))))))))) Path'.refl)) d3
+                Syntax.tnil)))))))))) (Local.room-whole 𝓤 H A W (Declared'.row Counts.the-type) (Syntax.tyStruct (112 ∷ 108 ∷ 97 ∷ 99 ∷ 101 ∷ 115 ∷ 58 ∷ 58 ∷ 67
+                ∷ 111 ∷ 117 ∷ 110 ∷ 116 ∷ 115 ∷ []) (Syntax.tcons (Syntax.tyInt Syntax.w64) (Syntax.tcons (Syntax.tyInt Syntax.w64) (Syntax.tcons (Syntax.tyInt
+                Syntax.w64) (Syntax.tcons (Syntax.tyInt Syntax.w64) (Syntax.tcons (Syntax.tyInt Syntax.w64) (Syntax.tcons (Syntax.tyInt Syntax.w64) (Syntax.tcons
+                (Syntax.tyInt Syntax.w64) (Syntax.tcons (Syntax.tyInt Syntax.w64) (Syntax.tcons (Syntax.tyInt Syntax.w64) Syntax.tnil)))))))))) Path'.refl)) d3
 
             d5 : Typed.Typed 𝓤 H A 𝓣 E G14 b9 Δ4 at5
             d5 = Scalar.t-cond 𝓤 H A W E 𝓣 G14 14 (λ x. x) b7 b8 Δ4 at1 at4 (Scalar.reads-sc 𝓤 H A W Row.sBool) Path'.refl d1 d4
@@ -4155,8 +4171,8 @@ module _ (claims· : Claims) where
                       tt,
                     ),
                   ),
-                ) (Local.room-whole 𝓤 H A W (Declared'.row Counts.the-type) (Syntax.tyStruct (114 ∷ 117 ∷ 108 ∷ 101 ∷ 115 ∷ 58 ∷ 58 ∷ 67 ∷ 111 ∷
-                117 ∷ 110 ∷ 116 ∷ 115 ∷ []) (Syntax.tcons (Syntax.tyInt Syntax.w64) (Syntax.tcons (Syntax.tyInt Syntax.w64) (Syntax.tcons (Syntax.tyInt
+                ) (Local.room-whole 𝓤 H A W (Declared'.row Counts.the-type) (Syntax.tyStruct (112 ∷ 108 ∷ 97 ∷ 99 ∷ 101 ∷ 115 ∷ 58 ∷ 58 ∷ 67 ∷
+                111 ∷ 117 ∷ 110 ∷ 116 ∷ 115 ∷ []) (Syntax.tcons (Syntax.tyInt Syntax.w64) (Syntax.tcons (Syntax.tyInt Syntax.w64) (Syntax.tcons (Syntax.tyInt
                 Syntax.w64) (Syntax.tcons (Syntax.tyInt Syntax.w64) (Syntax.tcons (Syntax.tyInt Syntax.w64) (Syntax.tcons (Syntax.tyInt Syntax.w64) (Syntax.tcons
                 (Syntax.tyInt Syntax.w64) (Syntax.tcons (Syntax.tyInt Syntax.w64) (Syntax.tcons (Syntax.tyInt Syntax.w64) Syntax.tnil)))))))))) Path'.refl) tt
                 Path'.refl) d12
@@ -4563,8 +4579,8 @@ module _ (claims· : Claims) where
 
             d39 : Typed.Typed 𝓤 H A 𝓣 E G6 b39 Δ0 at39
             d39 = Typed.s-seq 𝓤 H A W 𝓣 E G6 G7 b3 b38 Δ0 (Typed.both s5) at38 (Plain.t-call-plain 𝓤 H A W 𝓣 0 ps·0 r·0 (claims· .0) (claims· .1)
-                "marks::counting::no_counts" (known .0) E (λ pos β. β) G6 tt 8 [] (Call.sub-id 𝓤 H A W (G6 .slots)) tt (Reads.room-gone 𝓤 H A
-                (Syntax.tyStruct (114 ∷ 117 ∷ 108 ∷ 101 ∷ 115 ∷ 58 ∷ 58 ∷ 67 ∷ 111 ∷ 117 ∷ 110 ∷ 116 ∷ 115 ∷ []) (Syntax.tcons (Syntax.tyInt Syntax.w64)
+                "places::counting::no_counts" (known .0) E (λ pos β. β) G6 tt 8 [] (Call.sub-id 𝓤 H A W (G6 .slots)) tt (Reads.room-gone 𝓤 H A
+                (Syntax.tyStruct (112 ∷ 108 ∷ 97 ∷ 99 ∷ 101 ∷ 115 ∷ 58 ∷ 58 ∷ 67 ∷ 111 ∷ 117 ∷ 110 ∷ 116 ∷ 115 ∷ []) (Syntax.tcons (Syntax.tyInt Syntax.w64)
                 (Syntax.tcons (Syntax.tyInt Syntax.w64) (Syntax.tcons (Syntax.tyInt Syntax.w64) (Syntax.tcons (Syntax.tyInt Syntax.w64) (Syntax.tcons
                 (Syntax.tyInt Syntax.w64) (Syntax.tcons (Syntax.tyInt Syntax.w64) (Syntax.tcons (Syntax.tyInt Syntax.w64) (Syntax.tcons (Syntax.tyInt Syntax.w64)
                 (Syntax.tcons (Syntax.tyInt Syntax.w64) Syntax.tnil))))))))))) tt Path'.refl) d38
@@ -5574,7 +5590,7 @@ module _ (claims· : Claims) where
             }
 
           module _ {M : Type 1} (𝓤 : URA.URA M) (H : Wp.Heap 𝓤) (A : Atoms.Atoms 𝓤) (W : Kit.Given 𝓤 H A) (𝓣 : Wp.Tables 𝓤 H) (known0 : Plain.Known 𝓤 H A W 𝓣 0
-              ps·0 r·0 (claims· .0) (claims· .1) "marks::counting::no_counts") (known1 : Plain.Known 𝓤 H A W 𝓣 1 ps·1 r·1 (claims· .2) (claims· .3)
+              ps·0 r·0 (claims· .0) (claims· .1) "places::counting::no_counts") (known1 : Plain.Known 𝓤 H A W 𝓣 1 ps·1 r·1 (claims· .2) (claims· .3)
               "gate::line_at") (known2 : Plain.Known 𝓤 H A W 𝓣 1 ps·2 r·2 (claims· .4) (claims· .5) "store::search::slot_at") (known3 : Plain.Known 𝓤 H A W 𝓣 1
               ps·3 r·3 (claims· .6) (claims· .7) "store::search::stays") (known4 : Plain.Known 𝓤 H A W 𝓣 2 ps·4 r·4 (claims· .8) (claims· .9)
               "writing::put_share") (known5 : Plain.Known 𝓤 H A W 𝓣 0 ps·5 r·5 (claims· .10) (claims· .11) "writing::count_line") (known6 : Plain.Known 𝓤 H A W 𝓣

@@ -1,0 +1,76 @@
+-- The nine counts of MASTER.
+use Prim.Native.Nat.{ℕ, _+_}
+use mathlib.Core.Bool.{Bool}
+use lib.Dec.{eqb}
+use Rattle.ascii.specs.Tests.{pick, both}
+use Rattle.kinds.specs.declared.Kind.{Kind}
+use Rattle.kinds.specs.declared.Kind.the-variants.{Header, Title, Compnd, Source, Keywds, Expdta, Author, Revdat, Jrnl, Remark, Seqres, Het, Helix, Sheet, Cryst1, Origx1, Origx2, Origx3, Scale1, Scale2, Scale3, Atom, Hetatm, Ter, Conect, Master, End, Unknown}
+use Rattle.master.specs.declared.Tally.{Tally}
+use Rattle.places.specs.declared.Counts.{Counts}
+
+-- which of the nine counts a kind is counted in, 0 for none
+abbrev pub countOf : Kind → ℕ
+countOf Header = 0
+countOf Title = 0
+countOf Compnd = 0
+countOf Source = 0
+countOf Keywds = 0
+countOf Expdta = 0
+countOf Author = 0
+countOf Revdat = 0
+countOf Jrnl = 0
+countOf Remark = 1
+countOf Seqres = 9
+countOf Het = 2
+countOf Helix = 3
+countOf Sheet = 4
+countOf Cryst1 = 0
+countOf Origx1 = 5
+countOf Origx2 = 5
+countOf Origx3 = 5
+countOf Scale1 = 5
+countOf Scale2 = 5
+countOf Scale3 = 5
+countOf Atom = 6
+countOf Hetatm = 6
+countOf Ter = 7
+countOf Conect = 8
+countOf Master = 0
+countOf End = 0
+countOf Unknown = 0
+
+-- before the first line
+abbrev pub noCounts : Counts
+noCounts = record { remark = 0; het = 0; helix = 0; sheet = 0; xform = 0; coord = 0; ter = 0; conect = 0; seq = 0 }
+
+-- one more where the numbers agree
+abbrev pub oneMore : ℕ → ℕ → ℕ → ℕ
+oneMore which n count = pick (eqb which n) (count + 1) count
+
+-- the counts with the one raised by 1
+unfoldable pub raised : Counts → ℕ → Counts
+raised c which =
+    record {
+      remark = oneMore which 1 (c .remark);
+      het = oneMore which 2 (c .het);
+      helix = oneMore which 3 (c .helix);
+      sheet = oneMore which 4 (c .sheet);
+      xform = oneMore which 5 (c .xform);
+      coord = oneMore which 6 (c .coord);
+      ter = oneMore which 7 (c .ter);
+      conect = oneMore which 8 (c .conect);
+      seq = oneMore which 9 (c .seq);
+    }
+
+-- MASTER's numbers are these counts
+unfoldable pub sameCounts : Tally → Counts → Bool
+sameCounts t c =
+    both (eqb (t .remark) (c .remark))
+    (both (eqb (t .het) (c .het))
+    (both (eqb (t .helix) (c .helix))
+    (both (eqb (t .sheet) (c .sheet))
+    (both (eqb (t .xform) (c .xform))
+    (both (eqb (t .coord) (c .coord))
+    (both (eqb (t .ter) (c .ter))
+    (both (eqb (t .conect) (c .conect))
+    (eqb (t .seq) (c .seq)))))))))

@@ -1,0 +1,30 @@
+// Where each kind of line may stand, and which of MASTER's counts it is counted in.
+mod counting;
+mod order;
+
+pub use counting::count_of;
+pub use counting::no_counts;
+pub use counting::raise;
+pub use counting::same_counts;
+pub use order::place_bad;
+pub use order::place_of;
+
+// A kind may follow the places low to high, and is itself the place here.
+pub struct Place {
+    pub low: u8,
+    pub high: u8,
+    pub here: u8,
+}
+
+// The nine counts of MASTER, without the limit of its columns.
+pub struct Counts {
+    pub remark: u64,
+    pub het: u64,
+    pub helix: u64,
+    pub sheet: u64,
+    pub xform: u64,
+    pub coord: u64,
+    pub ter: u64,
+    pub conect: u64,
+    pub seq: u64,
+}
