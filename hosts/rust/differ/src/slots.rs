@@ -2,50 +2,36 @@
 
 use station::raw::Slot;
 
+/// A slot of one side with the fields of a slot of the other.
+macro_rules! with_fields_of {
+    ($slot:expr, $($made:tt)+) => {
+        $($made)+ {
+            serial: $slot.serial,
+            number: $slot.number,
+            x: $slot.x,
+            y: $slot.y,
+            z: $slot.z,
+            occupancy: $slot.occupancy,
+            temperature: $slot.temperature,
+            kind: $slot.kind,
+            mark: $slot.mark,
+            name: $slot.name,
+            alternate: $slot.alternate,
+            residue: $slot.residue,
+            chain: $slot.chain,
+            insertion: $slot.insertion,
+            element: $slot.element,
+            charge: $slot.charge,
+        }
+    };
+}
+
 /// The slot of the reference.
 pub fn to_reference(slot: &Slot) -> reference::Slot {
-    let Slot { serial, number, x, y, z, occupancy, temperature, kind, mark, .. } = *slot;
-    let Slot { name, alternate, residue, chain, insertion, element, charge, .. } = *slot;
-    reference::Slot {
-        serial,
-        number,
-        x,
-        y,
-        z,
-        occupancy,
-        temperature,
-        kind,
-        mark,
-        name,
-        alternate,
-        residue,
-        chain,
-        insertion,
-        element,
-        charge,
-    }
+    with_fields_of!(slot, reference::Slot)
 }
 
 /// The slot of the library.
 pub fn to_library(slot: &reference::Slot) -> Slot {
-    let reference::Slot { serial, number, x, y, z, occupancy, temperature, kind, mark, .. } = *slot;
-    let reference::Slot { name, alternate, residue, chain, insertion, element, charge, .. } = *slot;
-    Slot {
-        serial,
-        number,
-        x,
-        y,
-        z,
-        occupancy,
-        temperature,
-        kind,
-        mark,
-        name,
-        alternate,
-        residue,
-        chain,
-        insertion,
-        element,
-        charge,
-    }
+    with_fields_of!(slot, Slot)
 }
