@@ -1,20 +1,19 @@
 // The gate over a whole text.
 use ascii::both_of;
 use conect::Conect;
-use coordinate::Atom;
 use line::Record;
 use pieces::Line;
 use places::Counts;
 use rules::State;
 ghost use mathlib.Core.Path.{_≡_};
-ghost use lib.Dec.{eqb};
+ghost use mathlib.Core.Bool.{true};
 ghost use Prim.Native.Nat.{ℕ, _+_, _*_, _≤_, _<_};
 ghost use lib.ListN.{length, take};
 ghost use Rattle.fields.specs.Field.{wholeOf};
 ghost use Rattle.line.specs.declared.Record.the-variants as rec;
 ghost use Rattle.rules.specs.declared.State.{State as StateOf};
 ghost use Rattle.gate.specs.Text.{pieceAt, row, down, isSpot, isCoord};
-ghost use Rattle.gate.specs.Gate.{isAtom, isSite, named, partnerKnown, recordKnown, knownOf, refusedOf, finishOf, checkOf};
+ghost use Rattle.gate.specs.Gate.{isSite, named, partnerKnown, recordKnown, knownOf, refusedOf, finishOf, checkOf};
 ghost use Rattle.gate.specs.Search.{serialOf, growOf, Block, Rising, Bracket, Finds};
 
 // The answer: the number of refusal, the offending line (0 if granted), the count of good lines, and the nine counts over those.
@@ -99,33 +98,6 @@ pub fn finish(s: State) -> Verdict
 
 const END_PLACE: u8 = 21;
 
-fn is_atom(n: u32, r: Record) -> bool
-    ensures { λ b. ⌜ b ≡ isAtom n r ⌝ }
-{
-    if let Record::Coordinate(_, a) = r {
-        return has_serial(a, n);
-    }
-    false
-}
-
-fn has_serial(a: Atom, n: u32) -> bool
-    ensures { λ b. ⌜ b ≡ eqb (a .identity .serial .0) n ⌝ }
-{
-    let w = a.identity;
-    let serial = w.serial;
-    serial.0 == n
-}
-
-// Whether the line is the ATOM or HETATM line with serial n.
-fn is_site(n: u32, l: Line) -> bool
-    ensures { λ b. ⌜ b ≡ isSite n l ⌝ }
-{
-    if let Line::Typed(r) = l {
-        return is_atom(n, r);
-    }
-    false
-}
-
 // The serial in columns 7-11 of line i.
 fn serial_at(text: &[u8], i: usize) -> u32
     requires { ⌜ 81 * i + 81 ≤ length (now text) ⌝ }
@@ -136,6 +108,22 @@ fn serial_at(text: &[u8], i: usize) -> u32
     let w = fields::read_whole(&text[at..e], 6, 5, 0, 1, 99999);
     w.value
 }
+
+// Whether line i, one of the coordinate lines, is the ATOM or HETATM line with serial x: by its name and columns 7-11 alone.
+fn site_at(text: &[u8], i: usize, x: u32) -> bool
+    requires { ⌜ 81 * i + 81 ≤ length (now text) ⌝ }
+    ensures { λ r. ⌜ (isCoord (row (now (text .entry)) i) ≡ true → r ≡ isSite x (row (now (text .entry)) i)) ⌝ }
+{
+    let at = 81 * i;
+    let e = at + 80;
+    let k = kinds::kind_of(&text[at..e]);
+    let counted = places::count_of(k) == COORDINATES;
+    let serial = serial_at(text, i);
+    both_of(counted, serial == x)
+}
+
+// The count of ATOM and HETATM lines among the nine.
+const COORDINATES: u8 = 6;
 
 // The first line from lo to hi whose serial is at least x, or hi: by halving.
 fn lower(text: &[u8], lo: usize, hi: usize, x: u32) -> usize
@@ -191,7 +179,7 @@ fn find(text: &[u8], lo: usize, hi: usize, x: u32) -> bool
 {
     let m = seek(text, lo, hi, x);
     if m < hi {
-        is_site(x, line_at(text, m))
+        site_at(text, m, x)
     } else {
         false
     }
