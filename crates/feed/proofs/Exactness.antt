@@ -19,7 +19,8 @@ use lib.Ieee.Exact.{HasValue, odd-sign, round-exact}
 use lib.Ieee.Back.{round-whole}
 use lib.Ieee.Scale.{round-same}
 use borrow.Author.Tests.{ltb-true, ltb-false, leb-true, leb-false, lt-ltb, le-ltb, le-leb, lt-leb}
-use Rattle.feed.specs.Exact.{exactly, negative}
+use Rattle.fields.specs.Field.{isNeg}
+use Rattle.feed.specs.Exact.{exactly}
 
 -- ---- a value is written in one way
 
@@ -90,8 +91,8 @@ value-only f (fin t (suc m) e) (fin u (suc n) g) s a c C p q v w =
 
 -- ---- `exactly`
 
-pub exactly-value : (z : ℤ) (l : ℕ) → HasValue (exactly z l) (negative z) (natAbs z) (2 ^ l)
-unfolding exactly
+pub exactly-value : (z : ℤ) (l : ℕ) → HasValue (exactly z l) (isNeg z) (natAbs z) (2 ^ l)
+unfolding exactly isNeg
 exactly-value (pos n) l = subst (λ (x : ℕ). HasValue (odd 53 false n 0 l) false x (2 ^ l)) (mul-one n) (odd-sign 53 false n 0 l)
 exactly-value (negsuc n) l = subst (λ (x : ℕ). HasValue (odd 53 true (suc n) 0 l) true x (2 ^ l)) (mul-one (suc n)) (odd-sign 53 true (suc n) 0 l)
 
@@ -149,13 +150,13 @@ exactly-fits (pos n) l h k = placed false n l h k
 exactly-fits (negsuc n) l h k = placed true (suc n) l h k
 
 -- an f64 whose value is z / 2 ^ l is `exactly z l`
-pub exactly-only : (x : Float) (z : ℤ) (l : ℕ) → natAbs z < 2 ^ 53 → l ≤ 1074 → T (fits binary64 x) → HasValue x (negative z) (natAbs z) (2 ^ l) → x ≡ exactly z l
-exactly-only x z l h k p v = value-only binary64 x (exactly z l) (negative z) (natAbs z) (2 ^ l) (pow-pos l) p (exactly-fits z l h k) v (exactly-value z l)
+pub exactly-only : (x : Float) (z : ℤ) (l : ℕ) → natAbs z < 2 ^ 53 → l ≤ 1074 → T (fits binary64 x) → HasValue x (isNeg z) (natAbs z) (2 ^ l) → x ≡ exactly z l
+exactly-only x z l h k p v = value-only binary64 x (exactly z l) (isNeg z) (natAbs z) (2 ^ l) (pow-pos l) p (exactly-fits z l h k) v (exactly-value z l)
 
 -- ---- the cast
 
-cast-value : (z : ℤ) → natAbs z < 2 ^ 53 → HasValue (ofInt binary64 z) (negative z) (natAbs z) 1
-unfolding ofInt
+cast-value : (z : ℤ) → natAbs z < 2 ^ 53 → HasValue (ofInt binary64 z) (isNeg z) (natAbs z) 1
+unfolding ofInt isNeg
 cast-value (pos n) h = round-whole binary64 false n (le-of-lt h)
 cast-value (negsuc n) h = round-whole binary64 true (suc n) (le-of-lt h)
 
@@ -217,8 +218,8 @@ no-gap : (m n : ℕ) → n ≤ m → m ≤ n → m - n ≡ n - m
 no-gap m n h k = omega arith
 
 -- the sum of two integers, from their signs and sizes
-int-sum : (f : Format) (a b : ℤ) → sum f (negative a) (natAbs a) (negative b) (natAbs b) 1 ≡ ofInt f (a +ℤ b)
-unfolding sum ofInt
+int-sum : (f : Format) (a b : ℤ) → sum f (isNeg a) (natAbs a) (isNeg b) (natAbs b) 1 ≡ ofInt f (a +ℤ b)
+unfolding sum ofInt isNeg
 int-sum f (pos m) (pos n) = refl
 int-sum f (negsuc m) (negsuc n) = ap (λ (x : ℕ). round f true x 1) (two-sucs m n)
 int-sum f (pos m) (negsuc n) = go (ltb m (suc n)) (ltb→lt m (suc n))
@@ -251,7 +252,7 @@ abs-sum (negsuc m) (pos n) k h = go (ltb n (suc m))
 
 pub sum-exact : (a b : ℤ) → natAbs a + natAbs b < 2 ^ 53 → add binary64 (exactly a 0) (exactly b 0) ≡ exactly (a +ℤ b) 0
 sum-exact a b h =
-    add-at binary64 (exactly a 0) (exactly b 0) (negative a) (negative b) (natAbs a) (natAbs b) (exactly-value a 0) (exactly-value b 0)
+    add-at binary64 (exactly a 0) (exactly b 0) (isNeg a) (isNeg b) (natAbs a) (natAbs b) (exactly-value a 0) (exactly-value b 0)
     ∙ int-sum binary64 a b
     ∙ cast-exact (a +ℤ b) (abs-sum a b (2 ^ 53) h)
 
@@ -283,7 +284,7 @@ half-exact z h =
     ap (λ (x : Float). mul binary64 (exactly z 0) x) one-half
     ∙ exactly-only (mul binary64 (exactly z 0) (fin false 1 (negsuc 0))) z 1 h (lit≤ tt)
     (mul-fits binary64 (exactly z 0) (fin false 1 (negsuc 0)))
-    (subst (λ (x : Float). HasValue x (negative z) (natAbs z) 2) (sym (halved binary64 (exactly z 0) (negative z) (natAbs z) (exactly-value z 0))) (half-value (negative z) (natAbs z) h))
+    (subst (λ (x : Float). HasValue x (isNeg z) (natAbs z) 2) (sym (halved binary64 (exactly z 0) (isNeg z) (natAbs z) (exactly-value z 0))) (half-value (isNeg z) (natAbs z) h))
 
 -- ---- for an i32
 
@@ -302,10 +303,10 @@ i32-middle {a} {b} h k =
     ∙ half-exact (a +ℤ b) (abs-sum a b (2 ^ 53) small)
 
 -- no other double has the value of an i32, nor that of half the sum of two
-pub i32-only : (x : Float) (z : ℤ) → SFits w32 z → T (fits binary64 x) → HasValue x (negative z) (natAbs z) 1 → x ≡ exactly z 0
+pub i32-only : (x : Float) (z : ℤ) → SFits w32 z → T (fits binary64 x) → HasValue x (isNeg z) (natAbs z) 1 → x ≡ exactly z 0
 i32-only x z h p v = exactly-only x z 0 (lt-of-le-of-lt (i32-size h) (lit< tt)) (lit≤ tt) p v
 
 pub middle-only : (x : Float) (a b : ℤ) → SFits w32 a → SFits w32 b → T (fits binary64 x)
-    → HasValue x (negative (a +ℤ b)) (natAbs (a +ℤ b)) 2 → x ≡ exactly (a +ℤ b) 1
+    → HasValue x (isNeg (a +ℤ b)) (natAbs (a +ℤ b)) 2 → x ≡ exactly (a +ℤ b) 1
 middle-only x a b h k p v =
     exactly-only x (a +ℤ b) 1 (abs-sum a b (2 ^ 53) (lt-of-le-of-lt (add-le-add (i32-size h) (i32-size k)) (lit< tt))) (lit≤ tt) p v

@@ -5,11 +5,6 @@ use mathlib.Core.Bool.{Bool, true, false}
 use lib.IntN.{ℤ, pos, negsuc}
 use lib.Ieee.{Float, odd}
 
--- whether z is below zero
-abbrev pub negative : ℤ → Bool
-negative (pos n) = false
-negative (negsuc n) = true
-
 unfoldable pub exactly : ℤ → ℕ → Float
 unfolding odd
 exactly (pos n) l = odd 53 false n 0 l

@@ -38,7 +38,7 @@ serialOf (Typed r) = spotSerial r
 abbrev pub growOf : Span → ℕ → Line → Span
 growOf b n l = pick (isCoord l) (record { lo = pick (ltb (b .lo) (b .hi)) (b .lo) n; hi = n + 1 }) b
 
--- a place before the coordinate lines
+-- a place before the coordinate lines; those inside a trio have numbers above that of END
 abbrev pub Before : ℕ → Type 0
 Before p = (p < coordinatePlace) ⊎ (endPlace < p)
 

@@ -105,6 +105,7 @@ noSlot =
       charge = record { a = byte " "; b = byte " " };
     }
 
+-- the slot of a record; a record of another kind has none
 abbrev pub recordSlot : Record → Slot
 recordSlot (Coordinate het a) = slotOfAtom het a
 recordSlot (Ter t) = slotOfTer t
@@ -132,6 +133,7 @@ SmallRecord (Conect c) = Unit {0}
 SmallRecord (Master t) = Unit {0}
 SmallRecord End = Unit {0}
 
+-- the same of what a line reads to, and of a line of a text
 abbrev pub Small : Reading → Type 0
 Small (Typed r) = SmallRecord r
 Small (Wrong column) = Unit {0}

@@ -33,11 +33,12 @@ unfoldable pub aside : List Slot → ℕ → Bool
 aside [] n = false
 aside (s ∷ ss) n = either (isAside n s) (aside ss n)
 
--- the line is a CONECT line that names an atom set aside
+-- a CONECT line names an atom set aside
 abbrev pub namesAside : List Slot → ConectOf → Bool
 namesAside xs c =
     either (aside xs (c .serial .0)) (either (aside xs (c .a .0)) (either (aside xs (c .b .0)) (either (aside xs (c .c .0)) (aside xs (c .d .0)))))
 
+-- the same of any record, and of a line
 abbrev pub recordAside : List Slot → Record → Bool
 recordAside xs (Coordinate het a) = false
 recordAside xs (Ter t) = false
@@ -63,7 +64,7 @@ unfoldable pub counted : Bool → Counts → Line → Counts
 counted stay q l = pick stay (raised q (countOf (lineKind l))) q
 
 -- ---- what is written
--- MASTER with these counts
+-- MASTER's numbers, and MASTER with its newline
 abbrev pub tallyOf : Counts → Tally
 tallyOf q =
     record {
@@ -81,6 +82,7 @@ tallyOf q =
 unfoldable pub masterPiece : Counts → List ℕ
 masterPiece q = masterLine (tallyOf q) ++ bytes "\n"
 
+-- a MASTER record, and a MASTER line
 abbrev pub recordMaster : Record → Bool
 recordMaster (Coordinate het a) = false
 recordMaster (Ter t) = false
