@@ -1,7 +1,7 @@
 -- The double that is exactly z / 2 ^ l. Nothing here rounds: `odd` of lib.Ieee only divides the closing zeros out of the number and counts them in the
 -- exponent, as the one way to write a float asks. That its value is z / 2 ^ l, and that no other double has it, is proved in proofs/Exactness.antt.
 use Prim.Native.Nat.{ℕ, suc}
-use mathlib.Core.Bool.{Bool, true, false}
+use mathlib.Core.Bool.{true, false}
 use lib.IntN.{ℤ, pos, negsuc}
 use lib.Ieee.{Float, odd}
 

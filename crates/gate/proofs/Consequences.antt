@@ -26,11 +26,12 @@ use Rattle.places.specs.Counts.{countOf, oneMore, raised, sameCounts}
 use Rattle.rules.specs.Rules.{recordKind, lineKind, judgeOf, nextOf, carriedNext, typedNext, startOf}
 use Rattle.rules.proofs.Laws.{judge-typed, judge-wrong}
 use Rattle.gate.specs.declared.Verdict.{Verdict}
-use Rattle.gate.specs.Text.{pieceAt, row, down, isCoord}
-use Rattle.gate.specs.Gate.{isSite, someOf, named, partnerKnown, recordKnown, refusedOf, finishOf, checkLines, checkOf}
-use Rattle.gate.specs.Search.{serialOf}
-use Rattle.gate.proofs.Cut.{cut-done}
-use Rattle.gate.proofs.Rows.{carried-ends, bad-number}
+use Rattle.rows.specs.Text.{pieceAt, row, down, isCoord}
+use Rattle.serials.specs.Known.{isSite, someOf, named, partnerKnown, recordKnown}
+use Rattle.gate.specs.Gate.{refusedOf, finishOf, checkLines, checkOf}
+use Rattle.serials.specs.Search.{serialOf}
+use Rattle.rows.proofs.Cut.{cut-done}
+use Rattle.serials.proofs.Rows.{carried-ends, bad-number}
 use Rattle.gate.proofs.Runs.{stateAt, GoodTo, Reached, reached, unrolled, answered}
 
 -- ---- serials rise

@@ -16,12 +16,12 @@ use Rattle.pieces.specs.Pieces.{lineOf}
 use Rattle.rules.specs.declared.State.{State}
 use Rattle.places.specs.Places.{endPlace}
 use Rattle.rules.specs.Rules.{nextOf, startOf}
-use Rattle.gate.specs.declared.Span.{Span}
+use Rattle.serials.specs.declared.Span.{Span}
 use Rattle.gate.specs.declared.Verdict.{Verdict}
-use Rattle.gate.specs.Text.{cut, pieceAt, row, down}
+use Rattle.rows.specs.Text.{cut, pieceAt, row, down}
 use Rattle.gate.specs.Gate.{numberIn, refusedOf, finishOf, checkLines, checkOf}
-use Rattle.gate.specs.Search.{growOf, Block}
-use Rattle.gate.proofs.Cut.{cut-next, cut-done}
+use Rattle.serials.specs.Search.{growOf, Block}
+use Rattle.rows.proofs.Cut.{cut-next, cut-done}
 use Rattle.gate.proofs.Sofar.{Few, Grown, grown, sofar-start}
 
 -- the state that the first n lines leave

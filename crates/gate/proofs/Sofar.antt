@@ -18,14 +18,15 @@ use Rattle.rules.specs.declared.State.{State}
 use Rattle.places.specs.Counts.{oneMore, raised}
 use Rattle.rules.specs.Rules.{judgeOf, nextOf, carriedNext, typedNext, startOf}
 use Rattle.rules.proofs.Laws.{judge-typed, judge-carried, judge-wrong}
-use Rattle.gate.specs.declared.Span.{Span}
+use Rattle.serials.specs.declared.Span.{Span}
 use Rattle.gate.specs.declared.Verdict.{Verdict}
-use Rattle.gate.specs.Text.{cut, pieceAt, row, down, isCoord}
-use Rattle.gate.specs.Gate.{knownOf, numberIn, checkLines, checkOf, refusedOf, finishOf}
-use Rattle.gate.specs.Search.{growOf, Block, Rising}
-use Rattle.gate.proofs.Cut.{cut-next, cut-done}
-use Rattle.gate.proofs.Rows.{carried-away, bad-number, piece-long}
-use Rattle.gate.proofs.Block.{grow-carried, grow-typed}
+use Rattle.rows.specs.Text.{cut, pieceAt, row, down, isCoord}
+use Rattle.serials.specs.Known.{knownOf}
+use Rattle.gate.specs.Gate.{numberIn, checkLines, checkOf, refusedOf, finishOf}
+use Rattle.serials.specs.Search.{growOf, Block, Rising}
+use Rattle.rows.proofs.Cut.{cut-next, cut-done}
+use Rattle.serials.proofs.Rows.{carried-away, bad-number, piece-long}
+use Rattle.serials.proofs.Block.{grow-carried, grow-typed}
 
 -- ---- no count is above the number of lines
 pub record Few (c : Counts) (i : ℕ) : Type 0 where

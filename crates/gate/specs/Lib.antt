@@ -1,3 +1,1 @@
-pub mod Text
 pub mod Gate
-pub mod Search

@@ -1,13 +1,6 @@
 // What one slot and one line are to each other, by value.
-mod bonds;
 mod counting;
 
-pub use bonds::conect_in;
-pub use bonds::guess;
-pub use bonds::is_aside;
-pub use bonds::is_at;
-pub use bonds::is_below;
-pub use bonds::is_conect;
 pub use counting::one_if;
 pub use counting::one_of;
 use pieces::Line;
@@ -23,7 +16,7 @@ pub fn fits(s: Slot, l: Line) -> bool
     requires { ⌜ SmallLine l ⌝ }
     ensures { λ r. ⌜ r ≡ fitsOf s l ⌝ }
 {
-    if gate::is_coord(l) {
+    if rows::is_coord(l) {
         let q = slots::same_slot(s, slots::line_slot(l));
         return ascii::both_of(s.mark <= 1, q);
     }

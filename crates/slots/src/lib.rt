@@ -1,15 +1,8 @@
 // A slot of the table: the fields of an ATOM, HETATM or TER line, and a mark.
-mod fragments;
-
 use coordinate::Atom;
 use coordinate::Position;
 use fields::ResidueNumber;
 use fields::Serial;
-pub use fragments::end_tail;
-pub use fragments::is_ter;
-pub use fragments::mark_slot;
-pub use fragments::pick_mark;
-pub use fragments::step_tail;
 use kinds::Kind;
 use line::Reading;
 use line::Record;
@@ -50,17 +43,6 @@ pub enum Filling {
     Filled(Slot),
     // The number of the refusal.
     Refused(u8),
-}
-
-// What a stretch of slots is to the slot before it: whether there is one, whether a TER is among them, the residue and mark of the first,
-// how many fragments they are, and whether marks agree inside each.
-pub struct Tail {
-    pub some: bool,
-    pub closed: bool,
-    pub residue: Residue,
-    pub mark: u8,
-    pub count: u64,
-    pub agree: bool,
 }
 
 const ATOM_KIND: u8 = 1;

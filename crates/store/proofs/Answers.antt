@@ -11,12 +11,12 @@ use Rattle.ascii.specs.Tests.{pick, both, either, alike}
 use Rattle.pieces.specs.Pieces.{lineOf}
 use Rattle.places.specs.declared.Counts.{Counts}
 use Rattle.places.specs.Counts.{noCounts}
-use Rattle.gate.specs.Text.{cut, cutAtMost}
-use Rattle.gate.proofs.Cut.{cut-cons}
+use Rattle.rows.specs.Text.{cut, cutAtMost}
+use Rattle.rows.proofs.Cut.{cut-cons}
 use Rattle.gate.specs.Gate.{checkOf}
 use Rattle.slots.specs.declared.Slot.{Slot}
-use Rattle.slots.specs.declared.Tail.{Tail}
-use Rattle.slots.specs.Fragments.{tailOf, markOf, marked}
+use Rattle.fragments.specs.declared.Tail.{Tail}
+use Rattle.fragments.specs.Fragments.{tailOf, markOf, marked}
 use Rattle.table.specs.Table.{told, over, linesFrom, loadedOf, loadOf, fitsFrom, oneOf, belongs, tableOf, fragments, markByte, orderOf}
 use Rattle.table.specs.Deal.{stays, counted, written, outputOf, putOf}
 use Rattle.table.proofs.Marks.{marked-size}

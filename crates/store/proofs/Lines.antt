@@ -8,7 +8,7 @@ use native.Mathlib.Omega.{arith}
 use lib.ListN.{length, getD}
 use Rattle.ascii.specs.Tests.{pick, both}
 use Rattle.pieces.specs.declared.Line.{Line}
-use Rattle.gate.specs.Text.{row}
+use Rattle.rows.specs.Text.{row}
 use Rattle.slots.specs.declared.Slot.{Slot}
 use Rattle.slots.specs.Slots.{SmallLine, noSlot}
 use Rattle.slots.proofs.Returns.{piece-small}

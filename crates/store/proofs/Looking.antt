@@ -15,9 +15,9 @@ use Rattle.line.specs.declared.Record.the-variants.{Coordinate, Ter, Helix, She
 use Rattle.pieces.specs.declared.Line.{Line}
 use Rattle.pieces.specs.declared.Line.the-variants.{Bad, Wrong, Carried, Typed}
 use Rattle.rules.specs.declared.State.{State}
-use Rattle.gate.specs.declared.Span.{Span}
-use Rattle.gate.specs.Text.{row, isSpot, isCoord}
-use Rattle.gate.specs.Search.{spotSerial, serialOf, growOf, Block}
+use Rattle.serials.specs.declared.Span.{Span}
+use Rattle.rows.specs.Text.{row, isSpot, isCoord}
+use Rattle.serials.specs.Search.{spotSerial, serialOf, growOf, Block}
 use Rattle.gate.proofs.Sofar.{Sofar}
 use Rattle.slots.specs.declared.Slot.{Slot}
 use Rattle.slots.specs.Slots.{markAside, noSlot, recordSlot, lineSlot, sameSlot}

@@ -13,15 +13,15 @@ use Rattle.ascii.specs.Tests.{both, either}
 use Rattle.ascii.proofs.Choice.{both-split}
 use Rattle.conect.specs.declared.Conect.{Conect as ConectOf}
 use Rattle.pieces.specs.declared.Line.{Line}
-use Rattle.gate.specs.Text.{isCoord}
-use Rattle.gate.specs.Search.{Bracket}
-use Rattle.gate.proofs.Halving.{bracket-there}
+use Rattle.rows.specs.Text.{isCoord}
+use Rattle.serials.specs.Search.{Bracket}
+use Rattle.serials.proofs.Halving.{bracket-there}
 use Rattle.slots.specs.declared.Slot.{Slot}
 use Rattle.slots.specs.Slots.{noSlot, markAside}
-use Rattle.slots.specs.Fragments.{isTer}
+use Rattle.fragments.specs.Fragments.{isTer}
 use Rattle.table.specs.Deal.{isAside, aside, namesAside, stays}
-use Rattle.marks.specs.Bonds.{conectIn, isConect}
-use Rattle.marks.proofs.Naming.{line-aside}
+use Rattle.bonds.specs.Bonds.{conectIn, isConect}
+use Rattle.bonds.proofs.Naming.{line-aside}
 use Rattle.store.specs.Judged.{serialAt, Rises}
 
 -- ---- one step of the halving

@@ -12,9 +12,9 @@ use lib.ListN.{length, getD, set, take, drop, length-set, length-take, drop-of-l
 use lib.Seq.{drop-cons, getD-take, take-all}
 use Rattle.ascii.specs.Tests.{pick}
 use Rattle.slots.specs.declared.Slot.{Slot}
-use Rattle.slots.specs.declared.Tail.{Tail}
+use Rattle.fragments.specs.declared.Tail.{Tail}
 use Rattle.slots.specs.Slots.{noSlot, withMark}
-use Rattle.slots.specs.Fragments.{joins, stepTail, tailOf, markOf, marked}
+use Rattle.fragments.specs.Fragments.{joins, stepTail, tailOf, markOf, marked}
 
 module _ (xs : List Slot) (k j : ℕ) (e : k ≡ j + 1) (h : j < length xs) where
   rest : drop j xs ≡ getD xs j noSlot ∷ drop k xs

@@ -14,9 +14,10 @@ use Rattle.places.specs.declared.Counts.{Counts}
 use Rattle.places.specs.Counts.{noCounts}
 use Rattle.places.specs.Room.{Room}
 use Rattle.rules.specs.Rules.{judgeOf}
-use Rattle.gate.specs.Text.{cut, pieceAt, row, down, isCoord}
-use Rattle.gate.specs.Gate.{checkOf, knownOf}
-use Rattle.gate.proofs.Cut.{cut-next, cut-done}
+use Rattle.rows.specs.Text.{cut, pieceAt, row, down, isCoord}
+use Rattle.serials.specs.Known.{knownOf}
+use Rattle.gate.specs.Gate.{checkOf}
+use Rattle.rows.proofs.Cut.{cut-next, cut-done}
 use Rattle.gate.proofs.Runs.{stateAt, reached, answered}
 use Rattle.slots.specs.declared.Slot.{Slot}
 use Rattle.table.specs.Table.{linesFrom, slotsOf, loadedOf, oneOf, over}

@@ -33,7 +33,7 @@ pub fn write_all(text: &[u8], table: &[Slot], out: &mut [u8], saving: bool)
     let mut at: usize = 0;
     let mut q = places::no_counts();
     while 81 * i < text.len() {
-        let l = gate::line_at(text, i);
+        let l = rows::line_at(text, i);
         let here = slot_at(table, k);
         let stay = stays(table, k, here, l);
         at = writing::put_share(text, i, l, saving, stay, q, out, at);

@@ -17,7 +17,7 @@ ghost use mathlib.Core.Path.{_≡_};
 ghost use Prim.Native.Nat.{_+_, _≤_};
 ghost use lib.ListN.{length, set};
 ghost use Rattle.ascii.specs.Tests.{pick};
-ghost use Rattle.gate.specs.Text.{isCoord};
+ghost use Rattle.rows.specs.Text.{isCoord};
 ghost use Rattle.slots.specs.Slots.{lineSlot, SmallLine};
 ghost use Rattle.table.specs.Table.{told, oneOf, loadOf, tableOf, orderOf};
 ghost use Rattle.table.specs.Deal.{putOf, saveOf, trayOf};
@@ -69,7 +69,7 @@ pub fn load(text: &[u8], table: &mut [Slot]) -> Outcome
     let mut i: usize = 0;
     let mut k: usize = 0;
     while 81 * i < text.len() {
-        let l = gate::line_at(text, i);
+        let l = rows::line_at(text, i);
         k = put_slot(table, k, l);
         i += 1;
     }
@@ -86,7 +86,7 @@ fn put_slot(table: &mut [Slot], k: usize, l: Line) -> usize
     ensures { λ r. ⌜ r ≡ k + oneOf l ⌝ }
     ensures { λ r. ⌜ now (table .exit) ≡ pick (isCoord l) (set (now (table .entry)) k (lineSlot l)) (now (table .entry)) ⌝ }
 {
-    if gate::is_coord(l) {
+    if rows::is_coord(l) {
         let s = slots::line_slot(l);
         table[k] = s;
         k + 1

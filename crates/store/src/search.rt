@@ -4,7 +4,7 @@ use pieces::Line;
 use slots::Slot;
 ghost use mathlib.Core.Path.{_≡_};
 ghost use lib.ListN.{getD, take};
-ghost use Rattle.gate.specs.Search.{Bracket};
+ghost use Rattle.serials.specs.Search.{Bracket};
 ghost use Rattle.slots.specs.Slots.{noSlot};
 ghost use Rattle.table.specs.Deal.{aside, namesAside, stays as staysOf};
 ghost use Rattle.store.specs.Judged.{serialAt, Rises};
@@ -29,7 +29,7 @@ pub fn lower(table: &[Slot], hi: usize, x: u32) -> usize
     while a < z {
         let m = a + (z - a) / 2;
         let s = slot_at(table, m);
-        if marks::is_below(s, x) {
+        if bonds::is_below(s, x) {
             a = m + 1;
         } else {
             z = m;
@@ -43,9 +43,9 @@ pub fn seek(table: &[Slot], hi: usize, x: u32) -> usize
     ensures { λ r. ⌜ (Rises (now (table .entry)) hi → Bracket (serialAt (now (table .entry))) 0 hi x r r) ⌝ }
 {
     let f = slot_at(table, 0);
-    let g = marks::guess(f, x);
+    let g = bonds::guess(f, x);
     let s = slot_at(table, g);
-    let e = marks::is_at(s, x);
+    let e = bonds::is_at(s, x);
     if ascii::both_of(g < hi, e) {
         return g;
     }
@@ -58,7 +58,7 @@ pub fn aside_in(table: &[Slot], k: usize, x: u32) -> bool
 {
     let m = seek(table, k, x);
     let s = slot_at(table, m);
-    let e = marks::is_aside(x, s);
+    let e = bonds::is_aside(x, s);
     ascii::both_of(m < k, e)
 }
 
@@ -86,11 +86,11 @@ pub fn stays(table: &[Slot], k: usize, here: Slot, l: Line) -> bool
     requires { ⌜ here ≡ getD (now table) k noSlot ⌝ }
     ensures { λ r. ⌜ (Rises (now (table .entry)) k → r ≡ staysOf (now (table .entry)) k l) ⌝ }
 {
-    if gate::is_coord(l) {
+    if rows::is_coord(l) {
         return marks::is_kept(here);
     }
-    if marks::is_conect(l) {
-        let e = names_aside(table, k, marks::conect_in(l));
+    if bonds::is_conect(l) {
+        let e = names_aside(table, k, bonds::conect_in(l));
         return !e;
     }
     true

@@ -2,7 +2,7 @@
 use super::Findings;
 use super::search::slot_at;
 use super::search::stays;
-use gate::Span;
+use serials::Span;
 use slots::Slot;
 ghost use mathlib.Core.Path.{_≡_};
 ghost use Rattle.gate.specs.Gate.{checkOf};
@@ -19,8 +19,8 @@ pub fn look_over(text: &[u8], table: &[Slot]) -> Findings
     let mut fit = true;
     let mut kept: usize = 0;
     while 81 * i < text.len() {
-        let l = gate::line_at(text, i);
-        let known = gate::known(text, b, l);
+        let l = rows::line_at(text, i);
+        let known = serials::known(text, b, l);
         let j = rules::judge(known, s, l);
         if j != 0 {
             return Findings {
@@ -31,7 +31,7 @@ pub fn look_over(text: &[u8], table: &[Slot]) -> Findings
                 lines: 0,
             };
         }
-        b = gate::grow(b, i, l);
+        b = serials::grow(b, i, l);
         s = rules::next(s, l);
         let here = slot_at(table, k);
         let good = marks::fits(here, l);

@@ -19,7 +19,7 @@ use Rattle.places.specs.Places.{placeOf, placeBad, coordinatePlace, endPlace}
 use Rattle.rules.specs.Rules.{noRun, siteNext, judgeOf, carriedNext, typedNext, nextOf}
 use Rattle.places.proofs.Laws.{place-high}
 use Rattle.rules.proofs.Laws.{Good, judge-typed, judge-carried, judge-wrong}
-use Rattle.gate.specs.Search.{Before}
+use Rattle.serials.specs.Search.{Before}
 use Rattle.table.proofs.Plain.{Plain}
 use Rattle.table.proofs.Fine.{Fine}
 use Rattle.table.proofs.Paired.{closes}

@@ -13,11 +13,11 @@ use Rattle.ascii.specs.Tests.{pick, either}
 use Rattle.ascii.proofs.Choice.{both-split}
 use Rattle.pieces.specs.declared.Line.{Line}
 use Rattle.pieces.specs.declared.Line.the-variants.{Bad}
-use Rattle.gate.specs.Text.{row, isCoord}
+use Rattle.rows.specs.Text.{row, isCoord}
 use Rattle.gate.specs.Gate.{checkOf}
 use Rattle.slots.specs.declared.Slot.{Slot}
 use Rattle.slots.specs.Slots.{markAside, noSlot}
-use Rattle.slots.specs.Fragments.{joins, stepTail, tailOf, markOf}
+use Rattle.fragments.specs.Fragments.{joins, stepTail, tailOf, markOf}
 use Rattle.table.specs.Table.{linesFrom, slotsOf, loadedOf, over, mine, fragments, markByte}
 use Rattle.table.specs.Orders.{Order, ordersOf, lastOf}
 use Rattle.table.specs.Promise.{staysFrom, slotsTo, fragmentOf}

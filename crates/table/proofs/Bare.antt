@@ -13,8 +13,9 @@ use Rattle.places.specs.declared.Counts.{Counts}
 use Rattle.rules.specs.declared.State.{State}
 use Rattle.places.specs.Counts.{noCounts}
 use Rattle.rules.specs.Rules.{judgeOf, nextOf, startOf}
-use Rattle.gate.specs.Text.{cut}
-use Rattle.gate.specs.Gate.{knownOf, checkOf}
+use Rattle.rows.specs.Text.{cut}
+use Rattle.serials.specs.Known.{knownOf}
+use Rattle.gate.specs.Gate.{checkOf}
 use Rattle.slots.specs.declared.Slot.{Slot}
 use Rattle.table.specs.Table.{oneOf}
 use Rattle.table.specs.Deal.{stays, counted, tallyOf, masterPiece, isMaster, written}

@@ -14,7 +14,7 @@ use Rattle.rules.specs.declared.State.{State}
 use Rattle.places.specs.Places.{endPlace}
 use Rattle.rules.specs.Rules.{nextOf, startOf}
 use Rattle.gate.specs.declared.Verdict.{Verdict}
-use Rattle.gate.specs.Text.{cut}
+use Rattle.rows.specs.Text.{cut}
 use Rattle.gate.specs.Gate.{numberIn, refusedOf, finishOf, checkLines, checkOf}
 use Rattle.table.proofs.Plain.{Plain, piece-plain}
 

@@ -22,7 +22,7 @@ use Rattle.places.specs.Places.{placeBad, coordinatePlace, endPlace}
 use Rattle.rules.specs.Rules.{noRun, siteBad, siteNext, judgeOf, typedNext, nextOf}
 use Rattle.places.proofs.Laws.{place-low, place-high}
 use Rattle.rules.proofs.Laws.{Good, judge-typed}
-use Rattle.gate.specs.Search.{Before}
+use Rattle.serials.specs.Search.{Before}
 use Rattle.slots.specs.declared.Slot.{Slot}
 use Rattle.table.proofs.Fine.{Fine}
 use Rattle.table.proofs.Paired.{closes, isIn, Beside}

@@ -24,11 +24,11 @@ use Rattle.pieces.specs.declared.Line.{Line}
 use Rattle.pieces.specs.declared.Line.the-variants.{Bad, Wrong, Carried, Typed}
 use Rattle.residue.specs.Residues.{sameResidue}
 use Rattle.gate.specs.Gate.{checkOf}
-use Rattle.gate.specs.Text.{isCoord}
+use Rattle.rows.specs.Text.{isCoord}
 use Rattle.slots.specs.declared.Slot.{Slot}
 use Rattle.names.specs.Names.{samePair, sameFour, sameThree}
 use Rattle.slots.specs.Slots.{markIn, markAside, noSlot, recordSlot, lineSlot, samePosition, sameMeasures, residueOf, sameNames, sameSlot}
-use Rattle.slots.specs.Fragments.{joins, stepTail, tailOf, markOf}
+use Rattle.fragments.specs.Fragments.{joins, stepTail, tailOf, markOf}
 use Rattle.table.specs.Table.{over, linesFrom, slotsOf, loadedOf, fits, fitsFrom, mine}
 use Rattle.table.proofs.Ready.{Ready}
 

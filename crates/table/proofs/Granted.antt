@@ -25,9 +25,10 @@ use Rattle.rules.specs.declared.State.{State}
 use Rattle.rules.specs.Rules.{noRun, judgeOf, carriedNext, typedNext, nextOf, startOf}
 use Rattle.places.proofs.Laws.{place-low, place-high}
 use Rattle.rules.proofs.Laws.{Good, judge-typed, judge-carried, judge-wrong}
-use Rattle.gate.specs.Gate.{isSite, someOf, knownOf, numberIn, checkLines}
-use Rattle.gate.specs.Text.{isCoord}
-use Rattle.gate.specs.Search.{Before}
+use Rattle.serials.specs.Known.{isSite, someOf, knownOf}
+use Rattle.gate.specs.Gate.{numberIn, checkLines}
+use Rattle.rows.specs.Text.{isCoord}
+use Rattle.serials.specs.Search.{Before}
 use Rattle.slots.specs.declared.Slot.{Slot}
 use Rattle.table.specs.Deal.{stays, tallyOf}
 use Rattle.table.proofs.Fine.{Fine, granted-end, granted-step}

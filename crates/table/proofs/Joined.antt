@@ -6,9 +6,9 @@ use mathlib.Core.Path.{_≡_, refl, _∙_}
 use native.Mathlib.Omega.{arith}
 use lib.ListN.{length, take, drop, length-take, length-drop, length-append}
 use lib.Seq.{take-at, drop-at}
-use Rattle.gate.specs.Text.{cut, cutAtMost}
+use Rattle.rows.specs.Text.{cut, cutAtMost}
 use Rattle.gate.specs.Gate.{checkOf}
-use Rattle.gate.proofs.Cut.{cut-cons}
+use Rattle.rows.proofs.Cut.{cut-cons}
 use Rattle.gate.proofs.Runs.{answered}
 
 -- pieces one after the other

@@ -11,7 +11,7 @@ use lib.ListN.{length, length-map}
 use Rattle.ascii.specs.Tests.{pick}
 use Rattle.pieces.specs.Pieces.{lineOf}
 use Rattle.places.specs.Counts.{noCounts}
-use Rattle.gate.specs.Text.{cut}
+use Rattle.rows.specs.Text.{cut}
 use Rattle.gate.specs.Gate.{checkOf}
 use Rattle.slots.specs.declared.Slot.{Slot}
 use Rattle.table.specs.Table.{Told, told, over, linesFrom, loadedOf, loadOf}

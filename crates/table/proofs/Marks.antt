@@ -11,9 +11,9 @@ use lib.ListN.{length}
 use Rattle.ascii.specs.Tests.{pick, both, either}
 use Rattle.ascii.proofs.Choice.{both-split, both-join}
 use Rattle.slots.specs.declared.Slot.{Slot}
-use Rattle.slots.specs.declared.Tail.{Tail}
+use Rattle.fragments.specs.declared.Tail.{Tail}
 use Rattle.slots.specs.Slots.{withMark}
-use Rattle.slots.specs.Fragments.{isTer, joins, stepTail, tailOf, markOf, marked}
+use Rattle.fragments.specs.Fragments.{isTer, joins, stepTail, tailOf, markOf, marked}
 
 pub marked-size : (b m : ℕ) (ss : List Slot) → length (marked b m ss) ≡ length ss
 unfolding marked

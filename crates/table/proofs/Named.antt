@@ -15,8 +15,8 @@ use Rattle.conect.specs.declared.Conect.{Conect as ConectOf}
 use Rattle.line.specs.declared.Record.the-variants.{Coordinate, Ter, Helix, Sheet, Conect, Master, End}
 use Rattle.pieces.specs.declared.Line.{Line}
 use Rattle.pieces.specs.declared.Line.the-variants.{Bad, Wrong, Carried, Typed}
-use Rattle.gate.specs.Gate.{isSite, someOf, named, partnerKnown, knownOf}
-use Rattle.gate.specs.Search.{serialOf}
+use Rattle.serials.specs.Known.{isSite, someOf, named, partnerKnown, knownOf}
+use Rattle.serials.specs.Search.{serialOf}
 use Rattle.slots.specs.declared.Slot.{Slot}
 use Rattle.slots.specs.Slots.{markAside, noSlot}
 use Rattle.table.specs.Deal.{isAside, aside, namesAside}

@@ -10,7 +10,7 @@ use lib.Dec.{eqb}
 use lib.ListN.{drop}
 use Rattle.ascii.specs.Tests.{pick, both}
 use Rattle.slots.specs.declared.Slot.{Slot}
-use Rattle.slots.specs.Fragments.{tailOf, markOf, marked}
+use Rattle.fragments.specs.Fragments.{tailOf, markOf, marked}
 use Rattle.table.specs.Table.{mine, fragments, backOf, markByte, orderOf}
 use Rattle.table.specs.Orders.{Order, order, ordersOf, lastOf}
 use Rattle.table.proofs.Marks.{after, marked-other, marked-own}

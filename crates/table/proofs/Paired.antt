@@ -17,12 +17,12 @@ use Rattle.line.specs.declared.Record.{Record}
 use Rattle.line.specs.declared.Record.the-variants.{Coordinate, Ter, Helix, Sheet, Conect, Master, End}
 use Rattle.pieces.specs.declared.Line.{Line}
 use Rattle.pieces.specs.declared.Line.the-variants.{Bad, Wrong, Carried, Typed}
-use Rattle.gate.specs.Text.{isCoord}
-use Rattle.gate.specs.Search.{serialOf}
+use Rattle.rows.specs.Text.{isCoord}
+use Rattle.serials.specs.Search.{serialOf}
 use Rattle.slots.specs.declared.Slot.{Slot}
-use Rattle.slots.specs.declared.Tail.{Tail}
+use Rattle.fragments.specs.declared.Tail.{Tail}
 use Rattle.slots.specs.Slots.{markAside, noSlot, lineSlot, sameSlot}
-use Rattle.slots.specs.Fragments.{isTer, joins, stepTail, tailOf}
+use Rattle.fragments.specs.Fragments.{isTer, joins, stepTail, tailOf}
 use Rattle.table.specs.Table.{slotsOf, fits, oneOf, fitsFrom}
 
 -- a TER line

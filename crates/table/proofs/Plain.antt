@@ -29,7 +29,7 @@ use Rattle.pieces.specs.declared.Line.the-variants.{Bad, Wrong, Carried, Typed}
 use Rattle.pieces.specs.Pieces.{lineIn, columnsOf, lineOf}
 use Rattle.places.specs.Places.{placeOf, placeBad, coordinatePlace, endPlace}
 use Rattle.places.proofs.Laws.{place-low, place-high}
-use Rattle.gate.specs.Search.{Before}
+use Rattle.serials.specs.Search.{Before}
 use Rattle.table.specs.FiveDigits.{FiveDigits}
 
 ranged-top : (v : ℕ) → rangedOf 0 99999 v ≡ true → v ≤ 99999

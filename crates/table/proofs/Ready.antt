@@ -13,10 +13,10 @@ use Rattle.ascii.specs.Tests.{pick, both, either}
 use Rattle.ascii.proofs.Choice.{both-split, both-join}
 use Rattle.pieces.specs.declared.Line.{Line}
 use Rattle.gate.specs.Gate.{checkOf}
-use Rattle.gate.specs.Text.{isCoord}
+use Rattle.rows.specs.Text.{isCoord}
 use Rattle.slots.specs.declared.Slot.{Slot}
 use Rattle.slots.specs.Slots.{markAside, noSlot, lineSlot, sameMeasures, sameNames, sameSlot, withMark}
-use Rattle.slots.specs.Fragments.{tailOf, markOf, marked}
+use Rattle.fragments.specs.Fragments.{tailOf, markOf, marked}
 use Rattle.table.specs.Table.{Told, told, over, linesFrom, loadedOf, fits, oneOf, fitsFrom, mine, belongs, tableOf, fragments, backOf, markByte, orderOf}
 use Rattle.table.proofs.Marks.{marked-size, after}
 

@@ -10,7 +10,7 @@ use lib.Seq.{drop-at}
 use Rattle.ascii.specs.Tests.{pick, either}
 use Rattle.gate.specs.Gate.{checkOf}
 use Rattle.slots.specs.declared.Slot.{Slot}
-use Rattle.slots.specs.Fragments.{markOf}
+use Rattle.fragments.specs.Fragments.{markOf}
 use Rattle.table.specs.Table.{Told, told, over, loadedOf, loadOf, mine, tableOf, fragments, backOf, markByte, orderOf}
 use Rattle.table.specs.Deal.{outputOf, putOf}
 

@@ -9,7 +9,7 @@ use Rattle.ascii.specs.Tests.{pick}
 use Rattle.pieces.specs.declared.Line.{Line}
 use Rattle.places.specs.declared.Counts.{Counts}
 use Rattle.places.specs.Counts.{countOf, raised}
-use Rattle.gate.specs.Text.{isCoord}
+use Rattle.rows.specs.Text.{isCoord}
 use Rattle.slots.specs.declared.Slot.{Slot}
 use Rattle.table.specs.Table.{oneOf}
 use Rattle.rules.specs.Rules.{lineKind}

@@ -15,7 +15,7 @@ use Rattle.pieces.specs.declared.Line.the-variants.{Bad, Wrong, Carried, Typed}
 use Rattle.pieces.specs.Pieces.{lineOf}
 use Rattle.places.specs.declared.Counts.{Counts}
 use Rattle.places.specs.Counts.{noCounts}
-use Rattle.gate.specs.Text.{cut}
+use Rattle.rows.specs.Text.{cut}
 use Rattle.gate.specs.Gate.{checkOf}
 use Rattle.slots.specs.declared.Slot.{Slot}
 use Rattle.table.specs.Table.{oneOf}

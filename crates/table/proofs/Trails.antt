@@ -23,7 +23,7 @@ use Rattle.places.specs.Counts.{sameCounts}
 use Rattle.rules.specs.Rules.{recordKind, serialBad, runBad, bondBad, countBad, judgeOf}
 use Rattle.places.proofs.Laws.{place-low, place-high}
 use Rattle.rules.proofs.Laws.{Good, good-typed}
-use Rattle.gate.specs.Search.{Before}
+use Rattle.serials.specs.Search.{Before}
 use Rattle.table.specs.Deal.{tallyOf}
 use Rattle.table.proofs.Ahead.{not-before}
 

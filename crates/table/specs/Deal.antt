@@ -17,10 +17,10 @@ use Rattle.pieces.specs.Pieces.{lineOf}
 use Rattle.places.specs.declared.Counts.{Counts}
 use Rattle.places.specs.Counts.{countOf, noCounts, raised}
 use Rattle.rules.specs.Rules.{lineKind}
-use Rattle.gate.specs.Text.{cut, isCoord}
+use Rattle.rows.specs.Text.{cut, isCoord}
 use Rattle.slots.specs.declared.Slot.{Slot}
 use Rattle.slots.specs.Slots.{markAside, noSlot}
-use Rattle.slots.specs.Fragments.{isTer}
+use Rattle.fragments.specs.Fragments.{isTer}
 use Rattle.table.specs.Table.{Told, told, over, oneOf, tableOf}
 
 -- ---- the atoms that a CONECT line names

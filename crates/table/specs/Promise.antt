@@ -7,10 +7,10 @@ use lib.ListN.{length, take, drop, getD}
 use Rattle.ascii.specs.Tests.{pick}
 use Rattle.pieces.specs.declared.Line.{Line}
 use Rattle.pieces.specs.Pieces.{lineOf}
-use Rattle.gate.specs.Text.{cut, row, isCoord}
+use Rattle.rows.specs.Text.{cut, row, isCoord}
 use Rattle.gate.specs.Gate.{checkOf}
 use Rattle.slots.specs.declared.Slot.{Slot}
-use Rattle.slots.specs.Fragments.{tailOf}
+use Rattle.fragments.specs.Fragments.{tailOf}
 use Rattle.table.specs.Table.{linesFrom, slotsOf, oneOf, mine, tableOf, fragments}
 use Rattle.table.specs.Deal.{stays, isMaster, outputOf}
 use Rattle.table.specs.Orders.{Order, ordersOf, lastOf}

@@ -7,11 +7,11 @@ use lib.Dec.{eqb, ltb, leb}
 use Rattle.ascii.specs.Tests.{pick, both, either}
 use Rattle.pieces.specs.declared.Line.{Line}
 use Rattle.pieces.specs.Pieces.{lineOf}
-use Rattle.gate.specs.Text.{cut, isCoord}
+use Rattle.rows.specs.Text.{cut, isCoord}
 use Rattle.gate.specs.Gate.{checkOf}
 use Rattle.slots.specs.declared.Slot.{Slot}
 use Rattle.slots.specs.Slots.{markIn, markAside, noSlot, lineSlot, sameSlot}
-use Rattle.slots.specs.Fragments.{tailOf, markOf, marked}
+use Rattle.fragments.specs.Fragments.{tailOf, markOf, marked}
 
 -- what is answered, and what the lent memory then holds: 0 or the number of a refusal, how many slots or bytes were written, all slots or bytes
 pub record Told (A : Type 0) : Type 0 where

@@ -9,7 +9,7 @@ use lib.ListN.{length, getD, set, drop, length-set, length-drop}
 use lib.Seq.{take-suc, getD-drop}
 use Rattle.columns.specs.Columns.{cols, Put}
 use Rattle.columns.proofs.Puts.{none-put, put-snoc}
-use Rattle.gate.specs.Text.{pieceAt}
+use Rattle.rows.specs.Text.{pieceAt}
 
 -- j bytes of t from `from` stand in what was l, from `at`
 abbrev pub Copied : List ℕ → ℕ → List ℕ → ℕ → List ℕ → ℕ → Type 0

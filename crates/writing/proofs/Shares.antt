@@ -11,7 +11,7 @@ use Rattle.ascii.specs.Tests.{pick, alike}
 use Rattle.columns.specs.Columns.{Put}
 use Rattle.pieces.specs.declared.Line.{Line}
 use Rattle.places.specs.declared.Counts.{Counts}
-use Rattle.gate.specs.Text.{pieceAt, row}
+use Rattle.rows.specs.Text.{pieceAt, row}
 use Rattle.table.specs.Deal.{masterPiece, isMaster, written, share}
 
 pub piece-81 : (t : List ℕ) (i : ℕ) → 81 * i + 81 ≤ length t → length (pieceAt t i) ≡ 81

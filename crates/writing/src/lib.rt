@@ -13,7 +13,7 @@ ghost use Rattle.columns.specs.Columns.{Put};
 ghost use Rattle.places.specs.Room.{Room};
 ghost use Rattle.ascii.specs.Tests.{alike};
 ghost use Rattle.rules.specs.Rules.{lineKind};
-ghost use Rattle.gate.specs.Text.{pieceAt, row};
+ghost use Rattle.rows.specs.Text.{pieceAt, row};
 ghost use Rattle.table.specs.Deal.{counted, tallyOf, masterPiece, recordMaster, isMaster, share};
 ghost use Rattle.table.specs.FiveDigits.{FiveDigits};
 

@@ -344,7 +344,7 @@ abbrev b24 : Syntax.Body
 b24 = Syntax.cond (Syntax.copy (Syntax.place 14 [])) b22 b23
 
 abbrev b25 : Syntax.Body
-b25 = Syntax.call "gate::line_at" (Syntax.copy (Syntax.place 1 []) ∷ Syntax.copy (Syntax.place 5 []) ∷ []) (Syntax.place 7 [])
+b25 = Syntax.call "rows::line_at" (Syntax.copy (Syntax.place 1 []) ∷ Syntax.copy (Syntax.place 5 []) ∷ []) (Syntax.place 7 [])
 
 abbrev b26 : Syntax.Body
 b26 = Syntax.assign (Syntax.place 15 []) (Syntax.addrOf (Syntax.place 2 (Syntax.field 0 ∷ Syntax.deref SlotAs.ty ∷ [])))
@@ -4383,7 +4383,7 @@ module _ (claims· : Claims) where
       module _ (M : Type 1) where
         abbrev pub Closed : Type 2
         Closed = (𝓤 : URA.URA M) (H : Wp.Heap 𝓤) (A : Atoms.Atoms 𝓤) (W : Kit.Given 𝓤 H A) (𝓣 : Wp.Tables 𝓤 H) (known0 : Plain.Known 𝓤 H A W 𝓣 2 ps·0 r·0
-            (claims· .0) (claims· .1) "store::survey::look_over") (known1 : Plain.Known 𝓤 H A W 𝓣 1 ps·1 r·1 (claims· .2) (claims· .3) "gate::line_at") (known2 :
+            (claims· .0) (claims· .1) "store::survey::look_over") (known1 : Plain.Known 𝓤 H A W 𝓣 1 ps·1 r·1 (claims· .2) (claims· .3) "rows::line_at") (known2 :
             Plain.Known 𝓤 H A W 𝓣 1 ps·2 r·2 (claims· .4) (claims· .5) "store::put_slot") → Statement.Triple 𝓤 (Wp.WpFn 𝓤 H (𝓣 .C) (𝓣 .Λ) (Function.fnOf 2 ps r
             xs m hs body)) (Function.plainOf 𝓤 H A 2 ps r Pre· Post·)
 
@@ -4594,7 +4594,7 @@ module _ (claims· : Claims) where
         module _ {M : Type 1} (𝓤 : URA.URA M) (H : Wp.Heap 𝓤) (A : Atoms.Atoms 𝓤) (W : Kit.Given 𝓤 H A) (𝓣 : Wp.Tables 𝓤 H) where
           abbrev Knowns : Type 1
           Knowns = Plain.Known 𝓤 H A W 𝓣 2 ps·0 r·0 (claims· .0) (claims· .1) "store::survey::look_over" × Plain.Known 𝓤 H A W 𝓣 1 ps·1 r·1 (claims· .2) (claims·
-              .3) "gate::line_at" × Plain.Known 𝓤 H A W 𝓣 1 ps·2 r·2 (claims· .4) (claims· .5) "store::put_slot"
+              .3) "rows::line_at" × Plain.Known 𝓤 H A W 𝓣 1 ps·2 r·2 (claims· .4) (claims· .5) "store::put_slot"
 
         module _ (κs : Lifetimes.Lfts 2) (qs : Lifetimes.Shares 2) where
           abbrev g3 : List.List Row.Entry
@@ -5928,7 +5928,7 @@ module _ (claims· : Claims) where
 
             d33 : Typed.Typed 𝓤 H A 𝓣 E G36 b33 Δ5 at33
             d33 = Typed.s-seq 𝓤 H A W 𝓣 E G36 G41 b25 b32 Δ5 (Typed.both s35) at32 (Plain.t-call-plain 𝓤 H A W 𝓣 1 ps·1 r·1 (claims· .2) (claims· .3)
-                "gate::line_at" (known .1) E (λ pos β. β) G36 (
+                "rows::line_at" (known .1) E (λ pos β. β) G36 (
                   record {
                     pos = 1;
                     ty = Syntax.tyRef (Syntax.named 0) Syntax.imm (Syntax.tyInt Syntax.w8);
@@ -7074,7 +7074,7 @@ module _ (claims· : Claims) where
 
           module _ {M : Type 1} (𝓤 : URA.URA M) (H : Wp.Heap 𝓤) (A : Atoms.Atoms 𝓤) (W : Kit.Given 𝓤 H A) (𝓣 : Wp.Tables 𝓤 H) (known0 : Plain.Known 𝓤 H A W 𝓣 2
               ps·0 r·0 (claims· .0) (claims· .1) "store::survey::look_over") (known1 : Plain.Known 𝓤 H A W 𝓣 1 ps·1 r·1 (claims· .2) (claims· .3)
-              "gate::line_at") (known2 : Plain.Known 𝓤 H A W 𝓣 1 ps·2 r·2 (claims· .4) (claims· .5) "store::put_slot") where
+              "rows::line_at") (known2 : Plain.Known 𝓤 H A W 𝓣 1 ps·2 r·2 (claims· .4) (claims· .5) "store::put_slot") where
             pub spec : Statement.Triple 𝓤 (Wp.WpFn 𝓤 H (𝓣 .C) (𝓣 .Λ) (Function.fnOf 2 ps r xs m hs body)) (Function.plainOf 𝓤 H A 2 ps r Pre· Post·)
             spec = Plain.t-fn-plain 𝓤 H A W 𝓣 2 ps r xs m hs body (λ κs qs bs. Φ) (λ κs qs bs bd. typed κs qs 𝓤 H A W 𝓣 (known0, known1, known2) bs bd) Pre·
                 Post· asked

@@ -1,7 +1,7 @@
 -- Made by tools/walk.py.
-use Rattle.gate.proofs.line_at.Met
-use Rattle.gate.proofs.line_at.Reads
-use Rattle.gate.proofs.line_at.Symbol
+use Rattle.rows.proofs.line_at.Met
+use Rattle.rows.proofs.line_at.Reads
+use Rattle.rows.proofs.line_at.Symbol
 use Rattle.store.proofs.load.Code
 use Rattle.store.proofs.load.Key
 use Rattle.store.proofs.Walked.load.Kinds
@@ -157,5 +157,5 @@ module _ {M : Type 1} where
       Reads'.owns κs record { M = M; 𝓤 = 𝓤; H = H; 𝓜 = 𝓜; 𝓖 = 𝓖; 𝓡 = 𝓡 }) (Reads'.passes record { M = M; 𝓤 = 𝓤; H = H; 𝓜 = 𝓜; 𝓖 = 𝓖; 𝓡 = 𝓡 }) λ g. closed 𝓤 H
       (𝓖 .A) (Running.givenOf 𝓤 H 𝓜 𝓖) (Run.Over 𝓤 H 𝓜 𝓖 𝓡 Code.env) (Reads'3.known record { M = M; 𝓤 = 𝓤; H = H; 𝓜 = 𝓜; 𝓖 = 𝓖; 𝓡 = 𝓡 } Code.env Symbol''.name
       Symbol''.routine Code.calls-store·survey·look-over (Met''.met 𝓤 H 𝓜 𝓖 𝓡)) (Reads.known record { M = M; 𝓤 = 𝓤; H = H; 𝓜 = 𝓜; 𝓖 = 𝓖; 𝓡 = 𝓡 } Code.env
-      Symbol.name Symbol.routine Code.calls-gate·line-at (Met.met 𝓤 H 𝓜 𝓖 𝓡)) (Reads''.known record { M = M; 𝓤 = 𝓤; H = H; 𝓜 = 𝓜; 𝓖 = 𝓖; 𝓡 = 𝓡 } Code.env
+      Symbol.name Symbol.routine Code.calls-rows·line-at (Met.met 𝓤 H 𝓜 𝓖 𝓡)) (Reads''.known record { M = M; 𝓤 = 𝓤; H = H; 𝓜 = 𝓜; 𝓖 = 𝓖; 𝓡 = 𝓡 } Code.env
       Symbol'.name Symbol'.routine Code.calls-store·put-slot (Met'.met 𝓤 H 𝓜 𝓖 𝓡))

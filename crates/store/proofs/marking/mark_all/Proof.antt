@@ -1,5 +1,5 @@
 use native.Mathlib.Omega.{arith}
-use Rattle.slots.specs.Fragments.{tailOf}
+use Rattle.fragments.specs.Fragments.{tailOf}
 use Rattle.store.proofs.Tails.{Marking, marking-start, marking-next, marking-done}
 -- `store::marking::mark_all` meets its contract. `Proof/` has its derivation, written by tools/walk.py. Assumes nothing.
 mod Lts

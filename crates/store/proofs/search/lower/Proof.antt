@@ -1,8 +1,8 @@
 use native.Mathlib.Omega.{arith}
 use Prim.Native.Nat.{_≤_, _-_}
 use Rattle.store.specs.Judged.{serialAt, Rises}
-use Rattle.gate.specs.Search.{Bracket}
-use Rattle.gate.proofs.Halving.{bracket-start, bracket-up, bracket-down, bracket-met}
+use Rattle.serials.specs.Search.{Bracket}
+use Rattle.serials.proofs.Halving.{bracket-start, bracket-up, bracket-down, bracket-met}
 use Rattle.store.proofs.Seeking.{serial-below, serial-reached}
 -- `store::search::lower` meets its contract. `Proof/` has its derivation, written by tools/walk.py. Assumes nothing.
 mod Lts

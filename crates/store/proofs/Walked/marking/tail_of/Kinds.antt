@@ -1,7 +1,7 @@
 -- Made by tools/walk.py.
 use Rattle.store.proofs.SlotAs
-use Rattle.slots.proofs.Tail
-use Rattle.slots.proofs.Tail.Laws
+use Rattle.fragments.proofs.Tail
+use Rattle.fragments.proofs.Tail.Laws
 use borrow.Fn.Kinds
 use borrow.Kind.ShrSlice
 use borrow.Kind.Value

@@ -414,7 +414,7 @@ abbrev b9 : Syntax.Body
 b9 = Syntax.cond (Syntax.copy (Syntax.place 14 [])) b7 b8
 
 abbrev b10 : Syntax.Body
-b10 = Syntax.call "gate::line_at" (Syntax.copy (Syntax.place 1 []) ∷ Syntax.copy (Syntax.place 5 []) ∷ []) (Syntax.place 9 [])
+b10 = Syntax.call "rows::line_at" (Syntax.copy (Syntax.place 1 []) ∷ Syntax.copy (Syntax.place 5 []) ∷ []) (Syntax.place 9 [])
 
 abbrev b11 : Syntax.Body
 b11 = Syntax.call "store::search::slot_at" (Syntax.copy (Syntax.place 2 []) ∷ Syntax.copy (Syntax.place 6 []) ∷ []) (Syntax.place 10 [])
@@ -3358,7 +3358,7 @@ module _ (claims· : Claims) where
       module _ (M : Type 1) where
         abbrev pub Closed : Type 2
         Closed = (𝓤 : URA.URA M) (H : Wp.Heap 𝓤) (A : Atoms.Atoms 𝓤) (W : Kit.Given 𝓤 H A) (𝓣 : Wp.Tables 𝓤 H) (known0 : Plain.Known 𝓤 H A W 𝓣 0 ps·0 r·0
-            (claims· .0) (claims· .1) "places::counting::no_counts") (known1 : Plain.Known 𝓤 H A W 𝓣 1 ps·1 r·1 (claims· .2) (claims· .3) "gate::line_at")
+            (claims· .0) (claims· .1) "places::counting::no_counts") (known1 : Plain.Known 𝓤 H A W 𝓣 1 ps·1 r·1 (claims· .2) (claims· .3) "rows::line_at")
             (known2 : Plain.Known 𝓤 H A W 𝓣 1 ps·2 r·2 (claims· .4) (claims· .5) "store::search::slot_at") (known3 : Plain.Known 𝓤 H A W 𝓣 1 ps·3 r·3 (claims·
             .6) (claims· .7) "store::search::stays") (known4 : Plain.Known 𝓤 H A W 𝓣 2 ps·4 r·4 (claims· .8) (claims· .9) "writing::put_share") (known5 :
             Plain.Known 𝓤 H A W 𝓣 0 ps·5 r·5 (claims· .10) (claims· .11) "writing::count_line") (known6 : Plain.Known 𝓤 H A W 𝓣 0 ps·6 r·6 (claims· .12) (claims·
@@ -3511,7 +3511,7 @@ module _ (claims· : Claims) where
         module _ {M : Type 1} (𝓤 : URA.URA M) (H : Wp.Heap 𝓤) (A : Atoms.Atoms 𝓤) (W : Kit.Given 𝓤 H A) (𝓣 : Wp.Tables 𝓤 H) where
           abbrev Knowns : Type 1
           Knowns = Plain.Known 𝓤 H A W 𝓣 0 ps·0 r·0 (claims· .0) (claims· .1) "places::counting::no_counts" × Plain.Known 𝓤 H A W 𝓣 1 ps·1 r·1 (claims· .2)
-              (claims· .3) "gate::line_at" × Plain.Known 𝓤 H A W 𝓣 1 ps·2 r·2 (claims· .4) (claims· .5) "store::search::slot_at" × Plain.Known 𝓤 H A W 𝓣 1 ps·3
+              (claims· .3) "rows::line_at" × Plain.Known 𝓤 H A W 𝓣 1 ps·2 r·2 (claims· .4) (claims· .5) "store::search::slot_at" × Plain.Known 𝓤 H A W 𝓣 1 ps·3
               r·3 (claims· .6) (claims· .7) "store::search::stays" × Plain.Known 𝓤 H A W 𝓣 2 ps·4 r·4 (claims· .8) (claims· .9) "writing::put_share" ×
               Plain.Known 𝓤 H A W 𝓣 0 ps·5 r·5 (claims· .10) (claims· .11) "writing::count_line" × Plain.Known 𝓤 H A W 𝓣 0 ps·6 r·6 (claims· .12) (claims· .13)
               "marks::counting::one_of"
@@ -4394,7 +4394,7 @@ module _ (claims· : Claims) where
 
             d25 : Typed.Typed 𝓤 H A 𝓣 E G12 b28 Δ3 at25
             d25 = Typed.s-seq 𝓤 H A W 𝓣 E G12 G18 b10 b27 Δ3 (Typed.both s14) at24 (Plain.t-call-plain 𝓤 H A W 𝓣 1 ps·1 r·1 (claims· .2) (claims· .3)
-                "gate::line_at" (known .1) E (λ pos β. β) G12 (
+                "rows::line_at" (known .1) E (λ pos β. β) G12 (
                   record {
                     pos = 1;
                     ty = Syntax.tyRef (Syntax.named 0) Syntax.imm (Syntax.tyInt Syntax.w8);
@@ -5591,7 +5591,7 @@ module _ (claims· : Claims) where
 
           module _ {M : Type 1} (𝓤 : URA.URA M) (H : Wp.Heap 𝓤) (A : Atoms.Atoms 𝓤) (W : Kit.Given 𝓤 H A) (𝓣 : Wp.Tables 𝓤 H) (known0 : Plain.Known 𝓤 H A W 𝓣 0
               ps·0 r·0 (claims· .0) (claims· .1) "places::counting::no_counts") (known1 : Plain.Known 𝓤 H A W 𝓣 1 ps·1 r·1 (claims· .2) (claims· .3)
-              "gate::line_at") (known2 : Plain.Known 𝓤 H A W 𝓣 1 ps·2 r·2 (claims· .4) (claims· .5) "store::search::slot_at") (known3 : Plain.Known 𝓤 H A W 𝓣 1
+              "rows::line_at") (known2 : Plain.Known 𝓤 H A W 𝓣 1 ps·2 r·2 (claims· .4) (claims· .5) "store::search::slot_at") (known3 : Plain.Known 𝓤 H A W 𝓣 1
               ps·3 r·3 (claims· .6) (claims· .7) "store::search::stays") (known4 : Plain.Known 𝓤 H A W 𝓣 2 ps·4 r·4 (claims· .8) (claims· .9)
               "writing::put_share") (known5 : Plain.Known 𝓤 H A W 𝓣 0 ps·5 r·5 (claims· .10) (claims· .11) "writing::count_line") (known6 : Plain.Known 𝓤 H A W 𝓣
               0 ps·6 r·6 (claims· .12) (claims· .13) "marks::counting::one_of") where

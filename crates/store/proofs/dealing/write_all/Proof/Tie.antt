@@ -1,13 +1,13 @@
 -- Made by tools/walk.py.
-use Rattle.gate.proofs.line_at.Met
-use Rattle.gate.proofs.line_at.Reads
-use Rattle.gate.proofs.line_at.Symbol
-use Rattle.marks.proofs.one_of.Met as Met'
-use Rattle.marks.proofs.one_of.Reads as Reads'
-use Rattle.marks.proofs.one_of.Symbol as Symbol'
-use Rattle.places.proofs.no_counts.Met as Met''
-use Rattle.places.proofs.no_counts.Reads as Reads''
-use Rattle.places.proofs.no_counts.Symbol as Symbol''
+use Rattle.marks.proofs.one_of.Met
+use Rattle.marks.proofs.one_of.Reads
+use Rattle.marks.proofs.one_of.Symbol
+use Rattle.places.proofs.no_counts.Met as Met'
+use Rattle.places.proofs.no_counts.Reads as Reads'
+use Rattle.places.proofs.no_counts.Symbol as Symbol'
+use Rattle.rows.proofs.line_at.Met as Met''
+use Rattle.rows.proofs.line_at.Reads as Reads''
+use Rattle.rows.proofs.line_at.Symbol as Symbol''
 use Rattle.store.proofs.dealing.write_all.Code
 use Rattle.store.proofs.dealing.write_all.Key
 use Rattle.store.proofs.Walked.dealing.write_all.Kinds
@@ -38,10 +38,10 @@ MeasureT-loop = Lts.MeasureT-loop
 
 abbrev pub Start : (Inv : InvT-loop) → (μ : MeasureT-loop) → Type 0
 Start = λ Inv μ. Lts.Start (
+  Reads'.Asked,
+  Reads'.Learnt,
   Reads''.Asked,
   Reads''.Learnt,
-  Reads.Asked,
-  Reads.Learnt,
   Reads'4.Asked,
   Reads'4.Learnt,
   Reads'5.Asked,
@@ -50,16 +50,16 @@ Start = λ Inv μ. Lts.Start (
   Reads'7.Learnt,
   Reads'6.Asked,
   Reads'6.Learnt,
-  Reads'.Asked,
-  Reads'.Learnt,
+  Reads.Asked,
+  Reads.Learnt,
 ) Reads'3.Pre Reads'3.Post Inv μ
 
 abbrev pub After-shared-slice-known : (Inv : InvT-loop) → (μ : MeasureT-loop) → Type 0
 After-shared-slice-known = λ Inv μ. Lts.After-shared-slice-known (
+  Reads'.Asked,
+  Reads'.Learnt,
   Reads''.Asked,
   Reads''.Learnt,
-  Reads.Asked,
-  Reads.Learnt,
   Reads'4.Asked,
   Reads'4.Learnt,
   Reads'5.Asked,
@@ -68,16 +68,16 @@ After-shared-slice-known = λ Inv μ. Lts.After-shared-slice-known (
   Reads'7.Learnt,
   Reads'6.Asked,
   Reads'6.Learnt,
-  Reads'.Asked,
-  Reads'.Learnt,
+  Reads.Asked,
+  Reads.Learnt,
 ) Reads'3.Pre Reads'3.Post Inv μ
 
 abbrev pub After-slice-known : (Inv : InvT-loop) → (μ : MeasureT-loop) → Type 0
 After-slice-known = λ Inv μ. Lts.After-slice-known (
+  Reads'.Asked,
+  Reads'.Learnt,
   Reads''.Asked,
   Reads''.Learnt,
-  Reads.Asked,
-  Reads.Learnt,
   Reads'4.Asked,
   Reads'4.Learnt,
   Reads'5.Asked,
@@ -86,16 +86,16 @@ After-slice-known = λ Inv μ. Lts.After-slice-known (
   Reads'7.Learnt,
   Reads'6.Asked,
   Reads'6.Learnt,
-  Reads'.Asked,
-  Reads'.Learnt,
+  Reads.Asked,
+  Reads.Learnt,
 ) Reads'3.Pre Reads'3.Post Inv μ
 
 abbrev pub After-no-counts : (Inv : InvT-loop) → (μ : MeasureT-loop) → Type 0
 After-no-counts = λ Inv μ. Lts.After-no-counts (
+  Reads'.Asked,
+  Reads'.Learnt,
   Reads''.Asked,
   Reads''.Learnt,
-  Reads.Asked,
-  Reads.Learnt,
   Reads'4.Asked,
   Reads'4.Learnt,
   Reads'5.Asked,
@@ -104,16 +104,16 @@ After-no-counts = λ Inv μ. Lts.After-no-counts (
   Reads'7.Learnt,
   Reads'6.Asked,
   Reads'6.Learnt,
-  Reads'.Asked,
-  Reads'.Learnt,
+  Reads.Asked,
+  Reads.Learnt,
 ) Reads'3.Pre Reads'3.Post Inv μ
 
 abbrev pub At-loop : (Inv : InvT-loop) → (μ : MeasureT-loop) → Type 0
 At-loop = λ Inv μ. Lts.At-loop (
+  Reads'.Asked,
+  Reads'.Learnt,
   Reads''.Asked,
   Reads''.Learnt,
-  Reads.Asked,
-  Reads.Learnt,
   Reads'4.Asked,
   Reads'4.Learnt,
   Reads'5.Asked,
@@ -122,16 +122,16 @@ At-loop = λ Inv μ. Lts.At-loop (
   Reads'7.Learnt,
   Reads'6.Asked,
   Reads'6.Learnt,
-  Reads'.Asked,
-  Reads'.Learnt,
+  Reads.Asked,
+  Reads.Learnt,
 ) Reads'3.Pre Reads'3.Post Inv μ
 
 abbrev pub In-loop : (Inv : InvT-loop) → (μ : MeasureT-loop) → Type 0
 In-loop = λ Inv μ. Lts.In-loop (
+  Reads'.Asked,
+  Reads'.Learnt,
   Reads''.Asked,
   Reads''.Learnt,
-  Reads.Asked,
-  Reads.Learnt,
   Reads'4.Asked,
   Reads'4.Learnt,
   Reads'5.Asked,
@@ -140,16 +140,16 @@ In-loop = λ Inv μ. Lts.In-loop (
   Reads'7.Learnt,
   Reads'6.Asked,
   Reads'6.Learnt,
-  Reads'.Asked,
-  Reads'.Learnt,
+  Reads.Asked,
+  Reads.Learnt,
 ) Reads'3.Pre Reads'3.Post Inv μ
 
 abbrev pub After-loop : (Inv : InvT-loop) → (μ : MeasureT-loop) → Type 0
 After-loop = λ Inv μ. Lts.After-loop (
+  Reads'.Asked,
+  Reads'.Learnt,
   Reads''.Asked,
   Reads''.Learnt,
-  Reads.Asked,
-  Reads.Learnt,
   Reads'4.Asked,
   Reads'4.Learnt,
   Reads'5.Asked,
@@ -158,16 +158,16 @@ After-loop = λ Inv μ. Lts.After-loop (
   Reads'7.Learnt,
   Reads'6.Asked,
   Reads'6.Learnt,
-  Reads'.Asked,
-  Reads'.Learnt,
+  Reads.Asked,
+  Reads.Learnt,
 ) Reads'3.Pre Reads'3.Post Inv μ
 
 abbrev pub After-line-at : (Inv : InvT-loop) → (μ : MeasureT-loop) → Type 0
 After-line-at = λ Inv μ. Lts.After-line-at (
+  Reads'.Asked,
+  Reads'.Learnt,
   Reads''.Asked,
   Reads''.Learnt,
-  Reads.Asked,
-  Reads.Learnt,
   Reads'4.Asked,
   Reads'4.Learnt,
   Reads'5.Asked,
@@ -176,16 +176,16 @@ After-line-at = λ Inv μ. Lts.After-line-at (
   Reads'7.Learnt,
   Reads'6.Asked,
   Reads'6.Learnt,
-  Reads'.Asked,
-  Reads'.Learnt,
+  Reads.Asked,
+  Reads.Learnt,
 ) Reads'3.Pre Reads'3.Post Inv μ
 
 abbrev pub After-slot-at : (Inv : InvT-loop) → (μ : MeasureT-loop) → Type 0
 After-slot-at = λ Inv μ. Lts.After-slot-at (
+  Reads'.Asked,
+  Reads'.Learnt,
   Reads''.Asked,
   Reads''.Learnt,
-  Reads.Asked,
-  Reads.Learnt,
   Reads'4.Asked,
   Reads'4.Learnt,
   Reads'5.Asked,
@@ -194,16 +194,16 @@ After-slot-at = λ Inv μ. Lts.After-slot-at (
   Reads'7.Learnt,
   Reads'6.Asked,
   Reads'6.Learnt,
-  Reads'.Asked,
-  Reads'.Learnt,
+  Reads.Asked,
+  Reads.Learnt,
 ) Reads'3.Pre Reads'3.Post Inv μ
 
 abbrev pub After-stays : (Inv : InvT-loop) → (μ : MeasureT-loop) → Type 0
 After-stays = λ Inv μ. Lts.After-stays (
+  Reads'.Asked,
+  Reads'.Learnt,
   Reads''.Asked,
   Reads''.Learnt,
-  Reads.Asked,
-  Reads.Learnt,
   Reads'4.Asked,
   Reads'4.Learnt,
   Reads'5.Asked,
@@ -212,16 +212,16 @@ After-stays = λ Inv μ. Lts.After-stays (
   Reads'7.Learnt,
   Reads'6.Asked,
   Reads'6.Learnt,
-  Reads'.Asked,
-  Reads'.Learnt,
+  Reads.Asked,
+  Reads.Learnt,
 ) Reads'3.Pre Reads'3.Post Inv μ
 
 abbrev pub After-put-share-arg : (Inv : InvT-loop) → (μ : MeasureT-loop) → Type 0
 After-put-share-arg = λ Inv μ. Lts.After-put-share-arg (
+  Reads'.Asked,
+  Reads'.Learnt,
   Reads''.Asked,
   Reads''.Learnt,
-  Reads.Asked,
-  Reads.Learnt,
   Reads'4.Asked,
   Reads'4.Learnt,
   Reads'5.Asked,
@@ -230,16 +230,16 @@ After-put-share-arg = λ Inv μ. Lts.After-put-share-arg (
   Reads'7.Learnt,
   Reads'6.Asked,
   Reads'6.Learnt,
-  Reads'.Asked,
-  Reads'.Learnt,
+  Reads.Asked,
+  Reads.Learnt,
 ) Reads'3.Pre Reads'3.Post Inv μ
 
 abbrev pub After-put-share : (Inv : InvT-loop) → (μ : MeasureT-loop) → Type 0
 After-put-share = λ Inv μ. Lts.After-put-share (
+  Reads'.Asked,
+  Reads'.Learnt,
   Reads''.Asked,
   Reads''.Learnt,
-  Reads.Asked,
-  Reads.Learnt,
   Reads'4.Asked,
   Reads'4.Learnt,
   Reads'5.Asked,
@@ -248,16 +248,16 @@ After-put-share = λ Inv μ. Lts.After-put-share (
   Reads'7.Learnt,
   Reads'6.Asked,
   Reads'6.Learnt,
-  Reads'.Asked,
-  Reads'.Learnt,
+  Reads.Asked,
+  Reads.Learnt,
 ) Reads'3.Pre Reads'3.Post Inv μ
 
 abbrev pub After-out : (Inv : InvT-loop) → (μ : MeasureT-loop) → Type 0
 After-out = λ Inv μ. Lts.After-out (
+  Reads'.Asked,
+  Reads'.Learnt,
   Reads''.Asked,
   Reads''.Learnt,
-  Reads.Asked,
-  Reads.Learnt,
   Reads'4.Asked,
   Reads'4.Learnt,
   Reads'5.Asked,
@@ -266,16 +266,16 @@ After-out = λ Inv μ. Lts.After-out (
   Reads'7.Learnt,
   Reads'6.Asked,
   Reads'6.Learnt,
-  Reads'.Asked,
-  Reads'.Learnt,
+  Reads.Asked,
+  Reads.Learnt,
 ) Reads'3.Pre Reads'3.Post Inv μ
 
 abbrev pub After-slice-known2 : (Inv : InvT-loop) → (μ : MeasureT-loop) → Type 0
 After-slice-known2 = λ Inv μ. Lts.After-slice-known2 (
+  Reads'.Asked,
+  Reads'.Learnt,
   Reads''.Asked,
   Reads''.Learnt,
-  Reads.Asked,
-  Reads.Learnt,
   Reads'4.Asked,
   Reads'4.Learnt,
   Reads'5.Asked,
@@ -284,16 +284,16 @@ After-slice-known2 = λ Inv μ. Lts.After-slice-known2 (
   Reads'7.Learnt,
   Reads'6.Asked,
   Reads'6.Learnt,
-  Reads'.Asked,
-  Reads'.Learnt,
+  Reads.Asked,
+  Reads.Learnt,
 ) Reads'3.Pre Reads'3.Post Inv μ
 
 abbrev pub After-count-line : (Inv : InvT-loop) → (μ : MeasureT-loop) → Type 0
 After-count-line = λ Inv μ. Lts.After-count-line (
+  Reads'.Asked,
+  Reads'.Learnt,
   Reads''.Asked,
   Reads''.Learnt,
-  Reads.Asked,
-  Reads.Learnt,
   Reads'4.Asked,
   Reads'4.Learnt,
   Reads'5.Asked,
@@ -302,16 +302,16 @@ After-count-line = λ Inv μ. Lts.After-count-line (
   Reads'7.Learnt,
   Reads'6.Asked,
   Reads'6.Learnt,
-  Reads'.Asked,
-  Reads'.Learnt,
+  Reads.Asked,
+  Reads.Learnt,
 ) Reads'3.Pre Reads'3.Post Inv μ
 
 abbrev pub After-one-of : (Inv : InvT-loop) → (μ : MeasureT-loop) → Type 0
 After-one-of = λ Inv μ. Lts.After-one-of (
+  Reads'.Asked,
+  Reads'.Learnt,
   Reads''.Asked,
   Reads''.Learnt,
-  Reads.Asked,
-  Reads.Learnt,
   Reads'4.Asked,
   Reads'4.Learnt,
   Reads'5.Asked,
@@ -320,16 +320,16 @@ After-one-of = λ Inv μ. Lts.After-one-of (
   Reads'7.Learnt,
   Reads'6.Asked,
   Reads'6.Learnt,
-  Reads'.Asked,
-  Reads'.Learnt,
+  Reads.Asked,
+  Reads.Learnt,
 ) Reads'3.Pre Reads'3.Post Inv μ
 
 abbrev pub Need-no-counts-requires : (Inv : InvT-loop) → (μ : MeasureT-loop) → Type 0
 Need-no-counts-requires = λ Inv μ. Lts.Need-no-counts-requires (
+  Reads'.Asked,
+  Reads'.Learnt,
   Reads''.Asked,
   Reads''.Learnt,
-  Reads.Asked,
-  Reads.Learnt,
   Reads'4.Asked,
   Reads'4.Learnt,
   Reads'5.Asked,
@@ -338,16 +338,16 @@ Need-no-counts-requires = λ Inv μ. Lts.Need-no-counts-requires (
   Reads'7.Learnt,
   Reads'6.Asked,
   Reads'6.Learnt,
-  Reads'.Asked,
-  Reads'.Learnt,
+  Reads.Asked,
+  Reads.Learnt,
 ) Reads'3.Pre Reads'3.Post Inv μ
 
 abbrev pub Need-loop-holds : (Inv : InvT-loop) → (μ : MeasureT-loop) → Type 0
 Need-loop-holds = λ Inv μ. Lts.Need-loop-holds (
+  Reads'.Asked,
+  Reads'.Learnt,
   Reads''.Asked,
   Reads''.Learnt,
-  Reads.Asked,
-  Reads.Learnt,
   Reads'4.Asked,
   Reads'4.Learnt,
   Reads'5.Asked,
@@ -356,16 +356,16 @@ Need-loop-holds = λ Inv μ. Lts.Need-loop-holds (
   Reads'7.Learnt,
   Reads'6.Asked,
   Reads'6.Learnt,
-  Reads'.Asked,
-  Reads'.Learnt,
+  Reads.Asked,
+  Reads.Learnt,
 ) Reads'3.Pre Reads'3.Post Inv μ
 
 abbrev pub Need-mul-loop : (Inv : InvT-loop) → (μ : MeasureT-loop) → Type 0
 Need-mul-loop = λ Inv μ. Lts.Need-mul-loop (
+  Reads'.Asked,
+  Reads'.Learnt,
   Reads''.Asked,
   Reads''.Learnt,
-  Reads.Asked,
-  Reads.Learnt,
   Reads'4.Asked,
   Reads'4.Learnt,
   Reads'5.Asked,
@@ -374,16 +374,16 @@ Need-mul-loop = λ Inv μ. Lts.Need-mul-loop (
   Reads'7.Learnt,
   Reads'6.Asked,
   Reads'6.Learnt,
-  Reads'.Asked,
-  Reads'.Learnt,
+  Reads.Asked,
+  Reads.Learnt,
 ) Reads'3.Pre Reads'3.Post Inv μ
 
 abbrev pub Need-line-at-requires : (Inv : InvT-loop) → (μ : MeasureT-loop) → Type 0
 Need-line-at-requires = λ Inv μ. Lts.Need-line-at-requires (
+  Reads'.Asked,
+  Reads'.Learnt,
   Reads''.Asked,
   Reads''.Learnt,
-  Reads.Asked,
-  Reads.Learnt,
   Reads'4.Asked,
   Reads'4.Learnt,
   Reads'5.Asked,
@@ -392,16 +392,16 @@ Need-line-at-requires = λ Inv μ. Lts.Need-line-at-requires (
   Reads'7.Learnt,
   Reads'6.Asked,
   Reads'6.Learnt,
-  Reads'.Asked,
-  Reads'.Learnt,
+  Reads.Asked,
+  Reads.Learnt,
 ) Reads'3.Pre Reads'3.Post Inv μ
 
 abbrev pub Need-slot-at-requires : (Inv : InvT-loop) → (μ : MeasureT-loop) → Type 0
 Need-slot-at-requires = λ Inv μ. Lts.Need-slot-at-requires (
+  Reads'.Asked,
+  Reads'.Learnt,
   Reads''.Asked,
   Reads''.Learnt,
-  Reads.Asked,
-  Reads.Learnt,
   Reads'4.Asked,
   Reads'4.Learnt,
   Reads'5.Asked,
@@ -410,16 +410,16 @@ Need-slot-at-requires = λ Inv μ. Lts.Need-slot-at-requires (
   Reads'7.Learnt,
   Reads'6.Asked,
   Reads'6.Learnt,
-  Reads'.Asked,
-  Reads'.Learnt,
+  Reads.Asked,
+  Reads.Learnt,
 ) Reads'3.Pre Reads'3.Post Inv μ
 
 abbrev pub Need-stays-requires : (Inv : InvT-loop) → (μ : MeasureT-loop) → Type 0
 Need-stays-requires = λ Inv μ. Lts.Need-stays-requires (
+  Reads'.Asked,
+  Reads'.Learnt,
   Reads''.Asked,
   Reads''.Learnt,
-  Reads.Asked,
-  Reads.Learnt,
   Reads'4.Asked,
   Reads'4.Learnt,
   Reads'5.Asked,
@@ -428,16 +428,16 @@ Need-stays-requires = λ Inv μ. Lts.Need-stays-requires (
   Reads'7.Learnt,
   Reads'6.Asked,
   Reads'6.Learnt,
-  Reads'.Asked,
-  Reads'.Learnt,
+  Reads.Asked,
+  Reads.Learnt,
 ) Reads'3.Pre Reads'3.Post Inv μ
 
 abbrev pub Need-put-share-requires : (Inv : InvT-loop) → (μ : MeasureT-loop) → Type 0
 Need-put-share-requires = λ Inv μ. Lts.Need-put-share-requires (
+  Reads'.Asked,
+  Reads'.Learnt,
   Reads''.Asked,
   Reads''.Learnt,
-  Reads.Asked,
-  Reads.Learnt,
   Reads'4.Asked,
   Reads'4.Learnt,
   Reads'5.Asked,
@@ -446,16 +446,16 @@ Need-put-share-requires = λ Inv μ. Lts.Need-put-share-requires (
   Reads'7.Learnt,
   Reads'6.Asked,
   Reads'6.Learnt,
-  Reads'.Asked,
-  Reads'.Learnt,
+  Reads.Asked,
+  Reads.Learnt,
 ) Reads'3.Pre Reads'3.Post Inv μ
 
 abbrev pub Need-count-line-requires : (Inv : InvT-loop) → (μ : MeasureT-loop) → Type 0
 Need-count-line-requires = λ Inv μ. Lts.Need-count-line-requires (
+  Reads'.Asked,
+  Reads'.Learnt,
   Reads''.Asked,
   Reads''.Learnt,
-  Reads.Asked,
-  Reads.Learnt,
   Reads'4.Asked,
   Reads'4.Learnt,
   Reads'5.Asked,
@@ -464,16 +464,16 @@ Need-count-line-requires = λ Inv μ. Lts.Need-count-line-requires (
   Reads'7.Learnt,
   Reads'6.Asked,
   Reads'6.Learnt,
-  Reads'.Asked,
-  Reads'.Learnt,
+  Reads.Asked,
+  Reads.Learnt,
 ) Reads'3.Pre Reads'3.Post Inv μ
 
 abbrev pub Need-one-of-requires : (Inv : InvT-loop) → (μ : MeasureT-loop) → Type 0
 Need-one-of-requires = λ Inv μ. Lts.Need-one-of-requires (
+  Reads'.Asked,
+  Reads'.Learnt,
   Reads''.Asked,
   Reads''.Learnt,
-  Reads.Asked,
-  Reads.Learnt,
   Reads'4.Asked,
   Reads'4.Learnt,
   Reads'5.Asked,
@@ -482,16 +482,16 @@ Need-one-of-requires = λ Inv μ. Lts.Need-one-of-requires (
   Reads'7.Learnt,
   Reads'6.Asked,
   Reads'6.Learnt,
-  Reads'.Asked,
-  Reads'.Learnt,
+  Reads.Asked,
+  Reads.Learnt,
 ) Reads'3.Pre Reads'3.Post Inv μ
 
 abbrev pub Need-add-k : (Inv : InvT-loop) → (μ : MeasureT-loop) → Type 0
 Need-add-k = λ Inv μ. Lts.Need-add-k (
+  Reads'.Asked,
+  Reads'.Learnt,
   Reads''.Asked,
   Reads''.Learnt,
-  Reads.Asked,
-  Reads.Learnt,
   Reads'4.Asked,
   Reads'4.Learnt,
   Reads'5.Asked,
@@ -500,16 +500,16 @@ Need-add-k = λ Inv μ. Lts.Need-add-k (
   Reads'7.Learnt,
   Reads'6.Asked,
   Reads'6.Learnt,
-  Reads'.Asked,
-  Reads'.Learnt,
+  Reads.Asked,
+  Reads.Learnt,
 ) Reads'3.Pre Reads'3.Post Inv μ
 
 abbrev pub Need-add-i : (Inv : InvT-loop) → (μ : MeasureT-loop) → Type 0
 Need-add-i = λ Inv μ. Lts.Need-add-i (
+  Reads'.Asked,
+  Reads'.Learnt,
   Reads''.Asked,
   Reads''.Learnt,
-  Reads.Asked,
-  Reads.Learnt,
   Reads'4.Asked,
   Reads'4.Learnt,
   Reads'5.Asked,
@@ -518,16 +518,16 @@ Need-add-i = λ Inv μ. Lts.Need-add-i (
   Reads'7.Learnt,
   Reads'6.Asked,
   Reads'6.Learnt,
-  Reads'.Asked,
-  Reads'.Learnt,
+  Reads.Asked,
+  Reads.Learnt,
 ) Reads'3.Pre Reads'3.Post Inv μ
 
 abbrev pub Need-loop-less : (Inv : InvT-loop) → (μ : MeasureT-loop) → Type 0
 Need-loop-less = λ Inv μ. Lts.Need-loop-less (
+  Reads'.Asked,
+  Reads'.Learnt,
   Reads''.Asked,
   Reads''.Learnt,
-  Reads.Asked,
-  Reads.Learnt,
   Reads'4.Asked,
   Reads'4.Learnt,
   Reads'5.Asked,
@@ -536,16 +536,16 @@ Need-loop-less = λ Inv μ. Lts.Need-loop-less (
   Reads'7.Learnt,
   Reads'6.Asked,
   Reads'6.Learnt,
-  Reads'.Asked,
-  Reads'.Learnt,
+  Reads.Asked,
+  Reads.Learnt,
 ) Reads'3.Pre Reads'3.Post Inv μ
 
 abbrev pub Need-loop-again : (Inv : InvT-loop) → (μ : MeasureT-loop) → Type 0
 Need-loop-again = λ Inv μ. Lts.Need-loop-again (
+  Reads'.Asked,
+  Reads'.Learnt,
   Reads''.Asked,
   Reads''.Learnt,
-  Reads.Asked,
-  Reads.Learnt,
   Reads'4.Asked,
   Reads'4.Learnt,
   Reads'5.Asked,
@@ -554,16 +554,16 @@ Need-loop-again = λ Inv μ. Lts.Need-loop-again (
   Reads'7.Learnt,
   Reads'6.Asked,
   Reads'6.Learnt,
-  Reads'.Asked,
-  Reads'.Learnt,
+  Reads.Asked,
+  Reads.Learnt,
 ) Reads'3.Pre Reads'3.Post Inv μ
 
 abbrev pub Need-same-length : (Inv : InvT-loop) → (μ : MeasureT-loop) → Type 0
 Need-same-length = λ Inv μ. Lts.Need-same-length (
+  Reads'.Asked,
+  Reads'.Learnt,
   Reads''.Asked,
   Reads''.Learnt,
-  Reads.Asked,
-  Reads.Learnt,
   Reads'4.Asked,
   Reads'4.Learnt,
   Reads'5.Asked,
@@ -572,16 +572,16 @@ Need-same-length = λ Inv μ. Lts.Need-same-length (
   Reads'7.Learnt,
   Reads'6.Asked,
   Reads'6.Learnt,
-  Reads'.Asked,
-  Reads'.Learnt,
+  Reads.Asked,
+  Reads.Learnt,
 ) Reads'3.Pre Reads'3.Post Inv μ
 
 abbrev pub Need-returns : (Inv : InvT-loop) → (μ : MeasureT-loop) → Type 0
 Need-returns = λ Inv μ. Lts.Need-returns (
+  Reads'.Asked,
+  Reads'.Learnt,
   Reads''.Asked,
   Reads''.Learnt,
-  Reads.Asked,
-  Reads.Learnt,
   Reads'4.Asked,
   Reads'4.Learnt,
   Reads'5.Asked,
@@ -590,8 +590,8 @@ Need-returns = λ Inv μ. Lts.Need-returns (
   Reads'7.Learnt,
   Reads'6.Asked,
   Reads'6.Learnt,
-  Reads'.Asked,
-  Reads'.Learnt,
+  Reads.Asked,
+  Reads.Learnt,
 ) Reads'3.Pre Reads'3.Post Inv μ
 
 module _ {M : Type 1} where
@@ -600,10 +600,10 @@ module _ {M : Type 1} where
       Need-put-share-requires Inv μ) → (answer : Need-count-line-requires Inv μ) → (answer : Need-one-of-requires Inv μ) → (answer : Need-add-k Inv μ) →
       (answer : Need-add-i Inv μ) → (answer : Need-loop-less Inv μ) → (answer : Need-loop-again Inv μ) → (answer : Need-same-length Inv μ) → (answer :
       Need-returns Inv μ) → Lts.Closed (
+        Reads'.Asked,
+        Reads'.Learnt,
         Reads''.Asked,
         Reads''.Learnt,
-        Reads.Asked,
-        Reads.Learnt,
         Reads'4.Asked,
         Reads'4.Learnt,
         Reads'5.Asked,
@@ -612,15 +612,15 @@ module _ {M : Type 1} where
         Reads'7.Learnt,
         Reads'6.Asked,
         Reads'6.Learnt,
-        Reads'.Asked,
-        Reads'.Learnt,
+        Reads.Asked,
+        Reads.Learnt,
       ) Reads'3.Pre Reads'3.Post M
   spec = λ Inv μ answer answer' answer'' answer'3 answer'4 answer'5 answer'6 answer'7 answer'8 answer'9 answer'10 answer'11 answer'12 answer'13 answer'14.
       Lts.spec (
+        Reads'.Asked,
+        Reads'.Learnt,
         Reads''.Asked,
         Reads''.Learnt,
-        Reads.Asked,
-        Reads.Learnt,
         Reads'4.Asked,
         Reads'4.Learnt,
         Reads'5.Asked,
@@ -629,16 +629,16 @@ module _ {M : Type 1} where
         Reads'7.Learnt,
         Reads'6.Asked,
         Reads'6.Learnt,
-        Reads'.Asked,
-        Reads'.Learnt,
+        Reads.Asked,
+        Reads.Learnt,
       ) Reads'3.Pre Reads'3.Post Inv μ answer answer' answer'' answer'3 answer'4
       answer'5 answer'6 answer'7 answer'8 answer'9 answer'10 answer'11 answer'12 answer'13 answer'14
 
   pub close : Lts.Closed (
+    Reads'.Asked,
+    Reads'.Learnt,
     Reads''.Asked,
     Reads''.Learnt,
-    Reads.Asked,
-    Reads.Learnt,
     Reads'4.Asked,
     Reads'4.Learnt,
     Reads'5.Asked,
@@ -647,19 +647,18 @@ module _ {M : Type 1} where
     Reads'7.Learnt,
     Reads'6.Asked,
     Reads'6.Learnt,
-    Reads'.Asked,
-    Reads'.Learnt,
+    Reads.Asked,
+    Reads.Learnt,
   ) Reads'3.Pre Reads'3.Post M → Statement.statement M
   unfolding Code.routine Running.tablesOf
   close = λ closed 𝓤 H 𝓜 𝓖 𝓡. Written.close 3 Kinds.ps Kinds.r Reads'3.Ghost Reads'3.requires Reads'3.ensures Reads'3.pre-read Reads'3.Pinned Reads'3.Owned
       Reads'3.post-read record { M = M; 𝓤 = 𝓤; H = H; 𝓜 = 𝓜; 𝓖 = 𝓖; 𝓡 = 𝓡 } Code.env Key.name Code.function (Code.unfolded 𝓤 H 𝓜 𝓡) (λ κs a g. tt) (λ κs.
       Reads'3.owns κs record { M = M; 𝓤 = 𝓤; H = H; 𝓜 = 𝓜; 𝓖 = 𝓖; 𝓡 = 𝓡 }) (Reads'3.passes record { M = M; 𝓤 = 𝓤; H = H; 𝓜 = 𝓜; 𝓖 = 𝓖; 𝓡 = 𝓡 }) λ g. closed 𝓤 H
-      (𝓖 .A) (Running.givenOf 𝓤 H 𝓜 𝓖) (Run.Over 𝓤 H 𝓜 𝓖 𝓡 Code.env) (Reads''.known record { M = M; 𝓤 = 𝓤; H = H; 𝓜 = 𝓜; 𝓖 = 𝓖; 𝓡 = 𝓡 } Code.env Symbol''.name
-      Symbol''.routine Code.calls-places·no-counts (Met''.met 𝓤 H 𝓜 𝓖 𝓡)) (Reads.known record { M = M; 𝓤 = 𝓤; H = H; 𝓜 = 𝓜; 𝓖 = 𝓖; 𝓡 = 𝓡 } Code.env Symbol.name
-      Symbol.routine Code.calls-gate·line-at (Met.met 𝓤 H 𝓜 𝓖 𝓡)) (Reads'4.known record { M = M; 𝓤 = 𝓤; H = H; 𝓜 = 𝓜; 𝓖 = 𝓖; 𝓡 = 𝓡 } Code.env Symbol'3.name
-      Symbol'3.routine Code.calls-store·search·slot-at (Met'3.met 𝓤 H 𝓜 𝓖 𝓡)) (Reads'5.known record { M = M; 𝓤 = 𝓤; H = H; 𝓜 = 𝓜; 𝓖 = 𝓖; 𝓡 = 𝓡 } Code.env
-      Symbol'4.name Symbol'4.routine Code.calls-store·search·stays (Met'4.met 𝓤 H 𝓜 𝓖 𝓡)) (Reads'7.known record { M = M; 𝓤 = 𝓤; H = H; 𝓜 = 𝓜; 𝓖 = 𝓖; 𝓡 = 𝓡 }
-      Code.env Symbol'6.name Symbol'6.routine Code.calls-writing·put-share (Met'6.met 𝓤 H 𝓜 𝓖 𝓡)) (Reads'6.known record {
+      (𝓖 .A) (Running.givenOf 𝓤 H 𝓜 𝓖) (Run.Over 𝓤 H 𝓜 𝓖 𝓡 Code.env) (Reads'.known record { M = M; 𝓤 = 𝓤; H = H; 𝓜 = 𝓜; 𝓖 = 𝓖; 𝓡 = 𝓡 } Code.env Symbol'.name
+      Symbol'.routine Code.calls-places·no-counts (Met'.met 𝓤 H 𝓜 𝓖 𝓡)) (Reads''.known record { M = M; 𝓤 = 𝓤; H = H; 𝓜 = 𝓜; 𝓖 = 𝓖; 𝓡 = 𝓡 } Code.env
+      Symbol''.name Symbol''.routine Code.calls-rows·line-at (Met''.met 𝓤 H 𝓜 𝓖 𝓡)) (Reads'4.known record { M = M; 𝓤 = 𝓤; H = H; 𝓜 = 𝓜; 𝓖 = 𝓖; 𝓡 = 𝓡 } Code.env
+      Symbol'3.name Symbol'3.routine Code.calls-store·search·slot-at (Met'3.met 𝓤 H 𝓜 𝓖 𝓡)) (Reads'5.known record { M = M; 𝓤 = 𝓤; H = H; 𝓜 = 𝓜; 𝓖 = 𝓖; 𝓡 = 𝓡 }
+      Code.env Symbol'4.name Symbol'4.routine Code.calls-store·search·stays (Met'4.met 𝓤 H 𝓜 𝓖 𝓡)) (Reads'7.known record {
         M = M;
         𝓤 = 𝓤;
         H = H;
@@ -667,7 +666,7 @@ module _ {M : Type 1} where
         𝓖 = 𝓖;
         𝓡
             = 𝓡;
-      } Code.env Symbol'5.name Symbol'5.routine Code.calls-writing·count-line (Met'5.met 𝓤 H 𝓜 𝓖 𝓡)) (Reads'.known record {
+      } Code.env Symbol'6.name Symbol'6.routine Code.calls-writing·put-share (Met'6.met 𝓤 H 𝓜 𝓖 𝓡)) (Reads'6.known record {
         M = M;
         𝓤 = 𝓤;
         H = H;
@@ -675,4 +674,11 @@ module _ {M : Type 1} where
         𝓖 =
             𝓖;
         𝓡 = 𝓡;
-      } Code.env Symbol'.name Symbol'.routine Code.calls-marks·one-of (Met'.met 𝓤 H 𝓜 𝓖 𝓡))
+      } Code.env Symbol'5.name Symbol'5.routine Code.calls-writing·count-line (Met'5.met 𝓤 H 𝓜 𝓖 𝓡)) (Reads.known record {
+        M = M;
+        𝓤 = 𝓤;
+        H = H;
+        𝓜 = 𝓜;
+        𝓖 = 𝓖;
+        𝓡 = 𝓡;
+      } Code.env Symbol.name Symbol.routine Code.calls-marks·one-of (Met.met 𝓤 H 𝓜 𝓖 𝓡))

@@ -80,7 +80,7 @@ abbrev b1 : Syntax.Body
 b1 = Syntax.call "store::search::slot_at" (Syntax.copy (Syntax.place 1 []) ∷ Syntax.copy (Syntax.place 4 []) ∷ []) (Syntax.place 5 [])
 
 abbrev b2 : Syntax.Body
-b2 = Syntax.call "marks::bonds::is_aside" (Syntax.copy (Syntax.place 3 []) ∷ Syntax.copy (Syntax.place 5 []) ∷ []) (Syntax.place 6 [])
+b2 = Syntax.call "bonds::is_aside" (Syntax.copy (Syntax.place 3 []) ∷ Syntax.copy (Syntax.place 5 []) ∷ []) (Syntax.place 6 [])
 
 abbrev b3 : Syntax.Body
 b3 = Syntax.assign (Syntax.place 7 []) (Syntax.op2 (Syntax.lt Syntax.unsigned) (Syntax.copy (Syntax.place 4 [])) (Syntax.copy (Syntax.place 2
@@ -326,9 +326,9 @@ module _ (claims· : Claims) where
         abbrev pub Closed : Type 2
         Closed = (𝓤 : URA.URA M) (H : Wp.Heap 𝓤) (A : Atoms.Atoms 𝓤) (W : Kit.Given 𝓤 H A) (𝓣 : Wp.Tables 𝓤 H) (known0 : Plain.Known 𝓤 H A W 𝓣 1 ps·0 r·0
             (claims· .0) (claims· .1) "store::search::seek") (known1 : Plain.Known 𝓤 H A W 𝓣 1 ps·1 r·1 (claims· .2) (claims· .3) "store::search::slot_at")
-            (known2 : Plain.Known 𝓤 H A W 𝓣 0 ps·2 r·2 (claims· .4) (claims· .5) "marks::bonds::is_aside") (known3 : Plain.Known 𝓤 H A W 𝓣 0 ps·3 r·3 (claims·
-            .6) (claims· .7) "ascii::both_of") → Statement.Triple 𝓤 (Wp.WpFn 𝓤 H (𝓣 .C) (𝓣 .Λ) (Function.fnOf 1 ps r xs m hs body)) (Function.plainOf 𝓤 H A 1 ps
-            r Pre· Post·)
+            (known2 : Plain.Known 𝓤 H A W 𝓣 0 ps·2 r·2 (claims· .4) (claims· .5) "bonds::is_aside") (known3 : Plain.Known 𝓤 H A W 𝓣 0 ps·3 r·3 (claims· .6)
+            (claims· .7) "ascii::both_of") → Statement.Triple 𝓤 (Wp.WpFn 𝓤 H (𝓣 .C) (𝓣 .Λ) (Function.fnOf 1 ps r xs m hs body)) (Function.plainOf 𝓤 H A 1 ps r
+            Pre· Post·)
 
       module _ where
         abbrev at0 : Typed.TF T12 O0
@@ -373,8 +373,8 @@ module _ (claims· : Claims) where
         module _ {M : Type 1} (𝓤 : URA.URA M) (H : Wp.Heap 𝓤) (A : Atoms.Atoms 𝓤) (W : Kit.Given 𝓤 H A) (𝓣 : Wp.Tables 𝓤 H) where
           abbrev Knowns : Type 1
           Knowns = Plain.Known 𝓤 H A W 𝓣 1 ps·0 r·0 (claims· .0) (claims· .1) "store::search::seek" × Plain.Known 𝓤 H A W 𝓣 1 ps·1 r·1 (claims· .2) (claims· .3)
-              "store::search::slot_at" × Plain.Known 𝓤 H A W 𝓣 0 ps·2 r·2 (claims· .4) (claims· .5) "marks::bonds::is_aside" × Plain.Known 𝓤 H A W 𝓣 0 ps·3 r·3
-              (claims· .6) (claims· .7) "ascii::both_of"
+              "store::search::slot_at" × Plain.Known 𝓤 H A W 𝓣 0 ps·2 r·2 (claims· .4) (claims· .5) "bonds::is_aside" × Plain.Known 𝓤 H A W 𝓣 0 ps·3 r·3 (claims·
+              .6) (claims· .7) "ascii::both_of"
 
         module _ (κs : Lifetimes.Lfts 1) (qs : Lifetimes.Shares 1) where
           abbrev G0 : Row.Cx
@@ -471,10 +471,10 @@ module _ (claims· : Claims) where
             d8 = Typed.g-pre 𝓤 H A W 𝓣 E G4 G5 b7 Δ0 (Typed.pass T4 T5 s3) at7 (Scalar.g-room 𝓤 H A W E G4 5 SlotAs.ty (SlotAs.room 𝓤 H A W)) d7
 
             d9 : Typed.Typed 𝓤 H A 𝓣 E G3 b8 Δ0 at9
-            d9 = Typed.s-seq 𝓤 H A W 𝓣 E G3 G4 b2 b7 Δ0 (Typed.both s2) at8 (Plain.t-call-plain 𝓤 H A W 𝓣 0 ps·2 r·2 (claims· .4) (claims· .5)
-                "marks::bonds::is_aside" (known .2) E (λ pos β. β) G3 (Num.vAt 3 λ x. x, (record { pos = 5; st = []; d = 0; at = λ x. x }, tt)) 6 []
-                (Call.sub-id 𝓤 H A W (G3 .slots)) ((Scalar.reads-sc 𝓤 H A W (Row.sInt Syntax.w32), Path'.refl), ((SlotAs.yields 𝓤 H A W, Path'.refl), tt))
-                (Reads.room-gone 𝓤 H A Syntax.tyBool) tt Path'.refl) d8
+            d9 = Typed.s-seq 𝓤 H A W 𝓣 E G3 G4 b2 b7 Δ0 (Typed.both s2) at8 (Plain.t-call-plain 𝓤 H A W 𝓣 0 ps·2 r·2 (claims· .4) (claims· .5) "bonds::is_aside"
+                (known .2) E (λ pos β. β) G3 (Num.vAt 3 λ x. x, (record { pos = 5; st = []; d = 0; at = λ x. x }, tt)) 6 [] (Call.sub-id 𝓤 H A W (G3
+                .slots)) ((Scalar.reads-sc 𝓤 H A W (Row.sInt Syntax.w32), Path'.refl), ((SlotAs.yields 𝓤 H A W, Path'.refl), tt)) (Reads.room-gone 𝓤 H A
+                Syntax.tyBool) tt Path'.refl) d8
 
             d10 : Typed.Typed 𝓤 H A 𝓣 E G2 b9 Δ0 at10
             d10 = Typed.s-seq 𝓤 H A W 𝓣 E G2 G3 b1 b8 Δ0 (Typed.both s1) at9 (Plain.t-call-plain 𝓤 H A W 𝓣 1 ps·1 r·1 (claims· .2) (claims· .3)
@@ -769,8 +769,8 @@ module _ (claims· : Claims) where
 
           module _ {M : Type 1} (𝓤 : URA.URA M) (H : Wp.Heap 𝓤) (A : Atoms.Atoms 𝓤) (W : Kit.Given 𝓤 H A) (𝓣 : Wp.Tables 𝓤 H) (known0 : Plain.Known 𝓤 H A W 𝓣 1
               ps·0 r·0 (claims· .0) (claims· .1) "store::search::seek") (known1 : Plain.Known 𝓤 H A W 𝓣 1 ps·1 r·1 (claims· .2) (claims· .3)
-              "store::search::slot_at") (known2 : Plain.Known 𝓤 H A W 𝓣 0 ps·2 r·2 (claims· .4) (claims· .5) "marks::bonds::is_aside") (known3 : Plain.Known 𝓤 H
-              A W 𝓣 0 ps·3 r·3 (claims· .6) (claims· .7) "ascii::both_of") where
+              "store::search::slot_at") (known2 : Plain.Known 𝓤 H A W 𝓣 0 ps·2 r·2 (claims· .4) (claims· .5) "bonds::is_aside") (known3 : Plain.Known 𝓤 H A W 𝓣 0
+              ps·3 r·3 (claims· .6) (claims· .7) "ascii::both_of") where
             pub spec : Statement.Triple 𝓤 (Wp.WpFn 𝓤 H (𝓣 .C) (𝓣 .Λ) (Function.fnOf 1 ps r xs m hs body)) (Function.plainOf 𝓤 H A 1 ps r Pre· Post·)
             spec = Plain.t-fn-plain 𝓤 H A W 𝓣 1 ps r xs m hs body (λ κs qs bs. Φ) (λ κs qs bs bd. typed κs qs 𝓤 H A W 𝓣 (known0, known1, known2, known3) bs bd)
                 Pre· Post· asked

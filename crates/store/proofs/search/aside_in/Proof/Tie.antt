@@ -2,9 +2,9 @@
 use Rattle.ascii.proofs.both_of.Met
 use Rattle.ascii.proofs.both_of.Reads
 use Rattle.ascii.proofs.both_of.Symbol
-use Rattle.marks.proofs.is_aside.Met as Met'
-use Rattle.marks.proofs.is_aside.Reads as Reads'
-use Rattle.marks.proofs.is_aside.Symbol as Symbol'
+use Rattle.bonds.proofs.is_aside.Met as Met'
+use Rattle.bonds.proofs.is_aside.Reads as Reads'
+use Rattle.bonds.proofs.is_aside.Symbol as Symbol'
 use Rattle.store.proofs.search.aside_in.Code
 use Rattle.store.proofs.search.aside_in.Key
 use Rattle.store.proofs.Walked.search.aside_in.Kinds
@@ -117,5 +117,5 @@ module _ {M : Type 1} where
       (𝓖 .A) (Running.givenOf 𝓤 H 𝓜 𝓖) (Run.Over 𝓤 H 𝓜 𝓖 𝓡 Code.env) (Reads'3.known record { M = M; 𝓤 = 𝓤; H = H; 𝓜 = 𝓜; 𝓖 = 𝓖; 𝓡 = 𝓡 } Code.env Symbol''.name
       Symbol''.routine Code.calls-store·search·seek (Met''.met 𝓤 H 𝓜 𝓖 𝓡)) (Reads'4.known record { M = M; 𝓤 = 𝓤; H = H; 𝓜 = 𝓜; 𝓖 = 𝓖; 𝓡 = 𝓡 } Code.env
       Symbol'3.name Symbol'3.routine Code.calls-store·search·slot-at (Met'3.met 𝓤 H 𝓜 𝓖 𝓡)) (Reads'.known record { M = M; 𝓤 = 𝓤; H = H; 𝓜 = 𝓜; 𝓖 = 𝓖; 𝓡 = 𝓡 }
-      Code.env Symbol'.name Symbol'.routine Code.calls-marks·is-aside (Met'.met 𝓤 H 𝓜 𝓖 𝓡)) (Reads.known record { M = M; 𝓤 = 𝓤; H = H; 𝓜 = 𝓜; 𝓖 = 𝓖; 𝓡 = 𝓡 }
+      Code.env Symbol'.name Symbol'.routine Code.calls-bonds·is-aside (Met'.met 𝓤 H 𝓜 𝓖 𝓡)) (Reads.known record { M = M; 𝓤 = 𝓤; H = H; 𝓜 = 𝓜; 𝓖 = 𝓖; 𝓡 = 𝓡 }
       Code.env Symbol.name Symbol.routine Code.calls-ascii·both-of (Met.met 𝓤 H 𝓜 𝓖 𝓡))

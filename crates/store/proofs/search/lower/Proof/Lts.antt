@@ -98,7 +98,7 @@ abbrev b9 : Syntax.Body
 b9 = Syntax.call "store::search::slot_at" (Syntax.copy (Syntax.place 1 []) ∷ Syntax.copy (Syntax.place 6 []) ∷ []) (Syntax.place 7 [])
 
 abbrev b10 : Syntax.Body
-b10 = Syntax.call "marks::bonds::is_below" (Syntax.copy (Syntax.place 7 []) ∷ Syntax.copy (Syntax.place 3 []) ∷ []) (Syntax.place 11 [])
+b10 = Syntax.call "bonds::is_below" (Syntax.copy (Syntax.place 7 []) ∷ Syntax.copy (Syntax.place 3 []) ∷ []) (Syntax.place 11 [])
 
 abbrev b11 : Syntax.Body
 b11 = Syntax.assign (Syntax.place 4 []) (Syntax.op2 (Syntax.add Syntax.unsigned) (Syntax.copy (Syntax.place 6 [])) (Syntax.int Syntax.w64 1))
@@ -664,7 +664,7 @@ module _ (claims· : Claims) where
       module _ (M : Type 1) where
         abbrev pub Closed : Type 2
         Closed = (𝓤 : URA.URA M) (H : Wp.Heap 𝓤) (A : Atoms.Atoms 𝓤) (W : Kit.Given 𝓤 H A) (𝓣 : Wp.Tables 𝓤 H) (known0 : Plain.Known 𝓤 H A W 𝓣 1 ps·0 r·0
-            (claims· .0) (claims· .1) "store::search::slot_at") (known1 : Plain.Known 𝓤 H A W 𝓣 0 ps·1 r·1 (claims· .2) (claims· .3) "marks::bonds::is_below") →
+            (claims· .0) (claims· .1) "store::search::slot_at") (known1 : Plain.Known 𝓤 H A W 𝓣 0 ps·1 r·1 (claims· .2) (claims· .3) "bonds::is_below") →
             Statement.Triple 𝓤 (Wp.WpFn 𝓤 H (𝓣 .C) (𝓣 .Λ) (Function.fnOf 1 ps r xs m hs body)) (Function.plainOf 𝓤 H A 1 ps r Pre· Post·)
 
       module _ (Inv·0 : InvT-loop) (μ·0 : MeasureT-loop) where
@@ -775,7 +775,7 @@ module _ (claims· : Claims) where
         module _ {M : Type 1} (𝓤 : URA.URA M) (H : Wp.Heap 𝓤) (A : Atoms.Atoms 𝓤) (W : Kit.Given 𝓤 H A) (𝓣 : Wp.Tables 𝓤 H) where
           abbrev Knowns : Type 1
           Knowns = Plain.Known 𝓤 H A W 𝓣 1 ps·0 r·0 (claims· .0) (claims· .1) "store::search::slot_at" × Plain.Known 𝓤 H A W 𝓣 0 ps·1 r·1 (claims· .2) (claims·
-              .3) "marks::bonds::is_below"
+              .3) "bonds::is_below"
 
         module _ (κs : Lifetimes.Lfts 1) (qs : Lifetimes.Shares 1) where
           abbrev G0 : Row.Cx
@@ -943,7 +943,7 @@ module _ (claims· : Claims) where
 
             d13 : Typed.Typed 𝓤 H A 𝓣 E G14 b14 Δ3 at13
             d13 = Typed.s-seq 𝓤 H A W 𝓣 E G14 G15 b10 b13 Δ3 (Typed.both s11) at12 (Plain.t-call-plain 𝓤 H A W 𝓣 0 ps·1 r·1 (claims· .2) (claims· .3)
-                "marks::bonds::is_below" (known .1) E (λ pos β. β) G14 (record { pos = 7; st = []; d = 0; at = λ x. x }, (Num.vAt 3 λ x. x, tt)) 11 []
+                "bonds::is_below" (known .1) E (λ pos β. β) G14 (record { pos = 7; st = []; d = 0; at = λ x. x }, (Num.vAt 3 λ x. x, tt)) 11 []
                 (Call.sub-id 𝓤 H A W (G14 .slots)) ((SlotAs.yields 𝓤 H A W, Path'.refl), ((Scalar.reads-sc 𝓤 H A W (Row.sInt Syntax.w32), Path'.refl), tt))
                 (Reads.room-gone 𝓤 H A Syntax.tyBool) tt Path'.refl) d12
 
@@ -1534,6 +1534,6 @@ module _ (claims· : Claims) where
 
           module _ {M : Type 1} (𝓤 : URA.URA M) (H : Wp.Heap 𝓤) (A : Atoms.Atoms 𝓤) (W : Kit.Given 𝓤 H A) (𝓣 : Wp.Tables 𝓤 H) (known0 : Plain.Known 𝓤 H A W 𝓣 1
               ps·0 r·0 (claims· .0) (claims· .1) "store::search::slot_at") (known1 : Plain.Known 𝓤 H A W 𝓣 0 ps·1 r·1 (claims· .2) (claims· .3)
-              "marks::bonds::is_below") where
+              "bonds::is_below") where
             pub spec : Statement.Triple 𝓤 (Wp.WpFn 𝓤 H (𝓣 .C) (𝓣 .Λ) (Function.fnOf 1 ps r xs m hs body)) (Function.plainOf 𝓤 H A 1 ps r Pre· Post·)
             spec = Plain.t-fn-plain 𝓤 H A W 𝓣 1 ps r xs m hs body (λ κs qs bs. Φ) (λ κs qs bs bd. typed κs qs 𝓤 H A W 𝓣 (known0, known1) bs bd) Pre· Post· asked

@@ -1,7 +1,7 @@
 -- Made by tools/walk.py.
-use Rattle.marks.proofs.is_below.Met
-use Rattle.marks.proofs.is_below.Reads
-use Rattle.marks.proofs.is_below.Symbol
+use Rattle.bonds.proofs.is_below.Met
+use Rattle.bonds.proofs.is_below.Reads
+use Rattle.bonds.proofs.is_below.Symbol
 use Rattle.store.proofs.search.lower.Code
 use Rattle.store.proofs.search.lower.Key
 use Rattle.store.proofs.Walked.search.lower.Kinds
@@ -97,4 +97,4 @@ module _ {M : Type 1} where
       Reads'.owns κs record { M = M; 𝓤 = 𝓤; H = H; 𝓜 = 𝓜; 𝓖 = 𝓖; 𝓡 = 𝓡 }) (Reads'.passes record { M = M; 𝓤 = 𝓤; H = H; 𝓜 = 𝓜; 𝓖 = 𝓖; 𝓡 = 𝓡 }) λ g. closed 𝓤 H
       (𝓖 .A) (Running.givenOf 𝓤 H 𝓜 𝓖) (Run.Over 𝓤 H 𝓜 𝓖 𝓡 Code.env) (Reads''.known record { M = M; 𝓤 = 𝓤; H = H; 𝓜 = 𝓜; 𝓖 = 𝓖; 𝓡 = 𝓡 } Code.env Symbol'.name
       Symbol'.routine Code.calls-store·search·slot-at (Met'.met 𝓤 H 𝓜 𝓖 𝓡)) (Reads.known record { M = M; 𝓤 = 𝓤; H = H; 𝓜 = 𝓜; 𝓖 = 𝓖; 𝓡 = 𝓡 } Code.env
-      Symbol.name Symbol.routine Code.calls-marks·is-below (Met.met 𝓤 H 𝓜 𝓖 𝓡))
+      Symbol.name Symbol.routine Code.calls-bonds·is-below (Met.met 𝓤 H 𝓜 𝓖 𝓡))

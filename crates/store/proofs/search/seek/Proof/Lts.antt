@@ -83,13 +83,13 @@ abbrev b0 : Syntax.Body
 b0 = Syntax.call "store::search::slot_at" (Syntax.copy (Syntax.place 1 []) ∷ Syntax.int Syntax.w64 0 ∷ []) (Syntax.place 4 [])
 
 abbrev b1 : Syntax.Body
-b1 = Syntax.call "marks::bonds::guess" (Syntax.copy (Syntax.place 4 []) ∷ Syntax.copy (Syntax.place 3 []) ∷ []) (Syntax.place 5 [])
+b1 = Syntax.call "bonds::guess" (Syntax.copy (Syntax.place 4 []) ∷ Syntax.copy (Syntax.place 3 []) ∷ []) (Syntax.place 5 [])
 
 abbrev b2 : Syntax.Body
 b2 = Syntax.call "store::search::slot_at" (Syntax.copy (Syntax.place 1 []) ∷ Syntax.copy (Syntax.place 5 []) ∷ []) (Syntax.place 6 [])
 
 abbrev b3 : Syntax.Body
-b3 = Syntax.call "marks::bonds::is_at" (Syntax.copy (Syntax.place 6 []) ∷ Syntax.copy (Syntax.place 3 []) ∷ []) (Syntax.place 7 [])
+b3 = Syntax.call "bonds::is_at" (Syntax.copy (Syntax.place 6 []) ∷ Syntax.copy (Syntax.place 3 []) ∷ []) (Syntax.place 7 [])
 
 abbrev b4 : Syntax.Body
 b4 = Syntax.assign (Syntax.place 9 []) (Syntax.op2 (Syntax.lt Syntax.unsigned) (Syntax.copy (Syntax.place 5 [])) (Syntax.copy (Syntax.place 2
@@ -464,10 +464,10 @@ module _ (claims· : Claims) where
       module _ (M : Type 1) where
         abbrev pub Closed : Type 2
         Closed = (𝓤 : URA.URA M) (H : Wp.Heap 𝓤) (A : Atoms.Atoms 𝓤) (W : Kit.Given 𝓤 H A) (𝓣 : Wp.Tables 𝓤 H) (known0 : Plain.Known 𝓤 H A W 𝓣 1 ps·0 r·0
-            (claims· .0) (claims· .1) "store::search::slot_at") (known1 : Plain.Known 𝓤 H A W 𝓣 0 ps·1 r·1 (claims· .2) (claims· .3) "marks::bonds::guess")
-            (known2 : Plain.Known 𝓤 H A W 𝓣 0 ps·2 r·2 (claims· .4) (claims· .5) "marks::bonds::is_at") (known3 : Plain.Known 𝓤 H A W 𝓣 0 ps·3 r·3 (claims· .6)
-            (claims· .7) "ascii::both_of") (known4 : Plain.Known 𝓤 H A W 𝓣 1 ps·4 r·4 (claims· .8) (claims· .9) "store::search::lower") → Statement.Triple 𝓤
-            (Wp.WpFn 𝓤 H (𝓣 .C) (𝓣 .Λ) (Function.fnOf 1 ps r xs m hs body)) (Function.plainOf 𝓤 H A 1 ps r Pre· Post·)
+            (claims· .0) (claims· .1) "store::search::slot_at") (known1 : Plain.Known 𝓤 H A W 𝓣 0 ps·1 r·1 (claims· .2) (claims· .3) "bonds::guess") (known2 :
+            Plain.Known 𝓤 H A W 𝓣 0 ps·2 r·2 (claims· .4) (claims· .5) "bonds::is_at") (known3 : Plain.Known 𝓤 H A W 𝓣 0 ps·3 r·3 (claims· .6) (claims· .7)
+            "ascii::both_of") (known4 : Plain.Known 𝓤 H A W 𝓣 1 ps·4 r·4 (claims· .8) (claims· .9) "store::search::lower") → Statement.Triple 𝓤 (Wp.WpFn 𝓤 H (𝓣
+            .C) (𝓣 .Λ) (Function.fnOf 1 ps r xs m hs body)) (Function.plainOf 𝓤 H A 1 ps r Pre· Post·)
 
       module _ where
         abbrev at0 : Typed.TF T17 O1
@@ -554,8 +554,8 @@ module _ (claims· : Claims) where
         module _ {M : Type 1} (𝓤 : URA.URA M) (H : Wp.Heap 𝓤) (A : Atoms.Atoms 𝓤) (W : Kit.Given 𝓤 H A) (𝓣 : Wp.Tables 𝓤 H) where
           abbrev Knowns : Type 1
           Knowns = Plain.Known 𝓤 H A W 𝓣 1 ps·0 r·0 (claims· .0) (claims· .1) "store::search::slot_at" × Plain.Known 𝓤 H A W 𝓣 0 ps·1 r·1 (claims· .2) (claims·
-              .3) "marks::bonds::guess" × Plain.Known 𝓤 H A W 𝓣 0 ps·2 r·2 (claims· .4) (claims· .5) "marks::bonds::is_at" × Plain.Known 𝓤 H A W 𝓣 0 ps·3 r·3
-              (claims· .6) (claims· .7) "ascii::both_of" × Plain.Known 𝓤 H A W 𝓣 1 ps·4 r·4 (claims· .8) (claims· .9) "store::search::lower"
+              .3) "bonds::guess" × Plain.Known 𝓤 H A W 𝓣 0 ps·2 r·2 (claims· .4) (claims· .5) "bonds::is_at" × Plain.Known 𝓤 H A W 𝓣 0 ps·3 r·3 (claims· .6)
+              (claims· .7) "ascii::both_of" × Plain.Known 𝓤 H A W 𝓣 1 ps·4 r·4 (claims· .8) (claims· .9) "store::search::lower"
 
         module _ (κs : Lifetimes.Lfts 1) (qs : Lifetimes.Shares 1) where
           abbrev G0 : Row.Cx
@@ -751,10 +751,10 @@ module _ (claims· : Claims) where
             d20 = Typed.g-pre 𝓤 H A W 𝓣 E G6 G7 b16 Δ0 (Typed.pass T6 T7 s5) at19 (Scalar.g-room 𝓤 H A W E G6 6 SlotAs.ty (SlotAs.room 𝓤 H A W)) d19
 
             d21 : Typed.Typed 𝓤 H A 𝓣 E G5 b17 Δ0 at21
-            d21 = Typed.s-seq 𝓤 H A W 𝓣 E G5 G6 b3 b16 Δ0 (Typed.both s4) at20 (Plain.t-call-plain 𝓤 H A W 𝓣 0 ps·2 r·2 (claims· .4) (claims· .5)
-                "marks::bonds::is_at" (known .2) E (λ pos β. β) G5 (record { pos = 6; st = []; d = 0; at = λ x. x }, (Num.vAt 3 λ x. x, tt)) 7 []
-                (Call.sub-id 𝓤 H A W (G5 .slots)) ((SlotAs.yields 𝓤 H A W, Path'.refl), ((Scalar.reads-sc 𝓤 H A W (Row.sInt Syntax.w32), Path'.refl), tt))
-                (Reads.room-gone 𝓤 H A Syntax.tyBool) tt Path'.refl) d20
+            d21 = Typed.s-seq 𝓤 H A W 𝓣 E G5 G6 b3 b16 Δ0 (Typed.both s4) at20 (Plain.t-call-plain 𝓤 H A W 𝓣 0 ps·2 r·2 (claims· .4) (claims· .5) "bonds::is_at"
+                (known .2) E (λ pos β. β) G5 (record { pos = 6; st = []; d = 0; at = λ x. x }, (Num.vAt 3 λ x. x, tt)) 7 [] (Call.sub-id 𝓤 H A W (G5
+                .slots)) ((SlotAs.yields 𝓤 H A W, Path'.refl), ((Scalar.reads-sc 𝓤 H A W (Row.sInt Syntax.w32), Path'.refl), tt)) (Reads.room-gone 𝓤 H A
+                Syntax.tyBool) tt Path'.refl) d20
 
             d22 : Typed.Typed 𝓤 H A 𝓣 E G4 b18 Δ0 at22
             d22 = Typed.s-seq 𝓤 H A W 𝓣 E G4 G5 b2 b17 Δ0 (Typed.both s3) at21 (Plain.t-call-plain 𝓤 H A W 𝓣 1 ps·0 r·0 (claims· .0) (claims· .1)
@@ -778,10 +778,10 @@ module _ (claims· : Claims) where
             d23 = Typed.g-pre 𝓤 H A W 𝓣 E G3 G4 b18 Δ0 (Typed.pass T3 T4 s2) at22 (Scalar.g-room 𝓤 H A W E G3 4 SlotAs.ty (SlotAs.room 𝓤 H A W)) d22
 
             d24 : Typed.Typed 𝓤 H A 𝓣 E G2 b19 Δ0 at24
-            d24 = Typed.s-seq 𝓤 H A W 𝓣 E G2 G3 b1 b18 Δ0 (Typed.both s1) at23 (Plain.t-call-plain 𝓤 H A W 𝓣 0 ps·1 r·1 (claims· .2) (claims· .3)
-                "marks::bonds::guess" (known .1) E (λ pos β. β) G2 (record { pos = 4; st = []; d = 0; at = λ x. x }, (Num.vAt 3 λ x. x, tt)) 5 []
-                (Call.sub-id 𝓤 H A W (G2 .slots)) ((SlotAs.yields 𝓤 H A W, Path'.refl), ((Scalar.reads-sc 𝓤 H A W (Row.sInt Syntax.w32), Path'.refl), tt))
-                (Reads.room-gone 𝓤 H A (Syntax.tyInt Syntax.w64)) tt Path'.refl) d23
+            d24 = Typed.s-seq 𝓤 H A W 𝓣 E G2 G3 b1 b18 Δ0 (Typed.both s1) at23 (Plain.t-call-plain 𝓤 H A W 𝓣 0 ps·1 r·1 (claims· .2) (claims· .3) "bonds::guess"
+                (known .1) E (λ pos β. β) G2 (record { pos = 4; st = []; d = 0; at = λ x. x }, (Num.vAt 3 λ x. x, tt)) 5 [] (Call.sub-id 𝓤 H A W (G2
+                .slots)) ((SlotAs.yields 𝓤 H A W, Path'.refl), ((Scalar.reads-sc 𝓤 H A W (Row.sInt Syntax.w32), Path'.refl), tt)) (Reads.room-gone 𝓤 H A
+                (Syntax.tyInt Syntax.w64)) tt Path'.refl) d23
 
             d25 : Typed.Typed 𝓤 H A 𝓣 E G0 b20 Δ0 at25
             d25 = Typed.s-seq 𝓤 H A W 𝓣 E G0 G2 b0 b19 Δ0 (Typed.both s0) at24 (Plain.t-call-plain 𝓤 H A W 𝓣 1 ps·0 r·0 (claims· .0) (claims· .1)
@@ -1207,10 +1207,9 @@ module _ (claims· : Claims) where
             }
 
           module _ {M : Type 1} (𝓤 : URA.URA M) (H : Wp.Heap 𝓤) (A : Atoms.Atoms 𝓤) (W : Kit.Given 𝓤 H A) (𝓣 : Wp.Tables 𝓤 H) (known0 : Plain.Known 𝓤 H A W 𝓣 1
-              ps·0 r·0 (claims· .0) (claims· .1) "store::search::slot_at") (known1 : Plain.Known 𝓤 H A W 𝓣 0 ps·1 r·1 (claims· .2) (claims· .3)
-              "marks::bonds::guess") (known2 : Plain.Known 𝓤 H A W 𝓣 0 ps·2 r·2 (claims· .4) (claims· .5) "marks::bonds::is_at") (known3 : Plain.Known 𝓤 H A W 𝓣
-              0 ps·3 r·3 (claims· .6) (claims· .7) "ascii::both_of") (known4 : Plain.Known 𝓤 H A W 𝓣 1 ps·4 r·4 (claims· .8) (claims· .9) "store::search::lower")
-            where
-              pub spec : Statement.Triple 𝓤 (Wp.WpFn 𝓤 H (𝓣 .C) (𝓣 .Λ) (Function.fnOf 1 ps r xs m hs body)) (Function.plainOf 𝓤 H A 1 ps r Pre· Post·)
-              spec = Plain.t-fn-plain 𝓤 H A W 𝓣 1 ps r xs m hs body (λ κs qs bs. Φ) (λ κs qs bs bd. typed κs qs 𝓤 H A W 𝓣 (known0, known1, known2, known3, known4)
-                  bs bd) Pre· Post· asked
+              ps·0 r·0 (claims· .0) (claims· .1) "store::search::slot_at") (known1 : Plain.Known 𝓤 H A W 𝓣 0 ps·1 r·1 (claims· .2) (claims· .3) "bonds::guess")
+              (known2 : Plain.Known 𝓤 H A W 𝓣 0 ps·2 r·2 (claims· .4) (claims· .5) "bonds::is_at") (known3 : Plain.Known 𝓤 H A W 𝓣 0 ps·3 r·3 (claims· .6)
+              (claims· .7) "ascii::both_of") (known4 : Plain.Known 𝓤 H A W 𝓣 1 ps·4 r·4 (claims· .8) (claims· .9) "store::search::lower") where
+            pub spec : Statement.Triple 𝓤 (Wp.WpFn 𝓤 H (𝓣 .C) (𝓣 .Λ) (Function.fnOf 1 ps r xs m hs body)) (Function.plainOf 𝓤 H A 1 ps r Pre· Post·)
+            spec = Plain.t-fn-plain 𝓤 H A W 𝓣 1 ps r xs m hs body (λ κs qs bs. Φ) (λ κs qs bs bd. typed κs qs 𝓤 H A W 𝓣 (known0, known1, known2, known3, known4)
+                bs bd) Pre· Post· asked

@@ -2,12 +2,12 @@
 use Rattle.ascii.proofs.both_of.Met
 use Rattle.ascii.proofs.both_of.Reads
 use Rattle.ascii.proofs.both_of.Symbol
-use Rattle.marks.proofs.guess.Met as Met'
-use Rattle.marks.proofs.guess.Reads as Reads'
-use Rattle.marks.proofs.guess.Symbol as Symbol'
-use Rattle.marks.proofs.is_at.Met as Met''
-use Rattle.marks.proofs.is_at.Reads as Reads''
-use Rattle.marks.proofs.is_at.Symbol as Symbol''
+use Rattle.bonds.proofs.guess.Met as Met'
+use Rattle.bonds.proofs.guess.Reads as Reads'
+use Rattle.bonds.proofs.guess.Symbol as Symbol'
+use Rattle.bonds.proofs.is_at.Met as Met''
+use Rattle.bonds.proofs.is_at.Reads as Reads''
+use Rattle.bonds.proofs.is_at.Symbol as Symbol''
 use Rattle.store.proofs.search.lower.Met as Met'3
 use Rattle.store.proofs.Walked.search.lower.Reads as Reads'3
 use Rattle.store.proofs.search.lower.Symbol as Symbol'3
@@ -309,7 +309,7 @@ module _ {M : Type 1} where
       Reads'4.owns κs record { M = M; 𝓤 = 𝓤; H = H; 𝓜 = 𝓜; 𝓖 = 𝓖; 𝓡 = 𝓡 }) (Reads'4.passes record { M = M; 𝓤 = 𝓤; H = H; 𝓜 = 𝓜; 𝓖 = 𝓖; 𝓡 = 𝓡 }) λ g. closed 𝓤 H
       (𝓖 .A) (Running.givenOf 𝓤 H 𝓜 𝓖) (Run.Over 𝓤 H 𝓜 𝓖 𝓡 Code.env) (Reads'5.known record { M = M; 𝓤 = 𝓤; H = H; 𝓜 = 𝓜; 𝓖 = 𝓖; 𝓡 = 𝓡 } Code.env Symbol'4.name
       Symbol'4.routine Code.calls-store·search·slot-at (Met'4.met 𝓤 H 𝓜 𝓖 𝓡)) (Reads'.known record { M = M; 𝓤 = 𝓤; H = H; 𝓜 = 𝓜; 𝓖 = 𝓖; 𝓡 = 𝓡 } Code.env
-      Symbol'.name Symbol'.routine Code.calls-marks·guess (Met'.met 𝓤 H 𝓜 𝓖 𝓡)) (Reads''.known record { M = M; 𝓤 = 𝓤; H = H; 𝓜 = 𝓜; 𝓖 = 𝓖; 𝓡 = 𝓡 } Code.env
-      Symbol''.name Symbol''.routine Code.calls-marks·is-at (Met''.met 𝓤 H 𝓜 𝓖 𝓡)) (Reads.known record { M = M; 𝓤 = 𝓤; H = H; 𝓜 = 𝓜; 𝓖 = 𝓖; 𝓡 = 𝓡 } Code.env
+      Symbol'.name Symbol'.routine Code.calls-bonds·guess (Met'.met 𝓤 H 𝓜 𝓖 𝓡)) (Reads''.known record { M = M; 𝓤 = 𝓤; H = H; 𝓜 = 𝓜; 𝓖 = 𝓖; 𝓡 = 𝓡 } Code.env
+      Symbol''.name Symbol''.routine Code.calls-bonds·is-at (Met''.met 𝓤 H 𝓜 𝓖 𝓡)) (Reads.known record { M = M; 𝓤 = 𝓤; H = H; 𝓜 = 𝓜; 𝓖 = 𝓖; 𝓡 = 𝓡 } Code.env
       Symbol.name Symbol.routine Code.calls-ascii·both-of (Met.met 𝓤 H 𝓜 𝓖 𝓡)) (Reads'3.known record { M = M; 𝓤 = 𝓤; H = H; 𝓜 = 𝓜; 𝓖 = 𝓖; 𝓡 = 𝓡 } Code.env
       Symbol'3.name Symbol'3.routine Code.calls-store·search·lower (Met'3.met 𝓤 H 𝓜 𝓖 𝓡))

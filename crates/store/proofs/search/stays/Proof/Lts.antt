@@ -207,7 +207,7 @@ hs = Syntax.valueLocal ∷ Syntax.valueLocal ∷ Syntax.valueLocal ∷ Syntax.va
     Syntax.valueLocal ∷ Syntax.valueLocal ∷ []
 
 abbrev b0 : Syntax.Body
-b0 = Syntax.call "gate::is_coord" (Syntax.copy (Syntax.place 4 []) ∷ []) (Syntax.place 6 [])
+b0 = Syntax.call "rows::is_coord" (Syntax.copy (Syntax.place 4 []) ∷ []) (Syntax.place 6 [])
 
 abbrev b1 : Syntax.Body
 b1 = Syntax.call "marks::is_kept" (Syntax.copy (Syntax.place 3 []) ∷ []) (Syntax.place 0 [])
@@ -225,10 +225,10 @@ abbrev b5 : Syntax.Body
 b5 = Syntax.cond (Syntax.copy (Syntax.place 6 [])) b3 b4
 
 abbrev b6 : Syntax.Body
-b6 = Syntax.call "marks::bonds::is_conect" (Syntax.copy (Syntax.place 4 []) ∷ []) (Syntax.place 7 [])
+b6 = Syntax.call "bonds::is_conect" (Syntax.copy (Syntax.place 4 []) ∷ []) (Syntax.place 7 [])
 
 abbrev b7 : Syntax.Body
-b7 = Syntax.call "marks::bonds::conect_in" (Syntax.copy (Syntax.place 4 []) ∷ []) (Syntax.place 8 [])
+b7 = Syntax.call "bonds::conect_in" (Syntax.copy (Syntax.place 4 []) ∷ []) (Syntax.place 8 [])
 
 abbrev b8 : Syntax.Body
 b8 = Syntax.call "store::search::names_aside" (Syntax.copy (Syntax.place 1 []) ∷ Syntax.copy (Syntax.place 2 []) ∷ Syntax.copy (Syntax.place 8
@@ -2163,10 +2163,10 @@ module _ (claims· : Claims) where
       module _ (M : Type 1) where
         abbrev pub Closed : Type 2
         Closed = (𝓤 : URA.URA M) (H : Wp.Heap 𝓤) (A : Atoms.Atoms 𝓤) (W : Kit.Given 𝓤 H A) (𝓣 : Wp.Tables 𝓤 H) (known0 : Plain.Known 𝓤 H A W 𝓣 0 ps·0 r·0
-            (claims· .0) (claims· .1) "gate::is_coord") (known1 : Plain.Known 𝓤 H A W 𝓣 0 ps·1 r·1 (claims· .2) (claims· .3) "marks::is_kept") (known2 :
-            Plain.Known 𝓤 H A W 𝓣 0 ps·2 r·2 (claims· .4) (claims· .5) "marks::bonds::is_conect") (known3 : Plain.Known 𝓤 H A W 𝓣 0 ps·3 r·3 (claims· .6)
-            (claims· .7) "marks::bonds::conect_in") (known4 : Plain.Known 𝓤 H A W 𝓣 1 ps·4 r·4 (claims· .8) (claims· .9) "store::search::names_aside") →
-            Statement.Triple 𝓤 (Wp.WpFn 𝓤 H (𝓣 .C) (𝓣 .Λ) (Function.fnOf 1 ps r xs m hs body)) (Function.plainOf 𝓤 H A 1 ps r Pre· Post·)
+            (claims· .0) (claims· .1) "rows::is_coord") (known1 : Plain.Known 𝓤 H A W 𝓣 0 ps·1 r·1 (claims· .2) (claims· .3) "marks::is_kept") (known2 :
+            Plain.Known 𝓤 H A W 𝓣 0 ps·2 r·2 (claims· .4) (claims· .5) "bonds::is_conect") (known3 : Plain.Known 𝓤 H A W 𝓣 0 ps·3 r·3 (claims· .6) (claims· .7)
+            "bonds::conect_in") (known4 : Plain.Known 𝓤 H A W 𝓣 1 ps·4 r·4 (claims· .8) (claims· .9) "store::search::names_aside") → Statement.Triple 𝓤 (Wp.WpFn
+            𝓤 H (𝓣 .C) (𝓣 .Λ) (Function.fnOf 1 ps r xs m hs body)) (Function.plainOf 𝓤 H A 1 ps r Pre· Post·)
 
       module _ where
         abbrev at0 : Typed.TF T8 O1
@@ -2264,9 +2264,9 @@ module _ (claims· : Claims) where
 
         module _ {M : Type 1} (𝓤 : URA.URA M) (H : Wp.Heap 𝓤) (A : Atoms.Atoms 𝓤) (W : Kit.Given 𝓤 H A) (𝓣 : Wp.Tables 𝓤 H) where
           abbrev Knowns : Type 1
-          Knowns = Plain.Known 𝓤 H A W 𝓣 0 ps·0 r·0 (claims· .0) (claims· .1) "gate::is_coord" × Plain.Known 𝓤 H A W 𝓣 0 ps·1 r·1 (claims· .2) (claims· .3)
-              "marks::is_kept" × Plain.Known 𝓤 H A W 𝓣 0 ps·2 r·2 (claims· .4) (claims· .5) "marks::bonds::is_conect" × Plain.Known 𝓤 H A W 𝓣 0 ps·3 r·3 (claims·
-              .6) (claims· .7) "marks::bonds::conect_in" × Plain.Known 𝓤 H A W 𝓣 1 ps·4 r·4 (claims· .8) (claims· .9) "store::search::names_aside"
+          Knowns = Plain.Known 𝓤 H A W 𝓣 0 ps·0 r·0 (claims· .0) (claims· .1) "rows::is_coord" × Plain.Known 𝓤 H A W 𝓣 0 ps·1 r·1 (claims· .2) (claims· .3)
+              "marks::is_kept" × Plain.Known 𝓤 H A W 𝓣 0 ps·2 r·2 (claims· .4) (claims· .5) "bonds::is_conect" × Plain.Known 𝓤 H A W 𝓣 0 ps·3 r·3 (claims· .6)
+              (claims· .7) "bonds::conect_in" × Plain.Known 𝓤 H A W 𝓣 1 ps·4 r·4 (claims· .8) (claims· .9) "store::search::names_aside"
 
         module _ (κs : Lifetimes.Lfts 1) (qs : Lifetimes.Shares 1) where
           abbrev G0 : Row.Cx
@@ -2854,8 +2854,8 @@ module _ (claims· : Claims) where
 
             d17 : Typed.Typed 𝓤 H A 𝓣 E G13 b13 Δ2 at17
             d17 = Typed.s-seq 𝓤 H A W 𝓣 E G13 G14 b7 b12 Δ2 (Typed.both s10) at16 (Plain.t-call-plain 𝓤 H A W 𝓣 0 ps·3 r·3 (claims· .6) (claims· .7)
-                "marks::bonds::conect_in" (known .3) E (λ pos β. β) G13 (record { pos = 4; st = []; d = 0; at = λ x. x }, tt) 8 [] (Call.sub-id 𝓤 H A W
-                (G13 .slots)) (
+                "bonds::conect_in" (known .3) E (λ pos β. β) G13 (record { pos = 4; st = []; d = 0; at = λ x. x }, tt) 8 [] (Call.sub-id 𝓤 H A W (G13
+                .slots)) (
                   (
                     Yields.yields-copy 𝓤 H A W (λ ρ. Unit) (Declared.row Line.the-type) Path'.refl (Copies.cEnum Line.the-type Laws'.the-laws
                         Laws'.the-copy .copy 𝓤 H A W) (Rows'.whole (Declared.row Line.the-type)) (λ x. x) (λ x. x) (λ ρ told. Local.mem-whole 𝓤 H A W (Declared.row
@@ -3102,8 +3102,8 @@ module _ (claims· : Claims) where
 
             d27 : Typed.Typed 𝓤 H A 𝓣 E G3 b20 Δ0 at27
             d27 = Typed.s-seq 𝓤 H A W 𝓣 E G3 G11 b6 b19 Δ0 (Typed.both s8) at26 (Plain.t-call-plain 𝓤 H A W 𝓣 0 ps·2 r·2 (claims· .4) (claims· .5)
-                "marks::bonds::is_conect" (known .2) E (λ pos β. β) G3 (record { pos = 4; st = []; d = 0; at = λ x. x }, tt) 7 [] (Call.sub-id 𝓤 H A W
-                (G3 .slots)) (
+                "bonds::is_conect" (known .2) E (λ pos β. β) G3 (record { pos = 4; st = []; d = 0; at = λ x. x }, tt) 7 [] (Call.sub-id 𝓤 H A W (G3
+                .slots)) (
                   (
                     Yields.yields-copy 𝓤 H A W (λ ρ. Unit) (Declared.row Line.the-type) Path'.refl (Copies.cEnum Line.the-type Laws'.the-laws
                         Laws'.the-copy .copy 𝓤 H A W) (Rows'.whole (Declared.row Line.the-type)) (λ x. x) (λ x. x) (λ ρ told. Local.mem-whole 𝓤 H A W (Declared.row
@@ -3119,7 +3119,7 @@ module _ (claims· : Claims) where
 
             d29 : Typed.Typed 𝓤 H A 𝓣 E G0 b22 Δ0 at29
             d29 = Typed.s-seq 𝓤 H A W 𝓣 E G0 G2 b0 b21 Δ0 (Typed.both s0) at28 (Plain.t-call-plain 𝓤 H A W 𝓣 0 ps·0 r·0 (claims· .0) (claims· .1)
-                "gate::is_coord" (known .0) E (λ pos β. β) G0 (record { pos = 4; st = []; d = 0; at = λ x. x }, tt) 6 [] (Call.sub-id 𝓤 H A W (G0
+                "rows::is_coord" (known .0) E (λ pos β. β) G0 (record { pos = 4; st = []; d = 0; at = λ x. x }, tt) 6 [] (Call.sub-id 𝓤 H A W (G0
                 .slots)) (
                   (
                     Yields.yields-copy 𝓤 H A W (λ ρ. Unit) (Declared.row Line.the-type) Path'.refl (Copies.cEnum Line.the-type Laws'.the-laws
@@ -3508,9 +3508,9 @@ module _ (claims· : Claims) where
             }
 
           module _ {M : Type 1} (𝓤 : URA.URA M) (H : Wp.Heap 𝓤) (A : Atoms.Atoms 𝓤) (W : Kit.Given 𝓤 H A) (𝓣 : Wp.Tables 𝓤 H) (known0 : Plain.Known 𝓤 H A W 𝓣 0
-              ps·0 r·0 (claims· .0) (claims· .1) "gate::is_coord") (known1 : Plain.Known 𝓤 H A W 𝓣 0 ps·1 r·1 (claims· .2) (claims· .3) "marks::is_kept") (known2
-              : Plain.Known 𝓤 H A W 𝓣 0 ps·2 r·2 (claims· .4) (claims· .5) "marks::bonds::is_conect") (known3 : Plain.Known 𝓤 H A W 𝓣 0 ps·3 r·3 (claims· .6)
-              (claims· .7) "marks::bonds::conect_in") (known4 : Plain.Known 𝓤 H A W 𝓣 1 ps·4 r·4 (claims· .8) (claims· .9) "store::search::names_aside") where
+              ps·0 r·0 (claims· .0) (claims· .1) "rows::is_coord") (known1 : Plain.Known 𝓤 H A W 𝓣 0 ps·1 r·1 (claims· .2) (claims· .3) "marks::is_kept") (known2
+              : Plain.Known 𝓤 H A W 𝓣 0 ps·2 r·2 (claims· .4) (claims· .5) "bonds::is_conect") (known3 : Plain.Known 𝓤 H A W 𝓣 0 ps·3 r·3 (claims· .6) (claims·
+              .7) "bonds::conect_in") (known4 : Plain.Known 𝓤 H A W 𝓣 1 ps·4 r·4 (claims· .8) (claims· .9) "store::search::names_aside") where
             pub spec : Statement.Triple 𝓤 (Wp.WpFn 𝓤 H (𝓣 .C) (𝓣 .Λ) (Function.fnOf 1 ps r xs m hs body)) (Function.plainOf 𝓤 H A 1 ps r Pre· Post·)
             spec = Plain.t-fn-plain 𝓤 H A W 𝓣 1 ps r xs m hs body (λ κs qs bs. Φ) (λ κs qs bs bd. typed κs qs 𝓤 H A W 𝓣 (known0, known1, known2, known3, known4)
                 bs bd) Pre· Post· asked

@@ -1,14 +1,14 @@
 -- Made by tools/walk.py.
 use Rattle.store.proofs.SlotAs
 use Prim.Native.Nat
-use Rattle.gate.proofs.Span
-use Rattle.gate.proofs.Span.Laws
 use Rattle.gate.proofs.Verdict
-use Rattle.gate.proofs.Verdict.Laws as Laws'
+use Rattle.gate.proofs.Verdict.Laws
 use Rattle.pieces.proofs.Line
-use Rattle.pieces.proofs.Line.Laws as Laws''
+use Rattle.pieces.proofs.Line.Laws as Laws'
 use Rattle.rules.proofs.State
-use Rattle.rules.proofs.State.Laws as Laws'3
+use Rattle.rules.proofs.State.Laws as Laws''
+use Rattle.serials.proofs.Span
+use Rattle.serials.proofs.Span.Laws as Laws'3
 use Rattle.store.proofs.Findings
 use Rattle.store.proofs.Findings.Laws as Laws'4
 use borrow.Author.Called
@@ -99,39 +99,39 @@ xs = Syntax.tyInt Syntax.w64 ∷ (Syntax.tyStruct (114 ∷ 117 ∷ 108 ∷ 101 �
     117 ∷ 110 ∷ 116 ∷ 115 ∷ []) (Syntax.tcons (Syntax.tyInt Syntax.w64) (Syntax.tcons (Syntax.tyInt Syntax.w64) (Syntax.tcons (Syntax.tyInt Syntax.w64)
     (Syntax.tcons (Syntax.tyInt Syntax.w64) (Syntax.tcons (Syntax.tyInt Syntax.w64) (Syntax.tcons (Syntax.tyInt Syntax.w64) (Syntax.tcons (Syntax.tyInt
     Syntax.w64) (Syntax.tcons (Syntax.tyInt Syntax.w64) (Syntax.tcons (Syntax.tyInt Syntax.w64) Syntax.tnil)))))))))) (Syntax.tcons (Syntax.tyInt Syntax.w64)
-    Syntax.tnil))))))))) ∷ (Syntax.tyStruct (103 ∷ 97 ∷ 116 ∷ 101 ∷ 58 ∷ 58 ∷ 83 ∷ 112 ∷ 97 ∷ 110 ∷ []) (Syntax.tcons (Syntax.tyInt Syntax.w64) (Syntax.tcons
-    (Syntax.tyInt Syntax.w64) Syntax.tnil))) ∷ Syntax.tyInt Syntax.w64 ∷ Syntax.tyBool ∷ Syntax.tyInt Syntax.w64 ∷ (Syntax.tyEnum (112 ∷ 105 ∷ 101 ∷ 99 ∷ 101 ∷
-    115 ∷ 58 ∷ 58 ∷ 76 ∷ 105 ∷ 110 ∷ 101 ∷ []) (Syntax.ttcons (Syntax.tcons (Syntax.tyInt Syntax.w8) Syntax.tnil) (Syntax.ttcons (Syntax.tcons (Syntax.tyEnum
-    (107 ∷ 105 ∷ 110 ∷ 100 ∷ 115 ∷ 58 ∷ 58 ∷ 75 ∷ 105 ∷ 110 ∷ 100 ∷ []) (Syntax.ttcons Syntax.tnil (Syntax.ttcons Syntax.tnil (Syntax.ttcons Syntax.tnil
+    Syntax.tnil))))))))) ∷ (Syntax.tyStruct (115 ∷ 101 ∷ 114 ∷ 105 ∷ 97 ∷ 108 ∷ 115 ∷ 58 ∷ 58 ∷ 83 ∷ 112 ∷ 97 ∷ 110 ∷ []) (Syntax.tcons (Syntax.tyInt
+    Syntax.w64) (Syntax.tcons (Syntax.tyInt Syntax.w64) Syntax.tnil))) ∷ Syntax.tyInt Syntax.w64 ∷ Syntax.tyBool ∷ Syntax.tyInt Syntax.w64 ∷ (Syntax.tyEnum
+    (112 ∷ 105 ∷ 101 ∷ 99 ∷ 101 ∷ 115 ∷ 58 ∷ 58 ∷ 76 ∷ 105 ∷ 110 ∷ 101 ∷ []) (Syntax.ttcons (Syntax.tcons (Syntax.tyInt Syntax.w8) Syntax.tnil) (Syntax.ttcons
+    (Syntax.tcons (Syntax.tyEnum (107 ∷ 105 ∷ 110 ∷ 100 ∷ 115 ∷ 58 ∷ 58 ∷ 75 ∷ 105 ∷ 110 ∷ 100 ∷ []) (Syntax.ttcons Syntax.tnil (Syntax.ttcons Syntax.tnil
     (Syntax.ttcons Syntax.tnil (Syntax.ttcons Syntax.tnil (Syntax.ttcons Syntax.tnil (Syntax.ttcons Syntax.tnil (Syntax.ttcons Syntax.tnil (Syntax.ttcons
     Syntax.tnil (Syntax.ttcons Syntax.tnil (Syntax.ttcons Syntax.tnil (Syntax.ttcons Syntax.tnil (Syntax.ttcons Syntax.tnil (Syntax.ttcons Syntax.tnil
     (Syntax.ttcons Syntax.tnil (Syntax.ttcons Syntax.tnil (Syntax.ttcons Syntax.tnil (Syntax.ttcons Syntax.tnil (Syntax.ttcons Syntax.tnil (Syntax.ttcons
     Syntax.tnil (Syntax.ttcons Syntax.tnil (Syntax.ttcons Syntax.tnil (Syntax.ttcons Syntax.tnil (Syntax.ttcons Syntax.tnil (Syntax.ttcons Syntax.tnil
-    (Syntax.ttcons Syntax.tnil (Syntax.ttcons Syntax.tnil (Syntax.ttcons Syntax.tnil Syntax.ttnil))))))))))))))))))))))))))))) (Syntax.tcons (Syntax.tyInt
-    Syntax.w32) Syntax.tnil)) (Syntax.ttcons (Syntax.tcons (Syntax.tyEnum (107 ∷ 105 ∷ 110 ∷ 100 ∷ 115 ∷ 58 ∷ 58 ∷ 75 ∷ 105 ∷ 110 ∷ 100 ∷ []) (Syntax.ttcons
-    Syntax.tnil (Syntax.ttcons Syntax.tnil (Syntax.ttcons Syntax.tnil (Syntax.ttcons Syntax.tnil (Syntax.ttcons Syntax.tnil (Syntax.ttcons Syntax.tnil
+    (Syntax.ttcons Syntax.tnil (Syntax.ttcons Syntax.tnil (Syntax.ttcons Syntax.tnil (Syntax.ttcons Syntax.tnil Syntax.ttnil)))))))))))))))))))))))))))))
+    (Syntax.tcons (Syntax.tyInt Syntax.w32) Syntax.tnil)) (Syntax.ttcons (Syntax.tcons (Syntax.tyEnum (107 ∷ 105 ∷ 110 ∷ 100 ∷ 115 ∷ 58 ∷ 58 ∷ 75 ∷ 105 ∷ 110 ∷
+    100 ∷ []) (Syntax.ttcons Syntax.tnil (Syntax.ttcons Syntax.tnil (Syntax.ttcons Syntax.tnil (Syntax.ttcons Syntax.tnil (Syntax.ttcons Syntax.tnil
     (Syntax.ttcons Syntax.tnil (Syntax.ttcons Syntax.tnil (Syntax.ttcons Syntax.tnil (Syntax.ttcons Syntax.tnil (Syntax.ttcons Syntax.tnil (Syntax.ttcons
     Syntax.tnil (Syntax.ttcons Syntax.tnil (Syntax.ttcons Syntax.tnil (Syntax.ttcons Syntax.tnil (Syntax.ttcons Syntax.tnil (Syntax.ttcons Syntax.tnil
     (Syntax.ttcons Syntax.tnil (Syntax.ttcons Syntax.tnil (Syntax.ttcons Syntax.tnil (Syntax.ttcons Syntax.tnil (Syntax.ttcons Syntax.tnil (Syntax.ttcons
     Syntax.tnil (Syntax.ttcons Syntax.tnil (Syntax.ttcons Syntax.tnil (Syntax.ttcons Syntax.tnil (Syntax.ttcons Syntax.tnil (Syntax.ttcons Syntax.tnil
-    Syntax.ttnil))))))))))))))))))))))))))))) Syntax.tnil) (Syntax.ttcons (Syntax.tcons (Syntax.tyEnum (108 ∷ 105 ∷ 110 ∷ 101 ∷ 58 ∷ 58 ∷ 82 ∷ 101 ∷ 99 ∷ 111 ∷
-    114 ∷ 100 ∷ []) (Syntax.ttcons (Syntax.tcons Syntax.tyBool (Syntax.tcons (Syntax.tyStruct (99 ∷ 111 ∷ 111 ∷ 114 ∷ 100 ∷ 105 ∷ 110 ∷ 97 ∷ 116 ∷ 101 ∷ 58 ∷
-    58 ∷ 65 ∷ 116 ∷ 111 ∷ 109 ∷ []) (Syntax.tcons (Syntax.tyStruct (99 ∷ 111 ∷ 111 ∷ 114 ∷ 100 ∷ 105 ∷ 110 ∷ 97 ∷ 116 ∷ 101 ∷ 58 ∷ 58 ∷ 73 ∷ 100 ∷ 101 ∷ 110 ∷
-    116 ∷ 105 ∷ 116 ∷ 121 ∷ []) (Syntax.tcons (Syntax.tyStruct (102 ∷ 105 ∷ 101 ∷ 108 ∷ 100 ∷ 115 ∷ 58 ∷ 58 ∷ 83 ∷ 101 ∷ 114 ∷ 105 ∷ 97 ∷ 108 ∷ [])
-    (Syntax.tcons (Syntax.tyInt Syntax.w32) Syntax.tnil)) (Syntax.tcons (Syntax.tyStruct (110 ∷ 97 ∷ 109 ∷ 101 ∷ 115 ∷ 58 ∷ 58 ∷ 70 ∷ 111 ∷ 117 ∷ 114 ∷ [])
-    (Syntax.tcons (Syntax.tyInt Syntax.w8) (Syntax.tcons (Syntax.tyInt Syntax.w8) (Syntax.tcons (Syntax.tyInt Syntax.w8) (Syntax.tcons (Syntax.tyInt Syntax.w8)
-    Syntax.tnil))))) (Syntax.tcons (Syntax.tyInt Syntax.w8) (Syntax.tcons (Syntax.tyStruct (114 ∷ 101 ∷ 115 ∷ 105 ∷ 100 ∷ 117 ∷ 101 ∷ 58 ∷ 58 ∷ 82 ∷ 101 ∷ 115
-    ∷ 105 ∷ 100 ∷ 117 ∷ 101 ∷ []) (Syntax.tcons (Syntax.tyStruct (110 ∷ 97 ∷ 109 ∷ 101 ∷ 115 ∷ 58 ∷ 58 ∷ 84 ∷ 104 ∷ 114 ∷ 101 ∷ 101 ∷ []) (Syntax.tcons
-    (Syntax.tyInt Syntax.w8) (Syntax.tcons (Syntax.tyInt Syntax.w8) (Syntax.tcons (Syntax.tyInt Syntax.w8) Syntax.tnil)))) (Syntax.tcons (Syntax.tyInt
-    Syntax.w8) (Syntax.tcons (Syntax.tyStruct (102 ∷ 105 ∷ 101 ∷ 108 ∷ 100 ∷ 115 ∷ 58 ∷ 58 ∷ 82 ∷ 101 ∷ 115 ∷ 105 ∷ 100 ∷ 117 ∷ 101 ∷ 78 ∷ 117 ∷ 109 ∷ 98 ∷ 101
-    ∷ 114 ∷ []) (Syntax.tcons (Syntax.tyInt Syntax.w32) Syntax.tnil)) (Syntax.tcons (Syntax.tyInt Syntax.w8) Syntax.tnil))))) Syntax.tnil))))) (Syntax.tcons
-    (Syntax.tyStruct (99 ∷ 111 ∷ 111 ∷ 114 ∷ 100 ∷ 105 ∷ 110 ∷ 97 ∷ 116 ∷ 101 ∷ 58 ∷ 58 ∷ 77 ∷ 101 ∷ 97 ∷ 115 ∷ 117 ∷ 114 ∷ 101 ∷ []) (Syntax.tcons
-    (Syntax.tyStruct (99 ∷ 111 ∷ 111 ∷ 114 ∷ 100 ∷ 105 ∷ 110 ∷ 97 ∷ 116 ∷ 101 ∷ 58 ∷ 58 ∷ 80 ∷ 111 ∷ 115 ∷ 105 ∷ 116 ∷ 105 ∷ 111 ∷ 110 ∷ []) (Syntax.tcons
-    (Syntax.tyInt Syntax.w32) (Syntax.tcons (Syntax.tyInt Syntax.w32) (Syntax.tcons (Syntax.tyInt Syntax.w32) Syntax.tnil)))) (Syntax.tcons (Syntax.tyInt
-    Syntax.w32) (Syntax.tcons (Syntax.tyInt Syntax.w32) Syntax.tnil)))) (Syntax.tcons (Syntax.tyStruct (99 ∷ 111 ∷ 111 ∷ 114 ∷ 100 ∷ 105 ∷ 110 ∷ 97 ∷ 116 ∷ 101
-    ∷ 58 ∷ 58 ∷ 83 ∷ 112 ∷ 101 ∷ 99 ∷ 105 ∷ 101 ∷ 115 ∷ []) (Syntax.tcons (Syntax.tyStruct (110 ∷ 97 ∷ 109 ∷ 101 ∷ 115 ∷ 58 ∷ 58 ∷ 80 ∷ 97 ∷ 105 ∷ 114 ∷ [])
-    (Syntax.tcons (Syntax.tyInt Syntax.w8) (Syntax.tcons (Syntax.tyInt Syntax.w8) Syntax.tnil))) (Syntax.tcons (Syntax.tyStruct (110 ∷ 97 ∷ 109 ∷ 101 ∷ 115 ∷
-    58 ∷ 58 ∷ 80 ∷ 97 ∷ 105 ∷ 114 ∷ []) (Syntax.tcons (Syntax.tyInt Syntax.w8) (Syntax.tcons (Syntax.tyInt Syntax.w8) Syntax.tnil))) Syntax.tnil)))
+    (Syntax.ttcons Syntax.tnil Syntax.ttnil))))))))))))))))))))))))))))) Syntax.tnil) (Syntax.ttcons (Syntax.tcons (Syntax.tyEnum (108 ∷ 105 ∷ 110 ∷ 101 ∷ 58 ∷
+    58 ∷ 82 ∷ 101 ∷ 99 ∷ 111 ∷ 114 ∷ 100 ∷ []) (Syntax.ttcons (Syntax.tcons Syntax.tyBool (Syntax.tcons (Syntax.tyStruct (99 ∷ 111 ∷ 111 ∷ 114 ∷ 100 ∷ 105 ∷
+    110 ∷ 97 ∷ 116 ∷ 101 ∷ 58 ∷ 58 ∷ 65 ∷ 116 ∷ 111 ∷ 109 ∷ []) (Syntax.tcons (Syntax.tyStruct (99 ∷ 111 ∷ 111 ∷ 114 ∷ 100 ∷ 105 ∷ 110 ∷ 97 ∷ 116 ∷ 101 ∷ 58 ∷
+    58 ∷ 73 ∷ 100 ∷ 101 ∷ 110 ∷ 116 ∷ 105 ∷ 116 ∷ 121 ∷ []) (Syntax.tcons (Syntax.tyStruct (102 ∷ 105 ∷ 101 ∷ 108 ∷ 100 ∷ 115 ∷ 58 ∷ 58 ∷ 83 ∷ 101 ∷ 114 ∷ 105
+    ∷ 97 ∷ 108 ∷ []) (Syntax.tcons (Syntax.tyInt Syntax.w32) Syntax.tnil)) (Syntax.tcons (Syntax.tyStruct (110 ∷ 97 ∷ 109 ∷ 101 ∷ 115 ∷ 58 ∷ 58 ∷ 70 ∷ 111 ∷
+    117 ∷ 114 ∷ []) (Syntax.tcons (Syntax.tyInt Syntax.w8) (Syntax.tcons (Syntax.tyInt Syntax.w8) (Syntax.tcons (Syntax.tyInt Syntax.w8) (Syntax.tcons
+    (Syntax.tyInt Syntax.w8) Syntax.tnil))))) (Syntax.tcons (Syntax.tyInt Syntax.w8) (Syntax.tcons (Syntax.tyStruct (114 ∷ 101 ∷ 115 ∷ 105 ∷ 100 ∷ 117 ∷ 101 ∷
+    58 ∷ 58 ∷ 82 ∷ 101 ∷ 115 ∷ 105 ∷ 100 ∷ 117 ∷ 101 ∷ []) (Syntax.tcons (Syntax.tyStruct (110 ∷ 97 ∷ 109 ∷ 101 ∷ 115 ∷ 58 ∷ 58 ∷ 84 ∷ 104 ∷ 114 ∷ 101 ∷ 101 ∷
+    []) (Syntax.tcons (Syntax.tyInt Syntax.w8) (Syntax.tcons (Syntax.tyInt Syntax.w8) (Syntax.tcons (Syntax.tyInt Syntax.w8) Syntax.tnil)))) (Syntax.tcons
+    (Syntax.tyInt Syntax.w8) (Syntax.tcons (Syntax.tyStruct (102 ∷ 105 ∷ 101 ∷ 108 ∷ 100 ∷ 115 ∷ 58 ∷ 58 ∷ 82 ∷ 101 ∷ 115 ∷ 105 ∷ 100 ∷ 117 ∷ 101 ∷ 78 ∷ 117 ∷
+    109 ∷ 98 ∷ 101 ∷ 114 ∷ []) (Syntax.tcons (Syntax.tyInt Syntax.w32) Syntax.tnil)) (Syntax.tcons (Syntax.tyInt Syntax.w8) Syntax.tnil))))) Syntax.tnil)))))
+    (Syntax.tcons (Syntax.tyStruct (99 ∷ 111 ∷ 111 ∷ 114 ∷ 100 ∷ 105 ∷ 110 ∷ 97 ∷ 116 ∷ 101 ∷ 58 ∷ 58 ∷ 77 ∷ 101 ∷ 97 ∷ 115 ∷ 117 ∷ 114 ∷ 101 ∷ [])
+    (Syntax.tcons (Syntax.tyStruct (99 ∷ 111 ∷ 111 ∷ 114 ∷ 100 ∷ 105 ∷ 110 ∷ 97 ∷ 116 ∷ 101 ∷ 58 ∷ 58 ∷ 80 ∷ 111 ∷ 115 ∷ 105 ∷ 116 ∷ 105 ∷ 111 ∷ 110 ∷ [])
+    (Syntax.tcons (Syntax.tyInt Syntax.w32) (Syntax.tcons (Syntax.tyInt Syntax.w32) (Syntax.tcons (Syntax.tyInt Syntax.w32) Syntax.tnil)))) (Syntax.tcons
+    (Syntax.tyInt Syntax.w32) (Syntax.tcons (Syntax.tyInt Syntax.w32) Syntax.tnil)))) (Syntax.tcons (Syntax.tyStruct (99 ∷ 111 ∷ 111 ∷ 114 ∷ 100 ∷ 105 ∷ 110 ∷
+    97 ∷ 116 ∷ 101 ∷ 58 ∷ 58 ∷ 83 ∷ 112 ∷ 101 ∷ 99 ∷ 105 ∷ 101 ∷ 115 ∷ []) (Syntax.tcons (Syntax.tyStruct (110 ∷ 97 ∷ 109 ∷ 101 ∷ 115 ∷ 58 ∷ 58 ∷ 80 ∷ 97 ∷ 105
+    ∷ 114 ∷ []) (Syntax.tcons (Syntax.tyInt Syntax.w8) (Syntax.tcons (Syntax.tyInt Syntax.w8) Syntax.tnil))) (Syntax.tcons (Syntax.tyStruct (110 ∷ 97 ∷ 109 ∷
+    101 ∷ 115 ∷ 58 ∷ 58 ∷ 80 ∷ 97 ∷ 105 ∷ 114 ∷ []) (Syntax.tcons (Syntax.tyInt Syntax.w8) (Syntax.tcons (Syntax.tyInt Syntax.w8) Syntax.tnil))) Syntax.tnil)))
     Syntax.tnil)))) Syntax.tnil)) (Syntax.ttcons (Syntax.tcons (Syntax.tyStruct (116 ∷ 101 ∷ 114 ∷ 58 ∷ 58 ∷ 84 ∷ 101 ∷ 114 ∷ []) (Syntax.tcons
     (Syntax.tyStruct (102 ∷ 105 ∷ 101 ∷ 108 ∷ 100 ∷ 115 ∷ 58 ∷ 58 ∷ 83 ∷ 101 ∷ 114 ∷ 105 ∷ 97 ∷ 108 ∷ []) (Syntax.tcons (Syntax.tyInt Syntax.w32) Syntax.tnil))
     (Syntax.tcons (Syntax.tyStruct (114 ∷ 101 ∷ 115 ∷ 105 ∷ 100 ∷ 117 ∷ 101 ∷ 58 ∷ 58 ∷ 82 ∷ 101 ∷ 115 ∷ 105 ∷ 100 ∷ 117 ∷ 101 ∷ []) (Syntax.tcons
@@ -209,19 +209,19 @@ abbrev pub r·0 : Kinds.RK 0
 r·0 = Value.rVal record {
   ty = Declared'.row State.the-type;
   one = Path'.refl;
-  val = Laws'6.val State.the-type Laws'3.the-laws;
+  val = Laws'6.val State.the-type Laws''.the-laws;
   tells = Laws'6.tells
-      State.the-type Laws'3.the-laws;
-  still = Laws'6.still State.the-type Laws'3.the-copy Exit.yes;
+      State.the-type Laws''.the-laws;
+  still = Laws'6.still State.the-type Laws''.the-copy Exit.yes;
   row = Rows'.whole (Declared'.row State.the-type);
   rd = λ x.
       x;
   mk = λ x. x;
 } λ M 𝓤 H A W. record {
-  copies = Laws'6.copy State.the-type Laws'3.the-copy 𝓤 H A W;
-  lawful = Laws'6.lawful State.the-type Laws'3.the-laws
+  copies = Laws'6.copy State.the-type Laws''.the-copy 𝓤 H A W;
+  lawful = Laws'6.lawful State.the-type Laws''.the-laws
       𝓤 H A W;
-  makes = Laws'6.makes State.the-type Laws'3.the-plain 𝓤 H A;
+  makes = Laws'6.makes State.the-type Laws''.the-plain 𝓤 H A;
   in-mem = Local.mem-whole 𝓤 H A W (Declared'.row State.the-type);
   of-mem =
       Local.whole-mem 𝓤 H A W (Declared'.row State.the-type);
@@ -234,19 +234,19 @@ abbrev pub r·1 : Kinds.RK 1
 r·1 = Value.rVal record {
   ty = Declared.row Line.the-type;
   one = Path'.refl;
-  val = Laws'5.val Line.the-type Laws''.the-laws;
+  val = Laws'5.val Line.the-type Laws'.the-laws;
   tells = Laws'5.tells Line.the-type
-      Laws''.the-laws;
-  still = Laws'5.still Line.the-type Laws''.the-copy Exit.yes;
+      Laws'.the-laws;
+  still = Laws'5.still Line.the-type Laws'.the-copy Exit.yes;
   row = Rows'.whole (Declared.row Line.the-type);
   rd = λ x. x;
   mk = λ x. x;
-} λ
-    M 𝓤 H A W. record {
-      copies = Laws'5.copy Line.the-type Laws''.the-copy 𝓤 H A W;
-      lawful = Laws'5.lawful Line.the-type Laws''.the-laws 𝓤 H A W tt;
+} λ M
+    𝓤 H A W. record {
+      copies = Laws'5.copy Line.the-type Laws'.the-copy 𝓤 H A W;
+      lawful = Laws'5.lawful Line.the-type Laws'.the-laws 𝓤 H A W tt;
       makes =
-          Laws'5.makes Line.the-type Laws''.the-plain 𝓤 H A;
+          Laws'5.makes Line.the-type Laws'.the-plain 𝓤 H A;
       in-mem = Local.mem-whole 𝓤 H A W (Declared.row Line.the-type);
       of-mem = Local.whole-mem 𝓤 H A W
           (Declared.row Line.the-type);
@@ -257,38 +257,36 @@ ps·2 = ShrSlice.pShrS (Referent.rtF (Referent.fInt Syntax.w8)) 0 tt ∷ (Value.
   ty = Declared'.row Span.the-type;
   one = Path'.refl;
   val = Laws'6.val
-      Span.the-type Laws.the-laws;
-  tells = Laws'6.tells Span.the-type Laws.the-laws;
-  still = Laws'6.still Span.the-type Laws.the-copy Exit.yes;
-  row = Rows'.whole
-      (Declared'.row Span.the-type);
+      Span.the-type Laws'3.the-laws;
+  tells = Laws'6.tells Span.the-type Laws'3.the-laws;
+  still = Laws'6.still Span.the-type Laws'3.the-copy Exit.yes;
+  row =
+      Rows'.whole (Declared'.row Span.the-type);
   rd = λ x. x;
   mk = λ x. x;
 } λ M 𝓤 H A W. record {
-  copies = Laws'6.copy Span.the-type Laws.the-copy 𝓤 H A W;
-  lawful =
-      Laws'6.lawful Span.the-type Laws.the-laws 𝓤 H A W;
-  makes = Laws'6.makes Span.the-type Laws.the-plain 𝓤 H A;
-  in-mem = Local.mem-whole 𝓤 H A W (Declared'.row
-      Span.the-type);
+  copies = Laws'6.copy Span.the-type Laws'3.the-copy 𝓤 H A W;
+  lawful = Laws'6.lawful Span.the-type Laws'3.the-laws 𝓤 H A W;
+  makes = Laws'6.makes Span.the-type Laws'3.the-plain 𝓤 H A;
+  in-mem = Local.mem-whole 𝓤 H A W
+      (Declared'.row Span.the-type);
   of-mem = Local.whole-mem 𝓤 H A W (Declared'.row Span.the-type);
 }) ∷ (Value.pVal record {
   ty = Declared.row Line.the-type;
-  one =
-      Path'.refl;
-  val = Laws'5.val Line.the-type Laws''.the-laws;
-  tells = Laws'5.tells Line.the-type Laws''.the-laws;
+  one = Path'.refl;
+  val = Laws'5.val Line.the-type Laws'.the-laws;
+  tells = Laws'5.tells Line.the-type Laws'.the-laws;
   still = Laws'5.still Line.the-type
-      Laws''.the-copy Exit.yes;
+      Laws'.the-copy Exit.yes;
   row = Rows'.whole (Declared.row Line.the-type);
   rd = λ x. x;
   mk = λ x. x;
 } λ M 𝓤 H A W. record {
   copies = Laws'5.copy
-      Line.the-type Laws''.the-copy 𝓤 H A W;
-  lawful = Laws'5.lawful Line.the-type Laws''.the-laws 𝓤 H A W tt;
-  makes = Laws'5.makes Line.the-type Laws''.the-plain
-      𝓤 H A;
+      Line.the-type Laws'.the-copy 𝓤 H A W;
+  lawful = Laws'5.lawful Line.the-type Laws'.the-laws 𝓤 H A W tt;
+  makes = Laws'5.makes Line.the-type Laws'.the-plain 𝓤
+      H A;
   in-mem = Local.mem-whole 𝓤 H A W (Declared.row Line.the-type);
   of-mem = Local.whole-mem 𝓤 H A W (Declared.row Line.the-type);
 }) ∷ []
@@ -300,19 +298,19 @@ abbrev pub ps·3 : List.List (Kinds.PK 0)
 ps·3 = Bool.pBool ∷ (Value.pVal record {
   ty = Declared'.row State.the-type;
   one = Path'.refl;
-  val = Laws'6.val State.the-type Laws'3.the-laws;
+  val = Laws'6.val State.the-type Laws''.the-laws;
   tells =
-      Laws'6.tells State.the-type Laws'3.the-laws;
-  still = Laws'6.still State.the-type Laws'3.the-copy Exit.yes;
+      Laws'6.tells State.the-type Laws''.the-laws;
+  still = Laws'6.still State.the-type Laws''.the-copy Exit.yes;
   row = Rows'.whole (Declared'.row
       State.the-type);
   rd = λ x. x;
   mk = λ x. x;
 } λ M 𝓤 H A W. record {
-  copies = Laws'6.copy State.the-type Laws'3.the-copy 𝓤 H A W;
+  copies = Laws'6.copy State.the-type Laws''.the-copy 𝓤 H A W;
   lawful = Laws'6.lawful
-      State.the-type Laws'3.the-laws 𝓤 H A W;
-  makes = Laws'6.makes State.the-type Laws'3.the-plain 𝓤 H A;
+      State.the-type Laws''.the-laws 𝓤 H A W;
+  makes = Laws'6.makes State.the-type Laws''.the-plain 𝓤 H A;
   in-mem = Local.mem-whole 𝓤 H A W (Declared'.row
       State.the-type);
   of-mem = Local.whole-mem 𝓤 H A W (Declared'.row State.the-type);
@@ -320,19 +318,19 @@ ps·3 = Bool.pBool ∷ (Value.pVal record {
   ty = Declared.row Line.the-type;
   one =
       Path'.refl;
-  val = Laws'5.val Line.the-type Laws''.the-laws;
-  tells = Laws'5.tells Line.the-type Laws''.the-laws;
+  val = Laws'5.val Line.the-type Laws'.the-laws;
+  tells = Laws'5.tells Line.the-type Laws'.the-laws;
   still = Laws'5.still Line.the-type
-      Laws''.the-copy Exit.yes;
+      Laws'.the-copy Exit.yes;
   row = Rows'.whole (Declared.row Line.the-type);
   rd = λ x. x;
   mk = λ x. x;
 } λ M 𝓤 H A W. record {
   copies = Laws'5.copy
-      Line.the-type Laws''.the-copy 𝓤 H A W;
-  lawful = Laws'5.lawful Line.the-type Laws''.the-laws 𝓤 H A W tt;
-  makes = Laws'5.makes Line.the-type Laws''.the-plain
-      𝓤 H A;
+      Line.the-type Laws'.the-copy 𝓤 H A W;
+  lawful = Laws'5.lawful Line.the-type Laws'.the-laws 𝓤 H A W tt;
+  makes = Laws'5.makes Line.the-type Laws'.the-plain 𝓤
+      H A;
   in-mem = Local.mem-whole 𝓤 H A W (Declared.row Line.the-type);
   of-mem = Local.whole-mem 𝓤 H A W (Declared.row Line.the-type);
 }) ∷ []
@@ -344,39 +342,38 @@ abbrev pub ps·4 : List.List (Kinds.PK 0)
 ps·4 = (Value.pVal record {
   ty = Declared'.row Span.the-type;
   one = Path'.refl;
-  val = Laws'6.val Span.the-type Laws.the-laws;
+  val = Laws'6.val Span.the-type Laws'3.the-laws;
   tells = Laws'6.tells
-      Span.the-type Laws.the-laws;
-  still = Laws'6.still Span.the-type Laws.the-copy Exit.yes;
+      Span.the-type Laws'3.the-laws;
+  still = Laws'6.still Span.the-type Laws'3.the-copy Exit.yes;
   row = Rows'.whole (Declared'.row Span.the-type);
   rd = λ x. x;
-  mk =
-      λ x. x;
+  mk = λ x. x;
 } λ M 𝓤 H A W. record {
-  copies = Laws'6.copy Span.the-type Laws.the-copy 𝓤 H A W;
-  lawful = Laws'6.lawful Span.the-type Laws.the-laws 𝓤 H A W;
-  makes
-      = Laws'6.makes Span.the-type Laws.the-plain 𝓤 H A;
+  copies = Laws'6.copy Span.the-type Laws'3.the-copy 𝓤 H A W;
+  lawful = Laws'6.lawful Span.the-type Laws'3.the-laws 𝓤 H A
+      W;
+  makes = Laws'6.makes Span.the-type Laws'3.the-plain 𝓤 H A;
   in-mem = Local.mem-whole 𝓤 H A W (Declared'.row Span.the-type);
-  of-mem = Local.whole-mem 𝓤 H A W
-      (Declared'.row Span.the-type);
+  of-mem = Local.whole-mem 𝓤 H
+      A W (Declared'.row Span.the-type);
 }) ∷ Num.pNum Syntax.w64 ∷ (Value.pVal record {
   ty = Declared.row Line.the-type;
   one = Path'.refl;
   val = Laws'5.val
-      Line.the-type Laws''.the-laws;
-  tells = Laws'5.tells Line.the-type Laws''.the-laws;
-  still = Laws'5.still Line.the-type Laws''.the-copy Exit.yes;
+      Line.the-type Laws'.the-laws;
+  tells = Laws'5.tells Line.the-type Laws'.the-laws;
+  still = Laws'5.still Line.the-type Laws'.the-copy Exit.yes;
   row =
       Rows'.whole (Declared.row Line.the-type);
   rd = λ x. x;
   mk = λ x. x;
 } λ M 𝓤 H A W. record {
-  copies = Laws'5.copy Line.the-type Laws''.the-copy 𝓤 H A W;
-  lawful = Laws'5.lawful Line.the-type Laws''.the-laws 𝓤 H A W tt;
-  makes = Laws'5.makes Line.the-type Laws''.the-plain 𝓤 H A;
-  in-mem = Local.mem-whole 𝓤 H A
-      W (Declared.row Line.the-type);
+  copies = Laws'5.copy Line.the-type Laws'.the-copy 𝓤 H A W;
+  lawful = Laws'5.lawful Line.the-type Laws'.the-laws 𝓤 H A W tt;
+  makes = Laws'5.makes Line.the-type Laws'.the-plain 𝓤 H A;
+  in-mem = Local.mem-whole 𝓤 H A W
+      (Declared.row Line.the-type);
   of-mem = Local.whole-mem 𝓤 H A W (Declared.row Line.the-type);
 }) ∷ []
 
@@ -384,41 +381,40 @@ abbrev pub r·4 : Kinds.RK 0
 r·4 = Value.rVal record {
   ty = Declared'.row Span.the-type;
   one = Path'.refl;
-  val = Laws'6.val Span.the-type Laws.the-laws;
-  tells = Laws'6.tells Span.the-type
-      Laws.the-laws;
-  still = Laws'6.still Span.the-type Laws.the-copy Exit.yes;
+  val = Laws'6.val Span.the-type Laws'3.the-laws;
+  tells = Laws'6.tells
+      Span.the-type Laws'3.the-laws;
+  still = Laws'6.still Span.the-type Laws'3.the-copy Exit.yes;
   row = Rows'.whole (Declared'.row Span.the-type);
   rd = λ x. x;
   mk = λ x. x;
-} λ M
-    𝓤 H A W. record {
-      copies = Laws'6.copy Span.the-type Laws.the-copy 𝓤 H A W;
-      lawful = Laws'6.lawful Span.the-type Laws.the-laws 𝓤 H A W;
-      makes =
-          Laws'6.makes Span.the-type Laws.the-plain 𝓤 H A;
-      in-mem = Local.mem-whole 𝓤 H A W (Declared'.row Span.the-type);
-      of-mem = Local.whole-mem 𝓤 H A W
-          (Declared'.row Span.the-type);
-    }
+} λ M 𝓤 H A W. record {
+  copies = Laws'6.copy Span.the-type Laws'3.the-copy 𝓤 H A W;
+  lawful = Laws'6.lawful Span.the-type Laws'3.the-laws 𝓤 H A
+      W;
+  makes = Laws'6.makes Span.the-type Laws'3.the-plain 𝓤 H A;
+  in-mem = Local.mem-whole 𝓤 H A W (Declared'.row Span.the-type);
+  of-mem = Local.whole-mem 𝓤 H
+      A W (Declared'.row Span.the-type);
+}
 
 abbrev pub ps·5 : List.List (Kinds.PK 0)
 ps·5 = (Value.pVal record {
   ty = Declared'.row State.the-type;
   one = Path'.refl;
-  val = Laws'6.val State.the-type Laws'3.the-laws;
+  val = Laws'6.val State.the-type Laws''.the-laws;
   tells = Laws'6.tells
-      State.the-type Laws'3.the-laws;
-  still = Laws'6.still State.the-type Laws'3.the-copy Exit.yes;
+      State.the-type Laws''.the-laws;
+  still = Laws'6.still State.the-type Laws''.the-copy Exit.yes;
   row = Rows'.whole (Declared'.row State.the-type);
   rd = λ x.
       x;
   mk = λ x. x;
 } λ M 𝓤 H A W. record {
-  copies = Laws'6.copy State.the-type Laws'3.the-copy 𝓤 H A W;
-  lawful = Laws'6.lawful State.the-type Laws'3.the-laws
+  copies = Laws'6.copy State.the-type Laws''.the-copy 𝓤 H A W;
+  lawful = Laws'6.lawful State.the-type Laws''.the-laws
       𝓤 H A W;
-  makes = Laws'6.makes State.the-type Laws'3.the-plain 𝓤 H A;
+  makes = Laws'6.makes State.the-type Laws''.the-plain 𝓤 H A;
   in-mem = Local.mem-whole 𝓤 H A W (Declared'.row State.the-type);
   of-mem =
       Local.whole-mem 𝓤 H A W (Declared'.row State.the-type);
@@ -426,19 +422,19 @@ ps·5 = (Value.pVal record {
   ty = Declared.row Line.the-type;
   one = Path'.refl;
   val = Laws'5.val
-      Line.the-type Laws''.the-laws;
-  tells = Laws'5.tells Line.the-type Laws''.the-laws;
-  still = Laws'5.still Line.the-type Laws''.the-copy Exit.yes;
+      Line.the-type Laws'.the-laws;
+  tells = Laws'5.tells Line.the-type Laws'.the-laws;
+  still = Laws'5.still Line.the-type Laws'.the-copy Exit.yes;
   row =
       Rows'.whole (Declared.row Line.the-type);
   rd = λ x. x;
   mk = λ x. x;
 } λ M 𝓤 H A W. record {
-  copies = Laws'5.copy Line.the-type Laws''.the-copy 𝓤 H A W;
-  lawful = Laws'5.lawful Line.the-type Laws''.the-laws 𝓤 H A W tt;
-  makes = Laws'5.makes Line.the-type Laws''.the-plain 𝓤 H A;
-  in-mem = Local.mem-whole 𝓤 H A
-      W (Declared.row Line.the-type);
+  copies = Laws'5.copy Line.the-type Laws'.the-copy 𝓤 H A W;
+  lawful = Laws'5.lawful Line.the-type Laws'.the-laws 𝓤 H A W tt;
+  makes = Laws'5.makes Line.the-type Laws'.the-plain 𝓤 H A;
+  in-mem = Local.mem-whole 𝓤 H A W
+      (Declared.row Line.the-type);
   of-mem = Local.whole-mem 𝓤 H A W (Declared.row Line.the-type);
 }) ∷ []
 
@@ -446,19 +442,19 @@ abbrev pub r·5 : Kinds.RK 0
 r·5 = Value.rVal record {
   ty = Declared'.row State.the-type;
   one = Path'.refl;
-  val = Laws'6.val State.the-type Laws'3.the-laws;
+  val = Laws'6.val State.the-type Laws''.the-laws;
   tells = Laws'6.tells
-      State.the-type Laws'3.the-laws;
-  still = Laws'6.still State.the-type Laws'3.the-copy Exit.yes;
+      State.the-type Laws''.the-laws;
+  still = Laws'6.still State.the-type Laws''.the-copy Exit.yes;
   row = Rows'.whole (Declared'.row State.the-type);
   rd = λ x.
       x;
   mk = λ x. x;
 } λ M 𝓤 H A W. record {
-  copies = Laws'6.copy State.the-type Laws'3.the-copy 𝓤 H A W;
-  lawful = Laws'6.lawful State.the-type Laws'3.the-laws
+  copies = Laws'6.copy State.the-type Laws''.the-copy 𝓤 H A W;
+  lawful = Laws'6.lawful State.the-type Laws''.the-laws
       𝓤 H A W;
-  makes = Laws'6.makes State.the-type Laws'3.the-plain 𝓤 H A;
+  makes = Laws'6.makes State.the-type Laws''.the-plain 𝓤 H A;
   in-mem = Local.mem-whole 𝓤 H A W (Declared'.row State.the-type);
   of-mem =
       Local.whole-mem 𝓤 H A W (Declared'.row State.the-type);
@@ -474,21 +470,22 @@ abbrev pub ps·7 : List.List (Kinds.PK 0)
 ps·7 = SlotAs.param ∷ (Value.pVal record {
   ty = Declared.row Line.the-type;
   one = Path'.refl;
-  val = Laws'5.val Line.the-type Laws''.the-laws;
+  val = Laws'5.val Line.the-type Laws'.the-laws;
   tells =
-      Laws'5.tells Line.the-type Laws''.the-laws;
-  still = Laws'5.still Line.the-type Laws''.the-copy Exit.yes;
+      Laws'5.tells Line.the-type Laws'.the-laws;
+  still = Laws'5.still Line.the-type Laws'.the-copy Exit.yes;
   row = Rows'.whole (Declared.row Line.the-type);
-  rd
-      = λ x. x;
+  rd =
+      λ x. x;
   mk = λ x. x;
 } λ M 𝓤 H A W. record {
-  copies = Laws'5.copy Line.the-type Laws''.the-copy 𝓤 H A W;
-  lawful = Laws'5.lawful Line.the-type
-      Laws''.the-laws 𝓤 H A W tt;
-  makes = Laws'5.makes Line.the-type Laws''.the-plain 𝓤 H A;
+  copies = Laws'5.copy Line.the-type Laws'.the-copy 𝓤 H A W;
+  lawful = Laws'5.lawful Line.the-type Laws'.the-laws
+      𝓤 H A W tt;
+  makes = Laws'5.makes Line.the-type Laws'.the-plain 𝓤 H A;
   in-mem = Local.mem-whole 𝓤 H A W (Declared.row Line.the-type);
-  of-mem = Local.whole-mem 𝓤 H A W (Declared.row Line.the-type);
+  of-mem =
+      Local.whole-mem 𝓤 H A W (Declared.row Line.the-type);
 }) ∷ []
 
 abbrev pub r·7 : Kinds.RK 0
@@ -505,19 +502,19 @@ ps·9 = ShrSlice.pShrS SlotAs.row 0 tt ∷ Num.pNum Syntax.w64 ∷ SlotAs.param 
   ty = Declared.row Line.the-type;
   one = Path'.refl;
   val =
-      Laws'5.val Line.the-type Laws''.the-laws;
-  tells = Laws'5.tells Line.the-type Laws''.the-laws;
-  still = Laws'5.still Line.the-type Laws''.the-copy Exit.yes;
-  row = Rows'.whole (Declared.row Line.the-type);
+      Laws'5.val Line.the-type Laws'.the-laws;
+  tells = Laws'5.tells Line.the-type Laws'.the-laws;
+  still = Laws'5.still Line.the-type Laws'.the-copy Exit.yes;
+  row
+      = Rows'.whole (Declared.row Line.the-type);
   rd = λ x. x;
   mk = λ x. x;
 } λ M 𝓤 H A W. record {
-  copies = Laws'5.copy Line.the-type Laws''.the-copy 𝓤 H A
-      W;
-  lawful = Laws'5.lawful Line.the-type Laws''.the-laws 𝓤 H A W tt;
-  makes = Laws'5.makes Line.the-type Laws''.the-plain 𝓤 H A;
-  in-mem = Local.mem-whole 𝓤 H
-      A W (Declared.row Line.the-type);
+  copies = Laws'5.copy Line.the-type Laws'.the-copy 𝓤 H A W;
+  lawful = Laws'5.lawful Line.the-type Laws'.the-laws 𝓤 H A W tt;
+  makes = Laws'5.makes Line.the-type Laws'.the-plain 𝓤 H A;
+  in-mem = Local.mem-whole 𝓤 H A W
+      (Declared.row Line.the-type);
   of-mem = Local.whole-mem 𝓤 H A W (Declared.row Line.the-type);
 }) ∷ []
 
@@ -534,22 +531,21 @@ abbrev pub ps·11 : List.List (Kinds.PK 0)
 ps·11 = (Value.pVal record {
   ty = Declared.row Line.the-type;
   one = Path'.refl;
-  val = Laws'5.val Line.the-type Laws''.the-laws;
+  val = Laws'5.val Line.the-type Laws'.the-laws;
   tells = Laws'5.tells
-      Line.the-type Laws''.the-laws;
-  still = Laws'5.still Line.the-type Laws''.the-copy Exit.yes;
+      Line.the-type Laws'.the-laws;
+  still = Laws'5.still Line.the-type Laws'.the-copy Exit.yes;
   row = Rows'.whole (Declared.row Line.the-type);
   rd = λ x. x;
-  mk
-      = λ x. x;
+  mk =
+      λ x. x;
 } λ M 𝓤 H A W. record {
-  copies = Laws'5.copy Line.the-type Laws''.the-copy 𝓤 H A W;
-  lawful = Laws'5.lawful Line.the-type Laws''.the-laws 𝓤 H A W
-      tt;
-  makes = Laws'5.makes Line.the-type Laws''.the-plain 𝓤 H A;
+  copies = Laws'5.copy Line.the-type Laws'.the-copy 𝓤 H A W;
+  lawful = Laws'5.lawful Line.the-type Laws'.the-laws 𝓤 H A W tt;
+  makes = Laws'5.makes Line.the-type Laws'.the-plain 𝓤 H A;
   in-mem = Local.mem-whole 𝓤 H A W (Declared.row Line.the-type);
-  of-mem = Local.whole-mem 𝓤 H
-      A W (Declared.row Line.the-type);
+  of-mem = Local.whole-mem 𝓤 H A W
+      (Declared.row Line.the-type);
 }) ∷ []
 
 abbrev pub r·11 : Kinds.RK 0
@@ -559,19 +555,19 @@ abbrev pub ps·12 : List.List (Kinds.PK 0)
 ps·12 = (Value.pVal record {
   ty = Declared'.row State.the-type;
   one = Path'.refl;
-  val = Laws'6.val State.the-type Laws'3.the-laws;
+  val = Laws'6.val State.the-type Laws''.the-laws;
   tells = Laws'6.tells
-      State.the-type Laws'3.the-laws;
-  still = Laws'6.still State.the-type Laws'3.the-copy Exit.yes;
+      State.the-type Laws''.the-laws;
+  still = Laws'6.still State.the-type Laws''.the-copy Exit.yes;
   row = Rows'.whole (Declared'.row State.the-type);
   rd = λ x.
       x;
   mk = λ x. x;
 } λ M 𝓤 H A W. record {
-  copies = Laws'6.copy State.the-type Laws'3.the-copy 𝓤 H A W;
-  lawful = Laws'6.lawful State.the-type Laws'3.the-laws
+  copies = Laws'6.copy State.the-type Laws''.the-copy 𝓤 H A W;
+  lawful = Laws'6.lawful State.the-type Laws''.the-laws
       𝓤 H A W;
-  makes = Laws'6.makes State.the-type Laws'3.the-plain 𝓤 H A;
+  makes = Laws'6.makes State.the-type Laws''.the-plain 𝓤 H A;
   in-mem = Local.mem-whole 𝓤 H A W (Declared'.row State.the-type);
   of-mem =
       Local.whole-mem 𝓤 H A W (Declared'.row State.the-type);
@@ -581,21 +577,22 @@ abbrev pub r·12 : Kinds.RK 0
 r·12 = Value.rVal record {
   ty = Declared'.row Verdict.the-type;
   one = Path'.refl;
-  val = Laws'6.val Verdict.the-type Laws'.the-laws;
+  val = Laws'6.val Verdict.the-type Laws.the-laws;
   tells = Laws'6.tells
-      Verdict.the-type Laws'.the-laws;
-  still = Laws'6.still Verdict.the-type Laws'.the-copy Exit.yes;
+      Verdict.the-type Laws.the-laws;
+  still = Laws'6.still Verdict.the-type Laws.the-copy Exit.yes;
   row = Rows'.whole (Declared'.row Verdict.the-type);
-  rd = λ
-      x. x;
+  rd = λ x.
+      x;
   mk = λ x. x;
 } λ M 𝓤 H A W. record {
-  copies = Laws'6.copy Verdict.the-type Laws'.the-copy 𝓤 H A W;
-  lawful = Laws'6.lawful Verdict.the-type
-      Laws'.the-laws 𝓤 H A W;
-  makes = Laws'6.makes Verdict.the-type Laws'.the-plain 𝓤 H A;
+  copies = Laws'6.copy Verdict.the-type Laws.the-copy 𝓤 H A W;
+  lawful = Laws'6.lawful Verdict.the-type Laws.the-laws
+      𝓤 H A W;
+  makes = Laws'6.makes Verdict.the-type Laws.the-plain 𝓤 H A;
   in-mem = Local.mem-whole 𝓤 H A W (Declared'.row Verdict.the-type);
-  of-mem = Local.whole-mem 𝓤 H A W (Declared'.row Verdict.the-type);
+  of-mem =
+      Local.whole-mem 𝓤 H A W (Declared'.row Verdict.the-type);
 }
 
 abbrev pub hs : List.List Syntax.Home
@@ -641,10 +638,10 @@ abbrev b11 : Syntax.Body
 b11 = Syntax.cond (Syntax.copy (Syntax.place 18 [])) b9 b10
 
 abbrev b12 : Syntax.Body
-b12 = Syntax.call "gate::line_at" (Syntax.copy (Syntax.place 1 []) ∷ Syntax.copy (Syntax.place 3 []) ∷ []) (Syntax.place 9 [])
+b12 = Syntax.call "rows::line_at" (Syntax.copy (Syntax.place 1 []) ∷ Syntax.copy (Syntax.place 3 []) ∷ []) (Syntax.place 9 [])
 
 abbrev b13 : Syntax.Body
-b13 = Syntax.call "gate::known" (Syntax.copy (Syntax.place 1 []) ∷ Syntax.copy (Syntax.place 5 []) ∷ Syntax.copy (Syntax.place 9 []) ∷ [])
+b13 = Syntax.call "serials::known" (Syntax.copy (Syntax.place 1 []) ∷ Syntax.copy (Syntax.place 5 []) ∷ Syntax.copy (Syntax.place 9 []) ∷ [])
     (Syntax.place 10 [])
 
 abbrev b14 : Syntax.Body
@@ -671,7 +668,7 @@ abbrev b20 : Syntax.Body
 b20 = Syntax.cond (Syntax.copy (Syntax.place 18 [])) b18 b19
 
 abbrev b21 : Syntax.Body
-b21 = Syntax.call "gate::grow" (Syntax.copy (Syntax.place 5 []) ∷ Syntax.copy (Syntax.place 3 []) ∷ Syntax.copy (Syntax.place 9 []) ∷ [])
+b21 = Syntax.call "serials::grow" (Syntax.copy (Syntax.place 5 []) ∷ Syntax.copy (Syntax.place 3 []) ∷ Syntax.copy (Syntax.place 9 []) ∷ [])
     (Syntax.place 5 [])
 
 abbrev b22 : Syntax.Body
@@ -849,104 +846,107 @@ t0 = (
       Syntax.tnil))))))))),
 ) ∷ (
   5,
-  Rows'.any-gone (Syntax.tyStruct (103 ∷ 97 ∷ 116 ∷ 101 ∷ 58 ∷ 58 ∷ 83 ∷ 112 ∷ 97 ∷ 110 ∷ []) (Syntax.tcons (Syntax.tyInt
-      Syntax.w64) (Syntax.tcons (Syntax.tyInt Syntax.w64) Syntax.tnil))),
-) ∷ (6, Rows'.any-gone (Syntax.tyInt Syntax.w64)) ∷ (7, Rows'.any-gone Syntax.tyBool) ∷
-    (8, Rows'.any-gone (Syntax.tyInt Syntax.w64)) ∷ (
-      9,
-      Rows'.any-gone (Syntax.tyEnum (112 ∷ 105 ∷ 101 ∷ 99 ∷ 101 ∷ 115 ∷ 58 ∷ 58 ∷ 76 ∷ 105 ∷ 110 ∷ 101 ∷ [])
-          (Syntax.ttcons (Syntax.tcons (Syntax.tyInt Syntax.w8) Syntax.tnil) (Syntax.ttcons (Syntax.tcons (Syntax.tyEnum (107 ∷ 105 ∷ 110 ∷ 100 ∷ 115 ∷ 58 ∷ 58 ∷ 75
-          ∷ 105 ∷ 110 ∷ 100 ∷ []) (Syntax.ttcons Syntax.tnil (Syntax.ttcons Syntax.tnil (Syntax.ttcons Syntax.tnil (Syntax.ttcons Syntax.tnil (Syntax.ttcons
-          Syntax.tnil (Syntax.ttcons Syntax.tnil (Syntax.ttcons Syntax.tnil (Syntax.ttcons Syntax.tnil (Syntax.ttcons Syntax.tnil (Syntax.ttcons Syntax.tnil
-          (Syntax.ttcons Syntax.tnil (Syntax.ttcons Syntax.tnil (Syntax.ttcons Syntax.tnil (Syntax.ttcons Syntax.tnil (Syntax.ttcons Syntax.tnil (Syntax.ttcons
-          Syntax.tnil (Syntax.ttcons Syntax.tnil (Syntax.ttcons Syntax.tnil (Syntax.ttcons Syntax.tnil (Syntax.ttcons Syntax.tnil (Syntax.ttcons Syntax.tnil
-          (Syntax.ttcons Syntax.tnil (Syntax.ttcons Syntax.tnil (Syntax.ttcons Syntax.tnil (Syntax.ttcons Syntax.tnil (Syntax.ttcons Syntax.tnil (Syntax.ttcons
-          Syntax.tnil (Syntax.ttcons Syntax.tnil Syntax.ttnil))))))))))))))))))))))))))))) (Syntax.tcons (Syntax.tyInt Syntax.w32) Syntax.tnil)) (Syntax.ttcons
-          (Syntax.tcons (Syntax.tyEnum (107 ∷ 105 ∷ 110 ∷ 100 ∷ 115 ∷ 58 ∷ 58 ∷ 75 ∷ 105 ∷ 110 ∷ 100 ∷ []) (Syntax.ttcons Syntax.tnil (Syntax.ttcons Syntax.tnil
-          (Syntax.ttcons Syntax.tnil (Syntax.ttcons Syntax.tnil (Syntax.ttcons Syntax.tnil (Syntax.ttcons Syntax.tnil (Syntax.ttcons Syntax.tnil (Syntax.ttcons
-          Syntax.tnil (Syntax.ttcons Syntax.tnil (Syntax.ttcons Syntax.tnil (Syntax.ttcons Syntax.tnil (Syntax.ttcons Syntax.tnil (Syntax.ttcons Syntax.tnil
-          (Syntax.ttcons Syntax.tnil (Syntax.ttcons Syntax.tnil (Syntax.ttcons Syntax.tnil (Syntax.ttcons Syntax.tnil (Syntax.ttcons Syntax.tnil (Syntax.ttcons
-          Syntax.tnil (Syntax.ttcons Syntax.tnil (Syntax.ttcons Syntax.tnil (Syntax.ttcons Syntax.tnil (Syntax.ttcons Syntax.tnil (Syntax.ttcons Syntax.tnil
-          (Syntax.ttcons Syntax.tnil (Syntax.ttcons Syntax.tnil (Syntax.ttcons Syntax.tnil (Syntax.ttcons Syntax.tnil Syntax.ttnil)))))))))))))))))))))))))))))
-          Syntax.tnil) (Syntax.ttcons (Syntax.tcons (Syntax.tyEnum (108 ∷ 105 ∷ 110 ∷ 101 ∷ 58 ∷ 58 ∷ 82 ∷ 101 ∷ 99 ∷ 111 ∷ 114 ∷ 100 ∷ []) (Syntax.ttcons
-          (Syntax.tcons Syntax.tyBool (Syntax.tcons (Syntax.tyStruct (99 ∷ 111 ∷ 111 ∷ 114 ∷ 100 ∷ 105 ∷ 110 ∷ 97 ∷ 116 ∷ 101 ∷ 58 ∷ 58 ∷ 65 ∷ 116 ∷ 111 ∷ 109 ∷ [])
-          (Syntax.tcons (Syntax.tyStruct (99 ∷ 111 ∷ 111 ∷ 114 ∷ 100 ∷ 105 ∷ 110 ∷ 97 ∷ 116 ∷ 101 ∷ 58 ∷ 58 ∷ 73 ∷ 100 ∷ 101 ∷ 110 ∷ 116 ∷ 105 ∷ 116 ∷ 121 ∷ [])
-          (Syntax.tcons (Syntax.tyStruct (102 ∷ 105 ∷ 101 ∷ 108 ∷ 100 ∷ 115 ∷ 58 ∷ 58 ∷ 83 ∷ 101 ∷ 114 ∷ 105 ∷ 97 ∷ 108 ∷ []) (Syntax.tcons (Syntax.tyInt Syntax.w32)
-          Syntax.tnil)) (Syntax.tcons (Syntax.tyStruct (110 ∷ 97 ∷ 109 ∷ 101 ∷ 115 ∷ 58 ∷ 58 ∷ 70 ∷ 111 ∷ 117 ∷ 114 ∷ []) (Syntax.tcons (Syntax.tyInt Syntax.w8)
-          (Syntax.tcons (Syntax.tyInt Syntax.w8) (Syntax.tcons (Syntax.tyInt Syntax.w8) (Syntax.tcons (Syntax.tyInt Syntax.w8) Syntax.tnil))))) (Syntax.tcons
-          (Syntax.tyInt Syntax.w8) (Syntax.tcons (Syntax.tyStruct (114 ∷ 101 ∷ 115 ∷ 105 ∷ 100 ∷ 117 ∷ 101 ∷ 58 ∷ 58 ∷ 82 ∷ 101 ∷ 115 ∷ 105 ∷ 100 ∷ 117 ∷ 101 ∷ [])
-          (Syntax.tcons (Syntax.tyStruct (110 ∷ 97 ∷ 109 ∷ 101 ∷ 115 ∷ 58 ∷ 58 ∷ 84 ∷ 104 ∷ 114 ∷ 101 ∷ 101 ∷ []) (Syntax.tcons (Syntax.tyInt Syntax.w8)
-          (Syntax.tcons (Syntax.tyInt Syntax.w8) (Syntax.tcons (Syntax.tyInt Syntax.w8) Syntax.tnil)))) (Syntax.tcons (Syntax.tyInt Syntax.w8) (Syntax.tcons
-          (Syntax.tyStruct (102 ∷ 105 ∷ 101 ∷ 108 ∷ 100 ∷ 115 ∷ 58 ∷ 58 ∷ 82 ∷ 101 ∷ 115 ∷ 105 ∷ 100 ∷ 117 ∷ 101 ∷ 78 ∷ 117 ∷ 109 ∷ 98 ∷ 101 ∷ 114 ∷ [])
-          (Syntax.tcons (Syntax.tyInt Syntax.w32) Syntax.tnil)) (Syntax.tcons (Syntax.tyInt Syntax.w8) Syntax.tnil))))) Syntax.tnil))))) (Syntax.tcons
-          (Syntax.tyStruct (99 ∷ 111 ∷ 111 ∷ 114 ∷ 100 ∷ 105 ∷ 110 ∷ 97 ∷ 116 ∷ 101 ∷ 58 ∷ 58 ∷ 77 ∷ 101 ∷ 97 ∷ 115 ∷ 117 ∷ 114 ∷ 101 ∷ []) (Syntax.tcons
-          (Syntax.tyStruct (99 ∷ 111 ∷ 111 ∷ 114 ∷ 100 ∷ 105 ∷ 110 ∷ 97 ∷ 116 ∷ 101 ∷ 58 ∷ 58 ∷ 80 ∷ 111 ∷ 115 ∷ 105 ∷ 116 ∷ 105 ∷ 111 ∷ 110 ∷ []) (Syntax.tcons
-          (Syntax.tyInt Syntax.w32) (Syntax.tcons (Syntax.tyInt Syntax.w32) (Syntax.tcons (Syntax.tyInt Syntax.w32) Syntax.tnil)))) (Syntax.tcons (Syntax.tyInt
-          Syntax.w32) (Syntax.tcons (Syntax.tyInt Syntax.w32) Syntax.tnil)))) (Syntax.tcons (Syntax.tyStruct (99 ∷ 111 ∷ 111 ∷ 114 ∷ 100 ∷ 105 ∷ 110 ∷ 97 ∷ 116 ∷ 101
-          ∷ 58 ∷ 58 ∷ 83 ∷ 112 ∷ 101 ∷ 99 ∷ 105 ∷ 101 ∷ 115 ∷ []) (Syntax.tcons (Syntax.tyStruct (110 ∷ 97 ∷ 109 ∷ 101 ∷ 115 ∷ 58 ∷ 58 ∷ 80 ∷ 97 ∷ 105 ∷ 114 ∷ [])
-          (Syntax.tcons (Syntax.tyInt Syntax.w8) (Syntax.tcons (Syntax.tyInt Syntax.w8) Syntax.tnil))) (Syntax.tcons (Syntax.tyStruct (110 ∷ 97 ∷ 109 ∷ 101 ∷ 115 ∷
-          58 ∷ 58 ∷ 80 ∷ 97 ∷ 105 ∷ 114 ∷ []) (Syntax.tcons (Syntax.tyInt Syntax.w8) (Syntax.tcons (Syntax.tyInt Syntax.w8) Syntax.tnil))) Syntax.tnil)))
-          Syntax.tnil)))) Syntax.tnil)) (Syntax.ttcons (Syntax.tcons (Syntax.tyStruct (116 ∷ 101 ∷ 114 ∷ 58 ∷ 58 ∷ 84 ∷ 101 ∷ 114 ∷ []) (Syntax.tcons
-          (Syntax.tyStruct (102 ∷ 105 ∷ 101 ∷ 108 ∷ 100 ∷ 115 ∷ 58 ∷ 58 ∷ 83 ∷ 101 ∷ 114 ∷ 105 ∷ 97 ∷ 108 ∷ []) (Syntax.tcons (Syntax.tyInt Syntax.w32) Syntax.tnil))
-          (Syntax.tcons (Syntax.tyStruct (114 ∷ 101 ∷ 115 ∷ 105 ∷ 100 ∷ 117 ∷ 101 ∷ 58 ∷ 58 ∷ 82 ∷ 101 ∷ 115 ∷ 105 ∷ 100 ∷ 117 ∷ 101 ∷ []) (Syntax.tcons
-          (Syntax.tyStruct (110 ∷ 97 ∷ 109 ∷ 101 ∷ 115 ∷ 58 ∷ 58 ∷ 84 ∷ 104 ∷ 114 ∷ 101 ∷ 101 ∷ []) (Syntax.tcons (Syntax.tyInt Syntax.w8) (Syntax.tcons
-          (Syntax.tyInt Syntax.w8) (Syntax.tcons (Syntax.tyInt Syntax.w8) Syntax.tnil)))) (Syntax.tcons (Syntax.tyInt Syntax.w8) (Syntax.tcons (Syntax.tyStruct (102
-          ∷ 105 ∷ 101 ∷ 108 ∷ 100 ∷ 115 ∷ 58 ∷ 58 ∷ 82 ∷ 101 ∷ 115 ∷ 105 ∷ 100 ∷ 117 ∷ 101 ∷ 78 ∷ 117 ∷ 109 ∷ 98 ∷ 101 ∷ 114 ∷ []) (Syntax.tcons (Syntax.tyInt
-          Syntax.w32) Syntax.tnil)) (Syntax.tcons (Syntax.tyInt Syntax.w8) Syntax.tnil))))) Syntax.tnil))) Syntax.tnil) (Syntax.ttcons (Syntax.tcons (Syntax.tyStruct
-          (104 ∷ 101 ∷ 108 ∷ 105 ∷ 120 ∷ 58 ∷ 58 ∷ 72 ∷ 101 ∷ 108 ∷ 105 ∷ 120 ∷ []) (Syntax.tcons (Syntax.tyStruct (104 ∷ 101 ∷ 108 ∷ 105 ∷ 120 ∷ 58 ∷ 58 ∷ 69 ∷ 120
-          ∷ 116 ∷ 101 ∷ 110 ∷ 116 ∷ []) (Syntax.tcons (Syntax.tyInt Syntax.w32) (Syntax.tcons (Syntax.tyStruct (110 ∷ 97 ∷ 109 ∷ 101 ∷ 115 ∷ 58 ∷ 58 ∷ 84 ∷ 104 ∷ 114
-          ∷ 101 ∷ 101 ∷ []) (Syntax.tcons (Syntax.tyInt Syntax.w8) (Syntax.tcons (Syntax.tyInt Syntax.w8) (Syntax.tcons (Syntax.tyInt Syntax.w8) Syntax.tnil))))
-          (Syntax.tcons (Syntax.tyStruct (114 ∷ 101 ∷ 115 ∷ 105 ∷ 100 ∷ 117 ∷ 101 ∷ 58 ∷ 58 ∷ 82 ∷ 101 ∷ 115 ∷ 105 ∷ 100 ∷ 117 ∷ 101 ∷ []) (Syntax.tcons
-          (Syntax.tyStruct (110 ∷ 97 ∷ 109 ∷ 101 ∷ 115 ∷ 58 ∷ 58 ∷ 84 ∷ 104 ∷ 114 ∷ 101 ∷ 101 ∷ []) (Syntax.tcons (Syntax.tyInt Syntax.w8) (Syntax.tcons
-          (Syntax.tyInt Syntax.w8) (Syntax.tcons (Syntax.tyInt Syntax.w8) Syntax.tnil)))) (Syntax.tcons (Syntax.tyInt Syntax.w8) (Syntax.tcons (Syntax.tyStruct (102
-          ∷ 105 ∷ 101 ∷ 108 ∷ 100 ∷ 115 ∷ 58 ∷ 58 ∷ 82 ∷ 101 ∷ 115 ∷ 105 ∷ 100 ∷ 117 ∷ 101 ∷ 78 ∷ 117 ∷ 109 ∷ 98 ∷ 101 ∷ 114 ∷ []) (Syntax.tcons (Syntax.tyInt
-          Syntax.w32) Syntax.tnil)) (Syntax.tcons (Syntax.tyInt Syntax.w8) Syntax.tnil))))) (Syntax.tcons (Syntax.tyStruct (114 ∷ 101 ∷ 115 ∷ 105 ∷ 100 ∷ 117 ∷ 101 ∷
-          58 ∷ 58 ∷ 82 ∷ 101 ∷ 115 ∷ 105 ∷ 100 ∷ 117 ∷ 101 ∷ []) (Syntax.tcons (Syntax.tyStruct (110 ∷ 97 ∷ 109 ∷ 101 ∷ 115 ∷ 58 ∷ 58 ∷ 84 ∷ 104 ∷ 114 ∷ 101 ∷ 101 ∷
-          []) (Syntax.tcons (Syntax.tyInt Syntax.w8) (Syntax.tcons (Syntax.tyInt Syntax.w8) (Syntax.tcons (Syntax.tyInt Syntax.w8) Syntax.tnil)))) (Syntax.tcons
-          (Syntax.tyInt Syntax.w8) (Syntax.tcons (Syntax.tyStruct (102 ∷ 105 ∷ 101 ∷ 108 ∷ 100 ∷ 115 ∷ 58 ∷ 58 ∷ 82 ∷ 101 ∷ 115 ∷ 105 ∷ 100 ∷ 117 ∷ 101 ∷ 78 ∷ 117 ∷
-          109 ∷ 98 ∷ 101 ∷ 114 ∷ []) (Syntax.tcons (Syntax.tyInt Syntax.w32) Syntax.tnil)) (Syntax.tcons (Syntax.tyInt Syntax.w8) Syntax.tnil))))) Syntax.tnil)))))
-          (Syntax.tcons (Syntax.tyInt Syntax.w32) (Syntax.tcons (Syntax.tyStruct (104 ∷ 101 ∷ 108 ∷ 105 ∷ 120 ∷ 58 ∷ 58 ∷ 67 ∷ 111 ∷ 109 ∷ 109 ∷ 101 ∷ 110 ∷ 116 ∷
-          []) (Syntax.tcons (Syntax.tyInt Syntax.w64) (Syntax.tcons (Syntax.tyInt Syntax.w64) (Syntax.tcons (Syntax.tyInt Syntax.w64) (Syntax.tcons (Syntax.tyInt
-          Syntax.w64) Syntax.tnil))))) (Syntax.tcons (Syntax.tyInt Syntax.w32) Syntax.tnil))))) Syntax.tnil) (Syntax.ttcons (Syntax.tcons (Syntax.tyStruct (115 ∷ 104
-          ∷ 101 ∷ 101 ∷ 116 ∷ 58 ∷ 58 ∷ 83 ∷ 104 ∷ 101 ∷ 101 ∷ 116 ∷ []) (Syntax.tcons (Syntax.tyStruct (115 ∷ 104 ∷ 101 ∷ 101 ∷ 116 ∷ 58 ∷ 58 ∷ 83 ∷ 116 ∷ 114 ∷ 97
-          ∷ 110 ∷ 100 ∷ []) (Syntax.tcons (Syntax.tyInt Syntax.w32) (Syntax.tcons (Syntax.tyStruct (110 ∷ 97 ∷ 109 ∷ 101 ∷ 115 ∷ 58 ∷ 58 ∷ 84 ∷ 104 ∷ 114 ∷ 101 ∷ 101
-          ∷ []) (Syntax.tcons (Syntax.tyInt Syntax.w8) (Syntax.tcons (Syntax.tyInt Syntax.w8) (Syntax.tcons (Syntax.tyInt Syntax.w8) Syntax.tnil)))) (Syntax.tcons
-          (Syntax.tyInt Syntax.w32) (Syntax.tcons (Syntax.tyStruct (114 ∷ 101 ∷ 115 ∷ 105 ∷ 100 ∷ 117 ∷ 101 ∷ 58 ∷ 58 ∷ 82 ∷ 101 ∷ 115 ∷ 105 ∷ 100 ∷ 117 ∷ 101 ∷ [])
-          (Syntax.tcons (Syntax.tyStruct (110 ∷ 97 ∷ 109 ∷ 101 ∷ 115 ∷ 58 ∷ 58 ∷ 84 ∷ 104 ∷ 114 ∷ 101 ∷ 101 ∷ []) (Syntax.tcons (Syntax.tyInt Syntax.w8)
-          (Syntax.tcons (Syntax.tyInt Syntax.w8) (Syntax.tcons (Syntax.tyInt Syntax.w8) Syntax.tnil)))) (Syntax.tcons (Syntax.tyInt Syntax.w8) (Syntax.tcons
-          (Syntax.tyStruct (102 ∷ 105 ∷ 101 ∷ 108 ∷ 100 ∷ 115 ∷ 58 ∷ 58 ∷ 82 ∷ 101 ∷ 115 ∷ 105 ∷ 100 ∷ 117 ∷ 101 ∷ 78 ∷ 117 ∷ 109 ∷ 98 ∷ 101 ∷ 114 ∷ [])
-          (Syntax.tcons (Syntax.tyInt Syntax.w32) Syntax.tnil)) (Syntax.tcons (Syntax.tyInt Syntax.w8) Syntax.tnil))))) (Syntax.tcons (Syntax.tyStruct (114 ∷ 101 ∷
-          115 ∷ 105 ∷ 100 ∷ 117 ∷ 101 ∷ 58 ∷ 58 ∷ 82 ∷ 101 ∷ 115 ∷ 105 ∷ 100 ∷ 117 ∷ 101 ∷ []) (Syntax.tcons (Syntax.tyStruct (110 ∷ 97 ∷ 109 ∷ 101 ∷ 115 ∷ 58 ∷ 58 ∷
-          84 ∷ 104 ∷ 114 ∷ 101 ∷ 101 ∷ []) (Syntax.tcons (Syntax.tyInt Syntax.w8) (Syntax.tcons (Syntax.tyInt Syntax.w8) (Syntax.tcons (Syntax.tyInt Syntax.w8)
-          Syntax.tnil)))) (Syntax.tcons (Syntax.tyInt Syntax.w8) (Syntax.tcons (Syntax.tyStruct (102 ∷ 105 ∷ 101 ∷ 108 ∷ 100 ∷ 115 ∷ 58 ∷ 58 ∷ 82 ∷ 101 ∷ 115 ∷ 105 ∷
-          100 ∷ 117 ∷ 101 ∷ 78 ∷ 117 ∷ 109 ∷ 98 ∷ 101 ∷ 114 ∷ []) (Syntax.tcons (Syntax.tyInt Syntax.w32) Syntax.tnil)) (Syntax.tcons (Syntax.tyInt Syntax.w8)
-          Syntax.tnil))))) (Syntax.tcons (Syntax.tyInt Syntax.w32) Syntax.tnil))))))) (Syntax.tcons (Syntax.tyEnum (115 ∷ 104 ∷ 101 ∷ 101 ∷ 116 ∷ 58 ∷ 58 ∷ 82 ∷ 101
-          ∷ 103 ∷ 105 ∷ 115 ∷ 116 ∷ 114 ∷ 97 ∷ 116 ∷ 105 ∷ 111 ∷ 110 ∷ []) (Syntax.ttcons Syntax.tnil (Syntax.ttcons (Syntax.tcons (Syntax.tyStruct (115 ∷ 104 ∷ 101
-          ∷ 101 ∷ 116 ∷ 58 ∷ 58 ∷ 66 ∷ 111 ∷ 110 ∷ 100 ∷ []) (Syntax.tcons (Syntax.tyStruct (110 ∷ 97 ∷ 109 ∷ 101 ∷ 115 ∷ 58 ∷ 58 ∷ 70 ∷ 111 ∷ 117 ∷ 114 ∷ [])
-          (Syntax.tcons (Syntax.tyInt Syntax.w8) (Syntax.tcons (Syntax.tyInt Syntax.w8) (Syntax.tcons (Syntax.tyInt Syntax.w8) (Syntax.tcons (Syntax.tyInt Syntax.w8)
-          Syntax.tnil))))) (Syntax.tcons (Syntax.tyStruct (114 ∷ 101 ∷ 115 ∷ 105 ∷ 100 ∷ 117 ∷ 101 ∷ 58 ∷ 58 ∷ 82 ∷ 101 ∷ 115 ∷ 105 ∷ 100 ∷ 117 ∷ 101 ∷ [])
-          (Syntax.tcons (Syntax.tyStruct (110 ∷ 97 ∷ 109 ∷ 101 ∷ 115 ∷ 58 ∷ 58 ∷ 84 ∷ 104 ∷ 114 ∷ 101 ∷ 101 ∷ []) (Syntax.tcons (Syntax.tyInt Syntax.w8)
-          (Syntax.tcons (Syntax.tyInt Syntax.w8) (Syntax.tcons (Syntax.tyInt Syntax.w8) Syntax.tnil)))) (Syntax.tcons (Syntax.tyInt Syntax.w8) (Syntax.tcons
-          (Syntax.tyStruct (102 ∷ 105 ∷ 101 ∷ 108 ∷ 100 ∷ 115 ∷ 58 ∷ 58 ∷ 82 ∷ 101 ∷ 115 ∷ 105 ∷ 100 ∷ 117 ∷ 101 ∷ 78 ∷ 117 ∷ 109 ∷ 98 ∷ 101 ∷ 114 ∷ [])
-          (Syntax.tcons (Syntax.tyInt Syntax.w32) Syntax.tnil)) (Syntax.tcons (Syntax.tyInt Syntax.w8) Syntax.tnil))))) (Syntax.tcons (Syntax.tyStruct (110 ∷ 97 ∷
-          109 ∷ 101 ∷ 115 ∷ 58 ∷ 58 ∷ 70 ∷ 111 ∷ 117 ∷ 114 ∷ []) (Syntax.tcons (Syntax.tyInt Syntax.w8) (Syntax.tcons (Syntax.tyInt Syntax.w8) (Syntax.tcons
-          (Syntax.tyInt Syntax.w8) (Syntax.tcons (Syntax.tyInt Syntax.w8) Syntax.tnil))))) (Syntax.tcons (Syntax.tyStruct (114 ∷ 101 ∷ 115 ∷ 105 ∷ 100 ∷ 117 ∷ 101 ∷
-          58 ∷ 58 ∷ 82 ∷ 101 ∷ 115 ∷ 105 ∷ 100 ∷ 117 ∷ 101 ∷ []) (Syntax.tcons (Syntax.tyStruct (110 ∷ 97 ∷ 109 ∷ 101 ∷ 115 ∷ 58 ∷ 58 ∷ 84 ∷ 104 ∷ 114 ∷ 101 ∷ 101 ∷
-          []) (Syntax.tcons (Syntax.tyInt Syntax.w8) (Syntax.tcons (Syntax.tyInt Syntax.w8) (Syntax.tcons (Syntax.tyInt Syntax.w8) Syntax.tnil)))) (Syntax.tcons
-          (Syntax.tyInt Syntax.w8) (Syntax.tcons (Syntax.tyStruct (102 ∷ 105 ∷ 101 ∷ 108 ∷ 100 ∷ 115 ∷ 58 ∷ 58 ∷ 82 ∷ 101 ∷ 115 ∷ 105 ∷ 100 ∷ 117 ∷ 101 ∷ 78 ∷ 117 ∷
-          109 ∷ 98 ∷ 101 ∷ 114 ∷ []) (Syntax.tcons (Syntax.tyInt Syntax.w32) Syntax.tnil)) (Syntax.tcons (Syntax.tyInt Syntax.w8) Syntax.tnil))))) Syntax.tnil)))))
-          Syntax.tnil) Syntax.ttnil))) Syntax.tnil))) Syntax.tnil) (Syntax.ttcons (Syntax.tcons (Syntax.tyStruct (99 ∷ 111 ∷ 110 ∷ 101 ∷ 99 ∷ 116 ∷ 58 ∷ 58 ∷ 67 ∷
-          111 ∷ 110 ∷ 101 ∷ 99 ∷ 116 ∷ []) (Syntax.tcons (Syntax.tyStruct (102 ∷ 105 ∷ 101 ∷ 108 ∷ 100 ∷ 115 ∷ 58 ∷ 58 ∷ 83 ∷ 101 ∷ 114 ∷ 105 ∷ 97 ∷ 108 ∷ [])
-          (Syntax.tcons (Syntax.tyInt Syntax.w32) Syntax.tnil)) (Syntax.tcons (Syntax.tyStruct (102 ∷ 105 ∷ 101 ∷ 108 ∷ 100 ∷ 115 ∷ 58 ∷ 58 ∷ 83 ∷ 101 ∷ 114 ∷ 105 ∷
-          97 ∷ 108 ∷ []) (Syntax.tcons (Syntax.tyInt Syntax.w32) Syntax.tnil)) (Syntax.tcons (Syntax.tyStruct (102 ∷ 105 ∷ 101 ∷ 108 ∷ 100 ∷ 115 ∷ 58 ∷ 58 ∷ 83 ∷ 101
-          ∷ 114 ∷ 105 ∷ 97 ∷ 108 ∷ []) (Syntax.tcons (Syntax.tyInt Syntax.w32) Syntax.tnil)) (Syntax.tcons (Syntax.tyStruct (102 ∷ 105 ∷ 101 ∷ 108 ∷ 100 ∷ 115 ∷ 58 ∷
-          58 ∷ 83 ∷ 101 ∷ 114 ∷ 105 ∷ 97 ∷ 108 ∷ []) (Syntax.tcons (Syntax.tyInt Syntax.w32) Syntax.tnil)) (Syntax.tcons (Syntax.tyStruct (102 ∷ 105 ∷ 101 ∷ 108 ∷
-          100 ∷ 115 ∷ 58 ∷ 58 ∷ 83 ∷ 101 ∷ 114 ∷ 105 ∷ 97 ∷ 108 ∷ []) (Syntax.tcons (Syntax.tyInt Syntax.w32) Syntax.tnil)) Syntax.tnil)))))) Syntax.tnil)
-          (Syntax.ttcons (Syntax.tcons (Syntax.tyStruct (109 ∷ 97 ∷ 115 ∷ 116 ∷ 101 ∷ 114 ∷ 58 ∷ 58 ∷ 84 ∷ 97 ∷ 108 ∷ 108 ∷ 121 ∷ []) (Syntax.tcons (Syntax.tyInt
-          Syntax.w32) (Syntax.tcons (Syntax.tyInt Syntax.w32) (Syntax.tcons (Syntax.tyInt Syntax.w32) (Syntax.tcons (Syntax.tyInt Syntax.w32) (Syntax.tcons
-          (Syntax.tyInt Syntax.w32) (Syntax.tcons (Syntax.tyInt Syntax.w32) (Syntax.tcons (Syntax.tyInt Syntax.w32) (Syntax.tcons (Syntax.tyInt Syntax.w32)
-          (Syntax.tcons (Syntax.tyInt Syntax.w32) Syntax.tnil)))))))))) Syntax.tnil) (Syntax.ttcons Syntax.tnil Syntax.ttnil)))))))) Syntax.tnil) Syntax.ttnil))))),
-    )
+  Rows'.any-gone (Syntax.tyStruct (115 ∷ 101 ∷ 114 ∷ 105 ∷ 97 ∷ 108 ∷ 115 ∷ 58 ∷ 58 ∷ 83 ∷ 112 ∷ 97 ∷ 110 ∷ []) (Syntax.tcons
+      (Syntax.tyInt Syntax.w64) (Syntax.tcons (Syntax.tyInt Syntax.w64) Syntax.tnil))),
+) ∷ (6, Rows'.any-gone (Syntax.tyInt Syntax.w64)) ∷ (
+  7,
+  Rows'.any-gone
+      Syntax.tyBool,
+) ∷ (8, Rows'.any-gone (Syntax.tyInt Syntax.w64)) ∷ (
+  9,
+  Rows'.any-gone (Syntax.tyEnum (112 ∷ 105 ∷ 101 ∷ 99 ∷ 101 ∷ 115 ∷ 58 ∷ 58 ∷ 76 ∷ 105 ∷
+      110 ∷ 101 ∷ []) (Syntax.ttcons (Syntax.tcons (Syntax.tyInt Syntax.w8) Syntax.tnil) (Syntax.ttcons (Syntax.tcons (Syntax.tyEnum (107 ∷ 105 ∷ 110 ∷ 100 ∷ 115
+      ∷ 58 ∷ 58 ∷ 75 ∷ 105 ∷ 110 ∷ 100 ∷ []) (Syntax.ttcons Syntax.tnil (Syntax.ttcons Syntax.tnil (Syntax.ttcons Syntax.tnil (Syntax.ttcons Syntax.tnil
+      (Syntax.ttcons Syntax.tnil (Syntax.ttcons Syntax.tnil (Syntax.ttcons Syntax.tnil (Syntax.ttcons Syntax.tnil (Syntax.ttcons Syntax.tnil (Syntax.ttcons
+      Syntax.tnil (Syntax.ttcons Syntax.tnil (Syntax.ttcons Syntax.tnil (Syntax.ttcons Syntax.tnil (Syntax.ttcons Syntax.tnil (Syntax.ttcons Syntax.tnil
+      (Syntax.ttcons Syntax.tnil (Syntax.ttcons Syntax.tnil (Syntax.ttcons Syntax.tnil (Syntax.ttcons Syntax.tnil (Syntax.ttcons Syntax.tnil (Syntax.ttcons
+      Syntax.tnil (Syntax.ttcons Syntax.tnil (Syntax.ttcons Syntax.tnil (Syntax.ttcons Syntax.tnil (Syntax.ttcons Syntax.tnil (Syntax.ttcons Syntax.tnil
+      (Syntax.ttcons Syntax.tnil (Syntax.ttcons Syntax.tnil Syntax.ttnil))))))))))))))))))))))))))))) (Syntax.tcons (Syntax.tyInt Syntax.w32) Syntax.tnil))
+      (Syntax.ttcons (Syntax.tcons (Syntax.tyEnum (107 ∷ 105 ∷ 110 ∷ 100 ∷ 115 ∷ 58 ∷ 58 ∷ 75 ∷ 105 ∷ 110 ∷ 100 ∷ []) (Syntax.ttcons Syntax.tnil (Syntax.ttcons
+      Syntax.tnil (Syntax.ttcons Syntax.tnil (Syntax.ttcons Syntax.tnil (Syntax.ttcons Syntax.tnil (Syntax.ttcons Syntax.tnil (Syntax.ttcons Syntax.tnil
+      (Syntax.ttcons Syntax.tnil (Syntax.ttcons Syntax.tnil (Syntax.ttcons Syntax.tnil (Syntax.ttcons Syntax.tnil (Syntax.ttcons Syntax.tnil (Syntax.ttcons
+      Syntax.tnil (Syntax.ttcons Syntax.tnil (Syntax.ttcons Syntax.tnil (Syntax.ttcons Syntax.tnil (Syntax.ttcons Syntax.tnil (Syntax.ttcons Syntax.tnil
+      (Syntax.ttcons Syntax.tnil (Syntax.ttcons Syntax.tnil (Syntax.ttcons Syntax.tnil (Syntax.ttcons Syntax.tnil (Syntax.ttcons Syntax.tnil (Syntax.ttcons
+      Syntax.tnil (Syntax.ttcons Syntax.tnil (Syntax.ttcons Syntax.tnil (Syntax.ttcons Syntax.tnil (Syntax.ttcons Syntax.tnil
+      Syntax.ttnil))))))))))))))))))))))))))))) Syntax.tnil) (Syntax.ttcons (Syntax.tcons (Syntax.tyEnum (108 ∷ 105 ∷ 110 ∷ 101 ∷ 58 ∷ 58 ∷ 82 ∷ 101 ∷ 99 ∷ 111 ∷
+      114 ∷ 100 ∷ []) (Syntax.ttcons (Syntax.tcons Syntax.tyBool (Syntax.tcons (Syntax.tyStruct (99 ∷ 111 ∷ 111 ∷ 114 ∷ 100 ∷ 105 ∷ 110 ∷ 97 ∷ 116 ∷ 101 ∷ 58 ∷
+      58 ∷ 65 ∷ 116 ∷ 111 ∷ 109 ∷ []) (Syntax.tcons (Syntax.tyStruct (99 ∷ 111 ∷ 111 ∷ 114 ∷ 100 ∷ 105 ∷ 110 ∷ 97 ∷ 116 ∷ 101 ∷ 58 ∷ 58 ∷ 73 ∷ 100 ∷ 101 ∷ 110 ∷
+      116 ∷ 105 ∷ 116 ∷ 121 ∷ []) (Syntax.tcons (Syntax.tyStruct (102 ∷ 105 ∷ 101 ∷ 108 ∷ 100 ∷ 115 ∷ 58 ∷ 58 ∷ 83 ∷ 101 ∷ 114 ∷ 105 ∷ 97 ∷ 108 ∷ [])
+      (Syntax.tcons (Syntax.tyInt Syntax.w32) Syntax.tnil)) (Syntax.tcons (Syntax.tyStruct (110 ∷ 97 ∷ 109 ∷ 101 ∷ 115 ∷ 58 ∷ 58 ∷ 70 ∷ 111 ∷ 117 ∷ 114 ∷ [])
+      (Syntax.tcons (Syntax.tyInt Syntax.w8) (Syntax.tcons (Syntax.tyInt Syntax.w8) (Syntax.tcons (Syntax.tyInt Syntax.w8) (Syntax.tcons (Syntax.tyInt Syntax.w8)
+      Syntax.tnil))))) (Syntax.tcons (Syntax.tyInt Syntax.w8) (Syntax.tcons (Syntax.tyStruct (114 ∷ 101 ∷ 115 ∷ 105 ∷ 100 ∷ 117 ∷ 101 ∷ 58 ∷ 58 ∷ 82 ∷ 101 ∷ 115
+      ∷ 105 ∷ 100 ∷ 117 ∷ 101 ∷ []) (Syntax.tcons (Syntax.tyStruct (110 ∷ 97 ∷ 109 ∷ 101 ∷ 115 ∷ 58 ∷ 58 ∷ 84 ∷ 104 ∷ 114 ∷ 101 ∷ 101 ∷ []) (Syntax.tcons
+      (Syntax.tyInt Syntax.w8) (Syntax.tcons (Syntax.tyInt Syntax.w8) (Syntax.tcons (Syntax.tyInt Syntax.w8) Syntax.tnil)))) (Syntax.tcons (Syntax.tyInt
+      Syntax.w8) (Syntax.tcons (Syntax.tyStruct (102 ∷ 105 ∷ 101 ∷ 108 ∷ 100 ∷ 115 ∷ 58 ∷ 58 ∷ 82 ∷ 101 ∷ 115 ∷ 105 ∷ 100 ∷ 117 ∷ 101 ∷ 78 ∷ 117 ∷ 109 ∷ 98 ∷ 101
+      ∷ 114 ∷ []) (Syntax.tcons (Syntax.tyInt Syntax.w32) Syntax.tnil)) (Syntax.tcons (Syntax.tyInt Syntax.w8) Syntax.tnil))))) Syntax.tnil))))) (Syntax.tcons
+      (Syntax.tyStruct (99 ∷ 111 ∷ 111 ∷ 114 ∷ 100 ∷ 105 ∷ 110 ∷ 97 ∷ 116 ∷ 101 ∷ 58 ∷ 58 ∷ 77 ∷ 101 ∷ 97 ∷ 115 ∷ 117 ∷ 114 ∷ 101 ∷ []) (Syntax.tcons
+      (Syntax.tyStruct (99 ∷ 111 ∷ 111 ∷ 114 ∷ 100 ∷ 105 ∷ 110 ∷ 97 ∷ 116 ∷ 101 ∷ 58 ∷ 58 ∷ 80 ∷ 111 ∷ 115 ∷ 105 ∷ 116 ∷ 105 ∷ 111 ∷ 110 ∷ []) (Syntax.tcons
+      (Syntax.tyInt Syntax.w32) (Syntax.tcons (Syntax.tyInt Syntax.w32) (Syntax.tcons (Syntax.tyInt Syntax.w32) Syntax.tnil)))) (Syntax.tcons (Syntax.tyInt
+      Syntax.w32) (Syntax.tcons (Syntax.tyInt Syntax.w32) Syntax.tnil)))) (Syntax.tcons (Syntax.tyStruct (99 ∷ 111 ∷ 111 ∷ 114 ∷ 100 ∷ 105 ∷ 110 ∷ 97 ∷ 116 ∷ 101
+      ∷ 58 ∷ 58 ∷ 83 ∷ 112 ∷ 101 ∷ 99 ∷ 105 ∷ 101 ∷ 115 ∷ []) (Syntax.tcons (Syntax.tyStruct (110 ∷ 97 ∷ 109 ∷ 101 ∷ 115 ∷ 58 ∷ 58 ∷ 80 ∷ 97 ∷ 105 ∷ 114 ∷ [])
+      (Syntax.tcons (Syntax.tyInt Syntax.w8) (Syntax.tcons (Syntax.tyInt Syntax.w8) Syntax.tnil))) (Syntax.tcons (Syntax.tyStruct (110 ∷ 97 ∷ 109 ∷ 101 ∷ 115 ∷
+      58 ∷ 58 ∷ 80 ∷ 97 ∷ 105 ∷ 114 ∷ []) (Syntax.tcons (Syntax.tyInt Syntax.w8) (Syntax.tcons (Syntax.tyInt Syntax.w8) Syntax.tnil))) Syntax.tnil)))
+      Syntax.tnil)))) Syntax.tnil)) (Syntax.ttcons (Syntax.tcons (Syntax.tyStruct (116 ∷ 101 ∷ 114 ∷ 58 ∷ 58 ∷ 84 ∷ 101 ∷ 114 ∷ []) (Syntax.tcons
+      (Syntax.tyStruct (102 ∷ 105 ∷ 101 ∷ 108 ∷ 100 ∷ 115 ∷ 58 ∷ 58 ∷ 83 ∷ 101 ∷ 114 ∷ 105 ∷ 97 ∷ 108 ∷ []) (Syntax.tcons (Syntax.tyInt Syntax.w32) Syntax.tnil))
+      (Syntax.tcons (Syntax.tyStruct (114 ∷ 101 ∷ 115 ∷ 105 ∷ 100 ∷ 117 ∷ 101 ∷ 58 ∷ 58 ∷ 82 ∷ 101 ∷ 115 ∷ 105 ∷ 100 ∷ 117 ∷ 101 ∷ []) (Syntax.tcons
+      (Syntax.tyStruct (110 ∷ 97 ∷ 109 ∷ 101 ∷ 115 ∷ 58 ∷ 58 ∷ 84 ∷ 104 ∷ 114 ∷ 101 ∷ 101 ∷ []) (Syntax.tcons (Syntax.tyInt Syntax.w8) (Syntax.tcons
+      (Syntax.tyInt Syntax.w8) (Syntax.tcons (Syntax.tyInt Syntax.w8) Syntax.tnil)))) (Syntax.tcons (Syntax.tyInt Syntax.w8) (Syntax.tcons (Syntax.tyStruct (102
+      ∷ 105 ∷ 101 ∷ 108 ∷ 100 ∷ 115 ∷ 58 ∷ 58 ∷ 82 ∷ 101 ∷ 115 ∷ 105 ∷ 100 ∷ 117 ∷ 101 ∷ 78 ∷ 117 ∷ 109 ∷ 98 ∷ 101 ∷ 114 ∷ []) (Syntax.tcons (Syntax.tyInt
+      Syntax.w32) Syntax.tnil)) (Syntax.tcons (Syntax.tyInt Syntax.w8) Syntax.tnil))))) Syntax.tnil))) Syntax.tnil) (Syntax.ttcons (Syntax.tcons (Syntax.tyStruct
+      (104 ∷ 101 ∷ 108 ∷ 105 ∷ 120 ∷ 58 ∷ 58 ∷ 72 ∷ 101 ∷ 108 ∷ 105 ∷ 120 ∷ []) (Syntax.tcons (Syntax.tyStruct (104 ∷ 101 ∷ 108 ∷ 105 ∷ 120 ∷ 58 ∷ 58 ∷ 69 ∷ 120
+      ∷ 116 ∷ 101 ∷ 110 ∷ 116 ∷ []) (Syntax.tcons (Syntax.tyInt Syntax.w32) (Syntax.tcons (Syntax.tyStruct (110 ∷ 97 ∷ 109 ∷ 101 ∷ 115 ∷ 58 ∷ 58 ∷ 84 ∷ 104 ∷ 114
+      ∷ 101 ∷ 101 ∷ []) (Syntax.tcons (Syntax.tyInt Syntax.w8) (Syntax.tcons (Syntax.tyInt Syntax.w8) (Syntax.tcons (Syntax.tyInt Syntax.w8) Syntax.tnil))))
+      (Syntax.tcons (Syntax.tyStruct (114 ∷ 101 ∷ 115 ∷ 105 ∷ 100 ∷ 117 ∷ 101 ∷ 58 ∷ 58 ∷ 82 ∷ 101 ∷ 115 ∷ 105 ∷ 100 ∷ 117 ∷ 101 ∷ []) (Syntax.tcons
+      (Syntax.tyStruct (110 ∷ 97 ∷ 109 ∷ 101 ∷ 115 ∷ 58 ∷ 58 ∷ 84 ∷ 104 ∷ 114 ∷ 101 ∷ 101 ∷ []) (Syntax.tcons (Syntax.tyInt Syntax.w8) (Syntax.tcons
+      (Syntax.tyInt Syntax.w8) (Syntax.tcons (Syntax.tyInt Syntax.w8) Syntax.tnil)))) (Syntax.tcons (Syntax.tyInt Syntax.w8) (Syntax.tcons (Syntax.tyStruct (102
+      ∷ 105 ∷ 101 ∷ 108 ∷ 100 ∷ 115 ∷ 58 ∷ 58 ∷ 82 ∷ 101 ∷ 115 ∷ 105 ∷ 100 ∷ 117 ∷ 101 ∷ 78 ∷ 117 ∷ 109 ∷ 98 ∷ 101 ∷ 114 ∷ []) (Syntax.tcons (Syntax.tyInt
+      Syntax.w32) Syntax.tnil)) (Syntax.tcons (Syntax.tyInt Syntax.w8) Syntax.tnil))))) (Syntax.tcons (Syntax.tyStruct (114 ∷ 101 ∷ 115 ∷ 105 ∷ 100 ∷ 117 ∷ 101 ∷
+      58 ∷ 58 ∷ 82 ∷ 101 ∷ 115 ∷ 105 ∷ 100 ∷ 117 ∷ 101 ∷ []) (Syntax.tcons (Syntax.tyStruct (110 ∷ 97 ∷ 109 ∷ 101 ∷ 115 ∷ 58 ∷ 58 ∷ 84 ∷ 104 ∷ 114 ∷ 101 ∷ 101 ∷
+      []) (Syntax.tcons (Syntax.tyInt Syntax.w8) (Syntax.tcons (Syntax.tyInt Syntax.w8) (Syntax.tcons (Syntax.tyInt Syntax.w8) Syntax.tnil)))) (Syntax.tcons
+      (Syntax.tyInt Syntax.w8) (Syntax.tcons (Syntax.tyStruct (102 ∷ 105 ∷ 101 ∷ 108 ∷ 100 ∷ 115 ∷ 58 ∷ 58 ∷ 82 ∷ 101 ∷ 115 ∷ 105 ∷ 100 ∷ 117 ∷ 101 ∷ 78 ∷ 117 ∷
+      109 ∷ 98 ∷ 101 ∷ 114 ∷ []) (Syntax.tcons (Syntax.tyInt Syntax.w32) Syntax.tnil)) (Syntax.tcons (Syntax.tyInt Syntax.w8) Syntax.tnil))))) Syntax.tnil)))))
+      (Syntax.tcons (Syntax.tyInt Syntax.w32) (Syntax.tcons (Syntax.tyStruct (104 ∷ 101 ∷ 108 ∷ 105 ∷ 120 ∷ 58 ∷ 58 ∷ 67 ∷ 111 ∷ 109 ∷ 109 ∷ 101 ∷ 110 ∷ 116 ∷
+      []) (Syntax.tcons (Syntax.tyInt Syntax.w64) (Syntax.tcons (Syntax.tyInt Syntax.w64) (Syntax.tcons (Syntax.tyInt Syntax.w64) (Syntax.tcons (Syntax.tyInt
+      Syntax.w64) Syntax.tnil))))) (Syntax.tcons (Syntax.tyInt Syntax.w32) Syntax.tnil))))) Syntax.tnil) (Syntax.ttcons (Syntax.tcons (Syntax.tyStruct (115 ∷ 104
+      ∷ 101 ∷ 101 ∷ 116 ∷ 58 ∷ 58 ∷ 83 ∷ 104 ∷ 101 ∷ 101 ∷ 116 ∷ []) (Syntax.tcons (Syntax.tyStruct (115 ∷ 104 ∷ 101 ∷ 101 ∷ 116 ∷ 58 ∷ 58 ∷ 83 ∷ 116 ∷ 114 ∷ 97
+      ∷ 110 ∷ 100 ∷ []) (Syntax.tcons (Syntax.tyInt Syntax.w32) (Syntax.tcons (Syntax.tyStruct (110 ∷ 97 ∷ 109 ∷ 101 ∷ 115 ∷ 58 ∷ 58 ∷ 84 ∷ 104 ∷ 114 ∷ 101 ∷ 101
+      ∷ []) (Syntax.tcons (Syntax.tyInt Syntax.w8) (Syntax.tcons (Syntax.tyInt Syntax.w8) (Syntax.tcons (Syntax.tyInt Syntax.w8) Syntax.tnil)))) (Syntax.tcons
+      (Syntax.tyInt Syntax.w32) (Syntax.tcons (Syntax.tyStruct (114 ∷ 101 ∷ 115 ∷ 105 ∷ 100 ∷ 117 ∷ 101 ∷ 58 ∷ 58 ∷ 82 ∷ 101 ∷ 115 ∷ 105 ∷ 100 ∷ 117 ∷ 101 ∷ [])
+      (Syntax.tcons (Syntax.tyStruct (110 ∷ 97 ∷ 109 ∷ 101 ∷ 115 ∷ 58 ∷ 58 ∷ 84 ∷ 104 ∷ 114 ∷ 101 ∷ 101 ∷ []) (Syntax.tcons (Syntax.tyInt Syntax.w8)
+      (Syntax.tcons (Syntax.tyInt Syntax.w8) (Syntax.tcons (Syntax.tyInt Syntax.w8) Syntax.tnil)))) (Syntax.tcons (Syntax.tyInt Syntax.w8) (Syntax.tcons
+      (Syntax.tyStruct (102 ∷ 105 ∷ 101 ∷ 108 ∷ 100 ∷ 115 ∷ 58 ∷ 58 ∷ 82 ∷ 101 ∷ 115 ∷ 105 ∷ 100 ∷ 117 ∷ 101 ∷ 78 ∷ 117 ∷ 109 ∷ 98 ∷ 101 ∷ 114 ∷ [])
+      (Syntax.tcons (Syntax.tyInt Syntax.w32) Syntax.tnil)) (Syntax.tcons (Syntax.tyInt Syntax.w8) Syntax.tnil))))) (Syntax.tcons (Syntax.tyStruct (114 ∷ 101 ∷
+      115 ∷ 105 ∷ 100 ∷ 117 ∷ 101 ∷ 58 ∷ 58 ∷ 82 ∷ 101 ∷ 115 ∷ 105 ∷ 100 ∷ 117 ∷ 101 ∷ []) (Syntax.tcons (Syntax.tyStruct (110 ∷ 97 ∷ 109 ∷ 101 ∷ 115 ∷ 58 ∷ 58 ∷
+      84 ∷ 104 ∷ 114 ∷ 101 ∷ 101 ∷ []) (Syntax.tcons (Syntax.tyInt Syntax.w8) (Syntax.tcons (Syntax.tyInt Syntax.w8) (Syntax.tcons (Syntax.tyInt Syntax.w8)
+      Syntax.tnil)))) (Syntax.tcons (Syntax.tyInt Syntax.w8) (Syntax.tcons (Syntax.tyStruct (102 ∷ 105 ∷ 101 ∷ 108 ∷ 100 ∷ 115 ∷ 58 ∷ 58 ∷ 82 ∷ 101 ∷ 115 ∷ 105 ∷
+      100 ∷ 117 ∷ 101 ∷ 78 ∷ 117 ∷ 109 ∷ 98 ∷ 101 ∷ 114 ∷ []) (Syntax.tcons (Syntax.tyInt Syntax.w32) Syntax.tnil)) (Syntax.tcons (Syntax.tyInt Syntax.w8)
+      Syntax.tnil))))) (Syntax.tcons (Syntax.tyInt Syntax.w32) Syntax.tnil))))))) (Syntax.tcons (Syntax.tyEnum (115 ∷ 104 ∷ 101 ∷ 101 ∷ 116 ∷ 58 ∷ 58 ∷ 82 ∷ 101
+      ∷ 103 ∷ 105 ∷ 115 ∷ 116 ∷ 114 ∷ 97 ∷ 116 ∷ 105 ∷ 111 ∷ 110 ∷ []) (Syntax.ttcons Syntax.tnil (Syntax.ttcons (Syntax.tcons (Syntax.tyStruct (115 ∷ 104 ∷ 101
+      ∷ 101 ∷ 116 ∷ 58 ∷ 58 ∷ 66 ∷ 111 ∷ 110 ∷ 100 ∷ []) (Syntax.tcons (Syntax.tyStruct (110 ∷ 97 ∷ 109 ∷ 101 ∷ 115 ∷ 58 ∷ 58 ∷ 70 ∷ 111 ∷ 117 ∷ 114 ∷ [])
+      (Syntax.tcons (Syntax.tyInt Syntax.w8) (Syntax.tcons (Syntax.tyInt Syntax.w8) (Syntax.tcons (Syntax.tyInt Syntax.w8) (Syntax.tcons (Syntax.tyInt Syntax.w8)
+      Syntax.tnil))))) (Syntax.tcons (Syntax.tyStruct (114 ∷ 101 ∷ 115 ∷ 105 ∷ 100 ∷ 117 ∷ 101 ∷ 58 ∷ 58 ∷ 82 ∷ 101 ∷ 115 ∷ 105 ∷ 100 ∷ 117 ∷ 101 ∷ [])
+      (Syntax.tcons (Syntax.tyStruct (110 ∷ 97 ∷ 109 ∷ 101 ∷ 115 ∷ 58 ∷ 58 ∷ 84 ∷ 104 ∷ 114 ∷ 101 ∷ 101 ∷ []) (Syntax.tcons (Syntax.tyInt Syntax.w8)
+      (Syntax.tcons (Syntax.tyInt Syntax.w8) (Syntax.tcons (Syntax.tyInt Syntax.w8) Syntax.tnil)))) (Syntax.tcons (Syntax.tyInt Syntax.w8) (Syntax.tcons
+      (Syntax.tyStruct (102 ∷ 105 ∷ 101 ∷ 108 ∷ 100 ∷ 115 ∷ 58 ∷ 58 ∷ 82 ∷ 101 ∷ 115 ∷ 105 ∷ 100 ∷ 117 ∷ 101 ∷ 78 ∷ 117 ∷ 109 ∷ 98 ∷ 101 ∷ 114 ∷ [])
+      (Syntax.tcons (Syntax.tyInt Syntax.w32) Syntax.tnil)) (Syntax.tcons (Syntax.tyInt Syntax.w8) Syntax.tnil))))) (Syntax.tcons (Syntax.tyStruct (110 ∷ 97 ∷
+      109 ∷ 101 ∷ 115 ∷ 58 ∷ 58 ∷ 70 ∷ 111 ∷ 117 ∷ 114 ∷ []) (Syntax.tcons (Syntax.tyInt Syntax.w8) (Syntax.tcons (Syntax.tyInt Syntax.w8) (Syntax.tcons
+      (Syntax.tyInt Syntax.w8) (Syntax.tcons (Syntax.tyInt Syntax.w8) Syntax.tnil))))) (Syntax.tcons (Syntax.tyStruct (114 ∷ 101 ∷ 115 ∷ 105 ∷ 100 ∷ 117 ∷ 101 ∷
+      58 ∷ 58 ∷ 82 ∷ 101 ∷ 115 ∷ 105 ∷ 100 ∷ 117 ∷ 101 ∷ []) (Syntax.tcons (Syntax.tyStruct (110 ∷ 97 ∷ 109 ∷ 101 ∷ 115 ∷ 58 ∷ 58 ∷ 84 ∷ 104 ∷ 114 ∷ 101 ∷ 101 ∷
+      []) (Syntax.tcons (Syntax.tyInt Syntax.w8) (Syntax.tcons (Syntax.tyInt Syntax.w8) (Syntax.tcons (Syntax.tyInt Syntax.w8) Syntax.tnil)))) (Syntax.tcons
+      (Syntax.tyInt Syntax.w8) (Syntax.tcons (Syntax.tyStruct (102 ∷ 105 ∷ 101 ∷ 108 ∷ 100 ∷ 115 ∷ 58 ∷ 58 ∷ 82 ∷ 101 ∷ 115 ∷ 105 ∷ 100 ∷ 117 ∷ 101 ∷ 78 ∷ 117 ∷
+      109 ∷ 98 ∷ 101 ∷ 114 ∷ []) (Syntax.tcons (Syntax.tyInt Syntax.w32) Syntax.tnil)) (Syntax.tcons (Syntax.tyInt Syntax.w8) Syntax.tnil))))) Syntax.tnil)))))
+      Syntax.tnil) Syntax.ttnil))) Syntax.tnil))) Syntax.tnil) (Syntax.ttcons (Syntax.tcons (Syntax.tyStruct (99 ∷ 111 ∷ 110 ∷ 101 ∷ 99 ∷ 116 ∷ 58 ∷ 58 ∷ 67 ∷
+      111 ∷ 110 ∷ 101 ∷ 99 ∷ 116 ∷ []) (Syntax.tcons (Syntax.tyStruct (102 ∷ 105 ∷ 101 ∷ 108 ∷ 100 ∷ 115 ∷ 58 ∷ 58 ∷ 83 ∷ 101 ∷ 114 ∷ 105 ∷ 97 ∷ 108 ∷ [])
+      (Syntax.tcons (Syntax.tyInt Syntax.w32) Syntax.tnil)) (Syntax.tcons (Syntax.tyStruct (102 ∷ 105 ∷ 101 ∷ 108 ∷ 100 ∷ 115 ∷ 58 ∷ 58 ∷ 83 ∷ 101 ∷ 114 ∷ 105 ∷
+      97 ∷ 108 ∷ []) (Syntax.tcons (Syntax.tyInt Syntax.w32) Syntax.tnil)) (Syntax.tcons (Syntax.tyStruct (102 ∷ 105 ∷ 101 ∷ 108 ∷ 100 ∷ 115 ∷ 58 ∷ 58 ∷ 83 ∷ 101
+      ∷ 114 ∷ 105 ∷ 97 ∷ 108 ∷ []) (Syntax.tcons (Syntax.tyInt Syntax.w32) Syntax.tnil)) (Syntax.tcons (Syntax.tyStruct (102 ∷ 105 ∷ 101 ∷ 108 ∷ 100 ∷ 115 ∷ 58 ∷
+      58 ∷ 83 ∷ 101 ∷ 114 ∷ 105 ∷ 97 ∷ 108 ∷ []) (Syntax.tcons (Syntax.tyInt Syntax.w32) Syntax.tnil)) (Syntax.tcons (Syntax.tyStruct (102 ∷ 105 ∷ 101 ∷ 108 ∷
+      100 ∷ 115 ∷ 58 ∷ 58 ∷ 83 ∷ 101 ∷ 114 ∷ 105 ∷ 97 ∷ 108 ∷ []) (Syntax.tcons (Syntax.tyInt Syntax.w32) Syntax.tnil)) Syntax.tnil)))))) Syntax.tnil)
+      (Syntax.ttcons (Syntax.tcons (Syntax.tyStruct (109 ∷ 97 ∷ 115 ∷ 116 ∷ 101 ∷ 114 ∷ 58 ∷ 58 ∷ 84 ∷ 97 ∷ 108 ∷ 108 ∷ 121 ∷ []) (Syntax.tcons (Syntax.tyInt
+      Syntax.w32) (Syntax.tcons (Syntax.tyInt Syntax.w32) (Syntax.tcons (Syntax.tyInt Syntax.w32) (Syntax.tcons (Syntax.tyInt Syntax.w32) (Syntax.tcons
+      (Syntax.tyInt Syntax.w32) (Syntax.tcons (Syntax.tyInt Syntax.w32) (Syntax.tcons (Syntax.tyInt Syntax.w32) (Syntax.tcons (Syntax.tyInt Syntax.w32)
+      (Syntax.tcons (Syntax.tyInt Syntax.w32) Syntax.tnil)))))))))) Syntax.tnil) (Syntax.ttcons Syntax.tnil Syntax.ttnil)))))))) Syntax.tnil) Syntax.ttnil))))),
+)
     ∷ (10, Rows'.any-gone Syntax.tyBool) ∷ (11, Rows'.any-gone (Syntax.tyInt Syntax.w8)) ∷ (12, Rows'.any-gone SlotAs.ty) ∷ (13, Rows'.any-gone Syntax.tyBool)
     ∷ (14, Rows'.any-gone Syntax.tyBool) ∷ (
       15,
@@ -989,104 +989,107 @@ t2 = (0, Rows'.whole (Declared'.row Findings.the-type)) ∷ (
       Syntax.tnil))))))))),
 ) ∷ (
   5,
-  Rows'.any-gone (Syntax.tyStruct (103 ∷ 97 ∷ 116 ∷ 101 ∷ 58 ∷ 58 ∷ 83 ∷ 112 ∷ 97 ∷ 110 ∷ []) (Syntax.tcons (Syntax.tyInt
-      Syntax.w64) (Syntax.tcons (Syntax.tyInt Syntax.w64) Syntax.tnil))),
-) ∷ (6, Rows'.any-gone (Syntax.tyInt Syntax.w64)) ∷ (7, Rows'.any-gone Syntax.tyBool) ∷
-    (8, Rows'.any-gone (Syntax.tyInt Syntax.w64)) ∷ (
-      9,
-      Rows'.any-gone (Syntax.tyEnum (112 ∷ 105 ∷ 101 ∷ 99 ∷ 101 ∷ 115 ∷ 58 ∷ 58 ∷ 76 ∷ 105 ∷ 110 ∷ 101 ∷ [])
-          (Syntax.ttcons (Syntax.tcons (Syntax.tyInt Syntax.w8) Syntax.tnil) (Syntax.ttcons (Syntax.tcons (Syntax.tyEnum (107 ∷ 105 ∷ 110 ∷ 100 ∷ 115 ∷ 58 ∷ 58 ∷ 75
-          ∷ 105 ∷ 110 ∷ 100 ∷ []) (Syntax.ttcons Syntax.tnil (Syntax.ttcons Syntax.tnil (Syntax.ttcons Syntax.tnil (Syntax.ttcons Syntax.tnil (Syntax.ttcons
-          Syntax.tnil (Syntax.ttcons Syntax.tnil (Syntax.ttcons Syntax.tnil (Syntax.ttcons Syntax.tnil (Syntax.ttcons Syntax.tnil (Syntax.ttcons Syntax.tnil
-          (Syntax.ttcons Syntax.tnil (Syntax.ttcons Syntax.tnil (Syntax.ttcons Syntax.tnil (Syntax.ttcons Syntax.tnil (Syntax.ttcons Syntax.tnil (Syntax.ttcons
-          Syntax.tnil (Syntax.ttcons Syntax.tnil (Syntax.ttcons Syntax.tnil (Syntax.ttcons Syntax.tnil (Syntax.ttcons Syntax.tnil (Syntax.ttcons Syntax.tnil
-          (Syntax.ttcons Syntax.tnil (Syntax.ttcons Syntax.tnil (Syntax.ttcons Syntax.tnil (Syntax.ttcons Syntax.tnil (Syntax.ttcons Syntax.tnil (Syntax.ttcons
-          Syntax.tnil (Syntax.ttcons Syntax.tnil Syntax.ttnil))))))))))))))))))))))))))))) (Syntax.tcons (Syntax.tyInt Syntax.w32) Syntax.tnil)) (Syntax.ttcons
-          (Syntax.tcons (Syntax.tyEnum (107 ∷ 105 ∷ 110 ∷ 100 ∷ 115 ∷ 58 ∷ 58 ∷ 75 ∷ 105 ∷ 110 ∷ 100 ∷ []) (Syntax.ttcons Syntax.tnil (Syntax.ttcons Syntax.tnil
-          (Syntax.ttcons Syntax.tnil (Syntax.ttcons Syntax.tnil (Syntax.ttcons Syntax.tnil (Syntax.ttcons Syntax.tnil (Syntax.ttcons Syntax.tnil (Syntax.ttcons
-          Syntax.tnil (Syntax.ttcons Syntax.tnil (Syntax.ttcons Syntax.tnil (Syntax.ttcons Syntax.tnil (Syntax.ttcons Syntax.tnil (Syntax.ttcons Syntax.tnil
-          (Syntax.ttcons Syntax.tnil (Syntax.ttcons Syntax.tnil (Syntax.ttcons Syntax.tnil (Syntax.ttcons Syntax.tnil (Syntax.ttcons Syntax.tnil (Syntax.ttcons
-          Syntax.tnil (Syntax.ttcons Syntax.tnil (Syntax.ttcons Syntax.tnil (Syntax.ttcons Syntax.tnil (Syntax.ttcons Syntax.tnil (Syntax.ttcons Syntax.tnil
-          (Syntax.ttcons Syntax.tnil (Syntax.ttcons Syntax.tnil (Syntax.ttcons Syntax.tnil (Syntax.ttcons Syntax.tnil Syntax.ttnil)))))))))))))))))))))))))))))
-          Syntax.tnil) (Syntax.ttcons (Syntax.tcons (Syntax.tyEnum (108 ∷ 105 ∷ 110 ∷ 101 ∷ 58 ∷ 58 ∷ 82 ∷ 101 ∷ 99 ∷ 111 ∷ 114 ∷ 100 ∷ []) (Syntax.ttcons
-          (Syntax.tcons Syntax.tyBool (Syntax.tcons (Syntax.tyStruct (99 ∷ 111 ∷ 111 ∷ 114 ∷ 100 ∷ 105 ∷ 110 ∷ 97 ∷ 116 ∷ 101 ∷ 58 ∷ 58 ∷ 65 ∷ 116 ∷ 111 ∷ 109 ∷ [])
-          (Syntax.tcons (Syntax.tyStruct (99 ∷ 111 ∷ 111 ∷ 114 ∷ 100 ∷ 105 ∷ 110 ∷ 97 ∷ 116 ∷ 101 ∷ 58 ∷ 58 ∷ 73 ∷ 100 ∷ 101 ∷ 110 ∷ 116 ∷ 105 ∷ 116 ∷ 121 ∷ [])
-          (Syntax.tcons (Syntax.tyStruct (102 ∷ 105 ∷ 101 ∷ 108 ∷ 100 ∷ 115 ∷ 58 ∷ 58 ∷ 83 ∷ 101 ∷ 114 ∷ 105 ∷ 97 ∷ 108 ∷ []) (Syntax.tcons (Syntax.tyInt Syntax.w32)
-          Syntax.tnil)) (Syntax.tcons (Syntax.tyStruct (110 ∷ 97 ∷ 109 ∷ 101 ∷ 115 ∷ 58 ∷ 58 ∷ 70 ∷ 111 ∷ 117 ∷ 114 ∷ []) (Syntax.tcons (Syntax.tyInt Syntax.w8)
-          (Syntax.tcons (Syntax.tyInt Syntax.w8) (Syntax.tcons (Syntax.tyInt Syntax.w8) (Syntax.tcons (Syntax.tyInt Syntax.w8) Syntax.tnil))))) (Syntax.tcons
-          (Syntax.tyInt Syntax.w8) (Syntax.tcons (Syntax.tyStruct (114 ∷ 101 ∷ 115 ∷ 105 ∷ 100 ∷ 117 ∷ 101 ∷ 58 ∷ 58 ∷ 82 ∷ 101 ∷ 115 ∷ 105 ∷ 100 ∷ 117 ∷ 101 ∷ [])
-          (Syntax.tcons (Syntax.tyStruct (110 ∷ 97 ∷ 109 ∷ 101 ∷ 115 ∷ 58 ∷ 58 ∷ 84 ∷ 104 ∷ 114 ∷ 101 ∷ 101 ∷ []) (Syntax.tcons (Syntax.tyInt Syntax.w8)
-          (Syntax.tcons (Syntax.tyInt Syntax.w8) (Syntax.tcons (Syntax.tyInt Syntax.w8) Syntax.tnil)))) (Syntax.tcons (Syntax.tyInt Syntax.w8) (Syntax.tcons
-          (Syntax.tyStruct (102 ∷ 105 ∷ 101 ∷ 108 ∷ 100 ∷ 115 ∷ 58 ∷ 58 ∷ 82 ∷ 101 ∷ 115 ∷ 105 ∷ 100 ∷ 117 ∷ 101 ∷ 78 ∷ 117 ∷ 109 ∷ 98 ∷ 101 ∷ 114 ∷ [])
-          (Syntax.tcons (Syntax.tyInt Syntax.w32) Syntax.tnil)) (Syntax.tcons (Syntax.tyInt Syntax.w8) Syntax.tnil))))) Syntax.tnil))))) (Syntax.tcons
-          (Syntax.tyStruct (99 ∷ 111 ∷ 111 ∷ 114 ∷ 100 ∷ 105 ∷ 110 ∷ 97 ∷ 116 ∷ 101 ∷ 58 ∷ 58 ∷ 77 ∷ 101 ∷ 97 ∷ 115 ∷ 117 ∷ 114 ∷ 101 ∷ []) (Syntax.tcons
-          (Syntax.tyStruct (99 ∷ 111 ∷ 111 ∷ 114 ∷ 100 ∷ 105 ∷ 110 ∷ 97 ∷ 116 ∷ 101 ∷ 58 ∷ 58 ∷ 80 ∷ 111 ∷ 115 ∷ 105 ∷ 116 ∷ 105 ∷ 111 ∷ 110 ∷ []) (Syntax.tcons
-          (Syntax.tyInt Syntax.w32) (Syntax.tcons (Syntax.tyInt Syntax.w32) (Syntax.tcons (Syntax.tyInt Syntax.w32) Syntax.tnil)))) (Syntax.tcons (Syntax.tyInt
-          Syntax.w32) (Syntax.tcons (Syntax.tyInt Syntax.w32) Syntax.tnil)))) (Syntax.tcons (Syntax.tyStruct (99 ∷ 111 ∷ 111 ∷ 114 ∷ 100 ∷ 105 ∷ 110 ∷ 97 ∷ 116 ∷ 101
-          ∷ 58 ∷ 58 ∷ 83 ∷ 112 ∷ 101 ∷ 99 ∷ 105 ∷ 101 ∷ 115 ∷ []) (Syntax.tcons (Syntax.tyStruct (110 ∷ 97 ∷ 109 ∷ 101 ∷ 115 ∷ 58 ∷ 58 ∷ 80 ∷ 97 ∷ 105 ∷ 114 ∷ [])
-          (Syntax.tcons (Syntax.tyInt Syntax.w8) (Syntax.tcons (Syntax.tyInt Syntax.w8) Syntax.tnil))) (Syntax.tcons (Syntax.tyStruct (110 ∷ 97 ∷ 109 ∷ 101 ∷ 115 ∷
-          58 ∷ 58 ∷ 80 ∷ 97 ∷ 105 ∷ 114 ∷ []) (Syntax.tcons (Syntax.tyInt Syntax.w8) (Syntax.tcons (Syntax.tyInt Syntax.w8) Syntax.tnil))) Syntax.tnil)))
-          Syntax.tnil)))) Syntax.tnil)) (Syntax.ttcons (Syntax.tcons (Syntax.tyStruct (116 ∷ 101 ∷ 114 ∷ 58 ∷ 58 ∷ 84 ∷ 101 ∷ 114 ∷ []) (Syntax.tcons
-          (Syntax.tyStruct (102 ∷ 105 ∷ 101 ∷ 108 ∷ 100 ∷ 115 ∷ 58 ∷ 58 ∷ 83 ∷ 101 ∷ 114 ∷ 105 ∷ 97 ∷ 108 ∷ []) (Syntax.tcons (Syntax.tyInt Syntax.w32) Syntax.tnil))
-          (Syntax.tcons (Syntax.tyStruct (114 ∷ 101 ∷ 115 ∷ 105 ∷ 100 ∷ 117 ∷ 101 ∷ 58 ∷ 58 ∷ 82 ∷ 101 ∷ 115 ∷ 105 ∷ 100 ∷ 117 ∷ 101 ∷ []) (Syntax.tcons
-          (Syntax.tyStruct (110 ∷ 97 ∷ 109 ∷ 101 ∷ 115 ∷ 58 ∷ 58 ∷ 84 ∷ 104 ∷ 114 ∷ 101 ∷ 101 ∷ []) (Syntax.tcons (Syntax.tyInt Syntax.w8) (Syntax.tcons
-          (Syntax.tyInt Syntax.w8) (Syntax.tcons (Syntax.tyInt Syntax.w8) Syntax.tnil)))) (Syntax.tcons (Syntax.tyInt Syntax.w8) (Syntax.tcons (Syntax.tyStruct (102
-          ∷ 105 ∷ 101 ∷ 108 ∷ 100 ∷ 115 ∷ 58 ∷ 58 ∷ 82 ∷ 101 ∷ 115 ∷ 105 ∷ 100 ∷ 117 ∷ 101 ∷ 78 ∷ 117 ∷ 109 ∷ 98 ∷ 101 ∷ 114 ∷ []) (Syntax.tcons (Syntax.tyInt
-          Syntax.w32) Syntax.tnil)) (Syntax.tcons (Syntax.tyInt Syntax.w8) Syntax.tnil))))) Syntax.tnil))) Syntax.tnil) (Syntax.ttcons (Syntax.tcons (Syntax.tyStruct
-          (104 ∷ 101 ∷ 108 ∷ 105 ∷ 120 ∷ 58 ∷ 58 ∷ 72 ∷ 101 ∷ 108 ∷ 105 ∷ 120 ∷ []) (Syntax.tcons (Syntax.tyStruct (104 ∷ 101 ∷ 108 ∷ 105 ∷ 120 ∷ 58 ∷ 58 ∷ 69 ∷ 120
-          ∷ 116 ∷ 101 ∷ 110 ∷ 116 ∷ []) (Syntax.tcons (Syntax.tyInt Syntax.w32) (Syntax.tcons (Syntax.tyStruct (110 ∷ 97 ∷ 109 ∷ 101 ∷ 115 ∷ 58 ∷ 58 ∷ 84 ∷ 104 ∷ 114
-          ∷ 101 ∷ 101 ∷ []) (Syntax.tcons (Syntax.tyInt Syntax.w8) (Syntax.tcons (Syntax.tyInt Syntax.w8) (Syntax.tcons (Syntax.tyInt Syntax.w8) Syntax.tnil))))
-          (Syntax.tcons (Syntax.tyStruct (114 ∷ 101 ∷ 115 ∷ 105 ∷ 100 ∷ 117 ∷ 101 ∷ 58 ∷ 58 ∷ 82 ∷ 101 ∷ 115 ∷ 105 ∷ 100 ∷ 117 ∷ 101 ∷ []) (Syntax.tcons
-          (Syntax.tyStruct (110 ∷ 97 ∷ 109 ∷ 101 ∷ 115 ∷ 58 ∷ 58 ∷ 84 ∷ 104 ∷ 114 ∷ 101 ∷ 101 ∷ []) (Syntax.tcons (Syntax.tyInt Syntax.w8) (Syntax.tcons
-          (Syntax.tyInt Syntax.w8) (Syntax.tcons (Syntax.tyInt Syntax.w8) Syntax.tnil)))) (Syntax.tcons (Syntax.tyInt Syntax.w8) (Syntax.tcons (Syntax.tyStruct (102
-          ∷ 105 ∷ 101 ∷ 108 ∷ 100 ∷ 115 ∷ 58 ∷ 58 ∷ 82 ∷ 101 ∷ 115 ∷ 105 ∷ 100 ∷ 117 ∷ 101 ∷ 78 ∷ 117 ∷ 109 ∷ 98 ∷ 101 ∷ 114 ∷ []) (Syntax.tcons (Syntax.tyInt
-          Syntax.w32) Syntax.tnil)) (Syntax.tcons (Syntax.tyInt Syntax.w8) Syntax.tnil))))) (Syntax.tcons (Syntax.tyStruct (114 ∷ 101 ∷ 115 ∷ 105 ∷ 100 ∷ 117 ∷ 101 ∷
-          58 ∷ 58 ∷ 82 ∷ 101 ∷ 115 ∷ 105 ∷ 100 ∷ 117 ∷ 101 ∷ []) (Syntax.tcons (Syntax.tyStruct (110 ∷ 97 ∷ 109 ∷ 101 ∷ 115 ∷ 58 ∷ 58 ∷ 84 ∷ 104 ∷ 114 ∷ 101 ∷ 101 ∷
-          []) (Syntax.tcons (Syntax.tyInt Syntax.w8) (Syntax.tcons (Syntax.tyInt Syntax.w8) (Syntax.tcons (Syntax.tyInt Syntax.w8) Syntax.tnil)))) (Syntax.tcons
-          (Syntax.tyInt Syntax.w8) (Syntax.tcons (Syntax.tyStruct (102 ∷ 105 ∷ 101 ∷ 108 ∷ 100 ∷ 115 ∷ 58 ∷ 58 ∷ 82 ∷ 101 ∷ 115 ∷ 105 ∷ 100 ∷ 117 ∷ 101 ∷ 78 ∷ 117 ∷
-          109 ∷ 98 ∷ 101 ∷ 114 ∷ []) (Syntax.tcons (Syntax.tyInt Syntax.w32) Syntax.tnil)) (Syntax.tcons (Syntax.tyInt Syntax.w8) Syntax.tnil))))) Syntax.tnil)))))
-          (Syntax.tcons (Syntax.tyInt Syntax.w32) (Syntax.tcons (Syntax.tyStruct (104 ∷ 101 ∷ 108 ∷ 105 ∷ 120 ∷ 58 ∷ 58 ∷ 67 ∷ 111 ∷ 109 ∷ 109 ∷ 101 ∷ 110 ∷ 116 ∷
-          []) (Syntax.tcons (Syntax.tyInt Syntax.w64) (Syntax.tcons (Syntax.tyInt Syntax.w64) (Syntax.tcons (Syntax.tyInt Syntax.w64) (Syntax.tcons (Syntax.tyInt
-          Syntax.w64) Syntax.tnil))))) (Syntax.tcons (Syntax.tyInt Syntax.w32) Syntax.tnil))))) Syntax.tnil) (Syntax.ttcons (Syntax.tcons (Syntax.tyStruct (115 ∷ 104
-          ∷ 101 ∷ 101 ∷ 116 ∷ 58 ∷ 58 ∷ 83 ∷ 104 ∷ 101 ∷ 101 ∷ 116 ∷ []) (Syntax.tcons (Syntax.tyStruct (115 ∷ 104 ∷ 101 ∷ 101 ∷ 116 ∷ 58 ∷ 58 ∷ 83 ∷ 116 ∷ 114 ∷ 97
-          ∷ 110 ∷ 100 ∷ []) (Syntax.tcons (Syntax.tyInt Syntax.w32) (Syntax.tcons (Syntax.tyStruct (110 ∷ 97 ∷ 109 ∷ 101 ∷ 115 ∷ 58 ∷ 58 ∷ 84 ∷ 104 ∷ 114 ∷ 101 ∷ 101
-          ∷ []) (Syntax.tcons (Syntax.tyInt Syntax.w8) (Syntax.tcons (Syntax.tyInt Syntax.w8) (Syntax.tcons (Syntax.tyInt Syntax.w8) Syntax.tnil)))) (Syntax.tcons
-          (Syntax.tyInt Syntax.w32) (Syntax.tcons (Syntax.tyStruct (114 ∷ 101 ∷ 115 ∷ 105 ∷ 100 ∷ 117 ∷ 101 ∷ 58 ∷ 58 ∷ 82 ∷ 101 ∷ 115 ∷ 105 ∷ 100 ∷ 117 ∷ 101 ∷ [])
-          (Syntax.tcons (Syntax.tyStruct (110 ∷ 97 ∷ 109 ∷ 101 ∷ 115 ∷ 58 ∷ 58 ∷ 84 ∷ 104 ∷ 114 ∷ 101 ∷ 101 ∷ []) (Syntax.tcons (Syntax.tyInt Syntax.w8)
-          (Syntax.tcons (Syntax.tyInt Syntax.w8) (Syntax.tcons (Syntax.tyInt Syntax.w8) Syntax.tnil)))) (Syntax.tcons (Syntax.tyInt Syntax.w8) (Syntax.tcons
-          (Syntax.tyStruct (102 ∷ 105 ∷ 101 ∷ 108 ∷ 100 ∷ 115 ∷ 58 ∷ 58 ∷ 82 ∷ 101 ∷ 115 ∷ 105 ∷ 100 ∷ 117 ∷ 101 ∷ 78 ∷ 117 ∷ 109 ∷ 98 ∷ 101 ∷ 114 ∷ [])
-          (Syntax.tcons (Syntax.tyInt Syntax.w32) Syntax.tnil)) (Syntax.tcons (Syntax.tyInt Syntax.w8) Syntax.tnil))))) (Syntax.tcons (Syntax.tyStruct (114 ∷ 101 ∷
-          115 ∷ 105 ∷ 100 ∷ 117 ∷ 101 ∷ 58 ∷ 58 ∷ 82 ∷ 101 ∷ 115 ∷ 105 ∷ 100 ∷ 117 ∷ 101 ∷ []) (Syntax.tcons (Syntax.tyStruct (110 ∷ 97 ∷ 109 ∷ 101 ∷ 115 ∷ 58 ∷ 58 ∷
-          84 ∷ 104 ∷ 114 ∷ 101 ∷ 101 ∷ []) (Syntax.tcons (Syntax.tyInt Syntax.w8) (Syntax.tcons (Syntax.tyInt Syntax.w8) (Syntax.tcons (Syntax.tyInt Syntax.w8)
-          Syntax.tnil)))) (Syntax.tcons (Syntax.tyInt Syntax.w8) (Syntax.tcons (Syntax.tyStruct (102 ∷ 105 ∷ 101 ∷ 108 ∷ 100 ∷ 115 ∷ 58 ∷ 58 ∷ 82 ∷ 101 ∷ 115 ∷ 105 ∷
-          100 ∷ 117 ∷ 101 ∷ 78 ∷ 117 ∷ 109 ∷ 98 ∷ 101 ∷ 114 ∷ []) (Syntax.tcons (Syntax.tyInt Syntax.w32) Syntax.tnil)) (Syntax.tcons (Syntax.tyInt Syntax.w8)
-          Syntax.tnil))))) (Syntax.tcons (Syntax.tyInt Syntax.w32) Syntax.tnil))))))) (Syntax.tcons (Syntax.tyEnum (115 ∷ 104 ∷ 101 ∷ 101 ∷ 116 ∷ 58 ∷ 58 ∷ 82 ∷ 101
-          ∷ 103 ∷ 105 ∷ 115 ∷ 116 ∷ 114 ∷ 97 ∷ 116 ∷ 105 ∷ 111 ∷ 110 ∷ []) (Syntax.ttcons Syntax.tnil (Syntax.ttcons (Syntax.tcons (Syntax.tyStruct (115 ∷ 104 ∷ 101
-          ∷ 101 ∷ 116 ∷ 58 ∷ 58 ∷ 66 ∷ 111 ∷ 110 ∷ 100 ∷ []) (Syntax.tcons (Syntax.tyStruct (110 ∷ 97 ∷ 109 ∷ 101 ∷ 115 ∷ 58 ∷ 58 ∷ 70 ∷ 111 ∷ 117 ∷ 114 ∷ [])
-          (Syntax.tcons (Syntax.tyInt Syntax.w8) (Syntax.tcons (Syntax.tyInt Syntax.w8) (Syntax.tcons (Syntax.tyInt Syntax.w8) (Syntax.tcons (Syntax.tyInt Syntax.w8)
-          Syntax.tnil))))) (Syntax.tcons (Syntax.tyStruct (114 ∷ 101 ∷ 115 ∷ 105 ∷ 100 ∷ 117 ∷ 101 ∷ 58 ∷ 58 ∷ 82 ∷ 101 ∷ 115 ∷ 105 ∷ 100 ∷ 117 ∷ 101 ∷ [])
-          (Syntax.tcons (Syntax.tyStruct (110 ∷ 97 ∷ 109 ∷ 101 ∷ 115 ∷ 58 ∷ 58 ∷ 84 ∷ 104 ∷ 114 ∷ 101 ∷ 101 ∷ []) (Syntax.tcons (Syntax.tyInt Syntax.w8)
-          (Syntax.tcons (Syntax.tyInt Syntax.w8) (Syntax.tcons (Syntax.tyInt Syntax.w8) Syntax.tnil)))) (Syntax.tcons (Syntax.tyInt Syntax.w8) (Syntax.tcons
-          (Syntax.tyStruct (102 ∷ 105 ∷ 101 ∷ 108 ∷ 100 ∷ 115 ∷ 58 ∷ 58 ∷ 82 ∷ 101 ∷ 115 ∷ 105 ∷ 100 ∷ 117 ∷ 101 ∷ 78 ∷ 117 ∷ 109 ∷ 98 ∷ 101 ∷ 114 ∷ [])
-          (Syntax.tcons (Syntax.tyInt Syntax.w32) Syntax.tnil)) (Syntax.tcons (Syntax.tyInt Syntax.w8) Syntax.tnil))))) (Syntax.tcons (Syntax.tyStruct (110 ∷ 97 ∷
-          109 ∷ 101 ∷ 115 ∷ 58 ∷ 58 ∷ 70 ∷ 111 ∷ 117 ∷ 114 ∷ []) (Syntax.tcons (Syntax.tyInt Syntax.w8) (Syntax.tcons (Syntax.tyInt Syntax.w8) (Syntax.tcons
-          (Syntax.tyInt Syntax.w8) (Syntax.tcons (Syntax.tyInt Syntax.w8) Syntax.tnil))))) (Syntax.tcons (Syntax.tyStruct (114 ∷ 101 ∷ 115 ∷ 105 ∷ 100 ∷ 117 ∷ 101 ∷
-          58 ∷ 58 ∷ 82 ∷ 101 ∷ 115 ∷ 105 ∷ 100 ∷ 117 ∷ 101 ∷ []) (Syntax.tcons (Syntax.tyStruct (110 ∷ 97 ∷ 109 ∷ 101 ∷ 115 ∷ 58 ∷ 58 ∷ 84 ∷ 104 ∷ 114 ∷ 101 ∷ 101 ∷
-          []) (Syntax.tcons (Syntax.tyInt Syntax.w8) (Syntax.tcons (Syntax.tyInt Syntax.w8) (Syntax.tcons (Syntax.tyInt Syntax.w8) Syntax.tnil)))) (Syntax.tcons
-          (Syntax.tyInt Syntax.w8) (Syntax.tcons (Syntax.tyStruct (102 ∷ 105 ∷ 101 ∷ 108 ∷ 100 ∷ 115 ∷ 58 ∷ 58 ∷ 82 ∷ 101 ∷ 115 ∷ 105 ∷ 100 ∷ 117 ∷ 101 ∷ 78 ∷ 117 ∷
-          109 ∷ 98 ∷ 101 ∷ 114 ∷ []) (Syntax.tcons (Syntax.tyInt Syntax.w32) Syntax.tnil)) (Syntax.tcons (Syntax.tyInt Syntax.w8) Syntax.tnil))))) Syntax.tnil)))))
-          Syntax.tnil) Syntax.ttnil))) Syntax.tnil))) Syntax.tnil) (Syntax.ttcons (Syntax.tcons (Syntax.tyStruct (99 ∷ 111 ∷ 110 ∷ 101 ∷ 99 ∷ 116 ∷ 58 ∷ 58 ∷ 67 ∷
-          111 ∷ 110 ∷ 101 ∷ 99 ∷ 116 ∷ []) (Syntax.tcons (Syntax.tyStruct (102 ∷ 105 ∷ 101 ∷ 108 ∷ 100 ∷ 115 ∷ 58 ∷ 58 ∷ 83 ∷ 101 ∷ 114 ∷ 105 ∷ 97 ∷ 108 ∷ [])
-          (Syntax.tcons (Syntax.tyInt Syntax.w32) Syntax.tnil)) (Syntax.tcons (Syntax.tyStruct (102 ∷ 105 ∷ 101 ∷ 108 ∷ 100 ∷ 115 ∷ 58 ∷ 58 ∷ 83 ∷ 101 ∷ 114 ∷ 105 ∷
-          97 ∷ 108 ∷ []) (Syntax.tcons (Syntax.tyInt Syntax.w32) Syntax.tnil)) (Syntax.tcons (Syntax.tyStruct (102 ∷ 105 ∷ 101 ∷ 108 ∷ 100 ∷ 115 ∷ 58 ∷ 58 ∷ 83 ∷ 101
-          ∷ 114 ∷ 105 ∷ 97 ∷ 108 ∷ []) (Syntax.tcons (Syntax.tyInt Syntax.w32) Syntax.tnil)) (Syntax.tcons (Syntax.tyStruct (102 ∷ 105 ∷ 101 ∷ 108 ∷ 100 ∷ 115 ∷ 58 ∷
-          58 ∷ 83 ∷ 101 ∷ 114 ∷ 105 ∷ 97 ∷ 108 ∷ []) (Syntax.tcons (Syntax.tyInt Syntax.w32) Syntax.tnil)) (Syntax.tcons (Syntax.tyStruct (102 ∷ 105 ∷ 101 ∷ 108 ∷
-          100 ∷ 115 ∷ 58 ∷ 58 ∷ 83 ∷ 101 ∷ 114 ∷ 105 ∷ 97 ∷ 108 ∷ []) (Syntax.tcons (Syntax.tyInt Syntax.w32) Syntax.tnil)) Syntax.tnil)))))) Syntax.tnil)
-          (Syntax.ttcons (Syntax.tcons (Syntax.tyStruct (109 ∷ 97 ∷ 115 ∷ 116 ∷ 101 ∷ 114 ∷ 58 ∷ 58 ∷ 84 ∷ 97 ∷ 108 ∷ 108 ∷ 121 ∷ []) (Syntax.tcons (Syntax.tyInt
-          Syntax.w32) (Syntax.tcons (Syntax.tyInt Syntax.w32) (Syntax.tcons (Syntax.tyInt Syntax.w32) (Syntax.tcons (Syntax.tyInt Syntax.w32) (Syntax.tcons
-          (Syntax.tyInt Syntax.w32) (Syntax.tcons (Syntax.tyInt Syntax.w32) (Syntax.tcons (Syntax.tyInt Syntax.w32) (Syntax.tcons (Syntax.tyInt Syntax.w32)
-          (Syntax.tcons (Syntax.tyInt Syntax.w32) Syntax.tnil)))))))))) Syntax.tnil) (Syntax.ttcons Syntax.tnil Syntax.ttnil)))))))) Syntax.tnil) Syntax.ttnil))))),
-    )
+  Rows'.any-gone (Syntax.tyStruct (115 ∷ 101 ∷ 114 ∷ 105 ∷ 97 ∷ 108 ∷ 115 ∷ 58 ∷ 58 ∷ 83 ∷ 112 ∷ 97 ∷ 110 ∷ []) (Syntax.tcons
+      (Syntax.tyInt Syntax.w64) (Syntax.tcons (Syntax.tyInt Syntax.w64) Syntax.tnil))),
+) ∷ (6, Rows'.any-gone (Syntax.tyInt Syntax.w64)) ∷ (
+  7,
+  Rows'.any-gone
+      Syntax.tyBool,
+) ∷ (8, Rows'.any-gone (Syntax.tyInt Syntax.w64)) ∷ (
+  9,
+  Rows'.any-gone (Syntax.tyEnum (112 ∷ 105 ∷ 101 ∷ 99 ∷ 101 ∷ 115 ∷ 58 ∷ 58 ∷ 76 ∷ 105 ∷
+      110 ∷ 101 ∷ []) (Syntax.ttcons (Syntax.tcons (Syntax.tyInt Syntax.w8) Syntax.tnil) (Syntax.ttcons (Syntax.tcons (Syntax.tyEnum (107 ∷ 105 ∷ 110 ∷ 100 ∷ 115
+      ∷ 58 ∷ 58 ∷ 75 ∷ 105 ∷ 110 ∷ 100 ∷ []) (Syntax.ttcons Syntax.tnil (Syntax.ttcons Syntax.tnil (Syntax.ttcons Syntax.tnil (Syntax.ttcons Syntax.tnil
+      (Syntax.ttcons Syntax.tnil (Syntax.ttcons Syntax.tnil (Syntax.ttcons Syntax.tnil (Syntax.ttcons Syntax.tnil (Syntax.ttcons Syntax.tnil (Syntax.ttcons
+      Syntax.tnil (Syntax.ttcons Syntax.tnil (Syntax.ttcons Syntax.tnil (Syntax.ttcons Syntax.tnil (Syntax.ttcons Syntax.tnil (Syntax.ttcons Syntax.tnil
+      (Syntax.ttcons Syntax.tnil (Syntax.ttcons Syntax.tnil (Syntax.ttcons Syntax.tnil (Syntax.ttcons Syntax.tnil (Syntax.ttcons Syntax.tnil (Syntax.ttcons
+      Syntax.tnil (Syntax.ttcons Syntax.tnil (Syntax.ttcons Syntax.tnil (Syntax.ttcons Syntax.tnil (Syntax.ttcons Syntax.tnil (Syntax.ttcons Syntax.tnil
+      (Syntax.ttcons Syntax.tnil (Syntax.ttcons Syntax.tnil Syntax.ttnil))))))))))))))))))))))))))))) (Syntax.tcons (Syntax.tyInt Syntax.w32) Syntax.tnil))
+      (Syntax.ttcons (Syntax.tcons (Syntax.tyEnum (107 ∷ 105 ∷ 110 ∷ 100 ∷ 115 ∷ 58 ∷ 58 ∷ 75 ∷ 105 ∷ 110 ∷ 100 ∷ []) (Syntax.ttcons Syntax.tnil (Syntax.ttcons
+      Syntax.tnil (Syntax.ttcons Syntax.tnil (Syntax.ttcons Syntax.tnil (Syntax.ttcons Syntax.tnil (Syntax.ttcons Syntax.tnil (Syntax.ttcons Syntax.tnil
+      (Syntax.ttcons Syntax.tnil (Syntax.ttcons Syntax.tnil (Syntax.ttcons Syntax.tnil (Syntax.ttcons Syntax.tnil (Syntax.ttcons Syntax.tnil (Syntax.ttcons
+      Syntax.tnil (Syntax.ttcons Syntax.tnil (Syntax.ttcons Syntax.tnil (Syntax.ttcons Syntax.tnil (Syntax.ttcons Syntax.tnil (Syntax.ttcons Syntax.tnil
+      (Syntax.ttcons Syntax.tnil (Syntax.ttcons Syntax.tnil (Syntax.ttcons Syntax.tnil (Syntax.ttcons Syntax.tnil (Syntax.ttcons Syntax.tnil (Syntax.ttcons
+      Syntax.tnil (Syntax.ttcons Syntax.tnil (Syntax.ttcons Syntax.tnil (Syntax.ttcons Syntax.tnil (Syntax.ttcons Syntax.tnil
+      Syntax.ttnil))))))))))))))))))))))))))))) Syntax.tnil) (Syntax.ttcons (Syntax.tcons (Syntax.tyEnum (108 ∷ 105 ∷ 110 ∷ 101 ∷ 58 ∷ 58 ∷ 82 ∷ 101 ∷ 99 ∷ 111 ∷
+      114 ∷ 100 ∷ []) (Syntax.ttcons (Syntax.tcons Syntax.tyBool (Syntax.tcons (Syntax.tyStruct (99 ∷ 111 ∷ 111 ∷ 114 ∷ 100 ∷ 105 ∷ 110 ∷ 97 ∷ 116 ∷ 101 ∷ 58 ∷
+      58 ∷ 65 ∷ 116 ∷ 111 ∷ 109 ∷ []) (Syntax.tcons (Syntax.tyStruct (99 ∷ 111 ∷ 111 ∷ 114 ∷ 100 ∷ 105 ∷ 110 ∷ 97 ∷ 116 ∷ 101 ∷ 58 ∷ 58 ∷ 73 ∷ 100 ∷ 101 ∷ 110 ∷
+      116 ∷ 105 ∷ 116 ∷ 121 ∷ []) (Syntax.tcons (Syntax.tyStruct (102 ∷ 105 ∷ 101 ∷ 108 ∷ 100 ∷ 115 ∷ 58 ∷ 58 ∷ 83 ∷ 101 ∷ 114 ∷ 105 ∷ 97 ∷ 108 ∷ [])
+      (Syntax.tcons (Syntax.tyInt Syntax.w32) Syntax.tnil)) (Syntax.tcons (Syntax.tyStruct (110 ∷ 97 ∷ 109 ∷ 101 ∷ 115 ∷ 58 ∷ 58 ∷ 70 ∷ 111 ∷ 117 ∷ 114 ∷ [])
+      (Syntax.tcons (Syntax.tyInt Syntax.w8) (Syntax.tcons (Syntax.tyInt Syntax.w8) (Syntax.tcons (Syntax.tyInt Syntax.w8) (Syntax.tcons (Syntax.tyInt Syntax.w8)
+      Syntax.tnil))))) (Syntax.tcons (Syntax.tyInt Syntax.w8) (Syntax.tcons (Syntax.tyStruct (114 ∷ 101 ∷ 115 ∷ 105 ∷ 100 ∷ 117 ∷ 101 ∷ 58 ∷ 58 ∷ 82 ∷ 101 ∷ 115
+      ∷ 105 ∷ 100 ∷ 117 ∷ 101 ∷ []) (Syntax.tcons (Syntax.tyStruct (110 ∷ 97 ∷ 109 ∷ 101 ∷ 115 ∷ 58 ∷ 58 ∷ 84 ∷ 104 ∷ 114 ∷ 101 ∷ 101 ∷ []) (Syntax.tcons
+      (Syntax.tyInt Syntax.w8) (Syntax.tcons (Syntax.tyInt Syntax.w8) (Syntax.tcons (Syntax.tyInt Syntax.w8) Syntax.tnil)))) (Syntax.tcons (Syntax.tyInt
+      Syntax.w8) (Syntax.tcons (Syntax.tyStruct (102 ∷ 105 ∷ 101 ∷ 108 ∷ 100 ∷ 115 ∷ 58 ∷ 58 ∷ 82 ∷ 101 ∷ 115 ∷ 105 ∷ 100 ∷ 117 ∷ 101 ∷ 78 ∷ 117 ∷ 109 ∷ 98 ∷ 101
+      ∷ 114 ∷ []) (Syntax.tcons (Syntax.tyInt Syntax.w32) Syntax.tnil)) (Syntax.tcons (Syntax.tyInt Syntax.w8) Syntax.tnil))))) Syntax.tnil))))) (Syntax.tcons
+      (Syntax.tyStruct (99 ∷ 111 ∷ 111 ∷ 114 ∷ 100 ∷ 105 ∷ 110 ∷ 97 ∷ 116 ∷ 101 ∷ 58 ∷ 58 ∷ 77 ∷ 101 ∷ 97 ∷ 115 ∷ 117 ∷ 114 ∷ 101 ∷ []) (Syntax.tcons
+      (Syntax.tyStruct (99 ∷ 111 ∷ 111 ∷ 114 ∷ 100 ∷ 105 ∷ 110 ∷ 97 ∷ 116 ∷ 101 ∷ 58 ∷ 58 ∷ 80 ∷ 111 ∷ 115 ∷ 105 ∷ 116 ∷ 105 ∷ 111 ∷ 110 ∷ []) (Syntax.tcons
+      (Syntax.tyInt Syntax.w32) (Syntax.tcons (Syntax.tyInt Syntax.w32) (Syntax.tcons (Syntax.tyInt Syntax.w32) Syntax.tnil)))) (Syntax.tcons (Syntax.tyInt
+      Syntax.w32) (Syntax.tcons (Syntax.tyInt Syntax.w32) Syntax.tnil)))) (Syntax.tcons (Syntax.tyStruct (99 ∷ 111 ∷ 111 ∷ 114 ∷ 100 ∷ 105 ∷ 110 ∷ 97 ∷ 116 ∷ 101
+      ∷ 58 ∷ 58 ∷ 83 ∷ 112 ∷ 101 ∷ 99 ∷ 105 ∷ 101 ∷ 115 ∷ []) (Syntax.tcons (Syntax.tyStruct (110 ∷ 97 ∷ 109 ∷ 101 ∷ 115 ∷ 58 ∷ 58 ∷ 80 ∷ 97 ∷ 105 ∷ 114 ∷ [])
+      (Syntax.tcons (Syntax.tyInt Syntax.w8) (Syntax.tcons (Syntax.tyInt Syntax.w8) Syntax.tnil))) (Syntax.tcons (Syntax.tyStruct (110 ∷ 97 ∷ 109 ∷ 101 ∷ 115 ∷
+      58 ∷ 58 ∷ 80 ∷ 97 ∷ 105 ∷ 114 ∷ []) (Syntax.tcons (Syntax.tyInt Syntax.w8) (Syntax.tcons (Syntax.tyInt Syntax.w8) Syntax.tnil))) Syntax.tnil)))
+      Syntax.tnil)))) Syntax.tnil)) (Syntax.ttcons (Syntax.tcons (Syntax.tyStruct (116 ∷ 101 ∷ 114 ∷ 58 ∷ 58 ∷ 84 ∷ 101 ∷ 114 ∷ []) (Syntax.tcons
+      (Syntax.tyStruct (102 ∷ 105 ∷ 101 ∷ 108 ∷ 100 ∷ 115 ∷ 58 ∷ 58 ∷ 83 ∷ 101 ∷ 114 ∷ 105 ∷ 97 ∷ 108 ∷ []) (Syntax.tcons (Syntax.tyInt Syntax.w32) Syntax.tnil))
+      (Syntax.tcons (Syntax.tyStruct (114 ∷ 101 ∷ 115 ∷ 105 ∷ 100 ∷ 117 ∷ 101 ∷ 58 ∷ 58 ∷ 82 ∷ 101 ∷ 115 ∷ 105 ∷ 100 ∷ 117 ∷ 101 ∷ []) (Syntax.tcons
+      (Syntax.tyStruct (110 ∷ 97 ∷ 109 ∷ 101 ∷ 115 ∷ 58 ∷ 58 ∷ 84 ∷ 104 ∷ 114 ∷ 101 ∷ 101 ∷ []) (Syntax.tcons (Syntax.tyInt Syntax.w8) (Syntax.tcons
+      (Syntax.tyInt Syntax.w8) (Syntax.tcons (Syntax.tyInt Syntax.w8) Syntax.tnil)))) (Syntax.tcons (Syntax.tyInt Syntax.w8) (Syntax.tcons (Syntax.tyStruct (102
+      ∷ 105 ∷ 101 ∷ 108 ∷ 100 ∷ 115 ∷ 58 ∷ 58 ∷ 82 ∷ 101 ∷ 115 ∷ 105 ∷ 100 ∷ 117 ∷ 101 ∷ 78 ∷ 117 ∷ 109 ∷ 98 ∷ 101 ∷ 114 ∷ []) (Syntax.tcons (Syntax.tyInt
+      Syntax.w32) Syntax.tnil)) (Syntax.tcons (Syntax.tyInt Syntax.w8) Syntax.tnil))))) Syntax.tnil))) Syntax.tnil) (Syntax.ttcons (Syntax.tcons (Syntax.tyStruct
+      (104 ∷ 101 ∷ 108 ∷ 105 ∷ 120 ∷ 58 ∷ 58 ∷ 72 ∷ 101 ∷ 108 ∷ 105 ∷ 120 ∷ []) (Syntax.tcons (Syntax.tyStruct (104 ∷ 101 ∷ 108 ∷ 105 ∷ 120 ∷ 58 ∷ 58 ∷ 69 ∷ 120
+      ∷ 116 ∷ 101 ∷ 110 ∷ 116 ∷ []) (Syntax.tcons (Syntax.tyInt Syntax.w32) (Syntax.tcons (Syntax.tyStruct (110 ∷ 97 ∷ 109 ∷ 101 ∷ 115 ∷ 58 ∷ 58 ∷ 84 ∷ 104 ∷ 114
+      ∷ 101 ∷ 101 ∷ []) (Syntax.tcons (Syntax.tyInt Syntax.w8) (Syntax.tcons (Syntax.tyInt Syntax.w8) (Syntax.tcons (Syntax.tyInt Syntax.w8) Syntax.tnil))))
+      (Syntax.tcons (Syntax.tyStruct (114 ∷ 101 ∷ 115 ∷ 105 ∷ 100 ∷ 117 ∷ 101 ∷ 58 ∷ 58 ∷ 82 ∷ 101 ∷ 115 ∷ 105 ∷ 100 ∷ 117 ∷ 101 ∷ []) (Syntax.tcons
+      (Syntax.tyStruct (110 ∷ 97 ∷ 109 ∷ 101 ∷ 115 ∷ 58 ∷ 58 ∷ 84 ∷ 104 ∷ 114 ∷ 101 ∷ 101 ∷ []) (Syntax.tcons (Syntax.tyInt Syntax.w8) (Syntax.tcons
+      (Syntax.tyInt Syntax.w8) (Syntax.tcons (Syntax.tyInt Syntax.w8) Syntax.tnil)))) (Syntax.tcons (Syntax.tyInt Syntax.w8) (Syntax.tcons (Syntax.tyStruct (102
+      ∷ 105 ∷ 101 ∷ 108 ∷ 100 ∷ 115 ∷ 58 ∷ 58 ∷ 82 ∷ 101 ∷ 115 ∷ 105 ∷ 100 ∷ 117 ∷ 101 ∷ 78 ∷ 117 ∷ 109 ∷ 98 ∷ 101 ∷ 114 ∷ []) (Syntax.tcons (Syntax.tyInt
+      Syntax.w32) Syntax.tnil)) (Syntax.tcons (Syntax.tyInt Syntax.w8) Syntax.tnil))))) (Syntax.tcons (Syntax.tyStruct (114 ∷ 101 ∷ 115 ∷ 105 ∷ 100 ∷ 117 ∷ 101 ∷
+      58 ∷ 58 ∷ 82 ∷ 101 ∷ 115 ∷ 105 ∷ 100 ∷ 117 ∷ 101 ∷ []) (Syntax.tcons (Syntax.tyStruct (110 ∷ 97 ∷ 109 ∷ 101 ∷ 115 ∷ 58 ∷ 58 ∷ 84 ∷ 104 ∷ 114 ∷ 101 ∷ 101 ∷
+      []) (Syntax.tcons (Syntax.tyInt Syntax.w8) (Syntax.tcons (Syntax.tyInt Syntax.w8) (Syntax.tcons (Syntax.tyInt Syntax.w8) Syntax.tnil)))) (Syntax.tcons
+      (Syntax.tyInt Syntax.w8) (Syntax.tcons (Syntax.tyStruct (102 ∷ 105 ∷ 101 ∷ 108 ∷ 100 ∷ 115 ∷ 58 ∷ 58 ∷ 82 ∷ 101 ∷ 115 ∷ 105 ∷ 100 ∷ 117 ∷ 101 ∷ 78 ∷ 117 ∷
+      109 ∷ 98 ∷ 101 ∷ 114 ∷ []) (Syntax.tcons (Syntax.tyInt Syntax.w32) Syntax.tnil)) (Syntax.tcons (Syntax.tyInt Syntax.w8) Syntax.tnil))))) Syntax.tnil)))))
+      (Syntax.tcons (Syntax.tyInt Syntax.w32) (Syntax.tcons (Syntax.tyStruct (104 ∷ 101 ∷ 108 ∷ 105 ∷ 120 ∷ 58 ∷ 58 ∷ 67 ∷ 111 ∷ 109 ∷ 109 ∷ 101 ∷ 110 ∷ 116 ∷
+      []) (Syntax.tcons (Syntax.tyInt Syntax.w64) (Syntax.tcons (Syntax.tyInt Syntax.w64) (Syntax.tcons (Syntax.tyInt Syntax.w64) (Syntax.tcons (Syntax.tyInt
+      Syntax.w64) Syntax.tnil))))) (Syntax.tcons (Syntax.tyInt Syntax.w32) Syntax.tnil))))) Syntax.tnil) (Syntax.ttcons (Syntax.tcons (Syntax.tyStruct (115 ∷ 104
+      ∷ 101 ∷ 101 ∷ 116 ∷ 58 ∷ 58 ∷ 83 ∷ 104 ∷ 101 ∷ 101 ∷ 116 ∷ []) (Syntax.tcons (Syntax.tyStruct (115 ∷ 104 ∷ 101 ∷ 101 ∷ 116 ∷ 58 ∷ 58 ∷ 83 ∷ 116 ∷ 114 ∷ 97
+      ∷ 110 ∷ 100 ∷ []) (Syntax.tcons (Syntax.tyInt Syntax.w32) (Syntax.tcons (Syntax.tyStruct (110 ∷ 97 ∷ 109 ∷ 101 ∷ 115 ∷ 58 ∷ 58 ∷ 84 ∷ 104 ∷ 114 ∷ 101 ∷ 101
+      ∷ []) (Syntax.tcons (Syntax.tyInt Syntax.w8) (Syntax.tcons (Syntax.tyInt Syntax.w8) (Syntax.tcons (Syntax.tyInt Syntax.w8) Syntax.tnil)))) (Syntax.tcons
+      (Syntax.tyInt Syntax.w32) (Syntax.tcons (Syntax.tyStruct (114 ∷ 101 ∷ 115 ∷ 105 ∷ 100 ∷ 117 ∷ 101 ∷ 58 ∷ 58 ∷ 82 ∷ 101 ∷ 115 ∷ 105 ∷ 100 ∷ 117 ∷ 101 ∷ [])
+      (Syntax.tcons (Syntax.tyStruct (110 ∷ 97 ∷ 109 ∷ 101 ∷ 115 ∷ 58 ∷ 58 ∷ 84 ∷ 104 ∷ 114 ∷ 101 ∷ 101 ∷ []) (Syntax.tcons (Syntax.tyInt Syntax.w8)
+      (Syntax.tcons (Syntax.tyInt Syntax.w8) (Syntax.tcons (Syntax.tyInt Syntax.w8) Syntax.tnil)))) (Syntax.tcons (Syntax.tyInt Syntax.w8) (Syntax.tcons
+      (Syntax.tyStruct (102 ∷ 105 ∷ 101 ∷ 108 ∷ 100 ∷ 115 ∷ 58 ∷ 58 ∷ 82 ∷ 101 ∷ 115 ∷ 105 ∷ 100 ∷ 117 ∷ 101 ∷ 78 ∷ 117 ∷ 109 ∷ 98 ∷ 101 ∷ 114 ∷ [])
+      (Syntax.tcons (Syntax.tyInt Syntax.w32) Syntax.tnil)) (Syntax.tcons (Syntax.tyInt Syntax.w8) Syntax.tnil))))) (Syntax.tcons (Syntax.tyStruct (114 ∷ 101 ∷
+      115 ∷ 105 ∷ 100 ∷ 117 ∷ 101 ∷ 58 ∷ 58 ∷ 82 ∷ 101 ∷ 115 ∷ 105 ∷ 100 ∷ 117 ∷ 101 ∷ []) (Syntax.tcons (Syntax.tyStruct (110 ∷ 97 ∷ 109 ∷ 101 ∷ 115 ∷ 58 ∷ 58 ∷
+      84 ∷ 104 ∷ 114 ∷ 101 ∷ 101 ∷ []) (Syntax.tcons (Syntax.tyInt Syntax.w8) (Syntax.tcons (Syntax.tyInt Syntax.w8) (Syntax.tcons (Syntax.tyInt Syntax.w8)
+      Syntax.tnil)))) (Syntax.tcons (Syntax.tyInt Syntax.w8) (Syntax.tcons (Syntax.tyStruct (102 ∷ 105 ∷ 101 ∷ 108 ∷ 100 ∷ 115 ∷ 58 ∷ 58 ∷ 82 ∷ 101 ∷ 115 ∷ 105 ∷
+      100 ∷ 117 ∷ 101 ∷ 78 ∷ 117 ∷ 109 ∷ 98 ∷ 101 ∷ 114 ∷ []) (Syntax.tcons (Syntax.tyInt Syntax.w32) Syntax.tnil)) (Syntax.tcons (Syntax.tyInt Syntax.w8)
+      Syntax.tnil))))) (Syntax.tcons (Syntax.tyInt Syntax.w32) Syntax.tnil))))))) (Syntax.tcons (Syntax.tyEnum (115 ∷ 104 ∷ 101 ∷ 101 ∷ 116 ∷ 58 ∷ 58 ∷ 82 ∷ 101
+      ∷ 103 ∷ 105 ∷ 115 ∷ 116 ∷ 114 ∷ 97 ∷ 116 ∷ 105 ∷ 111 ∷ 110 ∷ []) (Syntax.ttcons Syntax.tnil (Syntax.ttcons (Syntax.tcons (Syntax.tyStruct (115 ∷ 104 ∷ 101
+      ∷ 101 ∷ 116 ∷ 58 ∷ 58 ∷ 66 ∷ 111 ∷ 110 ∷ 100 ∷ []) (Syntax.tcons (Syntax.tyStruct (110 ∷ 97 ∷ 109 ∷ 101 ∷ 115 ∷ 58 ∷ 58 ∷ 70 ∷ 111 ∷ 117 ∷ 114 ∷ [])
+      (Syntax.tcons (Syntax.tyInt Syntax.w8) (Syntax.tcons (Syntax.tyInt Syntax.w8) (Syntax.tcons (Syntax.tyInt Syntax.w8) (Syntax.tcons (Syntax.tyInt Syntax.w8)
+      Syntax.tnil))))) (Syntax.tcons (Syntax.tyStruct (114 ∷ 101 ∷ 115 ∷ 105 ∷ 100 ∷ 117 ∷ 101 ∷ 58 ∷ 58 ∷ 82 ∷ 101 ∷ 115 ∷ 105 ∷ 100 ∷ 117 ∷ 101 ∷ [])
+      (Syntax.tcons (Syntax.tyStruct (110 ∷ 97 ∷ 109 ∷ 101 ∷ 115 ∷ 58 ∷ 58 ∷ 84 ∷ 104 ∷ 114 ∷ 101 ∷ 101 ∷ []) (Syntax.tcons (Syntax.tyInt Syntax.w8)
+      (Syntax.tcons (Syntax.tyInt Syntax.w8) (Syntax.tcons (Syntax.tyInt Syntax.w8) Syntax.tnil)))) (Syntax.tcons (Syntax.tyInt Syntax.w8) (Syntax.tcons
+      (Syntax.tyStruct (102 ∷ 105 ∷ 101 ∷ 108 ∷ 100 ∷ 115 ∷ 58 ∷ 58 ∷ 82 ∷ 101 ∷ 115 ∷ 105 ∷ 100 ∷ 117 ∷ 101 ∷ 78 ∷ 117 ∷ 109 ∷ 98 ∷ 101 ∷ 114 ∷ [])
+      (Syntax.tcons (Syntax.tyInt Syntax.w32) Syntax.tnil)) (Syntax.tcons (Syntax.tyInt Syntax.w8) Syntax.tnil))))) (Syntax.tcons (Syntax.tyStruct (110 ∷ 97 ∷
+      109 ∷ 101 ∷ 115 ∷ 58 ∷ 58 ∷ 70 ∷ 111 ∷ 117 ∷ 114 ∷ []) (Syntax.tcons (Syntax.tyInt Syntax.w8) (Syntax.tcons (Syntax.tyInt Syntax.w8) (Syntax.tcons
+      (Syntax.tyInt Syntax.w8) (Syntax.tcons (Syntax.tyInt Syntax.w8) Syntax.tnil))))) (Syntax.tcons (Syntax.tyStruct (114 ∷ 101 ∷ 115 ∷ 105 ∷ 100 ∷ 117 ∷ 101 ∷
+      58 ∷ 58 ∷ 82 ∷ 101 ∷ 115 ∷ 105 ∷ 100 ∷ 117 ∷ 101 ∷ []) (Syntax.tcons (Syntax.tyStruct (110 ∷ 97 ∷ 109 ∷ 101 ∷ 115 ∷ 58 ∷ 58 ∷ 84 ∷ 104 ∷ 114 ∷ 101 ∷ 101 ∷
+      []) (Syntax.tcons (Syntax.tyInt Syntax.w8) (Syntax.tcons (Syntax.tyInt Syntax.w8) (Syntax.tcons (Syntax.tyInt Syntax.w8) Syntax.tnil)))) (Syntax.tcons
+      (Syntax.tyInt Syntax.w8) (Syntax.tcons (Syntax.tyStruct (102 ∷ 105 ∷ 101 ∷ 108 ∷ 100 ∷ 115 ∷ 58 ∷ 58 ∷ 82 ∷ 101 ∷ 115 ∷ 105 ∷ 100 ∷ 117 ∷ 101 ∷ 78 ∷ 117 ∷
+      109 ∷ 98 ∷ 101 ∷ 114 ∷ []) (Syntax.tcons (Syntax.tyInt Syntax.w32) Syntax.tnil)) (Syntax.tcons (Syntax.tyInt Syntax.w8) Syntax.tnil))))) Syntax.tnil)))))
+      Syntax.tnil) Syntax.ttnil))) Syntax.tnil))) Syntax.tnil) (Syntax.ttcons (Syntax.tcons (Syntax.tyStruct (99 ∷ 111 ∷ 110 ∷ 101 ∷ 99 ∷ 116 ∷ 58 ∷ 58 ∷ 67 ∷
+      111 ∷ 110 ∷ 101 ∷ 99 ∷ 116 ∷ []) (Syntax.tcons (Syntax.tyStruct (102 ∷ 105 ∷ 101 ∷ 108 ∷ 100 ∷ 115 ∷ 58 ∷ 58 ∷ 83 ∷ 101 ∷ 114 ∷ 105 ∷ 97 ∷ 108 ∷ [])
+      (Syntax.tcons (Syntax.tyInt Syntax.w32) Syntax.tnil)) (Syntax.tcons (Syntax.tyStruct (102 ∷ 105 ∷ 101 ∷ 108 ∷ 100 ∷ 115 ∷ 58 ∷ 58 ∷ 83 ∷ 101 ∷ 114 ∷ 105 ∷
+      97 ∷ 108 ∷ []) (Syntax.tcons (Syntax.tyInt Syntax.w32) Syntax.tnil)) (Syntax.tcons (Syntax.tyStruct (102 ∷ 105 ∷ 101 ∷ 108 ∷ 100 ∷ 115 ∷ 58 ∷ 58 ∷ 83 ∷ 101
+      ∷ 114 ∷ 105 ∷ 97 ∷ 108 ∷ []) (Syntax.tcons (Syntax.tyInt Syntax.w32) Syntax.tnil)) (Syntax.tcons (Syntax.tyStruct (102 ∷ 105 ∷ 101 ∷ 108 ∷ 100 ∷ 115 ∷ 58 ∷
+      58 ∷ 83 ∷ 101 ∷ 114 ∷ 105 ∷ 97 ∷ 108 ∷ []) (Syntax.tcons (Syntax.tyInt Syntax.w32) Syntax.tnil)) (Syntax.tcons (Syntax.tyStruct (102 ∷ 105 ∷ 101 ∷ 108 ∷
+      100 ∷ 115 ∷ 58 ∷ 58 ∷ 83 ∷ 101 ∷ 114 ∷ 105 ∷ 97 ∷ 108 ∷ []) (Syntax.tcons (Syntax.tyInt Syntax.w32) Syntax.tnil)) Syntax.tnil)))))) Syntax.tnil)
+      (Syntax.ttcons (Syntax.tcons (Syntax.tyStruct (109 ∷ 97 ∷ 115 ∷ 116 ∷ 101 ∷ 114 ∷ 58 ∷ 58 ∷ 84 ∷ 97 ∷ 108 ∷ 108 ∷ 121 ∷ []) (Syntax.tcons (Syntax.tyInt
+      Syntax.w32) (Syntax.tcons (Syntax.tyInt Syntax.w32) (Syntax.tcons (Syntax.tyInt Syntax.w32) (Syntax.tcons (Syntax.tyInt Syntax.w32) (Syntax.tcons
+      (Syntax.tyInt Syntax.w32) (Syntax.tcons (Syntax.tyInt Syntax.w32) (Syntax.tcons (Syntax.tyInt Syntax.w32) (Syntax.tcons (Syntax.tyInt Syntax.w32)
+      (Syntax.tcons (Syntax.tyInt Syntax.w32) Syntax.tnil)))))))))) Syntax.tnil) (Syntax.ttcons Syntax.tnil Syntax.ttnil)))))))) Syntax.tnil) Syntax.ttnil))))),
+)
     ∷ (10, Rows'.any-gone Syntax.tyBool) ∷ (11, Rows'.any-gone (Syntax.tyInt Syntax.w8)) ∷ (12, Rows'.any-gone SlotAs.ty) ∷ (13, Rows'.any-gone Syntax.tyBool)
     ∷ (14, Rows'.any-gone Syntax.tyBool) ∷ (
       15,
@@ -1131,104 +1134,107 @@ t3 = (
       Syntax.tnil))))))))),
 ) ∷ (
   5,
-  Rows'.any-gone (Syntax.tyStruct (103 ∷ 97 ∷ 116 ∷ 101 ∷ 58 ∷ 58 ∷ 83 ∷ 112 ∷ 97 ∷ 110 ∷ []) (Syntax.tcons (Syntax.tyInt
-      Syntax.w64) (Syntax.tcons (Syntax.tyInt Syntax.w64) Syntax.tnil))),
-) ∷ (6, Rows'.any-gone (Syntax.tyInt Syntax.w64)) ∷ (7, Rows'.any-gone Syntax.tyBool) ∷
-    (8, Rows'.any-gone (Syntax.tyInt Syntax.w64)) ∷ (
-      9,
-      Rows'.any-gone (Syntax.tyEnum (112 ∷ 105 ∷ 101 ∷ 99 ∷ 101 ∷ 115 ∷ 58 ∷ 58 ∷ 76 ∷ 105 ∷ 110 ∷ 101 ∷ [])
-          (Syntax.ttcons (Syntax.tcons (Syntax.tyInt Syntax.w8) Syntax.tnil) (Syntax.ttcons (Syntax.tcons (Syntax.tyEnum (107 ∷ 105 ∷ 110 ∷ 100 ∷ 115 ∷ 58 ∷ 58 ∷ 75
-          ∷ 105 ∷ 110 ∷ 100 ∷ []) (Syntax.ttcons Syntax.tnil (Syntax.ttcons Syntax.tnil (Syntax.ttcons Syntax.tnil (Syntax.ttcons Syntax.tnil (Syntax.ttcons
-          Syntax.tnil (Syntax.ttcons Syntax.tnil (Syntax.ttcons Syntax.tnil (Syntax.ttcons Syntax.tnil (Syntax.ttcons Syntax.tnil (Syntax.ttcons Syntax.tnil
-          (Syntax.ttcons Syntax.tnil (Syntax.ttcons Syntax.tnil (Syntax.ttcons Syntax.tnil (Syntax.ttcons Syntax.tnil (Syntax.ttcons Syntax.tnil (Syntax.ttcons
-          Syntax.tnil (Syntax.ttcons Syntax.tnil (Syntax.ttcons Syntax.tnil (Syntax.ttcons Syntax.tnil (Syntax.ttcons Syntax.tnil (Syntax.ttcons Syntax.tnil
-          (Syntax.ttcons Syntax.tnil (Syntax.ttcons Syntax.tnil (Syntax.ttcons Syntax.tnil (Syntax.ttcons Syntax.tnil (Syntax.ttcons Syntax.tnil (Syntax.ttcons
-          Syntax.tnil (Syntax.ttcons Syntax.tnil Syntax.ttnil))))))))))))))))))))))))))))) (Syntax.tcons (Syntax.tyInt Syntax.w32) Syntax.tnil)) (Syntax.ttcons
-          (Syntax.tcons (Syntax.tyEnum (107 ∷ 105 ∷ 110 ∷ 100 ∷ 115 ∷ 58 ∷ 58 ∷ 75 ∷ 105 ∷ 110 ∷ 100 ∷ []) (Syntax.ttcons Syntax.tnil (Syntax.ttcons Syntax.tnil
-          (Syntax.ttcons Syntax.tnil (Syntax.ttcons Syntax.tnil (Syntax.ttcons Syntax.tnil (Syntax.ttcons Syntax.tnil (Syntax.ttcons Syntax.tnil (Syntax.ttcons
-          Syntax.tnil (Syntax.ttcons Syntax.tnil (Syntax.ttcons Syntax.tnil (Syntax.ttcons Syntax.tnil (Syntax.ttcons Syntax.tnil (Syntax.ttcons Syntax.tnil
-          (Syntax.ttcons Syntax.tnil (Syntax.ttcons Syntax.tnil (Syntax.ttcons Syntax.tnil (Syntax.ttcons Syntax.tnil (Syntax.ttcons Syntax.tnil (Syntax.ttcons
-          Syntax.tnil (Syntax.ttcons Syntax.tnil (Syntax.ttcons Syntax.tnil (Syntax.ttcons Syntax.tnil (Syntax.ttcons Syntax.tnil (Syntax.ttcons Syntax.tnil
-          (Syntax.ttcons Syntax.tnil (Syntax.ttcons Syntax.tnil (Syntax.ttcons Syntax.tnil (Syntax.ttcons Syntax.tnil Syntax.ttnil)))))))))))))))))))))))))))))
-          Syntax.tnil) (Syntax.ttcons (Syntax.tcons (Syntax.tyEnum (108 ∷ 105 ∷ 110 ∷ 101 ∷ 58 ∷ 58 ∷ 82 ∷ 101 ∷ 99 ∷ 111 ∷ 114 ∷ 100 ∷ []) (Syntax.ttcons
-          (Syntax.tcons Syntax.tyBool (Syntax.tcons (Syntax.tyStruct (99 ∷ 111 ∷ 111 ∷ 114 ∷ 100 ∷ 105 ∷ 110 ∷ 97 ∷ 116 ∷ 101 ∷ 58 ∷ 58 ∷ 65 ∷ 116 ∷ 111 ∷ 109 ∷ [])
-          (Syntax.tcons (Syntax.tyStruct (99 ∷ 111 ∷ 111 ∷ 114 ∷ 100 ∷ 105 ∷ 110 ∷ 97 ∷ 116 ∷ 101 ∷ 58 ∷ 58 ∷ 73 ∷ 100 ∷ 101 ∷ 110 ∷ 116 ∷ 105 ∷ 116 ∷ 121 ∷ [])
-          (Syntax.tcons (Syntax.tyStruct (102 ∷ 105 ∷ 101 ∷ 108 ∷ 100 ∷ 115 ∷ 58 ∷ 58 ∷ 83 ∷ 101 ∷ 114 ∷ 105 ∷ 97 ∷ 108 ∷ []) (Syntax.tcons (Syntax.tyInt Syntax.w32)
-          Syntax.tnil)) (Syntax.tcons (Syntax.tyStruct (110 ∷ 97 ∷ 109 ∷ 101 ∷ 115 ∷ 58 ∷ 58 ∷ 70 ∷ 111 ∷ 117 ∷ 114 ∷ []) (Syntax.tcons (Syntax.tyInt Syntax.w8)
-          (Syntax.tcons (Syntax.tyInt Syntax.w8) (Syntax.tcons (Syntax.tyInt Syntax.w8) (Syntax.tcons (Syntax.tyInt Syntax.w8) Syntax.tnil))))) (Syntax.tcons
-          (Syntax.tyInt Syntax.w8) (Syntax.tcons (Syntax.tyStruct (114 ∷ 101 ∷ 115 ∷ 105 ∷ 100 ∷ 117 ∷ 101 ∷ 58 ∷ 58 ∷ 82 ∷ 101 ∷ 115 ∷ 105 ∷ 100 ∷ 117 ∷ 101 ∷ [])
-          (Syntax.tcons (Syntax.tyStruct (110 ∷ 97 ∷ 109 ∷ 101 ∷ 115 ∷ 58 ∷ 58 ∷ 84 ∷ 104 ∷ 114 ∷ 101 ∷ 101 ∷ []) (Syntax.tcons (Syntax.tyInt Syntax.w8)
-          (Syntax.tcons (Syntax.tyInt Syntax.w8) (Syntax.tcons (Syntax.tyInt Syntax.w8) Syntax.tnil)))) (Syntax.tcons (Syntax.tyInt Syntax.w8) (Syntax.tcons
-          (Syntax.tyStruct (102 ∷ 105 ∷ 101 ∷ 108 ∷ 100 ∷ 115 ∷ 58 ∷ 58 ∷ 82 ∷ 101 ∷ 115 ∷ 105 ∷ 100 ∷ 117 ∷ 101 ∷ 78 ∷ 117 ∷ 109 ∷ 98 ∷ 101 ∷ 114 ∷ [])
-          (Syntax.tcons (Syntax.tyInt Syntax.w32) Syntax.tnil)) (Syntax.tcons (Syntax.tyInt Syntax.w8) Syntax.tnil))))) Syntax.tnil))))) (Syntax.tcons
-          (Syntax.tyStruct (99 ∷ 111 ∷ 111 ∷ 114 ∷ 100 ∷ 105 ∷ 110 ∷ 97 ∷ 116 ∷ 101 ∷ 58 ∷ 58 ∷ 77 ∷ 101 ∷ 97 ∷ 115 ∷ 117 ∷ 114 ∷ 101 ∷ []) (Syntax.tcons
-          (Syntax.tyStruct (99 ∷ 111 ∷ 111 ∷ 114 ∷ 100 ∷ 105 ∷ 110 ∷ 97 ∷ 116 ∷ 101 ∷ 58 ∷ 58 ∷ 80 ∷ 111 ∷ 115 ∷ 105 ∷ 116 ∷ 105 ∷ 111 ∷ 110 ∷ []) (Syntax.tcons
-          (Syntax.tyInt Syntax.w32) (Syntax.tcons (Syntax.tyInt Syntax.w32) (Syntax.tcons (Syntax.tyInt Syntax.w32) Syntax.tnil)))) (Syntax.tcons (Syntax.tyInt
-          Syntax.w32) (Syntax.tcons (Syntax.tyInt Syntax.w32) Syntax.tnil)))) (Syntax.tcons (Syntax.tyStruct (99 ∷ 111 ∷ 111 ∷ 114 ∷ 100 ∷ 105 ∷ 110 ∷ 97 ∷ 116 ∷ 101
-          ∷ 58 ∷ 58 ∷ 83 ∷ 112 ∷ 101 ∷ 99 ∷ 105 ∷ 101 ∷ 115 ∷ []) (Syntax.tcons (Syntax.tyStruct (110 ∷ 97 ∷ 109 ∷ 101 ∷ 115 ∷ 58 ∷ 58 ∷ 80 ∷ 97 ∷ 105 ∷ 114 ∷ [])
-          (Syntax.tcons (Syntax.tyInt Syntax.w8) (Syntax.tcons (Syntax.tyInt Syntax.w8) Syntax.tnil))) (Syntax.tcons (Syntax.tyStruct (110 ∷ 97 ∷ 109 ∷ 101 ∷ 115 ∷
-          58 ∷ 58 ∷ 80 ∷ 97 ∷ 105 ∷ 114 ∷ []) (Syntax.tcons (Syntax.tyInt Syntax.w8) (Syntax.tcons (Syntax.tyInt Syntax.w8) Syntax.tnil))) Syntax.tnil)))
-          Syntax.tnil)))) Syntax.tnil)) (Syntax.ttcons (Syntax.tcons (Syntax.tyStruct (116 ∷ 101 ∷ 114 ∷ 58 ∷ 58 ∷ 84 ∷ 101 ∷ 114 ∷ []) (Syntax.tcons
-          (Syntax.tyStruct (102 ∷ 105 ∷ 101 ∷ 108 ∷ 100 ∷ 115 ∷ 58 ∷ 58 ∷ 83 ∷ 101 ∷ 114 ∷ 105 ∷ 97 ∷ 108 ∷ []) (Syntax.tcons (Syntax.tyInt Syntax.w32) Syntax.tnil))
-          (Syntax.tcons (Syntax.tyStruct (114 ∷ 101 ∷ 115 ∷ 105 ∷ 100 ∷ 117 ∷ 101 ∷ 58 ∷ 58 ∷ 82 ∷ 101 ∷ 115 ∷ 105 ∷ 100 ∷ 117 ∷ 101 ∷ []) (Syntax.tcons
-          (Syntax.tyStruct (110 ∷ 97 ∷ 109 ∷ 101 ∷ 115 ∷ 58 ∷ 58 ∷ 84 ∷ 104 ∷ 114 ∷ 101 ∷ 101 ∷ []) (Syntax.tcons (Syntax.tyInt Syntax.w8) (Syntax.tcons
-          (Syntax.tyInt Syntax.w8) (Syntax.tcons (Syntax.tyInt Syntax.w8) Syntax.tnil)))) (Syntax.tcons (Syntax.tyInt Syntax.w8) (Syntax.tcons (Syntax.tyStruct (102
-          ∷ 105 ∷ 101 ∷ 108 ∷ 100 ∷ 115 ∷ 58 ∷ 58 ∷ 82 ∷ 101 ∷ 115 ∷ 105 ∷ 100 ∷ 117 ∷ 101 ∷ 78 ∷ 117 ∷ 109 ∷ 98 ∷ 101 ∷ 114 ∷ []) (Syntax.tcons (Syntax.tyInt
-          Syntax.w32) Syntax.tnil)) (Syntax.tcons (Syntax.tyInt Syntax.w8) Syntax.tnil))))) Syntax.tnil))) Syntax.tnil) (Syntax.ttcons (Syntax.tcons (Syntax.tyStruct
-          (104 ∷ 101 ∷ 108 ∷ 105 ∷ 120 ∷ 58 ∷ 58 ∷ 72 ∷ 101 ∷ 108 ∷ 105 ∷ 120 ∷ []) (Syntax.tcons (Syntax.tyStruct (104 ∷ 101 ∷ 108 ∷ 105 ∷ 120 ∷ 58 ∷ 58 ∷ 69 ∷ 120
-          ∷ 116 ∷ 101 ∷ 110 ∷ 116 ∷ []) (Syntax.tcons (Syntax.tyInt Syntax.w32) (Syntax.tcons (Syntax.tyStruct (110 ∷ 97 ∷ 109 ∷ 101 ∷ 115 ∷ 58 ∷ 58 ∷ 84 ∷ 104 ∷ 114
-          ∷ 101 ∷ 101 ∷ []) (Syntax.tcons (Syntax.tyInt Syntax.w8) (Syntax.tcons (Syntax.tyInt Syntax.w8) (Syntax.tcons (Syntax.tyInt Syntax.w8) Syntax.tnil))))
-          (Syntax.tcons (Syntax.tyStruct (114 ∷ 101 ∷ 115 ∷ 105 ∷ 100 ∷ 117 ∷ 101 ∷ 58 ∷ 58 ∷ 82 ∷ 101 ∷ 115 ∷ 105 ∷ 100 ∷ 117 ∷ 101 ∷ []) (Syntax.tcons
-          (Syntax.tyStruct (110 ∷ 97 ∷ 109 ∷ 101 ∷ 115 ∷ 58 ∷ 58 ∷ 84 ∷ 104 ∷ 114 ∷ 101 ∷ 101 ∷ []) (Syntax.tcons (Syntax.tyInt Syntax.w8) (Syntax.tcons
-          (Syntax.tyInt Syntax.w8) (Syntax.tcons (Syntax.tyInt Syntax.w8) Syntax.tnil)))) (Syntax.tcons (Syntax.tyInt Syntax.w8) (Syntax.tcons (Syntax.tyStruct (102
-          ∷ 105 ∷ 101 ∷ 108 ∷ 100 ∷ 115 ∷ 58 ∷ 58 ∷ 82 ∷ 101 ∷ 115 ∷ 105 ∷ 100 ∷ 117 ∷ 101 ∷ 78 ∷ 117 ∷ 109 ∷ 98 ∷ 101 ∷ 114 ∷ []) (Syntax.tcons (Syntax.tyInt
-          Syntax.w32) Syntax.tnil)) (Syntax.tcons (Syntax.tyInt Syntax.w8) Syntax.tnil))))) (Syntax.tcons (Syntax.tyStruct (114 ∷ 101 ∷ 115 ∷ 105 ∷ 100 ∷ 117 ∷ 101 ∷
-          58 ∷ 58 ∷ 82 ∷ 101 ∷ 115 ∷ 105 ∷ 100 ∷ 117 ∷ 101 ∷ []) (Syntax.tcons (Syntax.tyStruct (110 ∷ 97 ∷ 109 ∷ 101 ∷ 115 ∷ 58 ∷ 58 ∷ 84 ∷ 104 ∷ 114 ∷ 101 ∷ 101 ∷
-          []) (Syntax.tcons (Syntax.tyInt Syntax.w8) (Syntax.tcons (Syntax.tyInt Syntax.w8) (Syntax.tcons (Syntax.tyInt Syntax.w8) Syntax.tnil)))) (Syntax.tcons
-          (Syntax.tyInt Syntax.w8) (Syntax.tcons (Syntax.tyStruct (102 ∷ 105 ∷ 101 ∷ 108 ∷ 100 ∷ 115 ∷ 58 ∷ 58 ∷ 82 ∷ 101 ∷ 115 ∷ 105 ∷ 100 ∷ 117 ∷ 101 ∷ 78 ∷ 117 ∷
-          109 ∷ 98 ∷ 101 ∷ 114 ∷ []) (Syntax.tcons (Syntax.tyInt Syntax.w32) Syntax.tnil)) (Syntax.tcons (Syntax.tyInt Syntax.w8) Syntax.tnil))))) Syntax.tnil)))))
-          (Syntax.tcons (Syntax.tyInt Syntax.w32) (Syntax.tcons (Syntax.tyStruct (104 ∷ 101 ∷ 108 ∷ 105 ∷ 120 ∷ 58 ∷ 58 ∷ 67 ∷ 111 ∷ 109 ∷ 109 ∷ 101 ∷ 110 ∷ 116 ∷
-          []) (Syntax.tcons (Syntax.tyInt Syntax.w64) (Syntax.tcons (Syntax.tyInt Syntax.w64) (Syntax.tcons (Syntax.tyInt Syntax.w64) (Syntax.tcons (Syntax.tyInt
-          Syntax.w64) Syntax.tnil))))) (Syntax.tcons (Syntax.tyInt Syntax.w32) Syntax.tnil))))) Syntax.tnil) (Syntax.ttcons (Syntax.tcons (Syntax.tyStruct (115 ∷ 104
-          ∷ 101 ∷ 101 ∷ 116 ∷ 58 ∷ 58 ∷ 83 ∷ 104 ∷ 101 ∷ 101 ∷ 116 ∷ []) (Syntax.tcons (Syntax.tyStruct (115 ∷ 104 ∷ 101 ∷ 101 ∷ 116 ∷ 58 ∷ 58 ∷ 83 ∷ 116 ∷ 114 ∷ 97
-          ∷ 110 ∷ 100 ∷ []) (Syntax.tcons (Syntax.tyInt Syntax.w32) (Syntax.tcons (Syntax.tyStruct (110 ∷ 97 ∷ 109 ∷ 101 ∷ 115 ∷ 58 ∷ 58 ∷ 84 ∷ 104 ∷ 114 ∷ 101 ∷ 101
-          ∷ []) (Syntax.tcons (Syntax.tyInt Syntax.w8) (Syntax.tcons (Syntax.tyInt Syntax.w8) (Syntax.tcons (Syntax.tyInt Syntax.w8) Syntax.tnil)))) (Syntax.tcons
-          (Syntax.tyInt Syntax.w32) (Syntax.tcons (Syntax.tyStruct (114 ∷ 101 ∷ 115 ∷ 105 ∷ 100 ∷ 117 ∷ 101 ∷ 58 ∷ 58 ∷ 82 ∷ 101 ∷ 115 ∷ 105 ∷ 100 ∷ 117 ∷ 101 ∷ [])
-          (Syntax.tcons (Syntax.tyStruct (110 ∷ 97 ∷ 109 ∷ 101 ∷ 115 ∷ 58 ∷ 58 ∷ 84 ∷ 104 ∷ 114 ∷ 101 ∷ 101 ∷ []) (Syntax.tcons (Syntax.tyInt Syntax.w8)
-          (Syntax.tcons (Syntax.tyInt Syntax.w8) (Syntax.tcons (Syntax.tyInt Syntax.w8) Syntax.tnil)))) (Syntax.tcons (Syntax.tyInt Syntax.w8) (Syntax.tcons
-          (Syntax.tyStruct (102 ∷ 105 ∷ 101 ∷ 108 ∷ 100 ∷ 115 ∷ 58 ∷ 58 ∷ 82 ∷ 101 ∷ 115 ∷ 105 ∷ 100 ∷ 117 ∷ 101 ∷ 78 ∷ 117 ∷ 109 ∷ 98 ∷ 101 ∷ 114 ∷ [])
-          (Syntax.tcons (Syntax.tyInt Syntax.w32) Syntax.tnil)) (Syntax.tcons (Syntax.tyInt Syntax.w8) Syntax.tnil))))) (Syntax.tcons (Syntax.tyStruct (114 ∷ 101 ∷
-          115 ∷ 105 ∷ 100 ∷ 117 ∷ 101 ∷ 58 ∷ 58 ∷ 82 ∷ 101 ∷ 115 ∷ 105 ∷ 100 ∷ 117 ∷ 101 ∷ []) (Syntax.tcons (Syntax.tyStruct (110 ∷ 97 ∷ 109 ∷ 101 ∷ 115 ∷ 58 ∷ 58 ∷
-          84 ∷ 104 ∷ 114 ∷ 101 ∷ 101 ∷ []) (Syntax.tcons (Syntax.tyInt Syntax.w8) (Syntax.tcons (Syntax.tyInt Syntax.w8) (Syntax.tcons (Syntax.tyInt Syntax.w8)
-          Syntax.tnil)))) (Syntax.tcons (Syntax.tyInt Syntax.w8) (Syntax.tcons (Syntax.tyStruct (102 ∷ 105 ∷ 101 ∷ 108 ∷ 100 ∷ 115 ∷ 58 ∷ 58 ∷ 82 ∷ 101 ∷ 115 ∷ 105 ∷
-          100 ∷ 117 ∷ 101 ∷ 78 ∷ 117 ∷ 109 ∷ 98 ∷ 101 ∷ 114 ∷ []) (Syntax.tcons (Syntax.tyInt Syntax.w32) Syntax.tnil)) (Syntax.tcons (Syntax.tyInt Syntax.w8)
-          Syntax.tnil))))) (Syntax.tcons (Syntax.tyInt Syntax.w32) Syntax.tnil))))))) (Syntax.tcons (Syntax.tyEnum (115 ∷ 104 ∷ 101 ∷ 101 ∷ 116 ∷ 58 ∷ 58 ∷ 82 ∷ 101
-          ∷ 103 ∷ 105 ∷ 115 ∷ 116 ∷ 114 ∷ 97 ∷ 116 ∷ 105 ∷ 111 ∷ 110 ∷ []) (Syntax.ttcons Syntax.tnil (Syntax.ttcons (Syntax.tcons (Syntax.tyStruct (115 ∷ 104 ∷ 101
-          ∷ 101 ∷ 116 ∷ 58 ∷ 58 ∷ 66 ∷ 111 ∷ 110 ∷ 100 ∷ []) (Syntax.tcons (Syntax.tyStruct (110 ∷ 97 ∷ 109 ∷ 101 ∷ 115 ∷ 58 ∷ 58 ∷ 70 ∷ 111 ∷ 117 ∷ 114 ∷ [])
-          (Syntax.tcons (Syntax.tyInt Syntax.w8) (Syntax.tcons (Syntax.tyInt Syntax.w8) (Syntax.tcons (Syntax.tyInt Syntax.w8) (Syntax.tcons (Syntax.tyInt Syntax.w8)
-          Syntax.tnil))))) (Syntax.tcons (Syntax.tyStruct (114 ∷ 101 ∷ 115 ∷ 105 ∷ 100 ∷ 117 ∷ 101 ∷ 58 ∷ 58 ∷ 82 ∷ 101 ∷ 115 ∷ 105 ∷ 100 ∷ 117 ∷ 101 ∷ [])
-          (Syntax.tcons (Syntax.tyStruct (110 ∷ 97 ∷ 109 ∷ 101 ∷ 115 ∷ 58 ∷ 58 ∷ 84 ∷ 104 ∷ 114 ∷ 101 ∷ 101 ∷ []) (Syntax.tcons (Syntax.tyInt Syntax.w8)
-          (Syntax.tcons (Syntax.tyInt Syntax.w8) (Syntax.tcons (Syntax.tyInt Syntax.w8) Syntax.tnil)))) (Syntax.tcons (Syntax.tyInt Syntax.w8) (Syntax.tcons
-          (Syntax.tyStruct (102 ∷ 105 ∷ 101 ∷ 108 ∷ 100 ∷ 115 ∷ 58 ∷ 58 ∷ 82 ∷ 101 ∷ 115 ∷ 105 ∷ 100 ∷ 117 ∷ 101 ∷ 78 ∷ 117 ∷ 109 ∷ 98 ∷ 101 ∷ 114 ∷ [])
-          (Syntax.tcons (Syntax.tyInt Syntax.w32) Syntax.tnil)) (Syntax.tcons (Syntax.tyInt Syntax.w8) Syntax.tnil))))) (Syntax.tcons (Syntax.tyStruct (110 ∷ 97 ∷
-          109 ∷ 101 ∷ 115 ∷ 58 ∷ 58 ∷ 70 ∷ 111 ∷ 117 ∷ 114 ∷ []) (Syntax.tcons (Syntax.tyInt Syntax.w8) (Syntax.tcons (Syntax.tyInt Syntax.w8) (Syntax.tcons
-          (Syntax.tyInt Syntax.w8) (Syntax.tcons (Syntax.tyInt Syntax.w8) Syntax.tnil))))) (Syntax.tcons (Syntax.tyStruct (114 ∷ 101 ∷ 115 ∷ 105 ∷ 100 ∷ 117 ∷ 101 ∷
-          58 ∷ 58 ∷ 82 ∷ 101 ∷ 115 ∷ 105 ∷ 100 ∷ 117 ∷ 101 ∷ []) (Syntax.tcons (Syntax.tyStruct (110 ∷ 97 ∷ 109 ∷ 101 ∷ 115 ∷ 58 ∷ 58 ∷ 84 ∷ 104 ∷ 114 ∷ 101 ∷ 101 ∷
-          []) (Syntax.tcons (Syntax.tyInt Syntax.w8) (Syntax.tcons (Syntax.tyInt Syntax.w8) (Syntax.tcons (Syntax.tyInt Syntax.w8) Syntax.tnil)))) (Syntax.tcons
-          (Syntax.tyInt Syntax.w8) (Syntax.tcons (Syntax.tyStruct (102 ∷ 105 ∷ 101 ∷ 108 ∷ 100 ∷ 115 ∷ 58 ∷ 58 ∷ 82 ∷ 101 ∷ 115 ∷ 105 ∷ 100 ∷ 117 ∷ 101 ∷ 78 ∷ 117 ∷
-          109 ∷ 98 ∷ 101 ∷ 114 ∷ []) (Syntax.tcons (Syntax.tyInt Syntax.w32) Syntax.tnil)) (Syntax.tcons (Syntax.tyInt Syntax.w8) Syntax.tnil))))) Syntax.tnil)))))
-          Syntax.tnil) Syntax.ttnil))) Syntax.tnil))) Syntax.tnil) (Syntax.ttcons (Syntax.tcons (Syntax.tyStruct (99 ∷ 111 ∷ 110 ∷ 101 ∷ 99 ∷ 116 ∷ 58 ∷ 58 ∷ 67 ∷
-          111 ∷ 110 ∷ 101 ∷ 99 ∷ 116 ∷ []) (Syntax.tcons (Syntax.tyStruct (102 ∷ 105 ∷ 101 ∷ 108 ∷ 100 ∷ 115 ∷ 58 ∷ 58 ∷ 83 ∷ 101 ∷ 114 ∷ 105 ∷ 97 ∷ 108 ∷ [])
-          (Syntax.tcons (Syntax.tyInt Syntax.w32) Syntax.tnil)) (Syntax.tcons (Syntax.tyStruct (102 ∷ 105 ∷ 101 ∷ 108 ∷ 100 ∷ 115 ∷ 58 ∷ 58 ∷ 83 ∷ 101 ∷ 114 ∷ 105 ∷
-          97 ∷ 108 ∷ []) (Syntax.tcons (Syntax.tyInt Syntax.w32) Syntax.tnil)) (Syntax.tcons (Syntax.tyStruct (102 ∷ 105 ∷ 101 ∷ 108 ∷ 100 ∷ 115 ∷ 58 ∷ 58 ∷ 83 ∷ 101
-          ∷ 114 ∷ 105 ∷ 97 ∷ 108 ∷ []) (Syntax.tcons (Syntax.tyInt Syntax.w32) Syntax.tnil)) (Syntax.tcons (Syntax.tyStruct (102 ∷ 105 ∷ 101 ∷ 108 ∷ 100 ∷ 115 ∷ 58 ∷
-          58 ∷ 83 ∷ 101 ∷ 114 ∷ 105 ∷ 97 ∷ 108 ∷ []) (Syntax.tcons (Syntax.tyInt Syntax.w32) Syntax.tnil)) (Syntax.tcons (Syntax.tyStruct (102 ∷ 105 ∷ 101 ∷ 108 ∷
-          100 ∷ 115 ∷ 58 ∷ 58 ∷ 83 ∷ 101 ∷ 114 ∷ 105 ∷ 97 ∷ 108 ∷ []) (Syntax.tcons (Syntax.tyInt Syntax.w32) Syntax.tnil)) Syntax.tnil)))))) Syntax.tnil)
-          (Syntax.ttcons (Syntax.tcons (Syntax.tyStruct (109 ∷ 97 ∷ 115 ∷ 116 ∷ 101 ∷ 114 ∷ 58 ∷ 58 ∷ 84 ∷ 97 ∷ 108 ∷ 108 ∷ 121 ∷ []) (Syntax.tcons (Syntax.tyInt
-          Syntax.w32) (Syntax.tcons (Syntax.tyInt Syntax.w32) (Syntax.tcons (Syntax.tyInt Syntax.w32) (Syntax.tcons (Syntax.tyInt Syntax.w32) (Syntax.tcons
-          (Syntax.tyInt Syntax.w32) (Syntax.tcons (Syntax.tyInt Syntax.w32) (Syntax.tcons (Syntax.tyInt Syntax.w32) (Syntax.tcons (Syntax.tyInt Syntax.w32)
-          (Syntax.tcons (Syntax.tyInt Syntax.w32) Syntax.tnil)))))))))) Syntax.tnil) (Syntax.ttcons Syntax.tnil Syntax.ttnil)))))))) Syntax.tnil) Syntax.ttnil))))),
-    )
+  Rows'.any-gone (Syntax.tyStruct (115 ∷ 101 ∷ 114 ∷ 105 ∷ 97 ∷ 108 ∷ 115 ∷ 58 ∷ 58 ∷ 83 ∷ 112 ∷ 97 ∷ 110 ∷ []) (Syntax.tcons
+      (Syntax.tyInt Syntax.w64) (Syntax.tcons (Syntax.tyInt Syntax.w64) Syntax.tnil))),
+) ∷ (6, Rows'.any-gone (Syntax.tyInt Syntax.w64)) ∷ (
+  7,
+  Rows'.any-gone
+      Syntax.tyBool,
+) ∷ (8, Rows'.any-gone (Syntax.tyInt Syntax.w64)) ∷ (
+  9,
+  Rows'.any-gone (Syntax.tyEnum (112 ∷ 105 ∷ 101 ∷ 99 ∷ 101 ∷ 115 ∷ 58 ∷ 58 ∷ 76 ∷ 105 ∷
+      110 ∷ 101 ∷ []) (Syntax.ttcons (Syntax.tcons (Syntax.tyInt Syntax.w8) Syntax.tnil) (Syntax.ttcons (Syntax.tcons (Syntax.tyEnum (107 ∷ 105 ∷ 110 ∷ 100 ∷ 115
+      ∷ 58 ∷ 58 ∷ 75 ∷ 105 ∷ 110 ∷ 100 ∷ []) (Syntax.ttcons Syntax.tnil (Syntax.ttcons Syntax.tnil (Syntax.ttcons Syntax.tnil (Syntax.ttcons Syntax.tnil
+      (Syntax.ttcons Syntax.tnil (Syntax.ttcons Syntax.tnil (Syntax.ttcons Syntax.tnil (Syntax.ttcons Syntax.tnil (Syntax.ttcons Syntax.tnil (Syntax.ttcons
+      Syntax.tnil (Syntax.ttcons Syntax.tnil (Syntax.ttcons Syntax.tnil (Syntax.ttcons Syntax.tnil (Syntax.ttcons Syntax.tnil (Syntax.ttcons Syntax.tnil
+      (Syntax.ttcons Syntax.tnil (Syntax.ttcons Syntax.tnil (Syntax.ttcons Syntax.tnil (Syntax.ttcons Syntax.tnil (Syntax.ttcons Syntax.tnil (Syntax.ttcons
+      Syntax.tnil (Syntax.ttcons Syntax.tnil (Syntax.ttcons Syntax.tnil (Syntax.ttcons Syntax.tnil (Syntax.ttcons Syntax.tnil (Syntax.ttcons Syntax.tnil
+      (Syntax.ttcons Syntax.tnil (Syntax.ttcons Syntax.tnil Syntax.ttnil))))))))))))))))))))))))))))) (Syntax.tcons (Syntax.tyInt Syntax.w32) Syntax.tnil))
+      (Syntax.ttcons (Syntax.tcons (Syntax.tyEnum (107 ∷ 105 ∷ 110 ∷ 100 ∷ 115 ∷ 58 ∷ 58 ∷ 75 ∷ 105 ∷ 110 ∷ 100 ∷ []) (Syntax.ttcons Syntax.tnil (Syntax.ttcons
+      Syntax.tnil (Syntax.ttcons Syntax.tnil (Syntax.ttcons Syntax.tnil (Syntax.ttcons Syntax.tnil (Syntax.ttcons Syntax.tnil (Syntax.ttcons Syntax.tnil
+      (Syntax.ttcons Syntax.tnil (Syntax.ttcons Syntax.tnil (Syntax.ttcons Syntax.tnil (Syntax.ttcons Syntax.tnil (Syntax.ttcons Syntax.tnil (Syntax.ttcons
+      Syntax.tnil (Syntax.ttcons Syntax.tnil (Syntax.ttcons Syntax.tnil (Syntax.ttcons Syntax.tnil (Syntax.ttcons Syntax.tnil (Syntax.ttcons Syntax.tnil
+      (Syntax.ttcons Syntax.tnil (Syntax.ttcons Syntax.tnil (Syntax.ttcons Syntax.tnil (Syntax.ttcons Syntax.tnil (Syntax.ttcons Syntax.tnil (Syntax.ttcons
+      Syntax.tnil (Syntax.ttcons Syntax.tnil (Syntax.ttcons Syntax.tnil (Syntax.ttcons Syntax.tnil (Syntax.ttcons Syntax.tnil
+      Syntax.ttnil))))))))))))))))))))))))))))) Syntax.tnil) (Syntax.ttcons (Syntax.tcons (Syntax.tyEnum (108 ∷ 105 ∷ 110 ∷ 101 ∷ 58 ∷ 58 ∷ 82 ∷ 101 ∷ 99 ∷ 111 ∷
+      114 ∷ 100 ∷ []) (Syntax.ttcons (Syntax.tcons Syntax.tyBool (Syntax.tcons (Syntax.tyStruct (99 ∷ 111 ∷ 111 ∷ 114 ∷ 100 ∷ 105 ∷ 110 ∷ 97 ∷ 116 ∷ 101 ∷ 58 ∷
+      58 ∷ 65 ∷ 116 ∷ 111 ∷ 109 ∷ []) (Syntax.tcons (Syntax.tyStruct (99 ∷ 111 ∷ 111 ∷ 114 ∷ 100 ∷ 105 ∷ 110 ∷ 97 ∷ 116 ∷ 101 ∷ 58 ∷ 58 ∷ 73 ∷ 100 ∷ 101 ∷ 110 ∷
+      116 ∷ 105 ∷ 116 ∷ 121 ∷ []) (Syntax.tcons (Syntax.tyStruct (102 ∷ 105 ∷ 101 ∷ 108 ∷ 100 ∷ 115 ∷ 58 ∷ 58 ∷ 83 ∷ 101 ∷ 114 ∷ 105 ∷ 97 ∷ 108 ∷ [])
+      (Syntax.tcons (Syntax.tyInt Syntax.w32) Syntax.tnil)) (Syntax.tcons (Syntax.tyStruct (110 ∷ 97 ∷ 109 ∷ 101 ∷ 115 ∷ 58 ∷ 58 ∷ 70 ∷ 111 ∷ 117 ∷ 114 ∷ [])
+      (Syntax.tcons (Syntax.tyInt Syntax.w8) (Syntax.tcons (Syntax.tyInt Syntax.w8) (Syntax.tcons (Syntax.tyInt Syntax.w8) (Syntax.tcons (Syntax.tyInt Syntax.w8)
+      Syntax.tnil))))) (Syntax.tcons (Syntax.tyInt Syntax.w8) (Syntax.tcons (Syntax.tyStruct (114 ∷ 101 ∷ 115 ∷ 105 ∷ 100 ∷ 117 ∷ 101 ∷ 58 ∷ 58 ∷ 82 ∷ 101 ∷ 115
+      ∷ 105 ∷ 100 ∷ 117 ∷ 101 ∷ []) (Syntax.tcons (Syntax.tyStruct (110 ∷ 97 ∷ 109 ∷ 101 ∷ 115 ∷ 58 ∷ 58 ∷ 84 ∷ 104 ∷ 114 ∷ 101 ∷ 101 ∷ []) (Syntax.tcons
+      (Syntax.tyInt Syntax.w8) (Syntax.tcons (Syntax.tyInt Syntax.w8) (Syntax.tcons (Syntax.tyInt Syntax.w8) Syntax.tnil)))) (Syntax.tcons (Syntax.tyInt
+      Syntax.w8) (Syntax.tcons (Syntax.tyStruct (102 ∷ 105 ∷ 101 ∷ 108 ∷ 100 ∷ 115 ∷ 58 ∷ 58 ∷ 82 ∷ 101 ∷ 115 ∷ 105 ∷ 100 ∷ 117 ∷ 101 ∷ 78 ∷ 117 ∷ 109 ∷ 98 ∷ 101
+      ∷ 114 ∷ []) (Syntax.tcons (Syntax.tyInt Syntax.w32) Syntax.tnil)) (Syntax.tcons (Syntax.tyInt Syntax.w8) Syntax.tnil))))) Syntax.tnil))))) (Syntax.tcons
+      (Syntax.tyStruct (99 ∷ 111 ∷ 111 ∷ 114 ∷ 100 ∷ 105 ∷ 110 ∷ 97 ∷ 116 ∷ 101 ∷ 58 ∷ 58 ∷ 77 ∷ 101 ∷ 97 ∷ 115 ∷ 117 ∷ 114 ∷ 101 ∷ []) (Syntax.tcons
+      (Syntax.tyStruct (99 ∷ 111 ∷ 111 ∷ 114 ∷ 100 ∷ 105 ∷ 110 ∷ 97 ∷ 116 ∷ 101 ∷ 58 ∷ 58 ∷ 80 ∷ 111 ∷ 115 ∷ 105 ∷ 116 ∷ 105 ∷ 111 ∷ 110 ∷ []) (Syntax.tcons
+      (Syntax.tyInt Syntax.w32) (Syntax.tcons (Syntax.tyInt Syntax.w32) (Syntax.tcons (Syntax.tyInt Syntax.w32) Syntax.tnil)))) (Syntax.tcons (Syntax.tyInt
+      Syntax.w32) (Syntax.tcons (Syntax.tyInt Syntax.w32) Syntax.tnil)))) (Syntax.tcons (Syntax.tyStruct (99 ∷ 111 ∷ 111 ∷ 114 ∷ 100 ∷ 105 ∷ 110 ∷ 97 ∷ 116 ∷ 101
+      ∷ 58 ∷ 58 ∷ 83 ∷ 112 ∷ 101 ∷ 99 ∷ 105 ∷ 101 ∷ 115 ∷ []) (Syntax.tcons (Syntax.tyStruct (110 ∷ 97 ∷ 109 ∷ 101 ∷ 115 ∷ 58 ∷ 58 ∷ 80 ∷ 97 ∷ 105 ∷ 114 ∷ [])
+      (Syntax.tcons (Syntax.tyInt Syntax.w8) (Syntax.tcons (Syntax.tyInt Syntax.w8) Syntax.tnil))) (Syntax.tcons (Syntax.tyStruct (110 ∷ 97 ∷ 109 ∷ 101 ∷ 115 ∷
+      58 ∷ 58 ∷ 80 ∷ 97 ∷ 105 ∷ 114 ∷ []) (Syntax.tcons (Syntax.tyInt Syntax.w8) (Syntax.tcons (Syntax.tyInt Syntax.w8) Syntax.tnil))) Syntax.tnil)))
+      Syntax.tnil)))) Syntax.tnil)) (Syntax.ttcons (Syntax.tcons (Syntax.tyStruct (116 ∷ 101 ∷ 114 ∷ 58 ∷ 58 ∷ 84 ∷ 101 ∷ 114 ∷ []) (Syntax.tcons
+      (Syntax.tyStruct (102 ∷ 105 ∷ 101 ∷ 108 ∷ 100 ∷ 115 ∷ 58 ∷ 58 ∷ 83 ∷ 101 ∷ 114 ∷ 105 ∷ 97 ∷ 108 ∷ []) (Syntax.tcons (Syntax.tyInt Syntax.w32) Syntax.tnil))
+      (Syntax.tcons (Syntax.tyStruct (114 ∷ 101 ∷ 115 ∷ 105 ∷ 100 ∷ 117 ∷ 101 ∷ 58 ∷ 58 ∷ 82 ∷ 101 ∷ 115 ∷ 105 ∷ 100 ∷ 117 ∷ 101 ∷ []) (Syntax.tcons
+      (Syntax.tyStruct (110 ∷ 97 ∷ 109 ∷ 101 ∷ 115 ∷ 58 ∷ 58 ∷ 84 ∷ 104 ∷ 114 ∷ 101 ∷ 101 ∷ []) (Syntax.tcons (Syntax.tyInt Syntax.w8) (Syntax.tcons
+      (Syntax.tyInt Syntax.w8) (Syntax.tcons (Syntax.tyInt Syntax.w8) Syntax.tnil)))) (Syntax.tcons (Syntax.tyInt Syntax.w8) (Syntax.tcons (Syntax.tyStruct (102
+      ∷ 105 ∷ 101 ∷ 108 ∷ 100 ∷ 115 ∷ 58 ∷ 58 ∷ 82 ∷ 101 ∷ 115 ∷ 105 ∷ 100 ∷ 117 ∷ 101 ∷ 78 ∷ 117 ∷ 109 ∷ 98 ∷ 101 ∷ 114 ∷ []) (Syntax.tcons (Syntax.tyInt
+      Syntax.w32) Syntax.tnil)) (Syntax.tcons (Syntax.tyInt Syntax.w8) Syntax.tnil))))) Syntax.tnil))) Syntax.tnil) (Syntax.ttcons (Syntax.tcons (Syntax.tyStruct
+      (104 ∷ 101 ∷ 108 ∷ 105 ∷ 120 ∷ 58 ∷ 58 ∷ 72 ∷ 101 ∷ 108 ∷ 105 ∷ 120 ∷ []) (Syntax.tcons (Syntax.tyStruct (104 ∷ 101 ∷ 108 ∷ 105 ∷ 120 ∷ 58 ∷ 58 ∷ 69 ∷ 120
+      ∷ 116 ∷ 101 ∷ 110 ∷ 116 ∷ []) (Syntax.tcons (Syntax.tyInt Syntax.w32) (Syntax.tcons (Syntax.tyStruct (110 ∷ 97 ∷ 109 ∷ 101 ∷ 115 ∷ 58 ∷ 58 ∷ 84 ∷ 104 ∷ 114
+      ∷ 101 ∷ 101 ∷ []) (Syntax.tcons (Syntax.tyInt Syntax.w8) (Syntax.tcons (Syntax.tyInt Syntax.w8) (Syntax.tcons (Syntax.tyInt Syntax.w8) Syntax.tnil))))
+      (Syntax.tcons (Syntax.tyStruct (114 ∷ 101 ∷ 115 ∷ 105 ∷ 100 ∷ 117 ∷ 101 ∷ 58 ∷ 58 ∷ 82 ∷ 101 ∷ 115 ∷ 105 ∷ 100 ∷ 117 ∷ 101 ∷ []) (Syntax.tcons
+      (Syntax.tyStruct (110 ∷ 97 ∷ 109 ∷ 101 ∷ 115 ∷ 58 ∷ 58 ∷ 84 ∷ 104 ∷ 114 ∷ 101 ∷ 101 ∷ []) (Syntax.tcons (Syntax.tyInt Syntax.w8) (Syntax.tcons
+      (Syntax.tyInt Syntax.w8) (Syntax.tcons (Syntax.tyInt Syntax.w8) Syntax.tnil)))) (Syntax.tcons (Syntax.tyInt Syntax.w8) (Syntax.tcons (Syntax.tyStruct (102
+      ∷ 105 ∷ 101 ∷ 108 ∷ 100 ∷ 115 ∷ 58 ∷ 58 ∷ 82 ∷ 101 ∷ 115 ∷ 105 ∷ 100 ∷ 117 ∷ 101 ∷ 78 ∷ 117 ∷ 109 ∷ 98 ∷ 101 ∷ 114 ∷ []) (Syntax.tcons (Syntax.tyInt
+      Syntax.w32) Syntax.tnil)) (Syntax.tcons (Syntax.tyInt Syntax.w8) Syntax.tnil))))) (Syntax.tcons (Syntax.tyStruct (114 ∷ 101 ∷ 115 ∷ 105 ∷ 100 ∷ 117 ∷ 101 ∷
+      58 ∷ 58 ∷ 82 ∷ 101 ∷ 115 ∷ 105 ∷ 100 ∷ 117 ∷ 101 ∷ []) (Syntax.tcons (Syntax.tyStruct (110 ∷ 97 ∷ 109 ∷ 101 ∷ 115 ∷ 58 ∷ 58 ∷ 84 ∷ 104 ∷ 114 ∷ 101 ∷ 101 ∷
+      []) (Syntax.tcons (Syntax.tyInt Syntax.w8) (Syntax.tcons (Syntax.tyInt Syntax.w8) (Syntax.tcons (Syntax.tyInt Syntax.w8) Syntax.tnil)))) (Syntax.tcons
+      (Syntax.tyInt Syntax.w8) (Syntax.tcons (Syntax.tyStruct (102 ∷ 105 ∷ 101 ∷ 108 ∷ 100 ∷ 115 ∷ 58 ∷ 58 ∷ 82 ∷ 101 ∷ 115 ∷ 105 ∷ 100 ∷ 117 ∷ 101 ∷ 78 ∷ 117 ∷
+      109 ∷ 98 ∷ 101 ∷ 114 ∷ []) (Syntax.tcons (Syntax.tyInt Syntax.w32) Syntax.tnil)) (Syntax.tcons (Syntax.tyInt Syntax.w8) Syntax.tnil))))) Syntax.tnil)))))
+      (Syntax.tcons (Syntax.tyInt Syntax.w32) (Syntax.tcons (Syntax.tyStruct (104 ∷ 101 ∷ 108 ∷ 105 ∷ 120 ∷ 58 ∷ 58 ∷ 67 ∷ 111 ∷ 109 ∷ 109 ∷ 101 ∷ 110 ∷ 116 ∷
+      []) (Syntax.tcons (Syntax.tyInt Syntax.w64) (Syntax.tcons (Syntax.tyInt Syntax.w64) (Syntax.tcons (Syntax.tyInt Syntax.w64) (Syntax.tcons (Syntax.tyInt
+      Syntax.w64) Syntax.tnil))))) (Syntax.tcons (Syntax.tyInt Syntax.w32) Syntax.tnil))))) Syntax.tnil) (Syntax.ttcons (Syntax.tcons (Syntax.tyStruct (115 ∷ 104
+      ∷ 101 ∷ 101 ∷ 116 ∷ 58 ∷ 58 ∷ 83 ∷ 104 ∷ 101 ∷ 101 ∷ 116 ∷ []) (Syntax.tcons (Syntax.tyStruct (115 ∷ 104 ∷ 101 ∷ 101 ∷ 116 ∷ 58 ∷ 58 ∷ 83 ∷ 116 ∷ 114 ∷ 97
+      ∷ 110 ∷ 100 ∷ []) (Syntax.tcons (Syntax.tyInt Syntax.w32) (Syntax.tcons (Syntax.tyStruct (110 ∷ 97 ∷ 109 ∷ 101 ∷ 115 ∷ 58 ∷ 58 ∷ 84 ∷ 104 ∷ 114 ∷ 101 ∷ 101
+      ∷ []) (Syntax.tcons (Syntax.tyInt Syntax.w8) (Syntax.tcons (Syntax.tyInt Syntax.w8) (Syntax.tcons (Syntax.tyInt Syntax.w8) Syntax.tnil)))) (Syntax.tcons
+      (Syntax.tyInt Syntax.w32) (Syntax.tcons (Syntax.tyStruct (114 ∷ 101 ∷ 115 ∷ 105 ∷ 100 ∷ 117 ∷ 101 ∷ 58 ∷ 58 ∷ 82 ∷ 101 ∷ 115 ∷ 105 ∷ 100 ∷ 117 ∷ 101 ∷ [])
+      (Syntax.tcons (Syntax.tyStruct (110 ∷ 97 ∷ 109 ∷ 101 ∷ 115 ∷ 58 ∷ 58 ∷ 84 ∷ 104 ∷ 114 ∷ 101 ∷ 101 ∷ []) (Syntax.tcons (Syntax.tyInt Syntax.w8)
+      (Syntax.tcons (Syntax.tyInt Syntax.w8) (Syntax.tcons (Syntax.tyInt Syntax.w8) Syntax.tnil)))) (Syntax.tcons (Syntax.tyInt Syntax.w8) (Syntax.tcons
+      (Syntax.tyStruct (102 ∷ 105 ∷ 101 ∷ 108 ∷ 100 ∷ 115 ∷ 58 ∷ 58 ∷ 82 ∷ 101 ∷ 115 ∷ 105 ∷ 100 ∷ 117 ∷ 101 ∷ 78 ∷ 117 ∷ 109 ∷ 98 ∷ 101 ∷ 114 ∷ [])
+      (Syntax.tcons (Syntax.tyInt Syntax.w32) Syntax.tnil)) (Syntax.tcons (Syntax.tyInt Syntax.w8) Syntax.tnil))))) (Syntax.tcons (Syntax.tyStruct (114 ∷ 101 ∷
+      115 ∷ 105 ∷ 100 ∷ 117 ∷ 101 ∷ 58 ∷ 58 ∷ 82 ∷ 101 ∷ 115 ∷ 105 ∷ 100 ∷ 117 ∷ 101 ∷ []) (Syntax.tcons (Syntax.tyStruct (110 ∷ 97 ∷ 109 ∷ 101 ∷ 115 ∷ 58 ∷ 58 ∷
+      84 ∷ 104 ∷ 114 ∷ 101 ∷ 101 ∷ []) (Syntax.tcons (Syntax.tyInt Syntax.w8) (Syntax.tcons (Syntax.tyInt Syntax.w8) (Syntax.tcons (Syntax.tyInt Syntax.w8)
+      Syntax.tnil)))) (Syntax.tcons (Syntax.tyInt Syntax.w8) (Syntax.tcons (Syntax.tyStruct (102 ∷ 105 ∷ 101 ∷ 108 ∷ 100 ∷ 115 ∷ 58 ∷ 58 ∷ 82 ∷ 101 ∷ 115 ∷ 105 ∷
+      100 ∷ 117 ∷ 101 ∷ 78 ∷ 117 ∷ 109 ∷ 98 ∷ 101 ∷ 114 ∷ []) (Syntax.tcons (Syntax.tyInt Syntax.w32) Syntax.tnil)) (Syntax.tcons (Syntax.tyInt Syntax.w8)
+      Syntax.tnil))))) (Syntax.tcons (Syntax.tyInt Syntax.w32) Syntax.tnil))))))) (Syntax.tcons (Syntax.tyEnum (115 ∷ 104 ∷ 101 ∷ 101 ∷ 116 ∷ 58 ∷ 58 ∷ 82 ∷ 101
+      ∷ 103 ∷ 105 ∷ 115 ∷ 116 ∷ 114 ∷ 97 ∷ 116 ∷ 105 ∷ 111 ∷ 110 ∷ []) (Syntax.ttcons Syntax.tnil (Syntax.ttcons (Syntax.tcons (Syntax.tyStruct (115 ∷ 104 ∷ 101
+      ∷ 101 ∷ 116 ∷ 58 ∷ 58 ∷ 66 ∷ 111 ∷ 110 ∷ 100 ∷ []) (Syntax.tcons (Syntax.tyStruct (110 ∷ 97 ∷ 109 ∷ 101 ∷ 115 ∷ 58 ∷ 58 ∷ 70 ∷ 111 ∷ 117 ∷ 114 ∷ [])
+      (Syntax.tcons (Syntax.tyInt Syntax.w8) (Syntax.tcons (Syntax.tyInt Syntax.w8) (Syntax.tcons (Syntax.tyInt Syntax.w8) (Syntax.tcons (Syntax.tyInt Syntax.w8)
+      Syntax.tnil))))) (Syntax.tcons (Syntax.tyStruct (114 ∷ 101 ∷ 115 ∷ 105 ∷ 100 ∷ 117 ∷ 101 ∷ 58 ∷ 58 ∷ 82 ∷ 101 ∷ 115 ∷ 105 ∷ 100 ∷ 117 ∷ 101 ∷ [])
+      (Syntax.tcons (Syntax.tyStruct (110 ∷ 97 ∷ 109 ∷ 101 ∷ 115 ∷ 58 ∷ 58 ∷ 84 ∷ 104 ∷ 114 ∷ 101 ∷ 101 ∷ []) (Syntax.tcons (Syntax.tyInt Syntax.w8)
+      (Syntax.tcons (Syntax.tyInt Syntax.w8) (Syntax.tcons (Syntax.tyInt Syntax.w8) Syntax.tnil)))) (Syntax.tcons (Syntax.tyInt Syntax.w8) (Syntax.tcons
+      (Syntax.tyStruct (102 ∷ 105 ∷ 101 ∷ 108 ∷ 100 ∷ 115 ∷ 58 ∷ 58 ∷ 82 ∷ 101 ∷ 115 ∷ 105 ∷ 100 ∷ 117 ∷ 101 ∷ 78 ∷ 117 ∷ 109 ∷ 98 ∷ 101 ∷ 114 ∷ [])
+      (Syntax.tcons (Syntax.tyInt Syntax.w32) Syntax.tnil)) (Syntax.tcons (Syntax.tyInt Syntax.w8) Syntax.tnil))))) (Syntax.tcons (Syntax.tyStruct (110 ∷ 97 ∷
+      109 ∷ 101 ∷ 115 ∷ 58 ∷ 58 ∷ 70 ∷ 111 ∷ 117 ∷ 114 ∷ []) (Syntax.tcons (Syntax.tyInt Syntax.w8) (Syntax.tcons (Syntax.tyInt Syntax.w8) (Syntax.tcons
+      (Syntax.tyInt Syntax.w8) (Syntax.tcons (Syntax.tyInt Syntax.w8) Syntax.tnil))))) (Syntax.tcons (Syntax.tyStruct (114 ∷ 101 ∷ 115 ∷ 105 ∷ 100 ∷ 117 ∷ 101 ∷
+      58 ∷ 58 ∷ 82 ∷ 101 ∷ 115 ∷ 105 ∷ 100 ∷ 117 ∷ 101 ∷ []) (Syntax.tcons (Syntax.tyStruct (110 ∷ 97 ∷ 109 ∷ 101 ∷ 115 ∷ 58 ∷ 58 ∷ 84 ∷ 104 ∷ 114 ∷ 101 ∷ 101 ∷
+      []) (Syntax.tcons (Syntax.tyInt Syntax.w8) (Syntax.tcons (Syntax.tyInt Syntax.w8) (Syntax.tcons (Syntax.tyInt Syntax.w8) Syntax.tnil)))) (Syntax.tcons
+      (Syntax.tyInt Syntax.w8) (Syntax.tcons (Syntax.tyStruct (102 ∷ 105 ∷ 101 ∷ 108 ∷ 100 ∷ 115 ∷ 58 ∷ 58 ∷ 82 ∷ 101 ∷ 115 ∷ 105 ∷ 100 ∷ 117 ∷ 101 ∷ 78 ∷ 117 ∷
+      109 ∷ 98 ∷ 101 ∷ 114 ∷ []) (Syntax.tcons (Syntax.tyInt Syntax.w32) Syntax.tnil)) (Syntax.tcons (Syntax.tyInt Syntax.w8) Syntax.tnil))))) Syntax.tnil)))))
+      Syntax.tnil) Syntax.ttnil))) Syntax.tnil))) Syntax.tnil) (Syntax.ttcons (Syntax.tcons (Syntax.tyStruct (99 ∷ 111 ∷ 110 ∷ 101 ∷ 99 ∷ 116 ∷ 58 ∷ 58 ∷ 67 ∷
+      111 ∷ 110 ∷ 101 ∷ 99 ∷ 116 ∷ []) (Syntax.tcons (Syntax.tyStruct (102 ∷ 105 ∷ 101 ∷ 108 ∷ 100 ∷ 115 ∷ 58 ∷ 58 ∷ 83 ∷ 101 ∷ 114 ∷ 105 ∷ 97 ∷ 108 ∷ [])
+      (Syntax.tcons (Syntax.tyInt Syntax.w32) Syntax.tnil)) (Syntax.tcons (Syntax.tyStruct (102 ∷ 105 ∷ 101 ∷ 108 ∷ 100 ∷ 115 ∷ 58 ∷ 58 ∷ 83 ∷ 101 ∷ 114 ∷ 105 ∷
+      97 ∷ 108 ∷ []) (Syntax.tcons (Syntax.tyInt Syntax.w32) Syntax.tnil)) (Syntax.tcons (Syntax.tyStruct (102 ∷ 105 ∷ 101 ∷ 108 ∷ 100 ∷ 115 ∷ 58 ∷ 58 ∷ 83 ∷ 101
+      ∷ 114 ∷ 105 ∷ 97 ∷ 108 ∷ []) (Syntax.tcons (Syntax.tyInt Syntax.w32) Syntax.tnil)) (Syntax.tcons (Syntax.tyStruct (102 ∷ 105 ∷ 101 ∷ 108 ∷ 100 ∷ 115 ∷ 58 ∷
+      58 ∷ 83 ∷ 101 ∷ 114 ∷ 105 ∷ 97 ∷ 108 ∷ []) (Syntax.tcons (Syntax.tyInt Syntax.w32) Syntax.tnil)) (Syntax.tcons (Syntax.tyStruct (102 ∷ 105 ∷ 101 ∷ 108 ∷
+      100 ∷ 115 ∷ 58 ∷ 58 ∷ 83 ∷ 101 ∷ 114 ∷ 105 ∷ 97 ∷ 108 ∷ []) (Syntax.tcons (Syntax.tyInt Syntax.w32) Syntax.tnil)) Syntax.tnil)))))) Syntax.tnil)
+      (Syntax.ttcons (Syntax.tcons (Syntax.tyStruct (109 ∷ 97 ∷ 115 ∷ 116 ∷ 101 ∷ 114 ∷ 58 ∷ 58 ∷ 84 ∷ 97 ∷ 108 ∷ 108 ∷ 121 ∷ []) (Syntax.tcons (Syntax.tyInt
+      Syntax.w32) (Syntax.tcons (Syntax.tyInt Syntax.w32) (Syntax.tcons (Syntax.tyInt Syntax.w32) (Syntax.tcons (Syntax.tyInt Syntax.w32) (Syntax.tcons
+      (Syntax.tyInt Syntax.w32) (Syntax.tcons (Syntax.tyInt Syntax.w32) (Syntax.tcons (Syntax.tyInt Syntax.w32) (Syntax.tcons (Syntax.tyInt Syntax.w32)
+      (Syntax.tcons (Syntax.tyInt Syntax.w32) Syntax.tnil)))))))))) Syntax.tnil) (Syntax.ttcons Syntax.tnil Syntax.ttnil)))))))) Syntax.tnil) Syntax.ttnil))))),
+)
     ∷ (10, Rows'.any-gone Syntax.tyBool) ∷ (11, Rows'.any-gone (Syntax.tyInt Syntax.w8)) ∷ (12, Rows'.any-gone SlotAs.ty) ∷ (13, Rows'.any-gone Syntax.tyBool)
     ∷ (14, Rows'.any-gone Syntax.tyBool) ∷ (
       15,
@@ -1256,31 +1262,32 @@ t4 = (
       Syntax.w64),
 ) ∷ (4, Rows'.whole (Declared'.row State.the-type)) ∷ (
   5,
-  Rows'.any-gone (Syntax.tyStruct (103 ∷ 97 ∷ 116 ∷ 101 ∷ 58 ∷ 58 ∷ 83 ∷ 112 ∷ 97 ∷ 110
-      ∷ []) (Syntax.tcons (Syntax.tyInt Syntax.w64) (Syntax.tcons (Syntax.tyInt Syntax.w64) Syntax.tnil))),
-) ∷ (6, Rows'.any-gone (Syntax.tyInt Syntax.w64)) ∷ (
-  7,
-  Rows'.any-gone Syntax.tyBool,
-) ∷ (8, Rows'.any-gone (Syntax.tyInt Syntax.w64)) ∷ (
+  Rows'.any-gone (Syntax.tyStruct (115 ∷ 101 ∷ 114 ∷ 105 ∷ 97 ∷ 108 ∷ 115 ∷ 58 ∷ 58 ∷ 83
+      ∷ 112 ∷ 97 ∷ 110 ∷ []) (Syntax.tcons (Syntax.tyInt Syntax.w64) (Syntax.tcons (Syntax.tyInt Syntax.w64) Syntax.tnil))),
+) ∷ (
+  6,
+  Rows'.any-gone (Syntax.tyInt
+      Syntax.w64),
+) ∷ (7, Rows'.any-gone Syntax.tyBool) ∷ (8, Rows'.any-gone (Syntax.tyInt Syntax.w64)) ∷ (
   9,
-  Rows'.any-gone (Syntax.tyEnum (112 ∷ 105 ∷ 101 ∷ 99 ∷ 101 ∷ 115 ∷ 58 ∷
-      58 ∷ 76 ∷ 105 ∷ 110 ∷ 101 ∷ []) (Syntax.ttcons (Syntax.tcons (Syntax.tyInt Syntax.w8) Syntax.tnil) (Syntax.ttcons (Syntax.tcons (Syntax.tyEnum (107 ∷ 105 ∷
-      110 ∷ 100 ∷ 115 ∷ 58 ∷ 58 ∷ 75 ∷ 105 ∷ 110 ∷ 100 ∷ []) (Syntax.ttcons Syntax.tnil (Syntax.ttcons Syntax.tnil (Syntax.ttcons Syntax.tnil (Syntax.ttcons
+  Rows'.any-gone (Syntax.tyEnum (112 ∷ 105 ∷ 101 ∷ 99
+      ∷ 101 ∷ 115 ∷ 58 ∷ 58 ∷ 76 ∷ 105 ∷ 110 ∷ 101 ∷ []) (Syntax.ttcons (Syntax.tcons (Syntax.tyInt Syntax.w8) Syntax.tnil) (Syntax.ttcons (Syntax.tcons
+      (Syntax.tyEnum (107 ∷ 105 ∷ 110 ∷ 100 ∷ 115 ∷ 58 ∷ 58 ∷ 75 ∷ 105 ∷ 110 ∷ 100 ∷ []) (Syntax.ttcons Syntax.tnil (Syntax.ttcons Syntax.tnil (Syntax.ttcons
       Syntax.tnil (Syntax.ttcons Syntax.tnil (Syntax.ttcons Syntax.tnil (Syntax.ttcons Syntax.tnil (Syntax.ttcons Syntax.tnil (Syntax.ttcons Syntax.tnil
       (Syntax.ttcons Syntax.tnil (Syntax.ttcons Syntax.tnil (Syntax.ttcons Syntax.tnil (Syntax.ttcons Syntax.tnil (Syntax.ttcons Syntax.tnil (Syntax.ttcons
       Syntax.tnil (Syntax.ttcons Syntax.tnil (Syntax.ttcons Syntax.tnil (Syntax.ttcons Syntax.tnil (Syntax.ttcons Syntax.tnil (Syntax.ttcons Syntax.tnil
       (Syntax.ttcons Syntax.tnil (Syntax.ttcons Syntax.tnil (Syntax.ttcons Syntax.tnil (Syntax.ttcons Syntax.tnil (Syntax.ttcons Syntax.tnil (Syntax.ttcons
-      Syntax.tnil (Syntax.ttcons Syntax.tnil (Syntax.ttcons Syntax.tnil Syntax.ttnil))))))))))))))))))))))))))))) (Syntax.tcons (Syntax.tyInt Syntax.w32)
-      Syntax.tnil)) (Syntax.ttcons (Syntax.tcons (Syntax.tyEnum (107 ∷ 105 ∷ 110 ∷ 100 ∷ 115 ∷ 58 ∷ 58 ∷ 75 ∷ 105 ∷ 110 ∷ 100 ∷ []) (Syntax.ttcons Syntax.tnil
+      Syntax.tnil (Syntax.ttcons Syntax.tnil (Syntax.ttcons Syntax.tnil (Syntax.ttcons Syntax.tnil Syntax.ttnil))))))))))))))))))))))))))))) (Syntax.tcons
+      (Syntax.tyInt Syntax.w32) Syntax.tnil)) (Syntax.ttcons (Syntax.tcons (Syntax.tyEnum (107 ∷ 105 ∷ 110 ∷ 100 ∷ 115 ∷ 58 ∷ 58 ∷ 75 ∷ 105 ∷ 110 ∷ 100 ∷ [])
       (Syntax.ttcons Syntax.tnil (Syntax.ttcons Syntax.tnil (Syntax.ttcons Syntax.tnil (Syntax.ttcons Syntax.tnil (Syntax.ttcons Syntax.tnil (Syntax.ttcons
       Syntax.tnil (Syntax.ttcons Syntax.tnil (Syntax.ttcons Syntax.tnil (Syntax.ttcons Syntax.tnil (Syntax.ttcons Syntax.tnil (Syntax.ttcons Syntax.tnil
       (Syntax.ttcons Syntax.tnil (Syntax.ttcons Syntax.tnil (Syntax.ttcons Syntax.tnil (Syntax.ttcons Syntax.tnil (Syntax.ttcons Syntax.tnil (Syntax.ttcons
       Syntax.tnil (Syntax.ttcons Syntax.tnil (Syntax.ttcons Syntax.tnil (Syntax.ttcons Syntax.tnil (Syntax.ttcons Syntax.tnil (Syntax.ttcons Syntax.tnil
-      (Syntax.ttcons Syntax.tnil (Syntax.ttcons Syntax.tnil (Syntax.ttcons Syntax.tnil (Syntax.ttcons Syntax.tnil (Syntax.ttcons Syntax.tnil
-      Syntax.ttnil))))))))))))))))))))))))))))) Syntax.tnil) (Syntax.ttcons (Syntax.tcons (Syntax.tyEnum (108 ∷ 105 ∷ 110 ∷ 101 ∷ 58 ∷ 58 ∷ 82 ∷ 101 ∷ 99 ∷ 111 ∷
-      114 ∷ 100 ∷ []) (Syntax.ttcons (Syntax.tcons Syntax.tyBool (Syntax.tcons (Syntax.tyStruct (99 ∷ 111 ∷ 111 ∷ 114 ∷ 100 ∷ 105 ∷ 110 ∷ 97 ∷ 116 ∷ 101 ∷ 58 ∷
-      58 ∷ 65 ∷ 116 ∷ 111 ∷ 109 ∷ []) (Syntax.tcons (Syntax.tyStruct (99 ∷ 111 ∷ 111 ∷ 114 ∷ 100 ∷ 105 ∷ 110 ∷ 97 ∷ 116 ∷ 101 ∷ 58 ∷ 58 ∷ 73 ∷ 100 ∷ 101 ∷ 110 ∷
-      116 ∷ 105 ∷ 116 ∷ 121 ∷ []) (Syntax.tcons (Syntax.tyStruct (102 ∷ 105 ∷ 101 ∷ 108 ∷ 100 ∷ 115 ∷ 58 ∷ 58 ∷ 83 ∷ 101 ∷ 114 ∷ 105 ∷ 97 ∷ 108 ∷ [])
+      (Syntax.ttcons Syntax.tnil (Syntax.ttcons Syntax.tnil (Syntax.ttcons Syntax.tnil (Syntax.ttcons Syntax.tnil (Syntax.ttcons Syntax.tnil (Syntax.ttcons
+      Syntax.tnil Syntax.ttnil))))))))))))))))))))))))))))) Syntax.tnil) (Syntax.ttcons (Syntax.tcons (Syntax.tyEnum (108 ∷ 105 ∷ 110 ∷ 101 ∷ 58 ∷ 58 ∷ 82 ∷ 101
+      ∷ 99 ∷ 111 ∷ 114 ∷ 100 ∷ []) (Syntax.ttcons (Syntax.tcons Syntax.tyBool (Syntax.tcons (Syntax.tyStruct (99 ∷ 111 ∷ 111 ∷ 114 ∷ 100 ∷ 105 ∷ 110 ∷ 97 ∷ 116 ∷
+      101 ∷ 58 ∷ 58 ∷ 65 ∷ 116 ∷ 111 ∷ 109 ∷ []) (Syntax.tcons (Syntax.tyStruct (99 ∷ 111 ∷ 111 ∷ 114 ∷ 100 ∷ 105 ∷ 110 ∷ 97 ∷ 116 ∷ 101 ∷ 58 ∷ 58 ∷ 73 ∷ 100 ∷
+      101 ∷ 110 ∷ 116 ∷ 105 ∷ 116 ∷ 121 ∷ []) (Syntax.tcons (Syntax.tyStruct (102 ∷ 105 ∷ 101 ∷ 108 ∷ 100 ∷ 115 ∷ 58 ∷ 58 ∷ 83 ∷ 101 ∷ 114 ∷ 105 ∷ 97 ∷ 108 ∷ [])
       (Syntax.tcons (Syntax.tyInt Syntax.w32) Syntax.tnil)) (Syntax.tcons (Syntax.tyStruct (110 ∷ 97 ∷ 109 ∷ 101 ∷ 115 ∷ 58 ∷ 58 ∷ 70 ∷ 111 ∷ 117 ∷ 114 ∷ [])
       (Syntax.tcons (Syntax.tyInt Syntax.w8) (Syntax.tcons (Syntax.tyInt Syntax.w8) (Syntax.tcons (Syntax.tyInt Syntax.w8) (Syntax.tcons (Syntax.tyInt Syntax.w8)
       Syntax.tnil))))) (Syntax.tcons (Syntax.tyInt Syntax.w8) (Syntax.tcons (Syntax.tyStruct (114 ∷ 101 ∷ 115 ∷ 105 ∷ 100 ∷ 117 ∷ 101 ∷ 58 ∷ 58 ∷ 82 ∷ 101 ∷ 115
@@ -1879,27 +1886,28 @@ t9 = (
       Syntax.w64),
 ) ∷ (4, Rows'.whole (Declared'.row State.the-type)) ∷ (
   5,
-  Rows'.any-gone (Syntax.tyStruct (103 ∷ 97 ∷ 116 ∷ 101 ∷ 58 ∷ 58 ∷ 83 ∷ 112 ∷ 97 ∷ 110
-      ∷ []) (Syntax.tcons (Syntax.tyInt Syntax.w64) (Syntax.tcons (Syntax.tyInt Syntax.w64) Syntax.tnil))),
-) ∷ (6, Rows'.sc-here (Row.sInt Syntax.w64)) ∷ (
-  7,
-  Rows'.sc-here Row.sBool,
-) ∷ (8, Rows'.sc-here (Row.sInt Syntax.w64)) ∷ (
+  Rows'.any-gone (Syntax.tyStruct (115 ∷ 101 ∷ 114 ∷ 105 ∷ 97 ∷ 108 ∷ 115 ∷ 58 ∷ 58 ∷ 83
+      ∷ 112 ∷ 97 ∷ 110 ∷ []) (Syntax.tcons (Syntax.tyInt Syntax.w64) (Syntax.tcons (Syntax.tyInt Syntax.w64) Syntax.tnil))),
+) ∷ (
+  6,
+  Rows'.sc-here (Row.sInt
+      Syntax.w64),
+) ∷ (7, Rows'.sc-here Row.sBool) ∷ (8, Rows'.sc-here (Row.sInt Syntax.w64)) ∷ (
   9,
-  Rows'.any-gone (Syntax.tyEnum (112 ∷ 105 ∷ 101 ∷ 99 ∷ 101 ∷ 115 ∷ 58 ∷ 58 ∷ 76 ∷
-      105 ∷ 110 ∷ 101 ∷ []) (Syntax.ttcons (Syntax.tcons (Syntax.tyInt Syntax.w8) Syntax.tnil) (Syntax.ttcons (Syntax.tcons (Syntax.tyEnum (107 ∷ 105 ∷ 110 ∷ 100
-      ∷ 115 ∷ 58 ∷ 58 ∷ 75 ∷ 105 ∷ 110 ∷ 100 ∷ []) (Syntax.ttcons Syntax.tnil (Syntax.ttcons Syntax.tnil (Syntax.ttcons Syntax.tnil (Syntax.ttcons Syntax.tnil
+  Rows'.any-gone (Syntax.tyEnum (112 ∷ 105 ∷ 101 ∷ 99 ∷ 101 ∷
+      115 ∷ 58 ∷ 58 ∷ 76 ∷ 105 ∷ 110 ∷ 101 ∷ []) (Syntax.ttcons (Syntax.tcons (Syntax.tyInt Syntax.w8) Syntax.tnil) (Syntax.ttcons (Syntax.tcons (Syntax.tyEnum
+      (107 ∷ 105 ∷ 110 ∷ 100 ∷ 115 ∷ 58 ∷ 58 ∷ 75 ∷ 105 ∷ 110 ∷ 100 ∷ []) (Syntax.ttcons Syntax.tnil (Syntax.ttcons Syntax.tnil (Syntax.ttcons Syntax.tnil
       (Syntax.ttcons Syntax.tnil (Syntax.ttcons Syntax.tnil (Syntax.ttcons Syntax.tnil (Syntax.ttcons Syntax.tnil (Syntax.ttcons Syntax.tnil (Syntax.ttcons
       Syntax.tnil (Syntax.ttcons Syntax.tnil (Syntax.ttcons Syntax.tnil (Syntax.ttcons Syntax.tnil (Syntax.ttcons Syntax.tnil (Syntax.ttcons Syntax.tnil
       (Syntax.ttcons Syntax.tnil (Syntax.ttcons Syntax.tnil (Syntax.ttcons Syntax.tnil (Syntax.ttcons Syntax.tnil (Syntax.ttcons Syntax.tnil (Syntax.ttcons
       Syntax.tnil (Syntax.ttcons Syntax.tnil (Syntax.ttcons Syntax.tnil (Syntax.ttcons Syntax.tnil (Syntax.ttcons Syntax.tnil (Syntax.ttcons Syntax.tnil
-      (Syntax.ttcons Syntax.tnil (Syntax.ttcons Syntax.tnil Syntax.ttnil))))))))))))))))))))))))))))) (Syntax.tcons (Syntax.tyInt Syntax.w32) Syntax.tnil))
-      (Syntax.ttcons (Syntax.tcons (Syntax.tyEnum (107 ∷ 105 ∷ 110 ∷ 100 ∷ 115 ∷ 58 ∷ 58 ∷ 75 ∷ 105 ∷ 110 ∷ 100 ∷ []) (Syntax.ttcons Syntax.tnil (Syntax.ttcons
+      (Syntax.ttcons Syntax.tnil (Syntax.ttcons Syntax.tnil (Syntax.ttcons Syntax.tnil Syntax.ttnil))))))))))))))))))))))))))))) (Syntax.tcons (Syntax.tyInt
+      Syntax.w32) Syntax.tnil)) (Syntax.ttcons (Syntax.tcons (Syntax.tyEnum (107 ∷ 105 ∷ 110 ∷ 100 ∷ 115 ∷ 58 ∷ 58 ∷ 75 ∷ 105 ∷ 110 ∷ 100 ∷ []) (Syntax.ttcons
       Syntax.tnil (Syntax.ttcons Syntax.tnil (Syntax.ttcons Syntax.tnil (Syntax.ttcons Syntax.tnil (Syntax.ttcons Syntax.tnil (Syntax.ttcons Syntax.tnil
       (Syntax.ttcons Syntax.tnil (Syntax.ttcons Syntax.tnil (Syntax.ttcons Syntax.tnil (Syntax.ttcons Syntax.tnil (Syntax.ttcons Syntax.tnil (Syntax.ttcons
       Syntax.tnil (Syntax.ttcons Syntax.tnil (Syntax.ttcons Syntax.tnil (Syntax.ttcons Syntax.tnil (Syntax.ttcons Syntax.tnil (Syntax.ttcons Syntax.tnil
       (Syntax.ttcons Syntax.tnil (Syntax.ttcons Syntax.tnil (Syntax.ttcons Syntax.tnil (Syntax.ttcons Syntax.tnil (Syntax.ttcons Syntax.tnil (Syntax.ttcons
-      Syntax.tnil (Syntax.ttcons Syntax.tnil (Syntax.ttcons Syntax.tnil (Syntax.ttcons Syntax.tnil (Syntax.ttcons Syntax.tnil
+      Syntax.tnil (Syntax.ttcons Syntax.tnil (Syntax.ttcons Syntax.tnil (Syntax.ttcons Syntax.tnil (Syntax.ttcons Syntax.tnil (Syntax.ttcons Syntax.tnil
       Syntax.ttnil))))))))))))))))))))))))))))) Syntax.tnil) (Syntax.ttcons (Syntax.tcons (Syntax.tyEnum (108 ∷ 105 ∷ 110 ∷ 101 ∷ 58 ∷ 58 ∷ 82 ∷ 101 ∷ 99 ∷ 111 ∷
       114 ∷ 100 ∷ []) (Syntax.ttcons (Syntax.tcons Syntax.tyBool (Syntax.tcons (Syntax.tyStruct (99 ∷ 111 ∷ 111 ∷ 114 ∷ 100 ∷ 105 ∷ 110 ∷ 97 ∷ 116 ∷ 101 ∷ 58 ∷
       58 ∷ 65 ∷ 116 ∷ 111 ∷ 109 ∷ []) (Syntax.tcons (Syntax.tyStruct (99 ∷ 111 ∷ 111 ∷ 114 ∷ 100 ∷ 105 ∷ 110 ∷ 97 ∷ 116 ∷ 101 ∷ 58 ∷ 58 ∷ 73 ∷ 100 ∷ 101 ∷ 110 ∷
@@ -2290,24 +2298,22 @@ t20 = (
       Syntax.tnil))))))))),
 ) ∷ (
   5,
-  Rows'.any-gone (Syntax.tyStruct (103 ∷ 97 ∷ 116 ∷ 101 ∷ 58 ∷ 58 ∷ 83 ∷ 112 ∷ 97 ∷ 110 ∷ []) (Syntax.tcons (Syntax.tyInt
-      Syntax.w64) (Syntax.tcons (Syntax.tyInt Syntax.w64) Syntax.tnil))),
-) ∷ (6, Rows'.sc-here (Row.sInt Syntax.w64)) ∷ (7, Rows'.sc-here Row.sBool) ∷ (
-  8,
-  Rows'.sc-here (Row.sInt Syntax.w64),
-) ∷ (9, Rows'.whole (Declared.row Line.the-type)) ∷ (10, Rows'.sc-here Row.sBool) ∷ (
-  11,
-  Rows'.sc-here (Row.sInt
-      Syntax.w8),
-) ∷ (12, Rows'.any-gone SlotAs.ty) ∷ (13, Rows'.any-gone Syntax.tyBool) ∷ (14, Rows'.any-gone Syntax.tyBool) ∷ (
-  15,
-  Rows'.any-gone
-      (Syntax.tyStruct (103 ∷ 97 ∷ 116 ∷ 101 ∷ 58 ∷ 58 ∷ 86 ∷ 101 ∷ 114 ∷ 100 ∷ 105 ∷ 99 ∷ 116 ∷ []) (Syntax.tcons (Syntax.tyInt Syntax.w8) (Syntax.tcons
-      (Syntax.tyInt Syntax.w64) (Syntax.tcons (Syntax.tyInt Syntax.w64) (Syntax.tcons (Syntax.tyStruct (112 ∷ 108 ∷ 97 ∷ 99 ∷ 101 ∷ 115 ∷ 58 ∷ 58 ∷ 67 ∷ 111 ∷
-      117 ∷ 110 ∷ 116 ∷ 115 ∷ []) (Syntax.tcons (Syntax.tyInt Syntax.w64) (Syntax.tcons (Syntax.tyInt Syntax.w64) (Syntax.tcons (Syntax.tyInt Syntax.w64)
-      (Syntax.tcons (Syntax.tyInt Syntax.w64) (Syntax.tcons (Syntax.tyInt Syntax.w64) (Syntax.tcons (Syntax.tyInt Syntax.w64) (Syntax.tcons (Syntax.tyInt
-      Syntax.w64) (Syntax.tcons (Syntax.tyInt Syntax.w64) (Syntax.tcons (Syntax.tyInt Syntax.w64) Syntax.tnil)))))))))) Syntax.tnil))))),
-) ∷ []
+  Rows'.any-gone (Syntax.tyStruct (115 ∷ 101 ∷ 114 ∷ 105 ∷ 97 ∷ 108 ∷ 115 ∷ 58 ∷ 58 ∷ 83 ∷ 112 ∷ 97 ∷ 110 ∷ []) (Syntax.tcons
+      (Syntax.tyInt Syntax.w64) (Syntax.tcons (Syntax.tyInt Syntax.w64) Syntax.tnil))),
+) ∷ (6, Rows'.sc-here (Row.sInt Syntax.w64)) ∷ (7, Rows'.sc-here Row.sBool)
+    ∷ (8, Rows'.sc-here (Row.sInt Syntax.w64)) ∷ (9, Rows'.whole (Declared.row Line.the-type)) ∷ (10, Rows'.sc-here Row.sBool) ∷ (
+      11,
+      Rows'.sc-here (Row.sInt
+          Syntax.w8),
+    ) ∷ (12, Rows'.any-gone SlotAs.ty) ∷ (13, Rows'.any-gone Syntax.tyBool) ∷ (14, Rows'.any-gone Syntax.tyBool) ∷ (
+      15,
+      Rows'.any-gone
+          (Syntax.tyStruct (103 ∷ 97 ∷ 116 ∷ 101 ∷ 58 ∷ 58 ∷ 86 ∷ 101 ∷ 114 ∷ 100 ∷ 105 ∷ 99 ∷ 116 ∷ []) (Syntax.tcons (Syntax.tyInt Syntax.w8) (Syntax.tcons
+          (Syntax.tyInt Syntax.w64) (Syntax.tcons (Syntax.tyInt Syntax.w64) (Syntax.tcons (Syntax.tyStruct (112 ∷ 108 ∷ 97 ∷ 99 ∷ 101 ∷ 115 ∷ 58 ∷ 58 ∷ 67 ∷ 111 ∷
+          117 ∷ 110 ∷ 116 ∷ 115 ∷ []) (Syntax.tcons (Syntax.tyInt Syntax.w64) (Syntax.tcons (Syntax.tyInt Syntax.w64) (Syntax.tcons (Syntax.tyInt Syntax.w64)
+          (Syntax.tcons (Syntax.tyInt Syntax.w64) (Syntax.tcons (Syntax.tyInt Syntax.w64) (Syntax.tcons (Syntax.tyInt Syntax.w64) (Syntax.tcons (Syntax.tyInt
+          Syntax.w64) (Syntax.tcons (Syntax.tyInt Syntax.w64) (Syntax.tcons (Syntax.tyInt Syntax.w64) Syntax.tnil)))))))))) Syntax.tnil))))),
+    ) ∷ []
 
 abbrev pub t21 : List.List Row.Entry
 t21 = (
@@ -2342,38 +2348,177 @@ t21 = (
       Syntax.tnil))))))))),
 ) ∷ (
   5,
-  Rows'.any-gone (Syntax.tyStruct (103 ∷ 97 ∷ 116 ∷ 101 ∷ 58 ∷ 58 ∷ 83 ∷ 112 ∷ 97 ∷ 110 ∷ []) (Syntax.tcons (Syntax.tyInt
-      Syntax.w64) (Syntax.tcons (Syntax.tyInt Syntax.w64) Syntax.tnil))),
-) ∷ (6, Rows'.sc-here (Row.sInt Syntax.w64)) ∷ (7, Rows'.sc-here Row.sBool) ∷ (
-  8,
-  Rows'.sc-here (Row.sInt Syntax.w64),
+  Rows'.any-gone (Syntax.tyStruct (115 ∷ 101 ∷ 114 ∷ 105 ∷ 97 ∷ 108 ∷ 115 ∷ 58 ∷ 58 ∷ 83 ∷ 112 ∷ 97 ∷ 110 ∷ []) (Syntax.tcons
+      (Syntax.tyInt Syntax.w64) (Syntax.tcons (Syntax.tyInt Syntax.w64) Syntax.tnil))),
+) ∷ (6, Rows'.sc-here (Row.sInt Syntax.w64)) ∷ (7, Rows'.sc-here Row.sBool)
+    ∷ (8, Rows'.sc-here (Row.sInt Syntax.w64)) ∷ (
+      9,
+      Rows'.any-gone (Syntax.tyEnum (112 ∷ 105 ∷ 101 ∷ 99 ∷ 101 ∷ 115 ∷ 58 ∷ 58 ∷ 76 ∷ 105 ∷ 110 ∷ 101 ∷ [])
+          (Syntax.ttcons (Syntax.tcons (Syntax.tyInt Syntax.w8) Syntax.tnil) (Syntax.ttcons (Syntax.tcons (Syntax.tyEnum (107 ∷ 105 ∷ 110 ∷ 100 ∷ 115 ∷ 58 ∷ 58 ∷ 75
+          ∷ 105 ∷ 110 ∷ 100 ∷ []) (Syntax.ttcons Syntax.tnil (Syntax.ttcons Syntax.tnil (Syntax.ttcons Syntax.tnil (Syntax.ttcons Syntax.tnil (Syntax.ttcons
+          Syntax.tnil (Syntax.ttcons Syntax.tnil (Syntax.ttcons Syntax.tnil (Syntax.ttcons Syntax.tnil (Syntax.ttcons Syntax.tnil (Syntax.ttcons Syntax.tnil
+          (Syntax.ttcons Syntax.tnil (Syntax.ttcons Syntax.tnil (Syntax.ttcons Syntax.tnil (Syntax.ttcons Syntax.tnil (Syntax.ttcons Syntax.tnil (Syntax.ttcons
+          Syntax.tnil (Syntax.ttcons Syntax.tnil (Syntax.ttcons Syntax.tnil (Syntax.ttcons Syntax.tnil (Syntax.ttcons Syntax.tnil (Syntax.ttcons Syntax.tnil
+          (Syntax.ttcons Syntax.tnil (Syntax.ttcons Syntax.tnil (Syntax.ttcons Syntax.tnil (Syntax.ttcons Syntax.tnil (Syntax.ttcons Syntax.tnil (Syntax.ttcons
+          Syntax.tnil (Syntax.ttcons Syntax.tnil Syntax.ttnil))))))))))))))))))))))))))))) (Syntax.tcons (Syntax.tyInt Syntax.w32) Syntax.tnil)) (Syntax.ttcons
+          (Syntax.tcons (Syntax.tyEnum (107 ∷ 105 ∷ 110 ∷ 100 ∷ 115 ∷ 58 ∷ 58 ∷ 75 ∷ 105 ∷ 110 ∷ 100 ∷ []) (Syntax.ttcons Syntax.tnil (Syntax.ttcons Syntax.tnil
+          (Syntax.ttcons Syntax.tnil (Syntax.ttcons Syntax.tnil (Syntax.ttcons Syntax.tnil (Syntax.ttcons Syntax.tnil (Syntax.ttcons Syntax.tnil (Syntax.ttcons
+          Syntax.tnil (Syntax.ttcons Syntax.tnil (Syntax.ttcons Syntax.tnil (Syntax.ttcons Syntax.tnil (Syntax.ttcons Syntax.tnil (Syntax.ttcons Syntax.tnil
+          (Syntax.ttcons Syntax.tnil (Syntax.ttcons Syntax.tnil (Syntax.ttcons Syntax.tnil (Syntax.ttcons Syntax.tnil (Syntax.ttcons Syntax.tnil (Syntax.ttcons
+          Syntax.tnil (Syntax.ttcons Syntax.tnil (Syntax.ttcons Syntax.tnil (Syntax.ttcons Syntax.tnil (Syntax.ttcons Syntax.tnil (Syntax.ttcons Syntax.tnil
+          (Syntax.ttcons Syntax.tnil (Syntax.ttcons Syntax.tnil (Syntax.ttcons Syntax.tnil (Syntax.ttcons Syntax.tnil Syntax.ttnil)))))))))))))))))))))))))))))
+          Syntax.tnil) (Syntax.ttcons (Syntax.tcons (Syntax.tyEnum (108 ∷ 105 ∷ 110 ∷ 101 ∷ 58 ∷ 58 ∷ 82 ∷ 101 ∷ 99 ∷ 111 ∷ 114 ∷ 100 ∷ []) (Syntax.ttcons
+          (Syntax.tcons Syntax.tyBool (Syntax.tcons (Syntax.tyStruct (99 ∷ 111 ∷ 111 ∷ 114 ∷ 100 ∷ 105 ∷ 110 ∷ 97 ∷ 116 ∷ 101 ∷ 58 ∷ 58 ∷ 65 ∷ 116 ∷ 111 ∷ 109 ∷ [])
+          (Syntax.tcons (Syntax.tyStruct (99 ∷ 111 ∷ 111 ∷ 114 ∷ 100 ∷ 105 ∷ 110 ∷ 97 ∷ 116 ∷ 101 ∷ 58 ∷ 58 ∷ 73 ∷ 100 ∷ 101 ∷ 110 ∷ 116 ∷ 105 ∷ 116 ∷ 121 ∷ [])
+          (Syntax.tcons (Syntax.tyStruct (102 ∷ 105 ∷ 101 ∷ 108 ∷ 100 ∷ 115 ∷ 58 ∷ 58 ∷ 83 ∷ 101 ∷ 114 ∷ 105 ∷ 97 ∷ 108 ∷ []) (Syntax.tcons (Syntax.tyInt Syntax.w32)
+          Syntax.tnil)) (Syntax.tcons (Syntax.tyStruct (110 ∷ 97 ∷ 109 ∷ 101 ∷ 115 ∷ 58 ∷ 58 ∷ 70 ∷ 111 ∷ 117 ∷ 114 ∷ []) (Syntax.tcons (Syntax.tyInt Syntax.w8)
+          (Syntax.tcons (Syntax.tyInt Syntax.w8) (Syntax.tcons (Syntax.tyInt Syntax.w8) (Syntax.tcons (Syntax.tyInt Syntax.w8) Syntax.tnil))))) (Syntax.tcons
+          (Syntax.tyInt Syntax.w8) (Syntax.tcons (Syntax.tyStruct (114 ∷ 101 ∷ 115 ∷ 105 ∷ 100 ∷ 117 ∷ 101 ∷ 58 ∷ 58 ∷ 82 ∷ 101 ∷ 115 ∷ 105 ∷ 100 ∷ 117 ∷ 101 ∷ [])
+          (Syntax.tcons (Syntax.tyStruct (110 ∷ 97 ∷ 109 ∷ 101 ∷ 115 ∷ 58 ∷ 58 ∷ 84 ∷ 104 ∷ 114 ∷ 101 ∷ 101 ∷ []) (Syntax.tcons (Syntax.tyInt Syntax.w8)
+          (Syntax.tcons (Syntax.tyInt Syntax.w8) (Syntax.tcons (Syntax.tyInt Syntax.w8) Syntax.tnil)))) (Syntax.tcons (Syntax.tyInt Syntax.w8) (Syntax.tcons
+          (Syntax.tyStruct (102 ∷ 105 ∷ 101 ∷ 108 ∷ 100 ∷ 115 ∷ 58 ∷ 58 ∷ 82 ∷ 101 ∷ 115 ∷ 105 ∷ 100 ∷ 117 ∷ 101 ∷ 78 ∷ 117 ∷ 109 ∷ 98 ∷ 101 ∷ 114 ∷ [])
+          (Syntax.tcons (Syntax.tyInt Syntax.w32) Syntax.tnil)) (Syntax.tcons (Syntax.tyInt Syntax.w8) Syntax.tnil))))) Syntax.tnil))))) (Syntax.tcons
+          (Syntax.tyStruct (99 ∷ 111 ∷ 111 ∷ 114 ∷ 100 ∷ 105 ∷ 110 ∷ 97 ∷ 116 ∷ 101 ∷ 58 ∷ 58 ∷ 77 ∷ 101 ∷ 97 ∷ 115 ∷ 117 ∷ 114 ∷ 101 ∷ []) (Syntax.tcons
+          (Syntax.tyStruct (99 ∷ 111 ∷ 111 ∷ 114 ∷ 100 ∷ 105 ∷ 110 ∷ 97 ∷ 116 ∷ 101 ∷ 58 ∷ 58 ∷ 80 ∷ 111 ∷ 115 ∷ 105 ∷ 116 ∷ 105 ∷ 111 ∷ 110 ∷ []) (Syntax.tcons
+          (Syntax.tyInt Syntax.w32) (Syntax.tcons (Syntax.tyInt Syntax.w32) (Syntax.tcons (Syntax.tyInt Syntax.w32) Syntax.tnil)))) (Syntax.tcons (Syntax.tyInt
+          Syntax.w32) (Syntax.tcons (Syntax.tyInt Syntax.w32) Syntax.tnil)))) (Syntax.tcons (Syntax.tyStruct (99 ∷ 111 ∷ 111 ∷ 114 ∷ 100 ∷ 105 ∷ 110 ∷ 97 ∷ 116 ∷ 101
+          ∷ 58 ∷ 58 ∷ 83 ∷ 112 ∷ 101 ∷ 99 ∷ 105 ∷ 101 ∷ 115 ∷ []) (Syntax.tcons (Syntax.tyStruct (110 ∷ 97 ∷ 109 ∷ 101 ∷ 115 ∷ 58 ∷ 58 ∷ 80 ∷ 97 ∷ 105 ∷ 114 ∷ [])
+          (Syntax.tcons (Syntax.tyInt Syntax.w8) (Syntax.tcons (Syntax.tyInt Syntax.w8) Syntax.tnil))) (Syntax.tcons (Syntax.tyStruct (110 ∷ 97 ∷ 109 ∷ 101 ∷ 115 ∷
+          58 ∷ 58 ∷ 80 ∷ 97 ∷ 105 ∷ 114 ∷ []) (Syntax.tcons (Syntax.tyInt Syntax.w8) (Syntax.tcons (Syntax.tyInt Syntax.w8) Syntax.tnil))) Syntax.tnil)))
+          Syntax.tnil)))) Syntax.tnil)) (Syntax.ttcons (Syntax.tcons (Syntax.tyStruct (116 ∷ 101 ∷ 114 ∷ 58 ∷ 58 ∷ 84 ∷ 101 ∷ 114 ∷ []) (Syntax.tcons
+          (Syntax.tyStruct (102 ∷ 105 ∷ 101 ∷ 108 ∷ 100 ∷ 115 ∷ 58 ∷ 58 ∷ 83 ∷ 101 ∷ 114 ∷ 105 ∷ 97 ∷ 108 ∷ []) (Syntax.tcons (Syntax.tyInt Syntax.w32) Syntax.tnil))
+          (Syntax.tcons (Syntax.tyStruct (114 ∷ 101 ∷ 115 ∷ 105 ∷ 100 ∷ 117 ∷ 101 ∷ 58 ∷ 58 ∷ 82 ∷ 101 ∷ 115 ∷ 105 ∷ 100 ∷ 117 ∷ 101 ∷ []) (Syntax.tcons
+          (Syntax.tyStruct (110 ∷ 97 ∷ 109 ∷ 101 ∷ 115 ∷ 58 ∷ 58 ∷ 84 ∷ 104 ∷ 114 ∷ 101 ∷ 101 ∷ []) (Syntax.tcons (Syntax.tyInt Syntax.w8) (Syntax.tcons
+          (Syntax.tyInt Syntax.w8) (Syntax.tcons (Syntax.tyInt Syntax.w8) Syntax.tnil)))) (Syntax.tcons (Syntax.tyInt Syntax.w8) (Syntax.tcons (Syntax.tyStruct (102
+          ∷ 105 ∷ 101 ∷ 108 ∷ 100 ∷ 115 ∷ 58 ∷ 58 ∷ 82 ∷ 101 ∷ 115 ∷ 105 ∷ 100 ∷ 117 ∷ 101 ∷ 78 ∷ 117 ∷ 109 ∷ 98 ∷ 101 ∷ 114 ∷ []) (Syntax.tcons (Syntax.tyInt
+          Syntax.w32) Syntax.tnil)) (Syntax.tcons (Syntax.tyInt Syntax.w8) Syntax.tnil))))) Syntax.tnil))) Syntax.tnil) (Syntax.ttcons (Syntax.tcons (Syntax.tyStruct
+          (104 ∷ 101 ∷ 108 ∷ 105 ∷ 120 ∷ 58 ∷ 58 ∷ 72 ∷ 101 ∷ 108 ∷ 105 ∷ 120 ∷ []) (Syntax.tcons (Syntax.tyStruct (104 ∷ 101 ∷ 108 ∷ 105 ∷ 120 ∷ 58 ∷ 58 ∷ 69 ∷ 120
+          ∷ 116 ∷ 101 ∷ 110 ∷ 116 ∷ []) (Syntax.tcons (Syntax.tyInt Syntax.w32) (Syntax.tcons (Syntax.tyStruct (110 ∷ 97 ∷ 109 ∷ 101 ∷ 115 ∷ 58 ∷ 58 ∷ 84 ∷ 104 ∷ 114
+          ∷ 101 ∷ 101 ∷ []) (Syntax.tcons (Syntax.tyInt Syntax.w8) (Syntax.tcons (Syntax.tyInt Syntax.w8) (Syntax.tcons (Syntax.tyInt Syntax.w8) Syntax.tnil))))
+          (Syntax.tcons (Syntax.tyStruct (114 ∷ 101 ∷ 115 ∷ 105 ∷ 100 ∷ 117 ∷ 101 ∷ 58 ∷ 58 ∷ 82 ∷ 101 ∷ 115 ∷ 105 ∷ 100 ∷ 117 ∷ 101 ∷ []) (Syntax.tcons
+          (Syntax.tyStruct (110 ∷ 97 ∷ 109 ∷ 101 ∷ 115 ∷ 58 ∷ 58 ∷ 84 ∷ 104 ∷ 114 ∷ 101 ∷ 101 ∷ []) (Syntax.tcons (Syntax.tyInt Syntax.w8) (Syntax.tcons
+          (Syntax.tyInt Syntax.w8) (Syntax.tcons (Syntax.tyInt Syntax.w8) Syntax.tnil)))) (Syntax.tcons (Syntax.tyInt Syntax.w8) (Syntax.tcons (Syntax.tyStruct (102
+          ∷ 105 ∷ 101 ∷ 108 ∷ 100 ∷ 115 ∷ 58 ∷ 58 ∷ 82 ∷ 101 ∷ 115 ∷ 105 ∷ 100 ∷ 117 ∷ 101 ∷ 78 ∷ 117 ∷ 109 ∷ 98 ∷ 101 ∷ 114 ∷ []) (Syntax.tcons (Syntax.tyInt
+          Syntax.w32) Syntax.tnil)) (Syntax.tcons (Syntax.tyInt Syntax.w8) Syntax.tnil))))) (Syntax.tcons (Syntax.tyStruct (114 ∷ 101 ∷ 115 ∷ 105 ∷ 100 ∷ 117 ∷ 101 ∷
+          58 ∷ 58 ∷ 82 ∷ 101 ∷ 115 ∷ 105 ∷ 100 ∷ 117 ∷ 101 ∷ []) (Syntax.tcons (Syntax.tyStruct (110 ∷ 97 ∷ 109 ∷ 101 ∷ 115 ∷ 58 ∷ 58 ∷ 84 ∷ 104 ∷ 114 ∷ 101 ∷ 101 ∷
+          []) (Syntax.tcons (Syntax.tyInt Syntax.w8) (Syntax.tcons (Syntax.tyInt Syntax.w8) (Syntax.tcons (Syntax.tyInt Syntax.w8) Syntax.tnil)))) (Syntax.tcons
+          (Syntax.tyInt Syntax.w8) (Syntax.tcons (Syntax.tyStruct (102 ∷ 105 ∷ 101 ∷ 108 ∷ 100 ∷ 115 ∷ 58 ∷ 58 ∷ 82 ∷ 101 ∷ 115 ∷ 105 ∷ 100 ∷ 117 ∷ 101 ∷ 78 ∷ 117 ∷
+          109 ∷ 98 ∷ 101 ∷ 114 ∷ []) (Syntax.tcons (Syntax.tyInt Syntax.w32) Syntax.tnil)) (Syntax.tcons (Syntax.tyInt Syntax.w8) Syntax.tnil))))) Syntax.tnil)))))
+          (Syntax.tcons (Syntax.tyInt Syntax.w32) (Syntax.tcons (Syntax.tyStruct (104 ∷ 101 ∷ 108 ∷ 105 ∷ 120 ∷ 58 ∷ 58 ∷ 67 ∷ 111 ∷ 109 ∷ 109 ∷ 101 ∷ 110 ∷ 116 ∷
+          []) (Syntax.tcons (Syntax.tyInt Syntax.w64) (Syntax.tcons (Syntax.tyInt Syntax.w64) (Syntax.tcons (Syntax.tyInt Syntax.w64) (Syntax.tcons (Syntax.tyInt
+          Syntax.w64) Syntax.tnil))))) (Syntax.tcons (Syntax.tyInt Syntax.w32) Syntax.tnil))))) Syntax.tnil) (Syntax.ttcons (Syntax.tcons (Syntax.tyStruct (115 ∷ 104
+          ∷ 101 ∷ 101 ∷ 116 ∷ 58 ∷ 58 ∷ 83 ∷ 104 ∷ 101 ∷ 101 ∷ 116 ∷ []) (Syntax.tcons (Syntax.tyStruct (115 ∷ 104 ∷ 101 ∷ 101 ∷ 116 ∷ 58 ∷ 58 ∷ 83 ∷ 116 ∷ 114 ∷ 97
+          ∷ 110 ∷ 100 ∷ []) (Syntax.tcons (Syntax.tyInt Syntax.w32) (Syntax.tcons (Syntax.tyStruct (110 ∷ 97 ∷ 109 ∷ 101 ∷ 115 ∷ 58 ∷ 58 ∷ 84 ∷ 104 ∷ 114 ∷ 101 ∷ 101
+          ∷ []) (Syntax.tcons (Syntax.tyInt Syntax.w8) (Syntax.tcons (Syntax.tyInt Syntax.w8) (Syntax.tcons (Syntax.tyInt Syntax.w8) Syntax.tnil)))) (Syntax.tcons
+          (Syntax.tyInt Syntax.w32) (Syntax.tcons (Syntax.tyStruct (114 ∷ 101 ∷ 115 ∷ 105 ∷ 100 ∷ 117 ∷ 101 ∷ 58 ∷ 58 ∷ 82 ∷ 101 ∷ 115 ∷ 105 ∷ 100 ∷ 117 ∷ 101 ∷ [])
+          (Syntax.tcons (Syntax.tyStruct (110 ∷ 97 ∷ 109 ∷ 101 ∷ 115 ∷ 58 ∷ 58 ∷ 84 ∷ 104 ∷ 114 ∷ 101 ∷ 101 ∷ []) (Syntax.tcons (Syntax.tyInt Syntax.w8)
+          (Syntax.tcons (Syntax.tyInt Syntax.w8) (Syntax.tcons (Syntax.tyInt Syntax.w8) Syntax.tnil)))) (Syntax.tcons (Syntax.tyInt Syntax.w8) (Syntax.tcons
+          (Syntax.tyStruct (102 ∷ 105 ∷ 101 ∷ 108 ∷ 100 ∷ 115 ∷ 58 ∷ 58 ∷ 82 ∷ 101 ∷ 115 ∷ 105 ∷ 100 ∷ 117 ∷ 101 ∷ 78 ∷ 117 ∷ 109 ∷ 98 ∷ 101 ∷ 114 ∷ [])
+          (Syntax.tcons (Syntax.tyInt Syntax.w32) Syntax.tnil)) (Syntax.tcons (Syntax.tyInt Syntax.w8) Syntax.tnil))))) (Syntax.tcons (Syntax.tyStruct (114 ∷ 101 ∷
+          115 ∷ 105 ∷ 100 ∷ 117 ∷ 101 ∷ 58 ∷ 58 ∷ 82 ∷ 101 ∷ 115 ∷ 105 ∷ 100 ∷ 117 ∷ 101 ∷ []) (Syntax.tcons (Syntax.tyStruct (110 ∷ 97 ∷ 109 ∷ 101 ∷ 115 ∷ 58 ∷ 58 ∷
+          84 ∷ 104 ∷ 114 ∷ 101 ∷ 101 ∷ []) (Syntax.tcons (Syntax.tyInt Syntax.w8) (Syntax.tcons (Syntax.tyInt Syntax.w8) (Syntax.tcons (Syntax.tyInt Syntax.w8)
+          Syntax.tnil)))) (Syntax.tcons (Syntax.tyInt Syntax.w8) (Syntax.tcons (Syntax.tyStruct (102 ∷ 105 ∷ 101 ∷ 108 ∷ 100 ∷ 115 ∷ 58 ∷ 58 ∷ 82 ∷ 101 ∷ 115 ∷ 105 ∷
+          100 ∷ 117 ∷ 101 ∷ 78 ∷ 117 ∷ 109 ∷ 98 ∷ 101 ∷ 114 ∷ []) (Syntax.tcons (Syntax.tyInt Syntax.w32) Syntax.tnil)) (Syntax.tcons (Syntax.tyInt Syntax.w8)
+          Syntax.tnil))))) (Syntax.tcons (Syntax.tyInt Syntax.w32) Syntax.tnil))))))) (Syntax.tcons (Syntax.tyEnum (115 ∷ 104 ∷ 101 ∷ 101 ∷ 116 ∷ 58 ∷ 58 ∷ 82 ∷ 101
+          ∷ 103 ∷ 105 ∷ 115 ∷ 116 ∷ 114 ∷ 97 ∷ 116 ∷ 105 ∷ 111 ∷ 110 ∷ []) (Syntax.ttcons Syntax.tnil (Syntax.ttcons (Syntax.tcons (Syntax.tyStruct (115 ∷ 104 ∷ 101
+          ∷ 101 ∷ 116 ∷ 58 ∷ 58 ∷ 66 ∷ 111 ∷ 110 ∷ 100 ∷ []) (Syntax.tcons (Syntax.tyStruct (110 ∷ 97 ∷ 109 ∷ 101 ∷ 115 ∷ 58 ∷ 58 ∷ 70 ∷ 111 ∷ 117 ∷ 114 ∷ [])
+          (Syntax.tcons (Syntax.tyInt Syntax.w8) (Syntax.tcons (Syntax.tyInt Syntax.w8) (Syntax.tcons (Syntax.tyInt Syntax.w8) (Syntax.tcons (Syntax.tyInt Syntax.w8)
+          Syntax.tnil))))) (Syntax.tcons (Syntax.tyStruct (114 ∷ 101 ∷ 115 ∷ 105 ∷ 100 ∷ 117 ∷ 101 ∷ 58 ∷ 58 ∷ 82 ∷ 101 ∷ 115 ∷ 105 ∷ 100 ∷ 117 ∷ 101 ∷ [])
+          (Syntax.tcons (Syntax.tyStruct (110 ∷ 97 ∷ 109 ∷ 101 ∷ 115 ∷ 58 ∷ 58 ∷ 84 ∷ 104 ∷ 114 ∷ 101 ∷ 101 ∷ []) (Syntax.tcons (Syntax.tyInt Syntax.w8)
+          (Syntax.tcons (Syntax.tyInt Syntax.w8) (Syntax.tcons (Syntax.tyInt Syntax.w8) Syntax.tnil)))) (Syntax.tcons (Syntax.tyInt Syntax.w8) (Syntax.tcons
+          (Syntax.tyStruct (102 ∷ 105 ∷ 101 ∷ 108 ∷ 100 ∷ 115 ∷ 58 ∷ 58 ∷ 82 ∷ 101 ∷ 115 ∷ 105 ∷ 100 ∷ 117 ∷ 101 ∷ 78 ∷ 117 ∷ 109 ∷ 98 ∷ 101 ∷ 114 ∷ [])
+          (Syntax.tcons (Syntax.tyInt Syntax.w32) Syntax.tnil)) (Syntax.tcons (Syntax.tyInt Syntax.w8) Syntax.tnil))))) (Syntax.tcons (Syntax.tyStruct (110 ∷ 97 ∷
+          109 ∷ 101 ∷ 115 ∷ 58 ∷ 58 ∷ 70 ∷ 111 ∷ 117 ∷ 114 ∷ []) (Syntax.tcons (Syntax.tyInt Syntax.w8) (Syntax.tcons (Syntax.tyInt Syntax.w8) (Syntax.tcons
+          (Syntax.tyInt Syntax.w8) (Syntax.tcons (Syntax.tyInt Syntax.w8) Syntax.tnil))))) (Syntax.tcons (Syntax.tyStruct (114 ∷ 101 ∷ 115 ∷ 105 ∷ 100 ∷ 117 ∷ 101 ∷
+          58 ∷ 58 ∷ 82 ∷ 101 ∷ 115 ∷ 105 ∷ 100 ∷ 117 ∷ 101 ∷ []) (Syntax.tcons (Syntax.tyStruct (110 ∷ 97 ∷ 109 ∷ 101 ∷ 115 ∷ 58 ∷ 58 ∷ 84 ∷ 104 ∷ 114 ∷ 101 ∷ 101 ∷
+          []) (Syntax.tcons (Syntax.tyInt Syntax.w8) (Syntax.tcons (Syntax.tyInt Syntax.w8) (Syntax.tcons (Syntax.tyInt Syntax.w8) Syntax.tnil)))) (Syntax.tcons
+          (Syntax.tyInt Syntax.w8) (Syntax.tcons (Syntax.tyStruct (102 ∷ 105 ∷ 101 ∷ 108 ∷ 100 ∷ 115 ∷ 58 ∷ 58 ∷ 82 ∷ 101 ∷ 115 ∷ 105 ∷ 100 ∷ 117 ∷ 101 ∷ 78 ∷ 117 ∷
+          109 ∷ 98 ∷ 101 ∷ 114 ∷ []) (Syntax.tcons (Syntax.tyInt Syntax.w32) Syntax.tnil)) (Syntax.tcons (Syntax.tyInt Syntax.w8) Syntax.tnil))))) Syntax.tnil)))))
+          Syntax.tnil) Syntax.ttnil))) Syntax.tnil))) Syntax.tnil) (Syntax.ttcons (Syntax.tcons (Syntax.tyStruct (99 ∷ 111 ∷ 110 ∷ 101 ∷ 99 ∷ 116 ∷ 58 ∷ 58 ∷ 67 ∷
+          111 ∷ 110 ∷ 101 ∷ 99 ∷ 116 ∷ []) (Syntax.tcons (Syntax.tyStruct (102 ∷ 105 ∷ 101 ∷ 108 ∷ 100 ∷ 115 ∷ 58 ∷ 58 ∷ 83 ∷ 101 ∷ 114 ∷ 105 ∷ 97 ∷ 108 ∷ [])
+          (Syntax.tcons (Syntax.tyInt Syntax.w32) Syntax.tnil)) (Syntax.tcons (Syntax.tyStruct (102 ∷ 105 ∷ 101 ∷ 108 ∷ 100 ∷ 115 ∷ 58 ∷ 58 ∷ 83 ∷ 101 ∷ 114 ∷ 105 ∷
+          97 ∷ 108 ∷ []) (Syntax.tcons (Syntax.tyInt Syntax.w32) Syntax.tnil)) (Syntax.tcons (Syntax.tyStruct (102 ∷ 105 ∷ 101 ∷ 108 ∷ 100 ∷ 115 ∷ 58 ∷ 58 ∷ 83 ∷ 101
+          ∷ 114 ∷ 105 ∷ 97 ∷ 108 ∷ []) (Syntax.tcons (Syntax.tyInt Syntax.w32) Syntax.tnil)) (Syntax.tcons (Syntax.tyStruct (102 ∷ 105 ∷ 101 ∷ 108 ∷ 100 ∷ 115 ∷ 58 ∷
+          58 ∷ 83 ∷ 101 ∷ 114 ∷ 105 ∷ 97 ∷ 108 ∷ []) (Syntax.tcons (Syntax.tyInt Syntax.w32) Syntax.tnil)) (Syntax.tcons (Syntax.tyStruct (102 ∷ 105 ∷ 101 ∷ 108 ∷
+          100 ∷ 115 ∷ 58 ∷ 58 ∷ 83 ∷ 101 ∷ 114 ∷ 105 ∷ 97 ∷ 108 ∷ []) (Syntax.tcons (Syntax.tyInt Syntax.w32) Syntax.tnil)) Syntax.tnil)))))) Syntax.tnil)
+          (Syntax.ttcons (Syntax.tcons (Syntax.tyStruct (109 ∷ 97 ∷ 115 ∷ 116 ∷ 101 ∷ 114 ∷ 58 ∷ 58 ∷ 84 ∷ 97 ∷ 108 ∷ 108 ∷ 121 ∷ []) (Syntax.tcons (Syntax.tyInt
+          Syntax.w32) (Syntax.tcons (Syntax.tyInt Syntax.w32) (Syntax.tcons (Syntax.tyInt Syntax.w32) (Syntax.tcons (Syntax.tyInt Syntax.w32) (Syntax.tcons
+          (Syntax.tyInt Syntax.w32) (Syntax.tcons (Syntax.tyInt Syntax.w32) (Syntax.tcons (Syntax.tyInt Syntax.w32) (Syntax.tcons (Syntax.tyInt Syntax.w32)
+          (Syntax.tcons (Syntax.tyInt Syntax.w32) Syntax.tnil)))))))))) Syntax.tnil) (Syntax.ttcons Syntax.tnil Syntax.ttnil)))))))) Syntax.tnil) Syntax.ttnil))))),
+    )
+    ∷ (10, Rows'.sc-here Row.sBool) ∷ (11, Rows'.sc-here (Row.sInt Syntax.w8)) ∷ (12, Rows'.any-gone SlotAs.ty) ∷ (13, Rows'.any-gone Syntax.tyBool) ∷ (
+      14,
+      Rows'.any-gone Syntax.tyBool,
+    ) ∷ (
+      15,
+      Rows'.any-gone (Syntax.tyStruct (103 ∷ 97 ∷ 116 ∷ 101 ∷ 58 ∷ 58 ∷ 86 ∷ 101 ∷ 114 ∷ 100 ∷ 105 ∷ 99 ∷ 116 ∷ [])
+          (Syntax.tcons (Syntax.tyInt Syntax.w8) (Syntax.tcons (Syntax.tyInt Syntax.w64) (Syntax.tcons (Syntax.tyInt Syntax.w64) (Syntax.tcons (Syntax.tyStruct (112
+          ∷ 108 ∷ 97 ∷ 99 ∷ 101 ∷ 115 ∷ 58 ∷ 58 ∷ 67 ∷ 111 ∷ 117 ∷ 110 ∷ 116 ∷ 115 ∷ []) (Syntax.tcons (Syntax.tyInt Syntax.w64) (Syntax.tcons (Syntax.tyInt
+          Syntax.w64) (Syntax.tcons (Syntax.tyInt Syntax.w64) (Syntax.tcons (Syntax.tyInt Syntax.w64) (Syntax.tcons (Syntax.tyInt Syntax.w64) (Syntax.tcons
+          (Syntax.tyInt Syntax.w64) (Syntax.tcons (Syntax.tyInt Syntax.w64) (Syntax.tcons (Syntax.tyInt Syntax.w64) (Syntax.tcons (Syntax.tyInt Syntax.w64)
+          Syntax.tnil)))))))))) Syntax.tnil))))),
+    ) ∷ []
+
+abbrev pub t22 : List.List Row.Entry
+t22 = (0, Rows'.whole (Declared'.row (Apart.apartT Findings.the-type))) ∷ (
+  1,
+  Rows'.sslice (Referent.rtF (Referent.fInt Syntax.w8)) (Syntax.tyRef (Syntax.named
+      0) Syntax.imm (Syntax.tyInt Syntax.w8)) 0,
+) ∷ (2, Rows'.sslice SlotAs.row (Syntax.tyRef (Syntax.named 1) Syntax.imm SlotAs.pointee) 1) ∷ (
+  3,
+  Rows'.sc-here
+      (Row.sInt Syntax.w64),
 ) ∷ (
+  4,
+  Rows'.any-gone (Syntax.tyStruct (114 ∷ 117 ∷ 108 ∷ 101 ∷ 115 ∷ 58 ∷ 58 ∷ 83 ∷ 116 ∷ 97 ∷ 116 ∷ 101 ∷ []) (Syntax.tcons
+      (Syntax.tyInt Syntax.w8) (Syntax.tcons (Syntax.tyInt Syntax.w32) (Syntax.tcons (Syntax.tyStruct (114 ∷ 117 ∷ 108 ∷ 101 ∷ 115 ∷ 58 ∷ 58 ∷ 82 ∷ 117 ∷ 110 ∷
+      []) (Syntax.tcons Syntax.tyBool (Syntax.tcons Syntax.tyBool (Syntax.tcons Syntax.tyBool (Syntax.tcons (Syntax.tyStruct (114 ∷ 101 ∷ 115 ∷ 105 ∷ 100 ∷ 117 ∷
+      101 ∷ 58 ∷ 58 ∷ 82 ∷ 101 ∷ 115 ∷ 105 ∷ 100 ∷ 117 ∷ 101 ∷ []) (Syntax.tcons (Syntax.tyStruct (110 ∷ 97 ∷ 109 ∷ 101 ∷ 115 ∷ 58 ∷ 58 ∷ 84 ∷ 104 ∷ 114 ∷ 101 ∷
+      101 ∷ []) (Syntax.tcons (Syntax.tyInt Syntax.w8) (Syntax.tcons (Syntax.tyInt Syntax.w8) (Syntax.tcons (Syntax.tyInt Syntax.w8) Syntax.tnil))))
+      (Syntax.tcons (Syntax.tyInt Syntax.w8) (Syntax.tcons (Syntax.tyStruct (102 ∷ 105 ∷ 101 ∷ 108 ∷ 100 ∷ 115 ∷ 58 ∷ 58 ∷ 82 ∷ 101 ∷ 115 ∷ 105 ∷ 100 ∷ 117 ∷ 101
+      ∷ 78 ∷ 117 ∷ 109 ∷ 98 ∷ 101 ∷ 114 ∷ []) (Syntax.tcons (Syntax.tyInt Syntax.w32) Syntax.tnil)) (Syntax.tcons (Syntax.tyInt Syntax.w8) Syntax.tnil)))))
+      Syntax.tnil))))) (Syntax.tcons (Syntax.tyInt Syntax.w32) (Syntax.tcons (Syntax.tyInt Syntax.w32) (Syntax.tcons (Syntax.tyStruct (114 ∷ 117 ∷ 108 ∷ 101 ∷
+      115 ∷ 58 ∷ 58 ∷ 76 ∷ 97 ∷ 100 ∷ 100 ∷ 101 ∷ 114 ∷ []) (Syntax.tcons (Syntax.tyStruct (110 ∷ 97 ∷ 109 ∷ 101 ∷ 115 ∷ 58 ∷ 58 ∷ 84 ∷ 104 ∷ 114 ∷ 101 ∷ 101 ∷
+      []) (Syntax.tcons (Syntax.tyInt Syntax.w8) (Syntax.tcons (Syntax.tyInt Syntax.w8) (Syntax.tcons (Syntax.tyInt Syntax.w8) Syntax.tnil)))) (Syntax.tcons
+      (Syntax.tyInt Syntax.w32) (Syntax.tcons (Syntax.tyInt Syntax.w32) Syntax.tnil)))) (Syntax.tcons (Syntax.tyStruct (112 ∷ 108 ∷ 97 ∷ 99 ∷ 101 ∷ 115 ∷ 58 ∷ 58
+      ∷ 67 ∷ 111 ∷ 117 ∷ 110 ∷ 116 ∷ 115 ∷ []) (Syntax.tcons (Syntax.tyInt Syntax.w64) (Syntax.tcons (Syntax.tyInt Syntax.w64) (Syntax.tcons (Syntax.tyInt
+      Syntax.w64) (Syntax.tcons (Syntax.tyInt Syntax.w64) (Syntax.tcons (Syntax.tyInt Syntax.w64) (Syntax.tcons (Syntax.tyInt Syntax.w64) (Syntax.tcons
+      (Syntax.tyInt Syntax.w64) (Syntax.tcons (Syntax.tyInt Syntax.w64) (Syntax.tcons (Syntax.tyInt Syntax.w64) Syntax.tnil)))))))))) (Syntax.tcons (Syntax.tyInt
+      Syntax.w64) Syntax.tnil))))))))),
+) ∷ (
+  5,
+  Rows'.any-gone (Syntax.tyStruct (115 ∷ 101 ∷ 114 ∷ 105 ∷ 97 ∷ 108 ∷ 115 ∷ 58 ∷ 58 ∷ 83 ∷ 112 ∷ 97 ∷ 110 ∷ [])
+      (Syntax.tcons (Syntax.tyInt Syntax.w64) (Syntax.tcons (Syntax.tyInt Syntax.w64) Syntax.tnil))),
+) ∷ (6, Rows'.sc-here (Row.sInt Syntax.w64)) ∷ (
+  7,
+  Rows'.sc-here Row.sBool,
+) ∷ (8, Rows'.sc-here (Row.sInt Syntax.w64)) ∷ (
   9,
-  Rows'.any-gone (Syntax.tyEnum (112 ∷ 105 ∷ 101 ∷ 99 ∷ 101 ∷ 115 ∷ 58 ∷ 58 ∷ 76 ∷ 105 ∷ 110 ∷ 101 ∷ [])
-      (Syntax.ttcons (Syntax.tcons (Syntax.tyInt Syntax.w8) Syntax.tnil) (Syntax.ttcons (Syntax.tcons (Syntax.tyEnum (107 ∷ 105 ∷ 110 ∷ 100 ∷ 115 ∷ 58 ∷ 58 ∷ 75
-      ∷ 105 ∷ 110 ∷ 100 ∷ []) (Syntax.ttcons Syntax.tnil (Syntax.ttcons Syntax.tnil (Syntax.ttcons Syntax.tnil (Syntax.ttcons Syntax.tnil (Syntax.ttcons
-      Syntax.tnil (Syntax.ttcons Syntax.tnil (Syntax.ttcons Syntax.tnil (Syntax.ttcons Syntax.tnil (Syntax.ttcons Syntax.tnil (Syntax.ttcons Syntax.tnil
-      (Syntax.ttcons Syntax.tnil (Syntax.ttcons Syntax.tnil (Syntax.ttcons Syntax.tnil (Syntax.ttcons Syntax.tnil (Syntax.ttcons Syntax.tnil (Syntax.ttcons
-      Syntax.tnil (Syntax.ttcons Syntax.tnil (Syntax.ttcons Syntax.tnil (Syntax.ttcons Syntax.tnil (Syntax.ttcons Syntax.tnil (Syntax.ttcons Syntax.tnil
-      (Syntax.ttcons Syntax.tnil (Syntax.ttcons Syntax.tnil (Syntax.ttcons Syntax.tnil (Syntax.ttcons Syntax.tnil (Syntax.ttcons Syntax.tnil (Syntax.ttcons
-      Syntax.tnil (Syntax.ttcons Syntax.tnil Syntax.ttnil))))))))))))))))))))))))))))) (Syntax.tcons (Syntax.tyInt Syntax.w32) Syntax.tnil)) (Syntax.ttcons
-      (Syntax.tcons (Syntax.tyEnum (107 ∷ 105 ∷ 110 ∷ 100 ∷ 115 ∷ 58 ∷ 58 ∷ 75 ∷ 105 ∷ 110 ∷ 100 ∷ []) (Syntax.ttcons Syntax.tnil (Syntax.ttcons Syntax.tnil
+  Rows'.any-gone (Syntax.tyEnum (112 ∷ 105 ∷ 101 ∷ 99 ∷ 101 ∷ 115 ∷ 58 ∷ 58 ∷ 76 ∷
+      105 ∷ 110 ∷ 101 ∷ []) (Syntax.ttcons (Syntax.tcons (Syntax.tyInt Syntax.w8) Syntax.tnil) (Syntax.ttcons (Syntax.tcons (Syntax.tyEnum (107 ∷ 105 ∷ 110 ∷ 100
+      ∷ 115 ∷ 58 ∷ 58 ∷ 75 ∷ 105 ∷ 110 ∷ 100 ∷ []) (Syntax.ttcons Syntax.tnil (Syntax.ttcons Syntax.tnil (Syntax.ttcons Syntax.tnil (Syntax.ttcons Syntax.tnil
       (Syntax.ttcons Syntax.tnil (Syntax.ttcons Syntax.tnil (Syntax.ttcons Syntax.tnil (Syntax.ttcons Syntax.tnil (Syntax.ttcons Syntax.tnil (Syntax.ttcons
       Syntax.tnil (Syntax.ttcons Syntax.tnil (Syntax.ttcons Syntax.tnil (Syntax.ttcons Syntax.tnil (Syntax.ttcons Syntax.tnil (Syntax.ttcons Syntax.tnil
       (Syntax.ttcons Syntax.tnil (Syntax.ttcons Syntax.tnil (Syntax.ttcons Syntax.tnil (Syntax.ttcons Syntax.tnil (Syntax.ttcons Syntax.tnil (Syntax.ttcons
       Syntax.tnil (Syntax.ttcons Syntax.tnil (Syntax.ttcons Syntax.tnil (Syntax.ttcons Syntax.tnil (Syntax.ttcons Syntax.tnil (Syntax.ttcons Syntax.tnil
-      (Syntax.ttcons Syntax.tnil (Syntax.ttcons Syntax.tnil (Syntax.ttcons Syntax.tnil (Syntax.ttcons Syntax.tnil Syntax.ttnil)))))))))))))))))))))))))))))
-      Syntax.tnil) (Syntax.ttcons (Syntax.tcons (Syntax.tyEnum (108 ∷ 105 ∷ 110 ∷ 101 ∷ 58 ∷ 58 ∷ 82 ∷ 101 ∷ 99 ∷ 111 ∷ 114 ∷ 100 ∷ []) (Syntax.ttcons
-      (Syntax.tcons Syntax.tyBool (Syntax.tcons (Syntax.tyStruct (99 ∷ 111 ∷ 111 ∷ 114 ∷ 100 ∷ 105 ∷ 110 ∷ 97 ∷ 116 ∷ 101 ∷ 58 ∷ 58 ∷ 65 ∷ 116 ∷ 111 ∷ 109 ∷ [])
-      (Syntax.tcons (Syntax.tyStruct (99 ∷ 111 ∷ 111 ∷ 114 ∷ 100 ∷ 105 ∷ 110 ∷ 97 ∷ 116 ∷ 101 ∷ 58 ∷ 58 ∷ 73 ∷ 100 ∷ 101 ∷ 110 ∷ 116 ∷ 105 ∷ 116 ∷ 121 ∷ [])
-      (Syntax.tcons (Syntax.tyStruct (102 ∷ 105 ∷ 101 ∷ 108 ∷ 100 ∷ 115 ∷ 58 ∷ 58 ∷ 83 ∷ 101 ∷ 114 ∷ 105 ∷ 97 ∷ 108 ∷ []) (Syntax.tcons (Syntax.tyInt Syntax.w32)
-      Syntax.tnil)) (Syntax.tcons (Syntax.tyStruct (110 ∷ 97 ∷ 109 ∷ 101 ∷ 115 ∷ 58 ∷ 58 ∷ 70 ∷ 111 ∷ 117 ∷ 114 ∷ []) (Syntax.tcons (Syntax.tyInt Syntax.w8)
-      (Syntax.tcons (Syntax.tyInt Syntax.w8) (Syntax.tcons (Syntax.tyInt Syntax.w8) (Syntax.tcons (Syntax.tyInt Syntax.w8) Syntax.tnil))))) (Syntax.tcons
-      (Syntax.tyInt Syntax.w8) (Syntax.tcons (Syntax.tyStruct (114 ∷ 101 ∷ 115 ∷ 105 ∷ 100 ∷ 117 ∷ 101 ∷ 58 ∷ 58 ∷ 82 ∷ 101 ∷ 115 ∷ 105 ∷ 100 ∷ 117 ∷ 101 ∷ [])
-      (Syntax.tcons (Syntax.tyStruct (110 ∷ 97 ∷ 109 ∷ 101 ∷ 115 ∷ 58 ∷ 58 ∷ 84 ∷ 104 ∷ 114 ∷ 101 ∷ 101 ∷ []) (Syntax.tcons (Syntax.tyInt Syntax.w8)
-      (Syntax.tcons (Syntax.tyInt Syntax.w8) (Syntax.tcons (Syntax.tyInt Syntax.w8) Syntax.tnil)))) (Syntax.tcons (Syntax.tyInt Syntax.w8) (Syntax.tcons
-      (Syntax.tyStruct (102 ∷ 105 ∷ 101 ∷ 108 ∷ 100 ∷ 115 ∷ 58 ∷ 58 ∷ 82 ∷ 101 ∷ 115 ∷ 105 ∷ 100 ∷ 117 ∷ 101 ∷ 78 ∷ 117 ∷ 109 ∷ 98 ∷ 101 ∷ 114 ∷ [])
-      (Syntax.tcons (Syntax.tyInt Syntax.w32) Syntax.tnil)) (Syntax.tcons (Syntax.tyInt Syntax.w8) Syntax.tnil))))) Syntax.tnil))))) (Syntax.tcons
+      (Syntax.ttcons Syntax.tnil (Syntax.ttcons Syntax.tnil Syntax.ttnil))))))))))))))))))))))))))))) (Syntax.tcons (Syntax.tyInt Syntax.w32) Syntax.tnil))
+      (Syntax.ttcons (Syntax.tcons (Syntax.tyEnum (107 ∷ 105 ∷ 110 ∷ 100 ∷ 115 ∷ 58 ∷ 58 ∷ 75 ∷ 105 ∷ 110 ∷ 100 ∷ []) (Syntax.ttcons Syntax.tnil (Syntax.ttcons
+      Syntax.tnil (Syntax.ttcons Syntax.tnil (Syntax.ttcons Syntax.tnil (Syntax.ttcons Syntax.tnil (Syntax.ttcons Syntax.tnil (Syntax.ttcons Syntax.tnil
+      (Syntax.ttcons Syntax.tnil (Syntax.ttcons Syntax.tnil (Syntax.ttcons Syntax.tnil (Syntax.ttcons Syntax.tnil (Syntax.ttcons Syntax.tnil (Syntax.ttcons
+      Syntax.tnil (Syntax.ttcons Syntax.tnil (Syntax.ttcons Syntax.tnil (Syntax.ttcons Syntax.tnil (Syntax.ttcons Syntax.tnil (Syntax.ttcons Syntax.tnil
+      (Syntax.ttcons Syntax.tnil (Syntax.ttcons Syntax.tnil (Syntax.ttcons Syntax.tnil (Syntax.ttcons Syntax.tnil (Syntax.ttcons Syntax.tnil (Syntax.ttcons
+      Syntax.tnil (Syntax.ttcons Syntax.tnil (Syntax.ttcons Syntax.tnil (Syntax.ttcons Syntax.tnil (Syntax.ttcons Syntax.tnil
+      Syntax.ttnil))))))))))))))))))))))))))))) Syntax.tnil) (Syntax.ttcons (Syntax.tcons (Syntax.tyEnum (108 ∷ 105 ∷ 110 ∷ 101 ∷ 58 ∷ 58 ∷ 82 ∷ 101 ∷ 99 ∷ 111 ∷
+      114 ∷ 100 ∷ []) (Syntax.ttcons (Syntax.tcons Syntax.tyBool (Syntax.tcons (Syntax.tyStruct (99 ∷ 111 ∷ 111 ∷ 114 ∷ 100 ∷ 105 ∷ 110 ∷ 97 ∷ 116 ∷ 101 ∷ 58 ∷
+      58 ∷ 65 ∷ 116 ∷ 111 ∷ 109 ∷ []) (Syntax.tcons (Syntax.tyStruct (99 ∷ 111 ∷ 111 ∷ 114 ∷ 100 ∷ 105 ∷ 110 ∷ 97 ∷ 116 ∷ 101 ∷ 58 ∷ 58 ∷ 73 ∷ 100 ∷ 101 ∷ 110 ∷
+      116 ∷ 105 ∷ 116 ∷ 121 ∷ []) (Syntax.tcons (Syntax.tyStruct (102 ∷ 105 ∷ 101 ∷ 108 ∷ 100 ∷ 115 ∷ 58 ∷ 58 ∷ 83 ∷ 101 ∷ 114 ∷ 105 ∷ 97 ∷ 108 ∷ [])
+      (Syntax.tcons (Syntax.tyInt Syntax.w32) Syntax.tnil)) (Syntax.tcons (Syntax.tyStruct (110 ∷ 97 ∷ 109 ∷ 101 ∷ 115 ∷ 58 ∷ 58 ∷ 70 ∷ 111 ∷ 117 ∷ 114 ∷ [])
+      (Syntax.tcons (Syntax.tyInt Syntax.w8) (Syntax.tcons (Syntax.tyInt Syntax.w8) (Syntax.tcons (Syntax.tyInt Syntax.w8) (Syntax.tcons (Syntax.tyInt Syntax.w8)
+      Syntax.tnil))))) (Syntax.tcons (Syntax.tyInt Syntax.w8) (Syntax.tcons (Syntax.tyStruct (114 ∷ 101 ∷ 115 ∷ 105 ∷ 100 ∷ 117 ∷ 101 ∷ 58 ∷ 58 ∷ 82 ∷ 101 ∷ 115
+      ∷ 105 ∷ 100 ∷ 117 ∷ 101 ∷ []) (Syntax.tcons (Syntax.tyStruct (110 ∷ 97 ∷ 109 ∷ 101 ∷ 115 ∷ 58 ∷ 58 ∷ 84 ∷ 104 ∷ 114 ∷ 101 ∷ 101 ∷ []) (Syntax.tcons
+      (Syntax.tyInt Syntax.w8) (Syntax.tcons (Syntax.tyInt Syntax.w8) (Syntax.tcons (Syntax.tyInt Syntax.w8) Syntax.tnil)))) (Syntax.tcons (Syntax.tyInt
+      Syntax.w8) (Syntax.tcons (Syntax.tyStruct (102 ∷ 105 ∷ 101 ∷ 108 ∷ 100 ∷ 115 ∷ 58 ∷ 58 ∷ 82 ∷ 101 ∷ 115 ∷ 105 ∷ 100 ∷ 117 ∷ 101 ∷ 78 ∷ 117 ∷ 109 ∷ 98 ∷ 101
+      ∷ 114 ∷ []) (Syntax.tcons (Syntax.tyInt Syntax.w32) Syntax.tnil)) (Syntax.tcons (Syntax.tyInt Syntax.w8) Syntax.tnil))))) Syntax.tnil))))) (Syntax.tcons
       (Syntax.tyStruct (99 ∷ 111 ∷ 111 ∷ 114 ∷ 100 ∷ 105 ∷ 110 ∷ 97 ∷ 116 ∷ 101 ∷ 58 ∷ 58 ∷ 77 ∷ 101 ∷ 97 ∷ 115 ∷ 117 ∷ 114 ∷ 101 ∷ []) (Syntax.tcons
       (Syntax.tyStruct (99 ∷ 111 ∷ 111 ∷ 114 ∷ 100 ∷ 105 ∷ 110 ∷ 97 ∷ 116 ∷ 101 ∷ 58 ∷ 58 ∷ 80 ∷ 111 ∷ 115 ∷ 105 ∷ 116 ∷ 105 ∷ 111 ∷ 110 ∷ []) (Syntax.tcons
       (Syntax.tyInt Syntax.w32) (Syntax.tcons (Syntax.tyInt Syntax.w32) (Syntax.tcons (Syntax.tyInt Syntax.w32) Syntax.tnil)))) (Syntax.tcons (Syntax.tyInt
@@ -2455,145 +2600,6 @@ t21 = (
           Syntax.tnil)))))))))) Syntax.tnil))))),
     ) ∷ []
 
-abbrev pub t22 : List.List Row.Entry
-t22 = (0, Rows'.whole (Declared'.row (Apart.apartT Findings.the-type))) ∷ (
-  1,
-  Rows'.sslice (Referent.rtF (Referent.fInt Syntax.w8)) (Syntax.tyRef (Syntax.named
-      0) Syntax.imm (Syntax.tyInt Syntax.w8)) 0,
-) ∷ (2, Rows'.sslice SlotAs.row (Syntax.tyRef (Syntax.named 1) Syntax.imm SlotAs.pointee) 1) ∷ (
-  3,
-  Rows'.sc-here
-      (Row.sInt Syntax.w64),
-) ∷ (
-  4,
-  Rows'.any-gone (Syntax.tyStruct (114 ∷ 117 ∷ 108 ∷ 101 ∷ 115 ∷ 58 ∷ 58 ∷ 83 ∷ 116 ∷ 97 ∷ 116 ∷ 101 ∷ []) (Syntax.tcons
-      (Syntax.tyInt Syntax.w8) (Syntax.tcons (Syntax.tyInt Syntax.w32) (Syntax.tcons (Syntax.tyStruct (114 ∷ 117 ∷ 108 ∷ 101 ∷ 115 ∷ 58 ∷ 58 ∷ 82 ∷ 117 ∷ 110 ∷
-      []) (Syntax.tcons Syntax.tyBool (Syntax.tcons Syntax.tyBool (Syntax.tcons Syntax.tyBool (Syntax.tcons (Syntax.tyStruct (114 ∷ 101 ∷ 115 ∷ 105 ∷ 100 ∷ 117 ∷
-      101 ∷ 58 ∷ 58 ∷ 82 ∷ 101 ∷ 115 ∷ 105 ∷ 100 ∷ 117 ∷ 101 ∷ []) (Syntax.tcons (Syntax.tyStruct (110 ∷ 97 ∷ 109 ∷ 101 ∷ 115 ∷ 58 ∷ 58 ∷ 84 ∷ 104 ∷ 114 ∷ 101 ∷
-      101 ∷ []) (Syntax.tcons (Syntax.tyInt Syntax.w8) (Syntax.tcons (Syntax.tyInt Syntax.w8) (Syntax.tcons (Syntax.tyInt Syntax.w8) Syntax.tnil))))
-      (Syntax.tcons (Syntax.tyInt Syntax.w8) (Syntax.tcons (Syntax.tyStruct (102 ∷ 105 ∷ 101 ∷ 108 ∷ 100 ∷ 115 ∷ 58 ∷ 58 ∷ 82 ∷ 101 ∷ 115 ∷ 105 ∷ 100 ∷ 117 ∷ 101
-      ∷ 78 ∷ 117 ∷ 109 ∷ 98 ∷ 101 ∷ 114 ∷ []) (Syntax.tcons (Syntax.tyInt Syntax.w32) Syntax.tnil)) (Syntax.tcons (Syntax.tyInt Syntax.w8) Syntax.tnil)))))
-      Syntax.tnil))))) (Syntax.tcons (Syntax.tyInt Syntax.w32) (Syntax.tcons (Syntax.tyInt Syntax.w32) (Syntax.tcons (Syntax.tyStruct (114 ∷ 117 ∷ 108 ∷ 101 ∷
-      115 ∷ 58 ∷ 58 ∷ 76 ∷ 97 ∷ 100 ∷ 100 ∷ 101 ∷ 114 ∷ []) (Syntax.tcons (Syntax.tyStruct (110 ∷ 97 ∷ 109 ∷ 101 ∷ 115 ∷ 58 ∷ 58 ∷ 84 ∷ 104 ∷ 114 ∷ 101 ∷ 101 ∷
-      []) (Syntax.tcons (Syntax.tyInt Syntax.w8) (Syntax.tcons (Syntax.tyInt Syntax.w8) (Syntax.tcons (Syntax.tyInt Syntax.w8) Syntax.tnil)))) (Syntax.tcons
-      (Syntax.tyInt Syntax.w32) (Syntax.tcons (Syntax.tyInt Syntax.w32) Syntax.tnil)))) (Syntax.tcons (Syntax.tyStruct (112 ∷ 108 ∷ 97 ∷ 99 ∷ 101 ∷ 115 ∷ 58 ∷ 58
-      ∷ 67 ∷ 111 ∷ 117 ∷ 110 ∷ 116 ∷ 115 ∷ []) (Syntax.tcons (Syntax.tyInt Syntax.w64) (Syntax.tcons (Syntax.tyInt Syntax.w64) (Syntax.tcons (Syntax.tyInt
-      Syntax.w64) (Syntax.tcons (Syntax.tyInt Syntax.w64) (Syntax.tcons (Syntax.tyInt Syntax.w64) (Syntax.tcons (Syntax.tyInt Syntax.w64) (Syntax.tcons
-      (Syntax.tyInt Syntax.w64) (Syntax.tcons (Syntax.tyInt Syntax.w64) (Syntax.tcons (Syntax.tyInt Syntax.w64) Syntax.tnil)))))))))) (Syntax.tcons (Syntax.tyInt
-      Syntax.w64) Syntax.tnil))))))))),
-) ∷ (
-  5,
-  Rows'.any-gone (Syntax.tyStruct (103 ∷ 97 ∷ 116 ∷ 101 ∷ 58 ∷ 58 ∷ 83 ∷ 112 ∷ 97 ∷ 110 ∷ []) (Syntax.tcons
-      (Syntax.tyInt Syntax.w64) (Syntax.tcons (Syntax.tyInt Syntax.w64) Syntax.tnil))),
-) ∷ (6, Rows'.sc-here (Row.sInt Syntax.w64)) ∷ (7, Rows'.sc-here Row.sBool)
-    ∷ (8, Rows'.sc-here (Row.sInt Syntax.w64)) ∷ (
-      9,
-      Rows'.any-gone (Syntax.tyEnum (112 ∷ 105 ∷ 101 ∷ 99 ∷ 101 ∷ 115 ∷ 58 ∷ 58 ∷ 76 ∷ 105 ∷ 110 ∷ 101 ∷ [])
-          (Syntax.ttcons (Syntax.tcons (Syntax.tyInt Syntax.w8) Syntax.tnil) (Syntax.ttcons (Syntax.tcons (Syntax.tyEnum (107 ∷ 105 ∷ 110 ∷ 100 ∷ 115 ∷ 58 ∷ 58 ∷ 75
-          ∷ 105 ∷ 110 ∷ 100 ∷ []) (Syntax.ttcons Syntax.tnil (Syntax.ttcons Syntax.tnil (Syntax.ttcons Syntax.tnil (Syntax.ttcons Syntax.tnil (Syntax.ttcons
-          Syntax.tnil (Syntax.ttcons Syntax.tnil (Syntax.ttcons Syntax.tnil (Syntax.ttcons Syntax.tnil (Syntax.ttcons Syntax.tnil (Syntax.ttcons Syntax.tnil
-          (Syntax.ttcons Syntax.tnil (Syntax.ttcons Syntax.tnil (Syntax.ttcons Syntax.tnil (Syntax.ttcons Syntax.tnil (Syntax.ttcons Syntax.tnil (Syntax.ttcons
-          Syntax.tnil (Syntax.ttcons Syntax.tnil (Syntax.ttcons Syntax.tnil (Syntax.ttcons Syntax.tnil (Syntax.ttcons Syntax.tnil (Syntax.ttcons Syntax.tnil
-          (Syntax.ttcons Syntax.tnil (Syntax.ttcons Syntax.tnil (Syntax.ttcons Syntax.tnil (Syntax.ttcons Syntax.tnil (Syntax.ttcons Syntax.tnil (Syntax.ttcons
-          Syntax.tnil (Syntax.ttcons Syntax.tnil Syntax.ttnil))))))))))))))))))))))))))))) (Syntax.tcons (Syntax.tyInt Syntax.w32) Syntax.tnil)) (Syntax.ttcons
-          (Syntax.tcons (Syntax.tyEnum (107 ∷ 105 ∷ 110 ∷ 100 ∷ 115 ∷ 58 ∷ 58 ∷ 75 ∷ 105 ∷ 110 ∷ 100 ∷ []) (Syntax.ttcons Syntax.tnil (Syntax.ttcons Syntax.tnil
-          (Syntax.ttcons Syntax.tnil (Syntax.ttcons Syntax.tnil (Syntax.ttcons Syntax.tnil (Syntax.ttcons Syntax.tnil (Syntax.ttcons Syntax.tnil (Syntax.ttcons
-          Syntax.tnil (Syntax.ttcons Syntax.tnil (Syntax.ttcons Syntax.tnil (Syntax.ttcons Syntax.tnil (Syntax.ttcons Syntax.tnil (Syntax.ttcons Syntax.tnil
-          (Syntax.ttcons Syntax.tnil (Syntax.ttcons Syntax.tnil (Syntax.ttcons Syntax.tnil (Syntax.ttcons Syntax.tnil (Syntax.ttcons Syntax.tnil (Syntax.ttcons
-          Syntax.tnil (Syntax.ttcons Syntax.tnil (Syntax.ttcons Syntax.tnil (Syntax.ttcons Syntax.tnil (Syntax.ttcons Syntax.tnil (Syntax.ttcons Syntax.tnil
-          (Syntax.ttcons Syntax.tnil (Syntax.ttcons Syntax.tnil (Syntax.ttcons Syntax.tnil (Syntax.ttcons Syntax.tnil Syntax.ttnil)))))))))))))))))))))))))))))
-          Syntax.tnil) (Syntax.ttcons (Syntax.tcons (Syntax.tyEnum (108 ∷ 105 ∷ 110 ∷ 101 ∷ 58 ∷ 58 ∷ 82 ∷ 101 ∷ 99 ∷ 111 ∷ 114 ∷ 100 ∷ []) (Syntax.ttcons
-          (Syntax.tcons Syntax.tyBool (Syntax.tcons (Syntax.tyStruct (99 ∷ 111 ∷ 111 ∷ 114 ∷ 100 ∷ 105 ∷ 110 ∷ 97 ∷ 116 ∷ 101 ∷ 58 ∷ 58 ∷ 65 ∷ 116 ∷ 111 ∷ 109 ∷ [])
-          (Syntax.tcons (Syntax.tyStruct (99 ∷ 111 ∷ 111 ∷ 114 ∷ 100 ∷ 105 ∷ 110 ∷ 97 ∷ 116 ∷ 101 ∷ 58 ∷ 58 ∷ 73 ∷ 100 ∷ 101 ∷ 110 ∷ 116 ∷ 105 ∷ 116 ∷ 121 ∷ [])
-          (Syntax.tcons (Syntax.tyStruct (102 ∷ 105 ∷ 101 ∷ 108 ∷ 100 ∷ 115 ∷ 58 ∷ 58 ∷ 83 ∷ 101 ∷ 114 ∷ 105 ∷ 97 ∷ 108 ∷ []) (Syntax.tcons (Syntax.tyInt Syntax.w32)
-          Syntax.tnil)) (Syntax.tcons (Syntax.tyStruct (110 ∷ 97 ∷ 109 ∷ 101 ∷ 115 ∷ 58 ∷ 58 ∷ 70 ∷ 111 ∷ 117 ∷ 114 ∷ []) (Syntax.tcons (Syntax.tyInt Syntax.w8)
-          (Syntax.tcons (Syntax.tyInt Syntax.w8) (Syntax.tcons (Syntax.tyInt Syntax.w8) (Syntax.tcons (Syntax.tyInt Syntax.w8) Syntax.tnil))))) (Syntax.tcons
-          (Syntax.tyInt Syntax.w8) (Syntax.tcons (Syntax.tyStruct (114 ∷ 101 ∷ 115 ∷ 105 ∷ 100 ∷ 117 ∷ 101 ∷ 58 ∷ 58 ∷ 82 ∷ 101 ∷ 115 ∷ 105 ∷ 100 ∷ 117 ∷ 101 ∷ [])
-          (Syntax.tcons (Syntax.tyStruct (110 ∷ 97 ∷ 109 ∷ 101 ∷ 115 ∷ 58 ∷ 58 ∷ 84 ∷ 104 ∷ 114 ∷ 101 ∷ 101 ∷ []) (Syntax.tcons (Syntax.tyInt Syntax.w8)
-          (Syntax.tcons (Syntax.tyInt Syntax.w8) (Syntax.tcons (Syntax.tyInt Syntax.w8) Syntax.tnil)))) (Syntax.tcons (Syntax.tyInt Syntax.w8) (Syntax.tcons
-          (Syntax.tyStruct (102 ∷ 105 ∷ 101 ∷ 108 ∷ 100 ∷ 115 ∷ 58 ∷ 58 ∷ 82 ∷ 101 ∷ 115 ∷ 105 ∷ 100 ∷ 117 ∷ 101 ∷ 78 ∷ 117 ∷ 109 ∷ 98 ∷ 101 ∷ 114 ∷ [])
-          (Syntax.tcons (Syntax.tyInt Syntax.w32) Syntax.tnil)) (Syntax.tcons (Syntax.tyInt Syntax.w8) Syntax.tnil))))) Syntax.tnil))))) (Syntax.tcons
-          (Syntax.tyStruct (99 ∷ 111 ∷ 111 ∷ 114 ∷ 100 ∷ 105 ∷ 110 ∷ 97 ∷ 116 ∷ 101 ∷ 58 ∷ 58 ∷ 77 ∷ 101 ∷ 97 ∷ 115 ∷ 117 ∷ 114 ∷ 101 ∷ []) (Syntax.tcons
-          (Syntax.tyStruct (99 ∷ 111 ∷ 111 ∷ 114 ∷ 100 ∷ 105 ∷ 110 ∷ 97 ∷ 116 ∷ 101 ∷ 58 ∷ 58 ∷ 80 ∷ 111 ∷ 115 ∷ 105 ∷ 116 ∷ 105 ∷ 111 ∷ 110 ∷ []) (Syntax.tcons
-          (Syntax.tyInt Syntax.w32) (Syntax.tcons (Syntax.tyInt Syntax.w32) (Syntax.tcons (Syntax.tyInt Syntax.w32) Syntax.tnil)))) (Syntax.tcons (Syntax.tyInt
-          Syntax.w32) (Syntax.tcons (Syntax.tyInt Syntax.w32) Syntax.tnil)))) (Syntax.tcons (Syntax.tyStruct (99 ∷ 111 ∷ 111 ∷ 114 ∷ 100 ∷ 105 ∷ 110 ∷ 97 ∷ 116 ∷ 101
-          ∷ 58 ∷ 58 ∷ 83 ∷ 112 ∷ 101 ∷ 99 ∷ 105 ∷ 101 ∷ 115 ∷ []) (Syntax.tcons (Syntax.tyStruct (110 ∷ 97 ∷ 109 ∷ 101 ∷ 115 ∷ 58 ∷ 58 ∷ 80 ∷ 97 ∷ 105 ∷ 114 ∷ [])
-          (Syntax.tcons (Syntax.tyInt Syntax.w8) (Syntax.tcons (Syntax.tyInt Syntax.w8) Syntax.tnil))) (Syntax.tcons (Syntax.tyStruct (110 ∷ 97 ∷ 109 ∷ 101 ∷ 115 ∷
-          58 ∷ 58 ∷ 80 ∷ 97 ∷ 105 ∷ 114 ∷ []) (Syntax.tcons (Syntax.tyInt Syntax.w8) (Syntax.tcons (Syntax.tyInt Syntax.w8) Syntax.tnil))) Syntax.tnil)))
-          Syntax.tnil)))) Syntax.tnil)) (Syntax.ttcons (Syntax.tcons (Syntax.tyStruct (116 ∷ 101 ∷ 114 ∷ 58 ∷ 58 ∷ 84 ∷ 101 ∷ 114 ∷ []) (Syntax.tcons
-          (Syntax.tyStruct (102 ∷ 105 ∷ 101 ∷ 108 ∷ 100 ∷ 115 ∷ 58 ∷ 58 ∷ 83 ∷ 101 ∷ 114 ∷ 105 ∷ 97 ∷ 108 ∷ []) (Syntax.tcons (Syntax.tyInt Syntax.w32) Syntax.tnil))
-          (Syntax.tcons (Syntax.tyStruct (114 ∷ 101 ∷ 115 ∷ 105 ∷ 100 ∷ 117 ∷ 101 ∷ 58 ∷ 58 ∷ 82 ∷ 101 ∷ 115 ∷ 105 ∷ 100 ∷ 117 ∷ 101 ∷ []) (Syntax.tcons
-          (Syntax.tyStruct (110 ∷ 97 ∷ 109 ∷ 101 ∷ 115 ∷ 58 ∷ 58 ∷ 84 ∷ 104 ∷ 114 ∷ 101 ∷ 101 ∷ []) (Syntax.tcons (Syntax.tyInt Syntax.w8) (Syntax.tcons
-          (Syntax.tyInt Syntax.w8) (Syntax.tcons (Syntax.tyInt Syntax.w8) Syntax.tnil)))) (Syntax.tcons (Syntax.tyInt Syntax.w8) (Syntax.tcons (Syntax.tyStruct (102
-          ∷ 105 ∷ 101 ∷ 108 ∷ 100 ∷ 115 ∷ 58 ∷ 58 ∷ 82 ∷ 101 ∷ 115 ∷ 105 ∷ 100 ∷ 117 ∷ 101 ∷ 78 ∷ 117 ∷ 109 ∷ 98 ∷ 101 ∷ 114 ∷ []) (Syntax.tcons (Syntax.tyInt
-          Syntax.w32) Syntax.tnil)) (Syntax.tcons (Syntax.tyInt Syntax.w8) Syntax.tnil))))) Syntax.tnil))) Syntax.tnil) (Syntax.ttcons (Syntax.tcons (Syntax.tyStruct
-          (104 ∷ 101 ∷ 108 ∷ 105 ∷ 120 ∷ 58 ∷ 58 ∷ 72 ∷ 101 ∷ 108 ∷ 105 ∷ 120 ∷ []) (Syntax.tcons (Syntax.tyStruct (104 ∷ 101 ∷ 108 ∷ 105 ∷ 120 ∷ 58 ∷ 58 ∷ 69 ∷ 120
-          ∷ 116 ∷ 101 ∷ 110 ∷ 116 ∷ []) (Syntax.tcons (Syntax.tyInt Syntax.w32) (Syntax.tcons (Syntax.tyStruct (110 ∷ 97 ∷ 109 ∷ 101 ∷ 115 ∷ 58 ∷ 58 ∷ 84 ∷ 104 ∷ 114
-          ∷ 101 ∷ 101 ∷ []) (Syntax.tcons (Syntax.tyInt Syntax.w8) (Syntax.tcons (Syntax.tyInt Syntax.w8) (Syntax.tcons (Syntax.tyInt Syntax.w8) Syntax.tnil))))
-          (Syntax.tcons (Syntax.tyStruct (114 ∷ 101 ∷ 115 ∷ 105 ∷ 100 ∷ 117 ∷ 101 ∷ 58 ∷ 58 ∷ 82 ∷ 101 ∷ 115 ∷ 105 ∷ 100 ∷ 117 ∷ 101 ∷ []) (Syntax.tcons
-          (Syntax.tyStruct (110 ∷ 97 ∷ 109 ∷ 101 ∷ 115 ∷ 58 ∷ 58 ∷ 84 ∷ 104 ∷ 114 ∷ 101 ∷ 101 ∷ []) (Syntax.tcons (Syntax.tyInt Syntax.w8) (Syntax.tcons
-          (Syntax.tyInt Syntax.w8) (Syntax.tcons (Syntax.tyInt Syntax.w8) Syntax.tnil)))) (Syntax.tcons (Syntax.tyInt Syntax.w8) (Syntax.tcons (Syntax.tyStruct (102
-          ∷ 105 ∷ 101 ∷ 108 ∷ 100 ∷ 115 ∷ 58 ∷ 58 ∷ 82 ∷ 101 ∷ 115 ∷ 105 ∷ 100 ∷ 117 ∷ 101 ∷ 78 ∷ 117 ∷ 109 ∷ 98 ∷ 101 ∷ 114 ∷ []) (Syntax.tcons (Syntax.tyInt
-          Syntax.w32) Syntax.tnil)) (Syntax.tcons (Syntax.tyInt Syntax.w8) Syntax.tnil))))) (Syntax.tcons (Syntax.tyStruct (114 ∷ 101 ∷ 115 ∷ 105 ∷ 100 ∷ 117 ∷ 101 ∷
-          58 ∷ 58 ∷ 82 ∷ 101 ∷ 115 ∷ 105 ∷ 100 ∷ 117 ∷ 101 ∷ []) (Syntax.tcons (Syntax.tyStruct (110 ∷ 97 ∷ 109 ∷ 101 ∷ 115 ∷ 58 ∷ 58 ∷ 84 ∷ 104 ∷ 114 ∷ 101 ∷ 101 ∷
-          []) (Syntax.tcons (Syntax.tyInt Syntax.w8) (Syntax.tcons (Syntax.tyInt Syntax.w8) (Syntax.tcons (Syntax.tyInt Syntax.w8) Syntax.tnil)))) (Syntax.tcons
-          (Syntax.tyInt Syntax.w8) (Syntax.tcons (Syntax.tyStruct (102 ∷ 105 ∷ 101 ∷ 108 ∷ 100 ∷ 115 ∷ 58 ∷ 58 ∷ 82 ∷ 101 ∷ 115 ∷ 105 ∷ 100 ∷ 117 ∷ 101 ∷ 78 ∷ 117 ∷
-          109 ∷ 98 ∷ 101 ∷ 114 ∷ []) (Syntax.tcons (Syntax.tyInt Syntax.w32) Syntax.tnil)) (Syntax.tcons (Syntax.tyInt Syntax.w8) Syntax.tnil))))) Syntax.tnil)))))
-          (Syntax.tcons (Syntax.tyInt Syntax.w32) (Syntax.tcons (Syntax.tyStruct (104 ∷ 101 ∷ 108 ∷ 105 ∷ 120 ∷ 58 ∷ 58 ∷ 67 ∷ 111 ∷ 109 ∷ 109 ∷ 101 ∷ 110 ∷ 116 ∷
-          []) (Syntax.tcons (Syntax.tyInt Syntax.w64) (Syntax.tcons (Syntax.tyInt Syntax.w64) (Syntax.tcons (Syntax.tyInt Syntax.w64) (Syntax.tcons (Syntax.tyInt
-          Syntax.w64) Syntax.tnil))))) (Syntax.tcons (Syntax.tyInt Syntax.w32) Syntax.tnil))))) Syntax.tnil) (Syntax.ttcons (Syntax.tcons (Syntax.tyStruct (115 ∷ 104
-          ∷ 101 ∷ 101 ∷ 116 ∷ 58 ∷ 58 ∷ 83 ∷ 104 ∷ 101 ∷ 101 ∷ 116 ∷ []) (Syntax.tcons (Syntax.tyStruct (115 ∷ 104 ∷ 101 ∷ 101 ∷ 116 ∷ 58 ∷ 58 ∷ 83 ∷ 116 ∷ 114 ∷ 97
-          ∷ 110 ∷ 100 ∷ []) (Syntax.tcons (Syntax.tyInt Syntax.w32) (Syntax.tcons (Syntax.tyStruct (110 ∷ 97 ∷ 109 ∷ 101 ∷ 115 ∷ 58 ∷ 58 ∷ 84 ∷ 104 ∷ 114 ∷ 101 ∷ 101
-          ∷ []) (Syntax.tcons (Syntax.tyInt Syntax.w8) (Syntax.tcons (Syntax.tyInt Syntax.w8) (Syntax.tcons (Syntax.tyInt Syntax.w8) Syntax.tnil)))) (Syntax.tcons
-          (Syntax.tyInt Syntax.w32) (Syntax.tcons (Syntax.tyStruct (114 ∷ 101 ∷ 115 ∷ 105 ∷ 100 ∷ 117 ∷ 101 ∷ 58 ∷ 58 ∷ 82 ∷ 101 ∷ 115 ∷ 105 ∷ 100 ∷ 117 ∷ 101 ∷ [])
-          (Syntax.tcons (Syntax.tyStruct (110 ∷ 97 ∷ 109 ∷ 101 ∷ 115 ∷ 58 ∷ 58 ∷ 84 ∷ 104 ∷ 114 ∷ 101 ∷ 101 ∷ []) (Syntax.tcons (Syntax.tyInt Syntax.w8)
-          (Syntax.tcons (Syntax.tyInt Syntax.w8) (Syntax.tcons (Syntax.tyInt Syntax.w8) Syntax.tnil)))) (Syntax.tcons (Syntax.tyInt Syntax.w8) (Syntax.tcons
-          (Syntax.tyStruct (102 ∷ 105 ∷ 101 ∷ 108 ∷ 100 ∷ 115 ∷ 58 ∷ 58 ∷ 82 ∷ 101 ∷ 115 ∷ 105 ∷ 100 ∷ 117 ∷ 101 ∷ 78 ∷ 117 ∷ 109 ∷ 98 ∷ 101 ∷ 114 ∷ [])
-          (Syntax.tcons (Syntax.tyInt Syntax.w32) Syntax.tnil)) (Syntax.tcons (Syntax.tyInt Syntax.w8) Syntax.tnil))))) (Syntax.tcons (Syntax.tyStruct (114 ∷ 101 ∷
-          115 ∷ 105 ∷ 100 ∷ 117 ∷ 101 ∷ 58 ∷ 58 ∷ 82 ∷ 101 ∷ 115 ∷ 105 ∷ 100 ∷ 117 ∷ 101 ∷ []) (Syntax.tcons (Syntax.tyStruct (110 ∷ 97 ∷ 109 ∷ 101 ∷ 115 ∷ 58 ∷ 58 ∷
-          84 ∷ 104 ∷ 114 ∷ 101 ∷ 101 ∷ []) (Syntax.tcons (Syntax.tyInt Syntax.w8) (Syntax.tcons (Syntax.tyInt Syntax.w8) (Syntax.tcons (Syntax.tyInt Syntax.w8)
-          Syntax.tnil)))) (Syntax.tcons (Syntax.tyInt Syntax.w8) (Syntax.tcons (Syntax.tyStruct (102 ∷ 105 ∷ 101 ∷ 108 ∷ 100 ∷ 115 ∷ 58 ∷ 58 ∷ 82 ∷ 101 ∷ 115 ∷ 105 ∷
-          100 ∷ 117 ∷ 101 ∷ 78 ∷ 117 ∷ 109 ∷ 98 ∷ 101 ∷ 114 ∷ []) (Syntax.tcons (Syntax.tyInt Syntax.w32) Syntax.tnil)) (Syntax.tcons (Syntax.tyInt Syntax.w8)
-          Syntax.tnil))))) (Syntax.tcons (Syntax.tyInt Syntax.w32) Syntax.tnil))))))) (Syntax.tcons (Syntax.tyEnum (115 ∷ 104 ∷ 101 ∷ 101 ∷ 116 ∷ 58 ∷ 58 ∷ 82 ∷ 101
-          ∷ 103 ∷ 105 ∷ 115 ∷ 116 ∷ 114 ∷ 97 ∷ 116 ∷ 105 ∷ 111 ∷ 110 ∷ []) (Syntax.ttcons Syntax.tnil (Syntax.ttcons (Syntax.tcons (Syntax.tyStruct (115 ∷ 104 ∷ 101
-          ∷ 101 ∷ 116 ∷ 58 ∷ 58 ∷ 66 ∷ 111 ∷ 110 ∷ 100 ∷ []) (Syntax.tcons (Syntax.tyStruct (110 ∷ 97 ∷ 109 ∷ 101 ∷ 115 ∷ 58 ∷ 58 ∷ 70 ∷ 111 ∷ 117 ∷ 114 ∷ [])
-          (Syntax.tcons (Syntax.tyInt Syntax.w8) (Syntax.tcons (Syntax.tyInt Syntax.w8) (Syntax.tcons (Syntax.tyInt Syntax.w8) (Syntax.tcons (Syntax.tyInt Syntax.w8)
-          Syntax.tnil))))) (Syntax.tcons (Syntax.tyStruct (114 ∷ 101 ∷ 115 ∷ 105 ∷ 100 ∷ 117 ∷ 101 ∷ 58 ∷ 58 ∷ 82 ∷ 101 ∷ 115 ∷ 105 ∷ 100 ∷ 117 ∷ 101 ∷ [])
-          (Syntax.tcons (Syntax.tyStruct (110 ∷ 97 ∷ 109 ∷ 101 ∷ 115 ∷ 58 ∷ 58 ∷ 84 ∷ 104 ∷ 114 ∷ 101 ∷ 101 ∷ []) (Syntax.tcons (Syntax.tyInt Syntax.w8)
-          (Syntax.tcons (Syntax.tyInt Syntax.w8) (Syntax.tcons (Syntax.tyInt Syntax.w8) Syntax.tnil)))) (Syntax.tcons (Syntax.tyInt Syntax.w8) (Syntax.tcons
-          (Syntax.tyStruct (102 ∷ 105 ∷ 101 ∷ 108 ∷ 100 ∷ 115 ∷ 58 ∷ 58 ∷ 82 ∷ 101 ∷ 115 ∷ 105 ∷ 100 ∷ 117 ∷ 101 ∷ 78 ∷ 117 ∷ 109 ∷ 98 ∷ 101 ∷ 114 ∷ [])
-          (Syntax.tcons (Syntax.tyInt Syntax.w32) Syntax.tnil)) (Syntax.tcons (Syntax.tyInt Syntax.w8) Syntax.tnil))))) (Syntax.tcons (Syntax.tyStruct (110 ∷ 97 ∷
-          109 ∷ 101 ∷ 115 ∷ 58 ∷ 58 ∷ 70 ∷ 111 ∷ 117 ∷ 114 ∷ []) (Syntax.tcons (Syntax.tyInt Syntax.w8) (Syntax.tcons (Syntax.tyInt Syntax.w8) (Syntax.tcons
-          (Syntax.tyInt Syntax.w8) (Syntax.tcons (Syntax.tyInt Syntax.w8) Syntax.tnil))))) (Syntax.tcons (Syntax.tyStruct (114 ∷ 101 ∷ 115 ∷ 105 ∷ 100 ∷ 117 ∷ 101 ∷
-          58 ∷ 58 ∷ 82 ∷ 101 ∷ 115 ∷ 105 ∷ 100 ∷ 117 ∷ 101 ∷ []) (Syntax.tcons (Syntax.tyStruct (110 ∷ 97 ∷ 109 ∷ 101 ∷ 115 ∷ 58 ∷ 58 ∷ 84 ∷ 104 ∷ 114 ∷ 101 ∷ 101 ∷
-          []) (Syntax.tcons (Syntax.tyInt Syntax.w8) (Syntax.tcons (Syntax.tyInt Syntax.w8) (Syntax.tcons (Syntax.tyInt Syntax.w8) Syntax.tnil)))) (Syntax.tcons
-          (Syntax.tyInt Syntax.w8) (Syntax.tcons (Syntax.tyStruct (102 ∷ 105 ∷ 101 ∷ 108 ∷ 100 ∷ 115 ∷ 58 ∷ 58 ∷ 82 ∷ 101 ∷ 115 ∷ 105 ∷ 100 ∷ 117 ∷ 101 ∷ 78 ∷ 117 ∷
-          109 ∷ 98 ∷ 101 ∷ 114 ∷ []) (Syntax.tcons (Syntax.tyInt Syntax.w32) Syntax.tnil)) (Syntax.tcons (Syntax.tyInt Syntax.w8) Syntax.tnil))))) Syntax.tnil)))))
-          Syntax.tnil) Syntax.ttnil))) Syntax.tnil))) Syntax.tnil) (Syntax.ttcons (Syntax.tcons (Syntax.tyStruct (99 ∷ 111 ∷ 110 ∷ 101 ∷ 99 ∷ 116 ∷ 58 ∷ 58 ∷ 67 ∷
-          111 ∷ 110 ∷ 101 ∷ 99 ∷ 116 ∷ []) (Syntax.tcons (Syntax.tyStruct (102 ∷ 105 ∷ 101 ∷ 108 ∷ 100 ∷ 115 ∷ 58 ∷ 58 ∷ 83 ∷ 101 ∷ 114 ∷ 105 ∷ 97 ∷ 108 ∷ [])
-          (Syntax.tcons (Syntax.tyInt Syntax.w32) Syntax.tnil)) (Syntax.tcons (Syntax.tyStruct (102 ∷ 105 ∷ 101 ∷ 108 ∷ 100 ∷ 115 ∷ 58 ∷ 58 ∷ 83 ∷ 101 ∷ 114 ∷ 105 ∷
-          97 ∷ 108 ∷ []) (Syntax.tcons (Syntax.tyInt Syntax.w32) Syntax.tnil)) (Syntax.tcons (Syntax.tyStruct (102 ∷ 105 ∷ 101 ∷ 108 ∷ 100 ∷ 115 ∷ 58 ∷ 58 ∷ 83 ∷ 101
-          ∷ 114 ∷ 105 ∷ 97 ∷ 108 ∷ []) (Syntax.tcons (Syntax.tyInt Syntax.w32) Syntax.tnil)) (Syntax.tcons (Syntax.tyStruct (102 ∷ 105 ∷ 101 ∷ 108 ∷ 100 ∷ 115 ∷ 58 ∷
-          58 ∷ 83 ∷ 101 ∷ 114 ∷ 105 ∷ 97 ∷ 108 ∷ []) (Syntax.tcons (Syntax.tyInt Syntax.w32) Syntax.tnil)) (Syntax.tcons (Syntax.tyStruct (102 ∷ 105 ∷ 101 ∷ 108 ∷
-          100 ∷ 115 ∷ 58 ∷ 58 ∷ 83 ∷ 101 ∷ 114 ∷ 105 ∷ 97 ∷ 108 ∷ []) (Syntax.tcons (Syntax.tyInt Syntax.w32) Syntax.tnil)) Syntax.tnil)))))) Syntax.tnil)
-          (Syntax.ttcons (Syntax.tcons (Syntax.tyStruct (109 ∷ 97 ∷ 115 ∷ 116 ∷ 101 ∷ 114 ∷ 58 ∷ 58 ∷ 84 ∷ 97 ∷ 108 ∷ 108 ∷ 121 ∷ []) (Syntax.tcons (Syntax.tyInt
-          Syntax.w32) (Syntax.tcons (Syntax.tyInt Syntax.w32) (Syntax.tcons (Syntax.tyInt Syntax.w32) (Syntax.tcons (Syntax.tyInt Syntax.w32) (Syntax.tcons
-          (Syntax.tyInt Syntax.w32) (Syntax.tcons (Syntax.tyInt Syntax.w32) (Syntax.tcons (Syntax.tyInt Syntax.w32) (Syntax.tcons (Syntax.tyInt Syntax.w32)
-          (Syntax.tcons (Syntax.tyInt Syntax.w32) Syntax.tnil)))))))))) Syntax.tnil) (Syntax.ttcons Syntax.tnil Syntax.ttnil)))))))) Syntax.tnil) Syntax.ttnil))))),
-    )
-    ∷ (10, Rows'.sc-here Row.sBool) ∷ (11, Rows'.sc-here (Row.sInt Syntax.w8)) ∷ (12, Rows'.any-gone SlotAs.ty) ∷ (13, Rows'.any-gone Syntax.tyBool) ∷ (
-      14,
-      Rows'.any-gone Syntax.tyBool,
-    ) ∷ (
-      15,
-      Rows'.any-gone (Syntax.tyStruct (103 ∷ 97 ∷ 116 ∷ 101 ∷ 58 ∷ 58 ∷ 86 ∷ 101 ∷ 114 ∷ 100 ∷ 105 ∷ 99 ∷ 116 ∷ [])
-          (Syntax.tcons (Syntax.tyInt Syntax.w8) (Syntax.tcons (Syntax.tyInt Syntax.w64) (Syntax.tcons (Syntax.tyInt Syntax.w64) (Syntax.tcons (Syntax.tyStruct (112
-          ∷ 108 ∷ 97 ∷ 99 ∷ 101 ∷ 115 ∷ 58 ∷ 58 ∷ 67 ∷ 111 ∷ 117 ∷ 110 ∷ 116 ∷ 115 ∷ []) (Syntax.tcons (Syntax.tyInt Syntax.w64) (Syntax.tcons (Syntax.tyInt
-          Syntax.w64) (Syntax.tcons (Syntax.tyInt Syntax.w64) (Syntax.tcons (Syntax.tyInt Syntax.w64) (Syntax.tcons (Syntax.tyInt Syntax.w64) (Syntax.tcons
-          (Syntax.tyInt Syntax.w64) (Syntax.tcons (Syntax.tyInt Syntax.w64) (Syntax.tcons (Syntax.tyInt Syntax.w64) (Syntax.tcons (Syntax.tyInt Syntax.w64)
-          Syntax.tnil)))))))))) Syntax.tnil))))),
-    ) ∷ []
-
 abbrev pub t23 : List.List Row.Entry
 t23 = (0, Rows'.whole (Declared'.row (Apart.apartT Findings.the-type))) ∷ (
   1,
@@ -2622,104 +2628,106 @@ t23 = (0, Rows'.whole (Declared'.row (Apart.apartT Findings.the-type))) ∷ (
       Syntax.w64) Syntax.tnil))))))))),
 ) ∷ (
   5,
-  Rows'.any-gone (Syntax.tyStruct (103 ∷ 97 ∷ 116 ∷ 101 ∷ 58 ∷ 58 ∷ 83 ∷ 112 ∷ 97 ∷ 110 ∷ []) (Syntax.tcons
-      (Syntax.tyInt Syntax.w64) (Syntax.tcons (Syntax.tyInt Syntax.w64) Syntax.tnil))),
-) ∷ (6, Rows'.sc-here (Row.sInt Syntax.w64)) ∷ (7, Rows'.sc-here Row.sBool)
-    ∷ (8, Rows'.sc-here (Row.sInt Syntax.w64)) ∷ (
-      9,
-      Rows'.any-gone (Syntax.tyEnum (112 ∷ 105 ∷ 101 ∷ 99 ∷ 101 ∷ 115 ∷ 58 ∷ 58 ∷ 76 ∷ 105 ∷ 110 ∷ 101 ∷ [])
-          (Syntax.ttcons (Syntax.tcons (Syntax.tyInt Syntax.w8) Syntax.tnil) (Syntax.ttcons (Syntax.tcons (Syntax.tyEnum (107 ∷ 105 ∷ 110 ∷ 100 ∷ 115 ∷ 58 ∷ 58 ∷ 75
-          ∷ 105 ∷ 110 ∷ 100 ∷ []) (Syntax.ttcons Syntax.tnil (Syntax.ttcons Syntax.tnil (Syntax.ttcons Syntax.tnil (Syntax.ttcons Syntax.tnil (Syntax.ttcons
-          Syntax.tnil (Syntax.ttcons Syntax.tnil (Syntax.ttcons Syntax.tnil (Syntax.ttcons Syntax.tnil (Syntax.ttcons Syntax.tnil (Syntax.ttcons Syntax.tnil
-          (Syntax.ttcons Syntax.tnil (Syntax.ttcons Syntax.tnil (Syntax.ttcons Syntax.tnil (Syntax.ttcons Syntax.tnil (Syntax.ttcons Syntax.tnil (Syntax.ttcons
-          Syntax.tnil (Syntax.ttcons Syntax.tnil (Syntax.ttcons Syntax.tnil (Syntax.ttcons Syntax.tnil (Syntax.ttcons Syntax.tnil (Syntax.ttcons Syntax.tnil
-          (Syntax.ttcons Syntax.tnil (Syntax.ttcons Syntax.tnil (Syntax.ttcons Syntax.tnil (Syntax.ttcons Syntax.tnil (Syntax.ttcons Syntax.tnil (Syntax.ttcons
-          Syntax.tnil (Syntax.ttcons Syntax.tnil Syntax.ttnil))))))))))))))))))))))))))))) (Syntax.tcons (Syntax.tyInt Syntax.w32) Syntax.tnil)) (Syntax.ttcons
-          (Syntax.tcons (Syntax.tyEnum (107 ∷ 105 ∷ 110 ∷ 100 ∷ 115 ∷ 58 ∷ 58 ∷ 75 ∷ 105 ∷ 110 ∷ 100 ∷ []) (Syntax.ttcons Syntax.tnil (Syntax.ttcons Syntax.tnil
-          (Syntax.ttcons Syntax.tnil (Syntax.ttcons Syntax.tnil (Syntax.ttcons Syntax.tnil (Syntax.ttcons Syntax.tnil (Syntax.ttcons Syntax.tnil (Syntax.ttcons
-          Syntax.tnil (Syntax.ttcons Syntax.tnil (Syntax.ttcons Syntax.tnil (Syntax.ttcons Syntax.tnil (Syntax.ttcons Syntax.tnil (Syntax.ttcons Syntax.tnil
-          (Syntax.ttcons Syntax.tnil (Syntax.ttcons Syntax.tnil (Syntax.ttcons Syntax.tnil (Syntax.ttcons Syntax.tnil (Syntax.ttcons Syntax.tnil (Syntax.ttcons
-          Syntax.tnil (Syntax.ttcons Syntax.tnil (Syntax.ttcons Syntax.tnil (Syntax.ttcons Syntax.tnil (Syntax.ttcons Syntax.tnil (Syntax.ttcons Syntax.tnil
-          (Syntax.ttcons Syntax.tnil (Syntax.ttcons Syntax.tnil (Syntax.ttcons Syntax.tnil (Syntax.ttcons Syntax.tnil Syntax.ttnil)))))))))))))))))))))))))))))
-          Syntax.tnil) (Syntax.ttcons (Syntax.tcons (Syntax.tyEnum (108 ∷ 105 ∷ 110 ∷ 101 ∷ 58 ∷ 58 ∷ 82 ∷ 101 ∷ 99 ∷ 111 ∷ 114 ∷ 100 ∷ []) (Syntax.ttcons
-          (Syntax.tcons Syntax.tyBool (Syntax.tcons (Syntax.tyStruct (99 ∷ 111 ∷ 111 ∷ 114 ∷ 100 ∷ 105 ∷ 110 ∷ 97 ∷ 116 ∷ 101 ∷ 58 ∷ 58 ∷ 65 ∷ 116 ∷ 111 ∷ 109 ∷ [])
-          (Syntax.tcons (Syntax.tyStruct (99 ∷ 111 ∷ 111 ∷ 114 ∷ 100 ∷ 105 ∷ 110 ∷ 97 ∷ 116 ∷ 101 ∷ 58 ∷ 58 ∷ 73 ∷ 100 ∷ 101 ∷ 110 ∷ 116 ∷ 105 ∷ 116 ∷ 121 ∷ [])
-          (Syntax.tcons (Syntax.tyStruct (102 ∷ 105 ∷ 101 ∷ 108 ∷ 100 ∷ 115 ∷ 58 ∷ 58 ∷ 83 ∷ 101 ∷ 114 ∷ 105 ∷ 97 ∷ 108 ∷ []) (Syntax.tcons (Syntax.tyInt Syntax.w32)
-          Syntax.tnil)) (Syntax.tcons (Syntax.tyStruct (110 ∷ 97 ∷ 109 ∷ 101 ∷ 115 ∷ 58 ∷ 58 ∷ 70 ∷ 111 ∷ 117 ∷ 114 ∷ []) (Syntax.tcons (Syntax.tyInt Syntax.w8)
-          (Syntax.tcons (Syntax.tyInt Syntax.w8) (Syntax.tcons (Syntax.tyInt Syntax.w8) (Syntax.tcons (Syntax.tyInt Syntax.w8) Syntax.tnil))))) (Syntax.tcons
-          (Syntax.tyInt Syntax.w8) (Syntax.tcons (Syntax.tyStruct (114 ∷ 101 ∷ 115 ∷ 105 ∷ 100 ∷ 117 ∷ 101 ∷ 58 ∷ 58 ∷ 82 ∷ 101 ∷ 115 ∷ 105 ∷ 100 ∷ 117 ∷ 101 ∷ [])
-          (Syntax.tcons (Syntax.tyStruct (110 ∷ 97 ∷ 109 ∷ 101 ∷ 115 ∷ 58 ∷ 58 ∷ 84 ∷ 104 ∷ 114 ∷ 101 ∷ 101 ∷ []) (Syntax.tcons (Syntax.tyInt Syntax.w8)
-          (Syntax.tcons (Syntax.tyInt Syntax.w8) (Syntax.tcons (Syntax.tyInt Syntax.w8) Syntax.tnil)))) (Syntax.tcons (Syntax.tyInt Syntax.w8) (Syntax.tcons
-          (Syntax.tyStruct (102 ∷ 105 ∷ 101 ∷ 108 ∷ 100 ∷ 115 ∷ 58 ∷ 58 ∷ 82 ∷ 101 ∷ 115 ∷ 105 ∷ 100 ∷ 117 ∷ 101 ∷ 78 ∷ 117 ∷ 109 ∷ 98 ∷ 101 ∷ 114 ∷ [])
-          (Syntax.tcons (Syntax.tyInt Syntax.w32) Syntax.tnil)) (Syntax.tcons (Syntax.tyInt Syntax.w8) Syntax.tnil))))) Syntax.tnil))))) (Syntax.tcons
-          (Syntax.tyStruct (99 ∷ 111 ∷ 111 ∷ 114 ∷ 100 ∷ 105 ∷ 110 ∷ 97 ∷ 116 ∷ 101 ∷ 58 ∷ 58 ∷ 77 ∷ 101 ∷ 97 ∷ 115 ∷ 117 ∷ 114 ∷ 101 ∷ []) (Syntax.tcons
-          (Syntax.tyStruct (99 ∷ 111 ∷ 111 ∷ 114 ∷ 100 ∷ 105 ∷ 110 ∷ 97 ∷ 116 ∷ 101 ∷ 58 ∷ 58 ∷ 80 ∷ 111 ∷ 115 ∷ 105 ∷ 116 ∷ 105 ∷ 111 ∷ 110 ∷ []) (Syntax.tcons
-          (Syntax.tyInt Syntax.w32) (Syntax.tcons (Syntax.tyInt Syntax.w32) (Syntax.tcons (Syntax.tyInt Syntax.w32) Syntax.tnil)))) (Syntax.tcons (Syntax.tyInt
-          Syntax.w32) (Syntax.tcons (Syntax.tyInt Syntax.w32) Syntax.tnil)))) (Syntax.tcons (Syntax.tyStruct (99 ∷ 111 ∷ 111 ∷ 114 ∷ 100 ∷ 105 ∷ 110 ∷ 97 ∷ 116 ∷ 101
-          ∷ 58 ∷ 58 ∷ 83 ∷ 112 ∷ 101 ∷ 99 ∷ 105 ∷ 101 ∷ 115 ∷ []) (Syntax.tcons (Syntax.tyStruct (110 ∷ 97 ∷ 109 ∷ 101 ∷ 115 ∷ 58 ∷ 58 ∷ 80 ∷ 97 ∷ 105 ∷ 114 ∷ [])
-          (Syntax.tcons (Syntax.tyInt Syntax.w8) (Syntax.tcons (Syntax.tyInt Syntax.w8) Syntax.tnil))) (Syntax.tcons (Syntax.tyStruct (110 ∷ 97 ∷ 109 ∷ 101 ∷ 115 ∷
-          58 ∷ 58 ∷ 80 ∷ 97 ∷ 105 ∷ 114 ∷ []) (Syntax.tcons (Syntax.tyInt Syntax.w8) (Syntax.tcons (Syntax.tyInt Syntax.w8) Syntax.tnil))) Syntax.tnil)))
-          Syntax.tnil)))) Syntax.tnil)) (Syntax.ttcons (Syntax.tcons (Syntax.tyStruct (116 ∷ 101 ∷ 114 ∷ 58 ∷ 58 ∷ 84 ∷ 101 ∷ 114 ∷ []) (Syntax.tcons
-          (Syntax.tyStruct (102 ∷ 105 ∷ 101 ∷ 108 ∷ 100 ∷ 115 ∷ 58 ∷ 58 ∷ 83 ∷ 101 ∷ 114 ∷ 105 ∷ 97 ∷ 108 ∷ []) (Syntax.tcons (Syntax.tyInt Syntax.w32) Syntax.tnil))
-          (Syntax.tcons (Syntax.tyStruct (114 ∷ 101 ∷ 115 ∷ 105 ∷ 100 ∷ 117 ∷ 101 ∷ 58 ∷ 58 ∷ 82 ∷ 101 ∷ 115 ∷ 105 ∷ 100 ∷ 117 ∷ 101 ∷ []) (Syntax.tcons
-          (Syntax.tyStruct (110 ∷ 97 ∷ 109 ∷ 101 ∷ 115 ∷ 58 ∷ 58 ∷ 84 ∷ 104 ∷ 114 ∷ 101 ∷ 101 ∷ []) (Syntax.tcons (Syntax.tyInt Syntax.w8) (Syntax.tcons
-          (Syntax.tyInt Syntax.w8) (Syntax.tcons (Syntax.tyInt Syntax.w8) Syntax.tnil)))) (Syntax.tcons (Syntax.tyInt Syntax.w8) (Syntax.tcons (Syntax.tyStruct (102
-          ∷ 105 ∷ 101 ∷ 108 ∷ 100 ∷ 115 ∷ 58 ∷ 58 ∷ 82 ∷ 101 ∷ 115 ∷ 105 ∷ 100 ∷ 117 ∷ 101 ∷ 78 ∷ 117 ∷ 109 ∷ 98 ∷ 101 ∷ 114 ∷ []) (Syntax.tcons (Syntax.tyInt
-          Syntax.w32) Syntax.tnil)) (Syntax.tcons (Syntax.tyInt Syntax.w8) Syntax.tnil))))) Syntax.tnil))) Syntax.tnil) (Syntax.ttcons (Syntax.tcons (Syntax.tyStruct
-          (104 ∷ 101 ∷ 108 ∷ 105 ∷ 120 ∷ 58 ∷ 58 ∷ 72 ∷ 101 ∷ 108 ∷ 105 ∷ 120 ∷ []) (Syntax.tcons (Syntax.tyStruct (104 ∷ 101 ∷ 108 ∷ 105 ∷ 120 ∷ 58 ∷ 58 ∷ 69 ∷ 120
-          ∷ 116 ∷ 101 ∷ 110 ∷ 116 ∷ []) (Syntax.tcons (Syntax.tyInt Syntax.w32) (Syntax.tcons (Syntax.tyStruct (110 ∷ 97 ∷ 109 ∷ 101 ∷ 115 ∷ 58 ∷ 58 ∷ 84 ∷ 104 ∷ 114
-          ∷ 101 ∷ 101 ∷ []) (Syntax.tcons (Syntax.tyInt Syntax.w8) (Syntax.tcons (Syntax.tyInt Syntax.w8) (Syntax.tcons (Syntax.tyInt Syntax.w8) Syntax.tnil))))
-          (Syntax.tcons (Syntax.tyStruct (114 ∷ 101 ∷ 115 ∷ 105 ∷ 100 ∷ 117 ∷ 101 ∷ 58 ∷ 58 ∷ 82 ∷ 101 ∷ 115 ∷ 105 ∷ 100 ∷ 117 ∷ 101 ∷ []) (Syntax.tcons
-          (Syntax.tyStruct (110 ∷ 97 ∷ 109 ∷ 101 ∷ 115 ∷ 58 ∷ 58 ∷ 84 ∷ 104 ∷ 114 ∷ 101 ∷ 101 ∷ []) (Syntax.tcons (Syntax.tyInt Syntax.w8) (Syntax.tcons
-          (Syntax.tyInt Syntax.w8) (Syntax.tcons (Syntax.tyInt Syntax.w8) Syntax.tnil)))) (Syntax.tcons (Syntax.tyInt Syntax.w8) (Syntax.tcons (Syntax.tyStruct (102
-          ∷ 105 ∷ 101 ∷ 108 ∷ 100 ∷ 115 ∷ 58 ∷ 58 ∷ 82 ∷ 101 ∷ 115 ∷ 105 ∷ 100 ∷ 117 ∷ 101 ∷ 78 ∷ 117 ∷ 109 ∷ 98 ∷ 101 ∷ 114 ∷ []) (Syntax.tcons (Syntax.tyInt
-          Syntax.w32) Syntax.tnil)) (Syntax.tcons (Syntax.tyInt Syntax.w8) Syntax.tnil))))) (Syntax.tcons (Syntax.tyStruct (114 ∷ 101 ∷ 115 ∷ 105 ∷ 100 ∷ 117 ∷ 101 ∷
-          58 ∷ 58 ∷ 82 ∷ 101 ∷ 115 ∷ 105 ∷ 100 ∷ 117 ∷ 101 ∷ []) (Syntax.tcons (Syntax.tyStruct (110 ∷ 97 ∷ 109 ∷ 101 ∷ 115 ∷ 58 ∷ 58 ∷ 84 ∷ 104 ∷ 114 ∷ 101 ∷ 101 ∷
-          []) (Syntax.tcons (Syntax.tyInt Syntax.w8) (Syntax.tcons (Syntax.tyInt Syntax.w8) (Syntax.tcons (Syntax.tyInt Syntax.w8) Syntax.tnil)))) (Syntax.tcons
-          (Syntax.tyInt Syntax.w8) (Syntax.tcons (Syntax.tyStruct (102 ∷ 105 ∷ 101 ∷ 108 ∷ 100 ∷ 115 ∷ 58 ∷ 58 ∷ 82 ∷ 101 ∷ 115 ∷ 105 ∷ 100 ∷ 117 ∷ 101 ∷ 78 ∷ 117 ∷
-          109 ∷ 98 ∷ 101 ∷ 114 ∷ []) (Syntax.tcons (Syntax.tyInt Syntax.w32) Syntax.tnil)) (Syntax.tcons (Syntax.tyInt Syntax.w8) Syntax.tnil))))) Syntax.tnil)))))
-          (Syntax.tcons (Syntax.tyInt Syntax.w32) (Syntax.tcons (Syntax.tyStruct (104 ∷ 101 ∷ 108 ∷ 105 ∷ 120 ∷ 58 ∷ 58 ∷ 67 ∷ 111 ∷ 109 ∷ 109 ∷ 101 ∷ 110 ∷ 116 ∷
-          []) (Syntax.tcons (Syntax.tyInt Syntax.w64) (Syntax.tcons (Syntax.tyInt Syntax.w64) (Syntax.tcons (Syntax.tyInt Syntax.w64) (Syntax.tcons (Syntax.tyInt
-          Syntax.w64) Syntax.tnil))))) (Syntax.tcons (Syntax.tyInt Syntax.w32) Syntax.tnil))))) Syntax.tnil) (Syntax.ttcons (Syntax.tcons (Syntax.tyStruct (115 ∷ 104
-          ∷ 101 ∷ 101 ∷ 116 ∷ 58 ∷ 58 ∷ 83 ∷ 104 ∷ 101 ∷ 101 ∷ 116 ∷ []) (Syntax.tcons (Syntax.tyStruct (115 ∷ 104 ∷ 101 ∷ 101 ∷ 116 ∷ 58 ∷ 58 ∷ 83 ∷ 116 ∷ 114 ∷ 97
-          ∷ 110 ∷ 100 ∷ []) (Syntax.tcons (Syntax.tyInt Syntax.w32) (Syntax.tcons (Syntax.tyStruct (110 ∷ 97 ∷ 109 ∷ 101 ∷ 115 ∷ 58 ∷ 58 ∷ 84 ∷ 104 ∷ 114 ∷ 101 ∷ 101
-          ∷ []) (Syntax.tcons (Syntax.tyInt Syntax.w8) (Syntax.tcons (Syntax.tyInt Syntax.w8) (Syntax.tcons (Syntax.tyInt Syntax.w8) Syntax.tnil)))) (Syntax.tcons
-          (Syntax.tyInt Syntax.w32) (Syntax.tcons (Syntax.tyStruct (114 ∷ 101 ∷ 115 ∷ 105 ∷ 100 ∷ 117 ∷ 101 ∷ 58 ∷ 58 ∷ 82 ∷ 101 ∷ 115 ∷ 105 ∷ 100 ∷ 117 ∷ 101 ∷ [])
-          (Syntax.tcons (Syntax.tyStruct (110 ∷ 97 ∷ 109 ∷ 101 ∷ 115 ∷ 58 ∷ 58 ∷ 84 ∷ 104 ∷ 114 ∷ 101 ∷ 101 ∷ []) (Syntax.tcons (Syntax.tyInt Syntax.w8)
-          (Syntax.tcons (Syntax.tyInt Syntax.w8) (Syntax.tcons (Syntax.tyInt Syntax.w8) Syntax.tnil)))) (Syntax.tcons (Syntax.tyInt Syntax.w8) (Syntax.tcons
-          (Syntax.tyStruct (102 ∷ 105 ∷ 101 ∷ 108 ∷ 100 ∷ 115 ∷ 58 ∷ 58 ∷ 82 ∷ 101 ∷ 115 ∷ 105 ∷ 100 ∷ 117 ∷ 101 ∷ 78 ∷ 117 ∷ 109 ∷ 98 ∷ 101 ∷ 114 ∷ [])
-          (Syntax.tcons (Syntax.tyInt Syntax.w32) Syntax.tnil)) (Syntax.tcons (Syntax.tyInt Syntax.w8) Syntax.tnil))))) (Syntax.tcons (Syntax.tyStruct (114 ∷ 101 ∷
-          115 ∷ 105 ∷ 100 ∷ 117 ∷ 101 ∷ 58 ∷ 58 ∷ 82 ∷ 101 ∷ 115 ∷ 105 ∷ 100 ∷ 117 ∷ 101 ∷ []) (Syntax.tcons (Syntax.tyStruct (110 ∷ 97 ∷ 109 ∷ 101 ∷ 115 ∷ 58 ∷ 58 ∷
-          84 ∷ 104 ∷ 114 ∷ 101 ∷ 101 ∷ []) (Syntax.tcons (Syntax.tyInt Syntax.w8) (Syntax.tcons (Syntax.tyInt Syntax.w8) (Syntax.tcons (Syntax.tyInt Syntax.w8)
-          Syntax.tnil)))) (Syntax.tcons (Syntax.tyInt Syntax.w8) (Syntax.tcons (Syntax.tyStruct (102 ∷ 105 ∷ 101 ∷ 108 ∷ 100 ∷ 115 ∷ 58 ∷ 58 ∷ 82 ∷ 101 ∷ 115 ∷ 105 ∷
-          100 ∷ 117 ∷ 101 ∷ 78 ∷ 117 ∷ 109 ∷ 98 ∷ 101 ∷ 114 ∷ []) (Syntax.tcons (Syntax.tyInt Syntax.w32) Syntax.tnil)) (Syntax.tcons (Syntax.tyInt Syntax.w8)
-          Syntax.tnil))))) (Syntax.tcons (Syntax.tyInt Syntax.w32) Syntax.tnil))))))) (Syntax.tcons (Syntax.tyEnum (115 ∷ 104 ∷ 101 ∷ 101 ∷ 116 ∷ 58 ∷ 58 ∷ 82 ∷ 101
-          ∷ 103 ∷ 105 ∷ 115 ∷ 116 ∷ 114 ∷ 97 ∷ 116 ∷ 105 ∷ 111 ∷ 110 ∷ []) (Syntax.ttcons Syntax.tnil (Syntax.ttcons (Syntax.tcons (Syntax.tyStruct (115 ∷ 104 ∷ 101
-          ∷ 101 ∷ 116 ∷ 58 ∷ 58 ∷ 66 ∷ 111 ∷ 110 ∷ 100 ∷ []) (Syntax.tcons (Syntax.tyStruct (110 ∷ 97 ∷ 109 ∷ 101 ∷ 115 ∷ 58 ∷ 58 ∷ 70 ∷ 111 ∷ 117 ∷ 114 ∷ [])
-          (Syntax.tcons (Syntax.tyInt Syntax.w8) (Syntax.tcons (Syntax.tyInt Syntax.w8) (Syntax.tcons (Syntax.tyInt Syntax.w8) (Syntax.tcons (Syntax.tyInt Syntax.w8)
-          Syntax.tnil))))) (Syntax.tcons (Syntax.tyStruct (114 ∷ 101 ∷ 115 ∷ 105 ∷ 100 ∷ 117 ∷ 101 ∷ 58 ∷ 58 ∷ 82 ∷ 101 ∷ 115 ∷ 105 ∷ 100 ∷ 117 ∷ 101 ∷ [])
-          (Syntax.tcons (Syntax.tyStruct (110 ∷ 97 ∷ 109 ∷ 101 ∷ 115 ∷ 58 ∷ 58 ∷ 84 ∷ 104 ∷ 114 ∷ 101 ∷ 101 ∷ []) (Syntax.tcons (Syntax.tyInt Syntax.w8)
-          (Syntax.tcons (Syntax.tyInt Syntax.w8) (Syntax.tcons (Syntax.tyInt Syntax.w8) Syntax.tnil)))) (Syntax.tcons (Syntax.tyInt Syntax.w8) (Syntax.tcons
-          (Syntax.tyStruct (102 ∷ 105 ∷ 101 ∷ 108 ∷ 100 ∷ 115 ∷ 58 ∷ 58 ∷ 82 ∷ 101 ∷ 115 ∷ 105 ∷ 100 ∷ 117 ∷ 101 ∷ 78 ∷ 117 ∷ 109 ∷ 98 ∷ 101 ∷ 114 ∷ [])
-          (Syntax.tcons (Syntax.tyInt Syntax.w32) Syntax.tnil)) (Syntax.tcons (Syntax.tyInt Syntax.w8) Syntax.tnil))))) (Syntax.tcons (Syntax.tyStruct (110 ∷ 97 ∷
-          109 ∷ 101 ∷ 115 ∷ 58 ∷ 58 ∷ 70 ∷ 111 ∷ 117 ∷ 114 ∷ []) (Syntax.tcons (Syntax.tyInt Syntax.w8) (Syntax.tcons (Syntax.tyInt Syntax.w8) (Syntax.tcons
-          (Syntax.tyInt Syntax.w8) (Syntax.tcons (Syntax.tyInt Syntax.w8) Syntax.tnil))))) (Syntax.tcons (Syntax.tyStruct (114 ∷ 101 ∷ 115 ∷ 105 ∷ 100 ∷ 117 ∷ 101 ∷
-          58 ∷ 58 ∷ 82 ∷ 101 ∷ 115 ∷ 105 ∷ 100 ∷ 117 ∷ 101 ∷ []) (Syntax.tcons (Syntax.tyStruct (110 ∷ 97 ∷ 109 ∷ 101 ∷ 115 ∷ 58 ∷ 58 ∷ 84 ∷ 104 ∷ 114 ∷ 101 ∷ 101 ∷
-          []) (Syntax.tcons (Syntax.tyInt Syntax.w8) (Syntax.tcons (Syntax.tyInt Syntax.w8) (Syntax.tcons (Syntax.tyInt Syntax.w8) Syntax.tnil)))) (Syntax.tcons
-          (Syntax.tyInt Syntax.w8) (Syntax.tcons (Syntax.tyStruct (102 ∷ 105 ∷ 101 ∷ 108 ∷ 100 ∷ 115 ∷ 58 ∷ 58 ∷ 82 ∷ 101 ∷ 115 ∷ 105 ∷ 100 ∷ 117 ∷ 101 ∷ 78 ∷ 117 ∷
-          109 ∷ 98 ∷ 101 ∷ 114 ∷ []) (Syntax.tcons (Syntax.tyInt Syntax.w32) Syntax.tnil)) (Syntax.tcons (Syntax.tyInt Syntax.w8) Syntax.tnil))))) Syntax.tnil)))))
-          Syntax.tnil) Syntax.ttnil))) Syntax.tnil))) Syntax.tnil) (Syntax.ttcons (Syntax.tcons (Syntax.tyStruct (99 ∷ 111 ∷ 110 ∷ 101 ∷ 99 ∷ 116 ∷ 58 ∷ 58 ∷ 67 ∷
-          111 ∷ 110 ∷ 101 ∷ 99 ∷ 116 ∷ []) (Syntax.tcons (Syntax.tyStruct (102 ∷ 105 ∷ 101 ∷ 108 ∷ 100 ∷ 115 ∷ 58 ∷ 58 ∷ 83 ∷ 101 ∷ 114 ∷ 105 ∷ 97 ∷ 108 ∷ [])
-          (Syntax.tcons (Syntax.tyInt Syntax.w32) Syntax.tnil)) (Syntax.tcons (Syntax.tyStruct (102 ∷ 105 ∷ 101 ∷ 108 ∷ 100 ∷ 115 ∷ 58 ∷ 58 ∷ 83 ∷ 101 ∷ 114 ∷ 105 ∷
-          97 ∷ 108 ∷ []) (Syntax.tcons (Syntax.tyInt Syntax.w32) Syntax.tnil)) (Syntax.tcons (Syntax.tyStruct (102 ∷ 105 ∷ 101 ∷ 108 ∷ 100 ∷ 115 ∷ 58 ∷ 58 ∷ 83 ∷ 101
-          ∷ 114 ∷ 105 ∷ 97 ∷ 108 ∷ []) (Syntax.tcons (Syntax.tyInt Syntax.w32) Syntax.tnil)) (Syntax.tcons (Syntax.tyStruct (102 ∷ 105 ∷ 101 ∷ 108 ∷ 100 ∷ 115 ∷ 58 ∷
-          58 ∷ 83 ∷ 101 ∷ 114 ∷ 105 ∷ 97 ∷ 108 ∷ []) (Syntax.tcons (Syntax.tyInt Syntax.w32) Syntax.tnil)) (Syntax.tcons (Syntax.tyStruct (102 ∷ 105 ∷ 101 ∷ 108 ∷
-          100 ∷ 115 ∷ 58 ∷ 58 ∷ 83 ∷ 101 ∷ 114 ∷ 105 ∷ 97 ∷ 108 ∷ []) (Syntax.tcons (Syntax.tyInt Syntax.w32) Syntax.tnil)) Syntax.tnil)))))) Syntax.tnil)
-          (Syntax.ttcons (Syntax.tcons (Syntax.tyStruct (109 ∷ 97 ∷ 115 ∷ 116 ∷ 101 ∷ 114 ∷ 58 ∷ 58 ∷ 84 ∷ 97 ∷ 108 ∷ 108 ∷ 121 ∷ []) (Syntax.tcons (Syntax.tyInt
-          Syntax.w32) (Syntax.tcons (Syntax.tyInt Syntax.w32) (Syntax.tcons (Syntax.tyInt Syntax.w32) (Syntax.tcons (Syntax.tyInt Syntax.w32) (Syntax.tcons
-          (Syntax.tyInt Syntax.w32) (Syntax.tcons (Syntax.tyInt Syntax.w32) (Syntax.tcons (Syntax.tyInt Syntax.w32) (Syntax.tcons (Syntax.tyInt Syntax.w32)
-          (Syntax.tcons (Syntax.tyInt Syntax.w32) Syntax.tnil)))))))))) Syntax.tnil) (Syntax.ttcons Syntax.tnil Syntax.ttnil)))))))) Syntax.tnil) Syntax.ttnil))))),
-    )
+  Rows'.any-gone (Syntax.tyStruct (115 ∷ 101 ∷ 114 ∷ 105 ∷ 97 ∷ 108 ∷ 115 ∷ 58 ∷ 58 ∷ 83 ∷ 112 ∷ 97 ∷ 110 ∷ [])
+      (Syntax.tcons (Syntax.tyInt Syntax.w64) (Syntax.tcons (Syntax.tyInt Syntax.w64) Syntax.tnil))),
+) ∷ (6, Rows'.sc-here (Row.sInt Syntax.w64)) ∷ (
+  7,
+  Rows'.sc-here Row.sBool,
+) ∷ (8, Rows'.sc-here (Row.sInt Syntax.w64)) ∷ (
+  9,
+  Rows'.any-gone (Syntax.tyEnum (112 ∷ 105 ∷ 101 ∷ 99 ∷ 101 ∷ 115 ∷ 58 ∷ 58 ∷ 76 ∷
+      105 ∷ 110 ∷ 101 ∷ []) (Syntax.ttcons (Syntax.tcons (Syntax.tyInt Syntax.w8) Syntax.tnil) (Syntax.ttcons (Syntax.tcons (Syntax.tyEnum (107 ∷ 105 ∷ 110 ∷ 100
+      ∷ 115 ∷ 58 ∷ 58 ∷ 75 ∷ 105 ∷ 110 ∷ 100 ∷ []) (Syntax.ttcons Syntax.tnil (Syntax.ttcons Syntax.tnil (Syntax.ttcons Syntax.tnil (Syntax.ttcons Syntax.tnil
+      (Syntax.ttcons Syntax.tnil (Syntax.ttcons Syntax.tnil (Syntax.ttcons Syntax.tnil (Syntax.ttcons Syntax.tnil (Syntax.ttcons Syntax.tnil (Syntax.ttcons
+      Syntax.tnil (Syntax.ttcons Syntax.tnil (Syntax.ttcons Syntax.tnil (Syntax.ttcons Syntax.tnil (Syntax.ttcons Syntax.tnil (Syntax.ttcons Syntax.tnil
+      (Syntax.ttcons Syntax.tnil (Syntax.ttcons Syntax.tnil (Syntax.ttcons Syntax.tnil (Syntax.ttcons Syntax.tnil (Syntax.ttcons Syntax.tnil (Syntax.ttcons
+      Syntax.tnil (Syntax.ttcons Syntax.tnil (Syntax.ttcons Syntax.tnil (Syntax.ttcons Syntax.tnil (Syntax.ttcons Syntax.tnil (Syntax.ttcons Syntax.tnil
+      (Syntax.ttcons Syntax.tnil (Syntax.ttcons Syntax.tnil Syntax.ttnil))))))))))))))))))))))))))))) (Syntax.tcons (Syntax.tyInt Syntax.w32) Syntax.tnil))
+      (Syntax.ttcons (Syntax.tcons (Syntax.tyEnum (107 ∷ 105 ∷ 110 ∷ 100 ∷ 115 ∷ 58 ∷ 58 ∷ 75 ∷ 105 ∷ 110 ∷ 100 ∷ []) (Syntax.ttcons Syntax.tnil (Syntax.ttcons
+      Syntax.tnil (Syntax.ttcons Syntax.tnil (Syntax.ttcons Syntax.tnil (Syntax.ttcons Syntax.tnil (Syntax.ttcons Syntax.tnil (Syntax.ttcons Syntax.tnil
+      (Syntax.ttcons Syntax.tnil (Syntax.ttcons Syntax.tnil (Syntax.ttcons Syntax.tnil (Syntax.ttcons Syntax.tnil (Syntax.ttcons Syntax.tnil (Syntax.ttcons
+      Syntax.tnil (Syntax.ttcons Syntax.tnil (Syntax.ttcons Syntax.tnil (Syntax.ttcons Syntax.tnil (Syntax.ttcons Syntax.tnil (Syntax.ttcons Syntax.tnil
+      (Syntax.ttcons Syntax.tnil (Syntax.ttcons Syntax.tnil (Syntax.ttcons Syntax.tnil (Syntax.ttcons Syntax.tnil (Syntax.ttcons Syntax.tnil (Syntax.ttcons
+      Syntax.tnil (Syntax.ttcons Syntax.tnil (Syntax.ttcons Syntax.tnil (Syntax.ttcons Syntax.tnil (Syntax.ttcons Syntax.tnil
+      Syntax.ttnil))))))))))))))))))))))))))))) Syntax.tnil) (Syntax.ttcons (Syntax.tcons (Syntax.tyEnum (108 ∷ 105 ∷ 110 ∷ 101 ∷ 58 ∷ 58 ∷ 82 ∷ 101 ∷ 99 ∷ 111 ∷
+      114 ∷ 100 ∷ []) (Syntax.ttcons (Syntax.tcons Syntax.tyBool (Syntax.tcons (Syntax.tyStruct (99 ∷ 111 ∷ 111 ∷ 114 ∷ 100 ∷ 105 ∷ 110 ∷ 97 ∷ 116 ∷ 101 ∷ 58 ∷
+      58 ∷ 65 ∷ 116 ∷ 111 ∷ 109 ∷ []) (Syntax.tcons (Syntax.tyStruct (99 ∷ 111 ∷ 111 ∷ 114 ∷ 100 ∷ 105 ∷ 110 ∷ 97 ∷ 116 ∷ 101 ∷ 58 ∷ 58 ∷ 73 ∷ 100 ∷ 101 ∷ 110 ∷
+      116 ∷ 105 ∷ 116 ∷ 121 ∷ []) (Syntax.tcons (Syntax.tyStruct (102 ∷ 105 ∷ 101 ∷ 108 ∷ 100 ∷ 115 ∷ 58 ∷ 58 ∷ 83 ∷ 101 ∷ 114 ∷ 105 ∷ 97 ∷ 108 ∷ [])
+      (Syntax.tcons (Syntax.tyInt Syntax.w32) Syntax.tnil)) (Syntax.tcons (Syntax.tyStruct (110 ∷ 97 ∷ 109 ∷ 101 ∷ 115 ∷ 58 ∷ 58 ∷ 70 ∷ 111 ∷ 117 ∷ 114 ∷ [])
+      (Syntax.tcons (Syntax.tyInt Syntax.w8) (Syntax.tcons (Syntax.tyInt Syntax.w8) (Syntax.tcons (Syntax.tyInt Syntax.w8) (Syntax.tcons (Syntax.tyInt Syntax.w8)
+      Syntax.tnil))))) (Syntax.tcons (Syntax.tyInt Syntax.w8) (Syntax.tcons (Syntax.tyStruct (114 ∷ 101 ∷ 115 ∷ 105 ∷ 100 ∷ 117 ∷ 101 ∷ 58 ∷ 58 ∷ 82 ∷ 101 ∷ 115
+      ∷ 105 ∷ 100 ∷ 117 ∷ 101 ∷ []) (Syntax.tcons (Syntax.tyStruct (110 ∷ 97 ∷ 109 ∷ 101 ∷ 115 ∷ 58 ∷ 58 ∷ 84 ∷ 104 ∷ 114 ∷ 101 ∷ 101 ∷ []) (Syntax.tcons
+      (Syntax.tyInt Syntax.w8) (Syntax.tcons (Syntax.tyInt Syntax.w8) (Syntax.tcons (Syntax.tyInt Syntax.w8) Syntax.tnil)))) (Syntax.tcons (Syntax.tyInt
+      Syntax.w8) (Syntax.tcons (Syntax.tyStruct (102 ∷ 105 ∷ 101 ∷ 108 ∷ 100 ∷ 115 ∷ 58 ∷ 58 ∷ 82 ∷ 101 ∷ 115 ∷ 105 ∷ 100 ∷ 117 ∷ 101 ∷ 78 ∷ 117 ∷ 109 ∷ 98 ∷ 101
+      ∷ 114 ∷ []) (Syntax.tcons (Syntax.tyInt Syntax.w32) Syntax.tnil)) (Syntax.tcons (Syntax.tyInt Syntax.w8) Syntax.tnil))))) Syntax.tnil))))) (Syntax.tcons
+      (Syntax.tyStruct (99 ∷ 111 ∷ 111 ∷ 114 ∷ 100 ∷ 105 ∷ 110 ∷ 97 ∷ 116 ∷ 101 ∷ 58 ∷ 58 ∷ 77 ∷ 101 ∷ 97 ∷ 115 ∷ 117 ∷ 114 ∷ 101 ∷ []) (Syntax.tcons
+      (Syntax.tyStruct (99 ∷ 111 ∷ 111 ∷ 114 ∷ 100 ∷ 105 ∷ 110 ∷ 97 ∷ 116 ∷ 101 ∷ 58 ∷ 58 ∷ 80 ∷ 111 ∷ 115 ∷ 105 ∷ 116 ∷ 105 ∷ 111 ∷ 110 ∷ []) (Syntax.tcons
+      (Syntax.tyInt Syntax.w32) (Syntax.tcons (Syntax.tyInt Syntax.w32) (Syntax.tcons (Syntax.tyInt Syntax.w32) Syntax.tnil)))) (Syntax.tcons (Syntax.tyInt
+      Syntax.w32) (Syntax.tcons (Syntax.tyInt Syntax.w32) Syntax.tnil)))) (Syntax.tcons (Syntax.tyStruct (99 ∷ 111 ∷ 111 ∷ 114 ∷ 100 ∷ 105 ∷ 110 ∷ 97 ∷ 116 ∷ 101
+      ∷ 58 ∷ 58 ∷ 83 ∷ 112 ∷ 101 ∷ 99 ∷ 105 ∷ 101 ∷ 115 ∷ []) (Syntax.tcons (Syntax.tyStruct (110 ∷ 97 ∷ 109 ∷ 101 ∷ 115 ∷ 58 ∷ 58 ∷ 80 ∷ 97 ∷ 105 ∷ 114 ∷ [])
+      (Syntax.tcons (Syntax.tyInt Syntax.w8) (Syntax.tcons (Syntax.tyInt Syntax.w8) Syntax.tnil))) (Syntax.tcons (Syntax.tyStruct (110 ∷ 97 ∷ 109 ∷ 101 ∷ 115 ∷
+      58 ∷ 58 ∷ 80 ∷ 97 ∷ 105 ∷ 114 ∷ []) (Syntax.tcons (Syntax.tyInt Syntax.w8) (Syntax.tcons (Syntax.tyInt Syntax.w8) Syntax.tnil))) Syntax.tnil)))
+      Syntax.tnil)))) Syntax.tnil)) (Syntax.ttcons (Syntax.tcons (Syntax.tyStruct (116 ∷ 101 ∷ 114 ∷ 58 ∷ 58 ∷ 84 ∷ 101 ∷ 114 ∷ []) (Syntax.tcons
+      (Syntax.tyStruct (102 ∷ 105 ∷ 101 ∷ 108 ∷ 100 ∷ 115 ∷ 58 ∷ 58 ∷ 83 ∷ 101 ∷ 114 ∷ 105 ∷ 97 ∷ 108 ∷ []) (Syntax.tcons (Syntax.tyInt Syntax.w32) Syntax.tnil))
+      (Syntax.tcons (Syntax.tyStruct (114 ∷ 101 ∷ 115 ∷ 105 ∷ 100 ∷ 117 ∷ 101 ∷ 58 ∷ 58 ∷ 82 ∷ 101 ∷ 115 ∷ 105 ∷ 100 ∷ 117 ∷ 101 ∷ []) (Syntax.tcons
+      (Syntax.tyStruct (110 ∷ 97 ∷ 109 ∷ 101 ∷ 115 ∷ 58 ∷ 58 ∷ 84 ∷ 104 ∷ 114 ∷ 101 ∷ 101 ∷ []) (Syntax.tcons (Syntax.tyInt Syntax.w8) (Syntax.tcons
+      (Syntax.tyInt Syntax.w8) (Syntax.tcons (Syntax.tyInt Syntax.w8) Syntax.tnil)))) (Syntax.tcons (Syntax.tyInt Syntax.w8) (Syntax.tcons (Syntax.tyStruct (102
+      ∷ 105 ∷ 101 ∷ 108 ∷ 100 ∷ 115 ∷ 58 ∷ 58 ∷ 82 ∷ 101 ∷ 115 ∷ 105 ∷ 100 ∷ 117 ∷ 101 ∷ 78 ∷ 117 ∷ 109 ∷ 98 ∷ 101 ∷ 114 ∷ []) (Syntax.tcons (Syntax.tyInt
+      Syntax.w32) Syntax.tnil)) (Syntax.tcons (Syntax.tyInt Syntax.w8) Syntax.tnil))))) Syntax.tnil))) Syntax.tnil) (Syntax.ttcons (Syntax.tcons (Syntax.tyStruct
+      (104 ∷ 101 ∷ 108 ∷ 105 ∷ 120 ∷ 58 ∷ 58 ∷ 72 ∷ 101 ∷ 108 ∷ 105 ∷ 120 ∷ []) (Syntax.tcons (Syntax.tyStruct (104 ∷ 101 ∷ 108 ∷ 105 ∷ 120 ∷ 58 ∷ 58 ∷ 69 ∷ 120
+      ∷ 116 ∷ 101 ∷ 110 ∷ 116 ∷ []) (Syntax.tcons (Syntax.tyInt Syntax.w32) (Syntax.tcons (Syntax.tyStruct (110 ∷ 97 ∷ 109 ∷ 101 ∷ 115 ∷ 58 ∷ 58 ∷ 84 ∷ 104 ∷ 114
+      ∷ 101 ∷ 101 ∷ []) (Syntax.tcons (Syntax.tyInt Syntax.w8) (Syntax.tcons (Syntax.tyInt Syntax.w8) (Syntax.tcons (Syntax.tyInt Syntax.w8) Syntax.tnil))))
+      (Syntax.tcons (Syntax.tyStruct (114 ∷ 101 ∷ 115 ∷ 105 ∷ 100 ∷ 117 ∷ 101 ∷ 58 ∷ 58 ∷ 82 ∷ 101 ∷ 115 ∷ 105 ∷ 100 ∷ 117 ∷ 101 ∷ []) (Syntax.tcons
+      (Syntax.tyStruct (110 ∷ 97 ∷ 109 ∷ 101 ∷ 115 ∷ 58 ∷ 58 ∷ 84 ∷ 104 ∷ 114 ∷ 101 ∷ 101 ∷ []) (Syntax.tcons (Syntax.tyInt Syntax.w8) (Syntax.tcons
+      (Syntax.tyInt Syntax.w8) (Syntax.tcons (Syntax.tyInt Syntax.w8) Syntax.tnil)))) (Syntax.tcons (Syntax.tyInt Syntax.w8) (Syntax.tcons (Syntax.tyStruct (102
+      ∷ 105 ∷ 101 ∷ 108 ∷ 100 ∷ 115 ∷ 58 ∷ 58 ∷ 82 ∷ 101 ∷ 115 ∷ 105 ∷ 100 ∷ 117 ∷ 101 ∷ 78 ∷ 117 ∷ 109 ∷ 98 ∷ 101 ∷ 114 ∷ []) (Syntax.tcons (Syntax.tyInt
+      Syntax.w32) Syntax.tnil)) (Syntax.tcons (Syntax.tyInt Syntax.w8) Syntax.tnil))))) (Syntax.tcons (Syntax.tyStruct (114 ∷ 101 ∷ 115 ∷ 105 ∷ 100 ∷ 117 ∷ 101 ∷
+      58 ∷ 58 ∷ 82 ∷ 101 ∷ 115 ∷ 105 ∷ 100 ∷ 117 ∷ 101 ∷ []) (Syntax.tcons (Syntax.tyStruct (110 ∷ 97 ∷ 109 ∷ 101 ∷ 115 ∷ 58 ∷ 58 ∷ 84 ∷ 104 ∷ 114 ∷ 101 ∷ 101 ∷
+      []) (Syntax.tcons (Syntax.tyInt Syntax.w8) (Syntax.tcons (Syntax.tyInt Syntax.w8) (Syntax.tcons (Syntax.tyInt Syntax.w8) Syntax.tnil)))) (Syntax.tcons
+      (Syntax.tyInt Syntax.w8) (Syntax.tcons (Syntax.tyStruct (102 ∷ 105 ∷ 101 ∷ 108 ∷ 100 ∷ 115 ∷ 58 ∷ 58 ∷ 82 ∷ 101 ∷ 115 ∷ 105 ∷ 100 ∷ 117 ∷ 101 ∷ 78 ∷ 117 ∷
+      109 ∷ 98 ∷ 101 ∷ 114 ∷ []) (Syntax.tcons (Syntax.tyInt Syntax.w32) Syntax.tnil)) (Syntax.tcons (Syntax.tyInt Syntax.w8) Syntax.tnil))))) Syntax.tnil)))))
+      (Syntax.tcons (Syntax.tyInt Syntax.w32) (Syntax.tcons (Syntax.tyStruct (104 ∷ 101 ∷ 108 ∷ 105 ∷ 120 ∷ 58 ∷ 58 ∷ 67 ∷ 111 ∷ 109 ∷ 109 ∷ 101 ∷ 110 ∷ 116 ∷
+      []) (Syntax.tcons (Syntax.tyInt Syntax.w64) (Syntax.tcons (Syntax.tyInt Syntax.w64) (Syntax.tcons (Syntax.tyInt Syntax.w64) (Syntax.tcons (Syntax.tyInt
+      Syntax.w64) Syntax.tnil))))) (Syntax.tcons (Syntax.tyInt Syntax.w32) Syntax.tnil))))) Syntax.tnil) (Syntax.ttcons (Syntax.tcons (Syntax.tyStruct (115 ∷ 104
+      ∷ 101 ∷ 101 ∷ 116 ∷ 58 ∷ 58 ∷ 83 ∷ 104 ∷ 101 ∷ 101 ∷ 116 ∷ []) (Syntax.tcons (Syntax.tyStruct (115 ∷ 104 ∷ 101 ∷ 101 ∷ 116 ∷ 58 ∷ 58 ∷ 83 ∷ 116 ∷ 114 ∷ 97
+      ∷ 110 ∷ 100 ∷ []) (Syntax.tcons (Syntax.tyInt Syntax.w32) (Syntax.tcons (Syntax.tyStruct (110 ∷ 97 ∷ 109 ∷ 101 ∷ 115 ∷ 58 ∷ 58 ∷ 84 ∷ 104 ∷ 114 ∷ 101 ∷ 101
+      ∷ []) (Syntax.tcons (Syntax.tyInt Syntax.w8) (Syntax.tcons (Syntax.tyInt Syntax.w8) (Syntax.tcons (Syntax.tyInt Syntax.w8) Syntax.tnil)))) (Syntax.tcons
+      (Syntax.tyInt Syntax.w32) (Syntax.tcons (Syntax.tyStruct (114 ∷ 101 ∷ 115 ∷ 105 ∷ 100 ∷ 117 ∷ 101 ∷ 58 ∷ 58 ∷ 82 ∷ 101 ∷ 115 ∷ 105 ∷ 100 ∷ 117 ∷ 101 ∷ [])
+      (Syntax.tcons (Syntax.tyStruct (110 ∷ 97 ∷ 109 ∷ 101 ∷ 115 ∷ 58 ∷ 58 ∷ 84 ∷ 104 ∷ 114 ∷ 101 ∷ 101 ∷ []) (Syntax.tcons (Syntax.tyInt Syntax.w8)
+      (Syntax.tcons (Syntax.tyInt Syntax.w8) (Syntax.tcons (Syntax.tyInt Syntax.w8) Syntax.tnil)))) (Syntax.tcons (Syntax.tyInt Syntax.w8) (Syntax.tcons
+      (Syntax.tyStruct (102 ∷ 105 ∷ 101 ∷ 108 ∷ 100 ∷ 115 ∷ 58 ∷ 58 ∷ 82 ∷ 101 ∷ 115 ∷ 105 ∷ 100 ∷ 117 ∷ 101 ∷ 78 ∷ 117 ∷ 109 ∷ 98 ∷ 101 ∷ 114 ∷ [])
+      (Syntax.tcons (Syntax.tyInt Syntax.w32) Syntax.tnil)) (Syntax.tcons (Syntax.tyInt Syntax.w8) Syntax.tnil))))) (Syntax.tcons (Syntax.tyStruct (114 ∷ 101 ∷
+      115 ∷ 105 ∷ 100 ∷ 117 ∷ 101 ∷ 58 ∷ 58 ∷ 82 ∷ 101 ∷ 115 ∷ 105 ∷ 100 ∷ 117 ∷ 101 ∷ []) (Syntax.tcons (Syntax.tyStruct (110 ∷ 97 ∷ 109 ∷ 101 ∷ 115 ∷ 58 ∷ 58 ∷
+      84 ∷ 104 ∷ 114 ∷ 101 ∷ 101 ∷ []) (Syntax.tcons (Syntax.tyInt Syntax.w8) (Syntax.tcons (Syntax.tyInt Syntax.w8) (Syntax.tcons (Syntax.tyInt Syntax.w8)
+      Syntax.tnil)))) (Syntax.tcons (Syntax.tyInt Syntax.w8) (Syntax.tcons (Syntax.tyStruct (102 ∷ 105 ∷ 101 ∷ 108 ∷ 100 ∷ 115 ∷ 58 ∷ 58 ∷ 82 ∷ 101 ∷ 115 ∷ 105 ∷
+      100 ∷ 117 ∷ 101 ∷ 78 ∷ 117 ∷ 109 ∷ 98 ∷ 101 ∷ 114 ∷ []) (Syntax.tcons (Syntax.tyInt Syntax.w32) Syntax.tnil)) (Syntax.tcons (Syntax.tyInt Syntax.w8)
+      Syntax.tnil))))) (Syntax.tcons (Syntax.tyInt Syntax.w32) Syntax.tnil))))))) (Syntax.tcons (Syntax.tyEnum (115 ∷ 104 ∷ 101 ∷ 101 ∷ 116 ∷ 58 ∷ 58 ∷ 82 ∷ 101
+      ∷ 103 ∷ 105 ∷ 115 ∷ 116 ∷ 114 ∷ 97 ∷ 116 ∷ 105 ∷ 111 ∷ 110 ∷ []) (Syntax.ttcons Syntax.tnil (Syntax.ttcons (Syntax.tcons (Syntax.tyStruct (115 ∷ 104 ∷ 101
+      ∷ 101 ∷ 116 ∷ 58 ∷ 58 ∷ 66 ∷ 111 ∷ 110 ∷ 100 ∷ []) (Syntax.tcons (Syntax.tyStruct (110 ∷ 97 ∷ 109 ∷ 101 ∷ 115 ∷ 58 ∷ 58 ∷ 70 ∷ 111 ∷ 117 ∷ 114 ∷ [])
+      (Syntax.tcons (Syntax.tyInt Syntax.w8) (Syntax.tcons (Syntax.tyInt Syntax.w8) (Syntax.tcons (Syntax.tyInt Syntax.w8) (Syntax.tcons (Syntax.tyInt Syntax.w8)
+      Syntax.tnil))))) (Syntax.tcons (Syntax.tyStruct (114 ∷ 101 ∷ 115 ∷ 105 ∷ 100 ∷ 117 ∷ 101 ∷ 58 ∷ 58 ∷ 82 ∷ 101 ∷ 115 ∷ 105 ∷ 100 ∷ 117 ∷ 101 ∷ [])
+      (Syntax.tcons (Syntax.tyStruct (110 ∷ 97 ∷ 109 ∷ 101 ∷ 115 ∷ 58 ∷ 58 ∷ 84 ∷ 104 ∷ 114 ∷ 101 ∷ 101 ∷ []) (Syntax.tcons (Syntax.tyInt Syntax.w8)
+      (Syntax.tcons (Syntax.tyInt Syntax.w8) (Syntax.tcons (Syntax.tyInt Syntax.w8) Syntax.tnil)))) (Syntax.tcons (Syntax.tyInt Syntax.w8) (Syntax.tcons
+      (Syntax.tyStruct (102 ∷ 105 ∷ 101 ∷ 108 ∷ 100 ∷ 115 ∷ 58 ∷ 58 ∷ 82 ∷ 101 ∷ 115 ∷ 105 ∷ 100 ∷ 117 ∷ 101 ∷ 78 ∷ 117 ∷ 109 ∷ 98 ∷ 101 ∷ 114 ∷ [])
+      (Syntax.tcons (Syntax.tyInt Syntax.w32) Syntax.tnil)) (Syntax.tcons (Syntax.tyInt Syntax.w8) Syntax.tnil))))) (Syntax.tcons (Syntax.tyStruct (110 ∷ 97 ∷
+      109 ∷ 101 ∷ 115 ∷ 58 ∷ 58 ∷ 70 ∷ 111 ∷ 117 ∷ 114 ∷ []) (Syntax.tcons (Syntax.tyInt Syntax.w8) (Syntax.tcons (Syntax.tyInt Syntax.w8) (Syntax.tcons
+      (Syntax.tyInt Syntax.w8) (Syntax.tcons (Syntax.tyInt Syntax.w8) Syntax.tnil))))) (Syntax.tcons (Syntax.tyStruct (114 ∷ 101 ∷ 115 ∷ 105 ∷ 100 ∷ 117 ∷ 101 ∷
+      58 ∷ 58 ∷ 82 ∷ 101 ∷ 115 ∷ 105 ∷ 100 ∷ 117 ∷ 101 ∷ []) (Syntax.tcons (Syntax.tyStruct (110 ∷ 97 ∷ 109 ∷ 101 ∷ 115 ∷ 58 ∷ 58 ∷ 84 ∷ 104 ∷ 114 ∷ 101 ∷ 101 ∷
+      []) (Syntax.tcons (Syntax.tyInt Syntax.w8) (Syntax.tcons (Syntax.tyInt Syntax.w8) (Syntax.tcons (Syntax.tyInt Syntax.w8) Syntax.tnil)))) (Syntax.tcons
+      (Syntax.tyInt Syntax.w8) (Syntax.tcons (Syntax.tyStruct (102 ∷ 105 ∷ 101 ∷ 108 ∷ 100 ∷ 115 ∷ 58 ∷ 58 ∷ 82 ∷ 101 ∷ 115 ∷ 105 ∷ 100 ∷ 117 ∷ 101 ∷ 78 ∷ 117 ∷
+      109 ∷ 98 ∷ 101 ∷ 114 ∷ []) (Syntax.tcons (Syntax.tyInt Syntax.w32) Syntax.tnil)) (Syntax.tcons (Syntax.tyInt Syntax.w8) Syntax.tnil))))) Syntax.tnil)))))
+      Syntax.tnil) Syntax.ttnil))) Syntax.tnil))) Syntax.tnil) (Syntax.ttcons (Syntax.tcons (Syntax.tyStruct (99 ∷ 111 ∷ 110 ∷ 101 ∷ 99 ∷ 116 ∷ 58 ∷ 58 ∷ 67 ∷
+      111 ∷ 110 ∷ 101 ∷ 99 ∷ 116 ∷ []) (Syntax.tcons (Syntax.tyStruct (102 ∷ 105 ∷ 101 ∷ 108 ∷ 100 ∷ 115 ∷ 58 ∷ 58 ∷ 83 ∷ 101 ∷ 114 ∷ 105 ∷ 97 ∷ 108 ∷ [])
+      (Syntax.tcons (Syntax.tyInt Syntax.w32) Syntax.tnil)) (Syntax.tcons (Syntax.tyStruct (102 ∷ 105 ∷ 101 ∷ 108 ∷ 100 ∷ 115 ∷ 58 ∷ 58 ∷ 83 ∷ 101 ∷ 114 ∷ 105 ∷
+      97 ∷ 108 ∷ []) (Syntax.tcons (Syntax.tyInt Syntax.w32) Syntax.tnil)) (Syntax.tcons (Syntax.tyStruct (102 ∷ 105 ∷ 101 ∷ 108 ∷ 100 ∷ 115 ∷ 58 ∷ 58 ∷ 83 ∷ 101
+      ∷ 114 ∷ 105 ∷ 97 ∷ 108 ∷ []) (Syntax.tcons (Syntax.tyInt Syntax.w32) Syntax.tnil)) (Syntax.tcons (Syntax.tyStruct (102 ∷ 105 ∷ 101 ∷ 108 ∷ 100 ∷ 115 ∷ 58 ∷
+      58 ∷ 83 ∷ 101 ∷ 114 ∷ 105 ∷ 97 ∷ 108 ∷ []) (Syntax.tcons (Syntax.tyInt Syntax.w32) Syntax.tnil)) (Syntax.tcons (Syntax.tyStruct (102 ∷ 105 ∷ 101 ∷ 108 ∷
+      100 ∷ 115 ∷ 58 ∷ 58 ∷ 83 ∷ 101 ∷ 114 ∷ 105 ∷ 97 ∷ 108 ∷ []) (Syntax.tcons (Syntax.tyInt Syntax.w32) Syntax.tnil)) Syntax.tnil)))))) Syntax.tnil)
+      (Syntax.ttcons (Syntax.tcons (Syntax.tyStruct (109 ∷ 97 ∷ 115 ∷ 116 ∷ 101 ∷ 114 ∷ 58 ∷ 58 ∷ 84 ∷ 97 ∷ 108 ∷ 108 ∷ 121 ∷ []) (Syntax.tcons (Syntax.tyInt
+      Syntax.w32) (Syntax.tcons (Syntax.tyInt Syntax.w32) (Syntax.tcons (Syntax.tyInt Syntax.w32) (Syntax.tcons (Syntax.tyInt Syntax.w32) (Syntax.tcons
+      (Syntax.tyInt Syntax.w32) (Syntax.tcons (Syntax.tyInt Syntax.w32) (Syntax.tcons (Syntax.tyInt Syntax.w32) (Syntax.tcons (Syntax.tyInt Syntax.w32)
+      (Syntax.tcons (Syntax.tyInt Syntax.w32) Syntax.tnil)))))))))) Syntax.tnil) (Syntax.ttcons Syntax.tnil Syntax.ttnil)))))))) Syntax.tnil) Syntax.ttnil))))),
+)
     ∷ (10, Rows'.sc-here Row.sBool) ∷ (11, Rows'.sc-here (Row.sInt Syntax.w8)) ∷ (12, Rows'.any-gone SlotAs.ty) ∷ (13, Rows'.any-gone Syntax.tyBool) ∷ (
       14,
       Rows'.any-gone Syntax.tyBool,
@@ -2761,17 +2769,16 @@ t24 = (0, Rows'.whole (Declared'.row (Apart.apartT Findings.the-type))) ∷ (
       Syntax.w64) Syntax.tnil))))))))),
 ) ∷ (
   5,
-  Rows'.any-gone (Syntax.tyStruct (103 ∷ 97 ∷ 116 ∷ 101 ∷ 58 ∷ 58 ∷ 83 ∷ 112 ∷ 97 ∷ 110 ∷ []) (Syntax.tcons
-      (Syntax.tyInt Syntax.w64) (Syntax.tcons (Syntax.tyInt Syntax.w64) Syntax.tnil))),
+  Rows'.any-gone (Syntax.tyStruct (115 ∷ 101 ∷ 114 ∷ 105 ∷ 97 ∷ 108 ∷ 115 ∷ 58 ∷ 58 ∷ 83 ∷ 112 ∷ 97 ∷ 110 ∷ [])
+      (Syntax.tcons (Syntax.tyInt Syntax.w64) (Syntax.tcons (Syntax.tyInt Syntax.w64) Syntax.tnil))),
 ) ∷ (6, Rows'.any-gone (Syntax.tyInt Syntax.w64)) ∷ (
   7,
-  Rows'.sc-here
-      Row.sBool,
+  Rows'.sc-here Row.sBool,
 ) ∷ (8, Rows'.sc-here (Row.sInt Syntax.w64)) ∷ (
   9,
-  Rows'.any-gone (Syntax.tyEnum (112 ∷ 105 ∷ 101 ∷ 99 ∷ 101 ∷ 115 ∷ 58 ∷ 58 ∷ 76 ∷ 105 ∷ 110 ∷
-      101 ∷ []) (Syntax.ttcons (Syntax.tcons (Syntax.tyInt Syntax.w8) Syntax.tnil) (Syntax.ttcons (Syntax.tcons (Syntax.tyEnum (107 ∷ 105 ∷ 110 ∷ 100 ∷ 115 ∷ 58
-      ∷ 58 ∷ 75 ∷ 105 ∷ 110 ∷ 100 ∷ []) (Syntax.ttcons Syntax.tnil (Syntax.ttcons Syntax.tnil (Syntax.ttcons Syntax.tnil (Syntax.ttcons Syntax.tnil
+  Rows'.any-gone (Syntax.tyEnum (112 ∷ 105 ∷ 101 ∷ 99 ∷ 101 ∷ 115 ∷ 58 ∷ 58 ∷ 76 ∷
+      105 ∷ 110 ∷ 101 ∷ []) (Syntax.ttcons (Syntax.tcons (Syntax.tyInt Syntax.w8) Syntax.tnil) (Syntax.ttcons (Syntax.tcons (Syntax.tyEnum (107 ∷ 105 ∷ 110 ∷ 100
+      ∷ 115 ∷ 58 ∷ 58 ∷ 75 ∷ 105 ∷ 110 ∷ 100 ∷ []) (Syntax.ttcons Syntax.tnil (Syntax.ttcons Syntax.tnil (Syntax.ttcons Syntax.tnil (Syntax.ttcons Syntax.tnil
       (Syntax.ttcons Syntax.tnil (Syntax.ttcons Syntax.tnil (Syntax.ttcons Syntax.tnil (Syntax.ttcons Syntax.tnil (Syntax.ttcons Syntax.tnil (Syntax.ttcons
       Syntax.tnil (Syntax.ttcons Syntax.tnil (Syntax.ttcons Syntax.tnil (Syntax.ttcons Syntax.tnil (Syntax.ttcons Syntax.tnil (Syntax.ttcons Syntax.tnil
       (Syntax.ttcons Syntax.tnil (Syntax.ttcons Syntax.tnil (Syntax.ttcons Syntax.tnil (Syntax.ttcons Syntax.tnil (Syntax.ttcons Syntax.tnil (Syntax.ttcons
@@ -2903,28 +2910,27 @@ t25 = (0, Rows'.whole (Declared'.row (Apart.apartT Findings.the-type))) ∷ (
       Syntax.w64) Syntax.tnil))))))))),
 ) ∷ (
   5,
-  Rows'.any-gone (Syntax.tyStruct (103 ∷ 97 ∷ 116 ∷ 101 ∷ 58 ∷ 58 ∷ 83 ∷ 112 ∷ 97 ∷ 110 ∷ []) (Syntax.tcons
-      (Syntax.tyInt Syntax.w64) (Syntax.tcons (Syntax.tyInt Syntax.w64) Syntax.tnil))),
+  Rows'.any-gone (Syntax.tyStruct (115 ∷ 101 ∷ 114 ∷ 105 ∷ 97 ∷ 108 ∷ 115 ∷ 58 ∷ 58 ∷ 83 ∷ 112 ∷ 97 ∷ 110 ∷ [])
+      (Syntax.tcons (Syntax.tyInt Syntax.w64) (Syntax.tcons (Syntax.tyInt Syntax.w64) Syntax.tnil))),
 ) ∷ (6, Rows'.any-gone (Syntax.tyInt Syntax.w64)) ∷ (
   7,
-  Rows'.any-gone
-      Syntax.tyBool,
+  Rows'.any-gone Syntax.tyBool,
 ) ∷ (8, Rows'.sc-here (Row.sInt Syntax.w64)) ∷ (
   9,
-  Rows'.any-gone (Syntax.tyEnum (112 ∷ 105 ∷ 101 ∷ 99 ∷ 101 ∷ 115 ∷ 58 ∷ 58 ∷ 76 ∷ 105 ∷ 110
-      ∷ 101 ∷ []) (Syntax.ttcons (Syntax.tcons (Syntax.tyInt Syntax.w8) Syntax.tnil) (Syntax.ttcons (Syntax.tcons (Syntax.tyEnum (107 ∷ 105 ∷ 110 ∷ 100 ∷ 115 ∷
-      58 ∷ 58 ∷ 75 ∷ 105 ∷ 110 ∷ 100 ∷ []) (Syntax.ttcons Syntax.tnil (Syntax.ttcons Syntax.tnil (Syntax.ttcons Syntax.tnil (Syntax.ttcons Syntax.tnil
-      (Syntax.ttcons Syntax.tnil (Syntax.ttcons Syntax.tnil (Syntax.ttcons Syntax.tnil (Syntax.ttcons Syntax.tnil (Syntax.ttcons Syntax.tnil (Syntax.ttcons
-      Syntax.tnil (Syntax.ttcons Syntax.tnil (Syntax.ttcons Syntax.tnil (Syntax.ttcons Syntax.tnil (Syntax.ttcons Syntax.tnil (Syntax.ttcons Syntax.tnil
-      (Syntax.ttcons Syntax.tnil (Syntax.ttcons Syntax.tnil (Syntax.ttcons Syntax.tnil (Syntax.ttcons Syntax.tnil (Syntax.ttcons Syntax.tnil (Syntax.ttcons
-      Syntax.tnil (Syntax.ttcons Syntax.tnil (Syntax.ttcons Syntax.tnil (Syntax.ttcons Syntax.tnil (Syntax.ttcons Syntax.tnil (Syntax.ttcons Syntax.tnil
-      (Syntax.ttcons Syntax.tnil (Syntax.ttcons Syntax.tnil Syntax.ttnil))))))))))))))))))))))))))))) (Syntax.tcons (Syntax.tyInt Syntax.w32) Syntax.tnil))
-      (Syntax.ttcons (Syntax.tcons (Syntax.tyEnum (107 ∷ 105 ∷ 110 ∷ 100 ∷ 115 ∷ 58 ∷ 58 ∷ 75 ∷ 105 ∷ 110 ∷ 100 ∷ []) (Syntax.ttcons Syntax.tnil (Syntax.ttcons
+  Rows'.any-gone (Syntax.tyEnum (112 ∷ 105 ∷ 101 ∷ 99 ∷ 101 ∷ 115 ∷ 58 ∷ 58 ∷
+      76 ∷ 105 ∷ 110 ∷ 101 ∷ []) (Syntax.ttcons (Syntax.tcons (Syntax.tyInt Syntax.w8) Syntax.tnil) (Syntax.ttcons (Syntax.tcons (Syntax.tyEnum (107 ∷ 105 ∷ 110
+      ∷ 100 ∷ 115 ∷ 58 ∷ 58 ∷ 75 ∷ 105 ∷ 110 ∷ 100 ∷ []) (Syntax.ttcons Syntax.tnil (Syntax.ttcons Syntax.tnil (Syntax.ttcons Syntax.tnil (Syntax.ttcons
       Syntax.tnil (Syntax.ttcons Syntax.tnil (Syntax.ttcons Syntax.tnil (Syntax.ttcons Syntax.tnil (Syntax.ttcons Syntax.tnil (Syntax.ttcons Syntax.tnil
       (Syntax.ttcons Syntax.tnil (Syntax.ttcons Syntax.tnil (Syntax.ttcons Syntax.tnil (Syntax.ttcons Syntax.tnil (Syntax.ttcons Syntax.tnil (Syntax.ttcons
       Syntax.tnil (Syntax.ttcons Syntax.tnil (Syntax.ttcons Syntax.tnil (Syntax.ttcons Syntax.tnil (Syntax.ttcons Syntax.tnil (Syntax.ttcons Syntax.tnil
       (Syntax.ttcons Syntax.tnil (Syntax.ttcons Syntax.tnil (Syntax.ttcons Syntax.tnil (Syntax.ttcons Syntax.tnil (Syntax.ttcons Syntax.tnil (Syntax.ttcons
-      Syntax.tnil (Syntax.ttcons Syntax.tnil (Syntax.ttcons Syntax.tnil (Syntax.ttcons Syntax.tnil (Syntax.ttcons Syntax.tnil
+      Syntax.tnil (Syntax.ttcons Syntax.tnil (Syntax.ttcons Syntax.tnil Syntax.ttnil))))))))))))))))))))))))))))) (Syntax.tcons (Syntax.tyInt Syntax.w32)
+      Syntax.tnil)) (Syntax.ttcons (Syntax.tcons (Syntax.tyEnum (107 ∷ 105 ∷ 110 ∷ 100 ∷ 115 ∷ 58 ∷ 58 ∷ 75 ∷ 105 ∷ 110 ∷ 100 ∷ []) (Syntax.ttcons Syntax.tnil
+      (Syntax.ttcons Syntax.tnil (Syntax.ttcons Syntax.tnil (Syntax.ttcons Syntax.tnil (Syntax.ttcons Syntax.tnil (Syntax.ttcons Syntax.tnil (Syntax.ttcons
+      Syntax.tnil (Syntax.ttcons Syntax.tnil (Syntax.ttcons Syntax.tnil (Syntax.ttcons Syntax.tnil (Syntax.ttcons Syntax.tnil (Syntax.ttcons Syntax.tnil
+      (Syntax.ttcons Syntax.tnil (Syntax.ttcons Syntax.tnil (Syntax.ttcons Syntax.tnil (Syntax.ttcons Syntax.tnil (Syntax.ttcons Syntax.tnil (Syntax.ttcons
+      Syntax.tnil (Syntax.ttcons Syntax.tnil (Syntax.ttcons Syntax.tnil (Syntax.ttcons Syntax.tnil (Syntax.ttcons Syntax.tnil (Syntax.ttcons Syntax.tnil
+      (Syntax.ttcons Syntax.tnil (Syntax.ttcons Syntax.tnil (Syntax.ttcons Syntax.tnil (Syntax.ttcons Syntax.tnil (Syntax.ttcons Syntax.tnil
       Syntax.ttnil))))))))))))))))))))))))))))) Syntax.tnil) (Syntax.ttcons (Syntax.tcons (Syntax.tyEnum (108 ∷ 105 ∷ 110 ∷ 101 ∷ 58 ∷ 58 ∷ 82 ∷ 101 ∷ 99 ∷ 111 ∷
       114 ∷ 100 ∷ []) (Syntax.ttcons (Syntax.tcons Syntax.tyBool (Syntax.tcons (Syntax.tyStruct (99 ∷ 111 ∷ 111 ∷ 114 ∷ 100 ∷ 105 ∷ 110 ∷ 97 ∷ 116 ∷ 101 ∷ 58 ∷
       58 ∷ 65 ∷ 116 ∷ 111 ∷ 109 ∷ []) (Syntax.tcons (Syntax.tyStruct (99 ∷ 111 ∷ 111 ∷ 114 ∷ 100 ∷ 105 ∷ 110 ∷ 97 ∷ 116 ∷ 101 ∷ 58 ∷ 58 ∷ 73 ∷ 100 ∷ 101 ∷ 110 ∷
@@ -3045,28 +3051,27 @@ t26 = (0, Rows'.whole (Declared'.row (Apart.apartT Findings.the-type))) ∷ (
       Syntax.w64) Syntax.tnil))))))))),
 ) ∷ (
   5,
-  Rows'.any-gone (Syntax.tyStruct (103 ∷ 97 ∷ 116 ∷ 101 ∷ 58 ∷ 58 ∷ 83 ∷ 112 ∷ 97 ∷ 110 ∷ []) (Syntax.tcons
-      (Syntax.tyInt Syntax.w64) (Syntax.tcons (Syntax.tyInt Syntax.w64) Syntax.tnil))),
+  Rows'.any-gone (Syntax.tyStruct (115 ∷ 101 ∷ 114 ∷ 105 ∷ 97 ∷ 108 ∷ 115 ∷ 58 ∷ 58 ∷ 83 ∷ 112 ∷ 97 ∷ 110 ∷ [])
+      (Syntax.tcons (Syntax.tyInt Syntax.w64) (Syntax.tcons (Syntax.tyInt Syntax.w64) Syntax.tnil))),
 ) ∷ (6, Rows'.any-gone (Syntax.tyInt Syntax.w64)) ∷ (
   7,
-  Rows'.any-gone
-      Syntax.tyBool,
+  Rows'.any-gone Syntax.tyBool,
 ) ∷ (8, Rows'.any-gone (Syntax.tyInt Syntax.w64)) ∷ (
   9,
-  Rows'.any-gone (Syntax.tyEnum (112 ∷ 105 ∷ 101 ∷ 99 ∷ 101 ∷ 115 ∷ 58 ∷ 58 ∷ 76 ∷ 105 ∷
-      110 ∷ 101 ∷ []) (Syntax.ttcons (Syntax.tcons (Syntax.tyInt Syntax.w8) Syntax.tnil) (Syntax.ttcons (Syntax.tcons (Syntax.tyEnum (107 ∷ 105 ∷ 110 ∷ 100 ∷ 115
-      ∷ 58 ∷ 58 ∷ 75 ∷ 105 ∷ 110 ∷ 100 ∷ []) (Syntax.ttcons Syntax.tnil (Syntax.ttcons Syntax.tnil (Syntax.ttcons Syntax.tnil (Syntax.ttcons Syntax.tnil
-      (Syntax.ttcons Syntax.tnil (Syntax.ttcons Syntax.tnil (Syntax.ttcons Syntax.tnil (Syntax.ttcons Syntax.tnil (Syntax.ttcons Syntax.tnil (Syntax.ttcons
-      Syntax.tnil (Syntax.ttcons Syntax.tnil (Syntax.ttcons Syntax.tnil (Syntax.ttcons Syntax.tnil (Syntax.ttcons Syntax.tnil (Syntax.ttcons Syntax.tnil
-      (Syntax.ttcons Syntax.tnil (Syntax.ttcons Syntax.tnil (Syntax.ttcons Syntax.tnil (Syntax.ttcons Syntax.tnil (Syntax.ttcons Syntax.tnil (Syntax.ttcons
-      Syntax.tnil (Syntax.ttcons Syntax.tnil (Syntax.ttcons Syntax.tnil (Syntax.ttcons Syntax.tnil (Syntax.ttcons Syntax.tnil (Syntax.ttcons Syntax.tnil
-      (Syntax.ttcons Syntax.tnil (Syntax.ttcons Syntax.tnil Syntax.ttnil))))))))))))))))))))))))))))) (Syntax.tcons (Syntax.tyInt Syntax.w32) Syntax.tnil))
-      (Syntax.ttcons (Syntax.tcons (Syntax.tyEnum (107 ∷ 105 ∷ 110 ∷ 100 ∷ 115 ∷ 58 ∷ 58 ∷ 75 ∷ 105 ∷ 110 ∷ 100 ∷ []) (Syntax.ttcons Syntax.tnil (Syntax.ttcons
+  Rows'.any-gone (Syntax.tyEnum (112 ∷ 105 ∷ 101 ∷ 99 ∷ 101 ∷ 115 ∷ 58 ∷
+      58 ∷ 76 ∷ 105 ∷ 110 ∷ 101 ∷ []) (Syntax.ttcons (Syntax.tcons (Syntax.tyInt Syntax.w8) Syntax.tnil) (Syntax.ttcons (Syntax.tcons (Syntax.tyEnum (107 ∷ 105 ∷
+      110 ∷ 100 ∷ 115 ∷ 58 ∷ 58 ∷ 75 ∷ 105 ∷ 110 ∷ 100 ∷ []) (Syntax.ttcons Syntax.tnil (Syntax.ttcons Syntax.tnil (Syntax.ttcons Syntax.tnil (Syntax.ttcons
       Syntax.tnil (Syntax.ttcons Syntax.tnil (Syntax.ttcons Syntax.tnil (Syntax.ttcons Syntax.tnil (Syntax.ttcons Syntax.tnil (Syntax.ttcons Syntax.tnil
       (Syntax.ttcons Syntax.tnil (Syntax.ttcons Syntax.tnil (Syntax.ttcons Syntax.tnil (Syntax.ttcons Syntax.tnil (Syntax.ttcons Syntax.tnil (Syntax.ttcons
       Syntax.tnil (Syntax.ttcons Syntax.tnil (Syntax.ttcons Syntax.tnil (Syntax.ttcons Syntax.tnil (Syntax.ttcons Syntax.tnil (Syntax.ttcons Syntax.tnil
       (Syntax.ttcons Syntax.tnil (Syntax.ttcons Syntax.tnil (Syntax.ttcons Syntax.tnil (Syntax.ttcons Syntax.tnil (Syntax.ttcons Syntax.tnil (Syntax.ttcons
-      Syntax.tnil (Syntax.ttcons Syntax.tnil (Syntax.ttcons Syntax.tnil (Syntax.ttcons Syntax.tnil (Syntax.ttcons Syntax.tnil
+      Syntax.tnil (Syntax.ttcons Syntax.tnil (Syntax.ttcons Syntax.tnil Syntax.ttnil))))))))))))))))))))))))))))) (Syntax.tcons (Syntax.tyInt Syntax.w32)
+      Syntax.tnil)) (Syntax.ttcons (Syntax.tcons (Syntax.tyEnum (107 ∷ 105 ∷ 110 ∷ 100 ∷ 115 ∷ 58 ∷ 58 ∷ 75 ∷ 105 ∷ 110 ∷ 100 ∷ []) (Syntax.ttcons Syntax.tnil
+      (Syntax.ttcons Syntax.tnil (Syntax.ttcons Syntax.tnil (Syntax.ttcons Syntax.tnil (Syntax.ttcons Syntax.tnil (Syntax.ttcons Syntax.tnil (Syntax.ttcons
+      Syntax.tnil (Syntax.ttcons Syntax.tnil (Syntax.ttcons Syntax.tnil (Syntax.ttcons Syntax.tnil (Syntax.ttcons Syntax.tnil (Syntax.ttcons Syntax.tnil
+      (Syntax.ttcons Syntax.tnil (Syntax.ttcons Syntax.tnil (Syntax.ttcons Syntax.tnil (Syntax.ttcons Syntax.tnil (Syntax.ttcons Syntax.tnil (Syntax.ttcons
+      Syntax.tnil (Syntax.ttcons Syntax.tnil (Syntax.ttcons Syntax.tnil (Syntax.ttcons Syntax.tnil (Syntax.ttcons Syntax.tnil (Syntax.ttcons Syntax.tnil
+      (Syntax.ttcons Syntax.tnil (Syntax.ttcons Syntax.tnil (Syntax.ttcons Syntax.tnil (Syntax.ttcons Syntax.tnil (Syntax.ttcons Syntax.tnil
       Syntax.ttnil))))))))))))))))))))))))))))) Syntax.tnil) (Syntax.ttcons (Syntax.tcons (Syntax.tyEnum (108 ∷ 105 ∷ 110 ∷ 101 ∷ 58 ∷ 58 ∷ 82 ∷ 101 ∷ 99 ∷ 111 ∷
       114 ∷ 100 ∷ []) (Syntax.ttcons (Syntax.tcons Syntax.tyBool (Syntax.tcons (Syntax.tyStruct (99 ∷ 111 ∷ 111 ∷ 114 ∷ 100 ∷ 105 ∷ 110 ∷ 97 ∷ 116 ∷ 101 ∷ 58 ∷
       58 ∷ 65 ∷ 116 ∷ 111 ∷ 109 ∷ []) (Syntax.tcons (Syntax.tyStruct (99 ∷ 111 ∷ 111 ∷ 114 ∷ 100 ∷ 105 ∷ 110 ∷ 97 ∷ 116 ∷ 101 ∷ 58 ∷ 58 ∷ 73 ∷ 100 ∷ 101 ∷ 110 ∷
@@ -3187,28 +3192,27 @@ t27 = (0, Rows'.whole (Declared'.row (Apart.apartT Findings.the-type))) ∷ (
       Syntax.w64) Syntax.tnil))))))))),
 ) ∷ (
   5,
-  Rows'.any-gone (Syntax.tyStruct (103 ∷ 97 ∷ 116 ∷ 101 ∷ 58 ∷ 58 ∷ 83 ∷ 112 ∷ 97 ∷ 110 ∷ []) (Syntax.tcons
-      (Syntax.tyInt Syntax.w64) (Syntax.tcons (Syntax.tyInt Syntax.w64) Syntax.tnil))),
+  Rows'.any-gone (Syntax.tyStruct (115 ∷ 101 ∷ 114 ∷ 105 ∷ 97 ∷ 108 ∷ 115 ∷ 58 ∷ 58 ∷ 83 ∷ 112 ∷ 97 ∷ 110 ∷ [])
+      (Syntax.tcons (Syntax.tyInt Syntax.w64) (Syntax.tcons (Syntax.tyInt Syntax.w64) Syntax.tnil))),
 ) ∷ (6, Rows'.any-gone (Syntax.tyInt Syntax.w64)) ∷ (
   7,
-  Rows'.any-gone
-      Syntax.tyBool,
+  Rows'.any-gone Syntax.tyBool,
 ) ∷ (8, Rows'.any-gone (Syntax.tyInt Syntax.w64)) ∷ (
   9,
-  Rows'.any-gone (Syntax.tyEnum (112 ∷ 105 ∷ 101 ∷ 99 ∷ 101 ∷ 115 ∷ 58 ∷ 58 ∷ 76 ∷ 105 ∷
-      110 ∷ 101 ∷ []) (Syntax.ttcons (Syntax.tcons (Syntax.tyInt Syntax.w8) Syntax.tnil) (Syntax.ttcons (Syntax.tcons (Syntax.tyEnum (107 ∷ 105 ∷ 110 ∷ 100 ∷ 115
-      ∷ 58 ∷ 58 ∷ 75 ∷ 105 ∷ 110 ∷ 100 ∷ []) (Syntax.ttcons Syntax.tnil (Syntax.ttcons Syntax.tnil (Syntax.ttcons Syntax.tnil (Syntax.ttcons Syntax.tnil
-      (Syntax.ttcons Syntax.tnil (Syntax.ttcons Syntax.tnil (Syntax.ttcons Syntax.tnil (Syntax.ttcons Syntax.tnil (Syntax.ttcons Syntax.tnil (Syntax.ttcons
-      Syntax.tnil (Syntax.ttcons Syntax.tnil (Syntax.ttcons Syntax.tnil (Syntax.ttcons Syntax.tnil (Syntax.ttcons Syntax.tnil (Syntax.ttcons Syntax.tnil
-      (Syntax.ttcons Syntax.tnil (Syntax.ttcons Syntax.tnil (Syntax.ttcons Syntax.tnil (Syntax.ttcons Syntax.tnil (Syntax.ttcons Syntax.tnil (Syntax.ttcons
-      Syntax.tnil (Syntax.ttcons Syntax.tnil (Syntax.ttcons Syntax.tnil (Syntax.ttcons Syntax.tnil (Syntax.ttcons Syntax.tnil (Syntax.ttcons Syntax.tnil
-      (Syntax.ttcons Syntax.tnil (Syntax.ttcons Syntax.tnil Syntax.ttnil))))))))))))))))))))))))))))) (Syntax.tcons (Syntax.tyInt Syntax.w32) Syntax.tnil))
-      (Syntax.ttcons (Syntax.tcons (Syntax.tyEnum (107 ∷ 105 ∷ 110 ∷ 100 ∷ 115 ∷ 58 ∷ 58 ∷ 75 ∷ 105 ∷ 110 ∷ 100 ∷ []) (Syntax.ttcons Syntax.tnil (Syntax.ttcons
+  Rows'.any-gone (Syntax.tyEnum (112 ∷ 105 ∷ 101 ∷ 99 ∷ 101 ∷ 115 ∷ 58 ∷
+      58 ∷ 76 ∷ 105 ∷ 110 ∷ 101 ∷ []) (Syntax.ttcons (Syntax.tcons (Syntax.tyInt Syntax.w8) Syntax.tnil) (Syntax.ttcons (Syntax.tcons (Syntax.tyEnum (107 ∷ 105 ∷
+      110 ∷ 100 ∷ 115 ∷ 58 ∷ 58 ∷ 75 ∷ 105 ∷ 110 ∷ 100 ∷ []) (Syntax.ttcons Syntax.tnil (Syntax.ttcons Syntax.tnil (Syntax.ttcons Syntax.tnil (Syntax.ttcons
       Syntax.tnil (Syntax.ttcons Syntax.tnil (Syntax.ttcons Syntax.tnil (Syntax.ttcons Syntax.tnil (Syntax.ttcons Syntax.tnil (Syntax.ttcons Syntax.tnil
       (Syntax.ttcons Syntax.tnil (Syntax.ttcons Syntax.tnil (Syntax.ttcons Syntax.tnil (Syntax.ttcons Syntax.tnil (Syntax.ttcons Syntax.tnil (Syntax.ttcons
       Syntax.tnil (Syntax.ttcons Syntax.tnil (Syntax.ttcons Syntax.tnil (Syntax.ttcons Syntax.tnil (Syntax.ttcons Syntax.tnil (Syntax.ttcons Syntax.tnil
       (Syntax.ttcons Syntax.tnil (Syntax.ttcons Syntax.tnil (Syntax.ttcons Syntax.tnil (Syntax.ttcons Syntax.tnil (Syntax.ttcons Syntax.tnil (Syntax.ttcons
-      Syntax.tnil (Syntax.ttcons Syntax.tnil (Syntax.ttcons Syntax.tnil (Syntax.ttcons Syntax.tnil (Syntax.ttcons Syntax.tnil
+      Syntax.tnil (Syntax.ttcons Syntax.tnil (Syntax.ttcons Syntax.tnil Syntax.ttnil))))))))))))))))))))))))))))) (Syntax.tcons (Syntax.tyInt Syntax.w32)
+      Syntax.tnil)) (Syntax.ttcons (Syntax.tcons (Syntax.tyEnum (107 ∷ 105 ∷ 110 ∷ 100 ∷ 115 ∷ 58 ∷ 58 ∷ 75 ∷ 105 ∷ 110 ∷ 100 ∷ []) (Syntax.ttcons Syntax.tnil
+      (Syntax.ttcons Syntax.tnil (Syntax.ttcons Syntax.tnil (Syntax.ttcons Syntax.tnil (Syntax.ttcons Syntax.tnil (Syntax.ttcons Syntax.tnil (Syntax.ttcons
+      Syntax.tnil (Syntax.ttcons Syntax.tnil (Syntax.ttcons Syntax.tnil (Syntax.ttcons Syntax.tnil (Syntax.ttcons Syntax.tnil (Syntax.ttcons Syntax.tnil
+      (Syntax.ttcons Syntax.tnil (Syntax.ttcons Syntax.tnil (Syntax.ttcons Syntax.tnil (Syntax.ttcons Syntax.tnil (Syntax.ttcons Syntax.tnil (Syntax.ttcons
+      Syntax.tnil (Syntax.ttcons Syntax.tnil (Syntax.ttcons Syntax.tnil (Syntax.ttcons Syntax.tnil (Syntax.ttcons Syntax.tnil (Syntax.ttcons Syntax.tnil
+      (Syntax.ttcons Syntax.tnil (Syntax.ttcons Syntax.tnil (Syntax.ttcons Syntax.tnil (Syntax.ttcons Syntax.tnil (Syntax.ttcons Syntax.tnil
       Syntax.ttnil))))))))))))))))))))))))))))) Syntax.tnil) (Syntax.ttcons (Syntax.tcons (Syntax.tyEnum (108 ∷ 105 ∷ 110 ∷ 101 ∷ 58 ∷ 58 ∷ 82 ∷ 101 ∷ 99 ∷ 111 ∷
       114 ∷ 100 ∷ []) (Syntax.ttcons (Syntax.tcons Syntax.tyBool (Syntax.tcons (Syntax.tyStruct (99 ∷ 111 ∷ 111 ∷ 114 ∷ 100 ∷ 105 ∷ 110 ∷ 97 ∷ 116 ∷ 101 ∷ 58 ∷
       58 ∷ 65 ∷ 116 ∷ 111 ∷ 109 ∷ []) (Syntax.tcons (Syntax.tyStruct (99 ∷ 111 ∷ 111 ∷ 114 ∷ 100 ∷ 105 ∷ 110 ∷ 97 ∷ 116 ∷ 101 ∷ 58 ∷ 58 ∷ 73 ∷ 100 ∷ 101 ∷ 110 ∷
@@ -3327,28 +3331,27 @@ t28 = (0, Rows'.whole (Declared'.row (Apart.apartT Findings.the-type))) ∷ (
       Syntax.w64) Syntax.tnil))))))))),
 ) ∷ (
   5,
-  Rows'.any-gone (Syntax.tyStruct (103 ∷ 97 ∷ 116 ∷ 101 ∷ 58 ∷ 58 ∷ 83 ∷ 112 ∷ 97 ∷ 110 ∷ []) (Syntax.tcons
-      (Syntax.tyInt Syntax.w64) (Syntax.tcons (Syntax.tyInt Syntax.w64) Syntax.tnil))),
+  Rows'.any-gone (Syntax.tyStruct (115 ∷ 101 ∷ 114 ∷ 105 ∷ 97 ∷ 108 ∷ 115 ∷ 58 ∷ 58 ∷ 83 ∷ 112 ∷ 97 ∷ 110 ∷ [])
+      (Syntax.tcons (Syntax.tyInt Syntax.w64) (Syntax.tcons (Syntax.tyInt Syntax.w64) Syntax.tnil))),
 ) ∷ (6, Rows'.any-gone (Syntax.tyInt Syntax.w64)) ∷ (
   7,
-  Rows'.any-gone
-      Syntax.tyBool,
+  Rows'.any-gone Syntax.tyBool,
 ) ∷ (8, Rows'.any-gone (Syntax.tyInt Syntax.w64)) ∷ (
   9,
-  Rows'.any-gone (Syntax.tyEnum (112 ∷ 105 ∷ 101 ∷ 99 ∷ 101 ∷ 115 ∷ 58 ∷ 58 ∷ 76 ∷ 105 ∷
-      110 ∷ 101 ∷ []) (Syntax.ttcons (Syntax.tcons (Syntax.tyInt Syntax.w8) Syntax.tnil) (Syntax.ttcons (Syntax.tcons (Syntax.tyEnum (107 ∷ 105 ∷ 110 ∷ 100 ∷ 115
-      ∷ 58 ∷ 58 ∷ 75 ∷ 105 ∷ 110 ∷ 100 ∷ []) (Syntax.ttcons Syntax.tnil (Syntax.ttcons Syntax.tnil (Syntax.ttcons Syntax.tnil (Syntax.ttcons Syntax.tnil
-      (Syntax.ttcons Syntax.tnil (Syntax.ttcons Syntax.tnil (Syntax.ttcons Syntax.tnil (Syntax.ttcons Syntax.tnil (Syntax.ttcons Syntax.tnil (Syntax.ttcons
-      Syntax.tnil (Syntax.ttcons Syntax.tnil (Syntax.ttcons Syntax.tnil (Syntax.ttcons Syntax.tnil (Syntax.ttcons Syntax.tnil (Syntax.ttcons Syntax.tnil
-      (Syntax.ttcons Syntax.tnil (Syntax.ttcons Syntax.tnil (Syntax.ttcons Syntax.tnil (Syntax.ttcons Syntax.tnil (Syntax.ttcons Syntax.tnil (Syntax.ttcons
-      Syntax.tnil (Syntax.ttcons Syntax.tnil (Syntax.ttcons Syntax.tnil (Syntax.ttcons Syntax.tnil (Syntax.ttcons Syntax.tnil (Syntax.ttcons Syntax.tnil
-      (Syntax.ttcons Syntax.tnil (Syntax.ttcons Syntax.tnil Syntax.ttnil))))))))))))))))))))))))))))) (Syntax.tcons (Syntax.tyInt Syntax.w32) Syntax.tnil))
-      (Syntax.ttcons (Syntax.tcons (Syntax.tyEnum (107 ∷ 105 ∷ 110 ∷ 100 ∷ 115 ∷ 58 ∷ 58 ∷ 75 ∷ 105 ∷ 110 ∷ 100 ∷ []) (Syntax.ttcons Syntax.tnil (Syntax.ttcons
+  Rows'.any-gone (Syntax.tyEnum (112 ∷ 105 ∷ 101 ∷ 99 ∷ 101 ∷ 115 ∷ 58 ∷
+      58 ∷ 76 ∷ 105 ∷ 110 ∷ 101 ∷ []) (Syntax.ttcons (Syntax.tcons (Syntax.tyInt Syntax.w8) Syntax.tnil) (Syntax.ttcons (Syntax.tcons (Syntax.tyEnum (107 ∷ 105 ∷
+      110 ∷ 100 ∷ 115 ∷ 58 ∷ 58 ∷ 75 ∷ 105 ∷ 110 ∷ 100 ∷ []) (Syntax.ttcons Syntax.tnil (Syntax.ttcons Syntax.tnil (Syntax.ttcons Syntax.tnil (Syntax.ttcons
       Syntax.tnil (Syntax.ttcons Syntax.tnil (Syntax.ttcons Syntax.tnil (Syntax.ttcons Syntax.tnil (Syntax.ttcons Syntax.tnil (Syntax.ttcons Syntax.tnil
       (Syntax.ttcons Syntax.tnil (Syntax.ttcons Syntax.tnil (Syntax.ttcons Syntax.tnil (Syntax.ttcons Syntax.tnil (Syntax.ttcons Syntax.tnil (Syntax.ttcons
       Syntax.tnil (Syntax.ttcons Syntax.tnil (Syntax.ttcons Syntax.tnil (Syntax.ttcons Syntax.tnil (Syntax.ttcons Syntax.tnil (Syntax.ttcons Syntax.tnil
       (Syntax.ttcons Syntax.tnil (Syntax.ttcons Syntax.tnil (Syntax.ttcons Syntax.tnil (Syntax.ttcons Syntax.tnil (Syntax.ttcons Syntax.tnil (Syntax.ttcons
-      Syntax.tnil (Syntax.ttcons Syntax.tnil (Syntax.ttcons Syntax.tnil (Syntax.ttcons Syntax.tnil (Syntax.ttcons Syntax.tnil
+      Syntax.tnil (Syntax.ttcons Syntax.tnil (Syntax.ttcons Syntax.tnil Syntax.ttnil))))))))))))))))))))))))))))) (Syntax.tcons (Syntax.tyInt Syntax.w32)
+      Syntax.tnil)) (Syntax.ttcons (Syntax.tcons (Syntax.tyEnum (107 ∷ 105 ∷ 110 ∷ 100 ∷ 115 ∷ 58 ∷ 58 ∷ 75 ∷ 105 ∷ 110 ∷ 100 ∷ []) (Syntax.ttcons Syntax.tnil
+      (Syntax.ttcons Syntax.tnil (Syntax.ttcons Syntax.tnil (Syntax.ttcons Syntax.tnil (Syntax.ttcons Syntax.tnil (Syntax.ttcons Syntax.tnil (Syntax.ttcons
+      Syntax.tnil (Syntax.ttcons Syntax.tnil (Syntax.ttcons Syntax.tnil (Syntax.ttcons Syntax.tnil (Syntax.ttcons Syntax.tnil (Syntax.ttcons Syntax.tnil
+      (Syntax.ttcons Syntax.tnil (Syntax.ttcons Syntax.tnil (Syntax.ttcons Syntax.tnil (Syntax.ttcons Syntax.tnil (Syntax.ttcons Syntax.tnil (Syntax.ttcons
+      Syntax.tnil (Syntax.ttcons Syntax.tnil (Syntax.ttcons Syntax.tnil (Syntax.ttcons Syntax.tnil (Syntax.ttcons Syntax.tnil (Syntax.ttcons Syntax.tnil
+      (Syntax.ttcons Syntax.tnil (Syntax.ttcons Syntax.tnil (Syntax.ttcons Syntax.tnil (Syntax.ttcons Syntax.tnil (Syntax.ttcons Syntax.tnil
       Syntax.ttnil))))))))))))))))))))))))))))) Syntax.tnil) (Syntax.ttcons (Syntax.tcons (Syntax.tyEnum (108 ∷ 105 ∷ 110 ∷ 101 ∷ 58 ∷ 58 ∷ 82 ∷ 101 ∷ 99 ∷ 111 ∷
       114 ∷ 100 ∷ []) (Syntax.ttcons (Syntax.tcons Syntax.tyBool (Syntax.tcons (Syntax.tyStruct (99 ∷ 111 ∷ 111 ∷ 114 ∷ 100 ∷ 105 ∷ 110 ∷ 97 ∷ 116 ∷ 101 ∷ 58 ∷
       58 ∷ 65 ∷ 116 ∷ 111 ∷ 109 ∷ []) (Syntax.tcons (Syntax.tyStruct (99 ∷ 111 ∷ 111 ∷ 114 ∷ 100 ∷ 105 ∷ 110 ∷ 97 ∷ 116 ∷ 101 ∷ 58 ∷ 58 ∷ 73 ∷ 100 ∷ 101 ∷ 110 ∷
@@ -4048,27 +4051,28 @@ t38 = (
       Syntax.w64),
 ) ∷ (4, Rows'.whole (Declared'.row State.the-type)) ∷ (
   5,
-  Rows'.any-gone (Syntax.tyStruct (103 ∷ 97 ∷ 116 ∷ 101 ∷ 58 ∷ 58 ∷ 83 ∷ 112 ∷ 97 ∷ 110
-      ∷ []) (Syntax.tcons (Syntax.tyInt Syntax.w64) (Syntax.tcons (Syntax.tyInt Syntax.w64) Syntax.tnil))),
-) ∷ (6, Rows'.sc-here (Row.sInt Syntax.w64)) ∷ (
-  7,
-  Rows'.sc-here Row.sBool,
-) ∷ (8, Rows'.sc-here (Row.sInt Syntax.w64)) ∷ (
+  Rows'.any-gone (Syntax.tyStruct (115 ∷ 101 ∷ 114 ∷ 105 ∷ 97 ∷ 108 ∷ 115 ∷ 58 ∷ 58 ∷ 83
+      ∷ 112 ∷ 97 ∷ 110 ∷ []) (Syntax.tcons (Syntax.tyInt Syntax.w64) (Syntax.tcons (Syntax.tyInt Syntax.w64) Syntax.tnil))),
+) ∷ (
+  6,
+  Rows'.sc-here (Row.sInt
+      Syntax.w64),
+) ∷ (7, Rows'.sc-here Row.sBool) ∷ (8, Rows'.sc-here (Row.sInt Syntax.w64)) ∷ (
   9,
-  Rows'.any-gone (Syntax.tyEnum (112 ∷ 105 ∷ 101 ∷ 99 ∷ 101 ∷ 115 ∷ 58 ∷ 58 ∷ 76 ∷
-      105 ∷ 110 ∷ 101 ∷ []) (Syntax.ttcons (Syntax.tcons (Syntax.tyInt Syntax.w8) Syntax.tnil) (Syntax.ttcons (Syntax.tcons (Syntax.tyEnum (107 ∷ 105 ∷ 110 ∷ 100
-      ∷ 115 ∷ 58 ∷ 58 ∷ 75 ∷ 105 ∷ 110 ∷ 100 ∷ []) (Syntax.ttcons Syntax.tnil (Syntax.ttcons Syntax.tnil (Syntax.ttcons Syntax.tnil (Syntax.ttcons Syntax.tnil
+  Rows'.any-gone (Syntax.tyEnum (112 ∷ 105 ∷ 101 ∷ 99 ∷ 101 ∷
+      115 ∷ 58 ∷ 58 ∷ 76 ∷ 105 ∷ 110 ∷ 101 ∷ []) (Syntax.ttcons (Syntax.tcons (Syntax.tyInt Syntax.w8) Syntax.tnil) (Syntax.ttcons (Syntax.tcons (Syntax.tyEnum
+      (107 ∷ 105 ∷ 110 ∷ 100 ∷ 115 ∷ 58 ∷ 58 ∷ 75 ∷ 105 ∷ 110 ∷ 100 ∷ []) (Syntax.ttcons Syntax.tnil (Syntax.ttcons Syntax.tnil (Syntax.ttcons Syntax.tnil
       (Syntax.ttcons Syntax.tnil (Syntax.ttcons Syntax.tnil (Syntax.ttcons Syntax.tnil (Syntax.ttcons Syntax.tnil (Syntax.ttcons Syntax.tnil (Syntax.ttcons
       Syntax.tnil (Syntax.ttcons Syntax.tnil (Syntax.ttcons Syntax.tnil (Syntax.ttcons Syntax.tnil (Syntax.ttcons Syntax.tnil (Syntax.ttcons Syntax.tnil
       (Syntax.ttcons Syntax.tnil (Syntax.ttcons Syntax.tnil (Syntax.ttcons Syntax.tnil (Syntax.ttcons Syntax.tnil (Syntax.ttcons Syntax.tnil (Syntax.ttcons
       Syntax.tnil (Syntax.ttcons Syntax.tnil (Syntax.ttcons Syntax.tnil (Syntax.ttcons Syntax.tnil (Syntax.ttcons Syntax.tnil (Syntax.ttcons Syntax.tnil
-      (Syntax.ttcons Syntax.tnil (Syntax.ttcons Syntax.tnil Syntax.ttnil))))))))))))))))))))))))))))) (Syntax.tcons (Syntax.tyInt Syntax.w32) Syntax.tnil))
-      (Syntax.ttcons (Syntax.tcons (Syntax.tyEnum (107 ∷ 105 ∷ 110 ∷ 100 ∷ 115 ∷ 58 ∷ 58 ∷ 75 ∷ 105 ∷ 110 ∷ 100 ∷ []) (Syntax.ttcons Syntax.tnil (Syntax.ttcons
+      (Syntax.ttcons Syntax.tnil (Syntax.ttcons Syntax.tnil (Syntax.ttcons Syntax.tnil Syntax.ttnil))))))))))))))))))))))))))))) (Syntax.tcons (Syntax.tyInt
+      Syntax.w32) Syntax.tnil)) (Syntax.ttcons (Syntax.tcons (Syntax.tyEnum (107 ∷ 105 ∷ 110 ∷ 100 ∷ 115 ∷ 58 ∷ 58 ∷ 75 ∷ 105 ∷ 110 ∷ 100 ∷ []) (Syntax.ttcons
       Syntax.tnil (Syntax.ttcons Syntax.tnil (Syntax.ttcons Syntax.tnil (Syntax.ttcons Syntax.tnil (Syntax.ttcons Syntax.tnil (Syntax.ttcons Syntax.tnil
       (Syntax.ttcons Syntax.tnil (Syntax.ttcons Syntax.tnil (Syntax.ttcons Syntax.tnil (Syntax.ttcons Syntax.tnil (Syntax.ttcons Syntax.tnil (Syntax.ttcons
       Syntax.tnil (Syntax.ttcons Syntax.tnil (Syntax.ttcons Syntax.tnil (Syntax.ttcons Syntax.tnil (Syntax.ttcons Syntax.tnil (Syntax.ttcons Syntax.tnil
       (Syntax.ttcons Syntax.tnil (Syntax.ttcons Syntax.tnil (Syntax.ttcons Syntax.tnil (Syntax.ttcons Syntax.tnil (Syntax.ttcons Syntax.tnil (Syntax.ttcons
-      Syntax.tnil (Syntax.ttcons Syntax.tnil (Syntax.ttcons Syntax.tnil (Syntax.ttcons Syntax.tnil (Syntax.ttcons Syntax.tnil
+      Syntax.tnil (Syntax.ttcons Syntax.tnil (Syntax.ttcons Syntax.tnil (Syntax.ttcons Syntax.tnil (Syntax.ttcons Syntax.tnil (Syntax.ttcons Syntax.tnil
       Syntax.ttnil))))))))))))))))))))))))))))) Syntax.tnil) (Syntax.ttcons (Syntax.tcons (Syntax.tyEnum (108 ∷ 105 ∷ 110 ∷ 101 ∷ 58 ∷ 58 ∷ 82 ∷ 101 ∷ 99 ∷ 111 ∷
       114 ∷ 100 ∷ []) (Syntax.ttcons (Syntax.tcons Syntax.tyBool (Syntax.tcons (Syntax.tyStruct (99 ∷ 111 ∷ 111 ∷ 114 ∷ 100 ∷ 105 ∷ 110 ∷ 97 ∷ 116 ∷ 101 ∷ 58 ∷
       58 ∷ 65 ∷ 116 ∷ 111 ∷ 109 ∷ []) (Syntax.tcons (Syntax.tyStruct (99 ∷ 111 ∷ 111 ∷ 114 ∷ 100 ∷ 105 ∷ 110 ∷ 97 ∷ 116 ∷ 101 ∷ 58 ∷ 58 ∷ 73 ∷ 100 ∷ 101 ∷ 110 ∷
@@ -4184,38 +4188,167 @@ t39 = (
       Syntax.tnil))))))))),
 ) ∷ (
   5,
-  Rows'.any-gone (Syntax.tyStruct (103 ∷ 97 ∷ 116 ∷ 101 ∷ 58 ∷ 58 ∷ 83 ∷ 112 ∷ 97 ∷ 110 ∷ []) (Syntax.tcons (Syntax.tyInt
-      Syntax.w64) (Syntax.tcons (Syntax.tyInt Syntax.w64) Syntax.tnil))),
-) ∷ (6, Rows'.sc-here (Row.sInt Syntax.w64)) ∷ (7, Rows'.sc-here Row.sBool) ∷ (
-  8,
-  Rows'.sc-here (Row.sInt Syntax.w64),
+  Rows'.any-gone (Syntax.tyStruct (115 ∷ 101 ∷ 114 ∷ 105 ∷ 97 ∷ 108 ∷ 115 ∷ 58 ∷ 58 ∷ 83 ∷ 112 ∷ 97 ∷ 110 ∷ []) (Syntax.tcons
+      (Syntax.tyInt Syntax.w64) (Syntax.tcons (Syntax.tyInt Syntax.w64) Syntax.tnil))),
+) ∷ (6, Rows'.sc-here (Row.sInt Syntax.w64)) ∷ (7, Rows'.sc-here Row.sBool)
+    ∷ (8, Rows'.sc-here (Row.sInt Syntax.w64)) ∷ (
+      9,
+      Rows'.any-gone (Syntax.tyEnum (112 ∷ 105 ∷ 101 ∷ 99 ∷ 101 ∷ 115 ∷ 58 ∷ 58 ∷ 76 ∷ 105 ∷ 110 ∷ 101 ∷ [])
+          (Syntax.ttcons (Syntax.tcons (Syntax.tyInt Syntax.w8) Syntax.tnil) (Syntax.ttcons (Syntax.tcons (Syntax.tyEnum (107 ∷ 105 ∷ 110 ∷ 100 ∷ 115 ∷ 58 ∷ 58 ∷ 75
+          ∷ 105 ∷ 110 ∷ 100 ∷ []) (Syntax.ttcons Syntax.tnil (Syntax.ttcons Syntax.tnil (Syntax.ttcons Syntax.tnil (Syntax.ttcons Syntax.tnil (Syntax.ttcons
+          Syntax.tnil (Syntax.ttcons Syntax.tnil (Syntax.ttcons Syntax.tnil (Syntax.ttcons Syntax.tnil (Syntax.ttcons Syntax.tnil (Syntax.ttcons Syntax.tnil
+          (Syntax.ttcons Syntax.tnil (Syntax.ttcons Syntax.tnil (Syntax.ttcons Syntax.tnil (Syntax.ttcons Syntax.tnil (Syntax.ttcons Syntax.tnil (Syntax.ttcons
+          Syntax.tnil (Syntax.ttcons Syntax.tnil (Syntax.ttcons Syntax.tnil (Syntax.ttcons Syntax.tnil (Syntax.ttcons Syntax.tnil (Syntax.ttcons Syntax.tnil
+          (Syntax.ttcons Syntax.tnil (Syntax.ttcons Syntax.tnil (Syntax.ttcons Syntax.tnil (Syntax.ttcons Syntax.tnil (Syntax.ttcons Syntax.tnil (Syntax.ttcons
+          Syntax.tnil (Syntax.ttcons Syntax.tnil Syntax.ttnil))))))))))))))))))))))))))))) (Syntax.tcons (Syntax.tyInt Syntax.w32) Syntax.tnil)) (Syntax.ttcons
+          (Syntax.tcons (Syntax.tyEnum (107 ∷ 105 ∷ 110 ∷ 100 ∷ 115 ∷ 58 ∷ 58 ∷ 75 ∷ 105 ∷ 110 ∷ 100 ∷ []) (Syntax.ttcons Syntax.tnil (Syntax.ttcons Syntax.tnil
+          (Syntax.ttcons Syntax.tnil (Syntax.ttcons Syntax.tnil (Syntax.ttcons Syntax.tnil (Syntax.ttcons Syntax.tnil (Syntax.ttcons Syntax.tnil (Syntax.ttcons
+          Syntax.tnil (Syntax.ttcons Syntax.tnil (Syntax.ttcons Syntax.tnil (Syntax.ttcons Syntax.tnil (Syntax.ttcons Syntax.tnil (Syntax.ttcons Syntax.tnil
+          (Syntax.ttcons Syntax.tnil (Syntax.ttcons Syntax.tnil (Syntax.ttcons Syntax.tnil (Syntax.ttcons Syntax.tnil (Syntax.ttcons Syntax.tnil (Syntax.ttcons
+          Syntax.tnil (Syntax.ttcons Syntax.tnil (Syntax.ttcons Syntax.tnil (Syntax.ttcons Syntax.tnil (Syntax.ttcons Syntax.tnil (Syntax.ttcons Syntax.tnil
+          (Syntax.ttcons Syntax.tnil (Syntax.ttcons Syntax.tnil (Syntax.ttcons Syntax.tnil (Syntax.ttcons Syntax.tnil Syntax.ttnil)))))))))))))))))))))))))))))
+          Syntax.tnil) (Syntax.ttcons (Syntax.tcons (Syntax.tyEnum (108 ∷ 105 ∷ 110 ∷ 101 ∷ 58 ∷ 58 ∷ 82 ∷ 101 ∷ 99 ∷ 111 ∷ 114 ∷ 100 ∷ []) (Syntax.ttcons
+          (Syntax.tcons Syntax.tyBool (Syntax.tcons (Syntax.tyStruct (99 ∷ 111 ∷ 111 ∷ 114 ∷ 100 ∷ 105 ∷ 110 ∷ 97 ∷ 116 ∷ 101 ∷ 58 ∷ 58 ∷ 65 ∷ 116 ∷ 111 ∷ 109 ∷ [])
+          (Syntax.tcons (Syntax.tyStruct (99 ∷ 111 ∷ 111 ∷ 114 ∷ 100 ∷ 105 ∷ 110 ∷ 97 ∷ 116 ∷ 101 ∷ 58 ∷ 58 ∷ 73 ∷ 100 ∷ 101 ∷ 110 ∷ 116 ∷ 105 ∷ 116 ∷ 121 ∷ [])
+          (Syntax.tcons (Syntax.tyStruct (102 ∷ 105 ∷ 101 ∷ 108 ∷ 100 ∷ 115 ∷ 58 ∷ 58 ∷ 83 ∷ 101 ∷ 114 ∷ 105 ∷ 97 ∷ 108 ∷ []) (Syntax.tcons (Syntax.tyInt Syntax.w32)
+          Syntax.tnil)) (Syntax.tcons (Syntax.tyStruct (110 ∷ 97 ∷ 109 ∷ 101 ∷ 115 ∷ 58 ∷ 58 ∷ 70 ∷ 111 ∷ 117 ∷ 114 ∷ []) (Syntax.tcons (Syntax.tyInt Syntax.w8)
+          (Syntax.tcons (Syntax.tyInt Syntax.w8) (Syntax.tcons (Syntax.tyInt Syntax.w8) (Syntax.tcons (Syntax.tyInt Syntax.w8) Syntax.tnil))))) (Syntax.tcons
+          (Syntax.tyInt Syntax.w8) (Syntax.tcons (Syntax.tyStruct (114 ∷ 101 ∷ 115 ∷ 105 ∷ 100 ∷ 117 ∷ 101 ∷ 58 ∷ 58 ∷ 82 ∷ 101 ∷ 115 ∷ 105 ∷ 100 ∷ 117 ∷ 101 ∷ [])
+          (Syntax.tcons (Syntax.tyStruct (110 ∷ 97 ∷ 109 ∷ 101 ∷ 115 ∷ 58 ∷ 58 ∷ 84 ∷ 104 ∷ 114 ∷ 101 ∷ 101 ∷ []) (Syntax.tcons (Syntax.tyInt Syntax.w8)
+          (Syntax.tcons (Syntax.tyInt Syntax.w8) (Syntax.tcons (Syntax.tyInt Syntax.w8) Syntax.tnil)))) (Syntax.tcons (Syntax.tyInt Syntax.w8) (Syntax.tcons
+          (Syntax.tyStruct (102 ∷ 105 ∷ 101 ∷ 108 ∷ 100 ∷ 115 ∷ 58 ∷ 58 ∷ 82 ∷ 101 ∷ 115 ∷ 105 ∷ 100 ∷ 117 ∷ 101 ∷ 78 ∷ 117 ∷ 109 ∷ 98 ∷ 101 ∷ 114 ∷ [])
+          (Syntax.tcons (Syntax.tyInt Syntax.w32) Syntax.tnil)) (Syntax.tcons (Syntax.tyInt Syntax.w8) Syntax.tnil))))) Syntax.tnil))))) (Syntax.tcons
+          (Syntax.tyStruct (99 ∷ 111 ∷ 111 ∷ 114 ∷ 100 ∷ 105 ∷ 110 ∷ 97 ∷ 116 ∷ 101 ∷ 58 ∷ 58 ∷ 77 ∷ 101 ∷ 97 ∷ 115 ∷ 117 ∷ 114 ∷ 101 ∷ []) (Syntax.tcons
+          (Syntax.tyStruct (99 ∷ 111 ∷ 111 ∷ 114 ∷ 100 ∷ 105 ∷ 110 ∷ 97 ∷ 116 ∷ 101 ∷ 58 ∷ 58 ∷ 80 ∷ 111 ∷ 115 ∷ 105 ∷ 116 ∷ 105 ∷ 111 ∷ 110 ∷ []) (Syntax.tcons
+          (Syntax.tyInt Syntax.w32) (Syntax.tcons (Syntax.tyInt Syntax.w32) (Syntax.tcons (Syntax.tyInt Syntax.w32) Syntax.tnil)))) (Syntax.tcons (Syntax.tyInt
+          Syntax.w32) (Syntax.tcons (Syntax.tyInt Syntax.w32) Syntax.tnil)))) (Syntax.tcons (Syntax.tyStruct (99 ∷ 111 ∷ 111 ∷ 114 ∷ 100 ∷ 105 ∷ 110 ∷ 97 ∷ 116 ∷ 101
+          ∷ 58 ∷ 58 ∷ 83 ∷ 112 ∷ 101 ∷ 99 ∷ 105 ∷ 101 ∷ 115 ∷ []) (Syntax.tcons (Syntax.tyStruct (110 ∷ 97 ∷ 109 ∷ 101 ∷ 115 ∷ 58 ∷ 58 ∷ 80 ∷ 97 ∷ 105 ∷ 114 ∷ [])
+          (Syntax.tcons (Syntax.tyInt Syntax.w8) (Syntax.tcons (Syntax.tyInt Syntax.w8) Syntax.tnil))) (Syntax.tcons (Syntax.tyStruct (110 ∷ 97 ∷ 109 ∷ 101 ∷ 115 ∷
+          58 ∷ 58 ∷ 80 ∷ 97 ∷ 105 ∷ 114 ∷ []) (Syntax.tcons (Syntax.tyInt Syntax.w8) (Syntax.tcons (Syntax.tyInt Syntax.w8) Syntax.tnil))) Syntax.tnil)))
+          Syntax.tnil)))) Syntax.tnil)) (Syntax.ttcons (Syntax.tcons (Syntax.tyStruct (116 ∷ 101 ∷ 114 ∷ 58 ∷ 58 ∷ 84 ∷ 101 ∷ 114 ∷ []) (Syntax.tcons
+          (Syntax.tyStruct (102 ∷ 105 ∷ 101 ∷ 108 ∷ 100 ∷ 115 ∷ 58 ∷ 58 ∷ 83 ∷ 101 ∷ 114 ∷ 105 ∷ 97 ∷ 108 ∷ []) (Syntax.tcons (Syntax.tyInt Syntax.w32) Syntax.tnil))
+          (Syntax.tcons (Syntax.tyStruct (114 ∷ 101 ∷ 115 ∷ 105 ∷ 100 ∷ 117 ∷ 101 ∷ 58 ∷ 58 ∷ 82 ∷ 101 ∷ 115 ∷ 105 ∷ 100 ∷ 117 ∷ 101 ∷ []) (Syntax.tcons
+          (Syntax.tyStruct (110 ∷ 97 ∷ 109 ∷ 101 ∷ 115 ∷ 58 ∷ 58 ∷ 84 ∷ 104 ∷ 114 ∷ 101 ∷ 101 ∷ []) (Syntax.tcons (Syntax.tyInt Syntax.w8) (Syntax.tcons
+          (Syntax.tyInt Syntax.w8) (Syntax.tcons (Syntax.tyInt Syntax.w8) Syntax.tnil)))) (Syntax.tcons (Syntax.tyInt Syntax.w8) (Syntax.tcons (Syntax.tyStruct (102
+          ∷ 105 ∷ 101 ∷ 108 ∷ 100 ∷ 115 ∷ 58 ∷ 58 ∷ 82 ∷ 101 ∷ 115 ∷ 105 ∷ 100 ∷ 117 ∷ 101 ∷ 78 ∷ 117 ∷ 109 ∷ 98 ∷ 101 ∷ 114 ∷ []) (Syntax.tcons (Syntax.tyInt
+          Syntax.w32) Syntax.tnil)) (Syntax.tcons (Syntax.tyInt Syntax.w8) Syntax.tnil))))) Syntax.tnil))) Syntax.tnil) (Syntax.ttcons (Syntax.tcons (Syntax.tyStruct
+          (104 ∷ 101 ∷ 108 ∷ 105 ∷ 120 ∷ 58 ∷ 58 ∷ 72 ∷ 101 ∷ 108 ∷ 105 ∷ 120 ∷ []) (Syntax.tcons (Syntax.tyStruct (104 ∷ 101 ∷ 108 ∷ 105 ∷ 120 ∷ 58 ∷ 58 ∷ 69 ∷ 120
+          ∷ 116 ∷ 101 ∷ 110 ∷ 116 ∷ []) (Syntax.tcons (Syntax.tyInt Syntax.w32) (Syntax.tcons (Syntax.tyStruct (110 ∷ 97 ∷ 109 ∷ 101 ∷ 115 ∷ 58 ∷ 58 ∷ 84 ∷ 104 ∷ 114
+          ∷ 101 ∷ 101 ∷ []) (Syntax.tcons (Syntax.tyInt Syntax.w8) (Syntax.tcons (Syntax.tyInt Syntax.w8) (Syntax.tcons (Syntax.tyInt Syntax.w8) Syntax.tnil))))
+          (Syntax.tcons (Syntax.tyStruct (114 ∷ 101 ∷ 115 ∷ 105 ∷ 100 ∷ 117 ∷ 101 ∷ 58 ∷ 58 ∷ 82 ∷ 101 ∷ 115 ∷ 105 ∷ 100 ∷ 117 ∷ 101 ∷ []) (Syntax.tcons
+          (Syntax.tyStruct (110 ∷ 97 ∷ 109 ∷ 101 ∷ 115 ∷ 58 ∷ 58 ∷ 84 ∷ 104 ∷ 114 ∷ 101 ∷ 101 ∷ []) (Syntax.tcons (Syntax.tyInt Syntax.w8) (Syntax.tcons
+          (Syntax.tyInt Syntax.w8) (Syntax.tcons (Syntax.tyInt Syntax.w8) Syntax.tnil)))) (Syntax.tcons (Syntax.tyInt Syntax.w8) (Syntax.tcons (Syntax.tyStruct (102
+          ∷ 105 ∷ 101 ∷ 108 ∷ 100 ∷ 115 ∷ 58 ∷ 58 ∷ 82 ∷ 101 ∷ 115 ∷ 105 ∷ 100 ∷ 117 ∷ 101 ∷ 78 ∷ 117 ∷ 109 ∷ 98 ∷ 101 ∷ 114 ∷ []) (Syntax.tcons (Syntax.tyInt
+          Syntax.w32) Syntax.tnil)) (Syntax.tcons (Syntax.tyInt Syntax.w8) Syntax.tnil))))) (Syntax.tcons (Syntax.tyStruct (114 ∷ 101 ∷ 115 ∷ 105 ∷ 100 ∷ 117 ∷ 101 ∷
+          58 ∷ 58 ∷ 82 ∷ 101 ∷ 115 ∷ 105 ∷ 100 ∷ 117 ∷ 101 ∷ []) (Syntax.tcons (Syntax.tyStruct (110 ∷ 97 ∷ 109 ∷ 101 ∷ 115 ∷ 58 ∷ 58 ∷ 84 ∷ 104 ∷ 114 ∷ 101 ∷ 101 ∷
+          []) (Syntax.tcons (Syntax.tyInt Syntax.w8) (Syntax.tcons (Syntax.tyInt Syntax.w8) (Syntax.tcons (Syntax.tyInt Syntax.w8) Syntax.tnil)))) (Syntax.tcons
+          (Syntax.tyInt Syntax.w8) (Syntax.tcons (Syntax.tyStruct (102 ∷ 105 ∷ 101 ∷ 108 ∷ 100 ∷ 115 ∷ 58 ∷ 58 ∷ 82 ∷ 101 ∷ 115 ∷ 105 ∷ 100 ∷ 117 ∷ 101 ∷ 78 ∷ 117 ∷
+          109 ∷ 98 ∷ 101 ∷ 114 ∷ []) (Syntax.tcons (Syntax.tyInt Syntax.w32) Syntax.tnil)) (Syntax.tcons (Syntax.tyInt Syntax.w8) Syntax.tnil))))) Syntax.tnil)))))
+          (Syntax.tcons (Syntax.tyInt Syntax.w32) (Syntax.tcons (Syntax.tyStruct (104 ∷ 101 ∷ 108 ∷ 105 ∷ 120 ∷ 58 ∷ 58 ∷ 67 ∷ 111 ∷ 109 ∷ 109 ∷ 101 ∷ 110 ∷ 116 ∷
+          []) (Syntax.tcons (Syntax.tyInt Syntax.w64) (Syntax.tcons (Syntax.tyInt Syntax.w64) (Syntax.tcons (Syntax.tyInt Syntax.w64) (Syntax.tcons (Syntax.tyInt
+          Syntax.w64) Syntax.tnil))))) (Syntax.tcons (Syntax.tyInt Syntax.w32) Syntax.tnil))))) Syntax.tnil) (Syntax.ttcons (Syntax.tcons (Syntax.tyStruct (115 ∷ 104
+          ∷ 101 ∷ 101 ∷ 116 ∷ 58 ∷ 58 ∷ 83 ∷ 104 ∷ 101 ∷ 101 ∷ 116 ∷ []) (Syntax.tcons (Syntax.tyStruct (115 ∷ 104 ∷ 101 ∷ 101 ∷ 116 ∷ 58 ∷ 58 ∷ 83 ∷ 116 ∷ 114 ∷ 97
+          ∷ 110 ∷ 100 ∷ []) (Syntax.tcons (Syntax.tyInt Syntax.w32) (Syntax.tcons (Syntax.tyStruct (110 ∷ 97 ∷ 109 ∷ 101 ∷ 115 ∷ 58 ∷ 58 ∷ 84 ∷ 104 ∷ 114 ∷ 101 ∷ 101
+          ∷ []) (Syntax.tcons (Syntax.tyInt Syntax.w8) (Syntax.tcons (Syntax.tyInt Syntax.w8) (Syntax.tcons (Syntax.tyInt Syntax.w8) Syntax.tnil)))) (Syntax.tcons
+          (Syntax.tyInt Syntax.w32) (Syntax.tcons (Syntax.tyStruct (114 ∷ 101 ∷ 115 ∷ 105 ∷ 100 ∷ 117 ∷ 101 ∷ 58 ∷ 58 ∷ 82 ∷ 101 ∷ 115 ∷ 105 ∷ 100 ∷ 117 ∷ 101 ∷ [])
+          (Syntax.tcons (Syntax.tyStruct (110 ∷ 97 ∷ 109 ∷ 101 ∷ 115 ∷ 58 ∷ 58 ∷ 84 ∷ 104 ∷ 114 ∷ 101 ∷ 101 ∷ []) (Syntax.tcons (Syntax.tyInt Syntax.w8)
+          (Syntax.tcons (Syntax.tyInt Syntax.w8) (Syntax.tcons (Syntax.tyInt Syntax.w8) Syntax.tnil)))) (Syntax.tcons (Syntax.tyInt Syntax.w8) (Syntax.tcons
+          (Syntax.tyStruct (102 ∷ 105 ∷ 101 ∷ 108 ∷ 100 ∷ 115 ∷ 58 ∷ 58 ∷ 82 ∷ 101 ∷ 115 ∷ 105 ∷ 100 ∷ 117 ∷ 101 ∷ 78 ∷ 117 ∷ 109 ∷ 98 ∷ 101 ∷ 114 ∷ [])
+          (Syntax.tcons (Syntax.tyInt Syntax.w32) Syntax.tnil)) (Syntax.tcons (Syntax.tyInt Syntax.w8) Syntax.tnil))))) (Syntax.tcons (Syntax.tyStruct (114 ∷ 101 ∷
+          115 ∷ 105 ∷ 100 ∷ 117 ∷ 101 ∷ 58 ∷ 58 ∷ 82 ∷ 101 ∷ 115 ∷ 105 ∷ 100 ∷ 117 ∷ 101 ∷ []) (Syntax.tcons (Syntax.tyStruct (110 ∷ 97 ∷ 109 ∷ 101 ∷ 115 ∷ 58 ∷ 58 ∷
+          84 ∷ 104 ∷ 114 ∷ 101 ∷ 101 ∷ []) (Syntax.tcons (Syntax.tyInt Syntax.w8) (Syntax.tcons (Syntax.tyInt Syntax.w8) (Syntax.tcons (Syntax.tyInt Syntax.w8)
+          Syntax.tnil)))) (Syntax.tcons (Syntax.tyInt Syntax.w8) (Syntax.tcons (Syntax.tyStruct (102 ∷ 105 ∷ 101 ∷ 108 ∷ 100 ∷ 115 ∷ 58 ∷ 58 ∷ 82 ∷ 101 ∷ 115 ∷ 105 ∷
+          100 ∷ 117 ∷ 101 ∷ 78 ∷ 117 ∷ 109 ∷ 98 ∷ 101 ∷ 114 ∷ []) (Syntax.tcons (Syntax.tyInt Syntax.w32) Syntax.tnil)) (Syntax.tcons (Syntax.tyInt Syntax.w8)
+          Syntax.tnil))))) (Syntax.tcons (Syntax.tyInt Syntax.w32) Syntax.tnil))))))) (Syntax.tcons (Syntax.tyEnum (115 ∷ 104 ∷ 101 ∷ 101 ∷ 116 ∷ 58 ∷ 58 ∷ 82 ∷ 101
+          ∷ 103 ∷ 105 ∷ 115 ∷ 116 ∷ 114 ∷ 97 ∷ 116 ∷ 105 ∷ 111 ∷ 110 ∷ []) (Syntax.ttcons Syntax.tnil (Syntax.ttcons (Syntax.tcons (Syntax.tyStruct (115 ∷ 104 ∷ 101
+          ∷ 101 ∷ 116 ∷ 58 ∷ 58 ∷ 66 ∷ 111 ∷ 110 ∷ 100 ∷ []) (Syntax.tcons (Syntax.tyStruct (110 ∷ 97 ∷ 109 ∷ 101 ∷ 115 ∷ 58 ∷ 58 ∷ 70 ∷ 111 ∷ 117 ∷ 114 ∷ [])
+          (Syntax.tcons (Syntax.tyInt Syntax.w8) (Syntax.tcons (Syntax.tyInt Syntax.w8) (Syntax.tcons (Syntax.tyInt Syntax.w8) (Syntax.tcons (Syntax.tyInt Syntax.w8)
+          Syntax.tnil))))) (Syntax.tcons (Syntax.tyStruct (114 ∷ 101 ∷ 115 ∷ 105 ∷ 100 ∷ 117 ∷ 101 ∷ 58 ∷ 58 ∷ 82 ∷ 101 ∷ 115 ∷ 105 ∷ 100 ∷ 117 ∷ 101 ∷ [])
+          (Syntax.tcons (Syntax.tyStruct (110 ∷ 97 ∷ 109 ∷ 101 ∷ 115 ∷ 58 ∷ 58 ∷ 84 ∷ 104 ∷ 114 ∷ 101 ∷ 101 ∷ []) (Syntax.tcons (Syntax.tyInt Syntax.w8)
+          (Syntax.tcons (Syntax.tyInt Syntax.w8) (Syntax.tcons (Syntax.tyInt Syntax.w8) Syntax.tnil)))) (Syntax.tcons (Syntax.tyInt Syntax.w8) (Syntax.tcons
+          (Syntax.tyStruct (102 ∷ 105 ∷ 101 ∷ 108 ∷ 100 ∷ 115 ∷ 58 ∷ 58 ∷ 82 ∷ 101 ∷ 115 ∷ 105 ∷ 100 ∷ 117 ∷ 101 ∷ 78 ∷ 117 ∷ 109 ∷ 98 ∷ 101 ∷ 114 ∷ [])
+          (Syntax.tcons (Syntax.tyInt Syntax.w32) Syntax.tnil)) (Syntax.tcons (Syntax.tyInt Syntax.w8) Syntax.tnil))))) (Syntax.tcons (Syntax.tyStruct (110 ∷ 97 ∷
+          109 ∷ 101 ∷ 115 ∷ 58 ∷ 58 ∷ 70 ∷ 111 ∷ 117 ∷ 114 ∷ []) (Syntax.tcons (Syntax.tyInt Syntax.w8) (Syntax.tcons (Syntax.tyInt Syntax.w8) (Syntax.tcons
+          (Syntax.tyInt Syntax.w8) (Syntax.tcons (Syntax.tyInt Syntax.w8) Syntax.tnil))))) (Syntax.tcons (Syntax.tyStruct (114 ∷ 101 ∷ 115 ∷ 105 ∷ 100 ∷ 117 ∷ 101 ∷
+          58 ∷ 58 ∷ 82 ∷ 101 ∷ 115 ∷ 105 ∷ 100 ∷ 117 ∷ 101 ∷ []) (Syntax.tcons (Syntax.tyStruct (110 ∷ 97 ∷ 109 ∷ 101 ∷ 115 ∷ 58 ∷ 58 ∷ 84 ∷ 104 ∷ 114 ∷ 101 ∷ 101 ∷
+          []) (Syntax.tcons (Syntax.tyInt Syntax.w8) (Syntax.tcons (Syntax.tyInt Syntax.w8) (Syntax.tcons (Syntax.tyInt Syntax.w8) Syntax.tnil)))) (Syntax.tcons
+          (Syntax.tyInt Syntax.w8) (Syntax.tcons (Syntax.tyStruct (102 ∷ 105 ∷ 101 ∷ 108 ∷ 100 ∷ 115 ∷ 58 ∷ 58 ∷ 82 ∷ 101 ∷ 115 ∷ 105 ∷ 100 ∷ 117 ∷ 101 ∷ 78 ∷ 117 ∷
+          109 ∷ 98 ∷ 101 ∷ 114 ∷ []) (Syntax.tcons (Syntax.tyInt Syntax.w32) Syntax.tnil)) (Syntax.tcons (Syntax.tyInt Syntax.w8) Syntax.tnil))))) Syntax.tnil)))))
+          Syntax.tnil) Syntax.ttnil))) Syntax.tnil))) Syntax.tnil) (Syntax.ttcons (Syntax.tcons (Syntax.tyStruct (99 ∷ 111 ∷ 110 ∷ 101 ∷ 99 ∷ 116 ∷ 58 ∷ 58 ∷ 67 ∷
+          111 ∷ 110 ∷ 101 ∷ 99 ∷ 116 ∷ []) (Syntax.tcons (Syntax.tyStruct (102 ∷ 105 ∷ 101 ∷ 108 ∷ 100 ∷ 115 ∷ 58 ∷ 58 ∷ 83 ∷ 101 ∷ 114 ∷ 105 ∷ 97 ∷ 108 ∷ [])
+          (Syntax.tcons (Syntax.tyInt Syntax.w32) Syntax.tnil)) (Syntax.tcons (Syntax.tyStruct (102 ∷ 105 ∷ 101 ∷ 108 ∷ 100 ∷ 115 ∷ 58 ∷ 58 ∷ 83 ∷ 101 ∷ 114 ∷ 105 ∷
+          97 ∷ 108 ∷ []) (Syntax.tcons (Syntax.tyInt Syntax.w32) Syntax.tnil)) (Syntax.tcons (Syntax.tyStruct (102 ∷ 105 ∷ 101 ∷ 108 ∷ 100 ∷ 115 ∷ 58 ∷ 58 ∷ 83 ∷ 101
+          ∷ 114 ∷ 105 ∷ 97 ∷ 108 ∷ []) (Syntax.tcons (Syntax.tyInt Syntax.w32) Syntax.tnil)) (Syntax.tcons (Syntax.tyStruct (102 ∷ 105 ∷ 101 ∷ 108 ∷ 100 ∷ 115 ∷ 58 ∷
+          58 ∷ 83 ∷ 101 ∷ 114 ∷ 105 ∷ 97 ∷ 108 ∷ []) (Syntax.tcons (Syntax.tyInt Syntax.w32) Syntax.tnil)) (Syntax.tcons (Syntax.tyStruct (102 ∷ 105 ∷ 101 ∷ 108 ∷
+          100 ∷ 115 ∷ 58 ∷ 58 ∷ 83 ∷ 101 ∷ 114 ∷ 105 ∷ 97 ∷ 108 ∷ []) (Syntax.tcons (Syntax.tyInt Syntax.w32) Syntax.tnil)) Syntax.tnil)))))) Syntax.tnil)
+          (Syntax.ttcons (Syntax.tcons (Syntax.tyStruct (109 ∷ 97 ∷ 115 ∷ 116 ∷ 101 ∷ 114 ∷ 58 ∷ 58 ∷ 84 ∷ 97 ∷ 108 ∷ 108 ∷ 121 ∷ []) (Syntax.tcons (Syntax.tyInt
+          Syntax.w32) (Syntax.tcons (Syntax.tyInt Syntax.w32) (Syntax.tcons (Syntax.tyInt Syntax.w32) (Syntax.tcons (Syntax.tyInt Syntax.w32) (Syntax.tcons
+          (Syntax.tyInt Syntax.w32) (Syntax.tcons (Syntax.tyInt Syntax.w32) (Syntax.tcons (Syntax.tyInt Syntax.w32) (Syntax.tcons (Syntax.tyInt Syntax.w32)
+          (Syntax.tcons (Syntax.tyInt Syntax.w32) Syntax.tnil)))))))))) Syntax.tnil) (Syntax.ttcons Syntax.tnil Syntax.ttnil)))))))) Syntax.tnil) Syntax.ttnil))))),
+    )
+    ∷ (10, Rows'.any-gone Syntax.tyBool) ∷ (11, Rows'.any-gone (Syntax.tyInt Syntax.w8)) ∷ (12, Rows'.any-gone SlotAs.ty) ∷ (13, Rows'.any-gone Syntax.tyBool)
+    ∷ (14, Rows'.any-gone Syntax.tyBool) ∷ (15, Rows'.whole (Declared'.row Verdict.the-type)) ∷ []
+
+abbrev pub t40 : List.List Row.Entry
+t40 = (0, Rows'.whole (Declared'.row (Apart.apartT Findings.the-type))) ∷ (
+  1,
+  Rows'.sslice (Referent.rtF (Referent.fInt Syntax.w8)) (Syntax.tyRef (Syntax.named
+      0) Syntax.imm (Syntax.tyInt Syntax.w8)) 0,
+) ∷ (2, Rows'.sslice SlotAs.row (Syntax.tyRef (Syntax.named 1) Syntax.imm SlotAs.pointee) 1) ∷ (
+  3,
+  Rows'.sc-here
+      (Row.sInt Syntax.w64),
 ) ∷ (
+  4,
+  Rows'.any-gone (Syntax.tyStruct (114 ∷ 117 ∷ 108 ∷ 101 ∷ 115 ∷ 58 ∷ 58 ∷ 83 ∷ 116 ∷ 97 ∷ 116 ∷ 101 ∷ []) (Syntax.tcons
+      (Syntax.tyInt Syntax.w8) (Syntax.tcons (Syntax.tyInt Syntax.w32) (Syntax.tcons (Syntax.tyStruct (114 ∷ 117 ∷ 108 ∷ 101 ∷ 115 ∷ 58 ∷ 58 ∷ 82 ∷ 117 ∷ 110 ∷
+      []) (Syntax.tcons Syntax.tyBool (Syntax.tcons Syntax.tyBool (Syntax.tcons Syntax.tyBool (Syntax.tcons (Syntax.tyStruct (114 ∷ 101 ∷ 115 ∷ 105 ∷ 100 ∷ 117 ∷
+      101 ∷ 58 ∷ 58 ∷ 82 ∷ 101 ∷ 115 ∷ 105 ∷ 100 ∷ 117 ∷ 101 ∷ []) (Syntax.tcons (Syntax.tyStruct (110 ∷ 97 ∷ 109 ∷ 101 ∷ 115 ∷ 58 ∷ 58 ∷ 84 ∷ 104 ∷ 114 ∷ 101 ∷
+      101 ∷ []) (Syntax.tcons (Syntax.tyInt Syntax.w8) (Syntax.tcons (Syntax.tyInt Syntax.w8) (Syntax.tcons (Syntax.tyInt Syntax.w8) Syntax.tnil))))
+      (Syntax.tcons (Syntax.tyInt Syntax.w8) (Syntax.tcons (Syntax.tyStruct (102 ∷ 105 ∷ 101 ∷ 108 ∷ 100 ∷ 115 ∷ 58 ∷ 58 ∷ 82 ∷ 101 ∷ 115 ∷ 105 ∷ 100 ∷ 117 ∷ 101
+      ∷ 78 ∷ 117 ∷ 109 ∷ 98 ∷ 101 ∷ 114 ∷ []) (Syntax.tcons (Syntax.tyInt Syntax.w32) Syntax.tnil)) (Syntax.tcons (Syntax.tyInt Syntax.w8) Syntax.tnil)))))
+      Syntax.tnil))))) (Syntax.tcons (Syntax.tyInt Syntax.w32) (Syntax.tcons (Syntax.tyInt Syntax.w32) (Syntax.tcons (Syntax.tyStruct (114 ∷ 117 ∷ 108 ∷ 101 ∷
+      115 ∷ 58 ∷ 58 ∷ 76 ∷ 97 ∷ 100 ∷ 100 ∷ 101 ∷ 114 ∷ []) (Syntax.tcons (Syntax.tyStruct (110 ∷ 97 ∷ 109 ∷ 101 ∷ 115 ∷ 58 ∷ 58 ∷ 84 ∷ 104 ∷ 114 ∷ 101 ∷ 101 ∷
+      []) (Syntax.tcons (Syntax.tyInt Syntax.w8) (Syntax.tcons (Syntax.tyInt Syntax.w8) (Syntax.tcons (Syntax.tyInt Syntax.w8) Syntax.tnil)))) (Syntax.tcons
+      (Syntax.tyInt Syntax.w32) (Syntax.tcons (Syntax.tyInt Syntax.w32) Syntax.tnil)))) (Syntax.tcons (Syntax.tyStruct (112 ∷ 108 ∷ 97 ∷ 99 ∷ 101 ∷ 115 ∷ 58 ∷ 58
+      ∷ 67 ∷ 111 ∷ 117 ∷ 110 ∷ 116 ∷ 115 ∷ []) (Syntax.tcons (Syntax.tyInt Syntax.w64) (Syntax.tcons (Syntax.tyInt Syntax.w64) (Syntax.tcons (Syntax.tyInt
+      Syntax.w64) (Syntax.tcons (Syntax.tyInt Syntax.w64) (Syntax.tcons (Syntax.tyInt Syntax.w64) (Syntax.tcons (Syntax.tyInt Syntax.w64) (Syntax.tcons
+      (Syntax.tyInt Syntax.w64) (Syntax.tcons (Syntax.tyInt Syntax.w64) (Syntax.tcons (Syntax.tyInt Syntax.w64) Syntax.tnil)))))))))) (Syntax.tcons (Syntax.tyInt
+      Syntax.w64) Syntax.tnil))))))))),
+) ∷ (
+  5,
+  Rows'.any-gone (Syntax.tyStruct (115 ∷ 101 ∷ 114 ∷ 105 ∷ 97 ∷ 108 ∷ 115 ∷ 58 ∷ 58 ∷ 83 ∷ 112 ∷ 97 ∷ 110 ∷ [])
+      (Syntax.tcons (Syntax.tyInt Syntax.w64) (Syntax.tcons (Syntax.tyInt Syntax.w64) Syntax.tnil))),
+) ∷ (6, Rows'.sc-here (Row.sInt Syntax.w64)) ∷ (
+  7,
+  Rows'.sc-here Row.sBool,
+) ∷ (8, Rows'.sc-here (Row.sInt Syntax.w64)) ∷ (
   9,
-  Rows'.any-gone (Syntax.tyEnum (112 ∷ 105 ∷ 101 ∷ 99 ∷ 101 ∷ 115 ∷ 58 ∷ 58 ∷ 76 ∷ 105 ∷ 110 ∷ 101 ∷ [])
-      (Syntax.ttcons (Syntax.tcons (Syntax.tyInt Syntax.w8) Syntax.tnil) (Syntax.ttcons (Syntax.tcons (Syntax.tyEnum (107 ∷ 105 ∷ 110 ∷ 100 ∷ 115 ∷ 58 ∷ 58 ∷ 75
-      ∷ 105 ∷ 110 ∷ 100 ∷ []) (Syntax.ttcons Syntax.tnil (Syntax.ttcons Syntax.tnil (Syntax.ttcons Syntax.tnil (Syntax.ttcons Syntax.tnil (Syntax.ttcons
-      Syntax.tnil (Syntax.ttcons Syntax.tnil (Syntax.ttcons Syntax.tnil (Syntax.ttcons Syntax.tnil (Syntax.ttcons Syntax.tnil (Syntax.ttcons Syntax.tnil
-      (Syntax.ttcons Syntax.tnil (Syntax.ttcons Syntax.tnil (Syntax.ttcons Syntax.tnil (Syntax.ttcons Syntax.tnil (Syntax.ttcons Syntax.tnil (Syntax.ttcons
-      Syntax.tnil (Syntax.ttcons Syntax.tnil (Syntax.ttcons Syntax.tnil (Syntax.ttcons Syntax.tnil (Syntax.ttcons Syntax.tnil (Syntax.ttcons Syntax.tnil
-      (Syntax.ttcons Syntax.tnil (Syntax.ttcons Syntax.tnil (Syntax.ttcons Syntax.tnil (Syntax.ttcons Syntax.tnil (Syntax.ttcons Syntax.tnil (Syntax.ttcons
-      Syntax.tnil (Syntax.ttcons Syntax.tnil Syntax.ttnil))))))))))))))))))))))))))))) (Syntax.tcons (Syntax.tyInt Syntax.w32) Syntax.tnil)) (Syntax.ttcons
-      (Syntax.tcons (Syntax.tyEnum (107 ∷ 105 ∷ 110 ∷ 100 ∷ 115 ∷ 58 ∷ 58 ∷ 75 ∷ 105 ∷ 110 ∷ 100 ∷ []) (Syntax.ttcons Syntax.tnil (Syntax.ttcons Syntax.tnil
+  Rows'.any-gone (Syntax.tyEnum (112 ∷ 105 ∷ 101 ∷ 99 ∷ 101 ∷ 115 ∷ 58 ∷ 58 ∷ 76 ∷
+      105 ∷ 110 ∷ 101 ∷ []) (Syntax.ttcons (Syntax.tcons (Syntax.tyInt Syntax.w8) Syntax.tnil) (Syntax.ttcons (Syntax.tcons (Syntax.tyEnum (107 ∷ 105 ∷ 110 ∷ 100
+      ∷ 115 ∷ 58 ∷ 58 ∷ 75 ∷ 105 ∷ 110 ∷ 100 ∷ []) (Syntax.ttcons Syntax.tnil (Syntax.ttcons Syntax.tnil (Syntax.ttcons Syntax.tnil (Syntax.ttcons Syntax.tnil
       (Syntax.ttcons Syntax.tnil (Syntax.ttcons Syntax.tnil (Syntax.ttcons Syntax.tnil (Syntax.ttcons Syntax.tnil (Syntax.ttcons Syntax.tnil (Syntax.ttcons
       Syntax.tnil (Syntax.ttcons Syntax.tnil (Syntax.ttcons Syntax.tnil (Syntax.ttcons Syntax.tnil (Syntax.ttcons Syntax.tnil (Syntax.ttcons Syntax.tnil
       (Syntax.ttcons Syntax.tnil (Syntax.ttcons Syntax.tnil (Syntax.ttcons Syntax.tnil (Syntax.ttcons Syntax.tnil (Syntax.ttcons Syntax.tnil (Syntax.ttcons
       Syntax.tnil (Syntax.ttcons Syntax.tnil (Syntax.ttcons Syntax.tnil (Syntax.ttcons Syntax.tnil (Syntax.ttcons Syntax.tnil (Syntax.ttcons Syntax.tnil
-      (Syntax.ttcons Syntax.tnil (Syntax.ttcons Syntax.tnil (Syntax.ttcons Syntax.tnil (Syntax.ttcons Syntax.tnil Syntax.ttnil)))))))))))))))))))))))))))))
-      Syntax.tnil) (Syntax.ttcons (Syntax.tcons (Syntax.tyEnum (108 ∷ 105 ∷ 110 ∷ 101 ∷ 58 ∷ 58 ∷ 82 ∷ 101 ∷ 99 ∷ 111 ∷ 114 ∷ 100 ∷ []) (Syntax.ttcons
-      (Syntax.tcons Syntax.tyBool (Syntax.tcons (Syntax.tyStruct (99 ∷ 111 ∷ 111 ∷ 114 ∷ 100 ∷ 105 ∷ 110 ∷ 97 ∷ 116 ∷ 101 ∷ 58 ∷ 58 ∷ 65 ∷ 116 ∷ 111 ∷ 109 ∷ [])
-      (Syntax.tcons (Syntax.tyStruct (99 ∷ 111 ∷ 111 ∷ 114 ∷ 100 ∷ 105 ∷ 110 ∷ 97 ∷ 116 ∷ 101 ∷ 58 ∷ 58 ∷ 73 ∷ 100 ∷ 101 ∷ 110 ∷ 116 ∷ 105 ∷ 116 ∷ 121 ∷ [])
-      (Syntax.tcons (Syntax.tyStruct (102 ∷ 105 ∷ 101 ∷ 108 ∷ 100 ∷ 115 ∷ 58 ∷ 58 ∷ 83 ∷ 101 ∷ 114 ∷ 105 ∷ 97 ∷ 108 ∷ []) (Syntax.tcons (Syntax.tyInt Syntax.w32)
-      Syntax.tnil)) (Syntax.tcons (Syntax.tyStruct (110 ∷ 97 ∷ 109 ∷ 101 ∷ 115 ∷ 58 ∷ 58 ∷ 70 ∷ 111 ∷ 117 ∷ 114 ∷ []) (Syntax.tcons (Syntax.tyInt Syntax.w8)
-      (Syntax.tcons (Syntax.tyInt Syntax.w8) (Syntax.tcons (Syntax.tyInt Syntax.w8) (Syntax.tcons (Syntax.tyInt Syntax.w8) Syntax.tnil))))) (Syntax.tcons
-      (Syntax.tyInt Syntax.w8) (Syntax.tcons (Syntax.tyStruct (114 ∷ 101 ∷ 115 ∷ 105 ∷ 100 ∷ 117 ∷ 101 ∷ 58 ∷ 58 ∷ 82 ∷ 101 ∷ 115 ∷ 105 ∷ 100 ∷ 117 ∷ 101 ∷ [])
-      (Syntax.tcons (Syntax.tyStruct (110 ∷ 97 ∷ 109 ∷ 101 ∷ 115 ∷ 58 ∷ 58 ∷ 84 ∷ 104 ∷ 114 ∷ 101 ∷ 101 ∷ []) (Syntax.tcons (Syntax.tyInt Syntax.w8)
-      (Syntax.tcons (Syntax.tyInt Syntax.w8) (Syntax.tcons (Syntax.tyInt Syntax.w8) Syntax.tnil)))) (Syntax.tcons (Syntax.tyInt Syntax.w8) (Syntax.tcons
-      (Syntax.tyStruct (102 ∷ 105 ∷ 101 ∷ 108 ∷ 100 ∷ 115 ∷ 58 ∷ 58 ∷ 82 ∷ 101 ∷ 115 ∷ 105 ∷ 100 ∷ 117 ∷ 101 ∷ 78 ∷ 117 ∷ 109 ∷ 98 ∷ 101 ∷ 114 ∷ [])
-      (Syntax.tcons (Syntax.tyInt Syntax.w32) Syntax.tnil)) (Syntax.tcons (Syntax.tyInt Syntax.w8) Syntax.tnil))))) Syntax.tnil))))) (Syntax.tcons
+      (Syntax.ttcons Syntax.tnil (Syntax.ttcons Syntax.tnil Syntax.ttnil))))))))))))))))))))))))))))) (Syntax.tcons (Syntax.tyInt Syntax.w32) Syntax.tnil))
+      (Syntax.ttcons (Syntax.tcons (Syntax.tyEnum (107 ∷ 105 ∷ 110 ∷ 100 ∷ 115 ∷ 58 ∷ 58 ∷ 75 ∷ 105 ∷ 110 ∷ 100 ∷ []) (Syntax.ttcons Syntax.tnil (Syntax.ttcons
+      Syntax.tnil (Syntax.ttcons Syntax.tnil (Syntax.ttcons Syntax.tnil (Syntax.ttcons Syntax.tnil (Syntax.ttcons Syntax.tnil (Syntax.ttcons Syntax.tnil
+      (Syntax.ttcons Syntax.tnil (Syntax.ttcons Syntax.tnil (Syntax.ttcons Syntax.tnil (Syntax.ttcons Syntax.tnil (Syntax.ttcons Syntax.tnil (Syntax.ttcons
+      Syntax.tnil (Syntax.ttcons Syntax.tnil (Syntax.ttcons Syntax.tnil (Syntax.ttcons Syntax.tnil (Syntax.ttcons Syntax.tnil (Syntax.ttcons Syntax.tnil
+      (Syntax.ttcons Syntax.tnil (Syntax.ttcons Syntax.tnil (Syntax.ttcons Syntax.tnil (Syntax.ttcons Syntax.tnil (Syntax.ttcons Syntax.tnil (Syntax.ttcons
+      Syntax.tnil (Syntax.ttcons Syntax.tnil (Syntax.ttcons Syntax.tnil (Syntax.ttcons Syntax.tnil (Syntax.ttcons Syntax.tnil
+      Syntax.ttnil))))))))))))))))))))))))))))) Syntax.tnil) (Syntax.ttcons (Syntax.tcons (Syntax.tyEnum (108 ∷ 105 ∷ 110 ∷ 101 ∷ 58 ∷ 58 ∷ 82 ∷ 101 ∷ 99 ∷ 111 ∷
+      114 ∷ 100 ∷ []) (Syntax.ttcons (Syntax.tcons Syntax.tyBool (Syntax.tcons (Syntax.tyStruct (99 ∷ 111 ∷ 111 ∷ 114 ∷ 100 ∷ 105 ∷ 110 ∷ 97 ∷ 116 ∷ 101 ∷ 58 ∷
+      58 ∷ 65 ∷ 116 ∷ 111 ∷ 109 ∷ []) (Syntax.tcons (Syntax.tyStruct (99 ∷ 111 ∷ 111 ∷ 114 ∷ 100 ∷ 105 ∷ 110 ∷ 97 ∷ 116 ∷ 101 ∷ 58 ∷ 58 ∷ 73 ∷ 100 ∷ 101 ∷ 110 ∷
+      116 ∷ 105 ∷ 116 ∷ 121 ∷ []) (Syntax.tcons (Syntax.tyStruct (102 ∷ 105 ∷ 101 ∷ 108 ∷ 100 ∷ 115 ∷ 58 ∷ 58 ∷ 83 ∷ 101 ∷ 114 ∷ 105 ∷ 97 ∷ 108 ∷ [])
+      (Syntax.tcons (Syntax.tyInt Syntax.w32) Syntax.tnil)) (Syntax.tcons (Syntax.tyStruct (110 ∷ 97 ∷ 109 ∷ 101 ∷ 115 ∷ 58 ∷ 58 ∷ 70 ∷ 111 ∷ 117 ∷ 114 ∷ [])
+      (Syntax.tcons (Syntax.tyInt Syntax.w8) (Syntax.tcons (Syntax.tyInt Syntax.w8) (Syntax.tcons (Syntax.tyInt Syntax.w8) (Syntax.tcons (Syntax.tyInt Syntax.w8)
+      Syntax.tnil))))) (Syntax.tcons (Syntax.tyInt Syntax.w8) (Syntax.tcons (Syntax.tyStruct (114 ∷ 101 ∷ 115 ∷ 105 ∷ 100 ∷ 117 ∷ 101 ∷ 58 ∷ 58 ∷ 82 ∷ 101 ∷ 115
+      ∷ 105 ∷ 100 ∷ 117 ∷ 101 ∷ []) (Syntax.tcons (Syntax.tyStruct (110 ∷ 97 ∷ 109 ∷ 101 ∷ 115 ∷ 58 ∷ 58 ∷ 84 ∷ 104 ∷ 114 ∷ 101 ∷ 101 ∷ []) (Syntax.tcons
+      (Syntax.tyInt Syntax.w8) (Syntax.tcons (Syntax.tyInt Syntax.w8) (Syntax.tcons (Syntax.tyInt Syntax.w8) Syntax.tnil)))) (Syntax.tcons (Syntax.tyInt
+      Syntax.w8) (Syntax.tcons (Syntax.tyStruct (102 ∷ 105 ∷ 101 ∷ 108 ∷ 100 ∷ 115 ∷ 58 ∷ 58 ∷ 82 ∷ 101 ∷ 115 ∷ 105 ∷ 100 ∷ 117 ∷ 101 ∷ 78 ∷ 117 ∷ 109 ∷ 98 ∷ 101
+      ∷ 114 ∷ []) (Syntax.tcons (Syntax.tyInt Syntax.w32) Syntax.tnil)) (Syntax.tcons (Syntax.tyInt Syntax.w8) Syntax.tnil))))) Syntax.tnil))))) (Syntax.tcons
       (Syntax.tyStruct (99 ∷ 111 ∷ 111 ∷ 114 ∷ 100 ∷ 105 ∷ 110 ∷ 97 ∷ 116 ∷ 101 ∷ 58 ∷ 58 ∷ 77 ∷ 101 ∷ 97 ∷ 115 ∷ 117 ∷ 114 ∷ 101 ∷ []) (Syntax.tcons
       (Syntax.tyStruct (99 ∷ 111 ∷ 111 ∷ 114 ∷ 100 ∷ 105 ∷ 110 ∷ 97 ∷ 116 ∷ 101 ∷ 58 ∷ 58 ∷ 80 ∷ 111 ∷ 115 ∷ 105 ∷ 116 ∷ 105 ∷ 111 ∷ 110 ∷ []) (Syntax.tcons
       (Syntax.tyInt Syntax.w32) (Syntax.tcons (Syntax.tyInt Syntax.w32) (Syntax.tcons (Syntax.tyInt Syntax.w32) Syntax.tnil)))) (Syntax.tcons (Syntax.tyInt
@@ -4287,135 +4420,6 @@ t39 = (
     ∷ (10, Rows'.any-gone Syntax.tyBool) ∷ (11, Rows'.any-gone (Syntax.tyInt Syntax.w8)) ∷ (12, Rows'.any-gone SlotAs.ty) ∷ (13, Rows'.any-gone Syntax.tyBool)
     ∷ (14, Rows'.any-gone Syntax.tyBool) ∷ (15, Rows'.whole (Declared'.row Verdict.the-type)) ∷ []
 
-abbrev pub t40 : List.List Row.Entry
-t40 = (0, Rows'.whole (Declared'.row (Apart.apartT Findings.the-type))) ∷ (
-  1,
-  Rows'.sslice (Referent.rtF (Referent.fInt Syntax.w8)) (Syntax.tyRef (Syntax.named
-      0) Syntax.imm (Syntax.tyInt Syntax.w8)) 0,
-) ∷ (2, Rows'.sslice SlotAs.row (Syntax.tyRef (Syntax.named 1) Syntax.imm SlotAs.pointee) 1) ∷ (
-  3,
-  Rows'.sc-here
-      (Row.sInt Syntax.w64),
-) ∷ (
-  4,
-  Rows'.any-gone (Syntax.tyStruct (114 ∷ 117 ∷ 108 ∷ 101 ∷ 115 ∷ 58 ∷ 58 ∷ 83 ∷ 116 ∷ 97 ∷ 116 ∷ 101 ∷ []) (Syntax.tcons
-      (Syntax.tyInt Syntax.w8) (Syntax.tcons (Syntax.tyInt Syntax.w32) (Syntax.tcons (Syntax.tyStruct (114 ∷ 117 ∷ 108 ∷ 101 ∷ 115 ∷ 58 ∷ 58 ∷ 82 ∷ 117 ∷ 110 ∷
-      []) (Syntax.tcons Syntax.tyBool (Syntax.tcons Syntax.tyBool (Syntax.tcons Syntax.tyBool (Syntax.tcons (Syntax.tyStruct (114 ∷ 101 ∷ 115 ∷ 105 ∷ 100 ∷ 117 ∷
-      101 ∷ 58 ∷ 58 ∷ 82 ∷ 101 ∷ 115 ∷ 105 ∷ 100 ∷ 117 ∷ 101 ∷ []) (Syntax.tcons (Syntax.tyStruct (110 ∷ 97 ∷ 109 ∷ 101 ∷ 115 ∷ 58 ∷ 58 ∷ 84 ∷ 104 ∷ 114 ∷ 101 ∷
-      101 ∷ []) (Syntax.tcons (Syntax.tyInt Syntax.w8) (Syntax.tcons (Syntax.tyInt Syntax.w8) (Syntax.tcons (Syntax.tyInt Syntax.w8) Syntax.tnil))))
-      (Syntax.tcons (Syntax.tyInt Syntax.w8) (Syntax.tcons (Syntax.tyStruct (102 ∷ 105 ∷ 101 ∷ 108 ∷ 100 ∷ 115 ∷ 58 ∷ 58 ∷ 82 ∷ 101 ∷ 115 ∷ 105 ∷ 100 ∷ 117 ∷ 101
-      ∷ 78 ∷ 117 ∷ 109 ∷ 98 ∷ 101 ∷ 114 ∷ []) (Syntax.tcons (Syntax.tyInt Syntax.w32) Syntax.tnil)) (Syntax.tcons (Syntax.tyInt Syntax.w8) Syntax.tnil)))))
-      Syntax.tnil))))) (Syntax.tcons (Syntax.tyInt Syntax.w32) (Syntax.tcons (Syntax.tyInt Syntax.w32) (Syntax.tcons (Syntax.tyStruct (114 ∷ 117 ∷ 108 ∷ 101 ∷
-      115 ∷ 58 ∷ 58 ∷ 76 ∷ 97 ∷ 100 ∷ 100 ∷ 101 ∷ 114 ∷ []) (Syntax.tcons (Syntax.tyStruct (110 ∷ 97 ∷ 109 ∷ 101 ∷ 115 ∷ 58 ∷ 58 ∷ 84 ∷ 104 ∷ 114 ∷ 101 ∷ 101 ∷
-      []) (Syntax.tcons (Syntax.tyInt Syntax.w8) (Syntax.tcons (Syntax.tyInt Syntax.w8) (Syntax.tcons (Syntax.tyInt Syntax.w8) Syntax.tnil)))) (Syntax.tcons
-      (Syntax.tyInt Syntax.w32) (Syntax.tcons (Syntax.tyInt Syntax.w32) Syntax.tnil)))) (Syntax.tcons (Syntax.tyStruct (112 ∷ 108 ∷ 97 ∷ 99 ∷ 101 ∷ 115 ∷ 58 ∷ 58
-      ∷ 67 ∷ 111 ∷ 117 ∷ 110 ∷ 116 ∷ 115 ∷ []) (Syntax.tcons (Syntax.tyInt Syntax.w64) (Syntax.tcons (Syntax.tyInt Syntax.w64) (Syntax.tcons (Syntax.tyInt
-      Syntax.w64) (Syntax.tcons (Syntax.tyInt Syntax.w64) (Syntax.tcons (Syntax.tyInt Syntax.w64) (Syntax.tcons (Syntax.tyInt Syntax.w64) (Syntax.tcons
-      (Syntax.tyInt Syntax.w64) (Syntax.tcons (Syntax.tyInt Syntax.w64) (Syntax.tcons (Syntax.tyInt Syntax.w64) Syntax.tnil)))))))))) (Syntax.tcons (Syntax.tyInt
-      Syntax.w64) Syntax.tnil))))))))),
-) ∷ (
-  5,
-  Rows'.any-gone (Syntax.tyStruct (103 ∷ 97 ∷ 116 ∷ 101 ∷ 58 ∷ 58 ∷ 83 ∷ 112 ∷ 97 ∷ 110 ∷ []) (Syntax.tcons
-      (Syntax.tyInt Syntax.w64) (Syntax.tcons (Syntax.tyInt Syntax.w64) Syntax.tnil))),
-) ∷ (6, Rows'.sc-here (Row.sInt Syntax.w64)) ∷ (7, Rows'.sc-here Row.sBool)
-    ∷ (8, Rows'.sc-here (Row.sInt Syntax.w64)) ∷ (
-      9,
-      Rows'.any-gone (Syntax.tyEnum (112 ∷ 105 ∷ 101 ∷ 99 ∷ 101 ∷ 115 ∷ 58 ∷ 58 ∷ 76 ∷ 105 ∷ 110 ∷ 101 ∷ [])
-          (Syntax.ttcons (Syntax.tcons (Syntax.tyInt Syntax.w8) Syntax.tnil) (Syntax.ttcons (Syntax.tcons (Syntax.tyEnum (107 ∷ 105 ∷ 110 ∷ 100 ∷ 115 ∷ 58 ∷ 58 ∷ 75
-          ∷ 105 ∷ 110 ∷ 100 ∷ []) (Syntax.ttcons Syntax.tnil (Syntax.ttcons Syntax.tnil (Syntax.ttcons Syntax.tnil (Syntax.ttcons Syntax.tnil (Syntax.ttcons
-          Syntax.tnil (Syntax.ttcons Syntax.tnil (Syntax.ttcons Syntax.tnil (Syntax.ttcons Syntax.tnil (Syntax.ttcons Syntax.tnil (Syntax.ttcons Syntax.tnil
-          (Syntax.ttcons Syntax.tnil (Syntax.ttcons Syntax.tnil (Syntax.ttcons Syntax.tnil (Syntax.ttcons Syntax.tnil (Syntax.ttcons Syntax.tnil (Syntax.ttcons
-          Syntax.tnil (Syntax.ttcons Syntax.tnil (Syntax.ttcons Syntax.tnil (Syntax.ttcons Syntax.tnil (Syntax.ttcons Syntax.tnil (Syntax.ttcons Syntax.tnil
-          (Syntax.ttcons Syntax.tnil (Syntax.ttcons Syntax.tnil (Syntax.ttcons Syntax.tnil (Syntax.ttcons Syntax.tnil (Syntax.ttcons Syntax.tnil (Syntax.ttcons
-          Syntax.tnil (Syntax.ttcons Syntax.tnil Syntax.ttnil))))))))))))))))))))))))))))) (Syntax.tcons (Syntax.tyInt Syntax.w32) Syntax.tnil)) (Syntax.ttcons
-          (Syntax.tcons (Syntax.tyEnum (107 ∷ 105 ∷ 110 ∷ 100 ∷ 115 ∷ 58 ∷ 58 ∷ 75 ∷ 105 ∷ 110 ∷ 100 ∷ []) (Syntax.ttcons Syntax.tnil (Syntax.ttcons Syntax.tnil
-          (Syntax.ttcons Syntax.tnil (Syntax.ttcons Syntax.tnil (Syntax.ttcons Syntax.tnil (Syntax.ttcons Syntax.tnil (Syntax.ttcons Syntax.tnil (Syntax.ttcons
-          Syntax.tnil (Syntax.ttcons Syntax.tnil (Syntax.ttcons Syntax.tnil (Syntax.ttcons Syntax.tnil (Syntax.ttcons Syntax.tnil (Syntax.ttcons Syntax.tnil
-          (Syntax.ttcons Syntax.tnil (Syntax.ttcons Syntax.tnil (Syntax.ttcons Syntax.tnil (Syntax.ttcons Syntax.tnil (Syntax.ttcons Syntax.tnil (Syntax.ttcons
-          Syntax.tnil (Syntax.ttcons Syntax.tnil (Syntax.ttcons Syntax.tnil (Syntax.ttcons Syntax.tnil (Syntax.ttcons Syntax.tnil (Syntax.ttcons Syntax.tnil
-          (Syntax.ttcons Syntax.tnil (Syntax.ttcons Syntax.tnil (Syntax.ttcons Syntax.tnil (Syntax.ttcons Syntax.tnil Syntax.ttnil)))))))))))))))))))))))))))))
-          Syntax.tnil) (Syntax.ttcons (Syntax.tcons (Syntax.tyEnum (108 ∷ 105 ∷ 110 ∷ 101 ∷ 58 ∷ 58 ∷ 82 ∷ 101 ∷ 99 ∷ 111 ∷ 114 ∷ 100 ∷ []) (Syntax.ttcons
-          (Syntax.tcons Syntax.tyBool (Syntax.tcons (Syntax.tyStruct (99 ∷ 111 ∷ 111 ∷ 114 ∷ 100 ∷ 105 ∷ 110 ∷ 97 ∷ 116 ∷ 101 ∷ 58 ∷ 58 ∷ 65 ∷ 116 ∷ 111 ∷ 109 ∷ [])
-          (Syntax.tcons (Syntax.tyStruct (99 ∷ 111 ∷ 111 ∷ 114 ∷ 100 ∷ 105 ∷ 110 ∷ 97 ∷ 116 ∷ 101 ∷ 58 ∷ 58 ∷ 73 ∷ 100 ∷ 101 ∷ 110 ∷ 116 ∷ 105 ∷ 116 ∷ 121 ∷ [])
-          (Syntax.tcons (Syntax.tyStruct (102 ∷ 105 ∷ 101 ∷ 108 ∷ 100 ∷ 115 ∷ 58 ∷ 58 ∷ 83 ∷ 101 ∷ 114 ∷ 105 ∷ 97 ∷ 108 ∷ []) (Syntax.tcons (Syntax.tyInt Syntax.w32)
-          Syntax.tnil)) (Syntax.tcons (Syntax.tyStruct (110 ∷ 97 ∷ 109 ∷ 101 ∷ 115 ∷ 58 ∷ 58 ∷ 70 ∷ 111 ∷ 117 ∷ 114 ∷ []) (Syntax.tcons (Syntax.tyInt Syntax.w8)
-          (Syntax.tcons (Syntax.tyInt Syntax.w8) (Syntax.tcons (Syntax.tyInt Syntax.w8) (Syntax.tcons (Syntax.tyInt Syntax.w8) Syntax.tnil))))) (Syntax.tcons
-          (Syntax.tyInt Syntax.w8) (Syntax.tcons (Syntax.tyStruct (114 ∷ 101 ∷ 115 ∷ 105 ∷ 100 ∷ 117 ∷ 101 ∷ 58 ∷ 58 ∷ 82 ∷ 101 ∷ 115 ∷ 105 ∷ 100 ∷ 117 ∷ 101 ∷ [])
-          (Syntax.tcons (Syntax.tyStruct (110 ∷ 97 ∷ 109 ∷ 101 ∷ 115 ∷ 58 ∷ 58 ∷ 84 ∷ 104 ∷ 114 ∷ 101 ∷ 101 ∷ []) (Syntax.tcons (Syntax.tyInt Syntax.w8)
-          (Syntax.tcons (Syntax.tyInt Syntax.w8) (Syntax.tcons (Syntax.tyInt Syntax.w8) Syntax.tnil)))) (Syntax.tcons (Syntax.tyInt Syntax.w8) (Syntax.tcons
-          (Syntax.tyStruct (102 ∷ 105 ∷ 101 ∷ 108 ∷ 100 ∷ 115 ∷ 58 ∷ 58 ∷ 82 ∷ 101 ∷ 115 ∷ 105 ∷ 100 ∷ 117 ∷ 101 ∷ 78 ∷ 117 ∷ 109 ∷ 98 ∷ 101 ∷ 114 ∷ [])
-          (Syntax.tcons (Syntax.tyInt Syntax.w32) Syntax.tnil)) (Syntax.tcons (Syntax.tyInt Syntax.w8) Syntax.tnil))))) Syntax.tnil))))) (Syntax.tcons
-          (Syntax.tyStruct (99 ∷ 111 ∷ 111 ∷ 114 ∷ 100 ∷ 105 ∷ 110 ∷ 97 ∷ 116 ∷ 101 ∷ 58 ∷ 58 ∷ 77 ∷ 101 ∷ 97 ∷ 115 ∷ 117 ∷ 114 ∷ 101 ∷ []) (Syntax.tcons
-          (Syntax.tyStruct (99 ∷ 111 ∷ 111 ∷ 114 ∷ 100 ∷ 105 ∷ 110 ∷ 97 ∷ 116 ∷ 101 ∷ 58 ∷ 58 ∷ 80 ∷ 111 ∷ 115 ∷ 105 ∷ 116 ∷ 105 ∷ 111 ∷ 110 ∷ []) (Syntax.tcons
-          (Syntax.tyInt Syntax.w32) (Syntax.tcons (Syntax.tyInt Syntax.w32) (Syntax.tcons (Syntax.tyInt Syntax.w32) Syntax.tnil)))) (Syntax.tcons (Syntax.tyInt
-          Syntax.w32) (Syntax.tcons (Syntax.tyInt Syntax.w32) Syntax.tnil)))) (Syntax.tcons (Syntax.tyStruct (99 ∷ 111 ∷ 111 ∷ 114 ∷ 100 ∷ 105 ∷ 110 ∷ 97 ∷ 116 ∷ 101
-          ∷ 58 ∷ 58 ∷ 83 ∷ 112 ∷ 101 ∷ 99 ∷ 105 ∷ 101 ∷ 115 ∷ []) (Syntax.tcons (Syntax.tyStruct (110 ∷ 97 ∷ 109 ∷ 101 ∷ 115 ∷ 58 ∷ 58 ∷ 80 ∷ 97 ∷ 105 ∷ 114 ∷ [])
-          (Syntax.tcons (Syntax.tyInt Syntax.w8) (Syntax.tcons (Syntax.tyInt Syntax.w8) Syntax.tnil))) (Syntax.tcons (Syntax.tyStruct (110 ∷ 97 ∷ 109 ∷ 101 ∷ 115 ∷
-          58 ∷ 58 ∷ 80 ∷ 97 ∷ 105 ∷ 114 ∷ []) (Syntax.tcons (Syntax.tyInt Syntax.w8) (Syntax.tcons (Syntax.tyInt Syntax.w8) Syntax.tnil))) Syntax.tnil)))
-          Syntax.tnil)))) Syntax.tnil)) (Syntax.ttcons (Syntax.tcons (Syntax.tyStruct (116 ∷ 101 ∷ 114 ∷ 58 ∷ 58 ∷ 84 ∷ 101 ∷ 114 ∷ []) (Syntax.tcons
-          (Syntax.tyStruct (102 ∷ 105 ∷ 101 ∷ 108 ∷ 100 ∷ 115 ∷ 58 ∷ 58 ∷ 83 ∷ 101 ∷ 114 ∷ 105 ∷ 97 ∷ 108 ∷ []) (Syntax.tcons (Syntax.tyInt Syntax.w32) Syntax.tnil))
-          (Syntax.tcons (Syntax.tyStruct (114 ∷ 101 ∷ 115 ∷ 105 ∷ 100 ∷ 117 ∷ 101 ∷ 58 ∷ 58 ∷ 82 ∷ 101 ∷ 115 ∷ 105 ∷ 100 ∷ 117 ∷ 101 ∷ []) (Syntax.tcons
-          (Syntax.tyStruct (110 ∷ 97 ∷ 109 ∷ 101 ∷ 115 ∷ 58 ∷ 58 ∷ 84 ∷ 104 ∷ 114 ∷ 101 ∷ 101 ∷ []) (Syntax.tcons (Syntax.tyInt Syntax.w8) (Syntax.tcons
-          (Syntax.tyInt Syntax.w8) (Syntax.tcons (Syntax.tyInt Syntax.w8) Syntax.tnil)))) (Syntax.tcons (Syntax.tyInt Syntax.w8) (Syntax.tcons (Syntax.tyStruct (102
-          ∷ 105 ∷ 101 ∷ 108 ∷ 100 ∷ 115 ∷ 58 ∷ 58 ∷ 82 ∷ 101 ∷ 115 ∷ 105 ∷ 100 ∷ 117 ∷ 101 ∷ 78 ∷ 117 ∷ 109 ∷ 98 ∷ 101 ∷ 114 ∷ []) (Syntax.tcons (Syntax.tyInt
-          Syntax.w32) Syntax.tnil)) (Syntax.tcons (Syntax.tyInt Syntax.w8) Syntax.tnil))))) Syntax.tnil))) Syntax.tnil) (Syntax.ttcons (Syntax.tcons (Syntax.tyStruct
-          (104 ∷ 101 ∷ 108 ∷ 105 ∷ 120 ∷ 58 ∷ 58 ∷ 72 ∷ 101 ∷ 108 ∷ 105 ∷ 120 ∷ []) (Syntax.tcons (Syntax.tyStruct (104 ∷ 101 ∷ 108 ∷ 105 ∷ 120 ∷ 58 ∷ 58 ∷ 69 ∷ 120
-          ∷ 116 ∷ 101 ∷ 110 ∷ 116 ∷ []) (Syntax.tcons (Syntax.tyInt Syntax.w32) (Syntax.tcons (Syntax.tyStruct (110 ∷ 97 ∷ 109 ∷ 101 ∷ 115 ∷ 58 ∷ 58 ∷ 84 ∷ 104 ∷ 114
-          ∷ 101 ∷ 101 ∷ []) (Syntax.tcons (Syntax.tyInt Syntax.w8) (Syntax.tcons (Syntax.tyInt Syntax.w8) (Syntax.tcons (Syntax.tyInt Syntax.w8) Syntax.tnil))))
-          (Syntax.tcons (Syntax.tyStruct (114 ∷ 101 ∷ 115 ∷ 105 ∷ 100 ∷ 117 ∷ 101 ∷ 58 ∷ 58 ∷ 82 ∷ 101 ∷ 115 ∷ 105 ∷ 100 ∷ 117 ∷ 101 ∷ []) (Syntax.tcons
-          (Syntax.tyStruct (110 ∷ 97 ∷ 109 ∷ 101 ∷ 115 ∷ 58 ∷ 58 ∷ 84 ∷ 104 ∷ 114 ∷ 101 ∷ 101 ∷ []) (Syntax.tcons (Syntax.tyInt Syntax.w8) (Syntax.tcons
-          (Syntax.tyInt Syntax.w8) (Syntax.tcons (Syntax.tyInt Syntax.w8) Syntax.tnil)))) (Syntax.tcons (Syntax.tyInt Syntax.w8) (Syntax.tcons (Syntax.tyStruct (102
-          ∷ 105 ∷ 101 ∷ 108 ∷ 100 ∷ 115 ∷ 58 ∷ 58 ∷ 82 ∷ 101 ∷ 115 ∷ 105 ∷ 100 ∷ 117 ∷ 101 ∷ 78 ∷ 117 ∷ 109 ∷ 98 ∷ 101 ∷ 114 ∷ []) (Syntax.tcons (Syntax.tyInt
-          Syntax.w32) Syntax.tnil)) (Syntax.tcons (Syntax.tyInt Syntax.w8) Syntax.tnil))))) (Syntax.tcons (Syntax.tyStruct (114 ∷ 101 ∷ 115 ∷ 105 ∷ 100 ∷ 117 ∷ 101 ∷
-          58 ∷ 58 ∷ 82 ∷ 101 ∷ 115 ∷ 105 ∷ 100 ∷ 117 ∷ 101 ∷ []) (Syntax.tcons (Syntax.tyStruct (110 ∷ 97 ∷ 109 ∷ 101 ∷ 115 ∷ 58 ∷ 58 ∷ 84 ∷ 104 ∷ 114 ∷ 101 ∷ 101 ∷
-          []) (Syntax.tcons (Syntax.tyInt Syntax.w8) (Syntax.tcons (Syntax.tyInt Syntax.w8) (Syntax.tcons (Syntax.tyInt Syntax.w8) Syntax.tnil)))) (Syntax.tcons
-          (Syntax.tyInt Syntax.w8) (Syntax.tcons (Syntax.tyStruct (102 ∷ 105 ∷ 101 ∷ 108 ∷ 100 ∷ 115 ∷ 58 ∷ 58 ∷ 82 ∷ 101 ∷ 115 ∷ 105 ∷ 100 ∷ 117 ∷ 101 ∷ 78 ∷ 117 ∷
-          109 ∷ 98 ∷ 101 ∷ 114 ∷ []) (Syntax.tcons (Syntax.tyInt Syntax.w32) Syntax.tnil)) (Syntax.tcons (Syntax.tyInt Syntax.w8) Syntax.tnil))))) Syntax.tnil)))))
-          (Syntax.tcons (Syntax.tyInt Syntax.w32) (Syntax.tcons (Syntax.tyStruct (104 ∷ 101 ∷ 108 ∷ 105 ∷ 120 ∷ 58 ∷ 58 ∷ 67 ∷ 111 ∷ 109 ∷ 109 ∷ 101 ∷ 110 ∷ 116 ∷
-          []) (Syntax.tcons (Syntax.tyInt Syntax.w64) (Syntax.tcons (Syntax.tyInt Syntax.w64) (Syntax.tcons (Syntax.tyInt Syntax.w64) (Syntax.tcons (Syntax.tyInt
-          Syntax.w64) Syntax.tnil))))) (Syntax.tcons (Syntax.tyInt Syntax.w32) Syntax.tnil))))) Syntax.tnil) (Syntax.ttcons (Syntax.tcons (Syntax.tyStruct (115 ∷ 104
-          ∷ 101 ∷ 101 ∷ 116 ∷ 58 ∷ 58 ∷ 83 ∷ 104 ∷ 101 ∷ 101 ∷ 116 ∷ []) (Syntax.tcons (Syntax.tyStruct (115 ∷ 104 ∷ 101 ∷ 101 ∷ 116 ∷ 58 ∷ 58 ∷ 83 ∷ 116 ∷ 114 ∷ 97
-          ∷ 110 ∷ 100 ∷ []) (Syntax.tcons (Syntax.tyInt Syntax.w32) (Syntax.tcons (Syntax.tyStruct (110 ∷ 97 ∷ 109 ∷ 101 ∷ 115 ∷ 58 ∷ 58 ∷ 84 ∷ 104 ∷ 114 ∷ 101 ∷ 101
-          ∷ []) (Syntax.tcons (Syntax.tyInt Syntax.w8) (Syntax.tcons (Syntax.tyInt Syntax.w8) (Syntax.tcons (Syntax.tyInt Syntax.w8) Syntax.tnil)))) (Syntax.tcons
-          (Syntax.tyInt Syntax.w32) (Syntax.tcons (Syntax.tyStruct (114 ∷ 101 ∷ 115 ∷ 105 ∷ 100 ∷ 117 ∷ 101 ∷ 58 ∷ 58 ∷ 82 ∷ 101 ∷ 115 ∷ 105 ∷ 100 ∷ 117 ∷ 101 ∷ [])
-          (Syntax.tcons (Syntax.tyStruct (110 ∷ 97 ∷ 109 ∷ 101 ∷ 115 ∷ 58 ∷ 58 ∷ 84 ∷ 104 ∷ 114 ∷ 101 ∷ 101 ∷ []) (Syntax.tcons (Syntax.tyInt Syntax.w8)
-          (Syntax.tcons (Syntax.tyInt Syntax.w8) (Syntax.tcons (Syntax.tyInt Syntax.w8) Syntax.tnil)))) (Syntax.tcons (Syntax.tyInt Syntax.w8) (Syntax.tcons
-          (Syntax.tyStruct (102 ∷ 105 ∷ 101 ∷ 108 ∷ 100 ∷ 115 ∷ 58 ∷ 58 ∷ 82 ∷ 101 ∷ 115 ∷ 105 ∷ 100 ∷ 117 ∷ 101 ∷ 78 ∷ 117 ∷ 109 ∷ 98 ∷ 101 ∷ 114 ∷ [])
-          (Syntax.tcons (Syntax.tyInt Syntax.w32) Syntax.tnil)) (Syntax.tcons (Syntax.tyInt Syntax.w8) Syntax.tnil))))) (Syntax.tcons (Syntax.tyStruct (114 ∷ 101 ∷
-          115 ∷ 105 ∷ 100 ∷ 117 ∷ 101 ∷ 58 ∷ 58 ∷ 82 ∷ 101 ∷ 115 ∷ 105 ∷ 100 ∷ 117 ∷ 101 ∷ []) (Syntax.tcons (Syntax.tyStruct (110 ∷ 97 ∷ 109 ∷ 101 ∷ 115 ∷ 58 ∷ 58 ∷
-          84 ∷ 104 ∷ 114 ∷ 101 ∷ 101 ∷ []) (Syntax.tcons (Syntax.tyInt Syntax.w8) (Syntax.tcons (Syntax.tyInt Syntax.w8) (Syntax.tcons (Syntax.tyInt Syntax.w8)
-          Syntax.tnil)))) (Syntax.tcons (Syntax.tyInt Syntax.w8) (Syntax.tcons (Syntax.tyStruct (102 ∷ 105 ∷ 101 ∷ 108 ∷ 100 ∷ 115 ∷ 58 ∷ 58 ∷ 82 ∷ 101 ∷ 115 ∷ 105 ∷
-          100 ∷ 117 ∷ 101 ∷ 78 ∷ 117 ∷ 109 ∷ 98 ∷ 101 ∷ 114 ∷ []) (Syntax.tcons (Syntax.tyInt Syntax.w32) Syntax.tnil)) (Syntax.tcons (Syntax.tyInt Syntax.w8)
-          Syntax.tnil))))) (Syntax.tcons (Syntax.tyInt Syntax.w32) Syntax.tnil))))))) (Syntax.tcons (Syntax.tyEnum (115 ∷ 104 ∷ 101 ∷ 101 ∷ 116 ∷ 58 ∷ 58 ∷ 82 ∷ 101
-          ∷ 103 ∷ 105 ∷ 115 ∷ 116 ∷ 114 ∷ 97 ∷ 116 ∷ 105 ∷ 111 ∷ 110 ∷ []) (Syntax.ttcons Syntax.tnil (Syntax.ttcons (Syntax.tcons (Syntax.tyStruct (115 ∷ 104 ∷ 101
-          ∷ 101 ∷ 116 ∷ 58 ∷ 58 ∷ 66 ∷ 111 ∷ 110 ∷ 100 ∷ []) (Syntax.tcons (Syntax.tyStruct (110 ∷ 97 ∷ 109 ∷ 101 ∷ 115 ∷ 58 ∷ 58 ∷ 70 ∷ 111 ∷ 117 ∷ 114 ∷ [])
-          (Syntax.tcons (Syntax.tyInt Syntax.w8) (Syntax.tcons (Syntax.tyInt Syntax.w8) (Syntax.tcons (Syntax.tyInt Syntax.w8) (Syntax.tcons (Syntax.tyInt Syntax.w8)
-          Syntax.tnil))))) (Syntax.tcons (Syntax.tyStruct (114 ∷ 101 ∷ 115 ∷ 105 ∷ 100 ∷ 117 ∷ 101 ∷ 58 ∷ 58 ∷ 82 ∷ 101 ∷ 115 ∷ 105 ∷ 100 ∷ 117 ∷ 101 ∷ [])
-          (Syntax.tcons (Syntax.tyStruct (110 ∷ 97 ∷ 109 ∷ 101 ∷ 115 ∷ 58 ∷ 58 ∷ 84 ∷ 104 ∷ 114 ∷ 101 ∷ 101 ∷ []) (Syntax.tcons (Syntax.tyInt Syntax.w8)
-          (Syntax.tcons (Syntax.tyInt Syntax.w8) (Syntax.tcons (Syntax.tyInt Syntax.w8) Syntax.tnil)))) (Syntax.tcons (Syntax.tyInt Syntax.w8) (Syntax.tcons
-          (Syntax.tyStruct (102 ∷ 105 ∷ 101 ∷ 108 ∷ 100 ∷ 115 ∷ 58 ∷ 58 ∷ 82 ∷ 101 ∷ 115 ∷ 105 ∷ 100 ∷ 117 ∷ 101 ∷ 78 ∷ 117 ∷ 109 ∷ 98 ∷ 101 ∷ 114 ∷ [])
-          (Syntax.tcons (Syntax.tyInt Syntax.w32) Syntax.tnil)) (Syntax.tcons (Syntax.tyInt Syntax.w8) Syntax.tnil))))) (Syntax.tcons (Syntax.tyStruct (110 ∷ 97 ∷
-          109 ∷ 101 ∷ 115 ∷ 58 ∷ 58 ∷ 70 ∷ 111 ∷ 117 ∷ 114 ∷ []) (Syntax.tcons (Syntax.tyInt Syntax.w8) (Syntax.tcons (Syntax.tyInt Syntax.w8) (Syntax.tcons
-          (Syntax.tyInt Syntax.w8) (Syntax.tcons (Syntax.tyInt Syntax.w8) Syntax.tnil))))) (Syntax.tcons (Syntax.tyStruct (114 ∷ 101 ∷ 115 ∷ 105 ∷ 100 ∷ 117 ∷ 101 ∷
-          58 ∷ 58 ∷ 82 ∷ 101 ∷ 115 ∷ 105 ∷ 100 ∷ 117 ∷ 101 ∷ []) (Syntax.tcons (Syntax.tyStruct (110 ∷ 97 ∷ 109 ∷ 101 ∷ 115 ∷ 58 ∷ 58 ∷ 84 ∷ 104 ∷ 114 ∷ 101 ∷ 101 ∷
-          []) (Syntax.tcons (Syntax.tyInt Syntax.w8) (Syntax.tcons (Syntax.tyInt Syntax.w8) (Syntax.tcons (Syntax.tyInt Syntax.w8) Syntax.tnil)))) (Syntax.tcons
-          (Syntax.tyInt Syntax.w8) (Syntax.tcons (Syntax.tyStruct (102 ∷ 105 ∷ 101 ∷ 108 ∷ 100 ∷ 115 ∷ 58 ∷ 58 ∷ 82 ∷ 101 ∷ 115 ∷ 105 ∷ 100 ∷ 117 ∷ 101 ∷ 78 ∷ 117 ∷
-          109 ∷ 98 ∷ 101 ∷ 114 ∷ []) (Syntax.tcons (Syntax.tyInt Syntax.w32) Syntax.tnil)) (Syntax.tcons (Syntax.tyInt Syntax.w8) Syntax.tnil))))) Syntax.tnil)))))
-          Syntax.tnil) Syntax.ttnil))) Syntax.tnil))) Syntax.tnil) (Syntax.ttcons (Syntax.tcons (Syntax.tyStruct (99 ∷ 111 ∷ 110 ∷ 101 ∷ 99 ∷ 116 ∷ 58 ∷ 58 ∷ 67 ∷
-          111 ∷ 110 ∷ 101 ∷ 99 ∷ 116 ∷ []) (Syntax.tcons (Syntax.tyStruct (102 ∷ 105 ∷ 101 ∷ 108 ∷ 100 ∷ 115 ∷ 58 ∷ 58 ∷ 83 ∷ 101 ∷ 114 ∷ 105 ∷ 97 ∷ 108 ∷ [])
-          (Syntax.tcons (Syntax.tyInt Syntax.w32) Syntax.tnil)) (Syntax.tcons (Syntax.tyStruct (102 ∷ 105 ∷ 101 ∷ 108 ∷ 100 ∷ 115 ∷ 58 ∷ 58 ∷ 83 ∷ 101 ∷ 114 ∷ 105 ∷
-          97 ∷ 108 ∷ []) (Syntax.tcons (Syntax.tyInt Syntax.w32) Syntax.tnil)) (Syntax.tcons (Syntax.tyStruct (102 ∷ 105 ∷ 101 ∷ 108 ∷ 100 ∷ 115 ∷ 58 ∷ 58 ∷ 83 ∷ 101
-          ∷ 114 ∷ 105 ∷ 97 ∷ 108 ∷ []) (Syntax.tcons (Syntax.tyInt Syntax.w32) Syntax.tnil)) (Syntax.tcons (Syntax.tyStruct (102 ∷ 105 ∷ 101 ∷ 108 ∷ 100 ∷ 115 ∷ 58 ∷
-          58 ∷ 83 ∷ 101 ∷ 114 ∷ 105 ∷ 97 ∷ 108 ∷ []) (Syntax.tcons (Syntax.tyInt Syntax.w32) Syntax.tnil)) (Syntax.tcons (Syntax.tyStruct (102 ∷ 105 ∷ 101 ∷ 108 ∷
-          100 ∷ 115 ∷ 58 ∷ 58 ∷ 83 ∷ 101 ∷ 114 ∷ 105 ∷ 97 ∷ 108 ∷ []) (Syntax.tcons (Syntax.tyInt Syntax.w32) Syntax.tnil)) Syntax.tnil)))))) Syntax.tnil)
-          (Syntax.ttcons (Syntax.tcons (Syntax.tyStruct (109 ∷ 97 ∷ 115 ∷ 116 ∷ 101 ∷ 114 ∷ 58 ∷ 58 ∷ 84 ∷ 97 ∷ 108 ∷ 108 ∷ 121 ∷ []) (Syntax.tcons (Syntax.tyInt
-          Syntax.w32) (Syntax.tcons (Syntax.tyInt Syntax.w32) (Syntax.tcons (Syntax.tyInt Syntax.w32) (Syntax.tcons (Syntax.tyInt Syntax.w32) (Syntax.tcons
-          (Syntax.tyInt Syntax.w32) (Syntax.tcons (Syntax.tyInt Syntax.w32) (Syntax.tcons (Syntax.tyInt Syntax.w32) (Syntax.tcons (Syntax.tyInt Syntax.w32)
-          (Syntax.tcons (Syntax.tyInt Syntax.w32) Syntax.tnil)))))))))) Syntax.tnil) (Syntax.ttcons Syntax.tnil Syntax.ttnil)))))))) Syntax.tnil) Syntax.ttnil))))),
-    )
-    ∷ (10, Rows'.any-gone Syntax.tyBool) ∷ (11, Rows'.any-gone (Syntax.tyInt Syntax.w8)) ∷ (12, Rows'.any-gone SlotAs.ty) ∷ (13, Rows'.any-gone Syntax.tyBool)
-    ∷ (14, Rows'.any-gone Syntax.tyBool) ∷ (15, Rows'.whole (Declared'.row Verdict.the-type)) ∷ []
-
 abbrev pub t41 : List.List Row.Entry
 t41 = (0, Rows'.whole (Declared'.row (Apart.apartT Findings.the-type))) ∷ (
   1,
@@ -4444,104 +4448,106 @@ t41 = (0, Rows'.whole (Declared'.row (Apart.apartT Findings.the-type))) ∷ (
       Syntax.w64) Syntax.tnil))))))))),
 ) ∷ (
   5,
-  Rows'.any-gone (Syntax.tyStruct (103 ∷ 97 ∷ 116 ∷ 101 ∷ 58 ∷ 58 ∷ 83 ∷ 112 ∷ 97 ∷ 110 ∷ []) (Syntax.tcons
-      (Syntax.tyInt Syntax.w64) (Syntax.tcons (Syntax.tyInt Syntax.w64) Syntax.tnil))),
-) ∷ (6, Rows'.sc-here (Row.sInt Syntax.w64)) ∷ (7, Rows'.sc-here Row.sBool)
-    ∷ (8, Rows'.sc-here (Row.sInt Syntax.w64)) ∷ (
-      9,
-      Rows'.any-gone (Syntax.tyEnum (112 ∷ 105 ∷ 101 ∷ 99 ∷ 101 ∷ 115 ∷ 58 ∷ 58 ∷ 76 ∷ 105 ∷ 110 ∷ 101 ∷ [])
-          (Syntax.ttcons (Syntax.tcons (Syntax.tyInt Syntax.w8) Syntax.tnil) (Syntax.ttcons (Syntax.tcons (Syntax.tyEnum (107 ∷ 105 ∷ 110 ∷ 100 ∷ 115 ∷ 58 ∷ 58 ∷ 75
-          ∷ 105 ∷ 110 ∷ 100 ∷ []) (Syntax.ttcons Syntax.tnil (Syntax.ttcons Syntax.tnil (Syntax.ttcons Syntax.tnil (Syntax.ttcons Syntax.tnil (Syntax.ttcons
-          Syntax.tnil (Syntax.ttcons Syntax.tnil (Syntax.ttcons Syntax.tnil (Syntax.ttcons Syntax.tnil (Syntax.ttcons Syntax.tnil (Syntax.ttcons Syntax.tnil
-          (Syntax.ttcons Syntax.tnil (Syntax.ttcons Syntax.tnil (Syntax.ttcons Syntax.tnil (Syntax.ttcons Syntax.tnil (Syntax.ttcons Syntax.tnil (Syntax.ttcons
-          Syntax.tnil (Syntax.ttcons Syntax.tnil (Syntax.ttcons Syntax.tnil (Syntax.ttcons Syntax.tnil (Syntax.ttcons Syntax.tnil (Syntax.ttcons Syntax.tnil
-          (Syntax.ttcons Syntax.tnil (Syntax.ttcons Syntax.tnil (Syntax.ttcons Syntax.tnil (Syntax.ttcons Syntax.tnil (Syntax.ttcons Syntax.tnil (Syntax.ttcons
-          Syntax.tnil (Syntax.ttcons Syntax.tnil Syntax.ttnil))))))))))))))))))))))))))))) (Syntax.tcons (Syntax.tyInt Syntax.w32) Syntax.tnil)) (Syntax.ttcons
-          (Syntax.tcons (Syntax.tyEnum (107 ∷ 105 ∷ 110 ∷ 100 ∷ 115 ∷ 58 ∷ 58 ∷ 75 ∷ 105 ∷ 110 ∷ 100 ∷ []) (Syntax.ttcons Syntax.tnil (Syntax.ttcons Syntax.tnil
-          (Syntax.ttcons Syntax.tnil (Syntax.ttcons Syntax.tnil (Syntax.ttcons Syntax.tnil (Syntax.ttcons Syntax.tnil (Syntax.ttcons Syntax.tnil (Syntax.ttcons
-          Syntax.tnil (Syntax.ttcons Syntax.tnil (Syntax.ttcons Syntax.tnil (Syntax.ttcons Syntax.tnil (Syntax.ttcons Syntax.tnil (Syntax.ttcons Syntax.tnil
-          (Syntax.ttcons Syntax.tnil (Syntax.ttcons Syntax.tnil (Syntax.ttcons Syntax.tnil (Syntax.ttcons Syntax.tnil (Syntax.ttcons Syntax.tnil (Syntax.ttcons
-          Syntax.tnil (Syntax.ttcons Syntax.tnil (Syntax.ttcons Syntax.tnil (Syntax.ttcons Syntax.tnil (Syntax.ttcons Syntax.tnil (Syntax.ttcons Syntax.tnil
-          (Syntax.ttcons Syntax.tnil (Syntax.ttcons Syntax.tnil (Syntax.ttcons Syntax.tnil (Syntax.ttcons Syntax.tnil Syntax.ttnil)))))))))))))))))))))))))))))
-          Syntax.tnil) (Syntax.ttcons (Syntax.tcons (Syntax.tyEnum (108 ∷ 105 ∷ 110 ∷ 101 ∷ 58 ∷ 58 ∷ 82 ∷ 101 ∷ 99 ∷ 111 ∷ 114 ∷ 100 ∷ []) (Syntax.ttcons
-          (Syntax.tcons Syntax.tyBool (Syntax.tcons (Syntax.tyStruct (99 ∷ 111 ∷ 111 ∷ 114 ∷ 100 ∷ 105 ∷ 110 ∷ 97 ∷ 116 ∷ 101 ∷ 58 ∷ 58 ∷ 65 ∷ 116 ∷ 111 ∷ 109 ∷ [])
-          (Syntax.tcons (Syntax.tyStruct (99 ∷ 111 ∷ 111 ∷ 114 ∷ 100 ∷ 105 ∷ 110 ∷ 97 ∷ 116 ∷ 101 ∷ 58 ∷ 58 ∷ 73 ∷ 100 ∷ 101 ∷ 110 ∷ 116 ∷ 105 ∷ 116 ∷ 121 ∷ [])
-          (Syntax.tcons (Syntax.tyStruct (102 ∷ 105 ∷ 101 ∷ 108 ∷ 100 ∷ 115 ∷ 58 ∷ 58 ∷ 83 ∷ 101 ∷ 114 ∷ 105 ∷ 97 ∷ 108 ∷ []) (Syntax.tcons (Syntax.tyInt Syntax.w32)
-          Syntax.tnil)) (Syntax.tcons (Syntax.tyStruct (110 ∷ 97 ∷ 109 ∷ 101 ∷ 115 ∷ 58 ∷ 58 ∷ 70 ∷ 111 ∷ 117 ∷ 114 ∷ []) (Syntax.tcons (Syntax.tyInt Syntax.w8)
-          (Syntax.tcons (Syntax.tyInt Syntax.w8) (Syntax.tcons (Syntax.tyInt Syntax.w8) (Syntax.tcons (Syntax.tyInt Syntax.w8) Syntax.tnil))))) (Syntax.tcons
-          (Syntax.tyInt Syntax.w8) (Syntax.tcons (Syntax.tyStruct (114 ∷ 101 ∷ 115 ∷ 105 ∷ 100 ∷ 117 ∷ 101 ∷ 58 ∷ 58 ∷ 82 ∷ 101 ∷ 115 ∷ 105 ∷ 100 ∷ 117 ∷ 101 ∷ [])
-          (Syntax.tcons (Syntax.tyStruct (110 ∷ 97 ∷ 109 ∷ 101 ∷ 115 ∷ 58 ∷ 58 ∷ 84 ∷ 104 ∷ 114 ∷ 101 ∷ 101 ∷ []) (Syntax.tcons (Syntax.tyInt Syntax.w8)
-          (Syntax.tcons (Syntax.tyInt Syntax.w8) (Syntax.tcons (Syntax.tyInt Syntax.w8) Syntax.tnil)))) (Syntax.tcons (Syntax.tyInt Syntax.w8) (Syntax.tcons
-          (Syntax.tyStruct (102 ∷ 105 ∷ 101 ∷ 108 ∷ 100 ∷ 115 ∷ 58 ∷ 58 ∷ 82 ∷ 101 ∷ 115 ∷ 105 ∷ 100 ∷ 117 ∷ 101 ∷ 78 ∷ 117 ∷ 109 ∷ 98 ∷ 101 ∷ 114 ∷ [])
-          (Syntax.tcons (Syntax.tyInt Syntax.w32) Syntax.tnil)) (Syntax.tcons (Syntax.tyInt Syntax.w8) Syntax.tnil))))) Syntax.tnil))))) (Syntax.tcons
-          (Syntax.tyStruct (99 ∷ 111 ∷ 111 ∷ 114 ∷ 100 ∷ 105 ∷ 110 ∷ 97 ∷ 116 ∷ 101 ∷ 58 ∷ 58 ∷ 77 ∷ 101 ∷ 97 ∷ 115 ∷ 117 ∷ 114 ∷ 101 ∷ []) (Syntax.tcons
-          (Syntax.tyStruct (99 ∷ 111 ∷ 111 ∷ 114 ∷ 100 ∷ 105 ∷ 110 ∷ 97 ∷ 116 ∷ 101 ∷ 58 ∷ 58 ∷ 80 ∷ 111 ∷ 115 ∷ 105 ∷ 116 ∷ 105 ∷ 111 ∷ 110 ∷ []) (Syntax.tcons
-          (Syntax.tyInt Syntax.w32) (Syntax.tcons (Syntax.tyInt Syntax.w32) (Syntax.tcons (Syntax.tyInt Syntax.w32) Syntax.tnil)))) (Syntax.tcons (Syntax.tyInt
-          Syntax.w32) (Syntax.tcons (Syntax.tyInt Syntax.w32) Syntax.tnil)))) (Syntax.tcons (Syntax.tyStruct (99 ∷ 111 ∷ 111 ∷ 114 ∷ 100 ∷ 105 ∷ 110 ∷ 97 ∷ 116 ∷ 101
-          ∷ 58 ∷ 58 ∷ 83 ∷ 112 ∷ 101 ∷ 99 ∷ 105 ∷ 101 ∷ 115 ∷ []) (Syntax.tcons (Syntax.tyStruct (110 ∷ 97 ∷ 109 ∷ 101 ∷ 115 ∷ 58 ∷ 58 ∷ 80 ∷ 97 ∷ 105 ∷ 114 ∷ [])
-          (Syntax.tcons (Syntax.tyInt Syntax.w8) (Syntax.tcons (Syntax.tyInt Syntax.w8) Syntax.tnil))) (Syntax.tcons (Syntax.tyStruct (110 ∷ 97 ∷ 109 ∷ 101 ∷ 115 ∷
-          58 ∷ 58 ∷ 80 ∷ 97 ∷ 105 ∷ 114 ∷ []) (Syntax.tcons (Syntax.tyInt Syntax.w8) (Syntax.tcons (Syntax.tyInt Syntax.w8) Syntax.tnil))) Syntax.tnil)))
-          Syntax.tnil)))) Syntax.tnil)) (Syntax.ttcons (Syntax.tcons (Syntax.tyStruct (116 ∷ 101 ∷ 114 ∷ 58 ∷ 58 ∷ 84 ∷ 101 ∷ 114 ∷ []) (Syntax.tcons
-          (Syntax.tyStruct (102 ∷ 105 ∷ 101 ∷ 108 ∷ 100 ∷ 115 ∷ 58 ∷ 58 ∷ 83 ∷ 101 ∷ 114 ∷ 105 ∷ 97 ∷ 108 ∷ []) (Syntax.tcons (Syntax.tyInt Syntax.w32) Syntax.tnil))
-          (Syntax.tcons (Syntax.tyStruct (114 ∷ 101 ∷ 115 ∷ 105 ∷ 100 ∷ 117 ∷ 101 ∷ 58 ∷ 58 ∷ 82 ∷ 101 ∷ 115 ∷ 105 ∷ 100 ∷ 117 ∷ 101 ∷ []) (Syntax.tcons
-          (Syntax.tyStruct (110 ∷ 97 ∷ 109 ∷ 101 ∷ 115 ∷ 58 ∷ 58 ∷ 84 ∷ 104 ∷ 114 ∷ 101 ∷ 101 ∷ []) (Syntax.tcons (Syntax.tyInt Syntax.w8) (Syntax.tcons
-          (Syntax.tyInt Syntax.w8) (Syntax.tcons (Syntax.tyInt Syntax.w8) Syntax.tnil)))) (Syntax.tcons (Syntax.tyInt Syntax.w8) (Syntax.tcons (Syntax.tyStruct (102
-          ∷ 105 ∷ 101 ∷ 108 ∷ 100 ∷ 115 ∷ 58 ∷ 58 ∷ 82 ∷ 101 ∷ 115 ∷ 105 ∷ 100 ∷ 117 ∷ 101 ∷ 78 ∷ 117 ∷ 109 ∷ 98 ∷ 101 ∷ 114 ∷ []) (Syntax.tcons (Syntax.tyInt
-          Syntax.w32) Syntax.tnil)) (Syntax.tcons (Syntax.tyInt Syntax.w8) Syntax.tnil))))) Syntax.tnil))) Syntax.tnil) (Syntax.ttcons (Syntax.tcons (Syntax.tyStruct
-          (104 ∷ 101 ∷ 108 ∷ 105 ∷ 120 ∷ 58 ∷ 58 ∷ 72 ∷ 101 ∷ 108 ∷ 105 ∷ 120 ∷ []) (Syntax.tcons (Syntax.tyStruct (104 ∷ 101 ∷ 108 ∷ 105 ∷ 120 ∷ 58 ∷ 58 ∷ 69 ∷ 120
-          ∷ 116 ∷ 101 ∷ 110 ∷ 116 ∷ []) (Syntax.tcons (Syntax.tyInt Syntax.w32) (Syntax.tcons (Syntax.tyStruct (110 ∷ 97 ∷ 109 ∷ 101 ∷ 115 ∷ 58 ∷ 58 ∷ 84 ∷ 104 ∷ 114
-          ∷ 101 ∷ 101 ∷ []) (Syntax.tcons (Syntax.tyInt Syntax.w8) (Syntax.tcons (Syntax.tyInt Syntax.w8) (Syntax.tcons (Syntax.tyInt Syntax.w8) Syntax.tnil))))
-          (Syntax.tcons (Syntax.tyStruct (114 ∷ 101 ∷ 115 ∷ 105 ∷ 100 ∷ 117 ∷ 101 ∷ 58 ∷ 58 ∷ 82 ∷ 101 ∷ 115 ∷ 105 ∷ 100 ∷ 117 ∷ 101 ∷ []) (Syntax.tcons
-          (Syntax.tyStruct (110 ∷ 97 ∷ 109 ∷ 101 ∷ 115 ∷ 58 ∷ 58 ∷ 84 ∷ 104 ∷ 114 ∷ 101 ∷ 101 ∷ []) (Syntax.tcons (Syntax.tyInt Syntax.w8) (Syntax.tcons
-          (Syntax.tyInt Syntax.w8) (Syntax.tcons (Syntax.tyInt Syntax.w8) Syntax.tnil)))) (Syntax.tcons (Syntax.tyInt Syntax.w8) (Syntax.tcons (Syntax.tyStruct (102
-          ∷ 105 ∷ 101 ∷ 108 ∷ 100 ∷ 115 ∷ 58 ∷ 58 ∷ 82 ∷ 101 ∷ 115 ∷ 105 ∷ 100 ∷ 117 ∷ 101 ∷ 78 ∷ 117 ∷ 109 ∷ 98 ∷ 101 ∷ 114 ∷ []) (Syntax.tcons (Syntax.tyInt
-          Syntax.w32) Syntax.tnil)) (Syntax.tcons (Syntax.tyInt Syntax.w8) Syntax.tnil))))) (Syntax.tcons (Syntax.tyStruct (114 ∷ 101 ∷ 115 ∷ 105 ∷ 100 ∷ 117 ∷ 101 ∷
-          58 ∷ 58 ∷ 82 ∷ 101 ∷ 115 ∷ 105 ∷ 100 ∷ 117 ∷ 101 ∷ []) (Syntax.tcons (Syntax.tyStruct (110 ∷ 97 ∷ 109 ∷ 101 ∷ 115 ∷ 58 ∷ 58 ∷ 84 ∷ 104 ∷ 114 ∷ 101 ∷ 101 ∷
-          []) (Syntax.tcons (Syntax.tyInt Syntax.w8) (Syntax.tcons (Syntax.tyInt Syntax.w8) (Syntax.tcons (Syntax.tyInt Syntax.w8) Syntax.tnil)))) (Syntax.tcons
-          (Syntax.tyInt Syntax.w8) (Syntax.tcons (Syntax.tyStruct (102 ∷ 105 ∷ 101 ∷ 108 ∷ 100 ∷ 115 ∷ 58 ∷ 58 ∷ 82 ∷ 101 ∷ 115 ∷ 105 ∷ 100 ∷ 117 ∷ 101 ∷ 78 ∷ 117 ∷
-          109 ∷ 98 ∷ 101 ∷ 114 ∷ []) (Syntax.tcons (Syntax.tyInt Syntax.w32) Syntax.tnil)) (Syntax.tcons (Syntax.tyInt Syntax.w8) Syntax.tnil))))) Syntax.tnil)))))
-          (Syntax.tcons (Syntax.tyInt Syntax.w32) (Syntax.tcons (Syntax.tyStruct (104 ∷ 101 ∷ 108 ∷ 105 ∷ 120 ∷ 58 ∷ 58 ∷ 67 ∷ 111 ∷ 109 ∷ 109 ∷ 101 ∷ 110 ∷ 116 ∷
-          []) (Syntax.tcons (Syntax.tyInt Syntax.w64) (Syntax.tcons (Syntax.tyInt Syntax.w64) (Syntax.tcons (Syntax.tyInt Syntax.w64) (Syntax.tcons (Syntax.tyInt
-          Syntax.w64) Syntax.tnil))))) (Syntax.tcons (Syntax.tyInt Syntax.w32) Syntax.tnil))))) Syntax.tnil) (Syntax.ttcons (Syntax.tcons (Syntax.tyStruct (115 ∷ 104
-          ∷ 101 ∷ 101 ∷ 116 ∷ 58 ∷ 58 ∷ 83 ∷ 104 ∷ 101 ∷ 101 ∷ 116 ∷ []) (Syntax.tcons (Syntax.tyStruct (115 ∷ 104 ∷ 101 ∷ 101 ∷ 116 ∷ 58 ∷ 58 ∷ 83 ∷ 116 ∷ 114 ∷ 97
-          ∷ 110 ∷ 100 ∷ []) (Syntax.tcons (Syntax.tyInt Syntax.w32) (Syntax.tcons (Syntax.tyStruct (110 ∷ 97 ∷ 109 ∷ 101 ∷ 115 ∷ 58 ∷ 58 ∷ 84 ∷ 104 ∷ 114 ∷ 101 ∷ 101
-          ∷ []) (Syntax.tcons (Syntax.tyInt Syntax.w8) (Syntax.tcons (Syntax.tyInt Syntax.w8) (Syntax.tcons (Syntax.tyInt Syntax.w8) Syntax.tnil)))) (Syntax.tcons
-          (Syntax.tyInt Syntax.w32) (Syntax.tcons (Syntax.tyStruct (114 ∷ 101 ∷ 115 ∷ 105 ∷ 100 ∷ 117 ∷ 101 ∷ 58 ∷ 58 ∷ 82 ∷ 101 ∷ 115 ∷ 105 ∷ 100 ∷ 117 ∷ 101 ∷ [])
-          (Syntax.tcons (Syntax.tyStruct (110 ∷ 97 ∷ 109 ∷ 101 ∷ 115 ∷ 58 ∷ 58 ∷ 84 ∷ 104 ∷ 114 ∷ 101 ∷ 101 ∷ []) (Syntax.tcons (Syntax.tyInt Syntax.w8)
-          (Syntax.tcons (Syntax.tyInt Syntax.w8) (Syntax.tcons (Syntax.tyInt Syntax.w8) Syntax.tnil)))) (Syntax.tcons (Syntax.tyInt Syntax.w8) (Syntax.tcons
-          (Syntax.tyStruct (102 ∷ 105 ∷ 101 ∷ 108 ∷ 100 ∷ 115 ∷ 58 ∷ 58 ∷ 82 ∷ 101 ∷ 115 ∷ 105 ∷ 100 ∷ 117 ∷ 101 ∷ 78 ∷ 117 ∷ 109 ∷ 98 ∷ 101 ∷ 114 ∷ [])
-          (Syntax.tcons (Syntax.tyInt Syntax.w32) Syntax.tnil)) (Syntax.tcons (Syntax.tyInt Syntax.w8) Syntax.tnil))))) (Syntax.tcons (Syntax.tyStruct (114 ∷ 101 ∷
-          115 ∷ 105 ∷ 100 ∷ 117 ∷ 101 ∷ 58 ∷ 58 ∷ 82 ∷ 101 ∷ 115 ∷ 105 ∷ 100 ∷ 117 ∷ 101 ∷ []) (Syntax.tcons (Syntax.tyStruct (110 ∷ 97 ∷ 109 ∷ 101 ∷ 115 ∷ 58 ∷ 58 ∷
-          84 ∷ 104 ∷ 114 ∷ 101 ∷ 101 ∷ []) (Syntax.tcons (Syntax.tyInt Syntax.w8) (Syntax.tcons (Syntax.tyInt Syntax.w8) (Syntax.tcons (Syntax.tyInt Syntax.w8)
-          Syntax.tnil)))) (Syntax.tcons (Syntax.tyInt Syntax.w8) (Syntax.tcons (Syntax.tyStruct (102 ∷ 105 ∷ 101 ∷ 108 ∷ 100 ∷ 115 ∷ 58 ∷ 58 ∷ 82 ∷ 101 ∷ 115 ∷ 105 ∷
-          100 ∷ 117 ∷ 101 ∷ 78 ∷ 117 ∷ 109 ∷ 98 ∷ 101 ∷ 114 ∷ []) (Syntax.tcons (Syntax.tyInt Syntax.w32) Syntax.tnil)) (Syntax.tcons (Syntax.tyInt Syntax.w8)
-          Syntax.tnil))))) (Syntax.tcons (Syntax.tyInt Syntax.w32) Syntax.tnil))))))) (Syntax.tcons (Syntax.tyEnum (115 ∷ 104 ∷ 101 ∷ 101 ∷ 116 ∷ 58 ∷ 58 ∷ 82 ∷ 101
-          ∷ 103 ∷ 105 ∷ 115 ∷ 116 ∷ 114 ∷ 97 ∷ 116 ∷ 105 ∷ 111 ∷ 110 ∷ []) (Syntax.ttcons Syntax.tnil (Syntax.ttcons (Syntax.tcons (Syntax.tyStruct (115 ∷ 104 ∷ 101
-          ∷ 101 ∷ 116 ∷ 58 ∷ 58 ∷ 66 ∷ 111 ∷ 110 ∷ 100 ∷ []) (Syntax.tcons (Syntax.tyStruct (110 ∷ 97 ∷ 109 ∷ 101 ∷ 115 ∷ 58 ∷ 58 ∷ 70 ∷ 111 ∷ 117 ∷ 114 ∷ [])
-          (Syntax.tcons (Syntax.tyInt Syntax.w8) (Syntax.tcons (Syntax.tyInt Syntax.w8) (Syntax.tcons (Syntax.tyInt Syntax.w8) (Syntax.tcons (Syntax.tyInt Syntax.w8)
-          Syntax.tnil))))) (Syntax.tcons (Syntax.tyStruct (114 ∷ 101 ∷ 115 ∷ 105 ∷ 100 ∷ 117 ∷ 101 ∷ 58 ∷ 58 ∷ 82 ∷ 101 ∷ 115 ∷ 105 ∷ 100 ∷ 117 ∷ 101 ∷ [])
-          (Syntax.tcons (Syntax.tyStruct (110 ∷ 97 ∷ 109 ∷ 101 ∷ 115 ∷ 58 ∷ 58 ∷ 84 ∷ 104 ∷ 114 ∷ 101 ∷ 101 ∷ []) (Syntax.tcons (Syntax.tyInt Syntax.w8)
-          (Syntax.tcons (Syntax.tyInt Syntax.w8) (Syntax.tcons (Syntax.tyInt Syntax.w8) Syntax.tnil)))) (Syntax.tcons (Syntax.tyInt Syntax.w8) (Syntax.tcons
-          (Syntax.tyStruct (102 ∷ 105 ∷ 101 ∷ 108 ∷ 100 ∷ 115 ∷ 58 ∷ 58 ∷ 82 ∷ 101 ∷ 115 ∷ 105 ∷ 100 ∷ 117 ∷ 101 ∷ 78 ∷ 117 ∷ 109 ∷ 98 ∷ 101 ∷ 114 ∷ [])
-          (Syntax.tcons (Syntax.tyInt Syntax.w32) Syntax.tnil)) (Syntax.tcons (Syntax.tyInt Syntax.w8) Syntax.tnil))))) (Syntax.tcons (Syntax.tyStruct (110 ∷ 97 ∷
-          109 ∷ 101 ∷ 115 ∷ 58 ∷ 58 ∷ 70 ∷ 111 ∷ 117 ∷ 114 ∷ []) (Syntax.tcons (Syntax.tyInt Syntax.w8) (Syntax.tcons (Syntax.tyInt Syntax.w8) (Syntax.tcons
-          (Syntax.tyInt Syntax.w8) (Syntax.tcons (Syntax.tyInt Syntax.w8) Syntax.tnil))))) (Syntax.tcons (Syntax.tyStruct (114 ∷ 101 ∷ 115 ∷ 105 ∷ 100 ∷ 117 ∷ 101 ∷
-          58 ∷ 58 ∷ 82 ∷ 101 ∷ 115 ∷ 105 ∷ 100 ∷ 117 ∷ 101 ∷ []) (Syntax.tcons (Syntax.tyStruct (110 ∷ 97 ∷ 109 ∷ 101 ∷ 115 ∷ 58 ∷ 58 ∷ 84 ∷ 104 ∷ 114 ∷ 101 ∷ 101 ∷
-          []) (Syntax.tcons (Syntax.tyInt Syntax.w8) (Syntax.tcons (Syntax.tyInt Syntax.w8) (Syntax.tcons (Syntax.tyInt Syntax.w8) Syntax.tnil)))) (Syntax.tcons
-          (Syntax.tyInt Syntax.w8) (Syntax.tcons (Syntax.tyStruct (102 ∷ 105 ∷ 101 ∷ 108 ∷ 100 ∷ 115 ∷ 58 ∷ 58 ∷ 82 ∷ 101 ∷ 115 ∷ 105 ∷ 100 ∷ 117 ∷ 101 ∷ 78 ∷ 117 ∷
-          109 ∷ 98 ∷ 101 ∷ 114 ∷ []) (Syntax.tcons (Syntax.tyInt Syntax.w32) Syntax.tnil)) (Syntax.tcons (Syntax.tyInt Syntax.w8) Syntax.tnil))))) Syntax.tnil)))))
-          Syntax.tnil) Syntax.ttnil))) Syntax.tnil))) Syntax.tnil) (Syntax.ttcons (Syntax.tcons (Syntax.tyStruct (99 ∷ 111 ∷ 110 ∷ 101 ∷ 99 ∷ 116 ∷ 58 ∷ 58 ∷ 67 ∷
-          111 ∷ 110 ∷ 101 ∷ 99 ∷ 116 ∷ []) (Syntax.tcons (Syntax.tyStruct (102 ∷ 105 ∷ 101 ∷ 108 ∷ 100 ∷ 115 ∷ 58 ∷ 58 ∷ 83 ∷ 101 ∷ 114 ∷ 105 ∷ 97 ∷ 108 ∷ [])
-          (Syntax.tcons (Syntax.tyInt Syntax.w32) Syntax.tnil)) (Syntax.tcons (Syntax.tyStruct (102 ∷ 105 ∷ 101 ∷ 108 ∷ 100 ∷ 115 ∷ 58 ∷ 58 ∷ 83 ∷ 101 ∷ 114 ∷ 105 ∷
-          97 ∷ 108 ∷ []) (Syntax.tcons (Syntax.tyInt Syntax.w32) Syntax.tnil)) (Syntax.tcons (Syntax.tyStruct (102 ∷ 105 ∷ 101 ∷ 108 ∷ 100 ∷ 115 ∷ 58 ∷ 58 ∷ 83 ∷ 101
-          ∷ 114 ∷ 105 ∷ 97 ∷ 108 ∷ []) (Syntax.tcons (Syntax.tyInt Syntax.w32) Syntax.tnil)) (Syntax.tcons (Syntax.tyStruct (102 ∷ 105 ∷ 101 ∷ 108 ∷ 100 ∷ 115 ∷ 58 ∷
-          58 ∷ 83 ∷ 101 ∷ 114 ∷ 105 ∷ 97 ∷ 108 ∷ []) (Syntax.tcons (Syntax.tyInt Syntax.w32) Syntax.tnil)) (Syntax.tcons (Syntax.tyStruct (102 ∷ 105 ∷ 101 ∷ 108 ∷
-          100 ∷ 115 ∷ 58 ∷ 58 ∷ 83 ∷ 101 ∷ 114 ∷ 105 ∷ 97 ∷ 108 ∷ []) (Syntax.tcons (Syntax.tyInt Syntax.w32) Syntax.tnil)) Syntax.tnil)))))) Syntax.tnil)
-          (Syntax.ttcons (Syntax.tcons (Syntax.tyStruct (109 ∷ 97 ∷ 115 ∷ 116 ∷ 101 ∷ 114 ∷ 58 ∷ 58 ∷ 84 ∷ 97 ∷ 108 ∷ 108 ∷ 121 ∷ []) (Syntax.tcons (Syntax.tyInt
-          Syntax.w32) (Syntax.tcons (Syntax.tyInt Syntax.w32) (Syntax.tcons (Syntax.tyInt Syntax.w32) (Syntax.tcons (Syntax.tyInt Syntax.w32) (Syntax.tcons
-          (Syntax.tyInt Syntax.w32) (Syntax.tcons (Syntax.tyInt Syntax.w32) (Syntax.tcons (Syntax.tyInt Syntax.w32) (Syntax.tcons (Syntax.tyInt Syntax.w32)
-          (Syntax.tcons (Syntax.tyInt Syntax.w32) Syntax.tnil)))))))))) Syntax.tnil) (Syntax.ttcons Syntax.tnil Syntax.ttnil)))))))) Syntax.tnil) Syntax.ttnil))))),
-    )
+  Rows'.any-gone (Syntax.tyStruct (115 ∷ 101 ∷ 114 ∷ 105 ∷ 97 ∷ 108 ∷ 115 ∷ 58 ∷ 58 ∷ 83 ∷ 112 ∷ 97 ∷ 110 ∷ [])
+      (Syntax.tcons (Syntax.tyInt Syntax.w64) (Syntax.tcons (Syntax.tyInt Syntax.w64) Syntax.tnil))),
+) ∷ (6, Rows'.sc-here (Row.sInt Syntax.w64)) ∷ (
+  7,
+  Rows'.sc-here Row.sBool,
+) ∷ (8, Rows'.sc-here (Row.sInt Syntax.w64)) ∷ (
+  9,
+  Rows'.any-gone (Syntax.tyEnum (112 ∷ 105 ∷ 101 ∷ 99 ∷ 101 ∷ 115 ∷ 58 ∷ 58 ∷ 76 ∷
+      105 ∷ 110 ∷ 101 ∷ []) (Syntax.ttcons (Syntax.tcons (Syntax.tyInt Syntax.w8) Syntax.tnil) (Syntax.ttcons (Syntax.tcons (Syntax.tyEnum (107 ∷ 105 ∷ 110 ∷ 100
+      ∷ 115 ∷ 58 ∷ 58 ∷ 75 ∷ 105 ∷ 110 ∷ 100 ∷ []) (Syntax.ttcons Syntax.tnil (Syntax.ttcons Syntax.tnil (Syntax.ttcons Syntax.tnil (Syntax.ttcons Syntax.tnil
+      (Syntax.ttcons Syntax.tnil (Syntax.ttcons Syntax.tnil (Syntax.ttcons Syntax.tnil (Syntax.ttcons Syntax.tnil (Syntax.ttcons Syntax.tnil (Syntax.ttcons
+      Syntax.tnil (Syntax.ttcons Syntax.tnil (Syntax.ttcons Syntax.tnil (Syntax.ttcons Syntax.tnil (Syntax.ttcons Syntax.tnil (Syntax.ttcons Syntax.tnil
+      (Syntax.ttcons Syntax.tnil (Syntax.ttcons Syntax.tnil (Syntax.ttcons Syntax.tnil (Syntax.ttcons Syntax.tnil (Syntax.ttcons Syntax.tnil (Syntax.ttcons
+      Syntax.tnil (Syntax.ttcons Syntax.tnil (Syntax.ttcons Syntax.tnil (Syntax.ttcons Syntax.tnil (Syntax.ttcons Syntax.tnil (Syntax.ttcons Syntax.tnil
+      (Syntax.ttcons Syntax.tnil (Syntax.ttcons Syntax.tnil Syntax.ttnil))))))))))))))))))))))))))))) (Syntax.tcons (Syntax.tyInt Syntax.w32) Syntax.tnil))
+      (Syntax.ttcons (Syntax.tcons (Syntax.tyEnum (107 ∷ 105 ∷ 110 ∷ 100 ∷ 115 ∷ 58 ∷ 58 ∷ 75 ∷ 105 ∷ 110 ∷ 100 ∷ []) (Syntax.ttcons Syntax.tnil (Syntax.ttcons
+      Syntax.tnil (Syntax.ttcons Syntax.tnil (Syntax.ttcons Syntax.tnil (Syntax.ttcons Syntax.tnil (Syntax.ttcons Syntax.tnil (Syntax.ttcons Syntax.tnil
+      (Syntax.ttcons Syntax.tnil (Syntax.ttcons Syntax.tnil (Syntax.ttcons Syntax.tnil (Syntax.ttcons Syntax.tnil (Syntax.ttcons Syntax.tnil (Syntax.ttcons
+      Syntax.tnil (Syntax.ttcons Syntax.tnil (Syntax.ttcons Syntax.tnil (Syntax.ttcons Syntax.tnil (Syntax.ttcons Syntax.tnil (Syntax.ttcons Syntax.tnil
+      (Syntax.ttcons Syntax.tnil (Syntax.ttcons Syntax.tnil (Syntax.ttcons Syntax.tnil (Syntax.ttcons Syntax.tnil (Syntax.ttcons Syntax.tnil (Syntax.ttcons
+      Syntax.tnil (Syntax.ttcons Syntax.tnil (Syntax.ttcons Syntax.tnil (Syntax.ttcons Syntax.tnil (Syntax.ttcons Syntax.tnil
+      Syntax.ttnil))))))))))))))))))))))))))))) Syntax.tnil) (Syntax.ttcons (Syntax.tcons (Syntax.tyEnum (108 ∷ 105 ∷ 110 ∷ 101 ∷ 58 ∷ 58 ∷ 82 ∷ 101 ∷ 99 ∷ 111 ∷
+      114 ∷ 100 ∷ []) (Syntax.ttcons (Syntax.tcons Syntax.tyBool (Syntax.tcons (Syntax.tyStruct (99 ∷ 111 ∷ 111 ∷ 114 ∷ 100 ∷ 105 ∷ 110 ∷ 97 ∷ 116 ∷ 101 ∷ 58 ∷
+      58 ∷ 65 ∷ 116 ∷ 111 ∷ 109 ∷ []) (Syntax.tcons (Syntax.tyStruct (99 ∷ 111 ∷ 111 ∷ 114 ∷ 100 ∷ 105 ∷ 110 ∷ 97 ∷ 116 ∷ 101 ∷ 58 ∷ 58 ∷ 73 ∷ 100 ∷ 101 ∷ 110 ∷
+      116 ∷ 105 ∷ 116 ∷ 121 ∷ []) (Syntax.tcons (Syntax.tyStruct (102 ∷ 105 ∷ 101 ∷ 108 ∷ 100 ∷ 115 ∷ 58 ∷ 58 ∷ 83 ∷ 101 ∷ 114 ∷ 105 ∷ 97 ∷ 108 ∷ [])
+      (Syntax.tcons (Syntax.tyInt Syntax.w32) Syntax.tnil)) (Syntax.tcons (Syntax.tyStruct (110 ∷ 97 ∷ 109 ∷ 101 ∷ 115 ∷ 58 ∷ 58 ∷ 70 ∷ 111 ∷ 117 ∷ 114 ∷ [])
+      (Syntax.tcons (Syntax.tyInt Syntax.w8) (Syntax.tcons (Syntax.tyInt Syntax.w8) (Syntax.tcons (Syntax.tyInt Syntax.w8) (Syntax.tcons (Syntax.tyInt Syntax.w8)
+      Syntax.tnil))))) (Syntax.tcons (Syntax.tyInt Syntax.w8) (Syntax.tcons (Syntax.tyStruct (114 ∷ 101 ∷ 115 ∷ 105 ∷ 100 ∷ 117 ∷ 101 ∷ 58 ∷ 58 ∷ 82 ∷ 101 ∷ 115
+      ∷ 105 ∷ 100 ∷ 117 ∷ 101 ∷ []) (Syntax.tcons (Syntax.tyStruct (110 ∷ 97 ∷ 109 ∷ 101 ∷ 115 ∷ 58 ∷ 58 ∷ 84 ∷ 104 ∷ 114 ∷ 101 ∷ 101 ∷ []) (Syntax.tcons
+      (Syntax.tyInt Syntax.w8) (Syntax.tcons (Syntax.tyInt Syntax.w8) (Syntax.tcons (Syntax.tyInt Syntax.w8) Syntax.tnil)))) (Syntax.tcons (Syntax.tyInt
+      Syntax.w8) (Syntax.tcons (Syntax.tyStruct (102 ∷ 105 ∷ 101 ∷ 108 ∷ 100 ∷ 115 ∷ 58 ∷ 58 ∷ 82 ∷ 101 ∷ 115 ∷ 105 ∷ 100 ∷ 117 ∷ 101 ∷ 78 ∷ 117 ∷ 109 ∷ 98 ∷ 101
+      ∷ 114 ∷ []) (Syntax.tcons (Syntax.tyInt Syntax.w32) Syntax.tnil)) (Syntax.tcons (Syntax.tyInt Syntax.w8) Syntax.tnil))))) Syntax.tnil))))) (Syntax.tcons
+      (Syntax.tyStruct (99 ∷ 111 ∷ 111 ∷ 114 ∷ 100 ∷ 105 ∷ 110 ∷ 97 ∷ 116 ∷ 101 ∷ 58 ∷ 58 ∷ 77 ∷ 101 ∷ 97 ∷ 115 ∷ 117 ∷ 114 ∷ 101 ∷ []) (Syntax.tcons
+      (Syntax.tyStruct (99 ∷ 111 ∷ 111 ∷ 114 ∷ 100 ∷ 105 ∷ 110 ∷ 97 ∷ 116 ∷ 101 ∷ 58 ∷ 58 ∷ 80 ∷ 111 ∷ 115 ∷ 105 ∷ 116 ∷ 105 ∷ 111 ∷ 110 ∷ []) (Syntax.tcons
+      (Syntax.tyInt Syntax.w32) (Syntax.tcons (Syntax.tyInt Syntax.w32) (Syntax.tcons (Syntax.tyInt Syntax.w32) Syntax.tnil)))) (Syntax.tcons (Syntax.tyInt
+      Syntax.w32) (Syntax.tcons (Syntax.tyInt Syntax.w32) Syntax.tnil)))) (Syntax.tcons (Syntax.tyStruct (99 ∷ 111 ∷ 111 ∷ 114 ∷ 100 ∷ 105 ∷ 110 ∷ 97 ∷ 116 ∷ 101
+      ∷ 58 ∷ 58 ∷ 83 ∷ 112 ∷ 101 ∷ 99 ∷ 105 ∷ 101 ∷ 115 ∷ []) (Syntax.tcons (Syntax.tyStruct (110 ∷ 97 ∷ 109 ∷ 101 ∷ 115 ∷ 58 ∷ 58 ∷ 80 ∷ 97 ∷ 105 ∷ 114 ∷ [])
+      (Syntax.tcons (Syntax.tyInt Syntax.w8) (Syntax.tcons (Syntax.tyInt Syntax.w8) Syntax.tnil))) (Syntax.tcons (Syntax.tyStruct (110 ∷ 97 ∷ 109 ∷ 101 ∷ 115 ∷
+      58 ∷ 58 ∷ 80 ∷ 97 ∷ 105 ∷ 114 ∷ []) (Syntax.tcons (Syntax.tyInt Syntax.w8) (Syntax.tcons (Syntax.tyInt Syntax.w8) Syntax.tnil))) Syntax.tnil)))
+      Syntax.tnil)))) Syntax.tnil)) (Syntax.ttcons (Syntax.tcons (Syntax.tyStruct (116 ∷ 101 ∷ 114 ∷ 58 ∷ 58 ∷ 84 ∷ 101 ∷ 114 ∷ []) (Syntax.tcons
+      (Syntax.tyStruct (102 ∷ 105 ∷ 101 ∷ 108 ∷ 100 ∷ 115 ∷ 58 ∷ 58 ∷ 83 ∷ 101 ∷ 114 ∷ 105 ∷ 97 ∷ 108 ∷ []) (Syntax.tcons (Syntax.tyInt Syntax.w32) Syntax.tnil))
+      (Syntax.tcons (Syntax.tyStruct (114 ∷ 101 ∷ 115 ∷ 105 ∷ 100 ∷ 117 ∷ 101 ∷ 58 ∷ 58 ∷ 82 ∷ 101 ∷ 115 ∷ 105 ∷ 100 ∷ 117 ∷ 101 ∷ []) (Syntax.tcons
+      (Syntax.tyStruct (110 ∷ 97 ∷ 109 ∷ 101 ∷ 115 ∷ 58 ∷ 58 ∷ 84 ∷ 104 ∷ 114 ∷ 101 ∷ 101 ∷ []) (Syntax.tcons (Syntax.tyInt Syntax.w8) (Syntax.tcons
+      (Syntax.tyInt Syntax.w8) (Syntax.tcons (Syntax.tyInt Syntax.w8) Syntax.tnil)))) (Syntax.tcons (Syntax.tyInt Syntax.w8) (Syntax.tcons (Syntax.tyStruct (102
+      ∷ 105 ∷ 101 ∷ 108 ∷ 100 ∷ 115 ∷ 58 ∷ 58 ∷ 82 ∷ 101 ∷ 115 ∷ 105 ∷ 100 ∷ 117 ∷ 101 ∷ 78 ∷ 117 ∷ 109 ∷ 98 ∷ 101 ∷ 114 ∷ []) (Syntax.tcons (Syntax.tyInt
+      Syntax.w32) Syntax.tnil)) (Syntax.tcons (Syntax.tyInt Syntax.w8) Syntax.tnil))))) Syntax.tnil))) Syntax.tnil) (Syntax.ttcons (Syntax.tcons (Syntax.tyStruct
+      (104 ∷ 101 ∷ 108 ∷ 105 ∷ 120 ∷ 58 ∷ 58 ∷ 72 ∷ 101 ∷ 108 ∷ 105 ∷ 120 ∷ []) (Syntax.tcons (Syntax.tyStruct (104 ∷ 101 ∷ 108 ∷ 105 ∷ 120 ∷ 58 ∷ 58 ∷ 69 ∷ 120
+      ∷ 116 ∷ 101 ∷ 110 ∷ 116 ∷ []) (Syntax.tcons (Syntax.tyInt Syntax.w32) (Syntax.tcons (Syntax.tyStruct (110 ∷ 97 ∷ 109 ∷ 101 ∷ 115 ∷ 58 ∷ 58 ∷ 84 ∷ 104 ∷ 114
+      ∷ 101 ∷ 101 ∷ []) (Syntax.tcons (Syntax.tyInt Syntax.w8) (Syntax.tcons (Syntax.tyInt Syntax.w8) (Syntax.tcons (Syntax.tyInt Syntax.w8) Syntax.tnil))))
+      (Syntax.tcons (Syntax.tyStruct (114 ∷ 101 ∷ 115 ∷ 105 ∷ 100 ∷ 117 ∷ 101 ∷ 58 ∷ 58 ∷ 82 ∷ 101 ∷ 115 ∷ 105 ∷ 100 ∷ 117 ∷ 101 ∷ []) (Syntax.tcons
+      (Syntax.tyStruct (110 ∷ 97 ∷ 109 ∷ 101 ∷ 115 ∷ 58 ∷ 58 ∷ 84 ∷ 104 ∷ 114 ∷ 101 ∷ 101 ∷ []) (Syntax.tcons (Syntax.tyInt Syntax.w8) (Syntax.tcons
+      (Syntax.tyInt Syntax.w8) (Syntax.tcons (Syntax.tyInt Syntax.w8) Syntax.tnil)))) (Syntax.tcons (Syntax.tyInt Syntax.w8) (Syntax.tcons (Syntax.tyStruct (102
+      ∷ 105 ∷ 101 ∷ 108 ∷ 100 ∷ 115 ∷ 58 ∷ 58 ∷ 82 ∷ 101 ∷ 115 ∷ 105 ∷ 100 ∷ 117 ∷ 101 ∷ 78 ∷ 117 ∷ 109 ∷ 98 ∷ 101 ∷ 114 ∷ []) (Syntax.tcons (Syntax.tyInt
+      Syntax.w32) Syntax.tnil)) (Syntax.tcons (Syntax.tyInt Syntax.w8) Syntax.tnil))))) (Syntax.tcons (Syntax.tyStruct (114 ∷ 101 ∷ 115 ∷ 105 ∷ 100 ∷ 117 ∷ 101 ∷
+      58 ∷ 58 ∷ 82 ∷ 101 ∷ 115 ∷ 105 ∷ 100 ∷ 117 ∷ 101 ∷ []) (Syntax.tcons (Syntax.tyStruct (110 ∷ 97 ∷ 109 ∷ 101 ∷ 115 ∷ 58 ∷ 58 ∷ 84 ∷ 104 ∷ 114 ∷ 101 ∷ 101 ∷
+      []) (Syntax.tcons (Syntax.tyInt Syntax.w8) (Syntax.tcons (Syntax.tyInt Syntax.w8) (Syntax.tcons (Syntax.tyInt Syntax.w8) Syntax.tnil)))) (Syntax.tcons
+      (Syntax.tyInt Syntax.w8) (Syntax.tcons (Syntax.tyStruct (102 ∷ 105 ∷ 101 ∷ 108 ∷ 100 ∷ 115 ∷ 58 ∷ 58 ∷ 82 ∷ 101 ∷ 115 ∷ 105 ∷ 100 ∷ 117 ∷ 101 ∷ 78 ∷ 117 ∷
+      109 ∷ 98 ∷ 101 ∷ 114 ∷ []) (Syntax.tcons (Syntax.tyInt Syntax.w32) Syntax.tnil)) (Syntax.tcons (Syntax.tyInt Syntax.w8) Syntax.tnil))))) Syntax.tnil)))))
+      (Syntax.tcons (Syntax.tyInt Syntax.w32) (Syntax.tcons (Syntax.tyStruct (104 ∷ 101 ∷ 108 ∷ 105 ∷ 120 ∷ 58 ∷ 58 ∷ 67 ∷ 111 ∷ 109 ∷ 109 ∷ 101 ∷ 110 ∷ 116 ∷
+      []) (Syntax.tcons (Syntax.tyInt Syntax.w64) (Syntax.tcons (Syntax.tyInt Syntax.w64) (Syntax.tcons (Syntax.tyInt Syntax.w64) (Syntax.tcons (Syntax.tyInt
+      Syntax.w64) Syntax.tnil))))) (Syntax.tcons (Syntax.tyInt Syntax.w32) Syntax.tnil))))) Syntax.tnil) (Syntax.ttcons (Syntax.tcons (Syntax.tyStruct (115 ∷ 104
+      ∷ 101 ∷ 101 ∷ 116 ∷ 58 ∷ 58 ∷ 83 ∷ 104 ∷ 101 ∷ 101 ∷ 116 ∷ []) (Syntax.tcons (Syntax.tyStruct (115 ∷ 104 ∷ 101 ∷ 101 ∷ 116 ∷ 58 ∷ 58 ∷ 83 ∷ 116 ∷ 114 ∷ 97
+      ∷ 110 ∷ 100 ∷ []) (Syntax.tcons (Syntax.tyInt Syntax.w32) (Syntax.tcons (Syntax.tyStruct (110 ∷ 97 ∷ 109 ∷ 101 ∷ 115 ∷ 58 ∷ 58 ∷ 84 ∷ 104 ∷ 114 ∷ 101 ∷ 101
+      ∷ []) (Syntax.tcons (Syntax.tyInt Syntax.w8) (Syntax.tcons (Syntax.tyInt Syntax.w8) (Syntax.tcons (Syntax.tyInt Syntax.w8) Syntax.tnil)))) (Syntax.tcons
+      (Syntax.tyInt Syntax.w32) (Syntax.tcons (Syntax.tyStruct (114 ∷ 101 ∷ 115 ∷ 105 ∷ 100 ∷ 117 ∷ 101 ∷ 58 ∷ 58 ∷ 82 ∷ 101 ∷ 115 ∷ 105 ∷ 100 ∷ 117 ∷ 101 ∷ [])
+      (Syntax.tcons (Syntax.tyStruct (110 ∷ 97 ∷ 109 ∷ 101 ∷ 115 ∷ 58 ∷ 58 ∷ 84 ∷ 104 ∷ 114 ∷ 101 ∷ 101 ∷ []) (Syntax.tcons (Syntax.tyInt Syntax.w8)
+      (Syntax.tcons (Syntax.tyInt Syntax.w8) (Syntax.tcons (Syntax.tyInt Syntax.w8) Syntax.tnil)))) (Syntax.tcons (Syntax.tyInt Syntax.w8) (Syntax.tcons
+      (Syntax.tyStruct (102 ∷ 105 ∷ 101 ∷ 108 ∷ 100 ∷ 115 ∷ 58 ∷ 58 ∷ 82 ∷ 101 ∷ 115 ∷ 105 ∷ 100 ∷ 117 ∷ 101 ∷ 78 ∷ 117 ∷ 109 ∷ 98 ∷ 101 ∷ 114 ∷ [])
+      (Syntax.tcons (Syntax.tyInt Syntax.w32) Syntax.tnil)) (Syntax.tcons (Syntax.tyInt Syntax.w8) Syntax.tnil))))) (Syntax.tcons (Syntax.tyStruct (114 ∷ 101 ∷
+      115 ∷ 105 ∷ 100 ∷ 117 ∷ 101 ∷ 58 ∷ 58 ∷ 82 ∷ 101 ∷ 115 ∷ 105 ∷ 100 ∷ 117 ∷ 101 ∷ []) (Syntax.tcons (Syntax.tyStruct (110 ∷ 97 ∷ 109 ∷ 101 ∷ 115 ∷ 58 ∷ 58 ∷
+      84 ∷ 104 ∷ 114 ∷ 101 ∷ 101 ∷ []) (Syntax.tcons (Syntax.tyInt Syntax.w8) (Syntax.tcons (Syntax.tyInt Syntax.w8) (Syntax.tcons (Syntax.tyInt Syntax.w8)
+      Syntax.tnil)))) (Syntax.tcons (Syntax.tyInt Syntax.w8) (Syntax.tcons (Syntax.tyStruct (102 ∷ 105 ∷ 101 ∷ 108 ∷ 100 ∷ 115 ∷ 58 ∷ 58 ∷ 82 ∷ 101 ∷ 115 ∷ 105 ∷
+      100 ∷ 117 ∷ 101 ∷ 78 ∷ 117 ∷ 109 ∷ 98 ∷ 101 ∷ 114 ∷ []) (Syntax.tcons (Syntax.tyInt Syntax.w32) Syntax.tnil)) (Syntax.tcons (Syntax.tyInt Syntax.w8)
+      Syntax.tnil))))) (Syntax.tcons (Syntax.tyInt Syntax.w32) Syntax.tnil))))))) (Syntax.tcons (Syntax.tyEnum (115 ∷ 104 ∷ 101 ∷ 101 ∷ 116 ∷ 58 ∷ 58 ∷ 82 ∷ 101
+      ∷ 103 ∷ 105 ∷ 115 ∷ 116 ∷ 114 ∷ 97 ∷ 116 ∷ 105 ∷ 111 ∷ 110 ∷ []) (Syntax.ttcons Syntax.tnil (Syntax.ttcons (Syntax.tcons (Syntax.tyStruct (115 ∷ 104 ∷ 101
+      ∷ 101 ∷ 116 ∷ 58 ∷ 58 ∷ 66 ∷ 111 ∷ 110 ∷ 100 ∷ []) (Syntax.tcons (Syntax.tyStruct (110 ∷ 97 ∷ 109 ∷ 101 ∷ 115 ∷ 58 ∷ 58 ∷ 70 ∷ 111 ∷ 117 ∷ 114 ∷ [])
+      (Syntax.tcons (Syntax.tyInt Syntax.w8) (Syntax.tcons (Syntax.tyInt Syntax.w8) (Syntax.tcons (Syntax.tyInt Syntax.w8) (Syntax.tcons (Syntax.tyInt Syntax.w8)
+      Syntax.tnil))))) (Syntax.tcons (Syntax.tyStruct (114 ∷ 101 ∷ 115 ∷ 105 ∷ 100 ∷ 117 ∷ 101 ∷ 58 ∷ 58 ∷ 82 ∷ 101 ∷ 115 ∷ 105 ∷ 100 ∷ 117 ∷ 101 ∷ [])
+      (Syntax.tcons (Syntax.tyStruct (110 ∷ 97 ∷ 109 ∷ 101 ∷ 115 ∷ 58 ∷ 58 ∷ 84 ∷ 104 ∷ 114 ∷ 101 ∷ 101 ∷ []) (Syntax.tcons (Syntax.tyInt Syntax.w8)
+      (Syntax.tcons (Syntax.tyInt Syntax.w8) (Syntax.tcons (Syntax.tyInt Syntax.w8) Syntax.tnil)))) (Syntax.tcons (Syntax.tyInt Syntax.w8) (Syntax.tcons
+      (Syntax.tyStruct (102 ∷ 105 ∷ 101 ∷ 108 ∷ 100 ∷ 115 ∷ 58 ∷ 58 ∷ 82 ∷ 101 ∷ 115 ∷ 105 ∷ 100 ∷ 117 ∷ 101 ∷ 78 ∷ 117 ∷ 109 ∷ 98 ∷ 101 ∷ 114 ∷ [])
+      (Syntax.tcons (Syntax.tyInt Syntax.w32) Syntax.tnil)) (Syntax.tcons (Syntax.tyInt Syntax.w8) Syntax.tnil))))) (Syntax.tcons (Syntax.tyStruct (110 ∷ 97 ∷
+      109 ∷ 101 ∷ 115 ∷ 58 ∷ 58 ∷ 70 ∷ 111 ∷ 117 ∷ 114 ∷ []) (Syntax.tcons (Syntax.tyInt Syntax.w8) (Syntax.tcons (Syntax.tyInt Syntax.w8) (Syntax.tcons
+      (Syntax.tyInt Syntax.w8) (Syntax.tcons (Syntax.tyInt Syntax.w8) Syntax.tnil))))) (Syntax.tcons (Syntax.tyStruct (114 ∷ 101 ∷ 115 ∷ 105 ∷ 100 ∷ 117 ∷ 101 ∷
+      58 ∷ 58 ∷ 82 ∷ 101 ∷ 115 ∷ 105 ∷ 100 ∷ 117 ∷ 101 ∷ []) (Syntax.tcons (Syntax.tyStruct (110 ∷ 97 ∷ 109 ∷ 101 ∷ 115 ∷ 58 ∷ 58 ∷ 84 ∷ 104 ∷ 114 ∷ 101 ∷ 101 ∷
+      []) (Syntax.tcons (Syntax.tyInt Syntax.w8) (Syntax.tcons (Syntax.tyInt Syntax.w8) (Syntax.tcons (Syntax.tyInt Syntax.w8) Syntax.tnil)))) (Syntax.tcons
+      (Syntax.tyInt Syntax.w8) (Syntax.tcons (Syntax.tyStruct (102 ∷ 105 ∷ 101 ∷ 108 ∷ 100 ∷ 115 ∷ 58 ∷ 58 ∷ 82 ∷ 101 ∷ 115 ∷ 105 ∷ 100 ∷ 117 ∷ 101 ∷ 78 ∷ 117 ∷
+      109 ∷ 98 ∷ 101 ∷ 114 ∷ []) (Syntax.tcons (Syntax.tyInt Syntax.w32) Syntax.tnil)) (Syntax.tcons (Syntax.tyInt Syntax.w8) Syntax.tnil))))) Syntax.tnil)))))
+      Syntax.tnil) Syntax.ttnil))) Syntax.tnil))) Syntax.tnil) (Syntax.ttcons (Syntax.tcons (Syntax.tyStruct (99 ∷ 111 ∷ 110 ∷ 101 ∷ 99 ∷ 116 ∷ 58 ∷ 58 ∷ 67 ∷
+      111 ∷ 110 ∷ 101 ∷ 99 ∷ 116 ∷ []) (Syntax.tcons (Syntax.tyStruct (102 ∷ 105 ∷ 101 ∷ 108 ∷ 100 ∷ 115 ∷ 58 ∷ 58 ∷ 83 ∷ 101 ∷ 114 ∷ 105 ∷ 97 ∷ 108 ∷ [])
+      (Syntax.tcons (Syntax.tyInt Syntax.w32) Syntax.tnil)) (Syntax.tcons (Syntax.tyStruct (102 ∷ 105 ∷ 101 ∷ 108 ∷ 100 ∷ 115 ∷ 58 ∷ 58 ∷ 83 ∷ 101 ∷ 114 ∷ 105 ∷
+      97 ∷ 108 ∷ []) (Syntax.tcons (Syntax.tyInt Syntax.w32) Syntax.tnil)) (Syntax.tcons (Syntax.tyStruct (102 ∷ 105 ∷ 101 ∷ 108 ∷ 100 ∷ 115 ∷ 58 ∷ 58 ∷ 83 ∷ 101
+      ∷ 114 ∷ 105 ∷ 97 ∷ 108 ∷ []) (Syntax.tcons (Syntax.tyInt Syntax.w32) Syntax.tnil)) (Syntax.tcons (Syntax.tyStruct (102 ∷ 105 ∷ 101 ∷ 108 ∷ 100 ∷ 115 ∷ 58 ∷
+      58 ∷ 83 ∷ 101 ∷ 114 ∷ 105 ∷ 97 ∷ 108 ∷ []) (Syntax.tcons (Syntax.tyInt Syntax.w32) Syntax.tnil)) (Syntax.tcons (Syntax.tyStruct (102 ∷ 105 ∷ 101 ∷ 108 ∷
+      100 ∷ 115 ∷ 58 ∷ 58 ∷ 83 ∷ 101 ∷ 114 ∷ 105 ∷ 97 ∷ 108 ∷ []) (Syntax.tcons (Syntax.tyInt Syntax.w32) Syntax.tnil)) Syntax.tnil)))))) Syntax.tnil)
+      (Syntax.ttcons (Syntax.tcons (Syntax.tyStruct (109 ∷ 97 ∷ 115 ∷ 116 ∷ 101 ∷ 114 ∷ 58 ∷ 58 ∷ 84 ∷ 97 ∷ 108 ∷ 108 ∷ 121 ∷ []) (Syntax.tcons (Syntax.tyInt
+      Syntax.w32) (Syntax.tcons (Syntax.tyInt Syntax.w32) (Syntax.tcons (Syntax.tyInt Syntax.w32) (Syntax.tcons (Syntax.tyInt Syntax.w32) (Syntax.tcons
+      (Syntax.tyInt Syntax.w32) (Syntax.tcons (Syntax.tyInt Syntax.w32) (Syntax.tcons (Syntax.tyInt Syntax.w32) (Syntax.tcons (Syntax.tyInt Syntax.w32)
+      (Syntax.tcons (Syntax.tyInt Syntax.w32) Syntax.tnil)))))))))) Syntax.tnil) (Syntax.ttcons Syntax.tnil Syntax.ttnil)))))))) Syntax.tnil) Syntax.ttnil))))),
+)
     ∷ (10, Rows'.any-gone Syntax.tyBool) ∷ (11, Rows'.any-gone (Syntax.tyInt Syntax.w8)) ∷ (12, Rows'.any-gone SlotAs.ty) ∷ (13, Rows'.any-gone Syntax.tyBool)
     ∷ (14, Rows'.any-gone Syntax.tyBool) ∷ (15, Rows'.whole (Declared'.row Verdict.the-type)) ∷ []
 
@@ -4573,17 +4579,16 @@ t42 = (0, Rows'.whole (Declared'.row (Apart.apartT Findings.the-type))) ∷ (
       Syntax.w64) Syntax.tnil))))))))),
 ) ∷ (
   5,
-  Rows'.any-gone (Syntax.tyStruct (103 ∷ 97 ∷ 116 ∷ 101 ∷ 58 ∷ 58 ∷ 83 ∷ 112 ∷ 97 ∷ 110 ∷ []) (Syntax.tcons
-      (Syntax.tyInt Syntax.w64) (Syntax.tcons (Syntax.tyInt Syntax.w64) Syntax.tnil))),
+  Rows'.any-gone (Syntax.tyStruct (115 ∷ 101 ∷ 114 ∷ 105 ∷ 97 ∷ 108 ∷ 115 ∷ 58 ∷ 58 ∷ 83 ∷ 112 ∷ 97 ∷ 110 ∷ [])
+      (Syntax.tcons (Syntax.tyInt Syntax.w64) (Syntax.tcons (Syntax.tyInt Syntax.w64) Syntax.tnil))),
 ) ∷ (6, Rows'.any-gone (Syntax.tyInt Syntax.w64)) ∷ (
   7,
-  Rows'.sc-here
-      Row.sBool,
+  Rows'.sc-here Row.sBool,
 ) ∷ (8, Rows'.sc-here (Row.sInt Syntax.w64)) ∷ (
   9,
-  Rows'.any-gone (Syntax.tyEnum (112 ∷ 105 ∷ 101 ∷ 99 ∷ 101 ∷ 115 ∷ 58 ∷ 58 ∷ 76 ∷ 105 ∷ 110 ∷
-      101 ∷ []) (Syntax.ttcons (Syntax.tcons (Syntax.tyInt Syntax.w8) Syntax.tnil) (Syntax.ttcons (Syntax.tcons (Syntax.tyEnum (107 ∷ 105 ∷ 110 ∷ 100 ∷ 115 ∷ 58
-      ∷ 58 ∷ 75 ∷ 105 ∷ 110 ∷ 100 ∷ []) (Syntax.ttcons Syntax.tnil (Syntax.ttcons Syntax.tnil (Syntax.ttcons Syntax.tnil (Syntax.ttcons Syntax.tnil
+  Rows'.any-gone (Syntax.tyEnum (112 ∷ 105 ∷ 101 ∷ 99 ∷ 101 ∷ 115 ∷ 58 ∷ 58 ∷ 76 ∷
+      105 ∷ 110 ∷ 101 ∷ []) (Syntax.ttcons (Syntax.tcons (Syntax.tyInt Syntax.w8) Syntax.tnil) (Syntax.ttcons (Syntax.tcons (Syntax.tyEnum (107 ∷ 105 ∷ 110 ∷ 100
+      ∷ 115 ∷ 58 ∷ 58 ∷ 75 ∷ 105 ∷ 110 ∷ 100 ∷ []) (Syntax.ttcons Syntax.tnil (Syntax.ttcons Syntax.tnil (Syntax.ttcons Syntax.tnil (Syntax.ttcons Syntax.tnil
       (Syntax.ttcons Syntax.tnil (Syntax.ttcons Syntax.tnil (Syntax.ttcons Syntax.tnil (Syntax.ttcons Syntax.tnil (Syntax.ttcons Syntax.tnil (Syntax.ttcons
       Syntax.tnil (Syntax.ttcons Syntax.tnil (Syntax.ttcons Syntax.tnil (Syntax.ttcons Syntax.tnil (Syntax.ttcons Syntax.tnil (Syntax.ttcons Syntax.tnil
       (Syntax.ttcons Syntax.tnil (Syntax.ttcons Syntax.tnil (Syntax.ttcons Syntax.tnil (Syntax.ttcons Syntax.tnil (Syntax.ttcons Syntax.tnil (Syntax.ttcons
@@ -4705,28 +4710,27 @@ t43 = (0, Rows'.whole (Declared'.row (Apart.apartT Findings.the-type))) ∷ (
       Syntax.w64) Syntax.tnil))))))))),
 ) ∷ (
   5,
-  Rows'.any-gone (Syntax.tyStruct (103 ∷ 97 ∷ 116 ∷ 101 ∷ 58 ∷ 58 ∷ 83 ∷ 112 ∷ 97 ∷ 110 ∷ []) (Syntax.tcons
-      (Syntax.tyInt Syntax.w64) (Syntax.tcons (Syntax.tyInt Syntax.w64) Syntax.tnil))),
+  Rows'.any-gone (Syntax.tyStruct (115 ∷ 101 ∷ 114 ∷ 105 ∷ 97 ∷ 108 ∷ 115 ∷ 58 ∷ 58 ∷ 83 ∷ 112 ∷ 97 ∷ 110 ∷ [])
+      (Syntax.tcons (Syntax.tyInt Syntax.w64) (Syntax.tcons (Syntax.tyInt Syntax.w64) Syntax.tnil))),
 ) ∷ (6, Rows'.any-gone (Syntax.tyInt Syntax.w64)) ∷ (
   7,
-  Rows'.any-gone
-      Syntax.tyBool,
+  Rows'.any-gone Syntax.tyBool,
 ) ∷ (8, Rows'.sc-here (Row.sInt Syntax.w64)) ∷ (
   9,
-  Rows'.any-gone (Syntax.tyEnum (112 ∷ 105 ∷ 101 ∷ 99 ∷ 101 ∷ 115 ∷ 58 ∷ 58 ∷ 76 ∷ 105 ∷ 110
-      ∷ 101 ∷ []) (Syntax.ttcons (Syntax.tcons (Syntax.tyInt Syntax.w8) Syntax.tnil) (Syntax.ttcons (Syntax.tcons (Syntax.tyEnum (107 ∷ 105 ∷ 110 ∷ 100 ∷ 115 ∷
-      58 ∷ 58 ∷ 75 ∷ 105 ∷ 110 ∷ 100 ∷ []) (Syntax.ttcons Syntax.tnil (Syntax.ttcons Syntax.tnil (Syntax.ttcons Syntax.tnil (Syntax.ttcons Syntax.tnil
-      (Syntax.ttcons Syntax.tnil (Syntax.ttcons Syntax.tnil (Syntax.ttcons Syntax.tnil (Syntax.ttcons Syntax.tnil (Syntax.ttcons Syntax.tnil (Syntax.ttcons
-      Syntax.tnil (Syntax.ttcons Syntax.tnil (Syntax.ttcons Syntax.tnil (Syntax.ttcons Syntax.tnil (Syntax.ttcons Syntax.tnil (Syntax.ttcons Syntax.tnil
-      (Syntax.ttcons Syntax.tnil (Syntax.ttcons Syntax.tnil (Syntax.ttcons Syntax.tnil (Syntax.ttcons Syntax.tnil (Syntax.ttcons Syntax.tnil (Syntax.ttcons
-      Syntax.tnil (Syntax.ttcons Syntax.tnil (Syntax.ttcons Syntax.tnil (Syntax.ttcons Syntax.tnil (Syntax.ttcons Syntax.tnil (Syntax.ttcons Syntax.tnil
-      (Syntax.ttcons Syntax.tnil (Syntax.ttcons Syntax.tnil Syntax.ttnil))))))))))))))))))))))))))))) (Syntax.tcons (Syntax.tyInt Syntax.w32) Syntax.tnil))
-      (Syntax.ttcons (Syntax.tcons (Syntax.tyEnum (107 ∷ 105 ∷ 110 ∷ 100 ∷ 115 ∷ 58 ∷ 58 ∷ 75 ∷ 105 ∷ 110 ∷ 100 ∷ []) (Syntax.ttcons Syntax.tnil (Syntax.ttcons
+  Rows'.any-gone (Syntax.tyEnum (112 ∷ 105 ∷ 101 ∷ 99 ∷ 101 ∷ 115 ∷ 58 ∷ 58 ∷
+      76 ∷ 105 ∷ 110 ∷ 101 ∷ []) (Syntax.ttcons (Syntax.tcons (Syntax.tyInt Syntax.w8) Syntax.tnil) (Syntax.ttcons (Syntax.tcons (Syntax.tyEnum (107 ∷ 105 ∷ 110
+      ∷ 100 ∷ 115 ∷ 58 ∷ 58 ∷ 75 ∷ 105 ∷ 110 ∷ 100 ∷ []) (Syntax.ttcons Syntax.tnil (Syntax.ttcons Syntax.tnil (Syntax.ttcons Syntax.tnil (Syntax.ttcons
       Syntax.tnil (Syntax.ttcons Syntax.tnil (Syntax.ttcons Syntax.tnil (Syntax.ttcons Syntax.tnil (Syntax.ttcons Syntax.tnil (Syntax.ttcons Syntax.tnil
       (Syntax.ttcons Syntax.tnil (Syntax.ttcons Syntax.tnil (Syntax.ttcons Syntax.tnil (Syntax.ttcons Syntax.tnil (Syntax.ttcons Syntax.tnil (Syntax.ttcons
       Syntax.tnil (Syntax.ttcons Syntax.tnil (Syntax.ttcons Syntax.tnil (Syntax.ttcons Syntax.tnil (Syntax.ttcons Syntax.tnil (Syntax.ttcons Syntax.tnil
       (Syntax.ttcons Syntax.tnil (Syntax.ttcons Syntax.tnil (Syntax.ttcons Syntax.tnil (Syntax.ttcons Syntax.tnil (Syntax.ttcons Syntax.tnil (Syntax.ttcons
-      Syntax.tnil (Syntax.ttcons Syntax.tnil (Syntax.ttcons Syntax.tnil (Syntax.ttcons Syntax.tnil (Syntax.ttcons Syntax.tnil
+      Syntax.tnil (Syntax.ttcons Syntax.tnil (Syntax.ttcons Syntax.tnil Syntax.ttnil))))))))))))))))))))))))))))) (Syntax.tcons (Syntax.tyInt Syntax.w32)
+      Syntax.tnil)) (Syntax.ttcons (Syntax.tcons (Syntax.tyEnum (107 ∷ 105 ∷ 110 ∷ 100 ∷ 115 ∷ 58 ∷ 58 ∷ 75 ∷ 105 ∷ 110 ∷ 100 ∷ []) (Syntax.ttcons Syntax.tnil
+      (Syntax.ttcons Syntax.tnil (Syntax.ttcons Syntax.tnil (Syntax.ttcons Syntax.tnil (Syntax.ttcons Syntax.tnil (Syntax.ttcons Syntax.tnil (Syntax.ttcons
+      Syntax.tnil (Syntax.ttcons Syntax.tnil (Syntax.ttcons Syntax.tnil (Syntax.ttcons Syntax.tnil (Syntax.ttcons Syntax.tnil (Syntax.ttcons Syntax.tnil
+      (Syntax.ttcons Syntax.tnil (Syntax.ttcons Syntax.tnil (Syntax.ttcons Syntax.tnil (Syntax.ttcons Syntax.tnil (Syntax.ttcons Syntax.tnil (Syntax.ttcons
+      Syntax.tnil (Syntax.ttcons Syntax.tnil (Syntax.ttcons Syntax.tnil (Syntax.ttcons Syntax.tnil (Syntax.ttcons Syntax.tnil (Syntax.ttcons Syntax.tnil
+      (Syntax.ttcons Syntax.tnil (Syntax.ttcons Syntax.tnil (Syntax.ttcons Syntax.tnil (Syntax.ttcons Syntax.tnil (Syntax.ttcons Syntax.tnil
       Syntax.ttnil))))))))))))))))))))))))))))) Syntax.tnil) (Syntax.ttcons (Syntax.tcons (Syntax.tyEnum (108 ∷ 105 ∷ 110 ∷ 101 ∷ 58 ∷ 58 ∷ 82 ∷ 101 ∷ 99 ∷ 111 ∷
       114 ∷ 100 ∷ []) (Syntax.ttcons (Syntax.tcons Syntax.tyBool (Syntax.tcons (Syntax.tyStruct (99 ∷ 111 ∷ 111 ∷ 114 ∷ 100 ∷ 105 ∷ 110 ∷ 97 ∷ 116 ∷ 101 ∷ 58 ∷
       58 ∷ 65 ∷ 116 ∷ 111 ∷ 109 ∷ []) (Syntax.tcons (Syntax.tyStruct (99 ∷ 111 ∷ 111 ∷ 114 ∷ 100 ∷ 105 ∷ 110 ∷ 97 ∷ 116 ∷ 101 ∷ 58 ∷ 58 ∷ 73 ∷ 100 ∷ 101 ∷ 110 ∷
@@ -4837,28 +4841,27 @@ t44 = (0, Rows'.whole (Declared'.row (Apart.apartT Findings.the-type))) ∷ (
       Syntax.w64) Syntax.tnil))))))))),
 ) ∷ (
   5,
-  Rows'.any-gone (Syntax.tyStruct (103 ∷ 97 ∷ 116 ∷ 101 ∷ 58 ∷ 58 ∷ 83 ∷ 112 ∷ 97 ∷ 110 ∷ []) (Syntax.tcons
-      (Syntax.tyInt Syntax.w64) (Syntax.tcons (Syntax.tyInt Syntax.w64) Syntax.tnil))),
+  Rows'.any-gone (Syntax.tyStruct (115 ∷ 101 ∷ 114 ∷ 105 ∷ 97 ∷ 108 ∷ 115 ∷ 58 ∷ 58 ∷ 83 ∷ 112 ∷ 97 ∷ 110 ∷ [])
+      (Syntax.tcons (Syntax.tyInt Syntax.w64) (Syntax.tcons (Syntax.tyInt Syntax.w64) Syntax.tnil))),
 ) ∷ (6, Rows'.any-gone (Syntax.tyInt Syntax.w64)) ∷ (
   7,
-  Rows'.any-gone
-      Syntax.tyBool,
+  Rows'.any-gone Syntax.tyBool,
 ) ∷ (8, Rows'.any-gone (Syntax.tyInt Syntax.w64)) ∷ (
   9,
-  Rows'.any-gone (Syntax.tyEnum (112 ∷ 105 ∷ 101 ∷ 99 ∷ 101 ∷ 115 ∷ 58 ∷ 58 ∷ 76 ∷ 105 ∷
-      110 ∷ 101 ∷ []) (Syntax.ttcons (Syntax.tcons (Syntax.tyInt Syntax.w8) Syntax.tnil) (Syntax.ttcons (Syntax.tcons (Syntax.tyEnum (107 ∷ 105 ∷ 110 ∷ 100 ∷ 115
-      ∷ 58 ∷ 58 ∷ 75 ∷ 105 ∷ 110 ∷ 100 ∷ []) (Syntax.ttcons Syntax.tnil (Syntax.ttcons Syntax.tnil (Syntax.ttcons Syntax.tnil (Syntax.ttcons Syntax.tnil
-      (Syntax.ttcons Syntax.tnil (Syntax.ttcons Syntax.tnil (Syntax.ttcons Syntax.tnil (Syntax.ttcons Syntax.tnil (Syntax.ttcons Syntax.tnil (Syntax.ttcons
-      Syntax.tnil (Syntax.ttcons Syntax.tnil (Syntax.ttcons Syntax.tnil (Syntax.ttcons Syntax.tnil (Syntax.ttcons Syntax.tnil (Syntax.ttcons Syntax.tnil
-      (Syntax.ttcons Syntax.tnil (Syntax.ttcons Syntax.tnil (Syntax.ttcons Syntax.tnil (Syntax.ttcons Syntax.tnil (Syntax.ttcons Syntax.tnil (Syntax.ttcons
-      Syntax.tnil (Syntax.ttcons Syntax.tnil (Syntax.ttcons Syntax.tnil (Syntax.ttcons Syntax.tnil (Syntax.ttcons Syntax.tnil (Syntax.ttcons Syntax.tnil
-      (Syntax.ttcons Syntax.tnil (Syntax.ttcons Syntax.tnil Syntax.ttnil))))))))))))))))))))))))))))) (Syntax.tcons (Syntax.tyInt Syntax.w32) Syntax.tnil))
-      (Syntax.ttcons (Syntax.tcons (Syntax.tyEnum (107 ∷ 105 ∷ 110 ∷ 100 ∷ 115 ∷ 58 ∷ 58 ∷ 75 ∷ 105 ∷ 110 ∷ 100 ∷ []) (Syntax.ttcons Syntax.tnil (Syntax.ttcons
+  Rows'.any-gone (Syntax.tyEnum (112 ∷ 105 ∷ 101 ∷ 99 ∷ 101 ∷ 115 ∷ 58 ∷
+      58 ∷ 76 ∷ 105 ∷ 110 ∷ 101 ∷ []) (Syntax.ttcons (Syntax.tcons (Syntax.tyInt Syntax.w8) Syntax.tnil) (Syntax.ttcons (Syntax.tcons (Syntax.tyEnum (107 ∷ 105 ∷
+      110 ∷ 100 ∷ 115 ∷ 58 ∷ 58 ∷ 75 ∷ 105 ∷ 110 ∷ 100 ∷ []) (Syntax.ttcons Syntax.tnil (Syntax.ttcons Syntax.tnil (Syntax.ttcons Syntax.tnil (Syntax.ttcons
       Syntax.tnil (Syntax.ttcons Syntax.tnil (Syntax.ttcons Syntax.tnil (Syntax.ttcons Syntax.tnil (Syntax.ttcons Syntax.tnil (Syntax.ttcons Syntax.tnil
       (Syntax.ttcons Syntax.tnil (Syntax.ttcons Syntax.tnil (Syntax.ttcons Syntax.tnil (Syntax.ttcons Syntax.tnil (Syntax.ttcons Syntax.tnil (Syntax.ttcons
       Syntax.tnil (Syntax.ttcons Syntax.tnil (Syntax.ttcons Syntax.tnil (Syntax.ttcons Syntax.tnil (Syntax.ttcons Syntax.tnil (Syntax.ttcons Syntax.tnil
       (Syntax.ttcons Syntax.tnil (Syntax.ttcons Syntax.tnil (Syntax.ttcons Syntax.tnil (Syntax.ttcons Syntax.tnil (Syntax.ttcons Syntax.tnil (Syntax.ttcons
-      Syntax.tnil (Syntax.ttcons Syntax.tnil (Syntax.ttcons Syntax.tnil (Syntax.ttcons Syntax.tnil (Syntax.ttcons Syntax.tnil
+      Syntax.tnil (Syntax.ttcons Syntax.tnil (Syntax.ttcons Syntax.tnil Syntax.ttnil))))))))))))))))))))))))))))) (Syntax.tcons (Syntax.tyInt Syntax.w32)
+      Syntax.tnil)) (Syntax.ttcons (Syntax.tcons (Syntax.tyEnum (107 ∷ 105 ∷ 110 ∷ 100 ∷ 115 ∷ 58 ∷ 58 ∷ 75 ∷ 105 ∷ 110 ∷ 100 ∷ []) (Syntax.ttcons Syntax.tnil
+      (Syntax.ttcons Syntax.tnil (Syntax.ttcons Syntax.tnil (Syntax.ttcons Syntax.tnil (Syntax.ttcons Syntax.tnil (Syntax.ttcons Syntax.tnil (Syntax.ttcons
+      Syntax.tnil (Syntax.ttcons Syntax.tnil (Syntax.ttcons Syntax.tnil (Syntax.ttcons Syntax.tnil (Syntax.ttcons Syntax.tnil (Syntax.ttcons Syntax.tnil
+      (Syntax.ttcons Syntax.tnil (Syntax.ttcons Syntax.tnil (Syntax.ttcons Syntax.tnil (Syntax.ttcons Syntax.tnil (Syntax.ttcons Syntax.tnil (Syntax.ttcons
+      Syntax.tnil (Syntax.ttcons Syntax.tnil (Syntax.ttcons Syntax.tnil (Syntax.ttcons Syntax.tnil (Syntax.ttcons Syntax.tnil (Syntax.ttcons Syntax.tnil
+      (Syntax.ttcons Syntax.tnil (Syntax.ttcons Syntax.tnil (Syntax.ttcons Syntax.tnil (Syntax.ttcons Syntax.tnil (Syntax.ttcons Syntax.tnil
       Syntax.ttnil))))))))))))))))))))))))))))) Syntax.tnil) (Syntax.ttcons (Syntax.tcons (Syntax.tyEnum (108 ∷ 105 ∷ 110 ∷ 101 ∷ 58 ∷ 58 ∷ 82 ∷ 101 ∷ 99 ∷ 111 ∷
       114 ∷ 100 ∷ []) (Syntax.ttcons (Syntax.tcons Syntax.tyBool (Syntax.tcons (Syntax.tyStruct (99 ∷ 111 ∷ 111 ∷ 114 ∷ 100 ∷ 105 ∷ 110 ∷ 97 ∷ 116 ∷ 101 ∷ 58 ∷
       58 ∷ 65 ∷ 116 ∷ 111 ∷ 109 ∷ []) (Syntax.tcons (Syntax.tyStruct (99 ∷ 111 ∷ 111 ∷ 114 ∷ 100 ∷ 105 ∷ 110 ∷ 97 ∷ 116 ∷ 101 ∷ 58 ∷ 58 ∷ 73 ∷ 100 ∷ 101 ∷ 110 ∷
@@ -5232,8 +5235,8 @@ module _ (claims· : Claims) where
   s13 = Scalar.n-room T16 18 Syntax.tyBool
 
   abbrev s14 : Typed.Mo T16 → Typed.Mo T18
-  s14 = Scalar.n-room T16 5 (Syntax.tyStruct (103 ∷ 97 ∷ 116 ∷ 101 ∷ 58 ∷ 58 ∷ 83 ∷ 112 ∷ 97 ∷ 110 ∷ []) (Syntax.tcons (Syntax.tyInt Syntax.w64) (Syntax.tcons
-      (Syntax.tyInt Syntax.w64) Syntax.tnil)))
+  s14 = Scalar.n-room T16 5 (Syntax.tyStruct (115 ∷ 101 ∷ 114 ∷ 105 ∷ 97 ∷ 108 ∷ 115 ∷ 58 ∷ 58 ∷ 83 ∷ 112 ∷ 97 ∷ 110 ∷ []) (Syntax.tcons (Syntax.tyInt
+      Syntax.w64) (Syntax.tcons (Syntax.tyInt Syntax.w64) Syntax.tnil)))
 
   abbrev s15 : Typed.Mo T18 → Typed.Mo T19
   s15 = Scalar.n-room T18 18 Syntax.tyBool
@@ -5392,8 +5395,8 @@ module _ (claims· : Claims) where
       (Syntax.tyInt Syntax.w64) Syntax.tnil)))))))))
 
   abbrev s21 : Typed.Mo T25 → Typed.Mo T26
-  s21 = Scalar.n-room T25 5 (Syntax.tyStruct (103 ∷ 97 ∷ 116 ∷ 101 ∷ 58 ∷ 58 ∷ 83 ∷ 112 ∷ 97 ∷ 110 ∷ []) (Syntax.tcons (Syntax.tyInt Syntax.w64) (Syntax.tcons
-      (Syntax.tyInt Syntax.w64) Syntax.tnil)))
+  s21 = Scalar.n-room T25 5 (Syntax.tyStruct (115 ∷ 101 ∷ 114 ∷ 105 ∷ 97 ∷ 108 ∷ 115 ∷ 58 ∷ 58 ∷ 83 ∷ 112 ∷ 97 ∷ 110 ∷ []) (Syntax.tcons (Syntax.tyInt
+      Syntax.w64) (Syntax.tcons (Syntax.tyInt Syntax.w64) Syntax.tnil)))
 
   abbrev s22 : Typed.Mo T26 → Typed.Mo T27
   s22 = Scalar.n-room T26 9 (Syntax.tyEnum (112 ∷ 105 ∷ 101 ∷ 99 ∷ 101 ∷ 115 ∷ 58 ∷ 58 ∷ 76 ∷ 105 ∷ 110 ∷ 101 ∷ []) (Syntax.ttcons (Syntax.tcons (Syntax.tyInt
@@ -5536,8 +5539,8 @@ module _ (claims· : Claims) where
         tt,
       ),
     ),
-  ) 5 [] (Syntax.tyStruct (103 ∷ 97 ∷ 116 ∷ 101 ∷ 58 ∷ 58 ∷ 83 ∷ 112 ∷ 97 ∷ 110 ∷ []) (Syntax.tcons (Syntax.tyInt
-      Syntax.w64) (Syntax.tcons (Syntax.tyInt Syntax.w64) Syntax.tnil)))
+  ) 5 [] (Syntax.tyStruct (115 ∷ 101 ∷ 114 ∷ 105 ∷ 97 ∷ 108 ∷ 115 ∷ 58 ∷ 58 ∷ 83 ∷ 112 ∷ 97 ∷ 110 ∷ [])
+      (Syntax.tcons (Syntax.tyInt Syntax.w64) (Syntax.tcons (Syntax.tyInt Syntax.w64) Syntax.tnil)))
 
   abbrev s34 : Typed.Both T38 T39
   s34 = Call.callB ps·5 r·5 (claims· .10) (claims· .11) T38 (
@@ -5803,15 +5806,15 @@ module _ (claims· : Claims) where
       module _ (M : Type 1) where
         abbrev pub Closed : Type 2
         Closed = (𝓤 : URA.URA M) (H : Wp.Heap 𝓤) (A : Atoms.Atoms 𝓤) (W : Kit.Given 𝓤 H A) (𝓣 : Wp.Tables 𝓤 H) (known0 : Plain.Known 𝓤 H A W 𝓣 0 ps·0 r·0
-            (claims· .0) (claims· .1) "rules::start") (known1 : Plain.Known 𝓤 H A W 𝓣 1 ps·1 r·1 (claims· .2) (claims· .3) "gate::line_at") (known2 : Plain.Known
-            𝓤 H A W 𝓣 1 ps·2 r·2 (claims· .4) (claims· .5) "gate::known") (known3 : Plain.Known 𝓤 H A W 𝓣 0 ps·3 r·3 (claims· .6) (claims· .7) "rules::judge")
-            (known4 : Plain.Known 𝓤 H A W 𝓣 0 ps·4 r·4 (claims· .8) (claims· .9) "gate::grow") (known5 : Plain.Known 𝓤 H A W 𝓣 0 ps·5 r·5 (claims· .10) (claims·
-            .11) "rules::next") (known6 : Plain.Known 𝓤 H A W 𝓣 1 ps·6 r·6 (claims· .12) (claims· .13) "store::search::slot_at") (known7 : Plain.Known 𝓤 H A W 𝓣
-            0 ps·7 r·7 (claims· .14) (claims· .15) "marks::fits") (known8 : Plain.Known 𝓤 H A W 𝓣 0 ps·8 r·8 (claims· .16) (claims· .17) "ascii::both_of")
-            (known9 : Plain.Known 𝓤 H A W 𝓣 1 ps·9 r·9 (claims· .18) (claims· .19) "store::search::stays") (known10 : Plain.Known 𝓤 H A W 𝓣 0 ps·10 r·10 (claims·
-            .20) (claims· .21) "marks::counting::one_if") (known11 : Plain.Known 𝓤 H A W 𝓣 0 ps·11 r·11 (claims· .22) (claims· .23) "marks::counting::one_of")
-            (known12 : Plain.Known 𝓤 H A W 𝓣 0 ps·12 r·12 (claims· .24) (claims· .25) "gate::finish") → Statement.Triple 𝓤 (Wp.WpFn 𝓤 H (𝓣 .C) (𝓣 .Λ)
-            (Function.fnOf 2 ps r xs m hs body)) (Function.plainOf 𝓤 H A 2 ps r Pre· Post·)
+            (claims· .0) (claims· .1) "rules::start") (known1 : Plain.Known 𝓤 H A W 𝓣 1 ps·1 r·1 (claims· .2) (claims· .3) "rows::line_at") (known2 : Plain.Known
+            𝓤 H A W 𝓣 1 ps·2 r·2 (claims· .4) (claims· .5) "serials::known") (known3 : Plain.Known 𝓤 H A W 𝓣 0 ps·3 r·3 (claims· .6) (claims· .7) "rules::judge")
+            (known4 : Plain.Known 𝓤 H A W 𝓣 0 ps·4 r·4 (claims· .8) (claims· .9) "serials::grow") (known5 : Plain.Known 𝓤 H A W 𝓣 0 ps·5 r·5 (claims· .10)
+            (claims· .11) "rules::next") (known6 : Plain.Known 𝓤 H A W 𝓣 1 ps·6 r·6 (claims· .12) (claims· .13) "store::search::slot_at") (known7 : Plain.Known 𝓤
+            H A W 𝓣 0 ps·7 r·7 (claims· .14) (claims· .15) "marks::fits") (known8 : Plain.Known 𝓤 H A W 𝓣 0 ps·8 r·8 (claims· .16) (claims· .17)
+            "ascii::both_of") (known9 : Plain.Known 𝓤 H A W 𝓣 1 ps·9 r·9 (claims· .18) (claims· .19) "store::search::stays") (known10 : Plain.Known 𝓤 H A W 𝓣 0
+            ps·10 r·10 (claims· .20) (claims· .21) "marks::counting::one_if") (known11 : Plain.Known 𝓤 H A W 𝓣 0 ps·11 r·11 (claims· .22) (claims· .23)
+            "marks::counting::one_of") (known12 : Plain.Known 𝓤 H A W 𝓣 0 ps·12 r·12 (claims· .24) (claims· .25) "gate::finish") → Statement.Triple 𝓤 (Wp.WpFn 𝓤
+            H (𝓣 .C) (𝓣 .Λ) (Function.fnOf 2 ps r xs m hs body)) (Function.plainOf 𝓤 H A 2 ps r Pre· Post·)
 
       module _ (Inv·0 : InvT-loop) (μ·0 : MeasureT-loop) where
         abbrev at0 : Typed.TF T17 O4
@@ -6031,12 +6034,12 @@ module _ (claims· : Claims) where
         module _ {M : Type 1} (𝓤 : URA.URA M) (H : Wp.Heap 𝓤) (A : Atoms.Atoms 𝓤) (W : Kit.Given 𝓤 H A) (𝓣 : Wp.Tables 𝓤 H) where
           abbrev Knowns : Type 1
           Knowns = Plain.Known 𝓤 H A W 𝓣 0 ps·0 r·0 (claims· .0) (claims· .1) "rules::start" × Plain.Known 𝓤 H A W 𝓣 1 ps·1 r·1 (claims· .2) (claims· .3)
-              "gate::line_at" × Plain.Known 𝓤 H A W 𝓣 1 ps·2 r·2 (claims· .4) (claims· .5) "gate::known" × Plain.Known 𝓤 H A W 𝓣 0 ps·3 r·3 (claims· .6) (claims·
-              .7) "rules::judge" × Plain.Known 𝓤 H A W 𝓣 0 ps·4 r·4 (claims· .8) (claims· .9) "gate::grow" × Plain.Known 𝓤 H A W 𝓣 0 ps·5 r·5 (claims· .10)
-              (claims· .11) "rules::next" × Plain.Known 𝓤 H A W 𝓣 1 ps·6 r·6 (claims· .12) (claims· .13) "store::search::slot_at" × Plain.Known 𝓤 H A W 𝓣 0 ps·7
-              r·7 (claims· .14) (claims· .15) "marks::fits" × Plain.Known 𝓤 H A W 𝓣 0 ps·8 r·8 (claims· .16) (claims· .17) "ascii::both_of" × Plain.Known 𝓤 H A W
-              𝓣 1 ps·9 r·9 (claims· .18) (claims· .19) "store::search::stays" × Plain.Known 𝓤 H A W 𝓣 0 ps·10 r·10 (claims· .20) (claims· .21)
-              "marks::counting::one_if" × Plain.Known 𝓤 H A W 𝓣 0 ps·11 r·11 (claims· .22) (claims· .23) "marks::counting::one_of" × Plain.Known 𝓤 H A W 𝓣 0
+              "rows::line_at" × Plain.Known 𝓤 H A W 𝓣 1 ps·2 r·2 (claims· .4) (claims· .5) "serials::known" × Plain.Known 𝓤 H A W 𝓣 0 ps·3 r·3 (claims· .6)
+              (claims· .7) "rules::judge" × Plain.Known 𝓤 H A W 𝓣 0 ps·4 r·4 (claims· .8) (claims· .9) "serials::grow" × Plain.Known 𝓤 H A W 𝓣 0 ps·5 r·5
+              (claims· .10) (claims· .11) "rules::next" × Plain.Known 𝓤 H A W 𝓣 1 ps·6 r·6 (claims· .12) (claims· .13) "store::search::slot_at" × Plain.Known 𝓤 H
+              A W 𝓣 0 ps·7 r·7 (claims· .14) (claims· .15) "marks::fits" × Plain.Known 𝓤 H A W 𝓣 0 ps·8 r·8 (claims· .16) (claims· .17) "ascii::both_of" ×
+              Plain.Known 𝓤 H A W 𝓣 1 ps·9 r·9 (claims· .18) (claims· .19) "store::search::stays" × Plain.Known 𝓤 H A W 𝓣 0 ps·10 r·10 (claims· .20) (claims·
+              .21) "marks::counting::one_if" × Plain.Known 𝓤 H A W 𝓣 0 ps·11 r·11 (claims· .22) (claims· .23) "marks::counting::one_of" × Plain.Known 𝓤 H A W 𝓣 0
               ps·12 r·12 (claims· .24) (claims· .25) "gate::finish"
 
         module _ (κs : Lifetimes.Lfts 2) (qs : Lifetimes.Shares 2) where
@@ -6276,10 +6279,10 @@ module _ (claims· : Claims) where
                 Row.sBool)) d2
 
             d4 : Typed.Typed 𝓤 H A 𝓣 E G16 b10 Δ4 at4
-            d4 = Typed.g-pre 𝓤 H A W 𝓣 E G16 G18 b10 Δ4 (Typed.pass T16 T18 s14) at3 (Scalar.g-room 𝓤 H A W E G16 5 (Syntax.tyStruct (103 ∷ 97 ∷ 116 ∷ 101 ∷ 58 ∷
-                58 ∷ 83 ∷ 112 ∷ 97 ∷ 110 ∷ []) (Syntax.tcons (Syntax.tyInt Syntax.w64) (Syntax.tcons (Syntax.tyInt Syntax.w64) Syntax.tnil))) (Local.room-whole 𝓤
-                H A W (Declared'.row Span.the-type) (Syntax.tyStruct (103 ∷ 97 ∷ 116 ∷ 101 ∷ 58 ∷ 58 ∷ 83 ∷ 112 ∷ 97 ∷ 110 ∷ []) (Syntax.tcons (Syntax.tyInt
-                Syntax.w64) (Syntax.tcons (Syntax.tyInt Syntax.w64) Syntax.tnil))) Path'.refl)) d3
+            d4 = Typed.g-pre 𝓤 H A W 𝓣 E G16 G18 b10 Δ4 (Typed.pass T16 T18 s14) at3 (Scalar.g-room 𝓤 H A W E G16 5 (Syntax.tyStruct (115 ∷ 101 ∷ 114 ∷ 105 ∷ 97
+                ∷ 108 ∷ 115 ∷ 58 ∷ 58 ∷ 83 ∷ 112 ∷ 97 ∷ 110 ∷ []) (Syntax.tcons (Syntax.tyInt Syntax.w64) (Syntax.tcons (Syntax.tyInt Syntax.w64) Syntax.tnil)))
+                (Local.room-whole 𝓤 H A W (Declared'.row Span.the-type) (Syntax.tyStruct (115 ∷ 101 ∷ 114 ∷ 105 ∷ 97 ∷ 108 ∷ 115 ∷ 58 ∷ 58 ∷ 83 ∷ 112 ∷ 97 ∷ 110
+                ∷ []) (Syntax.tcons (Syntax.tyInt Syntax.w64) (Syntax.tcons (Syntax.tyInt Syntax.w64) Syntax.tnil))) Path'.refl)) d3
 
             d5 : Typed.Typed 𝓤 H A 𝓣 E G16 b11 Δ4 at5
             d5 = Scalar.t-cond 𝓤 H A W E 𝓣 G16 18 (λ x. x) b9 b10 Δ4 at1 at4 (Scalar.reads-sc 𝓤 H A W Row.sBool) Path'.refl d1 d4
@@ -6547,10 +6550,10 @@ module _ (claims· : Claims) where
                 Syntax.ttnil)))))))) Syntax.tnil) Syntax.ttnil))))) Path'.refl)) d17
 
             d19 : Typed.Typed 𝓤 H A 𝓣 E G25 b18 Δ5 at19
-            d19 = Typed.g-pre 𝓤 H A W 𝓣 E G25 G26 b18 Δ5 (Typed.pass T25 T26 s21) at18 (Scalar.g-room 𝓤 H A W E G25 5 (Syntax.tyStruct (103 ∷ 97 ∷ 116 ∷ 101 ∷ 58
-                ∷ 58 ∷ 83 ∷ 112 ∷ 97 ∷ 110 ∷ []) (Syntax.tcons (Syntax.tyInt Syntax.w64) (Syntax.tcons (Syntax.tyInt Syntax.w64) Syntax.tnil))) (Local.room-whole
-                𝓤 H A W (Declared'.row Span.the-type) (Syntax.tyStruct (103 ∷ 97 ∷ 116 ∷ 101 ∷ 58 ∷ 58 ∷ 83 ∷ 112 ∷ 97 ∷ 110 ∷ []) (Syntax.tcons (Syntax.tyInt
-                Syntax.w64) (Syntax.tcons (Syntax.tyInt Syntax.w64) Syntax.tnil))) Path'.refl)) d18
+            d19 = Typed.g-pre 𝓤 H A W 𝓣 E G25 G26 b18 Δ5 (Typed.pass T25 T26 s21) at18 (Scalar.g-room 𝓤 H A W E G25 5 (Syntax.tyStruct (115 ∷ 101 ∷ 114 ∷ 105 ∷
+                97 ∷ 108 ∷ 115 ∷ 58 ∷ 58 ∷ 83 ∷ 112 ∷ 97 ∷ 110 ∷ []) (Syntax.tcons (Syntax.tyInt Syntax.w64) (Syntax.tcons (Syntax.tyInt Syntax.w64)
+                Syntax.tnil))) (Local.room-whole 𝓤 H A W (Declared'.row Span.the-type) (Syntax.tyStruct (115 ∷ 101 ∷ 114 ∷ 105 ∷ 97 ∷ 108 ∷ 115 ∷ 58 ∷ 58 ∷ 83 ∷
+                112 ∷ 97 ∷ 110 ∷ []) (Syntax.tcons (Syntax.tyInt Syntax.w64) (Syntax.tcons (Syntax.tyInt Syntax.w64) Syntax.tnil))) Path'.refl)) d18
 
             d20 : Typed.Typed 𝓤 H A 𝓣 E G23 b18 Δ5 at20
             d20 = Typed.g-pre 𝓤 H A W 𝓣 E G23 G25 b18 Δ5 (Typed.pass T23 T25 s20) at19 (Scalar.g-room 𝓤 H A W E G23 4 (Syntax.tyStruct (114 ∷ 117 ∷ 108 ∷ 101 ∷
@@ -6829,8 +6832,8 @@ module _ (claims· : Claims) where
                 "marks::counting::one_of" (known .11) E (λ pos β. β) G47 (record { pos = 9; st = []; d = 0; at = λ x. x }, tt) 17 [] (Call.sub-id 𝓤 H A
                 W (G47 .slots)) (
                   (
-                    Yields.yields-copy 𝓤 H A W (λ ρ. Unit) (Declared.row Line.the-type) Path'.refl (Copies.cEnum Line.the-type Laws''.the-laws
-                        Laws''.the-copy .copy 𝓤 H A W) (Rows'.whole (Declared.row Line.the-type)) (λ x. x) (λ x. x) (λ ρ told. Local.mem-whole 𝓤 H A W (Declared.row
+                    Yields.yields-copy 𝓤 H A W (λ ρ. Unit) (Declared.row Line.the-type) Path'.refl (Copies.cEnum Line.the-type Laws'.the-laws
+                        Laws'.the-copy .copy 𝓤 H A W) (Rows'.whole (Declared.row Line.the-type)) (λ x. x) (λ x. x) (λ ρ told. Local.mem-whole 𝓤 H A W (Declared.row
                         Line.the-type) ρ) λ ρ told. Local.whole-mem 𝓤 H A W (Declared.row Line.the-type) ρ,
                     Path'.refl,
                   ),
@@ -6893,8 +6896,8 @@ module _ (claims· : Claims) where
                       (
                         (
                           Yields.yields-copy 𝓤 H A W (λ ρ. Unit) (Declared.row Line.the-type)
-                              Path'.refl (Copies.cEnum Line.the-type Laws''.the-laws Laws''.the-copy .copy 𝓤 H A W) (Rows'.whole (Declared.row Line.the-type)) (λ x. x) (λ x.
-                              x) (λ ρ told. Local.mem-whole 𝓤 H A W (Declared.row Line.the-type) ρ) λ ρ told. Local.whole-mem 𝓤 H A W (Declared.row Line.the-type) ρ,
+                              Path'.refl (Copies.cEnum Line.the-type Laws'.the-laws Laws'.the-copy .copy 𝓤 H A W) (Rows'.whole (Declared.row Line.the-type)) (λ x. x) (λ x. x)
+                              (λ ρ told. Local.mem-whole 𝓤 H A W (Declared.row Line.the-type) ρ) λ ρ told. Local.whole-mem 𝓤 H A W (Declared.row Line.the-type) ρ,
                           Path'.refl,
                         ),
                         tt,
@@ -6928,7 +6931,7 @@ module _ (claims· : Claims) where
                   (
                     (
                       Yields.yields-copy 𝓤 H A W (λ ρ. Unit)
-                          (Declared.row Line.the-type) Path'.refl (Copies.cEnum Line.the-type Laws''.the-laws Laws''.the-copy .copy 𝓤 H A W) (Rows'.whole (Declared.row
+                          (Declared.row Line.the-type) Path'.refl (Copies.cEnum Line.the-type Laws'.the-laws Laws'.the-copy .copy 𝓤 H A W) (Rows'.whole (Declared.row
                           Line.the-type)) (λ x. x) (λ x. x) (λ ρ told. Local.mem-whole 𝓤 H A W (Declared.row Line.the-type) ρ) λ ρ told. Local.whole-mem 𝓤 H A W
                           (Declared.row Line.the-type) ρ,
                       Path'.refl,
@@ -6973,15 +6976,15 @@ module _ (claims· : Claims) where
                 ) 4 [] (Call.sub-id 𝓤 H A W (G38 .slots)) (
                   (
                     Yields.yields-copy 𝓤 H A W (λ ρ. Unit) (Declared'.row State.the-type) Path'.refl
-                        (Copies.cStruct State.the-type Laws'3.the-laws Laws'3.the-copy .copy 𝓤 H A W) (Rows'.whole (Declared'.row State.the-type)) (λ x. x) (λ x. x) (λ ρ
+                        (Copies.cStruct State.the-type Laws''.the-laws Laws''.the-copy .copy 𝓤 H A W) (Rows'.whole (Declared'.row State.the-type)) (λ x. x) (λ x. x) (λ ρ
                         told. Local.mem-whole 𝓤 H A W (Declared'.row State.the-type) ρ) λ ρ told. Local.whole-mem 𝓤 H A W (Declared'.row State.the-type) ρ,
                     Path'.refl,
                   ),
                   (
                     (
-                      Yields.yields-copy 𝓤 H A W (λ ρ. Unit) (Declared.row Line.the-type) Path'.refl (Copies.cEnum Line.the-type Laws''.the-laws Laws''.the-copy
-                          .copy 𝓤 H A W) (Rows'.whole (Declared.row Line.the-type)) (λ x. x) (λ x. x) (λ ρ told. Local.mem-whole 𝓤 H A W (Declared.row Line.the-type) ρ) λ
-                          ρ told. Local.whole-mem 𝓤 H A W (Declared.row Line.the-type) ρ,
+                      Yields.yields-copy 𝓤 H A W (λ ρ. Unit) (Declared.row Line.the-type) Path'.refl (Copies.cEnum Line.the-type Laws'.the-laws Laws'.the-copy .copy
+                          𝓤 H A W) (Rows'.whole (Declared.row Line.the-type)) (λ x. x) (λ x. x) (λ ρ told. Local.mem-whole 𝓤 H A W (Declared.row Line.the-type) ρ) λ ρ
+                          told. Local.whole-mem 𝓤 H A W (Declared.row Line.the-type) ρ,
                       Path'.refl,
                     ),
                     tt,
@@ -7006,7 +7009,7 @@ module _ (claims· : Claims) where
 
             d38 : Typed.Typed 𝓤 H A 𝓣 E G24 b41 Δ3 at38
             d38 = Typed.s-seq 𝓤 H A W 𝓣 E G24 G38 b21 b40 Δ3 (Typed.both s33) at37 (Plain.t-call-plain 𝓤 H A W 𝓣 0 ps·4 r·4 (claims· .8) (claims· .9)
-                "gate::grow" (known .4) E (λ pos β. β) G24 (
+                "serials::grow" (known .4) E (λ pos β. β) G24 (
                   record { pos = 5; st = []; d = 0; at = λ x. x },
                   (
                     Num.vAt 3 λ x. x,
@@ -7024,17 +7027,17 @@ module _ (claims· : Claims) where
                 ) 5 [] (Call.sub-id 𝓤 H A W (G24 .slots)) (
                   (
                     Yields.yields-copy 𝓤 H A W (λ ρ. Unit) (Declared'.row
-                        Span.the-type) Path'.refl (Copies.cStruct Span.the-type Laws.the-laws Laws.the-copy .copy 𝓤 H A W) (Rows'.whole (Declared'.row Span.the-type)) (λ
-                        x. x) (λ x. x) (λ ρ told. Local.mem-whole 𝓤 H A W (Declared'.row Span.the-type) ρ) λ ρ told. Local.whole-mem 𝓤 H A W (Declared'.row
-                        Span.the-type) ρ,
+                        Span.the-type) Path'.refl (Copies.cStruct Span.the-type Laws'3.the-laws Laws'3.the-copy .copy 𝓤 H A W) (Rows'.whole (Declared'.row
+                        Span.the-type)) (λ x. x) (λ x. x) (λ ρ told. Local.mem-whole 𝓤 H A W (Declared'.row Span.the-type) ρ) λ ρ told. Local.whole-mem 𝓤 H A W
+                        (Declared'.row Span.the-type) ρ,
                     Path'.refl,
                   ),
                   (
                     (Scalar.reads-sc 𝓤 H A W (Row.sInt Syntax.w64), Path'.refl),
                     (
                       (
-                        Yields.yields-copy 𝓤 H A W (λ ρ. Unit)
-                            (Declared.row Line.the-type) Path'.refl (Copies.cEnum Line.the-type Laws''.the-laws Laws''.the-copy .copy 𝓤 H A W) (Rows'.whole (Declared.row
+                        Yields.yields-copy 𝓤 H A W (λ ρ.
+                            Unit) (Declared.row Line.the-type) Path'.refl (Copies.cEnum Line.the-type Laws'.the-laws Laws'.the-copy .copy 𝓤 H A W) (Rows'.whole (Declared.row
                             Line.the-type)) (λ x. x) (λ x. x) (λ ρ told. Local.mem-whole 𝓤 H A W (Declared.row Line.the-type) ρ) λ ρ told. Local.whole-mem 𝓤 H A W
                             (Declared.row Line.the-type) ρ,
                         Path'.refl,
@@ -7042,9 +7045,9 @@ module _ (claims· : Claims) where
                       tt,
                     ),
                   ),
-                ) (Local.room-whole 𝓤 H A W (Declared'.row Span.the-type) (Syntax.tyStruct (103 ∷ 97 ∷ 116 ∷ 101
-                ∷ 58 ∷ 58 ∷ 83 ∷ 112 ∷ 97 ∷ 110 ∷ []) (Syntax.tcons (Syntax.tyInt Syntax.w64) (Syntax.tcons (Syntax.tyInt Syntax.w64) Syntax.tnil))) Path'.refl)
-                tt Path'.refl) d37
+                ) (Local.room-whole 𝓤 H A W (Declared'.row Span.the-type) (Syntax.tyStruct (115 ∷ 101 ∷ 114 ∷
+                105 ∷ 97 ∷ 108 ∷ 115 ∷ 58 ∷ 58 ∷ 83 ∷ 112 ∷ 97 ∷ 110 ∷ []) (Syntax.tcons (Syntax.tyInt Syntax.w64) (Syntax.tcons (Syntax.tyInt Syntax.w64)
+                Syntax.tnil))) Path'.refl) tt Path'.refl) d37
 
             d39 : Typed.Typed 𝓤 H A 𝓣 E G23 b42 Δ3 at39
             d39 = Typed.t-seq 𝓤 H A W 𝓣 E G23 G24 b20 b41 Δ3 at23 at38 d23 d38
@@ -7076,7 +7079,7 @@ module _ (claims· : Claims) where
                   (Scalar.reads-sc 𝓤 H A W Row.sBool, Path'.refl),
                   (
                     (
-                      Yields.yields-copy 𝓤 H A W (λ ρ. Unit) (Declared'.row State.the-type) Path'.refl (Copies.cStruct State.the-type Laws'3.the-laws Laws'3.the-copy
+                      Yields.yields-copy 𝓤 H A W (λ ρ. Unit) (Declared'.row State.the-type) Path'.refl (Copies.cStruct State.the-type Laws''.the-laws Laws''.the-copy
                           .copy 𝓤 H A W) (Rows'.whole (Declared'.row State.the-type)) (λ x. x) (λ x. x) (λ ρ told. Local.mem-whole 𝓤 H A W (Declared'.row State.the-type)
                           ρ) λ ρ told. Local.whole-mem 𝓤 H A W (Declared'.row State.the-type) ρ,
                       Path'.refl,
@@ -7084,9 +7087,9 @@ module _ (claims· : Claims) where
                     (
                       (
                         Yields.yields-copy 𝓤 H A W (λ ρ. Unit) (Declared.row
-                            Line.the-type) Path'.refl (Copies.cEnum Line.the-type Laws''.the-laws Laws''.the-copy .copy 𝓤 H A W) (Rows'.whole (Declared.row Line.the-type))
-                            (λ x. x) (λ x. x) (λ ρ told. Local.mem-whole 𝓤 H A W (Declared.row Line.the-type) ρ) λ ρ told. Local.whole-mem 𝓤 H A W (Declared.row
-                            Line.the-type) ρ,
+                            Line.the-type) Path'.refl (Copies.cEnum Line.the-type Laws'.the-laws Laws'.the-copy .copy 𝓤 H A W) (Rows'.whole (Declared.row Line.the-type)) (λ
+                            x. x) (λ x. x) (λ ρ told. Local.mem-whole 𝓤 H A W (Declared.row Line.the-type) ρ) λ ρ told. Local.whole-mem 𝓤 H A W (Declared.row Line.the-type)
+                            ρ,
                         Path'.refl,
                       ),
                       tt,
@@ -7096,12 +7099,12 @@ module _ (claims· : Claims) where
 
             d42 : Typed.Typed 𝓤 H A 𝓣 E G20 b45 Δ3 at42
             d42 = Typed.s-seq 𝓤 H A W 𝓣 E G20 G21 b13 b44 Δ3 (Typed.both s17) at41 (Plain.t-call-plain 𝓤 H A W 𝓣 1 ps·2 r·2 (claims· .4) (claims· .5)
-                "gate::known" (known .2) E (λ pos β. β) G20 (
+                "serials::known" (known .2) E (λ pos β. β) G20 (
                   record {
                     pos = 1;
                     ty = Syntax.tyRef (Syntax.named 0) Syntax.imm (Syntax.tyInt Syntax.w8);
-                    ref = λ x.
-                        x;
+                    ref = λ
+                        x. x;
                   },
                   (record { pos = 5; st = []; d = 0; at = λ x. x }, (record { pos = 9; st = []; d = 0; at = λ x. x }, tt)),
                 ) 10 (0 ∷ [])
@@ -7114,26 +7117,25 @@ module _ (claims· : Claims) where
                   (
                     (
                       Yields.yields-copy 𝓤 H A W (λ ρ. Unit) (Declared'.row Span.the-type) Path'.refl
-                          (Copies.cStruct Span.the-type Laws.the-laws Laws.the-copy .copy 𝓤 H A W) (Rows'.whole (Declared'.row Span.the-type)) (λ x. x) (λ x. x) (λ ρ told.
-                          Local.mem-whole 𝓤 H A W (Declared'.row Span.the-type) ρ) λ ρ told. Local.whole-mem 𝓤 H A W (Declared'.row Span.the-type) ρ,
+                          (Copies.cStruct Span.the-type Laws'3.the-laws Laws'3.the-copy .copy 𝓤 H A W) (Rows'.whole (Declared'.row Span.the-type)) (λ x. x) (λ x. x) (λ ρ
+                          told. Local.mem-whole 𝓤 H A W (Declared'.row Span.the-type) ρ) λ ρ told. Local.whole-mem 𝓤 H A W (Declared'.row Span.the-type) ρ,
                       Path'.refl,
                     ),
                     (
                       (
-                        Yields.yields-copy 𝓤 H A W (λ ρ. Unit) (Declared.row Line.the-type) Path'.refl (Copies.cEnum Line.the-type Laws''.the-laws Laws''.the-copy
-                            .copy 𝓤 H A W) (Rows'.whole (Declared.row Line.the-type)) (λ x. x) (λ x. x) (λ ρ told. Local.mem-whole 𝓤 H A W (Declared.row Line.the-type) ρ) λ
-                            ρ told. Local.whole-mem 𝓤 H A W (Declared.row Line.the-type) ρ,
+                        Yields.yields-copy 𝓤 H A W (λ ρ. Unit) (Declared.row Line.the-type) Path'.refl (Copies.cEnum Line.the-type Laws'.the-laws Laws'.the-copy .copy
+                            𝓤 H A W) (Rows'.whole (Declared.row Line.the-type)) (λ x. x) (λ x. x) (λ ρ told. Local.mem-whole 𝓤 H A W (Declared.row Line.the-type) ρ) λ ρ
+                            told. Local.whole-mem 𝓤 H A W (Declared.row Line.the-type) ρ,
                         Path'.refl,
                       ),
                       tt,
                     ),
                   ),
-                ) (Reads'.room-gone 𝓤 H A Syntax.tyBool) (tt, tt) Path'.refl)
-                d41
+                ) (Reads'.room-gone 𝓤 H A Syntax.tyBool) (tt, tt) Path'.refl) d41
 
             d43 : Typed.Typed 𝓤 H A 𝓣 E G14 b46 Δ3 at43
             d43 = Typed.s-seq 𝓤 H A W 𝓣 E G14 G20 b12 b45 Δ3 (Typed.both s16) at42 (Plain.t-call-plain 𝓤 H A W 𝓣 1 ps·1 r·1 (claims· .2) (claims· .3)
-                "gate::line_at" (known .1) E (λ pos β. β) G14 (
+                "rows::line_at" (known .1) E (λ pos β. β) G14 (
                   record {
                     pos = 1;
                     ty = Syntax.tyRef (Syntax.named 0) Syntax.imm (Syntax.tyInt Syntax.w8);
@@ -7335,7 +7337,7 @@ module _ (claims· : Claims) where
             d58 : Typed.Typed 𝓤 H A 𝓣 E G58 b56 Δ0 at58
             d58 = Typed.s-seq 𝓤 H A W 𝓣 E G58 G59 b54 b55 Δ0 (Typed.pass T58 T59 s54) at57 (Make.t-struct-make 𝓤 H A W E 𝓣 (Apart.apartT Findings.the-type)
                 Laws'4.the-laws Laws'4.the-plain G58 0 (Scalar.oFld 15 (Syntax.field 0 ∷ []) (Syntax.tyInt Syntax.w8) 0 (Reads.fieldV Verdict.the-type
-                Laws'.the-laws 0) ∷ Scalar.oAt 6 (Syntax.tyInt Syntax.w64) (Row.valS (Row.sInt Syntax.w64)) ∷ Scalar.oAt 7 Syntax.tyBool (Row.valS Row.sBool) ∷
+                Laws.the-laws 0) ∷ Scalar.oAt 6 (Syntax.tyInt Syntax.w64) (Row.valS (Row.sInt Syntax.w64)) ∷ Scalar.oAt 7 Syntax.tyBool (Row.valS Row.sBool) ∷
                 Scalar.oAt 8 (Syntax.tyInt Syntax.w64) (Row.valS (Row.sInt Syntax.w64)) ∷ Scalar.oAt 3 (Syntax.tyInt Syntax.w64) (Row.valS (Row.sInt Syntax.w64))
                 ∷ []) (λ m. (
                   Verdict.struct .as-values (m .1 .1 .1 .1 .1 .1 .1 .1 .1 .1 .1 .1 .1 .1 .1 .0) .0,
@@ -7352,7 +7354,7 @@ module _ (claims· : Claims) where
                 Syntax.tyBool (Syntax.tcons (Syntax.tyInt Syntax.w64) (Syntax.tcons (Syntax.tyInt Syntax.w64) Syntax.tnil))))))) (
                   (
                     Reads.reads-field 𝓤 H A W
-                        Verdict.the-type Laws'.the-laws 0 (Syntax.tyInt Syntax.w8) 0 Path'.refl,
+                        Verdict.the-type Laws.the-laws 0 (Syntax.tyInt Syntax.w8) 0 Path'.refl,
                     Path'.refl,
                   ),
                   (
@@ -7421,8 +7423,8 @@ module _ (claims· : Claims) where
                 "gate::finish" (known .12) E (λ pos β. β) G9 (record { pos = 4; st = []; d = 0; at = λ x. x }, tt) 15 [] (Call.sub-id 𝓤 H A W (G9
                 .slots)) (
                   (
-                    Yields.yields-copy 𝓤 H A W (λ ρ. Unit) (Declared'.row State.the-type) Path'.refl (Copies.cStruct State.the-type Laws'3.the-laws
-                        Laws'3.the-copy .copy 𝓤 H A W) (Rows'.whole (Declared'.row State.the-type)) (λ x. x) (λ x. x) (λ ρ told. Local.mem-whole 𝓤 H A W (Declared'.row
+                    Yields.yields-copy 𝓤 H A W (λ ρ. Unit) (Declared'.row State.the-type) Path'.refl (Copies.cStruct State.the-type Laws''.the-laws
+                        Laws''.the-copy .copy 𝓤 H A W) (Rows'.whole (Declared'.row State.the-type)) (λ x. x) (λ x. x) (λ ρ told. Local.mem-whole 𝓤 H A W (Declared'.row
                         State.the-type) ρ) λ ρ told. Local.whole-mem 𝓤 H A W (Declared'.row State.the-type) ρ,
                     Path'.refl,
                   ),
@@ -7454,13 +7456,11 @@ module _ (claims· : Claims) where
                 (Syntax.tyInt Syntax.w64)) (Scalar.holds-sc 𝓤 H A W (Row.sInt Syntax.w64)) Path'.refl (λ u. Path'.refl) λ u. tt) d63
 
             d65 : Typed.Typed 𝓤 H A 𝓣 E G4 b62 Δ0 at65
-            d65 = Typed.s-seq 𝓤 H A W 𝓣 E G4 G5 b2 b61 Δ0 (Typed.pass T4 T5 s3) at64 (Make.t-struct-make 𝓤 H A W E 𝓣 (Apart.apartT Span.the-type) Laws.the-laws
-                Laws.the-plain G4 5 (Scalar.oInt Syntax.w64 0 ∷ Scalar.oInt Syntax.w64 0 ∷ []) (λ m. (0, (0, tt))) (Reads'.room-gone 𝓤 H A (Syntax.tyStruct (103
-                ∷ 97 ∷ 116 ∷ 101 ∷ 58 ∷ 58 ∷ 83 ∷ 112 ∷ 97 ∷ 110 ∷ []) (Syntax.tcons (Syntax.tyInt Syntax.w64) (Syntax.tcons (Syntax.tyInt Syntax.w64)
-                Syntax.tnil)))) (tt, (tt, tt)) Path'.refl (λ u. Path'.refl) λ m. Make.is-wt (Apart.apartT Span.the-type) Laws.the-laws (
-                  Make.u64-wt,
-                  (Make.u64-wt, tt),
-                ) (0, (0, tt))) d64
+            d65 = Typed.s-seq 𝓤 H A W 𝓣 E G4 G5 b2 b61 Δ0 (Typed.pass T4 T5 s3) at64 (Make.t-struct-make 𝓤 H A W E 𝓣 (Apart.apartT Span.the-type) Laws'3.the-laws
+                Laws'3.the-plain G4 5 (Scalar.oInt Syntax.w64 0 ∷ Scalar.oInt Syntax.w64 0 ∷ []) (λ m. (0, (0, tt))) (Reads'.room-gone 𝓤 H A (Syntax.tyStruct
+                (115 ∷ 101 ∷ 114 ∷ 105 ∷ 97 ∷ 108 ∷ 115 ∷ 58 ∷ 58 ∷ 83 ∷ 112 ∷ 97 ∷ 110 ∷ []) (Syntax.tcons (Syntax.tyInt Syntax.w64) (Syntax.tcons (Syntax.tyInt
+                Syntax.w64) Syntax.tnil)))) (tt, (tt, tt)) Path'.refl (λ u. Path'.refl) λ m. Make.is-wt (Apart.apartT Span.the-type) Laws'3.the-laws
+                (Make.u64-wt, (Make.u64-wt, tt)) (0, (0, tt))) d64
 
             d66 : Typed.Typed 𝓤 H A 𝓣 E G3 b63 Δ0 at66
             d66 = Typed.s-seq 𝓤 H A W 𝓣 E G3 G4 b1 b62 Δ0 (Typed.both s2) at65 (Plain.t-call-plain 𝓤 H A W 𝓣 0 ps·0 r·0 (claims· .0) (claims· .1) "rules::start"
@@ -8793,9 +8793,9 @@ module _ (claims· : Claims) where
             asked = λ a good pre bs. laid record { κs = κs; args = record { text = a .0; table = a .1 .0 }; good = good; pre = pre }
 
           module _ {M : Type 1} (𝓤 : URA.URA M) (H : Wp.Heap 𝓤) (A : Atoms.Atoms 𝓤) (W : Kit.Given 𝓤 H A) (𝓣 : Wp.Tables 𝓤 H) (known0 : Plain.Known 𝓤 H A W 𝓣 0
-              ps·0 r·0 (claims· .0) (claims· .1) "rules::start") (known1 : Plain.Known 𝓤 H A W 𝓣 1 ps·1 r·1 (claims· .2) (claims· .3) "gate::line_at") (known2 :
-              Plain.Known 𝓤 H A W 𝓣 1 ps·2 r·2 (claims· .4) (claims· .5) "gate::known") (known3 : Plain.Known 𝓤 H A W 𝓣 0 ps·3 r·3 (claims· .6) (claims· .7)
-              "rules::judge") (known4 : Plain.Known 𝓤 H A W 𝓣 0 ps·4 r·4 (claims· .8) (claims· .9) "gate::grow") (known5 : Plain.Known 𝓤 H A W 𝓣 0 ps·5 r·5
+              ps·0 r·0 (claims· .0) (claims· .1) "rules::start") (known1 : Plain.Known 𝓤 H A W 𝓣 1 ps·1 r·1 (claims· .2) (claims· .3) "rows::line_at") (known2 :
+              Plain.Known 𝓤 H A W 𝓣 1 ps·2 r·2 (claims· .4) (claims· .5) "serials::known") (known3 : Plain.Known 𝓤 H A W 𝓣 0 ps·3 r·3 (claims· .6) (claims· .7)
+              "rules::judge") (known4 : Plain.Known 𝓤 H A W 𝓣 0 ps·4 r·4 (claims· .8) (claims· .9) "serials::grow") (known5 : Plain.Known 𝓤 H A W 𝓣 0 ps·5 r·5
               (claims· .10) (claims· .11) "rules::next") (known6 : Plain.Known 𝓤 H A W 𝓣 1 ps·6 r·6 (claims· .12) (claims· .13) "store::search::slot_at") (known7
               : Plain.Known 𝓤 H A W 𝓣 0 ps·7 r·7 (claims· .14) (claims· .15) "marks::fits") (known8 : Plain.Known 𝓤 H A W 𝓣 0 ps·8 r·8 (claims· .16) (claims·
               .17) "ascii::both_of") (known9 : Plain.Known 𝓤 H A W 𝓣 1 ps·9 r·9 (claims· .18) (claims· .19) "store::search::stays") (known10 : Plain.Known 𝓤 H A

@@ -1,0 +1,50 @@
+-- Fragments: a closed run with its TER is one; in the unclosed tail each longest stretch of lines of one residue is one.
+-- Whether a slot goes with the next depends on what follows, so the slots are taken from the last one on.
+use Prim.Native.Nat.{ℕ, _+_}
+use mathlib.Core.List.{List, [], _∷_}
+use mathlib.Core.Bool.{Bool, true, false, not}
+use lib.Dec.{eqb}
+use Rattle.ascii.specs.Tests.{pick, both, either}
+use Rattle.residue.specs.Residues.{noResidue, sameResidue}
+use Rattle.slots.specs.declared.Slot.{Slot}
+use Rattle.fragments.specs.declared.Tail.{Tail}
+use Rattle.slots.specs.Slots.{terKind, markIn, residueOf, withMark}
+
+-- a slot of a TER line
+abbrev pub isTer : Slot → Bool
+isTer s = eqb (s .kind) terKind
+
+-- no slot
+abbrev pub endTail : Tail
+endTail = record { some = false; closed = false; residue = noResidue; mark = markIn; count = 0; agree = true }
+
+-- the slot is of one fragment with the first of those after it: it does not close a run, and the run is closed or the residues are equal
+unfoldable pub joins : Slot → Tail → Bool
+joins s t = both (both (t .some) (not (isTer s))) (either (t .closed) (sameResidue (residueOf s) (t .residue)))
+
+-- the slots from s on: whether a TER is among them; the residue and mark of the first; how many fragments they are; whether marks agree inside each
+unfoldable pub stepTail : Slot → Tail → Tail
+stepTail s t =
+    record {
+      some = true;
+      closed = either (isTer s) (t .closed);
+      residue = residueOf s;
+      mark = s .mark;
+      count = pick (joins s t) (t .count) (t .count + 1);
+      agree = both (t .agree) (either (not (joins s t)) (eqb (s .mark) (t .mark)));
+    }
+
+unfoldable pub tailOf : List Slot → Tail
+tailOf [] = endTail
+tailOf (s ∷ ss) = stepTail s (tailOf ss)
+
+-- ---- fragments counted from the last one as 1
+-- the mark of fragment b
+unfoldable pub markOf : ℕ → List Slot → ℕ
+markOf b [] = markIn
+markOf b (s ∷ ss) = pick (eqb (tailOf (s ∷ ss) .count) b) (s .mark) (markOf b ss)
+
+-- the slots with fragment b marked m
+unfoldable pub marked : ℕ → ℕ → List Slot → List Slot
+marked b m [] = []
+marked b m (s ∷ ss) = pick (eqb (tailOf (s ∷ ss) .count) b) (withMark s m) s ∷ marked b m ss

@@ -1,0 +1,4 @@
+mod Others
+pub mod Rows
+pub mod Block
+pub mod Halving

@@ -1,0 +1,15 @@
+use Rattle.serials.proofs.Halving.{partner-absent, partner-there}
+use Rattle.serials.proofs.partner_spoken.Statement.{statement}
+use Rattle.serials.proofs.partner_spoken.Tie as tie
+
+returns : tie.Need-returns
+returns c n s B = partner-absent _ _ (c .if1 .taken)
+
+spoken-requires : tie.Need-spoken-requires
+spoken-requires c κs = c .before .before .pre
+
+returns-2 : tie.Need-returns-2
+returns-2 c n s B = partner-there _ _ _ (c .before .if1 .left) (c .spoken .ensures n s B)
+
+pub partner-spoken-spec : {M : Type 1} → statement M
+partner-spoken-spec = tie.close (tie.spec returns spoken-requires returns-2)
