@@ -36,12 +36,12 @@ use Rattle.table.proofs.Ready.{Ready}
 equal : (n : ℕ) → eqb n n ≡ true
 equal n = eq-eqb n n refl
 
-sign-self : (b : Bool) → alike b b ≡ true
-sign-self true = refl
-sign-self false = refl
+alike-self : (b : Bool) → alike b b ≡ true
+alike-self true = refl
+alike-self false = refl
 
 integer-self : (z : ℤ) → sameInteger z z ≡ true
-integer-self z = both-join _ _ (sign-self (isNeg z)) (equal (natAbs z))
+integer-self z = both-join _ _ (alike-self (isNeg z)) (equal (natAbs z))
 
 pair-self : (p : Pair) → samePair p p ≡ true
 unfolding samePair
@@ -60,7 +60,7 @@ unfolding sameResidue
 residue-self r =
     both-join _ _ (three-self (r .name))
     (both-join _ _ (equal (r .chain))
-    (both-join _ _ (both-join _ _ (sign-self (isNeg (r .number .0))) (equal (natAbs (r .number .0)))) (equal (r .insertion))))
+    (both-join _ _ (integer-self (r .number .0)) (equal (r .insertion))))
 
 position-self : (p : Position) → samePosition p p ≡ true
 unfolding samePosition
