@@ -35,13 +35,13 @@ pub differs-yes : (a b : ℕ) → (a ≡ b → ⊥) → true ≡ differs a b
 unfolding differs
 differs-yes a b e = rw (ne-eqb a b e)
 
-pub follows-none : (a n : ℕ) → n ≡ 0 → true ≡ unbroken a n
+pub unbroken-none : (a n : ℕ) → n ≡ 0 → true ≡ unbroken a n
 unfolding unbroken
-follows-none a n e = rw e
+unbroken-none a n e = rw e
 
-pub follows-some : (a n : ℕ) → (n ≡ 0 → ⊥) → ltb 0 a ≡ unbroken a n
+pub unbroken-some : (a n : ℕ) → (n ≡ 0 → ⊥) → ltb 0 a ≡ unbroken a n
 unfolding unbroken
-follows-some a n e = rw (ne-eqb n 0 e)
+unbroken-some a n e = rw (ne-eqb n 0 e)
 
 pub reads : (l : List ℕ) (s a b c d : Whole) (g f1 f2 f3 f4 f5 f6 : ℕ) (o1 o2 o3 t3 y3 o4 t4 y4 : Bool) (p q u v x1 x2 x3 x4 : ℕ)
     → s ≡ wholeOf 5 0 1 99999 l 6 → a ≡ wholeOf 5 0 1 99999 l 11 → b ≡ partnerOf l 16 → c ≡ partnerOf l 21 → d ≡ partnerOf l 26 → g ≡ gapOf l 31 49

@@ -6,14 +6,14 @@ use Prim.Native.Nat.{ℕ}
 use Rattle.ascii.specs.Tests.{both, either, same, between}
 use Rattle.ascii.proofs.Choice.{both-split, either-split, same-is}
 use Rattle.names.specs.declared.Pair.{Pair}
-use Rattle.elements.specs.Elements.{elements, entryOf, atomicOf, isElement, usualOf}
+use Rattle.elements.specs.Elements.{elements, indexOf, atomicOf, isElement, usualOf}
 
 plain : (p : Pair) (x : ℕ) → p .a ≡ 32 → p .b ≡ x → isElement (record { a = 32; b = x }) ≡ true → true ≡ isElement p
 plain p x f g e = sym (ap₂ (λ u v. isElement (record { a = u; b = v })) f g ∙ e)
 
 right-one : (x : ℕ) → either (either (same x 67) (either (same x 78) (same x 79))) (either (same x 72) (either (same x 83) (same x 80))) ≡ true
     → isElement (record { a = 32; b = x }) ≡ true
-unfolding atomicOf elements entryOf between
+unfolding atomicOf elements indexOf between
 right-one x =
     either-split _ _ (either-split _ _ (is 67 refl) (either-split _ _ (is 78 refl) (is 79 refl)))
     (either-split _ _ (is 72 refl) (either-split _ _ (is 83 refl) (is 80 refl)))

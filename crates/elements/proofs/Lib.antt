@@ -1,4 +1,4 @@
 pub mod Every
-pub mod Places
+pub mod Indices
 pub mod Common
 pub mod Rule

@@ -12,11 +12,11 @@ use Rattle.ascii.specs.Tests.{pick, both, between, isUpper}
 use Rattle.ascii.proofs.Choice.{picks, both-split, between-low, between-high}
 use Rattle.ascii.proofs.Clean.{Fine, fine}
 use Rattle.names.specs.declared.Pair.{Pair}
-use Rattle.elements.specs.Elements.{elements, entryOf, atomicOf, symbols, symbolOf, hydrogen, deuterium, isElement}
+use Rattle.elements.specs.Elements.{elements, indexOf, atomicOf, symbols, symbolOf, hydrogen, deuterium, isElement}
 use Rattle.elements.proofs.Every.{passed}
 
 -- ---- for the code
-pub from-table : (p : Pair) (i : ℕ) → i ≡ entryOf p → getD elements i 0 ≡ atomicOf p
+pub from-table : (p : Pair) (i : ℕ) → i ≡ indexOf p → getD elements i 0 ≡ atomicOf p
 unfolding atomicOf
 from-table p i e = ap (λ k. getD elements k 0) e
 
@@ -24,9 +24,9 @@ long : length elements ≡ 702
 unfolding elements
 long = refl
 
-pub past-table : (p : Pair) (i : ℕ) → i ≡ entryOf p → 702 ≤ i → 0 ≡ atomicOf p
+pub past-table : (p : Pair) (i : ℕ) → i ≡ indexOf p → 702 ≤ i → 0 ≡ atomicOf p
 unfolding atomicOf
-past-table p i e h = sym (List·getD-eq-default elements 0 {n = entryOf p} (omega (arith, long)))
+past-table p i e h = sym (List·getD-eq-default elements 0 {n = indexOf p} (omega (arith, long)))
 
 pub element-is : (n : ℕ) (p : Pair) → n ≡ atomicOf p → ltb 0 n ≡ ltb 0 (atomicOf p)
 element-is n p e = ap (ltb 0) e
@@ -37,8 +37,8 @@ record Placed (p : Pair) (k : ℕ) : Type 0 where
   second : (65 ≤ p .b) × (p .b ≤ 90)
   place : ((p .a ≡ 32) × (k ≡ p .b - 65)) ⊎ ((65 ≤ p .a) × (p .a ≤ 90) × (k ≡ 26 * (p .a - 64) + (p .b - 65)))
 
-placed : (p : Pair) → entryOf p < 702 → Placed p (entryOf p)
-unfolding entryOf
+placed : (p : Pair) → indexOf p < 702 → Placed p (indexOf p)
+unfolding indexOf
 placed p =
     picks (λ (k : ℕ). k < 702 → Placed p k) (isUpper (p .b)) _ 702
     (λ b.
@@ -60,26 +60,26 @@ one-place p q k x y =
     join : p .a ≡ q .a → p .b ≡ q .b → p ≡ q
     join e f i = record { a = e i; b = f i }
 
-pub same-pair : (p q : Pair) → entryOf p ≡ entryOf q → entryOf p < 702 → p ≡ q
+pub same-pair : (p q : Pair) → indexOf p ≡ indexOf q → indexOf p < 702 → p ≡ q
 same-pair p q e h =
-    let g : entryOf q < 702 = omega arith in
-    one-place p q (entryOf p) (placed p h) (rw e (placed q g))
+    let g : indexOf q < 702 = omega arith in
+    one-place p q (indexOf p) (placed p h) (rw e (placed q g))
 
 -- an element has a place
-in-table : (p : Pair) → isElement p ≡ true → entryOf p < 702
-in-table p e = go (ltb (entryOf p) 702) refl
+in-table : (p : Pair) → isElement p ≡ true → indexOf p < 702
+in-table p e = go (ltb (indexOf p) 702) refl
   where
-    go : (t : Bool) → ltb (entryOf p) 702 ≡ t → entryOf p < 702
-    go true t = ltb-true (entryOf p) 702 t
-    go false t = let h = ltb-false (entryOf p) 702 t in let z = past-table p (entryOf p) refl h in let y = ltb-true 0 (atomicOf p) e in absurd (omega arith)
+    go : (t : Bool) → ltb (indexOf p) 702 ≡ t → indexOf p < 702
+    go true t = ltb-true (indexOf p) 702 t
+    go false t = let h = ltb-false (indexOf p) 702 t in let z = past-table p (indexOf p) refl h in let y = ltb-true 0 (atomicOf p) e in absurd (omega arith)
 
 -- ---- THE RULE, by one test over the table
 -- an entry x at the place k is 0, or the number of the symbol whose place is k, or D's, which is 1
 right : ℕ → ℕ → Bool
-right k x = pick (eqb x 0) true (pick (eqb k (entryOf deuterium)) (eqb x 1) (both (ltb x 119) (eqb (entryOf (symbolOf x)) k)))
+right k x = pick (eqb x 0) true (pick (eqb k (indexOf deuterium)) (eqb x 1) (both (ltb x 119) (eqb (indexOf (symbolOf x)) k)))
 
 rule : (k : ℕ) → k < 702 → right k (getD elements k 0) ≡ true
-unfolding right elements symbolOf entryOf symbols between both
+unfolding right elements symbolOf indexOf symbols between both
 rule k h = passed (λ (n : ℕ). right n (getD elements n 0)) 702 refl k h
 
 -- every number from 1 to 118 is that of its symbol
@@ -87,11 +87,11 @@ abbrev occurring : ℕ → Bool
 occurring i = eqb (atomicOf (symbolOf (suc i))) (suc i)
 
 pub occurs : (n : ℕ) → n < 118 → atomicOf (symbolOf (suc n)) ≡ suc n
-unfolding elements symbolOf symbols entryOf between atomicOf
+unfolding elements symbolOf symbols indexOf between atomicOf
 occurs n h = eqb-true (atomicOf (symbolOf (suc n))) (suc n) (passed occurring 118 refl n h)
 
 pub deuterium-is : atomicOf deuterium ≡ 1
-unfolding elements entryOf between atomicOf
+unfolding elements indexOf between atomicOf
 deuterium-is = refl
 
 hydrogen-is : symbolOf 1 ≡ hydrogen
@@ -102,23 +102,23 @@ hydrogen-is = refl
 abbrev Known : Pair → Type 0
 Known p = (p ≡ deuterium) ⊎ ((atomicOf p < 119) × (p ≡ symbolOf (atomicOf p)))
 
-by-rule : (p : Pair) (k x : ℕ) → k ≡ entryOf p → x ≡ atomicOf p → k < 702 → 0 < x → right k x ≡ true → Known p
+by-rule : (p : Pair) (k x : ℕ) → k ≡ indexOf p → x ≡ atomicOf p → k < 702 → 0 < x → right k x ≡ true → Known p
 unfolding right
 by-rule p k x ek ex h z =
     picks (λ (r : Bool). r ≡ true → Known p) (eqb x 0) true _ (λ e _. let y = eqb-true x 0 e in absurd (omega arith))
-    (λ _. picks (λ (r : Bool). r ≡ true → Known p) (eqb k (entryOf deuterium)) (eqb x 1) _
-    (λ e _. let q = eqb-true k (entryOf deuterium) e in inl (same-pair p deuterium (sym ek ∙ q) (omega arith)))
+    (λ _. picks (λ (r : Bool). r ≡ true → Known p) (eqb k (indexOf deuterium)) (eqb x 1) _
+    (λ e _. let q = eqb-true k (indexOf deuterium) e in inl (same-pair p deuterium (sym ek ∙ q) (omega arith)))
     (λ _ t.
     let w = both-split (ltb x 119) _ t in
-    let q = eqb-true (entryOf (symbolOf x)) k (w .1) in
+    let q = eqb-true (indexOf (symbolOf x)) k (w .1) in
     let b = ltb-true x 119 (w .0) in
-    inr (omega arith, same-pair p (symbolOf (atomicOf p)) (sym ek ∙ sym q ∙ ap (λ n. entryOf (symbolOf n)) ex) (omega arith))))
+    inr (omega arith, same-pair p (symbolOf (atomicOf p)) (sym ek ∙ sym q ∙ ap (λ n. indexOf (symbolOf n)) ex) (omega arith))))
 
 pub known : (p : Pair) → isElement p ≡ true → Known p
 known p e =
     let h = in-table p e in
     let z = ltb-true 0 (atomicOf p) e in
-    by-rule p (entryOf p) (atomicOf p) refl refl h z (rw (sym (from-table p (entryOf p) refl)) (rule (entryOf p) h))
+    by-rule p (indexOf p) (atomicOf p) refl refl h z (rw (sym (from-table p (indexOf p) refl)) (rule (indexOf p) h))
 
 -- which pairs are elements: D, and the symbols of the numbers 1 to 118, each with its number
 pub record TableRule : Type 0 where

@@ -55,16 +55,16 @@ elements =
     0 ∷ 70 ∷ 0 ∷ 0 ∷ 0 ∷ 0 ∷ 0 ∷ 0 ∷ 0 ∷ 0 ∷ 0 ∷ 0 ∷ 0 ∷ 0 ∷ 0 ∷ 0 ∷ 0 ∷ 0 ∷ 0 ∷ 0 ∷ 0 ∷ 0 ∷ 0 ∷ 0 ∷ 0 ∷ 0 ∷
     0 ∷ 0 ∷ 0 ∷ 0 ∷ 0 ∷ 0 ∷ 0 ∷ 0 ∷ 0 ∷ 0 ∷ 0 ∷ 0 ∷ 0 ∷ 30 ∷ 0 ∷ 0 ∷ 0 ∷ 40 ∷ 0 ∷ 0 ∷ 0 ∷ 0 ∷ 0 ∷ 0 ∷ 0 ∷ 0 ∷ []
 
--- the entry of a pair in the table, 702 where it is no such pair
-unfoldable pub entryOf : Pair → ℕ
-entryOf p =
+-- the index of a pair in the table, 702 where it is no such pair
+unfoldable pub indexOf : Pair → ℕ
+indexOf p =
     pick (isUpper (p .b))
     (pick (eqb (p .a) (byte " ")) (p .b - byte "A") (pick (isUpper (p .a)) (26 * (p .a - byte "@") + (p .b - byte "A")) 702))
     702
 
 -- the atomic number, 0 for no element
 unfoldable pub atomicOf : Pair → ℕ
-atomicOf p = getD elements (entryOf p) 0
+atomicOf p = getD elements (indexOf p) 0
 
 abbrev pub isElement : Pair → Bool
 isElement p = ltb 0 (atomicOf p)

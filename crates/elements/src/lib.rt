@@ -4,11 +4,11 @@ mod table;
 use names::Pair;
 use table::ELEMENTS;
 ghost use mathlib.Core.Path.{_≡_};
-ghost use Rattle.elements.specs.Elements.{entryOf, atomicOf, isElement, usualOf};
+ghost use Rattle.elements.specs.Elements.{indexOf, atomicOf, isElement, usualOf};
 
-// The place of a pair in the table; 702 where it is no such pair.
-fn place(p: Pair) -> usize
-    ensures { λ r. ⌜ r ≡ entryOf p ⌝ }
+// The index of a pair in the table, 702 where it is no such pair.
+fn index_of(p: Pair) -> usize
+    ensures { λ r. ⌜ r ≡ indexOf p ⌝ }
 {
     let a = p.a;
     let b = p.b;
@@ -28,7 +28,7 @@ fn place(p: Pair) -> usize
 pub fn atomic(p: Pair) -> u8
     ensures { λ r. ⌜ r ≡ atomicOf p ⌝ }
 {
-    let i = place(p);
+    let i = index_of(p);
     if i < 702 {
         return ELEMENTS[i];
     }

@@ -4,8 +4,8 @@ use borrow.Author.Needs.{needs}
 use Rattle.elements.proofs.atomic.Statement.{statement}
 use Rattle.elements.proofs.atomic.Tie as tie
 
-place-requires : tie.Need-place-requires
-place-requires c κs = search needs
+index-of-requires : tie.Need-index-of-requires
+index-of-requires c κs = search needs
 
 array-read-result : tie.Need-array-read-result
 array-read-result c = search needs
@@ -18,4 +18,4 @@ returns-2 : tie.Need-returns-2
 returns-2 c = search past-table
 
 pub atomic-spec : {M : Type 1} → statement M
-atomic-spec = tie.close (tie.spec place-requires array-read-result returns returns-2)
+atomic-spec = tie.close (tie.spec index-of-requires array-read-result returns returns-2)

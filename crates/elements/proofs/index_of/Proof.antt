@@ -1,7 +1,7 @@
-use Rattle.elements.proofs.Places.{upper-low, upper-past, place-one, place-two, place-odd, place-none}
+use Rattle.elements.proofs.Indices.{upper-low, upper-past, index-one, index-two, index-odd, index-none}
 use borrow.Author.Needs.{needs}
-use Rattle.elements.proofs.place.Statement.{statement}
-use Rattle.elements.proofs.place.Tie as tie
+use Rattle.elements.proofs.index_of.Statement.{statement}
+use Rattle.elements.proofs.index_of.Tie as tie
 
 is-upper-requires : tie.Need-is-upper-requires
 is-upper-requires c κs = search needs
@@ -13,7 +13,7 @@ cast-result : tie.Need-cast-result
 cast-result c = search needs
 
 returns : tie.Need-returns
-returns c = search place-one
+returns c = search index-one
 
 is-upper-requires-2 : tie.Need-is-upper-requires-2
 is-upper-requires-2 c κs = search needs
@@ -37,16 +37,16 @@ add-result : tie.Need-add-result
 add-result c = search needs
 
 returns-2 : tie.Need-returns-2
-returns-2 c = search place-two
+returns-2 c = search index-two
 
 returns-3 : tie.Need-returns-3
-returns-3 c = search place-odd
+returns-3 c = search index-odd
 
 returns-4 : tie.Need-returns-4
-returns-4 c = search place-none
+returns-4 c = search index-none
 
-pub place-spec : {M : Type 1} → statement M
-place-spec =
+pub index-of-spec : {M : Type 1} → statement M
+index-of-spec =
     tie.close
     (tie.spec
     is-upper-requires
