@@ -2,7 +2,7 @@
 """Prints the figures of the repository, a row for each crate: functions, lines of code, definitions, laws, lines of proof written and made, wrong programs.
 
 Definitions are the names that specs/ declares, and laws the names that proofs/ declares outside the files of single functions. Lines are counted without blank
-lines and comments. Files that tools/walk.py made count as made; all other proof files count as written."""
+lines and comments. Files that tools/walks wrote say so in their first line and count as made; all other proof files count as written."""
 import glob, os, re
 
 def lines(text, comment):
@@ -26,7 +26,7 @@ for line in open("crates.txt"):
     specs = read(glob.glob(f"{here}/specs/*.antt"))
     files = glob.glob(f"{here}/proofs/**/*.antt", recursive=True)
     texts = dict(zip(files, read(files)))
-    made = {p for p, t in texts.items() if "walk.py" in t.split("\n")[0] and "derivation, written" not in t.split("\n")[0] or "/Walked" in p}
+    made = {p for p, t in texts.items() if t.startswith("-- Machine-made by tools/walks")}
     laws = [t for p, t in texts.items() if p not in made and os.path.basename(p) not in ("Proof.antt", "Lib.antt")]
     rows.append((name,
                  sum(len(re.findall(r"(?m)^\s*(?:pub )?(?:extern \"C\" )?fn ", t)) for t in code),
@@ -37,7 +37,7 @@ for line in open("crates.txt"):
                  sum(lines(texts[p], "--") for p in made),
                  len(glob.glob(f"{here}/must-fail/*.edit"))))
 
-heads = ("Crate", "Functions", "Lines of code", "Definitions", "Lines", "Laws", "Lines of proof", "Made by tools/walk.py", "Wrong programs")
+heads = ("Crate", "Functions", "Lines of code", "Definitions", "Lines", "Laws", "Lines of proof", "Machine-made", "Wrong programs")
 print("| " + " | ".join(heads) + " |")
 print("|" + "---|" * len(heads))
 for r in rows:

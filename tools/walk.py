@@ -5,14 +5,14 @@
 
 STRUCT is the path of a struct, as `Slot`, `table::Slot` of a module, or `slots/Slot` of the crate `slots` that CRATE depends on: each file that names
 it has the line `use slots::Slot;`. FN is the path of a function, as `load` or `table::load`. The twin is the crate with `type STRUCT = [u8; N]` for
-each STRUCT, N being its size: there the borrow checker covers FN. Its code is kept, every other function gets a stub body, and each clause of a
-contract becomes a trivial one, since a derivation does not depend on what the clauses say. Crates of which CRATE calls a function that takes or gives
-a STRUCT are twins too, and so are those between. What Rattle makes of the twin's FN is rewritten: what speaks of the array speaks of the
+each STRUCT, N being its size: there the borrow checker covers FN. The code of some FN is kept, of which none calls another, every other function gets a
+stub body, and each clause of a contract becomes a trivial one, since a derivation does not depend on what the clauses say; so there are a few twins, one
+after the other. Crates of which CRATE calls a function that takes or gives a STRUCT are twins too, and so are those between. What Rattle makes of the twin's FN is rewritten: what speaks of the array speaks of the
 struct, through the module proofs/STRUCTAs.antt, which is written if it is not there. specs/SPECMODULE.antt defines NAME, a value of the struct,
 for what stands past a slice's end. Written: proofs/FN/Proof/{Lts,Tie}.antt, proofs/Walked/FN/{Kinds,Reads}.antt, and proofs/FN/Proof.antt with a
 hole for each loop's invariant and measure, if it is not there. Run it again, for all FN of the crate, when the code of one changes;
 `rt fmt` then lays the files out. The parts of this program are in tools/walking."""
-import os, re, sys
+import os, re, shutil, sys
 
 from walking.about import about
 from walking.files import Files, knot, write
@@ -24,27 +24,32 @@ from walking.twin import Twin
 TMP = "target/walk"
 
 
-def make_twins(twin, sources, fns):  # what Rattle makes of each function's twin, in TMP/made/FN; answers the repository of the twins
+def make_twins(twin, sources, fns):  # what Rattle makes of the functions' twins, in TMP/made; answers the repository of the twins
     crate, structs = sources.crate, sources.structs
-    repo = f"{TMP}/twin-" + "-".join(s.name for s in structs)  # one for each list of structs, since other crates are twins
+    # one for each list of structs, and whether their crates are twins: so each keeps what was proved in it
+    repo = f"{TMP}/twin-" + "-".join(s.name if s.crate in sources.files else f"{s.name}-alone" for s in structs)
     linked(repo, lambda c: c not in sources.files)
-    for fn in fns:
+    shutil.rmtree(f"{TMP}/made", ignore_errors=True)
+    for group in sources.apart(fns):
         for c, fs in sources.files.items():
             for f, t in fs.items():
                 mod = [] if f in ("src/lib.rt", "src/main.rt") else f[4:-3].split("/")
-                write(f"{repo}/crates/{c}/{f}", twin.text(t, c, mod, fn if c == crate else None))
-        generate(repo, crate, f"{TMP}/made/{fn}")
-        if not any(os.path.exists(f"{TMP}/made/{fn}/Rattle.{crate}.proofs/proofs/{d}/Tie.antt") for d in (fn.replace("::", "/"), knot(fn))):
-            said = dev(repo, crate).split("\n")
-            sys.exit(f"no derivation of {fn} in the twin, {repo}:\n" + "\n".join(l[:900] for l in said if f"::{fn}:" in l or "error" in l)[:5000])
+                write(f"{repo}/crates/{c}/{f}", twin.text(t, c, mod, group if c == crate else []))
+        generate(repo, crate, f"{TMP}/made-now")
+        for fn in group:
+            made, path = f"{TMP}/made-now/Rattle.{crate}.proofs/proofs", fn.replace("::", "/")
+            if not any(os.path.exists(f"{made}/{d}/Tie.antt") for d in (path, knot(fn))):
+                said = dev(repo, crate).split("\n")
+                sys.exit(f"no derivation of {fn} in the twin, {repo}:\n" + "\n".join(l[:900] for l in said if f"::{fn}:" in l or "error" in l)[:5000])
+            for d in (path, knot(fn)):
+                if os.path.exists(f"{made}/{d}"): shutil.copytree(f"{made}/{d}", f"{TMP}/made/{d}", dirs_exist_ok=True)
     return repo
 
 
-def main():
-    crate, cut = sys.argv[1], sys.argv.index("--")
-    structs, fns = [Struct(crate, *g.split("=")) for g in sys.argv[2:cut]], sys.argv[cut + 1:]
+def walk(crate, given, fns):  # writes the walks of functions of a crate over the structs that are given
+    structs = [Struct(crate, *g.split("=")) for g in given]
     here, files = f"crates/{crate}", Files(crate)
-    sized(crate, structs, TMP)
+    sized(structs, TMP)
     sources = Sources(crate, structs)
     repo = make_twins(Twin(sources), sources, fns)
     for s in structs:
@@ -53,7 +58,7 @@ def main():
             write(f"{here}/proofs/{s.As}.antt", about(s))
     rewrite = Rewrite(sources, files, fns)
     for fn in fns:
-        made, path = f"{TMP}/made/{fn}/Rattle.{crate}.proofs/proofs", fn.replace("::", "/")
+        made, path = f"{TMP}/made", fn.replace("::", "/")
         home = path if os.path.exists(f"{made}/{path}/Tie.antt") else knot(fn)
         lts = "Lts" if home == path else "Lts-" + fn.split("::")[-1]
         for m in ("Kinds", "Reads", lts, "Tie"):
@@ -69,4 +74,6 @@ def main():
     print("; ".join(f"{s.path} is {s.size} bytes, [u{s.w}; {s.n}] in the twin" for s in structs))
 
 
-main()
+if __name__ == "__main__":
+    cut = sys.argv.index("--")
+    walk(sys.argv[1], sys.argv[2:cut], sys.argv[cut + 1:])

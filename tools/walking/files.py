@@ -1,11 +1,17 @@
 """The files of a crate's proofs."""
 import os, re
 
+MADE = "-- Machine-made by tools/walks; do not edit."
+
 
 def write(path, text):
     os.makedirs(os.path.dirname(path), exist_ok=True)
     if not os.path.exists(path) or open(path).read() != text:
         open(path, "w").write(text)
+
+
+def is_made(path, text):  # whether a file of a crate's proofs is machine-made
+    return text.startswith(MADE) or "/Proof/" in path or "/proofs/Walked" in path or path.endswith("As.antt")
 
 
 def knot(fn):  # the folder of the proof of a function that calls itself
@@ -26,11 +32,10 @@ class Files:
     def below(self, parts):  # proofs/Walked/.. has the modules Kinds and Reads, and each module above them its line
         p = f"{self.here}/proofs/Walked"
         self.module(f"{self.here}/proofs/Lib.antt", "pub mod Walked")
-        for x in parts:
+        for x in [*parts, "Kinds", "Reads"]:
+            self.module(f"{p}.antt", MADE)
             self.module(f"{p}.antt", f"pub mod {x}")
-            p += f"/{x}"
-        for m in ("Kinds", "Reads"):
-            self.module(f"{p}.antt", f"pub mod {m}")
+            if x not in ("Kinds", "Reads"): p += f"/{x}"
         return p
 
     def walked_in(self, c):  # the functions of a crate whose Kinds and Reads stand below Walked

@@ -1,7 +1,7 @@
 """What Rattle makes of the twin, rewritten: what speaks of the array speaks of the struct."""
 import re
 
-from .files import knot
+from .files import MADE, knot
 from .layout import laid_out
 
 USE = r"^use (\S+?)(?: as (\S+))?$"
@@ -30,7 +30,7 @@ class Rewrite:
             if line.startswith("-- the `use` lines below") or m and not re.search(rf"(?<![\w·.'-]){re.escape(name)}(?![\w·'-])", body):
                 continue
             lines.append(line)
-        return "-- Made by tools/walk.py.\n" + laid_out("".join(f"use {self.lib}.{A}\n" for A in used) + "\n".join(lines))
+        return f"{MADE}\n" + laid_out("".join(f"use {self.lib}.{A}\n" for A in used) + "\n".join(lines))
 
     def structs_for_arrays(self, text):  # the text, and the modules STRUCTAs that it now cites
         al = {p: n or p.split(".")[-1] for p, n in re.findall(USE, text, re.M)}

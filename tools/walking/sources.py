@@ -29,6 +29,18 @@ def close(t, i):  # the index past the bracket that matches the one at i
             return i
 
 
+def types_of(text):  # a file with its types and constants alone
+    text = re.sub(r"^\s*ghost use .*?;|^\s*(?:pub )?use (?:\w+::)*[a-z]\w*;|#\[[^\]]*\]", "", text, flags=re.M | re.S)
+    while m := re.search(r"^\s*impl \w+\s*(\{)", text, re.M):
+        text = text[:m.start()] + text[close(text, m.start(1)):]
+    while m := re.search(r"^\s*(?:pub )?(?:extern \"C\" )?fn \w+\s*(?:<[^>]*>)?\s*(\()", text, re.M):
+        j = close(text, m.start(1))
+        while q := re.compile(r"[^{]*?\b(?:requires|ensures|ghost)\b[^{]*").match(text, j):
+            j = close(text, q.end())
+        text = text[:m.start()] + text[close(text, text.index("{", j)):]
+    return text
+
+
 class Sources:
     def __init__(self, crate, structs):
         self.crate, self.structs = crate, structs
@@ -44,6 +56,25 @@ class Sources:
         text, own = "".join(source(c).values()), "".join(source(self.crate).values())
         heads = re.findall(r"\bfn (\w+)\s*(\([^{]*?)(?=\brequires\b|\bensures\b|\{)", text)
         return any(re.search(rf"\b{s.name}\b", h) for n, h in heads for s in self.structs if re.search(rf"\b{c}::{n}\b", own))
+
+    def apart(self, fns):  # functions of CRATE in groups, none of which calls another of its group: what is derived of a function asks that those it calls be proved
+        calls = lambda f, g: re.search(rf"\b{g.split('::')[-1]}\(", self.body(f))
+        groups = []
+        for f in fns:
+            free = [g for g in groups if not any(calls(f, other) or calls(other, f) for other in g)]
+            if free: free[0].append(f)
+            else: groups.append([f])
+        return groups
+
+    def body(self, fn):
+        mods, name = fn.split("::")[:-1], fn.split("::")[-1]
+        text = next(t for f, t in self.files[self.crate].items() if f in ([f"src/{'/'.join(mods)}.rt"] if mods else ["src/lib.rt", "src/main.rt"]))
+        m = re.search(rf"\bfn {name}\s*(?:<[^>]*>)?\s*(\()", text)
+        j = close(text, m.start(1))
+        while q := re.compile(r"[^{}]*?\b(?:requires|ensures)\b[^{]*").match(text, j):
+            j = close(text, q.end())
+        b = text.index("{", j)
+        return text[b:close(text, b)]
 
     def stand_in(self, everything):  # the array that stands for each struct: one of its size that stands for nothing else
         for s in self.structs:

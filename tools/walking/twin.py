@@ -1,4 +1,4 @@
-"""The twin's code: arrays for structs, stubs for all functions but one, and trivial clauses."""
+"""The twin's code: arrays for structs, stubs for all functions but those that are walked, and trivial clauses."""
 import re
 
 from .sources import close
@@ -66,6 +66,6 @@ class Twin:
                 out += f"\n    {q.group(1)}{' ' + q.group(2) if q.group(2) else ''} {{ " + ("λ r. " if q.group(1) == "ensures" else "") + "⌜ 0 ≤ 1 ⌝ }"
             b = text.index("{", j)
             i = close(text, b)
-            own = "::".join(mod + [m.group(1)]) == kept or r and "&" in r.group(1)
+            own = "::".join(mod + [m.group(1)]) in kept or r and "&" in r.group(1)
             out += "\n" + (text[b:i] if own else "{ " + (self.value(r.group(1), c) if r else "") + " }")
         return "ghost use Prim.Native.Nat.{_≤_};\n" + out + text[i:]

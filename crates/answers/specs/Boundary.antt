@@ -1,20 +1,11 @@
 -- What the C functions answer, and what they leave in the memory that is lent to them.
-use Prim.Native.Nat.{ℕ}
-use mathlib.Core.List.{List, [], _∷_, _++_}
-use mathlib.Core.Bool.{Bool, not}
-use lib.Dec.{eqb, ltb}
-use lib.ListN.{length, drop}
+use Rattle.ascii.specs.Library.{ℕ, List, [], _∷_, _++_, Bool, not, eqb, ltb, length, drop, pick}
 use lib.Ieee.{Float}
-use Rattle.ascii.specs.Tests.{pick}
-use Rattle.line.specs.declared.Answer.{Answer}
+use Rattle.line.specs.declared.{Answer.Answer}
+use Rattle.gate.specs.declared.{Verdict.Verdict}
+use Rattle.slots.specs.declared.{Slot.Slot, Filling.Filling, Filling.the-variants.Filled, Filling.the-variants.Refused}
+use Rattle.feed.specs.declared.{Drawn.Drawn, Drawn.the-variants.Dot, Drawn.the-variants.Stroke, Drawn.the-variants.Nothing, Framed.Framed}
 use Rattle.line.specs.declared.Answer.the-variants as line
-use Rattle.gate.specs.declared.Verdict.{Verdict}
-use Rattle.slots.specs.declared.Slot.{Slot}
-use Rattle.slots.specs.declared.Filling.{Filling}
-use Rattle.slots.specs.declared.Filling.the-variants.{Filled, Refused}
-use Rattle.feed.specs.declared.Drawn.{Drawn}
-use Rattle.feed.specs.declared.Drawn.the-variants.{Dot, Stroke, Nothing}
-use Rattle.feed.specs.declared.Framed.{Framed}
 use Rattle.feed.specs.declared.Framed.the-variants as framed
 
 -- the number that is returned, and what the lent memory then holds

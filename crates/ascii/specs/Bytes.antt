@@ -2,8 +2,8 @@
 use Prim.Native.Nat.{ℕ}
 use Prim.Native.Char.{Char, code}
 use Prim.Native.String.{String, [], _∷_}
-use mathlib.Core.List as list
 use mathlib.Core.List.{List}
+use mathlib.Core.List as list
 
 -- the byte of a character
 abbrev pub byte : Char → ℕ

@@ -1,42 +1,22 @@
--- CONECT lines by value: which line is one, and the numbers on it.
-use mathlib.Core.Bool.{Bool, true, false}
-use Rattle.conect.specs.declared.Conect.{Conect as ConectOf}
-use Rattle.line.specs.declared.Record.{Record}
-use Rattle.line.specs.declared.Record.the-variants.{Coordinate, Ter, Helix, Sheet, Conect, Master, End}
-use Rattle.pieces.specs.declared.Line.{Line}
-use Rattle.pieces.specs.declared.Line.the-variants.{Bad, Wrong, Carried, Typed}
-
--- the numbers on a CONECT line; none on another line
-abbrev pub noConect : ConectOf
-noConect = record { serial = record { 0 = 0 }; a = record { 0 = 0 }; b = record { 0 = 0 }; c = record { 0 = 0 }; d = record { 0 = 0 } }
-
-abbrev pub conectOf : Record → ConectOf
-conectOf (Coordinate het a) = noConect
-conectOf (Ter t) = noConect
-conectOf (Helix h) = noConect
-conectOf (Sheet s) = noConect
-conectOf (Conect c) = c
-conectOf (Master t) = noConect
-conectOf End = noConect
-
-abbrev pub conectIn : Line → ConectOf
-conectIn (Bad n) = noConect
-conectIn (Wrong k column) = noConect
-conectIn (Carried k) = noConect
-conectIn (Typed r) = conectOf r
+-- The numbers on a CONECT line by value. (Nothing here is part of an answer.)
+use Rattle.ascii.specs.Library.{Bool, true, false}
+use Rattle.conect.specs.declared.{Conect.Conect}
+use Rattle.pieces.specs.declared.{Line.Line}
+use Rattle.facets.specs.declared.{Bond.Bond, Bond.the-variants.Bonds, Bond.the-variants.Loose}
+use Rattle.facets.specs.Facets.{bondIn}
 
 -- a CONECT line
-abbrev pub isBond : Record → Bool
-isBond (Coordinate het a) = false
-isBond (Ter t) = false
-isBond (Helix h) = false
-isBond (Sheet s) = false
-isBond (Conect c) = true
-isBond (Master t) = false
-isBond End = false
+abbrev pub isBond : Bond → Bool
+isBond (Bonds c) = true
+isBond Loose = false
 
 abbrev pub isConect : Line → Bool
-isConect (Bad n) = false
-isConect (Wrong k column) = false
-isConect (Carried k) = false
-isConect (Typed r) = isBond r
+isConect l = isBond (bondIn l)
+
+-- the numbers on it; zeros on another line
+abbrev pub numbersOf : Bond → Conect
+numbersOf (Bonds c) = c
+numbersOf Loose = record { serial = record { 0 = 0 }; a = record { 0 = 0 }; b = record { 0 = 0 }; c = record { 0 = 0 }; d = record { 0 = 0 } }
+
+abbrev pub conectIn : Line → Conect
+conectIn l = numbersOf (bondIn l)

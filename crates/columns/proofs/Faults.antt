@@ -4,7 +4,8 @@ use mathlib.Core.Path.{_≡_, refl}
 use mathlib.Core.Bool.{Bool, true, false}
 use Prim.Native.Nat.{ℕ, zero, suc, min, _≤_, _<_}
 use native.Mathlib.Omega.{arith}
-use Rattle.columns.specs.Columns.{blame, firstOf, leftmost}
+use lib.Dec.{T, ltb, ltb→lt}
+use Rattle.columns.specs.Columns.{blame, blamedOf, firstOf, leftmost}
 
 pub blame-none : (t : Bool) (at : ℕ) → blame t at ≡ 0 → t ≡ true
 unfolding blame
@@ -14,6 +15,15 @@ blame-none false at e = absurd (omega arith)
 pub blame-good : (t : Bool) (at : ℕ) → t ≡ true → blame t at ≡ 0
 unfolding blame
 blame-good t at e = rw e
+
+pub blamed-none : (t : Bool) (c : ℕ) → T (ltb 0 c) → blamedOf t c ≡ 0 → t ≡ true
+unfolding blamedOf
+blamed-none true c p e = refl
+blamed-none false c p e = absurd (omega (arith, ltb→lt 0 c p))
+
+pub blamed-good : (t : Bool) (c : ℕ) → t ≡ true → blamedOf t c ≡ 0
+unfolding blamedOf
+blamed-good t c e = rw e
 
 pub first-split : (a b : ℕ) → firstOf a b ≡ 0 → (a ≡ 0) × (b ≡ 0)
 unfolding firstOf

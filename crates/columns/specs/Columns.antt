@@ -1,12 +1,5 @@
 -- Columns of a line. A line is its list of bytes, and `at` is an index: column `at + 1`. A fault is a column, and 0 is none.
-use Prim.Native.Nat.{ℕ, zero, suc, _+_, min}
-use mathlib.Core.Path.{_≡_}
-use mathlib.Core.List.{List, [], _∷_, _++_}
-use mathlib.Core.Bool.{Bool, true}
-use lib.ListN.{getD, take, drop}
-use lib.Dec.{eqb}
-use Rattle.ascii.specs.Bytes.{byte}
-use Rattle.ascii.specs.Tests.{pick, both, between}
+use Rattle.ascii.specs.Library.{ℕ, zero, suc, _+_, min, _≡_, List, [], _∷_, _++_, Bool, true, getD, take, drop, eqb, byte, pick, both, between}
 
 -- the n columns from index `at`
 abbrev pub cols : List ℕ → ℕ → ℕ → List ℕ
@@ -16,6 +9,10 @@ cols l at n = take n (drop at l)
 -- the first column of a field at index `at`, where the field is wrong
 unfoldable pub blame : Bool → ℕ → ℕ
 blame right at = pick right 0 (at + 1)
+
+-- the column that a rule between fields blames, where the rule is broken
+unfoldable pub blamedOf : Bool → ℕ → ℕ
+blamedOf right column = pick right 0 column
 
 -- of the faults of two fields side by side, the left one's first
 unfoldable pub firstOf : ℕ → ℕ → ℕ

@@ -3,7 +3,7 @@ ghost use mathlib.Core.Path.{_≡_};
 ghost use Prim.Native.Nat.{_+_, _≤_, _<_};
 ghost use mathlib.Core.List.{_∷_, []};
 ghost use lib.ListN.{length, set};
-ghost use Rattle.columns.specs.Columns.{blame, firstOf, leftmost, blankAt, gapOf, cleanAt, blanks, Put};
+ghost use Rattle.columns.specs.Columns.{blame, blamedOf, firstOf, leftmost, blankAt, gapOf, cleanAt, blanks, Put};
 
 // The first column of a field at index `at`, where the field is wrong.
 pub fn judged(right: bool, at: usize) -> u32
@@ -14,6 +14,16 @@ pub fn judged(right: bool, at: usize) -> u32
         return 0;
     }
     (at + 1) as u32
+}
+
+// The column that a rule between fields blames, where the rule is broken.
+pub fn blamed(right: bool, column: u32) -> u32
+    ensures { λ r. ⌜ r ≡ blamedOf right column ⌝ }
+{
+    if right {
+        return 0;
+    }
+    column
 }
 
 // Of the faults of two fields side by side, the left one's first.

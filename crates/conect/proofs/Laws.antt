@@ -7,23 +7,23 @@ use native.Mathlib.Omega.{arith}
 use lib.Dec.{eqb, leb, lit<}
 use lib.ListN.{length}
 use borrow.Author.Tests.{eqb-true, eqb-false, ne-eqb, le-leb, leb-true}
-use Rattle.ascii.specs.Tests.{pick, between}
+use Rattle.ascii.specs.Tests.{pick, both, between}
 use Rattle.columns.specs.Columns.{gapOf, blanks, cols}
 use Rattle.ascii.proofs.Choice.{picks, both-split, both-join}
 use Rattle.ascii.proofs.Clean.{Clean}
 use Rattle.columns.proofs.Spans.{blanks-length, blanks-clean, gap-text, gap-back, gap-byte}
 use Rattle.numbers.specs.Number.{render, numberOf}
 use Rattle.numbers.proofs.Laws.{render-length, render-clean}
-use Rattle.fields.specs.Field.{wholeIn, wholeOf, rangedOf}
-use Rattle.fields.specs.Format.{wholeF}
+use Rattle.fields.specs.Field.{wholeIn, rangedNumber, rangedOf}
 use Rattle.fields.proofs.Formats.{Lawful, whole-lawful, none-lawful, then-lawful, after-lawful, held-lawful, under-lawful}
-use Rattle.conect.specs.Conects.{partnerOf, partnerText, partnerOk, partnerF, to, from, ruleA, ruleB, ruleC, ruleD, conectF, conectFault, conectValue, conectText, conectOk}
+use Rattle.conect.specs.declared.Conect.{Conect}
+use Rattle.conect.specs.Conects.{serialF, partnerF, partnerColumns, partnersF, partnersColumns, serialsF, serialsColumns, differs, unbroken, conectF, conectColumns}
 
-W : Lawful (wholeF 5 0 1 99999)
-W = whole-lawful 5 0 1 99999 tt
+serial-lawful : Lawful serialF
+serial-lawful = whole-lawful 5 1 99999 tt
 
 -- where the last column is blank, there is no number
-no-number : (l : List ℕ) (at : ℕ) → gapOf l at 5 ≡ 0 → (wholeOf 5 0 1 99999 l at) .column ≡ 0 → ⊥
+no-number : (l : List ℕ) (at : ℕ) → gapOf l at 5 ≡ 0 → (rangedNumber 5 0 1 99999 l at) .column ≡ 0 → ⊥
 unfolding wholeIn numberOf between
 no-number l at g e = let z : at + 1 ≡ 0 = rw (gap-byte l at 5 4 g (lit< tt)) at e in omega arith
 
@@ -36,7 +36,7 @@ unfolding rangedOf
 ranged-up v z h = both-join _ _ (le-leb 1 v (omega arith)) (le-leb v 99999 h)
 
 partner-lawful : Lawful partnerF
-unfolding partnerOf partnerText partnerOk
+unfolding partnerColumns
 partner-lawful =
     record {
       long = λ v. picks (λ (x : List ℕ). length x ≡ 5) (eqb v 0) (blanks 5) (render 5 0 false v) (λ _. blanks-length 5) (λ _. render-length 5 0 false v);
@@ -46,25 +46,41 @@ partner-lawful =
     }
   where
     by-value : (l : List ℕ) (at v : ℕ) → v ≤ 99999 → (t : Bool) → eqb v 0 ≡ t → cols l at 5 ≡ pick t (blanks 5) (render 5 0 false v)
-        → ((partnerOf l at) .column ≡ 0) × ((partnerOf l at) .value ≡ v)
+        → (partnerF .fault l at ≡ 0) × (partnerF .value l at ≡ v)
     by-value l at v b true t q = rw (gap-back l at 5 q) (refl, sym (eqb-true v 0 t))
     by-value l at v b false t q =
-        let x = W .back l at v (ranged-up v (eqb-false v 0 t) b) q in
+        let x = serial-lawful .back l at v (ranged-up v (eqb-false v 0 t) b) q in
         rw (ne-eqb (gapOf l at 5) 0 (λ g. no-number l at g (x .0))) x
 
     by-gap : (l : List ℕ) (at : ℕ) → at + 5 ≤ length l → (t : Bool) → eqb (gapOf l at 5) 0 ≡ t
-        → (pick t (record { column = 0; value = 0 }) (wholeOf 5 0 1 99999 l at)) .column ≡ 0
-        → (partnerText ((pick t (record { column = 0; value = 0 }) (wholeOf 5 0 1 99999 l at)) .value) ≡ cols l at 5)
-        × (partnerOk ((pick t (record { column = 0; value = 0 }) (wholeOf 5 0 1 99999 l at)) .value) ≡ true)
+        → pick t 0 (serialF .fault l at) ≡ 0
+        → (partnerF .text (pick t 0 (serialF .value l at)) ≡ cols l at 5) × (partnerF .ok (pick t 0 (serialF .value l at)) ≡ true)
     by-gap l at h true t q = (gap-text l at 5 h (eqb-true _ _ t), refl)
     by-gap l at h false t q =
-        let x = W .kept l at h q in
-        let r = ranged-low ((wholeOf 5 0 1 99999 l at) .value) (x .1) in
-        (rw (ne-eqb ((wholeOf 5 0 1 99999 l at) .value) 0 (λ z. omega arith)) (x .0), le-leb _ 99999 (r .1))
+        let x = serial-lawful .kept l at h q in
+        let r = ranged-low ((rangedNumber 5 0 1 99999 l at) .value) (x .1) in
+        (rw (ne-eqb ((rangedNumber 5 0 1 99999 l at) .value) 0 (λ z. omega arith)) (x .0), le-leb _ 99999 (r .1))
+
+partners-lawful : Lawful partnersF
+unfolding partnersColumns
+partners-lawful = then-lawful partner-lawful (then-lawful partner-lawful partner-lawful)
+
+abbrev to : (ℕ × (ℕ × ((ℕ × (ℕ × ℕ)) × Unit {0}))) → Conect
+to = λ (serial, (a, ((b, (c, d)), none))).
+    record { serial = record { 0 = serial }; a = record { 0 = a }; b = record { 0 = b }; c = record { 0 = c }; d = record { 0 = d } }
+
+abbrev from : Conect → (ℕ × (ℕ × ((ℕ × (ℕ × ℕ)) × Unit {0})))
+from r = (r .serial .0, (r .a .0, ((r .b .0, (r .c .0, r .d .0)), tt)))
+
+serials-lawful : Lawful serialsF
+unfolding serialsColumns
+serials-lawful =
+    held-lawful to from (λ r. refl) (λ f. refl) (then-lawful serial-lawful (then-lawful serial-lawful (then-lawful partners-lawful (after-lawful 49 none-lawful))))
 
 pub conect-lawful : Lawful conectF
-unfolding conectFault conectValue conectText conectOk
+unfolding conectColumns
 conect-lawful =
-    under-lawful ruleD 26 (under-lawful ruleC 21 (under-lawful ruleB 16 (under-lawful ruleA 11
-    (held-lawful to from (λ r. refl) (λ f. refl)
-    (then-lawful W (then-lawful W (then-lawful partner-lawful (then-lawful partner-lawful (then-lawful partner-lawful (after-lawful 49 none-lawful))))))))))
+    under-lawful (λ (r : Conect). both (differs (r .d .0) (r .serial .0)) (unbroken (r .c .0) (r .d .0))) 27 tt
+    (under-lawful (λ (r : Conect). both (differs (r .c .0) (r .serial .0)) (unbroken (r .b .0) (r .c .0))) 22 tt
+    (under-lawful (λ (r : Conect). differs (r .b .0) (r .serial .0)) 17 tt
+    (under-lawful (λ (r : Conect). differs (r .a .0) (r .serial .0)) 12 tt serials-lawful)))

@@ -1,33 +1,26 @@
 -- CONECT: its columns 7 to 80. A partner that is not there is 0.
-use Prim.Native.Nat.{ℕ}
-use mathlib.Core.List.{List, _++_}
-use mathlib.Core.Bool.{Bool, true, false}
-use lib.Dec.{eqb, leb, ltb}
-use Rattle.ascii.specs.Tests.{pick, both}
-use Rattle.columns.specs.Columns.{gapOf, blanks}
-use Rattle.numbers.specs.Number.{render}
-use Rattle.fields.specs.declared.Whole.{Whole}
-use Rattle.fields.specs.Field.{wholeOf}
-use Rattle.fields.specs.Format.{Format, wholeF, noneF, _then_, after, held, under}
-use Rattle.kinds.specs.Kinds.{nameText}
-use Rattle.kinds.specs.declared.Kind.the-variants as kind
-use Rattle.conect.specs.declared.Conect.{Conect}
-use Rattle.conect.specs.declared.ReadConect.{ReadConect}
+use Rattle.ascii.specs.Library.{ℕ, Bool, true, false, eqb, leb, ltb, pick, both}
+use Rattle.columns.specs.Columns.{blanks}
+use Rattle.fields.specs.Format.{Format, wholeF, noneF, _then_, after, held, under, shut}
+use Rattle.fields.specs.Choice.{maybe}
+use Rattle.conect.specs.declared.{Conect.Conect}
+
+abbrev pub serialF : Format ℕ
+serialF = wholeF 5 1 99999
 
 -- a partner: a serial, or blank
-unfoldable pub partnerOf : List ℕ → ℕ → Whole
-partnerOf l at = pick (eqb (gapOf l at 5) 0) (record { column = 0; value = 0 }) (wholeOf 5 0 1 99999 l at)
-
--- how it is written
-unfoldable pub partnerText : ℕ → List ℕ
-partnerText v = pick (eqb v 0) (blanks 5) (render 5 0 false v)
-
--- its range
-unfoldable pub partnerOk : ℕ → Bool
-partnerOk v = leb v 99999
+unfoldable pub partnerColumns : Format ℕ
+partnerColumns = maybe serialF 0 (λ v. v) (λ v. pick (eqb v 0) (blanks 5) (serialF .text v)) (λ v. leb v 99999)
 
 abbrev pub partnerF : Format ℕ
-partnerF = record { width = 5; fault = λ l at. (partnerOf l at) .column; value = λ l at. (partnerOf l at) .value; text = partnerText; ok = partnerOk }
+partnerF = shut 5 partnerColumns
+
+-- the partners that may be blank: 17-21, 22-26, 27-31
+unfoldable pub partnersColumns : Format (ℕ × (ℕ × ℕ))
+partnersColumns = partnerF then partnerF then partnerF
+
+abbrev pub partnersF : Format (ℕ × (ℕ × ℕ))
+partnersF = shut 15 partnersColumns
 
 -- two numbers that differ
 unfoldable pub differs : ℕ → ℕ → Bool
@@ -37,59 +30,23 @@ differs a b = pick (eqb a b) false true
 unfoldable pub unbroken : ℕ → ℕ → Bool
 unbroken a next = pick (eqb next 0) true (ltb 0 a)
 
-abbrev pub Fields : Type 0
-Fields = ℕ × (ℕ × (ℕ × (ℕ × (ℕ × Unit {0}))))
+-- serial 7-11, partners from 12 on, the first of them filled
+unfoldable pub serialsColumns : Format Conect
+serialsColumns =
+    held (serialF then serialF then partnersF then after 49 noneF)
+    (λ (serial, (a, ((b, (c, d)), none))).
+    record { serial = record { 0 = serial }; a = record { 0 = a }; b = record { 0 = b }; c = record { 0 = c }; d = record { 0 = d } })
+    (λ r. (r .serial .0, (r .a .0, ((r .b .0, (r .c .0, r .d .0)), tt))))
 
-abbrev pub to : Fields → Conect
-to f = record { serial = record { 0 = f .0 }; a = record { 0 = f .1 .0 }; b = record { 0 = f .1 .1 .0 }; c = record { 0 = f .1 .1 .1 .0 }; d = record { 0 = f .1 .1 .1 .1 .0 } }
-
-abbrev pub from : Conect → Fields
-from r = (r .serial .0, (r .a .0, (r .b .0, (r .c .0, (r .d .0, tt)))))
+abbrev pub serialsF : Format Conect
+serialsF = shut 74 serialsColumns
 
 -- no partner is the serial itself, and a partner stands only right of another; the partner is blamed
-abbrev pub ruleA : Conect → Bool
-ruleA r = differs (r .a .0) (r .serial .0)
-
-abbrev pub ruleB : Conect → Bool
-ruleB r = differs (r .b .0) (r .serial .0)
-
-abbrev pub ruleC : Conect → Bool
-ruleC r = both (differs (r .c .0) (r .serial .0)) (unbroken (r .b .0) (r .c .0))
-
-abbrev pub ruleD : Conect → Bool
-ruleD r = both (differs (r .d .0) (r .serial .0)) (unbroken (r .c .0) (r .d .0))
-
--- serial 7-11, partners 12-16, 17-21, 22-26, 27-31, the first of them filled
-abbrev pub plain : Format Conect
-plain = held (wholeF 5 0 1 99999 then wholeF 5 0 1 99999 then partnerF then partnerF then partnerF then after 49 noneF) to from
-
-abbrev pub columns : Format Conect
-columns = under (under (under (under plain ruleA 11) ruleB 16) ruleC 21) ruleD 26
-
--- the parts of what is written and judged that the code has by themselves
-unfoldable pub partnersText : Conect → List ℕ
-partnersText r = partnerText (r .b .0) ++ (partnerText (r .c .0) ++ partnerText (r .d .0))
-
-unfoldable pub plainOk : Conect → Bool
-plainOk = plain .ok
-
-unfoldable pub conectFault : List ℕ → ℕ → ℕ
-conectFault = columns .fault
-
-unfoldable pub conectValue : List ℕ → ℕ → Conect
-conectValue = columns .value
-
-unfoldable pub conectText : Conect → List ℕ
-conectText = columns .text
-
-unfoldable pub conectOk : Conect → Bool
-conectOk = columns .ok
+unfoldable pub conectColumns : Format Conect
+conectColumns =
+    under (under (under (under serialsF (λ r. differs (r .a .0) (r .serial .0)) 12) (λ r. differs (r .b .0) (r .serial .0)) 17)
+    (λ r. both (differs (r .c .0) (r .serial .0)) (unbroken (r .b .0) (r .c .0))) 22)
+    (λ r. both (differs (r .d .0) (r .serial .0)) (unbroken (r .c .0) (r .d .0))) 27
 
 abbrev pub conectF : Format Conect
-conectF = record { width = 74; fault = conectFault; value = conectValue; text = conectText; ok = conectOk }
-
-abbrev pub conectAt : List ℕ → ReadConect
-conectAt l = record { column = conectFault l 6; value = conectValue l 6 }
-
-abbrev pub conectLine : Conect → List ℕ
-conectLine r = nameText kind.Conect ++ conectText r
+conectF = shut 74 conectColumns

@@ -8,8 +8,8 @@ ghost use Prim.Native.Nat.{_+_, _≤_, _<_};
 ghost use lib.ListN.{length};
 ghost use Rattle.columns.specs.Columns.{Put};
 ghost use Rattle.fields.specs.Format.{writeNumber, writeLine};
-ghost use Rattle.kinds.specs.Kinds.{nameText};
-ghost use Rattle.coordinate.specs.Atoms.{positionAt, positionOk, positionText, identityAt, identityOk, identityText, measureAt, measureOk, measureText, speciesAt, speciesOk, speciesText, leadsElement, atomAt, atomOk, coordinateKind, atomLine};
+ghost use Rattle.kinds.specs.Kinds.{nameText, lineWith};
+ghost use Rattle.coordinate.specs.Atoms.{positionF, identityF, measureF, speciesF, leadsElement, atomF, coordinateKind};
 
 // Coordinates, in thousandths.
 #[repr(C)]
@@ -73,11 +73,11 @@ pub struct ReadAtom {
 
 fn read_position(line: &[u8]) -> ReadPosition
     requires { ⌜ length (now line) ≡ 80 ⌝ }
-    ensures { λ r. ⌜ r ≡ positionAt (now (line .entry)) 30 ⌝ }
+    ensures { λ r. ⌜ (r .column ≡ positionF .fault (now (line .entry)) 30) × (r .value ≡ positionF .value (now (line .entry)) 30) ⌝ }
 {
-    let x = fields::read_integer(line, 30, 8, 4);
-    let y = fields::read_integer(line, 38, 8, 4);
-    let z = fields::read_integer(line, 46, 8, 4);
+    let x = fields::read_real(line, 30, 8, 3);
+    let y = fields::read_real(line, 38, 8, 3);
+    let z = fields::read_real(line, 46, 8, 3);
     let column = columns::first(x.column, columns::first(y.column, z.column));
     ReadPosition {
         column: column,
@@ -91,9 +91,9 @@ fn read_position(line: &[u8]) -> ReadPosition
 
 fn read_identity(line: &[u8]) -> ReadIdentity
     requires { ⌜ length (now line) ≡ 80 ⌝ }
-    ensures { λ r. ⌜ r ≡ identityAt (now (line .entry)) 6 ⌝ }
+    ensures { λ r. ⌜ (r .column ≡ identityF .fault (now (line .entry)) 6) × (r .value ≡ identityF .value (now (line .entry)) 6) ⌝ }
 {
-    let serial = fields::read_whole(line, 6, 5, 0, 1, 99999);
+    let serial = fields::read_whole(line, 6, 5, 1, 99999);
     let g = columns::gap(line, 11, 1);
     let name = names::read_four(line, 12);
     let k = columns::judged(names::is_atom_name(name), 12);
@@ -118,11 +118,11 @@ fn read_identity(line: &[u8]) -> ReadIdentity
 
 fn read_measure(line: &[u8]) -> ReadMeasure
     requires { ⌜ length (now line) ≡ 80 ⌝ }
-    ensures { λ r. ⌜ r ≡ measureAt (now (line .entry)) 30 ⌝ }
+    ensures { λ r. ⌜ (r .column ≡ measureF .fault (now (line .entry)) 30) × (r .value ≡ measureF .value (now (line .entry)) 30) ⌝ }
 {
     let position = read_position(line);
-    let occupancy = fields::read_whole(line, 54, 6, 3, 0, 100);
-    let temperature = fields::read_integer(line, 60, 6, 3);
+    let occupancy = fields::read_whole_real(line, 54, 6, 2, 0, 100);
+    let temperature = fields::read_real(line, 60, 6, 2);
     let column = columns::first(
         position.column,
         columns::first(occupancy.column, temperature.column),
@@ -140,7 +140,7 @@ fn read_measure(line: &[u8]) -> ReadMeasure
 
 fn read_species(line: &[u8]) -> ReadSpecies
     requires { ⌜ length (now line) ≡ 80 ⌝ }
-    ensures { λ r. ⌜ r ≡ speciesAt (now (line .entry)) 76 ⌝ }
+    ensures { λ r. ⌜ (r .column ≡ speciesF .fault (now (line .entry)) 76) × (r .value ≡ speciesF .value (now (line .entry)) 76) ⌝ }
 {
     let element = names::read_pair(line, 76);
     let charge = names::read_pair(line, 78);
@@ -165,7 +165,7 @@ fn leads(n: Four, e: Pair) -> bool
 
 pub fn read_atom(line: &[u8]) -> ReadAtom
     requires { ⌜ length (now line) ≡ 80 ⌝ }
-    ensures { λ r. ⌜ r ≡ atomAt (now (line .entry)) ⌝ }
+    ensures { λ r. ⌜ (r .column ≡ atomF .fault (now (line .entry)) 6) × (r .value ≡ atomF .value (now (line .entry)) 6) ⌝ }
 {
     let identity = read_identity(line);
     let g = columns::gap(line, 27, 3);
@@ -175,7 +175,7 @@ pub fn read_atom(line: &[u8]) -> ReadAtom
     let w = identity.value;
     let s = measure.value;
     let t = species.value;
-    let k = columns::judged(leads(w.name, t.element), 76);
+    let k = columns::blamed(leads(w.name, t.element), 77);
     let fields = columns::first(
         identity.column,
         columns::first(
@@ -195,7 +195,7 @@ pub fn read_atom(line: &[u8]) -> ReadAtom
 }
 
 fn position_is_good(p: Position) -> bool
-    ensures { λ r. ⌜ r ≡ positionOk p ⌝ }
+    ensures { λ r. ⌜ r ≡ positionF .ok p ⌝ }
 {
     let x = fields::spans(p.x, 999999, 9999999);
     let y = fields::spans(p.y, 999999, 9999999);
@@ -204,7 +204,7 @@ fn position_is_good(p: Position) -> bool
 }
 
 fn identity_is_good(w: Identity) -> bool
-    ensures { λ r. ⌜ r ≡ identityOk w ⌝ }
+    ensures { λ r. ⌜ r ≡ identityF .ok w ⌝ }
 {
     let serial = w.serial;
     let a = fields::ranged(serial.0, 1, 99999);
@@ -215,7 +215,7 @@ fn identity_is_good(w: Identity) -> bool
 }
 
 fn measure_is_good(s: Measure) -> bool
-    ensures { λ r. ⌜ r ≡ measureOk s ⌝ }
+    ensures { λ r. ⌜ r ≡ measureF .ok s ⌝ }
 {
     let a = position_is_good(s.position);
     let b = fields::ranged(s.occupancy, 0, 100);
@@ -224,13 +224,13 @@ fn measure_is_good(s: Measure) -> bool
 }
 
 fn species_is_good(t: Species) -> bool
-    ensures { λ r. ⌜ r ≡ speciesOk t ⌝ }
+    ensures { λ r. ⌜ r ≡ speciesF .ok t ⌝ }
 {
     ascii::both_of(elements::is_element(t.element), names::is_charge(t.charge))
 }
 
 pub fn is_good(a: Atom) -> bool
-    ensures { λ r. ⌜ r ≡ atomOk a ⌝ }
+    ensures { λ r. ⌜ r ≡ atomF .ok a ⌝ }
 {
     let w = a.identity;
     let t = a.species;
@@ -243,19 +243,19 @@ pub fn is_good(a: Atom) -> bool
 
 fn put_position(line: &mut [u8], p: Position)
     requires { ⌜ 80 ≤ length (now line) ⌝ }
-    ensures { λ _. ⌜ Put (now (line .entry)) 30 24 (positionText p) (now (line .exit)) ⌝ }
+    ensures { λ _. ⌜ Put (now (line .entry)) 30 24 (positionF .text p) (now (line .exit)) ⌝ }
 {
-    fields::put_integer(line, 30, 8, 4, p.x);
-    fields::put_integer(line, 38, 8, 4, p.y);
-    fields::put_integer(line, 46, 8, 4, p.z);
+    fields::put_real(line, 30, 8, 3, p.x);
+    fields::put_real(line, 38, 8, 3, p.y);
+    fields::put_real(line, 46, 8, 3, p.z);
 }
 
 fn put_identity(line: &mut [u8], w: Identity)
     requires { ⌜ 80 ≤ length (now line) ⌝ }
-    ensures { λ _. ⌜ Put (now (line .entry)) 6 21 (identityText w) (now (line .exit)) ⌝ }
+    ensures { λ _. ⌜ Put (now (line .entry)) 6 21 (identityF .text w) (now (line .exit)) ⌝ }
 {
     let serial = w.serial;
-    fields::put_whole(line, 6, 5, 0, serial.0);
+    fields::put_whole(line, 6, 5, serial.0);
     columns::put_blanks(line, 11, 1);
     names::put_four(line, 12, w.name);
     columns::put_one(line, 16, w.alternate);
@@ -264,16 +264,16 @@ fn put_identity(line: &mut [u8], w: Identity)
 
 fn put_measure(line: &mut [u8], s: Measure)
     requires { ⌜ 80 ≤ length (now line) ⌝ }
-    ensures { λ _. ⌜ Put (now (line .entry)) 30 36 (measureText s) (now (line .exit)) ⌝ }
+    ensures { λ _. ⌜ Put (now (line .entry)) 30 36 (measureF .text s) (now (line .exit)) ⌝ }
 {
     put_position(line, s.position);
-    fields::put_whole(line, 54, 6, 3, s.occupancy);
-    fields::put_integer(line, 60, 6, 3, s.temperature);
+    fields::put_whole_real(line, 54, 6, 2, s.occupancy);
+    fields::put_real(line, 60, 6, 2, s.temperature);
 }
 
 fn put_species(line: &mut [u8], t: Species)
     requires { ⌜ 80 ≤ length (now line) ⌝ }
-    ensures { λ _. ⌜ Put (now (line .entry)) 76 4 (speciesText t) (now (line .exit)) ⌝ }
+    ensures { λ _. ⌜ Put (now (line .entry)) 76 4 (speciesF .text t) (now (line .exit)) ⌝ }
 {
     names::put_pair(line, 76, t.element);
     names::put_pair(line, 78, t.charge);
@@ -293,7 +293,7 @@ fn put_kind(line: &mut [u8], het: bool)
 
 fn put_atom(line: &mut [u8], het: bool, a: Atom)
     requires { ⌜ 80 ≤ length (now line) ⌝ }
-    ensures { λ _. ⌜ Put (now (line .entry)) 0 80 (atomLine het a) (now (line .exit)) ⌝ }
+    ensures { λ _. ⌜ Put (now (line .entry)) 0 80 (lineWith (coordinateKind het) atomF a) (now (line .exit)) ⌝ }
 {
     put_kind(line, het);
     put_identity(line, a.identity);
@@ -305,7 +305,7 @@ fn put_atom(line: &mut [u8], het: bool, a: Atom)
 
 // Writes the line, 80 bytes: 0; or leaves all as found: 6 where a field is out of its range, 17 where there is no room.
 pub fn write_atom(line: &mut [u8], het: bool, a: Atom) -> u8
-    ensures { λ r. ⌜ (r ≡ writeNumber (atomOk a) (now (line .entry))) × (now (line .exit) ≡ writeLine (atomOk a) (atomLine het a) (now (line .entry))) ⌝ }
+    ensures { λ r. ⌜ (r ≡ writeNumber (atomF .ok a) (now (line .entry))) × (now (line .exit) ≡ writeLine (atomF .ok a) (lineWith (coordinateKind het) atomF a) (now (line .entry))) ⌝ }
 {
     let ok = is_good(a);
     if ok {

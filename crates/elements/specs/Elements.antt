@@ -1,12 +1,6 @@
 -- The elements: the atomic number of each pair of a blank or a letter, and a letter.
-use Prim.Native.Nat.{ℕ, _+_, _*_, _-_}
-use mathlib.Core.List.{List, [], _∷_}
-use mathlib.Core.Bool.{Bool}
-use lib.ListN.{getD}
-use lib.Dec.{ltb, eqb}
-use Rattle.ascii.specs.Bytes.{byte, bytes}
-use Rattle.ascii.specs.Tests.{pick, both, either, same, isUpper}
-use Rattle.names.specs.declared.Pair.{Pair}
+use Rattle.ascii.specs.Library.{ℕ, _+_, _*_, _-_, List, [], _∷_, Bool, getD, ltb, eqb, byte, bytes, pick, both, either, same, isUpper}
+use Rattle.names.specs.declared.{Pair.Pair}
 use Rattle.names.specs.Names.{pairAt}
 
 -- the symbols of IUPAC in the order of their atomic numbers, two columns each

@@ -1,8 +1,6 @@
 -- The double that is exactly z / 2 ^ l. Nothing here rounds: `odd` of lib.Ieee only divides the closing zeros out of the number and counts them in the
 -- exponent, as the one way to write a float asks. That its value is z / 2 ^ l, and that no other double has it, is proved in proofs/Exactness.antt.
-use Prim.Native.Nat.{ℕ, suc}
-use mathlib.Core.Bool.{true, false}
-use lib.IntN.{ℤ, pos, negsuc}
+use Rattle.ascii.specs.Library.{ℕ, suc, true, false, ℤ, pos, negsuc}
 use lib.Ieee.{Float, odd}
 
 unfoldable pub exactly : ℤ → ℕ → Float

@@ -1,11 +1,8 @@
 -- What the renderer is handed for a slot and for a pair of slots: thousandths, as doubles.
-use mathlib.Core.Bool.{Bool}
-use lib.Dec.{eqb}
-use Rattle.ascii.specs.Tests.{pick, both, either}
-use Rattle.slots.specs.declared.Slot.{Slot}
+use Rattle.ascii.specs.Library.{Bool, eqb, pick, both, either}
+use Rattle.slots.specs.declared.{Slot.Slot}
 use Rattle.slots.specs.Slots.{atomKind, hetatmKind, markIn}
-use Rattle.feed.specs.declared.Drawn.{Drawn}
-use Rattle.feed.specs.declared.Drawn.the-variants.{Dot, Stroke, Nothing}
+use Rattle.feed.specs.declared.{Drawn.Drawn, Drawn.the-variants.Dot, Drawn.the-variants.Stroke, Drawn.the-variants.Nothing}
 use Rattle.feed.specs.Exact.{whole}
 
 -- an ATOM or HETATM that is in; a TER, a slot set aside and a damaged one are not drawn

@@ -1,17 +1,9 @@
 -- The frame of the drawn atoms among some slots: lowest, highest and middle on each axis.
-use mathlib.Core.Bool.{true, false}
-use mathlib.Core.List.{List, [], _∷_}
-use lib.IntN.{ℤ, pos, _+ℤ_}
+use Rattle.ascii.specs.Library.{true, false, List, [], _∷_, ℤ, pos, _+ℤ_, ltZ, pick}
 use lib.Ieee.{Float}
-use lib.Signed.{ltZ}
-use Rattle.ascii.specs.Tests.{pick}
-use Rattle.coordinate.specs.declared.Position.{Position}
-use Rattle.slots.specs.declared.Slot.{Slot}
-use Rattle.feed.specs.declared.Span.{Span}
-use Rattle.feed.specs.declared.Bounds.{Bounds}
-use Rattle.feed.specs.declared.Extent.{Extent}
-use Rattle.feed.specs.declared.Framed.{Framed}
-use Rattle.feed.specs.declared.Framed.the-variants.{Around, Refused}
+use Rattle.coordinate.specs.declared.{Position.Position}
+use Rattle.slots.specs.declared.{Slot.Slot}
+use Rattle.feed.specs.declared.{Span.Span, Bounds.Bounds, Extent.Extent, Framed.Framed, Framed.the-variants.Around, Framed.the-variants.Refused}
 use Rattle.feed.specs.Exact.{whole, half}
 use Rattle.feed.specs.Feed.{isDrawn}
 

@@ -1,14 +1,7 @@
 -- What is promised of drawings and frames beyond their definitions.
-use mathlib.Core.Path.{_≡_}
-use mathlib.Core.Logic.{_⊎_}
-use mathlib.Core.Bool.{true, false}
-use mathlib.Core.List.{List, [], _∷_}
-use lib.IntN.{ℤ}
-use lib.Signed.{_≤ℤ_}
-use Rattle.slots.specs.declared.Slot.{Slot}
-use Rattle.feed.specs.declared.Span.{Span}
-use Rattle.feed.specs.declared.Bounds.{Bounds}
-use Rattle.feed.specs.declared.Extent.{Extent}
+use Rattle.ascii.specs.Library.{_≡_, _⊎_, true, false, List, [], _∷_, ℤ, _≤ℤ_}
+use Rattle.slots.specs.declared.{Slot.Slot}
+use Rattle.feed.specs.declared.{Span.Span, Bounds.Bounds, Extent.Extent}
 use Rattle.feed.specs.Feed.{isDrawn}
 use Rattle.feed.specs.Frame.{extentOf}
 

@@ -18,7 +18,7 @@ use Rattle.ascii.specs.Tests.{pick}
 use Rattle.columns.specs.Columns.{gapOf, blanks, cols, blame}
 use Rattle.numbers.specs.Number.{render}
 use Rattle.numbers.proofs.Laws.{render-clean}
-use Rattle.fields.specs.Field.{capOf, wholeOf, rangedOf}
+use Rattle.fields.specs.Field.{capOf, rangedNumber, rangedOf}
 use Rattle.fields.specs.Format.{Format}
 use Rattle.fields.specs.Choice.{only, maybe, blank, into, fixed}
 
@@ -105,19 +105,19 @@ into-lawful {A} w F G f g gw =
           (ap₂ _++_ (x .0) (y .0 ∙ ap (cols l (at + F .width)) e) ∙ sym (cols-add l at (F .width) w), both-join _ _ (x .1) (y .1));
     }
 
-pub fixed-lawful : (n e v : ℕ) → T (ltb v (capOf n e false)) → Lawful (fixed n e v)
+pub fixed-lawful : (n v : ℕ) → T (ltb v (capOf n 0 false)) → Lawful (fixed n v)
 unfolding rangedOf
-fixed-lawful n e v t =
-    let f = whole-lawful n e v v t in
+fixed-lawful n v t =
+    let f = whole-lawful n v v t in
     record {
       long = λ a. f .long v;
-      clean = λ a k. render-clean n e false v;
+      clean = λ a k. render-clean n 0 false v;
       back = λ l at a k q. (f .back l at v (both-join _ _ (le-leb v v (omega arith)) (le-leb v v (omega arith))) q .0, refl);
       kept = λ l at h q.
           let x = f .kept l at h q in
-          let w = both-split (leb v ((wholeOf n e v v l at) .value)) _ (x .1) in
-          let lo = leb-true v ((wholeOf n e v v l at) .value) (w .0) in
-          let hi = leb-true ((wholeOf n e v v l at) .value) v (w .1) in
-          let same : (wholeOf n e v v l at) .value ≡ v = omega arith in
-          (ap (λ y. render n e false y) (sym same) ∙ x .0, refl);
+          let w = both-split (leb v ((rangedNumber n 0 v v l at) .value)) _ (x .1) in
+          let lo = leb-true v ((rangedNumber n 0 v v l at) .value) (w .0) in
+          let hi = leb-true ((rangedNumber n 0 v v l at) .value) v (w .1) in
+          let same : (rangedNumber n 0 v v l at) .value ≡ v = omega arith in
+          (ap (λ y. render n 0 false y) (sym same) ∙ x .0, refl);
     }

@@ -13,17 +13,17 @@ use lib.IntN.{ℤ, pos, negsuc, natAbs}
 use borrow.Author.Tests.{le-ltb, le-leb, ltb-false, leb-true, ne-eqb, eqb-false}
 use Rattle.ascii.proofs.Choice.{picks, never, both-split, both-join}
 use Rattle.ascii.proofs.Clean.{Clean, clean-append, clean-literal, printed}
-use Rattle.columns.proofs.Faults.{first-split, first-join, blame-none, blame-good, left-split, left-join}
+use Rattle.columns.proofs.Faults.{first-split, first-join, blame-none, blame-good, blamed-none, blamed-good, left-split, left-join}
 use Rattle.columns.proofs.Spans.{cols-add, cols-left, cols-right, blanks-length, blanks-clean, gap-text, gap-back}
 use Rattle.numbers.proofs.Laws.{render-length, render-clean, number-text, number-back}
 use Rattle.ascii.specs.Tests.{pick}
-use Rattle.columns.specs.Columns.{gapOf, blanks, cols, blame}
+use Rattle.columns.specs.Columns.{gapOf, blanks, cols, blamedOf}
 use Rattle.numbers.specs.declared.Number.{Number}
 use Rattle.numbers.specs.Number.{render, numberOf}
 use Rattle.fields.specs.declared.Whole.{Whole}
 use Rattle.fields.specs.declared.Signed.{Signed}
 use Rattle.fields.specs.Field.{signedOf, isNeg, capOf, wholeIn, wrongWhole, integerIn, wrongSigned, rangedOf, spansOf}
-use Rattle.fields.specs.Format.{Format, wholeF, integerF, rawF, noneF, _then_, after, held, under}
+use Rattle.fields.specs.Format.{Format, rangedF, wholeF, wholeRealF, signedF, integerF, realF, rawF, noneF, _then_, after, held, under, shut}
 use Rattle.fields.proofs.Caps.{cap-law}
 
 pub record Lawful {A : Type 0} (F : Format A) : Type 0 where
@@ -58,9 +58,9 @@ whole-written : (lo hi v at : ℕ) → lo ≤ v → v ≤ hi → wholeIn lo hi (
 unfolding wholeIn
 whole-written lo hi v at a b = rw (le-ltb _ _ a, le-ltb _ _ b)
 
-pub whole-lawful : (n e lo hi : ℕ) → T (ltb hi (capOf n e false)) → Lawful (wholeF n e lo hi)
+pub ranged-lawful : (n e lo hi : ℕ) → T (ltb hi (capOf n e false)) → Lawful (rangedF n e lo hi)
 unfolding rangedOf
-whole-lawful n e lo hi t =
+ranged-lawful n e lo hi t =
     record {
       long = λ v. render-length n e false v;
       clean = λ v k. render-clean n e false v;
@@ -78,6 +78,12 @@ whole-lawful n e lo hi t =
             rw (r .2) (both-join _ _ (le-leb _ _ (r .3)) (le-leb _ _ (r .4))),
           );
     }
+
+pub whole-lawful : (n lo hi : ℕ) → T (ltb hi (capOf n 0 false)) → Lawful (wholeF n lo hi)
+whole-lawful n = ranged-lawful n 0
+
+pub whole-real-lawful : (n d lo hi : ℕ) → T (ltb hi (capOf n (d + 1) false)) → Lawful (wholeRealF n d lo hi)
+whole-real-lawful n d = ranged-lawful n (d + 1)
 
 pub signed-neg : (m : Bool) (v : ℕ) → (m ≡ true → v ≡ 0 → ⊥) → isNeg (signedOf m v) ≡ m
 unfolding signedOf isNeg
@@ -116,9 +122,9 @@ span-cap : (n e low high : ℕ) → suc low ≡ capOf n e true → suc high ≡ 
 span-cap n e low high a b true = a
 span-cap n e low high a b false = b
 
-pub integer-lawful : (n e low high : ℕ) → suc low ≡ capOf n e true → suc high ≡ capOf n e false → Lawful (integerF n e low high)
+pub signed-lawful : (n e low high : ℕ) → suc low ≡ capOf n e true → suc high ≡ capOf n e false → Lawful (signedF n e low high)
 unfolding spansOf
-integer-lawful n e low high ca cb =
+signed-lawful n e low high ca cb =
     record {
       long = λ z. render-length n e (isNeg z) (natAbs z);
       clean = λ z k. render-clean n e (isNeg z) (natAbs z);
@@ -136,6 +142,12 @@ integer-lawful n e low high ca cb =
           let d : suc (pick (x .minus) low high) ≡ capOf n e (x .minus) = span-cap n e low high ca cb (x .minus) in
           rw (r .1, m, v) (w .0, le-leb (x .mag) (pick (x .minus) low high) (omega arith));
     }
+
+pub integer-lawful : (n low high : ℕ) → suc low ≡ capOf n 0 true → suc high ≡ capOf n 0 false → Lawful (integerF n low high)
+integer-lawful n = signed-lawful n 0
+
+pub real-lawful : (n d low high : ℕ) → suc low ≡ capOf n (d + 1) true → suc high ≡ capOf n (d + 1) false → Lawful (realF n d low high)
+real-lawful n d = signed-lawful n (d + 1)
 
 -- ---- bytes
 pub record Shape {A : Type 0} (n : ℕ) (value : List ℕ → ℕ → A) (text : A → List ℕ) : Type 0 where
@@ -189,11 +201,8 @@ after-lawful {F} n f =
           (ap₂ _++_ (gap-text l at n (omega arith) (w .0)) (y .0) ∙ sym (cols-add l at n (F .width)), y .1);
     }
 
--- the same format, with its width written another way
-pub wide : {A : Type 0} {w v : ℕ} {fault : List ℕ → ℕ → ℕ} {value : List ℕ → ℕ → A} {text : A → List ℕ} {ok : A → Bool} → w ≡ v
-    → Lawful (record { width = w; fault = fault; value = value; text = text; ok = ok })
-    → Lawful (record { width = v; fault = fault; value = value; text = text; ok = ok })
-wide {fault} {value} {text} {ok} e f = subst (λ (n : ℕ). Lawful (record { width = n; fault = fault; value = value; text = text; ok = ok })) e f
+pub shut-lawful : {A : Type 0} {F : Format A} {n : ℕ} → F .width ≡ n → Lawful F → Lawful (shut n F)
+shut-lawful {F} e f = subst (λ (n : ℕ). Lawful (shut n F)) e f
 
 pub held-lawful : {A B : Type 0} {F : Format A} (to : A → B) (from : B → A) → ((b : B) → to (from b) ≡ b) → ((a : A) → from (to a) ≡ a) → Lawful F → Lawful (held F to from)
 held-lawful {F} to from there here f =
@@ -204,20 +213,19 @@ held-lawful {F} to from there here f =
       kept = λ l at h q. let x = f .kept l at h q in (ap (F .text) (here (F .value l at)) ∙ x .0, ap (F .ok) (here (F .value l at)) ∙ x .1);
     }
 
--- c is the index of the column that the rule blames
-pub under-lawful : {A : Type 0} {F : Format A} (test : A → Bool) (c : ℕ) → Lawful F → Lawful (under F test c)
-under-lawful {F} test c f =
+pub under-lawful : {A : Type 0} {F : Format A} (test : A → Bool) (c : ℕ) → T (ltb 0 c) → Lawful F → Lawful (under F test c)
+under-lawful {F} test c t f =
     record {
       long = f .long;
       clean = λ a k. f .clean a (both-split (F .ok a) (test a) k .0);
       back = λ l at a k q.
           let w = both-split (F .ok a) (test a) k in
           let x = f .back l at a (w .0) q in
-          (left-join (F .fault l at) (blame (test (F .value l at)) c) (x .0) (blame-good _ c (ap test (x .1) ∙ w .1)), x .1);
+          (left-join (F .fault l at) (blamedOf (test (F .value l at)) c) (x .0) (blamed-good _ c (ap test (x .1) ∙ w .1)), x .1);
       kept = λ l at h q.
-          let w = left-split (F .fault l at) (blame (test (F .value l at)) c) q in
+          let w = left-split (F .fault l at) (blamedOf (test (F .value l at)) c) q in
           let x = f .kept l at h (w .0) in
-          (x .0, both-join _ _ (x .1) (blame-none _ c (w .1)));
+          (x .0, both-join _ _ (x .1) (blamed-none _ c t (w .1)));
     }
 
 -- ---- THE THEOREM of a kind of line: a name of six columns, and a format of the other 74

@@ -1,12 +1,8 @@
 -- Formats with a choice: a field with a further test, columns that may be blank, columns that depend on what stands before them.
-use Prim.Native.Nat.{ℕ, _+_}
-use mathlib.Core.List.{List, _++_}
-use mathlib.Core.Bool.{Bool, true, false}
-use lib.Dec.{eqb}
-use Rattle.ascii.specs.Tests.{pick, both}
+use Rattle.ascii.specs.Library.{ℕ, _+_, List, _++_, Bool, true, false, eqb, pick, both}
 use Rattle.columns.specs.Columns.{firstOf, gapOf, blanks, blame}
 use Rattle.numbers.specs.Number.{render}
-use Rattle.fields.specs.Field.{wholeOf}
+use Rattle.fields.specs.Field.{rangedNumber}
 use Rattle.fields.specs.Format.{Format}
 
 -- a field whose value a test takes; a fault of either kind is blamed on its first column
@@ -46,6 +42,13 @@ into w F G =
       ok = λ a. both (F .ok (a .0)) (G (a .0) .ok (a .1));
     }
 
--- a number that is always v: Integer(n) where e is 0, Real(n.d) where e is d + 1
-abbrev pub fixed : ℕ → ℕ → ℕ → Format (Unit {0})
-fixed n e v = record { width = n; fault = λ l at. (wholeOf n e v v l at) .column; value = λ l at. tt; text = λ a. render n e false v; ok = λ a. true }
+-- an Integer(n) that is always v
+abbrev pub fixed : ℕ → ℕ → Format (Unit {0})
+fixed n v =
+    record {
+      width = n;
+      fault = λ l at. (rangedNumber n 0 v v l at) .column;
+      value = λ l at. tt;
+      text = λ a. render n 0 false v;
+      ok = λ a. true;
+    }

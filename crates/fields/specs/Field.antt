@@ -1,14 +1,8 @@
 -- Numbers in fields: with a range, and with a sign.
-use Prim.Native.Nat.{ℕ, zero, suc, _+_, _*_, max}
-use mathlib.Core.List.{List}
-use mathlib.Core.Bool.{Bool, true, false}
-use lib.Dec.{leb, ltb, eqb}
-use lib.IntN.{ℤ, pos, negsuc, natAbs}
-use Rattle.ascii.specs.Tests.{pick, both, alike}
-use Rattle.numbers.specs.declared.Number.{Number}
+use Rattle.ascii.specs.Library.{ℕ, zero, suc, _+_, _*_, max, List, Bool, true, false, leb, ltb, eqb, ℤ, pos, negsuc, natAbs, pick, both, alike}
+use Rattle.numbers.specs.declared.{Number.Number}
 use Rattle.numbers.specs.Number.{numberOf}
-use Rattle.fields.specs.declared.Whole.{Whole}
-use Rattle.fields.specs.declared.Signed.{Signed}
+use Rattle.fields.specs.declared.{Whole.Whole, Signed.Signed}
 
 -- the integer of a sign and a magnitude
 unfoldable pub signedOf : Bool → ℕ → ℤ
@@ -45,9 +39,9 @@ wholeIn lo hi h at =
     (pick (ltb (h .mag) lo) (wrongWhole at) (pick (ltb hi (h .mag)) (wrongWhole at) (record { column = 0; value = h .mag }))))
     (wrongWhole at)
 
--- n columns from `at`, e as in `numberOf`
-abbrev pub wholeOf : ℕ → ℕ → ℕ → ℕ → List ℕ → ℕ → Whole
-wholeOf n e lo hi l at = wholeIn lo hi (numberOf l at n e) at
+-- n columns from `at`, e as in `numberOf`: 0 for an Integer(n), d + 1 for a Real(n.d)
+abbrev pub rangedNumber : ℕ → ℕ → ℕ → ℕ → List ℕ → ℕ → Whole
+rangedNumber n e lo hi l at = wholeIn lo hi (numberOf l at n e) at
 
 -- a wrong field
 abbrev pub wrongSigned : ℕ → Signed
@@ -62,9 +56,9 @@ integerIn h at =
     (record { column = 0; value = signedOf false (h .mag) }))
     (wrongSigned at)
 
--- n columns from `at`, e as in `numberOf`
-abbrev pub integerOf : ℕ → ℕ → List ℕ → ℕ → Signed
-integerOf n e l at = integerIn (numberOf l at n e) at
+-- n columns from `at`, e as in `numberOf`: 0 for an Integer(n), d + 1 for a Real(n.d)
+abbrev pub signedNumber : ℕ → ℕ → List ℕ → ℕ → Signed
+signedNumber n e l at = integerIn (numberOf l at n e) at
 
 -- a number from lo to hi
 unfoldable pub rangedOf : ℕ → ℕ → ℕ → Bool

@@ -1,14 +1,8 @@
 -- Formats: a run of columns, with what it means and how it is written. l is a line, and `at` the index of the format's first column.
-use Prim.Native.Nat.{ℕ, _+_}
-use mathlib.Core.List.{List, [], _∷_, _++_}
-use mathlib.Core.Bool.{Bool, true, false}
-use lib.ListN.{length, getD, drop}
-use lib.Dec.{ltb}
-use lib.IntN.{ℤ, natAbs}
-use Rattle.ascii.specs.Tests.{pick, both}
-use Rattle.columns.specs.Columns.{blame, leftmost, firstOf, gapOf, blanks}
+use Rattle.ascii.specs.Library.{ℕ, _+_, List, [], _∷_, _++_, Bool, true, false, length, getD, drop, ltb, ℤ, natAbs, pick, both}
+use Rattle.columns.specs.Columns.{blame, blamedOf, leftmost, firstOf, gapOf, blanks}
 use Rattle.numbers.specs.Number.{render}
-use Rattle.fields.specs.Field.{isNeg, wholeOf, integerOf, rangedOf, spansOf}
+use Rattle.fields.specs.Field.{isNeg, rangedNumber, signedNumber, rangedOf, spansOf}
 
 pub record Format (A : Type 0) : Type 1 where
   -- how many columns
@@ -22,27 +16,43 @@ pub record Format (A : Type 0) : Type 1 where
   -- whether a value is within its range
   pub ok : A → Bool
 
--- a number from lo to hi: Integer(n) where e is 0, Real(n.d) where e is d + 1
-abbrev pub wholeF : ℕ → ℕ → ℕ → ℕ → Format ℕ
-wholeF n e lo hi =
+-- a number from lo to hi, e as in `numberOf`
+abbrev pub rangedF : ℕ → ℕ → ℕ → ℕ → Format ℕ
+rangedF n e lo hi =
     record {
       width = n;
-      fault = λ l at. (wholeOf n e lo hi l at) .column;
-      value = λ l at. (wholeOf n e lo hi l at) .value;
+      fault = λ l at. (rangedNumber n e lo hi l at) .column;
+      value = λ l at. (rangedNumber n e lo hi l at) .value;
       text = λ v. render n e false v;
       ok = rangedOf lo hi;
     }
 
+-- Integer(n) from lo to hi
+abbrev pub wholeF : ℕ → ℕ → ℕ → Format ℕ
+wholeF n = rangedF n 0
+
+-- Real(n.d) from lo to hi, counted in its last decimal
+abbrev pub wholeRealF : ℕ → ℕ → ℕ → ℕ → Format ℕ
+wholeRealF n d = rangedF n (d + 1)
+
 -- a number of either sign, from -low to high, which are the ends of what its columns hold
-abbrev pub integerF : ℕ → ℕ → ℕ → ℕ → Format ℤ
-integerF n e low high =
+abbrev pub signedF : ℕ → ℕ → ℕ → ℕ → Format ℤ
+signedF n e low high =
     record {
       width = n;
-      fault = λ l at. (integerOf n e l at) .column;
-      value = λ l at. (integerOf n e l at) .value;
+      fault = λ l at. (signedNumber n e l at) .column;
+      value = λ l at. (signedNumber n e l at) .value;
       text = λ z. render n e (isNeg z) (natAbs z);
       ok = spansOf low high;
     }
+
+-- Integer(n) of either sign
+abbrev pub integerF : ℕ → ℕ → ℕ → Format ℤ
+integerF n = signedF n 0
+
+-- Real(n.d) of either sign, counted in its last decimal
+abbrev pub realF : ℕ → ℕ → ℕ → ℕ → Format ℤ
+realF n d = signedF n (d + 1)
 
 -- n bytes that a test takes
 abbrev pub rawF : {A : Type 0} → ℕ → (List ℕ → ℕ → A) → (A → List ℕ) → (A → Bool) → Format A
@@ -91,16 +101,20 @@ held F to from =
       ok = λ b. F .ok (from b);
     }
 
--- a rule between fields, and the index of the column that it blames
+-- a rule between fields, and the column that it blames
 abbrev pub under : {A : Type 0} → Format A → (A → Bool) → ℕ → Format A
 under F test c =
     record {
       width = F .width;
-      fault = λ l at. leftmost (F .fault l at) (blame (test (F .value l at)) c);
+      fault = λ l at. leftmost (F .fault l at) (blamedOf (test (F .value l at)) c);
       value = F .value;
       text = F .text;
       ok = λ a. both (F .ok a) (test a);
     }
+
+-- a format whose columns are shut, so that a caller's goals stay short; its width is told
+abbrev pub shut : {A : Type 0} → ℕ → Format A → Format A
+shut n F = record { width = n; fault = F .fault; value = F .value; text = F .text; ok = F .ok }
 
 -- ---- writing a line x of 80 bytes into l, where `good` says whether the record is within its ranges: the number that is given, and what l holds
 unfoldable pub writeNumber : Bool → List ℕ → ℕ

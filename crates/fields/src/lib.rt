@@ -6,7 +6,7 @@ ghost use mathlib.Core.Bool.{true, false};
 ghost use lib.ListN.{length};
 ghost use lib.IntN.{natAbs};
 ghost use Rattle.columns.specs.Columns.{Put};
-ghost use Rattle.fields.specs.Field.{signedOf, isNeg, sameInteger, wholeOf, integerOf, capOf, rangedOf, spansOf};
+ghost use Rattle.fields.specs.Field.{signedOf, isNeg, sameInteger, rangedNumber, signedNumber, capOf, rangedOf, spansOf};
 ghost use Rattle.numbers.specs.Number.{render};
 
 // Serials, residue numbers and fragment numbers are types of their own, so that none lands where another belongs.
@@ -67,10 +67,10 @@ pub fn same_integer(a: i32, b: i32) -> bool
     ascii::both_of(ascii::alike_of(s, t), x == y)
 }
 
-// A number from lo to hi.
-pub fn read_whole(line: &[u8], at: usize, n: usize, e: usize, lo: u32, hi: u32) -> Whole
+// A number from lo to hi, e as in `read_number`.
+fn read_ranged(line: &[u8], at: usize, n: usize, e: usize, lo: u32, hi: u32) -> Whole
     requires { ⌜ (at + n ≤ length (now line)) × (at + n ≤ 80) × (n ≤ 8) ⌝ }
-    ensures { λ r. ⌜ r ≡ wholeOf n e lo hi (now (line .entry)) at ⌝ }
+    ensures { λ r. ⌜ r ≡ rangedNumber n e lo hi (now (line .entry)) at ⌝ }
 {
     let h = numbers::read_number(line, at, n, e);
     let ok = h.good;
@@ -106,10 +106,27 @@ pub fn read_whole(line: &[u8], at: usize, n: usize, e: usize, lo: u32, hi: u32) 
     }
 }
 
-// A number of either sign.
-pub fn read_integer(line: &[u8], at: usize, n: usize, e: usize) -> Signed
+// Integer(n) from lo to hi.
+pub fn read_whole(line: &[u8], at: usize, n: usize, lo: u32, hi: u32) -> Whole
+    requires { ⌜ (at + n ≤ length (now line)) × (at + n ≤ 80) × (n ≤ 8) ⌝ }
+    ensures { λ r. ⌜ r ≡ rangedNumber n 0 lo hi (now (line .entry)) at ⌝ }
+{
+    read_ranged(line, at, n, 0, lo, hi)
+}
+
+// Real(n.d) from lo to hi.
+pub fn read_whole_real(line: &[u8], at: usize, n: usize, d: usize, lo: u32, hi: u32) -> Whole
+    requires { ⌜ (at + n ≤ length (now line)) × (at + n ≤ 80) × (n ≤ 8) × (d < n) ⌝ }
+    ensures { λ r. ⌜ r ≡ rangedNumber n (d + 1) lo hi (now (line .entry)) at ⌝ }
+{
+    let e = d + 1;
+    read_ranged(line, at, n, e, lo, hi)
+}
+
+// A number of either sign, e as in `read_number`.
+fn read_signed(line: &[u8], at: usize, n: usize, e: usize) -> Signed
     requires { ⌜ (at + n ≤ length (now line)) × (at + n ≤ 80) × (n ≤ 8) × (capOf n e true ≤ 1000000000) × (capOf n e false ≤ 1000000000) ⌝ }
-    ensures { λ r. ⌜ r ≡ integerOf n e (now (line .entry)) at ⌝ }
+    ensures { λ r. ⌜ r ≡ signedNumber n e (now (line .entry)) at ⌝ }
 {
     let h = numbers::read_number(line, at, n, e);
     let ok = h.good;
@@ -139,6 +156,23 @@ pub fn read_integer(line: &[u8], at: usize, n: usize, e: usize) -> Signed
     }
 }
 
+// Integer(n) of either sign.
+pub fn read_integer(line: &[u8], at: usize, n: usize) -> Signed
+    requires { ⌜ (at + n ≤ length (now line)) × (at + n ≤ 80) × (n ≤ 8) × (capOf n 0 true ≤ 1000000000) × (capOf n 0 false ≤ 1000000000) ⌝ }
+    ensures { λ r. ⌜ r ≡ signedNumber n 0 (now (line .entry)) at ⌝ }
+{
+    read_signed(line, at, n, 0)
+}
+
+// Real(n.d) of either sign.
+pub fn read_real(line: &[u8], at: usize, n: usize, d: usize) -> Signed
+    requires { ⌜ (at + n ≤ length (now line)) × (at + n ≤ 80) × (n ≤ 8) × (d < n) × (capOf n (d + 1) true ≤ 1000000000) × (capOf n (d + 1) false ≤ 1000000000) ⌝ }
+    ensures { λ r. ⌜ r ≡ signedNumber n (d + 1) (now (line .entry)) at ⌝ }
+{
+    let e = d + 1;
+    read_signed(line, at, n, e)
+}
+
 pub fn ranged(v: u32, lo: u32, hi: u32) -> bool
     ensures { λ r. ⌜ r ≡ rangedOf lo hi v ⌝ }
 {
@@ -159,18 +193,42 @@ pub fn spans(z: i32, low: u64, high: u64) -> bool
     v <= high
 }
 
-pub fn put_whole(line: &mut [u8], at: usize, n: usize, e: usize, v: u32)
+pub fn put_whole(line: &mut [u8], at: usize, n: usize, v: u32)
     requires { ⌜ at + n ≤ length (now line) ⌝ }
-    ensures { λ _. ⌜ Put (now (line .entry)) at n (render n e false v) (now (line .exit)) ⌝ }
+    ensures { λ _. ⌜ Put (now (line .entry)) at n (render n 0 false v) (now (line .exit)) ⌝ }
 {
+    numbers::put_number(line, at, n, 0, false, v as u64);
+}
+
+pub fn put_whole_real(line: &mut [u8], at: usize, n: usize, d: usize, v: u32)
+    requires { ⌜ (at + n ≤ length (now line)) × (d < n) ⌝ }
+    ensures { λ _. ⌜ Put (now (line .entry)) at n (render n (d + 1) false v) (now (line .exit)) ⌝ }
+{
+    let e = d + 1;
     numbers::put_number(line, at, n, e, false, v as u64);
 }
 
-pub fn put_integer(line: &mut [u8], at: usize, n: usize, e: usize, z: i32)
+// e as in `put_number`.
+fn put_signed(line: &mut [u8], at: usize, n: usize, e: usize, z: i32)
     requires { ⌜ at + n ≤ length (now line) ⌝ }
     ensures { λ _. ⌜ Put (now (line .entry)) at n (render n e (isNeg z) (natAbs z)) (now (line .exit)) ⌝ }
 {
     let m = negative(z);
     let v = magnitude(z);
     numbers::put_number(line, at, n, e, m, v);
+}
+
+pub fn put_integer(line: &mut [u8], at: usize, n: usize, z: i32)
+    requires { ⌜ at + n ≤ length (now line) ⌝ }
+    ensures { λ _. ⌜ Put (now (line .entry)) at n (render n 0 (isNeg z) (natAbs z)) (now (line .exit)) ⌝ }
+{
+    put_signed(line, at, n, 0, z);
+}
+
+pub fn put_real(line: &mut [u8], at: usize, n: usize, d: usize, z: i32)
+    requires { ⌜ (at + n ≤ length (now line)) × (d < n) ⌝ }
+    ensures { λ _. ⌜ Put (now (line .entry)) at n (render n (d + 1) (isNeg z) (natAbs z)) (now (line .exit)) ⌝ }
+{
+    let e = d + 1;
+    put_signed(line, at, n, e, z);
 }

@@ -1,13 +1,9 @@
 -- Fragments: a closed run with its TER is one; in the unclosed tail each longest stretch of lines of one residue is one.
 -- Whether a slot goes with the next depends on what follows, so the slots are taken from the last one on.
-use Prim.Native.Nat.{ℕ, _+_}
-use mathlib.Core.List.{List, [], _∷_}
-use mathlib.Core.Bool.{Bool, true, false, not}
-use lib.Dec.{eqb}
-use Rattle.ascii.specs.Tests.{pick, both, either}
+use Rattle.ascii.specs.Library.{ℕ, _+_, List, [], _∷_, Bool, true, false, not, eqb, pick, both, either}
 use Rattle.residue.specs.Residues.{noResidue, sameResidue}
-use Rattle.slots.specs.declared.Slot.{Slot}
-use Rattle.fragments.specs.declared.Tail.{Tail}
+use Rattle.slots.specs.declared.{Slot.Slot}
+use Rattle.fragments.specs.declared.{Tail.Tail}
 use Rattle.slots.specs.Slots.{terKind, markIn, residueOf, withMark}
 
 -- a slot of a TER line

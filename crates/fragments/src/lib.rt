@@ -24,7 +24,7 @@ pub struct Tail {
 pub fn is_ter(s: Slot) -> bool
     ensures { λ r. ⌜ r ≡ isTer s ⌝ }
 {
-    s.kind == 3
+    s.kind == slots::TER_KIND
 }
 
 // No slot.
@@ -36,7 +36,7 @@ pub fn end_tail() -> Tail
         some: false,
         closed: false,
         residue: residue,
-        mark: 0,
+        mark: slots::MARK_IN,
         count: 0,
         agree: true,
     }

@@ -20,14 +20,18 @@ use Rattle.pieces.specs.declared.Line.{Line}
 use Rattle.pieces.specs.declared.Line.the-variants.{Bad, Wrong, Carried, Typed}
 use Rattle.pieces.specs.Pieces.{lineOf}
 use Rattle.places.specs.declared.Counts.{Counts}
+use Rattle.rules.specs.declared.Looked.{Looked}
 use Rattle.rules.specs.declared.State.{State}
-use Rattle.places.specs.Places.{placeOf, endPlace}
+use Rattle.kinds.specs.Kinds.{rowOf}
+use Rattle.places.specs.Places.{endPlace}
 use Rattle.places.specs.Counts.{countOf, oneMore, raised, sameCounts}
-use Rattle.rules.specs.Rules.{recordKind, lineKind, judgeOf, nextOf, carriedNext, typedNext, startOf}
+use Rattle.facets.specs.declared.Bond.the-variants.{Bonds}
+use Rattle.facets.specs.Facets.{recordKind, lineKind, isCoord}
+use Rattle.rules.specs.Rules.{judgeOf, nextOf, carriedNext, typedNext, startOf}
 use Rattle.rules.proofs.Laws.{judge-typed, judge-wrong}
 use Rattle.gate.specs.declared.Verdict.{Verdict}
-use Rattle.rows.specs.Text.{pieceAt, row, down, isCoord}
-use Rattle.serials.specs.Known.{isSite, someOf, named, partnerKnown, recordKnown}
+use Rattle.rows.specs.Text.{pieceAt, row, down}
+use Rattle.serials.specs.Known.{isSite, someOf, named, partnerKnown, bondKnown, lookOf}
 use Rattle.gate.specs.Gate.{refusedOf, finishOf, checkLines, checkOf}
 use Rattle.serials.specs.Search.{serialOf}
 use Rattle.rows.proofs.Cut.{cut-done}
@@ -74,7 +78,7 @@ pub record Names (t : List ℕ) (i : ℕ) (bond : ConectOf) : Type 0 where
 partner-where : (t : List ℕ) (i x : ℕ) → partnerKnown (down (row t) i) x ≡ true → (x ≡ 0) ⊎ Before t i x
 partner-where t i x e = either-split (eqb x 0) (named (down (row t) i) x) (λ y. inl (eqb-true x 0 y)) (λ y. inr (some-where (isSite x) (row t) i y)) e
 
-names-of : (t : List ℕ) (i : ℕ) (c : ConectOf) → recordKnown (down (row t) i) (Conect c) ≡ true → Names t i c
+names-of : (t : List ℕ) (i : ℕ) (c : ConectOf) → bondKnown (down (row t) i) (Bonds c) ≡ true → Names t i c
 names-of t i c e =
     let x = both-split (named (down (row t) i) (c .serial .0)) _ e in
     let y = both-split (partnerKnown (down (row t) i) (c .a .0)) _ (x .1) in
@@ -90,7 +94,7 @@ names-of t i c e =
 
 pub conect-names : (t : List ℕ) (n i : ℕ) (c : ConectOf) → GoodTo (row t) n → i < n → row t i ≡ Typed (Conect c) → Names t i c
 conect-names t n i c g h e =
-    let j : judgeOf (recordKnown (down (row t) i) (Conect c)) (stateAt (row t) i) (Typed (Conect c)) ≡ 0 = rw e at (g i h) in
+    let j : judgeOf (lookOf (down (row t) i) (Typed (Conect c))) (stateAt (row t) i) (Typed (Conect c)) ≡ 0 = rw e at (g i h) in
     names-of t i c (known-of _ _ (judge-typed _ (stateAt (row t) i) (Conect c) j .bond))
 
 -- ---- the counts are the numbers of such lines
@@ -128,12 +132,12 @@ counted-more L n c C =
       seq = count-more (countOf (lineKind (L n))) 9 (c .seq) _ (C .seq);
     }
 
-counts-next : (s : State) (known : Bool) (l : Line) → judgeOf known s l ≡ 0 → ((n : ℕ) → l ≡ Bad n → 0 < n) → (nextOf s l) .counts ≡ raised (s .counts) (countOf (lineKind l))
+counts-next : (s : State) (look : Looked) (l : Line) → judgeOf look s l ≡ 0 → ((n : ℕ) → l ≡ Bad n → 0 < n) → (nextOf s l) .counts ≡ raised (s .counts) (countOf (lineKind l))
 unfolding nextOf carriedNext typedNext judgeOf
-counts-next s known (Bad n) j b = absurd (omega (arith, b n refl))
-counts-next s known (Wrong k c) j b = absurd (judge-wrong known s k c j)
-counts-next s known (Carried k) j b = refl
-counts-next s known (Typed r) j b = refl
+counts-next s look (Bad n) j b = absurd (omega (arith, b n refl))
+counts-next s look (Wrong k c) j b = absurd (judge-wrong look s k c j)
+counts-next s look (Carried k) j b = refl
+counts-next s look (Typed r) j b = refl
 
 pub counted : (t : List ℕ) (n : ℕ) → GoodTo (row t) n → Counted (row t) n ((stateAt (row t) n) .counts)
 unfolding stateAt linesOf startOf
@@ -179,12 +183,12 @@ totals-of t i m c e C =
 -- MASTER's numbers are the numbers of such lines before it
 pub master-totals : (t : List ℕ) (n i : ℕ) (m : Tally) → GoodTo (row t) n → i < n → row t i ≡ Typed (Master m) → Totals t i m
 master-totals t n i m g h e =
-    let j : judgeOf true (stateAt (row t) i) (Typed (Master m)) ≡ 0 = rw e at (g i h) in
-    totals-of t i m ((stateAt (row t) i) .counts) (not-false _ (judge-typed true (stateAt (row t) i) (Master m) j .count)) (counted t i (λ k l. g k (omega arith)))
+    let j : judgeOf (lookOf (down (row t) i) (Typed (Master m))) (stateAt (row t) i) (Typed (Master m)) ≡ 0 = rw e at (g i h) in
+    totals-of t i m ((stateAt (row t) i) .counts) (not-false _ (judge-typed _ (stateAt (row t) i) (Master m) j .count)) (counted t i (λ k l. g k (omega arith)))
 
 -- ---- the last line is END
 
-record-ends : (r : Record) → placeOf (recordKind r) .here ≡ endPlace → r ≡ End
+record-ends : (r : Record) → rowOf (recordKind r) .here ≡ endPlace → r ≡ End
 record-ends (Coordinate true a) e = absurd (omega arith)
 record-ends (Coordinate false a) e = absurd (omega arith)
 record-ends (Ter t) e = absurd (omega arith)
@@ -194,12 +198,12 @@ record-ends (Conect c) e = absurd (omega arith)
 record-ends (Master m) e = absurd (omega arith)
 record-ends End e = refl
 
-line-ends : (t : List ℕ) (i : ℕ) (s : State) (known : Bool) (l : Line) → row t i ≡ l → judgeOf known s l ≡ 0 → (nextOf s l) .place ≡ endPlace → l ≡ Typed End
+line-ends : (t : List ℕ) (i : ℕ) (s : State) (look : Looked) (l : Line) → row t i ≡ l → judgeOf look s l ≡ 0 → (nextOf s l) .place ≡ endPlace → l ≡ Typed End
 unfolding nextOf carriedNext typedNext judgeOf
-line-ends t i s known (Bad n) e j p = absurd (omega (arith, bad-number t i n e))
-line-ends t i s known (Wrong k c) e j p = absurd (judge-wrong known s k c j)
-line-ends t i s known (Carried k) e j p = absurd (carried-ends t i k e p)
-line-ends t i s known (Typed r) e j p = ap Typed (record-ends r p)
+line-ends t i s look (Bad n) e j p = absurd (omega (arith, bad-number t i n e))
+line-ends t i s look (Wrong k c) e j p = absurd (judge-wrong look s k c j)
+line-ends t i s look (Carried k) e j p = absurd (carried-ends t i k e p)
+line-ends t i s look (Typed r) e j p = ap Typed (record-ends r p)
 
 pub end-last : (t : List ℕ) (n : ℕ) → GoodTo (row t) n → (stateAt (row t) n) .place ≡ endPlace → (m : ℕ) × (n ≡ suc m) × (row t m ≡ Typed End)
 unfolding stateAt startOf

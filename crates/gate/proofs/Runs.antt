@@ -16,7 +16,8 @@ use Rattle.pieces.specs.Pieces.{lineOf}
 use Rattle.rules.specs.declared.State.{State}
 use Rattle.places.specs.Places.{endPlace}
 use Rattle.rules.specs.Rules.{nextOf, startOf}
-use Rattle.serials.specs.declared.Span.{Span}
+use Rattle.search.specs.declared.Span.{Span}
+use Rattle.search.specs.Search.{span}
 use Rattle.gate.specs.declared.Verdict.{Verdict}
 use Rattle.rows.specs.Text.{cut, pieceAt, row, down}
 use Rattle.gate.specs.Gate.{numberIn, refusedOf, finishOf, checkLines, checkOf}
@@ -64,7 +65,7 @@ pub reached : (t : List ℕ) (n : ℕ) → GoodTo (row t) n → Reached t n
 unfolding stateAt
 reached t zero g =
     let S = sofar-start t in
-    record { within = omega arith; lines = S .lines; few = S .few; span = record { lo = 0; hi = 0 }; block = S .block }
+    record { within = omega arith; lines = S .lines; few = S .few; span = span 0 0; block = S .block }
 reached t (suc n) g =
     let R = reached t n (λ j h. g j (omega arith)) in
     reach-more t n R (grown t n (R .span) (stateAt (row t) n) _ (R .few) (R .block) (row t n) refl (g n (omega arith)))

@@ -18,10 +18,13 @@ use Rattle.rules.specs.declared.State.{State}
 use Rattle.places.specs.Counts.{oneMore, raised}
 use Rattle.rules.specs.Rules.{judgeOf, nextOf, carriedNext, typedNext, startOf}
 use Rattle.rules.proofs.Laws.{judge-typed, judge-carried, judge-wrong}
-use Rattle.serials.specs.declared.Span.{Span}
+use Rattle.rules.specs.declared.Looked.{Looked}
+use Rattle.search.specs.declared.Span.{Span}
+use Rattle.search.specs.Search.{span}
+use Rattle.facets.specs.Facets.{isCoord}
 use Rattle.gate.specs.declared.Verdict.{Verdict}
-use Rattle.rows.specs.Text.{cut, pieceAt, row, down, isCoord}
-use Rattle.serials.specs.Known.{knownOf}
+use Rattle.rows.specs.Text.{cut, pieceAt, row, down}
+use Rattle.serials.specs.Known.{lookOf}
 use Rattle.gate.specs.Gate.{numberIn, checkLines, checkOf, refusedOf, finishOf}
 use Rattle.serials.specs.Search.{growOf, Block, Rising}
 use Rattle.rows.proofs.Cut.{cut-next, cut-done}
@@ -66,7 +69,7 @@ pub record Sofar (t : List ℕ) (i : ℕ) (b : Span) (s : State) : Type 0 where
   pub block : Block (row t) i b s
   pub rest : checkOf t ≡ checkLines (down (row t) i) s (map lineOf (cut (drop (81 * i) t)))
 
-pub sofar-start : (t : List ℕ) → Sofar t 0 (record { lo = 0; hi = 0 }) startOf
+pub sofar-start : (t : List ℕ) → Sofar t 0 (span 0 0) startOf
 unfolding startOf checkOf down
 sofar-start t =
     record {
@@ -116,30 +119,30 @@ pub record Grown (t : List ℕ) (i : ℕ) (b : Span) (s : State) (l : Line) : Ty
   pub few : Few ((nextOf s l) .counts) (i + 1)
   pub block : Block (row t) (i + 1) (growOf b i l) (nextOf s l)
 
-pub grown : (t : List ℕ) (i : ℕ) (b : Span) (s : State) (known : Bool) → Few (s .counts) i → Block (row t) i b s → (l : Line) → row t i ≡ l → judgeOf known s l ≡ 0 → Grown t i b s l
+pub grown : (t : List ℕ) (i : ℕ) (b : Span) (s : State) (look : Looked) → Few (s .counts) i → Block (row t) i b s → (l : Line) → row t i ≡ l → judgeOf look s l ≡ 0 → Grown t i b s l
 unfolding nextOf carriedNext typedNext judgeOf row
-grown t i b s known f B (Bad n) e j = absurd (omega (arith, bad-number t i n e))
-grown t i b s known f B (Wrong k c) e j = absurd (judge-wrong known s k c j)
-grown t i b s known f B (Carried k) e j =
+grown t i b s look f B (Bad n) e j = absurd (omega (arith, bad-number t i n e))
+grown t i b s look f B (Wrong k c) e j = absurd (judge-wrong look s k c j)
+grown t i b s look f B (Carried k) e j =
     record {
       long = piece-long (pieceAt t i) (λ q. let z : _≡_ {A = ℕ} 0 1 = cc in omega arith);
       lines = refl;
       few = few-next (s .counts) _ i f;
-      block = grow-carried (row t) i b s k B (ap isCoord e) (judge-carried known s k j .0) (carried-away t i k e);
+      block = grow-carried (row t) i b s k B (ap isCoord e) (judge-carried look s k j .0) (carried-away t i k e);
     }
-grown t i b s known f B (Typed r) e j =
+grown t i b s look f B (Typed r) e j =
     record {
       long = piece-long (pieceAt t i) (λ q. let z : _≡_ {A = ℕ} 0 1 = cc in omega arith);
       lines = refl;
       few = few-next (s .counts) _ i f;
-      block = grow-typed (row t) i b s r known B e (judge-typed known s r j);
+      block = grow-typed (row t) i b s r look B e (judge-typed look s r j);
     }
 
 sofar-next : (t : List ℕ) (i : ℕ) (b : Span) (s : State) → Sofar t i b s → 81 * i < length t
     → numberIn (down (row t) i) s (row t i) ≡ 0 → Sofar t (i + 1) (growOf b i (row t i)) (nextOf s (row t i))
 unfolding checkLines down pieceAt
 sofar-next t i b s S h j =
-    let G = grown t i b s (knownOf (down (row t) i) (row t i)) (S .few) (S .block) (row t i) refl j in
+    let G = grown t i b s (lookOf (down (row t) i) (row t i)) (S .few) (S .block) (row t i) refl j in
     let w : 81 ≤ length (take 81 (drop (81 * i) t)) = G .long in
     record {
       within = omega (arith, simp (length-take, length-drop) at w);
@@ -153,11 +156,15 @@ pub sofar-done : (t : List ℕ) (i : ℕ) (b : Span) (s : State) (r : Verdict) �
 unfolding checkLines
 sofar-done t i b s r S h e = e ∙ sym (S .rest ∙ rw (cut-done t i h))
 
--- ---- a turn, as the code has it: l is the line, k whether its numbers are known, j its number of refusal
-module _ (t : List ℕ) (i : ℕ) (b : Span) (s : State) (S : Sofar t i b s) (h : 81 * i < length t) (l : Line) (k : Bool) (j : ℕ)
-    (el : l ≡ row t i) (ek : k ≡ knownOf (down (row t) i) l) (ej : j ≡ judgeOf k s l) where
+-- the number that is judged after a look back
+pub judged-number : (seen : List Line) (s : State) (l : Line) (v : Looked) (j : ℕ) → v ≡ lookOf seen l → j ≡ judgeOf v s l → j ≡ numberIn seen s l
+judged-number seen s l v j e f = rw e at f
+
+-- ---- a turn, as the code has it: l is the line, j its number of refusal
+module _ (t : List ℕ) (i : ℕ) (b : Span) (s : State) (S : Sofar t i b s) (h : 81 * i < length t) (l : Line) (j : ℕ)
+    (el : l ≡ row t i) (ej : j ≡ numberIn (down (row t) i) s l) where
   turn-number : j ≡ numberIn (down (row t) i) s (row t i)
-  turn-number = rw (ek, el) at ej
+  turn-number = rw el at ej
 
   pub turn-refused : (j ≡ 0 → ⊥) → refusedOf j s ≡ checkOf t
   turn-refused n = rw turn-number (sym (sofar-refused t i b s S h (λ e. n (turn-number ∙ e))))

@@ -1,16 +1,13 @@
 -- The gate over a whole text: each line is judged against what the good lines before it left.
-use Prim.Native.Nat.{ℕ, _+_}
-use mathlib.Core.List.{List, [], _∷_, map}
-use lib.Dec.{eqb}
-use Rattle.ascii.specs.Tests.{pick}
-use Rattle.pieces.specs.declared.Line.{Line}
+use Rattle.ascii.specs.Library.{ℕ, _+_, List, [], _∷_, map, eqb, pick}
+use Rattle.pieces.specs.declared.{Line.Line}
 use Rattle.pieces.specs.Pieces.{lineOf}
-use Rattle.rules.specs.declared.State.{State}
+use Rattle.rules.specs.declared.{State.State}
 use Rattle.places.specs.Places.{endPlace}
 use Rattle.rules.specs.Rules.{judgeOf, nextOf, startOf}
-use Rattle.gate.specs.declared.Verdict.{Verdict}
+use Rattle.gate.specs.declared.{Verdict.Verdict}
 use Rattle.rows.specs.Text.{cut}
-use Rattle.serials.specs.Known.{knownOf}
+use Rattle.serials.specs.Known.{lookOf}
 
 -- the next line gets the number n
 unfoldable pub refusedOf : ℕ → State → Verdict
@@ -22,7 +19,7 @@ finishOf s = pick (eqb (s .place) endPlace) (record { number = 0; line = 0; good
 
 -- the number of a line, after the good lines seen (the last one first), which left the state s
 abbrev pub numberIn : List Line → State → Line → ℕ
-numberIn seen s l = judgeOf (knownOf seen l) s l
+numberIn seen s l = judgeOf (lookOf seen l) s l
 
 -- the lines to come
 unfoldable pub checkLines : List Line → State → List Line → Verdict

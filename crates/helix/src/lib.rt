@@ -5,8 +5,10 @@ ghost use mathlib.Core.Path.{_≡_};
 ghost use Prim.Native.Nat.{_≤_};
 ghost use lib.ListN.{length};
 ghost use Rattle.columns.specs.Columns.{Put};
-ghost use Rattle.helix.specs.Helices.{extentAt, extentOk, extentText, commentAt, commentOk, commentText, helixAt, helixOk, helixLine};
+ghost use Rattle.helix.specs.Helices.{extentF, commentF, helixF};
 ghost use Rattle.fields.specs.Format.{writeNumber, writeLine};
+ghost use Rattle.kinds.specs.Kinds.{lineWith};
+ghost use Rattle.kinds.specs.declared.Kind.the-variants as kind;
 
 // Columns 7 to 38.
 pub struct Extent {
@@ -48,10 +50,10 @@ pub struct ReadHelix {
 
 fn read_extent(line: &[u8]) -> ReadExtent
     requires { ⌜ length (now line) ≡ 80 ⌝ }
-    ensures { λ r. ⌜ r ≡ extentAt (now (line .entry)) 6 ⌝ }
+    ensures { λ r. ⌜ (r .column ≡ extentF .fault (now (line .entry)) 6) × (r .value ≡ extentF .value (now (line .entry)) 6) ⌝ }
 {
     let a = columns::gap(line, 6, 1);
-    let serial = fields::read_whole(line, 7, 3, 0, 1, 999);
+    let serial = fields::read_whole(line, 7, 3, 1, 999);
     let b = columns::gap(line, 10, 1);
     let id = names::read_three(line, 11);
     let i = columns::judged(names::is_identifier(id), 11);
@@ -69,7 +71,7 @@ fn read_extent(line: &[u8]) -> ReadExtent
         a,
         columns::first(serial.column, columns::first(b, columns::first(i, places))),
     );
-    let rule = columns::judged(ascii::is(p.chain, q.chain), 31);
+    let rule = columns::blamed(ascii::is(p.chain, q.chain), 32);
     let column = columns::lower(fields, rule);
     ReadExtent {
         column: column,
@@ -84,7 +86,7 @@ fn read_extent(line: &[u8]) -> ReadExtent
 
 fn read_comment(line: &[u8]) -> ReadComment
     requires { ⌜ length (now line) ≡ 80 ⌝ }
-    ensures { λ r. ⌜ r ≡ commentAt (now (line .entry)) 40 ⌝ }
+    ensures { λ r. ⌜ (r .column ≡ commentF .fault (now (line .entry)) 40) × (r .value ≡ commentF .value (now (line .entry)) 40) ⌝ }
 {
     let a = columns::judged(columns::is_clean(line, 40, 8), 40);
     let b = columns::judged(columns::is_clean(line, 48, 8), 48);
@@ -104,13 +106,13 @@ fn read_comment(line: &[u8]) -> ReadComment
 
 pub fn read_helix(line: &[u8]) -> ReadHelix
     requires { ⌜ length (now line) ≡ 80 ⌝ }
-    ensures { λ r. ⌜ r ≡ helixAt (now (line .entry)) ⌝ }
+    ensures { λ r. ⌜ (r .column ≡ helixF .fault (now (line .entry)) 6) × (r .value ≡ helixF .value (now (line .entry)) 6) ⌝ }
 {
     let extent = read_extent(line);
-    let class = fields::read_whole(line, 38, 2, 0, 1, 10);
+    let class = fields::read_whole(line, 38, 2, 1, 10);
     let comment = read_comment(line);
     let a = columns::gap(line, 70, 1);
-    let length = fields::read_whole(line, 71, 5, 0, 1, 99999);
+    let length = fields::read_whole(line, 71, 5, 1, 99999);
     let b = columns::gap(line, 76, 4);
     let tail = columns::first(a, columns::first(length.column, columns::first(b, 0)));
     let column = columns::first(
@@ -131,7 +133,7 @@ pub fn read_helix(line: &[u8]) -> ReadHelix
 }
 
 fn extent_is_good(e: Extent) -> bool
-    ensures { λ r. ⌜ r ≡ extentOk e ⌝ }
+    ensures { λ r. ⌜ r ≡ extentF .ok e ⌝ }
 {
     let first = e.first;
     let last = e.last;
@@ -144,7 +146,7 @@ fn extent_is_good(e: Extent) -> bool
 }
 
 fn comment_is_good(c: Comment) -> bool
-    ensures { λ r. ⌜ r ≡ commentOk c ⌝ }
+    ensures { λ r. ⌜ r ≡ commentF .ok c ⌝ }
 {
     let a = words::is_word(8, c.a);
     let b = words::is_word(8, c.b);
@@ -155,7 +157,7 @@ fn comment_is_good(c: Comment) -> bool
 
 // Whether each field of a helix is within its range, and both ends are of one chain.
 pub fn is_good(h: Helix) -> bool
-    ensures { λ r. ⌜ r ≡ helixOk h ⌝ }
+    ensures { λ r. ⌜ r ≡ helixF .ok h ⌝ }
 {
     let a = extent_is_good(h.extent);
     let b = fields::ranged(h.class, 1, 10);
@@ -169,10 +171,10 @@ pub fn is_good(h: Helix) -> bool
 
 fn put_extent(line: &mut [u8], e: Extent)
     requires { ⌜ 80 ≤ length (now line) ⌝ }
-    ensures { λ _. ⌜ Put (now (line .entry)) 6 32 (extentText e) (now (line .exit)) ⌝ }
+    ensures { λ _. ⌜ Put (now (line .entry)) 6 32 (extentF .text e) (now (line .exit)) ⌝ }
 {
     columns::put_blanks(line, 6, 1);
-    fields::put_whole(line, 7, 3, 0, e.serial);
+    fields::put_whole(line, 7, 3, e.serial);
     columns::put_blanks(line, 10, 1);
     names::put_three(line, 11, e.id);
     columns::put_blanks(line, 14, 1);
@@ -183,7 +185,7 @@ fn put_extent(line: &mut [u8], e: Extent)
 
 fn put_comment(line: &mut [u8], c: Comment)
     requires { ⌜ 80 ≤ length (now line) ⌝ }
-    ensures { λ _. ⌜ Put (now (line .entry)) 40 30 (commentText c) (now (line .exit)) ⌝ }
+    ensures { λ _. ⌜ Put (now (line .entry)) 40 30 (commentF .text c) (now (line .exit)) ⌝ }
 {
     words::put_word(line, 40, 8, c.a);
     words::put_word(line, 48, 8, c.b);
@@ -193,20 +195,20 @@ fn put_comment(line: &mut [u8], c: Comment)
 
 fn put_helix(line: &mut [u8], h: Helix)
     requires { ⌜ 80 ≤ length (now line) ⌝ }
-    ensures { λ _. ⌜ Put (now (line .entry)) 0 80 (helixLine h) (now (line .exit)) ⌝ }
+    ensures { λ _. ⌜ Put (now (line .entry)) 0 80 (lineWith kind.Helix helixF h) (now (line .exit)) ⌝ }
 {
     words::put_word(line, 0, 6, kinds::HELIX);
     put_extent(line, h.extent);
-    fields::put_whole(line, 38, 2, 0, h.class);
+    fields::put_whole(line, 38, 2, h.class);
     put_comment(line, h.comment);
     columns::put_blanks(line, 70, 1);
-    fields::put_whole(line, 71, 5, 0, h.length);
+    fields::put_whole(line, 71, 5, h.length);
     columns::put_blanks(line, 76, 4);
 }
 
 // Writes the line, 80 bytes: 0; or leaves all as found: 6 where a field is out of its range, 17 where there is no room.
 pub fn write_helix(line: &mut [u8], h: Helix) -> u8
-    ensures { λ r. ⌜ (r ≡ writeNumber (helixOk h) (now (line .entry))) × (now (line .exit) ≡ writeLine (helixOk h) (helixLine h) (now (line .entry))) ⌝ }
+    ensures { λ r. ⌜ (r ≡ writeNumber (helixF .ok h) (now (line .entry))) × (now (line .exit) ≡ writeLine (helixF .ok h) (lineWith kind.Helix helixF h) (now (line .entry))) ⌝ }
 {
     let ok = is_good(h);
     if ok {

@@ -1,126 +1,96 @@
 -- A clean line of a kind begins with that kind's name, and a line that begins with it is of that kind.
 -- Assumes nothing.
-use mathlib.Core.Path.{_≡_, refl, sym, _∙_, ap}
-use mathlib.Core.List.{List, _++_}
-use mathlib.Core.Bool.{true}
+use mathlib.Core.Path.{_≡_, refl, sym, subst, _∙_, ap}
+use mathlib.Core.List.{List, [], _∷_, _++_}
+use mathlib.Core.Bool.{Bool, true, _&&_}
 use Prim.Native.Nat.{ℕ, _≤_}
 use native.Mathlib.Omega.{arith}
-use lib.Dec.{eqb}
+use lib.Dec.{T, eqb}
+use mir.Facts.{and-yes}
 use lib.ListN.{length, take, length-append}
 use borrow.Author.Tests.{eqb-true, le-ltb}
-use Rattle.ascii.proofs.Choice.{picks}
+use Rattle.ascii.proofs.Choice.{never, picks}
 use Rattle.columns.specs.Columns.{cleanAt}
 use Rattle.words.specs.Words.{wordAt, bytesOf}
 use Rattle.words.proofs.Laws.{word-kept}
 use Rattle.kinds.specs.declared.Kind.{Kind}
 use Rattle.kinds.specs.declared.Kind.the-variants.{Header, Title, Compnd, Source, Keywds, Expdta, Author, Revdat, Jrnl, Remark, Seqres, Het, Helix, Sheet, Cryst1, Origx1, Origx2, Origx3, Scale1, Scale2, Scale3, Atom, Hetatm, Ter, Conect, Master, End, Unknown}
-use Rattle.kinds.specs.Kinds.{packed, nameText, kindNamed, kindOf}
+use Rattle.kinds.specs.Kinds.{packed, unpacked, rowOf, nameText, isNamed, kinds, firstNamed, kindNamed, kindOf}
 
 -- ---- the name that a kind has
 abbrev Named : ℕ → Kind → Type 0
-Named n k = (k ≡ Unknown → ⊥) → n ≡ packed 0 (nameText k)
+Named n k = isNamed k ≡ true → n ≡ rowOf k .name
 
-named : (n : ℕ) → Named n (kindNamed n)
-unfolding kindNamed
-named n =
-    picks (Named n) (eqb n (packed 0 (nameText Header))) Header _ (λ t _. eqb-true n _ t)
-    (λ _. picks (Named n) (eqb n (packed 0 (nameText Title))) Title _ (λ t _. eqb-true n _ t)
-    (λ _. picks (Named n) (eqb n (packed 0 (nameText Compnd))) Compnd _ (λ t _. eqb-true n _ t)
-    (λ _. picks (Named n) (eqb n (packed 0 (nameText Source))) Source _ (λ t _. eqb-true n _ t)
-    (λ _. picks (Named n) (eqb n (packed 0 (nameText Keywds))) Keywds _ (λ t _. eqb-true n _ t)
-    (λ _. picks (Named n) (eqb n (packed 0 (nameText Expdta))) Expdta _ (λ t _. eqb-true n _ t)
-    (λ _. picks (Named n) (eqb n (packed 0 (nameText Author))) Author _ (λ t _. eqb-true n _ t)
-    (λ _. picks (Named n) (eqb n (packed 0 (nameText Revdat))) Revdat _ (λ t _. eqb-true n _ t)
-    (λ _. picks (Named n) (eqb n (packed 0 (nameText Jrnl))) Jrnl _ (λ t _. eqb-true n _ t)
-    (λ _. picks (Named n) (eqb n (packed 0 (nameText Remark))) Remark _ (λ t _. eqb-true n _ t)
-    (λ _. picks (Named n) (eqb n (packed 0 (nameText Seqres))) Seqres _ (λ t _. eqb-true n _ t)
-    (λ _. picks (Named n) (eqb n (packed 0 (nameText Het))) Het _ (λ t _. eqb-true n _ t)
-    (λ _. picks (Named n) (eqb n (packed 0 (nameText Helix))) Helix _ (λ t _. eqb-true n _ t)
-    (λ _. picks (Named n) (eqb n (packed 0 (nameText Sheet))) Sheet _ (λ t _. eqb-true n _ t)
-    (λ _. picks (Named n) (eqb n (packed 0 (nameText Cryst1))) Cryst1 _ (λ t _. eqb-true n _ t)
-    (λ _. picks (Named n) (eqb n (packed 0 (nameText Origx1))) Origx1 _ (λ t _. eqb-true n _ t)
-    (λ _. picks (Named n) (eqb n (packed 0 (nameText Origx2))) Origx2 _ (λ t _. eqb-true n _ t)
-    (λ _. picks (Named n) (eqb n (packed 0 (nameText Origx3))) Origx3 _ (λ t _. eqb-true n _ t)
-    (λ _. picks (Named n) (eqb n (packed 0 (nameText Scale1))) Scale1 _ (λ t _. eqb-true n _ t)
-    (λ _. picks (Named n) (eqb n (packed 0 (nameText Scale2))) Scale2 _ (λ t _. eqb-true n _ t)
-    (λ _. picks (Named n) (eqb n (packed 0 (nameText Scale3))) Scale3 _ (λ t _. eqb-true n _ t)
-    (λ _. picks (Named n) (eqb n (packed 0 (nameText Atom))) Atom _ (λ t _. eqb-true n _ t)
-    (λ _. picks (Named n) (eqb n (packed 0 (nameText Hetatm))) Hetatm _ (λ t _. eqb-true n _ t)
-    (λ _. picks (Named n) (eqb n (packed 0 (nameText Ter))) Ter _ (λ t _. eqb-true n _ t)
-    (λ _. picks (Named n) (eqb n (packed 0 (nameText Conect))) Conect _ (λ t _. eqb-true n _ t)
-    (λ _. picks (Named n) (eqb n (packed 0 (nameText Master))) Master _ (λ t _. eqb-true n _ t)
-    (λ _. picks (Named n) (eqb n (packed 0 (nameText End))) End _ (λ t _. eqb-true n _ t)
-    (λ _ known. absurd (known refl))))))))))))))))))))))))))))
+named : (n : ℕ) (ks : List Kind) → Named n (firstNamed n ks)
+named n [] = never
+named n (k ∷ ks) = picks (Named n) (eqb n (rowOf k .name)) k (firstNamed n ks) (λ t _. eqb-true n _ t) (λ _. named n ks)
 
-packed-text : (k : Kind) → bytesOf 6 (packed 0 (nameText k)) ≡ nameText k
+name-bytes : (v : ℕ) (k : Kind) → v ≡ rowOf k .name → bytesOf 6 v ≡ nameText k
 unfolding bytesOf
-packed-text Header = refl
-packed-text Title = refl
-packed-text Compnd = refl
-packed-text Source = refl
-packed-text Keywds = refl
-packed-text Expdta = refl
-packed-text Author = refl
-packed-text Revdat = refl
-packed-text Jrnl = refl
-packed-text Remark = refl
-packed-text Seqres = refl
-packed-text Het = refl
-packed-text Helix = refl
-packed-text Sheet = refl
-packed-text Cryst1 = refl
-packed-text Origx1 = refl
-packed-text Origx2 = refl
-packed-text Origx3 = refl
-packed-text Scale1 = refl
-packed-text Scale2 = refl
-packed-text Scale3 = refl
-packed-text Atom = refl
-packed-text Hetatm = refl
-packed-text Ter = refl
-packed-text Conect = refl
-packed-text Master = refl
-packed-text End = refl
-packed-text Unknown = refl
+name-bytes v k e = rw e
 
-pub name-first : (l : List ℕ) → 6 ≤ length l → cleanAt l 0 6 ≡ true → (k : Kind) → kindOf l ≡ k → (k ≡ Unknown → ⊥) → take 6 l ≡ nameText k
-unfolding kindOf
+pub name-first : (l : List ℕ) → 6 ≤ length l → cleanAt l 0 6 ≡ true → (k : Kind) → kindOf l ≡ k → isNamed k ≡ true → take 6 l ≡ nameText k
+unfolding kindOf kindNamed
 name-first l h c k e known =
-    let q : kindNamed (wordAt l 0 6) ≡ k = rw (le-ltb _ _ h) at e in
-    let n : wordAt l 0 6 ≡ packed 0 (nameText k) = rw q at (named (wordAt l 0 6)) known in
-    sym (word-kept l 0 6 h c .0) ∙ ap (bytesOf 6) n ∙ packed-text k
+    let q : firstNamed (wordAt l 0 6) kinds ≡ k = rw (le-ltb _ _ h) at e in
+    let n : wordAt l 0 6 ≡ rowOf k .name = rw q at (named (wordAt l 0 6) kinds) known in
+    sym (word-kept l 0 6 h c .0) ∙ name-bytes (wordAt l 0 6) k n
 
 -- ---- the kind that a name has
-long : (x : List ℕ) (k : Kind) → length (nameText k) ≡ 6 → 6 ≤ length (nameText k ++ x)
-long x k e = omega (arith, length-append (nameText k) x)
+-- every kind is in the list, and no two have one name
+pub kind-back : (k : Kind) → kindNamed (packed 0 (nameText k)) ≡ k
+unfolding kindNamed
+kind-back Header = refl
+kind-back Title = refl
+kind-back Compnd = refl
+kind-back Source = refl
+kind-back Keywds = refl
+kind-back Expdta = refl
+kind-back Author = refl
+kind-back Revdat = refl
+kind-back Jrnl = refl
+kind-back Remark = refl
+kind-back Seqres = refl
+kind-back Het = refl
+kind-back Helix = refl
+kind-back Sheet = refl
+kind-back Cryst1 = refl
+kind-back Origx1 = refl
+kind-back Origx2 = refl
+kind-back Origx3 = refl
+kind-back Scale1 = refl
+kind-back Scale2 = refl
+kind-back Scale3 = refl
+kind-back Atom = refl
+kind-back Hetatm = refl
+kind-back Ter = refl
+kind-back Conect = refl
+kind-back Master = refl
+kind-back End = refl
+kind-back Unknown = refl
 
 pub kind-first : (x : List ℕ) (k : Kind) → kindOf (nameText k ++ x) ≡ k
-unfolding kindOf wordAt kindNamed
-kind-first x Header = rw (le-ltb _ _ (long x Header refl))
-kind-first x Title = rw (le-ltb _ _ (long x Title refl))
-kind-first x Compnd = rw (le-ltb _ _ (long x Compnd refl))
-kind-first x Source = rw (le-ltb _ _ (long x Source refl))
-kind-first x Keywds = rw (le-ltb _ _ (long x Keywds refl))
-kind-first x Expdta = rw (le-ltb _ _ (long x Expdta refl))
-kind-first x Author = rw (le-ltb _ _ (long x Author refl))
-kind-first x Revdat = rw (le-ltb _ _ (long x Revdat refl))
-kind-first x Jrnl = rw (le-ltb _ _ (long x Jrnl refl))
-kind-first x Remark = rw (le-ltb _ _ (long x Remark refl))
-kind-first x Seqres = rw (le-ltb _ _ (long x Seqres refl))
-kind-first x Het = rw (le-ltb _ _ (long x Het refl))
-kind-first x Helix = rw (le-ltb _ _ (long x Helix refl))
-kind-first x Sheet = rw (le-ltb _ _ (long x Sheet refl))
-kind-first x Cryst1 = rw (le-ltb _ _ (long x Cryst1 refl))
-kind-first x Origx1 = rw (le-ltb _ _ (long x Origx1 refl))
-kind-first x Origx2 = rw (le-ltb _ _ (long x Origx2 refl))
-kind-first x Origx3 = rw (le-ltb _ _ (long x Origx3 refl))
-kind-first x Scale1 = rw (le-ltb _ _ (long x Scale1 refl))
-kind-first x Scale2 = rw (le-ltb _ _ (long x Scale2 refl))
-kind-first x Scale3 = rw (le-ltb _ _ (long x Scale3 refl))
-kind-first x Atom = rw (le-ltb _ _ (long x Atom refl))
-kind-first x Hetatm = rw (le-ltb _ _ (long x Hetatm refl))
-kind-first x Ter = rw (le-ltb _ _ (long x Ter refl))
-kind-first x Conect = rw (le-ltb _ _ (long x Conect refl))
-kind-first x Master = rw (le-ltb _ _ (long x Master refl))
-kind-first x End = rw (le-ltb _ _ (long x End refl))
-kind-first x Unknown = rw (le-ltb _ _ (long x Unknown refl))
+unfolding kindOf wordAt
+kind-first x k =
+    let h : 6 ≤ length (nameText k ++ x) = omega (arith, length-append (nameText k) x) in
+    rw (le-ltb _ _ h) (kind-back k)
+
+-- ---- laws of every kind
+-- two kinds with one name are one
+pub same-name : (a k : Kind) → rowOf a .name ≡ rowOf k .name → a ≡ k
+same-name a k e = sym (kind-back a) ∙ ap (λ v. kindNamed (packed 0 (unpacked 6 v []))) e ∙ kind-back k
+
+-- a test that is computed of the list and of the unknown kind holds of every kind
+abbrev pub all : (Kind → Bool) → List Kind → Bool
+all t [] = t Unknown
+all t (k ∷ ks) = t k && all t ks
+
+all-first : (t : Kind → Bool) (n : ℕ) (ks : List Kind) → T (all t ks) → T (t (firstNamed n ks))
+all-first t n [] h = h
+all-first t n (k ∷ ks) h =
+    let x = and-yes (t k) (all t ks) h in
+    picks (λ (r : Kind). T (t r)) (eqb n (rowOf k .name)) k (firstNamed n ks) (λ _. x .0) (λ _. all-first t n ks (x .1))
+
+pub each : (t : Kind → Bool) → T (all t kinds) → (k : Kind) → T (t k)
+unfolding kindNamed
+each t h k = subst (λ (r : Kind). T (t r)) (kind-back k) (all-first t (packed 0 (nameText k)) kinds h)

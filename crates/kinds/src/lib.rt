@@ -1,6 +1,7 @@
-// The kinds of line, by their names in columns 1 to 6.
+// The kinds of line, by their names in columns 1 to 6: one table of all that the rules say of each.
+ghost use mathlib.Core.Bool.{true, false};
 ghost use mathlib.Core.Path.{_≡_};
-ghost use Rattle.kinds.specs.Kinds.{kindNamed, kindOf};
+ghost use Rattle.kinds.specs.Kinds.{rowWith, rowOf, isNamed, kindNamed, kindOf};
 
 pub enum Kind {
     Header,
@@ -31,6 +32,22 @@ pub enum Kind {
     Master,
     End,
     Unknown,
+}
+
+// What the rules say of a kind.
+pub struct Row {
+    // Its name as one number.
+    pub name: u64,
+    // It may follow the places low to high, and is itself the place here.
+    pub low: u8,
+    pub high: u8,
+    pub here: u8,
+    // Which of the nine counts of MASTER it is counted in, 0 for none.
+    pub count: u8,
+    // Its columns 7-80 are read.
+    pub typed: bool,
+    // It has a slot.
+    pub slot: bool,
 }
 
 // Each name as one number: its six bytes to the base 256.
@@ -87,6 +104,95 @@ pub const CONECT: u64 = 0x434f4e454354;
 pub const MASTER: u64 = 0x4d4153544552;
 
 pub const END: u64 = 0x454e44202020;
+
+// Columns 7-80 are free.
+fn carried(name: u64, low: u8, high: u8, here: u8, count: u8) -> Row
+    ensures { λ r. ⌜ r ≡ rowWith false false name low high here count ⌝ }
+{
+    Row {
+        name: name,
+        low: low,
+        high: high,
+        here: here,
+        count: count,
+        typed: false,
+        slot: false,
+    }
+}
+
+// Columns 7-80 are read.
+fn typed(name: u64, low: u8, high: u8, here: u8, count: u8) -> Row
+    ensures { λ r. ⌜ r ≡ rowWith true false name low high here count ⌝ }
+{
+    Row {
+        name: name,
+        low: low,
+        high: high,
+        here: here,
+        count: count,
+        typed: true,
+        slot: false,
+    }
+}
+
+// They are read, and the line has a slot.
+fn slotted(name: u64, low: u8, high: u8, here: u8, count: u8) -> Row
+    ensures { λ r. ⌜ r ≡ rowWith true true name low high here count ⌝ }
+{
+    Row {
+        name: name,
+        low: low,
+        high: high,
+        here: here,
+        count: count,
+        typed: true,
+        slot: true,
+    }
+}
+
+// What the rules say of a kind: its name, the places that it may follow, its own place, and its count.
+pub fn row_of(k: Kind) -> Row
+    ensures { λ r. ⌜ r ≡ rowOf k ⌝ }
+{
+    match k {
+        Kind::Header => carried(HEADER, 0, 0, 1, 0),
+        Kind::Title => carried(TITLE, 1, 2, 2, 0),
+        Kind::Compnd => carried(COMPND, 1, 3, 3, 0),
+        Kind::Source => carried(SOURCE, 1, 4, 4, 0),
+        Kind::Keywds => carried(KEYWDS, 1, 5, 5, 0),
+        Kind::Expdta => carried(EXPDTA, 1, 6, 6, 0),
+        Kind::Author => carried(AUTHOR, 1, 7, 7, 0),
+        Kind::Revdat => carried(REVDAT, 1, 8, 8, 0),
+        Kind::Jrnl => carried(JRNL, 1, 9, 9, 0),
+        Kind::Remark => carried(REMARK, 1, 10, 10, 1),
+        Kind::Seqres => carried(SEQRES, 1, 11, 11, 9),
+        Kind::Het => carried(HET, 1, 12, 12, 2),
+        Kind::Helix => typed(HELIX, 1, 13, 13, 3),
+        Kind::Sheet => typed(SHEET, 1, 14, 14, 4),
+        Kind::Cryst1 => carried(CRYST1, 1, 14, 15, 0),
+        Kind::Origx1 => carried(ORIGX1, 1, 15, 22, 5),
+        Kind::Origx2 => carried(ORIGX2, 22, 22, 23, 5),
+        Kind::Origx3 => carried(ORIGX3, 23, 23, 16, 5),
+        Kind::Scale1 => carried(SCALE1, 1, 16, 24, 5),
+        Kind::Scale2 => carried(SCALE2, 24, 24, 25, 5),
+        Kind::Scale3 => carried(SCALE3, 25, 25, 17, 5),
+        Kind::Atom => slotted(ATOM, 1, 18, 18, 6),
+        Kind::Hetatm => slotted(HETATM, 1, 18, 18, 6),
+        Kind::Ter => slotted(TER, 1, 18, 18, 7),
+        Kind::Conect => typed(CONECT, 1, 19, 19, 8),
+        Kind::Master => typed(MASTER, 1, 19, 20, 0),
+        Kind::End => typed(END, 20, 20, 21, 0),
+        Kind::Unknown => carried(0, 1, 0, 0, 0),
+    }
+}
+
+// A kind that has a place: not an unknown name.
+pub fn is_named(k: Kind) -> bool
+    ensures { λ r. ⌜ r ≡ isNamed k ⌝ }
+{
+    let r = row_of(k);
+    0 < r.here
+}
 
 // The kind of line that has the name n.
 pub fn kind_named(n: u64) -> Kind

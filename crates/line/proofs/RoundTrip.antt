@@ -1,6 +1,6 @@
 -- The two round trips, over all eight typed kinds.
 -- Assumes nothing.
-use mathlib.Core.Path.{_≡_, refl, _∙_}
+use mathlib.Core.Path.{_≡_, refl, sym, _∙_}
 use mathlib.Core.List.{List, _++_}
 use mathlib.Core.Bool.{true, false}
 use Prim.Native.Nat.{ℕ, _≤_}
@@ -15,9 +15,9 @@ use Rattle.columns.proofs.Spans.{clean-cols, clean-fewer}
 use Rattle.fields.specs.Format.{Format, writeNumber, writeLine}
 use Rattle.fields.proofs.Formats.{Lawful, none-lawful, after-lawful, line-kept, line-back, line-clean, line-long}
 use Rattle.kinds.specs.declared.Kind.{Kind}
-use Rattle.kinds.specs.declared.Kind.the-variants.{Header, Title, Compnd, Source, Keywds, Expdta, Author, Revdat, Jrnl, Remark, Seqres, Het, Helix, Sheet, Cryst1, Origx1, Origx2, Origx3, Scale1, Scale2, Scale3, Atom, Hetatm, Ter, Conect, Master, End, Unknown}
-use Rattle.kinds.specs.Kinds.{nameText, kindOf}
-use Rattle.kinds.proofs.First.{name-first, kind-first}
+use Rattle.kinds.specs.declared.Kind.the-variants.{Atom, Hetatm, Ter, Helix, Sheet, Conect, Master, End}
+use Rattle.kinds.specs.Kinds.{rowOf, nameText, is, isNamed, kindOf}
+use Rattle.kinds.proofs.First.{name-first, kind-first, same-name}
 use Rattle.coordinate.specs.Atoms.{atomF}
 use Rattle.coordinate.proofs.Laws.{atom-lawful}
 use Rattle.ter.specs.Ters.{terF}
@@ -63,37 +63,20 @@ kept-judged F f w k n wrap line ok l h first =
 
 kept-reading : (l : List ℕ) → length l ≡ 80 → cleanAt l 0 80 ≡ true → (k : Kind) → kindOf l ≡ k → Kept l (readingOf k l)
 unfolding readingOf
-kept-reading l h c k e = go k (name-first l (omega arith) (clean-fewer l 0 6 80 (omega arith) c) k e)
+kept-reading l h c k e =
+    picks (Kept l) (is Atom k) _ _ (λ t. kept-judged atomF atom-lawful refl Atom refl (rec.Coordinate false) (λ a. refl) (λ a. refl) l h (first Atom refl t))
+    (λ _. picks (Kept l) (is Hetatm k) _ _ (λ t. kept-judged atomF atom-lawful refl Hetatm refl (rec.Coordinate true) (λ a. refl) (λ a. refl) l h (first Hetatm refl t))
+    (λ _. picks (Kept l) (is Ter k) _ _ (λ t. kept-judged terF ter-lawful refl Ter refl rec.Ter (λ a. refl) (λ a. refl) l h (first Ter refl t))
+    (λ _. picks (Kept l) (is Helix k) _ _ (λ t. kept-judged helixF helix-lawful refl Helix refl rec.Helix (λ a. refl) (λ a. refl) l h (first Helix refl t))
+    (λ _. picks (Kept l) (is Sheet k) _ _ (λ t. kept-judged sheetF sheet-lawful refl Sheet refl rec.Sheet (λ a. refl) (λ a. refl) l h (first Sheet refl t))
+    (λ _. picks (Kept l) (is Conect k) _ _ (λ t. kept-judged conectF conect-lawful refl Conect refl rec.Conect (λ a. refl) (λ a. refl) l h (first Conect refl t))
+    (λ _. picks (Kept l) (is Master k) _ _ (λ t. kept-judged masterF master-lawful refl Master refl rec.Master (λ a. refl) (λ a. refl) l h (first Master refl t))
+    (λ _. picks (Kept l) (is End k) _ _ (λ t. kept-judged endF end-lawful refl End refl (λ a. rec.End) (λ a. refl) (λ a. refl) l h (first End refl t))
+    (λ _. kept-untyped l))))))))
   where
-    go : (k : Kind) → ((k ≡ Unknown → ⊥) → take 6 l ≡ nameText k) → Kept l (readingOf k l)
-    go Atom first = kept-judged atomF atom-lawful refl Atom refl (rec.Coordinate false) (λ a. refl) (λ a. refl) l h (first (λ q. let z : _≡_ {A = ℕ} 0 1 = cc in omega arith))
-    go Hetatm first = kept-judged atomF atom-lawful refl Hetatm refl (rec.Coordinate true) (λ a. refl) (λ a. refl) l h (first (λ q. let z : _≡_ {A = ℕ} 0 1 = cc in omega arith))
-    go Ter first = kept-judged terF ter-lawful refl Ter refl rec.Ter (λ a. refl) (λ a. refl) l h (first (λ q. let z : _≡_ {A = ℕ} 0 1 = cc in omega arith))
-    go Helix first = kept-judged helixF helix-lawful refl Helix refl rec.Helix (λ a. refl) (λ a. refl) l h (first (λ q. let z : _≡_ {A = ℕ} 0 1 = cc in omega arith))
-    go Sheet first = kept-judged sheetF sheet-lawful refl Sheet refl rec.Sheet (λ a. refl) (λ a. refl) l h (first (λ q. let z : _≡_ {A = ℕ} 0 1 = cc in omega arith))
-    go Conect first = kept-judged conectF conect-lawful refl Conect refl rec.Conect (λ a. refl) (λ a. refl) l h (first (λ q. let z : _≡_ {A = ℕ} 0 1 = cc in omega arith))
-    go Master first = kept-judged masterF master-lawful refl Master refl rec.Master (λ a. refl) (λ a. refl) l h (first (λ q. let z : _≡_ {A = ℕ} 0 1 = cc in omega arith))
-    go End first = kept-judged endF end-lawful refl End refl (λ a. rec.End) (λ a. refl) (λ a. refl) l h (first (λ q. let z : _≡_ {A = ℕ} 0 1 = cc in omega arith))
-    go Header first = kept-untyped l
-    go Title first = kept-untyped l
-    go Compnd first = kept-untyped l
-    go Source first = kept-untyped l
-    go Keywds first = kept-untyped l
-    go Expdta first = kept-untyped l
-    go Author first = kept-untyped l
-    go Revdat first = kept-untyped l
-    go Jrnl first = kept-untyped l
-    go Remark first = kept-untyped l
-    go Seqres first = kept-untyped l
-    go Het first = kept-untyped l
-    go Cryst1 first = kept-untyped l
-    go Origx1 first = kept-untyped l
-    go Origx2 first = kept-untyped l
-    go Origx3 first = kept-untyped l
-    go Scale1 first = kept-untyped l
-    go Scale2 first = kept-untyped l
-    go Scale3 first = kept-untyped l
-    go Unknown first = kept-untyped l
+    first : (a : Kind) → isNamed a ≡ true → is a k ≡ true → take 6 l ≡ nameText a
+    first a known t =
+        name-first l (omega arith) (clean-fewer l 0 6 80 (omega arith) c) a (e ∙ sym (same-name a k (eqb-true (rowOf a .name) (rowOf k .name) t))) known
 
 kept-answer : (l : List ℕ) (x : Reading) → Kept l x → (r : Record) → answerOf x ≡ Read r → (recordLine r ≡ l) × (recordOk r ≡ true)
 kept-answer l (Typed y) f r e = f r (cc)

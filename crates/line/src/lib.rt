@@ -9,12 +9,12 @@ use ter::Ter;
 ghost use mathlib.Core.Path.{_≡_};
 ghost use lib.ListN.{length};
 ghost use Rattle.fields.specs.Format.{writeNumber, writeLine};
-ghost use Rattle.coordinate.specs.Atoms.{atomFault, atomValue};
-ghost use Rattle.ter.specs.Ters.{terFault, terValue};
-ghost use Rattle.helix.specs.Helices.{helixFault, helixValue};
-ghost use Rattle.sheet.specs.Sheets.{sheetFault, sheetValue};
-ghost use Rattle.conect.specs.Conects.{conectFault, conectValue};
-ghost use Rattle.master.specs.Masters.{masterFault, masterValue};
+ghost use Rattle.coordinate.specs.Atoms.{atomF};
+ghost use Rattle.ter.specs.Ters.{terF};
+ghost use Rattle.helix.specs.Helices.{helixF};
+ghost use Rattle.sheet.specs.Sheets.{sheetF};
+ghost use Rattle.conect.specs.Conects.{conectF};
+ghost use Rattle.master.specs.Masters.{masterF};
 ghost use Rattle.line.specs.declared.Record.the-variants as rec;
 ghost use Rattle.line.specs.Lines.{endF, judged, readingOf, answerOf, readLine, recordOk, recordLine};
 
@@ -103,7 +103,7 @@ fn answered(r: Reading) -> Answer
 
 fn read_coordinate(line: &[u8], het: bool) -> Reading
     requires { ⌜ length (now line) ≡ 80 ⌝ }
-    ensures { λ r. ⌜ r ≡ judged (atomFault (now (line .entry)) 6) (rec.Coordinate het (atomValue (now (line .entry)) 6)) ⌝ }
+    ensures { λ r. ⌜ r ≡ judged (atomF .fault (now (line .entry)) 6) (rec.Coordinate het (atomF .value (now (line .entry)) 6)) ⌝ }
 {
     let r = coordinate::read_atom(line);
     let value = r.value;
@@ -116,7 +116,7 @@ fn read_coordinate(line: &[u8], het: bool) -> Reading
 
 fn read_ter(line: &[u8]) -> Reading
     requires { ⌜ length (now line) ≡ 80 ⌝ }
-    ensures { λ r. ⌜ r ≡ judged (terFault (now (line .entry)) 6) (rec.Ter (terValue (now (line .entry)) 6)) ⌝ }
+    ensures { λ r. ⌜ r ≡ judged (terF .fault (now (line .entry)) 6) (rec.Ter (terF .value (now (line .entry)) 6)) ⌝ }
 {
     let r = ter::read_ter(line);
     let value = r.value;
@@ -129,7 +129,7 @@ fn read_ter(line: &[u8]) -> Reading
 
 fn read_helix(line: &[u8]) -> Reading
     requires { ⌜ length (now line) ≡ 80 ⌝ }
-    ensures { λ r. ⌜ r ≡ judged (helixFault (now (line .entry)) 6) (rec.Helix (helixValue (now (line .entry)) 6)) ⌝ }
+    ensures { λ r. ⌜ r ≡ judged (helixF .fault (now (line .entry)) 6) (rec.Helix (helixF .value (now (line .entry)) 6)) ⌝ }
 {
     let r = helix::read_helix(line);
     let value = r.value;
@@ -142,7 +142,7 @@ fn read_helix(line: &[u8]) -> Reading
 
 fn read_sheet(line: &[u8]) -> Reading
     requires { ⌜ length (now line) ≡ 80 ⌝ }
-    ensures { λ r. ⌜ r ≡ judged (sheetFault (now (line .entry)) 6) (rec.Sheet (sheetValue (now (line .entry)) 6)) ⌝ }
+    ensures { λ r. ⌜ r ≡ judged (sheetF .fault (now (line .entry)) 6) (rec.Sheet (sheetF .value (now (line .entry)) 6)) ⌝ }
 {
     let r = sheet::read_sheet(line);
     let value = r.value;
@@ -155,7 +155,7 @@ fn read_sheet(line: &[u8]) -> Reading
 
 fn read_conect(line: &[u8]) -> Reading
     requires { ⌜ length (now line) ≡ 80 ⌝ }
-    ensures { λ r. ⌜ r ≡ judged (conectFault (now (line .entry)) 6) (rec.Conect (conectValue (now (line .entry)) 6)) ⌝ }
+    ensures { λ r. ⌜ r ≡ judged (conectF .fault (now (line .entry)) 6) (rec.Conect (conectF .value (now (line .entry)) 6)) ⌝ }
 {
     let r = conect::read_conect(line);
     let value = r.value;
@@ -168,7 +168,7 @@ fn read_conect(line: &[u8]) -> Reading
 
 fn read_master(line: &[u8]) -> Reading
     requires { ⌜ length (now line) ≡ 80 ⌝ }
-    ensures { λ r. ⌜ r ≡ judged (masterFault (now (line .entry)) 6) (rec.Master (masterValue (now (line .entry)) 6)) ⌝ }
+    ensures { λ r. ⌜ r ≡ judged (masterF .fault (now (line .entry)) 6) (rec.Master (masterF .value (now (line .entry)) 6)) ⌝ }
 {
     let r = master::read_master(line);
     let value = r.value;

@@ -5,7 +5,7 @@ use mathlib.Core.Path.{_≡_, sym, _∙_}
 use lib.Dec.{leb}
 use Rattle.ascii.specs.Tests.{both}
 use Rattle.pieces.specs.declared.Line.{Line}
-use Rattle.rows.specs.Text.{isCoord}
+use Rattle.facets.specs.Facets.{isCoord}
 use Rattle.slots.specs.declared.Slot.{Slot}
 use Rattle.slots.specs.Slots.{markAside, lineSlot, sameSlot}
 use Rattle.table.specs.Table.{fits}

@@ -20,7 +20,7 @@ pub fn one_of(l: Line) -> usize
     ensures { λ r. ⌜ r ≡ oneOf l ⌝ }
     ensures { λ r. ⌜ r ≤ 1 ⌝ }
 {
-    if rows::is_coord(l) {
+    if facets::is_coord(l) {
         return 1;
     }
     0

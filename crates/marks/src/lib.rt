@@ -8,17 +8,18 @@ use slots::Slot;
 ghost use mathlib.Core.Path.{_≡_};
 ghost use mathlib.Core.Bool.{not};
 ghost use lib.Dec.{eqb};
-ghost use Rattle.slots.specs.Slots.{SmallLine, markAside};
+ghost use Rattle.facets.specs.Facets.{spotIn};
+ghost use Rattle.slots.specs.Slots.{SmallSpot, markAside};
 ghost use Rattle.table.specs.Table.{fits as fitsOf, markByte};
 
 // Whether a slot fits a line.
 pub fn fits(s: Slot, l: Line) -> bool
-    requires { ⌜ SmallLine l ⌝ }
+    requires { ⌜ SmallSpot (spotIn l) ⌝ }
     ensures { λ r. ⌜ r ≡ fitsOf s l ⌝ }
 {
-    if rows::is_coord(l) {
+    if facets::is_coord(l) {
         let q = slots::same_slot(s, slots::line_slot(l));
-        return ascii::both_of(s.mark <= 1, q);
+        return ascii::both_of(s.mark <= slots::MARK_ASIDE, q);
     }
     true
 }
@@ -27,7 +28,7 @@ pub fn fits(s: Slot, l: Line) -> bool
 pub fn is_kept(s: Slot) -> bool
     ensures { λ r. ⌜ r ≡ not (eqb (s .mark) markAside) ⌝ }
 {
-    let e = s.mark == 1;
+    let e = s.mark == slots::MARK_ASIDE;
     !e
 }
 
@@ -36,7 +37,7 @@ pub fn mark_byte(aside: bool) -> u8
     ensures { λ r. ⌜ r ≡ markByte aside ⌝ }
 {
     if aside {
-        return 1;
+        return slots::MARK_ASIDE;
     }
-    0
+    slots::MARK_IN
 }

@@ -4,7 +4,9 @@ ghost use Prim.Native.Nat.{_≤_};
 ghost use lib.ListN.{length};
 ghost use Rattle.columns.specs.Columns.{Put};
 ghost use Rattle.fields.specs.Format.{writeNumber, writeLine};
-ghost use Rattle.master.specs.Masters.{notesAt, notesOk, notesText, shapeAt, shapeOk, shapeText, atomsAt, atomsOk, atomsText, masterAt, masterOk, masterLine};
+ghost use Rattle.kinds.specs.Kinds.{lineWith};
+ghost use Rattle.kinds.specs.declared.Kind.the-variants as kind;
+ghost use Rattle.master.specs.Masters.{notesF, shapeF, atomsF, masterF};
 
 // The nine counts of an entry: what MASTER holds.
 #[repr(C)]
@@ -64,12 +66,12 @@ pub struct ReadMaster {
 // Columns 11 to 30: REMARK, 0, HET, HELIX.
 fn read_notes(line: &[u8]) -> ReadNotes
     requires { ⌜ length (now line) ≡ 80 ⌝ }
-    ensures { λ r. ⌜ r ≡ notesAt (now (line .entry)) 10 ⌝ }
+    ensures { λ r. ⌜ (r .column ≡ notesF .fault (now (line .entry)) 10) × (r .value ≡ notesF .value (now (line .entry)) 10) ⌝ }
 {
-    let remark = fields::read_whole(line, 10, 5, 0, 0, 99999);
-    let z = fields::read_whole(line, 15, 5, 0, 0, 0);
-    let het = fields::read_whole(line, 20, 5, 0, 0, 99999);
-    let helix = fields::read_whole(line, 25, 5, 0, 0, 99999);
+    let remark = fields::read_whole(line, 10, 5, 0, 99999);
+    let z = fields::read_whole(line, 15, 5, 0, 0);
+    let het = fields::read_whole(line, 20, 5, 0, 99999);
+    let helix = fields::read_whole(line, 25, 5, 0, 99999);
     let column = columns::first(
         remark.column,
         columns::first(z.column, columns::first(het.column, helix.column)),
@@ -87,12 +89,12 @@ fn read_notes(line: &[u8]) -> ReadNotes
 // Columns 31 to 50: SHEET, 0 for turns, 0 for sites, ORIGX with SCALE.
 fn read_shape(line: &[u8]) -> ReadShape
     requires { ⌜ length (now line) ≡ 80 ⌝ }
-    ensures { λ r. ⌜ r ≡ shapeAt (now (line .entry)) 30 ⌝ }
+    ensures { λ r. ⌜ (r .column ≡ shapeF .fault (now (line .entry)) 30) × (r .value ≡ shapeF .value (now (line .entry)) 30) ⌝ }
 {
-    let sheet = fields::read_whole(line, 30, 5, 0, 0, 99999);
-    let turns = fields::read_whole(line, 35, 5, 0, 0, 0);
-    let sites = fields::read_whole(line, 40, 5, 0, 0, 0);
-    let xform = fields::read_whole(line, 45, 5, 0, 0, 99999);
+    let sheet = fields::read_whole(line, 30, 5, 0, 99999);
+    let turns = fields::read_whole(line, 35, 5, 0, 0);
+    let sites = fields::read_whole(line, 40, 5, 0, 0);
+    let xform = fields::read_whole(line, 45, 5, 0, 99999);
     let column = columns::first(
         sheet.column,
         columns::first(turns.column, columns::first(sites.column, xform.column)),
@@ -109,12 +111,12 @@ fn read_shape(line: &[u8]) -> ReadShape
 // Columns 51 to 70: ATOM with HETATM, TER, CONECT, SEQRES.
 fn read_atoms(line: &[u8]) -> ReadAtoms
     requires { ⌜ length (now line) ≡ 80 ⌝ }
-    ensures { λ r. ⌜ r ≡ atomsAt (now (line .entry)) 50 ⌝ }
+    ensures { λ r. ⌜ (r .column ≡ atomsF .fault (now (line .entry)) 50) × (r .value ≡ atomsF .value (now (line .entry)) 50) ⌝ }
 {
-    let coord = fields::read_whole(line, 50, 5, 0, 0, 99999);
-    let ter = fields::read_whole(line, 55, 5, 0, 0, 99999);
-    let conect = fields::read_whole(line, 60, 5, 0, 0, 99999);
-    let seq = fields::read_whole(line, 65, 5, 0, 0, 99999);
+    let coord = fields::read_whole(line, 50, 5, 0, 99999);
+    let ter = fields::read_whole(line, 55, 5, 0, 99999);
+    let conect = fields::read_whole(line, 60, 5, 0, 99999);
+    let seq = fields::read_whole(line, 65, 5, 0, 99999);
     let column = columns::first(
         coord.column,
         columns::first(ter.column, columns::first(conect.column, seq.column)),
@@ -132,7 +134,7 @@ fn read_atoms(line: &[u8]) -> ReadAtoms
 
 pub fn read_master(line: &[u8]) -> ReadMaster
     requires { ⌜ length (now line) ≡ 80 ⌝ }
-    ensures { λ r. ⌜ r ≡ masterAt (now (line .entry)) ⌝ }
+    ensures { λ r. ⌜ (r .column ≡ masterF .fault (now (line .entry)) 6) × (r .value ≡ masterF .value (now (line .entry)) 6) ⌝ }
 {
     let a = columns::gap(line, 6, 4);
     let notes = read_notes(line);
@@ -164,7 +166,7 @@ pub fn read_master(line: &[u8]) -> ReadMaster
 }
 
 fn notes_are_good(n: Notes) -> bool
-    ensures { λ r. ⌜ r ≡ notesOk n ⌝ }
+    ensures { λ r. ⌜ r ≡ notesF .ok n ⌝ }
 {
     let remark = fields::ranged(n.remark, 0, 99999);
     let het = fields::ranged(n.het, 0, 99999);
@@ -173,7 +175,7 @@ fn notes_are_good(n: Notes) -> bool
 }
 
 fn shape_is_good(s: Shape) -> bool
-    ensures { λ r. ⌜ r ≡ shapeOk s ⌝ }
+    ensures { λ r. ⌜ r ≡ shapeF .ok s ⌝ }
 {
     let sheet = fields::ranged(s.sheet, 0, 99999);
     let xform = fields::ranged(s.xform, 0, 99999);
@@ -181,7 +183,7 @@ fn shape_is_good(s: Shape) -> bool
 }
 
 fn atoms_are_good(a: Atoms) -> bool
-    ensures { λ r. ⌜ r ≡ atomsOk a ⌝ }
+    ensures { λ r. ⌜ r ≡ atomsF .ok a ⌝ }
 {
     let coord = fields::ranged(a.coord, 0, 99999);
     let ter = fields::ranged(a.ter, 0, 99999);
@@ -191,7 +193,7 @@ fn atoms_are_good(a: Atoms) -> bool
 }
 
 pub fn is_good(t: Tally) -> bool
-    ensures { λ r. ⌜ r ≡ masterOk t ⌝ }
+    ensures { λ r. ⌜ r ≡ masterF .ok t ⌝ }
 {
     let notes = notes_are_good(Notes {
         remark: t.remark,
@@ -213,37 +215,37 @@ pub fn is_good(t: Tally) -> bool
 
 fn put_notes(line: &mut [u8], n: Notes)
     requires { ⌜ 80 ≤ length (now line) ⌝ }
-    ensures { λ _. ⌜ Put (now (line .entry)) 10 20 (notesText n) (now (line .exit)) ⌝ }
+    ensures { λ _. ⌜ Put (now (line .entry)) 10 20 (notesF .text n) (now (line .exit)) ⌝ }
 {
-    fields::put_whole(line, 10, 5, 0, n.remark);
-    fields::put_whole(line, 15, 5, 0, 0);
-    fields::put_whole(line, 20, 5, 0, n.het);
-    fields::put_whole(line, 25, 5, 0, n.helix);
+    fields::put_whole(line, 10, 5, n.remark);
+    fields::put_whole(line, 15, 5, 0);
+    fields::put_whole(line, 20, 5, n.het);
+    fields::put_whole(line, 25, 5, n.helix);
 }
 
 fn put_shape(line: &mut [u8], s: Shape)
     requires { ⌜ 80 ≤ length (now line) ⌝ }
-    ensures { λ _. ⌜ Put (now (line .entry)) 30 20 (shapeText s) (now (line .exit)) ⌝ }
+    ensures { λ _. ⌜ Put (now (line .entry)) 30 20 (shapeF .text s) (now (line .exit)) ⌝ }
 {
-    fields::put_whole(line, 30, 5, 0, s.sheet);
-    fields::put_whole(line, 35, 5, 0, 0);
-    fields::put_whole(line, 40, 5, 0, 0);
-    fields::put_whole(line, 45, 5, 0, s.xform);
+    fields::put_whole(line, 30, 5, s.sheet);
+    fields::put_whole(line, 35, 5, 0);
+    fields::put_whole(line, 40, 5, 0);
+    fields::put_whole(line, 45, 5, s.xform);
 }
 
 fn put_atoms(line: &mut [u8], a: Atoms)
     requires { ⌜ 80 ≤ length (now line) ⌝ }
-    ensures { λ _. ⌜ Put (now (line .entry)) 50 20 (atomsText a) (now (line .exit)) ⌝ }
+    ensures { λ _. ⌜ Put (now (line .entry)) 50 20 (atomsF .text a) (now (line .exit)) ⌝ }
 {
-    fields::put_whole(line, 50, 5, 0, a.coord);
-    fields::put_whole(line, 55, 5, 0, a.ter);
-    fields::put_whole(line, 60, 5, 0, a.conect);
-    fields::put_whole(line, 65, 5, 0, a.seq);
+    fields::put_whole(line, 50, 5, a.coord);
+    fields::put_whole(line, 55, 5, a.ter);
+    fields::put_whole(line, 60, 5, a.conect);
+    fields::put_whole(line, 65, 5, a.seq);
 }
 
 fn put_master(line: &mut [u8], t: Tally)
     requires { ⌜ 80 ≤ length (now line) ⌝ }
-    ensures { λ _. ⌜ Put (now (line .entry)) 0 80 (masterLine t) (now (line .exit)) ⌝ }
+    ensures { λ _. ⌜ Put (now (line .entry)) 0 80 (lineWith kind.Master masterF t) (now (line .exit)) ⌝ }
 {
     words::put_word(line, 0, 6, kinds::MASTER);
     columns::put_blanks(line, 6, 4);
@@ -276,7 +278,7 @@ fn put_master(line: &mut [u8], t: Tally)
 
 // Writes the line, 80 bytes: 0; or leaves all as found: 6 where a field is out of its range, 17 where there is no room.
 pub fn write_master(line: &mut [u8], t: Tally) -> u8
-    ensures { λ r. ⌜ (r ≡ writeNumber (masterOk t) (now (line .entry))) × (now (line .exit) ≡ writeLine (masterOk t) (masterLine t) (now (line .entry))) ⌝ }
+    ensures { λ r. ⌜ (r ≡ writeNumber (masterF .ok t) (now (line .entry))) × (now (line .exit) ≡ writeLine (masterF .ok t) (lineWith kind.Master masterF t) (now (line .entry))) ⌝ }
 {
     let ok = is_good(t);
     if ok {

@@ -1,15 +1,7 @@
 -- Names: bytes of certain classes, alone or a few together.
-use Prim.Native.Nat.{ℕ, _+_}
-use mathlib.Core.List.{List, [], _∷_}
-use mathlib.Core.Bool.{Bool}
-use lib.ListN.{getD}
-use lib.Dec.{eqb}
-use Rattle.ascii.specs.Bytes.{byte}
-use Rattle.ascii.specs.Tests.{both, either, same, between, isUpper, isCode}
+use Rattle.ascii.specs.Library.{ℕ, _+_, List, [], _∷_, Bool, getD, eqb, byte, both, either, same, between, isUpper, isCode}
 use Rattle.fields.specs.Format.{Format, rawF}
-use Rattle.names.specs.declared.Pair.{Pair}
-use Rattle.names.specs.declared.Three.{Three}
-use Rattle.names.specs.declared.Four.{Four}
+use Rattle.names.specs.declared.{Pair.Pair, Three.Three, Four.Four}
 
 -- ---- two, three, four columns
 abbrev pub pairAt : List ℕ → ℕ → Pair

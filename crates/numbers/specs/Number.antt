@@ -1,14 +1,8 @@
 -- Numbers in columns. A number stands in n columns from index `at`, right-justified: blanks, perhaps a minus, digits,
 -- and where it has decimals a point and those digits.
-use Prim.Native.Nat.{ℕ, zero, suc, _+_, _*_, _-_, _/_, _%_}
-use mathlib.Core.List.{List, [], _∷_, _++_}
-use mathlib.Core.Bool.{Bool, true, false}
-use lib.ListN.{getD}
-use lib.Dec.{ltb, eqb}
-use Rattle.ascii.specs.Bytes.{byte}
-use Rattle.ascii.specs.Tests.{pick, isDigit}
+use Rattle.ascii.specs.Library.{ℕ, zero, suc, _+_, _*_, _-_, _/_, _%_, List, [], _∷_, _++_, Bool, true, false, getD, ltb, eqb, byte, pick, isDigit}
 use Rattle.columns.specs.Columns.{gapOf, blanks}
-use Rattle.numbers.specs.declared.Number.{Number}
+use Rattle.numbers.specs.declared.{Number.Number}
 
 -- whether the last of n columns is a digit
 unfoldable pub endsDigit : List ℕ → ℕ → ℕ → Bool

@@ -1,13 +1,6 @@
 -- How the code reads a number from the left. (Nothing here says what a number is: `Number` does, and the two agree.)
-use Prim.Native.Nat.{ℕ, zero, suc, _+_, _*_, _-_, _/_, _%_}
-use mathlib.Core.List.{List}
-use mathlib.Core.Bool.{Bool, true, false}
-use lib.ListN.{getD}
-use lib.Dec.{eqb}
-use Rattle.numbers.specs.declared.Number.{Number}
-use Rattle.numbers.specs.declared.Scan.{Scan}
-use Rattle.ascii.specs.Bytes.{byte}
-use Rattle.ascii.specs.Tests.{pick, both, isDigit}
+use Rattle.ascii.specs.Library.{ℕ, zero, suc, _+_, _*_, _-_, _/_, _%_, List, Bool, true, false, getD, eqb, byte, pick, both, isDigit}
+use Rattle.numbers.specs.declared.{Number.Number, Scan.Scan}
 use Rattle.numbers.specs.Number.{none}
 
 -- what a byte counts as a digit

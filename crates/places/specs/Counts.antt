@@ -1,43 +1,13 @@
 -- The nine counts of MASTER.
-use Prim.Native.Nat.{ℕ, _+_}
-use mathlib.Core.Bool.{Bool}
-use lib.Dec.{eqb}
-use Rattle.ascii.specs.Tests.{pick, both}
-use Rattle.kinds.specs.declared.Kind.{Kind}
-use Rattle.kinds.specs.declared.Kind.the-variants.{Header, Title, Compnd, Source, Keywds, Expdta, Author, Revdat, Jrnl, Remark, Seqres, Het, Helix, Sheet, Cryst1, Origx1, Origx2, Origx3, Scale1, Scale2, Scale3, Atom, Hetatm, Ter, Conect, Master, End, Unknown}
-use Rattle.master.specs.declared.Tally.{Tally}
-use Rattle.places.specs.declared.Counts.{Counts}
+use Rattle.ascii.specs.Library.{ℕ, _+_, Bool, eqb, pick, both}
+use Rattle.kinds.specs.declared.{Kind.Kind}
+use Rattle.kinds.specs.Kinds.{rowOf}
+use Rattle.master.specs.declared.{Tally.Tally}
+use Rattle.places.specs.declared.{Counts.Counts}
 
 -- which of the nine counts a kind is counted in, 0 for none
 abbrev pub countOf : Kind → ℕ
-countOf Header = 0
-countOf Title = 0
-countOf Compnd = 0
-countOf Source = 0
-countOf Keywds = 0
-countOf Expdta = 0
-countOf Author = 0
-countOf Revdat = 0
-countOf Jrnl = 0
-countOf Remark = 1
-countOf Seqres = 9
-countOf Het = 2
-countOf Helix = 3
-countOf Sheet = 4
-countOf Cryst1 = 0
-countOf Origx1 = 5
-countOf Origx2 = 5
-countOf Origx3 = 5
-countOf Scale1 = 5
-countOf Scale2 = 5
-countOf Scale3 = 5
-countOf Atom = 6
-countOf Hetatm = 6
-countOf Ter = 7
-countOf Conect = 8
-countOf Master = 0
-countOf End = 0
-countOf Unknown = 0
+countOf k = rowOf k .count
 
 -- before the first line
 abbrev pub noCounts : Counts

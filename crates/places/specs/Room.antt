@@ -1,6 +1,6 @@
 -- Counts that one more line cannot carry past a number of 64 bits.
-use Prim.Native.Nat.{_<_}
-use Rattle.places.specs.declared.Counts.{Counts}
+use Rattle.ascii.specs.Library.{_<_}
+use Rattle.places.specs.declared.{Counts.Counts}
 
 pub record Room (c : Counts) : Type 0 where
   pub remark : c .remark < 9223372036854775808

@@ -12,36 +12,8 @@ ghost use Rattle.places.specs.Room.{Room};
 pub fn count_of(k: Kind) -> u8
     ensures { λ r. ⌜ r ≡ countOf k ⌝ }
 {
-    match k {
-        Kind::Header => 0,
-        Kind::Title => 0,
-        Kind::Compnd => 0,
-        Kind::Source => 0,
-        Kind::Keywds => 0,
-        Kind::Expdta => 0,
-        Kind::Author => 0,
-        Kind::Revdat => 0,
-        Kind::Jrnl => 0,
-        Kind::Remark => 1,
-        Kind::Seqres => 9,
-        Kind::Het => 2,
-        Kind::Helix => 3,
-        Kind::Sheet => 4,
-        Kind::Cryst1 => 0,
-        Kind::Origx1 => 5,
-        Kind::Origx2 => 5,
-        Kind::Origx3 => 5,
-        Kind::Scale1 => 5,
-        Kind::Scale2 => 5,
-        Kind::Scale3 => 5,
-        Kind::Atom => 6,
-        Kind::Hetatm => 6,
-        Kind::Ter => 7,
-        Kind::Conect => 8,
-        Kind::Master => 0,
-        Kind::End => 0,
-        Kind::Unknown => 0,
-    }
+    let r = kinds::row_of(k);
+    r.count
 }
 
 // Before the first line.

@@ -7,14 +7,6 @@ pub use counting::no_counts;
 pub use counting::raise;
 pub use counting::same_counts;
 pub use order::place_bad;
-pub use order::place_of;
-
-// A kind may follow the places low to high, and is itself the place here.
-pub struct Place {
-    pub low: u8,
-    pub high: u8,
-    pub here: u8,
-}
 
 // The nine counts of MASTER, without the limit of its columns.
 pub struct Counts {

@@ -1,11 +1,7 @@
 -- What the report program answers for its input.
-use Prim.Native.Nat.{ℕ}
-use mathlib.Core.List.{List}
-use lib.Dec.{ltb}
-use lib.ListN.{length}
-use Rattle.ascii.specs.Tests.{pick}
+use Rattle.ascii.specs.Library.{ℕ, List, ltb, length, pick}
 use Rattle.places.specs.Counts.{noCounts}
-use Rattle.gate.specs.declared.Verdict.{Verdict}
+use Rattle.gate.specs.declared.{Verdict.Verdict}
 use Rattle.gate.specs.Gate.{checkOf}
 
 -- 809 lines

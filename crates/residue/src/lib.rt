@@ -5,7 +5,7 @@ ghost use mathlib.Core.Path.{_≡_};
 ghost use Prim.Native.Nat.{_+_, _≤_, _<_};
 ghost use lib.ListN.{length};
 ghost use Rattle.columns.specs.Columns.{Put};
-ghost use Rattle.residue.specs.Residues.{noResidue, sameResidue, residueOk, residueText, residueAt};
+ghost use Rattle.residue.specs.Residues.{noResidue, sameResidue, residueF};
 
 pub struct Residue {
     pub name: Three,
@@ -46,7 +46,7 @@ pub fn same_residue(a: Residue, b: Residue) -> bool
 
 pub fn read_residue(line: &[u8], at: usize, gap: usize) -> ReadResidue
     requires { ⌜ (at + (10 + gap) ≤ length (now line)) × (at + (10 + gap) ≤ 80) ⌝ }
-    ensures { λ r. ⌜ r ≡ residueAt gap (now (line .entry)) at ⌝ }
+    ensures { λ r. ⌜ (r .column ≡ residueF gap .fault (now (line .entry)) at) × (r .value ≡ residueF gap .value (now (line .entry)) at) ⌝ }
 {
     let p = at + 3;
     let q = p + 1;
@@ -55,7 +55,7 @@ pub fn read_residue(line: &[u8], at: usize, gap: usize) -> ReadResidue
     let t = s + 4;
     let name = names::read_three(line, at);
     let chain = line[q];
-    let number = fields::read_integer(line, s, 4, 0);
+    let number = fields::read_integer(line, s, 4);
     let insertion = line[t];
     let k = columns::judged(names::is_residue(name), at);
     let g = columns::gap(line, p, 1);
@@ -82,7 +82,7 @@ pub fn read_residue(line: &[u8], at: usize, gap: usize) -> ReadResidue
 
 // Whether each field of a residue is within its range.
 pub fn is_good(r: Residue) -> bool
-    ensures { λ t. ⌜ t ≡ residueOk r ⌝ }
+    ensures { λ t. ⌜ t ≡ residueF 0 .ok r ⌝ }
 {
     let name = r.name;
     let number = r.number;
@@ -95,7 +95,7 @@ pub fn is_good(r: Residue) -> bool
 
 pub fn put_residue(line: &mut [u8], at: usize, gap: usize, r: Residue)
     requires { ⌜ at + (10 + gap) ≤ length (now line) ⌝ }
-    ensures { λ _. ⌜ Put (now (line .entry)) at (10 + gap) (residueText gap r) (now (line .exit)) ⌝ }
+    ensures { λ _. ⌜ Put (now (line .entry)) at (10 + gap) (residueF gap .text r) (now (line .exit)) ⌝ }
 {
     let name = r.name;
     let number = r.number;
@@ -108,6 +108,6 @@ pub fn put_residue(line: &mut [u8], at: usize, gap: usize, r: Residue)
     columns::put_blanks(line, p, 1);
     columns::put_one(line, q, r.chain);
     columns::put_blanks(line, u, gap);
-    fields::put_integer(line, s, 4, 0, number.0);
+    fields::put_integer(line, s, 4, number.0);
     columns::put_one(line, t, r.insertion);
 }

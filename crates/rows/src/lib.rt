@@ -1,10 +1,9 @@
 // A text and its lines.
-use line::Record;
 use pieces::Line;
 ghost use mathlib.Core.Path.{_≡_};
 ghost use Prim.Native.Nat.{_*_, _≤_};
 ghost use lib.ListN.{length};
-ghost use Rattle.rows.specs.Text.{row, isSpot, isCoord};
+ghost use Rattle.rows.specs.Text.{row};
 
 // The line with index i.
 pub fn line_at(text: &[u8], i: usize) -> Line
@@ -19,23 +18,4 @@ pub fn line_at(text: &[u8], i: usize) -> Line
         let e = at + 81;
         pieces::line_of(&text[at..e])
     }
-}
-
-fn is_spot(r: Record) -> bool
-    ensures { λ b. ⌜ b ≡ isSpot r ⌝ }
-{
-    match r {
-        Record::Coordinate(_, _) | Record::Ter(_) => true,
-        _ => false,
-    }
-}
-
-// Whether the line is an ATOM, HETATM or TER line.
-pub fn is_coord(l: Line) -> bool
-    ensures { λ b. ⌜ b ≡ isCoord l ⌝ }
-{
-    if let Line::Typed(r) = l {
-        return is_spot(r);
-    }
-    false
 }

@@ -7,9 +7,11 @@ use Rattle.ascii.specs.Tests.{pick}
 use Rattle.kinds.specs.declared.Kind.{Kind}
 use Rattle.line.specs.declared.Record.{Record}
 use Rattle.pieces.specs.declared.Line.the-variants.{Wrong, Carried, Typed}
+use Rattle.rules.specs.declared.Looked.{Looked}
 use Rattle.rules.specs.declared.State.{State}
 use Rattle.places.specs.Places.{placeBad}
-use Rattle.rules.specs.Rules.{recordKind, serialBad, runBad, bondBad, unfinished, foldBad, countBad, typedBad, judgeOf}
+use Rattle.facets.specs.Facets.{recordKind, spotOf, bondOf, foldOf, totalOf}
+use Rattle.rules.specs.Rules.{serialBad, runBad, bondBad, unfinished, foldBad, countBad, typedBad, judgeOf}
 
 -- a choice of a number above 0 and a rest is 0 exactly if the test says no and the rest is 0
 pub pick-no : (b : Bool) (n m : ℕ) → 0 < n → pick b n m ≡ 0 → b ≡ false
@@ -21,49 +23,49 @@ pick-rest true n m h e = absurd (omega arith)
 pick-rest false n m h e = e
 
 -- ---- typed lines
-pub record Good (known : Bool) (s : State) (r : Record) : Type 0 where
+pub record Good (look : Looked) (s : State) (r : Record) : Type 0 where
   pub place : placeBad (s .place) (recordKind r) ≡ false
-  pub serial : serialBad (s .last) r ≡ false
-  pub run : runBad (s .run) r ≡ false
-  pub bond : bondBad known (s .bond) r ≡ false
-  pub fold : foldBad (s .helix) (s .ladder) r ≡ false
-  pub count : countBad (s .counts) r ≡ false
+  pub serial : serialBad (s .last) (spotOf r) ≡ false
+  pub run : runBad (s .run) (spotOf r) ≡ false
+  pub bond : bondBad (look .known) (s .bond) (bondOf r) ≡ false
+  pub fold : foldBad (s .helix) (s .ladder) (foldOf r) ≡ false
+  pub count : countBad (s .counts) (totalOf r) ≡ false
 
-pub typed-good : (known : Bool) (s : State) (r : Record) → typedBad known s r ≡ 0 → Good known s r
+pub typed-good : (look : Looked) (s : State) (r : Record) → typedBad look s r ≡ 0 → Good look s r
 unfolding typedBad
-typed-good known s r e5 =
+typed-good look s r e5 =
     let e7 = pick-rest (placeBad (s .place) (recordKind r)) 5 _ (omega arith) e5 in
-    let e8 = pick-rest (serialBad (s .last) r) 7 _ (omega arith) e7 in
-    let e9 = pick-rest (runBad (s .run) r) 8 _ (omega arith) e8 in
-    let e10 = pick-rest (bondBad known (s .bond) r) 9 _ (omega arith) e9 in
-    let e11 = pick-rest (foldBad (s .helix) (s .ladder) r) 10 _ (omega arith) e10 in
+    let e8 = pick-rest (serialBad (s .last) (spotOf r)) 7 _ (omega arith) e7 in
+    let e9 = pick-rest (runBad (s .run) (spotOf r)) 8 _ (omega arith) e8 in
+    let e10 = pick-rest (bondBad (look .known) (s .bond) (bondOf r)) 9 _ (omega arith) e9 in
+    let e11 = pick-rest (foldBad (s .helix) (s .ladder) (foldOf r)) 10 _ (omega arith) e10 in
     record {
       place = pick-no (placeBad (s .place) (recordKind r)) 5 _ (omega arith) e5;
-      serial = pick-no (serialBad (s .last) r) 7 _ (omega arith) e7;
-      run = pick-no (runBad (s .run) r) 8 _ (omega arith) e8;
-      bond = pick-no (bondBad known (s .bond) r) 9 _ (omega arith) e9;
-      fold = pick-no (foldBad (s .helix) (s .ladder) r) 10 _ (omega arith) e10;
-      count = pick-no (countBad (s .counts) r) 11 _ (omega arith) e11;
+      serial = pick-no (serialBad (s .last) (spotOf r)) 7 _ (omega arith) e7;
+      run = pick-no (runBad (s .run) (spotOf r)) 8 _ (omega arith) e8;
+      bond = pick-no (bondBad (look .known) (s .bond) (bondOf r)) 9 _ (omega arith) e9;
+      fold = pick-no (foldBad (s .helix) (s .ladder) (foldOf r)) 10 _ (omega arith) e10;
+      count = pick-no (countBad (s .counts) (totalOf r)) 11 _ (omega arith) e11;
     }
 
-pub good-typed : (known : Bool) (s : State) (r : Record) → Good known s r → typedBad known s r ≡ 0
+pub good-typed : (look : Looked) (s : State) (r : Record) → Good look s r → typedBad look s r ≡ 0
 unfolding typedBad
-good-typed known s r g = rw (g .place, g .serial, g .run, g .bond, g .fold, g .count)
+good-typed look s r g = rw (g .place, g .serial, g .run, g .bond, g .fold, g .count)
 
 -- ---- any line
-pub judge-typed : (known : Bool) (s : State) (r : Record) → judgeOf known s (Typed r) ≡ 0 → Good known s r
+pub judge-typed : (look : Looked) (s : State) (r : Record) → judgeOf look s (Typed r) ≡ 0 → Good look s r
 unfolding judgeOf
-judge-typed known s r e = typed-good known s r e
+judge-typed look s r e = typed-good look s r e
 
-pub judge-carried : (known : Bool) (s : State) (k : Kind) → judgeOf known s (Carried k) ≡ 0 → (placeBad (s .place) k ≡ false) × (unfinished (s .ladder) ≡ false)
+pub judge-carried : (look : Looked) (s : State) (k : Kind) → judgeOf look s (Carried k) ≡ 0 → (placeBad (s .place) k ≡ false) × (unfinished (s .ladder) ≡ false)
 unfolding judgeOf
-judge-carried known s k e = (
+judge-carried look s k e = (
   pick-no (placeBad (s .place) k) 5 _ (omega arith) e,
   pick-no (unfinished (s .ladder)) 10 _ (omega arith) (pick-rest (placeBad (s .place) k) 5 _ (omega arith) e),
 )
 
-pub judge-wrong : (known : Bool) (s : State) (k : Kind) (column : ℕ) → judgeOf known s (Wrong k column) ≡ 0 → ⊥
+pub judge-wrong : (look : Looked) (s : State) (k : Kind) (column : ℕ) → judgeOf look s (Wrong k column) ≡ 0 → ⊥
 unfolding judgeOf
-judge-wrong known s k column e =
+judge-wrong look s k column e =
     let z : _≡_ {A = ℕ} 6 0 = pick-rest (placeBad (s .place) k) 5 6 (omega arith) e in
     omega arith

@@ -1,62 +1,31 @@
 -- The rules between lines: a line is judged against what the good lines before it left.
-use Prim.Native.Nat.{ℕ, _+_}
-use mathlib.Core.Bool.{Bool, true, false, not}
-use lib.Dec.{ltb, leb, eqb}
-use Rattle.ascii.specs.Tests.{pick, both, either}
+use Rattle.ascii.specs.Library.{ℕ, _+_, Bool, true, false, not, ltb, leb, eqb, pick, both, either}
 use Rattle.names.specs.Names.{sameThree}
-use Rattle.residue.specs.declared.Residue.{Residue}
+use Rattle.residue.specs.declared.{Residue.Residue}
 use Rattle.residue.specs.Residues.{noResidue, sameResidue}
-use Rattle.coordinate.specs.Atoms.{coordinateKind}
-use Rattle.sheet.specs.declared.Strand.{Strand}
-use Rattle.kinds.specs.declared.Kind.{Kind}
-use Rattle.kinds.specs.declared.Kind.the-variants as kind
-use Rattle.line.specs.declared.Record.{Record}
-use Rattle.line.specs.declared.Record.the-variants.{Coordinate, Ter, Helix, Sheet, Conect, Master, End}
-use Rattle.pieces.specs.declared.Line.{Line}
-use Rattle.pieces.specs.declared.Line.the-variants.{Bad, Wrong, Carried, Typed}
-use Rattle.places.specs.declared.Counts.{Counts}
-use Rattle.places.specs.Places.{placeOf, placeBad}
+use Rattle.sheet.specs.declared.{Strand.Strand}
+use Rattle.kinds.specs.declared.{Kind.Kind}
+use Rattle.kinds.specs.Kinds.{rowOf}
+use Rattle.line.specs.declared.{Record.Record}
+use Rattle.pieces.specs.declared.{Line.Line, Line.the-variants.Bad, Line.the-variants.Wrong, Line.the-variants.Carried, Line.the-variants.Typed}
+use Rattle.places.specs.declared.{Counts.Counts}
+use Rattle.places.specs.Places.{placeBad}
 use Rattle.places.specs.Counts.{countOf, noCounts, raised, sameCounts}
-use Rattle.rules.specs.declared.Run.{Run}
-use Rattle.rules.specs.declared.Ladder.{Ladder}
-use Rattle.rules.specs.declared.State.{State}
-
--- the kind of a record's line
-abbrev pub recordKind : Record → Kind
-recordKind (Coordinate het a) = coordinateKind het
-recordKind (Ter t) = kind.Ter
-recordKind (Helix h) = kind.Helix
-recordKind (Sheet s) = kind.Sheet
-recordKind (Conect c) = kind.Conect
-recordKind (Master t) = kind.Master
-recordKind End = kind.End
-
--- the kind of a line; a piece that is refused by itself has none
-abbrev pub lineKind : Line → Kind
-lineKind (Bad n) = kind.Unknown
-lineKind (Wrong k column) = k
-lineKind (Carried k) = k
-lineKind (Typed r) = recordKind r
+use Rattle.facets.specs.declared.{Spot.Spot, Spot.the-variants.Site, Spot.the-variants.Close, Spot.the-variants.Nowhere, Bond.Bond, Bond.the-variants.Bonds, Bond.the-variants.Loose, Fold.Fold, Fold.the-variants.Turn, Fold.the-variants.Rung, Fold.the-variants.Plain, Total.Total, Total.the-variants.Counted, Total.the-variants.Uncounted}
+use Rattle.facets.specs.Facets.{recordKind, spotOf, bondOf, foldOf, totalOf}
+use Rattle.rules.specs.declared.{Looked.Looked, Run.Run, Ladder.Ladder, State.State}
 
 -- ---- 7: serials rise strictly over ATOM, HETATM and TER together
-abbrev pub serialBad : ℕ → Record → Bool
-serialBad last (Coordinate het a) = leb (a .identity .serial .0) last
-serialBad last (Ter t) = leb (t .serial .0) last
-serialBad last (Helix h) = false
-serialBad last (Sheet s) = false
-serialBad last (Conect c) = false
-serialBad last (Master t) = false
-serialBad last End = false
+abbrev pub serialBad : ℕ → Spot → Bool
+serialBad last (Site het a) = leb (a .identity .serial .0) last
+serialBad last (Close t) = leb (t .serial .0) last
+serialBad last Nowhere = false
 
 -- the last serial is that of the last such line
-abbrev pub lastNext : ℕ → Record → ℕ
-lastNext last (Coordinate het a) = a .identity .serial .0
-lastNext last (Ter t) = t .serial .0
-lastNext last (Helix h) = last
-lastNext last (Sheet s) = last
-lastNext last (Conect c) = last
-lastNext last (Master t) = last
-lastNext last End = last
+abbrev pub lastNext : ℕ → Spot → ℕ
+lastNext last (Site het a) = a .identity .serial .0
+lastNext last (Close t) = t .serial .0
+lastNext last Nowhere = last
 
 -- ---- 8: a run is the coordinate lines since the last TER
 -- a run without a line
@@ -81,14 +50,10 @@ unfoldable pub closeBad : Run → Residue → Bool
 closeBad r residue = not (both (r .atom) (sameResidue residue (r .residue)))
 
 -- a run that holds an ATOM is closed before any other kind of line
-abbrev pub runBad : Run → Record → Bool
-runBad r (Coordinate het a) = siteBad r het (a .identity .residue .chain)
-runBad r (Ter t) = closeBad r (t .residue)
-runBad r (Helix h) = r .atom
-runBad r (Sheet s) = r .atom
-runBad r (Conect c) = r .atom
-runBad r (Master t) = r .atom
-runBad r End = r .atom
+abbrev pub runBad : Run → Spot → Bool
+runBad r (Site het a) = siteBad r het (a .identity .residue .chain)
+runBad r (Close t) = closeBad r (t .residue)
+runBad r Nowhere = r .atom
 
 -- a run with one line more: whether all its lines have one chain, whether it holds an ATOM, and the residue of its last line
 unfoldable pub siteNext : Run → Bool → Residue → Run
@@ -101,34 +66,20 @@ siteNext r het residue =
     }
 
 -- TER leaves an empty run
-abbrev pub runNext : Run → Record → Run
-runNext r (Coordinate het a) = siteNext r het (a .identity .residue)
-runNext r (Ter t) = noRun
-runNext r (Helix h) = r
-runNext r (Sheet s) = r
-runNext r (Conect c) = r
-runNext r (Master t) = r
-runNext r End = r
+abbrev pub runNext : Run → Spot → Run
+runNext r (Site het a) = siteNext r het (a .identity .residue)
+runNext r (Close t) = noRun
+runNext r Nowhere = r
 
 -- ---- 9: CONECT serials do not fall, and each number on the line is the serial of an atom (known)
-abbrev pub bondBad : Bool → ℕ → Record → Bool
-bondBad known last (Coordinate het a) = false
-bondBad known last (Ter t) = false
-bondBad known last (Helix h) = false
-bondBad known last (Sheet s) = false
-bondBad known last (Conect c) = either (not known) (ltb (c .serial .0) last)
-bondBad known last (Master t) = false
-bondBad known last End = false
+abbrev pub bondBad : Bool → ℕ → Bond → Bool
+bondBad known last (Bonds c) = either (not known) (ltb (c .serial .0) last)
+bondBad known last Loose = false
 
 -- the last CONECT serial
-abbrev pub bondNext : ℕ → Record → ℕ
-bondNext last (Coordinate het a) = last
-bondNext last (Ter t) = last
-bondNext last (Helix h) = last
-bondNext last (Sheet s) = last
-bondNext last (Conect c) = c .serial .0
-bondNext last (Master t) = last
-bondNext last End = last
+abbrev pub bondNext : ℕ → Bond → ℕ
+bondNext last (Bonds c) = c .serial .0
+bondNext last Loose = last
 
 -- ---- 10: helix serials are 1, 2, 3, ..; a sheet is strands 1 to n
 -- the sheet of the last SHEET line has strands to come
@@ -148,61 +99,44 @@ strandBad d s =
     (either (not (eqb (s .strand) 1)) (both (ltb 0 (d .strands)) (sameThree (s .id) (d .id))))
 
 -- every kind but SHEET starts only after the last strand
-abbrev pub foldBad : ℕ → Ladder → Record → Bool
-foldBad helix d (Coordinate het a) = unfinished d
-foldBad helix d (Ter t) = unfinished d
-foldBad helix d (Helix h) = either (unfinished d) (not (eqb (h .extent .serial) (helix + 1)))
-foldBad helix d (Sheet s) = strandBad d (s .strand)
-foldBad helix d (Conect c) = unfinished d
-foldBad helix d (Master t) = unfinished d
-foldBad helix d End = unfinished d
+abbrev pub foldBad : ℕ → Ladder → Fold → Bool
+foldBad helix d (Turn serial) = either (unfinished d) (not (eqb serial (helix + 1)))
+foldBad helix d (Rung s) = strandBad d s
+foldBad helix d Plain = unfinished d
 
 -- the last helix serial
-abbrev pub helixNext : ℕ → Record → ℕ
-helixNext helix (Coordinate het a) = helix
-helixNext helix (Ter t) = helix
-helixNext helix (Helix h) = h .extent .serial
-helixNext helix (Sheet s) = helix
-helixNext helix (Conect c) = helix
-helixNext helix (Master t) = helix
-helixNext helix End = helix
+abbrev pub helixNext : ℕ → Fold → ℕ
+helixNext helix (Turn serial) = serial
+helixNext helix (Rung s) = helix
+helixNext helix Plain = helix
 
 -- the last SHEET line
-abbrev pub ladderNext : Ladder → Record → Ladder
-ladderNext d (Coordinate het a) = d
-ladderNext d (Ter t) = d
-ladderNext d (Helix h) = d
-ladderNext d (Sheet s) = record { id = s .strand .id; strand = s .strand .strand; strands = s .strand .strands }
-ladderNext d (Conect c) = d
-ladderNext d (Master t) = d
-ladderNext d End = d
+abbrev pub ladderNext : Ladder → Fold → Ladder
+ladderNext d (Turn serial) = d
+ladderNext d (Rung s) = record { id = s .id; strand = s .strand; strands = s .strands }
+ladderNext d Plain = d
 
 -- ---- 11: MASTER holds the true counts
-abbrev pub countBad : Counts → Record → Bool
-countBad n (Coordinate het a) = false
-countBad n (Ter t) = false
-countBad n (Helix h) = false
-countBad n (Sheet s) = false
-countBad n (Conect c) = false
-countBad n (Master t) = not (sameCounts t n)
-countBad n End = false
+abbrev pub countBad : Counts → Total → Bool
+countBad n (Counted t) = not (sameCounts t n)
+countBad n Uncounted = false
 
 -- ---- the lowest number of a typed line, 0 where it is good
-unfoldable pub typedBad : Bool → State → Record → ℕ
-typedBad known s r =
+unfoldable pub typedBad : Looked → State → Record → ℕ
+typedBad look s r =
     pick (placeBad (s .place) (recordKind r)) 5
-    (pick (serialBad (s .last) r) 7
-    (pick (runBad (s .run) r) 8
-    (pick (bondBad known (s .bond) r) 9
-    (pick (foldBad (s .helix) (s .ladder) r) 10
-    (pick (countBad (s .counts) r) 11 0)))))
+    (pick (serialBad (s .last) (spotOf r)) 7
+    (pick (runBad (s .run) (spotOf r)) 8
+    (pick (bondBad (look .known) (s .bond) (bondOf r)) 9
+    (pick (foldBad (s .helix) (s .ladder) (foldOf r)) 10
+    (pick (countBad (s .counts) (totalOf r)) 11 0)))))
 
--- the number of any line: known says whether each number on a CONECT line is the serial of an atom before it
-unfoldable pub judgeOf : Bool → State → Line → ℕ
-judgeOf known s (Bad n) = n
-judgeOf known s (Wrong k column) = pick (placeBad (s .place) k) 5 6
-judgeOf known s (Carried k) = pick (placeBad (s .place) k) 5 (pick (unfinished (s .ladder)) 10 0)
-judgeOf known s (Typed r) = typedBad known s r
+-- the number of any line, and what a look back over the lines before it said
+unfoldable pub judgeOf : Looked → State → Line → ℕ
+judgeOf look s (Bad n) = n
+judgeOf look s (Wrong k column) = pick (placeBad (s .place) k) 5 6
+judgeOf look s (Carried k) = pick (placeBad (s .place) k) 5 (pick (unfinished (s .ladder)) 10 0)
+judgeOf look s (Typed r) = typedBad look s r
 
 -- ---- what a good line leaves
 -- before the first line
@@ -213,7 +147,7 @@ startOf = record { place = 0; last = 0; run = noRun; bond = 0; helix = 0; ladder
 unfoldable pub carriedNext : State → Kind → State
 carriedNext s k =
     record {
-      place = placeOf k .here;
+      place = rowOf k .here;
       last = s .last;
       run = s .run;
       bond = s .bond;
@@ -227,12 +161,12 @@ carriedNext s k =
 unfoldable pub typedNext : State → Record → State
 typedNext s r =
     record {
-      place = placeOf (recordKind r) .here;
-      last = lastNext (s .last) r;
-      run = runNext (s .run) r;
-      bond = bondNext (s .bond) r;
-      helix = helixNext (s .helix) r;
-      ladder = ladderNext (s .ladder) r;
+      place = rowOf (recordKind r) .here;
+      last = lastNext (s .last) (spotOf r);
+      run = runNext (s .run) (spotOf r);
+      bond = bondNext (s .bond) (bondOf r);
+      helix = helixNext (s .helix) (foldOf r);
+      ladder = ladderNext (s .ladder) (foldOf r);
       counts = raised (s .counts) (countOf (recordKind r));
       lines = s .lines + 1;
     }

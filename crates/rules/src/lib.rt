@@ -27,7 +27,7 @@ ghost use Prim.Native.Nat.{_<_};
 ghost use Rattle.ascii.specs.Tests.{pick};
 ghost use Rattle.places.specs.Places.{placeBad};
 ghost use Rattle.places.specs.Room.{Room};
-ghost use Rattle.rules.specs.Rules.{recordKind, unfinished as unfinishedOf, typedBad, judgeOf, startOf, carriedNext, typedNext, nextOf};
+ghost use Rattle.rules.specs.Rules.{unfinished as unfinishedOf, typedBad, judgeOf, startOf, carriedNext, typedNext, nextOf};
 
 // The coordinate lines since the last TER: whether there is one, whether all have one chain, whether one is an ATOM, and the last one's residue.
 pub struct Run {
@@ -42,6 +42,11 @@ pub struct Ladder {
     pub id: Three,
     pub strand: u32,
     pub strands: u32,
+}
+
+// What a look back over the lines before a line says: each number on a CONECT line is the serial of an atom.
+pub struct Looked {
+    pub known: bool,
 }
 
 // What the good lines so far leave to judge the next by.
@@ -60,39 +65,24 @@ pub struct State {
     pub lines: u64,
 }
 
-// The kind of a record's line.
-pub fn record_kind(r: Record) -> Kind
-    ensures { λ k. ⌜ k ≡ recordKind r ⌝ }
-{
-    match r {
-        Record::Coordinate(het, _) => {
-            if het {
-                return Kind::Hetatm;
-            }
-            Kind::Atom
-        }
-        Record::Ter(_) => Kind::Ter,
-        Record::Helix(_) => Kind::Helix,
-        Record::Sheet(_) => Kind::Sheet,
-        Record::Conect(_) => Kind::Conect,
-        Record::Master(_) => Kind::Master,
-        Record::End => Kind::End,
-    }
-}
-
 // The lowest number of a typed line, 0 where it is good. It goes from the highest number to the lowest with no branch.
-fn typed_bad(known: bool, s: State, r: Record) -> u8
-    ensures { λ n. ⌜ n ≡ typedBad known s r ⌝ }
+fn typed_bad(look: Looked, s: State, r: Record) -> u8
+    ensures { λ n. ⌜ n ≡ typedBad look s r ⌝ }
 {
     let run = s.run;
     let ladder = s.ladder;
     let counts = s.counts;
-    let n11 = choose(count_bad(counts, r), 11, 0);
-    let n10 = choose(fold_bad(s.helix, ladder, r), 10, n11);
-    let n9 = choose(bond_bad(known, s.bond, r), 9, n10);
-    let n8 = choose(run_bad(run, r), 8, n9);
-    let n7 = choose(serial_bad(s.last, r), 7, n8);
-    choose(places::place_bad(s.place, record_kind(r)), 5, n7)
+    let spot = facets::spot_of(r);
+    let bond = facets::bond_of(r);
+    let fold = facets::fold_of(r);
+    let total = facets::total_of(r);
+    let k = facets::record_kind(r);
+    let n11 = choose(count_bad(counts, total), 11, 0);
+    let n10 = choose(fold_bad(s.helix, ladder, fold), 10, n11);
+    let n9 = choose(bond_bad(look.known, s.bond, bond), 9, n10);
+    let n8 = choose(run_bad(run, spot), 8, n9);
+    let n7 = choose(serial_bad(s.last, spot), 7, n8);
+    choose(places::place_bad(s.place, k), 5, n7)
 }
 
 fn carried_bad(s: State, k: Kind) -> u8
@@ -103,15 +93,15 @@ fn carried_bad(s: State, k: Kind) -> u8
     choose(places::place_bad(s.place, k), 5, n10)
 }
 
-// The number of a line, 0 where it is good. known: each number on a CONECT line is the serial of an atom before it.
-pub fn judge(known: bool, s: State, l: Line) -> u8
-    ensures { λ n. ⌜ n ≡ judgeOf known s l ⌝ }
+// The number of a line, 0 where it is good.
+pub fn judge(look: Looked, s: State, l: Line) -> u8
+    ensures { λ n. ⌜ n ≡ judgeOf look s l ⌝ }
 {
     match l {
         Line::Bad(n) => n,
         Line::Wrong(k, _) => choose(places::place_bad(s.place, k), 5, 6),
         Line::Carried(k) => carried_bad(s, k),
-        Line::Typed(r) => typed_bad(known, s, r),
+        Line::Typed(r) => typed_bad(look, s, r),
     }
 }
 
@@ -144,10 +134,10 @@ fn carried_next(s: State, k: Kind) -> State
     let run = s.run;
     let ladder = s.ladder;
     let counts = s.counts;
-    let p = places::place_of(k);
-    let c = places::raise(counts, places::count_of(k));
+    let row = kinds::row_of(k);
+    let c = places::raise(counts, row.count);
     State {
-        place: p.here,
+        place: row.here,
         last: s.last,
         run: run,
         bond: s.bond,
@@ -166,16 +156,19 @@ fn typed_next(s: State, r: Record) -> State
     let run = s.run;
     let ladder = s.ladder;
     let counts = s.counts;
-    let k = record_kind(r);
-    let p = places::place_of(k);
-    let last = last_next(s.last, r);
-    let u = run_next(run, r);
-    let bond = bond_next(s.bond, r);
-    let helix = helix_next(s.helix, r);
-    let d = ladder_next(ladder, r);
-    let c = places::raise(counts, places::count_of(k));
+    let k = facets::record_kind(r);
+    let spot = facets::spot_of(r);
+    let tie = facets::bond_of(r);
+    let fold = facets::fold_of(r);
+    let row = kinds::row_of(k);
+    let last = last_next(s.last, spot);
+    let u = run_next(run, spot);
+    let bond = bond_next(s.bond, tie);
+    let helix = helix_next(s.helix, fold);
+    let d = ladder_next(ladder, fold);
+    let c = places::raise(counts, row.count);
     State {
-        place: p.here,
+        place: row.here,
         last: last,
         run: u,
         bond: bond,

@@ -4,20 +4,21 @@ use super::Run;
 use ascii::both_of;
 use ascii::either_of;
 use ascii::not_of;
-use line::Record;
+use facets::Bond;
+use facets::Fold;
+use facets::Spot;
 use residue::Residue;
 ghost use mathlib.Core.Path.{_≡_};
 ghost use Rattle.rules.specs.Rules.{lastNext, noRun, siteNext, runNext, bondNext, helixNext, ladderNext};
 
-pub fn last_next(last: u32, r: Record) -> u32
-    ensures { λ n. ⌜ n ≡ lastNext last r ⌝ }
+pub fn last_next(last: u32, p: Spot) -> u32
+    ensures { λ n. ⌜ n ≡ lastNext last p ⌝ }
 {
-    match r {
-        Record::Coordinate(_, a) => return a.identity.serial.0,
-        Record::Ter(t) => return t.serial.0,
-        _ => (),
+    match p {
+        Spot::Site(_, a) => a.identity.serial.0,
+        Spot::Close(t) => t.serial.0,
+        Spot::Nowhere => last,
     }
-    last
 }
 
 pub fn no_run() -> Run
@@ -46,45 +47,48 @@ fn site_next(r: Run, het: bool, residue: Residue) -> Run
     }
 }
 
-pub fn run_next(u: Run, r: Record) -> Run
-    ensures { λ b. ⌜ b ≡ runNext u r ⌝ }
+pub fn run_next(u: Run, p: Spot) -> Run
+    ensures { λ b. ⌜ b ≡ runNext u p ⌝ }
 {
-    match r {
-        Record::Coordinate(het, a) => return site_next(u, het, a.identity.residue),
-        Record::Ter(_) => return no_run(),
-        _ => (),
+    match p {
+        Spot::Site(het, a) => site_next(u, het, a.identity.residue),
+        Spot::Close(_) => no_run(),
+        Spot::Nowhere => u,
     }
-    u
 }
 
-pub fn bond_next(last: u32, r: Record) -> u32
-    ensures { λ n. ⌜ n ≡ bondNext last r ⌝ }
+pub fn bond_next(last: u32, b: Bond) -> u32
+    ensures { λ n. ⌜ n ≡ bondNext last b ⌝ }
 {
-    if let Record::Conect(c) = r {
-        return c.serial.0;
+    match b {
+        Bond::Bonds(c) => c.serial.0,
+        Bond::Loose => last,
     }
-    last
 }
 
-pub fn helix_next(helix: u32, r: Record) -> u32
-    ensures { λ n. ⌜ n ≡ helixNext helix r ⌝ }
+pub fn helix_next(helix: u32, f: Fold) -> u32
+    ensures { λ n. ⌜ n ≡ helixNext helix f ⌝ }
 {
-    if let Record::Helix(h) = r {
-        return h.extent.serial;
+    match f {
+        Fold::Turn(serial) => serial,
+        Fold::Rung(_) => helix,
+        Fold::Plain => helix,
     }
-    helix
 }
 
-pub fn ladder_next(d: Ladder, r: Record) -> Ladder
-    ensures { λ b. ⌜ b ≡ ladderNext d r ⌝ }
+pub fn ladder_next(d: Ladder, f: Fold) -> Ladder
+    ensures { λ b. ⌜ b ≡ ladderNext d f ⌝ }
 {
-    if let Record::Sheet(s) = r {
-        let id = s.strand.id;
-        return Ladder {
-            id: id,
-            strand: s.strand.strand,
-            strands: s.strand.strands,
-        };
+    match f {
+        Fold::Turn(_) => d,
+        Fold::Rung(s) => {
+            let id = s.id;
+            Ladder {
+                id: id,
+                strand: s.strand,
+                strands: s.strands,
+            }
+        }
+        Fold::Plain => d,
     }
-    d
 }

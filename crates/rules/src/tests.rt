@@ -4,7 +4,10 @@ use super::Run;
 use ascii::both_of;
 use ascii::either_of;
 use ascii::not_of;
-use line::Record;
+use facets::Bond;
+use facets::Fold;
+use facets::Spot;
+use facets::Total;
 use places::Counts;
 use residue::Residue;
 use sheet::Strand;
@@ -16,15 +19,14 @@ ghost use Rattle.ascii.specs.Tests.{either};
 ghost use Rattle.rules.specs.Rules.{serialBad, siteBad, closeBad, runBad, bondBad, unfinished as unfinishedOf, strandBad, foldBad, countBad};
 
 // ---- 7: serials rise strictly over ATOM, HETATM and TER together
-pub fn serial_bad(last: u32, r: Record) -> bool
-    ensures { λ b. ⌜ b ≡ serialBad last r ⌝ }
+pub fn serial_bad(last: u32, p: Spot) -> bool
+    ensures { λ b. ⌜ b ≡ serialBad last p ⌝ }
 {
-    match r {
-        Record::Coordinate(_, a) => return a.identity.serial.0 <= last,
-        Record::Ter(t) => return t.serial.0 <= last,
-        _ => (),
+    match p {
+        Spot::Site(_, a) => a.identity.serial.0 <= last,
+        Spot::Close(t) => t.serial.0 <= last,
+        Spot::Nowhere => false,
     }
-    false
 }
 
 // ---- 8: a run is the coordinate lines since the last TER
@@ -48,25 +50,24 @@ fn close_bad(r: Run, residue: Residue) -> bool
 }
 
 // A run that holds an ATOM is closed before any other kind of line.
-pub fn run_bad(u: Run, r: Record) -> bool
-    ensures { λ b. ⌜ b ≡ runBad u r ⌝ }
+pub fn run_bad(u: Run, p: Spot) -> bool
+    ensures { λ b. ⌜ b ≡ runBad u p ⌝ }
 {
-    match r {
-        Record::Coordinate(het, a) => return site_bad(u, het, a.identity.residue.chain),
-        Record::Ter(t) => return close_bad(u, t.residue),
-        _ => (),
+    match p {
+        Spot::Site(het, a) => site_bad(u, het, a.identity.residue.chain),
+        Spot::Close(t) => close_bad(u, t.residue),
+        Spot::Nowhere => u.atom,
     }
-    u.atom
 }
 
 // ---- 9: CONECT serials do not fall, and each number on the line is the serial of an atom (known)
-pub fn bond_bad(known: bool, last: u32, r: Record) -> bool
-    ensures { λ b. ⌜ b ≡ bondBad known last r ⌝ }
+pub fn bond_bad(known: bool, last: u32, b: Bond) -> bool
+    ensures { λ r. ⌜ r ≡ bondBad known last b ⌝ }
 {
-    if let Record::Conect(c) = r {
-        return either_of(not_of(known), c.serial.0 < last);
+    match b {
+        Bond::Bonds(c) => either_of(not_of(known), c.serial.0 < last),
+        Bond::Loose => false,
     }
-    false
 }
 
 // ---- 10: helix serials are 1, 2, 3, ..; a sheet is strands 1 to n
@@ -98,23 +99,22 @@ fn helix_bad(helix: u32, d: Ladder, serial: u32) -> bool
     either_of(unfinished(d), not_of(e))
 }
 
-pub fn fold_bad(helix: u32, d: Ladder, r: Record) -> bool
-    ensures { λ b. ⌜ b ≡ foldBad helix d r ⌝ }
+pub fn fold_bad(helix: u32, d: Ladder, f: Fold) -> bool
+    ensures { λ b. ⌜ b ≡ foldBad helix d f ⌝ }
 {
-    match r {
-        Record::Helix(h) => return helix_bad(helix, d, h.extent.serial),
-        Record::Sheet(s) => return strand_bad(d, s.strand),
-        _ => (),
+    match f {
+        Fold::Turn(serial) => helix_bad(helix, d, serial),
+        Fold::Rung(s) => strand_bad(d, s),
+        Fold::Plain => unfinished(d),
     }
-    unfinished(d)
 }
 
 // ---- 11: MASTER holds the true counts
-pub fn count_bad(n: Counts, r: Record) -> bool
-    ensures { λ b. ⌜ b ≡ countBad n r ⌝ }
+pub fn count_bad(n: Counts, t: Total) -> bool
+    ensures { λ b. ⌜ b ≡ countBad n t ⌝ }
 {
-    if let Record::Master(t) = r {
-        return not_of(places::same_counts(t, n));
+    match t {
+        Total::Counted(m) => not_of(places::same_counts(m, n)),
+        Total::Uncounted => false,
     }
-    false
 }

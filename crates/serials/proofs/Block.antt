@@ -12,18 +12,21 @@ use Rattle.ascii.specs.Tests.{pick, either}
 use Rattle.ascii.proofs.Choice.{either-left, either-right}
 use Rattle.kinds.specs.declared.Kind.{Kind}
 use Rattle.kinds.specs.declared.Kind.the-variants.{Header, Title, Compnd, Source, Keywds, Expdta, Author, Revdat, Jrnl, Remark, Seqres, Het, Helix, Sheet, Cryst1, Origx1, Origx2, Origx3, Scale1, Scale2, Scale3, Atom, Hetatm, Ter, Conect, Master, End, Unknown}
+use Rattle.kinds.specs.Kinds.{rowOf}
 use Rattle.line.specs.declared.Record.{Record}
 use Rattle.line.specs.declared.Record.the-variants.{Coordinate}
 use Rattle.line.specs.declared.Record.the-variants as rec
 use Rattle.pieces.specs.declared.Line.{Line}
 use Rattle.pieces.specs.declared.Line.the-variants.{Typed}
 use Rattle.rules.specs.declared.State.{State}
-use Rattle.places.specs.Places.{placeOf, placeBad, coordinatePlace}
+use Rattle.places.specs.Places.{placeBad, coordinatePlace}
 use Rattle.rules.specs.Rules.{carriedNext, typedNext}
 use Rattle.places.proofs.Laws.{place-low, place-high}
 use Rattle.rules.proofs.Laws.{Good}
-use Rattle.serials.specs.declared.Span.{Span}
-use Rattle.rows.specs.Text.{down, isCoord}
+use Rattle.rules.specs.declared.Looked.{Looked}
+use Rattle.search.specs.declared.Span.{Span}
+use Rattle.facets.specs.Facets.{isCoord}
+use Rattle.rows.specs.Text.{down}
 use Rattle.serials.specs.Known.{someOf}
 use Rattle.serials.specs.Search.{serialOf, growOf, Before, Block}
 
@@ -102,10 +105,10 @@ grow-coord L n b s t B c r p p' e = go (ltb (b .lo) (b .hi)) refl
 
 -- ---- a good line more
 -- a kind with a place before the coordinate lines follows only such places
-before-kind : (k : Kind) (p : ℕ) → placeBad p k ≡ false → Before (placeOf k .here) → Before p
+before-kind : (k : Kind) (p : ℕ) → placeBad p k ≡ false → Before (rowOf k .here) → Before p
 before-kind k p e = go k (place-low p k e) (place-high p k e)
   where
-    go : (k : Kind) → placeOf k .low ≤ p → p ≤ placeOf k .high → Before (placeOf k .here) → Before p
+    go : (k : Kind) → rowOf k .low ≤ p → p ≤ rowOf k .high → Before (rowOf k .here) → Before p
     go Header low high b = inl (omega arith)
     go Title low high b = inl (omega arith)
     go Compnd low high b = inl (omega arith)
@@ -137,24 +140,24 @@ before-kind k p e = go k (place-low p k e) (place-high p k e)
 
 -- a carried kind whose place is that of the coordinate lines: there is none, but a carried ATOM could be written down
 pub grow-carried : (L : ℕ → Line) (n : ℕ) (b : Span) (s : State) (k : Kind) → Block L n b s → isCoord (L n) ≡ false → placeBad (s .place) k ≡ false
-    → (placeOf k .here ≡ coordinatePlace → ⊥) → Block L (n + 1) b (carriedNext s k)
+    → (rowOf k .here ≡ coordinatePlace → ⊥) → Block L (n + 1) b (carriedNext s k)
 unfolding carriedNext
 grow-carried L n b s k B c p away = grow-other L n b s _ B c refl away (before-kind k (s .place) p)
 
-pub grow-typed : (L : ℕ → Line) (n : ℕ) (b : Span) (s : State) (r : Record) (known : Bool) → Block L n b s → L n ≡ Typed r → Good known s r
+pub grow-typed : (L : ℕ → Line) (n : ℕ) (b : Span) (s : State) (r : Record) (look : Looked) → Block L n b s → L n ≡ Typed r → Good look s r
     → Block L (n + 1) (growOf b n (Typed r)) (typedNext s r)
 unfolding typedNext
-grow-typed L n b s (Coordinate true a) known B e g =
+grow-typed L n b s (Coordinate true a) look B e g =
     grow-coord L n b s _ B (ap isCoord e) (rw e (leb-false _ _ (g .serial))) (place-high (s .place) Hetatm (g .place)) refl (sym (ap serialOf e))
-grow-typed L n b s (Coordinate false a) known B e g =
+grow-typed L n b s (Coordinate false a) look B e g =
     grow-coord L n b s _ B (ap isCoord e) (rw e (leb-false _ _ (g .serial))) (place-high (s .place) Atom (g .place)) refl (sym (ap serialOf e))
-grow-typed L n b s (rec.Ter t) known B e g =
+grow-typed L n b s (rec.Ter t) look B e g =
     grow-coord L n b s _ B (ap isCoord e) (rw e (leb-false _ _ (g .serial))) (place-high (s .place) Ter (g .place)) refl (sym (ap serialOf e))
-grow-typed L n b s (rec.Helix h) known B e g = grow-other L n b s _ B (ap isCoord e) refl (λ x. omega arith) (before-kind Helix (s .place) (g .place))
-grow-typed L n b s (rec.Sheet t) known B e g = grow-other L n b s _ B (ap isCoord e) refl (λ x. omega arith) (before-kind Sheet (s .place) (g .place))
-grow-typed L n b s (rec.Conect c) known B e g = grow-other L n b s _ B (ap isCoord e) refl (λ x. omega arith) (before-kind Conect (s .place) (g .place))
-grow-typed L n b s (rec.Master t) known B e g = grow-other L n b s _ B (ap isCoord e) refl (λ x. omega arith) (before-kind Master (s .place) (g .place))
-grow-typed L n b s rec.End known B e g = grow-other L n b s _ B (ap isCoord e) refl (λ x. omega arith) (before-kind End (s .place) (g .place))
+grow-typed L n b s (rec.Helix h) look B e g = grow-other L n b s _ B (ap isCoord e) refl (λ x. omega arith) (before-kind Helix (s .place) (g .place))
+grow-typed L n b s (rec.Sheet t) look B e g = grow-other L n b s _ B (ap isCoord e) refl (λ x. omega arith) (before-kind Sheet (s .place) (g .place))
+grow-typed L n b s (rec.Conect c) look B e g = grow-other L n b s _ B (ap isCoord e) refl (λ x. omega arith) (before-kind Conect (s .place) (g .place))
+grow-typed L n b s (rec.Master t) look B e g = grow-other L n b s _ B (ap isCoord e) refl (λ x. omega arith) (before-kind Master (s .place) (g .place))
+grow-typed L n b s rec.End look B e g = grow-other L n b s _ B (ap isCoord e) refl (λ x. omega arith) (before-kind End (s .place) (g .place))
 
 -- a test that one of the lines so far passes
 pub some-at : (f : Line → Bool) (L : ℕ → Line) (n j : ℕ) → j < n → f (L j) ≡ true → someOf f (down L n) ≡ true

@@ -1,4 +1,3 @@
-mod Others
 pub mod Rows
 pub mod Block
-pub mod Halving
+pub mod Finding

@@ -1,33 +1,46 @@
-// Where serials stand: whether the numbers on a CONECT line are those of atoms.
+// Looking back over the lines before a line: whether the numbers on a CONECT line are those of atoms, and where these stand.
 use ascii::both_of;
 use conect::Conect;
-use line::Record;
+use facets::Bond;
 use pieces::Line;
+use rules::Looked;
+use search::Found;
+use search::Near;
+use search::Sought;
+use search::Span;
 ghost use mathlib.Core.Path.{_≡_};
 ghost use mathlib.Core.Bool.{true};
 ghost use Prim.Native.Nat.{ℕ, _+_, _*_, _≤_, _<_};
 ghost use lib.ListN.{length, take};
-ghost use Rattle.fields.specs.Field.{wholeOf};
-ghost use Rattle.line.specs.declared.Record.the-variants as rec;
+ghost use Rattle.fields.specs.Field.{rangedNumber};
+ghost use Rattle.facets.specs.declared.Bond.the-variants as bond;
+ghost use Rattle.facets.specs.Facets.{bondIn, isCoord};
 ghost use Rattle.rules.specs.declared.State.{State as StateOf};
-ghost use Rattle.rows.specs.Text.{pieceAt, row, down, isCoord};
-ghost use Rattle.serials.specs.Known.{isSite, named, partnerKnown, recordKnown, knownOf};
-ghost use Rattle.serials.specs.Search.{serialOf, growOf, Block, Rising, Bracket, Finds};
+ghost use Rattle.rows.specs.Text.{pieceAt, row, down};
+ghost use Rattle.search.specs.Search.{span, Bracket};
+ghost use Rattle.serials.specs.Known.{isSite, named, partnerKnown, bondKnown, lookOf};
+ghost use Rattle.serials.specs.Search.{serialOf, growOf, Block, Rising, Finds};
 
-// A block of lines, from lo up to hi.
-pub struct Span {
-    pub lo: usize,
-    pub hi: usize,
+// What is remembered of the lines so far, to look back by: the block of the coordinate lines, and where the last number was found.
+pub struct Past {
+    pub block: Span,
+    pub near: Near,
+}
+
+// What a look back says, and where the last number was found.
+pub struct Sight {
+    pub looked: Looked,
+    pub near: Near,
 }
 
 // The serial in columns 7-11 of line i.
 fn serial_at(text: &[u8], i: usize) -> u32
     requires { ⌜ 81 * i + 81 ≤ length (now text) ⌝ }
-    ensures { λ r. ⌜ r ≡ (wholeOf 5 0 1 99999 (take 80 (pieceAt (now (text .entry)) i)) 6) .value ⌝ }
+    ensures { λ r. ⌜ r ≡ (rangedNumber 5 0 1 99999 (take 80 (pieceAt (now (text .entry)) i)) 6) .value ⌝ }
 {
     let at = 81 * i;
     let e = at + 80;
-    let w = fields::read_whole(&text[at..e], 6, 5, 0, 1, 99999);
+    let w = fields::read_whole(&text[at..e], 6, 5, 1, 99999);
     w.value
 }
 
@@ -47,129 +60,137 @@ fn site_at(text: &[u8], i: usize, x: u32) -> bool
 // The count of ATOM and HETATM lines among the nine.
 const COORDINATES: u8 = 6;
 
-// The first line from lo to hi whose serial is at least x, or hi: by halving.
-fn lower(text: &[u8], lo: usize, hi: usize, x: u32) -> usize
-    requires { ⌜ Rising (now text) lo hi ⌝ }
-    ensures { λ r. ⌜ Bracket (λ j. serialOf (row (now (text .entry)) j)) lo hi x r r ⌝ }
+// The first line of the block whose serial is at least x, or its end.
+fn seek(text: &[u8], b: Span, n: Near, x: u32) -> usize
+    requires { ⌜ Rising (now text) (b .lo) (b .hi) ⌝ }
+    ensures { λ r. ⌜ Bracket (λ j. serialOf (row (now (text .entry)) j)) (b .lo) (b .hi) x r r ⌝ }
 {
-    let mut a = lo;
-    let mut z = hi;
-    while a < z {
-        let m = a + (z - a) / 2;
-        if serial_at(text, m) < x {
-            a = m + 1;
-        } else {
-            z = m;
-        }
+    let mut s = b;
+    let mut near = n;
+    let mut looks: u8 = 0;
+    while s.lo < s.hi {
+        let m = search::probe(looks, near, s, x);
+        let there = serial_at(text, m);
+        s = search::part(s, m, there, x);
+        near = Near {
+            place: m,
+            number: there,
+        };
+        looks = search::counted(looks);
     }
-    a
+    s.lo
 }
 
-// Where x stands if serials rise by 1 from line lo on, as they mostly do.
-fn guess(text: &[u8], lo: usize, hi: usize, x: u32) -> usize
-    requires { ⌜ Rising (now text) lo hi ⌝ }
-    ensures { λ r. ⌜ lo ≤ r ⌝ }
+// Where in the block the ATOM or HETATM line with serial x stands.
+pub fn find(text: &[u8], b: Span, n: Near, x: u32) -> Found
+    requires { ⌜ Rising (now text) (b .lo) (b .hi) ⌝ }
+    ensures { λ r. ⌜ Finds (row (now (text .entry))) (b .lo) (b .hi) x r ⌝ }
 {
-    if lo < hi {
-        let first = serial_at(text, lo);
-        if first <= x {
-            return lo + (x - first) as usize;
+    let m = seek(text, b, n, x);
+    if m < b.hi {
+        if site_at(text, m, x) {
+            return Found::At(m);
         }
     }
-    hi
-}
-
-// The first line from lo to hi whose serial is at least x, or hi: where it is guessed, else by halving.
-fn seek(text: &[u8], lo: usize, hi: usize, x: u32) -> usize
-    requires { ⌜ Rising (now text) lo hi ⌝ }
-    ensures { λ r. ⌜ Bracket (λ j. serialOf (row (now (text .entry)) j)) lo hi x r r ⌝ }
-{
-    let g = guess(text, lo, hi, x);
-    if g < hi {
-        let there = serial_at(text, g);
-        if there == x {
-            return g;
-        }
-    }
-    lower(text, lo, hi, x)
-}
-
-// Whether x is the serial of an ATOM or HETATM line from lo to hi.
-fn find(text: &[u8], lo: usize, hi: usize, x: u32) -> bool
-    requires { ⌜ Rising (now text) lo hi ⌝ }
-    ensures { λ r. ⌜ Finds (row (now (text .entry))) lo hi x r ⌝ }
-{
-    let m = seek(text, lo, hi, x);
-    if m < hi { site_at(text, m, x) } else { false }
+    Found::Nowhere
 }
 
 // Whether x is the serial of an ATOM or HETATM line so far.
-fn spoken(text: &[u8], b: Span, x: u32) -> bool
+fn spoken(text: &[u8], b: Span, near: Near, x: u32) -> Sought
     requires { ⌜ Rising (now text) (b .lo) (b .hi) ⌝ }
-    ensures { λ r. ⌜ ((n : ℕ) (s : StateOf) → Block (row (now (text .entry))) n b s → r ≡ named (down (row (now (text .entry))) n) x) ⌝ }
+    ensures { λ r. ⌜ ((n : ℕ) (s : StateOf) → Block (row (now (text .entry))) n b s → r .yes ≡ named (down (row (now (text .entry))) n) x) ⌝ }
 {
-    let lo = b.lo;
-    let hi = b.hi;
-    find(text, lo, hi, x)
+    let f = find(text, b, near, x);
+    match f {
+        Found::At(i) => Sought {
+            yes: true,
+            near: Near {
+                place: i,
+                number: x,
+            },
+        },
+        Found::Nowhere => Sought {
+            yes: false,
+            near: near,
+        },
+    }
 }
 
 // The same of a partner, which may not be there.
-fn partner_spoken(text: &[u8], b: Span, x: u32) -> bool
+fn partner_spoken(text: &[u8], b: Span, near: Near, x: u32) -> Sought
     requires { ⌜ Rising (now text) (b .lo) (b .hi) ⌝ }
-    ensures { λ r. ⌜ ((n : ℕ) (s : StateOf) → Block (row (now (text .entry))) n b s → r ≡ partnerKnown (down (row (now (text .entry))) n) x) ⌝ }
+    ensures { λ r. ⌜ ((n : ℕ) (s : StateOf) → Block (row (now (text .entry))) n b s → r .yes ≡ partnerKnown (down (row (now (text .entry))) n) x) ⌝ }
 {
     if x == 0 {
-        return true;
+        return Sought {
+            yes: true,
+            near: near,
+        };
     }
-    spoken(text, b, x)
+    spoken(text, b, near, x)
 }
 
-fn conect_known(text: &[u8], b: Span, c: Conect) -> bool
-    requires { ⌜ Rising (now text) (b .lo) (b .hi) ⌝ }
-    ensures { λ r. ⌜ ((n : ℕ) (s : StateOf) → Block (row (now (text .entry))) n b s → r ≡ recordKnown (down (row (now (text .entry))) n) (rec.Conect c)) ⌝ }
+fn conect_known(text: &[u8], p: Past, c: Conect) -> Sought
+    requires { ⌜ Rising (now text) (p .block .lo) (p .block .hi) ⌝ }
+    ensures { λ r. ⌜ ((n : ℕ) (s : StateOf) → Block (row (now (text .entry))) n (p .block) s → r .yes ≡ bondKnown (down (row (now (text .entry))) n) (bond.Bonds c)) ⌝ }
 {
+    let b = p.block;
+    let near = p.near;
     let x = c.serial;
-    let p = c.a;
-    let q = c.b;
-    let u = c.c;
-    let v = c.d;
-    let k0 = spoken(text, b, x.0);
-    let k1 = partner_spoken(text, b, p.0);
-    let k2 = partner_spoken(text, b, q.0);
-    let k3 = partner_spoken(text, b, u.0);
-    let k4 = partner_spoken(text, b, v.0);
-    both_of(k0, both_of(k1, both_of(k2, both_of(k3, k4))))
-}
-
-fn record_known(text: &[u8], b: Span, r: Record) -> bool
-    requires { ⌜ Rising (now text) (b .lo) (b .hi) ⌝ }
-    ensures { λ k. ⌜ ((n : ℕ) (s : StateOf) → Block (row (now (text .entry))) n b s → k ≡ recordKnown (down (row (now (text .entry))) n) r) ⌝ }
-{
-    if let Record::Conect(c) = r {
-        return conect_known(text, b, c);
-    }
-    true
+    let p1 = c.a;
+    let p2 = c.b;
+    let p3 = c.c;
+    let p4 = c.d;
+    let k0 = spoken(text, b, near, x.0);
+    let n0 = k0.near;
+    let k1 = partner_spoken(text, b, n0, p1.0);
+    let k2 = partner_spoken(text, b, n0, p2.0);
+    let k3 = partner_spoken(text, b, n0, p3.0);
+    let k4 = partner_spoken(text, b, n0, p4.0);
+    let all = both_of(
+        k0.yes,
+        both_of(k1.yes, both_of(k2.yes, both_of(k3.yes, k4.yes))),
+    );
+    Sought { yes: all, near: n0 }
 }
 
 // Whether each number on a CONECT line is the serial of an ATOM or HETATM line so far.
-pub fn known(text: &[u8], b: Span, l: Line) -> bool
-    requires { ⌜ Rising (now text) (b .lo) (b .hi) ⌝ }
-    ensures { λ k. ⌜ ((n : ℕ) (s : StateOf) → Block (row (now (text .entry))) n b s → k ≡ knownOf (down (row (now (text .entry))) n) l) ⌝ }
+fn known(text: &[u8], p: Past, l: Line) -> Sought
+    requires { ⌜ Rising (now text) (p .block .lo) (p .block .hi) ⌝ }
+    ensures { λ r. ⌜ ((n : ℕ) (s : StateOf) → Block (row (now (text .entry))) n (p .block) s → r .yes ≡ bondKnown (down (row (now (text .entry))) n) (bondIn l)) ⌝ }
 {
-    if let Line::Typed(r) = l {
-        return record_known(text, b, r);
+    let b = facets::bond_in(l);
+    let near = p.near;
+    match b {
+        Bond::Bonds(c) => conect_known(text, p, c),
+        Bond::Loose => Sought {
+            yes: true,
+            near: near,
+        },
     }
-    true
+}
+
+// What a look back over the lines so far says of a line.
+pub fn look_back(text: &[u8], p: Past, l: Line) -> Sight
+    requires { ⌜ Rising (now text) (p .block .lo) (p .block .hi) ⌝ }
+    ensures { λ r. ⌜ ((n : ℕ) (s : StateOf) → Block (row (now (text .entry))) n (p .block) s → r .looked ≡ lookOf (down (row (now (text .entry))) n) l) ⌝ }
+{
+    let k = known(text, p, l);
+    let near = k.near;
+    Sight {
+        looked: Looked { known: k.yes },
+        near: near,
+    }
 }
 
 // The block with line n taken in.
-pub fn grow(b: Span, n: usize, l: Line) -> Span
+fn grow(b: Span, n: usize, l: Line) -> Span
     requires { ⌜ n < 9223372036854775808 ⌝ }
     ensures { λ r. ⌜ r ≡ growOf b n l ⌝ }
 {
     let lo = b.lo;
     let hi = b.hi;
-    if rows::is_coord(l) {
+    if facets::is_coord(l) {
         if lo < hi {
             Span { lo: lo, hi: n + 1 }
         } else {
@@ -177,5 +198,31 @@ pub fn grow(b: Span, n: usize, l: Line) -> Span
         }
     } else {
         b
+    }
+}
+
+// What is remembered once line n was good.
+pub fn remember(p: Past, near: Near, n: usize, l: Line) -> Past
+    requires { ⌜ n < 9223372036854775808 ⌝ }
+    ensures { λ r. ⌜ r .block ≡ growOf (p .block) n l ⌝ }
+{
+    let b = p.block;
+    let block = grow(b, n, l);
+    Past {
+        block: block,
+        near: near,
+    }
+}
+
+// Nothing is remembered before the first line.
+pub fn nothing() -> Past
+    ensures { λ r. ⌜ r .block ≡ span 0 0 ⌝ }
+{
+    Past {
+        block: Span { lo: 0, hi: 0 },
+        near: Near {
+            place: 0,
+            number: 0,
+        },
     }
 }

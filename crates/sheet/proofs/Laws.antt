@@ -7,24 +7,38 @@ use Prim.Native.Nat.{ℕ}
 use native.Mathlib.Nat.{add-zero}
 use lib.Dec.{eqb, lit<}
 use lib.ListN.{getD}
+use lib.IntN.{ℤ}
 use Rattle.ascii.specs.Tests.{pick, both, either, between, same}
 use Rattle.columns.specs.Columns.{gapOf, blame}
 use Rattle.ascii.proofs.Choice.{never}
 use Rattle.columns.proofs.Faults.{first-split, blame-none}
 use Rattle.columns.proofs.Spans.{gap-byte}
 use Rattle.fields.proofs.Formats.{Lawful, whole-lawful, integer-lawful, none-lawful, then-lawful, after-lawful, held-lawful, under-lawful}
+use Rattle.fields.specs.Format.{shut, noneF, _then_, after}
+use Rattle.fields.specs.Choice.{maybe, blank}
+use Rattle.names.specs.declared.Three.{Three}
+use Rattle.names.specs.declared.Four.{Four}
 use Rattle.names.specs.Names.{fourAt, isBondName, isIdentifier}
 use Rattle.names.proofs.Classes.{bond-name-fine, identifier-fine}
 use Rattle.names.proofs.Shapes.{three-lawful, four-lawful}
+use Rattle.residue.specs.declared.Residue.{Residue}
 use Rattle.residue.proofs.Returns.{residue-lawful}
 use Rattle.sheet.specs.declared.Bond.{Bond}
+use Rattle.sheet.specs.declared.Strand.{Strand}
+use Rattle.sheet.specs.declared.Sheet.{Sheet}
 use Rattle.sheet.specs.declared.Registration.{Registration}
 use Rattle.sheet.specs.declared.Registration.the-variants.{Absent, Filled}
-use Rattle.sheet.specs.Sheets.{isSense, sensible, toBond, fromBond, bondF, bondFault, bondValue, bondText, bondOk, filledText, filledOk, isAbsent, blankF, filledF, registrationF, registrationFault, registrationValue, registrationText, registrationOk, toStrand, fromStrand, strandF, strandFault, strandValue, strandText, strandOk, toSheet, fromSheet, restF, sheetF, sheetFault, sheetValue, sheetText, sheetOk}
+use Rattle.sheet.specs.Sheets.{isSense, senseFits, bondF, bondColumns, filledText, filledOk, isAbsent, registrationF, registrationColumns, strandF, strandColumns, sheetF, sheetColumns}
 use Rattle.fields.proofs.Choices.{only-lawful, maybe-lawful, blank-lawful, into-lawful}
 
+abbrev toBond : (Four × (Residue × (Four × Residue))) → Bond
+toBond = λ (atom, (residue, (otherAtom, other))). record { atom = atom; residue = residue; «other_atom» = otherAtom; other = other }
+
+abbrev fromBond : Bond → (Four × (Residue × (Four × Residue)))
+fromBond b = (b .atom, (b .residue, (b .«other_atom», b .other)))
+
 bond-lawful : Lawful bondF
-unfolding bondFault bondValue bondText bondOk
+unfolding bondColumns
 bond-lawful =
     held-lawful toBond fromBond (λ b. refl) (λ f. refl)
     (then-lawful (four-lawful isBondName bond-name-fine) (then-lawful (residue-lawful 0) (after-lawful 1 (then-lawful (four-lawful isBondName bond-name-fine) (residue-lawful 0)))))
@@ -34,8 +48,8 @@ blanks-no-name : isBondName (record { a = 32; b = 32; c = 32; d = 32 }) ≡ fals
 unfolding either between same both
 blanks-no-name = refl
 
-bond-filled : (l : List ℕ) (at : ℕ) → bondFault l at ≡ 0 → gapOf l at 29 ≡ 0 → ⊥
-unfolding bondFault
+bond-filled : (l : List ℕ) (at : ℕ) → bondF .fault l at ≡ 0 → gapOf l at 29 ≡ 0 → ⊥
+unfolding bondColumns
 bond-filled l at q g =
     let t = blame-none (isBondName (fourAt l at)) at (first-split (blame (isBondName (fourAt l at)) at) _ q .0) in
     let e : fourAt l at ≡ record { a = 32; b = 32; c = 32; d = 32 } =
@@ -51,32 +65,38 @@ absent-is Absent e = refl
 absent-is (Filled b) e = never e
 
 registration-lawful : (s : ℕ) → Lawful (registrationF s)
-unfolding registrationFault registrationValue registrationText registrationOk
+unfolding registrationColumns
 registration-lawful s =
     go (eqb s 1)
   where
-    go : (t : Bool)
-        → Lawful {A = Registration} (record {
-          width = 29;
-          fault = λ l at. pick t (blankF .fault l at) (filledF .fault l at);
-          value = λ l at. pick t Absent (filledF .value l at);
-          text = λ r. pick t (blankF .text r) (filledF .text r);
-          ok = λ r. pick t (blankF .ok r) (filledF .ok r);
-        })
+    go : (t : Bool) → Lawful (shut 29 (pick t (blank 29 Absent isAbsent) (maybe bondF Absent Filled filledText filledOk)))
     go true = blank-lawful 29 Absent isAbsent refl absent-is
     go false = maybe-lawful bondF bond-lawful Absent Filled filledText filledOk refl (λ b. refl) refl (λ b. refl) filled-cases bond-filled
 
+abbrev toStrand : (ℕ × (Three × (ℕ × (Residue × (Residue × ℤ))))) → Strand
+toStrand = λ (strand, (id, (strands, (first, (last, sense))))).
+    record { strand = strand; id = id; strands = strands; first = first; last = last; sense = sense }
+
+abbrev fromStrand : Strand → (ℕ × (Three × (ℕ × (Residue × (Residue × ℤ)))))
+fromStrand s = (s .strand, (s .id, (s .strands, (s .first, (s .last, s .sense)))))
+
 strand-lawful : Lawful strandF
-unfolding strandFault strandValue strandText strandOk
+unfolding strandColumns
 strand-lawful =
-    under-lawful sensible 38
+    under-lawful (λ (s : Strand). senseFits (s .strand) (s .sense)) 39 tt
     (held-lawful toStrand fromStrand (λ s. refl) (λ f. refl)
-    (after-lawful 1 (then-lawful (whole-lawful 3 0 1 999 tt)
-    (after-lawful 1 (then-lawful (three-lawful isIdentifier identifier-fine) (then-lawful (whole-lawful 2 0 1 99 tt)
-    (after-lawful 1 (then-lawful (residue-lawful 0) (after-lawful 1 (then-lawful (residue-lawful 0) (only-lawful isSense (integer-lawful 2 0 9 99 refl refl))))))))))))
+    (after-lawful 1 (then-lawful (whole-lawful 3 1 999 tt)
+    (after-lawful 1 (then-lawful (three-lawful isIdentifier identifier-fine) (then-lawful (whole-lawful 2 1 99 tt)
+    (after-lawful 1 (then-lawful (residue-lawful 0) (after-lawful 1 (then-lawful (residue-lawful 0) (only-lawful isSense (integer-lawful 2 9 99 refl refl))))))))))))
+
+abbrev toSheet : (Strand × (Registration × Unit {0})) → Sheet
+toSheet = λ (strand, (registration, none)). record { strand = strand; registration = registration }
+
+abbrev fromSheet : Sheet → (Strand × (Registration × Unit {0}))
+fromSheet s = (s .strand, (s .registration, tt))
 
 pub sheet-lawful : Lawful sheetF
-unfolding sheetFault sheetValue sheetText sheetOk
+unfolding sheetColumns
 sheet-lawful =
     held-lawful toSheet fromSheet (λ s. refl) (λ f. refl)
-    (into-lawful 40 strandF restF strand-lawful (λ s. after-lawful 1 (then-lawful (registration-lawful (s .strand)) (after-lawful 10 none-lawful))) (λ s. refl))
+    (into-lawful 40 strandF (λ (s : Strand). after 1 (registrationF (s .strand) then after 10 noneF)) strand-lawful (λ s. after-lawful 1 (then-lawful (registration-lawful (s .strand)) (after-lawful 10 none-lawful))) (λ s. refl))

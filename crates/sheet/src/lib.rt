@@ -6,8 +6,10 @@ ghost use mathlib.Core.Path.{_≡_};
 ghost use Prim.Native.Nat.{_+_, _≤_, _<_};
 ghost use lib.ListN.{length};
 ghost use Rattle.columns.specs.Columns.{Put};
-ghost use Rattle.sheet.specs.Sheets.{isSense, senseFits, bondAt, bondOk, bondText, strandAt, strandOk, strandText, registrationAt, registrationOk, registrationText, sheetAt, sheetOk, sheetLine};
+ghost use Rattle.sheet.specs.Sheets.{isSense, senseFits, bondF, strandF, registrationF, sheetF};
 ghost use Rattle.fields.specs.Format.{writeNumber, writeLine};
+ghost use Rattle.kinds.specs.Kinds.{lineWith};
+ghost use Rattle.kinds.specs.declared.Kind.the-variants as kind;
 
 // Columns 42 to 70.
 pub struct Bond {
@@ -59,7 +61,7 @@ pub struct ReadSheet {
 
 fn read_bond(line: &[u8]) -> ReadBond
     requires { ⌜ length (now line) ≡ 80 ⌝ }
-    ensures { λ r. ⌜ r ≡ bondAt (now (line .entry)) 41 ⌝ }
+    ensures { λ r. ⌜ (r .column ≡ bondF .fault (now (line .entry)) 41) × (r .value ≡ bondF .value (now (line .entry)) 41) ⌝ }
 {
     let a = names::read_four(line, 41);
     let r = residue::read_residue(line, 45, 0);
@@ -88,7 +90,7 @@ fn read_bond(line: &[u8]) -> ReadBond
 // For strand 1 blank, else blank or filled.
 fn read_registration(line: &[u8], strand: u32) -> ReadRegistration
     requires { ⌜ length (now line) ≡ 80 ⌝ }
-    ensures { λ r. ⌜ r ≡ registrationAt strand (now (line .entry)) 41 ⌝ }
+    ensures { λ r. ⌜ (r .column ≡ registrationF strand .fault (now (line .entry)) 41) × (r .value ≡ registrationF strand .value (now (line .entry)) 41) ⌝ }
 {
     let g = columns::gap(line, 41, 29);
     if strand == 1 {
@@ -136,21 +138,21 @@ fn sense_fits(strand: u32, z: i32) -> bool
 
 fn read_strand(line: &[u8]) -> ReadStrand
     requires { ⌜ length (now line) ≡ 80 ⌝ }
-    ensures { λ r. ⌜ r ≡ strandAt (now (line .entry)) 6 ⌝ }
+    ensures { λ r. ⌜ (r .column ≡ strandF .fault (now (line .entry)) 6) × (r .value ≡ strandF .value (now (line .entry)) 6) ⌝ }
 {
     let a = columns::gap(line, 6, 1);
-    let strand = fields::read_whole(line, 7, 3, 0, 1, 999);
+    let strand = fields::read_whole(line, 7, 3, 1, 999);
     let b = columns::gap(line, 10, 1);
     let id = names::read_three(line, 11);
     let i = columns::judged(names::is_identifier(id), 11);
-    let strands = fields::read_whole(line, 14, 2, 0, 1, 99);
+    let strands = fields::read_whole(line, 14, 2, 1, 99);
     let c = columns::gap(line, 16, 1);
     let first = residue::read_residue(line, 17, 0);
     let d = columns::gap(line, 27, 1);
     let last = residue::read_residue(line, 28, 0);
-    let sense = fields::read_integer(line, 38, 2, 0);
+    let sense = fields::read_integer(line, 38, 2);
     let k = columns::judged(is_sense(sense.value), 38);
-    let m = columns::judged(sense_fits(strand.value, sense.value), 38);
+    let m = columns::blamed(sense_fits(strand.value, sense.value), 39);
     let g = columns::first(
         d,
         columns::first(last.column, columns::first(sense.column, k)),
@@ -181,7 +183,7 @@ fn read_strand(line: &[u8]) -> ReadStrand
 
 pub fn read_sheet(line: &[u8]) -> ReadSheet
     requires { ⌜ length (now line) ≡ 80 ⌝ }
-    ensures { λ r. ⌜ r ≡ sheetAt (now (line .entry)) ⌝ }
+    ensures { λ r. ⌜ (r .column ≡ sheetF .fault (now (line .entry)) 6) × (r .value ≡ sheetF .value (now (line .entry)) 6) ⌝ }
 {
     let s = read_strand(line);
     let v = s.value;
@@ -203,7 +205,7 @@ pub fn read_sheet(line: &[u8]) -> ReadSheet
 }
 
 fn bond_is_good(b: Bond) -> bool
-    ensures { λ r. ⌜ r ≡ bondOk b ⌝ }
+    ensures { λ r. ⌜ r ≡ bondF .ok b ⌝ }
 {
     let w = names::is_bond_name(b.atom);
     let x = residue::is_good(b.residue);
@@ -213,7 +215,7 @@ fn bond_is_good(b: Bond) -> bool
 }
 
 fn registration_is_good(strand: u32, r: Registration) -> bool
-    ensures { λ t. ⌜ t ≡ registrationOk strand r ⌝ }
+    ensures { λ t. ⌜ t ≡ registrationF strand .ok r ⌝ }
 {
     match r {
         Registration::Absent => true,
@@ -227,7 +229,7 @@ fn registration_is_good(strand: u32, r: Registration) -> bool
 }
 
 fn strand_is_good(s: Strand) -> bool
-    ensures { λ r. ⌜ r ≡ strandOk s ⌝ }
+    ensures { λ r. ⌜ r ≡ strandF .ok s ⌝ }
 {
     let a = fields::ranged(s.strand, 1, 999);
     let b = names::is_identifier(s.id);
@@ -246,7 +248,7 @@ fn strand_is_good(s: Strand) -> bool
 }
 
 pub fn is_good(s: Sheet) -> bool
-    ensures { λ r. ⌜ r ≡ sheetOk s ⌝ }
+    ensures { λ r. ⌜ r ≡ sheetF .ok s ⌝ }
 {
     let v = s.strand;
     let w = s.registration;
@@ -257,7 +259,7 @@ pub fn is_good(s: Sheet) -> bool
 
 fn put_bond(line: &mut [u8], b: Bond)
     requires { ⌜ 80 ≤ length (now line) ⌝ }
-    ensures { λ _. ⌜ Put (now (line .entry)) 41 29 (bondText b) (now (line .exit)) ⌝ }
+    ensures { λ _. ⌜ Put (now (line .entry)) 41 29 (bondF .text b) (now (line .exit)) ⌝ }
 {
     names::put_four(line, 41, b.atom);
     residue::put_residue(line, 45, 0, b.residue);
@@ -268,7 +270,7 @@ fn put_bond(line: &mut [u8], b: Bond)
 
 fn put_registration(line: &mut [u8], strand: u32, r: Registration)
     requires { ⌜ 80 ≤ length (now line) ⌝ }
-    ensures { λ _. ⌜ Put (now (line .entry)) 41 29 (registrationText strand r) (now (line .exit)) ⌝ }
+    ensures { λ _. ⌜ Put (now (line .entry)) 41 29 (registrationF strand .text r) (now (line .exit)) ⌝ }
 {
     if strand == 1 {
         columns::put_blanks(line, 41, 29);
@@ -282,23 +284,23 @@ fn put_registration(line: &mut [u8], strand: u32, r: Registration)
 
 fn put_strand(line: &mut [u8], s: Strand)
     requires { ⌜ 80 ≤ length (now line) ⌝ }
-    ensures { λ _. ⌜ Put (now (line .entry)) 6 34 (strandText s) (now (line .exit)) ⌝ }
+    ensures { λ _. ⌜ Put (now (line .entry)) 6 34 (strandF .text s) (now (line .exit)) ⌝ }
 {
     columns::put_blanks(line, 6, 1);
-    fields::put_whole(line, 7, 3, 0, s.strand);
+    fields::put_whole(line, 7, 3, s.strand);
     columns::put_blanks(line, 10, 1);
     names::put_three(line, 11, s.id);
-    fields::put_whole(line, 14, 2, 0, s.strands);
+    fields::put_whole(line, 14, 2, s.strands);
     columns::put_blanks(line, 16, 1);
     residue::put_residue(line, 17, 0, s.first);
     columns::put_blanks(line, 27, 1);
     residue::put_residue(line, 28, 0, s.last);
-    fields::put_integer(line, 38, 2, 0, s.sense);
+    fields::put_integer(line, 38, 2, s.sense);
 }
 
 fn put_sheet(line: &mut [u8], s: Sheet)
     requires { ⌜ 80 ≤ length (now line) ⌝ }
-    ensures { λ _. ⌜ Put (now (line .entry)) 0 80 (sheetLine s) (now (line .exit)) ⌝ }
+    ensures { λ _. ⌜ Put (now (line .entry)) 0 80 (lineWith kind.Sheet sheetF s) (now (line .exit)) ⌝ }
 {
     let v = s.strand;
     let w = s.registration;
@@ -311,7 +313,7 @@ fn put_sheet(line: &mut [u8], s: Sheet)
 
 // Writes the line, 80 bytes: 0; or leaves all as found: 6 where a field is out of its range, 17 where there is no room.
 pub fn write_sheet(line: &mut [u8], s: Sheet) -> u8
-    ensures { λ r. ⌜ (r ≡ writeNumber (sheetOk s) (now (line .entry))) × (now (line .exit) ≡ writeLine (sheetOk s) (sheetLine s) (now (line .entry))) ⌝ }
+    ensures { λ r. ⌜ (r ≡ writeNumber (sheetF .ok s) (now (line .entry))) × (now (line .exit) ≡ writeLine (sheetF .ok s) (lineWith kind.Sheet sheetF s) (now (line .entry))) ⌝ }
 {
     let ok = is_good(s);
     if ok {

@@ -1,14 +1,7 @@
-pub mod damage
+-- Machine-made by tools/walks; do not edit.
 pub mod feed
-pub mod keep
 pub mod load
-pub mod load_nowhere
-pub mod part
-pub mod put_back
-pub mod save
-pub mod set_aside
-pub mod sit
-pub mod slot_at
+pub mod spoil
+pub mod stage
 pub mod store
-pub mod tray
 pub mod view

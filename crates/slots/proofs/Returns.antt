@@ -20,10 +20,10 @@ use Rattle.fields.specs.declared.Whole.{Whole}
 use Rattle.fields.specs.Field.{wholeIn, sameInteger}
 use Rattle.coordinate.specs.declared.Atom.{Atom}
 use Rattle.coordinate.specs.declared.Position.{Position}
-use Rattle.coordinate.specs.Atoms.{atomFault, atomValue, measureValue}
+use Rattle.coordinate.specs.Atoms.{atomF, atomColumns, measureColumns}
 use Rattle.kinds.specs.declared.Kind.{Kind}
-use Rattle.kinds.specs.declared.Kind.the-variants.{Header, Title, Compnd, Source, Keywds, Expdta, Author, Revdat, Jrnl, Remark, Seqres, Het, Helix, Sheet, Cryst1, Origx1, Origx2, Origx3, Scale1, Scale2, Scale3, Atom as AtomKind, Hetatm, Ter, Conect, Master, End, Unknown}
-use Rattle.kinds.specs.Kinds.{kindOf}
+use Rattle.kinds.specs.declared.Kind.the-variants.{Atom as AtomKind, Hetatm, Ter, Helix, Sheet, Conect, Master, End}
+use Rattle.kinds.specs.Kinds.{is, isNamed, kindOf}
 use Rattle.line.specs.declared.Record.{Record}
 use Rattle.line.specs.declared.Record.the-variants as rec
 use Rattle.line.specs.declared.Reading.{Reading}
@@ -31,11 +31,14 @@ use Rattle.line.specs.declared.Reading.the-variants.{Typed, Wrong, Untyped}
 use Rattle.line.specs.Lines.{judged, readingOf}
 use Rattle.pieces.specs.declared.Line.{Line}
 use Rattle.pieces.specs.declared.Line.the-variants as line
-use Rattle.pieces.specs.Pieces.{carriedOf, lineIn, columnsOf, lineOf}
+use Rattle.pieces.specs.Pieces.{lineIn, columnsOf, lineOf}
 use Rattle.slots.specs.declared.Slot.{Slot}
+use Rattle.facets.specs.declared.Spot.{Spot}
+use Rattle.facets.specs.declared.Spot.the-variants.{Site}
+use Rattle.facets.specs.Facets.{spotOf, spotIn}
 use Rattle.slots.specs.declared.Filling.{Filling}
 use Rattle.slots.specs.declared.Filling.the-variants.{Refused}
-use Rattle.slots.specs.Slots.{atomKind, hetatmKind, slotOfAtom, SmallRecord, Small, SmallLine, hasSlot, fillIn, slotLine, samePosition, sameMeasures}
+use Rattle.slots.specs.Slots.{atomKind, hetatmKind, slotOfAtom, SmallSpot, spotRead, hasSlot, fillIn, slotLine, samePosition, sameMeasures}
 
 -- a number that was held is itself
 abbrev held : ℤ → ℤ
@@ -70,99 +73,56 @@ whole-high lo hi h at =
     P : Whole → Type 0
     P w = w .value ≤ hi
 
-atom-small : (l : List ℕ) → (atomValue l 6) .measure .occupancy ≤ 2147483647
-unfolding atomValue measureValue
+atom-small : (l : List ℕ) → (atomF .value l 6) .measure .occupancy ≤ 2147483647
+unfolding atomColumns measureColumns
 atom-small l = let h = whole-high 0 100 (numberOf l 54 6 3) 54 in omega arith
 
-judged-small : (c : ℕ) (r : Record) → SmallRecord r → Small (judged c r)
+-- what a line reads to
+abbrev Small : Reading → Type 0
+Small x = SmallSpot (spotRead x)
+
+judged-small : (c : ℕ) (r : Record) → SmallSpot (spotOf r) → Small (judged c r)
 unfolding judged
 judged-small c r s = picks Small (eqb c 0) (Typed r) (Wrong c) (λ _. s) (λ _. tt)
 
 by-kind : (k : Kind) (l : List ℕ) → Small (readingOf k l)
 unfolding readingOf
-by-kind Header l = tt
-by-kind Title l = tt
-by-kind Compnd l = tt
-by-kind Source l = tt
-by-kind Keywds l = tt
-by-kind Expdta l = tt
-by-kind Author l = tt
-by-kind Revdat l = tt
-by-kind Jrnl l = tt
-by-kind Remark l = tt
-by-kind Seqres l = tt
-by-kind Het l = tt
-by-kind Helix l = judged-small _ _ tt
-by-kind Sheet l = judged-small _ _ tt
-by-kind Cryst1 l = tt
-by-kind Origx1 l = tt
-by-kind Origx2 l = tt
-by-kind Origx3 l = tt
-by-kind Scale1 l = tt
-by-kind Scale2 l = tt
-by-kind Scale3 l = tt
-by-kind AtomKind l = judged-small (atomFault l 6) (rec.Coordinate false (atomValue l 6)) (atom-small l)
-by-kind Hetatm l = judged-small (atomFault l 6) (rec.Coordinate true (atomValue l 6)) (atom-small l)
-by-kind Ter l = judged-small _ _ tt
-by-kind Conect l = judged-small _ _ tt
-by-kind Master l = judged-small _ _ tt
-by-kind End l = judged-small _ _ tt
-by-kind Unknown l = tt
+by-kind k l =
+    picks Small (is AtomKind k) _ _ (λ _. judged-small (atomF .fault l 6) (rec.Coordinate false (atomF .value l 6)) (atom-small l))
+    (λ _. picks Small (is Hetatm k) _ _ (λ _. judged-small (atomF .fault l 6) (rec.Coordinate true (atomF .value l 6)) (atom-small l))
+    (λ _. picks Small (is Ter k) _ _ (λ _. judged-small _ _ tt)
+    (λ _. picks Small (is Helix k) _ _ (λ _. judged-small _ _ tt)
+    (λ _. picks Small (is Sheet k) _ _ (λ _. judged-small _ _ tt)
+    (λ _. picks Small (is Conect k) _ _ (λ _. judged-small _ _ tt)
+    (λ _. picks Small (is Master k) _ _ (λ _. judged-small _ _ tt)
+    (λ _. picks Small (is End k) _ _ (λ _. judged-small _ _ tt)
+    (λ _. tt))))))))
 
-pub reading-small : (k : Kind) (l : List ℕ) (x : Reading) → x ≡ readingOf k l → Small x
+pub reading-small : (k : Kind) (l : List ℕ) (x : Reading) → x ≡ readingOf k l → SmallSpot (spotRead x)
 reading-small k l x e = rw e (by-kind k l)
 
-pub typed-small : (x : Reading) (r : Record) → x ≡ Typed r → Small x → SmallRecord r
-typed-small x r e s = rw e at s
+pub typed-small : (x : Reading) (r : Record) (p : Spot) → x ≡ Typed r → p ≡ spotOf r → SmallSpot (spotRead x) → SmallSpot p
+typed-small x r p e q s = rw q (rw e at s)
 
-pub coordinate-small : (r : Record) (het : Bool) (a : Atom) → r ≡ rec.Coordinate het a → SmallRecord r → a .measure .occupancy ≤ 2147483647
-coordinate-small r het a e s = rw e at s
+pub site-small : (p : Spot) (het : Bool) (a : Atom) → p ≡ Site het a → SmallSpot p → a .measure .occupancy ≤ 2147483647
+site-small p het a e s = rw e at s
 
 -- the same of a line of a text
-pub line-small : (l : Line) (r : Record) → l ≡ line.Typed r → SmallLine l → SmallRecord r
-line-small l r e s = rw e at s
-
-kind-small : (k : Kind) → SmallLine (carriedOf k)
-kind-small Header = tt
-kind-small Title = tt
-kind-small Compnd = tt
-kind-small Source = tt
-kind-small Keywds = tt
-kind-small Expdta = tt
-kind-small Author = tt
-kind-small Revdat = tt
-kind-small Jrnl = tt
-kind-small Remark = tt
-kind-small Seqres = tt
-kind-small Het = tt
-kind-small Helix = tt
-kind-small Sheet = tt
-kind-small Cryst1 = tt
-kind-small Origx1 = tt
-kind-small Origx2 = tt
-kind-small Origx3 = tt
-kind-small Scale1 = tt
-kind-small Scale2 = tt
-kind-small Scale3 = tt
-kind-small AtomKind = tt
-kind-small Hetatm = tt
-kind-small Ter = tt
-kind-small Conect = tt
-kind-small Master = tt
-kind-small End = tt
-kind-small Unknown = tt
+abbrev SmallLine : Line → Type 0
+SmallLine l = SmallSpot (spotIn l)
 
 columns-small : (k : Kind) (x : Reading) → Small x → SmallLine (lineIn k x)
 columns-small k (Typed r) s = s
 columns-small k (Wrong column) s = tt
-columns-small k Untyped s = kind-small k
+columns-small k Untyped s = picks SmallLine (isNamed k) (line.Carried k) (line.Bad 4) (λ _. tt) (λ _. tt)
 
-pub piece-small : (p : List ℕ) → SmallLine (lineOf p)
+pub piece-small : (p : List ℕ) → SmallSpot (spotIn (lineOf p))
 unfolding lineOf columnsOf
 piece-small p =
     picks SmallLine (ltb (length p) 81) (line.Bad 1) _ (λ _. tt)
     (λ _. picks SmallLine (eqb (getD p 80 0) 10) _ (line.Bad 2)
-    (λ _. picks SmallLine (cleanAt (take 80 p) 0 80) _ (line.Bad 3) (λ _. columns-small (kindOf (take 80 p)) (readingOf (kindOf (take 80 p)) (take 80 p)) (by-kind (kindOf (take 80 p)) (take 80 p))) (λ _. tt)) (λ _. tt))
+    (λ _. picks SmallLine (cleanAt (take 80 p) 0 80) _ (line.Bad 3)
+    (λ _. columns-small (kindOf (take 80 p)) (readingOf (kindOf (take 80 p)) (take 80 p)) (by-kind (kindOf (take 80 p)) (take 80 p))) (λ _. tt)) (λ _. tt))
 
 -- ---- the slot of an atom
 small-pos : (v : ℕ) → v ≤ 2147483647 → toZ w32 v ≡ pos v

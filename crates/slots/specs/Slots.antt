@@ -1,33 +1,21 @@
 -- A slot of the table: the fields of an ATOM, HETATM or TER line, and a mark.
-use Prim.Native.Nat.{ℕ, _≤_}
-use mathlib.Core.List.{List}
-use mathlib.Core.Bool.{Bool, true, false}
-use lib.ListN.{length}
-use lib.Dec.{eqb}
-use lib.IntN.{pos}
-use Rattle.ascii.specs.Bytes.{byte}
-use Rattle.ascii.specs.Tests.{pick, both}
+use Rattle.ascii.specs.Library.{ℕ, _≤_, List, Bool, true, false, length, eqb, pos, byte, pick, both}
 use Rattle.columns.specs.Columns.{cleanAt}
+use Rattle.fields.specs.declared.{Serial.Serial}
 use Rattle.fields.specs.Field.{sameInteger}
 use Rattle.names.specs.Names.{samePair, sameFour}
-use Rattle.coordinate.specs.declared.Atom.{Atom}
-use Rattle.coordinate.specs.declared.Position.{Position}
-use Rattle.kinds.specs.declared.Kind.{Kind}
-use Rattle.kinds.specs.declared.Kind.the-variants as kind
-use Rattle.kinds.specs.Kinds.{kindOf}
-use Rattle.ter.specs.declared.Ter.{Ter as TerOf}
-use Rattle.line.specs.declared.Record.{Record}
-use Rattle.line.specs.declared.Record.the-variants.{Coordinate, Ter, Helix, Sheet, Conect, Master, End}
-use Rattle.line.specs.declared.Reading.{Reading}
-use Rattle.line.specs.declared.Reading.the-variants.{Typed, Wrong, Untyped}
+use Rattle.coordinate.specs.declared.{Atom.Atom, Position.Position}
+use Rattle.kinds.specs.declared.{Kind.Kind}
+use Rattle.kinds.specs.Kinds.{rowOf, kindOf}
+use Rattle.ter.specs.declared.{Ter.Ter}
+use Rattle.line.specs.declared.{Reading.Reading, Reading.the-variants.Typed, Reading.the-variants.Wrong, Reading.the-variants.Untyped}
 use Rattle.line.specs.Lines.{readingOf}
-use Rattle.residue.specs.declared.Residue.{Residue}
+use Rattle.residue.specs.declared.{Residue.Residue}
 use Rattle.residue.specs.Residues.{sameResidue}
-use Rattle.pieces.specs.declared.Line.{Line}
-use Rattle.pieces.specs.declared.Line.the-variants as line
-use Rattle.slots.specs.declared.Slot.{Slot}
-use Rattle.slots.specs.declared.Filling.{Filling}
-use Rattle.slots.specs.declared.Filling.the-variants.{Filled, Refused}
+use Rattle.pieces.specs.declared.{Line.Line}
+use Rattle.facets.specs.declared.{Spot.Spot, Spot.the-variants.Site, Spot.the-variants.Close, Spot.the-variants.Nowhere}
+use Rattle.facets.specs.Facets.{spotOf, spotIn}
+use Rattle.slots.specs.declared.{Slot.Slot, Filling.Filling, Filling.the-variants.Filled, Filling.the-variants.Refused}
 
 -- ---- the bytes of kind and mark
 abbrev pub atomKind : ℕ
@@ -65,130 +53,73 @@ slotOfAtom het a =
       charge = a .species .charge;
     }
 
--- the fields that a TER lacks are 0 or blank
-abbrev pub slotOfTer : TerOf → Slot
-slotOfTer t =
+-- a slot of which only kind, serial and residue are told: the other fields are 0 or blank
+abbrev pub bareSlot : ℕ → Serial → Residue → Slot
+bareSlot k serial r =
     record {
-      serial = t .serial;
-      number = t .residue .number;
+      serial = serial;
+      number = r .number;
       position = record { x = pos 0; y = pos 0; z = pos 0 };
       occupancy = pos 0;
       temperature = pos 0;
-      kind = terKind;
+      kind = k;
       mark = markIn;
       name = record { a = byte " "; b = byte " "; c = byte " "; d = byte " " };
       alternate = byte " ";
-      residue = t .residue .name;
-      chain = t .residue .chain;
-      insertion = t .residue .insertion;
+      residue = r .name;
+      chain = r .chain;
+      insertion = r .insertion;
       element = record { a = byte " "; b = byte " " };
       charge = record { a = byte " "; b = byte " " };
     }
+
+abbrev pub slotOfTer : Ter → Slot
+slotOfTer t = bareSlot terKind (t .serial) (t .residue)
+
+-- a residue of blanks
+abbrev pub blankResidue : Residue
+blankResidue =
+    record { name = record { a = byte " "; b = byte " "; c = byte " " }; chain = byte " "; number = record { 0 = pos 0 }; insertion = byte " " }
 
 -- what stands where there is no slot: no line has it
 abbrev pub noSlot : Slot
-noSlot =
-    record {
-      serial = record { 0 = 0 };
-      number = record { 0 = pos 0 };
-      position = record { x = pos 0; y = pos 0; z = pos 0 };
-      occupancy = pos 0;
-      temperature = pos 0;
-      kind = 0;
-      mark = markIn;
-      name = record { a = byte " "; b = byte " "; c = byte " "; d = byte " " };
-      alternate = byte " ";
-      residue = record { a = byte " "; b = byte " "; c = byte " " };
-      chain = byte " ";
-      insertion = byte " ";
-      element = record { a = byte " "; b = byte " " };
-      charge = record { a = byte " "; b = byte " " };
-    }
+noSlot = bareSlot 0 (record { 0 = 0 }) blankResidue
 
--- the slot of a record; a record of another kind has none
-abbrev pub recordSlot : Record → Slot
-recordSlot (Coordinate het a) = slotOfAtom het a
-recordSlot (Ter t) = slotOfTer t
-recordSlot (Helix h) = noSlot
-recordSlot (Sheet s) = noSlot
-recordSlot (Conect c) = noSlot
-recordSlot (Master t) = noSlot
-recordSlot End = noSlot
+-- the slot of a line
+abbrev pub spotSlot : Spot → Slot
+spotSlot (Site het a) = slotOfAtom het a
+spotSlot (Close t) = slotOfTer t
+spotSlot Nowhere = noSlot
 
--- the slot of a line of a text
 abbrev pub lineSlot : Line → Slot
-lineSlot (line.Bad n) = noSlot
-lineSlot (line.Wrong k column) = noSlot
-lineSlot (line.Carried k) = noSlot
-lineSlot (line.Typed r) = recordSlot r
+lineSlot l = spotSlot (spotIn l)
 
 -- ---- the slot of one line read by itself
 -- an occupancy that a slot can hold; every line read has one
-abbrev pub SmallRecord : Record → Type 0
-SmallRecord (Coordinate het a) = a .measure .occupancy ≤ 2147483647
-SmallRecord (Ter t) = Unit {0}
-SmallRecord (Helix h) = Unit {0}
-SmallRecord (Sheet s) = Unit {0}
-SmallRecord (Conect c) = Unit {0}
-SmallRecord (Master t) = Unit {0}
-SmallRecord End = Unit {0}
-
--- the same of what a line reads to, and of a line of a text
-abbrev pub Small : Reading → Type 0
-Small (Typed r) = SmallRecord r
-Small (Wrong column) = Unit {0}
-Small Untyped = Unit {0}
-
-abbrev pub SmallLine : Line → Type 0
-SmallLine (line.Bad n) = Unit {0}
-SmallLine (line.Wrong k column) = Unit {0}
-SmallLine (line.Carried k) = Unit {0}
-SmallLine (line.Typed r) = SmallRecord r
+abbrev pub SmallSpot : Spot → Type 0
+SmallSpot (Site het a) = a .measure .occupancy ≤ 2147483647
+SmallSpot (Close t) = Unit {0}
+SmallSpot Nowhere = Unit {0}
 
 -- 4: a kind other than ATOM, HETATM and TER, and an unknown or carried name
-abbrev pub fillingOf : Record → Filling
-fillingOf (Coordinate het a) = Filled (slotOfAtom het a)
-fillingOf (Ter t) = Filled (slotOfTer t)
-fillingOf (Helix h) = Refused 4
-fillingOf (Sheet s) = Refused 4
-fillingOf (Conect c) = Refused 4
-fillingOf (Master t) = Refused 4
-fillingOf End = Refused 4
+abbrev pub fillingOf : Spot → Filling
+fillingOf (Site het a) = Filled (slotOfAtom het a)
+fillingOf (Close t) = Filled (slotOfTer t)
+fillingOf Nowhere = Refused 4
 
 -- the kinds of line that have a slot
 abbrev pub hasSlot : Kind → Bool
-hasSlot kind.Header = false
-hasSlot kind.Title = false
-hasSlot kind.Compnd = false
-hasSlot kind.Source = false
-hasSlot kind.Keywds = false
-hasSlot kind.Expdta = false
-hasSlot kind.Author = false
-hasSlot kind.Revdat = false
-hasSlot kind.Jrnl = false
-hasSlot kind.Remark = false
-hasSlot kind.Seqres = false
-hasSlot kind.Het = false
-hasSlot kind.Helix = false
-hasSlot kind.Sheet = false
-hasSlot kind.Cryst1 = false
-hasSlot kind.Origx1 = false
-hasSlot kind.Origx2 = false
-hasSlot kind.Origx3 = false
-hasSlot kind.Scale1 = false
-hasSlot kind.Scale2 = false
-hasSlot kind.Scale3 = false
-hasSlot kind.Atom = true
-hasSlot kind.Hetatm = true
-hasSlot kind.Ter = true
-hasSlot kind.Conect = false
-hasSlot kind.Master = false
-hasSlot kind.End = false
-hasSlot kind.Unknown = false
+hasSlot k = rowOf k .slot
+
+-- what a line reads to, as a coordinate or TER line
+abbrev pub spotRead : Reading → Spot
+spotRead (Typed r) = spotOf r
+spotRead (Wrong column) = Nowhere
+spotRead Untyped = Nowhere
 
 -- 6: a field or blank column wrong
 abbrev pub fillIn : Reading → Filling
-fillIn (Typed r) = fillingOf r
+fillIn (Typed r) = fillingOf (spotOf r)
 fillIn (Wrong column) = Refused 6
 fillIn Untyped = Refused 4
 

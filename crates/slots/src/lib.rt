@@ -1,11 +1,11 @@
 // A slot of the table: the fields of an ATOM, HETATM or TER line, and a mark.
 use coordinate::Atom;
 use coordinate::Position;
+use facets::Spot;
 use fields::ResidueNumber;
 use fields::Serial;
 use kinds::Kind;
 use line::Reading;
-use line::Record;
 use names::Four;
 use names::Pair;
 use names::Three;
@@ -17,7 +17,8 @@ ghost use mathlib.Core.Bool.{not};
 ghost use Prim.Native.Nat.{_≤_};
 ghost use lib.ListN.{length};
 ghost use Rattle.ascii.specs.Tests.{pick};
-ghost use Rattle.slots.specs.Slots.{atomKind, hetatmKind, Small, SmallRecord, slotOfAtom, slotOfTer, fillingOf, hasSlot, fillIn, slotLine, samePosition, sameMeasures, sameNames, sameSlot, withMark, residueOf, noSlot, recordSlot, lineSlot, SmallLine};
+ghost use Rattle.facets.specs.Facets.{spotIn};
+ghost use Rattle.slots.specs.Slots.{atomKind, hetatmKind, SmallSpot, slotOfAtom, bareSlot, slotOfTer, spotSlot, spotRead, fillingOf, hasSlot, fillIn, slotLine, samePosition, sameMeasures, sameNames, sameSlot, withMark, residueOf, noSlot, lineSlot};
 
 // 44 bytes, no padding. Kind 1 ATOM, 2 HETATM, 3 TER; mark 0 in, 1 aside; any other byte is damage.
 #[repr(C)]
@@ -45,13 +46,15 @@ pub enum Filling {
     Refused(u8),
 }
 
-const ATOM_KIND: u8 = 1;
+pub const ATOM_KIND: u8 = 1;
 
-const HETATM_KIND: u8 = 2;
+pub const HETATM_KIND: u8 = 2;
 
-const TER_KIND: u8 = 3;
+pub const TER_KIND: u8 = 3;
 
-const MARK_IN: u8 = 0;
+pub const MARK_IN: u8 = 0;
+
+pub const MARK_ASIDE: u8 = 1;
 
 // The slot of one line read by itself, marked in: 1, 3, 4 for any other kind and for an unknown or carried name, 6.
 pub fn slot_of_line(line: &[u8]) -> Filling
@@ -73,33 +76,30 @@ pub fn slot_of_line(line: &[u8]) -> Filling
 pub fn has_slot(k: Kind) -> bool
     ensures { λ r. ⌜ r ≡ hasSlot k ⌝ }
 {
-    match k {
-        Kind::Atom | Kind::Hetatm | Kind::Ter => true,
-        _ => false,
-    }
+    let r = kinds::row_of(k);
+    r.slot
 }
 
 fn fill_in(r: Reading) -> Filling
-    requires { ⌜ Small r ⌝ }
+    requires { ⌜ SmallSpot (spotRead r) ⌝ }
     ensures { λ f. ⌜ f ≡ fillIn r ⌝ }
 {
     match r {
-        Reading::Typed(x) => filling_of(x),
+        Reading::Typed(x) => filling_of(facets::spot_of(x)),
         Reading::Wrong(_) => Filling::Refused(6),
         Reading::Untyped => Filling::Refused(4),
     }
 }
 
-fn filling_of(r: Record) -> Filling
-    requires { ⌜ SmallRecord r ⌝ }
-    ensures { λ f. ⌜ f ≡ fillingOf r ⌝ }
+fn filling_of(p: Spot) -> Filling
+    requires { ⌜ SmallSpot p ⌝ }
+    ensures { λ f. ⌜ f ≡ fillingOf p ⌝ }
 {
-    match r {
-        Record::Coordinate(het, a) => return Filling::Filled(slot_of_atom(het, a)),
-        Record::Ter(t) => return Filling::Filled(slot_of_ter(t)),
-        _ => (),
+    match p {
+        Spot::Site(het, a) => Filling::Filled(slot_of_atom(het, a)),
+        Spot::Close(t) => Filling::Filled(slot_of_ter(t)),
+        Spot::Nowhere => Filling::Refused(4),
     }
-    Filling::Refused(4)
 }
 
 fn slot_of_atom(het: bool, a: Atom) -> Slot
@@ -144,12 +144,10 @@ fn kind_byte(het: bool) -> u8
     ATOM_KIND
 }
 
-// The fields that a TER lacks are 0 or blank.
-fn slot_of_ter(t: Ter) -> Slot
-    ensures { λ s. ⌜ s ≡ slotOfTer t ⌝ }
+// A slot of which only kind, serial and residue are told: the other fields are 0 or blank.
+fn bare_slot(kind: u8, serial: Serial, r: Residue) -> Slot
+    ensures { λ s. ⌜ s ≡ bareSlot kind serial r ⌝ }
 {
-    let r = t.residue;
-    let serial = t.serial;
     let number = r.number;
     let residue = r.name;
     Slot {
@@ -158,7 +156,7 @@ fn slot_of_ter(t: Ter) -> Slot
         position: Position { x: 0, y: 0, z: 0 },
         occupancy: 0,
         temperature: 0,
-        kind: TER_KIND,
+        kind: kind,
         mark: MARK_IN,
         name: Four {
             a: b' ',
@@ -175,58 +173,46 @@ fn slot_of_ter(t: Ter) -> Slot
     }
 }
 
+fn slot_of_ter(t: Ter) -> Slot
+    ensures { λ s. ⌜ s ≡ slotOfTer t ⌝ }
+{
+    bare_slot(TER_KIND, t.serial, t.residue)
+}
+
 // What stands where there is no slot.
 pub fn no_slot() -> Slot
     ensures { λ s. ⌜ s ≡ noSlot ⌝ }
 {
-    Slot {
-        serial: Serial(0),
-        number: ResidueNumber(0),
-        position: Position { x: 0, y: 0, z: 0 },
-        occupancy: 0,
-        temperature: 0,
-        kind: 0,
-        mark: MARK_IN,
-        name: Four {
-            a: b' ',
-            b: b' ',
-            c: b' ',
-            d: b' ',
-        },
-        alternate: b' ',
-        residue: Three {
+    let r = Residue {
+        name: Three {
             a: b' ',
             b: b' ',
             c: b' ',
         },
         chain: b' ',
+        number: ResidueNumber(0),
         insertion: b' ',
-        element: Pair { a: b' ', b: b' ' },
-        charge: Pair { a: b' ', b: b' ' },
-    }
+    };
+    bare_slot(0, Serial(0), r)
 }
 
-fn record_slot(r: Record) -> Slot
-    requires { ⌜ SmallRecord r ⌝ }
-    ensures { λ s. ⌜ s ≡ recordSlot r ⌝ }
+fn spot_slot(p: Spot) -> Slot
+    requires { ⌜ SmallSpot p ⌝ }
+    ensures { λ s. ⌜ s ≡ spotSlot p ⌝ }
 {
-    match r {
-        Record::Coordinate(het, a) => return slot_of_atom(het, a),
-        Record::Ter(t) => return slot_of_ter(t),
-        _ => (),
+    match p {
+        Spot::Site(het, a) => slot_of_atom(het, a),
+        Spot::Close(t) => slot_of_ter(t),
+        Spot::Nowhere => no_slot(),
     }
-    no_slot()
 }
 
 // The slot of a line of a text.
 pub fn line_slot(l: Line) -> Slot
-    requires { ⌜ SmallLine l ⌝ }
+    requires { ⌜ SmallSpot (spotIn l) ⌝ }
     ensures { λ s. ⌜ s ≡ lineSlot l ⌝ }
 {
-    if let Line::Typed(r) = l {
-        return record_slot(r);
-    }
-    no_slot()
+    spot_slot(facets::spot_in(l))
 }
 
 fn same_position(p: Position, q: Position) -> bool

@@ -1,3 +1,4 @@
+-- Machine-made by tools/walks; do not edit.
 pub mod feed
 pub mod station_count_line
 pub mod station_dot

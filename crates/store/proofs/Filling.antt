@@ -10,7 +10,8 @@ use lib.ListN.{length, set, take, drop, length-set, take-append-drop}
 use lib.Seq.{append-snoc, drop-drop, drop-set-lt, take-suc-set}
 use Rattle.ascii.specs.Tests.{pick}
 use Rattle.pieces.specs.declared.Line.{Line}
-use Rattle.rows.specs.Text.{row, isCoord}
+use Rattle.rows.specs.Text.{row}
+use Rattle.facets.specs.Facets.{isCoord}
 use Rattle.slots.specs.declared.Slot.{Slot}
 use Rattle.slots.specs.Slots.{lineSlot}
 use Rattle.table.specs.Table.{linesFrom, slotsOf, loadedOf, oneOf}

@@ -6,11 +6,12 @@ use mathlib.Core.Bool.{Bool, true, false}
 use mathlib.Core.Path.{_≡_, refl, sym, _∙_, ap}
 use native.Mathlib.Omega.{arith}
 use lib.ListN.{length, getD}
+use Rattle.facets.specs.Facets.{spotIn}
 use Rattle.ascii.specs.Tests.{pick, both}
 use Rattle.pieces.specs.declared.Line.{Line}
 use Rattle.rows.specs.Text.{row}
 use Rattle.slots.specs.declared.Slot.{Slot}
-use Rattle.slots.specs.Slots.{SmallLine, noSlot}
+use Rattle.slots.specs.Slots.{SmallSpot, noSlot}
 use Rattle.slots.proofs.Returns.{piece-small}
 use Rattle.table.specs.Table.{linesFrom, slotsOf, fits, fitsFrom, oneOf}
 use Rattle.table.specs.Deal.{stays}
@@ -18,7 +19,7 @@ use Rattle.table.proofs.Rows.{lines-next, lines-done, slots-count}
 use Rattle.store.specs.Judged.{keptFrom}
 
 -- an occupancy read from a line is one that a slot can hold
-pub row-small : (t : List ℕ) (i : ℕ) (l : Line) → l ≡ row t i → SmallLine l
+pub row-small : (t : List ℕ) (i : ℕ) (l : Line) → l ≡ row t i → SmallSpot (spotIn l)
 unfolding row
 row-small t i l e = rw e (piece-small _)
 

@@ -2,7 +2,7 @@
 -- Assumes nothing.
 use Prim.Native.Nat.{ℕ, _+_, _*_, _≤_, _<_}
 use mathlib.Core.List.{List}
-use mathlib.Core.Bool.{Bool, true, false, false≢true, true≢false}
+use mathlib.Core.Bool.{Bool, true, false, true≢false}
 use mathlib.Core.Path.{_≡_, refl, sym, _∙_}
 use native.Mathlib.Omega.{arith}
 use borrow.Author.Tests.{eqb-true, ltb-true, ltb-false, lt-ltb}
@@ -10,37 +10,28 @@ use lib.Dec.{eqb, ltb, leb}
 use lib.ListN.{length, getD}
 use Rattle.ascii.specs.Tests.{pick, both}
 use Rattle.ascii.proofs.Choice.{both-split}
-use Rattle.line.specs.declared.Record.{Record}
-use Rattle.line.specs.declared.Record.the-variants.{Coordinate, Ter, Helix, Sheet, Conect, Master, End}
 use Rattle.pieces.specs.declared.Line.{Line}
-use Rattle.pieces.specs.declared.Line.the-variants.{Bad, Wrong, Carried, Typed}
+use Rattle.facets.specs.declared.Spot.{Spot}
+use Rattle.facets.specs.declared.Spot.the-variants.{Site, Close, Nowhere}
 use Rattle.rules.specs.declared.State.{State}
-use Rattle.serials.specs.declared.Span.{Span}
-use Rattle.rows.specs.Text.{row, isSpot, isCoord}
+use Rattle.search.specs.declared.Span.{Span}
+use Rattle.search.specs.Search.{span}
+use Rattle.rows.specs.Text.{row}
+use Rattle.facets.specs.Facets.{spotIn, isCoord}
 use Rattle.serials.specs.Search.{spotSerial, serialOf, growOf, Block}
 use Rattle.gate.proofs.Sofar.{Sofar}
 use Rattle.slots.specs.declared.Slot.{Slot}
-use Rattle.slots.specs.Slots.{markAside, noSlot, recordSlot, lineSlot, sameSlot}
+use Rattle.slots.specs.Slots.{markAside, noSlot, spotSlot, lineSlot, sameSlot}
 use Rattle.table.specs.Table.{linesFrom, slotsOf, loadedOf, fits, oneOf, fitsFrom}
 use Rattle.table.specs.Deal.{stays}
 use Rattle.store.specs.Judged.{serialAt, Rises, keptFrom}
 use Rattle.store.proofs.Lines.{need-step, fits-step, kept-step}
 
 -- ---- a slot that fits a coordinate line has its serial
-spot-serial : (r : Record) → isSpot r ≡ true → recordSlot r .serial .0 ≡ spotSerial r
-spot-serial (Coordinate het a) e = refl
-spot-serial (Ter t) e = refl
-spot-serial (Helix h) e = absurd (false≢true e)
-spot-serial (Sheet s) e = absurd (false≢true e)
-spot-serial (Conect c) e = absurd (false≢true e)
-spot-serial (Master t) e = absurd (false≢true e)
-spot-serial End e = absurd (false≢true e)
-
-line-serial : (l : Line) → isCoord l ≡ true → lineSlot l .serial .0 ≡ serialOf l
-line-serial (Bad n) e = absurd (false≢true e)
-line-serial (Wrong k c) e = absurd (false≢true e)
-line-serial (Carried k) e = absurd (false≢true e)
-line-serial (Typed r) e = spot-serial r e
+spot-serial : (p : Spot) → spotSlot p .serial .0 ≡ spotSerial p
+spot-serial (Site het a) = refl
+spot-serial (Close t) = refl
+spot-serial Nowhere = refl
 
 same-serial : (s t : Slot) → sameSlot s t ≡ true → s .serial .0 ≡ t .serial .0
 unfolding sameSlot
@@ -51,10 +42,10 @@ fits-serial : (s : Slot) (l : Line) → isCoord l ≡ true → fits s l ≡ true
 unfolding fits
 fits-serial s l c f =
     let g : both (leb (s .mark) markAside) (sameSlot s (lineSlot l)) ≡ true = rw c at f in
-    same-serial s (lineSlot l) (both-split (leb (s .mark) markAside) (sameSlot s (lineSlot l)) g .1) ∙ line-serial l c
+    same-serial s (lineSlot l) (both-split (leb (s .mark) markAside) (sameSlot s (lineSlot l)) g .1) ∙ spot-serial (spotIn l)
 
 -- ---- after i good lines: k slots stand before, whether they fit, and how many lines stay
-pub record Looked (t : List ℕ) (xs : List Slot) (i : ℕ) (b : Span) (s : State) (k : ℕ) (fit : Bool) (n : ℕ) : Type 0 where
+pub record Seen (t : List ℕ) (xs : List Slot) (i : ℕ) (b : Span) (s : State) (k : ℕ) (fit : Bool) (n : ℕ) : Type 0 where
   pub sofar : Sofar t i b s
   pub spots : b .lo + k ≡ b .hi
   pub need : k + length (slotsOf (linesFrom t i)) ≡ length (loadedOf t)
@@ -63,9 +54,9 @@ pub record Looked (t : List ℕ) (xs : List Slot) (i : ℕ) (b : Span) (s : Stat
   pub kept : fit ≡ true → n + keptFrom xs k (linesFrom t i) ≡ keptFrom xs 0 (linesFrom t 0)
   pub few : n ≤ i
 
-pub looked-start : (t : List ℕ) (xs : List Slot) (s : State) → Sofar t 0 (record { lo = 0; hi = 0 }) s → Looked t xs 0 (record { lo = 0; hi = 0 }) s 0 true 0
+pub seen-start : (t : List ℕ) (xs : List Slot) (s : State) → Sofar t 0 (span 0 0) s → Seen t xs 0 (span 0 0) s 0 true 0
 unfolding both
-looked-start t xs s S =
+seen-start t xs s S =
     record {
       sofar = S;
       spots = refl;
@@ -77,8 +68,8 @@ looked-start t xs s S =
     }
 
 -- the serials of the slots before rise, as those of their lines do
-pub looked-rises : (t : List ℕ) (xs : List Slot) (i : ℕ) (b : Span) (s : State) (k : ℕ) (fit : Bool) (kept : ℕ) → Looked t xs i b s k fit kept → fit ≡ true → Rises xs k
-looked-rises t xs i b s k fit kept K e i' j z h g =
+pub seen-rises : (t : List ℕ) (xs : List Slot) (i : ℕ) (b : Span) (s : State) (k : ℕ) (fit : Bool) (kept : ℕ) → Seen t xs i b s k fit kept → fit ≡ true → Rises xs k
+seen-rises t xs i b s k fit kept K e i' j z h g =
     let u : serialOf (row t (b .lo + i')) < serialOf (row t (b .lo + j)) = K .sofar .block .rise (b .lo + i') (b .lo + j) (omega arith) (omega arith) (omega (arith, K .spots)) in
     rw (K .serials e i' (omega arith), K .serials e j g) u
 
@@ -100,7 +91,7 @@ joined t i b s u l el c B G h = go (ltb (b .hi) i) refl
         absurd (true≢false (sym p ∙ B .high (b .hi) (omega arith) g))
     go false e = let g : i ≤ b .hi = ltb-false _ _ e in omega (arith, B .hi-le)
 
-module _ (t : List ℕ) (xs : List Slot) (i : ℕ) (b : Span) (s : State) (k : ℕ) (fit : Bool) (kept : ℕ) (K : Looked t xs i b s k fit kept)
+module _ (t : List ℕ) (xs : List Slot) (i : ℕ) (b : Span) (s : State) (k : ℕ) (fit : Bool) (kept : ℕ) (K : Seen t xs i b s k fit kept)
     (h : 81 * i < length t) (l : Line) (el : l ≡ row t i) (b' : Span) (eb : b' ≡ growOf b i l) (s' : State) (S : Sofar t (i + 1) b' s')
     (here : Slot) (eh : here ≡ getD xs k noSlot) (good : Bool) (eg : good ≡ fits here l) where
   good-here : good ≡ fits (getD xs k noSlot) l
@@ -112,7 +103,7 @@ module _ (t : List ℕ) (xs : List Slot) (i : ℕ) (b : Span) (s : State) (k : �
       (rw q (omega (arith, K .spots)), λ f j g. rw q (K .serials (both-split fit good f .0) j (omega arith)))
   grown true e = inside (ltb (b .lo) (b .hi)) refl
     where
-      q : b' ≡ record { lo = pick (ltb (b .lo) (b .hi)) (b .lo) i; hi = i + 1 }
+      q : b' ≡ span (pick (ltb (b .lo) (b .hi)) (b .lo) i) (i + 1)
       q = eb ∙ rw e
 
       last : both fit good ≡ true → serialAt xs k ≡ serialOf (row t i)
@@ -137,15 +128,15 @@ module _ (t : List ℕ) (xs : List Slot) (i : ℕ) (b : Span) (s : State) (k : �
           let hi : b' .hi ≡ i + 1 = rw q in
           (omega arith, λ f j w. let z : j ≡ k = omega arith in let y : i + k ≡ i = omega arith in rw (lo, z, y) (last f))
 
-  pub looked-next : (stay : Bool) → (Rises xs k → stay ≡ stays xs k l) → Looked t xs (i + 1) b' s' (k + oneOf l) (both fit good) (kept + pick stay 1 0)
-  looked-next stay es =
+  pub seen-next : (stay : Bool) → (Rises xs k → stay ≡ stays xs k l) → Seen t xs (i + 1) b' s' (k + oneOf l) (both fit good) (kept + pick stay 1 0)
+  seen-next stay es =
       record {
         sofar = S;
         spots = grown (isCoord l) refl .0;
         need = need-step t i k (length (loadedOf t)) l h el (K .need);
         fitted = fits-step t xs i k l (fitsFrom xs 0 (linesFrom t 0)) fit good h el good-here (K .fitted);
         serials = grown (isCoord l) refl .1;
-        kept = λ f. let e = both-split fit good f .0 in kept-step t xs i k kept (keptFrom xs 0 (linesFrom t 0)) l stay h el (es (looked-rises t xs i b s k fit kept K e)) (K .kept e);
+        kept = λ f. let e = both-split fit good f .0 in kept-step t xs i k kept (keptFrom xs 0 (linesFrom t 0)) l stay h el (es (seen-rises t xs i b s k fit kept K e)) (K .kept e);
         few = more stay;
       }
     where

@@ -1,3 +1,4 @@
+-- Machine-made by tools/walks; do not edit.
 pub mod deal
 pub mod dealing
 pub mod judge
@@ -6,6 +7,6 @@ pub mod marking
 pub mod order
 pub mod put_slot
 pub mod save
-pub mod search
+pub mod seeking
 pub mod survey
 pub mod tray

@@ -14,8 +14,9 @@ use Rattle.places.specs.declared.Counts.{Counts}
 use Rattle.places.specs.Counts.{noCounts}
 use Rattle.places.specs.Room.{Room}
 use Rattle.rules.specs.Rules.{judgeOf}
-use Rattle.rows.specs.Text.{cut, pieceAt, row, down, isCoord}
-use Rattle.serials.specs.Known.{knownOf}
+use Rattle.rows.specs.Text.{cut, pieceAt, row, down}
+use Rattle.facets.specs.Facets.{isCoord}
+use Rattle.serials.specs.Known.{lookOf}
 use Rattle.gate.specs.Gate.{checkOf}
 use Rattle.rows.proofs.Cut.{cut-next, cut-done}
 use Rattle.gate.proofs.Runs.{stateAt, reached, answered}
@@ -61,7 +62,7 @@ module _ (t : List ℕ) (xs : List Slot) (saving : Bool) (e : List ℕ) (i k : �
   pub rises-here : Rises xs k
   rises-here a b z l g = W .dealable .rises a b z l (omega (arith, W .slots))
 
-  good-here : judgeOf (knownOf (down (row t) i) (row t i)) (stateAt (row t) i) (row t i) ≡ 0
+  good-here : judgeOf (lookOf (down (row t) i) (row t i)) (stateAt (row t) i) (row t i) ≡ 0
   good-here = answered t .good-to i good-line
 
   pub room-here : 81 * i < 9223372036854775808 → Room q
@@ -83,7 +84,7 @@ module _ (t : List ℕ) (xs : List Slot) (saving : Bool) (e : List ℕ) (i k : �
     pub small-here : isMaster l ≡ true → FiveDigits (tallyOf q)
     unfolding row
     small-here m =
-        master-fits (knownOf (down (row t) i) (row t i)) (stateAt (row t) i) q (row t i) (piece-plain (pieceAt t i)) good-here (W .under) (rw el at m)
+        master-fits (lookOf (down (row t) i) (row t i)) (stateAt (row t) i) q (row t i) (piece-plain (pieceAt t i)) good-here (W .under) (rw el at m)
 
     -- the rest is what this line gives, and the rest after it
     rest : (u : Counts) → u ≡ counted stay q l
@@ -135,7 +136,7 @@ module _ (t : List ℕ) (xs : List Slot) (saving : Bool) (e : List ℕ) (i k : �
         more false = omega (arith, W .few)
 
         under-more : Under (counted stay q l) (stateAt (row t) (suc i) .counts)
-        under-more = rw el (under-next (knownOf (down (row t) i) (row t i)) stay q (stateAt (row t) i) (row t i) (piece-plain (pieceAt t i)) good-here (W .under))
+        under-more = rw el (under-next (lookOf (down (row t) i) (row t i)) stay q (stateAt (row t) i) (row t i) (piece-plain (pieceAt t i)) good-here (W .under))
 
         behind : drop (at + length S) out ≡ drop (at + length S) e
         behind = sym (drop-drop (length S) at out) ∙ (ap (λ (r : List ℕ). drop (length S) r) (W .back) ∙ drop-drop (length S) at e)

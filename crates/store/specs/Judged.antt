@@ -1,18 +1,13 @@
 -- What the functions over a lent table say of it to one another. (Nothing here is part of an answer.)
-use Prim.Native.Nat.{ℕ, _+_, _*_, _-_, _≤_, _<_}
-use mathlib.Core.List.{List, [], _∷_}
-use mathlib.Core.Bool.{Bool, true}
-use mathlib.Core.Path.{_≡_}
-use lib.ListN.{length, getD}
-use Rattle.ascii.specs.Tests.{pick}
-use Rattle.pieces.specs.declared.Line.{Line}
+use Rattle.ascii.specs.Library.{ℕ, _+_, _*_, _-_, _≤_, _<_, List, [], _∷_, Bool, true, _≡_, length, getD, pick}
+use Rattle.pieces.specs.declared.{Line.Line}
 use Rattle.gate.specs.Gate.{checkOf}
-use Rattle.slots.specs.declared.Slot.{Slot}
+use Rattle.slots.specs.declared.{Slot.Slot}
 use Rattle.slots.specs.Slots.{noSlot}
 use Rattle.table.specs.Table.{linesFrom, loadedOf, oneOf, fitsFrom, fragments}
 use Rattle.table.specs.Deal.{stays}
-use Rattle.store.specs.declared.Findings.{Findings}
-use Rattle.store.specs.declared.Held.{Held}
+use Rattle.store.specs.declared.{Findings.Findings, Held.Held}
+use Rattle.search.specs.Search as search
 
 -- the serial of slot j
 abbrev pub serialAt : List Slot → ℕ → ℕ
@@ -20,7 +15,7 @@ serialAt xs j = getD xs j noSlot .serial .0
 
 -- the serials of the first k slots rise
 abbrev pub Rises : List Slot → ℕ → Type 0
-Rises xs k = (i j : ℕ) → 0 ≤ i → i < j → j < k → serialAt xs i < serialAt xs j
+Rises xs k = search.Rises (serialAt xs) 0 k
 
 -- how many of these lines stay
 unfoldable pub keptFrom : List Slot → ℕ → List Line → ℕ

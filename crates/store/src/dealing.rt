@@ -1,7 +1,8 @@
 // The lines of a text dealt out: to the saved entry, or to the tray.
 use super::Held;
-use super::search::slot_at;
-use super::search::stays;
+use super::seeking::slot_at;
+use super::seeking::stays;
+use search::Near;
 use slots::Slot;
 ghost use mathlib.Core.Path.{_≡_};
 ghost use Prim.Native.Nat.{_*_, _≤_};
@@ -32,10 +33,17 @@ pub fn write_all(text: &[u8], table: &[Slot], out: &mut [u8], saving: bool)
     let mut k: usize = 0;
     let mut at: usize = 0;
     let mut q = places::no_counts();
+    let mut near = Near {
+        place: 0,
+        number: 0,
+    };
     while 81 * i < text.len() {
         let l = rows::line_at(text, i);
         let here = slot_at(table, k);
-        let stay = stays(table, k, here, l);
+        let v = stays(table, k, near, here, l);
+        let stay = v.yes;
+        let ended = v.near;
+        near = ended;
         at = writing::put_share(text, i, l, saving, stay, q, out, at);
         q = writing::count_line(stay, q, l);
         k += marks::one_of(l);

@@ -1,7 +1,7 @@
 // A text with a lent table of slots: loading, orders, saving and the tray. The text and the table are judged anew at each call.
 mod dealing;
 mod marking;
-mod search;
+mod seeking;
 mod survey;
 
 use dealing::size_of;
@@ -12,13 +12,14 @@ use marking::mark_of;
 use marking::tail_of;
 use pieces::Line;
 use slots::Slot;
+use survey::count_slots;
 use survey::look_over;
 ghost use mathlib.Core.Path.{_≡_};
 ghost use Prim.Native.Nat.{_+_, _≤_};
 ghost use lib.ListN.{length, set};
 ghost use Rattle.ascii.specs.Tests.{pick};
-ghost use Rattle.rows.specs.Text.{isCoord};
-ghost use Rattle.slots.specs.Slots.{lineSlot, SmallLine};
+ghost use Rattle.facets.specs.Facets.{spotIn, isCoord};
+ghost use Rattle.slots.specs.Slots.{SmallSpot, lineSlot};
 ghost use Rattle.table.specs.Table.{told, oneOf, loadOf, tableOf, orderOf};
 ghost use Rattle.table.specs.Deal.{putOf, saveOf, trayOf};
 ghost use Rattle.store.specs.Judged.{Belongs};
@@ -27,6 +28,12 @@ ghost use Rattle.store.specs.Judged.{Belongs};
 pub struct Outcome {
     pub number: u8,
     pub count: usize,
+}
+
+// The number of a text, and if that is 0 how many slots it needs.
+pub struct Needs {
+    pub number: u8,
+    pub need: usize,
 }
 
 // What one pass over the text says of text and table: the number of the text, and if that is 0 how many slots it needs, whether the slots
@@ -52,7 +59,7 @@ pub struct Held {
 pub fn load(text: &[u8], table: &mut [Slot]) -> Outcome
     ensures { λ r. ⌜ told (r .number) (r .count) (now (table .exit)) ≡ loadOf (now (text .entry)) (now (table .entry)) ⌝ }
 {
-    let v = look_over(text, table);
+    let v = count_slots(text);
     if v.number != 0 {
         return Outcome {
             number: v.number,
@@ -82,11 +89,11 @@ pub fn load(text: &[u8], table: &mut [Slot]) -> Outcome
 // The slot of a line that has one is stored; where the next one goes.
 fn put_slot(table: &mut [Slot], k: usize, l: Line) -> usize
     requires { ⌜ k + oneOf l ≤ length (now table) ⌝ }
-    requires { ⌜ SmallLine l ⌝ }
+    requires { ⌜ SmallSpot (spotIn l) ⌝ }
     ensures { λ r. ⌜ r ≡ k + oneOf l ⌝ }
     ensures { λ r. ⌜ now (table .exit) ≡ pick (isCoord l) (set (now (table .entry)) k (lineSlot l)) (now (table .entry)) ⌝ }
 {
-    if rows::is_coord(l) {
+    if facets::is_coord(l) {
         let s = slots::line_slot(l);
         table[k] = s;
         k + 1

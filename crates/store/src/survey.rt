@@ -1,11 +1,14 @@
 // One pass over the text: its check, and with each good line the slot that the table has for it.
 use super::Findings;
-use super::search::slot_at;
-use super::search::stays;
-use serials::Span;
+use super::Needs;
+use super::seeking::slot_at;
+use super::seeking::stays;
+use search::Near;
 use slots::Slot;
 ghost use mathlib.Core.Path.{_≡_};
+ghost use lib.ListN.{length};
 ghost use Rattle.gate.specs.Gate.{checkOf};
+ghost use Rattle.table.specs.Table.{loadedOf};
 ghost use Rattle.store.specs.Judged.{Surveyed};
 
 pub fn look_over(text: &[u8], table: &[Slot]) -> Findings
@@ -13,34 +16,39 @@ pub fn look_over(text: &[u8], table: &[Slot]) -> Findings
     ensures { λ r. ⌜ (r .number ≡ 0 → Surveyed (now (text .entry)) (now (table .entry)) r) ⌝ }
 {
     let mut i: usize = 0;
-    let mut s = rules::start();
-    let mut b = Span { lo: 0, hi: 0 };
+    let mut c = gate::start();
     let mut k: usize = 0;
     let mut fit = true;
     let mut kept: usize = 0;
+    let mut near = Near {
+        place: 0,
+        number: 0,
+    };
     while 81 * i < text.len() {
         let l = rows::line_at(text, i);
-        let known = serials::known(text, b, l);
-        let j = rules::judge(known, s, l);
-        if j != 0 {
+        let t = gate::turn(text, i, c, l);
+        if t.number != 0 {
             return Findings {
-                number: j,
+                number: t.number,
                 need: 0,
                 fits: false,
                 kept: 0,
                 lines: 0,
             };
         }
-        b = serials::grow(b, i, l);
-        s = rules::next(s, l);
+        let d = t.course;
+        c = d;
         let here = slot_at(table, k);
         let good = marks::fits(here, l);
         fit = ascii::both_of(fit, good);
-        let stay = stays(table, k, here, l);
-        kept += marks::one_if(stay);
+        let stay = stays(table, k, near, here, l);
+        let at = stay.near;
+        near = at;
+        kept += marks::one_if(stay.yes);
         k += marks::one_of(l);
         i += 1;
     }
+    let s = c.state;
     let v = gate::finish(s);
     Findings {
         number: v.number,
@@ -48,5 +56,32 @@ pub fn look_over(text: &[u8], table: &[Slot]) -> Findings
         fits: fit,
         kept: kept,
         lines: i,
+    }
+}
+
+// The check of the text, and how many slots it needs.
+pub fn count_slots(text: &[u8]) -> Needs
+    ensures { λ r. ⌜ r .number ≡ checkOf (now (text .entry)) .number ⌝ }
+    ensures { λ r. ⌜ (r .number ≡ 0 → r .need ≡ length (loadedOf (now (text .entry)))) ⌝ }
+{
+    let mut i: usize = 0;
+    let mut c = gate::start();
+    let mut k: usize = 0;
+    while 81 * i < text.len() {
+        let l = rows::line_at(text, i);
+        let t = gate::turn(text, i, c, l);
+        let n = t.number;
+        if n != 0 {
+            return Needs { number: n, need: 0 };
+        }
+        c = t.course;
+        k += marks::one_of(l);
+        i += 1;
+    }
+    let s = c.state;
+    let v = gate::finish(s);
+    Needs {
+        number: v.number,
+        need: k,
     }
 }

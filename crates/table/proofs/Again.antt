@@ -14,7 +14,7 @@ use Rattle.rules.specs.declared.State.{State}
 use Rattle.places.specs.Counts.{noCounts}
 use Rattle.rules.specs.Rules.{nextOf, startOf}
 use Rattle.rows.specs.Text.{cut}
-use Rattle.serials.specs.Known.{knownOf}
+use Rattle.serials.specs.Known.{lookOf}
 use Rattle.gate.specs.Gate.{checkLines, checkOf}
 use Rattle.slots.specs.declared.Slot.{Slot}
 use Rattle.table.specs.Table.{linesFrom, loadedOf, oneOf, tableOf}
@@ -39,7 +39,7 @@ unfolding shares savedLines written
 shares-lines seen s xs j q [] f u = refl
 shares-lines seen s xs j q (p ∷ ps) f u =
     let l = lineOf p in
-    let known = knownOf seen l in
+    let known = lookOf seen l in
     map-pick (stays xs j l) (written q p) _ (recounted q l) _
     (written-line known s q p l refl (f .0) (f .1) u)
     (shares-lines (l ∷ seen) (nextOf s l) xs (j + oneOf l) (counted (stays xs j l) q l) ps (f .2) (under-next known (stays xs j l) q s l (f .0) (f .1) u))

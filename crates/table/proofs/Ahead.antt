@@ -6,16 +6,19 @@ use mathlib.Core.Bool.{Bool, true, false, not}
 use mathlib.Core.Path.{_≡_, refl, sym, _∙_, ap}
 use mathlib.Core.Logic.{inl, ⊎-elim}
 use native.Mathlib.Omega.{arith}
+use Rattle.serials.specs.Known.{lookOf}
+use Rattle.rules.specs.declared.Looked.{Looked}
 use Rattle.ascii.specs.Tests.{pick, either}
 use Rattle.ascii.proofs.Choice.{never, either-none}
 use Rattle.kinds.specs.declared.Kind.the-variants as kind
+use Rattle.kinds.specs.Kinds.{rowOf}
 use Rattle.line.specs.declared.Record.{Record}
 use Rattle.line.specs.declared.Record.the-variants.{Coordinate, Ter, Helix, Sheet, Conect, Master, End}
 use Rattle.pieces.specs.declared.Line.{Line}
 use Rattle.pieces.specs.declared.Line.the-variants.{Bad, Wrong, Carried, Typed}
 use Rattle.rules.specs.declared.Run.{Run}
 use Rattle.rules.specs.declared.State.{State}
-use Rattle.places.specs.Places.{placeOf, placeBad, coordinatePlace, endPlace}
+use Rattle.places.specs.Places.{placeBad, coordinatePlace, endPlace}
 use Rattle.rules.specs.Rules.{noRun, siteNext, judgeOf, carriedNext, typedNext, nextOf}
 use Rattle.places.proofs.Laws.{place-high}
 use Rattle.rules.proofs.Laws.{Good, judge-typed, judge-carried, judge-wrong}
@@ -25,7 +28,7 @@ use Rattle.table.proofs.Fine.{Fine}
 use Rattle.table.proofs.Paired.{closes}
 
 -- ---- the place of ATOM and of HETATM is one
-pub site-here : (het : Bool) → placeOf (pick het kind.Hetatm kind.Atom) .here ≡ coordinatePlace
+pub site-here : (het : Bool) → rowOf (pick het kind.Hetatm kind.Atom) .here ≡ coordinatePlace
 site-here true = refl
 site-here false = refl
 
@@ -52,7 +55,7 @@ sane-after t h g e = record { early = λ b. absurd (not-before (t .place) h g b)
 sane-before : (t : State) → t .run ≡ noRun → Sane t
 sane-before t e = record { early = λ b. e; late = λ h g. ap (λ (r : Run). r .atom) e }
 
-sane-typed : (known : Bool) (s : State) (r : Record) → Sane s → Good known s r → Sane (typedNext s r)
+sane-typed : (known : Looked) (s : State) (r : Record) → Sane s → Good known s r → Sane (typedNext s r)
 unfolding typedNext
 sane-typed known s (Coordinate het a) S g = sane-here _ (site-here het)
 sane-typed known s (Ter t) S g = sane-here _ refl
@@ -62,7 +65,7 @@ sane-typed known s (Conect c) S g = sane-after _ (omega arith) (omega arith) (g 
 sane-typed known s (Master t) S g = sane-after _ (omega arith) (omega arith) (g .run)
 sane-typed known s End S g = sane-after _ (omega arith) (omega arith) (g .run)
 
-pub sane-next : (known : Bool) (s : State) (l : Line) → Sane s → Plain l → judgeOf known s l ≡ 0 → Sane (nextOf s l)
+pub sane-next : (known : Looked) (s : State) (l : Line) → Sane s → Plain l → judgeOf known s l ≡ 0 → Sane (nextOf s l)
 unfolding nextOf carriedNext judgeOf
 sane-next known s (Bad n) S p e = absurd (omega arith)
 sane-next known s (Wrong k column) S p e = absurd (judge-wrong known s k column e)
@@ -74,8 +77,8 @@ pub no-close : (seen : List Line) (s : State) (ls : List Line) → Fine seen s l
 unfolding nextOf typedNext judgeOf closes either
 no-close seen s [] f h g = refl
 no-close seen s (Bad n ∷ ls) f h g = absurd (omega (arith, f .0, f .1))
-no-close seen s (Wrong k column ∷ ls) f h g = absurd (judge-wrong true s k column (f .1))
-no-close seen s (Carried k ∷ ls) f h g = absurd (not-before (s .place) (omega arith) g (f .0 .after (s .place) (judge-carried true s k (f .1) .0)))
+no-close seen s (Wrong k column ∷ ls) f h g = absurd (judge-wrong (lookOf seen (Wrong k column)) s k column (f .1))
+no-close seen s (Carried k ∷ ls) f h g = absurd (not-before (s .place) (omega arith) g (f .0 .after (s .place) (judge-carried (lookOf seen (Carried k)) s k (f .1) .0)))
 no-close seen s (Typed (Coordinate het a) ∷ ls) f h g =
     let q : placeBad (s .place) kind.Atom ≡ false = sym (site-place (s .place) het) ∙ judge-typed _ s _ (f .1) .place in
     absurd (omega (arith, place-high (s .place) kind.Atom q))
@@ -91,8 +94,8 @@ pub no-atom : (seen : List Line) (s : State) (ls : List Line) → Sane s → Fin
 unfolding nextOf typedNext judgeOf closes either siteNext
 no-atom seen s [] S f c = S .late (omega arith) (omega arith)
 no-atom seen s (Bad n ∷ ls) S f c = absurd (omega (arith, f .0, f .1))
-no-atom seen s (Wrong k column ∷ ls) S f c = absurd (judge-wrong true s k column (f .1))
-no-atom seen s (Carried k ∷ ls) S f c = ap (λ (r : Run). r .atom) (S .early (f .0 .after (s .place) (judge-carried true s k (f .1) .0)))
+no-atom seen s (Wrong k column ∷ ls) S f c = absurd (judge-wrong (lookOf seen (Wrong k column)) s k column (f .1))
+no-atom seen s (Carried k ∷ ls) S f c = ap (λ (r : Run). r .atom) (S .early (f .0 .after (s .place) (judge-carried (lookOf seen (Carried k)) s k (f .1) .0)))
 no-atom seen s (Typed (Coordinate het a) ∷ ls) S f c =
     either-none (s .run .atom) (not het) (no-atom _ (nextOf s (Typed (Coordinate het a))) ls (sane-next _ s (Typed (Coordinate het a)) S (f .0) (f .1)) (f .2) c) .0
 no-atom seen s (Typed (Ter t) ∷ ls) S f c = never (sym c)

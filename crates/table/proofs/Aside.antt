@@ -13,7 +13,8 @@ use Rattle.ascii.specs.Tests.{pick, either}
 use Rattle.ascii.proofs.Choice.{both-split}
 use Rattle.pieces.specs.declared.Line.{Line}
 use Rattle.pieces.specs.declared.Line.the-variants.{Bad}
-use Rattle.rows.specs.Text.{row, isCoord}
+use Rattle.rows.specs.Text.{row}
+use Rattle.facets.specs.Facets.{isCoord}
 use Rattle.gate.specs.Gate.{checkOf}
 use Rattle.slots.specs.declared.Slot.{Slot}
 use Rattle.slots.specs.Slots.{markAside, noSlot}

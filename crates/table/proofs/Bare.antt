@@ -4,6 +4,7 @@ use Prim.Native.Nat.{ℕ, _+_}
 use mathlib.Core.List.{List, [], _∷_, map}
 use mathlib.Core.Bool.{Bool, true, false}
 use mathlib.Core.Path.{_≡_, refl, ap₂}
+use Rattle.rules.specs.declared.Looked.{Looked}
 use Rattle.ascii.specs.Tests.{pick, alike}
 use Rattle.line.specs.declared.Record.the-variants.{Master}
 use Rattle.pieces.specs.declared.Line.{Line}
@@ -14,7 +15,7 @@ use Rattle.rules.specs.declared.State.{State}
 use Rattle.places.specs.Counts.{noCounts}
 use Rattle.rules.specs.Rules.{judgeOf, nextOf, startOf}
 use Rattle.rows.specs.Text.{cut}
-use Rattle.serials.specs.Known.{knownOf}
+use Rattle.serials.specs.Known.{lookOf}
 use Rattle.gate.specs.Gate.{checkOf}
 use Rattle.slots.specs.declared.Slot.{Slot}
 use Rattle.table.specs.Table.{oneOf}
@@ -26,7 +27,7 @@ use Rattle.table.proofs.Shares.{shares}
 use Rattle.table.proofs.Recount.{Under, under-start, under-next, written-line}
 
 -- a piece written is the piece read, apart from a MASTER line's counts
-bare-written : (known : Bool) (s : State) (q : Counts) (p : List ℕ) → Plain (lineOf p) → judgeOf known s (lineOf p) ≡ 0 → Under q (s .counts)
+bare-written : (known : Looked) (s : State) (q : Counts) (p : List ℕ) → Plain (lineOf p) → judgeOf known s (lineOf p) ≡ 0 → Under q (s .counts)
     → bare (written q p) ≡ bare p
 unfolding bare written
 bare-written known s q p plain g u = go (isMaster (lineOf p)) refl (written-line known s q p (lineOf p) refl plain g u)
@@ -42,7 +43,7 @@ unfolding shares staysFrom those
 bare-from seen s xs j q [] f u = refl
 bare-from seen s xs j q (p ∷ ps) f u =
     let l = lineOf p in
-    let known = knownOf seen l in
+    let known = lookOf seen l in
     let stay : Bool = stays xs j l in
     go (bare-written known s q p (f .0) (f .1) u) stay _ _
     (bare-from (l ∷ seen) (nextOf s l) xs (j + oneOf l) (counted stay q l) ps (f .2) (under-next known stay q s l (f .0) (f .1) u))

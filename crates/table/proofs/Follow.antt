@@ -8,6 +8,8 @@ use mathlib.Core.Logic.{inl, inr}
 use native.Mathlib.Omega.{arith}
 use native.Mathlib.Nat.{le-trans, le-of-lt, le-refl}
 use borrow.Author.Tests.{leb-false, not-false}
+use Rattle.serials.specs.Known.{lookOf}
+use Rattle.rules.specs.declared.Looked.{Looked}
 use Rattle.ascii.specs.Tests.{both, either}
 use Rattle.ascii.proofs.Choice.{never}
 use Rattle.kinds.specs.declared.Kind.the-variants as kind
@@ -95,8 +97,8 @@ site-run r k het chain false x y z g = rw (not-false het (z refl), y refl)
 
 module _ (xs : List Slot) (j : ℕ) (seen : List Line) (s k : State) (het : Bool) (a : Atom) (ls : List Line) (S : Sane s)
     (f : Fine seen s (Typed (Coordinate het a) ∷ ls)) (B : Beside xs j (Typed (Coordinate het a)) ls) (M : Follows xs j s k (Typed (Coordinate het a) ∷ ls)) where
-  site-good : Good true s (Coordinate het a)
-  site-good = judge-typed true s (Coordinate het a) (f .1)
+  site-good : Good (lookOf seen (Typed (Coordinate het a))) s (Coordinate het a)
+  site-good = judge-typed _ s (Coordinate het a) (f .1)
 
   site-low : placeBad (s .place) kind.Atom ≡ false
   site-low = sym (site-place (s .place) het) ∙ site-good .place
@@ -114,9 +116,9 @@ module _ (xs : List Slot) (j : ℕ) (seen : List Line) (s k : State) (het : Bool
   unfolding nextOf typedNext siteNext
   site-het c = tail-het _ (nextOf s (Typed (Coordinate het a))) (s .run) het ls (sane-next _ s (Typed (Coordinate het a)) S (f .0) (f .1)) (f .2) refl c
 
-  pub site-judged : (v : Bool) → isIn xs j ≡ true → judgeOf v k (Typed (Coordinate het a)) ≡ 0
+  pub site-judged : (v : Looked) → isIn xs j ≡ true → judgeOf v k (Typed (Coordinate het a)) ≡ 0
   site-judged v i =
-      good-trails true v s k (Coordinate het a) (M .trails) site-good
+      good-trails _ v s k (Coordinate het a) (M .trails) site-good
       (site-place (k .place) het ∙ place-behind (k .place) (s .place) kind.Atom refl (M .trails .place) site-low)
       (site-run (s .run) (k .run) het (a .identity .residue .chain) (closes ls) (λ c. in-run _ _ (isIn xs j) i (site-closed c)) site-tail site-het (site-good .run))
       refl refl
@@ -152,14 +154,14 @@ module _ (xs : List Slot) (j : ℕ) (seen : List Line) (s k : State) (het : Bool
       }
 
 -- ---- TER lines
-module _ (xs : List Slot) (j : ℕ) (s k : State) (t : TerOf) (ls : List Line) (g : Good true s (Ter t)) (M : Follows xs j s k (Typed (Ter t) ∷ ls)) where
+module _ (xs : List Slot) (j : ℕ) (s k : State) (t : TerOf) (ls : List Line) (look : Looked) (g : Good look s (Ter t)) (M : Follows xs j s k (Typed (Ter t) ∷ ls)) where
   ter-closed : RunOn (s .run) (k .run) (isIn xs j)
   unfolding closes either
   ter-closed = M .closed refl
 
-  pub ter-judged : (v : Bool) → isIn xs j ≡ true → judgeOf v k (Typed (Ter t)) ≡ 0
+  pub ter-judged : (v : Looked) → isIn xs j ≡ true → judgeOf v k (Typed (Ter t)) ≡ 0
   ter-judged v i =
-      good-trails true v s k (Ter t) (M .trails) g (place-behind (k .place) (s .place) kind.Ter refl (M .trails .place) (g .place))
+      good-trails _ v s k (Ter t) (M .trails) g (place-behind (k .place) (s .place) kind.Ter refl (M .trails .place) (g .place))
       (rw (in-run _ _ (isIn xs j) i ter-closed) (g .run)) refl refl
 
   pub ter-in : Follows xs (j + 1) (nextOf s (Typed (Ter t))) (nextOf k (Typed (Ter t))) ls

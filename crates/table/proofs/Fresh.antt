@@ -18,16 +18,15 @@ use Rattle.names.specs.declared.Three.{Three}
 use Rattle.names.specs.declared.Four.{Four}
 use Rattle.coordinate.specs.declared.Position.{Position}
 use Rattle.residue.specs.declared.Residue.{Residue}
-use Rattle.line.specs.declared.Record.{Record}
-use Rattle.line.specs.declared.Record.the-variants.{Coordinate, Ter, Helix, Sheet, Conect, Master, End}
 use Rattle.pieces.specs.declared.Line.{Line}
-use Rattle.pieces.specs.declared.Line.the-variants.{Bad, Wrong, Carried, Typed}
 use Rattle.residue.specs.Residues.{sameResidue}
 use Rattle.gate.specs.Gate.{checkOf}
-use Rattle.rows.specs.Text.{isCoord}
+use Rattle.facets.specs.declared.Spot.{Spot}
+use Rattle.facets.specs.declared.Spot.the-variants.{Site, Close, Nowhere}
+use Rattle.facets.specs.Facets.{spotIn, isCoord}
 use Rattle.slots.specs.declared.Slot.{Slot}
 use Rattle.names.specs.Names.{samePair, sameFour, sameThree}
-use Rattle.slots.specs.Slots.{markIn, markAside, noSlot, recordSlot, lineSlot, samePosition, sameMeasures, residueOf, sameNames, sameSlot}
+use Rattle.slots.specs.Slots.{markIn, markAside, noSlot, spotSlot, lineSlot, samePosition, sameMeasures, residueOf, sameNames, sameSlot}
 use Rattle.fragments.specs.Fragments.{joins, stepTail, tailOf, markOf}
 use Rattle.table.specs.Table.{over, linesFrom, slotsOf, loadedOf, fits, fitsFrom, mine}
 use Rattle.table.proofs.Ready.{Ready}
@@ -76,20 +75,13 @@ slot-self s =
     (both-join _ _ (position-self (s .position)) (both-join _ _ (integer-self (s .occupancy)) (integer-self (s .temperature))))))
 
 -- ---- no slot of a line is aside
-record-in : (r : Record) → recordSlot r .mark ≡ markIn
-record-in (Coordinate het a) = refl
-record-in (Ter t) = refl
-record-in (Helix h) = refl
-record-in (Sheet s) = refl
-record-in (Conect c) = refl
-record-in (Master t) = refl
-record-in End = refl
+spot-in : (p : Spot) → spotSlot p .mark ≡ markIn
+spot-in (Site het a) = refl
+spot-in (Close t) = refl
+spot-in Nowhere = refl
 
 pub line-in : (l : Line) → lineSlot l .mark ≡ markIn
-line-in (Bad n) = refl
-line-in (Wrong k column) = refl
-line-in (Carried k) = refl
-line-in (Typed r) = record-in r
+line-in l = spot-in (spotIn l)
 
 own-fits : (l : Line) → both (leb (lineSlot l .mark) markAside) (sameSlot (lineSlot l) (lineSlot l)) ≡ true
 own-fits l = both-join _ _ (rw (line-in l)) (slot-self (lineSlot l))

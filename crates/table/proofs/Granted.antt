@@ -8,6 +8,7 @@ use mathlib.Core.Logic.{inl, inr}
 use native.Mathlib.Omega.{arith}
 use native.Mathlib.Nat.{le-trans, le-refl}
 use borrow.Author.Tests.{not-true}
+use Rattle.facets.specs.declared.Bond.the-variants.{Bonds}
 use Rattle.ascii.specs.Tests.{either}
 use Rattle.kinds.specs.declared.Kind.{Kind}
 use Rattle.kinds.specs.declared.Kind.the-variants as kind
@@ -25,9 +26,9 @@ use Rattle.rules.specs.declared.State.{State}
 use Rattle.rules.specs.Rules.{noRun, judgeOf, carriedNext, typedNext, nextOf, startOf}
 use Rattle.places.proofs.Laws.{place-low, place-high}
 use Rattle.rules.proofs.Laws.{Good, judge-typed, judge-carried, judge-wrong}
-use Rattle.serials.specs.Known.{isSite, someOf, knownOf}
+use Rattle.serials.specs.Known.{isSite, someOf, bondKnown, lookOf}
 use Rattle.gate.specs.Gate.{numberIn, checkLines}
-use Rattle.rows.specs.Text.{isCoord}
+use Rattle.facets.specs.Facets.{isCoord}
 use Rattle.serials.specs.Search.{Before}
 use Rattle.slots.specs.declared.Slot.{Slot}
 use Rattle.table.specs.Deal.{stays, tallyOf}
@@ -62,34 +63,34 @@ module _ (xs : List Slot) (j : ℕ) (seen kept : List Line) (s k : State) (H : H
   keep-carried : (x : Kind) (ls : List Line) → Again xs j ls → Fine seen s (Carried x ∷ ls) → Paired xs j (Carried x ∷ ls) → Follows xs j s k (Carried x ∷ ls) → Kept xs j kept k (Carried x ∷ ls)
   unfolding nextOf carriedNext stays
   keep-carried x ls again f P M =
-      let b : Before (s .place) = f .0 .after (s .place) (judge-carried true s x (f .1) .0) in
+      let b : Before (s .place) = f .0 .after (s .place) (judge-carried (lookOf seen (Carried x)) s x (f .1) .0) in
       let T = M .trails in
       stay (Carried x) (Carried x) ls again f P (λ n. refl) refl (saved-stay xs j (k .counts) (Carried x) ls refl refl)
-      (carried-trails true true s k x (behind-before (k .place) (s .place) (T .place) b) (T .ladder) (f .1))
+      (carried-trails (lookOf seen (Carried x)) (lookOf kept (Carried x)) s k x (behind-before (k .place) (s .place) (T .place) b) (T .ladder) (f .1))
       (front-next xs j s k (nextOf s (Carried x)) (nextOf k (Carried x)) (Carried x) ls S M b refl refl
       (record { place = inl refl; last = T .last; bond = T .bond; helix = T .helix; ladder = T .ladder }))
 
   keep-helix : (h : HelixOf) (ls : List Line) → Again xs j ls → Fine seen s (Typed (Helix h) ∷ ls) → Paired xs j (Typed (Helix h) ∷ ls) → Follows xs j s k (Typed (Helix h) ∷ ls) → Kept xs j kept k (Typed (Helix h) ∷ ls)
   unfolding nextOf typedNext stays
   keep-helix h ls again f P M =
-      let g = judge-typed true s (Helix h) (f .1) in
+      let g = judge-typed _ s (Helix h) (f .1) in
       let b : Before (s .place) = inl (omega (arith, place-high (s .place) kind.Helix (g .place))) in
       let T = M .trails in
       let r : k .run .atom ≡ false = ap (λ (y : Run). y .atom) (M .early b) in
       stay (Typed (Helix h)) (Typed (Helix h)) ls again f P (λ n. refl) refl (saved-stay xs j (k .counts) (Typed (Helix h)) ls refl refl)
-      (good-trails true true s k (Helix h) T g (place-behind (k .place) (s .place) kind.Helix refl (T .place) (g .place)) r refl refl)
+      (good-trails _ _ s k (Helix h) T g (place-behind (k .place) (s .place) kind.Helix refl (T .place) (g .place)) r refl refl)
       (front-next xs j s k (nextOf s (Typed (Helix h))) (nextOf k (Typed (Helix h))) (Typed (Helix h)) ls S M b refl refl
       (record { place = inl refl; last = T .last; bond = T .bond; helix = refl; ladder = T .ladder }))
 
   keep-sheet : (h : SheetOf) (ls : List Line) → Again xs j ls → Fine seen s (Typed (Sheet h) ∷ ls) → Paired xs j (Typed (Sheet h) ∷ ls) → Follows xs j s k (Typed (Sheet h) ∷ ls) → Kept xs j kept k (Typed (Sheet h) ∷ ls)
   unfolding nextOf typedNext stays
   keep-sheet h ls again f P M =
-      let g = judge-typed true s (Sheet h) (f .1) in
+      let g = judge-typed _ s (Sheet h) (f .1) in
       let b : Before (s .place) = inl (omega (arith, place-high (s .place) kind.Sheet (g .place))) in
       let T = M .trails in
       let r : k .run .atom ≡ false = ap (λ (y : Run). y .atom) (M .early b) in
       stay (Typed (Sheet h)) (Typed (Sheet h)) ls again f P (λ n. refl) refl (saved-stay xs j (k .counts) (Typed (Sheet h)) ls refl refl)
-      (good-trails true true s k (Sheet h) T g (place-behind (k .place) (s .place) kind.Sheet refl (T .place) (g .place)) r refl refl)
+      (good-trails _ _ s k (Sheet h) T g (place-behind (k .place) (s .place) kind.Sheet refl (T .place) (g .place)) r refl refl)
       (front-next xs j s k (nextOf s (Typed (Sheet h))) (nextOf k (Typed (Sheet h))) (Typed (Sheet h)) ls S M b refl refl
       (record { place = inl refl; last = T .last; bond = T .bond; helix = T .helix; ladder = refl }))
 
@@ -102,7 +103,7 @@ module _ (xs : List Slot) (j : ℕ) (seen kept : List Line) (s k : State) (H : H
       go : (b : Bool) → isIn xs j ≡ b → Kept xs j kept k (Typed (Coordinate het a) ∷ ls)
       go true i =
           rw (saved-in xs j (k .counts) (Typed (Coordinate het a)) ls refl i)
-          (granted-step kept k (Typed (Coordinate het a)) _ (site-judged xs j seen s k het a ls S f (P .0 refl) M true i)
+          (granted-step kept k (Typed (Coordinate het a)) _ (site-judged xs j seen s k het a ls S f (P .0 refl) M _ i)
           (again _ _ (nextOf s (Typed (Coordinate het a))) (nextOf k (Typed (Coordinate het a))) (held-in xs j seen kept H _ ls (P .0 refl)) (sane-next _ s _ S (f .0) (f .1)) (f .2) (paired-site xs j _ ls refl P)
           (site-in xs j seen s k het a ls S f (P .0 refl) M i)))
       go false i =
@@ -118,13 +119,13 @@ module _ (xs : List Slot) (j : ℕ) (seen kept : List Line) (s k : State) (H : H
       go : (b : Bool) → isIn xs j ≡ b → Kept xs j kept k (Typed (Ter t) ∷ ls)
       go true i =
           rw (saved-in xs j (k .counts) (Typed (Ter t)) ls refl i)
-          (granted-step kept k (Typed (Ter t)) _ (ter-judged xs j s k t ls (judge-typed true s (Ter t) (f .1)) M true i)
+          (granted-step kept k (Typed (Ter t)) _ (ter-judged xs j s k t ls _ (judge-typed _ s (Ter t) (f .1)) M _ i)
           (again _ _ (nextOf s (Typed (Ter t))) (nextOf k (Typed (Ter t))) (held-in xs j seen kept H _ ls (P .0 refl)) (sane-next _ s _ S (f .0) (f .1)) (f .2) (paired-site xs j _ ls refl P)
-          (ter-in xs j s k t ls (judge-typed true s (Ter t) (f .1)) M)))
+          (ter-in xs j s k t ls _ (judge-typed _ s (Ter t) (f .1)) M)))
       go false i =
           rw (saved-out xs j (k .counts) (Typed (Ter t)) ls refl i)
           (again _ _ (nextOf s (Typed (Ter t))) k (held-out xs j seen kept H _ ls (P .0 refl) i) (sane-next _ s _ S (f .0) (f .1)) (f .2) (paired-site xs j _ ls refl P)
-          (ter-out xs j s k t ls (judge-typed true s (Ter t) (f .1)) M i))
+          (ter-out xs j s k t ls _ (judge-typed _ s (Ter t) (f .1)) M i))
 
   -- CONECT, by whether it names an atom set aside
   keep-bond : (c : ConectOf) (ls : List Line) → Again xs j ls → Fine seen s (Typed (Conect c) ∷ ls) → Paired xs j (Typed (Conect c) ∷ ls)
@@ -132,8 +133,8 @@ module _ (xs : List Slot) (j : ℕ) (seen kept : List Line) (s k : State) (H : H
   unfolding nextOf typedNext stays closes either
   keep-bond c ls again f P M = go (stays xs j (Typed (Conect c))) refl
     where
-      g : Good (knownOf seen (Typed (Conect c))) s (Conect c)
-      g = judge-typed (knownOf seen (Typed (Conect c))) s (Conect c) (f .1)
+      g : Good (lookOf seen (Typed (Conect c))) s (Conect c)
+      g = judge-typed (lookOf seen (Typed (Conect c))) s (Conect c) (f .1)
 
       low : 1 ≤ s .place
       low = place-low (s .place) kind.Conect (g .place)
@@ -141,8 +142,8 @@ module _ (xs : List Slot) (j : ℕ) (seen kept : List Line) (s k : State) (H : H
       high : s .place ≤ 19
       high = place-high (s .place) kind.Conect (g .place)
 
-      bond : (knownOf seen (Typed (Conect c)) ≡ true) × (s .bond ≤ c .serial .0)
-      bond = bond-split (knownOf seen (Typed (Conect c))) (s .bond) c (g .bond)
+      bond : (bondKnown seen (Bonds c) ≡ true) × (s .bond ≤ c .serial .0)
+      bond = bond-split (bondKnown seen (Bonds c)) (s .bond) c (g .bond)
 
       none : closes ls ≡ false
       none = no-close _ (nextOf s (Typed (Conect c))) ls (f .2) (omega arith) (omega arith)
@@ -153,8 +154,8 @@ module _ (xs : List Slot) (j : ℕ) (seen kept : List Line) (s k : State) (H : H
       go : (b : Bool) → stays xs j (Typed (Conect c)) ≡ b → Kept xs j kept k (Typed (Conect c) ∷ ls)
       go true i =
           stay (Typed (Conect c)) (Typed (Conect c)) ls again f P (λ n. refl) refl (saved-stay xs j (k .counts) (Typed (Conect c)) ls refl i)
-          (good-trails (knownOf seen (Typed (Conect c))) (knownOf kept (Typed (Conect c))) s k (Conect c) (M .trails) g (place-behind (k .place) (s .place) kind.Conect refl (M .trails .place) (g .place)) idle
-          (bond-join (knownOf kept (Typed (Conect c))) (k .bond) c (held-bond xs j seen kept H c (bond .0) (not-true _ i)) (le-trans (M .trails .bond) (bond .1))) refl)
+          (good-trails (lookOf seen (Typed (Conect c))) (lookOf kept (Typed (Conect c))) s k (Conect c) (M .trails) g (place-behind (k .place) (s .place) kind.Conect refl (M .trails .place) (g .place)) idle
+          (bond-join (bondKnown kept (Bonds c)) (k .bond) c (held-bond xs j seen kept H c (bond .0) (not-true _ i)) (le-trans (M .trails .bond) (bond .1))) refl)
           (back-next xs j (nextOf s (Typed (Conect c))) (nextOf k (Typed (Conect c))) ls none idle (omega arith) (omega arith)
           (record { place = inl refl; last = M .trails .last; bond = le-refl _; helix = M .trails .helix; ladder = M .trails .ladder }))
       go false i =
@@ -178,7 +179,7 @@ module _ (xs : List Slot) (j : ℕ) (seen kept : List Line) (s k : State) (H : H
       let idle : k .run .atom ≡ false = M .tail none in
       let T = M .trails in
       stay (Typed (Master t)) (Typed (Master (tallyOf (k .counts)))) ls again f P (λ n. refl) refl (saved-stay xs j (k .counts) (Typed (Master t)) ls refl refl)
-      (master-trails true true s k t T (judge-typed true s (Master t) (f .1)) idle)
+      (master-trails _ _ s k t T (judge-typed _ s (Master t) (f .1)) idle)
       (back-next xs j (nextOf s (Typed (Master t))) (nextOf k (Typed (Master (tallyOf (k .counts))))) ls none idle (omega arith) (omega arith)
       (record { place = inl refl; last = T .last; bond = T .bond; helix = T .helix; ladder = T .ladder }))
 
@@ -188,11 +189,11 @@ module _ (xs : List Slot) (j : ℕ) (seen kept : List Line) (s k : State) (H : H
       let none : closes ls ≡ false = no-close _ (nextOf s (Typed End)) ls (f .2) (omega arith) (omega arith) in
       let idle : k .run .atom ≡ false = M .tail none in
       let T = M .trails in
-      let g = judge-typed true s End (f .1) in
+      let g = judge-typed _ s End (f .1) in
       let low : 20 ≤ s .place = place-low (s .place) kind.End (g .place) in
       let e : k .place ≡ s .place = behind-same (k .place) (s .place) (T .place) (omega arith) in
       stay (Typed End) (Typed End) ls again f P (λ n. refl) refl (saved-stay xs j (k .counts) (Typed End) ls refl refl)
-      (good-trails true true s k End T g (rw e (g .place)) idle refl refl)
+      (good-trails _ _ s k End T g (rw e (g .place)) idle refl refl)
       (back-next xs j (nextOf s (Typed End)) (nextOf k (Typed End)) ls none idle (omega arith) (omega arith)
       (record { place = inl refl; last = T .last; bond = T .bond; helix = T .helix; ladder = T .ladder }))
 
@@ -201,7 +202,7 @@ pub kept-granted : (xs : List Slot) (j : ℕ) (ls : List Line) → Again xs j ls
 unfolding savedLines judgeOf
 kept-granted xs j [] seen kept s k H S f P M = granted-end kept k (behind-same (k .place) (s .place) (M .trails .place) (omega arith) ∙ f)
 kept-granted xs j (Bad n ∷ ls) seen kept s k H S f P M = absurd (omega (arith, f .0, f .1))
-kept-granted xs j (Wrong x column ∷ ls) seen kept s k H S f P M = absurd (judge-wrong true s x column (f .1))
+kept-granted xs j (Wrong x column ∷ ls) seen kept s k H S f P M = absurd (judge-wrong (lookOf seen (Wrong x column)) s x column (f .1))
 kept-granted xs j (Carried x ∷ ls) seen kept s k H S f P M = keep-carried xs j seen kept s k H S x ls (kept-granted xs j ls) f P M
 kept-granted xs j (Typed (Coordinate het a) ∷ ls) seen kept s k H S f P M = keep-site xs j seen kept s k H S het a ls (kept-granted xs (j + 1) ls) f P M
 kept-granted xs j (Typed (Ter t) ∷ ls) seen kept s k H S f P M = keep-ter xs j seen kept s k H S t ls (kept-granted xs (j + 1) ls) f P M

@@ -11,16 +11,18 @@ use lib.ListN.{length, take, getD}
 use lib.Seq.{take-suc}
 use Rattle.ascii.specs.Tests.{both, either}
 use Rattle.ascii.proofs.Choice.{never, both-split, either-split, either-left, either-right, either-none}
-use Rattle.conect.specs.declared.Conect.{Conect as ConectOf}
-use Rattle.line.specs.declared.Record.the-variants.{Coordinate, Ter, Helix, Sheet, Conect, Master, End}
+use Rattle.conect.specs.declared.Conect.{Conect}
 use Rattle.pieces.specs.declared.Line.{Line}
-use Rattle.pieces.specs.declared.Line.the-variants.{Bad, Wrong, Carried, Typed}
-use Rattle.serials.specs.Known.{isSite, someOf, named, partnerKnown, knownOf}
-use Rattle.serials.specs.Search.{serialOf}
+use Rattle.facets.specs.declared.Spot.{Spot}
+use Rattle.facets.specs.declared.Spot.the-variants.{Site, Close, Nowhere}
+use Rattle.facets.specs.declared.Bond.the-variants.{Bonds}
+use Rattle.facets.specs.Facets.{spotIn}
+use Rattle.serials.specs.Known.{isAtom, isSite, someOf, named, partnerKnown, bondKnown}
+use Rattle.serials.specs.Search.{spotSerial}
 use Rattle.slots.specs.declared.Slot.{Slot}
 use Rattle.slots.specs.Slots.{markAside, noSlot}
 use Rattle.table.specs.Deal.{isAside, aside, namesAside}
-use Rattle.table.proofs.Paired.{lineCloses, isIn, Beside}
+use Rattle.table.proofs.Paired.{spotCloses, isIn, Beside}
 
 -- every atom among the lines seen whose slot is not set aside is among those kept; j slots stand before
 abbrev pub Held : List Slot → ℕ → List Line → List Line → Type 0
@@ -39,23 +41,16 @@ aside-more : (xs : List Slot) (j n : ℕ) → j < length xs → aside (take (j +
 aside-more xs j n h e = aside-last (take j xs) (getD xs j noSlot) n (rw (add-one j, take-suc xs j noSlot h) at e)
 
 -- an atom's line has the serial of its slot, and is no TER
-site-serial : (n : ℕ) (l : Line) → isSite n l ≡ true → (serialOf l ≡ n) × (lineCloses l ≡ false)
-site-serial n (Bad k) e = never e
-site-serial n (Wrong k column) e = never e
-site-serial n (Carried k) e = never e
-site-serial n (Typed (Coordinate het a)) e = (eqb-true _ _ e, refl)
-site-serial n (Typed (Ter t)) e = never e
-site-serial n (Typed (Helix h)) e = never e
-site-serial n (Typed (Sheet s)) e = never e
-site-serial n (Typed (Conect c)) e = never e
-site-serial n (Typed (Master t)) e = never e
-site-serial n (Typed End) e = never e
+site-serial : (n : ℕ) (p : Spot) → isAtom n p ≡ true → (spotSerial p ≡ n) × (spotCloses p ≡ false)
+site-serial n (Site het a) e = (eqb-true _ _ e, refl)
+site-serial n (Close t) e = never e
+site-serial n Nowhere e = never e
 
 -- the slot of an atom that is not in is set aside
 site-aside : (xs : List Slot) (j n : ℕ) (l : Line) (ls : List Line) → Beside xs j l ls → isIn xs j ≡ false → isSite n l ≡ true → isAside n (getD xs j noSlot) ≡ true
 unfolding isAside both
 site-aside xs j n l ls B out site =
-    let h = site-serial n l site in
+    let h = site-serial n (spotIn l) site in
     let m : eqb (getD xs j noSlot .mark) markAside ≡ true = not-false _ out in
     rw (m, B .ter ∙ h .1, eq-eqb (getD xs j noSlot .serial .0) n (B .serial ∙ h .0))
 
@@ -88,7 +83,7 @@ module _ (xs : List Slot) (j : ℕ) (seen kept : List Line) (H : Held xs j seen 
       either-split (eqb n 0) (named seen n) (λ z. either-left (eqb n 0) (named kept n) z) (λ s. either-right (eqb n 0) (named kept n) (H n s a)) e
 
   -- the numbers on a CONECT line that stays are known among the lines kept
-  pub held-bond : (c : ConectOf) → knownOf seen (Typed (Conect c)) ≡ true → namesAside (take j xs) c ≡ false → knownOf kept (Typed (Conect c)) ≡ true
+  pub held-bond : (c : Conect) → bondKnown seen (Bonds c) ≡ true → namesAside (take j xs) c ≡ false → bondKnown kept (Bonds c) ≡ true
   unfolding both
   held-bond c e a =
       let k0 = both-split (named seen (c .serial .0)) _ e in

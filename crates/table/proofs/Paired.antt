@@ -13,33 +13,25 @@ use lib.ListN.{length, take, drop, getD}
 use lib.Seq.{drop-cons}
 use Rattle.ascii.specs.Tests.{both, either}
 use Rattle.ascii.proofs.Choice.{never, both-split}
-use Rattle.line.specs.declared.Record.{Record}
-use Rattle.line.specs.declared.Record.the-variants.{Coordinate, Ter, Helix, Sheet, Conect, Master, End}
 use Rattle.pieces.specs.declared.Line.{Line}
-use Rattle.pieces.specs.declared.Line.the-variants.{Bad, Wrong, Carried, Typed}
-use Rattle.rows.specs.Text.{isCoord}
-use Rattle.serials.specs.Search.{serialOf}
+use Rattle.facets.specs.declared.Spot.{Spot}
+use Rattle.facets.specs.declared.Spot.the-variants.{Site, Close, Nowhere}
+use Rattle.facets.specs.Facets.{spotIn, isSpot, isCoord}
+use Rattle.serials.specs.Search.{spotSerial, serialOf}
 use Rattle.slots.specs.declared.Slot.{Slot}
 use Rattle.fragments.specs.declared.Tail.{Tail}
-use Rattle.slots.specs.Slots.{markAside, noSlot, lineSlot, sameSlot}
+use Rattle.slots.specs.Slots.{markAside, noSlot, spotSlot, lineSlot, sameSlot}
 use Rattle.fragments.specs.Fragments.{isTer, joins, stepTail, tailOf}
 use Rattle.table.specs.Table.{slotsOf, fits, oneOf, fitsFrom}
 
 -- a TER line
-abbrev pub recordCloses : Record → Bool
-recordCloses (Coordinate het a) = false
-recordCloses (Ter t) = true
-recordCloses (Helix h) = false
-recordCloses (Sheet s) = false
-recordCloses (Conect c) = false
-recordCloses (Master t) = false
-recordCloses End = false
+abbrev pub spotCloses : Spot → Bool
+spotCloses (Site het a) = false
+spotCloses (Close t) = true
+spotCloses Nowhere = false
 
 abbrev pub lineCloses : Line → Bool
-lineCloses (Bad n) = false
-lineCloses (Wrong k column) = false
-lineCloses (Carried k) = false
-lineCloses (Typed r) = recordCloses r
+lineCloses l = spotCloses (spotIn l)
 
 -- a TER line is among these: the run that goes on with them is closed
 unfoldable pub closes : List Line → Bool
@@ -63,30 +55,16 @@ Paired xs j [] = Unit {0}
 Paired xs j (l ∷ ls) = (isCoord l ≡ true → Beside xs j l ls) × Paired xs (j + oneOf l) ls
 
 -- ---- a slot that fits its line
-ter-is : (l : Line) → isTer (lineSlot l) ≡ lineCloses l
-ter-is (Bad n) = refl
-ter-is (Wrong k column) = refl
-ter-is (Carried k) = refl
-ter-is (Typed (Coordinate true a)) = refl
-ter-is (Typed (Coordinate false a)) = refl
-ter-is (Typed (Ter t)) = refl
-ter-is (Typed (Helix h)) = refl
-ter-is (Typed (Sheet s)) = refl
-ter-is (Typed (Conect c)) = refl
-ter-is (Typed (Master t)) = refl
-ter-is (Typed End) = refl
+ter-is : (p : Spot) → isTer (spotSlot p) ≡ spotCloses p
+ter-is (Site true a) = refl
+ter-is (Site false a) = refl
+ter-is (Close t) = refl
+ter-is Nowhere = refl
 
-serial-is : (l : Line) → lineSlot l .serial .0 ≡ serialOf l
-serial-is (Bad n) = refl
-serial-is (Wrong k column) = refl
-serial-is (Carried k) = refl
-serial-is (Typed (Coordinate het a)) = refl
-serial-is (Typed (Ter t)) = refl
-serial-is (Typed (Helix h)) = refl
-serial-is (Typed (Sheet s)) = refl
-serial-is (Typed (Conect c)) = refl
-serial-is (Typed (Master t)) = refl
-serial-is (Typed End) = refl
+serial-is : (p : Spot) → spotSlot p .serial .0 ≡ spotSerial p
+serial-is (Site het a) = refl
+serial-is (Close t) = refl
+serial-is Nowhere = refl
 
 same-kind : (s t : Slot) → sameSlot s t ≡ true → (s .kind ≡ t .kind) × (s .serial .0 ≡ t .serial .0)
 unfolding sameSlot
@@ -99,7 +77,7 @@ unfolding fits
 fits-same s l c e =
     let f : both (leb (s .mark) markAside) (sameSlot s (lineSlot l)) ≡ true = rw c at e in
     let h = same-kind s (lineSlot l) (both-split _ _ f .1) in
-    (ap (λ (k : ℕ). eqb k 3) (h .0) ∙ ter-is l, h .1 ∙ serial-is l)
+    (ap (λ (k : ℕ). eqb k 3) (h .0) ∙ ter-is (spotIn l), h .1 ∙ serial-is (spotIn l))
 
 -- ---- the slots from slot j on, as many as these lines need
 abbrev pub restOf : List Slot → ℕ → List Line → List Slot
@@ -122,17 +100,10 @@ need-other : (l : Line) (ls : List Line) → isCoord l ≡ false → length (slo
 unfolding slotsOf
 need-other l ls c = rw c
 
-other-open : (l : Line) → isCoord l ≡ false → lineCloses l ≡ false
-other-open (Bad n) c = refl
-other-open (Wrong k column) c = refl
-other-open (Carried k) c = refl
-other-open (Typed (Coordinate het a)) c = refl
-other-open (Typed (Ter t)) c = c
-other-open (Typed (Helix h)) c = refl
-other-open (Typed (Sheet s)) c = refl
-other-open (Typed (Conect d)) c = refl
-other-open (Typed (Master t)) c = refl
-other-open (Typed End) c = refl
+other-open : (p : Spot) → isSpot p ≡ false → spotCloses p ≡ false
+other-open (Site het a) c = refl
+other-open (Close t) c = c
+other-open Nowhere c = refl
 
 -- what the slots say of the lines: whether a TER is among them, and the mark of the first
 record Says (xs : List Slot) (j : ℕ) (ls : List Line) (t : Tail) : Type 0 where
@@ -171,7 +142,7 @@ says xs j (l ∷ ls) f h = go (λ i. says xs i ls) (isCoord l) refl
         let n = need-other l ls c in
         let q = fits-split xs j l ls f in
         let g : fitsFrom xs j ls ≡ true = rw (c, add-zero j) at q .1 in
-        rw (rest-other xs j l ls c) (says-other xs j l ls _ (other-open l c) (again j g (omega arith)))
+        rw (rest-other xs j l ls c) (says-other xs j l ls _ (other-open (spotIn l) c) (again j g (omega arith)))
 
 -- marks agree between neighbours of a closed run
 agree-split : (s : Slot) (t : Tail) → stepTail s t .agree ≡ true → t .agree ≡ true

@@ -9,25 +9,28 @@ use native.Mathlib.Omega.{arith}
 use borrow.Author.Tests.{eqb-true, leb-true, le-leb, ltb-false}
 use lib.Dec.{eqb, ltb, leb}
 use lib.ListN.{length, getD, take, length-take}
+use Rattle.facets.specs.declared.Total.{Total}
+use Rattle.facets.specs.declared.Total.the-variants.{Counted, Uncounted}
+use Rattle.facets.specs.Facets.{totalOf}
 use Rattle.ascii.specs.Tests.{both}
 use Rattle.ascii.proofs.Choice.{picks, both-split, both-join}
 use Rattle.columns.specs.Columns.{cleanAt}
 use Rattle.fields.specs.Field.{rangedOf}
 use Rattle.kinds.specs.declared.Kind.{Kind}
 use Rattle.kinds.specs.declared.Kind.the-variants.{Header, Title, Compnd, Source, Keywds, Expdta, Author, Revdat, Jrnl, Remark, Seqres, Het, Helix, Sheet, Cryst1, Origx1, Origx2, Origx3, Scale1, Scale2, Scale3, Atom, Hetatm, Ter, Conect, Master, End, Unknown}
-use Rattle.kinds.specs.Kinds.{kindOf}
+use Rattle.kinds.specs.Kinds.{rowOf, kindOf}
 use Rattle.line.specs.declared.Record.{Record}
 use Rattle.line.specs.declared.Record.the-variants as rec
 use Rattle.line.specs.declared.Reading.{Reading}
 use Rattle.line.specs.declared.Reading.the-variants as reading
 use Rattle.line.specs.Lines.{judged, readingOf}
 use Rattle.master.specs.declared.Tally.{Tally}
-use Rattle.master.specs.Masters.{masterFault, masterValue, masterOk, notesOk, shapeOk, atomsOk}
+use Rattle.master.specs.Masters.{masterF, masterColumns, notesColumns, shapeColumns, atomsColumns}
 use Rattle.master.proofs.Laws.{master-lawful}
 use Rattle.pieces.specs.declared.Line.{Line}
 use Rattle.pieces.specs.declared.Line.the-variants.{Bad, Wrong, Carried, Typed}
 use Rattle.pieces.specs.Pieces.{lineIn, columnsOf, lineOf}
-use Rattle.places.specs.Places.{placeOf, placeBad, coordinatePlace, endPlace}
+use Rattle.places.specs.Places.{placeBad, coordinatePlace, endPlace}
 use Rattle.places.proofs.Laws.{place-low, place-high}
 use Rattle.serials.specs.Search.{Before}
 use Rattle.table.specs.FiveDigits.{FiveDigits}
@@ -41,8 +44,8 @@ unfolding rangedOf
 top-ranged v h = both-join (leb 0 v) (leb v 99999) (le-leb 0 v (omega arith)) (le-leb v 99999 h)
 
 -- MASTER is within its ranges exactly if its columns hold its counts
-pub ok-small : (t : Tally) → masterOk t ≡ true → FiveDigits t
-unfolding masterOk notesOk shapeOk atomsOk
+pub ok-small : (t : Tally) → masterF .ok t ≡ true → FiveDigits t
+unfolding masterColumns notesColumns shapeColumns atomsColumns
 ok-small t e =
     let a = both-split _ _ e in
     let b = both-split _ _ (a .1) in
@@ -66,38 +69,33 @@ ok-small t e =
       seq = ranged-top _ (m3 .1);
     }
 
-pub small-ok : (t : Tally) → FiveDigits t → masterOk t ≡ true
-unfolding masterOk notesOk shapeOk atomsOk both
+pub small-ok : (t : Tally) → FiveDigits t → masterF .ok t ≡ true
+unfolding masterColumns notesColumns shapeColumns atomsColumns both
 small-ok t s =
     rw (top-ranged (t .remark) (s .remark), top-ranged (t .het) (s .het), top-ranged (t .helix) (s .helix), top-ranged (t .sheet) (s .sheet), top-ranged (t .xform) (s .xform), top-ranged (t .coord) (s .coord), top-ranged (t .ter) (s .ter), top-ranged (t .conect) (s .conect), top-ranged (t .seq) (s .seq))
 
 -- a kind that stands before the coordinate lines
 pub record Front (k : Kind) : Type 0 where
   pub after : (p : ℕ) → placeBad p k ≡ false → Before p
-  pub here : Before (placeOf k .here)
+  pub here : Before (rowOf k .here)
 
-low-front : (k : Kind) → placeOf k .high < coordinatePlace → Before (placeOf k .here) → Front k
+low-front : (k : Kind) → rowOf k .high < coordinatePlace → Before (rowOf k .here) → Front k
 low-front k h b = record { after = λ p e. inl (omega (arith, place-high p k e)); here = b }
 
-high-front : (k : Kind) → endPlace < placeOf k .low → Before (placeOf k .here) → Front k
+high-front : (k : Kind) → endPlace < rowOf k .low → Before (rowOf k .here) → Front k
 high-front k h b = record { after = λ p e. inr (omega (arith, place-low p k e)); here = b }
 
-abbrev pub PlainRecord : Record → Type 0
-PlainRecord (rec.Coordinate het a) = Unit {0}
-PlainRecord (rec.Ter t) = Unit {0}
-PlainRecord (rec.Helix h) = Unit {0}
-PlainRecord (rec.Sheet s) = Unit {0}
-PlainRecord (rec.Conect c) = Unit {0}
-PlainRecord (rec.Master t) = FiveDigits t
-PlainRecord rec.End = Unit {0}
+abbrev pub PlainTotal : Total → Type 0
+PlainTotal (Counted t) = FiveDigits t
+PlainTotal Uncounted = Unit {0}
 
 abbrev pub Plain : Line → Type 0
 Plain (Bad n) = 0 < n
 Plain (Wrong k column) = Unit {0}
 Plain (Carried k) = Front k
-Plain (Typed r) = PlainRecord r
+Plain (Typed r) = PlainTotal (totalOf r)
 
-judged-plain : (k : Kind) (c : ℕ) (r : Record) → (c ≡ 0 → PlainRecord r) → Plain (lineIn k (judged c r))
+judged-plain : (k : Kind) (c : ℕ) (r : Record) → (c ≡ 0 → PlainTotal (totalOf r)) → Plain (lineIn k (judged c r))
 unfolding judged
 judged-plain k c r f =
     picks (λ (x : Reading). Plain (lineIn k x)) (eqb c 0) (reading.Typed r) (reading.Wrong c) (λ t. f (eqb-true c 0 t)) (λ _. tt)
@@ -129,7 +127,7 @@ by-kind l h Atom = judged-plain Atom _ _ (λ _. tt)
 by-kind l h Hetatm = judged-plain Hetatm _ _ (λ _. tt)
 by-kind l h Ter = judged-plain Ter _ _ (λ _. tt)
 by-kind l h Conect = judged-plain Conect _ _ (λ _. tt)
-by-kind l h Master = judged-plain Master (masterFault l 6) (rec.Master (masterValue l 6)) (λ e. ok-small (masterValue l 6) (master-lawful .kept l 6 (omega arith) e .1))
+by-kind l h Master = judged-plain Master (masterF .fault l 6) (rec.Master (masterF .value l 6)) (λ e. ok-small (masterF .value l 6) (master-lawful .kept l 6 (omega arith) e .1))
 by-kind l h End = judged-plain End _ _ (λ _. tt)
 by-kind l h Unknown = omega arith
 

@@ -13,7 +13,7 @@ use Rattle.ascii.specs.Tests.{pick, both, either}
 use Rattle.ascii.proofs.Choice.{both-split, both-join}
 use Rattle.pieces.specs.declared.Line.{Line}
 use Rattle.gate.specs.Gate.{checkOf}
-use Rattle.rows.specs.Text.{isCoord}
+use Rattle.facets.specs.Facets.{isCoord}
 use Rattle.slots.specs.declared.Slot.{Slot}
 use Rattle.slots.specs.Slots.{markAside, noSlot, lineSlot, sameMeasures, sameNames, sameSlot, withMark}
 use Rattle.fragments.specs.Fragments.{tailOf, markOf, marked}

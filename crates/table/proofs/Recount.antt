@@ -7,9 +7,12 @@ use mathlib.Core.Path.{_≡_, refl}
 use native.Mathlib.Omega.{arith}
 use borrow.Author.Tests.{eqb-true, not-false}
 use lib.Dec.{eqb}
+use Rattle.facets.specs.declared.Total.{Total}
+use Rattle.facets.specs.declared.Total.the-variants.{Counted, Uncounted}
+use Rattle.rules.specs.declared.Looked.{Looked}
 use Rattle.ascii.specs.Tests.{pick}
 use Rattle.ascii.proofs.Choice.{picks, both-split}
-use Rattle.line.specs.declared.Record.the-variants.{Coordinate, Ter, Helix, Sheet, Conect, Master, End}
+use Rattle.line.specs.declared.Record.the-variants.{Master}
 use Rattle.master.specs.declared.Tally.{Tally}
 use Rattle.pieces.specs.declared.Line.{Line}
 use Rattle.pieces.specs.declared.Line.the-variants.{Bad, Wrong, Carried, Typed}
@@ -17,11 +20,12 @@ use Rattle.pieces.specs.Pieces.{lineOf}
 use Rattle.places.specs.declared.Counts.{Counts}
 use Rattle.rules.specs.declared.State.{State}
 use Rattle.places.specs.Counts.{countOf, noCounts, oneMore, raised, sameCounts}
-use Rattle.rules.specs.Rules.{lineKind, judgeOf, carriedNext, typedNext, nextOf, startOf}
+use Rattle.rules.specs.Rules.{countBad, judgeOf, carriedNext, typedNext, nextOf, startOf}
+use Rattle.facets.specs.Facets.{lineKind, totalOf}
 use Rattle.rules.proofs.Laws.{judge-typed, judge-wrong}
-use Rattle.table.specs.Deal.{counted, tallyOf, masterPiece, isMaster}
+use Rattle.table.specs.Deal.{counted, tallyOf, masterPiece, isTotal, isMaster}
 use Rattle.table.specs.FiveDigits.{FiveDigits}
-use Rattle.table.proofs.Plain.{Plain}
+use Rattle.table.proofs.Plain.{PlainTotal, Plain}
 use Rattle.table.proofs.Master.{master-line}
 
 -- ---- counts over fewer lines are not larger
@@ -82,14 +86,14 @@ under-skip a b w u =
     }
 
 -- a good line raises the counts of its kind
-counts-next : (known : Bool) (s : State) (l : Line) → Plain l → judgeOf known s l ≡ 0 → nextOf s l .counts ≡ raised (s .counts) (countOf (lineKind l))
+counts-next : (known : Looked) (s : State) (l : Line) → Plain l → judgeOf known s l ≡ 0 → nextOf s l .counts ≡ raised (s .counts) (countOf (lineKind l))
 unfolding nextOf carriedNext typedNext judgeOf
 counts-next known s (Bad n) p e = absurd (omega arith)
 counts-next known s (Wrong k column) p e = absurd (judge-wrong known s k column e)
 counts-next known s (Carried k) p e = refl
 counts-next known s (Typed r) p e = refl
 
-pub under-next : (known stay : Bool) (q : Counts) (s : State) (l : Line) → Plain l → judgeOf known s l ≡ 0 → Under q (s .counts) → Under (counted stay q l) (nextOf s l .counts)
+pub under-next : (known : Looked) (stay : Bool) (q : Counts) (s : State) (l : Line) → Plain l → judgeOf known s l ≡ 0 → Under q (s .counts) → Under (counted stay q l) (nextOf s l .counts)
 unfolding counted
 under-next known true q s l p e u = rw (counts-next known s l p e) (under-both q (s .counts) (countOf (lineKind l)) u)
 under-next known false q s l p e u = rw (counts-next known s l p e) (under-skip q (s .counts) (countOf (lineKind l)) u)
@@ -122,31 +126,24 @@ small-under m c q s e u =
     top x y z h k g = omega (arith, eqb-true x y k)
 
 -- so at a good MASTER line they fit its columns
-pub master-fits : (known : Bool) (s : State) (q : Counts) (l : Line) → Plain l → judgeOf known s l ≡ 0 → Under q (s .counts) → isMaster l ≡ true → FiveDigits (tallyOf q)
+pub master-fits : (known : Looked) (s : State) (q : Counts) (l : Line) → Plain l → judgeOf known s l ≡ 0 → Under q (s .counts) → isMaster l ≡ true → FiveDigits (tallyOf q)
 master-fits known s q (Bad n) plain g u m = absurd (false≢true m)
 master-fits known s q (Wrong k column) plain g u m = absurd (false≢true m)
 master-fits known s q (Carried k) plain g u m = absurd (false≢true m)
-master-fits known s q (Typed (Coordinate het a)) plain g u m = absurd (false≢true m)
-master-fits known s q (Typed (Ter t)) plain g u m = absurd (false≢true m)
-master-fits known s q (Typed (Helix h)) plain g u m = absurd (false≢true m)
-master-fits known s q (Typed (Sheet h)) plain g u m = absurd (false≢true m)
-master-fits known s q (Typed (Conect c)) plain g u m = absurd (false≢true m)
-master-fits known s q (Typed (Master t)) plain g u m = small-under t (s .counts) q plain (not-false _ (judge-typed known s (Master t) g .count)) u
-master-fits known s q (Typed End) plain g u m = absurd (false≢true m)
+master-fits known s q (Typed r) plain g u m = go (totalOf r) plain (judge-typed known s r g .count) m
+  where
+    go : (t : Total) → PlainTotal t → countBad (s .counts) t ≡ false → isTotal t ≡ true → FiveDigits (tallyOf q)
+    go (Counted t) p c e = small-under t (s .counts) q p (not-false _ c) u
+    go Uncounted p c e = absurd (false≢true e)
 
 -- ---- a line as it is written reads as the line, MASTER with its new counts
 abbrev pub recounted : Counts → Line → Line
 recounted q l = pick (isMaster l) (Typed (Master (tallyOf q))) l
 
-pub written-line : (known : Bool) (s : State) (q : Counts) (p : List ℕ) (l : Line) → lineOf p ≡ l → Plain l → judgeOf known s l ≡ 0 → Under q (s .counts)
+pub written-line : (known : Looked) (s : State) (q : Counts) (p : List ℕ) (l : Line) → lineOf p ≡ l → Plain l → judgeOf known s l ≡ 0 → Under q (s .counts)
     → lineOf (pick (isMaster l) (masterPiece q) p) ≡ recounted q l
-written-line known s q p (Bad n) e plain g u = e
-written-line known s q p (Wrong k column) e plain g u = e
-written-line known s q p (Carried k) e plain g u = e
-written-line known s q p (Typed (Coordinate het a)) e plain g u = e
-written-line known s q p (Typed (Ter t)) e plain g u = e
-written-line known s q p (Typed (Helix h)) e plain g u = e
-written-line known s q p (Typed (Sheet h)) e plain g u = e
-written-line known s q p (Typed (Conect c)) e plain g u = e
-written-line known s q p (Typed (Master m)) e plain g u = master-line q (master-fits known s q (Typed (Master m)) plain g u refl)
-written-line known s q p (Typed End) e plain g u = e
+written-line known s q p l e plain g u = go (isMaster l) refl
+  where
+    go : (b : Bool) → isMaster l ≡ b → lineOf (pick b (masterPiece q) p) ≡ pick b (Typed (Master (tallyOf q))) l
+    go true m = master-line q (master-fits known s q l plain g u m)
+    go false m = e

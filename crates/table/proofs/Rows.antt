@@ -11,7 +11,8 @@ use lib.ListN.{length, take, getD}
 use Rattle.ascii.specs.Tests.{pick}
 use Rattle.pieces.specs.declared.Line.{Line}
 use Rattle.pieces.specs.Pieces.{lineOf}
-use Rattle.rows.specs.Text.{row, isCoord}
+use Rattle.rows.specs.Text.{row}
+use Rattle.facets.specs.Facets.{isCoord}
 use Rattle.rows.proofs.Cut.{cut-next, cut-done}
 use Rattle.slots.specs.declared.Slot.{Slot}
 use Rattle.slots.specs.Slots.{markAside, noSlot, lineSlot}

@@ -9,10 +9,10 @@ use Rattle.ascii.specs.Tests.{pick}
 use Rattle.pieces.specs.declared.Line.{Line}
 use Rattle.places.specs.declared.Counts.{Counts}
 use Rattle.places.specs.Counts.{countOf, raised}
-use Rattle.rows.specs.Text.{isCoord}
+use Rattle.facets.specs.Facets.{isCoord}
 use Rattle.slots.specs.declared.Slot.{Slot}
 use Rattle.table.specs.Table.{oneOf}
-use Rattle.rules.specs.Rules.{lineKind}
+use Rattle.facets.specs.Facets.{lineKind}
 use Rattle.table.specs.Deal.{stays, counted}
 use Rattle.table.proofs.Recount.{recounted}
 use Rattle.table.proofs.Paired.{isIn, Paired}

@@ -87,6 +87,7 @@ shares-sum xs k q (p ∷ ps) =
     go false us ws e = omega arith
 
 -- ---- the tray has the pieces that go as they were: MASTER always stays
+-- MASTER always stays
 record-stays : (xs : List Slot) (k : ℕ) (r : Record) → stays xs k (Typed r) ≡ false → isMaster (Typed r) ≡ false
 unfolding stays
 record-stays xs k (Coordinate het a) e = refl

@@ -7,20 +7,26 @@ use mathlib.Core.Logic.{_⊎_, inl, inr}
 use native.Mathlib.Omega.{arith}
 use native.Mathlib.Nat.{lt-of-le-of-lt, le-trans}
 use borrow.Author.Tests.{leb-false, lt-leb, ltb-false, le-ltb, le-leb, eq-eqb}
+use Rattle.facets.specs.declared.Spot.{Spot}
+use Rattle.facets.specs.declared.Spot.the-variants.{Site, Close, Nowhere}
+use Rattle.facets.specs.declared.Bond.the-variants.{Bonds}
+use Rattle.rules.specs.declared.Looked.{Looked}
 use Rattle.ascii.specs.Tests.{both, either}
 use Rattle.ascii.proofs.Choice.{never}
 use Rattle.kinds.specs.declared.Kind.{Kind}
 use Rattle.kinds.specs.declared.Kind.the-variants as kind
+use Rattle.kinds.specs.Kinds.{rowOf}
 use Rattle.conect.specs.declared.Conect.{Conect as ConectOf}
 use Rattle.master.specs.declared.Tally.{Tally}
 use Rattle.line.specs.declared.Record.{Record}
-use Rattle.line.specs.declared.Record.the-variants.{Coordinate, Ter, Helix, Sheet, Conect, Master, End}
+use Rattle.line.specs.declared.Record.the-variants.{Master}
 use Rattle.pieces.specs.declared.Line.the-variants.{Carried, Typed}
 use Rattle.places.specs.declared.Counts.{Counts}
 use Rattle.rules.specs.declared.State.{State}
-use Rattle.places.specs.Places.{placeOf, placeBad}
+use Rattle.places.specs.Places.{placeBad}
 use Rattle.places.specs.Counts.{sameCounts}
-use Rattle.rules.specs.Rules.{recordKind, serialBad, runBad, bondBad, countBad, judgeOf}
+use Rattle.rules.specs.Rules.{serialBad, runBad, bondBad, countBad, judgeOf}
+use Rattle.facets.specs.Facets.{recordKind, spotOf, bondOf, totalOf}
 use Rattle.places.proofs.Laws.{place-low, place-high}
 use Rattle.rules.proofs.Laws.{Good, good-typed}
 use Rattle.serials.specs.Search.{Before}
@@ -57,46 +63,42 @@ pub behind-before : (k s : ℕ) → Behind k s → Before s → k ≡ s
 behind-before k s (inl e) b = e
 behind-before k s (inr g) b = absurd (not-before s (g .2) (omega (arith, g .3)) b)
 
-place-ok : (p : ℕ) (k : Kind) → placeOf k .low ≤ p → p ≤ placeOf k .high → placeBad p k ≡ false
+place-ok : (p : ℕ) (k : Kind) → rowOf k .low ≤ p → p ≤ rowOf k .high → placeBad p k ≡ false
 unfolding placeBad both
-place-ok p k h g = rw (le-leb (placeOf k .low) p h, le-leb p (placeOf k .high) g)
+place-ok p k h g = rw (le-leb (rowOf k .low) p h, le-leb p (rowOf k .high) g)
 
 -- a kind that may follow every place from HEADER's on
-pub place-behind : (k s : ℕ) (x : Kind) → placeOf x .low ≡ 1 → Behind k s → placeBad s x ≡ false → placeBad k x ≡ false
+pub place-behind : (k s : ℕ) (x : Kind) → rowOf x .low ≡ 1 → Behind k s → placeBad s x ≡ false → placeBad k x ≡ false
 place-behind k s x one b e =
     let h : 1 ≤ s = omega (arith, place-low s x e) in
     let g : 1 ≤ k = behind-one k s b h in
     place-ok k x (omega arith) (le-trans (behind-le k s b) (place-high s x e))
 
 -- ---- serials
-serial-trails : (a b : ℕ) (r : Record) → a ≤ b → serialBad b r ≡ false → serialBad a r ≡ false
-serial-trails a b (Coordinate het x) h e = lt-leb _ _ (lt-of-le-of-lt h (leb-false _ _ e))
-serial-trails a b (Ter t) h e = lt-leb _ _ (lt-of-le-of-lt h (leb-false _ _ e))
-serial-trails a b (Helix x) h e = refl
-serial-trails a b (Sheet x) h e = refl
-serial-trails a b (Conect c) h e = refl
-serial-trails a b (Master t) h e = refl
-serial-trails a b End h e = refl
+serial-trails : (a b : ℕ) (p : Spot) → a ≤ b → serialBad b p ≡ false → serialBad a p ≡ false
+serial-trails a b (Site het x) h e = lt-leb _ _ (lt-of-le-of-lt h (leb-false _ _ e))
+serial-trails a b (Close t) h e = lt-leb _ _ (lt-of-le-of-lt h (leb-false _ _ e))
+serial-trails a b Nowhere h e = refl
 
 -- a CONECT line's serial is not below the last one's, and its numbers are known
-pub bond-split : (known : Bool) (last : ℕ) (c : ConectOf) → bondBad known last (Conect c) ≡ false → (known ≡ true) × (last ≤ c .serial .0)
+pub bond-split : (known : Bool) (last : ℕ) (c : ConectOf) → bondBad known last (Bonds c) ≡ false → (known ≡ true) × (last ≤ c .serial .0)
 unfolding either
 bond-split true last c e = (refl, ltb-false _ _ e)
 bond-split false last c e = never (sym e)
 
-pub bond-join : (known : Bool) (last : ℕ) (c : ConectOf) → known ≡ true → last ≤ c .serial .0 → bondBad known last (Conect c) ≡ false
+pub bond-join : (known : Bool) (last : ℕ) (c : ConectOf) → known ≡ true → last ≤ c .serial .0 → bondBad known last (Bonds c) ≡ false
 unfolding either
 bond-join known last c e h = rw (e, le-ltb (c .serial .0) last h)
 
 -- ---- a typed line among the kept ones, where its place, its run, its bonds and its counts are right
-pub good-trails : (known v : Bool) (s k : State) (r : Record) → Trails s k → Good known s r → placeBad (k .place) (recordKind r) ≡ false
-    → runBad (k .run) r ≡ false → bondBad v (k .bond) r ≡ false → countBad (k .counts) r ≡ false → judgeOf v k (Typed r) ≡ 0
+pub good-trails : (known v : Looked) (s k : State) (r : Record) → Trails s k → Good known s r → placeBad (k .place) (recordKind r) ≡ false
+    → runBad (k .run) (spotOf r) ≡ false → bondBad (v .known) (k .bond) (bondOf r) ≡ false → countBad (k .counts) (totalOf r) ≡ false → judgeOf v k (Typed r) ≡ 0
 unfolding judgeOf
 good-trails known v s k r T g p run bond count =
     good-typed v k r
     (record {
       place = p;
-      serial = serial-trails (k .last) (s .last) r (T .last) (g .serial);
+      serial = serial-trails (k .last) (s .last) (spotOf r) (T .last) (g .serial);
       run = run;
       bond = bond;
       fold = rw (T .helix, T .ladder) (g .fold);
@@ -109,7 +111,7 @@ unfolding sameCounts both
 same-tally q =
     rw (eq-eqb (q .remark) (q .remark) refl, eq-eqb (q .het) (q .het) refl, eq-eqb (q .helix) (q .helix) refl, eq-eqb (q .sheet) (q .sheet) refl, eq-eqb (q .xform) (q .xform) refl, eq-eqb (q .coord) (q .coord) refl, eq-eqb (q .ter) (q .ter) refl, eq-eqb (q .conect) (q .conect) refl, eq-eqb (q .seq) (q .seq) refl)
 
-pub master-trails : (known v : Bool) (s k : State) (t : Tally) → Trails s k → Good known s (Master t) → k .run .atom ≡ false
+pub master-trails : (known v : Looked) (s k : State) (t : Tally) → Trails s k → Good known s (Master t) → k .run .atom ≡ false
     → judgeOf v k (Typed (Master (tallyOf (k .counts)))) ≡ 0
 unfolding judgeOf
 master-trails known v s k t T g a =
@@ -124,6 +126,6 @@ master-trails known v s k t T g a =
     })
 
 -- a carried line among the kept ones
-pub carried-trails : (known v : Bool) (s k : State) (x : Kind) → k .place ≡ s .place → k .ladder ≡ s .ladder → judgeOf known s (Carried x) ≡ 0 → judgeOf v k (Carried x) ≡ 0
+pub carried-trails : (known v : Looked) (s k : State) (x : Kind) → k .place ≡ s .place → k .ladder ≡ s .ladder → judgeOf known s (Carried x) ≡ 0 → judgeOf v k (Carried x) ≡ 0
 unfolding judgeOf
 carried-trails known v s k x p d e = rw (p, d) e

@@ -1,27 +1,21 @@
 -- Saving and the tray: each line of a text goes to the one or to the other.
-use Prim.Native.Nat.{ℕ, _+_}
-use mathlib.Core.List.{List, [], _∷_, _++_}
-use mathlib.Core.Bool.{Bool, true, false, not}
-use lib.ListN.{length, take, getD}
-use lib.Dec.{eqb, ltb}
-use Rattle.ascii.specs.Bytes.{bytes}
-use Rattle.ascii.specs.Tests.{pick, both, either, alike}
-use Rattle.conect.specs.declared.Conect.{Conect as ConectOf}
-use Rattle.line.specs.declared.Record.{Record}
-use Rattle.line.specs.declared.Record.the-variants.{Coordinate, Ter, Helix, Sheet, Conect, Master, End}
-use Rattle.master.specs.declared.Tally.{Tally}
-use Rattle.master.specs.Masters.{masterLine}
-use Rattle.pieces.specs.declared.Line.{Line}
-use Rattle.pieces.specs.declared.Line.the-variants as line
+use Rattle.ascii.specs.Library.{ℕ, _+_, List, [], _∷_, _++_, Bool, true, false, not, length, take, getD, eqb, ltb, bytes, pick, both, either, alike}
+use Rattle.conect.specs.declared.{Conect.Conect}
+use Rattle.master.specs.declared.{Tally.Tally}
+use Rattle.master.specs.Masters.{masterF}
+use Rattle.kinds.specs.Kinds.{lineWith}
+use Rattle.pieces.specs.declared.{Line.Line}
+use Rattle.facets.specs.declared.{Bond.Bond, Bond.the-variants.Bonds, Bond.the-variants.Loose, Total.Total, Total.the-variants.Counted, Total.the-variants.Uncounted}
+use Rattle.facets.specs.Facets.{lineKind, bondIn, totalIn, isCoord}
 use Rattle.pieces.specs.Pieces.{lineOf}
-use Rattle.places.specs.declared.Counts.{Counts}
+use Rattle.places.specs.declared.{Counts.Counts}
 use Rattle.places.specs.Counts.{countOf, noCounts, raised}
-use Rattle.rules.specs.Rules.{lineKind}
-use Rattle.rows.specs.Text.{cut, isCoord}
-use Rattle.slots.specs.declared.Slot.{Slot}
+use Rattle.rows.specs.Text.{cut}
+use Rattle.slots.specs.declared.{Slot.Slot}
 use Rattle.slots.specs.Slots.{markAside, noSlot}
 use Rattle.fragments.specs.Fragments.{isTer}
 use Rattle.table.specs.Table.{Told, told, over, oneOf, tableOf}
+use Rattle.kinds.specs.declared.Kind.the-variants as kind
 
 -- ---- the atoms that a CONECT line names
 -- the slot is the atom with serial n, and set aside
@@ -34,25 +28,17 @@ aside [] n = false
 aside (s ∷ ss) n = either (isAside n s) (aside ss n)
 
 -- a CONECT line names an atom set aside
-abbrev pub namesAside : List Slot → ConectOf → Bool
+abbrev pub namesAside : List Slot → Conect → Bool
 namesAside xs c =
     either (aside xs (c .serial .0)) (either (aside xs (c .a .0)) (either (aside xs (c .b .0)) (either (aside xs (c .c .0)) (aside xs (c .d .0)))))
 
--- the same of any record, and of a line
-abbrev pub recordAside : List Slot → Record → Bool
-recordAside xs (Coordinate het a) = false
-recordAside xs (Ter t) = false
-recordAside xs (Helix h) = false
-recordAside xs (Sheet s) = false
-recordAside xs (Conect c) = namesAside xs c
-recordAside xs (Master t) = false
-recordAside xs End = false
+-- the same of a line
+abbrev pub bondAside : List Slot → Bond → Bool
+bondAside xs (Bonds c) = namesAside xs c
+bondAside xs Loose = false
 
 abbrev pub lineAside : List Slot → Line → Bool
-lineAside xs (line.Bad n) = false
-lineAside xs (line.Wrong k column) = false
-lineAside xs (line.Carried k) = false
-lineAside xs (line.Typed r) = recordAside xs r
+lineAside xs l = bondAside xs (bondIn l)
 
 -- ---- each line stays or goes
 -- k slots stand before the line: a line with a slot stays unless that is set aside, a CONECT line unless it names an atom set aside
@@ -80,23 +66,15 @@ tallyOf q =
     }
 
 unfoldable pub masterPiece : Counts → List ℕ
-masterPiece q = masterLine (tallyOf q) ++ bytes "\n"
+masterPiece q = lineWith kind.Master masterF (tallyOf q) ++ bytes "\n"
 
--- a MASTER record, and a MASTER line
-abbrev pub recordMaster : Record → Bool
-recordMaster (Coordinate het a) = false
-recordMaster (Ter t) = false
-recordMaster (Helix h) = false
-recordMaster (Sheet s) = false
-recordMaster (Conect c) = false
-recordMaster (Master t) = true
-recordMaster End = false
+-- a MASTER line
+abbrev pub isTotal : Total → Bool
+isTotal (Counted t) = true
+isTotal Uncounted = false
 
 abbrev pub isMaster : Line → Bool
-isMaster (line.Bad n) = false
-isMaster (line.Wrong k column) = false
-isMaster (line.Carried k) = false
-isMaster (line.Typed r) = recordMaster r
+isMaster l = isTotal (totalIn l)
 
 -- a line as it is written: MASTER recounted, every other line byte for byte
 unfoldable pub written : Counts → List ℕ → List ℕ

@@ -1,6 +1,6 @@
 -- Counts that MASTER's five columns hold.
-use Prim.Native.Nat.{_≤_}
-use Rattle.master.specs.declared.Tally.{Tally}
+use Rattle.ascii.specs.Library.{_≤_}
+use Rattle.master.specs.declared.{Tally.Tally}
 
 pub record FiveDigits (t : Tally) : Type 0 where
   pub remark : t .remark ≤ 99999

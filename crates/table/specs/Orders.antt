@@ -1,10 +1,6 @@
 -- Orders one after the other, granted and refused.
-use Prim.Native.Nat.{ℕ}
-use mathlib.Core.List.{List, [], _∷_}
-use mathlib.Core.Bool.{Bool}
-use lib.Dec.{eqb}
-use Rattle.ascii.specs.Tests.{pick, both}
-use Rattle.slots.specs.declared.Slot.{Slot}
+use Rattle.ascii.specs.Library.{ℕ, List, [], _∷_, Bool, eqb, pick, both}
+use Rattle.slots.specs.declared.{Slot.Slot}
 use Rattle.table.specs.Table.{orderOf}
 
 -- an order: the number of a fragment, and whether to set it aside or to put it back

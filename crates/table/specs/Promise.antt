@@ -1,15 +1,11 @@
 -- After any orders nothing is lost and nothing is altered: the statement. It is proved in proofs/.
-use Prim.Native.Nat.{ℕ, _+_, _-_, _<_}
-use mathlib.Core.List.{List, [], _∷_, map}
-use mathlib.Core.Bool.{Bool, true, false, not}
-use mathlib.Core.Path.{_≡_}
-use lib.ListN.{length, take, drop, getD}
-use Rattle.ascii.specs.Tests.{pick}
-use Rattle.pieces.specs.declared.Line.{Line}
+use Rattle.ascii.specs.Library.{ℕ, _+_, _-_, _<_, List, [], _∷_, map, Bool, true, false, not, _≡_, length, take, drop, getD, pick}
+use Rattle.pieces.specs.declared.{Line.Line}
 use Rattle.pieces.specs.Pieces.{lineOf}
-use Rattle.rows.specs.Text.{cut, row, isCoord}
+use Rattle.rows.specs.Text.{cut, row}
+use Rattle.facets.specs.Facets.{isCoord}
 use Rattle.gate.specs.Gate.{checkOf}
-use Rattle.slots.specs.declared.Slot.{Slot}
+use Rattle.slots.specs.declared.{Slot.Slot}
 use Rattle.fragments.specs.Fragments.{tailOf}
 use Rattle.table.specs.Table.{linesFrom, slotsOf, oneOf, mine, tableOf, fragments}
 use Rattle.table.specs.Deal.{stays, isMaster, outputOf}

@@ -1,15 +1,11 @@
 -- The table of a text: loading it, whether a table belongs to a text, and orders.
-use Prim.Native.Nat.{ℕ, _+_, _*_, _-_}
-use mathlib.Core.List.{List, [], _∷_, _++_, map}
-use mathlib.Core.Bool.{Bool, true, not}
-use lib.ListN.{length, take, drop, getD}
-use lib.Dec.{eqb, ltb, leb}
-use Rattle.ascii.specs.Tests.{pick, both, either}
-use Rattle.pieces.specs.declared.Line.{Line}
+use Rattle.ascii.specs.Library.{ℕ, _+_, _*_, _-_, List, [], _∷_, _++_, map, Bool, true, not, length, take, drop, getD, eqb, ltb, leb, pick, both, either}
+use Rattle.pieces.specs.declared.{Line.Line}
 use Rattle.pieces.specs.Pieces.{lineOf}
-use Rattle.rows.specs.Text.{cut, isCoord}
+use Rattle.rows.specs.Text.{cut}
+use Rattle.facets.specs.Facets.{isCoord}
 use Rattle.gate.specs.Gate.{checkOf}
-use Rattle.slots.specs.declared.Slot.{Slot}
+use Rattle.slots.specs.declared.{Slot.Slot}
 use Rattle.slots.specs.Slots.{markIn, markAside, noSlot, lineSlot, sameSlot}
 use Rattle.fragments.specs.Fragments.{tailOf, markOf, marked}
 

@@ -6,11 +6,11 @@ use mathlib.Core.Bool.{Bool, true, false}
 use Prim.Native.Nat.{ℕ, _≤_, _<_}
 use borrow.Author.Tests.{lt-ltb, le-ltb}
 use Rattle.kinds.specs.declared.Kind.{Kind}
-use Rattle.kinds.specs.Kinds.{kindOf}
+use Rattle.kinds.specs.Kinds.{isNamed, kindOf}
 use Rattle.master.specs.declared.Tally.{Tally}
 use Rattle.places.specs.Counts.{countOf}
 use Rattle.tally.specs.declared.Counted.{Counted}
-use Rattle.tally.specs.Tally.{isNamed, most, countIn, raisedTally, toldTally, tallyStep, tallyLine}
+use Rattle.tally.specs.Tally.{most, countIn, raisedTally, toldTally, tallyStep, tallyLine}
 
 -- a count that has room has it under its number
 pub room : (t : Tally) (which n : ℕ) → countIn t which < most → which ≡ n → countIn t n < most

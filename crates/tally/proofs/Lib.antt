@@ -1,4 +1,3 @@
-mod Named
 pub mod CountedAs
 pub mod Laws
 pub mod Rule

@@ -9,12 +9,12 @@ use lib.Dec.{eqb, ltb}
 use lib.ListN.{length}
 use Rattle.ascii.specs.Tests.{pick}
 use Rattle.ascii.proofs.Choice.{picks}
-use Rattle.kinds.specs.Kinds.{kindOf}
+use Rattle.kinds.specs.Kinds.{isNamed, kindOf}
 use Rattle.kinds.proofs.Returns.{no-name}
 use Rattle.master.specs.declared.Tally.{Tally}
 use Rattle.places.specs.Counts.{countOf, oneMore}
 use Rattle.tally.specs.declared.Counted.{Counted}
-use Rattle.tally.specs.Tally.{isNamed, most, countIn, raisedTally, toldTally, tallyStep, tallyLine, tallyAll, Granted, linesOf}
+use Rattle.tally.specs.Tally.{most, countIn, raisedTally, toldTally, tallyStep, tallyLine, tallyAll, Granted, linesOf}
 
 -- a line under six bytes gets 4
 pub short-line : (t : Tally) (l : List ℕ) → length l < 6 → tallyLine t l ≡ toldTally 4 t

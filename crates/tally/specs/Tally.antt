@@ -1,47 +1,9 @@
 -- The tally: nine counts, brought up to date one line at a time.
-use mathlib.Core.Path.{_≡_}
-use Prim.Native.Nat.{ℕ}
-use mathlib.Core.List.{List, [], _∷_}
-use mathlib.Core.Bool.{Bool, true, false}
-use lib.Dec.{eqb, ltb}
-use Rattle.ascii.specs.Tests.{pick}
-use Rattle.kinds.specs.declared.Kind.{Kind}
-use Rattle.kinds.specs.declared.Kind.the-variants.{Header, Title, Compnd, Source, Keywds, Expdta, Author, Revdat, Jrnl, Remark, Seqres, Het, Helix, Sheet, Cryst1, Origx1, Origx2, Origx3, Scale1, Scale2, Scale3, Atom, Hetatm, Ter, Conect, Master, End, Unknown}
-use Rattle.kinds.specs.Kinds.{kindOf}
-use Rattle.master.specs.declared.Tally.{Tally}
+use Rattle.ascii.specs.Library.{_≡_, ℕ, List, [], _∷_, eqb, ltb, pick}
+use Rattle.kinds.specs.Kinds.{isNamed, kindOf}
+use Rattle.master.specs.declared.{Tally.Tally}
 use Rattle.places.specs.Counts.{countOf, oneMore}
-use Rattle.tally.specs.declared.Counted.{Counted}
-
--- a line under six bytes has no name, and other lines may have an unknown one
-abbrev pub isNamed : Kind → Bool
-isNamed Header = true
-isNamed Title = true
-isNamed Compnd = true
-isNamed Source = true
-isNamed Keywds = true
-isNamed Expdta = true
-isNamed Author = true
-isNamed Revdat = true
-isNamed Jrnl = true
-isNamed Remark = true
-isNamed Seqres = true
-isNamed Het = true
-isNamed Helix = true
-isNamed Sheet = true
-isNamed Cryst1 = true
-isNamed Origx1 = true
-isNamed Origx2 = true
-isNamed Origx3 = true
-isNamed Scale1 = true
-isNamed Scale2 = true
-isNamed Scale3 = true
-isNamed Atom = true
-isNamed Hetatm = true
-isNamed Ter = true
-isNamed Conect = true
-isNamed Master = true
-isNamed End = true
-isNamed Unknown = false
+use Rattle.tally.specs.declared.{Counted.Counted}
 
 -- no count goes above this
 abbrev pub most : ℕ

@@ -1,10 +1,9 @@
 // The tally: nine counts, lent and brought up to date in place, one line at a time.
-use kinds::Kind;
 use master::Tally;
 ghost use mathlib.Core.Path.{_≡_};
 ghost use Prim.Native.Nat.{_<_};
 ghost use Rattle.places.specs.Counts.{oneMore};
-ghost use Rattle.tally.specs.Tally.{isNamed, countIn, raisedTally, toldTally, tallyStep, tallyLine};
+ghost use Rattle.tally.specs.Tally.{countIn, raisedTally, toldTally, tallyStep, tallyLine};
 
 // What a line is answered, 0 or the number of the refusal, and what the tally then holds.
 pub struct Counted {
@@ -29,7 +28,7 @@ pub fn tally_after(t: Tally, line: &[u8]) -> Counted
     ensures { λ r. ⌜ r ≡ tallyLine t (now (line .entry)) ⌝ }
 {
     let k = kinds::kind_of(line);
-    if is_named(k) {
+    if kinds::is_named(k) {
         return tally_step(t, places::count_of(k));
     }
     Counted {
@@ -52,15 +51,6 @@ pub fn tally_step(t: Tally, which: u8) -> Counted
     Counted {
         number: 14,
         tally: t,
-    }
-}
-
-fn is_named(k: Kind) -> bool
-    ensures { λ r. ⌜ r ≡ isNamed k ⌝ }
-{
-    match k {
-        Kind::Unknown => false,
-        _ => true,
     }
 }
 

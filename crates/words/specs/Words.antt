@@ -1,11 +1,5 @@
 -- Free text held as one number: its bytes to the base 256.
-use Prim.Native.Nat.{ℕ, zero, suc, _+_, _*_, _/_, _%_}
-use mathlib.Core.List.{List, [], _∷_, _++_}
-use mathlib.Core.Bool.{Bool}
-use lib.ListN.{getD}
-use lib.Dec.{eqb}
-use Rattle.ascii.specs.Bytes.{byte}
-use Rattle.ascii.specs.Tests.{both, between}
+use Rattle.ascii.specs.Library.{ℕ, zero, suc, _+_, _*_, _/_, _%_, List, [], _∷_, _++_, Bool, getD, eqb, byte, both, between}
 use Rattle.columns.specs.Columns.{blame, cleanAt}
 use Rattle.fields.specs.Format.{Format}
 

@@ -2,17 +2,17 @@
 -- Assumes nothing.
 use mathlib.Core.Path.{refl}
 use Rattle.ascii.specs.Tests.{both, either, between, same}
-use Rattle.columns.specs.Columns.{firstOf, blankAt, gapOf, cleanAt, blame, leftmost, blanks}
+use Rattle.columns.specs.Columns.{firstOf, blankAt, gapOf, cleanAt, blame, blamedOf, leftmost, blanks}
 use Rattle.numbers.specs.Number.{endsDigit, leadOf, furtherOf, grownOf, numberOf, leader, render}
 use Rattle.fields.specs.Field.{signedOf, isNeg, wholeIn, integerIn}
 use Rattle.elements.specs.Elements.{elements, indexOf, atomicOf}
 use Rattle.words.specs.Words.{wordAt}
 use Rattle.kinds.specs.Kinds.{kindNamed, kindOf}
-use Rattle.residue.specs.Residues.{residueFault, residueValue, sameResidue}
-use Rattle.coordinate.specs.Atoms.{positionFault, positionValue, identityFault, identityValue, measureFault, measureValue, speciesFault, speciesValue, leadsElement, atomFault, atomValue}
-use Rattle.ter.specs.Ters.{terFault, terValue}
-use Rattle.conect.specs.Conects.{partnerOf, differs, unbroken, conectFault, conectValue}
-use Rattle.master.specs.Masters.{notesFault, notesValue, notesText, shapeFault, shapeValue, shapeText, atomsFault, atomsValue, atomsText, masterFault, masterValue, masterText}
+use Rattle.residue.specs.Residues.{residueColumns, sameResidue}
+use Rattle.coordinate.specs.Atoms.{positionColumns, identityColumns, measureColumns, speciesColumns, leadsElement, atomColumns}
+use Rattle.ter.specs.Ters.{terColumns}
+use Rattle.conect.specs.Conects.{partnerColumns, differs, unbroken, conectColumns, serialsColumns, partnersColumns}
+use Rattle.master.specs.Masters.{notesColumns, shapeColumns, atomsColumns, masterColumns}
 use Rattle.line.specs.Lines.{judged, readingOf, readLine}
 use Rattle.pieces.specs.Pieces.{columnsOf, lineOf}
 use Rattle.places.specs.Places.{placeBad}
@@ -34,7 +34,7 @@ use Rattle.worked.specs.Texts.{nitrogenLine, nitrogenRecord, shortest, b
 use Rattle.worked.specs.Worked.{Worked, loaded, ordered}
 
 pub worked : Worked
-unfolding nitrogenLine nitrogenRecord shortest beyond twice entry rest loaded ordered both either between same firstOf blankAt gapOf cleanAt blame leftmost blanks endsDigit leadOf furtherOf grownOf numberOf leader render signedOf isNeg wholeIn integerIn elements indexOf atomicOf wordAt kindNamed kindOf residueFault residueValue positionFault positionValue identityFault identityValue measureFault measureValue speciesFault speciesValue leadsElement atomFault atomValue terFault terValue partnerOf differs unbroken conectFault conectValue notesFault notesValue notesText shapeFault shapeValue shapeText atomsFault atomsValue atomsText masterFault masterValue masterText judged readingOf readLine columnsOf lineOf placeBad raised sameCounts sameThree sameResidue siteBad closeBad siteNext unfinished typedBad judgeOf startOf carriedNext typedNext nextOf cutAtMost cut someOf refusedOf finishOf checkLines checkOf samePair sameFour samePosition sameMeasures sameNames sameSlot withMark joins stepTail tailOf markOf marked linesFrom slotsOf fits fitsFrom belongs tableOf orderOf ordersOf isAside aside stays counted masterPiece written share dealt outputOf boundsFrom takenIn isDrawn widened lower higher framedOf exactly
+unfolding nitrogenLine nitrogenRecord shortest beyond twice entry rest loaded ordered both either between same firstOf blankAt gapOf cleanAt blame blamedOf leftmost blanks endsDigit leadOf furtherOf grownOf numberOf leader render signedOf isNeg wholeIn integerIn elements indexOf atomicOf wordAt kindNamed kindOf residueColumns positionColumns identityColumns measureColumns speciesColumns leadsElement atomColumns terColumns partnerColumns differs unbroken conectColumns serialsColumns partnersColumns notesColumns shapeColumns atomsColumns masterColumns judged readingOf readLine columnsOf lineOf placeBad raised sameCounts sameThree sameResidue siteBad closeBad siteNext unfinished typedBad judgeOf startOf carriedNext typedNext nextOf cutAtMost cut someOf refusedOf finishOf checkLines checkOf samePair sameFour samePosition sameMeasures sameNames sameSlot withMark joins stepTail tailOf markOf marked linesFrom slotsOf fits fitsFrom belongs tableOf orderOf ordersOf isAside aside stays counted masterPiece written share dealt outputOf boundsFrom takenIn isDrawn widened lower higher framedOf exactly
 worked =
     record {
       atom = refl;

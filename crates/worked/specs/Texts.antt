@@ -1,29 +1,23 @@
 -- The lines, texts and slots of the worked examples.
-use Prim.Native.Nat.{ℕ, _-_}
-use Prim.Native.String.{String}
-use mathlib.Core.List.{List, [], _∷_, _++_}
-use lib.IntN.{ℤ, pos, negsuc}
-use lib.ListN.{length}
-use Rattle.ascii.specs.Bytes.{byte, bytes}
+use Rattle.ascii.specs.Library.{ℕ, _-_, String, List, [], _∷_, _++_, ℤ, pos, negsuc, length, byte, bytes}
 use Rattle.columns.specs.Columns.{blanks}
-use Rattle.fields.specs.declared.Whole.{Whole}
-use Rattle.fields.specs.declared.Signed.{Signed}
-use Rattle.fields.specs.Field.{wholeOf, integerOf}
-use Rattle.coordinate.specs.declared.Atom.{Atom}
-use Rattle.slots.specs.declared.Slot.{Slot}
+use Rattle.fields.specs.declared.{Whole.Whole, Signed.Signed}
+use Rattle.fields.specs.Field.{rangedNumber, signedNumber}
+use Rattle.coordinate.specs.declared.{Atom.Atom}
+use Rattle.slots.specs.declared.{Slot.Slot}
 use Rattle.slots.specs.Slots.{atomKind, markIn, noSlot}
 
 -- ---- fields by themselves
 -- Real(8.3), in thousandths
 abbrev pub coordinate : String → Signed
-coordinate t = integerOf 8 4 (bytes t) 0
+coordinate t = signedNumber 8 4 (bytes t) 0
 
 -- Real(6.2) from 0.00 to 1.00, in hundredths
 abbrev pub occupancy : String → Whole
-occupancy t = wholeOf 6 3 0 100 (bytes t) 0
+occupancy t = rangedNumber 6 3 0 100 (bytes t) 0
 
 abbrev pub serial : String → Whole
-serial t = wholeOf 5 0 1 99999 (bytes t) 0
+serial t = rangedNumber 5 0 1 99999 (bytes t) 0
 
 -- ---- one line
 unfoldable pub nitrogenLine : List ℕ

@@ -1,17 +1,13 @@
 -- The worked examples of the format: one list, one statement. It is proved in proofs/Worked.antt.
-use mathlib.Core.List.{List, [], _∷_}
-use mathlib.Core.Bool.{true, false}
-use mathlib.Core.Path.{_≡_}
-use lib.IntN.{pos, negsuc}
-use Rattle.line.specs.declared.Record.the-variants.{Coordinate}
-use Rattle.line.specs.declared.Answer.the-variants.{Read}
+use Rattle.ascii.specs.Library.{List, [], _∷_, true, false, _≡_, pos, negsuc}
+use Rattle.line.specs.declared.{Record.the-variants.Coordinate, Answer.the-variants.Read}
 use Rattle.line.specs.Lines.{readLine}
 use Rattle.places.specs.Counts.{noCounts}
 use Rattle.gate.specs.Gate.{checkOf}
-use Rattle.slots.specs.declared.Slot.{Slot}
+use Rattle.slots.specs.declared.{Slot.Slot}
 use Rattle.table.specs.Table.{told, loadedOf, fragments, orderOf}
 use Rattle.table.specs.Deal.{outputOf}
-use Rattle.feed.specs.declared.Framed.the-variants.{Around}
+use Rattle.feed.specs.declared.{Framed.the-variants.Around}
 use Rattle.feed.specs.Exact.{whole}
 use Rattle.feed.specs.Frame.{frameOf}
 use Rattle.worked.specs.Texts.{coordinate, occupancy, serial, nitrogenLine, nitrogenRecord, textOf, shortest, beyond, twice, water7, entry, rest, slotAt}

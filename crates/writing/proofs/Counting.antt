@@ -7,7 +7,7 @@ use Rattle.kinds.specs.declared.Kind.{Kind}
 use Rattle.pieces.specs.declared.Line.{Line}
 use Rattle.places.specs.declared.Counts.{Counts}
 use Rattle.places.specs.Counts.{countOf, raised}
-use Rattle.rules.specs.Rules.{lineKind}
+use Rattle.facets.specs.Facets.{lineKind}
 use Rattle.table.specs.Deal.{counted}
 
 pub stays-counted : (stay : Bool) (q r : Counts) (l : Line) (k : Kind) (n : ℕ) → stay ≡ true → k ≡ lineKind l → n ≡ countOf k → r ≡ raised q n → r ≡ counted stay q l

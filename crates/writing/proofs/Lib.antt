@@ -1,4 +1,3 @@
-pub mod Others
 pub mod Counting
 pub mod Copies
 pub mod Recounts

@@ -13,7 +13,9 @@ use Rattle.columns.specs.Columns.{Put}
 use Rattle.columns.proofs.Puts.{one-put, put-then}
 use Rattle.fields.specs.Format.{writeLine}
 use Rattle.master.specs.declared.Tally.{Tally}
-use Rattle.master.specs.Masters.{masterOk, masterLine}
+use Rattle.master.specs.Masters.{masterF}
+use Rattle.kinds.specs.declared.Kind.the-variants as kind
+use Rattle.kinds.specs.Kinds.{lineWith}
 use Rattle.places.specs.declared.Counts.{Counts}
 use Rattle.table.specs.Deal.{tallyOf, masterPiece}
 use Rattle.table.specs.FiveDigits.{FiveDigits}
@@ -41,15 +43,15 @@ line-fills x m e =
 
 -- t was written into the 80 bytes from `at`, and left x there
 pub recounted : (q : Counts) (t : Tally) (l x : List ℕ) (at : ℕ) → FiveDigits (tallyOf q) → at + 81 ≤ length l → t ≡ tallyOf q
-    → x ≡ writeLine (masterOk t) (masterLine t) (midOf at (at + 80 - at) l)
+    → x ≡ writeLine (masterF .ok t) (lineWith kind.Master masterF t) (midOf at (at + 80 - at) l)
     → Put l at 81 (masterPiece q) (set (putMid at (at + 80 - at) l x) (at + 80) 10)
 unfolding masterPiece
 recounted q t l x at s h e w =
     let m : List ℕ = midOf at (at + 80 - at) l in
     let n : length m ≡ 80 = omega (arith, mid-len at (at + 80) l (omega arith)) in
-    let y : x ≡ masterLine (tallyOf q) =
-    w ∙ ap (λ (t : Tally). writeLine (masterOk t) (masterLine t) m) e ∙ ap (λ (ok : Bool). writeLine ok (masterLine (tallyOf q)) m) (small-ok (tallyOf q) s)
-    ∙ line-fills (masterLine (tallyOf q)) m n in
+    let y : x ≡ lineWith kind.Master masterF (tallyOf q) =
+    w ∙ ap (λ (t : Tally). writeLine (masterF .ok t) (lineWith kind.Master masterF t) m) e ∙ ap (λ (ok : Bool). writeLine ok (lineWith kind.Master masterF (tallyOf q)) m) (small-ok (tallyOf q) s)
+    ∙ line-fills (lineWith kind.Master masterF (tallyOf q)) m n in
     let k : length x ≡ 80 = ap length y ∙ line-80 (tallyOf q) in
     let same : length (putMid at (at + 80 - at) l x) ≡ length l = same-len-mid at (at + 80 - at) l x (k ∙ sym n) in
     subst (λ (z : List ℕ). Put l at 81 (z ++ (10 ∷ [])) (set (putMid at (at + 80 - at) l x) (at + 80) 10)) y

@@ -1,6 +1,5 @@
 // What one line of an accepted text gives to the saved entry or to the tray, written where it is to stand.
-use kinds::Kind;
-use line::Record;
+use facets::Total;
 use master::Tally;
 use pieces::Line;
 use places::Counts;
@@ -12,21 +11,9 @@ ghost use lib.ListN.{length, take, drop};
 ghost use Rattle.columns.specs.Columns.{Put};
 ghost use Rattle.places.specs.Room.{Room};
 ghost use Rattle.ascii.specs.Tests.{alike};
-ghost use Rattle.rules.specs.Rules.{lineKind};
 ghost use Rattle.rows.specs.Text.{pieceAt, row};
-ghost use Rattle.table.specs.Deal.{counted, tallyOf, masterPiece, recordMaster, isMaster, share};
+ghost use Rattle.table.specs.Deal.{counted, tallyOf, masterPiece, isTotal, isMaster, share};
 ghost use Rattle.table.specs.FiveDigits.{FiveDigits};
-
-fn line_kind(l: Line) -> Kind
-    ensures { λ k. ⌜ k ≡ lineKind l ⌝ }
-{
-    match l {
-        Line::Bad(_) => Kind::Unknown,
-        Line::Wrong(k, _) => k,
-        Line::Carried(k) => k,
-        Line::Typed(r) => rules::record_kind(r),
-    }
-}
 
 // The counts of the lines that stay, with this one.
 pub fn count_line(stay: bool, q: Counts, l: Line) -> Counts
@@ -34,27 +21,24 @@ pub fn count_line(stay: bool, q: Counts, l: Line) -> Counts
     ensures { λ r. ⌜ r ≡ counted stay q l ⌝ }
 {
     if stay {
-        return places::raise(q, places::count_of(line_kind(l)));
+        return places::raise(q, places::count_of(facets::line_kind(l)));
     }
     q
 }
 
-fn is_master_record(r: Record) -> bool
-    ensures { λ b. ⌜ b ≡ recordMaster r ⌝ }
+fn is_total(t: Total) -> bool
+    ensures { λ b. ⌜ b ≡ isTotal t ⌝ }
 {
-    if let Record::Master(_) = r {
-        return true;
+    match t {
+        Total::Counted(_) => true,
+        Total::Uncounted => false,
     }
-    false
 }
 
 fn is_master(l: Line) -> bool
     ensures { λ b. ⌜ b ≡ isMaster l ⌝ }
 {
-    if let Line::Typed(r) = l {
-        return is_master_record(r);
-    }
-    false
+    is_total(facets::total_in(l))
 }
 
 // Whether the line is one to be written: one that stays is saved, one that goes is laid on the tray.

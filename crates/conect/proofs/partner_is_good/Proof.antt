@@ -1,10 +1,10 @@
 use borrow.Author.Needs.{needs}
-use Rattle.conect.specs.Conects.{partnerOk}
+use Rattle.conect.specs.Conects.{partnerColumns}
 use Rattle.conect.proofs.partner_is_good.Statement.{statement}
 use Rattle.conect.proofs.partner_is_good.Tie as tie
 
 returns : tie.Need-returns
-unfolding partnerOk
+unfolding partnerColumns
 returns c = search needs
 
 pub partner-is-good-spec : {M : Type 1} → statement M

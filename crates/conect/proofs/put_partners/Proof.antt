@@ -16,7 +16,7 @@ same-length : tie.Need-same-length
 same-length c = search needs
 
 returns : tie.Need-returns
-returns c = partners-write _ _ _ _ _
+returns c = partners-write _ _ _ _ _ _ _
     (c .before .before .before .before .before .before .before .before .before .before .put-partner .ensures)
     (c .before .before .before .before .before .before .put-partner2 .ensures)
     (c .before .before .put-partner3 .ensures)

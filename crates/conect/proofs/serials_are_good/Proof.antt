@@ -1,4 +1,4 @@
-use Rattle.conect.proofs.Returns.{plain-judges}
+use Rattle.conect.proofs.Returns.{serials-judge}
 use borrow.Author.Needs.{needs}
 use Rattle.conect.proofs.serials_are_good.Statement.{statement}
 use Rattle.conect.proofs.serials_are_good.Tie as tie
@@ -34,7 +34,7 @@ both-of-requires-5 : tie.Need-both-of-requires-5
 both-of-requires-5 c κs = search needs
 
 returns : tie.Need-returns
-returns c = search plain-judges
+returns c = search serials-judge
 
 pub serials-are-good-spec : {M : Type 1} → statement M
 serials-are-good-spec =

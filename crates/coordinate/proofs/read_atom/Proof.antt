@@ -1,4 +1,4 @@
-use Rattle.coordinate.proofs.Returns.{atom-reads}
+use Rattle.coordinate.proofs.Returns.{atom-column, atom-value}
 use borrow.Author.Needs.{needs}
 use Rattle.coordinate.proofs.read_atom.Statement.{statement}
 use Rattle.coordinate.proofs.read_atom.Tie as tie
@@ -21,8 +21,8 @@ read-species-requires c κs = search needs
 leads-requires : tie.Need-leads-requires
 leads-requires c κs = tt
 
-judged-requires : tie.Need-judged-requires
-judged-requires c κs = search needs
+blamed-requires : tie.Need-blamed-requires
+blamed-requires c κs = search needs
 
 first-requires : tie.Need-first-requires
 first-requires c κs = tt
@@ -40,7 +40,7 @@ lower-requires : tie.Need-lower-requires
 lower-requires c κs = tt
 
 returns : tie.Need-returns
-returns c = search atom-reads
+returns c = (search atom-column, search atom-value)
 
 pub read-atom-spec : {M : Type 1} → statement M
 read-atom-spec =
@@ -52,7 +52,7 @@ read-atom-spec =
     gap-requires-2
     read-species-requires
     leads-requires
-    judged-requires
+    blamed-requires
     first-requires
     first-requires-2
     first-requires-3

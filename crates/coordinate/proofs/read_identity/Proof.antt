@@ -1,4 +1,4 @@
-use Rattle.coordinate.proofs.Returns.{identity-reads}
+use Rattle.coordinate.proofs.Returns.{identity-column, identity-value}
 use borrow.Author.Needs.{needs}
 use Rattle.coordinate.proofs.read_identity.Statement.{statement}
 use Rattle.coordinate.proofs.read_identity.Tie as tie
@@ -43,7 +43,7 @@ first-requires-4 : tie.Need-first-requires-4
 first-requires-4 c κs = tt
 
 returns : tie.Need-returns
-returns c = search identity-reads
+returns c = (search identity-column, search identity-value)
 
 pub read-identity-spec : {M : Type 1} → statement M
 read-identity-spec =

@@ -1,4 +1,4 @@
-use Rattle.coordinate.proofs.Returns.{measure-reads}
+use Rattle.coordinate.proofs.Returns.{measure-column, measure-value}
 use borrow.Author.Needs.{needs}
 use Rattle.coordinate.proofs.read_measure.Statement.{statement}
 use Rattle.coordinate.proofs.read_measure.Tie as tie
@@ -6,11 +6,11 @@ use Rattle.coordinate.proofs.read_measure.Tie as tie
 read-position-requires : tie.Need-read-position-requires
 read-position-requires c κs = search needs
 
-read-whole-requires : tie.Need-read-whole-requires
-read-whole-requires c κs = search needs
+read-whole-real-requires : tie.Need-read-whole-real-requires
+read-whole-real-requires c κs = search needs
 
-read-integer-requires : tie.Need-read-integer-requires
-read-integer-requires c κs = search needs
+read-real-requires : tie.Need-read-real-requires
+read-real-requires c κs = search needs
 
 first-requires : tie.Need-first-requires
 first-requires c κs = tt
@@ -19,15 +19,15 @@ first-requires-2 : tie.Need-first-requires-2
 first-requires-2 c κs = tt
 
 returns : tie.Need-returns
-returns c = search measure-reads
+returns c = (search measure-column, search measure-value)
 
 pub read-measure-spec : {M : Type 1} → statement M
 read-measure-spec =
     tie.close
     (tie.spec
     read-position-requires
-    read-whole-requires
-    read-integer-requires
+    read-whole-real-requires
+    read-real-requires
     first-requires
     first-requires-2
     returns)

@@ -1,16 +1,16 @@
-use Rattle.coordinate.proofs.Returns.{position-reads}
+use Rattle.coordinate.proofs.Returns.{position-column, position-value}
 use borrow.Author.Needs.{needs}
 use Rattle.coordinate.proofs.read_position.Statement.{statement}
 use Rattle.coordinate.proofs.read_position.Tie as tie
 
-read-integer-requires : tie.Need-read-integer-requires
-read-integer-requires c κs = search needs
+read-real-requires : tie.Need-read-real-requires
+read-real-requires c κs = search needs
 
-read-integer-requires-2 : tie.Need-read-integer-requires-2
-read-integer-requires-2 c κs = search needs
+read-real-requires-2 : tie.Need-read-real-requires-2
+read-real-requires-2 c κs = search needs
 
-read-integer-requires-3 : tie.Need-read-integer-requires-3
-read-integer-requires-3 c κs = search needs
+read-real-requires-3 : tie.Need-read-real-requires-3
+read-real-requires-3 c κs = search needs
 
 first-requires : tie.Need-first-requires
 first-requires c κs = tt
@@ -19,15 +19,15 @@ first-requires-2 : tie.Need-first-requires-2
 first-requires-2 c κs = tt
 
 returns : tie.Need-returns
-returns c = search position-reads
+returns c = (search position-column, search position-value)
 
 pub read-position-spec : {M : Type 1} → statement M
 read-position-spec =
     tie.close
     (tie.spec
-    read-integer-requires
-    read-integer-requires-2
-    read-integer-requires-3
+    read-real-requires
+    read-real-requires-2
+    read-real-requires-3
     first-requires
     first-requires-2
     returns)

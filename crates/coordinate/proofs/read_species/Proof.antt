@@ -1,4 +1,4 @@
-use Rattle.coordinate.proofs.Returns.{species-reads}
+use Rattle.coordinate.proofs.Returns.{species-column, species-value}
 use borrow.Author.Needs.{needs}
 use Rattle.coordinate.proofs.read_species.Statement.{statement}
 use Rattle.coordinate.proofs.read_species.Tie as tie
@@ -25,7 +25,7 @@ first-requires : tie.Need-first-requires
 first-requires c κs = tt
 
 returns : tie.Need-returns
-returns c = search species-reads
+returns c = (search species-column, search species-value)
 
 pub read-species-spec : {M : Type 1} → statement M
 read-species-spec =

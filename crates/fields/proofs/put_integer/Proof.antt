@@ -1,24 +1,16 @@
-use Rattle.fields.proofs.Returns.{integer-put}
+use Rattle.fields.proofs.Returns.{integer-passed}
 use borrow.Author.Needs.{needs}
 use Rattle.fields.proofs.put_integer.Statement.{statement}
 use Rattle.fields.proofs.put_integer.Tie as tie
 
-negative-requires : tie.Need-negative-requires
-negative-requires c κs = search needs
-
-magnitude-requires : tie.Need-magnitude-requires
-magnitude-requires c κs = search needs
-
-put-number-requires : tie.Need-put-number-requires
-put-number-requires c κs = search needs
+put-signed-requires : tie.Need-put-signed-requires
+put-signed-requires c κs = search needs
 
 same-length : tie.Need-same-length
 same-length c = search needs
 
 returns : tie.Need-returns
-returns c = search integer-put
+returns c = search integer-passed
 
 pub put-integer-spec : {M : Type 1} → statement M
-put-integer-spec =
-    tie.close
-    (tie.spec negative-requires magnitude-requires put-number-requires same-length returns)
+put-integer-spec = tie.close (tie.spec put-signed-requires same-length returns)

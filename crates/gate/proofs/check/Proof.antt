@@ -8,16 +8,16 @@ use Rattle.gate.proofs.check.Statement.{statement}
 use Rattle.gate.proofs.check.Tie as tie
 
 abbrev Inv-loop : tie.InvT-loop
-Inv-loop text i₀ s₀ b₀ i s b = Sofar text i b s
+Inv-loop text i₀ c₀ i c = Sofar text i (c .past .block) (c .state)
 
 abbrev μ-loop : tie.MeasureT-loop
-μ-loop text i₀ s₀ b₀ i s b = length text - 81 * i
+μ-loop text i₀ c₀ i c = length text - 81 * i
 
 start-requires : tie.Need-start-requires Inv-loop μ-loop
 start-requires c κs = tt
 
 loop-holds : tie.Need-loop-holds Inv-loop μ-loop
-loop-holds c = rw (c .start .ensures) (sofar-start _)
+loop-holds c = rw (c .start .ensures .0, c .start .ensures .1) (sofar-start _)
 
 mul-loop : tie.Need-mul-loop Inv-loop μ-loop
 mul-loop c = omega arith
@@ -25,23 +25,14 @@ mul-loop c = omega arith
 line-at-requires : tie.Need-line-at-requires Inv-loop μ-loop
 line-at-requires c κs = omega arith
 
-known-requires : tie.Need-known-requires Inv-loop μ-loop
-known-requires c κs = sofar-rising _ _ _ _ (c .before .before .loop .inv)
-
-judge-requires : tie.Need-judge-requires Inv-loop μ-loop
-judge-requires c κs = tt
+turn-requires : tie.Need-turn-requires Inv-loop μ-loop
+turn-requires c κs = (sofar-rising _ _ _ _ (c .before .before .loop .inv), (search needs, (omega arith, omega arith)))
 
 refused-requires : tie.Need-refused-requires Inv-loop μ-loop
 refused-requires c κs = omega arith
 
 returns : tie.Need-returns Inv-loop μ-loop
-returns c = c .refused .ensures ∙ turn-refused _ _ _ _ (c .before .before .before .before .before .before .loop .inv) (c .before .before .before .before .before .loop-test .taken) _ _ _ (c .before .before .before .before .line-at .ensures) (c .before .before .before .known .ensures _ _ (c .before .before .before .before .before .before .loop .inv .block)) (c .before .before .judge .ensures) (c .before .if1 .taken)
-
-grow-requires : tie.Need-grow-requires Inv-loop μ-loop
-grow-requires c κs = omega arith
-
-next-requires : tie.Need-next-requires Inv-loop μ-loop
-next-requires c κs = search needs
+returns c = c .refused .ensures ∙ turn-refused _ _ _ _ (c .before .before .before .before .before .before .loop .inv) (c .before .before .before .before .before .loop-test .taken) _ _ (c .before .before .before .before .line-at .ensures) (c .before .before .before .turn .ensures .0 _ _ (c .before .before .before .before .before .before .loop .inv .block)) (c .before .before .if1 .taken)
 
 add-i : tie.Need-add-i Inv-loop μ-loop
 add-i c = omega arith
@@ -50,13 +41,15 @@ loop-less : tie.Need-loop-less Inv-loop μ-loop
 loop-less c = omega arith
 
 loop-again : tie.Need-loop-again Inv-loop μ-loop
-loop-again c = turn-next _ _ _ _ (c .before .before .before .before .before .before .before .loop .inv) (c .before .before .before .before .before .before .loop-test .taken) _ _ _ (c .before .before .before .before .before .line-at .ensures) (c .before .before .before .before .known .ensures _ _ (c .before .before .before .before .before .before .before .loop .inv .block)) (c .before .before .before .judge .ensures) (c .before .before .if1 .left) _ (c .before .grow .ensures) _ (c .next .ensures)
+loop-again c =
+    let e = c .before .before .turn .ensures .1 (c .before .if1 .left) in
+    turn-next _ _ _ _ (c .before .before .before .before .before .loop .inv) (c .before .before .before .before .loop-test .taken) _ _ (c .before .before .before .line-at .ensures) (c .before .before .turn .ensures .0 _ _ (c .before .before .before .before .before .loop .inv .block)) (c .before .if1 .left) _ (e .1) _ (e .0)
 
 finish-requires : tie.Need-finish-requires Inv-loop μ-loop
 finish-requires c κs = omega arith
 
 returns-2 : tie.Need-returns-2 Inv-loop μ-loop
-returns-2 c = sofar-done _ _ _ _ _ (c .before .before .loop .inv) (c .before .loop-test .left) (c .finish .ensures)
+returns-2 c = sofar-done _ _ _ _ _ (c .before .before .before .loop .inv) (c .before .before .loop-test .left) (c .finish .ensures)
 
 pub check-spec : {M : Type 1} → statement M
 check-spec =
@@ -68,12 +61,9 @@ check-spec =
     loop-holds
     mul-loop
     line-at-requires
-    known-requires
-    judge-requires
+    turn-requires
     refused-requires
     returns
-    grow-requires
-    next-requires
     add-i
     loop-less
     loop-again

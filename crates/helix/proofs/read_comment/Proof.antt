@@ -1,4 +1,4 @@
-use Rattle.helix.proofs.Returns.{comment-reads}
+use Rattle.helix.proofs.Returns.{comment-column, comment-value}
 use borrow.Author.Needs.{needs}
 use Rattle.helix.proofs.read_comment.Statement.{statement}
 use Rattle.helix.proofs.read_comment.Tie as tie
@@ -49,7 +49,7 @@ word-requires-4 : tie.Need-word-requires-4
 word-requires-4 c κs = search needs
 
 returns : tie.Need-returns
-returns c = search comment-reads
+returns c = (search comment-column, search comment-value)
 
 pub read-comment-spec : {M : Type 1} → statement M
 read-comment-spec =

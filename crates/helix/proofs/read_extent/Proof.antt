@@ -1,4 +1,4 @@
-use Rattle.helix.proofs.Returns.{extent-reads}
+use Rattle.helix.proofs.Returns.{extent-column, extent-value}
 use borrow.Author.Needs.{needs}
 use Rattle.helix.proofs.read_extent.Statement.{statement}
 use Rattle.helix.proofs.read_extent.Tie as tie
@@ -57,34 +57,41 @@ first-requires-7 c κs = tt
 is-requires : tie.Need-is-requires
 is-requires c κs = tt
 
-judged-requires-2 : tie.Need-judged-requires-2
-judged-requires-2 c κs = search needs
+blamed-requires : tie.Need-blamed-requires
+blamed-requires c κs = search needs
 
 lower-requires : tie.Need-lower-requires
 lower-requires c κs = tt
 
 returns : tie.Need-returns
-returns c = extent-reads _ _ _ _ _ _ _ _ _ _ _ _ _ _ _ _ _ _ _ _ _
-    (c .before .before .before .before .before .before .before .before .before .before .before .before .before .before .before .before .before .before .before .before .before .gap .ensures)
-    (c .before .before .before .before .before .before .before .before .before .before .before .before .before .before .before .before .before .before .before .before .read-whole .ensures)
-    (c .before .before .before .before .before .before .before .before .before .before .before .before .before .before .before .before .before .before .before .gap2 .ensures)
-    (c .before .before .before .before .before .before .before .before .before .before .before .before .before .before .before .before .before .before .read-three .ensures)
-    (c .before .before .before .before .before .before .before .before .before .before .before .before .before .before .before .before .before .is-identifier .ensures)
-    (c .before .before .before .before .before .before .before .before .before .before .before .before .before .before .before .before .judged .ensures)
-    (c .before .before .before .before .before .before .before .before .before .before .before .before .before .before .before .gap3 .ensures)
-    (c .before .before .before .before .before .before .before .before .before .before .before .before .before .before .read-residue .ensures)
-    (c .before .before .before .before .before .before .before .before .before .before .before .before .before .gap4 .ensures)
-    (c .before .before .before .before .before .before .before .before .before .before .before .before .read-residue2 .ensures)
-    (c .before .before .before .before .before .before .before .before .before .first .ensures)
-    (c .before .before .before .before .before .before .before .before .first2 .ensures)
-    (c .before .before .before .before .before .before .before .first3 .ensures)
-    (c .before .before .before .before .before .before .first4 .ensures)
-    (c .before .before .before .before .before .first5 .ensures)
-    (c .before .before .before .before .first6 .ensures)
-    (c .before .before .before .first7 .ensures)
-    (c .before .before .is .ensures)
-    (c .before .judged2 .ensures)
-    (c .lower .ensures)
+returns c = (
+  extent-column _ _ _ _ _ _ _ _ _ _ _ _ _ _ _ _ _ _ _ _ _
+      (c .before .before .before .before .before .before .before .before .before .before .before .before .before .before .before .before .before .before .before .before .before .gap .ensures)
+      (c .before .before .before .before .before .before .before .before .before .before .before .before .before .before .before .before .before .before .before .before .read-whole .ensures)
+      (c .before .before .before .before .before .before .before .before .before .before .before .before .before .before .before .before .before .before .before .gap2 .ensures)
+      (c .before .before .before .before .before .before .before .before .before .before .before .before .before .before .before .before .before .before .read-three .ensures)
+      (c .before .before .before .before .before .before .before .before .before .before .before .before .before .before .before .before .before .is-identifier .ensures)
+      (c .before .before .before .before .before .before .before .before .before .before .before .before .before .before .before .before .judged .ensures)
+      (c .before .before .before .before .before .before .before .before .before .before .before .before .before .before .before .gap3 .ensures)
+      (c .before .before .before .before .before .before .before .before .before .before .before .before .before .before .read-residue .ensures)
+      (c .before .before .before .before .before .before .before .before .before .before .before .before .before .gap4 .ensures)
+      (c .before .before .before .before .before .before .before .before .before .before .before .before .read-residue2 .ensures)
+      (c .before .before .before .before .before .before .before .before .before .first .ensures)
+      (c .before .before .before .before .before .before .before .before .first2 .ensures)
+      (c .before .before .before .before .before .before .before .first3 .ensures)
+      (c .before .before .before .before .before .before .first4 .ensures)
+      (c .before .before .before .before .before .first5 .ensures)
+      (c .before .before .before .before .first6 .ensures)
+      (c .before .before .before .first7 .ensures)
+      (c .before .before .is .ensures)
+      (c .before .blamed .ensures)
+      (c .lower .ensures),
+  extent-value _ _ _ _ _
+      (c .before .before .before .before .before .before .before .before .before .before .before .before .before .before .before .before .before .before .before .before .read-whole .ensures)
+      (c .before .before .before .before .before .before .before .before .before .before .before .before .before .before .before .before .before .before .read-three .ensures)
+      (c .before .before .before .before .before .before .before .before .before .before .before .before .before .before .read-residue .ensures)
+      (c .before .before .before .before .before .before .before .before .before .before .before .before .read-residue2 .ensures),
+)
 
 pub read-extent-spec : {M : Type 1} → statement M
 read-extent-spec =
@@ -108,6 +115,6 @@ read-extent-spec =
     first-requires-6
     first-requires-7
     is-requires
-    judged-requires-2
+    blamed-requires
     lower-requires
     returns)

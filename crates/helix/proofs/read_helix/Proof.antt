@@ -1,4 +1,4 @@
-use Rattle.helix.proofs.Returns.{helix-reads}
+use Rattle.helix.proofs.Returns.{helix-column, helix-value}
 use borrow.Author.Needs.{needs}
 use Rattle.helix.proofs.read_helix.Statement.{statement}
 use Rattle.helix.proofs.read_helix.Tie as tie
@@ -40,7 +40,7 @@ first-requires-6 : tie.Need-first-requires-6
 first-requires-6 c κs = tt
 
 returns : tie.Need-returns
-returns c = search helix-reads
+returns c = (search helix-column, search helix-value)
 
 pub read-helix-spec : {M : Type 1} → statement M
 read-helix-spec =

@@ -1,4 +1,4 @@
-use Rattle.master.proofs.Returns.{atoms-reads}
+use Rattle.master.proofs.Returns.{atoms-column, atoms-value}
 use borrow.Author.Needs.{needs}
 use Rattle.master.proofs.read_atoms.Statement.{statement}
 use Rattle.master.proofs.read_atoms.Tie as tie
@@ -25,7 +25,7 @@ first-requires-3 : tie.Need-first-requires-3
 first-requires-3 c κs = search needs
 
 returns : tie.Need-returns
-returns c = search atoms-reads
+returns c = (search atoms-column, search atoms-value)
 
 pub read-atoms-spec : {M : Type 1} → statement M
 read-atoms-spec =

@@ -1,4 +1,4 @@
-use Rattle.master.proofs.Returns.{reads}
+use Rattle.master.proofs.Returns.{reads-column, reads-value}
 use borrow.Author.Needs.{needs}
 use Rattle.master.proofs.read_master.Statement.{statement}
 use Rattle.master.proofs.read_master.Tie as tie
@@ -35,7 +35,7 @@ first-requires-5 : tie.Need-first-requires-5
 first-requires-5 c κs = search needs
 
 returns : tie.Need-returns
-returns c = search reads
+returns c = (search reads-column, search reads-value)
 
 pub read-master-spec : {M : Type 1} → statement M
 read-master-spec =

@@ -1,4 +1,4 @@
-use Rattle.master.proofs.Returns.{notes-reads}
+use Rattle.master.proofs.Returns.{notes-column, notes-value}
 use borrow.Author.Needs.{needs}
 use Rattle.master.proofs.read_notes.Statement.{statement}
 use Rattle.master.proofs.read_notes.Tie as tie
@@ -25,7 +25,7 @@ first-requires-3 : tie.Need-first-requires-3
 first-requires-3 c κs = search needs
 
 returns : tie.Need-returns
-returns c = search notes-reads
+returns c = (search notes-column, search notes-value)
 
 pub read-notes-spec : {M : Type 1} → statement M
 read-notes-spec =

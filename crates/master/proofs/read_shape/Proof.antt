@@ -1,4 +1,4 @@
-use Rattle.master.proofs.Returns.{shape-reads}
+use Rattle.master.proofs.Returns.{shape-column, shape-value}
 use borrow.Author.Needs.{needs}
 use Rattle.master.proofs.read_shape.Statement.{statement}
 use Rattle.master.proofs.read_shape.Tie as tie
@@ -25,7 +25,7 @@ first-requires-3 : tie.Need-first-requires-3
 first-requires-3 c κs = search needs
 
 returns : tie.Need-returns
-returns c = search shape-reads
+returns c = (search shape-column, search shape-value)
 
 pub read-shape-spec : {M : Type 1} → statement M
 read-shape-spec =

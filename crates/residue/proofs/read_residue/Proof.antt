@@ -1,4 +1,4 @@
-use Rattle.residue.proofs.Returns.{reads}
+use Rattle.residue.proofs.Returns.{reads-column, reads-value}
 use borrow.Author.Needs.{needs}
 use Rattle.residue.proofs.read_residue.Statement.{statement}
 use Rattle.residue.proofs.read_residue.Tie as tie
@@ -71,7 +71,7 @@ first-requires-5 : tie.Need-first-requires-5
 first-requires-5 c κs = search needs
 
 returns : tie.Need-returns
-returns c = search reads
+returns c = (search reads-column, search reads-value)
 
 pub read-residue-spec : {M : Type 1} → statement M
 read-residue-spec =

@@ -3,22 +3,18 @@ use borrow.Author.Needs.{needs}
 use Rattle.rules.proofs.carried_next.Statement.{statement}
 use Rattle.rules.proofs.carried_next.Tie as tie
 
-place-of-requires : tie.Need-place-of-requires
-place-of-requires c κs = tt
-
-count-of-requires : tie.Need-count-of-requires
-count-of-requires c κs = tt
+row-of-requires : tie.Need-row-of-requires
+row-of-requires c κs = tt
 
 raise-requires : tie.Need-raise-requires
-raise-requires c κs = c .before .before .before .before .before .pre .0
+raise-requires c κs = c .before .before .before .before .pre .0
 
-add-t9 : tie.Need-add-t9
-add-t9 c = search needs
+add-t8 : tie.Need-add-t8
+add-t8 c = search needs
 
 returns : tie.Need-returns
 unfolding carriedNext
-returns c = rw (c .before .raise .ensures, c .before .before .count-of .ensures, c .before .before .before .place-of .ensures)
+returns c = rw (c .before .raise .ensures, c .before .before .row-of .ensures)
 
 pub carried-next-spec : {M : Type 1} → statement M
-carried-next-spec =
-    tie.close (tie.spec place-of-requires count-of-requires raise-requires add-t9 returns)
+carried-next-spec = tie.close (tie.spec row-of-requires raise-requires add-t8 returns)

@@ -1,54 +1,72 @@
 use Rattle.rules.specs.Rules.{typedBad}
+use borrow.Author.Needs.{needs}
 use Rattle.rules.proofs.typed_bad.Statement.{statement}
 use Rattle.rules.proofs.typed_bad.Tie as tie
 
-count-bad-requires : tie.Need-count-bad-requires
-count-bad-requires c κs = tt
+spot-of-requires : tie.Need-spot-of-requires
+spot-of-requires c κs = search needs
 
-choose-requires : tie.Need-choose-requires
-choose-requires c κs = tt
+bond-of-requires : tie.Need-bond-of-requires
+bond-of-requires c κs = search needs
 
-fold-bad-requires : tie.Need-fold-bad-requires
-fold-bad-requires c κs = tt
+fold-of-requires : tie.Need-fold-of-requires
+fold-of-requires c κs = search needs
 
-choose-requires-2 : tie.Need-choose-requires-2
-choose-requires-2 c κs = tt
-
-bond-bad-requires : tie.Need-bond-bad-requires
-bond-bad-requires c κs = tt
-
-choose-requires-3 : tie.Need-choose-requires-3
-choose-requires-3 c κs = tt
-
-run-bad-requires : tie.Need-run-bad-requires
-run-bad-requires c κs = tt
-
-choose-requires-4 : tie.Need-choose-requires-4
-choose-requires-4 c κs = tt
-
-serial-bad-requires : tie.Need-serial-bad-requires
-serial-bad-requires c κs = tt
-
-choose-requires-5 : tie.Need-choose-requires-5
-choose-requires-5 c κs = tt
+total-of-requires : tie.Need-total-of-requires
+total-of-requires c κs = search needs
 
 record-kind-requires : tie.Need-record-kind-requires
-record-kind-requires c κs = tt
+record-kind-requires c κs = search needs
+
+count-bad-requires : tie.Need-count-bad-requires
+count-bad-requires c κs = search needs
+
+choose-requires : tie.Need-choose-requires
+choose-requires c κs = search needs
+
+fold-bad-requires : tie.Need-fold-bad-requires
+fold-bad-requires c κs = search needs
+
+choose-requires-2 : tie.Need-choose-requires-2
+choose-requires-2 c κs = search needs
+
+bond-bad-requires : tie.Need-bond-bad-requires
+bond-bad-requires c κs = search needs
+
+choose-requires-3 : tie.Need-choose-requires-3
+choose-requires-3 c κs = search needs
+
+run-bad-requires : tie.Need-run-bad-requires
+run-bad-requires c κs = search needs
+
+choose-requires-4 : tie.Need-choose-requires-4
+choose-requires-4 c κs = search needs
+
+serial-bad-requires : tie.Need-serial-bad-requires
+serial-bad-requires c κs = search needs
+
+choose-requires-5 : tie.Need-choose-requires-5
+choose-requires-5 c κs = search needs
 
 place-bad-requires : tie.Need-place-bad-requires
-place-bad-requires c κs = tt
+place-bad-requires c κs = search needs
 
 choose-requires-6 : tie.Need-choose-requires-6
-choose-requires-6 c κs = tt
+choose-requires-6 c κs = search needs
 
 returns : tie.Need-returns
 unfolding typedBad
-returns c = rw (c .choose6 .ensures, c .before .place-bad .ensures, c .before .before .record-kind .ensures, c .before .before .before .choose5 .ensures, c .before .before .before .before .serial-bad .ensures, c .before .before .before .before .before .choose4 .ensures, c .before .before .before .before .before .before .run-bad .ensures, c .before .before .before .before .before .before .before .choose3 .ensures, c .before .before .before .before .before .before .before .before .bond-bad .ensures, c .before .before .before .before .before .before .before .before .before .choose2 .ensures, c .before .before .before .before .before .before .before .before .before .before .fold-bad .ensures, c .before .before .before .before .before .before .before .before .before .before .before .choose .ensures, c .before .before .before .before .before .before .before .before .before .before .before .before .count-bad .ensures)
+returns c = rw (c .choose6 .ensures, c .before .place-bad .ensures, c .before .before .choose5 .ensures, c .before .before .before .serial-bad .ensures, c .before .before .before .before .choose4 .ensures, c .before .before .before .before .before .run-bad .ensures, c .before .before .before .before .before .before .choose3 .ensures, c .before .before .before .before .before .before .before .bond-bad .ensures, c .before .before .before .before .before .before .before .before .choose2 .ensures, c .before .before .before .before .before .before .before .before .before .fold-bad .ensures, c .before .before .before .before .before .before .before .before .before .before .choose .ensures, c .before .before .before .before .before .before .before .before .before .before .before .count-bad .ensures, c .before .before .before .before .before .before .before .before .before .before .before .before .record-kind .ensures, c .before .before .before .before .before .before .before .before .before .before .before .before .before .total-of .ensures, c .before .before .before .before .before .before .before .before .before .before .before .before .before .before .fold-of .ensures, c .before .before .before .before .before .before .before .before .before .before .before .before .before .before .before .bond-of .ensures, c .before .before .before .before .before .before .before .before .before .before .before .before .before .before .before .before .spot-of .ensures)
 
 pub typed-bad-spec : {M : Type 1} → statement M
 typed-bad-spec =
     tie.close
     (tie.spec
+    spot-of-requires
+    bond-of-requires
+    fold-of-requires
+    total-of-requires
+    record-kind-requires
     count-bad-requires
     choose-requires
     fold-bad-requires
@@ -59,7 +77,6 @@ typed-bad-spec =
     choose-requires-4
     serial-bad-requires
     choose-requires-5
-    record-kind-requires
     place-bad-requires
     choose-requires-6
     returns)

@@ -1,18 +1,26 @@
-use Rattle.serials.proofs.Others.{known-others}
+use borrow.Author.Needs.{needs}
 use Rattle.serials.proofs.known.Statement.{statement}
 use Rattle.serials.proofs.known.Tie as tie
 
-enum-known-l : tie.Need-enum-known-l
-enum-known-l c = c .match .keys1
+bond-in-requires : tie.Need-bond-in-requires
+bond-in-requires c κs = search needs
 
-record-known-requires : tie.Need-record-known-requires
-record-known-requires c κs = c .before .before .before .before .pre
+enum-known-b : tie.Need-enum-known-b
+enum-known-b c = search needs
+
+conect-known-requires : tie.Need-conect-known-requires
+conect-known-requires c κs = search needs
+
+enum-told : tie.Need-enum-told
+enum-told c = search needs
 
 returns : tie.Need-returns
-returns c n s B = rw (c .before .before .l .given .1) (c .record-known .ensures n s B)
+returns c n s B = rw (← c .before .before .before .before .before .bond-in .ensures, c .before .before .b .given .1) (c .conect-known .ensures n s B)
 
 returns-2 : tie.Need-returns-2
-returns-2 c n s B = rw (known-others _ (c .before .before .args .l) (c .match .keys2))
+returns-2 c n s B = rw (← c .before .before .before .bond-in .ensures, c .enum-told .given .1)
 
 pub known-spec : {M : Type 1} → statement M
-known-spec = tie.close (tie.spec enum-known-l record-known-requires returns returns-2)
+known-spec =
+    tie.close
+    (tie.spec bond-in-requires enum-known-b conect-known-requires enum-told returns returns-2)

@@ -1,4 +1,5 @@
-use Rattle.serials.proofs.Halving.{partner-absent, partner-there}
+use Rattle.serials.proofs.Finding.{partner-absent, partner-there}
+use borrow.Author.Needs.{needs}
 use Rattle.serials.proofs.partner_spoken.Statement.{statement}
 use Rattle.serials.proofs.partner_spoken.Tie as tie
 
@@ -6,7 +7,7 @@ returns : tie.Need-returns
 returns c n s B = partner-absent _ _ (c .if1 .taken)
 
 spoken-requires : tie.Need-spoken-requires
-spoken-requires c κs = c .before .before .pre
+spoken-requires c κs = search needs
 
 returns-2 : tie.Need-returns-2
 returns-2 c n s B = partner-there _ _ _ (c .before .if1 .left) (c .spoken .ensures n s B)

@@ -1,5 +1,5 @@
 use Rattle.fields.specs.declared.Whole.{Whole}
-use Rattle.fields.specs.Field.{wholeOf}
+use Rattle.fields.specs.Field.{rangedNumber}
 use Prim.Native.Nat.{ℕ}
 use mathlib.Core.List.{List}
 use mathlib.Core.Path.{_∙_, ap}
@@ -27,7 +27,7 @@ read-whole-requires : tie.Need-read-whole-requires
 read-whole-requires c κs = search needs
 
 returns : tie.Need-returns
-returns c = ap (λ (w : Whole). w .value) (c .read-whole .ensures) ∙ ap (λ (p : List ℕ). (wholeOf 5 0 1 99999 p 6) .value) (part-columns (c .before .before .before .args .text .now) (c .before .before .before .args .i))
+returns c = ap (λ (w : Whole). w .value) (c .read-whole .ensures) ∙ ap (λ (p : List ℕ). (rangedNumber 5 0 1 99999 p 6) .value) (part-columns (c .before .before .before .args .text .now) (c .before .before .before .args .i))
 
 pub serial-at-spec : {M : Type 1} → statement M
 serial-at-spec =

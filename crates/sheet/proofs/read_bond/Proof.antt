@@ -1,4 +1,4 @@
-use Rattle.sheet.proofs.Returns.{bond-reads}
+use Rattle.sheet.proofs.Returns.{bond-column, bond-value}
 use borrow.Author.Needs.{needs}
 use Rattle.sheet.proofs.read_bond.Statement.{statement}
 use Rattle.sheet.proofs.read_bond.Tie as tie
@@ -43,20 +43,27 @@ first-requires-4 : tie.Need-first-requires-4
 first-requires-4 c κs = tt
 
 returns : tie.Need-returns
-returns c = bond-reads _ _ _ _ _ _ _ _ _ _ _ _ _ _
-    (c .before .before .before .before .before .before .before .before .before .before .before .before .before .before .read-four .ensures)
-    (c .before .before .before .before .before .before .before .before .before .before .before .before .before .read-residue .ensures)
-    (c .before .before .before .before .before .before .before .before .before .before .before .before .gap .ensures)
-    (c .before .before .before .before .before .before .before .before .before .before .before .read-four2 .ensures)
-    (c .before .before .before .before .before .before .before .before .before .before .read-residue2 .ensures)
-    (c .before .before .before .before .before .before .before .before .before .is-bond-name .ensures)
-    (c .before .before .before .before .before .before .before .before .judged .ensures)
-    (c .before .before .before .before .before .before .before .is-bond-name2 .ensures)
-    (c .before .before .before .before .before .before .judged2 .ensures)
-    (c .before .before .before .before .before .first .ensures)
-    (c .before .before .before .before .first2 .ensures)
-    (c .before .before .before .first3 .ensures)
-    (c .before .before .first4 .ensures)
+returns c = (
+  bond-column _ _ _ _ _ _ _ _ _ _ _ _ _ _
+      (c .before .before .before .before .before .before .before .before .before .before .before .before .before .before .read-four .ensures)
+      (c .before .before .before .before .before .before .before .before .before .before .before .before .before .read-residue .ensures)
+      (c .before .before .before .before .before .before .before .before .before .before .before .before .gap .ensures)
+      (c .before .before .before .before .before .before .before .before .before .before .before .read-four2 .ensures)
+      (c .before .before .before .before .before .before .before .before .before .before .read-residue2 .ensures)
+      (c .before .before .before .before .before .before .before .before .before .is-bond-name .ensures)
+      (c .before .before .before .before .before .before .before .before .judged .ensures)
+      (c .before .before .before .before .before .before .before .is-bond-name2 .ensures)
+      (c .before .before .before .before .before .before .judged2 .ensures)
+      (c .before .before .before .before .before .first .ensures)
+      (c .before .before .before .before .first2 .ensures)
+      (c .before .before .before .first3 .ensures)
+      (c .before .before .first4 .ensures),
+  bond-value _ _ _ _ _
+      (c .before .before .before .before .before .before .before .before .before .before .before .before .before .before .read-four .ensures)
+      (c .before .before .before .before .before .before .before .before .before .before .before .before .before .read-residue .ensures)
+      (c .before .before .before .before .before .before .before .before .before .before .before .read-four2 .ensures)
+      (c .before .before .before .before .before .before .before .before .before .before .read-residue2 .ensures),
+)
 
 pub read-bond-spec : {M : Type 1} → statement M
 read-bond-spec =

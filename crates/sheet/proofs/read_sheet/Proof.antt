@@ -1,4 +1,4 @@
-use Rattle.sheet.proofs.Returns.{sheet-reads}
+use Rattle.sheet.proofs.Returns.{sheet-column, sheet-value}
 use borrow.Author.Needs.{needs}
 use Rattle.sheet.proofs.read_sheet.Statement.{statement}
 use Rattle.sheet.proofs.read_sheet.Tie as tie
@@ -28,7 +28,7 @@ first-requires-4 : tie.Need-first-requires-4
 first-requires-4 c κs = tt
 
 returns : tie.Need-returns
-returns c = search sheet-reads
+returns c = (search sheet-column, search sheet-value)
 
 pub read-sheet-spec : {M : Type 1} → statement M
 read-sheet-spec =

@@ -1,5 +1,5 @@
 use native.Mathlib.Omega.{arith}
-use Rattle.sheet.proofs.Returns.{strand-reads}
+use Rattle.sheet.proofs.Returns.{strand-column, strand-value}
 use borrow.Author.Needs.{needs}
 use Rattle.sheet.proofs.read_strand.Statement.{statement}
 use Rattle.sheet.proofs.read_strand.Tie as tie
@@ -49,8 +49,8 @@ judged-requires-2 c κs = search needs
 sense-fits-requires : tie.Need-sense-fits-requires
 sense-fits-requires c κs = tt
 
-judged-requires-3 : tie.Need-judged-requires-3
-judged-requires-3 c κs = search needs
+blamed-requires : tie.Need-blamed-requires
+blamed-requires c κs = search needs
 
 first-requires : tie.Need-first-requires
 first-requires c κs = tt
@@ -86,35 +86,45 @@ lower-requires : tie.Need-lower-requires
 lower-requires c κs = tt
 
 returns : tie.Need-returns
-returns c = strand-reads _ _ _ _ _ _ _ _ _ _ _ _ _ _ _ _ _ _ _ _ _ _ _ _ _ _ _ _
-    (c .before .before .before .before .before .before .before .before .before .before .before .before .before .before .before .before .before .before .before .before .before .before .before .before .before .before .before .before .before .before .before .gap .ensures)
-    (c .before .before .before .before .before .before .before .before .before .before .before .before .before .before .before .before .before .before .before .before .before .before .before .before .before .before .before .before .before .before .read-whole .ensures)
-    (c .before .before .before .before .before .before .before .before .before .before .before .before .before .before .before .before .before .before .before .before .before .before .before .before .before .before .before .before .before .gap2 .ensures)
-    (c .before .before .before .before .before .before .before .before .before .before .before .before .before .before .before .before .before .before .before .before .before .before .before .before .before .before .before .before .read-three .ensures)
-    (c .before .before .before .before .before .before .before .before .before .before .before .before .before .before .before .before .before .before .before .before .before .before .before .before .before .before .before .is-identifier .ensures)
-    (c .before .before .before .before .before .before .before .before .before .before .before .before .before .before .before .before .before .before .before .before .before .before .before .before .before .before .judged .ensures)
-    (c .before .before .before .before .before .before .before .before .before .before .before .before .before .before .before .before .before .before .before .before .before .before .before .before .before .read-whole2 .ensures)
-    (c .before .before .before .before .before .before .before .before .before .before .before .before .before .before .before .before .before .before .before .before .before .before .before .before .gap3 .ensures)
-    (c .before .before .before .before .before .before .before .before .before .before .before .before .before .before .before .before .before .before .before .before .before .before .before .read-residue .ensures)
-    (c .before .before .before .before .before .before .before .before .before .before .before .before .before .before .before .before .before .before .before .before .before .before .gap4 .ensures)
-    (c .before .before .before .before .before .before .before .before .before .before .before .before .before .before .before .before .before .before .before .before .before .read-residue2 .ensures)
-    (c .before .before .before .before .before .before .before .before .before .before .before .before .before .before .before .before .before .before .before .before .read-integer .ensures)
-    (search)
-    (c .before .before .before .before .before .before .before .before .before .before .before .before .before .before .before .before .before .before .is-sense .ensures)
-    (c .before .before .before .before .before .before .before .before .before .before .before .before .before .before .before .before .before .judged2 .ensures)
-    (c .before .before .before .before .before .before .before .before .before .before .before .before .before .before .before .sense-fits .ensures)
-    (c .before .before .before .before .before .before .before .before .before .before .before .before .before .before .judged3 .ensures)
-    (c .before .before .before .before .before .before .before .before .before .before .before .before .before .first .ensures)
-    (c .before .before .before .before .before .before .before .before .before .before .before .before .first2 .ensures)
-    (c .before .before .before .before .before .before .before .before .before .before .before .first3 .ensures)
-    (c .before .before .before .before .before .before .before .before .before .before .first4 .ensures)
-    (c .before .before .before .before .before .before .before .before .before .first5 .ensures)
-    (c .before .before .before .before .before .before .before .before .first6 .ensures)
-    (c .before .before .before .before .before .before .before .first7 .ensures)
-    (c .before .before .before .before .before .before .first8 .ensures)
-    (c .before .before .before .before .before .first9 .ensures)
-    (c .before .before .before .before .first10 .ensures)
-    (c .before .before .before .lower .ensures)
+returns c = (
+  strand-column _ _ _ _ _ _ _ _ _ _ _ _ _ _ _ _ _ _ _ _ _ _ _ _ _ _ _ _
+      (c .before .before .before .before .before .before .before .before .before .before .before .before .before .before .before .before .before .before .before .before .before .before .before .before .before .before .before .before .before .before .before .gap .ensures)
+      (c .before .before .before .before .before .before .before .before .before .before .before .before .before .before .before .before .before .before .before .before .before .before .before .before .before .before .before .before .before .before .read-whole .ensures)
+      (c .before .before .before .before .before .before .before .before .before .before .before .before .before .before .before .before .before .before .before .before .before .before .before .before .before .before .before .before .before .gap2 .ensures)
+      (c .before .before .before .before .before .before .before .before .before .before .before .before .before .before .before .before .before .before .before .before .before .before .before .before .before .before .before .before .read-three .ensures)
+      (c .before .before .before .before .before .before .before .before .before .before .before .before .before .before .before .before .before .before .before .before .before .before .before .before .before .before .before .is-identifier .ensures)
+      (c .before .before .before .before .before .before .before .before .before .before .before .before .before .before .before .before .before .before .before .before .before .before .before .before .before .before .judged .ensures)
+      (c .before .before .before .before .before .before .before .before .before .before .before .before .before .before .before .before .before .before .before .before .before .before .before .before .before .read-whole2 .ensures)
+      (c .before .before .before .before .before .before .before .before .before .before .before .before .before .before .before .before .before .before .before .before .before .before .before .before .gap3 .ensures)
+      (c .before .before .before .before .before .before .before .before .before .before .before .before .before .before .before .before .before .before .before .before .before .before .before .read-residue .ensures)
+      (c .before .before .before .before .before .before .before .before .before .before .before .before .before .before .before .before .before .before .before .before .before .before .gap4 .ensures)
+      (c .before .before .before .before .before .before .before .before .before .before .before .before .before .before .before .before .before .before .before .before .before .read-residue2 .ensures)
+      (c .before .before .before .before .before .before .before .before .before .before .before .before .before .before .before .before .before .before .before .before .read-integer .ensures)
+      (search)
+      (c .before .before .before .before .before .before .before .before .before .before .before .before .before .before .before .before .before .before .is-sense .ensures)
+      (c .before .before .before .before .before .before .before .before .before .before .before .before .before .before .before .before .before .judged2 .ensures)
+      (c .before .before .before .before .before .before .before .before .before .before .before .before .before .before .before .sense-fits .ensures)
+      (c .before .before .before .before .before .before .before .before .before .before .before .before .before .before .blamed .ensures)
+      (c .before .before .before .before .before .before .before .before .before .before .before .before .before .first .ensures)
+      (c .before .before .before .before .before .before .before .before .before .before .before .before .first2 .ensures)
+      (c .before .before .before .before .before .before .before .before .before .before .before .first3 .ensures)
+      (c .before .before .before .before .before .before .before .before .before .before .first4 .ensures)
+      (c .before .before .before .before .before .before .before .before .before .first5 .ensures)
+      (c .before .before .before .before .before .before .before .before .first6 .ensures)
+      (c .before .before .before .before .before .before .before .first7 .ensures)
+      (c .before .before .before .before .before .before .first8 .ensures)
+      (c .before .before .before .before .before .first9 .ensures)
+      (c .before .before .before .before .first10 .ensures)
+      (c .before .before .before .lower .ensures),
+  strand-value _ _ _ _ _ _ _
+      (c .before .before .before .before .before .before .before .before .before .before .before .before .before .before .before .before .before .before .before .before .before .before .before .before .before .before .before .before .before .before .read-whole .ensures)
+      (c .before .before .before .before .before .before .before .before .before .before .before .before .before .before .before .before .before .before .before .before .before .before .before .before .before .before .before .before .read-three .ensures)
+      (c .before .before .before .before .before .before .before .before .before .before .before .before .before .before .before .before .before .before .before .before .before .before .before .before .before .read-whole2 .ensures)
+      (c .before .before .before .before .before .before .before .before .before .before .before .before .before .before .before .before .before .before .before .before .before .before .before .read-residue .ensures)
+      (c .before .before .before .before .before .before .before .before .before .before .before .before .before .before .before .before .before .before .before .before .before .read-residue2 .ensures)
+      (c .before .before .before .before .before .before .before .before .before .before .before .before .before .before .before .before .before .before .before .before .read-integer .ensures)
+      (search),
+)
 
 pub read-strand-spec : {M : Type 1} → statement M
 read-strand-spec =
@@ -135,7 +145,7 @@ read-strand-spec =
     is-sense-requires
     judged-requires-2
     sense-fits-requires
-    judged-requires-3
+    blamed-requires
     first-requires
     first-requires-2
     first-requires-3

@@ -1,3 +1,4 @@
+-- Machine-made by tools/walks; do not edit.
 pub mod load
 pub mod order
 pub mod save

@@ -1,12 +1,12 @@
-use Rattle.slots.proofs.Others.{slotted, slotless}
+use borrow.Author.Needs.{needs}
 use Rattle.slots.proofs.has_slot.Statement.{statement}
 use Rattle.slots.proofs.has_slot.Tie as tie
 
-returns : tie.Need-returns
-returns c = rw (slotted (c .before .args .k) (c .match .keys1))
+row-of-requires : tie.Need-row-of-requires
+row-of-requires c κs = search needs
 
-returns-2 : tie.Need-returns-2
-returns-2 c = rw (slotless (c .before .args .k) (c .match .keys2))
+returns : tie.Need-returns
+returns c = rw (c .row-of .ensures)
 
 pub has-slot-spec : {M : Type 1} → statement M
-has-slot-spec = tie.close (tie.spec returns returns-2)
+has-slot-spec = tie.close (tie.spec row-of-requires returns)

@@ -1,3 +1,4 @@
+-- Machine-made by tools/walks; do not edit.
 pub mod mark_all
 pub mod mark_of
 pub mod tail_of

@@ -10,6 +10,8 @@ mod Tie
 use borrow.Author.Needs.{needs}
 use Rattle.store.proofs.load.Statement.{statement}
 use Rattle.store.proofs.load.Proof.Tie as tie
+use Rattle.store.proofs.Walked.load.Reads as reads
+use Rattle.store.proofs.load.Proof.Lts as lts
 
 abbrev Inv-loop : tie.InvT-loop
 Inv-loop text table₀ n i₀ k₀ table i k = Filled text table₀ n i k table × (81 * i ≤ length text + 80)
@@ -17,23 +19,17 @@ Inv-loop text table₀ n i₀ k₀ table i k = Filled text table₀ n i k table 
 abbrev μ-loop : tie.MeasureT-loop
 μ-loop text table₀ n i₀ k₀ table i k = length text + 81 - 81 * i
 
-look-over-requires : tie.Need-look-over-requires Inv-loop μ-loop
-look-over-requires c = search needs
-
-same-length : tie.Need-same-length Inv-loop μ-loop
-same-length c = search needs
+count-slots-requires : tie.Need-count-slots-requires Inv-loop μ-loop
+count-slots-requires c = search needs
 
 returns : tie.Need-returns Inv-loop μ-loop
-returns c = load-bad _ _ _ (c .before .before .look-over .ensures .0) (c .if1 .taken)
-
-same-length-2 : tie.Need-same-length-2 Inv-loop μ-loop
-same-length-2 c = search needs
+returns c = load-bad _ _ _ (c .before .before .count-slots .ensures .0) (c .if1 .taken)
 
 returns-2 : tie.Need-returns-2 Inv-loop μ-loop
-returns-2 c = load-short _ _ _ (c .before .before .before .look-over .ensures .0) (c .before .if1 .left) _ (c .before .before .before .look-over .ensures .1 (c .before .if1 .left) .need) (c .if2 .taken)
+returns-2 c = load-short _ _ _ (c .before .before .before .count-slots .ensures .0) (c .before .if1 .left) _ (c .before .before .before .count-slots .ensures .1 (c .before .if1 .left)) (c .if2 .taken)
 
 loop-holds : tie.Need-loop-holds Inv-loop μ-loop
-loop-holds c = (filled-start _ _ _ (c .before .before .before .look-over .ensures .1 (c .before .if1 .left) .need) (c .if2 .left), omega arith)
+loop-holds c = (filled-start _ _ _ (c .before .before .before .count-slots .ensures .1 (c .before .if1 .left)) (c .if2 .left), omega arith)
 
 mul-loop : tie.Need-mul-loop Inv-loop μ-loop
 mul-loop c = omega arith
@@ -53,11 +49,11 @@ loop-less c = omega arith
 loop-again : tie.Need-loop-again Inv-loop μ-loop
 loop-again c = (rw (c .before .put-slot .ensures .0) (filled-next _ _ _ _ _ _ (c .before .before .before .before .before .loop .inv .0) _ _ (c .before .before .before .before .loop-test .taken) (c .before .before .before .line-at .ensures) (c .before .put-slot .ensures .1)), omega arith)
 
-same-length-3 : tie.Need-same-length-3 Inv-loop μ-loop
-same-length-3 c = c .before .loop .inv .0 .size
+same-length : tie.Need-same-length Inv-loop μ-loop
+same-length c = c .before .loop .inv .0 .size
 
 returns-3 : tie.Need-returns-3 Inv-loop μ-loop
-returns-3 c = load-good _ _ _ (c .before .before .before .before .before .look-over .ensures .0) (c .before .before .before .if1 .left) _ (c .before .before .before .before .before .look-over .ensures .1 (c .before .before .before .if1 .left) .need) _ (c .before .before .if2 .left) (filled-done _ _ _ _ _ _ (c .before .loop .inv .0) (c .loop-test .left))
+returns-3 c = load-good _ _ _ (c .before .before .before .before .before .count-slots .ensures .0) (c .before .before .before .if1 .left) _ (c .before .before .before .before .before .count-slots .ensures .1 (c .before .before .before .if1 .left)) _ (c .before .before .if2 .left) (filled-done _ _ _ _ _ _ (c .before .loop .inv .0) (c .loop-test .left))
 
 pub load-spec : {M : Type 1} → statement M
 load-spec =
@@ -65,10 +61,8 @@ load-spec =
     (tie.spec
     Inv-loop
     μ-loop
-    look-over-requires
-    same-length
+    count-slots-requires
     returns
-    same-length-2
     returns-2
     loop-holds
     mul-loop
@@ -77,5 +71,5 @@ load-spec =
     add-i
     loop-less
     loop-again
-    same-length-3
+    same-length
     returns-3)

@@ -1,4 +1,4 @@
-use Rattle.ter.proofs.Returns.{reads}
+use Rattle.ter.proofs.Returns.{reads-column, reads-value}
 use borrow.Author.Needs.{needs}
 use Rattle.ter.proofs.read_ter.Statement.{statement}
 use Rattle.ter.proofs.read_ter.Tie as tie
@@ -29,7 +29,7 @@ first-requires-4 : tie.Need-first-requires-4
 first-requires-4 c κs = search needs
 
 returns : tie.Need-returns
-returns c = search reads
+returns c = (search reads-column, search reads-value)
 
 pub read-ter-spec : {M : Type 1} → statement M
 read-ter-spec =

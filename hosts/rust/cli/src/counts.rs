@@ -3,7 +3,8 @@
 use station::Counts;
 
 /// The counts in the order of the columns, five to each from column 11 on; those without a name are always 0.
-const NAMES: [&str; 12] = ["REMARK", "", "HET", "HELIX", "SHEET", "", "", "ORIGX and SCALE", "ATOM and HETATM", "TER", "CONECT", "SEQRES"];
+const NAMES: [&str; 12] =
+    ["REMARK", "", "HET", "HELIX", "SHEET", "", "", "ORIGX and SCALE", "ATOM and HETATM", "TER", "CONECT", "SEQRES"];
 
 /// Where the counts on a MASTER line that reads by itself are not these.
 pub fn wrong(line: &[u8; 80], counts: &Counts) -> Option<String> {
@@ -26,9 +27,13 @@ mod tests {
     fn each_count_has_its_columns() {
         let text = format!("{:80}", "MASTER       40    0    1    2    3    0    0    6  768    5   20   18");
         let line: &[u8; 80] = text.as_bytes().try_into().expect("80 columns");
-        let counts = Counts { remark: 40, het: 1, helix: 2, sheet: 3, xform: 6, coord: 768, ter: 5, conect: 20, seq: 18 };
+        let counts =
+            Counts { remark: 40, het: 1, helix: 2, sheet: 3, xform: 6, coord: 768, ter: 5, conect: 20, seq: 18 };
         assert_eq!(wrong(line, &counts), None);
-        assert_eq!(wrong(line, &Counts { ter: 4, ..counts }).as_deref(), Some("the count of TER is 5, and there are 4"));
+        assert_eq!(
+            wrong(line, &Counts { ter: 4, ..counts }).as_deref(),
+            Some("the count of TER is 5, and there are 4")
+        );
         let two = wrong(line, &Counts { xform: 0, seq: 17, ..counts });
         assert_eq!(
             two.as_deref(),

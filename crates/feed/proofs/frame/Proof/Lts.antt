@@ -1,4 +1,4 @@
--- Made by tools/walk.py: do not edit.
+-- Machine-made by tools/walks; do not edit.
 use Rattle.feed.proofs.SlotAs
 use Prim.Native.Nat
 use Rattle.feed.proofs.Bounds

@@ -1,4 +1,4 @@
--- Made by tools/walk.py: do not edit.
+-- Machine-made by tools/walks; do not edit.
 use Rattle.feed.proofs.frame.Code
 use Rattle.feed.proofs.frame.Key
 use Rattle.feed.proofs.Walked.frame.Kinds

@@ -1,21 +1,25 @@
-use Rattle.rules.proofs.Others.{last-others}
+use borrow.Author.Needs.{needs}
 use Rattle.rules.proofs.steps.last_next.Statement.{statement}
 use Rattle.rules.proofs.steps.last_next.Tie as tie
 
-enum-known-r : tie.Need-enum-known-r
-enum-known-r c = c .match .keys1
+enum-known-p : tie.Need-enum-known-p
+enum-known-p c = search needs
+
+enum-known-p-2 : tie.Need-enum-known-p-2
+enum-known-p-2 c = search needs
+
+enum-told : tie.Need-enum-told
+enum-told c = search needs
 
 returns : tie.Need-returns
-returns c = rw (c .before .r .given .1)
-
-enum-known-r-2 : tie.Need-enum-known-r-2
-enum-known-r-2 c = c .match .keys2
+returns c = rw (c .before .p .given .1)
 
 returns-2 : tie.Need-returns-2
-returns-2 c = rw (c .before .r2 .given .1)
+returns-2 c = rw (c .before .p2 .given .1)
 
 returns-3 : tie.Need-returns-3
-returns-3 c = rw (last-others (c .before .args .last) (c .before .args .r) (c .match .keys3))
+returns-3 c = rw (c .enum-told .given .1)
 
 pub last-next-spec : {M : Type 1} → statement M
-last-next-spec = tie.close (tie.spec enum-known-r returns enum-known-r-2 returns-2 returns-3)
+last-next-spec =
+    tie.close (tie.spec enum-known-p enum-known-p-2 enum-told returns returns-2 returns-3)

@@ -1,36 +1,40 @@
-use Rattle.rules.proofs.Others.{run-next-others}
+use borrow.Author.Needs.{needs}
 use Rattle.rules.proofs.steps.run_next.Statement.{statement}
 use Rattle.rules.proofs.steps.run_next.Tie as tie
 
-enum-known-r : tie.Need-enum-known-r
-enum-known-r c = c .match .keys1
+enum-known-p : tie.Need-enum-known-p
+enum-known-p c = search needs
 
 site-next-requires : tie.Need-site-next-requires
-site-next-requires c κs = tt
-
-returns : tie.Need-returns
-returns c = rw (c .before .before .r .given .1, c .site-next .ensures)
+site-next-requires c κs = search needs
 
 enum-told : tie.Need-enum-told
-enum-told c = c .match .keys2
+enum-told c = search needs
 
 no-run-requires : tie.Need-no-run-requires
-no-run-requires c κs = tt
+no-run-requires c κs = search needs
+
+enum-told-2 : tie.Need-enum-told-2
+enum-told-2 c = search needs
+
+returns : tie.Need-returns
+returns c = rw (c .before .before .p .given .1, c .site-next .ensures)
 
 returns-2 : tie.Need-returns-2
 returns-2 c = rw (c .before .enum-told .given .1, c .no-run .ensures)
 
 returns-3 : tie.Need-returns-3
-returns-3 c = rw (run-next-others (c .before .args .u) (c .before .args .r) (c .match .keys3))
+returns-3 c = rw (c .enum-told2 .given .1)
 
 pub run-next-spec : {M : Type 1} → statement M
 run-next-spec =
     tie.close
     (tie.spec
-    enum-known-r
+    enum-known-p
     site-next-requires
-    returns
     enum-told
     no-run-requires
+    enum-told-2
+    returns
     returns-2
     returns-3)

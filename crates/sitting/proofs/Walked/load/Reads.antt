@@ -1,4 +1,4 @@
--- Made by tools/walk.py.
+-- Machine-made by tools/walks; do not edit.
 use Rattle.sitting.proofs.load
 use Rattle.sitting.proofs.Walked.load.Kinds
 use base.Logic

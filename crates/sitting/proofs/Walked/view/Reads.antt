@@ -1,4 +1,4 @@
--- Made by tools/walk.py.
+-- Machine-made by tools/walks; do not edit.
 use Rattle.sitting.proofs.view
 use Rattle.sitting.proofs.Walked.view.Kinds
 use base.Logic

@@ -1,4 +1,4 @@
--- Made by tools/walk.py.
+-- Machine-made by tools/walks; do not edit.
 use Rattle.station.proofs.station_load
 use Rattle.station.proofs.Walked.station_load.Kinds
 use base.Logic

@@ -1,4 +1,4 @@
--- Made by tools/walk.py.
+-- Machine-made by tools/walks; do not edit.
 use Rattle.station.proofs.station_stroke
 use Rattle.station.proofs.Walked.station_stroke.Kinds
 use base.Logic

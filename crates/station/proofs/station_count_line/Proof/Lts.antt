@@ -1,4 +1,4 @@
--- Made by tools/walk.py.
+-- Machine-made by tools/walks; do not edit.
 use Rattle.station.proofs.TallyAs
 use Prim.Native.Nat
 use borrow.Author.Called

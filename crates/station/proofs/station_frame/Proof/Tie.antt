@@ -1,4 +1,4 @@
--- Made by tools/walk.py.
+-- Machine-made by tools/walks; do not edit.
 use Rattle.feed.proofs.frame.Met
 use Rattle.station.proofs.Walked.feed.frame.Reads
 use Rattle.feed.proofs.frame.Symbol

@@ -1,4 +1,4 @@
--- Made by tools/walk.py.
+-- Machine-made by tools/walks; do not edit.
 use Rattle.answers.proofs.is_aside.Met
 use Rattle.answers.proofs.is_aside.Reads
 use Rattle.answers.proofs.is_aside.Symbol

@@ -1,4 +1,4 @@
--- Made by tools/walk.py.
+-- Machine-made by tools/walks; do not edit.
 use Rattle.station.proofs.station_tray.Code
 use Rattle.station.proofs.station_tray.Key
 use Rattle.station.proofs.Walked.station_tray.Kinds

@@ -1,4 +1,4 @@
--- Made by tools/walk.py.
+-- Machine-made by tools/walks; do not edit.
 use Rattle.store.proofs.put_slot
 use Rattle.store.proofs.Walked.put_slot.Kinds
 use base.Logic

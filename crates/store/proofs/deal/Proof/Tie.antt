@@ -1,4 +1,4 @@
--- Made by tools/walk.py.
+-- Machine-made by tools/walks; do not edit.
 use Rattle.store.proofs.deal.Code
 use Rattle.store.proofs.deal.Key
 use Rattle.store.proofs.Walked.deal.Kinds

@@ -1,4 +1,4 @@
--- Made by tools/walk.py.
+-- Machine-made by tools/walks; do not edit.
 use Rattle.store.proofs.held_back.Met
 use Rattle.store.proofs.held_back.Reads
 use Rattle.store.proofs.held_back.Symbol

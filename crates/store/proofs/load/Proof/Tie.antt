@@ -1,4 +1,4 @@
--- Made by tools/walk.py.
+-- Machine-made by tools/walks; do not edit.
 use Rattle.rows.proofs.line_at.Met
 use Rattle.rows.proofs.line_at.Reads
 use Rattle.rows.proofs.line_at.Symbol
@@ -11,9 +11,9 @@ use Rattle.store.proofs.load.Statement
 use Rattle.store.proofs.put_slot.Met as Met'
 use Rattle.store.proofs.Walked.put_slot.Reads as Reads''
 use Rattle.store.proofs.put_slot.Symbol as Symbol'
-use Rattle.store.proofs.survey.look_over.Met as Met''
-use Rattle.store.proofs.Walked.survey.look_over.Reads as Reads'3
-use Rattle.store.proofs.survey.look_over.Symbol as Symbol''
+use Rattle.store.proofs.survey.count_slots.Met as Met''
+use Rattle.store.proofs.survey.count_slots.Reads as Reads'3
+use Rattle.store.proofs.survey.count_slots.Symbol as Symbol''
 use borrow.Fn.Run
 use borrow.Fn.Written
 use contract.Running
@@ -31,13 +31,9 @@ abbrev pub After-shared-slice-known : (Inv : InvT-loop) → (μ : MeasureT-loop)
 After-shared-slice-known = λ Inv μ. Lts.After-shared-slice-known (Reads'3.Asked, Reads'3.Learnt, Reads.Asked, Reads.Learnt, Reads''.Asked, Reads''.Learnt)
     Reads'.Pre Reads'.Post Inv μ
 
-abbrev pub After-look-over-arg : (Inv : InvT-loop) → (μ : MeasureT-loop) → Type 0
-After-look-over-arg = λ Inv μ. Lts.After-look-over-arg (Reads'3.Asked, Reads'3.Learnt, Reads.Asked, Reads.Learnt, Reads''.Asked, Reads''.Learnt) Reads'.Pre
+abbrev pub After-count-slots : (Inv : InvT-loop) → (μ : MeasureT-loop) → Type 0
+After-count-slots = λ Inv μ. Lts.After-count-slots (Reads'3.Asked, Reads'3.Learnt, Reads.Asked, Reads.Learnt, Reads''.Asked, Reads''.Learnt) Reads'.Pre
     Reads'.Post Inv μ
-
-abbrev pub After-look-over : (Inv : InvT-loop) → (μ : MeasureT-loop) → Type 0
-After-look-over = λ Inv μ. Lts.After-look-over (Reads'3.Asked, Reads'3.Learnt, Reads.Asked, Reads.Learnt, Reads''.Asked, Reads''.Learnt) Reads'.Pre Reads'.Post
-    Inv μ
 
 abbrev pub After-struct-known : (Inv : InvT-loop) → (μ : MeasureT-loop) → Type 0
 After-struct-known = λ Inv μ. Lts.After-struct-known (Reads'3.Asked, Reads'3.Learnt, Reads.Asked, Reads.Learnt, Reads''.Asked, Reads''.Learnt) Reads'.Pre
@@ -79,20 +75,12 @@ After-put-slot = λ Inv μ. Lts.After-put-slot (Reads'3.Asked, Reads'3.Learnt, R
 abbrev pub After-table : (Inv : InvT-loop) → (μ : MeasureT-loop) → Type 0
 After-table = λ Inv μ. Lts.After-table (Reads'3.Asked, Reads'3.Learnt, Reads.Asked, Reads.Learnt, Reads''.Asked, Reads''.Learnt) Reads'.Pre Reads'.Post Inv μ
 
-abbrev pub Need-look-over-requires : (Inv : InvT-loop) → (μ : MeasureT-loop) → Type 0
-Need-look-over-requires = λ Inv μ. Lts.Need-look-over-requires (Reads'3.Asked, Reads'3.Learnt, Reads.Asked, Reads.Learnt, Reads''.Asked, Reads''.Learnt)
+abbrev pub Need-count-slots-requires : (Inv : InvT-loop) → (μ : MeasureT-loop) → Type 0
+Need-count-slots-requires = λ Inv μ. Lts.Need-count-slots-requires (Reads'3.Asked, Reads'3.Learnt, Reads.Asked, Reads.Learnt, Reads''.Asked, Reads''.Learnt)
     Reads'.Pre Reads'.Post Inv μ
-
-abbrev pub Need-same-length : (Inv : InvT-loop) → (μ : MeasureT-loop) → Type 0
-Need-same-length = λ Inv μ. Lts.Need-same-length (Reads'3.Asked, Reads'3.Learnt, Reads.Asked, Reads.Learnt, Reads''.Asked, Reads''.Learnt) Reads'.Pre
-    Reads'.Post Inv μ
 
 abbrev pub Need-returns : (Inv : InvT-loop) → (μ : MeasureT-loop) → Type 0
 Need-returns = λ Inv μ. Lts.Need-returns (Reads'3.Asked, Reads'3.Learnt, Reads.Asked, Reads.Learnt, Reads''.Asked, Reads''.Learnt) Reads'.Pre Reads'.Post Inv μ
-
-abbrev pub Need-same-length-2 : (Inv : InvT-loop) → (μ : MeasureT-loop) → Type 0
-Need-same-length-2 = λ Inv μ. Lts.Need-same-length-2 (Reads'3.Asked, Reads'3.Learnt, Reads.Asked, Reads.Learnt, Reads''.Asked, Reads''.Learnt) Reads'.Pre
-    Reads'.Post Inv μ
 
 abbrev pub Need-returns-2 : (Inv : InvT-loop) → (μ : MeasureT-loop) → Type 0
 Need-returns-2 = λ Inv μ. Lts.Need-returns-2 (Reads'3.Asked, Reads'3.Learnt, Reads.Asked, Reads.Learnt, Reads''.Asked, Reads''.Learnt) Reads'.Pre Reads'.Post
@@ -125,8 +113,8 @@ abbrev pub Need-loop-again : (Inv : InvT-loop) → (μ : MeasureT-loop) → Type
 Need-loop-again = λ Inv μ. Lts.Need-loop-again (Reads'3.Asked, Reads'3.Learnt, Reads.Asked, Reads.Learnt, Reads''.Asked, Reads''.Learnt) Reads'.Pre Reads'.Post
     Inv μ
 
-abbrev pub Need-same-length-3 : (Inv : InvT-loop) → (μ : MeasureT-loop) → Type 0
-Need-same-length-3 = λ Inv μ. Lts.Need-same-length-3 (Reads'3.Asked, Reads'3.Learnt, Reads.Asked, Reads.Learnt, Reads''.Asked, Reads''.Learnt) Reads'.Pre
+abbrev pub Need-same-length : (Inv : InvT-loop) → (μ : MeasureT-loop) → Type 0
+Need-same-length = λ Inv μ. Lts.Need-same-length (Reads'3.Asked, Reads'3.Learnt, Reads.Asked, Reads.Learnt, Reads''.Asked, Reads''.Learnt) Reads'.Pre
     Reads'.Post Inv μ
 
 abbrev pub Need-returns-3 : (Inv : InvT-loop) → (μ : MeasureT-loop) → Type 0
@@ -134,20 +122,19 @@ Need-returns-3 = λ Inv μ. Lts.Need-returns-3 (Reads'3.Asked, Reads'3.Learnt, R
     Inv μ
 
 module _ {M : Type 1} where
-  pub spec : (Inv : InvT-loop) → (μ : MeasureT-loop) → (answer : Need-look-over-requires Inv μ) → (answer : Need-same-length Inv μ) → (answer : Need-returns
-      Inv μ) → (answer : Need-same-length-2 Inv μ) → (answer : Need-returns-2 Inv μ) → (answer : Need-loop-holds Inv μ) → (answer : Need-mul-loop Inv μ) →
-      (answer : Need-line-at-requires Inv μ) → (answer : Need-put-slot-requires Inv μ) → (answer : Need-add-i Inv μ) → (answer : Need-loop-less Inv μ) →
-      (answer : Need-loop-again Inv μ) → (answer : Need-same-length-3 Inv μ) → (answer : Need-returns-3 Inv μ) → Lts.Closed (
-        Reads'3.Asked,
-        Reads'3.Learnt,
-        Reads.Asked,
-        Reads.Learnt,
-        Reads''.Asked,
-        Reads''.Learnt,
-      ) Reads'.Pre Reads'.Post M
-  spec = λ Inv μ answer answer' answer'' answer'3 answer'4 answer'5 answer'6 answer'7 answer'8 answer'9 answer'10 answer'11 answer'12 answer'13. Lts.spec
-      (Reads'3.Asked, Reads'3.Learnt, Reads.Asked, Reads.Learnt, Reads''.Asked, Reads''.Learnt) Reads'.Pre Reads'.Post Inv μ answer answer' answer'' answer'3
-      answer'4 answer'5 answer'6 answer'7 answer'8 answer'9 answer'10 answer'11 answer'12 answer'13
+  pub spec : (Inv : InvT-loop) → (μ : MeasureT-loop) → (answer : Need-count-slots-requires Inv μ) → (answer : Need-returns Inv μ) → (answer : Need-returns-2
+      Inv μ) → (answer : Need-loop-holds Inv μ) → (answer : Need-mul-loop Inv μ) → (answer : Need-line-at-requires Inv μ) → (answer : Need-put-slot-requires
+      Inv μ) → (answer : Need-add-i Inv μ) → (answer : Need-loop-less Inv μ) → (answer : Need-loop-again Inv μ) → (answer : Need-same-length Inv μ) → (answer :
+      Need-returns-3 Inv μ) → Lts.Closed (Reads'3.Asked, Reads'3.Learnt, Reads.Asked, Reads.Learnt, Reads''.Asked, Reads''.Learnt) Reads'.Pre Reads'.Post M
+  spec = λ Inv μ answer answer' answer'' answer'3 answer'4 answer'5 answer'6 answer'7 answer'8 answer'9 answer'10 answer'11. Lts.spec (
+    Reads'3.Asked,
+    Reads'3.Learnt,
+    Reads.Asked,
+    Reads.Learnt,
+    Reads''.Asked,
+    Reads''.Learnt,
+  ) Reads'.Pre Reads'.Post Inv μ answer answer' answer'' answer'3 answer'4 answer'5
+      answer'6 answer'7 answer'8 answer'9 answer'10 answer'11
 
   pub close : Lts.Closed (Reads'3.Asked, Reads'3.Learnt, Reads.Asked, Reads.Learnt, Reads''.Asked, Reads''.Learnt) Reads'.Pre Reads'.Post M →
       Statement.statement M
@@ -156,6 +143,6 @@ module _ {M : Type 1} where
       Reads'.post-read record { M = M; 𝓤 = 𝓤; H = H; 𝓜 = 𝓜; 𝓖 = 𝓖; 𝓡 = 𝓡 } Code.env Key.name Code.function (Code.unfolded 𝓤 H 𝓜 𝓡) (λ κs a g. tt) (λ κs.
       Reads'.owns κs record { M = M; 𝓤 = 𝓤; H = H; 𝓜 = 𝓜; 𝓖 = 𝓖; 𝓡 = 𝓡 }) (Reads'.passes record { M = M; 𝓤 = 𝓤; H = H; 𝓜 = 𝓜; 𝓖 = 𝓖; 𝓡 = 𝓡 }) λ g. closed 𝓤 H
       (𝓖 .A) (Running.givenOf 𝓤 H 𝓜 𝓖) (Run.Over 𝓤 H 𝓜 𝓖 𝓡 Code.env) (Reads'3.known record { M = M; 𝓤 = 𝓤; H = H; 𝓜 = 𝓜; 𝓖 = 𝓖; 𝓡 = 𝓡 } Code.env Symbol''.name
-      Symbol''.routine Code.calls-store·survey·look-over (Met''.met 𝓤 H 𝓜 𝓖 𝓡)) (Reads.known record { M = M; 𝓤 = 𝓤; H = H; 𝓜 = 𝓜; 𝓖 = 𝓖; 𝓡 = 𝓡 } Code.env
+      Symbol''.routine Code.calls-store·survey·count-slots (Met''.met 𝓤 H 𝓜 𝓖 𝓡)) (Reads.known record { M = M; 𝓤 = 𝓤; H = H; 𝓜 = 𝓜; 𝓖 = 𝓖; 𝓡 = 𝓡 } Code.env
       Symbol.name Symbol.routine Code.calls-rows·line-at (Met.met 𝓤 H 𝓜 𝓖 𝓡)) (Reads''.known record { M = M; 𝓤 = 𝓤; H = H; 𝓜 = 𝓜; 𝓖 = 𝓖; 𝓡 = 𝓡 } Code.env
       Symbol'.name Symbol'.routine Code.calls-store·put-slot (Met'.met 𝓤 H 𝓜 𝓖 𝓡))

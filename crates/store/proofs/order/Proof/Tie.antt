@@ -1,4 +1,4 @@
--- Made by tools/walk.py.
+-- Machine-made by tools/walks; do not edit.
 use Rattle.marks.proofs.mark_byte.Met
 use Rattle.marks.proofs.mark_byte.Reads
 use Rattle.marks.proofs.mark_byte.Symbol

@@ -1,4 +1,4 @@
--- Made by tools/walk.py.
+-- Machine-made by tools/walks; do not edit.
 use Rattle.store.proofs.SlotAs
 use Prim.Native.Nat
 use Rattle.pieces.proofs.Line
@@ -132,7 +132,7 @@ hs = Syntax.valueLocal ∷ Syntax.valueLocal ∷ Syntax.valueLocal ∷ Syntax.va
     Syntax.valueLocal ∷ Syntax.valueLocal ∷ []
 
 abbrev b0 : Syntax.Body
-b0 = Syntax.call "rows::is_coord" (Syntax.copy (Syntax.place 3 []) ∷ []) (Syntax.place 5 [])
+b0 = Syntax.call "facets::is_coord" (Syntax.copy (Syntax.place 3 []) ∷ []) (Syntax.place 5 [])
 
 abbrev b1 : Syntax.Body
 b1 = Syntax.call "slots::line_slot" (Syntax.copy (Syntax.place 3 []) ∷ []) (Syntax.place 4 [])
@@ -1689,7 +1689,7 @@ module _ (claims· : Claims) where
       module _ (M : Type 1) where
         abbrev pub Closed : Type 2
         Closed = (𝓤 : URA.URA M) (H : Wp.Heap 𝓤) (A : Atoms.Atoms 𝓤) (W : Kit.Given 𝓤 H A) (𝓣 : Wp.Tables 𝓤 H) (known0 : Plain.Known 𝓤 H A W 𝓣 0 ps·0 r·0
-            (claims· .0) (claims· .1) "rows::is_coord") (known1 : Plain.Known 𝓤 H A W 𝓣 0 ps·1 r·1 (claims· .2) (claims· .3) "slots::line_slot") →
+            (claims· .0) (claims· .1) "facets::is_coord") (known1 : Plain.Known 𝓤 H A W 𝓣 0 ps·1 r·1 (claims· .2) (claims· .3) "slots::line_slot") →
             Statement.Triple 𝓤 (Wp.WpFn 𝓤 H (𝓣 .C) (𝓣 .Λ) (Function.fnOf 1 ps r xs m hs body)) (Function.plainOf 𝓤 H A 1 ps r Pre· Post·)
 
       module _ where
@@ -1758,7 +1758,7 @@ module _ (claims· : Claims) where
 
         module _ {M : Type 1} (𝓤 : URA.URA M) (H : Wp.Heap 𝓤) (A : Atoms.Atoms 𝓤) (W : Kit.Given 𝓤 H A) (𝓣 : Wp.Tables 𝓤 H) where
           abbrev Knowns : Type 1
-          Knowns = Plain.Known 𝓤 H A W 𝓣 0 ps·0 r·0 (claims· .0) (claims· .1) "rows::is_coord" × Plain.Known 𝓤 H A W 𝓣 0 ps·1 r·1 (claims· .2) (claims· .3)
+          Knowns = Plain.Known 𝓤 H A W 𝓣 0 ps·0 r·0 (claims· .0) (claims· .1) "facets::is_coord" × Plain.Known 𝓤 H A W 𝓣 0 ps·1 r·1 (claims· .2) (claims· .3)
               "slots::line_slot"
 
         module _ (κs : Lifetimes.Lfts 1) (qs : Lifetimes.Shares 1) where
@@ -2322,7 +2322,7 @@ module _ (claims· : Claims) where
 
             d19 : Typed.Typed 𝓤 H A 𝓣 E G0 b16 Δ0 at19
             d19 = Typed.s-seq 𝓤 H A W 𝓣 E G0 G2 b0 b15 Δ0 (Typed.both s0) at18 (Plain.t-call-plain 𝓤 H A W 𝓣 0 ps·0 r·0 (claims· .0) (claims· .1)
-                "rows::is_coord" (known .0) E (λ pos β. β) G0 (record { pos = 3; st = []; d = 0; at = λ x. x }, tt) 5 [] (Call.sub-id 𝓤 H A W (G0
+                "facets::is_coord" (known .0) E (λ pos β. β) G0 (record { pos = 3; st = []; d = 0; at = λ x. x }, tt) 5 [] (Call.sub-id 𝓤 H A W (G0
                 .slots)) (
                   (
                     Yields.yields-copy 𝓤 H A W (λ ρ. Unit) (Declared.row Line.the-type) Path'.refl (Copies.cEnum Line.the-type Laws.the-laws Laws.the-copy
@@ -2615,6 +2615,7 @@ module _ (claims· : Claims) where
             }
 
           module _ {M : Type 1} (𝓤 : URA.URA M) (H : Wp.Heap 𝓤) (A : Atoms.Atoms 𝓤) (W : Kit.Given 𝓤 H A) (𝓣 : Wp.Tables 𝓤 H) (known0 : Plain.Known 𝓤 H A W 𝓣 0
-              ps·0 r·0 (claims· .0) (claims· .1) "rows::is_coord") (known1 : Plain.Known 𝓤 H A W 𝓣 0 ps·1 r·1 (claims· .2) (claims· .3) "slots::line_slot") where
-            pub spec : Statement.Triple 𝓤 (Wp.WpFn 𝓤 H (𝓣 .C) (𝓣 .Λ) (Function.fnOf 1 ps r xs m hs body)) (Function.plainOf 𝓤 H A 1 ps r Pre· Post·)
-            spec = Plain.t-fn-plain 𝓤 H A W 𝓣 1 ps r xs m hs body (λ κs qs bs. Φ) (λ κs qs bs bd. typed κs qs 𝓤 H A W 𝓣 (known0, known1) bs bd) Pre· Post· asked
+              ps·0 r·0 (claims· .0) (claims· .1) "facets::is_coord") (known1 : Plain.Known 𝓤 H A W 𝓣 0 ps·1 r·1 (claims· .2) (claims· .3) "slots::line_slot")
+            where
+              pub spec : Statement.Triple 𝓤 (Wp.WpFn 𝓤 H (𝓣 .C) (𝓣 .Λ) (Function.fnOf 1 ps r xs m hs body)) (Function.plainOf 𝓤 H A 1 ps r Pre· Post·)
+              spec = Plain.t-fn-plain 𝓤 H A W 𝓣 1 ps r xs m hs body (λ κs qs bs. Φ) (λ κs qs bs bd. typed κs qs 𝓤 H A W 𝓣 (known0, known1) bs bd) Pre· Post· asked

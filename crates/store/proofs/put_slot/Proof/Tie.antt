@@ -1,7 +1,7 @@
--- Made by tools/walk.py.
-use Rattle.rows.proofs.is_coord.Met
-use Rattle.rows.proofs.is_coord.Reads
-use Rattle.rows.proofs.is_coord.Symbol
+-- Machine-made by tools/walks; do not edit.
+use Rattle.facets.proofs.is_coord.Met
+use Rattle.facets.proofs.is_coord.Reads
+use Rattle.facets.proofs.is_coord.Symbol
 use Rattle.slots.proofs.line_slot.Met as Met'
 use Rattle.slots.proofs.line_slot.Reads as Reads'
 use Rattle.slots.proofs.line_slot.Symbol as Symbol'
@@ -71,5 +71,5 @@ module _ {M : Type 1} where
       Reads''.post-read record { M = M; 𝓤 = 𝓤; H = H; 𝓜 = 𝓜; 𝓖 = 𝓖; 𝓡 = 𝓡 } Code.env Key.name Code.function (Code.unfolded 𝓤 H 𝓜 𝓡) (λ κs a g. tt) (λ κs.
       Reads''.owns κs record { M = M; 𝓤 = 𝓤; H = H; 𝓜 = 𝓜; 𝓖 = 𝓖; 𝓡 = 𝓡 }) (Reads''.passes record { M = M; 𝓤 = 𝓤; H = H; 𝓜 = 𝓜; 𝓖 = 𝓖; 𝓡 = 𝓡 }) λ g. closed 𝓤 H
       (𝓖 .A) (Running.givenOf 𝓤 H 𝓜 𝓖) (Run.Over 𝓤 H 𝓜 𝓖 𝓡 Code.env) (Reads.known record { M = M; 𝓤 = 𝓤; H = H; 𝓜 = 𝓜; 𝓖 = 𝓖; 𝓡 = 𝓡 } Code.env Symbol.name
-      Symbol.routine Code.calls-rows·is-coord (Met.met 𝓤 H 𝓜 𝓖 𝓡)) (Reads'.known record { M = M; 𝓤 = 𝓤; H = H; 𝓜 = 𝓜; 𝓖 = 𝓖; 𝓡 = 𝓡 } Code.env Symbol'.name
+      Symbol.routine Code.calls-facets·is-coord (Met.met 𝓤 H 𝓜 𝓖 𝓡)) (Reads'.known record { M = M; 𝓤 = 𝓤; H = H; 𝓜 = 𝓜; 𝓖 = 𝓖; 𝓡 = 𝓡 } Code.env Symbol'.name
       Symbol'.routine Code.calls-slots·line-slot (Met'.met 𝓤 H 𝓜 𝓖 𝓡))

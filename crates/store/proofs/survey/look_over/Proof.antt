@@ -6,25 +6,27 @@ use native.Mathlib.Omega.{arith}
 use mathlib.Core.Path.{ap}
 use Rattle.gate.proofs.Sofar.{sofar-start, sofar-rising, sofar-done, turn-refused, turn-next}
 use Rattle.store.proofs.Lines.{row-small, need-done, fits-done, kept-done}
-use Rattle.store.proofs.Looking.{Looked, looked-start, looked-next, looked-rises}
+use Rattle.store.proofs.Looking.{Seen, seen-start, seen-next, seen-rises}
 -- `store::survey::look_over` meets its contract. `Proof/` has its derivation, written by tools/walk.py. Assumes nothing.
 mod Lts
 mod Tie
 use borrow.Author.Needs.{needs}
 use Rattle.store.proofs.survey.look_over.Statement.{statement}
 use Rattle.store.proofs.survey.look_over.Proof.Tie as tie
+use Rattle.store.proofs.Walked.survey.look_over.Reads as reads
+use Rattle.store.proofs.survey.look_over.Proof.Lts as lts
 
 abbrev Inv-loop : tie.InvT-loop
-Inv-loop text table i₀ s₀ b₀ k₀ fit₀ kept₀ i s b k fit kept = Looked text table i b s k fit kept
+Inv-loop text table i₀ c₀ k₀ fit₀ kept₀ near₀ i c k fit kept near = Seen text table i (c .past .block) (c .state) k fit kept
 
 abbrev μ-loop : tie.MeasureT-loop
-μ-loop text table i₀ s₀ b₀ k₀ fit₀ kept₀ i s b k fit kept = length text - 81 * i
+μ-loop text table i₀ c₀ k₀ fit₀ kept₀ near₀ i c k fit kept near = length text - 81 * i
 
 start-requires : tie.Need-start-requires Inv-loop μ-loop
 start-requires c = search needs
 
 loop-holds : tie.Need-loop-holds Inv-loop μ-loop
-loop-holds c = looked-start _ _ _ (rw (c .start .ensures) (sofar-start _))
+loop-holds c = rw (c .start .ensures .0, c .start .ensures .1) (seen-start _ _ _ (sofar-start _))
 
 mul-loop : tie.Need-mul-loop Inv-loop μ-loop
 mul-loop c = omega (arith, c .loop .inv .sofar .within)
@@ -32,33 +34,24 @@ mul-loop c = omega (arith, c .loop .inv .sofar .within)
 line-at-requires : tie.Need-line-at-requires Inv-loop μ-loop
 line-at-requires c = omega arith
 
-known-requires : tie.Need-known-requires Inv-loop μ-loop
-known-requires c = λ κs. sofar-rising _ _ _ _ (c .before .before .loop .inv .sofar)
-
-judge-requires : tie.Need-judge-requires Inv-loop μ-loop
-judge-requires c = search needs
+turn-requires : tie.Need-turn-requires Inv-loop μ-loop
+turn-requires c = λ κs. (sofar-rising _ _ _ _ (c .before .before .loop .inv .sofar), (search needs, (omega (arith, c .before .before .loop .inv .sofar .lines), omega arith)))
 
 returns : tie.Need-returns Inv-loop μ-loop
 unfolding refusedOf
-returns c = (ap (λ (v : Verdict). v .number) (turn-refused _ _ _ _ (c .before .before .before .before .before .loop .inv .sofar) (c .before .before .before .before .loop-test .taken) _ _ _ (c .before .before .before .line-at .ensures) (c .before .before .known .ensures _ _ (c .before .before .before .before .before .loop .inv .sofar .block)) (c .before .judge .ensures) (c .if1 .taken)), λ z. absurd (c .if1 .taken z))
-
-grow-requires : tie.Need-grow-requires Inv-loop μ-loop
-grow-requires c = omega arith
-
-next-requires : tie.Need-next-requires Inv-loop μ-loop
-next-requires c = search needs
+returns c = (ap (λ (v : Verdict). v .number) (turn-refused _ _ _ _ (c .before .before .before .before .before .loop .inv .sofar) (c .before .before .before .before .loop-test .taken) _ _ (c .before .before .before .line-at .ensures) (c .before .before .turn .ensures .0 _ _ (c .before .before .before .before .before .loop .inv .sofar .block)) (c .if1 .taken)), λ z. absurd (c .if1 .taken z))
 
 slot-at-requires : tie.Need-slot-at-requires Inv-loop μ-loop
 slot-at-requires c = search needs
 
 fits-requires : tie.Need-fits-requires Inv-loop μ-loop
-fits-requires c = λ κs. row-small _ _ _ (c .before .before .before .before .before .before .line-at .ensures)
+fits-requires c = λ κs. row-small _ _ _ (c .before .before .before .before .before .line-at .ensures)
 
 both-of-requires : tie.Need-both-of-requires Inv-loop μ-loop
 both-of-requires c = search needs
 
 stays-requires : tie.Need-stays-requires Inv-loop μ-loop
-stays-requires c = λ κs. c .before .before .slot-at .ensures
+stays-requires c = λ κs. (omega (arith, c .before .before .before .before .before .before .before .before .before .loop .inv .spots, c .before .before .before .before .before .before .before .before .before .loop .inv .sofar .block .hi-le, c .before .before .before .before .before .before .before .before .before .loop .inv .sofar .within, c .before .before .before .before .before .before .before .before), c .before .before .slot-at .ensures)
 
 one-if-requires : tie.Need-one-if-requires Inv-loop μ-loop
 one-if-requires c = search needs
@@ -79,13 +72,13 @@ loop-less : tie.Need-loop-less Inv-loop μ-loop
 loop-less c = search needs
 
 loop-again : tie.Need-loop-again Inv-loop μ-loop
-loop-again c = rw (c .before .before .before .both-of .ensures, c .before .one-if .ensures .0, c .one-of .ensures .0) (looked-next _ _ _ _ _ _ _ _ (c .before .before .before .before .before .before .before .before .before .before .before .before .before .loop .inv) (c .before .before .before .before .before .before .before .before .before .before .before .before .loop-test .taken) _ (c .before .before .before .before .before .before .before .before .before .before .before .line-at .ensures) _ (c .before .before .before .before .before .before .before .grow .ensures) _ (turn-next _ _ _ _ (c .before .before .before .before .before .before .before .before .before .before .before .before .before .loop .inv .sofar) (c .before .before .before .before .before .before .before .before .before .before .before .before .loop-test .taken) _ _ _ (c .before .before .before .before .before .before .before .before .before .before .before .line-at .ensures) (c .before .before .before .before .before .before .before .before .before .before .known .ensures _ _ (c .before .before .before .before .before .before .before .before .before .before .before .before .before .loop .inv .sofar .block)) (c .before .before .before .before .before .before .before .before .before .judge .ensures) (c .before .before .before .before .before .before .before .before .if1 .left) _ (c .before .before .before .before .before .before .before .grow .ensures) _ (c .before .before .before .before .before .before .next .ensures)) _ (c .before .before .before .before .before .slot-at .ensures) _ (c .before .before .before .before .fits2 .ensures) _ (c .before .before .stays .ensures))
+loop-again c = let S = c .before .before .before .before .before .before .before .before .before .before .before .before .before .loop .inv in let h = c .before .before .before .before .before .before .before .before .before .before .before .before .loop-test .taken in let el = c .before .before .before .before .before .before .before .before .before .before .before .line-at .ensures in let n = c .before .before .before .before .before .before .before .before .before .before .turn .ensures .0 _ _ (S .sofar .block) in let e = c .before .before .before .before .before .before .before .before .before .before .turn .ensures .1 (c .before .before .before .before .before .before .before .before .if1 .left) in rw (c .before .before .before .before .both-of .ensures, c .before .one-if .ensures .0, c .one-of .ensures .0) (seen-next _ _ _ _ _ _ _ _ S h _ el _ (e .1) _ (turn-next _ _ _ _ (S .sofar) h _ _ el n (c .before .before .before .before .before .before .before .before .if1 .left) _ (e .1) _ (e .0)) _ (c .before .before .before .before .before .before .slot-at .ensures) _ (c .before .before .before .before .before .fits2 .ensures) _ (c .before .before .before .stays .ensures))
 
 finish-requires : tie.Need-finish-requires Inv-loop μ-loop
 finish-requires c = search needs
 
 returns-2 : tie.Need-returns-2 Inv-loop μ-loop
-returns-2 c = (ap (λ (v : Verdict). v .number) (sofar-done _ _ _ _ _ (c .before .before .loop .inv .sofar) (c .before .loop-test .left) (c .finish .ensures)), λ z. record { need = need-done _ _ _ _ (c .before .loop-test .left) (c .before .before .loop .inv .need); fits = fits-done _ _ _ _ _ _ (c .before .loop-test .left) (c .before .before .loop .inv .fitted); lines = omega (arith, c .before .before .loop .inv .sofar .within, c .before .loop-test .left); kept = λ e. kept-done _ _ _ _ _ _ (c .before .loop-test .left) (c .before .before .loop .inv .kept e); rises = λ e. looked-rises _ _ _ _ _ _ _ _ (c .before .before .loop .inv) e })
+returns-2 c = (ap (λ (v : Verdict). v .number) (sofar-done _ _ _ _ _ (c .before .before .before .loop .inv .sofar) (c .before .before .loop-test .left) (c .finish .ensures)), λ z. record { need = need-done _ _ _ _ (c .before .before .loop-test .left) (c .before .before .before .loop .inv .need); fits = fits-done _ _ _ _ _ _ (c .before .before .loop-test .left) (c .before .before .before .loop .inv .fitted); lines = omega (arith, c .before .before .before .loop .inv .sofar .within, c .before .before .loop-test .left); kept = λ e. kept-done _ _ _ _ _ _ (c .before .before .loop-test .left) (c .before .before .before .loop .inv .kept e); rises = λ e. seen-rises _ _ _ _ _ _ _ _ (c .before .before .before .loop .inv) e })
 
 pub look-over-spec : {M : Type 1} → statement M
 look-over-spec =
@@ -97,11 +90,8 @@ look-over-spec =
     loop-holds
     mul-loop
     line-at-requires
-    known-requires
-    judge-requires
+    turn-requires
     returns
-    grow-requires
-    next-requires
     slot-at-requires
     fits-requires
     both-of-requires

@@ -1,4 +1,4 @@
--- Made by tools/walk.py.
+-- Machine-made by tools/walks; do not edit.
 use Rattle.store.proofs.order
 use Rattle.sitting.proofs.Walked.store.order.Kinds
 use base.Logic

@@ -1,4 +1,4 @@
--- Made by tools/walk.py.
+-- Machine-made by tools/walks; do not edit.
 use Rattle.store.proofs.SlotAs
 use borrow.Fn.Kinds
 use borrow.Kind.MutSlice

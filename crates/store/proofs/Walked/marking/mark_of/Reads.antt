@@ -1,4 +1,4 @@
--- Made by tools/walk.py.
+-- Machine-made by tools/walks; do not edit.
 use Rattle.store.proofs.marking.mark_of
 use Rattle.store.proofs.Walked.marking.mark_of.Kinds
 use base.Logic

@@ -1,4 +1,4 @@
--- Made by tools/walk.py.
+-- Machine-made by tools/walks; do not edit.
 use Rattle.store.proofs.SlotAs
 use Rattle.fragments.proofs.Tail
 use Rattle.fragments.proofs.Tail.Laws

@@ -1,4 +1,4 @@
--- Made by tools/walk.py.
+-- Machine-made by tools/walks; do not edit.
 use Rattle.store.proofs.survey.look_over
 use Rattle.store.proofs.Walked.survey.look_over.Kinds
 use base.Logic

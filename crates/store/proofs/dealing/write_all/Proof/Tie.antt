@@ -1,4 +1,4 @@
--- Made by tools/walk.py.
+-- Machine-made by tools/walks; do not edit.
 use Rattle.marks.proofs.one_of.Met
 use Rattle.marks.proofs.one_of.Reads
 use Rattle.marks.proofs.one_of.Symbol
@@ -14,12 +14,12 @@ use Rattle.store.proofs.Walked.dealing.write_all.Kinds
 use Rattle.store.proofs.dealing.write_all.Proof.Lts
 use Rattle.store.proofs.Walked.dealing.write_all.Reads as Reads'3
 use Rattle.store.proofs.dealing.write_all.Statement
-use Rattle.store.proofs.search.slot_at.Met as Met'3
-use Rattle.store.proofs.Walked.search.slot_at.Reads as Reads'4
-use Rattle.store.proofs.search.slot_at.Symbol as Symbol'3
-use Rattle.store.proofs.search.stays.Met as Met'4
-use Rattle.store.proofs.Walked.search.stays.Reads as Reads'5
-use Rattle.store.proofs.search.stays.Symbol as Symbol'4
+use Rattle.store.proofs.seeking.slot_at.Met as Met'3
+use Rattle.store.proofs.Walked.seeking.slot_at.Reads as Reads'4
+use Rattle.store.proofs.seeking.slot_at.Symbol as Symbol'3
+use Rattle.store.proofs.seeking.stays.Met as Met'4
+use Rattle.store.proofs.Walked.seeking.stays.Reads as Reads'5
+use Rattle.store.proofs.seeking.stays.Symbol as Symbol'4
 use Rattle.writing.proofs.count_line.Met as Met'5
 use Rattle.writing.proofs.count_line.Reads as Reads'6
 use Rattle.writing.proofs.count_line.Symbol as Symbol'5
@@ -200,6 +200,24 @@ After-slot-at = λ Inv μ. Lts.After-slot-at (
 
 abbrev pub After-stays : (Inv : InvT-loop) → (μ : MeasureT-loop) → Type 0
 After-stays = λ Inv μ. Lts.After-stays (
+  Reads'.Asked,
+  Reads'.Learnt,
+  Reads''.Asked,
+  Reads''.Learnt,
+  Reads'4.Asked,
+  Reads'4.Learnt,
+  Reads'5.Asked,
+  Reads'5.Learnt,
+  Reads'7.Asked,
+  Reads'7.Learnt,
+  Reads'6.Asked,
+  Reads'6.Learnt,
+  Reads.Asked,
+  Reads.Learnt,
+) Reads'3.Pre Reads'3.Post Inv μ
+
+abbrev pub After-ended : (Inv : InvT-loop) → (μ : MeasureT-loop) → Type 0
+After-ended = λ Inv μ. Lts.After-ended (
   Reads'.Asked,
   Reads'.Learnt,
   Reads''.Asked,
@@ -657,28 +675,28 @@ module _ {M : Type 1} where
       (𝓖 .A) (Running.givenOf 𝓤 H 𝓜 𝓖) (Run.Over 𝓤 H 𝓜 𝓖 𝓡 Code.env) (Reads'.known record { M = M; 𝓤 = 𝓤; H = H; 𝓜 = 𝓜; 𝓖 = 𝓖; 𝓡 = 𝓡 } Code.env Symbol'.name
       Symbol'.routine Code.calls-places·no-counts (Met'.met 𝓤 H 𝓜 𝓖 𝓡)) (Reads''.known record { M = M; 𝓤 = 𝓤; H = H; 𝓜 = 𝓜; 𝓖 = 𝓖; 𝓡 = 𝓡 } Code.env
       Symbol''.name Symbol''.routine Code.calls-rows·line-at (Met''.met 𝓤 H 𝓜 𝓖 𝓡)) (Reads'4.known record { M = M; 𝓤 = 𝓤; H = H; 𝓜 = 𝓜; 𝓖 = 𝓖; 𝓡 = 𝓡 } Code.env
-      Symbol'3.name Symbol'3.routine Code.calls-store·search·slot-at (Met'3.met 𝓤 H 𝓜 𝓖 𝓡)) (Reads'5.known record { M = M; 𝓤 = 𝓤; H = H; 𝓜 = 𝓜; 𝓖 = 𝓖; 𝓡 = 𝓡 }
-      Code.env Symbol'4.name Symbol'4.routine Code.calls-store·search·stays (Met'4.met 𝓤 H 𝓜 𝓖 𝓡)) (Reads'7.known record {
+      Symbol'3.name Symbol'3.routine Code.calls-store·seeking·slot-at (Met'3.met 𝓤 H 𝓜 𝓖 𝓡)) (Reads'5.known record { M = M; 𝓤 = 𝓤; H = H; 𝓜 = 𝓜; 𝓖 = 𝓖; 𝓡 = 𝓡 }
+      Code.env Symbol'4.name Symbol'4.routine Code.calls-store·seeking·stays (Met'4.met 𝓤 H 𝓜 𝓖 𝓡)) (Reads'7.known record {
         M = M;
         𝓤 = 𝓤;
         H = H;
         𝓜 = 𝓜;
         𝓖 = 𝓖;
-        𝓡
-            = 𝓡;
+        𝓡 = 𝓡;
       } Code.env Symbol'6.name Symbol'6.routine Code.calls-writing·put-share (Met'6.met 𝓤 H 𝓜 𝓖 𝓡)) (Reads'6.known record {
         M = M;
         𝓤 = 𝓤;
         H = H;
         𝓜 = 𝓜;
-        𝓖 =
-            𝓖;
+        𝓖
+            = 𝓖;
         𝓡 = 𝓡;
       } Code.env Symbol'5.name Symbol'5.routine Code.calls-writing·count-line (Met'5.met 𝓤 H 𝓜 𝓖 𝓡)) (Reads.known record {
         M = M;
         𝓤 = 𝓤;
         H = H;
-        𝓜 = 𝓜;
+        𝓜 =
+            𝓜;
         𝓖 = 𝓖;
         𝓡 = 𝓡;
       } Code.env Symbol.name Symbol.routine Code.calls-marks·one-of (Met.met 𝓤 H 𝓜 𝓖 𝓡))

@@ -1,0 +1,92 @@
+use borrow.Author.Needs.{needs}
+use mathlib.Core.Path.{_≡_, ap}
+use native.Mathlib.Omega.{arith}
+use Prim.Native.Nat.{_+_, _*_, _-_, _≤_}
+use lib.ListN.{length}
+use Rattle.gate.specs.declared.Verdict.{Verdict}
+use Rattle.gate.specs.Gate.{refusedOf}
+use Rattle.gate.proofs.Sofar.{Sofar, sofar-start, sofar-rising, sofar-done, turn-refused, turn-next}
+use Rattle.table.specs.Table.{linesFrom, slotsOf, loadedOf}
+use Rattle.store.proofs.Lines.{need-step, need-done}
+use Rattle.store.proofs.survey.count_slots.Statement.{statement}
+use Rattle.store.proofs.survey.count_slots.Tie as tie
+
+abbrev Inv-loop : tie.InvT-loop
+Inv-loop text i₀ c₀ k₀ i c k = Sofar text i (c .past .block) (c .state) × (k + length (slotsOf (linesFrom text i)) ≡ length (loadedOf text)) × (k ≤ i)
+
+abbrev μ-loop : tie.MeasureT-loop
+μ-loop text i₀ c₀ k₀ i c k = length text - 81 * i
+
+start-requires : tie.Need-start-requires Inv-loop μ-loop
+start-requires c κs = tt
+
+loop-holds : tie.Need-loop-holds Inv-loop μ-loop
+loop-holds c = (rw (c .start .ensures .0, c .start .ensures .1) (sofar-start _), omega arith, omega arith)
+
+mul-loop : tie.Need-mul-loop Inv-loop μ-loop
+mul-loop c = omega (arith, c .loop .inv .0 .within)
+
+line-at-requires : tie.Need-line-at-requires Inv-loop μ-loop
+line-at-requires c κs = omega arith
+
+turn-requires : tie.Need-turn-requires Inv-loop μ-loop
+turn-requires c κs = (sofar-rising _ _ _ _ (c .before .before .loop .inv .0), (search needs, (omega (arith, c .before .before .loop .inv .0 .lines), omega arith)))
+
+returns : tie.Need-returns Inv-loop μ-loop
+unfolding refusedOf
+returns c = (
+  ap (λ (v : Verdict). v .number) (turn-refused _ _ _ _ (c .before .before .before .before .loop .inv .0) (c .before .before .before .loop-test .taken) _ _ (c .before .before .line-at .ensures) (c .before .turn .ensures .0 _ _ (c .before .before .before .before .loop .inv .0 .block)) (c .if1 .taken)),
+  λ z. absurd (c .if1 .taken z),
+)
+
+one-of-requires : tie.Need-one-of-requires Inv-loop μ-loop
+one-of-requires c κs = tt
+
+add-k : tie.Need-add-k Inv-loop μ-loop
+add-k c = omega (arith, c .before .before .before .before .before .before .loop .inv .2, c .one-of .ensures .1, c .before .before .before .before .before .before .loop .inv .0 .within, c .before .before .before .before .before)
+
+add-i : tie.Need-add-i Inv-loop μ-loop
+add-i c = omega (arith, c .before .before .before .before .before .before .loop .inv .0 .within, c .before .before .before .before .before)
+
+loop-less : tie.Need-loop-less Inv-loop μ-loop
+loop-less c = omega arith
+
+loop-again : tie.Need-loop-again Inv-loop μ-loop
+loop-again c =
+    let S = c .before .before .before .before .before .before .loop .inv in
+    let h = c .before .before .before .before .before .loop-test .taken in
+    let el = c .before .before .before .before .line-at .ensures in
+    let e = c .before .before .before .turn .ensures .1 (c .before .before .if1 .left) in (
+      turn-next _ _ _ _ (S .0) h _ _ el (c .before .before .before .turn .ensures .0 _ _ (S .0 .block)) (c .before .before .if1 .left) _ (e .1) _ (e .0),
+      rw (c .one-of .ensures .0) (need-step _ _ _ _ _ h el (S .1)),
+      omega (arith, S .2, c .one-of .ensures .1),
+    )
+
+finish-requires : tie.Need-finish-requires Inv-loop μ-loop
+finish-requires c κs = omega (arith, c .before .before .loop .inv .0 .lines, c .before .before .loop .inv .0 .within)
+
+returns-2 : tie.Need-returns-2 Inv-loop μ-loop
+returns-2 c = (
+  ap (λ (v : Verdict). v .number) (sofar-done _ _ _ _ _ (c .before .before .before .loop .inv .0) (c .before .before .loop-test .left) (c .finish .ensures)),
+  λ z. need-done _ _ _ _ (c .before .before .loop-test .left) (c .before .before .before .loop .inv .1),
+)
+
+pub count-slots-spec : {M : Type 1} → statement M
+count-slots-spec =
+    tie.close
+    (tie.spec
+    Inv-loop
+    μ-loop
+    start-requires
+    loop-holds
+    mul-loop
+    line-at-requires
+    turn-requires
+    returns
+    one-of-requires
+    add-k
+    add-i
+    loop-less
+    loop-again
+    finish-requires
+    returns-2)
