@@ -63,6 +63,18 @@ uint32_t station_load(const uint8_t *text, size_t n, station_slot *table, size_t
 uint32_t station_order(const uint8_t *text, size_t n, station_slot *table, size_t slots, uint32_t fragment,
                        uint8_t aside);
 
+/* Sets aside or puts back every fragment at once: `aside` has a byte for each, from fragment 1 on, 0 for in, any other
+ * for aside. The table is then as station_order would leave it, fragment by fragment; one that is already there changes
+ * nothing. 1 to 12 for the text; 13; 18; 15 if `fragments` is not how many there are. */
+uint32_t station_arrange(const uint8_t *text, size_t n, station_slot *table, size_t slots, const uint8_t *aside,
+                         size_t fragments);
+
+/* Tells for each slot that the text needs, in order, the number of its fragment, aside or not; the last number is how
+ * many fragments there are. `count` receives the numbers written, 0 if refused; room for `slots` numbers is always
+ * enough. 1 to 12 for the text; 13; 18; 17 if `room` is below the slots that the text needs. */
+uint32_t station_fragments(const uint8_t *text, size_t n, const station_slot *table, size_t slots, uint32_t *out,
+                           size_t room, uint64_t *count);
+
 /* Writes the entry without the fragments set aside, without the CONECT lines that name one of their atoms, and with
  * MASTER counted again. `count` receives the bytes written, 0 if refused; `n` bytes of room are always enough. 1 to 12
  * for the text; 13; 18; 17 if `room` is below the bytes to be written. */

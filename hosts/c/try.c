@@ -1,4 +1,4 @@
-/* Calls each of the eleven names of include/station.h, and holds what comes against docs/FORMAT.md.
+/* Calls each of the thirteen names of include/station.h, and holds what comes against docs/FORMAT.md.
  *
  *     cc -std=c11 -I include hosts/c/try.c LIBRARY/libstation.a -o try && ./try <crates/report/stdin
  *
@@ -245,6 +245,72 @@ static void orders(const text *wrong)
     write("tray: nothing to write, into nothing", station_tray, &t, is, 4, 0, 0, &none);
 }
 
+/* ---- all fragments at once */
+
+/* An arrangement of the table `is` by these bytes, which then has these marks. */
+static void arrange(const char *what, const text *t, station_slot *is, size_t slots, const uint8_t *bytes,
+                    size_t fragments, uint32_t number, const char *marks)
+{
+    lent b = lend(t->bytes, t->size, 1), table = lend(is, slots * sizeof *is, 0), list = lend(bytes, fragments, 1);
+    uint32_t came = station_arrange(at(&b), t->size, at(&table), slots, at(&list), fragments);
+    size_t i;
+    for (i = 0; number == 0 && i < slots; i++) is[i].mark = (uint8_t)(marks[i] - '0');
+    told(came == number && memcmp(at(&table), is, slots * sizeof *is) == 0 && guarded(&table) && as_lent(&b) &&
+             as_lent(&list),
+         "arrange: %s: %u", what, (unsigned)came);
+    give_back(&b), give_back(&table), give_back(&list);
+}
+
+/* The fragments of the slots of three(), into room for so many numbers, if they are granted. */
+static void fragments(const char *what, const text *t, const station_slot *is, size_t slots, size_t room,
+                      uint32_t number)
+{
+    static const uint32_t due[4] = {1, 1, 2, 3};
+    lent b = lend(t->bytes, t->size, 1), table = lend(is, slots * sizeof *is, 0);
+    lent out = lend(NULL, room * sizeof *due, 0), count = lend(NULL, 8, 0);
+    uint32_t came = station_fragments(at(&b), t->size, at(&table), slots, at(&out), room, at(&count));
+    size_t numbers = number ? 0 : 4;
+    uint64_t counted;
+    memcpy(&counted, at(&count), sizeof counted);
+    told(came == number && counted == numbers && memcmp(at(&out), due, numbers * sizeof *due) == 0 &&
+             as_lent_from(&out, numbers * sizeof *due) && as_lent(&b) && as_lent(&table) && guarded(&count),
+         "fragments: %s: %u, %llu numbers", what, (unsigned)came, (unsigned long long)counted);
+    give_back(&b), give_back(&table), give_back(&out), give_back(&count);
+}
+
+static void at_once(const text *wrong)
+{
+    static const uint8_t second[4] = {0, 1, 0, 0}, others[3] = {1, 0, 255}, none[3] = {0};
+    text t = three();
+    station_slot is[5], other[4]; /* a slot to spare, whose content plays no part */
+    uint64_t count;
+    memset(is, 0x77, sizeof is);
+    station_load((const uint8_t *)t.bytes, t.size, is, 5, &count);
+    memcpy(other, is, sizeof other);
+    other[1].mark = STATION_ASIDE;
+    fragments("into just enough", &t, is, 4, 4, 0);
+    fragments("with room to spare", &t, is, 4, 6, 0);
+    fragments("a slot to spare", &t, is, 5, 4, 0);
+    fragments("into a number less", &t, is, 4, 3, 17);
+    fragments("into nothing", &t, is, 4, 0, 17);
+    fragments("a short table", &t, is, 3, 4, 13);
+    fragments("a fragment with two marks", &t, other, 4, 4, 18);
+    fragments("a wrong text", wrong, is, 4, 4, 6);
+    arrange("the second aside", &t, is, 4, second, 3, 0, "0010");
+    arrange("the second aside again", &t, is, 4, second, 3, 0, "0010");
+    arrange("a byte too few", &t, is, 4, second, 2, 15, NULL);
+    arrange("a byte too many", &t, is, 4, second, 4, 15, NULL);
+    arrange("no byte", &t, is, 4, second, 0, 15, NULL);
+    arrange("a short table", &t, is, 3, others, 3, 13, NULL);
+    arrange("a fragment with two marks", &t, other, 4, others, 3, 18, NULL);
+    arrange("a wrong text", wrong, is, 4, others, 3, 6, NULL);
+    arrange("the others aside, by 1 and 255", &t, is, 4, others, 3, 0, "1101");
+    fragments("whatever is aside", &t, is, 5, 6, 0);
+    is[4].mark = 7;
+    arrange("all in, a slot to spare", &t, is, 5, none, 3, 0, "00007");
+    arrange("nothing to arrange", &(text){{0}, 0}, is, 5, none, 0, 12, NULL);
+}
+
 /* ---- single lines */
 
 static void slot(const char *what, const char *line, size_t n, uint32_t number)
@@ -361,6 +427,7 @@ int main(void)
     load("a slot too few", entry, 5 * LINE, 1, 13);
     load("a wrong text", wrong.bytes, 5 * LINE, 2, 6);
     orders(&wrong);
+    at_once(&wrong);
     lines(entry, &wrong);
     feeds();
     printf("%u passed, %u failed\n", passed, failed);

@@ -41,6 +41,22 @@ def types_of(text):  # a file with its types and constants alone
     return text
 
 
+def body(files, fn):  # the body of a function of a crate with these files
+    mods, name = fn.split("::")[:-1], fn.split("::")[-1]
+    text = next(t for f, t in files.items() if f in ([f"src/{'/'.join(mods)}.rt"] if mods else ["src/lib.rt", "src/main.rt"]))
+    m = re.search(rf"\bfn {name}\s*(?:<[^>]*>)?\s*(\()", text)
+    j = close(text, m.start(1))
+    while q := re.compile(r"[^{}]*?\b(?:requires|ensures)\b[^{]*").match(text, j):
+        j = close(text, q.end())
+    b = text.index("{", j)
+    return text[b:close(text, b)]
+
+
+def bound(files, f, g):  # whether one of two functions calls the other
+    calls = lambda f, g: re.search(rf"\b{g.split('::')[-1]}\(", body(files, f))
+    return calls(f, g) or calls(g, f)
+
+
 class Sources:
     def __init__(self, crate, structs):
         self.crate, self.structs = crate, structs
@@ -58,23 +74,12 @@ class Sources:
         return any(re.search(rf"\b{s.name}\b", h) for n, h in heads for s in self.structs if re.search(rf"\b{c}::{n}\b", own))
 
     def apart(self, fns):  # functions of CRATE in groups, none of which calls another of its group: what is derived of a function asks that those it calls be proved
-        calls = lambda f, g: re.search(rf"\b{g.split('::')[-1]}\(", self.body(f))
         groups = []
         for f in fns:
-            free = [g for g in groups if not any(calls(f, other) or calls(other, f) for other in g)]
+            free = [g for g in groups if not any(bound(self.files[self.crate], f, other) for other in g)]
             if free: free[0].append(f)
             else: groups.append([f])
         return groups
-
-    def body(self, fn):
-        mods, name = fn.split("::")[:-1], fn.split("::")[-1]
-        text = next(t for f, t in self.files[self.crate].items() if f in ([f"src/{'/'.join(mods)}.rt"] if mods else ["src/lib.rt", "src/main.rt"]))
-        m = re.search(rf"\bfn {name}\s*(?:<[^>]*>)?\s*(\()", text)
-        j = close(text, m.start(1))
-        while q := re.compile(r"[^{}]*?\b(?:requires|ensures)\b[^{]*").match(text, j):
-            j = close(text, q.end())
-        b = text.index("{", j)
-        return text[b:close(text, b)]
 
     def stand_in(self, everything):  # the array that stands for each struct: one of its size that stands for nothing else
         for s in self.structs:

@@ -1,8 +1,8 @@
 -- What the C functions answer, and what they leave in the memory that is lent to them.
 use Rattle.ascii.specs.Library.{ℕ, List, [], _∷_, _++_, Bool, not, eqb, ltb, length, drop, pick}
 use lib.Ieee.{Float}
+use Rattle.fields.specs.declared.{FragmentNumber.FragmentNumber}
 use Rattle.line.specs.declared.{Answer.Answer}
-use Rattle.gate.specs.declared.{Verdict.Verdict}
 use Rattle.slots.specs.declared.{Slot.Slot, Filling.Filling, Filling.the-variants.Filled, Filling.the-variants.Refused}
 use Rattle.feed.specs.declared.{Drawn.Drawn, Drawn.the-variants.Dot, Drawn.the-variants.Stroke, Drawn.the-variants.Nothing, Framed.Framed}
 use Rattle.line.specs.declared.Answer.the-variants as line
@@ -16,22 +16,9 @@ pub record Answered (A : Type 0) : Type 0 where
 abbrev pub answered : {A : Type 0} → ℕ → A → Answered A
 answered n x = record { number = n; left = x }
 
--- number, offending line, good lines, then the nine counts in the order of the tally
-abbrev pub twelveOf : Verdict → List ℕ
-twelveOf v =
-    v .number
-    ∷ v .line
-    ∷ v .good
-    ∷ v .counts .remark
-    ∷ v .counts .het
-    ∷ v .counts .helix
-    ∷ v .counts .sheet
-    ∷ v .counts .xform
-    ∷ v .counts .coord
-    ∷ v .counts .ter
-    ∷ v .counts .conect
-    ∷ v .counts .seq
-    ∷ []
+-- the fragment that a number names
+abbrev pub fragmentNumber : ℕ → FragmentNumber
+fragmentNumber n = record { 0 = n }
 
 -- 0 puts back, any other byte sets aside
 abbrev pub asideOf : ℕ → Bool

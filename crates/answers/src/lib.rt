@@ -1,40 +1,15 @@
 // What C passes and is answered, by value: bytes and arrays for what the library says in enums and structs.
 use feed::Drawn;
 use feed::Framed;
-use gate::Verdict;
 use slots::Filling;
 use slots::Slot;
 ghost use mathlib.Core.Path.{_≡_};
-ghost use Rattle.answers.specs.Boundary.{answered, twelveOf, asideOf, slotAnswer, dotAnswer, strokeAnswer, frameAnswer};
+ghost use Rattle.answers.specs.Boundary.{answered, asideOf, slotAnswer, dotAnswer, strokeAnswer, frameAnswer};
 
 // What filling a slot answers, and what the slot then holds.
 pub struct Filled {
     pub number: u32,
     pub slot: Slot,
-}
-
-// Number, offending line, good lines, then the nine counts.
-pub fn twelve(v: Verdict) -> [u64; 12]
-    ensures { λ r. ⌜ r ≡ twelveOf v ⌝ }
-{
-    let number = v.number as u64;
-    let line = v.line;
-    let good = v.good;
-    let c = v.counts;
-    [
-        number,
-        line,
-        good,
-        c.remark,
-        c.het,
-        c.helix,
-        c.sheet,
-        c.xform,
-        c.coord,
-        c.ter,
-        c.conect,
-        c.seq,
-    ]
 }
 
 // Whether an order's byte sets aside.

@@ -16,7 +16,8 @@ isConect l = isBond (bondIn l)
 -- the numbers on it; zeros on another line
 abbrev pub numbersOf : Bond → Conect
 numbersOf (Bonds c) = c
-numbersOf Loose = record { serial = record { 0 = 0 }; a = record { 0 = 0 }; b = record { 0 = 0 }; c = record { 0 = 0 }; d = record { 0 = 0 } }
+numbersOf Loose =
+    record { serial = record { 0 = 0 }; a = record { 0 = 0 }; b = record { 0 = 0 }; c = record { 0 = 0 }; d = record { 0 = 0 } }
 
 abbrev pub conectIn : Line → Conect
 conectIn l = numbersOf (bondIn l)

@@ -47,19 +47,18 @@ pub fn conect_in(l: Line) -> Conect
 }
 
 // The serial of the slot.
-pub fn serial_of(s: Slot) -> u32
-    ensures { λ r. ⌜ r ≡ s .serial .0 ⌝ }
+pub fn serial_of(s: Slot) -> Serial
+    ensures { λ r. ⌜ r ≡ s .serial ⌝ }
 {
-    let n = s.serial;
-    n.0
+    s.serial
 }
 
 // Whether the slot is the atom with serial n, and set aside.
-pub fn is_aside(n: u32, s: Slot) -> bool
-    ensures { λ r. ⌜ r ≡ isAside n s ⌝ }
+pub fn is_aside(n: Serial, s: Slot) -> bool
+    ensures { λ r. ⌜ r ≡ isAside (n .0) s ⌝ }
 {
     let serial = s.serial;
     let e = fragments::is_ter(s);
-    let a = ascii::both_of(!e, serial.0 == n);
+    let a = ascii::both_of(!e, serial.0 == n.0);
     ascii::both_of(s.mark == slots::MARK_ASIDE, a)
 }

@@ -75,9 +75,9 @@ fn read_position(line: &[u8]) -> ReadPosition
     requires { ⌜ length (now line) ≡ 80 ⌝ }
     ensures { λ r. ⌜ (r .column ≡ positionF .fault (now (line .entry)) 30) × (r .value ≡ positionF .value (now (line .entry)) 30) ⌝ }
 {
-    let x = fields::read_real(line, 30, 8, 3);
-    let y = fields::read_real(line, 38, 8, 3);
-    let z = fields::read_real(line, 46, 8, 3);
+    let x = fields::read_signed(line, 30, 8, fields::POINT_3);
+    let y = fields::read_signed(line, 38, 8, fields::POINT_3);
+    let z = fields::read_signed(line, 46, 8, fields::POINT_3);
     let column = columns::first(x.column, columns::first(y.column, z.column));
     ReadPosition {
         column: column,
@@ -122,7 +122,7 @@ fn read_measure(line: &[u8]) -> ReadMeasure
 {
     let position = read_position(line);
     let occupancy = fields::read_whole_real(line, 54, 6, 2, 0, 100);
-    let temperature = fields::read_real(line, 60, 6, 2);
+    let temperature = fields::read_signed(line, 60, 6, fields::POINT_2);
     let column = columns::first(
         position.column,
         columns::first(occupancy.column, temperature.column),

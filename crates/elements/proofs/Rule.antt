@@ -13,6 +13,7 @@ use Rattle.ascii.proofs.Choice.{picks, both-split, between-low, between-high}
 use Rattle.ascii.proofs.Clean.{Fine, fine}
 use Rattle.names.specs.declared.Pair.{Pair}
 use Rattle.elements.specs.Elements.{elements, indexOf, atomicOf, symbols, symbolOf, hydrogen, deuterium, isElement}
+use Rattle.elements.specs.Promise.{TableRule}
 use Rattle.elements.proofs.Every.{passed}
 
 -- ---- for the code
@@ -120,14 +121,6 @@ known p e =
     let z = ltb-true 0 (atomicOf p) e in
     by-rule p (indexOf p) (atomicOf p) refl refl h z (rw (sym (from-table p (indexOf p) refl)) (rule (indexOf p) h))
 
--- which pairs are elements: D, and the symbols of the numbers 1 to 118, each with its number
-pub record TableRule : Type 0 where
-  pub all : (p : Pair) → isElement p ≡ true → (p ≡ deuterium) ⊎ ((n : ℕ) × (n < 118) × (p ≡ symbolOf (suc n)) × (atomicOf p ≡ suc n))
-  pub each : (n : ℕ) → n < 118 → atomicOf (symbolOf (suc n)) ≡ suc n
-  pub heavy : atomicOf deuterium ≡ 1
-  -- two pairs that share a number are one pair, or H and D
-  pub shared : (p q : Pair) → isElement p ≡ true → atomicOf p ≡ atomicOf q → (p ≡ q) ⊎ (((p ≡ hydrogen) × (q ≡ deuterium)) ⊎ ((p ≡ deuterium) × (q ≡ hydrogen)))
-
 all-known : (p : Pair) → isElement p ≡ true → (p ≡ deuterium) ⊎ ((n : ℕ) × (n < 118) × (p ≡ symbolOf (suc n)) × (atomicOf p ≡ suc n))
 all-known p e =
     let z = ltb-true 0 (atomicOf p) e in
@@ -147,7 +140,7 @@ shared-known p q e s =
     (known p e)
 
 pub table-rule : TableRule
-table-rule = record { all = all-known; each = occurs; heavy = deuterium-is; shared = shared-known }
+table-rule = record { size = long; all = all-known; each = occurs; heavy = deuterium-is; shared = shared-known }
 
 -- ---- an element's columns are clean
 pub element-fine : (p : Pair) → isElement p ≡ true → Fine (p .a) × Fine (p .b)

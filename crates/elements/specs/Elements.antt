@@ -1,11 +1,13 @@
 -- The elements: the atomic number of each pair of a blank or a letter, and a letter.
-use Rattle.ascii.specs.Library.{ℕ, _+_, _*_, _-_, List, [], _∷_, Bool, getD, ltb, eqb, byte, bytes, pick, both, either, same, isUpper}
+use Rattle.ascii.specs.Library.{ℕ, _+_, _*_, _-_, List, [], _∷_, _++_, Bool, getD, ltb, eqb, byte, bytes, pick, both, either, same, isUpper}
 use Rattle.names.specs.declared.{Pair.Pair}
 use Rattle.names.specs.Names.{pairAt}
 
 -- the symbols of IUPAC in the order of their atomic numbers, two columns each
 unfoldable pub symbols : List ℕ
-symbols = bytes " HHELIBE B C N O FNENAMGALSI P SCLAR KCASCTI VCRMNFECONICUZNGAGEASSEBRKRRBSR YZRNBMOTCRURHPDAGCDINSNSBTE IXECSBALACEPRNDPMSMEUGDTBDYHOERTMYBLUHFTA WREOSIRPTAUHGTLPBBIPOATRNFRRAACTHPA UNPPUAMCMBKCFESFMMDNOLRRFDBSGBHHSMTDSRGCNNHFLMCLVTSOG"
+symbols =
+    bytes " HHELIBE B C N O FNENAMGALSI P SCLAR KCASCTI VCRMNFECONICUZNGAGEASSEBRKRRBSR YZRNBMOTCRURHPDAGCDINSNSBTE IXECSBALACEPR"
+    ++ bytes "NDPMSMEUGDTBDYHOERTMYBLUHFTA WREOSIRPTAUHGTLPBBIPOATRNFRRAACTHPA UNPPUAMCMBKCFESFMMDNOLRRFDBSGBHHSMTDSRGCNNHFLMCLVTSOG"
 
 -- the symbol of the atomic number n
 unfoldable pub symbolOf : ℕ → Pair

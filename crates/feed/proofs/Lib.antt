@@ -7,3 +7,4 @@ pub mod SlotAs
 pub mod Tightness
 mod Walk
 pub mod Walked
+pub mod Promised

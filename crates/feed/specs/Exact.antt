@@ -1,5 +1,5 @@
--- The double that is exactly z / 2 ^ l. Nothing here rounds: `odd` of lib.Ieee only divides the closing zeros out of the number and counts them in the
--- exponent, as the one way to write a float asks. That its value is z / 2 ^ l, and that no other double has it, is proved in proofs/Exactness.antt.
+-- The double that is exactly z / 2 ^ l. Nothing here rounds: `odd` of lib.Ieee only divides the closing zeros out of the number and
+-- counts them in the exponent, as the one way to write a float asks. Its value is z / 2 ^ l, and no other double's (Promise.antt).
 use Rattle.ascii.specs.Library.{ℕ, suc, true, false, ℤ, pos, negsuc}
 use lib.Ieee.{Float, odd}
 

@@ -17,5 +17,6 @@ dotOf s = pick (isDrawn s) (Dot (whole (s .position .x)) (whole (s .position .y)
 unfoldable pub strokeOf : Slot → Slot → Drawn
 strokeOf a b =
     pick (both (isDrawn a) (isDrawn b))
-    (Stroke (whole (a .position .x)) (whole (a .position .y)) (whole (a .position .z)) (whole (b .position .x)) (whole (b .position .y)) (whole (b .position .z)))
+    (Stroke (whole (a .position .x)) (whole (a .position .y)) (whole (a .position .z))
+    (whole (b .position .x)) (whole (b .position .y)) (whole (b .position .z)))
     Nothing

@@ -116,7 +116,7 @@ under F test c =
 abbrev pub shut : {A : Type 0} → ℕ → Format A → Format A
 shut n F = record { width = n; fault = F .fault; value = F .value; text = F .text; ok = F .ok }
 
--- ---- writing a line x of 80 bytes into l, where `good` says whether the record is within its ranges: the number that is given, and what l holds
+-- ---- writing a line x of 80 bytes into l, where `good` says whether the record is within its ranges: the number, and what l then holds
 unfoldable pub writeNumber : Bool → List ℕ → ℕ
 writeNumber good l = pick good (pick (ltb (length l) 80) 17 0) 6
 

@@ -19,6 +19,11 @@ pub struct ResidueNumber(pub i32);
 #[repr(C)]
 pub struct FragmentNumber(pub u32);
 
+// What stands for a point and two or three decimals in `read_number`.
+pub const POINT_2: usize = 3;
+
+pub const POINT_3: usize = 4;
+
 // A read field: the column of its fault, or 0, and its value.
 pub struct Whole {
     pub column: u32,
@@ -123,8 +128,8 @@ pub fn read_whole_real(line: &[u8], at: usize, n: usize, d: usize, lo: u32, hi: 
     read_ranged(line, at, n, e, lo, hi)
 }
 
-// A number of either sign, e as in `read_number`.
-fn read_signed(line: &[u8], at: usize, n: usize, e: usize) -> Signed
+// A number of either sign, e as in `read_number`. (Readers call it as it is: a function of its own for reals is not inlined as well.)
+pub fn read_signed(line: &[u8], at: usize, n: usize, e: usize) -> Signed
     requires { ⌜ (at + n ≤ length (now line)) × (at + n ≤ 80) × (n ≤ 8) × (capOf n e true ≤ 1000000000) × (capOf n e false ≤ 1000000000) ⌝ }
     ensures { λ r. ⌜ r ≡ signedNumber n e (now (line .entry)) at ⌝ }
 {
@@ -162,15 +167,6 @@ pub fn read_integer(line: &[u8], at: usize, n: usize) -> Signed
     ensures { λ r. ⌜ r ≡ signedNumber n 0 (now (line .entry)) at ⌝ }
 {
     read_signed(line, at, n, 0)
-}
-
-// Real(n.d) of either sign.
-pub fn read_real(line: &[u8], at: usize, n: usize, d: usize) -> Signed
-    requires { ⌜ (at + n ≤ length (now line)) × (at + n ≤ 80) × (n ≤ 8) × (d < n) × (capOf n (d + 1) true ≤ 1000000000) × (capOf n (d + 1) false ≤ 1000000000) ⌝ }
-    ensures { λ r. ⌜ r ≡ signedNumber n (d + 1) (now (line .entry)) at ⌝ }
-{
-    let e = d + 1;
-    read_signed(line, at, n, e)
 }
 
 pub fn ranged(v: u32, lo: u32, hi: u32) -> bool

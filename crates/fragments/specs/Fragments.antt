@@ -1,6 +1,6 @@
 -- Fragments: a closed run with its TER is one; in the unclosed tail each longest stretch of lines of one residue is one.
 -- Whether a slot goes with the next depends on what follows, so the slots are taken from the last one on.
-use Rattle.ascii.specs.Library.{ℕ, _+_, List, [], _∷_, Bool, true, false, not, eqb, pick, both, either}
+use Rattle.ascii.specs.Library.{ℕ, _+_, _-_, List, [], _∷_, Bool, true, false, not, eqb, pick, both, either}
 use Rattle.residue.specs.Residues.{noResidue, sameResidue}
 use Rattle.slots.specs.declared.{Slot.Slot}
 use Rattle.fragments.specs.declared.{Tail.Tail}
@@ -18,7 +18,7 @@ endTail = record { some = false; closed = false; residue = noResidue; mark = mar
 unfoldable pub joins : Slot → Tail → Bool
 joins s t = both (both (t .some) (not (isTer s))) (either (t .closed) (sameResidue (residueOf s) (t .residue)))
 
--- the slots from s on: whether a TER is among them; the residue and mark of the first; how many fragments they are; whether marks agree inside each
+-- the slots from s on: whether a TER is among them; residue and mark of the first; how many fragments; whether marks agree inside each
 unfoldable pub stepTail : Slot → Tail → Tail
 stepTail s t =
     record {
@@ -44,3 +44,18 @@ markOf b (s ∷ ss) = pick (eqb (tailOf (s ∷ ss) .count) b) (s .mark) (markOf 
 unfoldable pub marked : ℕ → ℕ → List Slot → List Slot
 marked b m [] = []
 marked b m (s ∷ ss) = pick (eqb (tailOf (s ∷ ss) .count) b) (withMark s m) s ∷ marked b m ss
+
+-- the slots with each fragment marked as m says of it
+unfoldable pub markedBy : (ℕ → ℕ) → List Slot → List Slot
+markedBy m [] = []
+markedBy m (s ∷ ss) = withMark s (m (tailOf (s ∷ ss) .count)) ∷ markedBy m ss
+
+-- ---- fragments numbered from the first one as 1, n being how many there are
+-- the number of a fragment counted from the last one, and the other way round
+abbrev pub turned : ℕ → ℕ → ℕ
+turned n b = n + 1 - b
+
+-- of each slot, the number of its fragment
+unfoldable pub numbered : ℕ → List Slot → List ℕ
+numbered n [] = []
+numbered n (s ∷ ss) = turned n (tailOf (s ∷ ss) .count) ∷ numbered n ss

@@ -3,11 +3,11 @@ use residue::Residue;
 use slots::Slot;
 ghost use mathlib.Core.Path.{_≡_};
 ghost use mathlib.Core.Bool.{not};
-ghost use Prim.Native.Nat.{_+_, _<_};
+ghost use Prim.Native.Nat.{_+_, _≤_, _<_};
 ghost use lib.Dec.{eqb};
 ghost use Rattle.ascii.specs.Tests.{pick, either};
 ghost use Rattle.slots.specs.Slots.{withMark};
-ghost use Rattle.fragments.specs.Fragments.{isTer, endTail, joins as joinsOf, stepTail};
+ghost use Rattle.fragments.specs.Fragments.{isTer, endTail, joins as joinsOf, stepTail, turned};
 
 // What a stretch of slots is to the slot before it: whether there is one, whether a TER is among them, the residue and mark of the first,
 // how many fragments they are, and whether marks agree inside each.
@@ -19,6 +19,9 @@ pub struct Tail {
     pub count: u64,
     pub agree: bool,
 }
+
+// The number of a fragment, counted from the last one as 1.
+pub struct FromLast(pub u64);
 
 // Whether the slot is that of a TER line.
 pub fn is_ter(s: Slot) -> bool
@@ -91,21 +94,29 @@ pub fn step_tail(s: Slot, t: Tail) -> Tail
 }
 
 // The mark of s where it begins fragment b, counted from the last one, else m.
-pub fn pick_mark(t: Tail, s: Slot, b: u64, m: u8) -> u8
-    ensures { λ r. ⌜ r ≡ pick (eqb (t .count) b) (s .mark) m ⌝ }
+pub fn pick_mark(t: Tail, s: Slot, b: FromLast, m: u8) -> u8
+    ensures { λ r. ⌜ r ≡ pick (eqb (t .count) (b .0)) (s .mark) m ⌝ }
 {
-    if t.count == b {
+    if t.count == b.0 {
         return s.mark;
     }
     m
 }
 
 // The slot, marked m where it is of fragment b.
-pub fn mark_slot(t: Tail, s: Slot, b: u64, m: u8) -> Slot
-    ensures { λ r. ⌜ r ≡ pick (eqb (t .count) b) (withMark s m) s ⌝ }
+pub fn mark_slot(t: Tail, s: Slot, b: FromLast, m: u8) -> Slot
+    ensures { λ r. ⌜ r ≡ pick (eqb (t .count) (b .0)) (withMark s m) s ⌝ }
 {
-    if t.count == b {
+    if t.count == b.0 {
         return slots::with_mark(s, m);
     }
     s
+}
+
+// The number of the first slot's fragment, counted from the first one, where there are n.
+pub fn number_of(n: u64, t: Tail) -> u32
+    requires { ⌜ (t .count ≤ n + 1) × (n < 4294967295) ⌝ }
+    ensures { λ r. ⌜ r ≡ turned n (t .count) ⌝ }
+{
+    (n + 1 - t.count) as u32
 }

@@ -1,6 +1,6 @@
 -- What follows of a text from the answer of the check, in plain words.
 -- Assumes nothing.
-use Prim.Native.Nat.{ℕ, zero, suc, _+_, _*_, _≤_, _<_}
+use Prim.Native.Nat.{ℕ, zero, suc, _+_, _*_, _-_, _≤_, _<_}
 use mathlib.Core.List.{List, [], _∷_, map}
 use mathlib.Core.Bool.{Bool, true, false, not, false≢true}
 use mathlib.Core.Path.{_≡_, refl, sym, _∙_, ap, ap₂}
@@ -10,7 +10,7 @@ use borrow.Author.Tests.{eqb-true, ltb-true, ltb-false}
 use lib.Dec.{eqb, ltb}
 use lib.ListN.{length, take, drop, length-take}
 use lib.Seq.{take-take}
-use Rattle.ascii.specs.Tests.{pick, either}
+use Rattle.ascii.specs.Tests.{either}
 use Rattle.ascii.proofs.Choice.{picks, not-false, both-split, either-split, either-none}
 use Rattle.master.specs.declared.Tally.{Tally}
 use Rattle.conect.specs.declared.Conect.{Conect as ConectOf}
@@ -24,7 +24,7 @@ use Rattle.rules.specs.declared.Looked.{Looked}
 use Rattle.rules.specs.declared.State.{State}
 use Rattle.kinds.specs.Kinds.{rowOf}
 use Rattle.places.specs.Places.{endPlace}
-use Rattle.places.specs.Counts.{countOf, oneMore, raised, sameCounts}
+use Rattle.places.specs.Counts.{countOf, raised, sameCounts}
 use Rattle.facets.specs.declared.Bond.the-variants.{Bonds}
 use Rattle.facets.specs.Facets.{recordKind, lineKind, isCoord}
 use Rattle.rules.specs.Rules.{judgeOf, nextOf, carriedNext, typedNext, startOf}
@@ -33,6 +33,7 @@ use Rattle.gate.specs.declared.Verdict.{Verdict}
 use Rattle.rows.specs.Text.{pieceAt, row, down}
 use Rattle.serials.specs.Known.{isSite, someOf, named, partnerKnown, bondKnown, lookOf}
 use Rattle.gate.specs.Gate.{refusedOf, finishOf, checkLines, checkOf}
+use Rattle.gate.specs.Promise.{PartnerBefore, Names, linesOf, countsTo, Consequences}
 use Rattle.serials.specs.Search.{serialOf}
 use Rattle.rows.proofs.Cut.{cut-done}
 use Rattle.serials.proofs.Rows.{carried-ends, bad-number}
@@ -56,9 +57,6 @@ rising t n g j k h l cj ck =
     high R false u = absurd (false≢true (sym (R .block .high k (ltb-false _ _ u) l) ∙ ck))
 
 -- ---- every number on a CONECT line is the serial of an ATOM or HETATM line before it
-abbrev Before : List ℕ → ℕ → ℕ → Type 0
-Before t i x = (j : ℕ) × (j < i) × (isSite x (row t j) ≡ true)
-
 some-where : (f : Line → Bool) (L : ℕ → Line) (n : ℕ) → someOf f (down L n) ≡ true → (j : ℕ) × (j < n) × (f (L j) ≡ true)
 unfolding someOf down
 some-where f L zero e = absurd (false≢true e)
@@ -68,14 +66,7 @@ some-where f L (suc n) e =
 known-of : (known b : Bool) → either (not known) b ≡ false → known ≡ true
 known-of known b e = not-false known (either-none (not known) b e .0)
 
-pub record Names (t : List ℕ) (i : ℕ) (bond : ConectOf) : Type 0 where
-  pub serial : Before t i (bond .serial .0)
-  pub a : (bond .a .0 ≡ 0) ⊎ Before t i (bond .a .0)
-  pub b : (bond .b .0 ≡ 0) ⊎ Before t i (bond .b .0)
-  pub c : (bond .c .0 ≡ 0) ⊎ Before t i (bond .c .0)
-  pub d : (bond .d .0 ≡ 0) ⊎ Before t i (bond .d .0)
-
-partner-where : (t : List ℕ) (i x : ℕ) → partnerKnown (down (row t) i) x ≡ true → (x ≡ 0) ⊎ Before t i x
+partner-where : (t : List ℕ) (i x : ℕ) → partnerKnown (down (row t) i) x ≡ true → PartnerBefore t i x
 partner-where t i x e = either-split (eqb x 0) (named (down (row t) i) x) (λ y. inl (eqb-true x 0 y)) (λ y. inr (some-where (isSite x) (row t) i y)) e
 
 names-of : (t : List ℕ) (i : ℕ) (c : ConectOf) → bondKnown (down (row t) i) (Bonds c) ≡ true → Names t i c
@@ -98,40 +89,6 @@ conect-names t n i c g h e =
     names-of t i c (known-of _ _ (judge-typed _ (stateAt (row t) i) (Conect c) j .bond))
 
 -- ---- the counts are the numbers of such lines
--- how many of the first n lines are counted in w
-unfoldable pub linesOf : ℕ → (ℕ → Line) → ℕ → ℕ
-linesOf w L zero = 0
-linesOf w L (suc n) = pick (eqb (countOf (lineKind (L n))) w) (linesOf w L n + 1) (linesOf w L n)
-
-pub record Counted (L : ℕ → Line) (n : ℕ) (c : Counts) : Type 0 where
-  pub remark : c .remark ≡ linesOf 1 L n
-  pub het : c .het ≡ linesOf 2 L n
-  pub helix : c .helix ≡ linesOf 3 L n
-  pub sheet : c .sheet ≡ linesOf 4 L n
-  pub xform : c .xform ≡ linesOf 5 L n
-  pub coord : c .coord ≡ linesOf 6 L n
-  pub ter : c .ter ≡ linesOf 7 L n
-  pub conect : c .conect ≡ linesOf 8 L n
-  pub seq : c .seq ≡ linesOf 9 L n
-
-count-more : (w v x y : ℕ) → x ≡ y → oneMore w v x ≡ pick (eqb w v) (y + 1) y
-count-more w v x y e = rw e
-
-counted-more : (L : ℕ → Line) (n : ℕ) (c : Counts) → Counted L n c → Counted L (suc n) (raised c (countOf (lineKind (L n))))
-unfolding linesOf raised
-counted-more L n c C =
-    record {
-      remark = count-more (countOf (lineKind (L n))) 1 (c .remark) _ (C .remark);
-      het = count-more (countOf (lineKind (L n))) 2 (c .het) _ (C .het);
-      helix = count-more (countOf (lineKind (L n))) 3 (c .helix) _ (C .helix);
-      sheet = count-more (countOf (lineKind (L n))) 4 (c .sheet) _ (C .sheet);
-      xform = count-more (countOf (lineKind (L n))) 5 (c .xform) _ (C .xform);
-      coord = count-more (countOf (lineKind (L n))) 6 (c .coord) _ (C .coord);
-      ter = count-more (countOf (lineKind (L n))) 7 (c .ter) _ (C .ter);
-      conect = count-more (countOf (lineKind (L n))) 8 (c .conect) _ (C .conect);
-      seq = count-more (countOf (lineKind (L n))) 9 (c .seq) _ (C .seq);
-    }
-
 counts-next : (s : State) (look : Looked) (l : Line) → judgeOf look s l ≡ 0 → ((n : ℕ) → l ≡ Bad n → 0 < n) → (nextOf s l) .counts ≡ raised (s .counts) (countOf (lineKind l))
 unfolding nextOf carriedNext typedNext judgeOf
 counts-next s look (Bad n) j b = absurd (omega (arith, b n refl))
@@ -139,52 +96,18 @@ counts-next s look (Wrong k c) j b = absurd (judge-wrong look s k c j)
 counts-next s look (Carried k) j b = refl
 counts-next s look (Typed r) j b = refl
 
-pub counted : (t : List ℕ) (n : ℕ) → GoodTo (row t) n → Counted (row t) n ((stateAt (row t) n) .counts)
-unfolding stateAt linesOf startOf
-counted t zero g = record { remark = refl; het = refl; helix = refl; sheet = refl; xform = refl; coord = refl; ter = refl; conect = refl; seq = refl }
+pub counted : (t : List ℕ) (n : ℕ) → GoodTo (row t) n → (stateAt (row t) n) .counts ≡ countsTo t n
+unfolding stateAt linesOf startOf raised
+counted t zero g = refl
 counted t (suc n) g =
-    rw (counts-next (stateAt (row t) n) _ (row t n) (g n (omega arith)) (λ m e. bad-number t n m e))
-    (counted-more (row t) n ((stateAt (row t) n) .counts) (counted t n (λ j h. g j (omega arith))))
-
-pub record Totals (t : List ℕ) (i : ℕ) (m : Tally) : Type 0 where
-  pub remark : m .remark ≡ linesOf 1 (row t) i
-  pub het : m .het ≡ linesOf 2 (row t) i
-  pub helix : m .helix ≡ linesOf 3 (row t) i
-  pub sheet : m .sheet ≡ linesOf 4 (row t) i
-  pub xform : m .xform ≡ linesOf 5 (row t) i
-  pub coord : m .coord ≡ linesOf 6 (row t) i
-  pub ter : m .ter ≡ linesOf 7 (row t) i
-  pub conect : m .conect ≡ linesOf 8 (row t) i
-  pub seq : m .seq ≡ linesOf 9 (row t) i
-
-totals-of : (t : List ℕ) (i : ℕ) (m : Tally) (c : Counts) → sameCounts m c ≡ true → Counted (row t) i c → Totals t i m
-unfolding sameCounts
-totals-of t i m c e C =
-    let x0 = both-split (eqb (m .remark) (c .remark)) _ (e) in
-    let x1 = both-split (eqb (m .het) (c .het)) _ (x0 .1) in
-    let x2 = both-split (eqb (m .helix) (c .helix)) _ (x1 .1) in
-    let x3 = both-split (eqb (m .sheet) (c .sheet)) _ (x2 .1) in
-    let x4 = both-split (eqb (m .xform) (c .xform)) _ (x3 .1) in
-    let x5 = both-split (eqb (m .coord) (c .coord)) _ (x4 .1) in
-    let x6 = both-split (eqb (m .ter) (c .ter)) _ (x5 .1) in
-    let x7 = both-split (eqb (m .conect) (c .conect)) _ (x6 .1) in
-    record {
-      remark = eqb-true _ _ (x0 .0) ∙ C .remark;
-      het = eqb-true _ _ (x1 .0) ∙ C .het;
-      helix = eqb-true _ _ (x2 .0) ∙ C .helix;
-      sheet = eqb-true _ _ (x3 .0) ∙ C .sheet;
-      xform = eqb-true _ _ (x4 .0) ∙ C .xform;
-      coord = eqb-true _ _ (x5 .0) ∙ C .coord;
-      ter = eqb-true _ _ (x6 .0) ∙ C .ter;
-      conect = eqb-true _ _ (x7 .0) ∙ C .conect;
-      seq = eqb-true _ _ (x7 .1) ∙ C .seq;
-    }
+    counts-next (stateAt (row t) n) _ (row t n) (g n (omega arith)) (λ m e. bad-number t n m e)
+    ∙ ap (λ (c : Counts). raised c (countOf (lineKind (row t n)))) (counted t n (λ j h. g j (omega arith)))
 
 -- MASTER's numbers are the numbers of such lines before it
-pub master-totals : (t : List ℕ) (n i : ℕ) (m : Tally) → GoodTo (row t) n → i < n → row t i ≡ Typed (Master m) → Totals t i m
+pub master-totals : (t : List ℕ) (n i : ℕ) (m : Tally) → GoodTo (row t) n → i < n → row t i ≡ Typed (Master m) → sameCounts m (countsTo t i) ≡ true
 master-totals t n i m g h e =
     let j : judgeOf (lookOf (down (row t) i) (Typed (Master m))) (stateAt (row t) i) (Typed (Master m)) ≡ 0 = rw e at (g i h) in
-    totals-of t i m ((stateAt (row t) i) .counts) (not-false _ (judge-typed _ (stateAt (row t) i) (Master m) j .count)) (counted t i (λ k l. g k (omega arith)))
+    ap (sameCounts m) (sym (counted t i (λ k l. g k (omega arith)))) ∙ not-false _ (judge-typed _ (stateAt (row t) i) (Master m) j .count)
 
 -- ---- the last line is END
 
@@ -205,10 +128,12 @@ line-ends t i s look (Wrong k c) e j p = absurd (judge-wrong look s k c j)
 line-ends t i s look (Carried k) e j p = absurd (carried-ends t i k e p)
 line-ends t i s look (Typed r) e j p = ap Typed (record-ends r p)
 
-pub end-last : (t : List ℕ) (n : ℕ) → GoodTo (row t) n → (stateAt (row t) n) .place ≡ endPlace → (m : ℕ) × (n ≡ suc m) × (row t m ≡ Typed End)
+pub end-last : (t : List ℕ) (n : ℕ) → GoodTo (row t) n → (stateAt (row t) n) .place ≡ endPlace → (0 < n) × (row t (n - 1) ≡ Typed End)
 unfolding stateAt startOf
 end-last t zero g p = absurd (omega arith)
-end-last t (suc m) g p = (m, refl, line-ends t m (stateAt (row t) m) _ (row t m) refl (g m (omega arith)) p)
+end-last t (suc m) g p =
+    let q : suc m - 1 ≡ m = omega arith in
+    (omega arith, rw q (line-ends t m (stateAt (row t) m) _ (row t m) refl (g m (omega arith)) p))
 
 -- ---- the good lines by themselves
 -- the lines of the first n pieces are those of the whole text
@@ -258,23 +183,6 @@ prefix-good t n g =
     rw e (f .0 ∙ reached u n G .lines, f .1)
 
 -- ---- all of it, of an answer of the check
-pub record Consequences (t : List ℕ) : Type 0 where
-  -- among the good lines serials rise over ATOM, HETATM and TER
-  pub serials-rise : (j k : ℕ) → j < k → k < (checkOf t) .good → isCoord (row t j) ≡ true → isCoord (row t k) ≡ true → serialOf (row t j) < serialOf (row t k)
-  -- every number on a good CONECT line is the serial of an ATOM or HETATM line before it
-  pub conects-name : (i : ℕ) (c : ConectOf) → i < (checkOf t) .good → row t i ≡ Typed (Conect c) → Names t i c
-  -- the numbers of a good MASTER line are the numbers of such lines before it
-  pub masters-count : (i : ℕ) (m : Tally) → i < (checkOf t) .good → row t i ≡ Typed (Master m) → Totals t i m
-  -- the nine counts of the answer are the numbers of such lines among the good ones
-  pub counts-true : Counted (row t) ((checkOf t) .good) ((checkOf t) .counts)
-  -- a granted text is its good lines, the last of which is END
-  pub ends : (checkOf t) .number ≡ 0 → (length t ≡ 81 * (checkOf t) .good) × ((m : ℕ) × ((checkOf t) .good ≡ suc m) × (row t m ≡ Typed End))
-  -- the good lines by themselves, or any first n of them, have no offence
-  pub prefixes : (n : ℕ) → n ≤ (checkOf t) .good
-      → ((checkOf (take (81 * n) t)) .good ≡ n) × (((checkOf (take (81 * n) t)) .number ≡ 0) ⊎ ((checkOf (take (81 * n) t)) .number ≡ 12))
-  -- a refused text offends in the line after its good ones
-  pub offends : ((checkOf t) .number ≡ 0 → ⊥) → (checkOf t) .line ≡ (checkOf t) .good + 1
-
 pub consequences : (t : List ℕ) → Consequences t
 consequences t =
     let A = answered t in
@@ -282,8 +190,8 @@ consequences t =
       serials-rise = rising t ((checkOf t) .good) (A .good-to);
       conects-name = λ i c. conect-names t ((checkOf t) .good) i c (A .good-to);
       masters-count = λ i m. master-totals t ((checkOf t) .good) i m (A .good-to);
-      counts-true = rw (A .counts) (counted t ((checkOf t) .good) (A .good-to));
-      ends = λ z. let x = A .granted z in (x .1, end-last t ((checkOf t) .good) (A .good-to) (x .2));
+      counts-true = A .counts ∙ counted t ((checkOf t) .good) (A .good-to);
+      ends = λ z. let x = A .granted z in let y = end-last t ((checkOf t) .good) (A .good-to) (x .2) in (x .1, y .0, y .1);
       prefixes = λ n h. prefix-good t n (λ j l. A .good-to j (omega arith));
       offends = A .refused;
     }

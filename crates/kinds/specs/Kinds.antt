@@ -39,7 +39,7 @@ slotted s = rowWith true true (nameOf s)
 
 -- The columns: the name; the first and the last of the places that the kind may follow; its own place;
 -- which of the nine counts of MASTER it is counted in, 0 for none.
--- Place 0 is before the first line. HEADER is the first line; HEADER, CRYST1, MASTER and END stand at most once; END directly follows MASTER.
+-- Place 0 is before the first line, which is HEADER; HEADER, CRYST1, MASTER and END stand at most once; END directly follows MASTER.
 -- ORIGX and SCALE stand as trios: their first two lines are the places 22 to 25, which only the next line of the trio follows.
 -- An unknown name has no place, and follows none: none is from 1 to 0.
 abbrev pub rowOf : Kind → Row

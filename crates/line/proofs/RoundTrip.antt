@@ -36,7 +36,8 @@ use Rattle.line.specs.declared.Reading.{Reading}
 use Rattle.line.specs.declared.Reading.the-variants.{Typed, Wrong, Untyped}
 use Rattle.line.specs.declared.Answer.{Answer}
 use Rattle.line.specs.declared.Answer.the-variants.{Read, Refused}
-use Rattle.line.specs.Lines.{endF, judged, readingOf, answerOf, readLine, recordOk, recordLine}
+use Rattle.line.specs.Lines.{endF, judged, readingOf, answerOf, readLine, answerNumber, recordOk, recordLine}
+use Rattle.line.specs.Promise.{RoundTrips}
 
 end-lawful : Lawful endF
 end-lawful = after-lawful 74 none-lawful
@@ -100,6 +101,22 @@ kept l =
     refused : (n : ℕ) → Granted (Refused n)
     refused n r e = let z : _≡_ {A = ℕ} 0 1 = cc in absurd (omega arith)
 
+-- no refusal has the number 0
+granted : (l : List ℕ) → answerNumber (readLine l) ≡ 0 → (r : Record) × (readLine l ≡ Read r)
+unfolding readLine
+granted l =
+    picks Reads (eqb (length l) 80) _ (Refused 1)
+    (λ _. picks Reads (cleanAt l 0 80) (answerOf (readingOf (kindOf l) l)) (Refused 3) (λ _. typed (readingOf (kindOf l) l)) (λ _ e. absurd (omega arith)))
+    (λ _ e. absurd (omega arith))
+  where
+    Reads : Answer → Type 0
+    Reads a = answerNumber a ≡ 0 → (r : Record) × (a ≡ Read r)
+
+    typed : (x : Reading) → Reads (answerOf x)
+    typed (Typed r) e = (r, refl)
+    typed (Wrong column) e = absurd (omega arith)
+    typed Untyped e = absurd (omega arith)
+
 -- ---- what is written reads back
 back-judged : {A : Type 0} (F : Format A) → Lawful F → F .width ≡ 74 → (k : Kind) → length (nameText k) ≡ 6 → T (printed (nameText k)) → (wrap : A → Record)
     → ((l : List ℕ) → readingOf k l ≡ judged (F .fault l 6) (wrap (F .value l 6)))
@@ -129,3 +146,6 @@ pub rewritten : (l out : List ℕ) (r : Record) → readLine l ≡ Read r → 80
     → (writeNumber (recordOk r) out ≡ 0) × (writeLine (recordOk r) (recordLine r) out ≡ l ++ drop 80 out)
 unfolding writeNumber writeLine
 rewritten l out r e h = let x = kept l r e in rw (x .0, x .1, le-ltb _ _ h) (refl, refl)
+
+pub round-trips : RoundTrips
+round-trips = record { granted = granted; kept = kept; back = back; rewritten = rewritten }

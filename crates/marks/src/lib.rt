@@ -9,7 +9,7 @@ ghost use mathlib.Core.Path.{_≡_};
 ghost use mathlib.Core.Bool.{not};
 ghost use lib.Dec.{eqb};
 ghost use Rattle.facets.specs.Facets.{spotIn};
-ghost use Rattle.slots.specs.Slots.{SmallSpot, markAside};
+ghost use Rattle.slots.specs.Slots.{SmallSpot, markAside, withMark};
 ghost use Rattle.table.specs.Table.{fits as fitsOf, markByte};
 
 // Whether a slot fits a line.
@@ -40,4 +40,12 @@ pub fn mark_byte(aside: bool) -> u8
         return slots::MARK_ASIDE;
     }
     slots::MARK_IN
+}
+
+// The slot with the mark that a byte asks for: 0 in, any other aside.
+pub fn mark_as(s: Slot, byte: u8) -> Slot
+    ensures { λ r. ⌜ r ≡ withMark s (markByte (not (eqb byte 0))) ⌝ }
+{
+    let back = byte == 0;
+    slots::with_mark(s, mark_byte(!back))
 }

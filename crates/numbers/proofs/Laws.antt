@@ -15,6 +15,7 @@ use Rattle.columns.proofs.Spans.{cols-suc, cols-init, cols-last, snoc-length, b
 use Rattle.ascii.proofs.Choice.{never, picks}
 use Rattle.numbers.specs.declared.Number.{Number}
 use Rattle.numbers.specs.Number.{none, endsDigit, leadOf, furtherOf, grownOf, numberOf, leader, digitOf, render, room}
+use Rattle.numbers.specs.Promise.{NumberLaw}
 use Rattle.numbers.proofs.Steps.{digit-low, digit-high}
 
 -- ---- lengths
@@ -208,6 +209,9 @@ number-back l at zero e m v = λ r q. never r
 number-back l at (suc n) zero m v = whole-back l at n m v (number-back l at n 0 m (v / 10))
 number-back l at (suc n) (suc zero) m v = point-back l at n m v (number-back l at n 0 m v)
 number-back l at (suc n) (suc (suc e)) m v = further-back l at n e m v (number-back l at n (suc e) m (v / 10))
+
+pub number-law : NumberLaw
+number-law = record { text = number-text; back = number-back }
 
 -- ---- what is written is clean
 sign-clean : (m : Bool) → Fine (pick m 45 32)

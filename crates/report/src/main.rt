@@ -2,31 +2,27 @@
 use gate::Verdict;
 use libc::STDIN_FILENO;
 use libc::STDOUT_FILENO;
+use reporting::LINES;
+ghost use Prim.Native.Nat.{_<_};
+ghost use lib.ListN.{length};
+ghost use Rattle.reporting.specs.Report.{keys};
 
-fn put(key: &[u8], value: u64) {
-    io::write_all(STDOUT_FILENO, key);
-    io::print_decimal(STDOUT_FILENO, value);
+fn print_line(i: usize, number: u64)
+    requires { ⌜ i < length keys ⌝ }
+{
+    let label = reporting::key(i);
+    let text = label.0;
+    let width = label.1;
+    io::write_all(STDOUT_FILENO, &text[..width]);
+    io::print_decimal(STDOUT_FILENO, number);
     io::write_all(STDOUT_FILENO, b"\n");
 }
 
-fn wide(n: u8) -> u64 {
-    n as u64
-}
-
-fn print_report(r: Verdict) {
-    let c = r.counts;
-    put(b"verdict=", wide(r.number));
-    put(b"line=", r.line);
-    put(b"lines=", r.good);
-    put(b"remark=", c.remark);
-    put(b"het=", c.het);
-    put(b"helix=", c.helix);
-    put(b"sheet=", c.sheet);
-    put(b"xform=", c.xform);
-    put(b"coord=", c.coord);
-    put(b"ter=", c.ter);
-    put(b"conect=", c.conect);
-    put(b"seq=", c.seq);
+fn print_report(v: Verdict) {
+    let numbers = reporting::numbers(v);
+    for i in 0..LINES {
+        print_line(i, numbers[i]);
+    }
 }
 
 // The buffer has 65,536 bytes, more than are judged, so that an input that is too long is seen.

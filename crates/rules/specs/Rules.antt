@@ -1,5 +1,6 @@
 -- The rules between lines: a line is judged against what the good lines before it left.
 use Rattle.ascii.specs.Library.{ℕ, _+_, Bool, true, false, not, ltb, leb, eqb, pick, both, either}
+use Rattle.fields.specs.declared.{Serial.Serial}
 use Rattle.names.specs.Names.{sameThree}
 use Rattle.residue.specs.declared.{Residue.Residue}
 use Rattle.residue.specs.Residues.{noResidue, sameResidue}
@@ -16,27 +17,21 @@ use Rattle.facets.specs.Facets.{recordKind, spotOf, bondOf, foldOf, totalOf}
 use Rattle.rules.specs.declared.{Looked.Looked, Run.Run, Ladder.Ladder, State.State}
 
 -- ---- 7: serials rise strictly over ATOM, HETATM and TER together
-abbrev pub serialBad : ℕ → Spot → Bool
-serialBad last (Site het a) = leb (a .identity .serial .0) last
-serialBad last (Close t) = leb (t .serial .0) last
+abbrev pub serialBad : Serial → Spot → Bool
+serialBad last (Site het a) = leb (a .identity .serial .0) (last .0)
+serialBad last (Close t) = leb (t .serial .0) (last .0)
 serialBad last Nowhere = false
 
 -- the last serial is that of the last such line
-abbrev pub lastNext : ℕ → Spot → ℕ
-lastNext last (Site het a) = a .identity .serial .0
-lastNext last (Close t) = t .serial .0
+abbrev pub lastNext : Serial → Spot → Serial
+lastNext last (Site het a) = a .identity .serial
+lastNext last (Close t) = t .serial
 lastNext last Nowhere = last
 
 -- ---- 8: a run is the coordinate lines since the last TER
 -- a run without a line
 abbrev pub noRun : Run
-noRun =
-    record {
-      some = false;
-      same = true;
-      atom = false;
-      residue = noResidue;
-    }
+noRun = record { some = false; same = true; atom = false; residue = noResidue }
 
 -- all lines before an ATOM in its run have its chain; a HETATM in a run that holds an ATOM has that chain
 unfoldable pub siteBad : Run → Bool → ℕ → Bool
@@ -72,13 +67,13 @@ runNext r (Close t) = noRun
 runNext r Nowhere = r
 
 -- ---- 9: CONECT serials do not fall, and each number on the line is the serial of an atom (known)
-abbrev pub bondBad : Bool → ℕ → Bond → Bool
-bondBad known last (Bonds c) = either (not known) (ltb (c .serial .0) last)
+abbrev pub bondBad : Bool → Serial → Bond → Bool
+bondBad known last (Bonds c) = either (not known) (ltb (c .serial .0) (last .0))
 bondBad known last Loose = false
 
 -- the last CONECT serial
-abbrev pub bondNext : ℕ → Bond → ℕ
-bondNext last (Bonds c) = c .serial .0
+abbrev pub bondNext : Serial → Bond → Serial
+bondNext last (Bonds c) = c .serial
 bondNext last Loose = last
 
 -- ---- 10: helix serials are 1, 2, 3, ..; a sheet is strands 1 to n
@@ -139,37 +134,33 @@ judgeOf look s (Carried k) = pick (placeBad (s .place) k) 5 (pick (unfinished (s
 judgeOf look s (Typed r) = typedBad look s r
 
 -- ---- what a good line leaves
+-- below every serial
+abbrev pub noSerial : Serial
+noSerial = record { 0 = 0 }
+
 -- before the first line
 unfoldable pub startOf : State
-startOf = record { place = 0; last = 0; run = noRun; bond = 0; helix = 0; ladder = noLadder; counts = noCounts; lines = 0 }
+startOf = record { place = 0; last = noSerial; run = noRun; bond = noSerial; helix = 0; ladder = noLadder; counts = noCounts; lines = 0 }
 
--- a carried line moves the place and is counted
-unfoldable pub carriedNext : State → Kind → State
-carriedNext s k =
+-- a line of a kind moves each part by its own step, and is counted
+abbrev pub moved : State → Kind → Spot → Bond → Fold → State
+moved s k spot bond fold =
     record {
       place = rowOf k .here;
-      last = s .last;
-      run = s .run;
-      bond = s .bond;
-      helix = s .helix;
-      ladder = s .ladder;
+      last = lastNext (s .last) spot;
+      run = runNext (s .run) spot;
+      bond = bondNext (s .bond) bond;
+      helix = helixNext (s .helix) fold;
+      ladder = ladderNext (s .ladder) fold;
       counts = raised (s .counts) (countOf k);
       lines = s .lines + 1;
     }
 
--- a typed line moves each part by its own step
+unfoldable pub carriedNext : State → Kind → State
+carriedNext s k = moved s k Nowhere Loose Plain
+
 unfoldable pub typedNext : State → Record → State
-typedNext s r =
-    record {
-      place = rowOf (recordKind r) .here;
-      last = lastNext (s .last) (spotOf r);
-      run = runNext (s .run) (spotOf r);
-      bond = bondNext (s .bond) (bondOf r);
-      helix = helixNext (s .helix) (foldOf r);
-      ladder = ladderNext (s .ladder) (foldOf r);
-      counts = raised (s .counts) (countOf (recordKind r));
-      lines = s .lines + 1;
-    }
+typedNext s r = moved s (recordKind r) (spotOf r) (bondOf r) (foldOf r)
 
 -- a line that is refused leaves nothing
 unfoldable pub nextOf : State → Line → State

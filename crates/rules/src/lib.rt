@@ -3,6 +3,7 @@ mod logic;
 mod steps;
 mod tests;
 
+use fields::Serial;
 use kinds::Kind;
 use line::Record;
 use logic::choose;
@@ -54,10 +55,10 @@ pub struct State {
     // The place of the last line.
     pub place: u8,
     // The last serial of an ATOM, HETATM or TER line.
-    pub last: u32,
+    pub last: Serial,
     pub run: Run,
     // The last serial of a CONECT line.
-    pub bond: u32,
+    pub bond: Serial,
     // The last helix serial.
     pub helix: u32,
     pub ladder: Ladder,
@@ -112,9 +113,9 @@ pub fn start() -> State
     let counts = places::no_counts();
     State {
         place: 0,
-        last: 0,
+        last: Serial(0),
         run: run,
-        bond: 0,
+        bond: Serial(0),
         helix: 0,
         ladder: Ladder {
             id: Three { a: 0, b: 0, c: 0 },
@@ -131,16 +132,18 @@ fn carried_next(s: State, k: Kind) -> State
     requires { ⌜ s .lines < 9223372036854775808 ⌝ }
     ensures { λ r. ⌜ r ≡ carriedNext s k ⌝ }
 {
+    let last = s.last;
     let run = s.run;
+    let bond = s.bond;
     let ladder = s.ladder;
     let counts = s.counts;
     let row = kinds::row_of(k);
     let c = places::raise(counts, row.count);
     State {
         place: row.here,
-        last: s.last,
+        last: last,
         run: run,
-        bond: s.bond,
+        bond: bond,
         helix: s.helix,
         ladder: ladder,
         counts: c,

@@ -7,16 +7,17 @@ use ascii::not_of;
 use facets::Bond;
 use facets::Fold;
 use facets::Spot;
+use fields::Serial;
 use residue::Residue;
 ghost use mathlib.Core.Path.{_≡_};
 ghost use Rattle.rules.specs.Rules.{lastNext, noRun, siteNext, runNext, bondNext, helixNext, ladderNext};
 
-pub fn last_next(last: u32, p: Spot) -> u32
+pub fn last_next(last: Serial, p: Spot) -> Serial
     ensures { λ n. ⌜ n ≡ lastNext last p ⌝ }
 {
     match p {
-        Spot::Site(_, a) => a.identity.serial.0,
-        Spot::Close(t) => t.serial.0,
+        Spot::Site(_, a) => a.identity.serial,
+        Spot::Close(t) => t.serial,
         Spot::Nowhere => last,
     }
 }
@@ -57,11 +58,11 @@ pub fn run_next(u: Run, p: Spot) -> Run
     }
 }
 
-pub fn bond_next(last: u32, b: Bond) -> u32
+pub fn bond_next(last: Serial, b: Bond) -> Serial
     ensures { λ n. ⌜ n ≡ bondNext last b ⌝ }
 {
     match b {
-        Bond::Bonds(c) => c.serial.0,
+        Bond::Bonds(c) => c.serial,
         Bond::Loose => last,
     }
 }

@@ -8,6 +8,7 @@ use facets::Bond;
 use facets::Fold;
 use facets::Spot;
 use facets::Total;
+use fields::Serial;
 use places::Counts;
 use residue::Residue;
 use sheet::Strand;
@@ -19,12 +20,12 @@ ghost use Rattle.ascii.specs.Tests.{either};
 ghost use Rattle.rules.specs.Rules.{serialBad, siteBad, closeBad, runBad, bondBad, unfinished as unfinishedOf, strandBad, foldBad, countBad};
 
 // ---- 7: serials rise strictly over ATOM, HETATM and TER together
-pub fn serial_bad(last: u32, p: Spot) -> bool
+pub fn serial_bad(last: Serial, p: Spot) -> bool
     ensures { λ b. ⌜ b ≡ serialBad last p ⌝ }
 {
     match p {
-        Spot::Site(_, a) => a.identity.serial.0 <= last,
-        Spot::Close(t) => t.serial.0 <= last,
+        Spot::Site(_, a) => a.identity.serial.0 <= last.0,
+        Spot::Close(t) => t.serial.0 <= last.0,
         Spot::Nowhere => false,
     }
 }
@@ -61,11 +62,11 @@ pub fn run_bad(u: Run, p: Spot) -> bool
 }
 
 // ---- 9: CONECT serials do not fall, and each number on the line is the serial of an atom (known)
-pub fn bond_bad(known: bool, last: u32, b: Bond) -> bool
+pub fn bond_bad(known: bool, last: Serial, b: Bond) -> bool
     ensures { λ r. ⌜ r ≡ bondBad known last b ⌝ }
 {
     match b {
-        Bond::Bonds(c) => either_of(not_of(known), c.serial.0 < last),
+        Bond::Bonds(c) => either_of(not_of(known), c.serial.0 < last.0),
         Bond::Loose => false,
     }
 }

@@ -1,4 +1,4 @@
--- A search among numbers that rise. (Nothing here is part of an answer.)
+-- A search among serials that rise. (Nothing here is part of an answer.)
 use Rattle.ascii.specs.Library.{ℕ, _+_, _≤_, _<_, ltb, eqb, pick}
 use Rattle.search.specs.declared.{Span.Span}
 

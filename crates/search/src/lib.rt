@@ -1,4 +1,5 @@
-// A search among numbers that rise, by value: a text and a table are searched alike.
+// A search among serials that rise, by value: a text and a table are searched alike.
+use fields::Serial;
 ghost use mathlib.Core.Path.{_≡_};
 ghost use Prim.Native.Nat.{_≤_, _<_};
 ghost use Rattle.search.specs.Search.{partOf};
@@ -9,36 +10,36 @@ pub struct Span {
     pub hi: usize,
 }
 
-// A number that was met, and where.
+// A serial that was met, and where.
 pub struct Near {
     pub place: usize,
-    pub number: u32,
+    pub serial: Serial,
 }
 
-// What was asked of a number, and where the search for it ended.
+// Where the search for a serial ended, and what was asked of it. (In this order a copy of the place is one move.)
 pub struct Sought {
-    pub yes: bool,
     pub near: Near,
+    pub yes: bool,
 }
 
-// Where a number stands.
+// Where a serial stands.
 pub enum Found {
     At(usize),
     Nowhere,
 }
 
 // Of a span, what is left to search for x once `there` was seen at place m.
-pub fn part(s: Span, m: usize, there: u32, x: u32) -> Span
+pub fn part(s: Span, m: usize, there: Serial, x: Serial) -> Span
     requires { ⌜ m < 9223372036854775808 ⌝ }
-    ensures { λ r. ⌜ r ≡ partOf s m there x ⌝ }
+    ensures { λ r. ⌜ r ≡ partOf s m (there .0) (x .0) ⌝ }
 {
-    if there < x {
+    if there.0 < x.0 {
         return Span {
             lo: m + 1,
             hi: s.hi,
         };
     }
-    if there == x {
+    if there.0 == x.0 {
         return Span { lo: m, hi: m };
     }
     Span { lo: s.lo, hi: m }
@@ -58,20 +59,21 @@ fn drawn(s: Span, place: usize) -> usize
     s.hi - 1
 }
 
-// Where x stands if numbers rise by 1 between it and the one that was met, as they mostly do.
-fn guess(n: Near, s: Span, x: u32) -> usize
+// Where x stands if serials rise by 1 between it and the one that was met, as they mostly do.
+fn guess(n: Near, s: Span, x: Serial) -> usize
     requires { ⌜ s .lo < s .hi ⌝ }
     ensures { λ r. ⌜ (s .lo ≤ r) × (r < s .hi) ⌝ }
 {
     let p = drawn(s, n.place);
-    if n.number < x {
-        let up = (x - n.number) as usize;
+    let met = n.serial;
+    if met.0 < x.0 {
+        let up = (x.0 - met.0) as usize;
         if up < s.hi - p {
             return p + up;
         }
         return s.hi - 1;
     }
-    let down = (n.number - x) as usize;
+    let down = (met.0 - x.0) as usize;
     if down <= p - s.lo {
         return p - down;
     }
@@ -85,9 +87,9 @@ fn middle(s: Span) -> usize
     s.lo + (s.hi - s.lo) / 2
 }
 
-// The place to look at next: guesses at first, then halves. After a guess x is no further from it than the two numbers differ, so the
+// The place to look at next: guesses at first, then halves. After a guess x is no further from it than the two serials differ, so the
 // second guess bounds what is left.
-pub fn probe(looks: u8, n: Near, s: Span, x: u32) -> usize
+pub fn probe(looks: u8, n: Near, s: Span, x: Serial) -> usize
     requires { ⌜ s .lo < s .hi ⌝ }
     ensures { λ r. ⌜ (s .lo ≤ r) × (r < s .hi) ⌝ }
 {

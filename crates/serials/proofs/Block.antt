@@ -55,8 +55,8 @@ outside L n b s B e j h = go (ltb j (b .lo)) refl
     go false t = B .high j (omega (arith, ltb-false j (b .lo) t)) h
 
 -- a coordinate line with a higher serial, at a place not past them, comes to the block's end
-grow-more : (L : ℕ → Line) (n : ℕ) (b : Span) (s t : State) → Block L n b s → isCoord (L n) ≡ true → s .last < serialOf (L n)
-    → s .place ≤ coordinatePlace → t .place ≡ coordinatePlace → t .last ≡ serialOf (L n) → b .lo < b .hi → Block L (n + 1) (record { lo = b .lo; hi = n + 1 }) t
+grow-more : (L : ℕ → Line) (n : ℕ) (b : Span) (s t : State) → Block L n b s → isCoord (L n) ≡ true → s .last .0 < serialOf (L n)
+    → s .place ≤ coordinatePlace → t .place ≡ coordinatePlace → t .last .0 ≡ serialOf (L n) → b .lo < b .hi → Block L (n + 1) (record { lo = b .lo; hi = n + 1 }) t
 grow-more L n b s t B c r p p' e h =
     let there : s .place ≡ coordinatePlace = after-early (B .early) in
     let hn : b .hi ≡ n = B .open-end h there in
@@ -81,7 +81,7 @@ grow-more L n b s t B c r p p' e h =
 
 -- the first coordinate line makes a block of one
 grow-first : (L : ℕ → Line) (n : ℕ) (b : Span) (s t : State) → Block L n b s → isCoord (L n) ≡ true
-    → t .place ≡ coordinatePlace → t .last ≡ serialOf (L n) → b .hi ≤ b .lo → Block L (n + 1) (record { lo = n; hi = n + 1 }) t
+    → t .place ≡ coordinatePlace → t .last .0 ≡ serialOf (L n) → b .hi ≤ b .lo → Block L (n + 1) (record { lo = n; hi = n + 1 }) t
 grow-first L n b s t B c p' e h =
     record {
       lo-le = omega arith;
@@ -95,8 +95,8 @@ grow-first L n b s t B c p' e h =
       open-end = λ g x. refl;
     }
 
-grow-coord : (L : ℕ → Line) (n : ℕ) (b : Span) (s t : State) → Block L n b s → isCoord (L n) ≡ true → s .last < serialOf (L n)
-    → s .place ≤ coordinatePlace → t .place ≡ coordinatePlace → t .last ≡ serialOf (L n) → Block L (n + 1) (record { lo = pick (ltb (b .lo) (b .hi)) (b .lo) n; hi = n + 1 }) t
+grow-coord : (L : ℕ → Line) (n : ℕ) (b : Span) (s t : State) → Block L n b s → isCoord (L n) ≡ true → s .last .0 < serialOf (L n)
+    → s .place ≤ coordinatePlace → t .place ≡ coordinatePlace → t .last .0 ≡ serialOf (L n) → Block L (n + 1) (record { lo = pick (ltb (b .lo) (b .hi)) (b .lo) n; hi = n + 1 }) t
 grow-coord L n b s t B c r p p' e = go (ltb (b .lo) (b .hi)) refl
   where
     go : (x : Bool) → ltb (b .lo) (b .hi) ≡ x → Block L (n + 1) (record { lo = pick x (b .lo) n; hi = n + 1 }) t

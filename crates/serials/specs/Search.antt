@@ -35,7 +35,7 @@ pub record Block (L : ℕ → Line) (n : ℕ) (b : Span) (s : State) : Type 0 wh
   pub coord : (j : ℕ) → b .lo ≤ j → j < b .hi → isCoord (L j) ≡ true
   pub rise : (j k : ℕ) → b .lo ≤ j → j < k → k < b .hi → serialOf (L j) < serialOf (L k)
   pub low : (j : ℕ) → j < b .lo → isCoord (L j) ≡ false
-  pub top : (j : ℕ) → b .lo ≤ j → j < b .hi → serialOf (L j) ≤ s .last
+  pub top : (j : ℕ) → b .lo ≤ j → j < b .hi → serialOf (L j) ≤ s .last .0
   pub high : (j : ℕ) → b .hi ≤ j → j < n → isCoord (L j) ≡ false
   pub early : Before (s .place) → b .lo ≡ b .hi
   pub open-end : b .lo < b .hi → s .place ≡ coordinatePlace → b .hi ≡ n

@@ -2,6 +2,7 @@
 use ascii::both_of;
 use conect::Conect;
 use facets::Bond;
+use fields::Serial;
 use pieces::Line;
 use rules::Looked;
 use search::Found;
@@ -21,49 +22,49 @@ ghost use Rattle.search.specs.Search.{span, Bracket};
 ghost use Rattle.serials.specs.Known.{isSite, named, partnerKnown, bondKnown, lookOf};
 ghost use Rattle.serials.specs.Search.{serialOf, growOf, Block, Rising, Finds};
 
-// What is remembered of the lines so far, to look back by: the block of the coordinate lines, and where the last number was found.
+// What is remembered of the lines so far, to look back by: the block of the coordinate lines, and where the last serial was found.
 pub struct Past {
     pub block: Span,
     pub near: Near,
 }
 
-// What a look back says, and where the last number was found.
+// Where the last serial was found, and what a look back says.
 pub struct Sight {
-    pub looked: Looked,
     pub near: Near,
+    pub looked: Looked,
 }
 
 // The serial in columns 7-11 of line i.
-fn serial_at(text: &[u8], i: usize) -> u32
+fn serial_at(text: &[u8], i: usize) -> Serial
     requires { ⌜ 81 * i + 81 ≤ length (now text) ⌝ }
-    ensures { λ r. ⌜ r ≡ (rangedNumber 5 0 1 99999 (take 80 (pieceAt (now (text .entry)) i)) 6) .value ⌝ }
+    ensures { λ r. ⌜ r .0 ≡ (rangedNumber 5 0 1 99999 (take 80 (pieceAt (now (text .entry)) i)) 6) .value ⌝ }
 {
     let at = 81 * i;
     let e = at + 80;
     let w = fields::read_whole(&text[at..e], 6, 5, 1, 99999);
-    w.value
+    Serial(w.value)
 }
 
 // Whether line i, one of the coordinate lines, is the ATOM or HETATM line with serial x: by its name and columns 7-11 alone.
-fn site_at(text: &[u8], i: usize, x: u32) -> bool
+fn site_at(text: &[u8], i: usize, x: Serial) -> bool
     requires { ⌜ 81 * i + 81 ≤ length (now text) ⌝ }
-    ensures { λ r. ⌜ (isCoord (row (now (text .entry)) i) ≡ true → r ≡ isSite x (row (now (text .entry)) i)) ⌝ }
+    ensures { λ r. ⌜ (isCoord (row (now (text .entry)) i) ≡ true → r ≡ isSite (x .0) (row (now (text .entry)) i)) ⌝ }
 {
     let at = 81 * i;
     let e = at + 80;
     let k = kinds::kind_of(&text[at..e]);
     let counted = places::count_of(k) == COORDINATES;
     let serial = serial_at(text, i);
-    both_of(counted, serial == x)
+    both_of(counted, serial.0 == x.0)
 }
 
 // The count of ATOM and HETATM lines among the nine.
 const COORDINATES: u8 = 6;
 
 // The first line of the block whose serial is at least x, or its end.
-fn seek(text: &[u8], b: Span, n: Near, x: u32) -> usize
+fn seek(text: &[u8], b: Span, n: Near, x: Serial) -> usize
     requires { ⌜ Rising (now text) (b .lo) (b .hi) ⌝ }
-    ensures { λ r. ⌜ Bracket (λ j. serialOf (row (now (text .entry)) j)) (b .lo) (b .hi) x r r ⌝ }
+    ensures { λ r. ⌜ Bracket (λ j. serialOf (row (now (text .entry)) j)) (b .lo) (b .hi) (x .0) r r ⌝ }
 {
     let mut s = b;
     let mut near = n;
@@ -74,7 +75,7 @@ fn seek(text: &[u8], b: Span, n: Near, x: u32) -> usize
         s = search::part(s, m, there, x);
         near = Near {
             place: m,
-            number: there,
+            serial: there,
         };
         looks = search::counted(looks);
     }
@@ -82,9 +83,9 @@ fn seek(text: &[u8], b: Span, n: Near, x: u32) -> usize
 }
 
 // Where in the block the ATOM or HETATM line with serial x stands.
-pub fn find(text: &[u8], b: Span, n: Near, x: u32) -> Found
+pub fn find(text: &[u8], b: Span, n: Near, x: Serial) -> Found
     requires { ⌜ Rising (now text) (b .lo) (b .hi) ⌝ }
-    ensures { λ r. ⌜ Finds (row (now (text .entry))) (b .lo) (b .hi) x r ⌝ }
+    ensures { λ r. ⌜ Finds (row (now (text .entry))) (b .lo) (b .hi) (x .0) r ⌝ }
 {
     let m = seek(text, b, n, x);
     if m < b.hi {
@@ -96,35 +97,35 @@ pub fn find(text: &[u8], b: Span, n: Near, x: u32) -> Found
 }
 
 // Whether x is the serial of an ATOM or HETATM line so far.
-fn spoken(text: &[u8], b: Span, near: Near, x: u32) -> Sought
+fn spoken(text: &[u8], b: Span, near: Near, x: Serial) -> Sought
     requires { ⌜ Rising (now text) (b .lo) (b .hi) ⌝ }
-    ensures { λ r. ⌜ ((n : ℕ) (s : StateOf) → Block (row (now (text .entry))) n b s → r .yes ≡ named (down (row (now (text .entry))) n) x) ⌝ }
+    ensures { λ r. ⌜ ((n : ℕ) (s : StateOf) → Block (row (now (text .entry))) n b s → r .yes ≡ named (down (row (now (text .entry))) n) (x .0)) ⌝ }
 {
     let f = find(text, b, near, x);
     match f {
         Found::At(i) => Sought {
-            yes: true,
             near: Near {
                 place: i,
-                number: x,
+                serial: x,
             },
+            yes: true,
         },
         Found::Nowhere => Sought {
-            yes: false,
             near: near,
+            yes: false,
         },
     }
 }
 
 // The same of a partner, which may not be there.
-fn partner_spoken(text: &[u8], b: Span, near: Near, x: u32) -> Sought
+fn partner_spoken(text: &[u8], b: Span, near: Near, x: Serial) -> Sought
     requires { ⌜ Rising (now text) (b .lo) (b .hi) ⌝ }
-    ensures { λ r. ⌜ ((n : ℕ) (s : StateOf) → Block (row (now (text .entry))) n b s → r .yes ≡ partnerKnown (down (row (now (text .entry))) n) x) ⌝ }
+    ensures { λ r. ⌜ ((n : ℕ) (s : StateOf) → Block (row (now (text .entry))) n b s → r .yes ≡ partnerKnown (down (row (now (text .entry))) n) (x .0)) ⌝ }
 {
-    if x == 0 {
+    if x.0 == 0 {
         return Sought {
-            yes: true,
             near: near,
+            yes: true,
         };
     }
     spoken(text, b, near, x)
@@ -141,17 +142,17 @@ fn conect_known(text: &[u8], p: Past, c: Conect) -> Sought
     let p2 = c.b;
     let p3 = c.c;
     let p4 = c.d;
-    let k0 = spoken(text, b, near, x.0);
+    let k0 = spoken(text, b, near, x);
     let n0 = k0.near;
-    let k1 = partner_spoken(text, b, n0, p1.0);
-    let k2 = partner_spoken(text, b, n0, p2.0);
-    let k3 = partner_spoken(text, b, n0, p3.0);
-    let k4 = partner_spoken(text, b, n0, p4.0);
+    let k1 = partner_spoken(text, b, n0, p1);
+    let k2 = partner_spoken(text, b, n0, p2);
+    let k3 = partner_spoken(text, b, n0, p3);
+    let k4 = partner_spoken(text, b, n0, p4);
     let all = both_of(
         k0.yes,
         both_of(k1.yes, both_of(k2.yes, both_of(k3.yes, k4.yes))),
     );
-    Sought { yes: all, near: n0 }
+    Sought { near: n0, yes: all }
 }
 
 // Whether each number on a CONECT line is the serial of an ATOM or HETATM line so far.
@@ -164,8 +165,8 @@ fn known(text: &[u8], p: Past, l: Line) -> Sought
     match b {
         Bond::Bonds(c) => conect_known(text, p, c),
         Bond::Loose => Sought {
-            yes: true,
             near: near,
+            yes: true,
         },
     }
 }
@@ -178,8 +179,8 @@ pub fn look_back(text: &[u8], p: Past, l: Line) -> Sight
     let k = known(text, p, l);
     let near = k.near;
     Sight {
-        looked: Looked { known: k.yes },
         near: near,
+        looked: Looked { known: k.yes },
     }
 }
 
@@ -222,7 +223,7 @@ pub fn nothing() -> Past
         block: Span { lo: 0, hi: 0 },
         near: Near {
             place: 0,
-            number: 0,
+            serial: Serial(0),
         },
     }
 }

@@ -16,7 +16,7 @@ isSense z = pick (isNeg z) (eqb (natAbs z) 1) (leb (natAbs z) 1)
 unfoldable pub senseFits : ℕ → ℤ → Bool
 senseFits s z = pick (eqb s 1) (eqb (natAbs z) 0) (ltb 0 (natAbs z))
 
--- ---- columns 42 to 70, the registration: an atom 42-45 and its residue 46-55 in this strand, an atom 57-60 and its residue 61-70 in the one before
+-- ---- columns 42 to 70, the registration: atom 42-45 and residue 46-55 in this strand, atom 57-60 and residue 61-70 in the one before
 unfoldable pub bondColumns : Format Bond
 bondColumns =
     held (fourF isBondName then residueF 0 then after 1 (fourF isBondName then residueF 0))

@@ -60,8 +60,8 @@ unfolding sameMeasures
 measures s t p o b a1 a2 f1 f2 f3 f4 ep eo eb e1 e2 =
     e2 ∙ rw (e1, ep, eo, eb, toZ-ofZ w32 (s .occupancy) f1, toZ-ofZ w32 (t .occupancy) f2, toZ-ofZ w32 (s .temperature) f3, toZ-ofZ w32 (t .temperature) f4)
 
--- ---- an occupancy is small
-whole-high : (lo hi : ℕ) (h : Number) (at : ℕ) → (wholeIn lo hi h at) .value ≤ hi
+-- ---- a number with a range is within it, so an occupancy is small
+pub whole-high : (lo hi : ℕ) (h : Number) (at : ℕ) → (wholeIn lo hi h at) .value ≤ hi
 unfolding wholeIn
 whole-high lo hi h at =
     picks P (h .good) _ _

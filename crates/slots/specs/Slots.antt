@@ -1,8 +1,9 @@
 -- A slot of the table: the fields of an ATOM, HETATM or TER line, and a mark.
-use Rattle.ascii.specs.Library.{ℕ, _≤_, List, Bool, true, false, length, eqb, pos, byte, pick, both}
+use Rattle.ascii.specs.Library.{ℕ, _≤_, List, Bool, true, false, length, eqb, ℤ, pos, byte, pick, both}
 use Rattle.columns.specs.Columns.{cleanAt}
 use Rattle.fields.specs.declared.{Serial.Serial}
 use Rattle.fields.specs.Field.{sameInteger}
+use Rattle.names.specs.declared.{Pair.Pair, Three.Three, Four.Four}
 use Rattle.names.specs.Names.{samePair, sameFour}
 use Rattle.coordinate.specs.declared.{Atom.Atom, Position.Position}
 use Rattle.kinds.specs.declared.{Kind.Kind}
@@ -34,52 +35,50 @@ abbrev pub markAside : ℕ
 markAside = 1
 
 -- ---- the slot of a record, marked in
+-- a slot of a kind and a mark: serial, residue, name, alternate letter, coordinates, occupancy, temperature factor, element, charge
+abbrev pub slotWith : ℕ → ℕ → Serial → Residue → Four → ℕ → Position → ℤ → ℤ → Pair → Pair → Slot
+slotWith kind mark serial residue name alternate position occupancy temperature element charge =
+    record {
+      serial = serial;
+      number = residue .number;
+      position = position;
+      occupancy = occupancy;
+      temperature = temperature;
+      kind = kind;
+      mark = mark;
+      name = name;
+      alternate = alternate;
+      residue = residue .name;
+      chain = residue .chain;
+      insertion = residue .insertion;
+      element = element;
+      charge = charge;
+    }
+
 abbrev pub slotOfAtom : Bool → Atom → Slot
 slotOfAtom het a =
-    record {
-      serial = a .identity .serial;
-      number = a .identity .residue .number;
-      position = a .measure .position;
-      occupancy = pos (a .measure .occupancy);
-      temperature = a .measure .temperature;
-      kind = pick het hetatmKind atomKind;
-      mark = markIn;
-      name = a .identity .name;
-      alternate = a .identity .alternate;
-      residue = a .identity .residue .name;
-      chain = a .identity .residue .chain;
-      insertion = a .identity .residue .insertion;
-      element = a .species .element;
-      charge = a .species .charge;
-    }
+    slotWith (pick het hetatmKind atomKind) markIn (a .identity .serial) (a .identity .residue) (a .identity .name) (a .identity .alternate)
+    (a .measure .position) (pos (a .measure .occupancy)) (a .measure .temperature) (a .species .element) (a .species .charge)
+
+-- two blank columns
+abbrev pub blankPair : Pair
+blankPair = record { a = byte " "; b = byte " " }
 
 -- a slot of which only kind, serial and residue are told: the other fields are 0 or blank
 abbrev pub bareSlot : ℕ → Serial → Residue → Slot
 bareSlot k serial r =
-    record {
-      serial = serial;
-      number = r .number;
-      position = record { x = pos 0; y = pos 0; z = pos 0 };
-      occupancy = pos 0;
-      temperature = pos 0;
-      kind = k;
-      mark = markIn;
-      name = record { a = byte " "; b = byte " "; c = byte " "; d = byte " " };
-      alternate = byte " ";
-      residue = r .name;
-      chain = r .chain;
-      insertion = r .insertion;
-      element = record { a = byte " "; b = byte " " };
-      charge = record { a = byte " "; b = byte " " };
-    }
+    slotWith k markIn serial r (record { a = byte " "; b = byte " "; c = byte " "; d = byte " " }) (byte " ")
+    (record { x = pos 0; y = pos 0; z = pos 0 }) (pos 0) (pos 0) blankPair blankPair
 
 abbrev pub slotOfTer : Ter → Slot
 slotOfTer t = bareSlot terKind (t .serial) (t .residue)
 
 -- a residue of blanks
+abbrev pub blankThree : Three
+blankThree = record { a = byte " "; b = byte " "; c = byte " " }
+
 abbrev pub blankResidue : Residue
-blankResidue =
-    record { name = record { a = byte " "; b = byte " "; c = byte " " }; chain = byte " "; number = record { 0 = pos 0 }; insertion = byte " " }
+blankResidue = record { name = blankThree; chain = byte " "; number = record { 0 = pos 0 }; insertion = byte " " }
 
 -- what stands where there is no slot: no line has it
 abbrev pub noSlot : Slot
@@ -137,7 +136,9 @@ samePosition p q = both (sameInteger (p .x) (q .x)) (both (sameInteger (p .y) (q
 
 -- equal measures: coordinates, occupancy, temperature factor
 unfoldable pub sameMeasures : Slot → Slot → Bool
-sameMeasures s t = both (samePosition (s .position) (t .position)) (both (sameInteger (s .occupancy) (t .occupancy)) (sameInteger (s .temperature) (t .temperature)))
+sameMeasures s t =
+    both (samePosition (s .position) (t .position))
+    (both (sameInteger (s .occupancy) (t .occupancy)) (sameInteger (s .temperature) (t .temperature)))
 
 -- the residue of a slot
 abbrev pub residueOf : Slot → Residue
@@ -158,19 +159,5 @@ sameSlot s t =
 -- the slot with another mark
 unfoldable pub withMark : Slot → ℕ → Slot
 withMark s m =
-    record {
-      serial = s .serial;
-      number = s .number;
-      position = s .position;
-      occupancy = s .occupancy;
-      temperature = s .temperature;
-      kind = s .kind;
-      mark = m;
-      name = s .name;
-      alternate = s .alternate;
-      residue = s .residue;
-      chain = s .chain;
-      insertion = s .insertion;
-      element = s .element;
-      charge = s .charge;
-    }
+    slotWith (s .kind) m (s .serial) (residueOf s) (s .name) (s .alternate)
+    (s .position) (s .occupancy) (s .temperature) (s .element) (s .charge)

@@ -1,7 +1,9 @@
 -- Machine-made by tools/walks; do not edit.
 pub mod feed
+pub mod station_arrange
 pub mod station_count_line
 pub mod station_dot
+pub mod station_fragments
 pub mod station_frame
 pub mod station_load
 pub mod station_order

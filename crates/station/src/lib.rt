@@ -6,23 +6,24 @@ use master::Tally;
 use slots::Slot;
 ghost use mathlib.Core.Path.{_≡_};
 ghost use Rattle.gate.specs.Gate.{checkOf};
+ghost use Rattle.reporting.specs.Report.{numbersOf};
 ghost use Rattle.line.specs.Lines.{readLine};
 ghost use Rattle.slots.specs.Slots.{slotLine};
-ghost use Rattle.table.specs.Table.{told, loadOf, orderOf};
+ghost use Rattle.table.specs.Table.{told, loadOf, orderOf, fragmentsOf, arrangeOf};
 ghost use Rattle.table.specs.Deal.{saveOf, trayOf};
 ghost use Rattle.tally.specs.Tally.{toldTally, tallyLine};
 ghost use Rattle.feed.specs.Feed.{dotOf, strokeOf};
 ghost use Rattle.feed.specs.Frame.{frameOf};
-ghost use Rattle.answers.specs.Boundary.{answered, twelveOf, asideOf, slotAnswer, rewriteAnswer, dotAnswer, strokeAnswer, frameAnswer};
+ghost use Rattle.answers.specs.Boundary.{answered, fragmentNumber, asideOf, slotAnswer, rewriteAnswer, dotAnswer, strokeAnswer, frameAnswer};
 
 // The check of a text: 0, 1-12.
 #[no_mangle]
 pub extern "C" fn station_check(text: &[u8], answer: &mut [u64; 12]) -> u32
     ensures { λ r. ⌜ r ≡ checkOf (now (text .entry)) .number ⌝ }
-    ensures { λ r. ⌜ now (answer .exit) ≡ twelveOf (checkOf (now (text .entry))) ⌝ }
+    ensures { λ r. ⌜ now (answer .exit) ≡ numbersOf (checkOf (now (text .entry))) ⌝ }
 {
     let v = gate::check(text);
-    *answer = answers::twelve(v);
+    *answer = reporting::numbers(v);
     v.number as u32
 }
 
@@ -39,7 +40,7 @@ pub extern "C" fn station_load(text: &[u8], table: &mut [Slot], count: &mut u64)
 // Sets a fragment aside, or puts it back where `aside` is 0: 0, 1-12, 13, 18, 15, 16.
 #[no_mangle]
 pub extern "C" fn station_order(text: &[u8], table: &mut [Slot], fragment: u32, aside: u8) -> u32
-    ensures { λ r. ⌜ told r 0 (now (table .exit)) ≡ orderOf (now (text .entry)) (now (table .entry)) fragment (asideOf aside) ⌝ }
+    ensures { λ r. ⌜ told r 0 (now (table .exit)) ≡ orderOf (now (text .entry)) (now (table .entry)) (fragmentNumber fragment) (asideOf aside) ⌝ }
 {
     let n = store::order(
         text,
@@ -48,6 +49,30 @@ pub extern "C" fn station_order(text: &[u8], table: &mut [Slot], fragment: u32, 
         answers::is_aside(aside),
     );
     n as u32
+}
+
+// Sets every fragment aside or puts it back, by a byte for each, 0 for back: 0, 1-12, 13, 18, 15.
+#[no_mangle]
+pub extern "C" fn station_arrange(text: &[u8], table: &mut [Slot], aside: &[u8]) -> u32
+    ensures { λ r. ⌜ told r 0 (now (table .exit)) ≡ arrangeOf (now (text .entry)) (now (table .entry)) (now (aside .entry)) ⌝ }
+{
+    let n = store::arrange(text, table, aside);
+    n as u32
+}
+
+// Tells the number of each slot's fragment: 0, 1-12, 13, 18, 17; of how many slots, 0 if refused.
+#[no_mangle]
+pub extern "C" fn station_fragments(
+    text: &[u8],
+    table: &[Slot],
+    out: &mut [u32],
+    count: &mut u64,
+) -> u32
+    ensures { λ r. ⌜ told r (now (count .exit)) (now (out .exit)) ≡ fragmentsOf (now (text .entry)) (now (table .entry)) (now (out .entry)) ⌝ }
+{
+    let o = store::fragments_of(text, table, out);
+    *count = o.count as u64;
+    o.number as u32
 }
 
 // Writes the text without what is set aside, MASTER recounted: 0, 1-12, 13, 18, 17; how many bytes, 0 if refused.

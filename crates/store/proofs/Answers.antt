@@ -1,25 +1,30 @@
 -- Each answer of the functions over a table, from the tests that the code makes.
 -- Assumes nothing.
-use Prim.Native.Nat.{ℕ, zero, suc, _+_, _*_, _-_, _≤_, _<_}
+use Prim.Native.Nat.{ℕ, _+_, _*_, _-_, _≤_, _<_}
 use mathlib.Core.List.{List, [], _∷_, _++_, map}
 use mathlib.Core.Bool.{Bool, true, false}
 use mathlib.Core.Path.{_≡_, refl, sym, _∙_, ap}
 use native.Mathlib.Omega.{arith}
 use borrow.Author.Tests.{eq-eqb, ne-eqb, lt-ltb, le-ltb}
-use lib.ListN.{length, take, drop, length-take, length-drop}
+use lib.ListN.{length, take, drop, length-take}
 use Rattle.ascii.specs.Tests.{pick, both, either, alike}
+use Rattle.fields.specs.declared.FragmentNumber.{FragmentNumber}
 use Rattle.pieces.specs.Pieces.{lineOf}
 use Rattle.places.specs.declared.Counts.{Counts}
 use Rattle.places.specs.Counts.{noCounts}
-use Rattle.rows.specs.Text.{cut, cutAtMost}
-use Rattle.rows.proofs.Cut.{cut-cons}
+use Rattle.rows.specs.Text.{cut}
 use Rattle.gate.specs.Gate.{checkOf}
 use Rattle.slots.specs.declared.Slot.{Slot}
 use Rattle.fragments.specs.declared.Tail.{Tail}
-use Rattle.fragments.specs.Fragments.{tailOf, markOf, marked}
-use Rattle.table.specs.Table.{told, over, linesFrom, loadedOf, loadOf, fitsFrom, oneOf, belongs, tableOf, fragments, markByte, orderOf}
+use Rattle.fragments.specs.Fragments.{tailOf, markOf, marked, markedBy, numbered}
+use Rattle.table.specs.Table.{told, over, linesFrom, loadedOf, loadOf, fitsFrom, oneOf, belongs, tableOf, fragments, markByte, orderOf, fragmentsOf, markAt, arrangeOf}
 use Rattle.table.specs.Deal.{stays, counted, written, outputOf, putOf}
+use Rattle.table.proofs.Joined.{cut-size}
 use Rattle.table.proofs.Marks.{marked-size}
+use Rattle.table.proofs.Ready.{ready}
+use Rattle.table.proofs.AllMarks.{marked-by-size}
+use Rattle.table.proofs.Numbers.{numbered-size}
+use Rattle.table.proofs.Few.{few-fragments}
 use Rattle.table.proofs.Shares.{shares, shares-sum, bytes-size}
 use Rattle.store.specs.declared.Findings.{Findings}
 use Rattle.store.specs.declared.Held.{Held}
@@ -78,30 +83,74 @@ held-good t xs v S f h u q c =
       rises = S .rises f;
     }
 
-module _ (t : List ℕ) (xs : List Slot) (f : ℕ) (aside : Bool) (k : ℕ) (ek : k ≡ tableOf t xs) where
+module _ (t : List ℕ) (xs : List Slot) (f : FragmentNumber) (aside : Bool) (k : ℕ) (ek : k ≡ tableOf t xs) where
   pub order-bad : (k ≡ 0 → ⊥) → told k 0 xs ≡ orderOf t xs f aside
   unfolding orderOf
   order-bad h = rw (← ek, ne-eqb k 0 h)
 
   module _ (z : k ≡ 0) (d : Held) (B : Belongs t xs d) where
-    pub order-zero : f ≡ 0 → told 15 0 xs ≡ orderOf t xs f aside
+    pub order-zero : f .0 ≡ 0 → told 15 0 xs ≡ orderOf t xs f aside
     unfolding orderOf either
-    order-zero h = rw (← ek, eq-eqb k 0 z, eq-eqb f 0 h)
+    order-zero h = rw (← ek, eq-eqb k 0 z, eq-eqb (f .0) 0 h)
 
-    pub order-past : (f ≡ 0 → ⊥) → d .fragments < f → told 15 0 xs ≡ orderOf t xs f aside
+    pub order-past : (f .0 ≡ 0 → ⊥) → d .fragments < f .0 → told 15 0 xs ≡ orderOf t xs f aside
     unfolding orderOf either
-    order-past h g = rw (← ek, eq-eqb k 0 z, ne-eqb f 0 h, ← B .fragments, lt-ltb (d .fragments) f g)
+    order-past h g = rw (← ek, eq-eqb k 0 z, ne-eqb (f .0) 0 h, ← B .fragments, lt-ltb (d .fragments) (f .0) g)
 
-    module _ (h : f ≡ 0 → ⊥) (g : f ≤ d .fragments) (m : ℕ) (em : m ≡ markByte aside) (s : ℕ) (es : s ≡ markOf (d .fragments + 1 - f) (take (d .need) xs)) where
+    module _ (h : f .0 ≡ 0 → ⊥) (g : f .0 ≤ d .fragments) (m : ℕ) (em : m ≡ markByte aside) (s : ℕ) (es : s ≡ markOf (d .fragments + 1 - f .0) (take (d .need) xs)) where
       pub order-there : s ≡ m → told 16 0 xs ≡ orderOf t xs f aside
       unfolding orderOf either
-      order-there q = rw (← ek, eq-eqb k 0 z, ne-eqb f 0 h, ← B .fragments, le-ltb (d .fragments) f g, ← B .need, ← es, ← em, eq-eqb s m q)
+      order-there q = rw (← ek, eq-eqb k 0 z, ne-eqb (f .0) 0 h, ← B .fragments, le-ltb (d .fragments) (f .0) g, ← B .need, ← es, ← em, eq-eqb s m q)
 
-      pub order-done : (s ≡ m → ⊥) → (ys : List Slot) → ys ≡ marked (d .fragments + 1 - f) m (take (d .need) xs) ++ drop (d .need) xs → told 0 0 ys ≡ orderOf t xs f aside
+      pub order-done : (s ≡ m → ⊥) → (ys : List Slot) → ys ≡ marked (d .fragments + 1 - f .0) m (take (d .need) xs) ++ drop (d .need) xs → told 0 0 ys ≡ orderOf t xs f aside
       unfolding orderOf either
       order-done q ys ey =
-          let size : length (marked (d .fragments + 1 - f) m (take (d .need) xs)) ≡ d .need = marked-size (d .fragments + 1 - f) m (take (d .need) xs) ∙ sym (take-size xs (d .need) (B .room)) in
-          rw (← ek, eq-eqb k 0 z, ne-eqb f 0 h, ← B .fragments, le-ltb (d .fragments) f g, ← B .need, ← es, ← em, ne-eqb s m q, size, ey)
+          let size : length (marked (d .fragments + 1 - f .0) m (take (d .need) xs)) ≡ d .need = marked-size (d .fragments + 1 - f .0) m (take (d .need) xs) ∙ sym (take-size xs (d .need) (B .room)) in
+          rw (← ek, eq-eqb k 0 z, ne-eqb (f .0) 0 h, ← B .fragments, le-ltb (d .fragments) (f .0) g, ← B .need, ← es, ← em, ne-eqb s m q, size, ey)
+
+-- ---- all fragments at once
+held-count : (t : List ℕ) (xs : List Slot) (d : Held) → Belongs t xs d → tailOf (take (d .need) xs) .count ≡ d .fragments
+held-count t xs d B = ap (λ (n : ℕ). tailOf (take n xs) .count) (B .need) ∙ sym (B .fragments)
+
+-- all fragments have numbers of 32 bits
+pub numbers-fit : (t : List ℕ) (xs : List Slot) (k : ℕ) → k ≡ tableOf t xs → k ≡ 0 → (d : Held) → Belongs t xs d
+    → (tailOf (take (d .need) xs) .count ≤ d .fragments) × (d .fragments < 4294967295)
+numbers-fit t xs k ek z d B = (omega (arith, held-count t xs d B), omega (arith, few-fragments t xs (ready t xs (sym ek ∙ z)), B .fragments))
+
+module _ (t : List ℕ) (xs : List Slot) (bs : List ℕ) (k : ℕ) (ek : k ≡ tableOf t xs) where
+  pub arrange-bad : (k ≡ 0 → ⊥) → told k 0 xs ≡ arrangeOf t xs bs
+  unfolding arrangeOf
+  arrange-bad h = rw (← ek, ne-eqb k 0 h)
+
+  module _ (z : k ≡ 0) (d : Held) (B : Belongs t xs d) where
+    pub arrange-other : (length bs ≡ d .fragments → ⊥) → told 15 0 xs ≡ arrangeOf t xs bs
+    unfolding arrangeOf
+    arrange-other h = rw (← ek, eq-eqb k 0 z, ← B .fragments, ne-eqb (length bs) (d .fragments) h)
+
+    pub arrange-count : length bs ≡ d .fragments → tailOf (take (d .need) xs) .count ≡ length bs
+    arrange-count h = held-count t xs d B ∙ sym h
+
+    pub arrange-done : length bs ≡ d .fragments → (ys : List Slot) → ys ≡ markedBy (markAt bs) (take (d .need) xs) ++ drop (d .need) xs → told 0 0 ys ≡ arrangeOf t xs bs
+    unfolding arrangeOf
+    arrange-done h ys ey =
+        let size : length (markedBy (markAt bs) (take (d .need) xs)) ≡ d .need = marked-by-size (markAt bs) (take (d .need) xs) ∙ sym (take-size xs (d .need) (B .room)) in
+        rw (← ek, eq-eqb k 0 z, ← B .fragments, eq-eqb (length bs) (d .fragments) h, ← B .need, size, ey)
+
+module _ (t : List ℕ) (xs : List Slot) (o : List ℕ) (k : ℕ) (ek : k ≡ tableOf t xs) where
+  pub numbers-bad : (k ≡ 0 → ⊥) → told k 0 o ≡ fragmentsOf t xs o
+  unfolding fragmentsOf
+  numbers-bad h = rw (← ek, ne-eqb k 0 h)
+
+  module _ (z : k ≡ 0) (d : Held) (B : Belongs t xs d) where
+    pub numbers-short : length o < d .need → told 17 0 o ≡ fragmentsOf t xs o
+    unfolding fragmentsOf
+    numbers-short h = rw (← ek, eq-eqb k 0 z, ← B .need, lt-ltb (length o) (d .need) h)
+
+    pub numbers-done : d .need ≤ length o → (ys : List ℕ) → ys ≡ numbered (d .fragments) (take (d .need) xs) ++ drop (length (take (d .need) xs)) o → told 0 (d .need) ys ≡ fragmentsOf t xs o
+    unfolding fragmentsOf
+    numbers-done h ys ey =
+        let size : length (numbered (d .fragments) (take (d .need) xs)) ≡ length (take (d .need) xs) = numbered-size (d .fragments) (take (d .need) xs) in
+        rw (← ek, eq-eqb k 0 z, ← B .need, le-ltb (length o) (d .need) h, ← B .fragments, size, ey)
 
 -- ---- saving and the tray
 -- a line that stays is one more piece of the saved entry
@@ -115,14 +164,6 @@ kept-shares xs k q (p ∷ ps) =
     go : (b : Bool) (us : List (List ℕ)) (n : ℕ) → length us ≡ n → length (pick (alike true b) (written q p ∷ us) us) ≡ pick b 1 0 + n
     go true us n e = omega arith
     go false us n e = omega arith
-
-cut-size : (n : ℕ) (t : List ℕ) → length t ≡ 81 * n → length (cut t) ≡ n
-unfolding cut cutAtMost
-cut-size zero [] h = refl
-cut-size zero (b ∷ t) h = absurd (omega arith)
-cut-size (suc n) t h =
-    let rest : length (drop 81 t) ≡ 81 * n = simp length-drop (omega arith) in
-    ap length (cut-cons t (omega arith)) ∙ ap suc (cut-size n (drop 81 t) rest)
 
 module _ (t : List ℕ) (xs : List Slot) (h : Held) (B : Belongs t xs h) (good : checkOf t .number ≡ 0) where
   kept-lines : length (shares true xs 0 noCounts (cut t)) ≡ h .kept

@@ -5,44 +5,26 @@ use mathlib.Core.List.{List}
 use mathlib.Core.Bool.{Bool, true, false, true≢false}
 use mathlib.Core.Path.{_≡_, refl, sym, _∙_}
 use native.Mathlib.Omega.{arith}
-use borrow.Author.Tests.{eqb-true, ltb-true, ltb-false, lt-ltb}
-use lib.Dec.{eqb, ltb, leb}
+use borrow.Author.Tests.{ltb-true, ltb-false, lt-ltb}
+use lib.Dec.{ltb}
 use lib.ListN.{length, getD}
 use Rattle.ascii.specs.Tests.{pick, both}
 use Rattle.ascii.proofs.Choice.{both-split}
 use Rattle.pieces.specs.declared.Line.{Line}
-use Rattle.facets.specs.declared.Spot.{Spot}
-use Rattle.facets.specs.declared.Spot.the-variants.{Site, Close, Nowhere}
 use Rattle.rules.specs.declared.State.{State}
 use Rattle.search.specs.declared.Span.{Span}
 use Rattle.search.specs.Search.{span}
 use Rattle.rows.specs.Text.{row}
-use Rattle.facets.specs.Facets.{spotIn, isCoord}
-use Rattle.serials.specs.Search.{spotSerial, serialOf, growOf, Block}
+use Rattle.facets.specs.Facets.{isCoord}
+use Rattle.serials.specs.Search.{serialOf, growOf, Block}
 use Rattle.gate.proofs.Sofar.{Sofar}
 use Rattle.slots.specs.declared.Slot.{Slot}
-use Rattle.slots.specs.Slots.{markAside, noSlot, spotSlot, lineSlot, sameSlot}
+use Rattle.slots.specs.Slots.{noSlot}
 use Rattle.table.specs.Table.{linesFrom, slotsOf, loadedOf, fits, oneOf, fitsFrom}
 use Rattle.table.specs.Deal.{stays}
+use Rattle.table.proofs.Paired.{fits-same}
 use Rattle.store.specs.Judged.{serialAt, Rises, keptFrom}
 use Rattle.store.proofs.Lines.{need-step, fits-step, kept-step}
-
--- ---- a slot that fits a coordinate line has its serial
-spot-serial : (p : Spot) → spotSlot p .serial .0 ≡ spotSerial p
-spot-serial (Site het a) = refl
-spot-serial (Close t) = refl
-spot-serial Nowhere = refl
-
-same-serial : (s t : Slot) → sameSlot s t ≡ true → s .serial .0 ≡ t .serial .0
-unfolding sameSlot
-same-serial s t e =
-    eqb-true _ _ (both-split (eqb (s .kind) (t .kind)) (eqb (s .serial .0) (t .serial .0)) (both-split (both (eqb (s .kind) (t .kind)) (eqb (s .serial .0) (t .serial .0))) _ e .0) .1)
-
-fits-serial : (s : Slot) (l : Line) → isCoord l ≡ true → fits s l ≡ true → s .serial .0 ≡ serialOf l
-unfolding fits
-fits-serial s l c f =
-    let g : both (leb (s .mark) markAside) (sameSlot s (lineSlot l)) ≡ true = rw c at f in
-    same-serial s (lineSlot l) (both-split (leb (s .mark) markAside) (sameSlot s (lineSlot l)) g .1) ∙ spot-serial (spotIn l)
 
 -- ---- after i good lines: k slots stand before, whether they fit, and how many lines stay
 pub record Seen (t : List ℕ) (xs : List Slot) (i : ℕ) (b : Span) (s : State) (k : ℕ) (fit : Bool) (n : ℕ) : Type 0 where
@@ -107,7 +89,7 @@ module _ (t : List ℕ) (xs : List Slot) (i : ℕ) (b : Span) (s : State) (k : �
       q = eb ∙ rw e
 
       last : both fit good ≡ true → serialAt xs k ≡ serialOf (row t i)
-      last f = rw el at (fits-serial (getD xs k noSlot) l e (sym good-here ∙ both-split fit good f .1))
+      last f = rw el at (fits-same (getD xs k noSlot) l e (sym good-here ∙ both-split fit good f .1) .1)
 
       inside : (x : Bool) → ltb (b .lo) (b .hi) ≡ x
           → (b' .lo + (k + 1) ≡ b' .hi) × (both fit good ≡ true → (j : ℕ) → j < k + 1 → serialAt xs j ≡ serialOf (row t (b' .lo + j)))

@@ -1,6 +1,8 @@
 -- Machine-made by tools/walks; do not edit.
+pub mod arrange
 pub mod deal
 pub mod dealing
+pub mod fragments_of
 pub mod judge
 pub mod load
 pub mod marking

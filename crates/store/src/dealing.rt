@@ -2,6 +2,7 @@
 use super::Held;
 use super::seeking::slot_at;
 use super::seeking::stays;
+use fields::Serial;
 use search::Near;
 use slots::Slot;
 ghost use mathlib.Core.Path.{_≡_};
@@ -35,7 +36,7 @@ pub fn write_all(text: &[u8], table: &[Slot], out: &mut [u8], saving: bool)
     let mut q = places::no_counts();
     let mut near = Near {
         place: 0,
-        number: 0,
+        serial: Serial(0),
     };
     while 81 * i < text.len() {
         let l = rows::line_at(text, i);

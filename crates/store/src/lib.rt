@@ -7,8 +7,11 @@ mod survey;
 use dealing::size_of;
 use dealing::write_all;
 use fields::FragmentNumber;
+use fragments::FromLast;
 use marking::mark_all;
+use marking::mark_each;
 use marking::mark_of;
+use marking::number_all;
 use marking::tail_of;
 use pieces::Line;
 use slots::Slot;
@@ -20,7 +23,7 @@ ghost use lib.ListN.{length, set};
 ghost use Rattle.ascii.specs.Tests.{pick};
 ghost use Rattle.facets.specs.Facets.{spotIn, isCoord};
 ghost use Rattle.slots.specs.Slots.{SmallSpot, lineSlot};
-ghost use Rattle.table.specs.Table.{told, oneOf, loadOf, tableOf, orderOf};
+ghost use Rattle.table.specs.Table.{told, oneOf, loadOf, tableOf, orderOf, fragmentsOf, arrangeOf};
 ghost use Rattle.table.specs.Deal.{putOf, saveOf, trayOf};
 ghost use Rattle.store.specs.Judged.{Belongs};
 
@@ -145,7 +148,7 @@ fn judge(text: &[u8], table: &[Slot]) -> Held
 
 // Sets a fragment aside, or puts it back: 1-12, 13, 18, 15, 16.
 pub fn order(text: &[u8], table: &mut [Slot], fragment: FragmentNumber, aside: bool) -> u8
-    ensures { λ r. ⌜ told r 0 (now (table .exit)) ≡ orderOf (now (text .entry)) (now (table .entry)) (fragment .0) aside ⌝ }
+    ensures { λ r. ⌜ told r 0 (now (table .exit)) ≡ orderOf (now (text .entry)) (now (table .entry)) fragment aside ⌝ }
 {
     let h = judge(text, table);
     if h.number != 0 {
@@ -160,13 +163,54 @@ pub fn order(text: &[u8], table: &mut [Slot], fragment: FragmentNumber, aside: b
     if c < f {
         return 15;
     }
-    let b = c + 1 - f;
+    let b = FromLast(c + 1 - f);
     let m = marks::mark_byte(aside);
     if mark_of(&table[..n], b) == m {
         return 16;
     }
     mark_all(&mut table[..n], b, m);
     0
+}
+
+// Sets aside or puts back every fragment at once, by a byte for each: 1-12, 13, 18, 15.
+pub fn arrange(text: &[u8], table: &mut [Slot], aside: &[u8]) -> u8
+    ensures { λ r. ⌜ told r 0 (now (table .exit)) ≡ arrangeOf (now (text .entry)) (now (table .entry)) (now (aside .entry)) ⌝ }
+{
+    let h = judge(text, table);
+    if h.number != 0 {
+        return h.number;
+    }
+    let n = h.need;
+    if aside.len() as u64 != h.fragments {
+        return 15;
+    }
+    mark_each(&mut table[..n], aside);
+    0
+}
+
+// Tells of each slot that the text needs the number of its fragment: 1-12, 13, 18, 17.
+pub fn fragments_of(text: &[u8], table: &[Slot], out: &mut [u32]) -> Outcome
+    ensures { λ r. ⌜ told (r .number) (r .count) (now (out .exit)) ≡ fragmentsOf (now (text .entry)) (now (table .entry)) (now (out .entry)) ⌝ }
+{
+    let h = judge(text, table);
+    if h.number != 0 {
+        return Outcome {
+            number: h.number,
+            count: 0,
+        };
+    }
+    let n = h.need;
+    if out.len() < n {
+        return Outcome {
+            number: 17,
+            count: 0,
+        };
+    }
+    number_all(&table[..n], h.fragments, out);
+    Outcome {
+        number: 0,
+        count: n,
+    }
 }
 
 fn deal(text: &[u8], table: &[Slot], out: &mut [u8], saving: bool) -> Outcome

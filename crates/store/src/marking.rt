@@ -1,10 +1,13 @@
 // Fragments of a lent table, from the last slot on.
+use fragments::FromLast;
 use fragments::Tail;
 use slots::Slot;
 ghost use mathlib.Core.Path.{_≡_};
-ghost use Prim.Native.Nat.{_≤_};
-ghost use lib.ListN.{length};
-ghost use Rattle.fragments.specs.Fragments.{tailOf, markOf, marked};
+ghost use mathlib.Core.List.{_++_};
+ghost use Prim.Native.Nat.{_≤_, _<_};
+ghost use lib.ListN.{length, drop};
+ghost use Rattle.fragments.specs.Fragments.{tailOf, markOf, marked, markedBy, numbered};
+ghost use Rattle.table.specs.Table.{markAt};
 
 // What the slots of a table are together.
 pub fn tail_of(table: &[Slot]) -> Tail
@@ -22,8 +25,8 @@ pub fn tail_of(table: &[Slot]) -> Tail
 }
 
 // The mark of fragment b, counted from the last one.
-pub fn mark_of(table: &[Slot], b: u64) -> u8
-    ensures { λ r. ⌜ r ≡ markOf b (now (table .entry)) ⌝ }
+pub fn mark_of(table: &[Slot], b: FromLast) -> u8
+    ensures { λ r. ⌜ r ≡ markOf (b .0) (now (table .entry)) ⌝ }
 {
     let mut k = table.len();
     let mut t = fragments::end_tail();
@@ -38,8 +41,8 @@ pub fn mark_of(table: &[Slot], b: u64) -> u8
 }
 
 // Fragment b, counted from the last one, is marked m.
-pub fn mark_all(table: &mut [Slot], b: u64, m: u8)
-    ensures { λ _. ⌜ now (table .exit) ≡ marked b m (now (table .entry)) ⌝ }
+pub fn mark_all(table: &mut [Slot], b: FromLast, m: u8)
+    ensures { λ _. ⌜ now (table .exit) ≡ marked (b .0) m (now (table .entry)) ⌝ }
 {
     let mut k = table.len();
     let mut t = fragments::end_tail();
@@ -49,5 +52,40 @@ pub fn mark_all(table: &mut [Slot], b: u64, m: u8)
         t = fragments::step_tail(s, t);
         let u = fragments::mark_slot(t, s, b, m);
         table[k] = u;
+    }
+}
+
+// Each fragment is marked as its byte asks, from the first one on.
+pub fn mark_each(table: &mut [Slot], aside: &[u8])
+    requires { ⌜ tailOf (now table) .count ≡ length (now aside) ⌝ }
+    ensures { λ _. ⌜ now (table .exit) ≡ markedBy (markAt (now (aside .entry))) (now (table .entry)) ⌝ }
+{
+    let n = aside.len();
+    let mut k = table.len();
+    let mut t = fragments::end_tail();
+    while 0 < k {
+        k -= 1;
+        let s = table[k];
+        t = fragments::step_tail(s, t);
+        let from = t.count as usize;
+        let at = n - from;
+        let u = marks::mark_as(s, aside[at]);
+        table[k] = u;
+    }
+}
+
+// The number of each slot's fragment, where there are n.
+pub fn number_all(table: &[Slot], n: u64, out: &mut [u32])
+    requires { ⌜ (tailOf (now table) .count ≤ n) × (n < 4294967295) ⌝ }
+    requires { ⌜ length (now table) ≤ length (now out) ⌝ }
+    ensures { λ _. ⌜ now (out .exit) ≡ numbered n (now (table .entry)) ++ drop (length (now (table .entry))) (now (out .entry)) ⌝ }
+{
+    let mut k = table.len();
+    let mut t = fragments::end_tail();
+    while 0 < k {
+        k -= 1;
+        let s = table[k];
+        t = fragments::step_tail(s, t);
+        out[k] = fragments::number_of(n, t);
     }
 }

@@ -1,5 +1,6 @@
 // Looking for the atoms that a CONECT line names, in a lent table: where serials say, else by halving.
 use conect::Conect;
+use fields::Serial;
 use pieces::Line;
 use search::Near;
 use search::Sought;
@@ -25,9 +26,9 @@ pub fn slot_at(table: &[Slot], k: usize) -> Slot
 }
 
 // The first of the slots up to hi whose serial is at least x, or hi.
-pub fn seek(table: &[Slot], hi: usize, n: Near, x: u32) -> usize
+pub fn seek(table: &[Slot], hi: usize, n: Near, x: Serial) -> usize
     requires { ⌜ hi < 9223372036854775808 ⌝ }
-    ensures { λ r. ⌜ (Rises (now (table .entry)) hi → Bracket (serialAt (now (table .entry))) 0 hi x r r) ⌝ }
+    ensures { λ r. ⌜ (Rises (now (table .entry)) hi → Bracket (serialAt (now (table .entry))) 0 hi (x .0) r r) ⌝ }
 {
     let mut s = Span { lo: 0, hi: hi };
     let mut near = n;
@@ -39,7 +40,7 @@ pub fn seek(table: &[Slot], hi: usize, n: Near, x: u32) -> usize
         s = search::part(s, m, there, x);
         near = Near {
             place: m,
-            number: there,
+            serial: there,
         };
         looks = search::counted(looks);
     }
@@ -47,17 +48,17 @@ pub fn seek(table: &[Slot], hi: usize, n: Near, x: u32) -> usize
 }
 
 // Whether x is the serial of an atom set aside, among the first k slots; m is where it stands, if it does.
-pub fn aside_at(table: &[Slot], k: usize, m: usize, x: u32) -> bool
-    ensures { λ r. ⌜ (Rises (now (table .entry)) k → Bracket (serialAt (now (table .entry))) 0 k x m m → r ≡ aside (take k (now (table .entry))) x) ⌝ }
+pub fn aside_at(table: &[Slot], k: usize, m: usize, x: Serial) -> bool
+    ensures { λ r. ⌜ (Rises (now (table .entry)) k → Bracket (serialAt (now (table .entry))) 0 k (x .0) m m → r ≡ aside (take k (now (table .entry))) (x .0)) ⌝ }
 {
     let s = slot_at(table, m);
     let e = bonds::is_aside(x, s);
     ascii::both_of(m < k, e)
 }
 
-pub fn aside_in(table: &[Slot], k: usize, n: Near, x: u32) -> bool
+pub fn aside_in(table: &[Slot], k: usize, n: Near, x: Serial) -> bool
     requires { ⌜ k < 9223372036854775808 ⌝ }
-    ensures { λ r. ⌜ (Rises (now (table .entry)) k → r ≡ aside (take k (now (table .entry))) x) ⌝ }
+    ensures { λ r. ⌜ (Rises (now (table .entry)) k → r ≡ aside (take k (now (table .entry))) (x .0)) ⌝ }
 {
     let m = seek(table, k, n, x);
     aside_at(table, k, m, x)
@@ -73,23 +74,23 @@ pub fn names_aside(table: &[Slot], k: usize, n: Near, c: Conect) -> Sought
     let q = c.b;
     let u = c.c;
     let v = c.d;
-    let m = seek(table, k, n, x.0);
+    let m = seek(table, k, n, x);
     let near = Near {
         place: m,
-        number: x.0,
+        serial: x,
     };
-    let g0 = aside_at(table, k, m, x.0);
-    let g1 = aside_in(table, k, near, p.0);
-    let g2 = aside_in(table, k, near, q.0);
-    let g3 = aside_in(table, k, near, u.0);
-    let g4 = aside_in(table, k, near, v.0);
+    let g0 = aside_at(table, k, m, x);
+    let g1 = aside_in(table, k, near, p);
+    let g2 = aside_in(table, k, near, q);
+    let g3 = aside_in(table, k, near, u);
+    let g4 = aside_in(table, k, near, v);
     let h3 = ascii::either_of(g3, g4);
     let h2 = ascii::either_of(g2, h3);
     let h1 = ascii::either_of(g1, h2);
     let h0 = ascii::either_of(g0, h1);
     Sought {
-        yes: h0,
         near: near,
+        yes: h0,
     }
 }
 
@@ -101,8 +102,8 @@ pub fn stays(table: &[Slot], k: usize, n: Near, here: Slot, l: Line) -> Sought
 {
     if facets::is_coord(l) {
         return Sought {
-            yes: marks::is_kept(here),
             near: n,
+            yes: marks::is_kept(here),
         };
     }
     if bonds::is_conect(l) {
@@ -110,9 +111,9 @@ pub fn stays(table: &[Slot], k: usize, n: Near, here: Slot, l: Line) -> Sought
         let near = e.near;
         let gone = e.yes;
         return Sought {
-            yes: !gone,
             near: near,
+            yes: !gone,
         };
     }
-    Sought { yes: true, near: n }
+    Sought { near: n, yes: true }
 }

@@ -3,6 +3,7 @@ use super::Findings;
 use super::Needs;
 use super::seeking::slot_at;
 use super::seeking::stays;
+use fields::Serial;
 use search::Near;
 use slots::Slot;
 ghost use mathlib.Core.Path.{_≡_};
@@ -22,7 +23,7 @@ pub fn look_over(text: &[u8], table: &[Slot]) -> Findings
     let mut kept: usize = 0;
     let mut near = Near {
         place: 0,
-        number: 0,
+        serial: Serial(0),
     };
     while 81 * i < text.len() {
         let l = rows::line_at(text, i);

@@ -30,12 +30,12 @@ use Rattle.table.proofs.Rows.{line-row, stays-at, slot-inside}
 
 -- ---- the mark of a slot is that of its fragment, where marks agree
 -- the first slot's mark is that of the first fragment
-first-mark : (ss : List Slot) → tailOf ss .some ≡ true → markOf (tailOf ss .count) ss ≡ tailOf ss .mark
+pub first-mark : (ss : List Slot) → tailOf ss .some ≡ true → markOf (tailOf ss .count) ss ≡ tailOf ss .mark
 unfolding markOf tailOf stepTail
 first-mark [] e = absurd (false≢true e)
 first-mark (s ∷ ss) e = rw (eq-eqb (stepTail s (tailOf ss) .count) (stepTail s (tailOf ss) .count) refl)
 
--- fragments from slot j on are some of all, and at least one
+-- fragments from slot j on are some of all
 pub count-within : (ss : List Slot) (j : ℕ) → tailOf (drop j ss) .count ≤ tailOf ss .count
 unfolding tailOf stepTail
 count-within [] zero = omega arith
@@ -61,6 +61,10 @@ unfolding tailOf stepTail
 drop-some [] j h = absurd (omega arith)
 drop-some (s ∷ ss) zero h = refl
 drop-some (s ∷ ss) (suc j) h = drop-some ss j (omega arith)
+
+-- and at least one
+pub count-least : (ss : List Slot) (j : ℕ) → j < length ss → 1 ≤ tailOf (drop j ss) .count
+count-least ss j h = some-count (drop j ss) (drop-some ss j h)
 
 pub slot-mark : (ss : List Slot) (j : ℕ) → j < length ss → tailOf ss .agree ≡ true → getD ss j noSlot .mark ≡ markOf (tailOf (drop j ss) .count) ss
 unfolding markOf tailOf stepTail either
@@ -104,7 +108,7 @@ module _ (t : List ℕ) (xs : List Slot) (os : List Order) (e : checkOf t .numbe
       let ys = kept t xs os in
       let zs = over (loadedOf t) xs in
       let c : ℕ = tailOf (drop j (mine t zs)) .count in
-      let low : 1 ≤ c = some-count (drop j (mine t zs)) (drop-some (mine t zs) j (within zs loaded)) in
+      let low : 1 ≤ c = count-least (mine t zs) j (within zs loaded) in
       let high : c ≤ fragments t zs = count-within (mine t zs) j in
       let same : tailOf (drop j (mine t ys)) .count ≡ c = orders-last (λ ss. tailOf (drop j ss) .count) (count-lasts j) t zs os loaded in
       let all : fragments t ys ≡ fragments t zs = orders-count t zs os loaded in
@@ -112,7 +116,7 @@ module _ (t : List ℕ) (xs : List Slot) (os : List Order) (e : checkOf t .numbe
       ap (λ (s : Slot). s .mark) (sym (getD-take (length (loadedOf t)) ys j noSlot h))
       ∙ slot-mark (mine t ys) j (within ys kept-ready) (kept-ready .agree)
       ∙ ap (λ (n : ℕ). markOf n (mine t ys)) (same ∙ sym back)
-      ∙ orders-mark t zs os (fragments t zs + 1 - c) false loaded (omega arith) (omega arith) (fresh-in t xs (fragments t zs + 1 - (fragments t zs + 1 - c)))
+      ∙ orders-mark t zs os (record { 0 = fragments t zs + 1 - c }) false loaded (omega arith) (omega arith) (fresh-in t xs (fragments t zs + 1 - (fragments t zs + 1 - c)))
 
 -- ---- the line
 pub line-goes : (t : List ℕ) (xs : List Slot) (os : List Order) → checkOf t .number ≡ 0 → (i : ℕ) → i < length (linesFrom t 0) → isCoord (row t i) ≡ true

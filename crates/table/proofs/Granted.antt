@@ -142,7 +142,7 @@ module _ (xs : List Slot) (j : ℕ) (seen kept : List Line) (s k : State) (H : H
       high : s .place ≤ 19
       high = place-high (s .place) kind.Conect (g .place)
 
-      bond : (bondKnown seen (Bonds c) ≡ true) × (s .bond ≤ c .serial .0)
+      bond : (bondKnown seen (Bonds c) ≡ true) × (s .bond .0 ≤ c .serial .0)
       bond = bond-split (bondKnown seen (Bonds c)) (s .bond) c (g .bond)
 
       none : closes ls ≡ false

@@ -1,8 +1,8 @@
--- Pieces of 81 bytes: joined and cut again they are the same pieces; the pieces of an accepted text are such.
+-- Pieces of 81 bytes: joined and cut again they are the same pieces; the pieces of an accepted text are such, and it has no other bytes.
 -- Assumes nothing.
 use Prim.Native.Nat.{ℕ, zero, suc, _*_, _<_}
 use mathlib.Core.List.{List, [], _∷_, _++_}
-use mathlib.Core.Path.{_≡_, refl, _∙_}
+use mathlib.Core.Path.{_≡_, refl, sym, _∙_, ap}
 use native.Mathlib.Omega.{arith}
 use lib.ListN.{length, take, drop, length-take, length-drop, length-append}
 use lib.Seq.{take-at, drop-at}
@@ -39,3 +39,17 @@ whole-pieces (suc n) t h =
 
 pub accepted-81 : (t : List ℕ) → checkOf t .number ≡ 0 → All81 (cut t)
 accepted-81 t e = whole-pieces (checkOf t .good) t (answered t .granted e .1)
+
+-- a text of n whole pieces is cut into n
+pub cut-size : (n : ℕ) (t : List ℕ) → length t ≡ 81 * n → length (cut t) ≡ n
+unfolding cut cutAtMost
+cut-size zero [] h = refl
+cut-size zero (b ∷ t) h = absurd (omega arith)
+cut-size (suc n) t h =
+    let rest : length (drop 81 t) ≡ 81 * n = simp length-drop (omega arith) in
+    ap length (cut-cons t (omega arith)) ∙ ap suc (cut-size n (drop 81 t) rest)
+
+pub accepted-size : (t : List ℕ) → checkOf t .number ≡ 0 → length t ≡ 81 * length (cut t)
+accepted-size t e =
+    let g : length t ≡ 81 * checkOf t .good = answered t .granted e .1 in
+    g ∙ ap (λ (n : ℕ). 81 * n) (sym (cut-size (checkOf t .good) t g))

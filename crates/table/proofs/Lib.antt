@@ -19,5 +19,10 @@ pub mod Trails
 pub mod Follow
 pub mod Granted
 pub mod Again
-pub mod Lost
+pub mod Room
 pub mod Refused
+pub mod Lost
+pub mod AllMarks
+pub mod Arranged
+pub mod Numbers
+pub mod Few

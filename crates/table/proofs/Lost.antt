@@ -16,14 +16,16 @@ use Rattle.gate.specs.Gate.{checkOf}
 use Rattle.slots.specs.declared.Slot.{Slot}
 use Rattle.table.specs.Table.{Told, told, over, linesFrom, loadedOf, loadOf}
 use Rattle.table.specs.Orders.{Order, ordersOf}
-use Rattle.table.specs.Promise.{bare, NothingLost}
-use Rattle.table.proofs.Ready.{ready-table}
+use Rattle.table.specs.Promise.{bare, HasRoom, Parted, NothingLost, Promises}
+use Rattle.table.proofs.Ready.{Ready, ready-table}
 use Rattle.table.proofs.Orders.{orders-ready}
 use Rattle.table.proofs.Fresh.{fresh-ready}
 use Rattle.table.proofs.Aside.{line-goes}
 use Rattle.table.proofs.Shares.{cut-bytes, shares-sum, shares-tray}
 use Rattle.table.proofs.Bare.{shares-bare}
 use Rattle.table.proofs.Again.{saved-again}
+use Rattle.table.proofs.Room.{put-wrote, put-granted, room-enough}
+use Rattle.table.proofs.Refused.{safe-refusals}
 
 -- a load that is granted leaves the slots of an accepted text, and past them the slots as found
 granted-load : (t : List ℕ) (xs : List Slot) → loadOf t xs .number ≡ 0 → (checkOf t .number ≡ 0) × (loadOf t xs .left ≡ over (loadedOf t) xs)
@@ -38,6 +40,23 @@ granted-load t xs = go (eqb (checkOf t .number) 0) refl (ltb (length xs) (length
     go true e true z = absurd (omega arith)
     go true e false z = (eqb-true _ _ e, refl)
 
+-- the lines of a text whose table belongs to it, in the saved entry and in the tray
+parted : (t : List ℕ) (xs : List Slot) → Ready t xs → (o p : List ℕ) → HasRoom true t xs o → HasRoom false t xs p → Parted t xs o p
+unfolding linesFrom
+parted t xs R o p h g =
+    let z = ready-table t xs R in
+    let a = put-wrote true t xs z o h in
+    let b = put-wrote false t xs z p g in
+    let e = R .good in
+    record {
+      save-granted = put-granted true t xs z o h;
+      tray-granted = put-granted false t xs z p g;
+      again = rw a (saved-again t xs z);
+      saved = rw a (ap (map bare) (cut-bytes true t xs e) ∙ shares-bare t xs e);
+      tray = rw b (cut-bytes false t xs e ∙ shares-tray xs 0 noCounts (cut t));
+      sum = rw (a, b) (ap₂ _+_ (ap length (cut-bytes true t xs e)) (ap length (cut-bytes false t xs e)) ∙ shares-sum xs 0 noCounts (cut t));
+    }
+
 after-loading : (t : List ℕ) (xs : List Slot) (os : List Order) → checkOf t .number ≡ 0 → NothingLost t (over (loadedOf t) xs) os
 unfolding linesFrom
 after-loading t xs os e =
@@ -45,13 +64,13 @@ after-loading t xs os e =
     let R = orders-ready t (over (loadedOf t) xs) os (fresh-ready t xs e) in
     record {
       belongs = ready-table t ys R;
-      again = saved-again t ys (ready-table t ys R);
-      saved = ap (map bare) (cut-bytes true t ys e) ∙ shares-bare t ys e;
-      tray = cut-bytes false t ys e ∙ shares-tray ys 0 noCounts (cut t);
       aside = λ i h c. line-goes t xs os e i (rw (length-map (cut t) lineOf) h) c;
-      sum = ap₂ _+_ (ap length (cut-bytes true t ys e)) (ap length (cut-bytes false t ys e)) ∙ shares-sum ys 0 noCounts (cut t);
+      parted = parted t ys R;
     }
 
 -- a text loaded into any slots, and any orders
 pub nothing-lost : (t : List ℕ) (xs : List Slot) (os : List Order) → loadOf t xs .number ≡ 0 → NothingLost t (loadOf t xs .left) os
 nothing-lost t xs os z = rw (granted-load t xs z .1) (after-loading t xs os (granted-load t xs z .0))
+
+pub promises : Promises
+promises = record { nothing-lost = nothing-lost; room-enough = room-enough; safe-refusals = safe-refusals }

@@ -101,21 +101,22 @@ marked-other b m (s ∷ ss) c h =
     go false p true q = refl
     go true p true q = absurd (h (sym (eqb-true _ _ q) ∙ eqb-true _ _ p))
 
+-- a fragment that is not that of the first slot is among the slots after it
+pub fewer : (s : Slot) (ss : List Slot) (b : ℕ) → b ≤ tailOf (s ∷ ss) .count → (tailOf (s ∷ ss) .count ≡ b → ⊥) → b ≤ tailOf ss .count
+unfolding tailOf stepTail
+fewer s ss b = go (joins s (tailOf ss))
+  where
+    go : (j : Bool) → b ≤ pick j (tailOf ss .count) (tailOf ss .count + 1) → (pick j (tailOf ss .count) (tailOf ss .count + 1) ≡ b → ⊥) → b ≤ tailOf ss .count
+    go true h n = h
+    go false h n = omega arith
+
 -- a fragment that there is has the mark asked for
 pub marked-own : (b m : ℕ) (ss : List Slot) → 1 ≤ b → b ≤ tailOf ss .count → markOf b (marked b m ss) ≡ m
 unfolding markOf marked tailOf stepTail withMark
 marked-own b m [] l h = absurd (omega arith)
 marked-own b m (s ∷ ss) l h = rw (after b m (s ∷ ss) .count) (go (eqb (stepTail s (tailOf ss) .count) b) refl (λ g. marked-own b m ss l g))
   where
-    fewer : (j : Bool) → b ≤ pick j (tailOf ss .count) (tailOf ss .count + 1) → (pick j (tailOf ss .count) (tailOf ss .count + 1) ≡ b → ⊥) → b ≤ tailOf ss .count
-    fewer true h n = h
-    fewer false h n = below (eqb (tailOf ss .count + 1) b) refl
-      where
-        below : (y : Bool) → eqb (tailOf ss .count + 1) b ≡ y → b ≤ tailOf ss .count
-        below true e = absurd (n (eqb-true _ _ e))
-        below false e = omega (arith, eqb-false (tailOf ss .count + 1) b e)
-
     go : (x : Bool) → eqb (stepTail s (tailOf ss) .count) b ≡ x → (b ≤ tailOf ss .count → markOf b (marked b m ss) ≡ m)
         → pick x ((pick x (withMark s m) s) .mark) (markOf b (marked b m ss)) ≡ m
     go true p r = refl
-    go false p r = r (fewer (joins s (tailOf ss)) h (eqb-false _ _ p))
+    go false p r = r (fewer s ss b h (eqb-false _ _ p))

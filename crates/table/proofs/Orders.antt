@@ -8,6 +8,7 @@ use native.Mathlib.Omega.{arith}
 use borrow.Author.Tests.{eqb-true, eqb-false}
 use lib.Dec.{eqb}
 use lib.ListN.{drop}
+use Rattle.fields.specs.declared.FragmentNumber.{FragmentNumber}
 use Rattle.ascii.specs.Tests.{pick, both}
 use Rattle.slots.specs.declared.Slot.{Slot}
 use Rattle.fragments.specs.Fragments.{tailOf, markOf, marked}
@@ -20,7 +21,7 @@ use Rattle.table.proofs.Ready.{Ready, next-mine, order-cases, order-rea
 abbrev pub Lasting : (List Slot → ℕ) → Type 0
 Lasting F = (b m : ℕ) (ss : List Slot) → F (marked b m ss) ≡ F ss
 
-pub order-lasts : (F : List Slot → ℕ) → Lasting F → (t : List ℕ) (xs : List Slot) (f : ℕ) (aside : Bool) → Ready t xs
+pub order-lasts : (F : List Slot → ℕ) → Lasting F → (t : List ℕ) (xs : List Slot) (f : FragmentNumber) (aside : Bool) → Ready t xs
     → F (mine t (orderOf t xs f aside .left)) ≡ F (mine t xs)
 order-lasts F lasts t xs f aside R =
     order-cases (λ r. F (mine t (r .left)) ≡ F (mine t xs)) t xs f aside R refl refl
@@ -41,11 +42,11 @@ count-lasts j b m ss = ap (λ (us : List Slot). tailOf us .count) (marked-drop b
 all-lasts : Lasting (λ ss. tailOf ss .count)
 all-lasts b m ss = after b m ss .count
 
-pub order-count : (t : List ℕ) (xs : List Slot) (f : ℕ) (aside : Bool) → Ready t xs → fragments t (orderOf t xs f aside .left) ≡ fragments t xs
+pub order-count : (t : List ℕ) (xs : List Slot) (f : FragmentNumber) (aside : Bool) → Ready t xs → fragments t (orderOf t xs f aside .left) ≡ fragments t xs
 order-count t xs f aside R = order-lasts (λ ss. tailOf ss .count) all-lasts t xs f aside R
 
 -- ---- the mark of fragment f
-abbrev pub fragmentMark : List ℕ → List Slot → ℕ → ℕ
+abbrev pub fragmentMark : List ℕ → List Slot → FragmentNumber → ℕ
 fragmentMark t xs f = markOf (backOf t xs f) (mine t xs)
 
 not-granted : (x : Bool) (a m : ℕ) → pick (both x false) a m ≡ m
@@ -59,21 +60,21 @@ granted true a m = refl
 granted false a m = refl
 
 -- an order that is granted gives its fragment the mark asked for; all other marks stay
-pub order-mark : (t : List ℕ) (xs : List Slot) (g : ℕ) (aside : Bool) (f : ℕ) → Ready t xs → 1 ≤ f → f ≤ fragments t xs
-    → fragmentMark t (orderOf t xs g aside .left) f ≡ pick (both (eqb g f) (eqb (orderOf t xs g aside .number) 0)) (markByte aside) (fragmentMark t xs f)
+pub order-mark : (t : List ℕ) (xs : List Slot) (g : FragmentNumber) (aside : Bool) (f : FragmentNumber) → Ready t xs → 1 ≤ f .0 → f .0 ≤ fragments t xs
+    → fragmentMark t (orderOf t xs g aside .left) f ≡ pick (both (eqb (g .0) (f .0)) (eqb (orderOf t xs g aside .number) 0)) (markByte aside) (fragmentMark t xs f)
 order-mark t xs g aside f R l h =
-    order-cases (λ r. fragmentMark t (r .left) f ≡ pick (both (eqb g f) (eqb (r .number) 0)) (markByte aside) (fragmentMark t xs f)) t xs g aside R
-    (sym (not-granted (eqb g f) (markByte aside) (fragmentMark t xs f))) (sym (not-granted (eqb g f) (markByte aside) (fragmentMark t xs f)))
-    (λ n u. ap (λ (ys : List Slot). markOf (tailOf ys .count + 1 - f) ys) (next-mine t xs R (backOf t xs g) (markByte aside))
-    ∙ (rw (after (backOf t xs g) (markByte aside) (mine t xs) .count) (go n u (eqb g f) refl))
-    ∙ sym (granted (eqb g f) (markByte aside) (fragmentMark t xs f)))
+    order-cases (λ r. fragmentMark t (r .left) f ≡ pick (both (eqb (g .0) (f .0)) (eqb (r .number) 0)) (markByte aside) (fragmentMark t xs f)) t xs g aside R
+    (sym (not-granted (eqb (g .0) (f .0)) (markByte aside) (fragmentMark t xs f))) (sym (not-granted (eqb (g .0) (f .0)) (markByte aside) (fragmentMark t xs f)))
+    (λ n u. ap (λ (ys : List Slot). markOf (tailOf ys .count + 1 - f .0) ys) (next-mine t xs R (backOf t xs g) (markByte aside))
+    ∙ (rw (after (backOf t xs g) (markByte aside) (mine t xs) .count) (go n u (eqb (g .0) (f .0)) refl))
+    ∙ sym (granted (eqb (g .0) (f .0)) (markByte aside) (fragmentMark t xs f)))
   where
-    go : (g ≡ 0 → ⊥) → g ≤ fragments t xs → (x : Bool) → eqb g f ≡ x
+    go : (g .0 ≡ 0 → ⊥) → g .0 ≤ fragments t xs → (x : Bool) → eqb (g .0) (f .0) ≡ x
         → markOf (backOf t xs f) (marked (backOf t xs g) (markByte aside) (mine t xs)) ≡ pick x (markByte aside) (fragmentMark t xs f)
     go n u true e =
-        let q : g ≡ f = eqb-true _ _ e in
+        let q : g .0 ≡ f .0 = eqb-true _ _ e in
         rw q (marked-own (backOf t xs f) (markByte aside) (mine t xs) (omega arith) (omega arith))
-    go n u false e = marked-other (backOf t xs g) (markByte aside) (mine t xs) (backOf t xs f) (λ q. eqb-false g f e (omega arith))
+    go n u false e = marked-other (backOf t xs g) (markByte aside) (mine t xs) (backOf t xs f) (λ q. eqb-false (g .0) (f .0) e (omega arith))
 
 -- ---- a list of orders
 pub orders-ready : (t : List ℕ) (xs : List Slot) (os : List Order) → Ready t xs → Ready t (ordersOf t xs os)
@@ -95,13 +96,13 @@ byte-pick true a b = refl
 byte-pick false a b = refl
 
 -- the mark of a fragment is that of the last order granted for it, and what it was where there is none
-pub orders-mark : (t : List ℕ) (xs : List Slot) (os : List Order) (f : ℕ) (now : Bool) → Ready t xs → 1 ≤ f → f ≤ fragments t xs → fragmentMark t xs f ≡ markByte now
+pub orders-mark : (t : List ℕ) (xs : List Slot) (os : List Order) (f : FragmentNumber) (now : Bool) → Ready t xs → 1 ≤ f .0 → f .0 ≤ fragments t xs → fragmentMark t xs f ≡ markByte now
     → fragmentMark t (ordersOf t xs os) f ≡ markByte (lastOf t xs f now os)
 unfolding ordersOf lastOf
 orders-mark t xs [] f now R l h e = e
 orders-mark t xs (order g aside ∷ os) f now R l h e =
-    let h2 : f ≤ fragments t (orderOf t xs g aside .left) = rw (order-count t xs g aside R) h in
+    let h2 : f .0 ≤ fragments t (orderOf t xs g aside .left) = rw (order-count t xs g aside R) h in
     orders-mark t (orderOf t xs g aside .left) os f _ (order-ready t xs g aside R) l h2
     (order-mark t xs g aside f R l h
-    ∙ ap (λ (x : ℕ). pick (both (eqb g f) (eqb (orderOf t xs g aside .number) 0)) (markByte aside) x) e
-    ∙ byte-pick (both (eqb g f) (eqb (orderOf t xs g aside .number) 0)) aside now)
+    ∙ ap (λ (x : ℕ). pick (both (eqb (g .0) (f .0)) (eqb (orderOf t xs g aside .number) 0)) (markByte aside) x) e
+    ∙ byte-pick (both (eqb (g .0) (f .0)) (eqb (orderOf t xs g aside .number) 0)) aside now)

@@ -72,7 +72,7 @@ same-kind s t e =
     let h = both-split (eqb (s .kind) (t .kind)) (eqb (s .serial .0) (t .serial .0)) (both-split _ _ e .0) in
     (eqb-true _ _ (h .0), eqb-true _ _ (h .1))
 
-fits-same : (s : Slot) (l : Line) → isCoord l ≡ true → fits s l ≡ true → (isTer s ≡ lineCloses l) × (s .serial .0 ≡ serialOf l)
+pub fits-same : (s : Slot) (l : Line) → isCoord l ≡ true → fits s l ≡ true → (isTer s ≡ lineCloses l) × (s .serial .0 ≡ serialOf l)
 unfolding fits
 fits-same s l c e =
     let f : both (leb (s .mark) markAside) (sameSlot s (lineSlot l)) ≡ true = rw c at e in

@@ -9,6 +9,7 @@ use borrow.Author.Tests.{eqb-true, eqb-false, ltb-false, le-ltb, le-leb}
 use lib.Dec.{eqb, ltb, leb}
 use lib.ListN.{length, take, drop, getD, length-append, length-take}
 use lib.Seq.{take-at}
+use Rattle.fields.specs.declared.FragmentNumber.{FragmentNumber}
 use Rattle.ascii.specs.Tests.{pick, both, either}
 use Rattle.ascii.proofs.Choice.{both-split, both-join}
 use Rattle.pieces.specs.declared.Line.{Line}
@@ -98,13 +99,13 @@ byte-mark true = omega arith
 byte-mark false = omega arith
 
 -- an order to a table that belongs: refused with 15 or 16, or granted to a fragment that there is
-pub order-cases : (P : Told Slot → Type 0) (t : List ℕ) (xs : List Slot) (f : ℕ) (aside : Bool) → Ready t xs → P (told 15 0 xs) → P (told 16 0 xs)
-    → ((f ≡ 0 → ⊥) → f ≤ fragments t xs → P (told 0 0 (over (marked (backOf t xs f) (markByte aside) (mine t xs)) xs))) → P (orderOf t xs f aside)
+pub order-cases : (P : Told Slot → Type 0) (t : List ℕ) (xs : List Slot) (f : FragmentNumber) (aside : Bool) → Ready t xs → P (told 15 0 xs) → P (told 16 0 xs)
+    → ((f .0 ≡ 0 → ⊥) → f .0 ≤ fragments t xs → P (told 0 0 (over (marked (backOf t xs f) (markByte aside) (mine t xs)) xs))) → P (orderOf t xs f aside)
 unfolding orderOf either
 order-cases P t xs f aside R p q r =
-    rw (ready-table t xs R) (go (eqb f 0) refl (ltb (fragments t xs) f) refl (eqb (markOf (backOf t xs f) (mine t xs)) (markByte aside)))
+    rw (ready-table t xs R) (go (eqb (f .0) 0) refl (ltb (fragments t xs) (f .0)) refl (eqb (markOf (backOf t xs f) (mine t xs)) (markByte aside)))
   where
-    go : (x : Bool) → eqb f 0 ≡ x → (y : Bool) → ltb (fragments t xs) f ≡ y → (z : Bool)
+    go : (x : Bool) → eqb (f .0) 0 ≡ x → (y : Bool) → ltb (fragments t xs) (f .0) ≡ y → (z : Bool)
         → P (pick {A = Told Slot} (pick x true y) (told 15 0 xs) (pick {A = Told Slot} z (told 16 0 xs) (told 0 0 (over (marked (backOf t xs f) (markByte aside) (mine t xs)) xs))))
     go true e y g z = p
     go false e true g z = p
@@ -112,6 +113,6 @@ order-cases P t xs f aside R p q r =
     go false e false g false = r (eqb-false _ _ e) (ltb-false _ _ g)
 
 -- after any order the table still belongs to the text
-pub order-ready : (t : List ℕ) (xs : List Slot) (f : ℕ) (aside : Bool) → Ready t xs → Ready t (orderOf t xs f aside .left)
+pub order-ready : (t : List ℕ) (xs : List Slot) (f : FragmentNumber) (aside : Bool) → Ready t xs → Ready t (orderOf t xs f aside .left)
 order-ready t xs f aside R =
     order-cases (λ r. Ready t (r .left)) t xs f aside R R R (λ h g. next-ready t xs R (backOf t xs f) (markByte aside) (byte-mark aside))

@@ -1,4 +1,4 @@
--- Lines by their index: which line it is, whether it stays, and which slot is its own.
+-- Lines by their index: which line it is, whether it stays, which slot is its own, and how many slots are before it.
 -- Assumes nothing.
 use Prim.Native.Nat.{ℕ, zero, suc, _+_, _*_, _≤_, _<_}
 use mathlib.Core.List.{List, [], _∷_, map}
@@ -8,6 +8,7 @@ use native.Mathlib.Omega.{arith}
 use borrow.Author.Tests.{ltb-true, ltb-false}
 use lib.Dec.{eqb, ltb}
 use lib.ListN.{length, take, getD}
+use lib.Seq.{take-all}
 use Rattle.ascii.specs.Tests.{pick}
 use Rattle.pieces.specs.declared.Line.{Line}
 use Rattle.pieces.specs.Pieces.{lineOf}
@@ -16,9 +17,9 @@ use Rattle.facets.specs.Facets.{isCoord}
 use Rattle.rows.proofs.Cut.{cut-next, cut-done}
 use Rattle.slots.specs.declared.Slot.{Slot}
 use Rattle.slots.specs.Slots.{markAside, noSlot, lineSlot}
-use Rattle.table.specs.Table.{linesFrom, slotsOf, oneOf}
+use Rattle.table.specs.Table.{linesFrom, slotsOf, loadedOf, oneOf}
 use Rattle.table.specs.Deal.{stays}
-use Rattle.table.specs.Promise.{staysFrom}
+use Rattle.table.specs.Promise.{staysFrom, slotsTo}
 
 pub lines-next : (t : List ℕ) (i : ℕ) → 81 * i < length t → linesFrom t i ≡ row t i ∷ linesFrom t (i + 1)
 unfolding linesFrom row
@@ -74,3 +75,41 @@ slot-inside d (l ∷ ls) zero h c = rw c (omega arith)
 slot-inside d (l ∷ ls) (suc i) h c =
     let u : length (slotsOf (take i ls)) < length (slotsOf ls) = slot-inside d ls i (omega arith) c in
     omega (arith, slots-count l (take i ls), slots-count l ls)
+
+-- ---- how many slots the first lines have
+pub slots-none : (t : List ℕ) → slotsTo t 0 ≡ 0
+unfolding slotsTo slotsOf
+slots-none t = refl
+
+-- a line more, from line k on
+slots-from : (t : List ℕ) (i k : ℕ) → 81 * (k + i) < length t
+    → length (slotsOf (take (suc i) (linesFrom t k))) ≡ length (slotsOf (take i (linesFrom t k))) + oneOf (row t (k + i))
+unfolding slotsOf
+slots-from t zero k h =
+    let e : k + 0 ≡ k = omega arith in
+    rw (lines-next t k (omega arith), e) (omega (arith, slots-count (row t k) []))
+slots-from t (suc i) k h =
+    let e : k + 1 + i ≡ k + suc i = omega arith in
+    let r : length (slotsOf (take (suc i) (linesFrom t (k + 1)))) ≡ length (slotsOf (take i (linesFrom t (k + 1)))) + oneOf (row t (k + suc i)) =
+    rw (← e) (slots-from t i (k + 1) (omega arith)) in
+    let u : List Line = linesFrom t (k + 1) in
+    rw (lines-next t k (omega arith)) (omega (arith, r, slots-count (row t k) (take (suc i) u), slots-count (row t k) (take i u)))
+
+-- the same from the first line on
+pub slots-more : (t : List ℕ) (i : ℕ) → 81 * i < length t → slotsTo t (suc i) ≡ slotsTo t i + oneOf (row t i)
+unfolding slotsTo
+slots-more t i h = let e : 0 + i ≡ i = omega arith in rw e at (slots-from t i 0 (omega arith))
+
+-- no more lines than the bytes have
+lines-few : (t : List ℕ) (n k : ℕ) → length t ≤ 81 * (k + n) → length (linesFrom t k) ≤ n
+lines-few t zero k h = omega (arith, ap length (lines-done t k (omega arith)))
+lines-few t (suc n) k h = go (ltb (81 * k) (length t)) refl (lines-few t n (k + 1) (omega arith))
+  where
+    go : (b : Bool) → ltb (81 * k) (length t) ≡ b → length (linesFrom t (k + 1)) ≤ n → length (linesFrom t k) ≤ suc n
+    go true u r = omega (arith, ap length (lines-next t k (ltb-true _ _ u)))
+    go false u r = omega (arith, ap length (lines-done t k (ltb-false _ _ u)))
+
+-- all lines have the slots of the text
+pub slots-all : (t : List ℕ) (n : ℕ) → length t ≤ 81 * n → slotsTo t n ≡ length (loadedOf t)
+unfolding slotsTo
+slots-all t n h = rw (take-all n (linesFrom t 0) (lines-few t n 0 (omega arith)))

@@ -7,6 +7,7 @@ use mathlib.Core.Logic.{_⊎_, inl, inr}
 use native.Mathlib.Omega.{arith}
 use native.Mathlib.Nat.{lt-of-le-of-lt, le-trans}
 use borrow.Author.Tests.{leb-false, lt-leb, ltb-false, le-ltb, le-leb, eq-eqb}
+use Rattle.fields.specs.declared.Serial.{Serial}
 use Rattle.facets.specs.declared.Spot.{Spot}
 use Rattle.facets.specs.declared.Spot.the-variants.{Site, Close, Nowhere}
 use Rattle.facets.specs.declared.Bond.the-variants.{Bonds}
@@ -40,8 +41,8 @@ Behind k s = (k ≡ s) ⊎ ((1 ≤ k) × (k ≤ s) × (18 ≤ s) × (s ≤ 19))
 -- s over all lines, k over the lines kept
 pub record Trails (s k : State) : Type 0 where
   pub place : Behind (k .place) (s .place)
-  pub last : k .last ≤ s .last
-  pub bond : k .bond ≤ s .bond
+  pub last : k .last .0 ≤ s .last .0
+  pub bond : k .bond .0 ≤ s .bond .0
   pub helix : k .helix ≡ s .helix
   pub ladder : k .ladder ≡ s .ladder
 
@@ -75,20 +76,20 @@ place-behind k s x one b e =
     place-ok k x (omega arith) (le-trans (behind-le k s b) (place-high s x e))
 
 -- ---- serials
-serial-trails : (a b : ℕ) (p : Spot) → a ≤ b → serialBad b p ≡ false → serialBad a p ≡ false
+serial-trails : (a b : Serial) (p : Spot) → a .0 ≤ b .0 → serialBad b p ≡ false → serialBad a p ≡ false
 serial-trails a b (Site het x) h e = lt-leb _ _ (lt-of-le-of-lt h (leb-false _ _ e))
 serial-trails a b (Close t) h e = lt-leb _ _ (lt-of-le-of-lt h (leb-false _ _ e))
 serial-trails a b Nowhere h e = refl
 
 -- a CONECT line's serial is not below the last one's, and its numbers are known
-pub bond-split : (known : Bool) (last : ℕ) (c : ConectOf) → bondBad known last (Bonds c) ≡ false → (known ≡ true) × (last ≤ c .serial .0)
+pub bond-split : (known : Bool) (last : Serial) (c : ConectOf) → bondBad known last (Bonds c) ≡ false → (known ≡ true) × (last .0 ≤ c .serial .0)
 unfolding either
 bond-split true last c e = (refl, ltb-false _ _ e)
 bond-split false last c e = never (sym e)
 
-pub bond-join : (known : Bool) (last : ℕ) (c : ConectOf) → known ≡ true → last ≤ c .serial .0 → bondBad known last (Bonds c) ≡ false
+pub bond-join : (known : Bool) (last : Serial) (c : ConectOf) → known ≡ true → last .0 ≤ c .serial .0 → bondBad known last (Bonds c) ≡ false
 unfolding either
-bond-join known last c e h = rw (e, le-ltb (c .serial .0) last h)
+bond-join known last c e h = rw (e, le-ltb (c .serial .0) (last .0) h)
 
 -- ---- a typed line among the kept ones, where its place, its run, its bonds and its counts are right
 pub good-trails : (known v : Looked) (s k : State) (r : Record) → Trails s k → Good known s r → placeBad (k .place) (recordKind r) ≡ false

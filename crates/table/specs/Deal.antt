@@ -30,7 +30,8 @@ aside (s ∷ ss) n = either (isAside n s) (aside ss n)
 -- a CONECT line names an atom set aside
 abbrev pub namesAside : List Slot → Conect → Bool
 namesAside xs c =
-    either (aside xs (c .serial .0)) (either (aside xs (c .a .0)) (either (aside xs (c .b .0)) (either (aside xs (c .c .0)) (aside xs (c .d .0)))))
+    either (aside xs (c .serial .0))
+    (either (aside xs (c .a .0)) (either (aside xs (c .b .0)) (either (aside xs (c .c .0)) (aside xs (c .d .0)))))
 
 -- the same of a line
 abbrev pub bondAside : List Slot → Bond → Bool

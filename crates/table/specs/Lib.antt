@@ -3,3 +3,4 @@ pub mod Deal
 pub mod FiveDigits
 pub mod Orders
 pub mod Promise
+pub mod Arrange

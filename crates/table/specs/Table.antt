@@ -1,5 +1,6 @@
 -- The table of a text: loading it, whether a table belongs to a text, and orders.
 use Rattle.ascii.specs.Library.{ℕ, _+_, _*_, _-_, List, [], _∷_, _++_, map, Bool, true, not, length, take, drop, getD, eqb, ltb, leb, pick, both, either}
+use Rattle.fields.specs.declared.{FragmentNumber.FragmentNumber}
 use Rattle.pieces.specs.declared.{Line.Line}
 use Rattle.pieces.specs.Pieces.{lineOf}
 use Rattle.rows.specs.Text.{cut}
@@ -7,9 +8,9 @@ use Rattle.facets.specs.Facets.{isCoord}
 use Rattle.gate.specs.Gate.{checkOf}
 use Rattle.slots.specs.declared.{Slot.Slot}
 use Rattle.slots.specs.Slots.{markIn, markAside, noSlot, lineSlot, sameSlot}
-use Rattle.fragments.specs.Fragments.{tailOf, markOf, marked}
+use Rattle.fragments.specs.Fragments.{tailOf, markOf, marked, markedBy, turned, numbered}
 
--- what is answered, and what the lent memory then holds: 0 or the number of a refusal, how many slots or bytes were written, all slots or bytes
+-- what is answered, and what the lent memory then holds: 0 or the number of a refusal, how many slots or bytes were written, and all of it
 pub record Told (A : Type 0) : Type 0 where
   pub number : ℕ
   pub count : ℕ
@@ -77,17 +78,36 @@ abbrev pub fragments : List ℕ → List Slot → ℕ
 fragments t xs = tailOf (mine t xs) .count
 
 -- fragment f, numbered from the first as 1, counted from the last
-abbrev pub backOf : List ℕ → List Slot → ℕ → ℕ
-backOf t xs f = fragments t xs + 1 - f
+abbrev pub backOf : List ℕ → List Slot → FragmentNumber → ℕ
+backOf t xs f = turned (fragments t xs) (f .0)
 
 -- the byte of a mark
 abbrev pub markByte : Bool → ℕ
 markByte aside = pick aside markAside markIn
 
 -- 1-12, 13, 18, then 15: no such fragment, 16: it is already there
-unfoldable pub orderOf : List ℕ → List Slot → ℕ → Bool → Told Slot
+unfoldable pub orderOf : List ℕ → List Slot → FragmentNumber → Bool → Told Slot
 orderOf t xs f aside =
     pick (not (eqb (tableOf t xs) 0)) (told (tableOf t xs) 0 xs)
-    (pick (either (eqb f 0) (ltb (fragments t xs) f)) (told 15 0 xs)
+    (pick (either (eqb (f .0) 0) (ltb (fragments t xs) (f .0))) (told 15 0 xs)
     (pick (eqb (markOf (backOf t xs f) (mine t xs)) (markByte aside)) (told 16 0 xs)
     (told 0 0 (over (marked (backOf t xs f) (markByte aside) (mine t xs)) xs))))
+
+-- ---- all fragments at once
+-- 1-12, 13, 18, then 17: there is room for fewer numbers than the text needs slots
+unfoldable pub fragmentsOf : List ℕ → List Slot → List ℕ → Told ℕ
+fragmentsOf t xs o =
+    pick (not (eqb (tableOf t xs) 0)) (told (tableOf t xs) 0 o)
+    (pick (ltb (length o) (length (loadedOf t))) (told 17 0 o)
+    (told 0 (length (loadedOf t)) (over (numbered (fragments t xs) (mine t xs)) o)))
+
+-- the mark of fragment b, counted from the last, where bs has a byte for each from the first on: 0 in, any other aside
+abbrev pub markAt : List ℕ → ℕ → ℕ
+markAt bs b = markByte (not (eqb (getD bs (length bs - b) 0) 0))
+
+-- 1-12, 13, 18, then 15: there are not as many fragments as bytes
+unfoldable pub arrangeOf : List ℕ → List Slot → List ℕ → Told Slot
+arrangeOf t xs bs =
+    pick (not (eqb (tableOf t xs) 0)) (told (tableOf t xs) 0 xs)
+    (pick (not (eqb (length bs) (fragments t xs))) (told 15 0 xs)
+    (told 0 0 (over (markedBy (markAt bs) (mine t xs)) xs)))

@@ -15,6 +15,7 @@ use Rattle.master.specs.declared.Tally.{Tally}
 use Rattle.places.specs.Counts.{countOf, oneMore}
 use Rattle.tally.specs.declared.Counted.{Counted}
 use Rattle.tally.specs.Tally.{most, countIn, raisedTally, toldTally, tallyStep, tallyLine, tallyAll, Granted, linesOf}
+use Rattle.tally.specs.Promise.{Promises}
 
 -- a line under six bytes gets 4
 pub short-line : (t : Tally) (l : List ℕ) → length l < 6 → tallyLine t l ≡ toldTally 4 t
@@ -75,3 +76,6 @@ all-counted t (l ∷ ls) n h k g =
     all-counted (tallyLine t l .tally) ls n h k (g .1)
     ∙ ap (λ (c : ℕ). c + linesOf n ls) (line-in t l n h k (g .0))
     ∙ one-more-add (countOf (kindOf l)) n (countIn t n) (linesOf n ls)
+
+pub promises : Promises
+promises = record { short = short-line; kept = refused-kept; uncounted = uncounted; counted = all-counted }

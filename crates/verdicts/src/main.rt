@@ -1,34 +1,30 @@
-// Reads the texts of each file that its arguments name and prints the answer of the report on each: number, offending line, good lines, and the
-// nine counts, on one line.
+// Reads the texts of each file that its arguments name and prints the numbers of the report on each, on one line.
 //
 // A text is its length in three bytes, the low one first, and then its bytes.
 use gate::Verdict;
 use libc::STDOUT_FILENO;
+use reporting::LINES;
 ghost use Prim.Native.Nat.{_≤_};
 
 // More texts than a file has: a loop over a file has to end, and nothing says that a file does.
 const MOST_TEXTS: u32 = 100000;
 
-fn put(value: u64) {
-    io::print_decimal(STDOUT_FILENO, value);
+fn put_next(number: u64) {
     io::write_all(STDOUT_FILENO, b" ");
+    io::print_decimal(STDOUT_FILENO, number);
 }
 
-fn print_verdict(r: Verdict) {
-    let c = r.counts;
-    put(r.number as u64);
-    put(r.line);
-    put(r.good);
-    put(c.remark);
-    put(c.het);
-    put(c.helix);
-    put(c.sheet);
-    put(c.xform);
-    put(c.coord);
-    put(c.ter);
-    put(c.conect);
-    io::print_decimal(STDOUT_FILENO, c.seq);
+fn end_line() {
     io::write_all(STDOUT_FILENO, b"\n");
+}
+
+fn print_verdict(v: Verdict) {
+    let numbers = reporting::numbers(v);
+    io::print_decimal(STDOUT_FILENO, numbers[0]);
+    for i in 1..LINES {
+        put_next(numbers[i]);
+    }
+    end_line();
 }
 
 fn wide(b: u8) -> usize

@@ -1,12 +1,10 @@
--- Further examples: orders that are refused, a fragment put back, a bond that goes with its atom, tables of another text, frames.
+-- Further examples: orders that are refused, a fragment put back, a bond that goes with its atom, tables of another text, nothing to frame.
 -- Assumes nothing.
 use mathlib.Core.List.{List, [], _∷_}
 use mathlib.Core.Bool.{true, false}
 use mathlib.Core.Path.{_≡_, refl}
-use lib.IntN.{pos}
 use lib.ListN.{drop, getD}
-use Rattle.feed.specs.declared.Framed.the-variants.{Around, Refused}
-use Rattle.feed.specs.Exact.{whole, half}
+use Rattle.feed.specs.declared.Framed.the-variants.{Refused}
 use Rattle.ascii.specs.Tests.{both, either, between, same}
 use Rattle.columns.specs.Columns.{firstOf, blankAt, gapOf, cleanAt, blame, blamedOf, leftmost, blanks}
 use Rattle.numbers.specs.Number.{endsDigit, leadOf, furtherOf, grownOf, numberOf, leader, render}
@@ -33,47 +31,32 @@ use Rattle.fragments.specs.Fragments.{joins, stepTail, tailOf, markOf, marked}
 use Rattle.table.specs.Table.{loadedOf, linesFrom, slotsOf, fits, fitsFrom, belongs, tableOf, orderOf}
 use Rattle.table.specs.Orders.{order, ordersOf}
 use Rattle.table.specs.Deal.{isAside, aside, stays, counted, masterPiece, written, share, dealt, outputOf}
-use Rattle.feed.specs.Exact.{exactly}
-use Rattle.feed.specs.Feed.{isDrawn}
-use Rattle.feed.specs.Frame.{lower, higher, widened, takenIn, boundsFrom, framedOf, frameOf}
+use Rattle.feed.specs.Frame.{boundsFrom, framedOf, frameOf}
 use Rattle.slots.specs.declared.Slot.{Slot}
-use Rattle.worked.specs.Texts.{textOf, entry, rest, water7, bond, bonded, single, slotAt}
+use Rattle.worked.specs.Texts.{textOf, entry, rest, water7, bond, bonded, single}
 use Rattle.worked.specs.Worked.{loaded, ordered}
 
 -- the first of two waters set aside
 unfoldable pub parted : List Slot
-parted = orderOf bonded (loadedOf bonded) 1 true .left
+parted = orderOf bonded (loadedOf bonded) (record { 0 = 1 }) true .left
 
 pub record Further : Type 0 where
   -- put back, the entry is as it was
-  pub back : outputOf true entry (ordersOf entry loaded (order 2 true ∷ order 2 false ∷ [])) ≡ entry
+  pub back : outputOf true entry (ordersOf entry loaded (order (record { 0 = 2 }) true ∷ order (record { 0 = 2 }) false ∷ [])) ≡ entry
   -- there is no fourth fragment, and the second is aside already
-  pub none : orderOf entry loaded 4 true .number ≡ 15
-  pub already : orderOf entry ordered 2 true .number ≡ 16
+  pub none : orderOf entry loaded (record { 0 = 4 }) true .number ≡ 15
+  pub already : orderOf entry ordered (record { 0 = 2 }) true .number ≡ 16
   -- the bond goes with its atom
   pub parted-saved : outputOf true bonded parted ≡ single
   pub parted-tray : outputOf false bonded parted ≡ textOf (water7 ∷ bond ∷ [])
   -- the table of another text, and one in which the chain's atom is aside and its TER is not
   pub foreign : tableOf bonded loaded ≡ 18
   pub torn : tableOf entry (withMark (getD loaded 0 noSlot) markAside ∷ drop 1 loaded) ≡ 18
-  -- an odd sum keeps its half: between 0 and 1 thousandth the middle is half a thousandth
-  pub half-kept : frameOf (slotAt (pos 0) (pos 0) (pos 0) ∷ slotAt (pos 1) (pos 0) (pos 0) ∷ [])
-      ≡ Around (record {
-        lx = whole (pos 0);
-        ly = whole (pos 0);
-        lz = whole (pos 0);
-        hx = whole (pos 1);
-        hy = whole (pos 0);
-        hz = whole (pos 0);
-        mx = half (pos 1);
-        my = whole (pos 0);
-        mz = whole (pos 0);
-      })
   -- nothing to frame
   pub no-atom : frameOf [] ≡ Refused 19
 
 pub further : Further
-unfolding parted bonded single entry rest loaded ordered both either between same firstOf blankAt gapOf cleanAt blame blamedOf leftmost blanks endsDigit leadOf furtherOf grownOf numberOf leader render signedOf isNeg wholeIn integerIn elements indexOf atomicOf wordAt kindNamed kindOf residueColumns positionColumns identityColumns measureColumns speciesColumns leadsElement atomColumns terColumns partnerColumns differs unbroken conectColumns serialsColumns partnersColumns notesColumns shapeColumns atomsColumns masterColumns judged readingOf readLine columnsOf lineOf placeBad raised sameCounts sameThree sameResidue siteBad closeBad siteNext unfinished typedBad judgeOf startOf carriedNext typedNext nextOf cutAtMost cut someOf refusedOf finishOf checkLines checkOf samePair sameFour samePosition sameMeasures sameNames sameSlot withMark joins stepTail tailOf markOf marked linesFrom slotsOf fits fitsFrom belongs tableOf orderOf ordersOf isAside aside stays counted masterPiece written share dealt outputOf boundsFrom takenIn isDrawn widened lower higher framedOf exactly
+unfolding parted bonded single entry rest loaded ordered both either between same firstOf blankAt gapOf cleanAt blame blamedOf leftmost blanks endsDigit leadOf furtherOf grownOf numberOf leader render signedOf isNeg wholeIn integerIn elements indexOf atomicOf wordAt kindNamed kindOf residueColumns positionColumns identityColumns measureColumns speciesColumns leadsElement atomColumns terColumns partnerColumns differs unbroken conectColumns serialsColumns partnersColumns notesColumns shapeColumns atomsColumns masterColumns judged readingOf readLine columnsOf lineOf placeBad raised sameCounts sameThree sameResidue siteBad closeBad siteNext unfinished typedBad judgeOf startOf carriedNext typedNext nextOf cutAtMost cut someOf refusedOf finishOf checkLines checkOf samePair sameFour samePosition sameMeasures sameNames sameSlot withMark joins stepTail tailOf markOf marked linesFrom slotsOf fits fitsFrom belongs tableOf orderOf ordersOf isAside aside stays counted masterPiece written share dealt outputOf boundsFrom framedOf
 further =
     record {
       back = refl;
@@ -83,6 +66,5 @@ further =
       parted-tray = refl;
       foreign = refl;
       torn = refl;
-      half-kept = refl;
       no-atom = refl;
     }

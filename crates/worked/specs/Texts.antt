@@ -5,7 +5,7 @@ use Rattle.fields.specs.declared.{Whole.Whole, Signed.Signed}
 use Rattle.fields.specs.Field.{rangedNumber, signedNumber}
 use Rattle.coordinate.specs.declared.{Atom.Atom}
 use Rattle.slots.specs.declared.{Slot.Slot}
-use Rattle.slots.specs.Slots.{atomKind, markIn, noSlot}
+use Rattle.slots.specs.Slots.{atomKind, markIn, slotWith, residueOf, noSlot}
 
 -- ---- fields by themselves
 -- Real(8.3), in thousandths
@@ -52,12 +52,7 @@ textOf (s ∷ ss) = (bytes s ++ (blanks (80 - length (bytes s)) ++ (byte "\n" �
 
 -- the shortest entry, and the same with one byte after END
 unfoldable pub shortest : List ℕ
-shortest =
-    textOf
-    ("HEADER"
-    ∷ "MASTER        0    0    0    0    0    0    0    0    0    0    0    0"
-    ∷ "END"
-    ∷ [])
+shortest = textOf ("HEADER" ∷ "MASTER        0    0    0    0    0    0    0    0    0    0    0    0" ∷ "END" ∷ [])
 
 unfoldable pub beyond : List ℕ
 beyond = shortest ++ (byte " " ∷ [])
@@ -85,7 +80,9 @@ abbrev pub water8 : String
 water8 = "HETATM    4  O   HOH B   8      12.281  86.699  94.383  1.00 35.88           O"
 
 unfoldable pub entry : List ℕ
-entry = textOf ("HEADER" ∷ chain ∷ close ∷ water7 ∷ water8 ∷ "MASTER        0    0    0    0    0    0    0    0    3    1    0    0" ∷ "END" ∷ [])
+entry =
+    textOf
+    ("HEADER" ∷ chain ∷ close ∷ water7 ∷ water8 ∷ "MASTER        0    0    0    0    0    0    0    0    3    1    0    0" ∷ "END" ∷ [])
 
 -- the same without the first water: one coordinate line fewer, and MASTER says so
 unfoldable pub rest : List ℕ
@@ -105,19 +102,5 @@ single = textOf ("HEADER" ∷ water8 ∷ "MASTER        0    0    0    0    0   
 -- an atom that is in, at some thousandths
 abbrev pub slotAt : ℤ → ℤ → ℤ → Slot
 slotAt x y z =
-    record {
-      serial = noSlot .serial;
-      number = noSlot .number;
-      position = record { x = x; y = y; z = z };
-      occupancy = noSlot .occupancy;
-      temperature = noSlot .temperature;
-      kind = atomKind;
-      mark = markIn;
-      name = noSlot .name;
-      alternate = noSlot .alternate;
-      residue = noSlot .residue;
-      chain = noSlot .chain;
-      insertion = noSlot .insertion;
-      element = noSlot .element;
-      charge = noSlot .charge;
-    }
+    slotWith atomKind markIn (noSlot .serial) (residueOf noSlot) (noSlot .name) (noSlot .alternate)
+    (record { x = x; y = y; z = z }) (noSlot .occupancy) (noSlot .temperature) (noSlot .element) (noSlot .charge)

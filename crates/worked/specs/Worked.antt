@@ -8,7 +8,7 @@ use Rattle.slots.specs.declared.{Slot.Slot}
 use Rattle.table.specs.Table.{told, loadedOf, fragments, orderOf}
 use Rattle.table.specs.Deal.{outputOf}
 use Rattle.feed.specs.declared.{Framed.the-variants.Around}
-use Rattle.feed.specs.Exact.{whole}
+use Rattle.feed.specs.Exact.{whole, half}
 use Rattle.feed.specs.Frame.{frameOf}
 use Rattle.worked.specs.Texts.{coordinate, occupancy, serial, nitrogenLine, nitrogenRecord, textOf, shortest, beyond, twice, water7, entry, rest, slotAt}
 
@@ -17,7 +17,7 @@ unfoldable pub loaded : List Slot
 loaded = loadedOf entry
 
 unfoldable pub ordered : List Slot
-ordered = orderOf entry loaded 2 true .left
+ordered = orderOf entry loaded (record { 0 = 2 }) true .left
 
 pub record Worked : Type 0 where
   -- the ATOM line: x 11281, occupancy 50, number -3
@@ -43,19 +43,19 @@ pub record Worked : Type 0 where
   -- the chain with its TER, and each water: three fragments
   pub three : fragments entry loaded ≡ 3
   -- fragment 2 set aside: saved are serials 1, 2, 4, and MASTER has 2 coordinates; the tray has 3
-  pub granted : orderOf entry loaded 2 true ≡ told 0 0 ordered
+  pub granted : orderOf entry loaded (record { 0 = 2 }) true ≡ told 0 0 ordered
   pub saved : outputOf true entry ordered ≡ rest
   pub tray : outputOf false entry ordered ≡ textOf (water7 ∷ [])
-  -- the frame of (-1, 0, 5) and (2, 0, 5): its middle is (0.5, 0, 5)
-  pub framed : frameOf (slotAt (negsuc 999) (pos 0) (pos 5000) ∷ slotAt (pos 2000) (pos 0) (pos 5000) ∷ [])
+  -- the frame of (-1, 0, 5) and (2, 0, 5), in thousandths: its middle is (0.5, 0, 5)
+  pub framed : frameOf (slotAt (negsuc 0) (pos 0) (pos 5) ∷ slotAt (pos 2) (pos 0) (pos 5) ∷ [])
       ≡ Around (record {
-        lx = whole (negsuc 999);
+        lx = whole (negsuc 0);
         ly = whole (pos 0);
-        lz = whole (pos 5000);
-        hx = whole (pos 2000);
+        lz = whole (pos 5);
+        hx = whole (pos 2);
         hy = whole (pos 0);
-        hz = whole (pos 5000);
-        mx = whole (pos 500);
+        hz = whole (pos 5);
+        mx = half (pos 1);
         my = whole (pos 0);
-        mz = whole (pos 5000);
+        mz = whole (pos 5);
       })

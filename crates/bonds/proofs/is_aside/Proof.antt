@@ -15,7 +15,7 @@ both-of-requires-2 c κs = search needs
 
 returns : tie.Need-returns
 unfolding isAside
-returns c = c .both-of2 .ensures ∙ rw (c .before .before .both-of .ensures, c .before .before .before .before .is-ter .ensures)
+returns c = c .both-of2 .ensures ∙ rw (c .before .before .both-of .ensures, c .before .before .before .before .before .is-ter .ensures)
 
 pub is-aside-spec : {M : Type 1} → statement M
 is-aside-spec = tie.close (tie.spec is-ter-requires both-of-requires both-of-requires-2 returns)

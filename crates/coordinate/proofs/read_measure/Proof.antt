@@ -9,8 +9,8 @@ read-position-requires c κs = search needs
 read-whole-real-requires : tie.Need-read-whole-real-requires
 read-whole-real-requires c κs = search needs
 
-read-real-requires : tie.Need-read-real-requires
-read-real-requires c κs = search needs
+read-signed-requires : tie.Need-read-signed-requires
+read-signed-requires c κs = search needs
 
 first-requires : tie.Need-first-requires
 first-requires c κs = tt
@@ -27,7 +27,7 @@ read-measure-spec =
     (tie.spec
     read-position-requires
     read-whole-real-requires
-    read-real-requires
+    read-signed-requires
     first-requires
     first-requires-2
     returns)

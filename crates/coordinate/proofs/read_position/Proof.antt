@@ -3,14 +3,14 @@ use borrow.Author.Needs.{needs}
 use Rattle.coordinate.proofs.read_position.Statement.{statement}
 use Rattle.coordinate.proofs.read_position.Tie as tie
 
-read-real-requires : tie.Need-read-real-requires
-read-real-requires c κs = search needs
+read-signed-requires : tie.Need-read-signed-requires
+read-signed-requires c κs = search needs
 
-read-real-requires-2 : tie.Need-read-real-requires-2
-read-real-requires-2 c κs = search needs
+read-signed-requires-2 : tie.Need-read-signed-requires-2
+read-signed-requires-2 c κs = search needs
 
-read-real-requires-3 : tie.Need-read-real-requires-3
-read-real-requires-3 c κs = search needs
+read-signed-requires-3 : tie.Need-read-signed-requires-3
+read-signed-requires-3 c κs = search needs
 
 first-requires : tie.Need-first-requires
 first-requires c κs = tt
@@ -25,9 +25,9 @@ pub read-position-spec : {M : Type 1} → statement M
 read-position-spec =
     tie.close
     (tie.spec
-    read-real-requires
-    read-real-requires-2
-    read-real-requires-3
+    read-signed-requires
+    read-signed-requires-2
+    read-signed-requires-3
     first-requires
     first-requires-2
     returns)

@@ -7,14 +7,14 @@ row-of-requires : tie.Need-row-of-requires
 row-of-requires c κs = tt
 
 raise-requires : tie.Need-raise-requires
-raise-requires c κs = c .before .before .before .before .pre .0
+raise-requires c κs = c .before .before .before .before .before .before .pre .0
 
-add-t8 : tie.Need-add-t8
-add-t8 c = search needs
+add-t10 : tie.Need-add-t10
+add-t10 c = search needs
 
 returns : tie.Need-returns
 unfolding carriedNext
 returns c = rw (c .before .raise .ensures, c .before .before .row-of .ensures)
 
 pub carried-next-spec : {M : Type 1} → statement M
-carried-next-spec = tie.close (tie.spec row-of-requires raise-requires add-t8 returns)
+carried-next-spec = tie.close (tie.spec row-of-requires raise-requires add-t10 returns)

@@ -35,7 +35,7 @@ ladder-next-requires : tie.Need-ladder-next-requires
 ladder-next-requires c κs = search needs
 
 raise-requires : tie.Need-raise-requires
-raise-requires c κs = search needs
+raise-requires c κs = c .before .before .before .before .before .before .before .before .before .before .before .before .before .pre .0
 
 add-t17 : tie.Need-add-t17
 add-t17 c = omega (arith, c .before .before .before .before .before .before .before .before .before .before .before .before .before .before .before .pre)

@@ -4,19 +4,19 @@ use Rattle.serials.proofs.conect_known.Statement.{statement}
 use Rattle.serials.proofs.conect_known.Tie as tie
 
 spoken-requires : tie.Need-spoken-requires
-spoken-requires c κs = search needs
+spoken-requires c κs = c .before .before .before .before .before .before .before .before .pre
 
 partner-spoken-requires : tie.Need-partner-spoken-requires
-partner-spoken-requires c κs = search needs
+partner-spoken-requires c κs = c .before .before .before .before .before .before .before .before .before .before .pre
 
 partner-spoken-requires-2 : tie.Need-partner-spoken-requires-2
-partner-spoken-requires-2 c κs = search needs
+partner-spoken-requires-2 c κs = c .before .before .before .before .before .before .before .before .before .before .before .pre
 
 partner-spoken-requires-3 : tie.Need-partner-spoken-requires-3
-partner-spoken-requires-3 c κs = search needs
+partner-spoken-requires-3 c κs = c .before .before .before .before .before .before .before .before .before .before .before .before .pre
 
 partner-spoken-requires-4 : tie.Need-partner-spoken-requires-4
-partner-spoken-requires-4 c κs = search needs
+partner-spoken-requires-4 c κs = c .before .before .before .before .before .before .before .before .before .before .before .before .before .pre
 
 both-of-requires : tie.Need-both-of-requires
 both-of-requires c κs = search needs

@@ -9,7 +9,7 @@ use Rattle.serials.proofs.seek.Statement.{statement}
 use Rattle.serials.proofs.seek.Tie as tie
 
 abbrev Inv-loop : tie.InvT-loop
-Inv-loop text x s₀ near₀ looks₀ s near looks = Bracket (λ j. serialOf (row text j)) (s₀ .lo) (s₀ .hi) x (s .lo) (s .hi)
+Inv-loop text x s₀ near₀ looks₀ s near looks = Bracket (λ j. serialOf (row text j)) (s₀ .lo) (s₀ .hi) (x .0) (s .lo) (s .hi)
 
 abbrev μ-loop : tie.MeasureT-loop
 μ-loop text x s₀ near₀ looks₀ s near looks = s .hi - s .lo

@@ -35,10 +35,10 @@ both-of-requires c κs = tt
 
 returns : tie.Need-returns
 returns c =
-    site-told (c .before .before .before .before .before .before .args .text .now) (c .before .before .before .before .before .before .args .i) _ _ _ _ _
-    (c .before .before .before .kind-of .ensures ∙ ap kindOf (part-columns (c .before .before .before .before .before .before .args .text .now) (c .before .before .before .before .before .before .args .i)))
-    (c .before .before .count-of .ensures)
-    (c .before .serial-at .ensures)
+    site-told (c .before .before .before .before .before .before .before .before .args .text .now) (c .before .before .before .before .before .before .before .before .args .i) _ _ _ _ _
+    (c .before .before .before .before .before .kind-of .ensures ∙ ap kindOf (part-columns (c .before .before .before .before .before .before .before .before .args .text .now) (c .before .before .before .before .before .before .before .before .args .i)))
+    (c .before .before .before .before .count-of .ensures)
+    (c .before .before .before .serial-at .ensures)
     (c .both-of .ensures)
 
 pub site-at-spec : {M : Type 1} → statement M

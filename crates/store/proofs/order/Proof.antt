@@ -32,11 +32,11 @@ same-length-3 c = search needs
 returns-3 : tie.Need-returns-3
 returns-3 c = order-past _ _ _ _ _ (c .before .before .before .before .before .judge .ensures .0) (c .before .before .before .if1 .left) _ (c .before .before .before .before .before .judge .ensures .1 (c .before .before .before .if1 .left)) (c .before .if2 .left) (c .if3 .taken)
 
-add-b : tie.Need-add-b
-add-b c = omega (arith, c .before .before .before .before .before .judge .ensures .1 (c .before .before .before .if1 .left) .few, c .before .before .before .before .before .judge .ensures .1 (c .before .before .before .if1 .left) .room)
+add-t14 : tie.Need-add-t14
+add-t14 c = omega (arith, c .before .before .before .before .before .judge .ensures .1 (c .before .before .before .if1 .left) .few, c .before .before .before .before .before .judge .ensures .1 (c .before .before .before .if1 .left) .room)
 
-sub-b : tie.Need-sub-b
-sub-b c = search needs
+sub-t15 : tie.Need-sub-t15
+sub-t15 c = search needs
 
 mark-byte-requires : tie.Need-mark-byte-requires
 mark-byte-requires c = search needs
@@ -83,8 +83,8 @@ order-spec =
     returns-2
     same-length-3
     returns-3
-    add-b
-    sub-b
+    add-t14
+    sub-t15
     mark-byte-requires
     slice-reshare-prefix-mark-of
     slice-aggregate-mark-of

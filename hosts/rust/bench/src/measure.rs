@@ -75,7 +75,7 @@ pub struct Stacks {
     /// The entry's name.
     pub name: String,
     /// Bytes, in the order of [`Call::ALL`].
-    pub used: [Option<usize>; 6],
+    pub used: [Option<usize>; Call::ALL.len()],
 }
 
 /// Measures the stack of each call on an entry.

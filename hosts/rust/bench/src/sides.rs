@@ -2,7 +2,10 @@
 
 use std::hint::black_box;
 
-use station::raw::{station_check, station_frame, station_load, station_order, station_save, station_tray};
+use station::raw::{
+    station_arrange, station_check, station_fragments, station_frame, station_load, station_order, station_save,
+    station_tray,
+};
 
 /// The fragment that is aside when saving, and the one that orders move.
 const ASIDE: u32 = 2;
@@ -15,6 +18,8 @@ pub enum Call {
     Check,
     Load,
     Order,
+    Arrange,
+    Fragments,
     Save,
     Tray,
     Frame,
@@ -22,7 +27,8 @@ pub enum Call {
 
 impl Call {
     /// All of them, in the order of the tables.
-    pub const ALL: [Call; 6] = [Call::Check, Call::Load, Call::Order, Call::Save, Call::Tray, Call::Frame];
+    pub const ALL: [Call; 8] =
+        [Call::Check, Call::Load, Call::Order, Call::Arrange, Call::Fragments, Call::Save, Call::Tray, Call::Frame];
 
     /// Its name in the tables.
     pub fn name(self) -> String {
@@ -32,7 +38,7 @@ impl Call {
 
 /// Who answers the calls.
 pub trait Side {
-    /// Makes a call. It has to be granted; an order moves its fragment to where it is not.
+    /// Makes a call. It has to be granted; an order moves its fragment to where it is not, an arrangement all of them.
     fn call(&mut self, call: Call);
 }
 
@@ -49,6 +55,12 @@ pub struct Library<'t> {
     pub count: u64,
     /// The last frame.
     pub frame: [f64; 9],
+    /// The table that is arranged.
+    pub arranged: Vec<station::Slot>,
+    /// The fragments of the slots.
+    pub numbers: Vec<u32>,
+    /// A byte for each fragment.
+    list: Vec<u8>,
     answer: [u64; 12],
     /// Whether the fragment that orders move is aside.
     moved: bool,
@@ -59,14 +71,26 @@ impl<'t> Library<'t> {
     pub fn on(text: &'t [u8]) -> Library<'t> {
         let mut table = station::Table::load(text).expect("an accepted entry");
         table.set_aside(station::FragmentNumber(ASIDE)).expect("a second fragment");
+        let fragments = table.fragments().expect("its own table").count();
         let table = table.slots().to_vec();
-        let (loaded, out) = (table.clone(), vec![0; text.len()]);
-        Library { text, table, loaded, out, count: 0, frame: [0.0; 9], answer: [0; 12], moved: false }
+        Library {
+            text,
+            loaded: table.clone(),
+            out: vec![0; text.len()],
+            count: 0,
+            frame: [0.0; 9],
+            arranged: table.clone(),
+            numbers: vec![0; table.len()],
+            list: vec![0; fragments],
+            answer: [0; 12],
+            moved: false,
+            table,
+        }
     }
 
     /// The number that the library answers.
     fn number(&mut self, call: Call) -> u32 {
-        let Library { text, table, loaded, out, count, frame, answer, moved } = self;
+        let Library { text, table, loaded, out, count, frame, arranged, numbers, list, answer, moved } = self;
         let (text, n) = (text.as_ptr(), text.len());
         let (slots, length) = (table.as_mut_ptr(), table.len());
         // SAFETY: all memory is as long as said, and no two pieces of it overlap.
@@ -77,6 +101,13 @@ impl<'t> Library<'t> {
                 Call::Order => {
                     *moved = !*moved;
                     station_order(text, n, slots, length, MOVED, u8::from(*moved))
+                }
+                Call::Arrange => {
+                    list.iter_mut().for_each(|byte| *byte ^= 1);
+                    station_arrange(text, n, arranged.as_mut_ptr(), length, list.as_ptr(), list.len())
+                }
+                Call::Fragments => {
+                    station_fragments(text, n, slots, length, numbers.as_mut_ptr(), numbers.len(), count)
                 }
                 Call::Save => station_save(text, n, slots, length, out.as_mut_ptr(), out.len(), count),
                 Call::Tray => station_tray(text, n, slots, length, out.as_mut_ptr(), out.len(), count),
@@ -106,6 +137,12 @@ pub struct Reference<'t> {
     pub count: usize,
     /// The last frame.
     pub frame: [f64; 9],
+    /// The table that is arranged.
+    pub arranged: Vec<reference::Slot>,
+    /// The fragments of the slots.
+    pub numbers: Vec<u32>,
+    /// A mark for each fragment.
+    list: Vec<reference::Mark>,
     /// Whether the fragment that orders move is aside.
     moved: bool,
 }
@@ -117,7 +154,18 @@ impl<'t> Reference<'t> {
         let mut table = loaded.clone();
         reference::order(text, &mut table, reference::FragmentNumber(ASIDE), reference::Mark::Aside)
             .expect("a second fragment");
-        Reference { text, table, loaded, out: vec![0; text.len()], count: 0, frame: [0.0; 9], moved: false }
+        Reference {
+            text,
+            loaded,
+            out: vec![0; text.len()],
+            count: 0,
+            frame: [0.0; 9],
+            arranged: table.clone(),
+            numbers: vec![0; table.len()],
+            list: vec![reference::Mark::In; reference::fragments(&table).len()],
+            moved: false,
+            table,
+        }
     }
 
     fn number(&mut self, call: Call) -> Result<(), reference::Refusal> {
@@ -129,6 +177,11 @@ impl<'t> Reference<'t> {
                 let mark = if self.moved { reference::Mark::Aside } else { reference::Mark::In };
                 reference::order(self.text, &mut self.table, reference::FragmentNumber(MOVED), mark)?;
             }
+            Call::Arrange => {
+                self.list.iter_mut().for_each(|mark| *mark = reference::Mark::asked(1 - mark.byte()));
+                reference::arrange(self.text, &mut self.arranged, &self.list)?;
+            }
+            Call::Fragments => self.count = reference::fragment_numbers(self.text, &self.table, &mut self.numbers)?,
             Call::Save => self.count = reference::save(self.text, &self.table, &mut self.out)?,
             Call::Tray => self.count = reference::tray(self.text, &self.table, &mut self.out)?,
             Call::Frame => {
@@ -153,7 +206,7 @@ pub fn agree(library: &mut Library, reference: &mut Reference) {
     for call in Call::ALL {
         library.call(call);
         reference.call(call);
-        if matches!(call, Call::Load | Call::Save | Call::Tray) {
+        if matches!(call, Call::Load | Call::Fragments | Call::Save | Call::Tray) {
             assert_eq!(library.count, reference.count as u64, "{call:?}");
             assert!(library.out == reference.out, "{call:?} differs");
         }
@@ -161,5 +214,7 @@ pub fn agree(library: &mut Library, reference: &mut Reference) {
     let same = |(a, b): (&station::Slot, &reference::Slot)| (a.serial, a.mark, a.x) == (b.serial, b.mark, b.x);
     assert!(library.table.iter().zip(&reference.table).all(same));
     assert!(library.loaded.iter().zip(&reference.loaded).all(same));
+    assert!(library.arranged.iter().zip(&reference.arranged).all(same));
+    assert!(library.numbers == reference.numbers, "the fragments of the slots differ");
     assert_eq!(library.frame, reference.frame);
 }

@@ -9,6 +9,10 @@ use crate::sides::Call;
 /// A granted order may cost so many checks, and a frame so many plain loops.
 const BAR: f64 = 2.0;
 
+/// An arrangement and the fragments of slots may cost so many orders.
+const ARRANGE_BAR: f64 = 1.5;
+const FRAGMENTS_BAR: f64 = 1.3;
+
 /// Each call against the check and the reference.
 pub fn calls(times: &[Times]) -> String {
     let mut rows = Vec::new();
@@ -41,17 +45,23 @@ pub fn peers(times: &[Times]) -> String {
     table(&["Entry", "check, ns a line", "byte loop", "check / byte loop", "gemmi", "gemmi / check"], &rows)
 }
 
-/// The two ratios that have a bar.
+/// The ratios that have a bar.
 pub fn bars(times: &[Times]) -> String {
     let row = |entry: &Times| {
-        let order = ratio(entry.library(Call::Order), entry.library(Call::Check));
+        let order = entry.library(Call::Order);
+        let arrange = ratio(entry.library(Call::Arrange), order);
+        let fragments = ratio(entry.library(Call::Fragments), order);
         let plain = entry.plain_frame.0;
         let frame = ratio(entry.library(Call::Frame), Some(plain));
-        vec![label(entry), order, number(plain / entry.lines as f64), frame]
+        let order = ratio(order, entry.library(Call::Check));
+        vec![label(entry), order, arrange, fragments, number(plain / entry.lines as f64), frame]
     };
     let order = format!("order / check (at most {BAR})");
+    let arrange = format!("arrange / order (at most {ARRANGE_BAR})");
+    let fragments = format!("fragments / order (at most {FRAGMENTS_BAR})");
     let frame = format!("frame / plain loop (at most {BAR})");
-    table(&["Entry", &order, "plain loop, ns a line", &frame], &times.iter().map(row).collect::<Vec<_>>())
+    let head = ["Entry", &order, &arrange, &fragments, "plain loop, ns a line", &frame];
+    table(&head, &times.iter().map(row).collect::<Vec<_>>())
 }
 
 /// The stack of each call, entry by entry.

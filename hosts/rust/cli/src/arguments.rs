@@ -3,8 +3,7 @@
 use std::ffi::{OsStr, OsString};
 use std::path::PathBuf;
 
-use station::FragmentNumber;
-
+use crate::aside::Aside;
 use crate::problem::Problem;
 
 /// What is to be done.
@@ -15,11 +14,11 @@ pub enum Command {
     /// Check files and folders.
     Check { files: Vec<PathBuf>, report: bool },
     /// List the fragments of an entry.
-    Fragments { file: PathBuf, aside: Vec<FragmentNumber> },
+    Fragments { file: PathBuf, aside: Aside },
     /// Save an entry without some fragments.
-    Save { file: PathBuf, aside: Vec<FragmentNumber>, out: PathBuf, tray: Option<PathBuf>, force: bool },
+    Save { file: PathBuf, aside: Aside, out: PathBuf, tray: Option<PathBuf>, force: bool },
     /// Draw an entry.
-    Draw { file: PathBuf, aside: Vec<FragmentNumber>, svg: PathBuf, force: bool },
+    Draw { file: PathBuf, aside: Aside, svg: PathBuf, force: bool },
 }
 
 const HELP: &str = "\
@@ -68,7 +67,7 @@ usage: station fragments FILE [--aside LIST]
 Lists the fragments of an accepted entry: number, chain, residues, atoms, first and last residue, and whether it is in
 or set aside.
 
-  --aside LIST  set these fragments aside first, such as 2,5 or 2,7-9
+  --aside LIST  set these fragments aside first: numbers and ranges, such as 2,5 or 2,7-9
 
 example:
   station fragments 1abc.pdb --aside 2,5
@@ -82,7 +81,7 @@ usage: station save FILE [--aside LIST] --out FILE [--tray FILE] [--force]
 Saves an accepted entry without the fragments set aside, and what is left out of it to the tray. Both files are
 written whole or not at all. The input is never written to.
 
-  --aside LIST  the fragments to set aside, such as 2,5 or 2,7-9
+  --aside LIST  the fragments to set aside: numbers and ranges, such as 2,5 or 2,7-9
   --out FILE    where the entry goes; - is standard output
   --tray FILE   where the lines go that are left out, likewise; needed if a fragment is set aside
   --force       replace files that exist
@@ -90,7 +89,7 @@ written whole or not at all. The input is never written to.
 examples:
   station save 1abc.pdb --aside 2,5 --out bare.pdb --tray tray.pdb
   station save 1abc.pdb --aside 2,5 --out - --tray tray.pdb | station check -
-  station save 1abc.pdb --aside 3-40 --out dry.pdb --tray water.pdb --force
+  station save 1abc.pdb --aside 2,5,9-25010 --out dry.pdb --tray water.pdb --force
 
 Exit status: 0 saved, 1 refused, 2 could not be read or written.
 ";
@@ -102,7 +101,7 @@ Draws a dot for each atom and a stroke for each bond of a CONECT line, seen alon
 are drawn, and a note says so.
 
   --svg FILE    where the picture goes; a file is written whole or not at all, - is standard output
-  --aside LIST  fragments to leave out (of an accepted entry), such as 2,5 or 2,7-9
+  --aside LIST  fragments to leave out (of an accepted entry): numbers and ranges, such as 2,5 or 2,7-9
   --force       replace a file that exists
 
 example:
@@ -237,57 +236,11 @@ impl Given {
         }
     }
 
-    fn aside(&self) -> Result<Vec<FragmentNumber>, Problem> {
+    fn aside(&self) -> Result<Aside, Problem> {
         let Some(list) = &self.aside else {
-            return Ok(Vec::new());
+            return Ok(Aside::default());
         };
         let list = list.to_string_lossy();
-        match fragment_list(&list) {
-            Some(numbers) => Ok(numbers),
-            None => usage(format!("--aside {list}: needs fragment numbers such as 2,5 or 2,7-9")),
-        }
-    }
-}
-
-/// The most fragments that a list may name: more than an entry of the largest size can have.
-const MOST_FRAGMENTS: usize = 1_000_000;
-
-/// The numbers of a list such as `2,7-9`.
-fn fragment_list(list: &str) -> Option<Vec<FragmentNumber>> {
-    let number = |text: &str| {
-        let digits = !text.is_empty() && text.bytes().all(|byte| byte.is_ascii_digit());
-        if digits {
-            text.parse::<u32>().ok()
-        } else {
-            None
-        }
-    };
-    let mut numbers = Vec::new();
-    for part in list.split(',').map(str::trim) {
-        let (low, high) = match part.split_once('-') {
-            Some((low, high)) => (number(low)?, number(high)?),
-            None => (number(part)?, number(part)?),
-        };
-        if low > high || (high - low) as usize >= MOST_FRAGMENTS - numbers.len() {
-            return None;
-        }
-        numbers.extend((low..=high).map(FragmentNumber));
-    }
-    Some(numbers)
-}
-
-#[cfg(test)]
-mod tests {
-    use super::*;
-
-    #[test]
-    fn lists() {
-        let numbers = |list| fragment_list(list).map(|found| found.iter().map(|number| number.0).collect::<Vec<_>>());
-        assert_eq!(numbers("2,5"), Some(vec![2, 5]));
-        assert_eq!(numbers("2, 7-9"), Some(vec![2, 7, 8, 9]));
-        assert_eq!(numbers("0"), Some(vec![0]));
-        for wrong in ["", ",", "2,", "a", "-1", "1-", "5-2", "+1", "1-4294967295", "99999999999"] {
-            assert_eq!(numbers(wrong), None, "{wrong}");
-        }
+        Aside::parse(&list).or_else(|words| usage(format!("--aside {list}: {words}")))
     }
 }

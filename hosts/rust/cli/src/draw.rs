@@ -3,8 +3,9 @@
 use std::collections::{BTreeMap, BTreeSet};
 use std::path::Path;
 
-use station::{pieces, Entry, FragmentNumber, Frame, Line, Slot, Stroke};
+use station::{pieces, Entry, Frame, Line, Slot, Stroke};
 
+use crate::aside::Aside;
 use crate::fragments;
 use crate::input;
 use crate::output::{write_all, Console, Order};
@@ -13,13 +14,7 @@ use crate::svg;
 use crate::words::{self, output_name, several};
 
 /// Draws an entry, or the good lines of a refused one.
-pub fn run(
-    file: &Path,
-    aside: &[FragmentNumber],
-    svg: &Path,
-    force: bool,
-    console: &mut Console,
-) -> Result<Status, Problem> {
+pub fn run(file: &Path, aside: &Aside, svg: &Path, force: bool, console: &mut Console) -> Result<Status, Problem> {
     let input = input::read(file)?;
     let name = &input.name;
     let verdict = Entry::check(&input.text);

@@ -2,33 +2,53 @@
 
 use std::path::Path;
 
-use station::{Entry, FragmentNumber, Mark, Slot, Table};
+use station::{Entry, Mark, Refusal, Slot, Table};
 
+use crate::aside::Aside;
 use crate::input::{self, Input};
 use crate::output::Console;
 use crate::problem::{Problem, Status};
 use crate::words;
 
 /// Loads an accepted entry and sets fragments aside.
-pub fn load<'t>(input: &'t Input, aside: &[FragmentNumber]) -> Result<Table<'t>, Problem> {
-    let name = &input.name;
-    let entry =
-        Entry::accept(&input.text).map_err(|verdict| Problem::Refused(words::describe(name, &input.text, &verdict)))?;
-    let mut table = entry.load().map_err(|refusal| Problem::Refused(format!("{name}: {refusal}")))?;
-    for &fragment in aside {
-        table
-            .set_aside(fragment)
-            .map_err(|refusal| Problem::Refused(format!("{name}: fragment {}: {refusal}", fragment.0)))?;
+pub fn load<'t>(input: &'t Input, aside: &Aside) -> Result<Table<'t>, Problem> {
+    // The line that is refused is looked for only if there is one: the check would go over an accepted text once more.
+    let mut table = Table::load(&input.text).map_err(|refusal| {
+        let verdict = Entry::check(&input.text);
+        match verdict.refusal {
+            Some(_) => Problem::Refused(words::describe(&input.name, &input.text, &verdict)),
+            None => refused(input, refusal),
+        }
+    })?;
+    if !aside.is_empty() {
+        set_aside(input, &mut table, aside)?;
     }
     Ok(table)
 }
 
+/// Sets fragments aside, all by one arrangement: an order for each would judge the whole text anew each time.
+fn set_aside(input: &Input, table: &mut Table, aside: &Aside) -> Result<(), Problem> {
+    let count = table.fragments().map_err(|refusal| refused(input, refusal))?.count();
+    let marks = aside.marks(count).map_err(|fragment| {
+        let there = words::several(count as u64, "fragment");
+        let words = format!("fragment {fragment}: {}", Refusal::NO_FRAGMENT);
+        Problem::Refused(format!("{}: {words}\n  the entry has {there}", input.name))
+    })?;
+    table.arrange(&marks).map_err(|refusal| refused(input, refusal))
+}
+
+/// A refusal of something in an entry.
+pub fn refused(input: &Input, refusal: Refusal) -> Problem {
+    Problem::Refused(format!("{}: {refusal}", input.name))
+}
+
 /// Lists the fragments of an entry.
-pub fn run(file: &Path, aside: &[FragmentNumber], out: &mut Console) -> Result<Status, Problem> {
+pub fn run(file: &Path, aside: &Aside, out: &mut Console) -> Result<Status, Problem> {
     let input = input::read(file)?;
     let table = load(&input, aside)?;
+    let fragments = table.fragments().map_err(|refusal| refused(&input, refusal))?;
     out.say_line("fragment  chain  residues  atoms  first      last       where")?;
-    for fragment in table.fragments() {
+    for fragment in fragments {
         let place = match fragment.mark() {
             Some(Mark::In) => "in",
             Some(Mark::Aside) => "aside",

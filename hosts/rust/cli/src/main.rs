@@ -1,6 +1,7 @@
 //! The command line of the station: `station --help`.
 
 mod arguments;
+mod aside;
 mod check;
 mod counts;
 mod draw;

@@ -2,9 +2,8 @@
 
 use std::path::Path;
 
-use station::FragmentNumber;
-
-use crate::fragments;
+use crate::aside::Aside;
+use crate::fragments::{self, refused};
 use crate::input;
 use crate::output::{write_all, Console, Order};
 use crate::problem::{Problem, Status};
@@ -13,7 +12,7 @@ use crate::words::{output_name, several};
 /// Saves an entry without some fragments, and the tray.
 pub fn run(
     file: &Path,
-    aside: &[FragmentNumber],
+    aside: &Aside,
     out: &Path,
     tray: Option<&Path>,
     force: bool,
@@ -21,9 +20,8 @@ pub fn run(
 ) -> Result<Status, Problem> {
     let input = input::read(file)?;
     let table = fragments::load(&input, aside)?;
-    let refused = |refusal| Problem::Refused(format!("{}: {refusal}", input.name));
-    let saved = table.save().map_err(refused)?;
-    let dropped = table.tray().map_err(refused)?;
+    let saved = table.save().map_err(|refusal| refused(&input, refusal))?;
+    let dropped = table.tray().map_err(|refusal| refused(&input, refusal))?;
     let mut orders = vec![Order { option: "--out", path: out, bytes: &saved }];
     if let Some(path) = tray {
         orders.push(Order { option: "--tray", path, bytes: &dropped });

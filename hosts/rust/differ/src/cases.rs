@@ -82,9 +82,16 @@ fn a_text(harness: &mut Harness, chance: &mut Chance) {
             harness.tray(&bytes, &table, room);
         }
     }
+    if chance.once_in(2) {
+        let list = any_list(chance, 4);
+        harness.arrange(&bytes, &mut table, &list);
+    } else {
+        let room = any_room(chance, coordinates);
+        harness.fragments(&bytes, &table, room);
+    }
 }
 
-/// An accepted entry and its table: orders, damage, saving, drawing.
+/// An accepted entry and its table: orders, arrangements, damage, saving, drawing.
 fn a_table(harness: &mut Harness, chance: &mut Chance) {
     let bytes = text(&entry(chance));
     let needed = reference::table::loaded(&bytes).map_or(0, |slots| slots.len());
@@ -101,16 +108,20 @@ fn a_table(harness: &mut Harness, chance: &mut Chance) {
         let (fragment, aside) = any_order(chance, fragments);
         harness.order(&bytes, &mut table, fragment, aside);
     }
+    for _ in 0..chance.below(3) {
+        let list = any_list(chance, fragments);
+        harness.arrange(&bytes, &mut table, &list);
+    }
     if chance.once_in(3) {
         damage_table(chance, &mut table);
-        let (fragment, aside) = any_order(chance, fragments);
-        harness.order(&bytes, &mut table, fragment, aside);
+        moved(harness, chance, &bytes, &mut table, fragments);
     }
     if chance.once_in(10) {
         table.truncate(chance.below(table.len() + 1));
-        let (fragment, aside) = any_order(chance, fragments);
-        harness.order(&bytes, &mut table, fragment, aside);
+        moved(harness, chance, &bytes, &mut table, fragments);
     }
+    let room = any_room(chance, needed);
+    harness.fragments(&bytes, &table, room);
     let own: Vec<reference::Slot> = table.iter().map(to_reference).collect();
     let mut out = vec![0; bytes.len()];
     let saved = reference::save(&bytes, &own, &mut out).unwrap_or(bytes.len());
@@ -121,6 +132,14 @@ fn a_table(harness: &mut Harness, chance: &mut Chance) {
     if chance.once_in(3) {
         harness.frame(&table);
     }
+}
+
+/// An order and an arrangement, on a table that may be damaged or too short.
+fn moved(harness: &mut Harness, chance: &mut Chance, text: &[u8], table: &mut [Slot], fragments: usize) {
+    let (fragment, aside) = any_order(chance, fragments);
+    harness.order(text, table, fragment, aside);
+    let list = any_list(chance, fragments);
+    harness.arrange(text, table, &list);
 }
 
 /// Some lines, each by itself.
@@ -211,6 +230,8 @@ fn noise(harness: &mut Harness, chance: &mut Chance) {
     let mut table = vec![before; chance.below(3)];
     harness.load(&bytes, &mut table);
     harness.order(&bytes, &mut table, 1, 1);
+    harness.arrange(&bytes, &mut table, &[1]);
+    harness.fragments(&bytes, &table, length);
     harness.save(&bytes, &table, length);
     harness.tray(&bytes, &table, length);
 }
@@ -253,6 +274,19 @@ fn any_order(chance: &mut Chance, fragments: usize) -> (u32, u8) {
         _ => 1 + chance.below(fragments) as u32,
     };
     (fragment, *chance.pick(&[0, 1, 1, 1, 2, 255]))
+}
+
+/// A list of bytes for so many fragments: mostly one each, also none, one too few, one too many, any number.
+fn any_list(chance: &mut Chance, fragments: usize) -> Vec<u8> {
+    let length = match chance.below(12) {
+        0 => 0,
+        1 => fragments.saturating_sub(1),
+        2 => fragments + 1,
+        3 => chance.below(2 * fragments + 4),
+        _ => fragments,
+    };
+    let any = chance.byte();
+    (0..length).map(|_| *chance.pick(&[0, 0, 0, 1, 1, 2, 255, any])).collect()
 }
 
 /// Room about what is needed: none, less, exactly, more.

@@ -9,6 +9,8 @@ pub enum Call {
     Check,
     Load,
     Order,
+    Arrange,
+    Fragments,
     Save,
     Tray,
     SlotOfLine,
@@ -21,10 +23,12 @@ pub enum Call {
 
 impl Call {
     /// All calls.
-    pub const ALL: [Call; 11] = [
+    pub const ALL: [Call; 13] = [
         Call::Check,
         Call::Load,
         Call::Order,
+        Call::Arrange,
+        Call::Fragments,
         Call::Save,
         Call::Tray,
         Call::SlotOfLine,
@@ -41,7 +45,8 @@ impl Call {
             Call::Check => &[0, 1, 2, 3, 4, 5, 6, 7, 8, 9, 10, 11, 12],
             Call::Load => &[0, 1, 2, 3, 4, 5, 6, 7, 8, 9, 10, 11, 12, 13],
             Call::Order => &[0, 1, 2, 3, 4, 5, 6, 7, 8, 9, 10, 11, 12, 13, 15, 16, 18],
-            Call::Save | Call::Tray => &[0, 1, 2, 3, 4, 5, 6, 7, 8, 9, 10, 11, 12, 13, 17, 18],
+            Call::Arrange => &[0, 1, 2, 3, 4, 5, 6, 7, 8, 9, 10, 11, 12, 13, 15, 18],
+            Call::Fragments | Call::Save | Call::Tray => &[0, 1, 2, 3, 4, 5, 6, 7, 8, 9, 10, 11, 12, 13, 17, 18],
             Call::SlotOfLine => &[0, 1, 3, 4, 6],
             Call::RewriteLine => &[0, 1, 3, 4, 6, 17],
             Call::Dot | Call::Stroke => &[0, 1],

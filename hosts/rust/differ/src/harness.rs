@@ -107,14 +107,74 @@ impl Harness {
         // SAFETY: all that is lent is as long as said.
         let came = unsafe { (self.library.order)(lent.start(), lent.len(), slots.start_mut(), room, fragment, aside) };
         let mut own: Vec<reference::Slot> = table.iter().map(to_reference).collect();
-        let mark = if aside == 0 { Mark::In } else { Mark::Aside };
-        let answer = reference::order(text, &mut own, FragmentNumber(fragment), mark);
+        let answer = reference::order(text, &mut own, FragmentNumber(fragment), Mark::asked(aside));
         for (slot, own) in table.iter_mut().zip(&own) {
             *slot = to_library(own);
         }
         slots.due().copy_from_slice(table);
         let memory = [("text", lent.first_wrong()), ("table", slots.first_wrong())];
         self.note(Call::Order, number(&answer), came, &memory);
+        number(&answer)
+    }
+
+    /// Arranges every fragment of a table by a list of bytes; the table then holds what is due. Orders one by one have to
+    /// leave the same table.
+    pub fn arrange(&mut self, text: &[u8], table: &mut [Slot], aside: &[u8]) -> u32 {
+        let lent = self.lend_text(text);
+        let list = self.lend(aside, self.guard);
+        let mut slots = self.lend_table(table);
+        let mut ordered = self.lend_table(table);
+        let (room, n, fragments) = (slots.len(), lent.len(), list.len());
+        // SAFETY: all that is lent is as long as said.
+        let came = unsafe { (self.library.arrange)(lent.start(), n, slots.start_mut(), room, list.start(), fragments) };
+        let mut own: Vec<reference::Slot> = table.iter().map(to_reference).collect();
+        let marks: Vec<Mark> = aside.iter().copied().map(Mark::asked).collect();
+        let answer = reference::arrange(text, &mut own, &marks);
+        for (slot, own) in table.iter_mut().zip(&own) {
+            *slot = to_library(own);
+        }
+        slots.due().copy_from_slice(table);
+        if answer.is_ok() {
+            for (&byte, fragment) in aside.iter().zip(1..) {
+                // A fragment that is already there is refused, and its slots stay as they are.
+                // SAFETY: all that is lent is as long as said.
+                unsafe { (self.library.order)(lent.start(), n, ordered.start_mut(), room, fragment, byte) };
+            }
+            ordered.due().copy_from_slice(table);
+        }
+        let memory = [
+            ("text", lent.first_wrong()),
+            ("list", list.first_wrong()),
+            ("table", slots.first_wrong()),
+            ("table by orders", ordered.first_wrong()),
+        ];
+        self.note(Call::Arrange, number(&answer), came, &memory);
+        number(&answer)
+    }
+
+    /// The fragments of the slots, into a room of so many numbers.
+    pub fn fragments(&mut self, text: &[u8], table: &[Slot], room: usize) -> u32 {
+        let lent = self.lend_text(text);
+        let slots = self.lend_table(table);
+        let found = u32::from_ne_bytes([self.guard ^ 0x3c; 4]);
+        let mut out = self.lend(&vec![found; room], u32::from_ne_bytes([self.guard; 4]));
+        let mut count = self.lend_count();
+        let (n, length) = (lent.len(), slots.len());
+        // SAFETY: all that is lent is as long as said.
+        let came = unsafe {
+            let name = self.library.fragments;
+            name(lent.start(), n, slots.start(), length, out.start_mut(), room, count.start_mut())
+        };
+        let own: Vec<reference::Slot> = table.iter().map(to_reference).collect();
+        let answer = reference::fragment_numbers(text, &own, out.due());
+        count.due()[0] = answer.map_or(0, |numbers| numbers as u64);
+        let memory = [
+            ("text", lent.first_wrong()),
+            ("table", slots.first_wrong()),
+            ("numbers", out.first_wrong()),
+            ("count", count.first_wrong()),
+        ];
+        self.note(Call::Fragments, number(&answer), came, &memory);
         number(&answer)
     }
 

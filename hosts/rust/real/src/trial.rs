@@ -184,16 +184,25 @@ impl<'e> Trial<'e> {
         let loaded = own_by_number(reference::load(self.text, &mut own));
         self.hold(format_args!("load: reference {loaded:?}"), loaded == Ok(own.len()));
         self.same_slots(&table, &own);
-        let count = table.fragments().count();
+        let count = self.numbers(&table, &own);
         self.hold(
             format_args!("{count} fragments, not as listed"),
             self.listed.accepted.map(|(_, n)| n) == Some(count),
         );
-        self.hold("the reference has other fragments", reference::fragments(&own).len() == count);
         for choice in choices(&mut self.chance, count) {
             self.choices += 1;
             self.set_aside(&mut table, &mut own, &choice);
         }
+    }
+
+    /// How many fragments there are, by the numbers that both sides give to the slots.
+    fn numbers(&mut self, table: &Table<'_>, own: &[Slot]) -> usize {
+        let library = by_number(table.fragment_numbers())
+            .map(|numbers| numbers.into_iter().map(|number| number.0).collect::<Vec<_>>());
+        let mut out = vec![0; own.len()];
+        let reference = own_by_number(reference::fragment_numbers(self.text, own, &mut out)).map(|_| out);
+        self.hold("the fragments of the slots differ", library == reference);
+        library.ok().and_then(|numbers| numbers.last().copied()).unwrap_or(0) as usize
     }
 
     fn same_slots(&mut self, table: &Table<'_>, own: &[Slot]) {
@@ -235,6 +244,7 @@ impl<'e> Trial<'e> {
             self.order(table, own, fragment, Mark::Aside, Err(16));
         }
         self.same_slots(table, own);
+        self.arranged(table, choice);
         if let Some((saved, tray)) = self.outputs(table, own) {
             let (library, reference) = (of_library(&saved), of_reference(&saved));
             self.hold(format_args!("saved: {library:?} and {reference:?}"), library == reference && library[0] == 0);
@@ -246,6 +256,20 @@ impl<'e> Trial<'e> {
         }
         if let Some((saved, tray)) = self.outputs(table, own) {
             self.hold("put back, another entry is saved", saved == self.text && tray.is_empty());
+        }
+    }
+
+    /// The same fragments set aside at once give the same table, from whatever it was before.
+    fn arranged(&mut self, table: &Table<'_>, choice: &[u32]) {
+        let count = self.numbers(table, &table.slots().iter().map(to_reference).collect::<Vec<_>>());
+        let mark = |aside: bool| if aside { station::Mark::Aside } else { station::Mark::In };
+        let marks: Vec<_> = (1..=count as u32).map(|number| mark(choice.contains(&number))).collect();
+        let others: Vec<_> = marks.iter().map(|&other| mark(other == station::Mark::In)).collect();
+        let mut fresh = table.clone();
+        for (list, same) in [(&others, false), (&marks, true), (&marks, true)] {
+            let answer = by_number(fresh.arrange(list));
+            let alike = fresh.slots() == table.slots();
+            self.hold(format_args!("arranged: {answer:?}, alike: {alike}"), answer.is_ok() && alike == same);
         }
     }
 
@@ -274,7 +298,7 @@ impl<'e> Trial<'e> {
     fn in_the_tray(&mut self, table: &Table<'_>, choice: &[u32], tray: &[u8]) {
         let mut coordinates = pieces(self.text).filter(|piece| named(piece, COORDINATES));
         let mut due = Vec::new();
-        for fragment in table.fragments() {
+        for fragment in table.fragments().into_iter().flatten() {
             let lines = coordinates.by_ref().take(fragment.slots.len());
             if choice.contains(&fragment.number.0) {
                 due.extend(lines);

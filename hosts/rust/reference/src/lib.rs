@@ -6,7 +6,8 @@
 //!
 //! One module for each part of the rules: [`columns`] (fields), [`element`], [`mod@line`] (names and places),
 //! [`record`] (what a line says), [`reading`] and [`writing`] (one line by itself), [`mod@check`] (a whole text),
-//! [`table`] (slots, fragments, orders), [`saved`] (saving and tray), [`tally`] and [`feed`] (dots, strokes, frame).
+//! [`table`] (slots, fragments, orders, arrangements), [`saved`] (saving and tray), [`tally`] and [`feed`] (dots,
+//! strokes, frame).
 
 #![forbid(unsafe_code)]
 #![warn(missing_docs)]
@@ -33,7 +34,7 @@ pub use reading::read_line;
 pub use record::Record;
 pub use refusal::Refusal;
 pub use saved::{save, tray};
-pub use table::{fragments, load, order, slot_of_line, Mark, Slot};
+pub use table::{arrange, fragment_numbers, fragments, load, order, slot_of_line, Mark, Slot};
 pub use tally::{count_line, Tally};
 pub use writing::{rewrite_line, write_record};
 

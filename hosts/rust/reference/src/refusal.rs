@@ -32,7 +32,7 @@ pub enum Refusal {
     ShortTable = 13,
     /// The count that the tally would raise is full.
     Full = 14,
-    /// There is no fragment of this number.
+    /// There is no fragment of this number, or a list has not one byte for each.
     NoFragment = 15,
     /// The fragment has this mark already.
     AlreadyThere = 16,

@@ -1,4 +1,4 @@
-//! The table of coordinates: slots, fragments, orders.
+//! The table of coordinates: slots, fragments, orders, arrangements.
 
 use std::ops::Range;
 
@@ -125,6 +125,14 @@ impl Mark {
             Mark::Aside => 1,
         }
     }
+
+    /// The mark that a byte of an order or of a list asks for.
+    pub fn asked(byte: u8) -> Mark {
+        match byte {
+            0 => Mark::In,
+            _ => Mark::Aside,
+        }
+    }
 }
 
 /// The slot of one line read by itself, marked "in".
@@ -202,6 +210,30 @@ pub fn order(text: &[u8], table: &mut [Slot], fragment: FragmentNumber, mark: Ma
     Ok(())
 }
 
+/// Marks every fragment at once, by a list of one mark each.
+pub fn arrange(text: &[u8], table: &mut [Slot], marks: &[Mark]) -> Result<(), Refusal> {
+    let fragments = fragments(&belonging(text, table)?);
+    if marks.len() != fragments.len() {
+        return Err(Refusal::NoFragment);
+    }
+    for (range, mark) in fragments.into_iter().zip(marks) {
+        for slot in &mut table[range] {
+            slot.mark = mark.byte();
+        }
+    }
+    Ok(())
+}
+
+/// Writes the number of its fragment for each slot that the text needs, and tells how many numbers.
+pub fn fragment_numbers(text: &[u8], table: &[Slot], out: &mut [u32]) -> Result<usize, Refusal> {
+    let own = belonging(text, table)?;
+    let place = out.get_mut(..own.len()).ok_or(Refusal::ShortOutput)?;
+    for (range, number) in fragments(&own).into_iter().zip(1..) {
+        place[range].fill(number);
+    }
+    Ok(own.len())
+}
+
 #[cfg(test)]
 mod tests {
     use super::*;
@@ -265,6 +297,45 @@ mod tests {
         let mut spare = fresh;
         spare.push(Slot { mark: 77, ..Slot::default() });
         assert_eq!(order(&entry, &mut spare, FragmentNumber(3), Mark::Aside), Ok(()));
+    }
+
+    #[test]
+    fn arrangements() {
+        let entry = three_fragments(&[]);
+        let mut slots = table(&entry);
+        let mut arranged = |bytes: &[u8]| {
+            let marks: Vec<Mark> = bytes.iter().copied().map(Mark::asked).collect();
+            let answer = arrange(&entry, &mut slots, &marks);
+            answer.map(|()| slots.iter().map(|slot| slot.mark).collect::<Vec<_>>())
+        };
+        assert_eq!(arranged(&[0, 1, 0]), Ok(vec![0, 0, 1, 0]));
+        assert_eq!(arranged(&[0, 1, 0]), Ok(vec![0, 0, 1, 0]));
+        for wrong in [&[][..], &[0, 1], &[0; 4]] {
+            assert_eq!(arranged(wrong), Err(Refusal::NoFragment));
+        }
+        assert_eq!(arranged(&[1, 0, 255]), Ok(vec![1, 1, 0, 1]));
+        assert_eq!(arrange(&entry, &mut slots[..3], &[]), Err(Refusal::ShortTable));
+        slots[0].mark = 0;
+        assert_eq!(arrange(&entry, &mut slots, &[]), Err(Refusal::OtherTable));
+        let bare = text(&[line("HEADER"), master([0; 9]), line("END")]);
+        assert_eq!(arrange(&bare, &mut [], &[]), Ok(()));
+        assert_eq!(arrange(&bare, &mut [], &[Mark::In]), Err(Refusal::NoFragment));
+    }
+
+    #[test]
+    fn numbers_of_fragments() {
+        let entry = three_fragments(&[]);
+        let mut slots = table(&entry);
+        let mut out = [77; 6];
+        assert_eq!(fragment_numbers(&entry, &slots, &mut out[..3]), Err(Refusal::ShortOutput));
+        assert_eq!(fragment_numbers(&entry, &slots[..3], &mut out), Err(Refusal::ShortTable));
+        assert_eq!(out, [77; 6]);
+        order(&entry, &mut slots, FragmentNumber(2), Mark::Aside).expect("a fragment");
+        slots.push(Slot { mark: 77, ..Slot::default() });
+        assert_eq!(fragment_numbers(&entry, &slots, &mut out), Ok(4));
+        assert_eq!(out, [1, 1, 2, 3, 77, 77]);
+        slots[1].mark = 1;
+        assert_eq!(fragment_numbers(&entry, &slots, &mut []), Err(Refusal::OtherTable));
     }
 
     #[test]

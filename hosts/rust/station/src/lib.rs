@@ -1,7 +1,7 @@
 //! The proved library of the station, in Rust's own manners.
 //!
 //! [`Entry::check`] judges a text; [`Table`] holds the coordinates of an accepted one, sets fragments aside, puts them
-//! back and saves; [`Line`] is one line by itself; [`Tally`] counts lines; [`Dot`], [`Stroke`] and [`Frame`] are what a
+//! back, one by one or all at once, and saves; [`Line`] is one line by itself; [`Tally`] counts lines; [`Dot`], [`Stroke`] and [`Frame`] are what a
 //! renderer draws. Everything that can be refused is a [`Result`] with a [`Refusal`].
 //!
 //! ```
@@ -16,6 +16,7 @@
 
 mod entry;
 mod feed;
+mod fragment;
 mod line;
 pub mod raw;
 mod refusal;
@@ -23,7 +24,8 @@ mod table;
 
 pub use entry::{pieces, Counts, Entry, Report, Verdict};
 pub use feed::{Dot, Frame, Stroke};
+pub use fragment::{Fragment, Fragments};
 pub use line::Line;
 pub use raw::{Slot, Tally};
 pub use refusal::Refusal;
-pub use table::{Fragment, FragmentNumber, Fragments, Kind, Mark, Table};
+pub use table::{FragmentNumber, Kind, Mark, Table};

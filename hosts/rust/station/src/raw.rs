@@ -87,6 +87,14 @@ names! {
     fn station_load as load(text: *const u8, n: usize, table: *mut Slot, slots: usize, count: *mut u64);
     /// Sets a fragment aside, or puts it back.
     fn station_order as order(text: *const u8, n: usize, table: *mut Slot, slots: usize, fragment: u32, aside: u8);
+    /// Sets every fragment aside or puts it back, by a byte for each.
+    fn station_arrange as arrange(
+        text: *const u8, n: usize, table: *mut Slot, slots: usize, aside: *const u8, fragments: usize,
+    );
+    /// Tells the number of its fragment for each slot.
+    fn station_fragments as fragments(
+        text: *const u8, n: usize, table: *const Slot, slots: usize, out: *mut u32, room: usize, count: *mut u64,
+    );
     /// Writes the entry without what was set aside.
     fn station_save as save(
         text: *const u8, n: usize, table: *const Slot, slots: usize, out: *mut u8, room: usize, count: *mut u64,

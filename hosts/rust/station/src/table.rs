@@ -1,8 +1,8 @@
-//! The table of an entry's coordinates: fragments, orders, saving.
+//! The table of an entry's coordinates: orders, arrangements, saving.
 
 use crate::feed::{Frame, Stroke};
-use crate::raw::{station_load, station_order, station_save, station_tray, Slot};
-use crate::{Dot, Entry, Refusal};
+use crate::raw::{station_arrange, station_fragments, station_load, station_order, station_save, station_tray, Slot};
+use crate::{pieces, Dot, Fragments, Refusal};
 
 /// The number of a fragment, from 1.
 #[derive(Clone, Copy, Debug, PartialEq, Eq, PartialOrd, Ord, Hash)]
@@ -72,7 +72,7 @@ impl Slot {
 ///
 /// ```
 /// # fn main() -> Result<(), station::Refusal> {
-/// use station::{FragmentNumber, Refusal, Table};
+/// use station::{FragmentNumber, Mark, Refusal, Table};
 ///
 /// let atom = |name: &str, serial: u32, chain: char, number: i32| {
 ///     format!("{name:6}{serial:5}  C   ALA {chain}{number:4}       1.000   2.000   3.000  1.00  0.00           C  \n")
@@ -87,13 +87,15 @@ impl Slot {
 /// let text = format!("{head}{second}{third}{}{end}", master(3));
 ///
 /// let mut table = Table::load(text.as_bytes())?;
-/// assert_eq!(table.fragments().count(), 3);
+/// assert_eq!(table.fragments()?.count(), 3);
 /// table.set_aside(FragmentNumber(2))?;
 /// assert_eq!(table.set_aside(FragmentNumber(2)), Err(Refusal::ALREADY_THERE));
 /// assert_eq!(table.save()?, format!("{head}{third}{}{end}", master(2)).into_bytes());
-/// assert_eq!(table.tray()?, second.into_bytes());
+/// assert_eq!(table.tray()?, second.as_bytes());
 /// table.put_back(FragmentNumber(2))?;
 /// assert_eq!(table.save()?, text.as_bytes());
+/// table.arrange(&[Mark::In, Mark::Aside, Mark::In])?;
+/// assert_eq!(table.tray()?, second.into_bytes());
 /// # Ok(()) }
 /// ```
 #[derive(Clone, Debug)]
@@ -105,16 +107,12 @@ pub struct Table<'t> {
 impl<'t> Table<'t> {
     /// Loads a text, every fragment in.
     pub fn load(text: &'t [u8]) -> Result<Table<'t>, Refusal> {
-        let verdict = Entry::check(text);
-        verdict.granted()?;
-        // Each slot is a line of the text, so their number fits.
-        let needed = usize::try_from(verdict.counts.coord + verdict.counts.ter).unwrap_or(text.len());
-        let mut slots = vec![Slot::default(); needed];
+        let mut slots = vec![Slot::default(); slotted(text)];
         let mut count = 0;
         // SAFETY: text, table and count are as long as said, and no two of them overlap.
         let number = unsafe { station_load(text.as_ptr(), text.len(), slots.as_mut_ptr(), slots.len(), &mut count) };
         Refusal::of(number)?;
-        slots.truncate(usize::try_from(count).unwrap_or(needed));
+        slots.truncate(usize::try_from(count).unwrap_or(slots.len()));
         Ok(Table { text, slots })
     }
 
@@ -148,6 +146,38 @@ impl<'t> Table<'t> {
         self.order(fragment, Mark::In)
     }
 
+    /// Marks every fragment at once, from the first on. The list has a mark for each.
+    pub fn arrange(&mut self, marks: &[Mark]) -> Result<(), Refusal> {
+        let (text, slots) = (self.text, &mut self.slots);
+        let aside: Vec<u8> = marks.iter().map(|&mark| u8::from(mark == Mark::Aside)).collect();
+        // SAFETY: text, table and list are as long as said, and the table overlaps neither of the others.
+        let number = unsafe {
+            let (table, count) = (slots.as_mut_ptr(), slots.len());
+            station_arrange(text.as_ptr(), text.len(), table, count, aside.as_ptr(), aside.len())
+        };
+        Refusal::of(number)
+    }
+
+    /// The number of its fragment, for each slot.
+    pub fn fragment_numbers(&self) -> Result<Vec<FragmentNumber>, Refusal> {
+        let (text, slots) = (self.text, &self.slots);
+        let mut out = vec![0; slots.len()];
+        let mut count = 0;
+        // SAFETY: text, table, output and count are as long as said, and no two of them overlap.
+        let number = unsafe {
+            let (table, room) = (slots.as_ptr(), out.len());
+            station_fragments(text.as_ptr(), text.len(), table, slots.len(), out.as_mut_ptr(), room, &mut count)
+        };
+        Refusal::of(number)?;
+        out.truncate(usize::try_from(count).unwrap_or(slots.len()));
+        Ok(out.into_iter().map(FragmentNumber).collect())
+    }
+
+    /// The fragments, in order.
+    pub fn fragments(&self) -> Result<Fragments<'_>, Refusal> {
+        Ok(Fragments::of(&self.slots, self.fragment_numbers()?))
+    }
+
     /// The entry without what is set aside.
     pub fn save(&self) -> Result<Vec<u8>, Refusal> {
         self.written(station_save)
@@ -172,13 +202,6 @@ impl<'t> Table<'t> {
         Ok(out)
     }
 
-    /// The fragments, in order.
-    pub fn fragments(&self) -> Fragments<'_> {
-        let closed = self.slots.iter().rposition(|slot| slot.kind() == Some(Kind::Ter)).map_or(0, |last| last + 1);
-        let (closed, tail) = self.slots.split_at(closed);
-        Fragments { closed, tail, number: 0 }
-    }
-
     /// The frame of the atoms that are in.
     pub fn frame(&self) -> Result<Frame, Refusal> {
         Frame::of(&self.slots)
@@ -187,59 +210,9 @@ impl<'t> Table<'t> {
 
 type Write = unsafe extern "C" fn(*const u8, usize, *const Slot, usize, *mut u8, usize, *mut u64) -> u32;
 
-/// The fragments of a table.
-#[derive(Clone, Debug)]
-pub struct Fragments<'a> {
-    closed: &'a [Slot],
-    tail: &'a [Slot],
-    number: u32,
-}
-
-/// One fragment: a run with its TER, or a residue of the tail.
-#[derive(Clone, Copy, Debug)]
-pub struct Fragment<'a> {
-    /// Its number.
-    pub number: FragmentNumber,
-    /// Its slots; there is at least one.
-    pub slots: &'a [Slot],
-}
-
-impl<'a> Iterator for Fragments<'a> {
-    type Item = Fragment<'a>;
-
-    fn next(&mut self) -> Option<Fragment<'a>> {
-        let slots;
-        if let Some(ter) = self.closed.iter().position(|slot| slot.kind() == Some(Kind::Ter)) {
-            (slots, self.closed) = self.closed.split_at(ter + 1);
-        } else {
-            let first = self.tail.first()?;
-            let length = self.tail.iter().take_while(|slot| slot.same_residue(first)).count();
-            (slots, self.tail) = self.tail.split_at(length);
-        }
-        self.number = self.number.saturating_add(1);
-        Some(Fragment { number: FragmentNumber(self.number), slots })
-    }
-}
-
-impl Fragment<'_> {
-    /// Where the fragment is.
-    pub fn mark(&self) -> Option<Mark> {
-        self.slots.first().and_then(Slot::mark)
-    }
-
-    /// Its chain. All lines of a fragment have the same.
-    pub fn chain(&self) -> char {
-        self.slots.first().map_or(' ', |slot| char::from(slot.chain))
-    }
-
-    /// How many ATOM and HETATM lines it has.
-    pub fn atoms(&self) -> usize {
-        self.slots.iter().filter(|slot| slot.is_coordinate()).count()
-    }
-
-    /// Its residues in order: the first slot of each stretch of lines that name one residue.
-    pub fn residues(&self) -> impl Iterator<Item = &Slot> {
-        let begins = |index: usize| index == 0 || !self.slots[index].same_residue(&self.slots[index - 1]);
-        self.slots.iter().enumerate().filter(move |(index, _)| begins(*index)).map(|(_, slot)| slot)
-    }
+/// How many lines have a name that a table has slots for. An accepted text needs so many slots; any other is refused
+/// before the table's length is looked at.
+fn slotted(text: &[u8]) -> usize {
+    const NAMES: [&[u8]; 3] = [b"ATOM  ", b"HETATM", b"TER   "];
+    pieces(text).filter(|piece| NAMES.iter().any(|name| piece.starts_with(name))).count()
 }

@@ -40,7 +40,7 @@ fn fragments_are_a_view() -> Result<(), Refusal> {
     let mut table = Table::load(text.as_bytes())?;
     table.set_aside(FragmentNumber(2))?;
     let seen: Vec<_> = table
-        .fragments()
+        .fragments()?
         .map(|fragment| {
             let residues = fragment.residues().count();
             (fragment.number.0, fragment.chain(), residues, fragment.atoms(), fragment.mark())
@@ -49,6 +49,28 @@ fn fragments_are_a_view() -> Result<(), Refusal> {
     let expected = [(1, 'A', 2, 3, Some(Mark::In)), (2, 'B', 1, 2, Some(Mark::Aside)), (3, 'B', 1, 1, Some(Mark::In))];
     assert_eq!(seen, expected);
     assert_eq!(table.slots()[3].kind(), Some(Kind::Ter));
+    assert_eq!(table.fragment_numbers()?, [1, 1, 1, 1, 2, 2, 3].map(FragmentNumber));
+    let bare = [line("HEADER"), master(0, 0, 0), line("END")].concat();
+    assert_eq!(Table::load(bare.as_bytes())?.fragments()?.count(), 0);
+    Ok(())
+}
+
+#[test]
+fn an_arrangement_is_orders_one_by_one() -> Result<(), Refusal> {
+    let text = entry();
+    let mut arranged = Table::load(text.as_bytes())?;
+    for choice in 0..8u32 {
+        let mark = |fragment: u32| if choice & (1 << fragment) == 0 { Mark::In } else { Mark::Aside };
+        let mut ordered = Table::load(text.as_bytes())?;
+        for fragment in (0..3).filter(|&fragment| mark(fragment) == Mark::Aside) {
+            ordered.set_aside(FragmentNumber(fragment + 1))?;
+        }
+        arranged.arrange(&[mark(0), mark(1), mark(2)])?;
+        assert_eq!(arranged.slots(), ordered.slots());
+    }
+    assert_eq!(arranged.arrange(&[Mark::In; 2]), Err(Refusal::NO_FRAGMENT));
+    assert_eq!(arranged.arrange(&[Mark::In; 4]), Err(Refusal::NO_FRAGMENT));
+    assert!(arranged.slots().iter().all(|slot| slot.mark() == Some(Mark::Aside)));
     Ok(())
 }
 

@@ -15,7 +15,7 @@ enum-told : tie.Need-enum-told
 enum-told c = search needs
 
 returns : tie.Need-returns
-returns c = rw (c .before .before .before .before .b .given .1, c .either-of .ensures, c .before .before .not-of .ensures)
+returns c = rw (c .before .before .before .before .before .b .given .1, c .either-of .ensures, c .before .before .before .not-of .ensures)
 
 returns-2 : tie.Need-returns-2
 returns-2 c = rw (c .enum-told .given .1)

@@ -345,8 +345,8 @@ module _ (claims· : Claims) where
       module _ (M : Type 1) where
         abbrev pub Closed : Type 2
         Closed = (𝓤 : URA.URA M) (H : Wp.Heap 𝓤) (A : Atoms.Atoms 𝓤) (W : Kit.Given 𝓤 H A) (𝓣 : Wp.Tables 𝓤 H) (known0 : Plain.Known 𝓤 H A W 𝓣 0 ps·0 r·0
-            (claims· .0) (claims· .1) "feed::dot") (known1 : Plain.Known 𝓤 H A W 𝓣 1 ps·1 r·1 (claims· .2) (claims· .3) "answers::put_dot") →
-            Statement.Triple 𝓤 (Wp.WpFn 𝓤 H (𝓣 .C) (𝓣 .Λ) (Function.fnOf 2 ps r xs m hs body)) (Function.plainOf 𝓤 H A 2 ps r Pre· Post·)
+            (claims· .0) (claims· .1) "feed::dot") (known1 : Plain.Known 𝓤 H A W 𝓣 1 ps·1 r·1 (claims· .2) (claims· .3) "answers::put_dot") → Statement.Triple 𝓤
+            (Wp.WpFn 𝓤 H (𝓣 .C) (𝓣 .Λ) (Function.fnOf 2 ps r xs m hs body)) (Function.plainOf 𝓤 H A 2 ps r Pre· Post·)
 
       module _ where
         abbrev at0 : Typed.TF T10 O0
@@ -517,31 +517,31 @@ module _ (claims· : Claims) where
                 (Syntax.tcons (Syntax.tyFloat Ieee.binary64) Syntax.tnil)))))) (Syntax.ttcons Syntax.tnil Syntax.ttnil)))) Path'.refl)) d3
 
             d5 : Typed.Typed 𝓤 H A 𝓣 E G6 b5 Δ0 at5
-            d5 = Typed.s-seq 𝓤 H A W 𝓣 E G6 G7 b3 b4 Δ0 (Typed.both s5) at4 (Plain.t-call-plain 𝓤 H A W 𝓣 1 ps·1 r·1 (claims· .2) (claims· .3)
-                "answers::put_dot" (known .1) E (λ pos β. β) G6 (
+            d5 = Typed.s-seq 𝓤 H A W 𝓣 E G6 G7 b3 b4 Δ0 (Typed.both s5) at4 (Plain.t-call-plain 𝓤 H A W 𝓣 1 ps·1 r·1 (claims· .2) (claims· .3) "answers::put_dot"
+                (known .1) E (λ pos β. β) G6 (
                   record { pos = 3; st = []; d = 0; at = λ x. x },
                   (
                     record {
                       pos = 5;
-                      ty =
-                          Syntax.tyRef Syntax.erased Syntax.mut (Syntax.tyArray (Syntax.tyFloat Ieee.binary64) 3);
+                      ty = Syntax.tyRef Syntax.erased Syntax.mut
+                          (Syntax.tyArray (Syntax.tyFloat Ieee.binary64) 3);
                       ref = λ x. x;
                     },
                     tt,
                   ),
-                ) 0 (2 ∷ []) (Call.sub-id 𝓤 H A W
-                (G6 .slots)) (
+                ) 0 (2 ∷ []) (Call.sub-id 𝓤 H A W (G6 .slots)) (
                   (
-                    Yields.yields-copy 𝓤 H A W (λ ρ. Unit) (Declared.row Drawn.the-type) Path'.refl (Copies.cEnum Drawn.the-type Laws.the-laws
-                        Laws.the-copy .copy 𝓤 H A W) (Rows'.whole (Declared.row Drawn.the-type)) (λ x. x) (λ x. x) (λ ρ told. Local.mem-whole 𝓤 H A W (Declared.row
-                        Drawn.the-type) ρ) λ ρ told. Local.whole-mem 𝓤 H A W (Declared.row Drawn.the-type) ρ,
+                    Yields.yields-copy 𝓤 H A
+                        W (λ ρ. Unit) (Declared.row Drawn.the-type) Path'.refl (Copies.cEnum Drawn.the-type Laws.the-laws Laws.the-copy .copy 𝓤 H A W) (Rows'.whole
+                        (Declared.row Drawn.the-type)) (λ x. x) (λ x. x) (λ ρ told. Local.mem-whole 𝓤 H A W (Declared.row Drawn.the-type) ρ) λ ρ told. Local.whole-mem 𝓤
+                        H A W (Declared.row Drawn.the-type) ρ,
                     Path'.refl,
                   ),
                   (
-                    Reads.as-is 𝓤 H A (Rows'.mref (Array'.Array
-                        (Referent.rtF (Referent.fFloat Ieee.binary64)) 3) (Syntax.tyRef Syntax.erased Syntax.mut (Syntax.tyArray (Syntax.tyFloat Ieee.binary64) 3)) 2),
-                    Reads.reads-mref 𝓤 H A W (Array'.Array (Referent.rtF (Referent.fFloat Ieee.binary64)) 3) (Syntax.tyRef Syntax.erased Syntax.mut (Syntax.tyArray
-                        (Syntax.tyFloat Ieee.binary64) 3)) 2,
+                    Reads.as-is 𝓤 H A (Rows'.mref (Array'.Array (Referent.rtF (Referent.fFloat Ieee.binary64))
+                        3) (Syntax.tyRef Syntax.erased Syntax.mut (Syntax.tyArray (Syntax.tyFloat Ieee.binary64) 3)) 2),
+                    Reads.reads-mref 𝓤 H A W (Array'.Array
+                        (Referent.rtF (Referent.fFloat Ieee.binary64)) 3) (Syntax.tyRef Syntax.erased Syntax.mut (Syntax.tyArray (Syntax.tyFloat Ieee.binary64) 3)) 2,
                     Path'.refl,
                     tt,
                   ),
@@ -756,7 +756,6 @@ module _ (claims· : Claims) where
             asked = λ a good pre bs. laid record { κs = κs; args = record { slot = a .0; out = a .1 .0 }; good = good; pre = pre }
 
           module _ {M : Type 1} (𝓤 : URA.URA M) (H : Wp.Heap 𝓤) (A : Atoms.Atoms 𝓤) (W : Kit.Given 𝓤 H A) (𝓣 : Wp.Tables 𝓤 H) (known0 : Plain.Known 𝓤 H A W 𝓣 0
-              ps·0 r·0 (claims· .0) (claims· .1) "feed::dot") (known1 : Plain.Known 𝓤 H A W 𝓣 1 ps·1 r·1 (claims· .2) (claims· .3) "answers::put_dot")
-            where
-              pub spec : Statement.Triple 𝓤 (Wp.WpFn 𝓤 H (𝓣 .C) (𝓣 .Λ) (Function.fnOf 2 ps r xs m hs body)) (Function.plainOf 𝓤 H A 2 ps r Pre· Post·)
-              spec = Plain.t-fn-plain 𝓤 H A W 𝓣 2 ps r xs m hs body (λ κs qs bs. Φ) (λ κs qs bs bd. typed κs qs 𝓤 H A W 𝓣 (known0, known1) bs bd) Pre· Post· asked
+              ps·0 r·0 (claims· .0) (claims· .1) "feed::dot") (known1 : Plain.Known 𝓤 H A W 𝓣 1 ps·1 r·1 (claims· .2) (claims· .3) "answers::put_dot") where
+            pub spec : Statement.Triple 𝓤 (Wp.WpFn 𝓤 H (𝓣 .C) (𝓣 .Λ) (Function.fnOf 2 ps r xs m hs body)) (Function.plainOf 𝓤 H A 2 ps r Pre· Post·)
+            spec = Plain.t-fn-plain 𝓤 H A W 𝓣 2 ps r xs m hs body (λ κs qs bs. Φ) (λ κs qs bs bd. typed κs qs 𝓤 H A W 𝓣 (known0, known1) bs bd) Pre· Post· asked

@@ -241,9 +241,9 @@ module _ (claims· : Claims) where
       module _ (M : Type 1) where
         abbrev pub Closed : Type 2
         Closed = (𝓤 : URA.URA M) (H : Wp.Heap 𝓤) (A : Atoms.Atoms 𝓤) (W : Kit.Given 𝓤 H A) (𝓣 : Wp.Tables 𝓤 H) (known0 : Plain.Known 𝓤 H A W 𝓣 1 ps·0 r·0
-            (claims· .0) (claims· .1) "station::fill") (known1 : Plain.Known 𝓤 H A W 𝓣 0 ps·1 r·1 (claims· .2) (claims· .3)
-            "answers::filled_slot") (known2 : Plain.Known 𝓤 H A W 𝓣 0 ps·2 r·2 (claims· .4) (claims· .5) "answers::filled_number") →
-            Statement.Triple 𝓤 (Wp.WpFn 𝓤 H (𝓣 .C) (𝓣 .Λ) (Function.fnOf 2 ps r xs m hs body)) (Function.plainOf 𝓤 H A 2 ps r Pre· Post·)
+            (claims· .0) (claims· .1) "station::fill") (known1 : Plain.Known 𝓤 H A W 𝓣 0 ps·1 r·1 (claims· .2) (claims· .3) "answers::filled_slot") (known2 :
+            Plain.Known 𝓤 H A W 𝓣 0 ps·2 r·2 (claims· .4) (claims· .5) "answers::filled_number") → Statement.Triple 𝓤 (Wp.WpFn 𝓤 H (𝓣 .C) (𝓣 .Λ) (Function.fnOf 2
+            ps r xs m hs body)) (Function.plainOf 𝓤 H A 2 ps r Pre· Post·)
 
       module _ where
         abbrev at0 : Typed.TF T10 O0
@@ -281,8 +281,8 @@ module _ (claims· : Claims) where
 
         module _ {M : Type 1} (𝓤 : URA.URA M) (H : Wp.Heap 𝓤) (A : Atoms.Atoms 𝓤) (W : Kit.Given 𝓤 H A) (𝓣 : Wp.Tables 𝓤 H) where
           abbrev Knowns : Type 1
-          Knowns = Plain.Known 𝓤 H A W 𝓣 1 ps·0 r·0 (claims· .0) (claims· .1) "station::fill" × Plain.Known 𝓤 H A W 𝓣 0 ps·1 r·1 (claims· .2) (claims·
-              .3) "answers::filled_slot" × Plain.Known 𝓤 H A W 𝓣 0 ps·2 r·2 (claims· .4) (claims· .5) "answers::filled_number"
+          Knowns = Plain.Known 𝓤 H A W 𝓣 1 ps·0 r·0 (claims· .0) (claims· .1) "station::fill" × Plain.Known 𝓤 H A W 𝓣 0 ps·1 r·1 (claims· .2) (claims· .3)
+              "answers::filled_slot" × Plain.Known 𝓤 H A W 𝓣 0 ps·2 r·2 (claims· .4) (claims· .5) "answers::filled_number"
 
         module _ (κs : Lifetimes.Lfts 2) (qs : Lifetimes.Shares 2) where
           abbrev G0 : Row.Cx
@@ -334,8 +334,8 @@ module _ (claims· : Claims) where
 
             d2 : Typed.Typed 𝓤 H A 𝓣 E G8 b6 Δ0 at2
             d2 = Typed.s-seq 𝓤 H A W 𝓣 E G8 G9 b4 b5 Δ0 (Typed.both s7) at1 (Plain.t-call-plain 𝓤 H A W 𝓣 0 ps·2 r·2 (claims· .4) (claims· .5)
-                "answers::filled_number" (known .2) E (λ pos β. β) G8 (record { pos = 3; st = []; d = 0; at = λ x. x }, tt) 0 [] (Call.sub-id
-                𝓤 H A W (G8 .slots)) ((FilledAs.yields 𝓤 H A W, Path'.refl), tt) (Reads.room-gone 𝓤 H A (Syntax.tyInt Syntax.w32)) tt Path'.refl) d1
+                "answers::filled_number" (known .2) E (λ pos β. β) G8 (record { pos = 3; st = []; d = 0; at = λ x. x }, tt) 0 [] (Call.sub-id 𝓤 H A W
+                (G8 .slots)) ((FilledAs.yields 𝓤 H A W, Path'.refl), tt) (Reads.room-gone 𝓤 H A (Syntax.tyInt Syntax.w32)) tt Path'.refl) d1
 
             d3 : Typed.Typed 𝓤 H A 𝓣 E G7 b6 Δ0 at3
             d3 = Typed.g-pre 𝓤 H A W 𝓣 E G7 G8 b6 Δ0 (Typed.pass T7 T8 s6) at2 (Scalar.g-room 𝓤 H A W E G7 4 SlotAs.ty (SlotAs.room 𝓤 H A W)) d2
@@ -349,31 +349,30 @@ module _ (claims· : Claims) where
 
             d5 : Typed.Typed 𝓤 H A 𝓣 E G5 b8 Δ0 at5
             d5 = Typed.s-seq 𝓤 H A W 𝓣 E G5 G6 b2 b7 Δ0 (Typed.both s4) at4 (Plain.t-call-plain 𝓤 H A W 𝓣 0 ps·1 r·1 (claims· .2) (claims· .3)
-                "answers::filled_slot" (known .1) E (λ pos β. β) G5 (record { pos = 3; st = []; d = 0; at = λ x. x }, tt) 4 [] (Call.sub-id 𝓤
-                H A W (G5 .slots)) ((FilledAs.yields 𝓤 H A W, Path'.refl), tt) (Reads.room-gone 𝓤 H A SlotAs.ty) tt Path'.refl) d4
+                "answers::filled_slot" (known .1) E (λ pos β. β) G5 (record { pos = 3; st = []; d = 0; at = λ x. x }, tt) 4 [] (Call.sub-id 𝓤 H A W (G5
+                .slots)) ((FilledAs.yields 𝓤 H A W, Path'.refl), tt) (Reads.room-gone 𝓤 H A SlotAs.ty) tt Path'.refl) d4
 
             d6 : Typed.Typed 𝓤 H A 𝓣 E G4 b8 Δ0 at6
             d6 = Typed.g-pre 𝓤 H A W 𝓣 E G4 G5 b8 Δ0 (Typed.pass T4 T5 s3) at5 (Scalar.g-room 𝓤 H A W E G4 4 SlotAs.ty (SlotAs.room 𝓤 H A W)) d5
 
             d7 : Typed.Typed 𝓤 H A 𝓣 E G3 b9 Δ0 at7
-            d7 = Typed.s-seq 𝓤 H A W 𝓣 E G3 G4 b1 b8 Δ0 (Typed.both s2) at6 (Plain.t-call-plain 𝓤 H A W 𝓣 1 ps·0 r·0 (claims· .0) (claims· .1)
-                "station::fill" (known .0) E (λ pos β. β) G3 (
-                  record {
-                    pos = 1;
-                    ty = Syntax.tyRef (Syntax.named 0) Syntax.imm (Syntax.tyInt Syntax.w8);
-                    ref = λ x. x;
-                  },
-                  (record { pos = 4; st = []; d = 0; at = λ x. x }, tt),
+            d7 = Typed.s-seq 𝓤 H A W 𝓣 E G3 G4 b1 b8 Δ0 (Typed.both s2) at6 (Plain.t-call-plain 𝓤 H A W 𝓣 1 ps·0 r·0 (claims· .0) (claims· .1) "station::fill"
+                (known .0) E (λ pos β. β) G3 (
+                  record { pos = 1; ty = Syntax.tyRef (Syntax.named 0) Syntax.imm (Syntax.tyInt Syntax.w8); ref = λ x. x },
+                  (
+                    record
+                        { pos = 4; st = []; d = 0; at = λ x. x },
+                    tt,
+                  ),
                 ) 3 (0 ∷ []) (Call.sub-id 𝓤 H A W (G3 .slots)) (
-                  ShrSlice.spares-sslice
-                      𝓤 H A W (Referent.rtF (Referent.fInt Syntax.w8)) (Syntax.tyRef (Syntax.named 0) Syntax.imm (Syntax.tyInt Syntax.w8)) 0,
-                  Shared.reads-sslice 𝓤 H A
-                      W (Referent.rtF (Referent.fInt Syntax.w8)) (Syntax.tyRef (Syntax.named 0) Syntax.imm (Syntax.tyInt Syntax.w8)) 0,
+                  ShrSlice.spares-sslice 𝓤 H A W (Referent.rtF
+                      (Referent.fInt Syntax.w8)) (Syntax.tyRef (Syntax.named 0) Syntax.imm (Syntax.tyInt Syntax.w8)) 0,
+                  Shared.reads-sslice 𝓤 H A W (Referent.rtF
+                      (Referent.fInt Syntax.w8)) (Syntax.tyRef (Syntax.named 0) Syntax.imm (Syntax.tyInt Syntax.w8)) 0,
                   Path'.refl,
                   (
                     (
-                      SlotAs.yields 𝓤 H
-                          A W,
+                      SlotAs.yields 𝓤 H A W,
                       Path'.refl,
                     ),
                     tt,
@@ -614,8 +613,8 @@ module _ (claims· : Claims) where
             asked = λ a good pre bs. laid record { κs = κs; args = record { line = a .0; slot = a .1 .0 }; good = good; pre = pre }
 
           module _ {M : Type 1} (𝓤 : URA.URA M) (H : Wp.Heap 𝓤) (A : Atoms.Atoms 𝓤) (W : Kit.Given 𝓤 H A) (𝓣 : Wp.Tables 𝓤 H) (known0 : Plain.Known 𝓤 H A W 𝓣 1
-              ps·0 r·0 (claims· .0) (claims· .1) "station::fill") (known1 : Plain.Known 𝓤 H A W 𝓣 0 ps·1 r·1 (claims· .2) (claims· .3)
-              "answers::filled_slot") (known2 : Plain.Known 𝓤 H A W 𝓣 0 ps·2 r·2 (claims· .4) (claims· .5) "answers::filled_number") where
+              ps·0 r·0 (claims· .0) (claims· .1) "station::fill") (known1 : Plain.Known 𝓤 H A W 𝓣 0 ps·1 r·1 (claims· .2) (claims· .3) "answers::filled_slot")
+              (known2 : Plain.Known 𝓤 H A W 𝓣 0 ps·2 r·2 (claims· .4) (claims· .5) "answers::filled_number") where
             pub spec : Statement.Triple 𝓤 (Wp.WpFn 𝓤 H (𝓣 .C) (𝓣 .Λ) (Function.fnOf 2 ps r xs m hs body)) (Function.plainOf 𝓤 H A 2 ps r Pre· Post·)
             spec = Plain.t-fn-plain 𝓤 H A W 𝓣 2 ps r xs m hs body (λ κs qs bs. Φ) (λ κs qs bs bd. typed κs qs 𝓤 H A W 𝓣 (known0, known1, known2) bs bd) Pre·
                 Post· asked

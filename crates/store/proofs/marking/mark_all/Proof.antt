@@ -1,6 +1,7 @@
 use native.Mathlib.Omega.{arith}
-use Rattle.fragments.specs.Fragments.{tailOf}
-use Rattle.store.proofs.Tails.{Marking, marking-start, marking-next, marking-done}
+use mathlib.Core.Path.{refl}
+use Rattle.fragments.specs.Fragments.{tailOf, marked}
+use Rattle.store.proofs.Tails.{Marking, marking-start, marking-done, one-next}
 -- `store::marking::mark_all` meets its contract. `Proof/` has its derivation, written by tools/walk.py. Assumes nothing.
 mod Lts
 mod Tie
@@ -9,7 +10,7 @@ use Rattle.store.proofs.marking.mark_all.Statement.{statement}
 use Rattle.store.proofs.marking.mark_all.Proof.Tie as tie
 
 abbrev Inv-loop : tie.InvT-loop
-Inv-loop table₀ b m k₀ t₀ table k t = Marking table₀ b m k t table
+Inv-loop table₀ b m k₀ t₀ table k t = Marking table₀ (marked (b .0) m) k t table
 
 abbrev μ-loop : tie.MeasureT-loop
 μ-loop table₀ b m k₀ t₀ table k t = k
@@ -18,8 +19,8 @@ end-tail-requires : tie.Need-end-tail-requires Inv-loop μ-loop
 end-tail-requires c = search needs
 
 loop-holds : tie.Need-loop-holds Inv-loop μ-loop
-unfolding tailOf
-loop-holds c = marking-start _ _ _ _ (c .end-tail .ensures)
+unfolding tailOf marked
+loop-holds c = marking-start _ _ _ refl (c .end-tail .ensures)
 
 sub-k : tie.Need-sub-k Inv-loop μ-loop
 sub-k c = search needs
@@ -46,13 +47,13 @@ loop-less : tie.Need-loop-less Inv-loop μ-loop
 loop-less c = search needs
 
 loop-again : tie.Need-loop-again Inv-loop μ-loop
-loop-again c = let at = c .before .before .before .before in marking-next _ _ _ _ _ _ (at .loop .inv) _ (omega arith) _ _ (c .before .step-tail .ensures) (c .mark-slot .ensures)
+loop-again c = let at = c .before .before .before .before in one-next _ _ _ _ _ (omega arith) _ _ (c .before .step-tail .ensures) _ _ (at .loop .inv) (c .mark-slot .ensures)
 
 same-length : tie.Need-same-length Inv-loop μ-loop
 same-length c = search needs
 
 returns : tie.Need-returns Inv-loop μ-loop
-returns c = marking-done _ _ _ _ _ _ (c .before .loop .inv) (omega arith)
+returns c = marking-done _ _ _ _ _ (c .before .loop .inv) (omega arith)
 
 pub mark-all-spec : {M : Type 1} → statement M
 mark-all-spec =

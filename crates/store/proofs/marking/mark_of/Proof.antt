@@ -12,7 +12,7 @@ use Rattle.store.proofs.marking.mark_of.Statement.{statement}
 use Rattle.store.proofs.marking.mark_of.Proof.Tie as tie
 
 abbrev Inv-loop : tie.InvT-loop
-Inv-loop table b k₀ t₀ m₀ k t m = (k ≤ length table) × (t .count + k ≤ length table) × (t ≡ tailOf (drop k table)) × (m ≡ markOf b (drop k table))
+Inv-loop table b k₀ t₀ m₀ k t m = (k ≤ length table) × (t .count + k ≤ length table) × (t ≡ tailOf (drop k table)) × (m ≡ markOf (b .0) (drop k table))
 
 abbrev μ-loop : tie.MeasureT-loop
 μ-loop table b k₀ t₀ m₀ k t m = k

@@ -3,8 +3,10 @@ use Rattle.store.proofs.SlotAs
 use Prim.Native.Nat
 use Rattle.fields.proofs.FragmentNumber
 use Rattle.fields.proofs.FragmentNumber.Laws
+use Rattle.fragments.proofs.FromLast
+use Rattle.fragments.proofs.FromLast.Laws as Laws'
 use Rattle.store.proofs.Held
-use Rattle.store.proofs.Held.Laws as Laws'
+use Rattle.store.proofs.Held.Laws as Laws''
 use borrow.Author.Called
 use borrow.Author.Tests
 use borrow.Fn.Any
@@ -20,6 +22,7 @@ use borrow.Kind.Num
 use borrow.Kind.ShrSlice
 use borrow.Kind.Unit as Unit'
 use borrow.Kind.Value
+use borrow.Rule.AtSlots
 use borrow.Rule.Lifetime
 use borrow.Rule.Local
 use borrow.Rule.Scalar
@@ -29,8 +32,13 @@ use borrow.Rule.Slice.Part
 use borrow.Rule.Slice.Relend
 use borrow.Rule.Slice.Reshare
 use borrow.Rule.Slice.Shared
+use borrow.Rule.Yields
+use borrow.Struct.Apart
 use borrow.Struct.Know as Know'
+use borrow.Struct.Make
 use borrow.Struct.Reads
+use borrow.Table.Copies
+use borrow.Table.Own
 use borrow.Table.Reads as Reads'
 use borrow.Table.Referent
 use borrow.Table.Row
@@ -39,7 +47,7 @@ use borrow.Table.Typed
 use contract.Lifetimes
 use denote.Exit
 use denote.Struct.Declared
-use denote.Struct.Laws as Laws''
+use denote.Struct.Laws as Laws'3
 use denote.Triple.Clauses
 use denote.Triple.Statement
 use ghost.Atoms
@@ -58,18 +66,18 @@ ps = ShrSlice.pShrS (Referent.rtF (Referent.fInt Syntax.w8)) 0 tt ∷ MutSlice.p
   ty = Declared.row
       FragmentNumber.the-type;
   one = Path'.refl;
-  val = Laws''.val FragmentNumber.the-type Laws.the-laws;
-  tells = Laws''.tells FragmentNumber.the-type
+  val = Laws'3.val FragmentNumber.the-type Laws.the-laws;
+  tells = Laws'3.tells FragmentNumber.the-type
       Laws.the-laws;
-  still = Laws''.still FragmentNumber.the-type Laws.the-copy Exit.yes;
+  still = Laws'3.still FragmentNumber.the-type Laws.the-copy Exit.yes;
   row = Rows.whole (Declared.row FragmentNumber.the-type);
   rd = λ x. x;
   mk = λ x. x;
 } λ M 𝓤 H A W. record {
-  copies = Laws''.copy FragmentNumber.the-type Laws.the-copy 𝓤 H A W;
-  lawful = Laws''.lawful FragmentNumber.the-type
+  copies = Laws'3.copy FragmentNumber.the-type Laws.the-copy 𝓤 H A W;
+  lawful = Laws'3.lawful FragmentNumber.the-type
       Laws.the-laws 𝓤 H A W;
-  makes = Laws''.makes FragmentNumber.the-type Laws.the-plain 𝓤 H A;
+  makes = Laws'3.makes FragmentNumber.the-type Laws.the-plain 𝓤 H A;
   in-mem = Local.mem-whole 𝓤 H A W (Declared.row
       FragmentNumber.the-type);
   of-mem = Local.whole-mem 𝓤 H A W (Declared.row FragmentNumber.the-type);
@@ -81,12 +89,14 @@ r = Num.rNum Syntax.w8
 abbrev pub xs : List.List Syntax.Ty
 xs = (Syntax.tyStruct (115 ∷ 116 ∷ 111 ∷ 114 ∷ 101 ∷ 58 ∷ 58 ∷ 72 ∷ 101 ∷ 108 ∷ 100 ∷ []) (Syntax.tcons (Syntax.tyInt Syntax.w8) (Syntax.tcons (Syntax.tyInt
     Syntax.w64) (Syntax.tcons (Syntax.tyInt Syntax.w64) (Syntax.tcons (Syntax.tyInt Syntax.w64) (Syntax.tcons (Syntax.tyInt Syntax.w64) Syntax.tnil)))))) ∷
-    Syntax.tyInt Syntax.w64 ∷ Syntax.tyInt Syntax.w64 ∷ Syntax.tyInt Syntax.w64 ∷ Syntax.tyInt Syntax.w64 ∷ Syntax.tyInt Syntax.w8 ∷ Syntax.tyRef Syntax.erased
-    Syntax.imm SlotAs.pointee ∷ (Syntax.tyStruct (38 ∷ 91 ∷ 93 ∷ []) (Syntax.tcons (Syntax.tyRef Syntax.erased Syntax.imm SlotAs.pointee) (Syntax.tcons
-    (Syntax.tyInt Syntax.w64) Syntax.tnil))) ∷ Syntax.tyBool ∷ Syntax.tyInt Syntax.w64 ∷ Syntax.tyInt Syntax.w8 ∷ Syntax.tyRef Syntax.erased Syntax.imm
-    SlotAs.pointee ∷ (Syntax.tyStruct (38 ∷ 91 ∷ 93 ∷ []) (Syntax.tcons (Syntax.tyRef Syntax.erased Syntax.imm SlotAs.pointee) (Syntax.tcons (Syntax.tyInt
-    Syntax.w64) Syntax.tnil))) ∷ Syntax.tyUnit ∷ Syntax.tyRef Syntax.erased Syntax.mut SlotAs.pointee ∷ (Syntax.tyStruct (38 ∷ 91 ∷ 93 ∷ []) (Syntax.tcons
-    (Syntax.tyRef Syntax.erased Syntax.mut SlotAs.pointee) (Syntax.tcons (Syntax.tyInt Syntax.w64) Syntax.tnil))) ∷ []
+    Syntax.tyInt Syntax.w64 ∷ Syntax.tyInt Syntax.w64 ∷ Syntax.tyInt Syntax.w64 ∷ Syntax.tyStruct (102 ∷ 114 ∷ 97 ∷ 103 ∷ 109 ∷ 101 ∷ 110 ∷ 116 ∷ 115 ∷ 58 ∷ 58
+    ∷ 70 ∷ 114 ∷ 111 ∷ 109 ∷ 76 ∷ 97 ∷ 115 ∷ 116 ∷ []) (Syntax.tcons (Syntax.tyInt Syntax.w64) Syntax.tnil) ∷ Syntax.tyInt Syntax.w8 ∷ Syntax.tyRef
+    Syntax.erased Syntax.imm SlotAs.pointee ∷ (Syntax.tyStruct (38 ∷ 91 ∷ 93 ∷ []) (Syntax.tcons (Syntax.tyRef Syntax.erased Syntax.imm SlotAs.pointee)
+    (Syntax.tcons (Syntax.tyInt Syntax.w64) Syntax.tnil))) ∷ Syntax.tyBool ∷ Syntax.tyInt Syntax.w64 ∷ Syntax.tyInt Syntax.w64 ∷ Syntax.tyInt Syntax.w8 ∷
+    Syntax.tyRef Syntax.erased Syntax.imm SlotAs.pointee ∷ (Syntax.tyStruct (38 ∷ 91 ∷ 93 ∷ []) (Syntax.tcons (Syntax.tyRef Syntax.erased Syntax.imm
+    SlotAs.pointee) (Syntax.tcons (Syntax.tyInt Syntax.w64) Syntax.tnil))) ∷ Syntax.tyUnit ∷ Syntax.tyRef Syntax.erased Syntax.mut SlotAs.pointee ∷
+    (Syntax.tyStruct (38 ∷ 91 ∷ 93 ∷ []) (Syntax.tcons (Syntax.tyRef Syntax.erased Syntax.mut SlotAs.pointee) (Syntax.tcons (Syntax.tyInt Syntax.w64)
+    Syntax.tnil))) ∷ []
 
 abbrev pub m : Nat.ℕ
 m = 3
@@ -98,19 +108,19 @@ abbrev pub r·0 : Kinds.RK 2
 r·0 = Value.rVal record {
   ty = Declared.row Held.the-type;
   one = Path'.refl;
-  val = Laws''.val Held.the-type Laws'.the-laws;
-  tells = Laws''.tells Held.the-type
-      Laws'.the-laws;
-  still = Laws''.still Held.the-type Laws'.the-copy Exit.yes;
+  val = Laws'3.val Held.the-type Laws''.the-laws;
+  tells = Laws'3.tells Held.the-type
+      Laws''.the-laws;
+  still = Laws'3.still Held.the-type Laws''.the-copy Exit.yes;
   row = Rows.whole (Declared.row Held.the-type);
   rd = λ x. x;
   mk = λ x. x;
-} λ M
-    𝓤 H A W. record {
-      copies = Laws''.copy Held.the-type Laws'.the-copy 𝓤 H A W;
-      lawful = Laws''.lawful Held.the-type Laws'.the-laws 𝓤 H A W;
+} λ
+    M 𝓤 H A W. record {
+      copies = Laws'3.copy Held.the-type Laws''.the-copy 𝓤 H A W;
+      lawful = Laws'3.lawful Held.the-type Laws''.the-laws 𝓤 H A W;
       makes =
-          Laws''.makes Held.the-type Laws'.the-plain 𝓤 H A;
+          Laws'3.makes Held.the-type Laws''.the-plain 𝓤 H A;
       in-mem = Local.mem-whole 𝓤 H A W (Declared.row Held.the-type);
       of-mem = Local.whole-mem 𝓤 H A W
           (Declared.row Held.the-type);
@@ -123,13 +133,51 @@ abbrev pub r·1 : Kinds.RK 0
 r·1 = Num.rNum Syntax.w8
 
 abbrev pub ps·2 : List.List (Kinds.PK 1)
-ps·2 = ShrSlice.pShrS SlotAs.row 0 tt ∷ Num.pNum Syntax.w64 ∷ []
+ps·2 = ShrSlice.pShrS SlotAs.row 0 tt ∷ (Value.pVal record {
+  ty = Declared.row FromLast.the-type;
+  one = Path'.refl;
+  val = Laws'3.val FromLast.the-type
+      Laws'.the-laws;
+  tells = Laws'3.tells FromLast.the-type Laws'.the-laws;
+  still = Laws'3.still FromLast.the-type Laws'.the-copy Exit.yes;
+  row = Rows.whole
+      (Declared.row FromLast.the-type);
+  rd = λ x. x;
+  mk = λ x. x;
+} λ M 𝓤 H A W. record {
+  copies = Laws'3.copy FromLast.the-type Laws'.the-copy 𝓤 H A W;
+  lawful =
+      Laws'3.lawful FromLast.the-type Laws'.the-laws 𝓤 H A W;
+  makes = Laws'3.makes FromLast.the-type Laws'.the-plain 𝓤 H A;
+  in-mem = Local.mem-whole 𝓤 H A W
+      (Declared.row FromLast.the-type);
+  of-mem = Local.whole-mem 𝓤 H A W (Declared.row FromLast.the-type);
+}) ∷ []
 
 abbrev pub r·2 : Kinds.RK 1
 r·2 = Num.rNum Syntax.w8
 
 abbrev pub ps·3 : List.List (Kinds.PK 1)
-ps·3 = MutSlice.pMutS SlotAs.row 0 tt ∷ Num.pNum Syntax.w64 ∷ Num.pNum Syntax.w8 ∷ []
+ps·3 = MutSlice.pMutS SlotAs.row 0 tt ∷ (Value.pVal record {
+  ty = Declared.row FromLast.the-type;
+  one = Path'.refl;
+  val = Laws'3.val FromLast.the-type
+      Laws'.the-laws;
+  tells = Laws'3.tells FromLast.the-type Laws'.the-laws;
+  still = Laws'3.still FromLast.the-type Laws'.the-copy Exit.yes;
+  row = Rows.whole
+      (Declared.row FromLast.the-type);
+  rd = λ x. x;
+  mk = λ x. x;
+} λ M 𝓤 H A W. record {
+  copies = Laws'3.copy FromLast.the-type Laws'.the-copy 𝓤 H A W;
+  lawful =
+      Laws'3.lawful FromLast.the-type Laws'.the-laws 𝓤 H A W;
+  makes = Laws'3.makes FromLast.the-type Laws'.the-plain 𝓤 H A;
+  in-mem = Local.mem-whole 𝓤 H A W
+      (Declared.row FromLast.the-type);
+  of-mem = Local.whole-mem 𝓤 H A W (Declared.row FromLast.the-type);
+}) ∷ Num.pNum Syntax.w8 ∷ []
 
 abbrev pub r·3 : Kinds.RK 1
 r·3 = Unit'.rUnit
@@ -137,7 +185,8 @@ r·3 = Unit'.rUnit
 abbrev pub hs : List.List Syntax.Home
 hs = Syntax.valueLocal ∷ Syntax.valueLocal ∷ Syntax.valueLocal ∷ Syntax.valueLocal ∷ Syntax.valueLocal ∷ Syntax.valueLocal ∷ Syntax.valueLocal ∷
     Syntax.valueLocal ∷ Syntax.valueLocal ∷ Syntax.valueLocal ∷ Syntax.valueLocal ∷ Syntax.valueLocal ∷ Syntax.valueLocal ∷ Syntax.valueLocal ∷
-    Syntax.valueLocal ∷ Syntax.valueLocal ∷ Syntax.valueLocal ∷ Syntax.valueLocal ∷ Syntax.valueLocal ∷ Syntax.valueLocal ∷ Syntax.valueLocal ∷ []
+    Syntax.valueLocal ∷ Syntax.valueLocal ∷ Syntax.valueLocal ∷ Syntax.valueLocal ∷ Syntax.valueLocal ∷ Syntax.valueLocal ∷ Syntax.valueLocal ∷
+    Syntax.valueLocal ∷ []
 
 abbrev b0 : Syntax.Body
 b0 = Syntax.assign (Syntax.place 11 []) (Syntax.addrOf (Syntax.place 2 (Syntax.field 0 ∷ Syntax.deref SlotAs.ty ∷ [])))
@@ -218,129 +267,135 @@ abbrev b24 : Syntax.Body
 b24 = Syntax.assign (Syntax.place 14 []) (Syntax.op2 (Syntax.add Syntax.unsigned) (Syntax.copy (Syntax.place 7 [])) (Syntax.int Syntax.w64 1))
 
 abbrev b25 : Syntax.Body
-b25 = Syntax.assign (Syntax.place 9 []) (Syntax.op2 (Syntax.sub Syntax.unsigned) (Syntax.copy (Syntax.place 14 [])) (Syntax.copy (Syntax.place 8
+b25 = Syntax.assign (Syntax.place 15 []) (Syntax.op2 (Syntax.sub Syntax.unsigned) (Syntax.copy (Syntax.place 14 [])) (Syntax.copy (Syntax.place 8
     [])))
 
 abbrev b26 : Syntax.Body
-b26 = Syntax.call "marks::mark_byte" (Syntax.copy (Syntax.place 4 []) ∷ []) (Syntax.place 10 [])
+b26 = Syntax.assign (Syntax.place 9 []) (Syntax.aggregate (Syntax.copy (Syntax.place 15 []) ∷ []))
 
 abbrev b27 : Syntax.Body
-b27 = Syntax.assign (Syntax.place 16 []) (Syntax.addrOf (Syntax.place 2 (Syntax.field 0 ∷ Syntax.deref SlotAs.ty ∷ [])))
+b27 = Syntax.call "marks::mark_byte" (Syntax.copy (Syntax.place 4 []) ∷ []) (Syntax.place 10 [])
 
 abbrev b28 : Syntax.Body
-b28 = Syntax.assign (Syntax.place 17 []) (Syntax.aggregate (Syntax.copy (Syntax.place 16 []) ∷ Syntax.copy (Syntax.place 6 []) ∷ []))
+b28 = Syntax.assign (Syntax.place 17 []) (Syntax.addrOf (Syntax.place 2 (Syntax.field 0 ∷ Syntax.deref SlotAs.ty ∷ [])))
 
 abbrev b29 : Syntax.Body
-b29 = Syntax.call "store::marking::mark_of" (Syntax.copy (Syntax.place 17 []) ∷ Syntax.copy (Syntax.place 9 []) ∷ []) (Syntax.place 15 [])
+b29 = Syntax.assign (Syntax.place 18 []) (Syntax.aggregate (Syntax.copy (Syntax.place 17 []) ∷ Syntax.copy (Syntax.place 6 []) ∷ []))
 
 abbrev b30 : Syntax.Body
-b30 = Syntax.assign (Syntax.place 13 []) (Syntax.op2 Syntax.eq (Syntax.copy (Syntax.place 15 [])) (Syntax.copy (Syntax.place 10 [])))
+b30 = Syntax.call "store::marking::mark_of" (Syntax.copy (Syntax.place 18 []) ∷ Syntax.copy (Syntax.place 9 []) ∷ []) (Syntax.place 16 [])
 
 abbrev b31 : Syntax.Body
-b31 = Syntax.assign (Syntax.place 0 []) (Syntax.rvOpd (Syntax.int Syntax.w8 16))
+b31 = Syntax.assign (Syntax.place 13 []) (Syntax.op2 Syntax.eq (Syntax.copy (Syntax.place 16 [])) (Syntax.copy (Syntax.place 10 [])))
 
 abbrev b32 : Syntax.Body
-b32 = Syntax.return
+b32 = Syntax.assign (Syntax.place 0 []) (Syntax.rvOpd (Syntax.int Syntax.w8 16))
 
 abbrev b33 : Syntax.Body
-b33 = Syntax.seq b31 b32
+b33 = Syntax.return
 
 abbrev b34 : Syntax.Body
-b34 = Syntax.skip
+b34 = Syntax.seq b32 b33
 
 abbrev b35 : Syntax.Body
-b35 = Syntax.cond (Syntax.copy (Syntax.place 13 [])) b33 b34
+b35 = Syntax.skip
 
 abbrev b36 : Syntax.Body
-b36 = Syntax.assign (Syntax.place 19 []) (Syntax.addrOf (Syntax.place 2 (Syntax.field 0 ∷ Syntax.deref SlotAs.ty ∷ [])))
+b36 = Syntax.cond (Syntax.copy (Syntax.place 13 [])) b34 b35
 
 abbrev b37 : Syntax.Body
-b37 = Syntax.assign (Syntax.place 20 []) (Syntax.aggregate (Syntax.copy (Syntax.place 19 []) ∷ Syntax.copy (Syntax.place 6 []) ∷ []))
+b37 = Syntax.assign (Syntax.place 20 []) (Syntax.addrOf (Syntax.place 2 (Syntax.field 0 ∷ Syntax.deref SlotAs.ty ∷ [])))
 
 abbrev b38 : Syntax.Body
-b38 = Syntax.call "store::marking::mark_all" (Syntax.copy (Syntax.place 20 []) ∷ Syntax.copy (Syntax.place 9 []) ∷ Syntax.copy (Syntax.place 10
-    []) ∷ []) (Syntax.place 18 [])
+b38 = Syntax.assign (Syntax.place 21 []) (Syntax.aggregate (Syntax.copy (Syntax.place 20 []) ∷ Syntax.copy (Syntax.place 6 []) ∷ []))
 
 abbrev b39 : Syntax.Body
-b39 = Syntax.assign (Syntax.place 0 []) (Syntax.rvOpd (Syntax.int Syntax.w8 0))
+b39 = Syntax.call "store::marking::mark_all" (Syntax.copy (Syntax.place 21 []) ∷ Syntax.copy (Syntax.place 9 []) ∷ Syntax.copy (Syntax.place 10
+    []) ∷ []) (Syntax.place 19 [])
 
 abbrev b40 : Syntax.Body
-b40 = Syntax.return
+b40 = Syntax.assign (Syntax.place 0 []) (Syntax.rvOpd (Syntax.int Syntax.w8 0))
 
 abbrev b41 : Syntax.Body
-b41 = Syntax.seq b39 b40
+b41 = Syntax.return
 
 abbrev b42 : Syntax.Body
-b42 = Syntax.seq b38 b41
+b42 = Syntax.seq b40 b41
 
 abbrev b43 : Syntax.Body
-b43 = Syntax.seq b37 b42
+b43 = Syntax.seq b39 b42
 
 abbrev b44 : Syntax.Body
-b44 = Syntax.seq b36 b43
+b44 = Syntax.seq b38 b43
 
 abbrev b45 : Syntax.Body
-b45 = Syntax.seq b35 b44
+b45 = Syntax.seq b37 b44
 
 abbrev b46 : Syntax.Body
-b46 = Syntax.seq b30 b45
+b46 = Syntax.seq b36 b45
 
 abbrev b47 : Syntax.Body
-b47 = Syntax.seq b29 b46
+b47 = Syntax.seq b31 b46
 
 abbrev b48 : Syntax.Body
-b48 = Syntax.seq b28 b47
+b48 = Syntax.seq b30 b47
 
 abbrev b49 : Syntax.Body
-b49 = Syntax.seq b27 b48
+b49 = Syntax.seq b29 b48
 
 abbrev b50 : Syntax.Body
-b50 = Syntax.seq b26 b49
+b50 = Syntax.seq b28 b49
 
 abbrev b51 : Syntax.Body
-b51 = Syntax.seq b25 b50
+b51 = Syntax.seq b27 b50
 
 abbrev b52 : Syntax.Body
-b52 = Syntax.seq b24 b51
+b52 = Syntax.seq b26 b51
 
 abbrev b53 : Syntax.Body
-b53 = Syntax.seq b23 b52
+b53 = Syntax.seq b25 b52
 
 abbrev b54 : Syntax.Body
-b54 = Syntax.seq b18 b53
+b54 = Syntax.seq b24 b53
 
 abbrev b55 : Syntax.Body
-b55 = Syntax.seq b17 b54
+b55 = Syntax.seq b23 b54
 
 abbrev b56 : Syntax.Body
-b56 = Syntax.seq b12 b55
+b56 = Syntax.seq b18 b55
 
 abbrev b57 : Syntax.Body
-b57 = Syntax.seq b11 b56
+b57 = Syntax.seq b17 b56
 
 abbrev b58 : Syntax.Body
-b58 = Syntax.seq b10 b57
+b58 = Syntax.seq b12 b57
 
 abbrev b59 : Syntax.Body
-b59 = Syntax.seq b9 b58
+b59 = Syntax.seq b11 b58
 
 abbrev b60 : Syntax.Body
-b60 = Syntax.seq b8 b59
+b60 = Syntax.seq b10 b59
 
 abbrev b61 : Syntax.Body
-b61 = Syntax.seq b3 b60
+b61 = Syntax.seq b9 b60
 
 abbrev b62 : Syntax.Body
-b62 = Syntax.seq b2 b61
+b62 = Syntax.seq b8 b61
 
 abbrev b63 : Syntax.Body
-b63 = Syntax.seq b1 b62
+b63 = Syntax.seq b3 b62
 
 abbrev b64 : Syntax.Body
-b64 = Syntax.seq b0 b63
+b64 = Syntax.seq b2 b63
+
+abbrev b65 : Syntax.Body
+b65 = Syntax.seq b1 b64
+
+abbrev b66 : Syntax.Body
+b66 = Syntax.seq b0 b65
 
 abbrev pub body : Syntax.Body
-body = b64
+body = b66
 
 abbrev pub Claims : Type 1
 Claims = Kinds.In 2 ps·0 × Kinds.Out 2 ps·0 r·0 × Kinds.In 0 ps·1 × Kinds.Out 0 ps·1 r·1 × Kinds.In 1 ps·2 × Kinds.Out 1 ps·2 r·2 × Kinds.In 1 ps·3 × Kinds.Out
@@ -364,28 +419,31 @@ t0 = (0, Rows.any-gone (Syntax.tyInt Syntax.w8)) ∷ (
   7,
   Rows.any-gone (Syntax.tyInt
       Syntax.w64),
-) ∷ (8, Rows.any-gone (Syntax.tyInt Syntax.w64)) ∷ (9, Rows.any-gone (Syntax.tyInt Syntax.w64)) ∷ (10, Rows.any-gone (Syntax.tyInt Syntax.w8)) ∷
-    (11, Rows.any-gone (Syntax.tyRef Syntax.erased Syntax.imm SlotAs.pointee)) ∷ (
+) ∷ (8, Rows.any-gone (Syntax.tyInt Syntax.w64)) ∷ (
+  9,
+  Rows.any-gone (Syntax.tyStruct (102 ∷ 114 ∷ 97 ∷ 103 ∷ 109 ∷ 101 ∷ 110 ∷ 116 ∷ 115 ∷ 58 ∷
+      58 ∷ 70 ∷ 114 ∷ 111 ∷ 109 ∷ 76 ∷ 97 ∷ 115 ∷ 116 ∷ []) (Syntax.tcons (Syntax.tyInt Syntax.w64) Syntax.tnil)),
+) ∷ (10, Rows.any-gone (Syntax.tyInt Syntax.w8))
+    ∷ (11, Rows.any-gone (Syntax.tyRef Syntax.erased Syntax.imm SlotAs.pointee)) ∷ (
       12,
       Rows.any-gone (Syntax.tyStruct (38 ∷ 91 ∷ 93 ∷ []) (Syntax.tcons
           (Syntax.tyRef Syntax.erased Syntax.imm SlotAs.pointee) (Syntax.tcons (Syntax.tyInt Syntax.w64) Syntax.tnil))),
     ) ∷ (13, Rows.any-gone Syntax.tyBool) ∷ (
       14,
       Rows.any-gone (Syntax.tyInt Syntax.w64),
-    ) ∷ (15, Rows.any-gone (Syntax.tyInt Syntax.w8)) ∷ []
+    ) ∷ (15, Rows.any-gone (Syntax.tyInt Syntax.w64)) ∷ []
 
 abbrev pub t1 : List.List Row.Entry
-t1 = (16, Rows.any-gone (Syntax.tyRef Syntax.erased Syntax.imm SlotAs.pointee)) ∷ (
-  17,
-  Rows.any-gone (Syntax.tyStruct (38 ∷ 91 ∷ 93 ∷ []) (Syntax.tcons
-      (Syntax.tyRef Syntax.erased Syntax.imm SlotAs.pointee) (Syntax.tcons (Syntax.tyInt Syntax.w64) Syntax.tnil))),
-) ∷ (18, Rows.any-gone Syntax.tyUnit) ∷ (
-  19,
-  Rows.any-gone (Syntax.tyRef Syntax.erased Syntax.mut SlotAs.pointee),
-) ∷ (
-  20,
-  Rows.any-gone (Syntax.tyStruct (38 ∷ 91 ∷ 93 ∷ []) (Syntax.tcons (Syntax.tyRef
-      Syntax.erased Syntax.mut SlotAs.pointee) (Syntax.tcons (Syntax.tyInt Syntax.w64) Syntax.tnil))),
+t1 = (16, Rows.any-gone (Syntax.tyInt Syntax.w8)) ∷ (17, Rows.any-gone (Syntax.tyRef Syntax.erased Syntax.imm SlotAs.pointee)) ∷ (
+  18,
+  Rows.any-gone
+      (Syntax.tyStruct (38 ∷ 91 ∷ 93 ∷ []) (Syntax.tcons (Syntax.tyRef Syntax.erased Syntax.imm SlotAs.pointee) (Syntax.tcons (Syntax.tyInt Syntax.w64)
+      Syntax.tnil))),
+) ∷ (19, Rows.any-gone Syntax.tyUnit) ∷ (20, Rows.any-gone (Syntax.tyRef Syntax.erased Syntax.mut SlotAs.pointee)) ∷ (
+  21,
+  Rows.any-gone
+      (Syntax.tyStruct (38 ∷ 91 ∷ 93 ∷ []) (Syntax.tcons (Syntax.tyRef Syntax.erased Syntax.mut SlotAs.pointee) (Syntax.tcons (Syntax.tyInt Syntax.w64)
+      Syntax.tnil))),
 ) ∷ []
 
 abbrev pub t2 : List.List Row.Entry
@@ -407,19 +465,23 @@ t2 = (0, Rows.sc-here (Row.sInt Syntax.w8)) ∷ (
   7,
   Rows.any-gone
       (Syntax.tyInt Syntax.w64),
-) ∷ (8, Rows.any-gone (Syntax.tyInt Syntax.w64)) ∷ (9, Rows.any-gone (Syntax.tyInt Syntax.w64)) ∷ (
+) ∷ (8, Rows.any-gone (Syntax.tyInt Syntax.w64)) ∷ (
+  9,
+  Rows.any-gone (Syntax.tyStruct (102 ∷ 114 ∷ 97 ∷ 103 ∷ 109 ∷ 101 ∷ 110 ∷
+      116 ∷ 115 ∷ 58 ∷ 58 ∷ 70 ∷ 114 ∷ 111 ∷ 109 ∷ 76 ∷ 97 ∷ 115 ∷ 116 ∷ []) (Syntax.tcons (Syntax.tyInt Syntax.w64) Syntax.tnil)),
+) ∷ (
   10,
-  Rows.any-gone (Syntax.tyInt
-      Syntax.w8),
+  Rows.any-gone
+      (Syntax.tyInt Syntax.w8),
 ) ∷ (11, Rows.any-gone (Syntax.tyRef Syntax.erased Syntax.imm SlotAs.pointee)) ∷ (
   12,
-  Rows.any-gone (Syntax.tyStruct (38 ∷ 91 ∷ 93 ∷ [])
-      (Syntax.tcons (Syntax.tyRef Syntax.erased Syntax.imm SlotAs.pointee) (Syntax.tcons (Syntax.tyInt Syntax.w64) Syntax.tnil))),
+  Rows.any-gone (Syntax.tyStruct (38 ∷ 91 ∷ 93
+      ∷ []) (Syntax.tcons (Syntax.tyRef Syntax.erased Syntax.imm SlotAs.pointee) (Syntax.tcons (Syntax.tyInt Syntax.w64) Syntax.tnil))),
 ) ∷ (
   13,
   Rows.any-gone
       Syntax.tyBool,
-) ∷ (14, Rows.any-gone (Syntax.tyInt Syntax.w64)) ∷ (15, Rows.any-gone (Syntax.tyInt Syntax.w8)) ∷ []
+) ∷ (14, Rows.any-gone (Syntax.tyInt Syntax.w64)) ∷ (15, Rows.any-gone (Syntax.tyInt Syntax.w64)) ∷ []
 
 abbrev pub t3 : List.List Row.Entry
 t3 = (0, Rows.any-gone (Syntax.tyInt Syntax.w8)) ∷ (
@@ -439,19 +501,22 @@ t3 = (0, Rows.any-gone (Syntax.tyInt Syntax.w8)) ∷ (
   7,
   Rows.any-gone
       (Syntax.tyInt Syntax.w64),
-) ∷ (8, Rows.any-gone (Syntax.tyInt Syntax.w64)) ∷ (9, Rows.any-gone (Syntax.tyInt Syntax.w64)) ∷ (
+) ∷ (8, Rows.any-gone (Syntax.tyInt Syntax.w64)) ∷ (
+  9,
+  Rows.any-gone (Syntax.tyStruct (102 ∷ 114 ∷ 97 ∷ 103 ∷ 109 ∷ 101 ∷ 110 ∷
+      116 ∷ 115 ∷ 58 ∷ 58 ∷ 70 ∷ 114 ∷ 111 ∷ 109 ∷ 76 ∷ 97 ∷ 115 ∷ 116 ∷ []) (Syntax.tcons (Syntax.tyInt Syntax.w64) Syntax.tnil)),
+) ∷ (
   10,
-  Rows.any-gone (Syntax.tyInt
-      Syntax.w8),
+  Rows.any-gone
+      (Syntax.tyInt Syntax.w8),
 ) ∷ (11, Relend.ssptr SlotAs.row (Syntax.tyRef Syntax.erased Syntax.imm SlotAs.pointee) 2) ∷ (
   12,
-  Rows.any-gone (Syntax.tyStruct (38 ∷ 91 ∷ 93 ∷
-      []) (Syntax.tcons (Syntax.tyRef Syntax.erased Syntax.imm SlotAs.pointee) (Syntax.tcons (Syntax.tyInt Syntax.w64) Syntax.tnil))),
+  Rows.any-gone (Syntax.tyStruct
+      (38 ∷ 91 ∷ 93 ∷ []) (Syntax.tcons (Syntax.tyRef Syntax.erased Syntax.imm SlotAs.pointee) (Syntax.tcons (Syntax.tyInt Syntax.w64) Syntax.tnil))),
 ) ∷ (
   13,
-  Rows.any-gone
-      Syntax.tyBool,
-) ∷ (14, Rows.any-gone (Syntax.tyInt Syntax.w64)) ∷ (15, Rows.any-gone (Syntax.tyInt Syntax.w8)) ∷ []
+  Rows.any-gone Syntax.tyBool,
+) ∷ (14, Rows.any-gone (Syntax.tyInt Syntax.w64)) ∷ (15, Rows.any-gone (Syntax.tyInt Syntax.w64)) ∷ []
 
 abbrev pub t4 : List.List Row.Entry
 t4 = (0, Rows.any-gone (Syntax.tyInt Syntax.w8)) ∷ (
@@ -471,18 +536,22 @@ t4 = (0, Rows.any-gone (Syntax.tyInt Syntax.w8)) ∷ (
   7,
   Rows.any-gone
       (Syntax.tyInt Syntax.w64),
-) ∷ (8, Rows.any-gone (Syntax.tyInt Syntax.w64)) ∷ (9, Rows.any-gone (Syntax.tyInt Syntax.w64)) ∷ (
+) ∷ (8, Rows.any-gone (Syntax.tyInt Syntax.w64)) ∷ (
+  9,
+  Rows.any-gone (Syntax.tyStruct (102 ∷ 114 ∷ 97 ∷ 103 ∷ 109 ∷ 101 ∷ 110 ∷
+      116 ∷ 115 ∷ 58 ∷ 58 ∷ 70 ∷ 114 ∷ 111 ∷ 109 ∷ 76 ∷ 97 ∷ 115 ∷ 116 ∷ []) (Syntax.tcons (Syntax.tyInt Syntax.w64) Syntax.tnil)),
+) ∷ (
   10,
-  Rows.any-gone (Syntax.tyInt
-      Syntax.w8),
+  Rows.any-gone
+      (Syntax.tyInt Syntax.w8),
 ) ∷ (11, Rows.any-gone (Syntax.tyRef Syntax.erased Syntax.imm SlotAs.pointee)) ∷ (
   12,
-  Rows.sslice SlotAs.row (Syntax.tyRef Syntax.erased
-      Syntax.imm SlotAs.pointee) 2,
+  Rows.sslice SlotAs.row (Syntax.tyRef
+      Syntax.erased Syntax.imm SlotAs.pointee) 2,
 ) ∷ (13, Rows.any-gone Syntax.tyBool) ∷ (14, Rows.any-gone (Syntax.tyInt Syntax.w64)) ∷ (
   15,
-  Rows.any-gone (Syntax.tyInt
-      Syntax.w8),
+  Rows.any-gone
+      (Syntax.tyInt Syntax.w64),
 ) ∷ []
 
 abbrev pub t5 : List.List Row.Entry
@@ -498,15 +567,19 @@ t5 = (0, Rows.any-gone (Syntax.tyInt Syntax.w8)) ∷ (
   6,
   Rows.any-gone (Syntax.tyInt
       Syntax.w64),
-) ∷ (7, Rows.any-gone (Syntax.tyInt Syntax.w64)) ∷ (8, Rows.any-gone (Syntax.tyInt Syntax.w64)) ∷ (9, Rows.any-gone (Syntax.tyInt Syntax.w64)) ∷
-    (10, Rows.any-gone (Syntax.tyInt Syntax.w8)) ∷ (11, Rows.any-gone (Syntax.tyRef Syntax.erased Syntax.imm SlotAs.pointee)) ∷ (
-      12,
-      Rows.sslice SlotAs.row
-          (Syntax.tyRef Syntax.erased Syntax.imm SlotAs.pointee) 2,
-    ) ∷ (13, Rows.any-gone Syntax.tyBool) ∷ (14, Rows.any-gone (Syntax.tyInt Syntax.w64)) ∷ (
-      15,
-      Rows.any-gone (Syntax.tyInt Syntax.w8),
-    ) ∷ []
+) ∷ (7, Rows.any-gone (Syntax.tyInt Syntax.w64)) ∷ (8, Rows.any-gone (Syntax.tyInt Syntax.w64)) ∷ (
+  9,
+  Rows.any-gone (Syntax.tyStruct (102 ∷ 114
+      ∷ 97 ∷ 103 ∷ 109 ∷ 101 ∷ 110 ∷ 116 ∷ 115 ∷ 58 ∷ 58 ∷ 70 ∷ 114 ∷ 111 ∷ 109 ∷ 76 ∷ 97 ∷ 115 ∷ 116 ∷ []) (Syntax.tcons (Syntax.tyInt Syntax.w64)
+      Syntax.tnil)),
+) ∷ (10, Rows.any-gone (Syntax.tyInt Syntax.w8)) ∷ (11, Rows.any-gone (Syntax.tyRef Syntax.erased Syntax.imm SlotAs.pointee)) ∷ (
+  12,
+  Rows.sslice SlotAs.row (Syntax.tyRef Syntax.erased Syntax.imm SlotAs.pointee) 2,
+) ∷ (13, Rows.any-gone Syntax.tyBool) ∷ (
+  14,
+  Rows.any-gone (Syntax.tyInt
+      Syntax.w64),
+) ∷ (15, Rows.any-gone (Syntax.tyInt Syntax.w64)) ∷ []
 
 abbrev pub t6 : List.List Row.Entry
 t6 = (0, Rows.any-gone (Syntax.tyInt Syntax.w8)) ∷ (
@@ -521,13 +594,20 @@ t6 = (0, Rows.any-gone (Syntax.tyInt Syntax.w8)) ∷ (
   6,
   Rows.any-gone (Syntax.tyInt
       Syntax.w64),
-) ∷ (7, Rows.any-gone (Syntax.tyInt Syntax.w64)) ∷ (8, Rows.any-gone (Syntax.tyInt Syntax.w64)) ∷ (9, Rows.any-gone (Syntax.tyInt Syntax.w64)) ∷
-    (10, Rows.any-gone (Syntax.tyInt Syntax.w8)) ∷ (11, Rows.any-gone (Syntax.tyRef Syntax.erased Syntax.imm SlotAs.pointee)) ∷ (
-      12,
-      Rows.any-gone
-          (Syntax.tyStruct (38 ∷ 91 ∷ 93 ∷ []) (Syntax.tcons (Syntax.tyRef Syntax.erased Syntax.imm SlotAs.pointee) (Syntax.tcons (Syntax.tyInt Syntax.w64)
-          Syntax.tnil))),
-    ) ∷ (13, Rows.any-gone Syntax.tyBool) ∷ (14, Rows.any-gone (Syntax.tyInt Syntax.w64)) ∷ (15, Rows.any-gone (Syntax.tyInt Syntax.w8)) ∷ []
+) ∷ (7, Rows.any-gone (Syntax.tyInt Syntax.w64)) ∷ (8, Rows.any-gone (Syntax.tyInt Syntax.w64)) ∷ (
+  9,
+  Rows.any-gone (Syntax.tyStruct (102 ∷ 114
+      ∷ 97 ∷ 103 ∷ 109 ∷ 101 ∷ 110 ∷ 116 ∷ 115 ∷ 58 ∷ 58 ∷ 70 ∷ 114 ∷ 111 ∷ 109 ∷ 76 ∷ 97 ∷ 115 ∷ 116 ∷ []) (Syntax.tcons (Syntax.tyInt Syntax.w64)
+      Syntax.tnil)),
+) ∷ (10, Rows.any-gone (Syntax.tyInt Syntax.w8)) ∷ (11, Rows.any-gone (Syntax.tyRef Syntax.erased Syntax.imm SlotAs.pointee)) ∷ (
+  12,
+  Rows.any-gone (Syntax.tyStruct (38 ∷ 91 ∷ 93 ∷ []) (Syntax.tcons (Syntax.tyRef Syntax.erased Syntax.imm SlotAs.pointee) (Syntax.tcons (Syntax.tyInt
+      Syntax.w64) Syntax.tnil))),
+) ∷ (13, Rows.any-gone Syntax.tyBool) ∷ (14, Rows.any-gone (Syntax.tyInt Syntax.w64)) ∷ (
+  15,
+  Rows.any-gone (Syntax.tyInt
+      Syntax.w64),
+) ∷ []
 
 abbrev pub t7 : List.List Row.Entry
 t7 = (0, Rows.any-gone (Syntax.tyInt Syntax.w8)) ∷ (
@@ -541,19 +621,21 @@ t7 = (0, Rows.any-gone (Syntax.tyInt Syntax.w8)) ∷ (
 ) ∷ (4, Rows.sc-here Row.sBool) ∷ (5, Rows.whole (Declared.row Held.the-type)) ∷ (6, Rows.any-gone (Syntax.tyInt Syntax.w64)) ∷ (
   7,
   Rows.any-gone (Syntax.tyInt Syntax.w64),
-) ∷ (8, Rows.any-gone (Syntax.tyInt Syntax.w64)) ∷ (9, Rows.any-gone (Syntax.tyInt Syntax.w64)) ∷ (
+) ∷ (8, Rows.any-gone (Syntax.tyInt Syntax.w64)) ∷ (
+  9,
+  Rows.any-gone (Syntax.tyStruct (102 ∷ 114 ∷ 97 ∷ 103 ∷ 109 ∷
+      101 ∷ 110 ∷ 116 ∷ 115 ∷ 58 ∷ 58 ∷ 70 ∷ 114 ∷ 111 ∷ 109 ∷ 76 ∷ 97 ∷ 115 ∷ 116 ∷ []) (Syntax.tcons (Syntax.tyInt Syntax.w64) Syntax.tnil)),
+) ∷ (
   10,
-  Rows.any-gone
-      (Syntax.tyInt Syntax.w8),
+  Rows.any-gone (Syntax.tyInt Syntax.w8),
 ) ∷ (11, Rows.any-gone (Syntax.tyRef Syntax.erased Syntax.imm SlotAs.pointee)) ∷ (
   12,
-  Rows.any-gone (Syntax.tyStruct (38 ∷ 91 ∷ 93
-      ∷ []) (Syntax.tcons (Syntax.tyRef Syntax.erased Syntax.imm SlotAs.pointee) (Syntax.tcons (Syntax.tyInt Syntax.w64) Syntax.tnil))),
+  Rows.any-gone (Syntax.tyStruct
+      (38 ∷ 91 ∷ 93 ∷ []) (Syntax.tcons (Syntax.tyRef Syntax.erased Syntax.imm SlotAs.pointee) (Syntax.tcons (Syntax.tyInt Syntax.w64) Syntax.tnil))),
 ) ∷ (
   13,
-  Rows.any-gone
-      Syntax.tyBool,
-) ∷ (14, Rows.any-gone (Syntax.tyInt Syntax.w64)) ∷ (15, Rows.any-gone (Syntax.tyInt Syntax.w8)) ∷ []
+  Rows.any-gone Syntax.tyBool,
+) ∷ (14, Rows.any-gone (Syntax.tyInt Syntax.w64)) ∷ (15, Rows.any-gone (Syntax.tyInt Syntax.w64)) ∷ []
 
 abbrev pub t8 : List.List Row.Entry
 t8 = (0, Rows.any-gone (Syntax.tyInt Syntax.w8)) ∷ (
@@ -567,19 +649,21 @@ t8 = (0, Rows.any-gone (Syntax.tyInt Syntax.w8)) ∷ (
 ) ∷ (4, Rows.sc-here Row.sBool) ∷ (5, Rows.whole (Declared.row Held.the-type)) ∷ (6, Rows.any-gone (Syntax.tyInt Syntax.w64)) ∷ (
   7,
   Rows.any-gone (Syntax.tyInt Syntax.w64),
-) ∷ (8, Rows.any-gone (Syntax.tyInt Syntax.w64)) ∷ (9, Rows.any-gone (Syntax.tyInt Syntax.w64)) ∷ (
+) ∷ (8, Rows.any-gone (Syntax.tyInt Syntax.w64)) ∷ (
+  9,
+  Rows.any-gone (Syntax.tyStruct (102 ∷ 114 ∷ 97 ∷ 103 ∷ 109 ∷
+      101 ∷ 110 ∷ 116 ∷ 115 ∷ 58 ∷ 58 ∷ 70 ∷ 114 ∷ 111 ∷ 109 ∷ 76 ∷ 97 ∷ 115 ∷ 116 ∷ []) (Syntax.tcons (Syntax.tyInt Syntax.w64) Syntax.tnil)),
+) ∷ (
   10,
-  Rows.any-gone
-      (Syntax.tyInt Syntax.w8),
+  Rows.any-gone (Syntax.tyInt Syntax.w8),
 ) ∷ (11, Rows.any-gone (Syntax.tyRef Syntax.erased Syntax.imm SlotAs.pointee)) ∷ (
   12,
-  Rows.any-gone (Syntax.tyStruct (38 ∷ 91 ∷ 93
-      ∷ []) (Syntax.tcons (Syntax.tyRef Syntax.erased Syntax.imm SlotAs.pointee) (Syntax.tcons (Syntax.tyInt Syntax.w64) Syntax.tnil))),
+  Rows.any-gone (Syntax.tyStruct
+      (38 ∷ 91 ∷ 93 ∷ []) (Syntax.tcons (Syntax.tyRef Syntax.erased Syntax.imm SlotAs.pointee) (Syntax.tcons (Syntax.tyInt Syntax.w64) Syntax.tnil))),
 ) ∷ (
   13,
-  Rows.sc-here
-      Row.sBool,
-) ∷ (14, Rows.any-gone (Syntax.tyInt Syntax.w64)) ∷ (15, Rows.any-gone (Syntax.tyInt Syntax.w8)) ∷ []
+  Rows.sc-here Row.sBool,
+) ∷ (14, Rows.any-gone (Syntax.tyInt Syntax.w64)) ∷ (15, Rows.any-gone (Syntax.tyInt Syntax.w64)) ∷ []
 
 abbrev pub t9 : List.List Row.Entry
 t9 = (0, Rows.any-gone (Syntax.tyInt Syntax.w8)) ∷ (
@@ -595,13 +679,17 @@ t9 = (0, Rows.any-gone (Syntax.tyInt Syntax.w8)) ∷ (
   6,
   Rows.any-gone (Syntax.tyInt
       Syntax.w64),
-) ∷ (7, Rows.any-gone (Syntax.tyInt Syntax.w64)) ∷ (8, Rows.any-gone (Syntax.tyInt Syntax.w64)) ∷ (9, Rows.any-gone (Syntax.tyInt Syntax.w64)) ∷
-    (10, Rows.any-gone (Syntax.tyInt Syntax.w8)) ∷ (11, Rows.any-gone (Syntax.tyRef Syntax.erased Syntax.imm SlotAs.pointee)) ∷ (
-      12,
-      Rows.any-gone
-          (Syntax.tyStruct (38 ∷ 91 ∷ 93 ∷ []) (Syntax.tcons (Syntax.tyRef Syntax.erased Syntax.imm SlotAs.pointee) (Syntax.tcons (Syntax.tyInt Syntax.w64)
-          Syntax.tnil))),
-    ) ∷ (13, Rows.sc-here Row.sBool) ∷ (14, Rows.any-gone (Syntax.tyInt Syntax.w64)) ∷ (15, Rows.any-gone (Syntax.tyInt Syntax.w8)) ∷ []
+) ∷ (7, Rows.any-gone (Syntax.tyInt Syntax.w64)) ∷ (8, Rows.any-gone (Syntax.tyInt Syntax.w64)) ∷ (
+  9,
+  Rows.any-gone (Syntax.tyStruct (102 ∷ 114
+      ∷ 97 ∷ 103 ∷ 109 ∷ 101 ∷ 110 ∷ 116 ∷ 115 ∷ 58 ∷ 58 ∷ 70 ∷ 114 ∷ 111 ∷ 109 ∷ 76 ∷ 97 ∷ 115 ∷ 116 ∷ []) (Syntax.tcons (Syntax.tyInt Syntax.w64)
+      Syntax.tnil)),
+) ∷ (10, Rows.any-gone (Syntax.tyInt Syntax.w8)) ∷ (11, Rows.any-gone (Syntax.tyRef Syntax.erased Syntax.imm SlotAs.pointee)) ∷ (
+  12,
+  Rows.any-gone (Syntax.tyStruct (38 ∷ 91 ∷ 93 ∷ []) (Syntax.tcons (Syntax.tyRef Syntax.erased Syntax.imm SlotAs.pointee) (Syntax.tcons (Syntax.tyInt
+      Syntax.w64) Syntax.tnil))),
+) ∷ (13, Rows.sc-here Row.sBool) ∷ (14, Rows.any-gone (Syntax.tyInt Syntax.w64)) ∷ (15, Rows.any-gone (Syntax.tyInt Syntax.w64))
+    ∷ []
 
 abbrev pub t10 : List.List Row.Entry
 t10 = (0, Rows.any-gone (Syntax.tyInt Syntax.w8)) ∷ (
@@ -617,13 +705,20 @@ t10 = (0, Rows.any-gone (Syntax.tyInt Syntax.w8)) ∷ (
   6,
   Rows.any-gone (Syntax.tyInt
       Syntax.w64),
-) ∷ (7, Rows.any-gone (Syntax.tyInt Syntax.w64)) ∷ (8, Rows.any-gone (Syntax.tyInt Syntax.w64)) ∷ (9, Rows.any-gone (Syntax.tyInt Syntax.w64)) ∷
-    (10, Rows.any-gone (Syntax.tyInt Syntax.w8)) ∷ (11, Rows.any-gone (Syntax.tyRef Syntax.erased Syntax.imm SlotAs.pointee)) ∷ (
-      12,
-      Rows.any-gone
-          (Syntax.tyStruct (38 ∷ 91 ∷ 93 ∷ []) (Syntax.tcons (Syntax.tyRef Syntax.erased Syntax.imm SlotAs.pointee) (Syntax.tcons (Syntax.tyInt Syntax.w64)
-          Syntax.tnil))),
-    ) ∷ (13, Rows.any-gone Syntax.tyBool) ∷ (14, Rows.any-gone (Syntax.tyInt Syntax.w64)) ∷ (15, Rows.any-gone (Syntax.tyInt Syntax.w8)) ∷ []
+) ∷ (7, Rows.any-gone (Syntax.tyInt Syntax.w64)) ∷ (8, Rows.any-gone (Syntax.tyInt Syntax.w64)) ∷ (
+  9,
+  Rows.any-gone (Syntax.tyStruct (102 ∷ 114
+      ∷ 97 ∷ 103 ∷ 109 ∷ 101 ∷ 110 ∷ 116 ∷ 115 ∷ 58 ∷ 58 ∷ 70 ∷ 114 ∷ 111 ∷ 109 ∷ 76 ∷ 97 ∷ 115 ∷ 116 ∷ []) (Syntax.tcons (Syntax.tyInt Syntax.w64)
+      Syntax.tnil)),
+) ∷ (10, Rows.any-gone (Syntax.tyInt Syntax.w8)) ∷ (11, Rows.any-gone (Syntax.tyRef Syntax.erased Syntax.imm SlotAs.pointee)) ∷ (
+  12,
+  Rows.any-gone (Syntax.tyStruct (38 ∷ 91 ∷ 93 ∷ []) (Syntax.tcons (Syntax.tyRef Syntax.erased Syntax.imm SlotAs.pointee) (Syntax.tcons (Syntax.tyInt
+      Syntax.w64) Syntax.tnil))),
+) ∷ (13, Rows.any-gone Syntax.tyBool) ∷ (14, Rows.any-gone (Syntax.tyInt Syntax.w64)) ∷ (
+  15,
+  Rows.any-gone (Syntax.tyInt
+      Syntax.w64),
+) ∷ []
 
 abbrev pub t11 : List.List Row.Entry
 t11 = (0, Rows.sc-here (Row.sInt Syntax.w8)) ∷ (
@@ -636,7 +731,11 @@ t11 = (0, Rows.sc-here (Row.sInt Syntax.w8)) ∷ (
       101 ∷ 108 ∷ 100 ∷ 115 ∷ 58 ∷ 58 ∷ 70 ∷ 114 ∷ 97 ∷ 103 ∷ 109 ∷ 101 ∷ 110 ∷ 116 ∷ 78 ∷ 117 ∷ 109 ∷ 98 ∷ 101 ∷ 114 ∷ []) (Syntax.tcons (Syntax.tyInt
       Syntax.w32) Syntax.tnil)),
 ) ∷ (4, Rows.sc-here Row.sBool) ∷ (5, Rows.whole (Declared.row Held.the-type)) ∷ (6, Rows.any-gone (Syntax.tyInt Syntax.w64)) ∷
-    (7, Rows.any-gone (Syntax.tyInt Syntax.w64)) ∷ (8, Rows.any-gone (Syntax.tyInt Syntax.w64)) ∷ (9, Rows.any-gone (Syntax.tyInt Syntax.w64)) ∷ (
+    (7, Rows.any-gone (Syntax.tyInt Syntax.w64)) ∷ (8, Rows.any-gone (Syntax.tyInt Syntax.w64)) ∷ (
+      9,
+      Rows.any-gone (Syntax.tyStruct (102 ∷ 114 ∷ 97 ∷ 103 ∷
+          109 ∷ 101 ∷ 110 ∷ 116 ∷ 115 ∷ 58 ∷ 58 ∷ 70 ∷ 114 ∷ 111 ∷ 109 ∷ 76 ∷ 97 ∷ 115 ∷ 116 ∷ []) (Syntax.tcons (Syntax.tyInt Syntax.w64) Syntax.tnil)),
+    ) ∷ (
       10,
       Rows.any-gone (Syntax.tyInt Syntax.w8),
     ) ∷ (11, Rows.any-gone (Syntax.tyRef Syntax.erased Syntax.imm SlotAs.pointee)) ∷ (
@@ -646,7 +745,7 @@ t11 = (0, Rows.sc-here (Row.sInt Syntax.w8)) ∷ (
     ) ∷ (
       13,
       Rows.any-gone Syntax.tyBool,
-    ) ∷ (14, Rows.any-gone (Syntax.tyInt Syntax.w64)) ∷ (15, Rows.any-gone (Syntax.tyInt Syntax.w8)) ∷ []
+    ) ∷ (14, Rows.any-gone (Syntax.tyInt Syntax.w64)) ∷ (15, Rows.any-gone (Syntax.tyInt Syntax.w64)) ∷ []
 
 abbrev pub t12 : List.List Row.Entry
 t12 = (0, Rows.sc-here (Row.sInt Syntax.w8)) ∷ (
@@ -667,15 +766,19 @@ t12 = (0, Rows.sc-here (Row.sInt Syntax.w8)) ∷ (
   7,
   Rows.any-gone (Syntax.tyInt
       Syntax.w64),
-) ∷ (8, Rows.any-gone (Syntax.tyInt Syntax.w64)) ∷ (9, Rows.any-gone (Syntax.tyInt Syntax.w64)) ∷ (10, Rows.any-gone (Syntax.tyInt Syntax.w8)) ∷
-    (11, Rows.any-gone (Syntax.tyRef Syntax.erased Syntax.imm SlotAs.pointee)) ∷ (
+) ∷ (8, Rows.any-gone (Syntax.tyInt Syntax.w64)) ∷ (
+  9,
+  Rows.any-gone (Syntax.tyStruct (102 ∷ 114 ∷ 97 ∷ 103 ∷ 109 ∷ 101 ∷ 110 ∷ 116 ∷ 115 ∷ 58 ∷
+      58 ∷ 70 ∷ 114 ∷ 111 ∷ 109 ∷ 76 ∷ 97 ∷ 115 ∷ 116 ∷ []) (Syntax.tcons (Syntax.tyInt Syntax.w64) Syntax.tnil)),
+) ∷ (10, Rows.any-gone (Syntax.tyInt Syntax.w8))
+    ∷ (11, Rows.any-gone (Syntax.tyRef Syntax.erased Syntax.imm SlotAs.pointee)) ∷ (
       12,
       Rows.any-gone (Syntax.tyStruct (38 ∷ 91 ∷ 93 ∷ []) (Syntax.tcons
           (Syntax.tyRef Syntax.erased Syntax.imm SlotAs.pointee) (Syntax.tcons (Syntax.tyInt Syntax.w64) Syntax.tnil))),
     ) ∷ (13, Rows.any-gone Syntax.tyBool) ∷ (
       14,
       Rows.any-gone (Syntax.tyInt Syntax.w64),
-    ) ∷ (15, Rows.any-gone (Syntax.tyInt Syntax.w8)) ∷ []
+    ) ∷ (15, Rows.any-gone (Syntax.tyInt Syntax.w64)) ∷ []
 
 abbrev pub t13 : List.List Row.Entry
 t13 = (0, Rows.any-gone (Syntax.tyInt Syntax.w8)) ∷ (
@@ -689,19 +792,21 @@ t13 = (0, Rows.any-gone (Syntax.tyInt Syntax.w8)) ∷ (
 ) ∷ (4, Rows.sc-here Row.sBool) ∷ (5, Rows.whole (Declared.row Held.the-type)) ∷ (6, Rows.sc-here (Row.sInt Syntax.w64)) ∷ (
   7,
   Rows.any-gone (Syntax.tyInt Syntax.w64),
-) ∷ (8, Rows.any-gone (Syntax.tyInt Syntax.w64)) ∷ (9, Rows.any-gone (Syntax.tyInt Syntax.w64)) ∷ (
+) ∷ (8, Rows.any-gone (Syntax.tyInt Syntax.w64)) ∷ (
+  9,
+  Rows.any-gone (Syntax.tyStruct (102 ∷ 114 ∷ 97 ∷ 103 ∷ 109 ∷
+      101 ∷ 110 ∷ 116 ∷ 115 ∷ 58 ∷ 58 ∷ 70 ∷ 114 ∷ 111 ∷ 109 ∷ 76 ∷ 97 ∷ 115 ∷ 116 ∷ []) (Syntax.tcons (Syntax.tyInt Syntax.w64) Syntax.tnil)),
+) ∷ (
   10,
-  Rows.any-gone
-      (Syntax.tyInt Syntax.w8),
+  Rows.any-gone (Syntax.tyInt Syntax.w8),
 ) ∷ (11, Rows.any-gone (Syntax.tyRef Syntax.erased Syntax.imm SlotAs.pointee)) ∷ (
   12,
-  Rows.any-gone (Syntax.tyStruct (38 ∷ 91 ∷ 93
-      ∷ []) (Syntax.tcons (Syntax.tyRef Syntax.erased Syntax.imm SlotAs.pointee) (Syntax.tcons (Syntax.tyInt Syntax.w64) Syntax.tnil))),
+  Rows.any-gone (Syntax.tyStruct
+      (38 ∷ 91 ∷ 93 ∷ []) (Syntax.tcons (Syntax.tyRef Syntax.erased Syntax.imm SlotAs.pointee) (Syntax.tcons (Syntax.tyInt Syntax.w64) Syntax.tnil))),
 ) ∷ (
   13,
-  Rows.any-gone
-      Syntax.tyBool,
-) ∷ (14, Rows.any-gone (Syntax.tyInt Syntax.w64)) ∷ (15, Rows.any-gone (Syntax.tyInt Syntax.w8)) ∷ []
+  Rows.any-gone Syntax.tyBool,
+) ∷ (14, Rows.any-gone (Syntax.tyInt Syntax.w64)) ∷ (15, Rows.any-gone (Syntax.tyInt Syntax.w64)) ∷ []
 
 abbrev pub t14 : List.List Row.Entry
 t14 = (0, Rows.any-gone (Syntax.tyInt Syntax.w8)) ∷ (
@@ -715,7 +820,11 @@ t14 = (0, Rows.any-gone (Syntax.tyInt Syntax.w8)) ∷ (
 ) ∷ (4, Rows.sc-here Row.sBool) ∷ (5, Rows.whole (Declared.row Held.the-type)) ∷ (6, Rows.sc-here (Row.sInt Syntax.w64)) ∷ (
   7,
   Rows.sc-here (Row.sInt Syntax.w64),
-) ∷ (8, Rows.any-gone (Syntax.tyInt Syntax.w64)) ∷ (9, Rows.any-gone (Syntax.tyInt Syntax.w64)) ∷ (
+) ∷ (8, Rows.any-gone (Syntax.tyInt Syntax.w64)) ∷ (
+  9,
+  Rows.any-gone (Syntax.tyStruct (102 ∷ 114 ∷ 97 ∷ 103 ∷ 109 ∷ 101 ∷
+      110 ∷ 116 ∷ 115 ∷ 58 ∷ 58 ∷ 70 ∷ 114 ∷ 111 ∷ 109 ∷ 76 ∷ 97 ∷ 115 ∷ 116 ∷ []) (Syntax.tcons (Syntax.tyInt Syntax.w64) Syntax.tnil)),
+) ∷ (
   10,
   Rows.any-gone
       (Syntax.tyInt Syntax.w8),
@@ -727,7 +836,7 @@ t14 = (0, Rows.any-gone (Syntax.tyInt Syntax.w8)) ∷ (
   13,
   Rows.any-gone
       Syntax.tyBool,
-) ∷ (14, Rows.any-gone (Syntax.tyInt Syntax.w64)) ∷ (15, Rows.any-gone (Syntax.tyInt Syntax.w8)) ∷ []
+) ∷ (14, Rows.any-gone (Syntax.tyInt Syntax.w64)) ∷ (15, Rows.any-gone (Syntax.tyInt Syntax.w64)) ∷ []
 
 abbrev pub t15 : List.List Row.Entry
 t15 = (0, Rows.any-gone (Syntax.tyInt Syntax.w8)) ∷ (
@@ -744,7 +853,11 @@ t15 = (0, Rows.any-gone (Syntax.tyInt Syntax.w8)) ∷ (
       ∷ []) (Syntax.tcons (Syntax.tyInt Syntax.w8) (Syntax.tcons (Syntax.tyInt Syntax.w64) (Syntax.tcons (Syntax.tyInt Syntax.w64) (Syntax.tcons (Syntax.tyInt
       Syntax.w64) (Syntax.tcons (Syntax.tyInt Syntax.w64) Syntax.tnil)))))),
 ) ∷ (6, Rows.sc-here (Row.sInt Syntax.w64)) ∷ (7, Rows.sc-here (Row.sInt Syntax.w64))
-    ∷ (8, Rows.any-gone (Syntax.tyInt Syntax.w64)) ∷ (9, Rows.any-gone (Syntax.tyInt Syntax.w64)) ∷ (10, Rows.any-gone (Syntax.tyInt Syntax.w8)) ∷ (
+    ∷ (8, Rows.any-gone (Syntax.tyInt Syntax.w64)) ∷ (
+      9,
+      Rows.any-gone (Syntax.tyStruct (102 ∷ 114 ∷ 97 ∷ 103 ∷ 109 ∷ 101 ∷ 110 ∷ 116 ∷ 115 ∷ 58 ∷ 58 ∷ 70 ∷
+          114 ∷ 111 ∷ 109 ∷ 76 ∷ 97 ∷ 115 ∷ 116 ∷ []) (Syntax.tcons (Syntax.tyInt Syntax.w64) Syntax.tnil)),
+    ) ∷ (10, Rows.any-gone (Syntax.tyInt Syntax.w8)) ∷ (
       11,
       Rows.any-gone (Syntax.tyRef Syntax.erased Syntax.imm SlotAs.pointee),
     ) ∷ (
@@ -755,7 +868,7 @@ t15 = (0, Rows.any-gone (Syntax.tyInt Syntax.w8)) ∷ (
       14,
       Rows.any-gone
           (Syntax.tyInt Syntax.w64),
-    ) ∷ (15, Rows.any-gone (Syntax.tyInt Syntax.w8)) ∷ []
+    ) ∷ (15, Rows.any-gone (Syntax.tyInt Syntax.w64)) ∷ []
 
 abbrev pub t16 : List.List Row.Entry
 t16 = (0, Rows.any-gone (Syntax.tyInt Syntax.w8)) ∷ (
@@ -772,7 +885,11 @@ t16 = (0, Rows.any-gone (Syntax.tyInt Syntax.w8)) ∷ (
       ∷ []) (Syntax.tcons (Syntax.tyInt Syntax.w8) (Syntax.tcons (Syntax.tyInt Syntax.w64) (Syntax.tcons (Syntax.tyInt Syntax.w64) (Syntax.tcons (Syntax.tyInt
       Syntax.w64) (Syntax.tcons (Syntax.tyInt Syntax.w64) Syntax.tnil)))))),
 ) ∷ (6, Rows.sc-here (Row.sInt Syntax.w64)) ∷ (7, Rows.sc-here (Row.sInt Syntax.w64))
-    ∷ (8, Rows.sc-here (Row.sInt Syntax.w64)) ∷ (9, Rows.any-gone (Syntax.tyInt Syntax.w64)) ∷ (10, Rows.any-gone (Syntax.tyInt Syntax.w8)) ∷ (
+    ∷ (8, Rows.sc-here (Row.sInt Syntax.w64)) ∷ (
+      9,
+      Rows.any-gone (Syntax.tyStruct (102 ∷ 114 ∷ 97 ∷ 103 ∷ 109 ∷ 101 ∷ 110 ∷ 116 ∷ 115 ∷ 58 ∷ 58 ∷ 70 ∷ 114 ∷
+          111 ∷ 109 ∷ 76 ∷ 97 ∷ 115 ∷ 116 ∷ []) (Syntax.tcons (Syntax.tyInt Syntax.w64) Syntax.tnil)),
+    ) ∷ (10, Rows.any-gone (Syntax.tyInt Syntax.w8)) ∷ (
       11,
       Rows.any-gone (Syntax.tyRef Syntax.erased Syntax.imm SlotAs.pointee),
     ) ∷ (
@@ -783,7 +900,7 @@ t16 = (0, Rows.any-gone (Syntax.tyInt Syntax.w8)) ∷ (
       14,
       Rows.any-gone
           (Syntax.tyInt Syntax.w64),
-    ) ∷ (15, Rows.any-gone (Syntax.tyInt Syntax.w8)) ∷ []
+    ) ∷ (15, Rows.any-gone (Syntax.tyInt Syntax.w64)) ∷ []
 
 abbrev pub t17 : List.List Row.Entry
 t17 = (0, Rows.any-gone (Syntax.tyInt Syntax.w8)) ∷ (
@@ -804,18 +921,19 @@ t17 = (0, Rows.any-gone (Syntax.tyInt Syntax.w8)) ∷ (
   7,
   Rows.sc-here (Row.sInt
       Syntax.w64),
-) ∷ (8, Rows.sc-here (Row.sInt Syntax.w64)) ∷ (9, Rows.any-gone (Syntax.tyInt Syntax.w64)) ∷ (10, Rows.any-gone (Syntax.tyInt Syntax.w8)) ∷ (
-  11,
-  Rows.any-gone (Syntax.tyRef Syntax.erased Syntax.imm SlotAs.pointee),
-) ∷ (
-  12,
-  Rows.any-gone (Syntax.tyStruct (38 ∷ 91 ∷ 93 ∷ []) (Syntax.tcons (Syntax.tyRef
-      Syntax.erased Syntax.imm SlotAs.pointee) (Syntax.tcons (Syntax.tyInt Syntax.w64) Syntax.tnil))),
-) ∷ (13, Rows.any-gone Syntax.tyBool) ∷ (
-  14,
-  Rows.any-gone
-      (Syntax.tyInt Syntax.w64),
-) ∷ (15, Rows.any-gone (Syntax.tyInt Syntax.w8)) ∷ []
+) ∷ (8, Rows.sc-here (Row.sInt Syntax.w64)) ∷ (
+  9,
+  Rows.any-gone (Syntax.tyStruct (102 ∷ 114 ∷ 97 ∷ 103 ∷ 109 ∷ 101 ∷ 110 ∷ 116 ∷ 115 ∷ 58 ∷ 58 ∷
+      70 ∷ 114 ∷ 111 ∷ 109 ∷ 76 ∷ 97 ∷ 115 ∷ 116 ∷ []) (Syntax.tcons (Syntax.tyInt Syntax.w64) Syntax.tnil)),
+) ∷ (10, Rows.any-gone (Syntax.tyInt Syntax.w8)) ∷
+    (11, Rows.any-gone (Syntax.tyRef Syntax.erased Syntax.imm SlotAs.pointee)) ∷ (
+      12,
+      Rows.any-gone (Syntax.tyStruct (38 ∷ 91 ∷ 93 ∷ []) (Syntax.tcons
+          (Syntax.tyRef Syntax.erased Syntax.imm SlotAs.pointee) (Syntax.tcons (Syntax.tyInt Syntax.w64) Syntax.tnil))),
+    ) ∷ (13, Rows.any-gone Syntax.tyBool) ∷ (
+      14,
+      Rows.any-gone (Syntax.tyInt Syntax.w64),
+    ) ∷ (15, Rows.any-gone (Syntax.tyInt Syntax.w64)) ∷ []
 
 abbrev pub t18 : List.List Row.Entry
 t18 = (0, Rows.any-gone (Syntax.tyInt Syntax.w8)) ∷ (
@@ -836,18 +954,19 @@ t18 = (0, Rows.any-gone (Syntax.tyInt Syntax.w8)) ∷ (
   7,
   Rows.sc-here (Row.sInt
       Syntax.w64),
-) ∷ (8, Rows.sc-here (Row.sInt Syntax.w64)) ∷ (9, Rows.any-gone (Syntax.tyInt Syntax.w64)) ∷ (10, Rows.any-gone (Syntax.tyInt Syntax.w8)) ∷ (
-  11,
-  Rows.any-gone (Syntax.tyRef Syntax.erased Syntax.imm SlotAs.pointee),
-) ∷ (
-  12,
-  Rows.any-gone (Syntax.tyStruct (38 ∷ 91 ∷ 93 ∷ []) (Syntax.tcons (Syntax.tyRef
-      Syntax.erased Syntax.imm SlotAs.pointee) (Syntax.tcons (Syntax.tyInt Syntax.w64) Syntax.tnil))),
-) ∷ (13, Rows.sc-here Row.sBool) ∷ (
-  14,
-  Rows.any-gone
-      (Syntax.tyInt Syntax.w64),
-) ∷ (15, Rows.any-gone (Syntax.tyInt Syntax.w8)) ∷ []
+) ∷ (8, Rows.sc-here (Row.sInt Syntax.w64)) ∷ (
+  9,
+  Rows.any-gone (Syntax.tyStruct (102 ∷ 114 ∷ 97 ∷ 103 ∷ 109 ∷ 101 ∷ 110 ∷ 116 ∷ 115 ∷ 58 ∷ 58 ∷
+      70 ∷ 114 ∷ 111 ∷ 109 ∷ 76 ∷ 97 ∷ 115 ∷ 116 ∷ []) (Syntax.tcons (Syntax.tyInt Syntax.w64) Syntax.tnil)),
+) ∷ (10, Rows.any-gone (Syntax.tyInt Syntax.w8)) ∷
+    (11, Rows.any-gone (Syntax.tyRef Syntax.erased Syntax.imm SlotAs.pointee)) ∷ (
+      12,
+      Rows.any-gone (Syntax.tyStruct (38 ∷ 91 ∷ 93 ∷ []) (Syntax.tcons
+          (Syntax.tyRef Syntax.erased Syntax.imm SlotAs.pointee) (Syntax.tcons (Syntax.tyInt Syntax.w64) Syntax.tnil))),
+    ) ∷ (13, Rows.sc-here Row.sBool) ∷ (
+      14,
+      Rows.any-gone (Syntax.tyInt Syntax.w64),
+    ) ∷ (15, Rows.any-gone (Syntax.tyInt Syntax.w64)) ∷ []
 
 abbrev pub t19 : List.List Row.Entry
 t19 = (0, Rows.sc-here (Row.sInt Syntax.w8)) ∷ (
@@ -865,7 +984,11 @@ t19 = (0, Rows.sc-here (Row.sInt Syntax.w8)) ∷ (
       ∷ []) (Syntax.tcons (Syntax.tyInt Syntax.w8) (Syntax.tcons (Syntax.tyInt Syntax.w64) (Syntax.tcons (Syntax.tyInt Syntax.w64) (Syntax.tcons (Syntax.tyInt
       Syntax.w64) (Syntax.tcons (Syntax.tyInt Syntax.w64) Syntax.tnil)))))),
 ) ∷ (6, Rows.sc-here (Row.sInt Syntax.w64)) ∷ (7, Rows.sc-here (Row.sInt Syntax.w64))
-    ∷ (8, Rows.sc-here (Row.sInt Syntax.w64)) ∷ (9, Rows.any-gone (Syntax.tyInt Syntax.w64)) ∷ (10, Rows.any-gone (Syntax.tyInt Syntax.w8)) ∷ (
+    ∷ (8, Rows.sc-here (Row.sInt Syntax.w64)) ∷ (
+      9,
+      Rows.any-gone (Syntax.tyStruct (102 ∷ 114 ∷ 97 ∷ 103 ∷ 109 ∷ 101 ∷ 110 ∷ 116 ∷ 115 ∷ 58 ∷ 58 ∷ 70 ∷ 114 ∷
+          111 ∷ 109 ∷ 76 ∷ 97 ∷ 115 ∷ 116 ∷ []) (Syntax.tcons (Syntax.tyInt Syntax.w64) Syntax.tnil)),
+    ) ∷ (10, Rows.any-gone (Syntax.tyInt Syntax.w8)) ∷ (
       11,
       Rows.any-gone (Syntax.tyRef Syntax.erased Syntax.imm SlotAs.pointee),
     ) ∷ (
@@ -876,7 +999,7 @@ t19 = (0, Rows.sc-here (Row.sInt Syntax.w8)) ∷ (
       14,
       Rows.any-gone
           (Syntax.tyInt Syntax.w64),
-    ) ∷ (15, Rows.any-gone (Syntax.tyInt Syntax.w8)) ∷ []
+    ) ∷ (15, Rows.any-gone (Syntax.tyInt Syntax.w64)) ∷ []
 
 abbrev pub t20 : List.List Row.Entry
 t20 = (0, Rows.sc-here (Row.sInt Syntax.w8)) ∷ (
@@ -897,18 +1020,19 @@ t20 = (0, Rows.sc-here (Row.sInt Syntax.w8)) ∷ (
   7,
   Rows.sc-here (Row.sInt
       Syntax.w64),
-) ∷ (8, Rows.sc-here (Row.sInt Syntax.w64)) ∷ (9, Rows.any-gone (Syntax.tyInt Syntax.w64)) ∷ (10, Rows.any-gone (Syntax.tyInt Syntax.w8)) ∷ (
-  11,
-  Rows.any-gone (Syntax.tyRef Syntax.erased Syntax.imm SlotAs.pointee),
-) ∷ (
-  12,
-  Rows.any-gone (Syntax.tyStruct (38 ∷ 91 ∷ 93 ∷ []) (Syntax.tcons (Syntax.tyRef
-      Syntax.erased Syntax.imm SlotAs.pointee) (Syntax.tcons (Syntax.tyInt Syntax.w64) Syntax.tnil))),
-) ∷ (13, Rows.any-gone Syntax.tyBool) ∷ (
-  14,
-  Rows.any-gone
-      (Syntax.tyInt Syntax.w64),
-) ∷ (15, Rows.any-gone (Syntax.tyInt Syntax.w8)) ∷ []
+) ∷ (8, Rows.sc-here (Row.sInt Syntax.w64)) ∷ (
+  9,
+  Rows.any-gone (Syntax.tyStruct (102 ∷ 114 ∷ 97 ∷ 103 ∷ 109 ∷ 101 ∷ 110 ∷ 116 ∷ 115 ∷ 58 ∷ 58 ∷
+      70 ∷ 114 ∷ 111 ∷ 109 ∷ 76 ∷ 97 ∷ 115 ∷ 116 ∷ []) (Syntax.tcons (Syntax.tyInt Syntax.w64) Syntax.tnil)),
+) ∷ (10, Rows.any-gone (Syntax.tyInt Syntax.w8)) ∷
+    (11, Rows.any-gone (Syntax.tyRef Syntax.erased Syntax.imm SlotAs.pointee)) ∷ (
+      12,
+      Rows.any-gone (Syntax.tyStruct (38 ∷ 91 ∷ 93 ∷ []) (Syntax.tcons
+          (Syntax.tyRef Syntax.erased Syntax.imm SlotAs.pointee) (Syntax.tcons (Syntax.tyInt Syntax.w64) Syntax.tnil))),
+    ) ∷ (13, Rows.any-gone Syntax.tyBool) ∷ (
+      14,
+      Rows.any-gone (Syntax.tyInt Syntax.w64),
+    ) ∷ (15, Rows.any-gone (Syntax.tyInt Syntax.w64)) ∷ []
 
 abbrev pub t21 : List.List Row.Entry
 t21 = (0, Rows.sc-here (Row.sInt Syntax.w8)) ∷ (
@@ -929,7 +1053,11 @@ t21 = (0, Rows.sc-here (Row.sInt Syntax.w8)) ∷ (
   7,
   Rows.sc-here
       (Row.sInt Syntax.w64),
-) ∷ (8, Rows.sc-here (Row.sInt Syntax.w64)) ∷ (9, Rows.any-gone (Syntax.tyInt Syntax.w64)) ∷ (
+) ∷ (8, Rows.sc-here (Row.sInt Syntax.w64)) ∷ (
+  9,
+  Rows.any-gone (Syntax.tyStruct (102 ∷ 114 ∷ 97 ∷ 103 ∷ 109 ∷ 101 ∷ 110 ∷ 116 ∷ 115 ∷
+      58 ∷ 58 ∷ 70 ∷ 114 ∷ 111 ∷ 109 ∷ 76 ∷ 97 ∷ 115 ∷ 116 ∷ []) (Syntax.tcons (Syntax.tyInt Syntax.w64) Syntax.tnil)),
+) ∷ (
   10,
   Rows.any-gone (Syntax.tyInt
       Syntax.w8),
@@ -941,7 +1069,7 @@ t21 = (0, Rows.sc-here (Row.sInt Syntax.w8)) ∷ (
   13,
   Rows.any-gone
       Syntax.tyBool,
-) ∷ (14, Rows.any-gone (Syntax.tyInt Syntax.w64)) ∷ (15, Rows.any-gone (Syntax.tyInt Syntax.w8)) ∷ []
+) ∷ (14, Rows.any-gone (Syntax.tyInt Syntax.w64)) ∷ (15, Rows.any-gone (Syntax.tyInt Syntax.w64)) ∷ []
 
 abbrev pub t22 : List.List Row.Entry
 t22 = (0, Rows.sc-here (Row.sInt Syntax.w8)) ∷ (
@@ -962,7 +1090,11 @@ t22 = (0, Rows.sc-here (Row.sInt Syntax.w8)) ∷ (
   7,
   Rows.any-gone
       (Syntax.tyInt Syntax.w64),
-) ∷ (8, Rows.sc-here (Row.sInt Syntax.w64)) ∷ (9, Rows.any-gone (Syntax.tyInt Syntax.w64)) ∷ (
+) ∷ (8, Rows.sc-here (Row.sInt Syntax.w64)) ∷ (
+  9,
+  Rows.any-gone (Syntax.tyStruct (102 ∷ 114 ∷ 97 ∷ 103 ∷ 109 ∷ 101 ∷ 110 ∷ 116 ∷
+      115 ∷ 58 ∷ 58 ∷ 70 ∷ 114 ∷ 111 ∷ 109 ∷ 76 ∷ 97 ∷ 115 ∷ 116 ∷ []) (Syntax.tcons (Syntax.tyInt Syntax.w64) Syntax.tnil)),
+) ∷ (
   10,
   Rows.any-gone (Syntax.tyInt
       Syntax.w8),
@@ -974,7 +1106,7 @@ t22 = (0, Rows.sc-here (Row.sInt Syntax.w8)) ∷ (
   13,
   Rows.any-gone
       Syntax.tyBool,
-) ∷ (14, Rows.any-gone (Syntax.tyInt Syntax.w64)) ∷ (15, Rows.any-gone (Syntax.tyInt Syntax.w8)) ∷ []
+) ∷ (14, Rows.any-gone (Syntax.tyInt Syntax.w64)) ∷ (15, Rows.any-gone (Syntax.tyInt Syntax.w64)) ∷ []
 
 abbrev pub t23 : List.List Row.Entry
 t23 = (0, Rows.any-gone (Syntax.tyInt Syntax.w8)) ∷ (
@@ -995,18 +1127,19 @@ t23 = (0, Rows.any-gone (Syntax.tyInt Syntax.w8)) ∷ (
   7,
   Rows.sc-here (Row.sInt
       Syntax.w64),
-) ∷ (8, Rows.sc-here (Row.sInt Syntax.w64)) ∷ (9, Rows.any-gone (Syntax.tyInt Syntax.w64)) ∷ (10, Rows.any-gone (Syntax.tyInt Syntax.w8)) ∷ (
-  11,
-  Rows.any-gone (Syntax.tyRef Syntax.erased Syntax.imm SlotAs.pointee),
-) ∷ (
-  12,
-  Rows.any-gone (Syntax.tyStruct (38 ∷ 91 ∷ 93 ∷ []) (Syntax.tcons (Syntax.tyRef
-      Syntax.erased Syntax.imm SlotAs.pointee) (Syntax.tcons (Syntax.tyInt Syntax.w64) Syntax.tnil))),
-) ∷ (13, Rows.any-gone Syntax.tyBool) ∷ (
-  14,
-  Rows.sc-here
-      (Row.sInt Syntax.w64),
-) ∷ (15, Rows.any-gone (Syntax.tyInt Syntax.w8)) ∷ []
+) ∷ (8, Rows.sc-here (Row.sInt Syntax.w64)) ∷ (
+  9,
+  Rows.any-gone (Syntax.tyStruct (102 ∷ 114 ∷ 97 ∷ 103 ∷ 109 ∷ 101 ∷ 110 ∷ 116 ∷ 115 ∷ 58 ∷ 58 ∷
+      70 ∷ 114 ∷ 111 ∷ 109 ∷ 76 ∷ 97 ∷ 115 ∷ 116 ∷ []) (Syntax.tcons (Syntax.tyInt Syntax.w64) Syntax.tnil)),
+) ∷ (10, Rows.any-gone (Syntax.tyInt Syntax.w8)) ∷
+    (11, Rows.any-gone (Syntax.tyRef Syntax.erased Syntax.imm SlotAs.pointee)) ∷ (
+      12,
+      Rows.any-gone (Syntax.tyStruct (38 ∷ 91 ∷ 93 ∷ []) (Syntax.tcons
+          (Syntax.tyRef Syntax.erased Syntax.imm SlotAs.pointee) (Syntax.tcons (Syntax.tyInt Syntax.w64) Syntax.tnil))),
+    ) ∷ (13, Rows.any-gone Syntax.tyBool) ∷ (
+      14,
+      Rows.sc-here (Row.sInt Syntax.w64),
+    ) ∷ (15, Rows.any-gone (Syntax.tyInt Syntax.w64)) ∷ []
 
 abbrev pub t24 : List.List Row.Entry
 t24 = (0, Rows.any-gone (Syntax.tyInt Syntax.w8)) ∷ (
@@ -1027,18 +1160,19 @@ t24 = (0, Rows.any-gone (Syntax.tyInt Syntax.w8)) ∷ (
   7,
   Rows.sc-here (Row.sInt
       Syntax.w64),
-) ∷ (8, Rows.sc-here (Row.sInt Syntax.w64)) ∷ (9, Rows.sc-here (Row.sInt Syntax.w64)) ∷ (10, Rows.any-gone (Syntax.tyInt Syntax.w8)) ∷ (
-  11,
-  Rows.any-gone (Syntax.tyRef Syntax.erased Syntax.imm SlotAs.pointee),
-) ∷ (
-  12,
-  Rows.any-gone (Syntax.tyStruct (38 ∷ 91 ∷ 93 ∷ []) (Syntax.tcons (Syntax.tyRef
-      Syntax.erased Syntax.imm SlotAs.pointee) (Syntax.tcons (Syntax.tyInt Syntax.w64) Syntax.tnil))),
-) ∷ (13, Rows.any-gone Syntax.tyBool) ∷ (
-  14,
-  Rows.sc-here
-      (Row.sInt Syntax.w64),
-) ∷ (15, Rows.any-gone (Syntax.tyInt Syntax.w8)) ∷ []
+) ∷ (8, Rows.sc-here (Row.sInt Syntax.w64)) ∷ (
+  9,
+  Rows.any-gone (Syntax.tyStruct (102 ∷ 114 ∷ 97 ∷ 103 ∷ 109 ∷ 101 ∷ 110 ∷ 116 ∷ 115 ∷ 58 ∷ 58 ∷
+      70 ∷ 114 ∷ 111 ∷ 109 ∷ 76 ∷ 97 ∷ 115 ∷ 116 ∷ []) (Syntax.tcons (Syntax.tyInt Syntax.w64) Syntax.tnil)),
+) ∷ (10, Rows.any-gone (Syntax.tyInt Syntax.w8)) ∷
+    (11, Rows.any-gone (Syntax.tyRef Syntax.erased Syntax.imm SlotAs.pointee)) ∷ (
+      12,
+      Rows.any-gone (Syntax.tyStruct (38 ∷ 91 ∷ 93 ∷ []) (Syntax.tcons
+          (Syntax.tyRef Syntax.erased Syntax.imm SlotAs.pointee) (Syntax.tcons (Syntax.tyInt Syntax.w64) Syntax.tnil))),
+    ) ∷ (13, Rows.any-gone Syntax.tyBool) ∷ (
+      14,
+      Rows.sc-here (Row.sInt Syntax.w64),
+    ) ∷ (15, Rows.sc-here (Row.sInt Syntax.w64)) ∷ []
 
 abbrev pub t25 : List.List Row.Entry
 t25 = (0, Rows.any-gone (Syntax.tyInt Syntax.w8)) ∷ (
@@ -1059,18 +1193,19 @@ t25 = (0, Rows.any-gone (Syntax.tyInt Syntax.w8)) ∷ (
   7,
   Rows.sc-here (Row.sInt
       Syntax.w64),
-) ∷ (8, Rows.sc-here (Row.sInt Syntax.w64)) ∷ (9, Rows.sc-here (Row.sInt Syntax.w64)) ∷ (10, Rows.any-gone (Syntax.tyInt Syntax.w8)) ∷ (
-  11,
-  Rows.any-gone (Syntax.tyRef Syntax.erased Syntax.imm SlotAs.pointee),
-) ∷ (
-  12,
-  Rows.any-gone (Syntax.tyStruct (38 ∷ 91 ∷ 93 ∷ []) (Syntax.tcons (Syntax.tyRef
-      Syntax.erased Syntax.imm SlotAs.pointee) (Syntax.tcons (Syntax.tyInt Syntax.w64) Syntax.tnil))),
-) ∷ (13, Rows.any-gone Syntax.tyBool) ∷ (
-  14,
-  Rows.any-gone
-      (Syntax.tyInt Syntax.w64),
-) ∷ (15, Rows.any-gone (Syntax.tyInt Syntax.w8)) ∷ []
+) ∷ (8, Rows.sc-here (Row.sInt Syntax.w64)) ∷ (
+  9,
+  Rows.any-gone (Syntax.tyStruct (102 ∷ 114 ∷ 97 ∷ 103 ∷ 109 ∷ 101 ∷ 110 ∷ 116 ∷ 115 ∷ 58 ∷ 58 ∷
+      70 ∷ 114 ∷ 111 ∷ 109 ∷ 76 ∷ 97 ∷ 115 ∷ 116 ∷ []) (Syntax.tcons (Syntax.tyInt Syntax.w64) Syntax.tnil)),
+) ∷ (10, Rows.any-gone (Syntax.tyInt Syntax.w8)) ∷
+    (11, Rows.any-gone (Syntax.tyRef Syntax.erased Syntax.imm SlotAs.pointee)) ∷ (
+      12,
+      Rows.any-gone (Syntax.tyStruct (38 ∷ 91 ∷ 93 ∷ []) (Syntax.tcons
+          (Syntax.tyRef Syntax.erased Syntax.imm SlotAs.pointee) (Syntax.tcons (Syntax.tyInt Syntax.w64) Syntax.tnil))),
+    ) ∷ (13, Rows.any-gone Syntax.tyBool) ∷ (
+      14,
+      Rows.any-gone (Syntax.tyInt Syntax.w64),
+    ) ∷ (15, Rows.sc-here (Row.sInt Syntax.w64)) ∷ []
 
 abbrev pub t26 : List.List Row.Entry
 t26 = (0, Rows.any-gone (Syntax.tyInt Syntax.w8)) ∷ (
@@ -1091,106 +1226,55 @@ t26 = (0, Rows.any-gone (Syntax.tyInt Syntax.w8)) ∷ (
   7,
   Rows.sc-here (Row.sInt
       Syntax.w64),
-) ∷ (8, Rows.sc-here (Row.sInt Syntax.w64)) ∷ (9, Rows.sc-here (Row.sInt Syntax.w64)) ∷ (10, Rows.sc-here (Row.sInt Syntax.w8)) ∷ (
-  11,
-  Rows.any-gone (Syntax.tyRef Syntax.erased Syntax.imm SlotAs.pointee),
-) ∷ (
+) ∷ (8, Rows.sc-here (Row.sInt Syntax.w64)) ∷ (9, Rows.whole (Declared.row (Apart.apartT FromLast.the-type))) ∷ (
+  10,
+  Rows.any-gone (Syntax.tyInt
+      Syntax.w8),
+) ∷ (11, Rows.any-gone (Syntax.tyRef Syntax.erased Syntax.imm SlotAs.pointee)) ∷ (
   12,
-  Rows.any-gone (Syntax.tyStruct (38 ∷ 91 ∷ 93 ∷ []) (Syntax.tcons (Syntax.tyRef
-      Syntax.erased Syntax.imm SlotAs.pointee) (Syntax.tcons (Syntax.tyInt Syntax.w64) Syntax.tnil))),
-) ∷ (13, Rows.any-gone Syntax.tyBool) ∷ (
-  14,
+  Rows.any-gone (Syntax.tyStruct (38 ∷ 91 ∷ 93 ∷ [])
+      (Syntax.tcons (Syntax.tyRef Syntax.erased Syntax.imm SlotAs.pointee) (Syntax.tcons (Syntax.tyInt Syntax.w64) Syntax.tnil))),
+) ∷ (
+  13,
   Rows.any-gone
-      (Syntax.tyInt Syntax.w64),
-) ∷ (15, Rows.any-gone (Syntax.tyInt Syntax.w8)) ∷ []
+      Syntax.tyBool,
+) ∷ (14, Rows.any-gone (Syntax.tyInt Syntax.w64)) ∷ (15, Rows.sc-here (Row.sInt Syntax.w64)) ∷ []
 
 abbrev pub t27 : List.List Row.Entry
 t27 = (0, Rows.any-gone (Syntax.tyInt Syntax.w8)) ∷ (
   1,
   Rows.sslice (Referent.rtF (Referent.fInt Syntax.w8)) (Syntax.tyRef (Syntax.named 0) Syntax.imm
       (Syntax.tyInt Syntax.w8)) 0,
-) ∷ (2, Reshare.mslice-owedSᵖ SlotAs.row (Syntax.tyRef (Syntax.named 1) Syntax.mut SlotAs.pointee) 1 3 Row.off) ∷ (
+) ∷ (2, Mut.mslice SlotAs.row (Syntax.tyRef (Syntax.named 1) Syntax.mut SlotAs.pointee) 1) ∷ (
   3,
-  Rows.any-gone (Syntax.tyStruct (102 ∷ 105 ∷ 101 ∷ 108 ∷ 100 ∷ 115 ∷ 58 ∷ 58 ∷ 70 ∷ 114 ∷ 97 ∷ 103 ∷ 109 ∷ 101 ∷ 110 ∷ 116 ∷ 78 ∷ 117 ∷ 109 ∷ 98 ∷ 101 ∷ 114
-      ∷ []) (Syntax.tcons (Syntax.tyInt Syntax.w32) Syntax.tnil)),
+  Rows.any-gone (Syntax.tyStruct
+      (102 ∷ 105 ∷ 101 ∷ 108 ∷ 100 ∷ 115 ∷ 58 ∷ 58 ∷ 70 ∷ 114 ∷ 97 ∷ 103 ∷ 109 ∷ 101 ∷ 110 ∷ 116 ∷ 78 ∷ 117 ∷ 109 ∷ 98 ∷ 101 ∷ 114 ∷ []) (Syntax.tcons
+      (Syntax.tyInt Syntax.w32) Syntax.tnil)),
 ) ∷ (4, Rows.sc-here Row.sBool) ∷ (
   5,
-  Rows.any-gone (Syntax.tyStruct (115 ∷ 116 ∷ 111 ∷ 114 ∷
-      101 ∷ 58 ∷ 58 ∷ 72 ∷ 101 ∷ 108 ∷ 100 ∷ []) (Syntax.tcons (Syntax.tyInt Syntax.w8) (Syntax.tcons (Syntax.tyInt Syntax.w64) (Syntax.tcons (Syntax.tyInt
-      Syntax.w64) (Syntax.tcons (Syntax.tyInt Syntax.w64) (Syntax.tcons (Syntax.tyInt Syntax.w64) Syntax.tnil)))))),
-) ∷ (6, Rows.sc-here (Row.sInt Syntax.w64)) ∷
-    (7, Rows.sc-here (Row.sInt Syntax.w64)) ∷ (8, Rows.sc-here (Row.sInt Syntax.w64)) ∷ (9, Rows.sc-here (Row.sInt Syntax.w64)) ∷ (
-      10,
-      Rows.sc-here (Row.sInt
-          Syntax.w8),
-    ) ∷ (11, Rows.any-gone (Syntax.tyRef Syntax.erased Syntax.imm SlotAs.pointee)) ∷ (
-      12,
-      Rows.any-gone (Syntax.tyStruct (38 ∷ 91 ∷ 93 ∷ [])
-          (Syntax.tcons (Syntax.tyRef Syntax.erased Syntax.imm SlotAs.pointee) (Syntax.tcons (Syntax.tyInt Syntax.w64) Syntax.tnil))),
-    ) ∷ (
-      13,
-      Rows.any-gone
-          Syntax.tyBool,
-    ) ∷ (14, Rows.any-gone (Syntax.tyInt Syntax.w64)) ∷ (15, Rows.any-gone (Syntax.tyInt Syntax.w8)) ∷ []
-
-abbrev pub t28 : List.List Row.Entry
-t28 = (16, Relend.ssptr SlotAs.row (Syntax.tyRef Syntax.erased Syntax.imm SlotAs.pointee) 3) ∷ (
-  17,
+  Rows.any-gone (Syntax.tyStruct (115 ∷ 116 ∷ 111 ∷ 114 ∷ 101 ∷ 58 ∷ 58 ∷ 72 ∷
+      101 ∷ 108 ∷ 100 ∷ []) (Syntax.tcons (Syntax.tyInt Syntax.w8) (Syntax.tcons (Syntax.tyInt Syntax.w64) (Syntax.tcons (Syntax.tyInt Syntax.w64) (Syntax.tcons
+      (Syntax.tyInt Syntax.w64) (Syntax.tcons (Syntax.tyInt Syntax.w64) Syntax.tnil)))))),
+) ∷ (6, Rows.sc-here (Row.sInt Syntax.w64)) ∷ (
+  7,
+  Rows.sc-here (Row.sInt
+      Syntax.w64),
+) ∷ (8, Rows.sc-here (Row.sInt Syntax.w64)) ∷ (9, Rows.whole (Declared.row (Apart.apartT FromLast.the-type))) ∷ (
+  10,
+  Rows.any-gone (Syntax.tyInt
+      Syntax.w8),
+) ∷ (11, Rows.any-gone (Syntax.tyRef Syntax.erased Syntax.imm SlotAs.pointee)) ∷ (
+  12,
   Rows.any-gone (Syntax.tyStruct (38 ∷ 91 ∷ 93 ∷ [])
       (Syntax.tcons (Syntax.tyRef Syntax.erased Syntax.imm SlotAs.pointee) (Syntax.tcons (Syntax.tyInt Syntax.w64) Syntax.tnil))),
 ) ∷ (
-  18,
+  13,
   Rows.any-gone
-      Syntax.tyUnit,
-) ∷ (19, Rows.any-gone (Syntax.tyRef Syntax.erased Syntax.mut SlotAs.pointee)) ∷ (
-  20,
-  Rows.any-gone (Syntax.tyStruct (38 ∷ 91 ∷ 93 ∷ [])
-      (Syntax.tcons (Syntax.tyRef Syntax.erased Syntax.mut SlotAs.pointee) (Syntax.tcons (Syntax.tyInt Syntax.w64) Syntax.tnil))),
-) ∷ []
+      Syntax.tyBool,
+) ∷ (14, Rows.any-gone (Syntax.tyInt Syntax.w64)) ∷ (15, Rows.any-gone (Syntax.tyInt Syntax.w64)) ∷ []
 
-abbrev pub t29 : List.List Row.Entry
-t29 = (16, Rows.any-gone (Syntax.tyRef Syntax.erased Syntax.imm SlotAs.pointee)) ∷ (
-  17,
-  Rows.sslice SlotAs.row (Syntax.tyRef Syntax.erased Syntax.imm
-      SlotAs.pointee) 3,
-) ∷ (18, Rows.any-gone Syntax.tyUnit) ∷ (19, Rows.any-gone (Syntax.tyRef Syntax.erased Syntax.mut SlotAs.pointee)) ∷ (
-  20,
-  Rows.any-gone
-      (Syntax.tyStruct (38 ∷ 91 ∷ 93 ∷ []) (Syntax.tcons (Syntax.tyRef Syntax.erased Syntax.mut SlotAs.pointee) (Syntax.tcons (Syntax.tyInt Syntax.w64)
-      Syntax.tnil))),
-) ∷ []
-
-abbrev pub t30 : List.List Row.Entry
-t30 = (0, Rows.any-gone (Syntax.tyInt Syntax.w8)) ∷ (
-  1,
-  Rows.sslice (Referent.rtF (Referent.fInt Syntax.w8)) (Syntax.tyRef (Syntax.named 0) Syntax.imm
-      (Syntax.tyInt Syntax.w8)) 0,
-) ∷ (2, Reshare.mslice-owedSᵖ SlotAs.row (Syntax.tyRef (Syntax.named 1) Syntax.mut SlotAs.pointee) 1 3 Row.off) ∷ (
-  3,
-  Rows.any-gone (Syntax.tyStruct (102 ∷ 105 ∷ 101 ∷ 108 ∷ 100 ∷ 115 ∷ 58 ∷ 58 ∷ 70 ∷ 114 ∷ 97 ∷ 103 ∷ 109 ∷ 101 ∷ 110 ∷ 116 ∷ 78 ∷ 117 ∷ 109 ∷ 98 ∷ 101 ∷ 114
-      ∷ []) (Syntax.tcons (Syntax.tyInt Syntax.w32) Syntax.tnil)),
-) ∷ (4, Rows.sc-here Row.sBool) ∷ (
-  5,
-  Rows.any-gone (Syntax.tyStruct (115 ∷ 116 ∷ 111 ∷ 114 ∷
-      101 ∷ 58 ∷ 58 ∷ 72 ∷ 101 ∷ 108 ∷ 100 ∷ []) (Syntax.tcons (Syntax.tyInt Syntax.w8) (Syntax.tcons (Syntax.tyInt Syntax.w64) (Syntax.tcons (Syntax.tyInt
-      Syntax.w64) (Syntax.tcons (Syntax.tyInt Syntax.w64) (Syntax.tcons (Syntax.tyInt Syntax.w64) Syntax.tnil)))))),
-) ∷ (6, Rows.sc-here (Row.sInt Syntax.w64)) ∷
-    (7, Rows.sc-here (Row.sInt Syntax.w64)) ∷ (8, Rows.sc-here (Row.sInt Syntax.w64)) ∷ (9, Rows.sc-here (Row.sInt Syntax.w64)) ∷ (
-      10,
-      Rows.sc-here (Row.sInt
-          Syntax.w8),
-    ) ∷ (11, Rows.any-gone (Syntax.tyRef Syntax.erased Syntax.imm SlotAs.pointee)) ∷ (
-      12,
-      Rows.any-gone (Syntax.tyStruct (38 ∷ 91 ∷ 93 ∷ [])
-          (Syntax.tcons (Syntax.tyRef Syntax.erased Syntax.imm SlotAs.pointee) (Syntax.tcons (Syntax.tyInt Syntax.w64) Syntax.tnil))),
-    ) ∷ (
-      13,
-      Rows.any-gone
-          Syntax.tyBool,
-    ) ∷ (14, Rows.any-gone (Syntax.tyInt Syntax.w64)) ∷ (15, Rows.sc-here (Row.sInt Syntax.w8)) ∷ []
-
-abbrev pub t31 : List.List Row.Entry
-t31 = (0, Rows.any-gone (Syntax.tyInt Syntax.w8)) ∷ (
+abbrev pub t28 : List.List Row.Entry
+t28 = (0, Rows.any-gone (Syntax.tyInt Syntax.w8)) ∷ (
   1,
   Rows.sslice (Referent.rtF (Referent.fInt Syntax.w8)) (Syntax.tyRef (Syntax.named 0) Syntax.imm
       (Syntax.tyInt Syntax.w8)) 0,
@@ -1208,7 +1292,150 @@ t31 = (0, Rows.any-gone (Syntax.tyInt Syntax.w8)) ∷ (
   7,
   Rows.sc-here (Row.sInt
       Syntax.w64),
-) ∷ (8, Rows.sc-here (Row.sInt Syntax.w64)) ∷ (9, Rows.sc-here (Row.sInt Syntax.w64)) ∷ (10, Rows.sc-here (Row.sInt Syntax.w8)) ∷ (
+) ∷ (8, Rows.sc-here (Row.sInt Syntax.w64)) ∷ (9, Rows.whole (Declared.row (Apart.apartT FromLast.the-type))) ∷ (
+  10,
+  Rows.sc-here (Row.sInt
+      Syntax.w8),
+) ∷ (11, Rows.any-gone (Syntax.tyRef Syntax.erased Syntax.imm SlotAs.pointee)) ∷ (
+  12,
+  Rows.any-gone (Syntax.tyStruct (38 ∷ 91 ∷ 93 ∷ [])
+      (Syntax.tcons (Syntax.tyRef Syntax.erased Syntax.imm SlotAs.pointee) (Syntax.tcons (Syntax.tyInt Syntax.w64) Syntax.tnil))),
+) ∷ (
+  13,
+  Rows.any-gone
+      Syntax.tyBool,
+) ∷ (14, Rows.any-gone (Syntax.tyInt Syntax.w64)) ∷ (15, Rows.any-gone (Syntax.tyInt Syntax.w64)) ∷ []
+
+abbrev pub t29 : List.List Row.Entry
+t29 = (0, Rows.any-gone (Syntax.tyInt Syntax.w8)) ∷ (
+  1,
+  Rows.sslice (Referent.rtF (Referent.fInt Syntax.w8)) (Syntax.tyRef (Syntax.named 0) Syntax.imm
+      (Syntax.tyInt Syntax.w8)) 0,
+) ∷ (2, Reshare.mslice-owedSᵖ SlotAs.row (Syntax.tyRef (Syntax.named 1) Syntax.mut SlotAs.pointee) 1 3 Row.off) ∷ (
+  3,
+  Rows.any-gone (Syntax.tyStruct (102 ∷ 105 ∷ 101 ∷ 108 ∷ 100 ∷ 115 ∷ 58 ∷ 58 ∷ 70 ∷ 114 ∷ 97 ∷ 103 ∷ 109 ∷ 101 ∷ 110 ∷ 116 ∷ 78 ∷ 117 ∷ 109 ∷ 98 ∷ 101 ∷ 114
+      ∷ []) (Syntax.tcons (Syntax.tyInt Syntax.w32) Syntax.tnil)),
+) ∷ (4, Rows.sc-here Row.sBool) ∷ (
+  5,
+  Rows.any-gone (Syntax.tyStruct (115 ∷ 116 ∷ 111 ∷ 114 ∷
+      101 ∷ 58 ∷ 58 ∷ 72 ∷ 101 ∷ 108 ∷ 100 ∷ []) (Syntax.tcons (Syntax.tyInt Syntax.w8) (Syntax.tcons (Syntax.tyInt Syntax.w64) (Syntax.tcons (Syntax.tyInt
+      Syntax.w64) (Syntax.tcons (Syntax.tyInt Syntax.w64) (Syntax.tcons (Syntax.tyInt Syntax.w64) Syntax.tnil)))))),
+) ∷ (6, Rows.sc-here (Row.sInt Syntax.w64)) ∷
+    (7, Rows.sc-here (Row.sInt Syntax.w64)) ∷ (8, Rows.sc-here (Row.sInt Syntax.w64)) ∷ (9, Rows.whole (Declared.row (Apart.apartT FromLast.the-type))) ∷ (
+      10,
+      Rows.sc-here (Row.sInt Syntax.w8),
+    ) ∷ (11, Rows.any-gone (Syntax.tyRef Syntax.erased Syntax.imm SlotAs.pointee)) ∷ (
+      12,
+      Rows.any-gone (Syntax.tyStruct (38 ∷
+          91 ∷ 93 ∷ []) (Syntax.tcons (Syntax.tyRef Syntax.erased Syntax.imm SlotAs.pointee) (Syntax.tcons (Syntax.tyInt Syntax.w64) Syntax.tnil))),
+    ) ∷ (
+      13,
+      Rows.any-gone Syntax.tyBool,
+    ) ∷ (14, Rows.any-gone (Syntax.tyInt Syntax.w64)) ∷ (15, Rows.any-gone (Syntax.tyInt Syntax.w64)) ∷ []
+
+abbrev pub t30 : List.List Row.Entry
+t30 = (16, Rows.any-gone (Syntax.tyInt Syntax.w8)) ∷ (17, Relend.ssptr SlotAs.row (Syntax.tyRef Syntax.erased Syntax.imm SlotAs.pointee) 3) ∷ (
+  18,
+  Rows.any-gone (Syntax.tyStruct (38 ∷ 91 ∷ 93 ∷ []) (Syntax.tcons (Syntax.tyRef Syntax.erased Syntax.imm SlotAs.pointee) (Syntax.tcons (Syntax.tyInt
+      Syntax.w64) Syntax.tnil))),
+) ∷ (19, Rows.any-gone Syntax.tyUnit) ∷ (20, Rows.any-gone (Syntax.tyRef Syntax.erased Syntax.mut SlotAs.pointee)) ∷ (
+  21,
+  Rows.any-gone (Syntax.tyStruct (38 ∷ 91 ∷ 93 ∷ []) (Syntax.tcons (Syntax.tyRef Syntax.erased Syntax.mut SlotAs.pointee) (Syntax.tcons (Syntax.tyInt
+      Syntax.w64) Syntax.tnil))),
+) ∷ []
+
+abbrev pub t31 : List.List Row.Entry
+t31 = (16, Rows.any-gone (Syntax.tyInt Syntax.w8)) ∷ (17, Rows.any-gone (Syntax.tyRef Syntax.erased Syntax.imm SlotAs.pointee)) ∷ (
+  18,
+  Rows.sslice SlotAs.row
+      (Syntax.tyRef Syntax.erased Syntax.imm SlotAs.pointee) 3,
+) ∷ (19, Rows.any-gone Syntax.tyUnit) ∷ (
+  20,
+  Rows.any-gone (Syntax.tyRef Syntax.erased Syntax.mut
+      SlotAs.pointee),
+) ∷ (
+  21,
+  Rows.any-gone (Syntax.tyStruct (38 ∷ 91 ∷ 93 ∷ []) (Syntax.tcons (Syntax.tyRef Syntax.erased Syntax.mut SlotAs.pointee)
+      (Syntax.tcons (Syntax.tyInt Syntax.w64) Syntax.tnil))),
+) ∷ []
+
+abbrev pub t32 : List.List Row.Entry
+t32 = (0, Rows.any-gone (Syntax.tyInt Syntax.w8)) ∷ (
+  1,
+  Rows.sslice (Referent.rtF (Referent.fInt Syntax.w8)) (Syntax.tyRef (Syntax.named 0) Syntax.imm
+      (Syntax.tyInt Syntax.w8)) 0,
+) ∷ (2, Reshare.mslice-owedSᵖ SlotAs.row (Syntax.tyRef (Syntax.named 1) Syntax.mut SlotAs.pointee) 1 3 Row.off) ∷ (
+  3,
+  Rows.any-gone (Syntax.tyStruct (102 ∷ 105 ∷ 101 ∷ 108 ∷ 100 ∷ 115 ∷ 58 ∷ 58 ∷ 70 ∷ 114 ∷ 97 ∷ 103 ∷ 109 ∷ 101 ∷ 110 ∷ 116 ∷ 78 ∷ 117 ∷ 109 ∷ 98 ∷ 101 ∷ 114
+      ∷ []) (Syntax.tcons (Syntax.tyInt Syntax.w32) Syntax.tnil)),
+) ∷ (4, Rows.sc-here Row.sBool) ∷ (
+  5,
+  Rows.any-gone (Syntax.tyStruct (115 ∷ 116 ∷ 111 ∷ 114 ∷
+      101 ∷ 58 ∷ 58 ∷ 72 ∷ 101 ∷ 108 ∷ 100 ∷ []) (Syntax.tcons (Syntax.tyInt Syntax.w8) (Syntax.tcons (Syntax.tyInt Syntax.w64) (Syntax.tcons (Syntax.tyInt
+      Syntax.w64) (Syntax.tcons (Syntax.tyInt Syntax.w64) (Syntax.tcons (Syntax.tyInt Syntax.w64) Syntax.tnil)))))),
+) ∷ (6, Rows.sc-here (Row.sInt Syntax.w64)) ∷
+    (7, Rows.sc-here (Row.sInt Syntax.w64)) ∷ (8, Rows.sc-here (Row.sInt Syntax.w64)) ∷ (9, Rows.whole (Declared.row FromLast.the-type)) ∷ (
+      10,
+      Rows.sc-here
+          (Row.sInt Syntax.w8),
+    ) ∷ (11, Rows.any-gone (Syntax.tyRef Syntax.erased Syntax.imm SlotAs.pointee)) ∷ (
+      12,
+      Rows.any-gone (Syntax.tyStruct (38 ∷ 91 ∷ 93 ∷
+          []) (Syntax.tcons (Syntax.tyRef Syntax.erased Syntax.imm SlotAs.pointee) (Syntax.tcons (Syntax.tyInt Syntax.w64) Syntax.tnil))),
+    ) ∷ (
+      13,
+      Rows.any-gone
+          Syntax.tyBool,
+    ) ∷ (14, Rows.any-gone (Syntax.tyInt Syntax.w64)) ∷ (15, Rows.any-gone (Syntax.tyInt Syntax.w64)) ∷ []
+
+abbrev pub t33 : List.List Row.Entry
+t33 = (16, Rows.sc-here (Row.sInt Syntax.w8)) ∷ (17, Rows.any-gone (Syntax.tyRef Syntax.erased Syntax.imm SlotAs.pointee)) ∷ (
+  18,
+  Rows.sslice SlotAs.row
+      (Syntax.tyRef Syntax.erased Syntax.imm SlotAs.pointee) 3,
+) ∷ (19, Rows.any-gone Syntax.tyUnit) ∷ (
+  20,
+  Rows.any-gone (Syntax.tyRef Syntax.erased Syntax.mut
+      SlotAs.pointee),
+) ∷ (
+  21,
+  Rows.any-gone (Syntax.tyStruct (38 ∷ 91 ∷ 93 ∷ []) (Syntax.tcons (Syntax.tyRef Syntax.erased Syntax.mut SlotAs.pointee)
+      (Syntax.tcons (Syntax.tyInt Syntax.w64) Syntax.tnil))),
+) ∷ []
+
+abbrev pub t34 : List.List Row.Entry
+t34 = (16, Rows.sc-here (Row.sInt Syntax.w8)) ∷ (17, Rows.any-gone (Syntax.tyRef Syntax.erased Syntax.imm SlotAs.pointee)) ∷ (
+  18,
+  Rows.any-gone
+      (Syntax.tyStruct (38 ∷ 91 ∷ 93 ∷ []) (Syntax.tcons (Syntax.tyRef Syntax.erased Syntax.imm SlotAs.pointee) (Syntax.tcons (Syntax.tyInt Syntax.w64)
+      Syntax.tnil))),
+) ∷ (19, Rows.any-gone Syntax.tyUnit) ∷ (20, Rows.any-gone (Syntax.tyRef Syntax.erased Syntax.mut SlotAs.pointee)) ∷ (
+  21,
+  Rows.any-gone
+      (Syntax.tyStruct (38 ∷ 91 ∷ 93 ∷ []) (Syntax.tcons (Syntax.tyRef Syntax.erased Syntax.mut SlotAs.pointee) (Syntax.tcons (Syntax.tyInt Syntax.w64)
+      Syntax.tnil))),
+) ∷ []
+
+abbrev pub t35 : List.List Row.Entry
+t35 = (0, Rows.any-gone (Syntax.tyInt Syntax.w8)) ∷ (
+  1,
+  Rows.sslice (Referent.rtF (Referent.fInt Syntax.w8)) (Syntax.tyRef (Syntax.named 0) Syntax.imm
+      (Syntax.tyInt Syntax.w8)) 0,
+) ∷ (2, Mut.mslice SlotAs.row (Syntax.tyRef (Syntax.named 1) Syntax.mut SlotAs.pointee) 1) ∷ (
+  3,
+  Rows.any-gone (Syntax.tyStruct
+      (102 ∷ 105 ∷ 101 ∷ 108 ∷ 100 ∷ 115 ∷ 58 ∷ 58 ∷ 70 ∷ 114 ∷ 97 ∷ 103 ∷ 109 ∷ 101 ∷ 110 ∷ 116 ∷ 78 ∷ 117 ∷ 109 ∷ 98 ∷ 101 ∷ 114 ∷ []) (Syntax.tcons
+      (Syntax.tyInt Syntax.w32) Syntax.tnil)),
+) ∷ (4, Rows.sc-here Row.sBool) ∷ (
+  5,
+  Rows.any-gone (Syntax.tyStruct (115 ∷ 116 ∷ 111 ∷ 114 ∷ 101 ∷ 58 ∷ 58 ∷ 72 ∷
+      101 ∷ 108 ∷ 100 ∷ []) (Syntax.tcons (Syntax.tyInt Syntax.w8) (Syntax.tcons (Syntax.tyInt Syntax.w64) (Syntax.tcons (Syntax.tyInt Syntax.w64) (Syntax.tcons
+      (Syntax.tyInt Syntax.w64) (Syntax.tcons (Syntax.tyInt Syntax.w64) Syntax.tnil)))))),
+) ∷ (6, Rows.sc-here (Row.sInt Syntax.w64)) ∷ (
+  7,
+  Rows.sc-here (Row.sInt
+      Syntax.w64),
+) ∷ (8, Rows.sc-here (Row.sInt Syntax.w64)) ∷ (9, Rows.whole (Declared.row FromLast.the-type)) ∷ (10, Rows.sc-here (Row.sInt Syntax.w8)) ∷ (
   11,
   Rows.any-gone (Syntax.tyRef Syntax.erased Syntax.imm SlotAs.pointee),
 ) ∷ (
@@ -1219,10 +1446,10 @@ t31 = (0, Rows.any-gone (Syntax.tyInt Syntax.w8)) ∷ (
   14,
   Rows.any-gone
       (Syntax.tyInt Syntax.w64),
-) ∷ (15, Rows.sc-here (Row.sInt Syntax.w8)) ∷ []
+) ∷ (15, Rows.any-gone (Syntax.tyInt Syntax.w64)) ∷ []
 
-abbrev pub t32 : List.List Row.Entry
-t32 = (0, Rows.any-gone (Syntax.tyInt Syntax.w8)) ∷ (
+abbrev pub t36 : List.List Row.Entry
+t36 = (0, Rows.any-gone (Syntax.tyInt Syntax.w8)) ∷ (
   1,
   Rows.sslice (Referent.rtF (Referent.fInt Syntax.w8)) (Syntax.tyRef (Syntax.named 0) Syntax.imm
       (Syntax.tyInt Syntax.w8)) 0,
@@ -1240,7 +1467,7 @@ t32 = (0, Rows.any-gone (Syntax.tyInt Syntax.w8)) ∷ (
   7,
   Rows.sc-here (Row.sInt
       Syntax.w64),
-) ∷ (8, Rows.sc-here (Row.sInt Syntax.w64)) ∷ (9, Rows.sc-here (Row.sInt Syntax.w64)) ∷ (10, Rows.sc-here (Row.sInt Syntax.w8)) ∷ (
+) ∷ (8, Rows.sc-here (Row.sInt Syntax.w64)) ∷ (9, Rows.whole (Declared.row FromLast.the-type)) ∷ (10, Rows.sc-here (Row.sInt Syntax.w8)) ∷ (
   11,
   Rows.any-gone (Syntax.tyRef Syntax.erased Syntax.imm SlotAs.pointee),
 ) ∷ (
@@ -1251,10 +1478,10 @@ t32 = (0, Rows.any-gone (Syntax.tyInt Syntax.w8)) ∷ (
   14,
   Rows.any-gone
       (Syntax.tyInt Syntax.w64),
-) ∷ (15, Rows.sc-here (Row.sInt Syntax.w8)) ∷ []
+) ∷ (15, Rows.any-gone (Syntax.tyInt Syntax.w64)) ∷ []
 
-abbrev pub t33 : List.List Row.Entry
-t33 = (0, Rows.any-gone (Syntax.tyInt Syntax.w8)) ∷ (
+abbrev pub t37 : List.List Row.Entry
+t37 = (0, Rows.any-gone (Syntax.tyInt Syntax.w8)) ∷ (
   1,
   Rows.sslice (Referent.rtF (Referent.fInt Syntax.w8)) (Syntax.tyRef (Syntax.named 0) Syntax.imm
       (Syntax.tyInt Syntax.w8)) 0,
@@ -1272,7 +1499,11 @@ t33 = (0, Rows.any-gone (Syntax.tyInt Syntax.w8)) ∷ (
   7,
   Rows.sc-here (Row.sInt
       Syntax.w64),
-) ∷ (8, Rows.sc-here (Row.sInt Syntax.w64)) ∷ (9, Rows.sc-here (Row.sInt Syntax.w64)) ∷ (10, Rows.sc-here (Row.sInt Syntax.w8)) ∷ (
+) ∷ (8, Rows.sc-here (Row.sInt Syntax.w64)) ∷ (
+  9,
+  Rows.any-gone (Syntax.tyStruct (102 ∷ 114 ∷ 97 ∷ 103 ∷ 109 ∷ 101 ∷ 110 ∷ 116 ∷ 115 ∷ 58 ∷ 58 ∷
+      70 ∷ 114 ∷ 111 ∷ 109 ∷ 76 ∷ 97 ∷ 115 ∷ 116 ∷ []) (Syntax.tcons (Syntax.tyInt Syntax.w64) Syntax.tnil)),
+) ∷ (10, Rows.sc-here (Row.sInt Syntax.w8)) ∷ (
   11,
   Rows.any-gone (Syntax.tyRef Syntax.erased Syntax.imm SlotAs.pointee),
 ) ∷ (
@@ -1283,10 +1514,46 @@ t33 = (0, Rows.any-gone (Syntax.tyInt Syntax.w8)) ∷ (
   14,
   Rows.any-gone
       (Syntax.tyInt Syntax.w64),
-) ∷ (15, Rows.any-gone (Syntax.tyInt Syntax.w8)) ∷ []
+) ∷ (15, Rows.any-gone (Syntax.tyInt Syntax.w64)) ∷ []
 
-abbrev pub t34 : List.List Row.Entry
-t34 = (0, Rows.sc-here (Row.sInt Syntax.w8)) ∷ (
+abbrev pub t38 : List.List Row.Entry
+t38 = (0, Rows.any-gone (Syntax.tyInt Syntax.w8)) ∷ (
+  1,
+  Rows.sslice (Referent.rtF (Referent.fInt Syntax.w8)) (Syntax.tyRef (Syntax.named 0) Syntax.imm
+      (Syntax.tyInt Syntax.w8)) 0,
+) ∷ (2, Mut.mslice SlotAs.row (Syntax.tyRef (Syntax.named 1) Syntax.mut SlotAs.pointee) 1) ∷ (
+  3,
+  Rows.any-gone (Syntax.tyStruct
+      (102 ∷ 105 ∷ 101 ∷ 108 ∷ 100 ∷ 115 ∷ 58 ∷ 58 ∷ 70 ∷ 114 ∷ 97 ∷ 103 ∷ 109 ∷ 101 ∷ 110 ∷ 116 ∷ 78 ∷ 117 ∷ 109 ∷ 98 ∷ 101 ∷ 114 ∷ []) (Syntax.tcons
+      (Syntax.tyInt Syntax.w32) Syntax.tnil)),
+) ∷ (4, Rows.sc-here Row.sBool) ∷ (
+  5,
+  Rows.any-gone (Syntax.tyStruct (115 ∷ 116 ∷ 111 ∷ 114 ∷ 101 ∷ 58 ∷ 58 ∷ 72 ∷
+      101 ∷ 108 ∷ 100 ∷ []) (Syntax.tcons (Syntax.tyInt Syntax.w8) (Syntax.tcons (Syntax.tyInt Syntax.w64) (Syntax.tcons (Syntax.tyInt Syntax.w64) (Syntax.tcons
+      (Syntax.tyInt Syntax.w64) (Syntax.tcons (Syntax.tyInt Syntax.w64) Syntax.tnil)))))),
+) ∷ (6, Rows.sc-here (Row.sInt Syntax.w64)) ∷ (
+  7,
+  Rows.sc-here (Row.sInt
+      Syntax.w64),
+) ∷ (8, Rows.sc-here (Row.sInt Syntax.w64)) ∷ (
+  9,
+  Rows.any-gone (Syntax.tyStruct (102 ∷ 114 ∷ 97 ∷ 103 ∷ 109 ∷ 101 ∷ 110 ∷ 116 ∷ 115 ∷ 58 ∷ 58 ∷
+      70 ∷ 114 ∷ 111 ∷ 109 ∷ 76 ∷ 97 ∷ 115 ∷ 116 ∷ []) (Syntax.tcons (Syntax.tyInt Syntax.w64) Syntax.tnil)),
+) ∷ (10, Rows.sc-here (Row.sInt Syntax.w8)) ∷ (
+  11,
+  Rows.any-gone (Syntax.tyRef Syntax.erased Syntax.imm SlotAs.pointee),
+) ∷ (
+  12,
+  Rows.any-gone (Syntax.tyStruct (38 ∷ 91 ∷ 93 ∷ []) (Syntax.tcons (Syntax.tyRef
+      Syntax.erased Syntax.imm SlotAs.pointee) (Syntax.tcons (Syntax.tyInt Syntax.w64) Syntax.tnil))),
+) ∷ (13, Rows.any-gone Syntax.tyBool) ∷ (
+  14,
+  Rows.any-gone
+      (Syntax.tyInt Syntax.w64),
+) ∷ (15, Rows.any-gone (Syntax.tyInt Syntax.w64)) ∷ []
+
+abbrev pub t39 : List.List Row.Entry
+t39 = (0, Rows.sc-here (Row.sInt Syntax.w8)) ∷ (
   1,
   Rows.sslice (Referent.rtF (Referent.fInt Syntax.w8)) (Syntax.tyRef (Syntax.named 0) Syntax.imm (Syntax.tyInt
       Syntax.w8)) 0,
@@ -1301,7 +1568,11 @@ t34 = (0, Rows.sc-here (Row.sInt Syntax.w8)) ∷ (
       ∷ []) (Syntax.tcons (Syntax.tyInt Syntax.w8) (Syntax.tcons (Syntax.tyInt Syntax.w64) (Syntax.tcons (Syntax.tyInt Syntax.w64) (Syntax.tcons (Syntax.tyInt
       Syntax.w64) (Syntax.tcons (Syntax.tyInt Syntax.w64) Syntax.tnil)))))),
 ) ∷ (6, Rows.sc-here (Row.sInt Syntax.w64)) ∷ (7, Rows.sc-here (Row.sInt Syntax.w64))
-    ∷ (8, Rows.sc-here (Row.sInt Syntax.w64)) ∷ (9, Rows.sc-here (Row.sInt Syntax.w64)) ∷ (10, Rows.sc-here (Row.sInt Syntax.w8)) ∷ (
+    ∷ (8, Rows.sc-here (Row.sInt Syntax.w64)) ∷ (
+      9,
+      Rows.any-gone (Syntax.tyStruct (102 ∷ 114 ∷ 97 ∷ 103 ∷ 109 ∷ 101 ∷ 110 ∷ 116 ∷ 115 ∷ 58 ∷ 58 ∷ 70 ∷ 114 ∷
+          111 ∷ 109 ∷ 76 ∷ 97 ∷ 115 ∷ 116 ∷ []) (Syntax.tcons (Syntax.tyInt Syntax.w64) Syntax.tnil)),
+    ) ∷ (10, Rows.sc-here (Row.sInt Syntax.w8)) ∷ (
       11,
       Rows.any-gone
           (Syntax.tyRef Syntax.erased Syntax.imm SlotAs.pointee),
@@ -1313,10 +1584,10 @@ t34 = (0, Rows.sc-here (Row.sInt Syntax.w8)) ∷ (
       14,
       Rows.any-gone (Syntax.tyInt
           Syntax.w64),
-    ) ∷ (15, Rows.any-gone (Syntax.tyInt Syntax.w8)) ∷ []
+    ) ∷ (15, Rows.any-gone (Syntax.tyInt Syntax.w64)) ∷ []
 
-abbrev pub t35 : List.List Row.Entry
-t35 = (0, Rows.sc-here (Row.sInt Syntax.w8)) ∷ (
+abbrev pub t40 : List.List Row.Entry
+t40 = (0, Rows.sc-here (Row.sInt Syntax.w8)) ∷ (
   1,
   Rows.sslice (Referent.rtF (Referent.fInt Syntax.w8)) (Syntax.tyRef (Syntax.named 0) Syntax.imm (Syntax.tyInt
       Syntax.w8)) 0,
@@ -1334,7 +1605,11 @@ t35 = (0, Rows.sc-here (Row.sInt Syntax.w8)) ∷ (
   7,
   Rows.sc-here (Row.sInt
       Syntax.w64),
-) ∷ (8, Rows.sc-here (Row.sInt Syntax.w64)) ∷ (9, Rows.sc-here (Row.sInt Syntax.w64)) ∷ (10, Rows.sc-here (Row.sInt Syntax.w8)) ∷ (
+) ∷ (8, Rows.sc-here (Row.sInt Syntax.w64)) ∷ (
+  9,
+  Rows.any-gone (Syntax.tyStruct (102 ∷ 114 ∷ 97 ∷ 103 ∷ 109 ∷ 101 ∷ 110 ∷ 116 ∷ 115 ∷ 58 ∷ 58 ∷
+      70 ∷ 114 ∷ 111 ∷ 109 ∷ 76 ∷ 97 ∷ 115 ∷ 116 ∷ []) (Syntax.tcons (Syntax.tyInt Syntax.w64) Syntax.tnil)),
+) ∷ (10, Rows.sc-here (Row.sInt Syntax.w8)) ∷ (
   11,
   Rows.any-gone (Syntax.tyRef Syntax.erased Syntax.imm SlotAs.pointee),
 ) ∷ (
@@ -1345,10 +1620,10 @@ t35 = (0, Rows.sc-here (Row.sInt Syntax.w8)) ∷ (
   14,
   Rows.any-gone
       (Syntax.tyInt Syntax.w64),
-) ∷ (15, Rows.any-gone (Syntax.tyInt Syntax.w8)) ∷ []
+) ∷ (15, Rows.any-gone (Syntax.tyInt Syntax.w64)) ∷ []
 
-abbrev pub t36 : List.List Row.Entry
-t36 = (0, Rows.sc-here (Row.sInt Syntax.w8)) ∷ (
+abbrev pub t41 : List.List Row.Entry
+t41 = (0, Rows.sc-here (Row.sInt Syntax.w8)) ∷ (
   1,
   Rows.sslice (Referent.rtF (Referent.fInt Syntax.w8)) (Syntax.tyRef (Syntax.named 0) Syntax.imm (Syntax.tyInt
       Syntax.w8)) 0,
@@ -1366,50 +1641,22 @@ t36 = (0, Rows.sc-here (Row.sInt Syntax.w8)) ∷ (
   7,
   Rows.sc-here
       (Row.sInt Syntax.w64),
-) ∷ (8, Rows.sc-here (Row.sInt Syntax.w64)) ∷ (9, Rows.sc-here (Row.sInt Syntax.w64)) ∷ (10, Rows.sc-here (Row.sInt Syntax.w8)) ∷ (
-  11,
-  Rows.any-gone (Syntax.tyRef Syntax.erased Syntax.imm SlotAs.pointee),
-) ∷ (
-  12,
-  Rows.any-gone (Syntax.tyStruct (38 ∷ 91 ∷ 93 ∷ []) (Syntax.tcons (Syntax.tyRef
-      Syntax.erased Syntax.imm SlotAs.pointee) (Syntax.tcons (Syntax.tyInt Syntax.w64) Syntax.tnil))),
-) ∷ (13, Rows.any-gone Syntax.tyBool) ∷ (
-  14,
-  Rows.any-gone
-      (Syntax.tyInt Syntax.w64),
-) ∷ (15, Rows.any-gone (Syntax.tyInt Syntax.w8)) ∷ []
-
-abbrev pub t37 : List.List Row.Entry
-t37 = (0, Rows.sc-here (Row.sInt Syntax.w8)) ∷ (
-  1,
-  Rows.sslice (Referent.rtF (Referent.fInt Syntax.w8)) (Syntax.tyRef (Syntax.named 0) Syntax.imm (Syntax.tyInt
-      Syntax.w8)) 0,
-) ∷ (2, Mut.mslice SlotAs.row (Syntax.tyRef (Syntax.named 1) Syntax.mut SlotAs.pointee) 1) ∷ (
-  3,
-  Rows.any-gone (Syntax.tyStruct (102 ∷ 105 ∷
-      101 ∷ 108 ∷ 100 ∷ 115 ∷ 58 ∷ 58 ∷ 70 ∷ 114 ∷ 97 ∷ 103 ∷ 109 ∷ 101 ∷ 110 ∷ 116 ∷ 78 ∷ 117 ∷ 109 ∷ 98 ∷ 101 ∷ 114 ∷ []) (Syntax.tcons (Syntax.tyInt
-      Syntax.w32) Syntax.tnil)),
-) ∷ (4, Rows.any-gone Syntax.tyBool) ∷ (
-  5,
-  Rows.any-gone (Syntax.tyStruct (115 ∷ 116 ∷ 111 ∷ 114 ∷ 101 ∷ 58 ∷ 58 ∷ 72 ∷ 101 ∷ 108
-      ∷ 100 ∷ []) (Syntax.tcons (Syntax.tyInt Syntax.w8) (Syntax.tcons (Syntax.tyInt Syntax.w64) (Syntax.tcons (Syntax.tyInt Syntax.w64) (Syntax.tcons
-      (Syntax.tyInt Syntax.w64) (Syntax.tcons (Syntax.tyInt Syntax.w64) Syntax.tnil)))))),
-) ∷ (6, Rows.any-gone (Syntax.tyInt Syntax.w64)) ∷ (
-  7,
-  Rows.any-gone
-      (Syntax.tyInt Syntax.w64),
-) ∷ (8, Rows.sc-here (Row.sInt Syntax.w64)) ∷ (9, Rows.sc-here (Row.sInt Syntax.w64)) ∷ (10, Rows.sc-here (Row.sInt Syntax.w8)) ∷
-    (11, Rows.any-gone (Syntax.tyRef Syntax.erased Syntax.imm SlotAs.pointee)) ∷ (
+) ∷ (8, Rows.sc-here (Row.sInt Syntax.w64)) ∷ (
+  9,
+  Rows.any-gone (Syntax.tyStruct (102 ∷ 114 ∷ 97 ∷ 103 ∷ 109 ∷ 101 ∷ 110 ∷ 116 ∷ 115 ∷
+      58 ∷ 58 ∷ 70 ∷ 114 ∷ 111 ∷ 109 ∷ 76 ∷ 97 ∷ 115 ∷ 116 ∷ []) (Syntax.tcons (Syntax.tyInt Syntax.w64) Syntax.tnil)),
+) ∷ (10, Rows.sc-here (Row.sInt Syntax.w8))
+    ∷ (11, Rows.any-gone (Syntax.tyRef Syntax.erased Syntax.imm SlotAs.pointee)) ∷ (
       12,
       Rows.any-gone (Syntax.tyStruct (38 ∷ 91 ∷ 93 ∷ []) (Syntax.tcons
           (Syntax.tyRef Syntax.erased Syntax.imm SlotAs.pointee) (Syntax.tcons (Syntax.tyInt Syntax.w64) Syntax.tnil))),
     ) ∷ (13, Rows.any-gone Syntax.tyBool) ∷ (
       14,
       Rows.any-gone (Syntax.tyInt Syntax.w64),
-    ) ∷ (15, Rows.any-gone (Syntax.tyInt Syntax.w8)) ∷ []
+    ) ∷ (15, Rows.any-gone (Syntax.tyInt Syntax.w64)) ∷ []
 
-abbrev pub t38 : List.List Row.Entry
-t38 = (0, Rows.sc-here (Row.sInt Syntax.w8)) ∷ (
+abbrev pub t42 : List.List Row.Entry
+t42 = (0, Rows.sc-here (Row.sInt Syntax.w8)) ∷ (
   1,
   Rows.sslice (Referent.rtF (Referent.fInt Syntax.w8)) (Syntax.tyRef (Syntax.named 0) Syntax.imm (Syntax.tyInt
       Syntax.w8)) 0,
@@ -1427,7 +1674,11 @@ t38 = (0, Rows.sc-here (Row.sInt Syntax.w8)) ∷ (
   7,
   Rows.any-gone
       (Syntax.tyInt Syntax.w64),
-) ∷ (8, Rows.any-gone (Syntax.tyInt Syntax.w64)) ∷ (9, Rows.sc-here (Row.sInt Syntax.w64)) ∷ (
+) ∷ (8, Rows.sc-here (Row.sInt Syntax.w64)) ∷ (
+  9,
+  Rows.any-gone (Syntax.tyStruct (102 ∷ 114 ∷ 97 ∷ 103 ∷ 109 ∷ 101 ∷ 110 ∷ 116 ∷
+      115 ∷ 58 ∷ 58 ∷ 70 ∷ 114 ∷ 111 ∷ 109 ∷ 76 ∷ 97 ∷ 115 ∷ 116 ∷ []) (Syntax.tcons (Syntax.tyInt Syntax.w64) Syntax.tnil)),
+) ∷ (
   10,
   Rows.sc-here (Row.sInt
       Syntax.w8),
@@ -1439,10 +1690,10 @@ t38 = (0, Rows.sc-here (Row.sInt Syntax.w8)) ∷ (
   13,
   Rows.any-gone
       Syntax.tyBool,
-) ∷ (14, Rows.any-gone (Syntax.tyInt Syntax.w64)) ∷ (15, Rows.any-gone (Syntax.tyInt Syntax.w8)) ∷ []
+) ∷ (14, Rows.any-gone (Syntax.tyInt Syntax.w64)) ∷ (15, Rows.any-gone (Syntax.tyInt Syntax.w64)) ∷ []
 
-abbrev pub t39 : List.List Row.Entry
-t39 = (0, Rows.sc-here (Row.sInt Syntax.w8)) ∷ (
+abbrev pub t43 : List.List Row.Entry
+t43 = (0, Rows.sc-here (Row.sInt Syntax.w8)) ∷ (
   1,
   Rows.sslice (Referent.rtF (Referent.fInt Syntax.w8)) (Syntax.tyRef (Syntax.named 0) Syntax.imm (Syntax.tyInt
       Syntax.w8)) 0,
@@ -1460,7 +1711,11 @@ t39 = (0, Rows.sc-here (Row.sInt Syntax.w8)) ∷ (
   7,
   Rows.any-gone
       (Syntax.tyInt Syntax.w64),
-) ∷ (8, Rows.any-gone (Syntax.tyInt Syntax.w64)) ∷ (9, Rows.any-gone (Syntax.tyInt Syntax.w64)) ∷ (
+) ∷ (8, Rows.any-gone (Syntax.tyInt Syntax.w64)) ∷ (
+  9,
+  Rows.any-gone (Syntax.tyStruct (102 ∷ 114 ∷ 97 ∷ 103 ∷ 109 ∷ 101 ∷ 110 ∷
+      116 ∷ 115 ∷ 58 ∷ 58 ∷ 70 ∷ 114 ∷ 111 ∷ 109 ∷ 76 ∷ 97 ∷ 115 ∷ 116 ∷ []) (Syntax.tcons (Syntax.tyInt Syntax.w64) Syntax.tnil)),
+) ∷ (
   10,
   Rows.sc-here (Row.sInt
       Syntax.w8),
@@ -1472,10 +1727,10 @@ t39 = (0, Rows.sc-here (Row.sInt Syntax.w8)) ∷ (
   13,
   Rows.any-gone
       Syntax.tyBool,
-) ∷ (14, Rows.any-gone (Syntax.tyInt Syntax.w64)) ∷ (15, Rows.any-gone (Syntax.tyInt Syntax.w8)) ∷ []
+) ∷ (14, Rows.any-gone (Syntax.tyInt Syntax.w64)) ∷ (15, Rows.any-gone (Syntax.tyInt Syntax.w64)) ∷ []
 
-abbrev pub t40 : List.List Row.Entry
-t40 = (0, Rows.any-gone (Syntax.tyInt Syntax.w8)) ∷ (
+abbrev pub t44 : List.List Row.Entry
+t44 = (0, Rows.any-gone (Syntax.tyInt Syntax.w8)) ∷ (
   1,
   Rows.sslice (Referent.rtF (Referent.fInt Syntax.w8)) (Syntax.tyRef (Syntax.named 0) Syntax.imm
       (Syntax.tyInt Syntax.w8)) 0,
@@ -1492,72 +1747,106 @@ t40 = (0, Rows.any-gone (Syntax.tyInt Syntax.w8)) ∷ (
 ) ∷ (6, Rows.sc-here (Row.sInt Syntax.w64)) ∷ (
   7,
   Rows.sc-here (Row.sInt Syntax.w64),
-) ∷ (8, Rows.sc-here (Row.sInt Syntax.w64)) ∷ (9, Rows.sc-here (Row.sInt Syntax.w64)) ∷ (
+) ∷ (8, Rows.sc-here (Row.sInt Syntax.w64)) ∷ (9, Rows.whole (Declared.row FromLast.the-type)) ∷ (
   10,
-  Rows.sc-here (Row.sInt
-      Syntax.w8),
+  Rows.sc-here
+      (Row.sInt Syntax.w8),
 ) ∷ (11, Rows.any-gone (Syntax.tyRef Syntax.erased Syntax.imm SlotAs.pointee)) ∷ (
   12,
-  Rows.any-gone (Syntax.tyStruct (38 ∷ 91 ∷ 93 ∷ [])
-      (Syntax.tcons (Syntax.tyRef Syntax.erased Syntax.imm SlotAs.pointee) (Syntax.tcons (Syntax.tyInt Syntax.w64) Syntax.tnil))),
+  Rows.any-gone (Syntax.tyStruct (38 ∷ 91 ∷ 93 ∷
+      []) (Syntax.tcons (Syntax.tyRef Syntax.erased Syntax.imm SlotAs.pointee) (Syntax.tcons (Syntax.tyInt Syntax.w64) Syntax.tnil))),
 ) ∷ (
   13,
   Rows.any-gone
       Syntax.tyBool,
-) ∷ (14, Rows.any-gone (Syntax.tyInt Syntax.w64)) ∷ (15, Rows.any-gone (Syntax.tyInt Syntax.w8)) ∷ []
-
-abbrev pub t41 : List.List Row.Entry
-t41 = (16, Rows.any-gone (Syntax.tyRef Syntax.erased Syntax.imm SlotAs.pointee)) ∷ (
-  17,
-  Rows.any-gone (Syntax.tyStruct (38 ∷ 91 ∷ 93 ∷ []) (Syntax.tcons
-      (Syntax.tyRef Syntax.erased Syntax.imm SlotAs.pointee) (Syntax.tcons (Syntax.tyInt Syntax.w64) Syntax.tnil))),
-) ∷ (18, Rows.any-gone Syntax.tyUnit) ∷ (
-  19,
-  Relend.msptr SlotAs.row (Syntax.tyRef Syntax.erased Syntax.mut SlotAs.pointee) 4,
-) ∷ (
-  20,
-  Rows.any-gone (Syntax.tyStruct (38 ∷ 91 ∷ 93 ∷ []) (Syntax.tcons
-      (Syntax.tyRef Syntax.erased Syntax.mut SlotAs.pointee) (Syntax.tcons (Syntax.tyInt Syntax.w64) Syntax.tnil))),
-) ∷ []
-
-abbrev pub t42 : List.List Row.Entry
-t42 = (16, Rows.any-gone (Syntax.tyRef Syntax.erased Syntax.imm SlotAs.pointee)) ∷ (
-  17,
-  Rows.any-gone (Syntax.tyStruct (38 ∷ 91 ∷ 93 ∷ []) (Syntax.tcons
-      (Syntax.tyRef Syntax.erased Syntax.imm SlotAs.pointee) (Syntax.tcons (Syntax.tyInt Syntax.w64) Syntax.tnil))),
-) ∷ (18, Rows.any-gone Syntax.tyUnit) ∷ (
-  19,
-  Rows.any-gone (Syntax.tyRef Syntax.erased Syntax.mut SlotAs.pointee),
-) ∷ (
-  20,
-  Mut.mslice SlotAs.row (Syntax.tyRef Syntax.erased Syntax.mut SlotAs.pointee)
-      4,
-) ∷ []
-
-abbrev pub t43 : List.List Row.Entry
-t43 = (16, Rows.any-gone (Syntax.tyRef Syntax.erased Syntax.imm SlotAs.pointee)) ∷ (
-  17,
-  Rows.any-gone (Syntax.tyStruct (38 ∷ 91 ∷ 93 ∷ []) (Syntax.tcons
-      (Syntax.tyRef Syntax.erased Syntax.imm SlotAs.pointee) (Syntax.tcons (Syntax.tyInt Syntax.w64) Syntax.tnil))),
-) ∷ (18, Rows.sc-here Row.sUnit) ∷ (
-  19,
-  Rows.any-gone (Syntax.tyRef Syntax.erased Syntax.mut SlotAs.pointee),
-) ∷ (20, Mut.msleft SlotAs.row (Syntax.tyRef Syntax.erased Syntax.mut SlotAs.pointee))
-    ∷ []
-
-abbrev pub t44 : List.List Row.Entry
-t44 = (16, Rows.any-gone (Syntax.tyRef Syntax.erased Syntax.imm SlotAs.pointee)) ∷ (
-  17,
-  Rows.any-gone (Syntax.tyStruct (38 ∷ 91 ∷ 93 ∷ []) (Syntax.tcons
-      (Syntax.tyRef Syntax.erased Syntax.imm SlotAs.pointee) (Syntax.tcons (Syntax.tyInt Syntax.w64) Syntax.tnil))),
-) ∷ (18, Rows.any-gone Syntax.tyUnit) ∷ (
-  19,
-  Rows.any-gone (Syntax.tyRef Syntax.erased Syntax.mut SlotAs.pointee),
-) ∷ (20, Mut.msleft SlotAs.row (Syntax.tyRef Syntax.erased Syntax.mut SlotAs.pointee))
-    ∷ []
+) ∷ (14, Rows.any-gone (Syntax.tyInt Syntax.w64)) ∷ (15, Rows.any-gone (Syntax.tyInt Syntax.w64)) ∷ []
 
 abbrev pub t45 : List.List Row.Entry
-t45 = (0, Rows.sc-here (Row.sInt Syntax.w8)) ∷ (
+t45 = (16, Rows.any-gone (Syntax.tyInt Syntax.w8)) ∷ (17, Rows.any-gone (Syntax.tyRef Syntax.erased Syntax.imm SlotAs.pointee)) ∷ (
+  18,
+  Rows.any-gone
+      (Syntax.tyStruct (38 ∷ 91 ∷ 93 ∷ []) (Syntax.tcons (Syntax.tyRef Syntax.erased Syntax.imm SlotAs.pointee) (Syntax.tcons (Syntax.tyInt Syntax.w64)
+      Syntax.tnil))),
+) ∷ (19, Rows.any-gone Syntax.tyUnit) ∷ (20, Relend.msptr SlotAs.row (Syntax.tyRef Syntax.erased Syntax.mut SlotAs.pointee) 4) ∷ (
+  21,
+  Rows.any-gone (Syntax.tyStruct (38 ∷ 91 ∷ 93 ∷ []) (Syntax.tcons (Syntax.tyRef Syntax.erased Syntax.mut SlotAs.pointee) (Syntax.tcons (Syntax.tyInt
+      Syntax.w64) Syntax.tnil))),
+) ∷ []
+
+abbrev pub t46 : List.List Row.Entry
+t46 = (16, Rows.any-gone (Syntax.tyInt Syntax.w8)) ∷ (17, Rows.any-gone (Syntax.tyRef Syntax.erased Syntax.imm SlotAs.pointee)) ∷ (
+  18,
+  Rows.any-gone
+      (Syntax.tyStruct (38 ∷ 91 ∷ 93 ∷ []) (Syntax.tcons (Syntax.tyRef Syntax.erased Syntax.imm SlotAs.pointee) (Syntax.tcons (Syntax.tyInt Syntax.w64)
+      Syntax.tnil))),
+) ∷ (19, Rows.any-gone Syntax.tyUnit) ∷ (20, Rows.any-gone (Syntax.tyRef Syntax.erased Syntax.mut SlotAs.pointee)) ∷ (
+  21,
+  Mut.mslice
+      SlotAs.row (Syntax.tyRef Syntax.erased Syntax.mut SlotAs.pointee) 4,
+) ∷ []
+
+abbrev pub t47 : List.List Row.Entry
+t47 = (16, Rows.any-gone (Syntax.tyInt Syntax.w8)) ∷ (17, Rows.any-gone (Syntax.tyRef Syntax.erased Syntax.imm SlotAs.pointee)) ∷ (
+  18,
+  Rows.any-gone
+      (Syntax.tyStruct (38 ∷ 91 ∷ 93 ∷ []) (Syntax.tcons (Syntax.tyRef Syntax.erased Syntax.imm SlotAs.pointee) (Syntax.tcons (Syntax.tyInt Syntax.w64)
+      Syntax.tnil))),
+) ∷ (19, Rows.sc-here Row.sUnit) ∷ (20, Rows.any-gone (Syntax.tyRef Syntax.erased Syntax.mut SlotAs.pointee)) ∷ (
+  21,
+  Mut.msleft SlotAs.row
+      (Syntax.tyRef Syntax.erased Syntax.mut SlotAs.pointee),
+) ∷ []
+
+abbrev pub t48 : List.List Row.Entry
+t48 = (0, Rows.any-gone (Syntax.tyInt Syntax.w8)) ∷ (
+  1,
+  Rows.sslice (Referent.rtF (Referent.fInt Syntax.w8)) (Syntax.tyRef (Syntax.named 0) Syntax.imm
+      (Syntax.tyInt Syntax.w8)) 0,
+) ∷ (2, Part.mslice-owedP SlotAs.row (Syntax.tyRef (Syntax.named 1) Syntax.mut SlotAs.pointee) 1 4 Row.off) ∷ (
+  3,
+  Rows.any-gone
+      (Syntax.tyStruct (102 ∷ 105 ∷ 101 ∷ 108 ∷ 100 ∷ 115 ∷ 58 ∷ 58 ∷ 70 ∷ 114 ∷ 97 ∷ 103 ∷ 109 ∷ 101 ∷ 110 ∷ 116 ∷ 78 ∷ 117 ∷ 109 ∷ 98 ∷ 101 ∷ 114 ∷ [])
+      (Syntax.tcons (Syntax.tyInt Syntax.w32) Syntax.tnil)),
+) ∷ (4, Rows.sc-here Row.sBool) ∷ (
+  5,
+  Rows.any-gone (Syntax.tyStruct (115 ∷ 116 ∷ 111 ∷ 114 ∷ 101 ∷ 58
+      ∷ 58 ∷ 72 ∷ 101 ∷ 108 ∷ 100 ∷ []) (Syntax.tcons (Syntax.tyInt Syntax.w8) (Syntax.tcons (Syntax.tyInt Syntax.w64) (Syntax.tcons (Syntax.tyInt Syntax.w64)
+      (Syntax.tcons (Syntax.tyInt Syntax.w64) (Syntax.tcons (Syntax.tyInt Syntax.w64) Syntax.tnil)))))),
+) ∷ (6, Rows.sc-here (Row.sInt Syntax.w64)) ∷ (
+  7,
+  Rows.sc-here (Row.sInt Syntax.w64),
+) ∷ (8, Rows.sc-here (Row.sInt Syntax.w64)) ∷ (
+  9,
+  Rows.any-gone (Syntax.tyStruct (102 ∷ 114 ∷ 97 ∷ 103 ∷ 109 ∷ 101 ∷ 110
+      ∷ 116 ∷ 115 ∷ 58 ∷ 58 ∷ 70 ∷ 114 ∷ 111 ∷ 109 ∷ 76 ∷ 97 ∷ 115 ∷ 116 ∷ []) (Syntax.tcons (Syntax.tyInt Syntax.w64) Syntax.tnil)),
+) ∷ (
+  10,
+  Rows.sc-here
+      (Row.sInt Syntax.w8),
+) ∷ (11, Rows.any-gone (Syntax.tyRef Syntax.erased Syntax.imm SlotAs.pointee)) ∷ (
+  12,
+  Rows.any-gone (Syntax.tyStruct (38 ∷ 91 ∷ 93 ∷
+      []) (Syntax.tcons (Syntax.tyRef Syntax.erased Syntax.imm SlotAs.pointee) (Syntax.tcons (Syntax.tyInt Syntax.w64) Syntax.tnil))),
+) ∷ (
+  13,
+  Rows.any-gone
+      Syntax.tyBool,
+) ∷ (14, Rows.any-gone (Syntax.tyInt Syntax.w64)) ∷ (15, Rows.any-gone (Syntax.tyInt Syntax.w64)) ∷ []
+
+abbrev pub t49 : List.List Row.Entry
+t49 = (16, Rows.any-gone (Syntax.tyInt Syntax.w8)) ∷ (17, Rows.any-gone (Syntax.tyRef Syntax.erased Syntax.imm SlotAs.pointee)) ∷ (
+  18,
+  Rows.any-gone
+      (Syntax.tyStruct (38 ∷ 91 ∷ 93 ∷ []) (Syntax.tcons (Syntax.tyRef Syntax.erased Syntax.imm SlotAs.pointee) (Syntax.tcons (Syntax.tyInt Syntax.w64)
+      Syntax.tnil))),
+) ∷ (19, Rows.any-gone Syntax.tyUnit) ∷ (20, Rows.any-gone (Syntax.tyRef Syntax.erased Syntax.mut SlotAs.pointee)) ∷ (
+  21,
+  Mut.msleft
+      SlotAs.row (Syntax.tyRef Syntax.erased Syntax.mut SlotAs.pointee),
+) ∷ []
+
+abbrev pub t50 : List.List Row.Entry
+t50 = (0, Rows.sc-here (Row.sInt Syntax.w8)) ∷ (
   1,
   Rows.sslice (Referent.rtF (Referent.fInt Syntax.w8)) (Syntax.tyRef (Syntax.named 0) Syntax.imm (Syntax.tyInt
       Syntax.w8)) 0,
@@ -1575,7 +1864,11 @@ t45 = (0, Rows.sc-here (Row.sInt Syntax.w8)) ∷ (
   7,
   Rows.sc-here (Row.sInt
       Syntax.w64),
-) ∷ (8, Rows.sc-here (Row.sInt Syntax.w64)) ∷ (9, Rows.sc-here (Row.sInt Syntax.w64)) ∷ (10, Rows.sc-here (Row.sInt Syntax.w8)) ∷ (
+) ∷ (8, Rows.sc-here (Row.sInt Syntax.w64)) ∷ (
+  9,
+  Rows.any-gone (Syntax.tyStruct (102 ∷ 114 ∷ 97 ∷ 103 ∷ 109 ∷ 101 ∷ 110 ∷ 116 ∷ 115 ∷ 58 ∷ 58 ∷
+      70 ∷ 114 ∷ 111 ∷ 109 ∷ 76 ∷ 97 ∷ 115 ∷ 116 ∷ []) (Syntax.tcons (Syntax.tyInt Syntax.w64) Syntax.tnil)),
+) ∷ (10, Rows.sc-here (Row.sInt Syntax.w8)) ∷ (
   11,
   Rows.any-gone (Syntax.tyRef Syntax.erased Syntax.imm SlotAs.pointee),
 ) ∷ (
@@ -1586,10 +1879,10 @@ t45 = (0, Rows.sc-here (Row.sInt Syntax.w8)) ∷ (
   14,
   Rows.any-gone
       (Syntax.tyInt Syntax.w64),
-) ∷ (15, Rows.any-gone (Syntax.tyInt Syntax.w8)) ∷ []
+) ∷ (15, Rows.any-gone (Syntax.tyInt Syntax.w64)) ∷ []
 
-abbrev pub t46 : List.List Row.Entry
-t46 = (0, Rows.sc-here (Row.sInt Syntax.w8)) ∷ (
+abbrev pub t51 : List.List Row.Entry
+t51 = (0, Rows.sc-here (Row.sInt Syntax.w8)) ∷ (
   1,
   Rows.sslice (Referent.rtF (Referent.fInt Syntax.w8)) (Syntax.tyRef (Syntax.named 0) Syntax.imm (Syntax.tyInt
       Syntax.w8)) 0,
@@ -1607,7 +1900,11 @@ t46 = (0, Rows.sc-here (Row.sInt Syntax.w8)) ∷ (
   7,
   Rows.any-gone (Syntax.tyInt
       Syntax.w64),
-) ∷ (8, Rows.sc-here (Row.sInt Syntax.w64)) ∷ (9, Rows.sc-here (Row.sInt Syntax.w64)) ∷ (10, Rows.sc-here (Row.sInt Syntax.w8)) ∷ (
+) ∷ (8, Rows.sc-here (Row.sInt Syntax.w64)) ∷ (
+  9,
+  Rows.any-gone (Syntax.tyStruct (102 ∷ 114 ∷ 97 ∷ 103 ∷ 109 ∷ 101 ∷ 110 ∷ 116 ∷ 115 ∷ 58 ∷ 58 ∷
+      70 ∷ 114 ∷ 111 ∷ 109 ∷ 76 ∷ 97 ∷ 115 ∷ 116 ∷ []) (Syntax.tcons (Syntax.tyInt Syntax.w64) Syntax.tnil)),
+) ∷ (10, Rows.sc-here (Row.sInt Syntax.w8)) ∷ (
   11,
   Rows.any-gone (Syntax.tyRef Syntax.erased Syntax.imm SlotAs.pointee),
 ) ∷ (
@@ -1618,10 +1915,10 @@ t46 = (0, Rows.sc-here (Row.sInt Syntax.w8)) ∷ (
   14,
   Rows.any-gone
       (Syntax.tyInt Syntax.w64),
-) ∷ (15, Rows.any-gone (Syntax.tyInt Syntax.w8)) ∷ []
+) ∷ (15, Rows.any-gone (Syntax.tyInt Syntax.w64)) ∷ []
 
-abbrev pub t47 : List.List Row.Entry
-t47 = (0, Rows.sc-here (Row.sInt Syntax.w8)) ∷ (
+abbrev pub t52 : List.List Row.Entry
+t52 = (0, Rows.sc-here (Row.sInt Syntax.w8)) ∷ (
   1,
   Rows.sslice (Referent.rtF (Referent.fInt Syntax.w8)) (Syntax.tyRef (Syntax.named 0) Syntax.imm (Syntax.tyInt
       Syntax.w8)) 0,
@@ -1639,50 +1936,19 @@ t47 = (0, Rows.sc-here (Row.sInt Syntax.w8)) ∷ (
   7,
   Rows.any-gone (Syntax.tyInt
       Syntax.w64),
-) ∷ (8, Rows.any-gone (Syntax.tyInt Syntax.w64)) ∷ (9, Rows.sc-here (Row.sInt Syntax.w64)) ∷ (10, Rows.sc-here (Row.sInt Syntax.w8)) ∷ (
-  11,
-  Rows.any-gone (Syntax.tyRef Syntax.erased Syntax.imm SlotAs.pointee),
-) ∷ (
-  12,
-  Rows.any-gone (Syntax.tyStruct (38 ∷ 91 ∷ 93 ∷ []) (Syntax.tcons (Syntax.tyRef
-      Syntax.erased Syntax.imm SlotAs.pointee) (Syntax.tcons (Syntax.tyInt Syntax.w64) Syntax.tnil))),
-) ∷ (13, Rows.any-gone Syntax.tyBool) ∷ (
-  14,
-  Rows.any-gone
-      (Syntax.tyInt Syntax.w64),
-) ∷ (15, Rows.any-gone (Syntax.tyInt Syntax.w8)) ∷ []
-
-abbrev pub t48 : List.List Row.Entry
-t48 = (0, Rows.sc-here (Row.sInt Syntax.w8)) ∷ (
-  1,
-  Rows.sslice (Referent.rtF (Referent.fInt Syntax.w8)) (Syntax.tyRef (Syntax.named 0) Syntax.imm (Syntax.tyInt
-      Syntax.w8)) 0,
-) ∷ (2, Mut.mslice SlotAs.row (Syntax.tyRef (Syntax.named 1) Syntax.mut SlotAs.pointee) 1) ∷ (
-  3,
-  Rows.any-gone (Syntax.tyStruct (102 ∷ 105 ∷
-      101 ∷ 108 ∷ 100 ∷ 115 ∷ 58 ∷ 58 ∷ 70 ∷ 114 ∷ 97 ∷ 103 ∷ 109 ∷ 101 ∷ 110 ∷ 116 ∷ 78 ∷ 117 ∷ 109 ∷ 98 ∷ 101 ∷ 114 ∷ []) (Syntax.tcons (Syntax.tyInt
-      Syntax.w32) Syntax.tnil)),
-) ∷ (4, Rows.sc-here Row.sBool) ∷ (
-  5,
-  Rows.any-gone (Syntax.tyStruct (115 ∷ 116 ∷ 111 ∷ 114 ∷ 101 ∷ 58 ∷ 58 ∷ 72 ∷ 101 ∷ 108 ∷ 100
-      ∷ []) (Syntax.tcons (Syntax.tyInt Syntax.w8) (Syntax.tcons (Syntax.tyInt Syntax.w64) (Syntax.tcons (Syntax.tyInt Syntax.w64) (Syntax.tcons (Syntax.tyInt
-      Syntax.w64) (Syntax.tcons (Syntax.tyInt Syntax.w64) Syntax.tnil)))))),
-) ∷ (6, Rows.any-gone (Syntax.tyInt Syntax.w64)) ∷ (
-  7,
-  Rows.any-gone (Syntax.tyInt
-      Syntax.w64),
-) ∷ (8, Rows.any-gone (Syntax.tyInt Syntax.w64)) ∷ (9, Rows.any-gone (Syntax.tyInt Syntax.w64)) ∷ (10, Rows.sc-here (Row.sInt Syntax.w8)) ∷ (
-  11,
-  Rows.any-gone (Syntax.tyRef Syntax.erased Syntax.imm SlotAs.pointee),
-) ∷ (
-  12,
-  Rows.any-gone (Syntax.tyStruct (38 ∷ 91 ∷ 93 ∷ []) (Syntax.tcons (Syntax.tyRef
-      Syntax.erased Syntax.imm SlotAs.pointee) (Syntax.tcons (Syntax.tyInt Syntax.w64) Syntax.tnil))),
-) ∷ (13, Rows.any-gone Syntax.tyBool) ∷ (
-  14,
-  Rows.any-gone
-      (Syntax.tyInt Syntax.w64),
-) ∷ (15, Rows.any-gone (Syntax.tyInt Syntax.w8)) ∷ []
+) ∷ (8, Rows.any-gone (Syntax.tyInt Syntax.w64)) ∷ (
+  9,
+  Rows.any-gone (Syntax.tyStruct (102 ∷ 114 ∷ 97 ∷ 103 ∷ 109 ∷ 101 ∷ 110 ∷ 116 ∷ 115 ∷ 58 ∷
+      58 ∷ 70 ∷ 114 ∷ 111 ∷ 109 ∷ 76 ∷ 97 ∷ 115 ∷ 116 ∷ []) (Syntax.tcons (Syntax.tyInt Syntax.w64) Syntax.tnil)),
+) ∷ (10, Rows.sc-here (Row.sInt Syntax.w8)) ∷
+    (11, Rows.any-gone (Syntax.tyRef Syntax.erased Syntax.imm SlotAs.pointee)) ∷ (
+      12,
+      Rows.any-gone (Syntax.tyStruct (38 ∷ 91 ∷ 93 ∷ []) (Syntax.tcons
+          (Syntax.tyRef Syntax.erased Syntax.imm SlotAs.pointee) (Syntax.tcons (Syntax.tyInt Syntax.w64) Syntax.tnil))),
+    ) ∷ (13, Rows.any-gone Syntax.tyBool) ∷ (
+      14,
+      Rows.any-gone (Syntax.tyInt Syntax.w64),
+    ) ∷ (15, Rows.any-gone (Syntax.tyInt Syntax.w64)) ∷ []
 
 abbrev pub T0 : Row.Cx
 T0 = record { locals = List._++_ t0 t1; slots = [] }
@@ -1819,92 +2085,101 @@ T46 = record { locals = List._++_ t25 t1; slots = [] }
 abbrev pub T47 : Row.Cx
 T47 = record { locals = List._++_ t26 t1; slots = [] }
 
-abbrev pub T49 : Row.Cx
-T49 = record { locals = List._++_ t27 t28; slots = [] }
+abbrev pub T48 : Row.Cx
+T48 = record { locals = List._++_ t27 t1; slots = [] }
 
-abbrev pub T50 : Row.Cx
-T50 = record { locals = List._++_ t27 t29; slots = [] }
+abbrev pub T49 : Row.Cx
+T49 = record { locals = List._++_ t28 t1; slots = [] }
 
 abbrev pub T51 : Row.Cx
-T51 = record { locals = List._++_ t30 t29; slots = [] }
+T51 = record { locals = List._++_ t29 t30; slots = [] }
 
 abbrev pub T52 : Row.Cx
-T52 = record { locals = List._++_ t30 t1; slots = [] }
+T52 = record { locals = List._++_ t29 t31; slots = [] }
+
+abbrev pub T53 : Row.Cx
+T53 = record { locals = List._++_ t32 t31; slots = [] }
 
 abbrev pub T54 : Row.Cx
-T54 = record { locals = List._++_ t31 t1; slots = [] }
+T54 = record { locals = List._++_ t32 t33; slots = [] }
 
-abbrev pub T56 : Row.Cx
-T56 = record { locals = List._++_ t32 t1; slots = [] }
+abbrev pub T55 : Row.Cx
+T55 = record { locals = List._++_ t32 t34; slots = [] }
 
 abbrev pub T57 : Row.Cx
-T57 = record { locals = List._++_ t26 t1; slots = [] }
-
-abbrev pub T58 : Row.Cx
-T58 = record { locals = List._++_ t33 t1; slots = [] }
+T57 = record { locals = List._++_ t35 t34; slots = [] }
 
 abbrev pub T59 : Row.Cx
-T59 = record { locals = List._++_ t26 t1; slots = [] }
+T59 = record { locals = List._++_ t36 t34; slots = [] }
 
 abbrev pub T60 : Row.Cx
-T60 = record { locals = List._++_ t34 t1; slots = [] }
+T60 = record { locals = List._++_ t35 t1; slots = [] }
 
 abbrev pub T61 : Row.Cx
-T61 = record { locals = List._++_ t35 t1; slots = [] }
+T61 = record { locals = List._++_ t36 t1; slots = [] }
 
 abbrev pub T62 : Row.Cx
-T62 = record { locals = List._++_ t36 t1; slots = [] }
+T62 = record { locals = List._++_ t37 t1; slots = [] }
 
 abbrev pub T63 : Row.Cx
-T63 = record { locals = List._++_ t37 t1; slots = [] }
+T63 = record { locals = List._++_ t38 t1; slots = [] }
 
 abbrev pub T64 : Row.Cx
-T64 = record { locals = List._++_ t38 t1; slots = [] }
+T64 = record { locals = List._++_ t39 t1; slots = [] }
 
 abbrev pub T65 : Row.Cx
-T65 = record { locals = List._++_ t39 t1; slots = [] }
+T65 = record { locals = List._++_ t40 t1; slots = [] }
 
 abbrev pub T66 : Row.Cx
-T66 = record { locals = List._++_ t2 t1; slots = [] }
+T66 = record { locals = List._++_ t41 t1; slots = [] }
 
 abbrev pub T67 : Row.Cx
-T67 = record { locals = List._++_ t26 t1; slots = [] }
+T67 = record { locals = List._++_ t42 t1; slots = [] }
+
+abbrev pub T68 : Row.Cx
+T68 = record { locals = List._++_ t43 t1; slots = [] }
 
 abbrev pub T69 : Row.Cx
-T69 = record { locals = List._++_ t40 t41; slots = [] }
+T69 = record { locals = List._++_ t2 t1; slots = [] }
 
 abbrev pub T70 : Row.Cx
-T70 = record { locals = List._++_ t40 t42; slots = [] }
-
-abbrev pub T71 : Row.Cx
-T71 = record { locals = List._++_ t40 t43; slots = [] }
+T70 = record { locals = List._++_ t35 t1; slots = [] }
 
 abbrev pub T72 : Row.Cx
-T72 = record { locals = List._++_ t40 t44; slots = [] }
+T72 = record { locals = List._++_ t44 t45; slots = [] }
+
+abbrev pub T73 : Row.Cx
+T73 = record { locals = List._++_ t44 t46; slots = [] }
 
 abbrev pub T74 : Row.Cx
-T74 = record { locals = List._++_ t26 t1; slots = [] }
+T74 = record { locals = List._++_ t44 t47; slots = [] }
+
+abbrev pub T75 : Row.Cx
+T75 = record { locals = List._++_ t48 t47; slots = [] }
 
 abbrev pub T76 : Row.Cx
-T76 = record { locals = List._++_ t34 t1; slots = [] }
-
-abbrev pub T77 : Row.Cx
-T77 = record { locals = List._++_ t45 t1; slots = [] }
+T76 = record { locals = List._++_ t48 t49; slots = [] }
 
 abbrev pub T78 : Row.Cx
-T78 = record { locals = List._++_ t46 t1; slots = [] }
-
-abbrev pub T79 : Row.Cx
-T79 = record { locals = List._++_ t47 t1; slots = [] }
+T78 = record { locals = List._++_ t38 t1; slots = [] }
 
 abbrev pub T80 : Row.Cx
-T80 = record { locals = List._++_ t48 t1; slots = [] }
+T80 = record { locals = List._++_ t39 t1; slots = [] }
 
 abbrev pub T81 : Row.Cx
-T81 = record { locals = List._++_ t12 t1; slots = [] }
+T81 = record { locals = List._++_ t50 t1; slots = [] }
 
 abbrev pub T82 : Row.Cx
-T82 = record { locals = List._++_ t2 t1; slots = [] }
+T82 = record { locals = List._++_ t51 t1; slots = [] }
+
+abbrev pub T83 : Row.Cx
+T83 = record { locals = List._++_ t52 t1; slots = [] }
+
+abbrev pub T84 : Row.Cx
+T84 = record { locals = List._++_ t12 t1; slots = [] }
+
+abbrev pub T85 : Row.Cx
+T85 = record { locals = List._++_ t2 t1; slots = [] }
 
 abbrev pub O0 : Typed.Outs
 O0 = record { next = Option.none; exits = []; returns = Option.some T1 }
@@ -1919,7 +2194,7 @@ abbrev pub O3 : Typed.Outs
 O3 = Typed.withNext (Option.some T36) O0
 
 abbrev pub O4 : Typed.Outs
-O4 = Typed.withNext (Option.some T57) O0
+O4 = Typed.withNext (Option.some T60) O0
 
 module _ (claims· : Claims) where
   abbrev s0 : Typed.Gives T0 T2
@@ -1954,10 +2229,10 @@ module _ (claims· : Claims) where
   s7 = Reshare.n-back-sl-shr SlotAs.row T7 2 1 2 (Syntax.tyRef (Syntax.named 1) Syntax.mut SlotAs.pointee) Row.off λ x. x
 
   abbrev s9 : Typed.Gives T9 T11
-  s9 = Know'.k-struct-known Held.the-type Laws'.the-laws T9 5 λ x. x
+  s9 = Know'.k-struct-known Held.the-type Laws''.the-laws T9 5 λ x. x
 
   abbrev s10 : Typed.Asks T11 T12
-  s10 = Scalar.k-op2 T11 Syntax.ne (Scalar.oFld 5 (Syntax.field 0 ∷ []) (Syntax.tyInt Syntax.w8) 0 (Reads.fieldV Held.the-type Laws'.the-laws 0)) (Scalar.oInt
+  s10 = Scalar.k-op2 T11 Syntax.ne (Scalar.oFld 5 (Syntax.field 0 ∷ []) (Syntax.tyInt Syntax.w8) 0 (Reads.fieldV Held.the-type Laws''.the-laws 0)) (Scalar.oInt
       Syntax.w8 0) 13 (Rows.sc-here Row.sBool) (Row.sBool .of)
 
   abbrev s11 : Typed.Mo T12 → Typed.Mo T14
@@ -1968,7 +2243,7 @@ module _ (claims· : Claims) where
   s12 = Scalar.n-room T14 13 Syntax.tyBool
 
   abbrev s13 : Typed.Mo T15 → Typed.Mo T16
-  s13 = Scalar.n-use T15 (Scalar.oFld 5 (Syntax.field 0 ∷ []) (Syntax.tyInt Syntax.w8) 0 (Reads.fieldV Held.the-type Laws'.the-laws 0)) 0 (Rows.sc-here
+  s13 = Scalar.n-use T15 (Scalar.oFld 5 (Syntax.field 0 ∷ []) (Syntax.tyInt Syntax.w8) 0 (Reads.fieldV Held.the-type Laws''.the-laws 0)) 0 (Rows.sc-here
       (Row.sInt Syntax.w8)) (Row.sInt Syntax.w8 .of)
 
   abbrev s14 : Typed.Mo T16 → Typed.Mo T17
@@ -1983,11 +2258,11 @@ module _ (claims· : Claims) where
   s16 = Scalar.n-room T12 13 Syntax.tyBool
 
   abbrev s17 : Typed.Mo T13 → Typed.Mo T20
-  s17 = Scalar.n-use T13 (Scalar.oFld 5 (Syntax.field 1 ∷ []) (Syntax.tyInt Syntax.w64) 8 (Reads.fieldV Held.the-type Laws'.the-laws 1)) 6 (Rows.sc-here
+  s17 = Scalar.n-use T13 (Scalar.oFld 5 (Syntax.field 1 ∷ []) (Syntax.tyInt Syntax.w64) 8 (Reads.fieldV Held.the-type Laws''.the-laws 1)) 6 (Rows.sc-here
       (Row.sInt Syntax.w64)) (Row.sInt Syntax.w64 .of)
 
   abbrev s18 : Typed.Mo T20 → Typed.Mo T21
-  s18 = Scalar.n-use T20 (Scalar.oFld 5 (Syntax.field 2 ∷ []) (Syntax.tyInt Syntax.w64) 16 (Reads.fieldV Held.the-type Laws'.the-laws 2)) 7 (Rows.sc-here
+  s18 = Scalar.n-use T20 (Scalar.oFld 5 (Syntax.field 2 ∷ []) (Syntax.tyInt Syntax.w64) 16 (Reads.fieldV Held.the-type Laws''.the-laws 2)) 7 (Rows.sc-here
       (Row.sInt Syntax.w64)) (Row.sInt Syntax.w64 .of)
 
   abbrev s19 : Typed.Mo T21 → Typed.Mo T22
@@ -2062,110 +2337,121 @@ module _ (claims· : Claims) where
 
   abbrev s40 : Typed.Asks T44 T45
   s40 = Scalar.k-op2 T44 (Syntax.sub Syntax.unsigned) (Scalar.oAt 14 (Syntax.tyInt Syntax.w64) (Row.valS (Row.sInt Syntax.w64))) (Scalar.oAt 8 (Syntax.tyInt
-      Syntax.w64) (Row.valS (Row.sInt Syntax.w64))) 9 (Rows.sc-here (Row.sInt Syntax.w64)) (Row.sInt Syntax.w64 .of)
+      Syntax.w64) (Row.valS (Row.sInt Syntax.w64))) 15 (Rows.sc-here (Row.sInt Syntax.w64)) (Row.sInt Syntax.w64 .of)
 
   abbrev s41 : Typed.Mo T45 → Typed.Mo T46
   s41 = Scalar.n-room T45 14 (Syntax.tyInt Syntax.w64)
 
-  abbrev s42 : Typed.Both T46 T47
-  s42 = Call.callB ps·1 r·1 (claims· .2) (claims· .3) T46 (Bool.bAt 4 λ x. x, tt) 10 [] (Syntax.tyInt Syntax.w8)
+  abbrev s42 : Typed.Mo T46 → Typed.Mo T47
+  s42 = Make.n-struct-make (Apart.apartT FromLast.the-type) T46 9 λ m. (m .1 .1 .1 .1 .1 .1 .1 .1 .1 .1 .1 .1 .1 .1 .1 .0, tt)
 
-  abbrev s44 : Typed.Both T47 T49
-  s44 = Reshare.k-sl-reshareᵖ SlotAs.row T47 2 16 1 3 (Syntax.tyRef (Syntax.named 1) Syntax.mut SlotAs.pointee) (Syntax.tyRef Syntax.erased Syntax.imm
+  abbrev s43 : Typed.Mo T47 → Typed.Mo T48
+  s43 = Scalar.n-room T47 15 (Syntax.tyInt Syntax.w64)
+
+  abbrev s44 : Typed.Both T48 T49
+  s44 = Call.callB ps·1 r·1 (claims· .2) (claims· .3) T48 (Bool.bAt 4 λ x. x, tt) 10 [] (Syntax.tyInt Syntax.w8)
+
+  abbrev s46 : Typed.Both T49 T51
+  s46 = Reshare.k-sl-reshareᵖ SlotAs.row T49 2 17 1 3 (Syntax.tyRef (Syntax.named 1) Syntax.mut SlotAs.pointee) (Syntax.tyRef Syntax.erased Syntax.imm
       SlotAs.pointee) Row.off (λ x. x) λ u. u .1 .1 .1 .1 .1 .1 .0
 
-  abbrev s45 : Typed.Asks T49 T50
-  s45 = Relend.k-sl-aggregate SlotAs.row (Relend.asShr SlotAs.row) T49 16 17 3 (Syntax.tyRef Syntax.erased Syntax.imm SlotAs.pointee) (Syntax.tyRef
+  abbrev s47 : Typed.Asks T51 T52
+  s47 = Relend.k-sl-aggregate SlotAs.row (Relend.asShr SlotAs.row) T51 17 18 3 (Syntax.tyRef Syntax.erased Syntax.imm SlotAs.pointee) (Syntax.tyRef
       Syntax.erased Syntax.imm SlotAs.pointee) (λ x. x) (Scalar.oAt 6 (Syntax.tyInt Syntax.w64) (Row.valS (Row.sInt Syntax.w64)))
 
-  abbrev s46 : Typed.Both T50 T51
-  s46 = Call.callB ps·2 r·2 (claims· .4) (claims· .5) T50 (
-    record { pos = 17; ty = Syntax.tyRef Syntax.erased Syntax.imm SlotAs.pointee; ref = λ x. x },
-    (Num.vAt 9 λ x. x, tt),
-  ) 15 (3 ∷ []) (Syntax.tyInt Syntax.w8)
+  abbrev s48 : Typed.Mo T52 → Typed.Mo T53
+  s48 = AtSlots.n-as-by T52 9 (Rows.whole (Declared.row FromLast.the-type)) λ v. FromLast.struct .make v tt
 
-  abbrev s47 : Typed.Mo T51 → Typed.Mo T52
-  s47 = Scalar.n-room T51 17 (Syntax.tyStruct (38 ∷ 91 ∷ 93 ∷ []) (Syntax.tcons (Syntax.tyRef Syntax.erased Syntax.imm SlotAs.pointee) (Syntax.tcons
+  abbrev s49 : Typed.Both T53 T54
+  s49 = Call.callB ps·2 r·2 (claims· .4) (claims· .5) T53 (
+    record { pos = 18; ty = Syntax.tyRef Syntax.erased Syntax.imm SlotAs.pointee; ref = λ x. x },
+    (record { pos = 9; st = []; d = 0; at = λ x. x }, tt),
+  ) 16 (3 ∷ []) (Syntax.tyInt Syntax.w8)
+
+  abbrev s50 : Typed.Mo T54 → Typed.Mo T55
+  s50 = Scalar.n-room T54 18 (Syntax.tyStruct (38 ∷ 91 ∷ 93 ∷ []) (Syntax.tcons (Syntax.tyRef Syntax.erased Syntax.imm SlotAs.pointee) (Syntax.tcons
       (Syntax.tyInt Syntax.w64) Syntax.tnil)))
 
-  abbrev s49 : Typed.Mo T52 → Typed.Mo T54
-  s49 = Reshare.n-back-sl-shrᵖ SlotAs.row T52 2 1 3 (Syntax.tyRef (Syntax.named 1) Syntax.mut SlotAs.pointee) Row.off λ x. x
+  abbrev s52 : Typed.Mo T55 → Typed.Mo T57
+  s52 = Reshare.n-back-sl-shrᵖ SlotAs.row T55 2 1 3 (Syntax.tyRef (Syntax.named 1) Syntax.mut SlotAs.pointee) Row.off λ x. x
 
-  abbrev s51 : Typed.Asks T54 T56
-  s51 = Scalar.k-op2 T54 Syntax.eq (Scalar.oAt 15 (Syntax.tyInt Syntax.w8) (Row.valS (Row.sInt Syntax.w8))) (Scalar.oAt 10 (Syntax.tyInt Syntax.w8) (Row.valS
+  abbrev s54 : Typed.Asks T57 T59
+  s54 = Scalar.k-op2 T57 Syntax.eq (Scalar.oAt 16 (Syntax.tyInt Syntax.w8) (Row.valS (Row.sInt Syntax.w8))) (Scalar.oAt 10 (Syntax.tyInt Syntax.w8) (Row.valS
       (Row.sInt Syntax.w8))) 13 (Rows.sc-here Row.sBool) (Row.sBool .of)
 
-  abbrev s52 : Typed.Mo T56 → Typed.Mo T58
-  s52 = Scalar.n-room T56 15 (Syntax.tyInt Syntax.w8)
-
-  abbrev s53 : Typed.Mo T58 → Typed.Mo T59
-  s53 = Scalar.n-room T58 13 Syntax.tyBool
-
-  abbrev s54 : Typed.Mo T59 → Typed.Mo T60
-  s54 = Scalar.n-use T59 (Scalar.oInt Syntax.w8 16) 0 (Rows.sc-here (Row.sInt Syntax.w8)) (Row.sInt Syntax.w8 .of)
-
-  abbrev s55 : Typed.Mo T60 → Typed.Mo T61
-  s55 = Scalar.n-room T60 4 Syntax.tyBool
+  abbrev s55 : Typed.Mo T59 → Typed.Mo T61
+  s55 = Scalar.n-room T59 16 (Syntax.tyInt Syntax.w8)
 
   abbrev s56 : Typed.Mo T61 → Typed.Mo T62
-  s56 = Scalar.n-room T61 6 (Syntax.tyInt Syntax.w64)
+  s56 = Scalar.n-room T61 9 (Syntax.tyStruct (102 ∷ 114 ∷ 97 ∷ 103 ∷ 109 ∷ 101 ∷ 110 ∷ 116 ∷ 115 ∷ 58 ∷ 58 ∷ 70 ∷ 114 ∷ 111 ∷ 109 ∷ 76 ∷ 97 ∷ 115 ∷ 116 ∷ [])
+      (Syntax.tcons (Syntax.tyInt Syntax.w64) Syntax.tnil))
 
   abbrev s57 : Typed.Mo T62 → Typed.Mo T63
-  s57 = Scalar.n-room T62 7 (Syntax.tyInt Syntax.w64)
+  s57 = Scalar.n-room T62 13 Syntax.tyBool
 
   abbrev s58 : Typed.Mo T63 → Typed.Mo T64
-  s58 = Scalar.n-room T63 8 (Syntax.tyInt Syntax.w64)
+  s58 = Scalar.n-use T63 (Scalar.oInt Syntax.w8 16) 0 (Rows.sc-here (Row.sInt Syntax.w8)) (Row.sInt Syntax.w8 .of)
 
   abbrev s59 : Typed.Mo T64 → Typed.Mo T65
-  s59 = Scalar.n-room T64 9 (Syntax.tyInt Syntax.w64)
+  s59 = Scalar.n-room T64 4 Syntax.tyBool
 
   abbrev s60 : Typed.Mo T65 → Typed.Mo T66
-  s60 = Scalar.n-room T65 10 (Syntax.tyInt Syntax.w8)
+  s60 = Scalar.n-room T65 6 (Syntax.tyInt Syntax.w64)
 
-  abbrev s61 : Typed.Mo T58 → Typed.Mo T67
-  s61 = Scalar.n-room T58 13 Syntax.tyBool
+  abbrev s61 : Typed.Mo T66 → Typed.Mo T67
+  s61 = Scalar.n-room T66 7 (Syntax.tyInt Syntax.w64)
 
-  abbrev s63 : Typed.Both T57 T69
-  s63 = Part.k-sl-relendᵖ SlotAs.row T57 2 19 1 4 (Syntax.tyRef (Syntax.named 1) Syntax.mut SlotAs.pointee) (Syntax.tyRef Syntax.erased Syntax.mut
+  abbrev s62 : Typed.Mo T67 → Typed.Mo T68
+  s62 = Scalar.n-room T67 8 (Syntax.tyInt Syntax.w64)
+
+  abbrev s63 : Typed.Mo T68 → Typed.Mo T69
+  s63 = Scalar.n-room T68 10 (Syntax.tyInt Syntax.w8)
+
+  abbrev s64 : Typed.Mo T61 → Typed.Mo T70
+  s64 = Scalar.n-room T61 13 Syntax.tyBool
+
+  abbrev s66 : Typed.Both T60 T72
+  s66 = Part.k-sl-relendᵖ SlotAs.row T60 2 20 1 4 (Syntax.tyRef (Syntax.named 1) Syntax.mut SlotAs.pointee) (Syntax.tyRef Syntax.erased Syntax.mut
       SlotAs.pointee) Row.off (λ x. x) λ u. u .1 .1 .1 .1 .1 .1 .0
 
-  abbrev s64 : Typed.Asks T69 T70
-  s64 = Relend.k-sl-aggregate SlotAs.row (Relend.asMut SlotAs.row) T69 19 20 4 (Syntax.tyRef Syntax.erased Syntax.mut SlotAs.pointee) (Syntax.tyRef
+  abbrev s67 : Typed.Asks T72 T73
+  s67 = Relend.k-sl-aggregate SlotAs.row (Relend.asMut SlotAs.row) T72 20 21 4 (Syntax.tyRef Syntax.erased Syntax.mut SlotAs.pointee) (Syntax.tyRef
       Syntax.erased Syntax.mut SlotAs.pointee) (λ x. x) (Scalar.oAt 6 (Syntax.tyInt Syntax.w64) (Row.valS (Row.sInt Syntax.w64)))
 
-  abbrev s65 : Typed.Both T70 T71
-  s65 = Call.callB ps·3 r·3 (claims· .6) (claims· .7) T70 (
-    record { pos = 20; ty = Syntax.tyRef Syntax.erased Syntax.mut SlotAs.pointee; ref = λ x. x },
-    (Num.vAt 9 λ x. x, (Num.vAt 10 λ x. x, tt)),
-  ) 18 (4 ∷ []) Syntax.tyUnit
+  abbrev s68 : Typed.Both T73 T74
+  s68 = Call.callB ps·3 r·3 (claims· .6) (claims· .7) T73 (
+    record { pos = 21; ty = Syntax.tyRef Syntax.erased Syntax.mut SlotAs.pointee; ref = λ x. x },
+    (record { pos = 9; st = []; d = 0; at = λ x. x }, (Num.vAt 10 λ x. x, tt)),
+  ) 19 (4 ∷ []) Syntax.tyUnit
 
-  abbrev s66 : Typed.Mo T71 → Typed.Mo T72
-  s66 = Scalar.n-room T71 18 Syntax.tyUnit
+  abbrev s69 : Typed.Mo T74 → Typed.Mo T75
+  s69 = Scalar.n-room T74 9 (Syntax.tyStruct (102 ∷ 114 ∷ 97 ∷ 103 ∷ 109 ∷ 101 ∷ 110 ∷ 116 ∷ 115 ∷ 58 ∷ 58 ∷ 70 ∷ 114 ∷ 111 ∷ 109 ∷ 76 ∷ 97 ∷ 115 ∷ 116 ∷ [])
+      (Syntax.tcons (Syntax.tyInt Syntax.w64) Syntax.tnil))
 
-  abbrev s68 : Typed.Both T72 T74
-  s68 = Part.k-back-slᵖ SlotAs.row T72 20 2 1 4 (Syntax.tyRef (Syntax.named 1) Syntax.mut SlotAs.pointee) (Syntax.tyRef Syntax.erased Syntax.mut
+  abbrev s70 : Typed.Mo T75 → Typed.Mo T76
+  s70 = Scalar.n-room T75 19 Syntax.tyUnit
+
+  abbrev s72 : Typed.Both T76 T78
+  s72 = Part.k-back-slᵖ SlotAs.row T76 21 2 1 4 (Syntax.tyRef (Syntax.named 1) Syntax.mut SlotAs.pointee) (Syntax.tyRef Syntax.erased Syntax.mut
       SlotAs.pointee) Row.off (λ x. x) λ x. x
 
-  abbrev s70 : Typed.Mo T74 → Typed.Mo T76
-  s70 = Scalar.n-use T74 (Scalar.oInt Syntax.w8 0) 0 (Rows.sc-here (Row.sInt Syntax.w8)) (Row.sInt Syntax.w8 .of)
-
-  abbrev s71 : Typed.Mo T76 → Typed.Mo T77
-  s71 = Scalar.n-room T76 6 (Syntax.tyInt Syntax.w64)
-
-  abbrev s72 : Typed.Mo T77 → Typed.Mo T78
-  s72 = Scalar.n-room T77 7 (Syntax.tyInt Syntax.w64)
-
-  abbrev s73 : Typed.Mo T78 → Typed.Mo T79
-  s73 = Scalar.n-room T78 8 (Syntax.tyInt Syntax.w64)
-
-  abbrev s74 : Typed.Mo T79 → Typed.Mo T80
-  s74 = Scalar.n-room T79 9 (Syntax.tyInt Syntax.w64)
+  abbrev s74 : Typed.Mo T78 → Typed.Mo T80
+  s74 = Scalar.n-use T78 (Scalar.oInt Syntax.w8 0) 0 (Rows.sc-here (Row.sInt Syntax.w8)) (Row.sInt Syntax.w8 .of)
 
   abbrev s75 : Typed.Mo T80 → Typed.Mo T81
-  s75 = Scalar.n-room T80 10 (Syntax.tyInt Syntax.w8)
+  s75 = Scalar.n-room T80 6 (Syntax.tyInt Syntax.w64)
 
   abbrev s76 : Typed.Mo T81 → Typed.Mo T82
-  s76 = Scalar.n-room T81 4 Syntax.tyBool
+  s76 = Scalar.n-room T81 7 (Syntax.tyInt Syntax.w64)
+
+  abbrev s77 : Typed.Mo T82 → Typed.Mo T83
+  s77 = Scalar.n-room T82 8 (Syntax.tyInt Syntax.w64)
+
+  abbrev s78 : Typed.Mo T83 → Typed.Mo T84
+  s78 = Scalar.n-room T83 10 (Syntax.tyInt Syntax.w8)
+
+  abbrev s79 : Typed.Mo T84 → Typed.Mo T85
+  s79 = Scalar.n-room T84 4 Syntax.tyBool
 
   module _ (Pre· : (κs : Lifetimes.Lfts 2) → Kinds.Dens κs ps → Type 0) (Post· : (κs : Lifetimes.Lfts 2) → (a : Kinds.Dens κs ps) → Kinds.Plain 2 ps r κs)
     where
@@ -2265,203 +2551,212 @@ module _ (claims· : Claims) where
         abbrev at28 : Typed.TF T35 O3
         at28 = Scalar.Φcond T35 O3 13 (λ x. x) at25 at27
 
-        abbrev at29 : Typed.TF T66 O4
+        abbrev at29 : Typed.TF T69 O4
         at29 = Typed.atRet O4
 
-        abbrev at30 : Typed.TF T65 O4
-        at30 = λ Ψ. Typed.pass T65 T66 s60 (at29 Ψ)
+        abbrev at30 : Typed.TF T68 O4
+        at30 = λ Ψ. Typed.pass T68 T69 s63 (at29 Ψ)
 
-        abbrev at31 : Typed.TF T64 O4
-        at31 = λ Ψ. Typed.pass T64 T65 s59 (at30 Ψ)
+        abbrev at31 : Typed.TF T67 O4
+        at31 = λ Ψ. Typed.pass T67 T68 s62 (at30 Ψ)
 
-        abbrev at32 : Typed.TF T63 O4
-        at32 = λ Ψ. Typed.pass T63 T64 s58 (at31 Ψ)
+        abbrev at32 : Typed.TF T66 O4
+        at32 = λ Ψ. Typed.pass T66 T67 s61 (at31 Ψ)
 
-        abbrev at33 : Typed.TF T62 O4
-        at33 = λ Ψ. Typed.pass T62 T63 s57 (at32 Ψ)
+        abbrev at33 : Typed.TF T65 O4
+        at33 = λ Ψ. Typed.pass T65 T66 s60 (at32 Ψ)
 
-        abbrev at34 : Typed.TF T61 O4
-        at34 = λ Ψ. Typed.pass T61 T62 s56 (at33 Ψ)
+        abbrev at34 : Typed.TF T64 O4
+        at34 = λ Ψ. Typed.pass T64 T65 s59 (at33 Ψ)
 
-        abbrev at35 : Typed.TF T60 O4
-        at35 = λ Ψ. Typed.pass T60 T61 s55 (at34 Ψ)
+        abbrev at35 : Typed.TF T63 O4
+        at35 = λ Ψ. Typed.pass T63 T64 s58 (at34 Ψ)
 
-        abbrev at36 : Typed.TF T59 O4
-        at36 = λ Ψ. Typed.pass T59 T60 s54 (at35 Ψ)
+        abbrev at36 : Typed.TF T62 O4
+        at36 = λ Ψ. Typed.pass T62 T63 s57 (at35 Ψ)
 
-        abbrev at37 : Typed.TF T58 O4
-        at37 = λ Ψ. Typed.pass T58 T59 s53 (at36 Ψ)
+        abbrev at37 : Typed.TF T61 O4
+        at37 = λ Ψ. Typed.pass T61 T62 s56 (at36 Ψ)
 
-        abbrev at38 : Typed.TF T67 O4
+        abbrev at38 : Typed.TF T70 O4
         at38 = Typed.atNext O4
 
-        abbrev at39 : Typed.TF T58 O4
-        at39 = λ Ψ. Typed.pass T58 T67 s61 (at38 Ψ)
+        abbrev at39 : Typed.TF T61 O4
+        at39 = λ Ψ. Typed.pass T61 T70 s64 (at38 Ψ)
 
-        abbrev at40 : Typed.TF T58 O4
-        at40 = Scalar.Φcond T58 O4 13 (λ x. x) at37 at39
+        abbrev at40 : Typed.TF T61 O4
+        at40 = Scalar.Φcond T61 O4 13 (λ x. x) at37 at39
 
-        abbrev at41 : Typed.TF T56 O4
-        at41 = λ Ψ. Typed.pass T56 T58 s52 (at40 Ψ)
+        abbrev at41 : Typed.TF T59 O4
+        at41 = λ Ψ. Typed.pass T59 T61 s55 (at40 Ψ)
 
-        abbrev at42 : Typed.TF T82 O0
+        abbrev at42 : Typed.TF T85 O0
         at42 = Typed.atRet O0
 
-        abbrev at43 : Typed.TF T81 O0
-        at43 = λ Ψ. Typed.pass T81 T82 s76 (at42 Ψ)
+        abbrev at43 : Typed.TF T84 O0
+        at43 = λ Ψ. Typed.pass T84 T85 s79 (at42 Ψ)
 
-        abbrev at44 : Typed.TF T80 O0
-        at44 = λ Ψ. Typed.pass T80 T81 s75 (at43 Ψ)
+        abbrev at44 : Typed.TF T83 O0
+        at44 = λ Ψ. Typed.pass T83 T84 s78 (at43 Ψ)
 
-        abbrev at45 : Typed.TF T79 O0
-        at45 = λ Ψ. Typed.pass T79 T80 s74 (at44 Ψ)
+        abbrev at45 : Typed.TF T82 O0
+        at45 = λ Ψ. Typed.pass T82 T83 s77 (at44 Ψ)
 
-        abbrev at46 : Typed.TF T78 O0
-        at46 = λ Ψ. Typed.pass T78 T79 s73 (at45 Ψ)
+        abbrev at46 : Typed.TF T81 O0
+        at46 = λ Ψ. Typed.pass T81 T82 s76 (at45 Ψ)
 
-        abbrev at47 : Typed.TF T77 O0
-        at47 = λ Ψ. Typed.pass T77 T78 s72 (at46 Ψ)
+        abbrev at47 : Typed.TF T80 O0
+        at47 = λ Ψ. Typed.pass T80 T81 s75 (at46 Ψ)
 
-        abbrev at48 : Typed.TF T76 O0
-        at48 = λ Ψ. Typed.pass T76 T77 s71 (at47 Ψ)
+        abbrev at48 : Typed.TF T78 O0
+        at48 = λ Ψ. Typed.pass T78 T80 s74 (at47 Ψ)
 
-        abbrev at49 : Typed.TF T74 O0
-        at49 = λ Ψ. Typed.pass T74 T76 s70 (at48 Ψ)
+        abbrev at49 : Typed.TF T78 O0
+        at49 = λ Ψ. at48 Ψ
 
-        abbrev at50 : Typed.TF T74 O0
-        at50 = λ Ψ. at49 Ψ
+        abbrev at50 : Typed.TF T76 O0
+        at50 = λ Ψ. Typed.both s72 (at49 Ψ)
 
-        abbrev at51 : Typed.TF T72 O0
-        at51 = λ Ψ. Typed.both s68 (at50 Ψ)
+        abbrev at51 : Typed.TF T76 O0
+        at51 = λ Ψ. at50 Ψ
 
-        abbrev at52 : Typed.TF T72 O0
-        at52 = λ Ψ. at51 Ψ
+        abbrev at52 : Typed.TF T75 O0
+        at52 = λ Ψ. Typed.pass T75 T76 s70 (at51 Ψ)
 
-        abbrev at53 : Typed.TF T71 O0
-        at53 = λ Ψ. Typed.pass T71 T72 s66 (at52 Ψ)
+        abbrev at53 : Typed.TF T74 O0
+        at53 = λ Ψ. Typed.pass T74 T75 s69 (at52 Ψ)
 
-        abbrev at54 : Typed.TF T70 O0
-        at54 = λ Ψ. Typed.both s65 (at53 Ψ)
+        abbrev at54 : Typed.TF T73 O0
+        at54 = λ Ψ. Typed.both s68 (at53 Ψ)
 
-        abbrev at55 : Typed.TF T69 O0
-        at55 = λ Ψ. Typed.ask s64 (at54 Ψ)
+        abbrev at55 : Typed.TF T72 O0
+        at55 = λ Ψ. Typed.ask s67 (at54 Ψ)
 
-        abbrev at56 : Typed.TF T57 O0
-        at56 = λ Ψ. Typed.both s63 (at55 Ψ)
+        abbrev at56 : Typed.TF T60 O0
+        at56 = λ Ψ. Typed.both s66 (at55 Ψ)
 
-        abbrev at57 : Typed.TF T57 O0
+        abbrev at57 : Typed.TF T60 O0
         at57 = λ Ψ. at56 Ψ
 
-        abbrev at58 : Typed.TF T56 O0
-        at58 = λ Ψ. at41 (Typed.wantNext T57 O0 (at57 Ψ) Ψ)
+        abbrev at58 : Typed.TF T59 O0
+        at58 = λ Ψ. at41 (Typed.wantNext T60 O0 (at57 Ψ) Ψ)
 
-        abbrev at59 : Typed.TF T54 O0
-        at59 = λ Ψ. Typed.ask s51 (at58 Ψ)
+        abbrev at59 : Typed.TF T57 O0
+        at59 = λ Ψ. Typed.ask s54 (at58 Ψ)
 
-        abbrev at60 : Typed.TF T54 O0
+        abbrev at60 : Typed.TF T57 O0
         at60 = λ Ψ. at59 Ψ
 
-        abbrev at61 : Typed.TF T52 O0
-        at61 = λ Ψ. Typed.pass T52 T54 s49 (at60 Ψ)
+        abbrev at61 : Typed.TF T55 O0
+        at61 = λ Ψ. Typed.pass T55 T57 s52 (at60 Ψ)
 
-        abbrev at62 : Typed.TF T52 O0
+        abbrev at62 : Typed.TF T55 O0
         at62 = λ Ψ. at61 Ψ
 
-        abbrev at63 : Typed.TF T51 O0
-        at63 = λ Ψ. Typed.pass T51 T52 s47 (at62 Ψ)
+        abbrev at63 : Typed.TF T54 O0
+        at63 = λ Ψ. Typed.pass T54 T55 s50 (at62 Ψ)
 
-        abbrev at64 : Typed.TF T50 O0
-        at64 = λ Ψ. Typed.both s46 (at63 Ψ)
+        abbrev at64 : Typed.TF T53 O0
+        at64 = λ Ψ. Typed.both s49 (at63 Ψ)
 
-        abbrev at65 : Typed.TF T49 O0
-        at65 = λ Ψ. Typed.ask s45 (at64 Ψ)
+        abbrev at65 : Typed.TF T52 O0
+        at65 = λ Ψ. Typed.pass T52 T53 s48 (at64 Ψ)
 
-        abbrev at66 : Typed.TF T47 O0
-        at66 = λ Ψ. Typed.both s44 (at65 Ψ)
+        abbrev at66 : Typed.TF T51 O0
+        at66 = λ Ψ. Typed.ask s47 (at65 Ψ)
 
-        abbrev at67 : Typed.TF T47 O0
-        at67 = λ Ψ. at66 Ψ
+        abbrev at67 : Typed.TF T49 O0
+        at67 = λ Ψ. Typed.both s46 (at66 Ψ)
 
-        abbrev at68 : Typed.TF T46 O0
-        at68 = λ Ψ. Typed.both s42 (at67 Ψ)
+        abbrev at68 : Typed.TF T49 O0
+        at68 = λ Ψ. at67 Ψ
 
-        abbrev at69 : Typed.TF T45 O0
-        at69 = λ Ψ. Typed.pass T45 T46 s41 (at68 Ψ)
+        abbrev at69 : Typed.TF T48 O0
+        at69 = λ Ψ. Typed.both s44 (at68 Ψ)
 
-        abbrev at70 : Typed.TF T44 O0
-        at70 = λ Ψ. Typed.ask s40 (at69 Ψ)
+        abbrev at70 : Typed.TF T47 O0
+        at70 = λ Ψ. Typed.pass T47 T48 s43 (at69 Ψ)
 
-        abbrev at71 : Typed.TF T36 O0
-        at71 = λ Ψ. Typed.ask s39 (at70 Ψ)
+        abbrev at71 : Typed.TF T46 O0
+        at71 = λ Ψ. Typed.pass T46 T47 s42 (at70 Ψ)
 
-        abbrev at72 : Typed.TF T35 O0
-        at72 = λ Ψ. at28 (Typed.wantNext T36 O0 (at71 Ψ) Ψ)
+        abbrev at72 : Typed.TF T45 O0
+        at72 = λ Ψ. Typed.pass T45 T46 s41 (at71 Ψ)
 
-        abbrev at73 : Typed.TF T27 O0
-        at73 = λ Ψ. Typed.ask s31 (at72 Ψ)
+        abbrev at73 : Typed.TF T44 O0
+        at73 = λ Ψ. Typed.ask s40 (at72 Ψ)
 
-        abbrev at74 : Typed.TF T26 O0
-        at74 = λ Ψ. at18 (Typed.wantNext T27 O0 (at73 Ψ) Ψ)
+        abbrev at74 : Typed.TF T36 O0
+        at74 = λ Ψ. Typed.ask s39 (at73 Ψ)
 
-        abbrev at75 : Typed.TF T25 O0
-        at75 = λ Ψ. Typed.ask s23 (at74 Ψ)
+        abbrev at75 : Typed.TF T35 O0
+        at75 = λ Ψ. at28 (Typed.wantNext T36 O0 (at74 Ψ) Ψ)
 
-        abbrev at76 : Typed.TF T24 O0
-        at76 = λ Ψ. Typed.pass T24 T25 s22 (at75 Ψ)
+        abbrev at76 : Typed.TF T27 O0
+        at76 = λ Ψ. Typed.ask s31 (at75 Ψ)
 
-        abbrev at77 : Typed.TF T23 O0
-        at77 = λ Ψ. Typed.ask s21 (at76 Ψ)
+        abbrev at77 : Typed.TF T26 O0
+        at77 = λ Ψ. at18 (Typed.wantNext T27 O0 (at76 Ψ) Ψ)
 
-        abbrev at78 : Typed.TF T22 O0
-        at78 = λ Ψ. Typed.give s20 (at77 Ψ)
+        abbrev at78 : Typed.TF T25 O0
+        at78 = λ Ψ. Typed.ask s23 (at77 Ψ)
 
-        abbrev at79 : Typed.TF T21 O0
-        at79 = λ Ψ. Typed.pass T21 T22 s19 (at78 Ψ)
+        abbrev at79 : Typed.TF T24 O0
+        at79 = λ Ψ. Typed.pass T24 T25 s22 (at78 Ψ)
 
-        abbrev at80 : Typed.TF T20 O0
-        at80 = λ Ψ. Typed.pass T20 T21 s18 (at79 Ψ)
+        abbrev at80 : Typed.TF T23 O0
+        at80 = λ Ψ. Typed.ask s21 (at79 Ψ)
 
-        abbrev at81 : Typed.TF T13 O0
-        at81 = λ Ψ. Typed.pass T13 T20 s17 (at80 Ψ)
+        abbrev at81 : Typed.TF T22 O0
+        at81 = λ Ψ. Typed.give s20 (at80 Ψ)
 
-        abbrev at82 : Typed.TF T12 O0
-        at82 = λ Ψ. at8 (Typed.wantNext T13 O0 (at81 Ψ) Ψ)
+        abbrev at82 : Typed.TF T21 O0
+        at82 = λ Ψ. Typed.pass T21 T22 s19 (at81 Ψ)
 
-        abbrev at83 : Typed.TF T11 O0
-        at83 = λ Ψ. Typed.ask s10 (at82 Ψ)
+        abbrev at83 : Typed.TF T20 O0
+        at83 = λ Ψ. Typed.pass T20 T21 s18 (at82 Ψ)
 
-        abbrev at84 : Typed.TF T9 O0
-        at84 = λ Ψ. Typed.give s9 (at83 Ψ)
+        abbrev at84 : Typed.TF T13 O0
+        at84 = λ Ψ. Typed.pass T13 T20 s17 (at83 Ψ)
 
-        abbrev at85 : Typed.TF T9 O0
-        at85 = λ Ψ. at84 Ψ
+        abbrev at85 : Typed.TF T12 O0
+        at85 = λ Ψ. at8 (Typed.wantNext T13 O0 (at84 Ψ) Ψ)
 
-        abbrev at86 : Typed.TF T7 O0
-        at86 = λ Ψ. Typed.pass T7 T9 s7 (at85 Ψ)
+        abbrev at86 : Typed.TF T11 O0
+        at86 = λ Ψ. Typed.ask s10 (at85 Ψ)
 
-        abbrev at87 : Typed.TF T7 O0
-        at87 = λ Ψ. at86 Ψ
+        abbrev at87 : Typed.TF T9 O0
+        at87 = λ Ψ. Typed.give s9 (at86 Ψ)
 
-        abbrev at88 : Typed.TF T6 O0
-        at88 = λ Ψ. Typed.pass T6 T7 s5 (at87 Ψ)
+        abbrev at88 : Typed.TF T9 O0
+        at88 = λ Ψ. at87 Ψ
 
-        abbrev at89 : Typed.TF T5 O0
-        at89 = λ Ψ. Typed.both s4 (at88 Ψ)
+        abbrev at89 : Typed.TF T7 O0
+        at89 = λ Ψ. Typed.pass T7 T9 s7 (at88 Ψ)
 
-        abbrev at90 : Typed.TF T4 O0
-        at90 = λ Ψ. Typed.ask s3 (at89 Ψ)
+        abbrev at90 : Typed.TF T7 O0
+        at90 = λ Ψ. at89 Ψ
 
-        abbrev at91 : Typed.TF T2 O0
-        at91 = λ Ψ. Typed.give s2 (at90 Ψ)
+        abbrev at91 : Typed.TF T6 O0
+        at91 = λ Ψ. Typed.pass T6 T7 s5 (at90 Ψ)
 
-        abbrev at92 : Typed.TF T2 O0
-        at92 = λ Ψ. at91 Ψ
+        abbrev at92 : Typed.TF T5 O0
+        at92 = λ Ψ. Typed.both s4 (at91 Ψ)
 
-        abbrev at93 : Typed.TF T0 O0
-        at93 = λ Ψ. Typed.give s0 (at92 Ψ)
+        abbrev at93 : Typed.TF T4 O0
+        at93 = λ Ψ. Typed.ask s3 (at92 Ψ)
+
+        abbrev at94 : Typed.TF T2 O0
+        at94 = λ Ψ. Typed.give s2 (at93 Ψ)
+
+        abbrev at95 : Typed.TF T2 O0
+        at95 = λ Ψ. at94 Ψ
+
+        abbrev at96 : Typed.TF T0 O0
+        at96 = λ Ψ. Typed.give s0 (at95 Ψ)
 
         abbrev pub Φ : Typed.TF T0 O0
-        Φ = at93
+        Φ = at96
 
         module _ {M : Type 1} (𝓤 : URA.URA M) (H : Wp.Heap 𝓤) (A : Atoms.Atoms 𝓤) (W : Kit.Given 𝓤 H A) (𝓣 : Wp.Tables 𝓤 H) where
           abbrev Knowns : Type 1
@@ -2489,20 +2784,21 @@ module _ (claims· : Claims) where
             Rows.any-gone (Syntax.tyInt Syntax.w64),
           ) ∷ (7, Rows.any-gone (Syntax.tyInt Syntax.w64)) ∷ (8, Rows.any-gone (Syntax.tyInt Syntax.w64)) ∷ (
             9,
-            Rows.any-gone (Syntax.tyInt Syntax.w64),
+            Rows.any-gone (Syntax.tyStruct (102 ∷ 114 ∷ 97 ∷ 103 ∷ 109 ∷ 101 ∷ 110 ∷ 116 ∷ 115 ∷ 58 ∷ 58 ∷ 70 ∷ 114 ∷ 111 ∷ 109 ∷ 76 ∷ 97 ∷ 115 ∷ 116 ∷ [])
+                (Syntax.tcons (Syntax.tyInt Syntax.w64) Syntax.tnil)),
           ) ∷ (10, Rows.any-gone (Syntax.tyInt Syntax.w8)) ∷ (
             11,
-            Relend.ssptr SlotAs.row (Syntax.tyRef Syntax.erased
-                Syntax.imm SlotAs.pointee) 2,
+            Relend.ssptr SlotAs.row (Syntax.tyRef
+                Syntax.erased Syntax.imm SlotAs.pointee) 2,
           ) ∷ (
             12,
-            Rows.any-gone (Syntax.tyStruct (38 ∷ 91 ∷ 93 ∷ []) (Syntax.tcons (Syntax.tyRef Syntax.erased Syntax.imm
-                SlotAs.pointee) (Syntax.tcons (Syntax.tyInt Syntax.w64) Syntax.tnil))),
+            Rows.any-gone (Syntax.tyStruct (38 ∷ 91 ∷ 93 ∷ []) (Syntax.tcons (Syntax.tyRef Syntax.erased
+                Syntax.imm SlotAs.pointee) (Syntax.tcons (Syntax.tyInt Syntax.w64) Syntax.tnil))),
           ) ∷ (13, Rows.any-gone Syntax.tyBool) ∷ (
             14,
-            Rows.any-gone (Syntax.tyInt
-                Syntax.w64),
-          ) ∷ (15, Rows.any-gone (Syntax.tyInt Syntax.w8)) ∷ []
+            Rows.any-gone
+                (Syntax.tyInt Syntax.w64),
+          ) ∷ (15, Rows.any-gone (Syntax.tyInt Syntax.w64)) ∷ []
 
           abbrev g4 : List.List Row.Entry
           g4 = (0, Rows.any-gone (Syntax.tyInt Syntax.w8)) ∷ (
@@ -2523,15 +2819,16 @@ module _ (claims· : Claims) where
             Rows.any-gone (Syntax.tyInt Syntax.w64),
           ) ∷ (7, Rows.any-gone (Syntax.tyInt Syntax.w64)) ∷ (8, Rows.any-gone (Syntax.tyInt Syntax.w64)) ∷ (
             9,
-            Rows.any-gone (Syntax.tyInt Syntax.w64),
+            Rows.any-gone (Syntax.tyStruct (102 ∷ 114 ∷ 97 ∷ 103 ∷ 109 ∷ 101 ∷ 110 ∷ 116 ∷ 115 ∷ 58 ∷ 58 ∷ 70 ∷ 114 ∷ 111 ∷ 109 ∷ 76 ∷ 97 ∷ 115 ∷ 116 ∷ [])
+                (Syntax.tcons (Syntax.tyInt Syntax.w64) Syntax.tnil)),
           ) ∷ (10, Rows.any-gone (Syntax.tyInt Syntax.w8)) ∷ (
             11,
-            Rows.any-gone (Syntax.tyRef Syntax.erased Syntax.imm
-                SlotAs.pointee),
-          ) ∷ (12, Rows.sslice SlotAs.row (Syntax.tyRef Syntax.erased Syntax.imm SlotAs.pointee) 2) ∷ (13, Rows.any-gone Syntax.tyBool) ∷ (
-            14,
-            Rows.any-gone (Syntax.tyInt Syntax.w64),
-          ) ∷ (15, Rows.any-gone (Syntax.tyInt Syntax.w8)) ∷ []
+            Rows.any-gone (Syntax.tyRef
+                Syntax.erased Syntax.imm SlotAs.pointee),
+          ) ∷ (12, Rows.sslice SlotAs.row (Syntax.tyRef Syntax.erased Syntax.imm SlotAs.pointee) 2) ∷ (
+            13,
+            Rows.any-gone Syntax.tyBool,
+          ) ∷ (14, Rows.any-gone (Syntax.tyInt Syntax.w64)) ∷ (15, Rows.any-gone (Syntax.tyInt Syntax.w64)) ∷ []
 
           abbrev g5 : List.List Row.Entry
           g5 = (0, Rows.any-gone (Syntax.tyInt Syntax.w8)) ∷ (
@@ -2550,14 +2847,16 @@ module _ (claims· : Claims) where
             8,
             Rows.any-gone (Syntax.tyInt
                 Syntax.w64),
-          ) ∷ (9, Rows.any-gone (Syntax.tyInt Syntax.w64)) ∷ (10, Rows.any-gone (Syntax.tyInt Syntax.w8)) ∷ (
+          ) ∷ (
+            9,
+            Rows.any-gone (Syntax.tyStruct (102 ∷ 114 ∷ 97 ∷ 103 ∷ 109 ∷ 101 ∷ 110 ∷ 116 ∷ 115 ∷ 58 ∷ 58 ∷ 70 ∷ 114 ∷ 111 ∷ 109 ∷ 76 ∷ 97 ∷
+                115 ∷ 116 ∷ []) (Syntax.tcons (Syntax.tyInt Syntax.w64) Syntax.tnil)),
+          ) ∷ (10, Rows.any-gone (Syntax.tyInt Syntax.w8)) ∷ (
             11,
-            Rows.any-gone (Syntax.tyRef
-                Syntax.erased Syntax.imm SlotAs.pointee),
-          ) ∷ (12, Rows.sslice SlotAs.row (Syntax.tyRef Syntax.erased Syntax.imm SlotAs.pointee) 2) ∷ (
-            13,
-            Rows.any-gone Syntax.tyBool,
-          ) ∷ (14, Rows.any-gone (Syntax.tyInt Syntax.w64)) ∷ (15, Rows.any-gone (Syntax.tyInt Syntax.w8)) ∷ []
+            Rows.any-gone
+                (Syntax.tyRef Syntax.erased Syntax.imm SlotAs.pointee),
+          ) ∷ (12, Rows.sslice SlotAs.row (Syntax.tyRef Syntax.erased Syntax.imm SlotAs.pointee) 2) ∷
+              (13, Rows.any-gone Syntax.tyBool) ∷ (14, Rows.any-gone (Syntax.tyInt Syntax.w64)) ∷ (15, Rows.any-gone (Syntax.tyInt Syntax.w64)) ∷ []
 
           abbrev g6 : List.List Row.Entry
           g6 = (0, Rows.any-gone (Syntax.tyInt Syntax.w8)) ∷ (
@@ -2576,22 +2875,25 @@ module _ (claims· : Claims) where
             8,
             Rows.any-gone (Syntax.tyInt
                 Syntax.w64),
-          ) ∷ (9, Rows.any-gone (Syntax.tyInt Syntax.w64)) ∷ (10, Rows.any-gone (Syntax.tyInt Syntax.w8)) ∷ (
+          ) ∷ (
+            9,
+            Rows.any-gone (Syntax.tyStruct (102 ∷ 114 ∷ 97 ∷ 103 ∷ 109 ∷ 101 ∷ 110 ∷ 116 ∷ 115 ∷ 58 ∷ 58 ∷ 70 ∷ 114 ∷ 111 ∷ 109 ∷ 76 ∷ 97 ∷
+                115 ∷ 116 ∷ []) (Syntax.tcons (Syntax.tyInt Syntax.w64) Syntax.tnil)),
+          ) ∷ (10, Rows.any-gone (Syntax.tyInt Syntax.w8)) ∷ (
             11,
-            Rows.any-gone (Syntax.tyRef
-                Syntax.erased Syntax.imm SlotAs.pointee),
+            Rows.any-gone
+                (Syntax.tyRef Syntax.erased Syntax.imm SlotAs.pointee),
           ) ∷ (
             12,
-            Rows.any-gone (Syntax.tyStruct (38 ∷ 91 ∷ 93 ∷ []) (Syntax.tcons (Syntax.tyRef Syntax.erased
-                Syntax.imm SlotAs.pointee) (Syntax.tcons (Syntax.tyInt Syntax.w64) Syntax.tnil))),
+            Rows.any-gone (Syntax.tyStruct (38 ∷ 91 ∷ 93 ∷ []) (Syntax.tcons (Syntax.tyRef
+                Syntax.erased Syntax.imm SlotAs.pointee) (Syntax.tcons (Syntax.tyInt Syntax.w64) Syntax.tnil))),
           ) ∷ (13, Rows.any-gone Syntax.tyBool) ∷ (
             14,
-            Rows.any-gone
-                (Syntax.tyInt Syntax.w64),
-          ) ∷ (15, Rows.any-gone (Syntax.tyInt Syntax.w8)) ∷ []
+            Rows.any-gone (Syntax.tyInt Syntax.w64),
+          ) ∷ (15, Rows.any-gone (Syntax.tyInt Syntax.w64)) ∷ []
 
-          abbrev g27 : List.List Row.Entry
-          g27 = (0, Rows.any-gone (Syntax.tyInt Syntax.w8)) ∷ (
+          abbrev g29 : List.List Row.Entry
+          g29 = (0, Rows.any-gone (Syntax.tyInt Syntax.w8)) ∷ (
             1,
             Rows.sslice (Referent.rtF (Referent.fInt Syntax.w8)) (Syntax.tyRef (Syntax.named 0) Syntax.imm
                 (Syntax.tyInt Syntax.w8)) 0,
@@ -2610,21 +2912,22 @@ module _ (claims· : Claims) where
                 (Syntax.tyInt Syntax.w64) (Syntax.tcons (Syntax.tyInt Syntax.w64) (Syntax.tcons (Syntax.tyInt Syntax.w64) (Syntax.tcons (Syntax.tyInt Syntax.w64)
                 Syntax.tnil)))))),
           ) ∷ (6, Rows.sc-here (Row.sInt Syntax.w64)) ∷ (7, Rows.sc-here (Row.sInt Syntax.w64)) ∷ (8, Rows.sc-here (Row.sInt Syntax.w64)) ∷
-              (9, Rows.sc-here (Row.sInt Syntax.w64)) ∷ (10, Rows.sc-here (Row.sInt Syntax.w8)) ∷ (
+              (9, Rows.whole (Declared.row (Apart.apartT FromLast.the-type))) ∷ (10, Rows.sc-here (Row.sInt Syntax.w8)) ∷ (
                 11,
-                Rows.any-gone (Syntax.tyRef Syntax.erased Syntax.imm
-                    SlotAs.pointee),
+                Rows.any-gone (Syntax.tyRef
+                    Syntax.erased Syntax.imm SlotAs.pointee),
               ) ∷ (
                 12,
-                Rows.any-gone (Syntax.tyStruct (38 ∷ 91 ∷ 93 ∷ []) (Syntax.tcons (Syntax.tyRef Syntax.erased Syntax.imm SlotAs.pointee)
-                    (Syntax.tcons (Syntax.tyInt Syntax.w64) Syntax.tnil))),
-              ) ∷ (13, Rows.any-gone Syntax.tyBool) ∷ (14, Rows.any-gone (Syntax.tyInt Syntax.w64)) ∷ (
-                15,
-                Rows.any-gone (Syntax.tyInt Syntax.w8),
-              ) ∷ []
+                Rows.any-gone (Syntax.tyStruct (38 ∷ 91 ∷ 93 ∷ []) (Syntax.tcons (Syntax.tyRef Syntax.erased
+                    Syntax.imm SlotAs.pointee) (Syntax.tcons (Syntax.tyInt Syntax.w64) Syntax.tnil))),
+              ) ∷ (13, Rows.any-gone Syntax.tyBool) ∷ (
+                14,
+                Rows.any-gone
+                    (Syntax.tyInt Syntax.w64),
+              ) ∷ (15, Rows.any-gone (Syntax.tyInt Syntax.w64)) ∷ []
 
-          abbrev g30 : List.List Row.Entry
-          g30 = (0, Rows.any-gone (Syntax.tyInt Syntax.w8)) ∷ (
+          abbrev g32 : List.List Row.Entry
+          g32 = (0, Rows.any-gone (Syntax.tyInt Syntax.w8)) ∷ (
             1,
             Rows.sslice (Referent.rtF (Referent.fInt Syntax.w8)) (Syntax.tyRef (Syntax.named 0) Syntax.imm
                 (Syntax.tyInt Syntax.w8)) 0,
@@ -2643,21 +2946,22 @@ module _ (claims· : Claims) where
                 (Syntax.tyInt Syntax.w64) (Syntax.tcons (Syntax.tyInt Syntax.w64) (Syntax.tcons (Syntax.tyInt Syntax.w64) (Syntax.tcons (Syntax.tyInt Syntax.w64)
                 Syntax.tnil)))))),
           ) ∷ (6, Rows.sc-here (Row.sInt Syntax.w64)) ∷ (7, Rows.sc-here (Row.sInt Syntax.w64)) ∷ (8, Rows.sc-here (Row.sInt Syntax.w64)) ∷
-              (9, Rows.sc-here (Row.sInt Syntax.w64)) ∷ (10, Rows.sc-here (Row.sInt Syntax.w8)) ∷ (
+              (9, Rows.whole (Declared.row FromLast.the-type)) ∷ (10, Rows.sc-here (Row.sInt Syntax.w8)) ∷ (
                 11,
-                Rows.any-gone (Syntax.tyRef Syntax.erased Syntax.imm
-                    SlotAs.pointee),
+                Rows.any-gone (Syntax.tyRef Syntax.erased
+                    Syntax.imm SlotAs.pointee),
               ) ∷ (
                 12,
-                Rows.any-gone (Syntax.tyStruct (38 ∷ 91 ∷ 93 ∷ []) (Syntax.tcons (Syntax.tyRef Syntax.erased Syntax.imm SlotAs.pointee)
-                    (Syntax.tcons (Syntax.tyInt Syntax.w64) Syntax.tnil))),
-              ) ∷ (13, Rows.any-gone Syntax.tyBool) ∷ (14, Rows.any-gone (Syntax.tyInt Syntax.w64)) ∷ (
-                15,
-                Rows.sc-here (Row.sInt Syntax.w8),
-              ) ∷ []
+                Rows.any-gone (Syntax.tyStruct (38 ∷ 91 ∷ 93 ∷ []) (Syntax.tcons (Syntax.tyRef Syntax.erased Syntax.imm
+                    SlotAs.pointee) (Syntax.tcons (Syntax.tyInt Syntax.w64) Syntax.tnil))),
+              ) ∷ (13, Rows.any-gone Syntax.tyBool) ∷ (
+                14,
+                Rows.any-gone (Syntax.tyInt
+                    Syntax.w64),
+              ) ∷ (15, Rows.any-gone (Syntax.tyInt Syntax.w64)) ∷ []
 
-          abbrev g40 : List.List Row.Entry
-          g40 = (0, Rows.any-gone (Syntax.tyInt Syntax.w8)) ∷ (
+          abbrev g44 : List.List Row.Entry
+          g44 = (0, Rows.any-gone (Syntax.tyInt Syntax.w8)) ∷ (
             1,
             Rows.sslice (Referent.rtF (Referent.fInt Syntax.w8)) (Syntax.tyRef (Syntax.named 0) Syntax.imm
                 (Syntax.tyInt Syntax.w8)) 0,
@@ -2676,18 +2980,56 @@ module _ (claims· : Claims) where
                 (Syntax.tyInt Syntax.w64) (Syntax.tcons (Syntax.tyInt Syntax.w64) (Syntax.tcons (Syntax.tyInt Syntax.w64) (Syntax.tcons (Syntax.tyInt Syntax.w64)
                 Syntax.tnil)))))),
           ) ∷ (6, Rows.sc-here (Row.sInt Syntax.w64)) ∷ (7, Rows.sc-here (Row.sInt Syntax.w64)) ∷ (8, Rows.sc-here (Row.sInt Syntax.w64)) ∷
-              (9, Rows.sc-here (Row.sInt Syntax.w64)) ∷ (10, Rows.sc-here (Row.sInt Syntax.w8)) ∷ (
+              (9, Rows.whole (Declared.row FromLast.the-type)) ∷ (10, Rows.sc-here (Row.sInt Syntax.w8)) ∷ (
                 11,
-                Rows.any-gone (Syntax.tyRef Syntax.erased Syntax.imm
-                    SlotAs.pointee),
+                Rows.any-gone (Syntax.tyRef Syntax.erased
+                    Syntax.imm SlotAs.pointee),
               ) ∷ (
                 12,
-                Rows.any-gone (Syntax.tyStruct (38 ∷ 91 ∷ 93 ∷ []) (Syntax.tcons (Syntax.tyRef Syntax.erased Syntax.imm SlotAs.pointee)
-                    (Syntax.tcons (Syntax.tyInt Syntax.w64) Syntax.tnil))),
-              ) ∷ (13, Rows.any-gone Syntax.tyBool) ∷ (14, Rows.any-gone (Syntax.tyInt Syntax.w64)) ∷ (
-                15,
-                Rows.any-gone (Syntax.tyInt Syntax.w8),
-              ) ∷ []
+                Rows.any-gone (Syntax.tyStruct (38 ∷ 91 ∷ 93 ∷ []) (Syntax.tcons (Syntax.tyRef Syntax.erased Syntax.imm
+                    SlotAs.pointee) (Syntax.tcons (Syntax.tyInt Syntax.w64) Syntax.tnil))),
+              ) ∷ (13, Rows.any-gone Syntax.tyBool) ∷ (
+                14,
+                Rows.any-gone (Syntax.tyInt
+                    Syntax.w64),
+              ) ∷ (15, Rows.any-gone (Syntax.tyInt Syntax.w64)) ∷ []
+
+          abbrev g48 : List.List Row.Entry
+          g48 = (0, Rows.any-gone (Syntax.tyInt Syntax.w8)) ∷ (
+            1,
+            Rows.sslice (Referent.rtF (Referent.fInt Syntax.w8)) (Syntax.tyRef (Syntax.named 0) Syntax.imm
+                (Syntax.tyInt Syntax.w8)) 0,
+          ) ∷ (
+            2,
+            Part.mslice-owedP SlotAs.row (Syntax.tyRef (Syntax.named 1) Syntax.mut SlotAs.pointee) 1 4 (Row.lease (κs .1 .0)
+                (qs .1 .0)),
+          ) ∷ (
+            3,
+            Rows.any-gone (Syntax.tyStruct (102 ∷ 105 ∷ 101 ∷ 108 ∷ 100 ∷ 115 ∷ 58 ∷ 58 ∷ 70 ∷ 114 ∷ 97 ∷ 103 ∷ 109 ∷ 101 ∷ 110 ∷ 116 ∷ 78 ∷
+                117 ∷ 109 ∷ 98 ∷ 101 ∷ 114 ∷ []) (Syntax.tcons (Syntax.tyInt Syntax.w32) Syntax.tnil)),
+          ) ∷ (4, Rows.sc-here Row.sBool) ∷ (
+            5,
+            Rows.any-gone
+                (Syntax.tyStruct (115 ∷ 116 ∷ 111 ∷ 114 ∷ 101 ∷ 58 ∷ 58 ∷ 72 ∷ 101 ∷ 108 ∷ 100 ∷ []) (Syntax.tcons (Syntax.tyInt Syntax.w8) (Syntax.tcons
+                (Syntax.tyInt Syntax.w64) (Syntax.tcons (Syntax.tyInt Syntax.w64) (Syntax.tcons (Syntax.tyInt Syntax.w64) (Syntax.tcons (Syntax.tyInt Syntax.w64)
+                Syntax.tnil)))))),
+          ) ∷ (6, Rows.sc-here (Row.sInt Syntax.w64)) ∷ (7, Rows.sc-here (Row.sInt Syntax.w64)) ∷ (8, Rows.sc-here (Row.sInt Syntax.w64)) ∷ (
+            9,
+            Rows.any-gone (Syntax.tyStruct (102 ∷ 114 ∷ 97 ∷ 103 ∷ 109 ∷ 101 ∷ 110 ∷ 116 ∷ 115 ∷ 58 ∷ 58 ∷ 70 ∷ 114 ∷ 111 ∷ 109 ∷ 76 ∷ 97 ∷ 115 ∷ 116 ∷ [])
+                (Syntax.tcons (Syntax.tyInt Syntax.w64) Syntax.tnil)),
+          ) ∷ (10, Rows.sc-here (Row.sInt Syntax.w8)) ∷ (
+            11,
+            Rows.any-gone (Syntax.tyRef Syntax.erased
+                Syntax.imm SlotAs.pointee),
+          ) ∷ (
+            12,
+            Rows.any-gone (Syntax.tyStruct (38 ∷ 91 ∷ 93 ∷ []) (Syntax.tcons (Syntax.tyRef Syntax.erased Syntax.imm
+                SlotAs.pointee) (Syntax.tcons (Syntax.tyInt Syntax.w64) Syntax.tnil))),
+          ) ∷ (13, Rows.any-gone Syntax.tyBool) ∷ (
+            14,
+            Rows.any-gone (Syntax.tyInt
+                Syntax.w64),
+          ) ∷ (15, Rows.any-gone (Syntax.tyInt Syntax.w64)) ∷ []
 
           abbrev G0 : Row.Cx
           G0 = record { locals = List._++_ t0 t1; slots = Row.lease (κs .0) (qs .0) ∷ Row.lease (κs .1 .0) (qs .1 .0) ∷ Row.off ∷ Row.off ∷ Row.off ∷ [] }
@@ -2834,109 +3176,118 @@ module _ (claims· : Claims) where
           G47 = record { locals = List._++_ t26 t1; slots = Row.lease (κs .0) (qs .0) ∷ Row.lease (κs .1 .0) (qs .1 .0) ∷ Row.off ∷ Row.off ∷ Row.off ∷ [] }
 
           abbrev G48 : Row.Cx
-          G48 = record { locals = List._++_ t26 t1; slots = Row.lease (κs .0) (qs .0) ∷ Row.lease (κs .1 .0) (qs .1 .0) ∷ Row.off ∷ Row.alive ∷ Row.off ∷ [] }
+          G48 = record { locals = List._++_ t27 t1; slots = Row.lease (κs .0) (qs .0) ∷ Row.lease (κs .1 .0) (qs .1 .0) ∷ Row.off ∷ Row.off ∷ Row.off ∷ [] }
 
           abbrev G49 : Row.Cx
-          G49 = record { locals = List._++_ g27 t28; slots = Row.lease (κs .0) (qs .0) ∷ Row.off ∷ Row.off ∷ Row.alive ∷ Row.off ∷ [] }
+          G49 = record { locals = List._++_ t28 t1; slots = Row.lease (κs .0) (qs .0) ∷ Row.lease (κs .1 .0) (qs .1 .0) ∷ Row.off ∷ Row.off ∷ Row.off ∷ [] }
 
           abbrev G50 : Row.Cx
-          G50 = record { locals = List._++_ g27 t29; slots = Row.lease (κs .0) (qs .0) ∷ Row.off ∷ Row.off ∷ Row.alive ∷ Row.off ∷ [] }
+          G50 = record { locals = List._++_ t28 t1; slots = Row.lease (κs .0) (qs .0) ∷ Row.lease (κs .1 .0) (qs .1 .0) ∷ Row.off ∷ Row.alive ∷ Row.off ∷ [] }
 
           abbrev G51 : Row.Cx
-          G51 = record { locals = List._++_ g30 t29; slots = Row.lease (κs .0) (qs .0) ∷ Row.off ∷ Row.off ∷ Row.alive ∷ Row.off ∷ [] }
+          G51 = record { locals = List._++_ g29 t30; slots = Row.lease (κs .0) (qs .0) ∷ Row.off ∷ Row.off ∷ Row.alive ∷ Row.off ∷ [] }
 
           abbrev G52 : Row.Cx
-          G52 = record { locals = List._++_ g30 t1; slots = Row.lease (κs .0) (qs .0) ∷ Row.off ∷ Row.off ∷ Row.alive ∷ Row.off ∷ [] }
+          G52 = record { locals = List._++_ g29 t31; slots = Row.lease (κs .0) (qs .0) ∷ Row.off ∷ Row.off ∷ Row.alive ∷ Row.off ∷ [] }
 
           abbrev G53 : Row.Cx
-          G53 = record { locals = List._++_ g30 t1; slots = Row.lease (κs .0) (qs .0) ∷ Row.off ∷ Row.off ∷ Row.dead ∷ Row.off ∷ [] }
+          G53 = record { locals = List._++_ g32 t31; slots = Row.lease (κs .0) (qs .0) ∷ Row.off ∷ Row.off ∷ Row.alive ∷ Row.off ∷ [] }
 
           abbrev G54 : Row.Cx
-          G54 = record { locals = List._++_ t31 t1; slots = Row.lease (κs .0) (qs .0) ∷ Row.lease (κs .1 .0) (qs .1 .0) ∷ Row.off ∷ Row.dead ∷ Row.off ∷ [] }
+          G54 = record { locals = List._++_ g32 t33; slots = Row.lease (κs .0) (qs .0) ∷ Row.off ∷ Row.off ∷ Row.alive ∷ Row.off ∷ [] }
 
           abbrev G55 : Row.Cx
-          G55 = record { locals = List._++_ t31 t1; slots = Row.lease (κs .0) (qs .0) ∷ Row.lease (κs .1 .0) (qs .1 .0) ∷ Row.off ∷ Row.off ∷ Row.off ∷ [] }
+          G55 = record { locals = List._++_ g32 t34; slots = Row.lease (κs .0) (qs .0) ∷ Row.off ∷ Row.off ∷ Row.alive ∷ Row.off ∷ [] }
 
           abbrev G56 : Row.Cx
-          G56 = record { locals = List._++_ t32 t1; slots = Row.lease (κs .0) (qs .0) ∷ Row.lease (κs .1 .0) (qs .1 .0) ∷ Row.off ∷ Row.off ∷ Row.off ∷ [] }
+          G56 = record { locals = List._++_ g32 t34; slots = Row.lease (κs .0) (qs .0) ∷ Row.off ∷ Row.off ∷ Row.dead ∷ Row.off ∷ [] }
 
           abbrev G57 : Row.Cx
-          G57 = record { locals = List._++_ t26 t1; slots = Row.lease (κs .0) (qs .0) ∷ Row.lease (κs .1 .0) (qs .1 .0) ∷ Row.off ∷ Row.off ∷ Row.off ∷ [] }
+          G57 = record { locals = List._++_ t35 t34; slots = Row.lease (κs .0) (qs .0) ∷ Row.lease (κs .1 .0) (qs .1 .0) ∷ Row.off ∷ Row.dead ∷ Row.off ∷ [] }
 
           abbrev G58 : Row.Cx
-          G58 = record { locals = List._++_ t33 t1; slots = Row.lease (κs .0) (qs .0) ∷ Row.lease (κs .1 .0) (qs .1 .0) ∷ Row.off ∷ Row.off ∷ Row.off ∷ [] }
+          G58 = record { locals = List._++_ t35 t34; slots = Row.lease (κs .0) (qs .0) ∷ Row.lease (κs .1 .0) (qs .1 .0) ∷ Row.off ∷ Row.off ∷ Row.off ∷ [] }
 
           abbrev G59 : Row.Cx
-          G59 = record { locals = List._++_ t26 t1; slots = Row.lease (κs .0) (qs .0) ∷ Row.lease (κs .1 .0) (qs .1 .0) ∷ Row.off ∷ Row.off ∷ Row.off ∷ [] }
+          G59 = record { locals = List._++_ t36 t34; slots = Row.lease (κs .0) (qs .0) ∷ Row.lease (κs .1 .0) (qs .1 .0) ∷ Row.off ∷ Row.off ∷ Row.off ∷ [] }
 
           abbrev G60 : Row.Cx
-          G60 = record { locals = List._++_ t34 t1; slots = Row.lease (κs .0) (qs .0) ∷ Row.lease (κs .1 .0) (qs .1 .0) ∷ Row.off ∷ Row.off ∷ Row.off ∷ [] }
+          G60 = record { locals = List._++_ t35 t1; slots = Row.lease (κs .0) (qs .0) ∷ Row.lease (κs .1 .0) (qs .1 .0) ∷ Row.off ∷ Row.off ∷ Row.off ∷ [] }
 
           abbrev G61 : Row.Cx
-          G61 = record { locals = List._++_ t35 t1; slots = Row.lease (κs .0) (qs .0) ∷ Row.lease (κs .1 .0) (qs .1 .0) ∷ Row.off ∷ Row.off ∷ Row.off ∷ [] }
+          G61 = record { locals = List._++_ t36 t1; slots = Row.lease (κs .0) (qs .0) ∷ Row.lease (κs .1 .0) (qs .1 .0) ∷ Row.off ∷ Row.off ∷ Row.off ∷ [] }
 
           abbrev G62 : Row.Cx
-          G62 = record { locals = List._++_ t36 t1; slots = Row.lease (κs .0) (qs .0) ∷ Row.lease (κs .1 .0) (qs .1 .0) ∷ Row.off ∷ Row.off ∷ Row.off ∷ [] }
+          G62 = record { locals = List._++_ t37 t1; slots = Row.lease (κs .0) (qs .0) ∷ Row.lease (κs .1 .0) (qs .1 .0) ∷ Row.off ∷ Row.off ∷ Row.off ∷ [] }
 
           abbrev G63 : Row.Cx
-          G63 = record { locals = List._++_ t37 t1; slots = Row.lease (κs .0) (qs .0) ∷ Row.lease (κs .1 .0) (qs .1 .0) ∷ Row.off ∷ Row.off ∷ Row.off ∷ [] }
+          G63 = record { locals = List._++_ t38 t1; slots = Row.lease (κs .0) (qs .0) ∷ Row.lease (κs .1 .0) (qs .1 .0) ∷ Row.off ∷ Row.off ∷ Row.off ∷ [] }
 
           abbrev G64 : Row.Cx
-          G64 = record { locals = List._++_ t38 t1; slots = Row.lease (κs .0) (qs .0) ∷ Row.lease (κs .1 .0) (qs .1 .0) ∷ Row.off ∷ Row.off ∷ Row.off ∷ [] }
+          G64 = record { locals = List._++_ t39 t1; slots = Row.lease (κs .0) (qs .0) ∷ Row.lease (κs .1 .0) (qs .1 .0) ∷ Row.off ∷ Row.off ∷ Row.off ∷ [] }
 
           abbrev G65 : Row.Cx
-          G65 = record { locals = List._++_ t39 t1; slots = Row.lease (κs .0) (qs .0) ∷ Row.lease (κs .1 .0) (qs .1 .0) ∷ Row.off ∷ Row.off ∷ Row.off ∷ [] }
+          G65 = record { locals = List._++_ t40 t1; slots = Row.lease (κs .0) (qs .0) ∷ Row.lease (κs .1 .0) (qs .1 .0) ∷ Row.off ∷ Row.off ∷ Row.off ∷ [] }
 
           abbrev G66 : Row.Cx
-          G66 = record { locals = List._++_ t2 t1; slots = Row.lease (κs .0) (qs .0) ∷ Row.lease (κs .1 .0) (qs .1 .0) ∷ Row.off ∷ Row.off ∷ Row.off ∷ [] }
+          G66 = record { locals = List._++_ t41 t1; slots = Row.lease (κs .0) (qs .0) ∷ Row.lease (κs .1 .0) (qs .1 .0) ∷ Row.off ∷ Row.off ∷ Row.off ∷ [] }
 
           abbrev G67 : Row.Cx
-          G67 = record { locals = List._++_ t26 t1; slots = Row.lease (κs .0) (qs .0) ∷ Row.lease (κs .1 .0) (qs .1 .0) ∷ Row.off ∷ Row.off ∷ Row.off ∷ [] }
+          G67 = record { locals = List._++_ t42 t1; slots = Row.lease (κs .0) (qs .0) ∷ Row.lease (κs .1 .0) (qs .1 .0) ∷ Row.off ∷ Row.off ∷ Row.off ∷ [] }
 
           abbrev G68 : Row.Cx
-          G68 = record { locals = List._++_ t26 t1; slots = Row.lease (κs .0) (qs .0) ∷ Row.lease (κs .1 .0) (qs .1 .0) ∷ Row.off ∷ Row.off ∷ Row.alive ∷ [] }
+          G68 = record { locals = List._++_ t43 t1; slots = Row.lease (κs .0) (qs .0) ∷ Row.lease (κs .1 .0) (qs .1 .0) ∷ Row.off ∷ Row.off ∷ Row.off ∷ [] }
 
           abbrev G69 : Row.Cx
-          G69 = record { locals = List._++_ g40 t41; slots = Row.lease (κs .0) (qs .0) ∷ Row.off ∷ Row.off ∷ Row.off ∷ Row.alive ∷ [] }
+          G69 = record { locals = List._++_ t2 t1; slots = Row.lease (κs .0) (qs .0) ∷ Row.lease (κs .1 .0) (qs .1 .0) ∷ Row.off ∷ Row.off ∷ Row.off ∷ [] }
 
           abbrev G70 : Row.Cx
-          G70 = record { locals = List._++_ g40 t42; slots = Row.lease (κs .0) (qs .0) ∷ Row.off ∷ Row.off ∷ Row.off ∷ Row.alive ∷ [] }
+          G70 = record { locals = List._++_ t35 t1; slots = Row.lease (κs .0) (qs .0) ∷ Row.lease (κs .1 .0) (qs .1 .0) ∷ Row.off ∷ Row.off ∷ Row.off ∷ [] }
 
           abbrev G71 : Row.Cx
-          G71 = record { locals = List._++_ g40 t43; slots = Row.lease (κs .0) (qs .0) ∷ Row.off ∷ Row.off ∷ Row.off ∷ Row.alive ∷ [] }
+          G71 = record { locals = List._++_ t35 t1; slots = Row.lease (κs .0) (qs .0) ∷ Row.lease (κs .1 .0) (qs .1 .0) ∷ Row.off ∷ Row.off ∷ Row.alive ∷ [] }
 
           abbrev G72 : Row.Cx
-          G72 = record { locals = List._++_ g40 t44; slots = Row.lease (κs .0) (qs .0) ∷ Row.off ∷ Row.off ∷ Row.off ∷ Row.alive ∷ [] }
+          G72 = record { locals = List._++_ g44 t45; slots = Row.lease (κs .0) (qs .0) ∷ Row.off ∷ Row.off ∷ Row.off ∷ Row.alive ∷ [] }
 
           abbrev G73 : Row.Cx
-          G73 = record { locals = List._++_ g40 t44; slots = Row.lease (κs .0) (qs .0) ∷ Row.off ∷ Row.off ∷ Row.off ∷ Row.dead ∷ [] }
+          G73 = record { locals = List._++_ g44 t46; slots = Row.lease (κs .0) (qs .0) ∷ Row.off ∷ Row.off ∷ Row.off ∷ Row.alive ∷ [] }
 
           abbrev G74 : Row.Cx
-          G74 = record { locals = List._++_ t26 t1; slots = Row.lease (κs .0) (qs .0) ∷ Row.lease (κs .1 .0) (qs .1 .0) ∷ Row.off ∷ Row.off ∷ Row.dead ∷ [] }
+          G74 = record { locals = List._++_ g44 t47; slots = Row.lease (κs .0) (qs .0) ∷ Row.off ∷ Row.off ∷ Row.off ∷ Row.alive ∷ [] }
 
           abbrev G75 : Row.Cx
-          G75 = record { locals = List._++_ t26 t1; slots = Row.lease (κs .0) (qs .0) ∷ Row.lease (κs .1 .0) (qs .1 .0) ∷ Row.off ∷ Row.off ∷ Row.off ∷ [] }
+          G75 = record { locals = List._++_ g48 t47; slots = Row.lease (κs .0) (qs .0) ∷ Row.off ∷ Row.off ∷ Row.off ∷ Row.alive ∷ [] }
 
           abbrev G76 : Row.Cx
-          G76 = record { locals = List._++_ t34 t1; slots = Row.lease (κs .0) (qs .0) ∷ Row.lease (κs .1 .0) (qs .1 .0) ∷ Row.off ∷ Row.off ∷ Row.off ∷ [] }
+          G76 = record { locals = List._++_ g48 t49; slots = Row.lease (κs .0) (qs .0) ∷ Row.off ∷ Row.off ∷ Row.off ∷ Row.alive ∷ [] }
 
           abbrev G77 : Row.Cx
-          G77 = record { locals = List._++_ t45 t1; slots = Row.lease (κs .0) (qs .0) ∷ Row.lease (κs .1 .0) (qs .1 .0) ∷ Row.off ∷ Row.off ∷ Row.off ∷ [] }
+          G77 = record { locals = List._++_ g48 t49; slots = Row.lease (κs .0) (qs .0) ∷ Row.off ∷ Row.off ∷ Row.off ∷ Row.dead ∷ [] }
 
           abbrev G78 : Row.Cx
-          G78 = record { locals = List._++_ t46 t1; slots = Row.lease (κs .0) (qs .0) ∷ Row.lease (κs .1 .0) (qs .1 .0) ∷ Row.off ∷ Row.off ∷ Row.off ∷ [] }
+          G78 = record { locals = List._++_ t38 t1; slots = Row.lease (κs .0) (qs .0) ∷ Row.lease (κs .1 .0) (qs .1 .0) ∷ Row.off ∷ Row.off ∷ Row.dead ∷ [] }
 
           abbrev G79 : Row.Cx
-          G79 = record { locals = List._++_ t47 t1; slots = Row.lease (κs .0) (qs .0) ∷ Row.lease (κs .1 .0) (qs .1 .0) ∷ Row.off ∷ Row.off ∷ Row.off ∷ [] }
+          G79 = record { locals = List._++_ t38 t1; slots = Row.lease (κs .0) (qs .0) ∷ Row.lease (κs .1 .0) (qs .1 .0) ∷ Row.off ∷ Row.off ∷ Row.off ∷ [] }
 
           abbrev G80 : Row.Cx
-          G80 = record { locals = List._++_ t48 t1; slots = Row.lease (κs .0) (qs .0) ∷ Row.lease (κs .1 .0) (qs .1 .0) ∷ Row.off ∷ Row.off ∷ Row.off ∷ [] }
+          G80 = record { locals = List._++_ t39 t1; slots = Row.lease (κs .0) (qs .0) ∷ Row.lease (κs .1 .0) (qs .1 .0) ∷ Row.off ∷ Row.off ∷ Row.off ∷ [] }
 
           abbrev G81 : Row.Cx
-          G81 = record { locals = List._++_ t12 t1; slots = Row.lease (κs .0) (qs .0) ∷ Row.lease (κs .1 .0) (qs .1 .0) ∷ Row.off ∷ Row.off ∷ Row.off ∷ [] }
+          G81 = record { locals = List._++_ t50 t1; slots = Row.lease (κs .0) (qs .0) ∷ Row.lease (κs .1 .0) (qs .1 .0) ∷ Row.off ∷ Row.off ∷ Row.off ∷ [] }
 
           abbrev G82 : Row.Cx
-          G82 = record { locals = List._++_ t2 t1; slots = Row.lease (κs .0) (qs .0) ∷ Row.lease (κs .1 .0) (qs .1 .0) ∷ Row.off ∷ Row.off ∷ Row.off ∷ [] }
+          G82 = record { locals = List._++_ t51 t1; slots = Row.lease (κs .0) (qs .0) ∷ Row.lease (κs .1 .0) (qs .1 .0) ∷ Row.off ∷ Row.off ∷ Row.off ∷ [] }
+
+          abbrev G83 : Row.Cx
+          G83 = record { locals = List._++_ t52 t1; slots = Row.lease (κs .0) (qs .0) ∷ Row.lease (κs .1 .0) (qs .1 .0) ∷ Row.off ∷ Row.off ∷ Row.off ∷ [] }
+
+          abbrev G84 : Row.Cx
+          G84 = record { locals = List._++_ t12 t1; slots = Row.lease (κs .0) (qs .0) ∷ Row.lease (κs .1 .0) (qs .1 .0) ∷ Row.off ∷ Row.off ∷ Row.off ∷ [] }
+
+          abbrev G85 : Row.Cx
+          G85 = record { locals = List._++_ t2 t1; slots = Row.lease (κs .0) (qs .0) ∷ Row.lease (κs .1 .0) (qs .1 .0) ∷ Row.off ∷ Row.off ∷ Row.off ∷ [] }
 
           abbrev Δ0 : Typed.Outs
           Δ0 = record { next = Option.none; exits = []; returns = Option.some G1 }
@@ -2951,7 +3302,7 @@ module _ (claims· : Claims) where
           Δ3 = Typed.withNext (Option.some G36) Δ0
 
           abbrev Δ4 : Typed.Outs
-          Δ4 = Typed.withNext (Option.some G57) Δ0
+          Δ4 = Typed.withNext (Option.some G60) Δ0
 
           module _ {M : Type 1} (𝓤 : URA.URA M) (H : Wp.Heap 𝓤) (A : Atoms.Atoms 𝓤) (W : Kit.Given 𝓤 H A) (𝓣 : Wp.Tables 𝓤 H) (known : Knowns 𝓤 H A W 𝓣) (bs :
               List.List Nat.ℕ) (bd : Lifetimes.AllOutlive 2 (Kinds.osR r) κs) where
@@ -2975,9 +3326,9 @@ module _ (claims· : Claims) where
 
             d3 : Typed.Typed 𝓤 H A 𝓣 E G15 b6 Δ1 at3
             d3 = Typed.s-seq 𝓤 H A W 𝓣 E G15 G16 b4 b5 Δ1 (Typed.pass T15 T16 s13) at2 (Scalar.t-use 𝓤 H A W E 𝓣 G15 (Scalar.oFld 5 (Syntax.field 0 ∷ [])
-                (Syntax.tyInt Syntax.w8) 0 (Reads.fieldV Held.the-type Laws'.the-laws 0)) 0 (Rows.sc-here (Row.sInt Syntax.w8)) (Syntax.tyInt Syntax.w8)
+                (Syntax.tyInt Syntax.w8) 0 (Reads.fieldV Held.the-type Laws''.the-laws 0)) 0 (Rows.sc-here (Row.sInt Syntax.w8)) (Syntax.tyInt Syntax.w8)
                 (Row.valS (Row.sInt Syntax.w8)) (Row.sInt Syntax.w8 .of) (
-                  Reads.reads-field 𝓤 H A W Held.the-type Laws'.the-laws 0 (Syntax.tyInt Syntax.w8) 0
+                  Reads.reads-field 𝓤 H A W Held.the-type Laws''.the-laws 0 (Syntax.tyInt Syntax.w8) 0
                       Path'.refl,
                   Path'.refl,
                 ) (Reads'.room-gone 𝓤 H A (Syntax.tyInt Syntax.w8)) (Scalar.holds-sc 𝓤 H A W (Row.sInt Syntax.w8)) Path'.refl (λ u.
@@ -3080,148 +3431,154 @@ module _ (claims· : Claims) where
             d28 : Typed.Typed 𝓤 H A 𝓣 E G35 b23 Δ3 at28
             d28 = Scalar.t-cond 𝓤 H A W E 𝓣 G35 13 (λ x. x) b21 b22 Δ3 at25 at27 (Scalar.reads-sc 𝓤 H A W Row.sBool) Path'.refl d25 d27
 
-            d29 : Typed.Typed 𝓤 H A 𝓣 E G66 b32 Δ4 at29
+            d29 : Typed.Typed 𝓤 H A 𝓣 E G69 b33 Δ4 at29
             d29 = Typed.t-return 𝓤 H A W 𝓣 E Δ4 tt
 
-            d30 : Typed.Typed 𝓤 H A 𝓣 E G65 b32 Δ4 at30
-            d30 = Typed.g-pre 𝓤 H A W 𝓣 E G65 G66 b32 Δ4 (Typed.pass T65 T66 s60) at29 (Scalar.g-room 𝓤 H A W E G65 10 (Syntax.tyInt Syntax.w8) (Scalar.room-sc 𝓤
+            d30 : Typed.Typed 𝓤 H A 𝓣 E G68 b33 Δ4 at30
+            d30 = Typed.g-pre 𝓤 H A W 𝓣 E G68 G69 b33 Δ4 (Typed.pass T68 T69 s63) at29 (Scalar.g-room 𝓤 H A W E G68 10 (Syntax.tyInt Syntax.w8) (Scalar.room-sc 𝓤
                 H A W (Row.sInt Syntax.w8))) d29
 
-            d31 : Typed.Typed 𝓤 H A 𝓣 E G64 b32 Δ4 at31
-            d31 = Typed.g-pre 𝓤 H A W 𝓣 E G64 G65 b32 Δ4 (Typed.pass T64 T65 s59) at30 (Scalar.g-room 𝓤 H A W E G64 9 (Syntax.tyInt Syntax.w64) (Scalar.room-sc 𝓤
+            d31 : Typed.Typed 𝓤 H A 𝓣 E G67 b33 Δ4 at31
+            d31 = Typed.g-pre 𝓤 H A W 𝓣 E G67 G68 b33 Δ4 (Typed.pass T67 T68 s62) at30 (Scalar.g-room 𝓤 H A W E G67 8 (Syntax.tyInt Syntax.w64) (Scalar.room-sc 𝓤
                 H A W (Row.sInt Syntax.w64))) d30
 
-            d32 : Typed.Typed 𝓤 H A 𝓣 E G63 b32 Δ4 at32
-            d32 = Typed.g-pre 𝓤 H A W 𝓣 E G63 G64 b32 Δ4 (Typed.pass T63 T64 s58) at31 (Scalar.g-room 𝓤 H A W E G63 8 (Syntax.tyInt Syntax.w64) (Scalar.room-sc 𝓤
+            d32 : Typed.Typed 𝓤 H A 𝓣 E G66 b33 Δ4 at32
+            d32 = Typed.g-pre 𝓤 H A W 𝓣 E G66 G67 b33 Δ4 (Typed.pass T66 T67 s61) at31 (Scalar.g-room 𝓤 H A W E G66 7 (Syntax.tyInt Syntax.w64) (Scalar.room-sc 𝓤
                 H A W (Row.sInt Syntax.w64))) d31
 
-            d33 : Typed.Typed 𝓤 H A 𝓣 E G62 b32 Δ4 at33
-            d33 = Typed.g-pre 𝓤 H A W 𝓣 E G62 G63 b32 Δ4 (Typed.pass T62 T63 s57) at32 (Scalar.g-room 𝓤 H A W E G62 7 (Syntax.tyInt Syntax.w64) (Scalar.room-sc 𝓤
+            d33 : Typed.Typed 𝓤 H A 𝓣 E G65 b33 Δ4 at33
+            d33 = Typed.g-pre 𝓤 H A W 𝓣 E G65 G66 b33 Δ4 (Typed.pass T65 T66 s60) at32 (Scalar.g-room 𝓤 H A W E G65 6 (Syntax.tyInt Syntax.w64) (Scalar.room-sc 𝓤
                 H A W (Row.sInt Syntax.w64))) d32
 
-            d34 : Typed.Typed 𝓤 H A 𝓣 E G61 b32 Δ4 at34
-            d34 = Typed.g-pre 𝓤 H A W 𝓣 E G61 G62 b32 Δ4 (Typed.pass T61 T62 s56) at33 (Scalar.g-room 𝓤 H A W E G61 6 (Syntax.tyInt Syntax.w64) (Scalar.room-sc 𝓤
-                H A W (Row.sInt Syntax.w64))) d33
+            d34 : Typed.Typed 𝓤 H A 𝓣 E G64 b33 Δ4 at34
+            d34 = Typed.g-pre 𝓤 H A W 𝓣 E G64 G65 b33 Δ4 (Typed.pass T64 T65 s59) at33 (Scalar.g-room 𝓤 H A W E G64 4 Syntax.tyBool (Scalar.room-sc 𝓤 H A W
+                Row.sBool)) d33
 
-            d35 : Typed.Typed 𝓤 H A 𝓣 E G60 b32 Δ4 at35
-            d35 = Typed.g-pre 𝓤 H A W 𝓣 E G60 G61 b32 Δ4 (Typed.pass T60 T61 s55) at34 (Scalar.g-room 𝓤 H A W E G60 4 Syntax.tyBool (Scalar.room-sc 𝓤 H A W
-                Row.sBool)) d34
-
-            d36 : Typed.Typed 𝓤 H A 𝓣 E G59 b33 Δ4 at36
-            d36 = Typed.s-seq 𝓤 H A W 𝓣 E G59 G60 b31 b32 Δ4 (Typed.pass T59 T60 s54) at35 (Scalar.t-use 𝓤 H A W E 𝓣 G59 (Scalar.oInt Syntax.w8 16) 0
+            d35 : Typed.Typed 𝓤 H A 𝓣 E G63 b34 Δ4 at35
+            d35 = Typed.s-seq 𝓤 H A W 𝓣 E G63 G64 b32 b33 Δ4 (Typed.pass T63 T64 s58) at34 (Scalar.t-use 𝓤 H A W E 𝓣 G63 (Scalar.oInt Syntax.w8 16) 0
                 (Rows.sc-here (Row.sInt Syntax.w8)) (Syntax.tyInt Syntax.w8) (Row.valS (Row.sInt Syntax.w8)) (Row.sInt Syntax.w8 .of) tt (Reads'.room-gone 𝓤 H A
-                (Syntax.tyInt Syntax.w8)) (Scalar.holds-sc 𝓤 H A W (Row.sInt Syntax.w8)) Path'.refl (λ u. Path'.refl) λ u. tt) d35
+                (Syntax.tyInt Syntax.w8)) (Scalar.holds-sc 𝓤 H A W (Row.sInt Syntax.w8)) Path'.refl (λ u. Path'.refl) λ u. tt) d34
 
-            d37 : Typed.Typed 𝓤 H A 𝓣 E G58 b33 Δ4 at37
-            d37 = Typed.g-pre 𝓤 H A W 𝓣 E G58 G59 b33 Δ4 (Typed.pass T58 T59 s53) at36 (Scalar.g-room 𝓤 H A W E G58 13 Syntax.tyBool (Scalar.room-sc 𝓤 H A W
-                Row.sBool)) d36
+            d36 : Typed.Typed 𝓤 H A 𝓣 E G62 b34 Δ4 at36
+            d36 = Typed.g-pre 𝓤 H A W 𝓣 E G62 G63 b34 Δ4 (Typed.pass T62 T63 s57) at35 (Scalar.g-room 𝓤 H A W E G62 13 Syntax.tyBool (Scalar.room-sc 𝓤 H A W
+                Row.sBool)) d35
 
-            d38 : Typed.Typed 𝓤 H A 𝓣 E G67 b34 Δ4 at38
+            d37 : Typed.Typed 𝓤 H A 𝓣 E G61 b34 Δ4 at37
+            d37 = Typed.g-pre 𝓤 H A W 𝓣 E G61 G62 b34 Δ4 (Typed.pass T61 T62 s56) at36 (Scalar.g-room 𝓤 H A W E G61 9 (Syntax.tyStruct (102 ∷ 114 ∷ 97 ∷ 103 ∷
+                109 ∷ 101 ∷ 110 ∷ 116 ∷ 115 ∷ 58 ∷ 58 ∷ 70 ∷ 114 ∷ 111 ∷ 109 ∷ 76 ∷ 97 ∷ 115 ∷ 116 ∷ []) (Syntax.tcons (Syntax.tyInt Syntax.w64) Syntax.tnil))
+                (Local.room-whole 𝓤 H A W (Declared.row FromLast.the-type) (Syntax.tyStruct (102 ∷ 114 ∷ 97 ∷ 103 ∷ 109 ∷ 101 ∷ 110 ∷ 116 ∷ 115 ∷ 58 ∷ 58 ∷ 70 ∷
+                114 ∷ 111 ∷ 109 ∷ 76 ∷ 97 ∷ 115 ∷ 116 ∷ []) (Syntax.tcons (Syntax.tyInt Syntax.w64) Syntax.tnil)) Path'.refl)) d36
+
+            d38 : Typed.Typed 𝓤 H A 𝓣 E G70 b35 Δ4 at38
             d38 = Typed.t-skip 𝓤 H A W 𝓣 E Δ4 tt
 
-            d39 : Typed.Typed 𝓤 H A 𝓣 E G58 b34 Δ4 at39
-            d39 = Typed.g-pre 𝓤 H A W 𝓣 E G58 G67 b34 Δ4 (Typed.pass T58 T67 s61) at38 (Scalar.g-room 𝓤 H A W E G58 13 Syntax.tyBool (Scalar.room-sc 𝓤 H A W
+            d39 : Typed.Typed 𝓤 H A 𝓣 E G61 b35 Δ4 at39
+            d39 = Typed.g-pre 𝓤 H A W 𝓣 E G61 G70 b35 Δ4 (Typed.pass T61 T70 s64) at38 (Scalar.g-room 𝓤 H A W E G61 13 Syntax.tyBool (Scalar.room-sc 𝓤 H A W
                 Row.sBool)) d38
 
-            d40 : Typed.Typed 𝓤 H A 𝓣 E G58 b35 Δ4 at40
-            d40 = Scalar.t-cond 𝓤 H A W E 𝓣 G58 13 (λ x. x) b33 b34 Δ4 at37 at39 (Scalar.reads-sc 𝓤 H A W Row.sBool) Path'.refl d37 d39
+            d40 : Typed.Typed 𝓤 H A 𝓣 E G61 b36 Δ4 at40
+            d40 = Scalar.t-cond 𝓤 H A W E 𝓣 G61 13 (λ x. x) b34 b35 Δ4 at37 at39 (Scalar.reads-sc 𝓤 H A W Row.sBool) Path'.refl d37 d39
 
-            d41 : Typed.Typed 𝓤 H A 𝓣 E G56 b35 Δ4 at41
-            d41 = Typed.g-pre 𝓤 H A W 𝓣 E G56 G58 b35 Δ4 (Typed.pass T56 T58 s52) at40 (Scalar.g-room 𝓤 H A W E G56 15 (Syntax.tyInt Syntax.w8) (Scalar.room-sc 𝓤
+            d41 : Typed.Typed 𝓤 H A 𝓣 E G59 b36 Δ4 at41
+            d41 = Typed.g-pre 𝓤 H A W 𝓣 E G59 G61 b36 Δ4 (Typed.pass T59 T61 s55) at40 (Scalar.g-room 𝓤 H A W E G59 16 (Syntax.tyInt Syntax.w8) (Scalar.room-sc 𝓤
                 H A W (Row.sInt Syntax.w8))) d40
 
-            d42 : Typed.Typed 𝓤 H A 𝓣 E G82 b40 Δ0 at42
+            d42 : Typed.Typed 𝓤 H A 𝓣 E G85 b41 Δ0 at42
             d42 = Typed.t-return 𝓤 H A W 𝓣 E Δ0 tt
 
-            d43 : Typed.Typed 𝓤 H A 𝓣 E G81 b40 Δ0 at43
-            d43 = Typed.g-pre 𝓤 H A W 𝓣 E G81 G82 b40 Δ0 (Typed.pass T81 T82 s76) at42 (Scalar.g-room 𝓤 H A W E G81 4 Syntax.tyBool (Scalar.room-sc 𝓤 H A W
+            d43 : Typed.Typed 𝓤 H A 𝓣 E G84 b41 Δ0 at43
+            d43 = Typed.g-pre 𝓤 H A W 𝓣 E G84 G85 b41 Δ0 (Typed.pass T84 T85 s79) at42 (Scalar.g-room 𝓤 H A W E G84 4 Syntax.tyBool (Scalar.room-sc 𝓤 H A W
                 Row.sBool)) d42
 
-            d44 : Typed.Typed 𝓤 H A 𝓣 E G80 b40 Δ0 at44
-            d44 = Typed.g-pre 𝓤 H A W 𝓣 E G80 G81 b40 Δ0 (Typed.pass T80 T81 s75) at43 (Scalar.g-room 𝓤 H A W E G80 10 (Syntax.tyInt Syntax.w8) (Scalar.room-sc 𝓤
+            d44 : Typed.Typed 𝓤 H A 𝓣 E G83 b41 Δ0 at44
+            d44 = Typed.g-pre 𝓤 H A W 𝓣 E G83 G84 b41 Δ0 (Typed.pass T83 T84 s78) at43 (Scalar.g-room 𝓤 H A W E G83 10 (Syntax.tyInt Syntax.w8) (Scalar.room-sc 𝓤
                 H A W (Row.sInt Syntax.w8))) d43
 
-            d45 : Typed.Typed 𝓤 H A 𝓣 E G79 b40 Δ0 at45
-            d45 = Typed.g-pre 𝓤 H A W 𝓣 E G79 G80 b40 Δ0 (Typed.pass T79 T80 s74) at44 (Scalar.g-room 𝓤 H A W E G79 9 (Syntax.tyInt Syntax.w64) (Scalar.room-sc 𝓤
+            d45 : Typed.Typed 𝓤 H A 𝓣 E G82 b41 Δ0 at45
+            d45 = Typed.g-pre 𝓤 H A W 𝓣 E G82 G83 b41 Δ0 (Typed.pass T82 T83 s77) at44 (Scalar.g-room 𝓤 H A W E G82 8 (Syntax.tyInt Syntax.w64) (Scalar.room-sc 𝓤
                 H A W (Row.sInt Syntax.w64))) d44
 
-            d46 : Typed.Typed 𝓤 H A 𝓣 E G78 b40 Δ0 at46
-            d46 = Typed.g-pre 𝓤 H A W 𝓣 E G78 G79 b40 Δ0 (Typed.pass T78 T79 s73) at45 (Scalar.g-room 𝓤 H A W E G78 8 (Syntax.tyInt Syntax.w64) (Scalar.room-sc 𝓤
+            d46 : Typed.Typed 𝓤 H A 𝓣 E G81 b41 Δ0 at46
+            d46 = Typed.g-pre 𝓤 H A W 𝓣 E G81 G82 b41 Δ0 (Typed.pass T81 T82 s76) at45 (Scalar.g-room 𝓤 H A W E G81 7 (Syntax.tyInt Syntax.w64) (Scalar.room-sc 𝓤
                 H A W (Row.sInt Syntax.w64))) d45
 
-            d47 : Typed.Typed 𝓤 H A 𝓣 E G77 b40 Δ0 at47
-            d47 = Typed.g-pre 𝓤 H A W 𝓣 E G77 G78 b40 Δ0 (Typed.pass T77 T78 s72) at46 (Scalar.g-room 𝓤 H A W E G77 7 (Syntax.tyInt Syntax.w64) (Scalar.room-sc 𝓤
+            d47 : Typed.Typed 𝓤 H A 𝓣 E G80 b41 Δ0 at47
+            d47 = Typed.g-pre 𝓤 H A W 𝓣 E G80 G81 b41 Δ0 (Typed.pass T80 T81 s75) at46 (Scalar.g-room 𝓤 H A W E G80 6 (Syntax.tyInt Syntax.w64) (Scalar.room-sc 𝓤
                 H A W (Row.sInt Syntax.w64))) d46
 
-            d48 : Typed.Typed 𝓤 H A 𝓣 E G76 b40 Δ0 at48
-            d48 = Typed.g-pre 𝓤 H A W 𝓣 E G76 G77 b40 Δ0 (Typed.pass T76 T77 s71) at47 (Scalar.g-room 𝓤 H A W E G76 6 (Syntax.tyInt Syntax.w64) (Scalar.room-sc 𝓤
-                H A W (Row.sInt Syntax.w64))) d47
-
-            d49 : Typed.Typed 𝓤 H A 𝓣 E G75 b41 Δ0 at49
-            d49 = Typed.s-seq 𝓤 H A W 𝓣 E G75 G76 b39 b40 Δ0 (Typed.pass T74 T76 s70) at48 (Scalar.t-use 𝓤 H A W E 𝓣 G75 (Scalar.oInt Syntax.w8 0) 0
+            d48 : Typed.Typed 𝓤 H A 𝓣 E G79 b42 Δ0 at48
+            d48 = Typed.s-seq 𝓤 H A W 𝓣 E G79 G80 b40 b41 Δ0 (Typed.pass T78 T80 s74) at47 (Scalar.t-use 𝓤 H A W E 𝓣 G79 (Scalar.oInt Syntax.w8 0) 0
                 (Rows.sc-here (Row.sInt Syntax.w8)) (Syntax.tyInt Syntax.w8) (Row.valS (Row.sInt Syntax.w8)) (Row.sInt Syntax.w8 .of) tt (Reads'.room-gone 𝓤 H A
-                (Syntax.tyInt Syntax.w8)) (Scalar.holds-sc 𝓤 H A W (Row.sInt Syntax.w8)) Path'.refl (λ u. Path'.refl) λ u. tt) d48
+                (Syntax.tyInt Syntax.w8)) (Scalar.holds-sc 𝓤 H A W (Row.sInt Syntax.w8)) Path'.refl (λ u. Path'.refl) λ u. tt) d47
 
-            d50 : Typed.Typed 𝓤 H A 𝓣 E G74 b41 Δ0 at50
-            d50 = Typed.g-pre 𝓤 H A W 𝓣 E G74 G75 b41 Δ0 (λ Ψ. Ψ) at49 (Lifetime.g-forget 𝓤 H A W E G74 4 Row.dead Path'.refl) d49
+            d49 : Typed.Typed 𝓤 H A 𝓣 E G78 b42 Δ0 at49
+            d49 = Typed.g-pre 𝓤 H A W 𝓣 E G78 G79 b42 Δ0 (λ Ψ. Ψ) at48 (Lifetime.g-forget 𝓤 H A W E G78 4 Row.dead Path'.refl) d48
 
-            d51 : Typed.Typed 𝓤 H A 𝓣 E G73 b41 Δ0 at51
-            d51 = Typed.g-pre 𝓤 H A W 𝓣 E G73 G74 b41 Δ0 (Typed.both s68) at50 (Part.g-back-slᵖ 𝓤 H A W E SlotAs.row G73 20 2 1 4 (Syntax.tyRef (Syntax.named 1)
+            d50 : Typed.Typed 𝓤 H A 𝓣 E G77 b42 Δ0 at50
+            d50 = Typed.g-pre 𝓤 H A W 𝓣 E G77 G78 b42 Δ0 (Typed.both s72) at49 (Part.g-back-slᵖ 𝓤 H A W E SlotAs.row G77 21 2 1 4 (Syntax.tyRef (Syntax.named 1)
                 Syntax.mut SlotAs.pointee) (Syntax.tyRef Syntax.erased Syntax.mut SlotAs.pointee) (Row.lease (κs .1 .0) (qs .1 .0)) (λ x. x) (λ x. x)
                 (Reads'.as-is 𝓤 H A (Mut.msleft SlotAs.row (Syntax.tyRef Syntax.erased Syntax.mut SlotAs.pointee))) (Reads'.as-is 𝓤 H A (Part.mslice-owedP
-                SlotAs.row (Syntax.tyRef (Syntax.named 1) Syntax.mut SlotAs.pointee) 1 4 (Row.lease (κs .1 .0) (qs .1 .0)))) Path'.refl Path'.refl) d50
+                SlotAs.row (Syntax.tyRef (Syntax.named 1) Syntax.mut SlotAs.pointee) 1 4 (Row.lease (κs .1 .0) (qs .1 .0)))) Path'.refl Path'.refl) d49
 
-            d52 : Typed.Typed 𝓤 H A 𝓣 E G72 b41 Δ0 at52
-            d52 = Typed.g-pre 𝓤 H A W 𝓣 E G72 G73 b41 Δ0 (λ Ψ. Ψ) at51 (Lifetime.g-end 𝓤 H A W E G72 4 Path'.refl) d51
+            d51 : Typed.Typed 𝓤 H A 𝓣 E G76 b42 Δ0 at51
+            d51 = Typed.g-pre 𝓤 H A W 𝓣 E G76 G77 b42 Δ0 (λ Ψ. Ψ) at50 (Lifetime.g-end 𝓤 H A W E G76 4 Path'.refl) d50
 
-            d53 : Typed.Typed 𝓤 H A 𝓣 E G71 b41 Δ0 at53
-            d53 = Typed.g-pre 𝓤 H A W 𝓣 E G71 G72 b41 Δ0 (Typed.pass T71 T72 s66) at52 (Scalar.g-room 𝓤 H A W E G71 18 Syntax.tyUnit (Scalar.room-sc 𝓤 H A W
-                Row.sUnit)) d52
+            d52 : Typed.Typed 𝓤 H A 𝓣 E G75 b42 Δ0 at52
+            d52 = Typed.g-pre 𝓤 H A W 𝓣 E G75 G76 b42 Δ0 (Typed.pass T75 T76 s70) at51 (Scalar.g-room 𝓤 H A W E G75 19 Syntax.tyUnit (Scalar.room-sc 𝓤 H A W
+                Row.sUnit)) d51
 
-            d54 : Typed.Typed 𝓤 H A 𝓣 E G70 b42 Δ0 at54
-            d54 = Typed.s-seq 𝓤 H A W 𝓣 E G70 G71 b38 b41 Δ0 (Typed.both s65) at53 (Plain.t-call-plain 𝓤 H A W 𝓣 1 ps·3 r·3 (claims· .6) (claims· .7)
-                "store::marking::mark_all" (known .3) E (λ pos β. β) G70 (
+            d53 : Typed.Typed 𝓤 H A 𝓣 E G74 b42 Δ0 at53
+            d53 = Typed.g-pre 𝓤 H A W 𝓣 E G74 G75 b42 Δ0 (Typed.pass T74 T75 s69) at52 (Scalar.g-room 𝓤 H A W E G74 9 (Syntax.tyStruct (102 ∷ 114 ∷ 97 ∷ 103 ∷
+                109 ∷ 101 ∷ 110 ∷ 116 ∷ 115 ∷ 58 ∷ 58 ∷ 70 ∷ 114 ∷ 111 ∷ 109 ∷ 76 ∷ 97 ∷ 115 ∷ 116 ∷ []) (Syntax.tcons (Syntax.tyInt Syntax.w64) Syntax.tnil))
+                (Local.room-whole 𝓤 H A W (Declared.row FromLast.the-type) (Syntax.tyStruct (102 ∷ 114 ∷ 97 ∷ 103 ∷ 109 ∷ 101 ∷ 110 ∷ 116 ∷ 115 ∷ 58 ∷ 58 ∷ 70 ∷
+                114 ∷ 111 ∷ 109 ∷ 76 ∷ 97 ∷ 115 ∷ 116 ∷ []) (Syntax.tcons (Syntax.tyInt Syntax.w64) Syntax.tnil)) Path'.refl)) d52
+
+            d54 : Typed.Typed 𝓤 H A 𝓣 E G73 b43 Δ0 at54
+            d54 = Typed.s-seq 𝓤 H A W 𝓣 E G73 G74 b39 b42 Δ0 (Typed.both s68) at53 (Plain.t-call-plain 𝓤 H A W 𝓣 1 ps·3 r·3 (claims· .6) (claims· .7)
+                "store::marking::mark_all" (known .3) E (λ pos β. β) G73 (
                   record {
-                    pos = 20;
+                    pos = 21;
                     ty = Syntax.tyRef Syntax.erased Syntax.mut SlotAs.pointee;
                     ref = λ
                         x. x;
                   },
-                  (Num.vAt 9 λ x. x, (Num.vAt 10 λ x. x, tt)),
-                ) 18 (4 ∷ []) (Call.sub-id 𝓤 H A W (G70 .slots)) (
-                  Reads'.as-is 𝓤 H A (Mut.mslice SlotAs.row
-                      (Syntax.tyRef Syntax.erased Syntax.mut SlotAs.pointee) 4),
-                  Mut.reads-mslice 𝓤 H A W SlotAs.row (Syntax.tyRef Syntax.erased Syntax.mut
-                      SlotAs.pointee) 4,
+                  (record { pos = 9; st = []; d = 0; at = λ x. x }, (Num.vAt 10 λ x. x, tt)),
+                ) 19 (4 ∷ []) (Call.sub-id 𝓤 H A W (G73 .slots)) (
+                  Reads'.as-is 𝓤 H A (Mut.mslice SlotAs.row (Syntax.tyRef Syntax.erased Syntax.mut SlotAs.pointee) 4),
+                  Mut.reads-mslice 𝓤 H A W SlotAs.row
+                      (Syntax.tyRef Syntax.erased Syntax.mut SlotAs.pointee) 4,
                   Path'.refl,
                   (
-                    (Scalar.reads-sc 𝓤 H A W (Row.sInt Syntax.w64), Path'.refl),
                     (
-                      (
-                        Scalar.reads-sc 𝓤 H A W (Row.sInt Syntax.w8),
-                        Path'.refl,
-                      ),
-                      tt,
+                      Yields.yields-copy 𝓤 H A W (λ ρ. Unit) (Declared.row FromLast.the-type)
+                          Path'.refl (Copies.cStruct FromLast.the-type Laws'.the-laws Laws'.the-copy .copy 𝓤 H A W) (Rows.whole (Declared.row FromLast.the-type)) (λ x. x)
+                          (λ x. x) (λ ρ told. Local.mem-whole 𝓤 H A W (Declared.row FromLast.the-type) ρ) λ ρ told. Local.whole-mem 𝓤 H A W (Declared.row
+                          FromLast.the-type) ρ,
+                      Path'.refl,
                     ),
+                    ((Scalar.reads-sc 𝓤 H A W (Row.sInt Syntax.w8), Path'.refl), tt),
                   ),
-                ) (Reads'.room-gone 𝓤 H A Syntax.tyUnit) (tt, tt) Path'.refl) d53
+                ) (Reads'.room-gone 𝓤 H A Syntax.tyUnit) (
+                  tt,
+                  tt,
+                ) Path'.refl) d53
 
-            d55 : Typed.Typed 𝓤 H A 𝓣 E G69 b43 Δ0 at55
-            d55 = Typed.s-seq 𝓤 H A W 𝓣 E G69 G70 b37 b42 Δ0 (Typed.ask s64) at54 (Relend.t-sl-aggregate 𝓤 H A W E SlotAs.row 𝓣 (Relend.asMut SlotAs.row) G69 19
-                20 4 (Syntax.tyRef Syntax.erased Syntax.mut SlotAs.pointee) (Syntax.tyRef Syntax.erased Syntax.mut SlotAs.pointee) (λ x. x) (Scalar.oAt 6
+            d55 : Typed.Typed 𝓤 H A 𝓣 E G72 b44 Δ0 at55
+            d55 = Typed.s-seq 𝓤 H A W 𝓣 E G72 G73 b38 b43 Δ0 (Typed.ask s67) at54 (Relend.t-sl-aggregate 𝓤 H A W E SlotAs.row 𝓣 (Relend.asMut SlotAs.row) G72 20
+                21 4 (Syntax.tyRef Syntax.erased Syntax.mut SlotAs.pointee) (Syntax.tyRef Syntax.erased Syntax.mut SlotAs.pointee) (λ x. x) (Scalar.oAt 6
                 (Syntax.tyInt Syntax.w64) (Row.valS (Row.sInt Syntax.w64))) (Reads'.as-is 𝓤 H A (Relend.msptr SlotAs.row (Syntax.tyRef Syntax.erased Syntax.mut
                 SlotAs.pointee) 4)) (Reads'.room-gone 𝓤 H A (Syntax.tyStruct (38 ∷ 91 ∷ 93 ∷ []) (Syntax.tcons (Syntax.tyRef Syntax.erased Syntax.mut
                 SlotAs.pointee) (Syntax.tcons (Syntax.tyInt Syntax.w64) Syntax.tnil)))) (Scalar.reads-sc 𝓤 H A W (Row.sInt Syntax.w64), Path'.refl) Path'.refl
                 Path'.refl λ b o k. tt) d54
 
-            d56 : Typed.Typed 𝓤 H A 𝓣 E G68 b44 Δ0 at56
-            d56 = Typed.s-seq 𝓤 H A W 𝓣 E G68 G69 b36 b43 Δ0 (Typed.both s63) at55 (Part.t-sl-relendᵖ 𝓤 H A W E SlotAs.row 𝓣 G68 2 19 1 4 (Syntax.tyRef
+            d56 : Typed.Typed 𝓤 H A 𝓣 E G71 b45 Δ0 at56
+            d56 = Typed.s-seq 𝓤 H A W 𝓣 E G71 G72 b37 b44 Δ0 (Typed.both s66) at55 (Part.t-sl-relendᵖ 𝓤 H A W E SlotAs.row 𝓣 G71 2 20 1 4 (Syntax.tyRef
                 (Syntax.named 1) Syntax.mut SlotAs.pointee) (Syntax.tyRef Syntax.erased Syntax.mut SlotAs.pointee) (Row.lease (κs .1 .0) (qs .1 .0)) 0 (λ x. x)
                 (λ u. u .1 .1 .1 .1 .1 .1 .0) (Reads'.as-is 𝓤 H A (Mut.mslice SlotAs.row (Syntax.tyRef (Syntax.named 1) Syntax.mut SlotAs.pointee) 1))
                 (Reads'.room-gone 𝓤 H A (Syntax.tyRef Syntax.erased Syntax.mut SlotAs.pointee)) Path'.refl tt Path'.refl Path'.refl Path'.refl λ b o. tt) d55
 
-            d57 : Typed.Typed 𝓤 H A 𝓣 E G57 b44 Δ0 at57
-            d57 = Typed.g-pre 𝓤 H A W 𝓣 E G57 G68 b44 Δ0 (λ Ψ. Ψ) at56 (Lifetime.g-begin 𝓤 H A W E G57 4 (
+            d57 : Typed.Typed 𝓤 H A 𝓣 E G60 b45 Δ0 at57
+            d57 = Typed.g-pre 𝓤 H A W 𝓣 E G60 G71 b45 Δ0 (λ Ψ. Ψ) at56 (Lifetime.g-begin 𝓤 H A W E G60 4 (
               tt,
               (
                 tt,
@@ -3243,7 +3600,7 @@ module _ (claims· : Claims) where
                                 tt,
                                 (
                                   tt,
-                                  (tt, (tt, (tt, (tt, (tt, (tt, (tt, (tt, (tt, (tt, tt)))))))))),
+                                  (tt, (tt, (tt, (tt, (tt, (tt, (tt, (tt, (tt, (tt, (tt, tt))))))))))),
                                 ),
                               ),
                             ),
@@ -3256,11 +3613,11 @@ module _ (claims· : Claims) where
               ),
             )) d56
 
-            d58 : Typed.Typed 𝓤 H A 𝓣 E G56 b45 Δ0 at58
-            d58 = Typed.t-seq 𝓤 H A W 𝓣 E G56 G57 b35 b44 Δ0 at41 at57 d41 d57
+            d58 : Typed.Typed 𝓤 H A 𝓣 E G59 b46 Δ0 at58
+            d58 = Typed.t-seq 𝓤 H A W 𝓣 E G59 G60 b36 b45 Δ0 at41 at57 d41 d57
 
-            d59 : Typed.Typed 𝓤 H A 𝓣 E G55 b46 Δ0 at59
-            d59 = Typed.s-seq 𝓤 H A W 𝓣 E G55 G56 b30 b45 Δ0 (Typed.ask s51) at58 (Scalar.t-op2 𝓤 H A W E 𝓣 G55 Syntax.eq (Scalar.oAt 15 (Syntax.tyInt Syntax.w8)
+            d59 : Typed.Typed 𝓤 H A 𝓣 E G58 b47 Δ0 at59
+            d59 = Typed.s-seq 𝓤 H A W 𝓣 E G58 G59 b31 b46 Δ0 (Typed.ask s54) at58 (Scalar.t-op2 𝓤 H A W E 𝓣 G58 Syntax.eq (Scalar.oAt 16 (Syntax.tyInt Syntax.w8)
                 (Row.valS (Row.sInt Syntax.w8))) (Scalar.oAt 10 (Syntax.tyInt Syntax.w8) (Row.valS (Row.sInt Syntax.w8))) 13 (Rows.sc-here Row.sBool)
                 Syntax.tyBool (Row.valS Row.sBool) (Row.sBool .of) (Scalar.reads-sc 𝓤 H A W (Row.sInt Syntax.w8), Path'.refl) (
                   Scalar.reads-sc 𝓤 H A W (Row.sInt
@@ -3268,57 +3625,70 @@ module _ (claims· : Claims) where
                   Path'.refl,
                 ) (Reads'.room-gone 𝓤 H A Syntax.tyBool) (Scalar.holds-sc 𝓤 H A W Row.sBool) Path'.refl (λ u. Path'.refl) λ u. tt) d58
 
-            d60 : Typed.Typed 𝓤 H A 𝓣 E G54 b46 Δ0 at60
-            d60 = Typed.g-pre 𝓤 H A W 𝓣 E G54 G55 b46 Δ0 (λ Ψ. Ψ) at59 (Lifetime.g-forget 𝓤 H A W E G54 3 Row.dead Path'.refl) d59
+            d60 : Typed.Typed 𝓤 H A 𝓣 E G57 b47 Δ0 at60
+            d60 = Typed.g-pre 𝓤 H A W 𝓣 E G57 G58 b47 Δ0 (λ Ψ. Ψ) at59 (Lifetime.g-forget 𝓤 H A W E G57 3 Row.dead Path'.refl) d59
 
-            d61 : Typed.Typed 𝓤 H A 𝓣 E G53 b46 Δ0 at61
-            d61 = Typed.g-pre 𝓤 H A W 𝓣 E G53 G54 b46 Δ0 (Typed.pass T52 T54 s49) at60 (Reshare.g-back-sl-shrᵖ 𝓤 H A W E SlotAs.row G53 2 1 3 (Syntax.tyRef
+            d61 : Typed.Typed 𝓤 H A 𝓣 E G56 b47 Δ0 at61
+            d61 = Typed.g-pre 𝓤 H A W 𝓣 E G56 G57 b47 Δ0 (Typed.pass T55 T57 s52) at60 (Reshare.g-back-sl-shrᵖ 𝓤 H A W E SlotAs.row G56 2 1 3 (Syntax.tyRef
                 (Syntax.named 1) Syntax.mut SlotAs.pointee) (Row.lease (κs .1 .0) (qs .1 .0)) (λ x. x) (Reads'.as-is 𝓤 H A (Reshare.mslice-owedSᵖ SlotAs.row
                 (Syntax.tyRef (Syntax.named 1) Syntax.mut SlotAs.pointee) 1 3 (Row.lease (κs .1 .0) (qs .1 .0)))) Path'.refl Path'.refl) d60
 
-            d62 : Typed.Typed 𝓤 H A 𝓣 E G52 b46 Δ0 at62
-            d62 = Typed.g-pre 𝓤 H A W 𝓣 E G52 G53 b46 Δ0 (λ Ψ. Ψ) at61 (Lifetime.g-end 𝓤 H A W E G52 3 Path'.refl) d61
+            d62 : Typed.Typed 𝓤 H A 𝓣 E G55 b47 Δ0 at62
+            d62 = Typed.g-pre 𝓤 H A W 𝓣 E G55 G56 b47 Δ0 (λ Ψ. Ψ) at61 (Lifetime.g-end 𝓤 H A W E G55 3 Path'.refl) d61
 
-            d63 : Typed.Typed 𝓤 H A 𝓣 E G51 b46 Δ0 at63
-            d63 = Typed.g-pre 𝓤 H A W 𝓣 E G51 G52 b46 Δ0 (Typed.pass T51 T52 s47) at62 (Scalar.g-room 𝓤 H A W E G51 17 (Syntax.tyStruct (38 ∷ 91 ∷ 93 ∷ [])
+            d63 : Typed.Typed 𝓤 H A 𝓣 E G54 b47 Δ0 at63
+            d63 = Typed.g-pre 𝓤 H A W 𝓣 E G54 G55 b47 Δ0 (Typed.pass T54 T55 s50) at62 (Scalar.g-room 𝓤 H A W E G54 18 (Syntax.tyStruct (38 ∷ 91 ∷ 93 ∷ [])
                 (Syntax.tcons (Syntax.tyRef Syntax.erased Syntax.imm SlotAs.pointee) (Syntax.tcons (Syntax.tyInt Syntax.w64) Syntax.tnil))) (Shared.room-sslice 𝓤
                 H A W SlotAs.row (Syntax.tyRef Syntax.erased Syntax.imm SlotAs.pointee) 3)) d62
 
-            d64 : Typed.Typed 𝓤 H A 𝓣 E G50 b47 Δ0 at64
-            d64 = Typed.s-seq 𝓤 H A W 𝓣 E G50 G51 b29 b46 Δ0 (Typed.both s46) at63 (Plain.t-call-plain 𝓤 H A W 𝓣 1 ps·2 r·2 (claims· .4) (claims· .5)
-                "store::marking::mark_of" (known .2) E (λ pos β. β) G50 (
+            d64 : Typed.Typed 𝓤 H A 𝓣 E G53 b48 Δ0 at64
+            d64 = Typed.s-seq 𝓤 H A W 𝓣 E G53 G54 b30 b47 Δ0 (Typed.both s49) at63 (Plain.t-call-plain 𝓤 H A W 𝓣 1 ps·2 r·2 (claims· .4) (claims· .5)
+                "store::marking::mark_of" (known .2) E (λ pos β. β) G53 (
                   record {
-                    pos = 17;
+                    pos = 18;
                     ty = Syntax.tyRef Syntax.erased Syntax.imm SlotAs.pointee;
                     ref = λ x.
                         x;
                   },
-                  (Num.vAt 9 λ x. x, tt),
-                ) 15 (3 ∷ []) (Call.sub-id 𝓤 H A W (G50 .slots)) (
-                  ShrSlice.spares-sslice 𝓤 H A W SlotAs.row (Syntax.tyRef
-                      Syntax.erased Syntax.imm SlotAs.pointee) 3,
-                  Shared.reads-sslice 𝓤 H A W SlotAs.row (Syntax.tyRef Syntax.erased Syntax.imm SlotAs.pointee) 3,
+                  (record { pos = 9; st = []; d = 0; at = λ x. x }, tt),
+                ) 16 (3 ∷ []) (Call.sub-id 𝓤 H A W (G53 .slots)) (
+                  ShrSlice.spares-sslice 𝓤 H A W
+                      SlotAs.row (Syntax.tyRef Syntax.erased Syntax.imm SlotAs.pointee) 3,
+                  Shared.reads-sslice 𝓤 H A W SlotAs.row (Syntax.tyRef Syntax.erased
+                      Syntax.imm SlotAs.pointee) 3,
                   Path'.refl,
-                  ((Scalar.reads-sc 𝓤 H A W (Row.sInt Syntax.w64), Path'.refl), tt),
-                ) (Reads'.room-gone 𝓤 H A (Syntax.tyInt Syntax.w8)) (tt, tt)
-                Path'.refl) d63
+                  (
+                    (
+                      Yields.yields-copy 𝓤 H A W (λ ρ. Unit) (Declared.row FromLast.the-type) Path'.refl (Copies.cStruct
+                          FromLast.the-type Laws'.the-laws Laws'.the-copy .copy 𝓤 H A W) (Rows.whole (Declared.row FromLast.the-type)) (λ x. x) (λ x. x) (λ ρ told.
+                          Local.mem-whole 𝓤 H A W (Declared.row FromLast.the-type) ρ) λ ρ told. Local.whole-mem 𝓤 H A W (Declared.row FromLast.the-type) ρ,
+                      Path'.refl,
+                    ),
+                    tt,
+                  ),
+                ) (Reads'.room-gone 𝓤 H A (Syntax.tyInt Syntax.w8)) (tt, tt) Path'.refl) d63
 
-            d65 : Typed.Typed 𝓤 H A 𝓣 E G49 b48 Δ0 at65
-            d65 = Typed.s-seq 𝓤 H A W 𝓣 E G49 G50 b28 b47 Δ0 (Typed.ask s45) at64 (Relend.t-sl-aggregate 𝓤 H A W E SlotAs.row 𝓣 (Relend.asShr SlotAs.row) G49 16
-                17 3 (Syntax.tyRef Syntax.erased Syntax.imm SlotAs.pointee) (Syntax.tyRef Syntax.erased Syntax.imm SlotAs.pointee) (λ x. x) (Scalar.oAt 6
+            d65 : Typed.Typed 𝓤 H A 𝓣 E G52 b48 Δ0 at65
+            d65 = Typed.g-pre 𝓤 H A W 𝓣 E G52 G53 b48 Δ0 (Typed.pass T52 T53 s48) at64 (AtSlots.g-as-by 𝓤 H A W E (λ ρ. Unit) G52 9 (Rows.whole (Declared.row
+                FromLast.the-type)) (λ v. FromLast.struct .make v tt) (Own.told-none 𝓤 H A (G52 .slots)) λ ρ told v b. Apart.folds 𝓤 H A FromLast.the-type
+                (FromLast.struct .Ghost) (FromLast.struct .make) (λ v g. Path'.refl) ρ v tt b) d64
+
+            d66 : Typed.Typed 𝓤 H A 𝓣 E G51 b49 Δ0 at66
+            d66 = Typed.s-seq 𝓤 H A W 𝓣 E G51 G52 b29 b48 Δ0 (Typed.ask s47) at65 (Relend.t-sl-aggregate 𝓤 H A W E SlotAs.row 𝓣 (Relend.asShr SlotAs.row) G51 17
+                18 3 (Syntax.tyRef Syntax.erased Syntax.imm SlotAs.pointee) (Syntax.tyRef Syntax.erased Syntax.imm SlotAs.pointee) (λ x. x) (Scalar.oAt 6
                 (Syntax.tyInt Syntax.w64) (Row.valS (Row.sInt Syntax.w64))) (Reads'.as-is 𝓤 H A (Relend.ssptr SlotAs.row (Syntax.tyRef Syntax.erased Syntax.imm
                 SlotAs.pointee) 3)) (Reads'.room-gone 𝓤 H A (Syntax.tyStruct (38 ∷ 91 ∷ 93 ∷ []) (Syntax.tcons (Syntax.tyRef Syntax.erased Syntax.imm
                 SlotAs.pointee) (Syntax.tcons (Syntax.tyInt Syntax.w64) Syntax.tnil)))) (Scalar.reads-sc 𝓤 H A W (Row.sInt Syntax.w64), Path'.refl) Path'.refl
-                Path'.refl λ b o k. tt) d64
+                Path'.refl λ b o k. tt) d65
 
-            d66 : Typed.Typed 𝓤 H A 𝓣 E G48 b49 Δ0 at66
-            d66 = Typed.s-seq 𝓤 H A W 𝓣 E G48 G49 b27 b48 Δ0 (Typed.both s44) at65 (Reshare.t-sl-reshareᵖ 𝓤 H A W E SlotAs.row 𝓣 G48 2 16 1 3 (Syntax.tyRef
+            d67 : Typed.Typed 𝓤 H A 𝓣 E G50 b50 Δ0 at67
+            d67 = Typed.s-seq 𝓤 H A W 𝓣 E G50 G51 b28 b49 Δ0 (Typed.both s46) at66 (Reshare.t-sl-reshareᵖ 𝓤 H A W E SlotAs.row 𝓣 G50 2 17 1 3 (Syntax.tyRef
                 (Syntax.named 1) Syntax.mut SlotAs.pointee) (Syntax.tyRef Syntax.erased Syntax.imm SlotAs.pointee) (Row.lease (κs .1 .0) (qs .1 .0)) 0 (λ x. x)
                 (λ u. u .1 .1 .1 .1 .1 .1 .0) (Reads'.as-is 𝓤 H A (Mut.mslice SlotAs.row (Syntax.tyRef (Syntax.named 1) Syntax.mut SlotAs.pointee) 1))
-                (Reads'.room-gone 𝓤 H A (Syntax.tyRef Syntax.erased Syntax.imm SlotAs.pointee)) Path'.refl tt Path'.refl Path'.refl Path'.refl λ b o. tt) d65
+                (Reads'.room-gone 𝓤 H A (Syntax.tyRef Syntax.erased Syntax.imm SlotAs.pointee)) Path'.refl tt Path'.refl Path'.refl Path'.refl λ b o. tt) d66
 
-            d67 : Typed.Typed 𝓤 H A 𝓣 E G47 b49 Δ0 at67
-            d67 = Typed.g-pre 𝓤 H A W 𝓣 E G47 G48 b49 Δ0 (λ Ψ. Ψ) at66 (Lifetime.g-begin 𝓤 H A W E G47 3 (
+            d68 : Typed.Typed 𝓤 H A 𝓣 E G49 b50 Δ0 at68
+            d68 = Typed.g-pre 𝓤 H A W 𝓣 E G49 G50 b50 Δ0 (λ Ψ. Ψ) at67 (Lifetime.g-begin 𝓤 H A W E G49 3 (
               tt,
               (
                 tt,
@@ -3340,7 +3710,7 @@ module _ (claims· : Claims) where
                                 tt,
                                 (
                                   tt,
-                                  (tt, (tt, (tt, (tt, (tt, (tt, (tt, (tt, (tt, (tt, tt)))))))))),
+                                  (tt, (tt, (tt, (tt, (tt, (tt, (tt, (tt, (tt, (tt, (tt, tt))))))))))),
                                 ),
                               ),
                             ),
@@ -3351,138 +3721,164 @@ module _ (claims· : Claims) where
                   ),
                 ),
               ),
-            )) d66
+            )) d67
 
-            d68 : Typed.Typed 𝓤 H A 𝓣 E G46 b50 Δ0 at68
-            d68 = Typed.s-seq 𝓤 H A W 𝓣 E G46 G47 b26 b49 Δ0 (Typed.both s42) at67 (Plain.t-call-plain 𝓤 H A W 𝓣 0 ps·1 r·1 (claims· .2) (claims· .3)
-                "marks::mark_byte" (known .1) E (λ pos β. β) G46 (Bool.bAt 4 λ x. x, tt) 10 [] (Call.sub-id 𝓤 H A W (G46 .slots)) (
+            d69 : Typed.Typed 𝓤 H A 𝓣 E G48 b51 Δ0 at69
+            d69 = Typed.s-seq 𝓤 H A W 𝓣 E G48 G49 b27 b50 Δ0 (Typed.both s44) at68 (Plain.t-call-plain 𝓤 H A W 𝓣 0 ps·1 r·1 (claims· .2) (claims· .3)
+                "marks::mark_byte" (known .1) E (λ pos β. β) G48 (Bool.bAt 4 λ x. x, tt) 10 [] (Call.sub-id 𝓤 H A W (G48 .slots)) (
                   (
                     Scalar.reads-sc 𝓤 H A W
                         Row.sBool,
                     Path'.refl,
                   ),
                   tt,
-                ) (Reads'.room-gone 𝓤 H A (Syntax.tyInt Syntax.w8)) tt Path'.refl) d67
+                ) (Reads'.room-gone 𝓤 H A (Syntax.tyInt Syntax.w8)) tt Path'.refl) d68
 
-            d69 : Typed.Typed 𝓤 H A 𝓣 E G45 b50 Δ0 at69
-            d69 = Typed.g-pre 𝓤 H A W 𝓣 E G45 G46 b50 Δ0 (Typed.pass T45 T46 s41) at68 (Scalar.g-room 𝓤 H A W E G45 14 (Syntax.tyInt Syntax.w64) (Scalar.room-sc
-                𝓤 H A W (Row.sInt Syntax.w64))) d68
+            d70 : Typed.Typed 𝓤 H A 𝓣 E G47 b51 Δ0 at70
+            d70 = Typed.g-pre 𝓤 H A W 𝓣 E G47 G48 b51 Δ0 (Typed.pass T47 T48 s43) at69 (Scalar.g-room 𝓤 H A W E G47 15 (Syntax.tyInt Syntax.w64) (Scalar.room-sc
+                𝓤 H A W (Row.sInt Syntax.w64))) d69
 
-            d70 : Typed.Typed 𝓤 H A 𝓣 E G44 b51 Δ0 at70
-            d70 = Typed.s-seq 𝓤 H A W 𝓣 E G44 G45 b25 b50 Δ0 (Typed.ask s40) at69 (Scalar.t-op2 𝓤 H A W E 𝓣 G44 (Syntax.sub Syntax.unsigned) (Scalar.oAt 14
-                (Syntax.tyInt Syntax.w64) (Row.valS (Row.sInt Syntax.w64))) (Scalar.oAt 8 (Syntax.tyInt Syntax.w64) (Row.valS (Row.sInt Syntax.w64))) 9
+            d71 : Typed.Typed 𝓤 H A 𝓣 E G46 b52 Δ0 at71
+            d71 = Typed.s-seq 𝓤 H A W 𝓣 E G46 G47 b26 b51 Δ0 (Typed.pass T46 T47 s42) at70 (Make.t-struct-make 𝓤 H A W E 𝓣 (Apart.apartT FromLast.the-type)
+                Laws'.the-laws Laws'.the-plain G46 9 (Scalar.oAt 15 (Syntax.tyInt Syntax.w64) (Row.valS (Row.sInt Syntax.w64)) ∷ []) (λ m. (
+                  m .1 .1 .1 .1 .1 .1
+                      .1 .1 .1 .1 .1 .1 .1 .1 .1 .0,
+                  tt,
+                )) (Reads'.room-gone 𝓤 H A (Syntax.tyStruct (102 ∷ 114 ∷ 97 ∷ 103 ∷ 109 ∷ 101 ∷ 110 ∷ 116 ∷ 115 ∷ 58 ∷ 58 ∷ 70 ∷
+                114 ∷ 111 ∷ 109 ∷ 76 ∷ 97 ∷ 115 ∷ 116 ∷ []) (Syntax.tcons (Syntax.tyInt Syntax.w64) Syntax.tnil))) (
+                  (
+                    Scalar.reads-sc 𝓤 H A W (Row.sInt
+                        Syntax.w64),
+                    Path'.refl,
+                  ),
+                  tt,
+                ) Path'.refl (λ u. Path'.refl) λ m. Make.is-wt (Apart.apartT FromLast.the-type) Laws'.the-laws (Make.u64-wt, tt) (
+                  m
+                      .1 .1 .1 .1 .1 .1 .1 .1 .1 .1 .1 .1 .1 .1 .1 .0,
+                  tt,
+                )) d70
+
+            d72 : Typed.Typed 𝓤 H A 𝓣 E G45 b52 Δ0 at72
+            d72 = Typed.g-pre 𝓤 H A W 𝓣 E G45 G46 b52 Δ0 (Typed.pass T45 T46 s41) at71 (Scalar.g-room 𝓤 H A W E G45 14 (Syntax.tyInt Syntax.w64) (Scalar.room-sc
+                𝓤 H A W (Row.sInt Syntax.w64))) d71
+
+            d73 : Typed.Typed 𝓤 H A 𝓣 E G44 b53 Δ0 at73
+            d73 = Typed.s-seq 𝓤 H A W 𝓣 E G44 G45 b25 b52 Δ0 (Typed.ask s40) at72 (Scalar.t-op2 𝓤 H A W E 𝓣 G44 (Syntax.sub Syntax.unsigned) (Scalar.oAt 14
+                (Syntax.tyInt Syntax.w64) (Row.valS (Row.sInt Syntax.w64))) (Scalar.oAt 8 (Syntax.tyInt Syntax.w64) (Row.valS (Row.sInt Syntax.w64))) 15
                 (Rows.sc-here (Row.sInt Syntax.w64)) (Syntax.tyInt Syntax.w64) (Row.valS (Row.sInt Syntax.w64)) (Row.sInt Syntax.w64 .of) (
                   Scalar.reads-sc 𝓤 H A
                       W (Row.sInt Syntax.w64),
                   Path'.refl,
                 ) (Scalar.reads-sc 𝓤 H A W (Row.sInt Syntax.w64), Path'.refl) (Reads'.room-gone 𝓤 H A (Syntax.tyInt
-                Syntax.w64)) (Scalar.holds-sc 𝓤 H A W (Row.sInt Syntax.w64)) Path'.refl (λ u. Path'.refl) λ u. tt) d69
+                Syntax.w64)) (Scalar.holds-sc 𝓤 H A W (Row.sInt Syntax.w64)) Path'.refl (λ u. Path'.refl) λ u. tt) d72
 
-            d71 : Typed.Typed 𝓤 H A 𝓣 E G36 b52 Δ0 at71
-            d71 = Typed.s-seq 𝓤 H A W 𝓣 E G36 G44 b24 b51 Δ0 (Typed.ask s39) at70 (Scalar.t-op2 𝓤 H A W E 𝓣 G36 (Syntax.add Syntax.unsigned) (Scalar.oAt 7
+            d74 : Typed.Typed 𝓤 H A 𝓣 E G36 b54 Δ0 at74
+            d74 = Typed.s-seq 𝓤 H A W 𝓣 E G36 G44 b24 b53 Δ0 (Typed.ask s39) at73 (Scalar.t-op2 𝓤 H A W E 𝓣 G36 (Syntax.add Syntax.unsigned) (Scalar.oAt 7
                 (Syntax.tyInt Syntax.w64) (Row.valS (Row.sInt Syntax.w64))) (Scalar.oInt Syntax.w64 1) 14 (Rows.sc-here (Row.sInt Syntax.w64)) (Syntax.tyInt
                 Syntax.w64) (Row.valS (Row.sInt Syntax.w64)) (Row.sInt Syntax.w64 .of) (Scalar.reads-sc 𝓤 H A W (Row.sInt Syntax.w64), Path'.refl) tt
-                (Reads'.room-gone 𝓤 H A (Syntax.tyInt Syntax.w64)) (Scalar.holds-sc 𝓤 H A W (Row.sInt Syntax.w64)) Path'.refl (λ u. Path'.refl) λ u. tt) d70
+                (Reads'.room-gone 𝓤 H A (Syntax.tyInt Syntax.w64)) (Scalar.holds-sc 𝓤 H A W (Row.sInt Syntax.w64)) Path'.refl (λ u. Path'.refl) λ u. tt) d73
 
-            d72 : Typed.Typed 𝓤 H A 𝓣 E G35 b53 Δ0 at72
-            d72 = Typed.t-seq 𝓤 H A W 𝓣 E G35 G36 b23 b52 Δ0 at28 at71 d28 d71
+            d75 : Typed.Typed 𝓤 H A 𝓣 E G35 b55 Δ0 at75
+            d75 = Typed.t-seq 𝓤 H A W 𝓣 E G35 G36 b23 b54 Δ0 at28 at74 d28 d74
 
-            d73 : Typed.Typed 𝓤 H A 𝓣 E G27 b54 Δ0 at73
-            d73 = Typed.s-seq 𝓤 H A W 𝓣 E G27 G35 b18 b53 Δ0 (Typed.ask s31) at72 (Scalar.t-op2 𝓤 H A W E 𝓣 G27 (Syntax.lt Syntax.unsigned) (Scalar.oAt 7
+            d76 : Typed.Typed 𝓤 H A 𝓣 E G27 b56 Δ0 at76
+            d76 = Typed.s-seq 𝓤 H A W 𝓣 E G27 G35 b18 b55 Δ0 (Typed.ask s31) at75 (Scalar.t-op2 𝓤 H A W E 𝓣 G27 (Syntax.lt Syntax.unsigned) (Scalar.oAt 7
                 (Syntax.tyInt Syntax.w64) (Row.valS (Row.sInt Syntax.w64))) (Scalar.oAt 8 (Syntax.tyInt Syntax.w64) (Row.valS (Row.sInt Syntax.w64))) 13
                 (Rows.sc-here Row.sBool) Syntax.tyBool (Row.valS Row.sBool) (Row.sBool .of) (Scalar.reads-sc 𝓤 H A W (Row.sInt Syntax.w64), Path'.refl)
                 (Scalar.reads-sc 𝓤 H A W (Row.sInt Syntax.w64), Path'.refl) (Reads'.room-gone 𝓤 H A Syntax.tyBool) (Scalar.holds-sc 𝓤 H A W Row.sBool) Path'.refl
-                (λ u. Path'.refl) λ u. tt) d72
+                (λ u. Path'.refl) λ u. tt) d75
 
-            d74 : Typed.Typed 𝓤 H A 𝓣 E G26 b55 Δ0 at74
-            d74 = Typed.t-seq 𝓤 H A W 𝓣 E G26 G27 b17 b54 Δ0 at18 at73 d18 d73
+            d77 : Typed.Typed 𝓤 H A 𝓣 E G26 b57 Δ0 at77
+            d77 = Typed.t-seq 𝓤 H A W 𝓣 E G26 G27 b17 b56 Δ0 at18 at76 d18 d76
 
-            d75 : Typed.Typed 𝓤 H A 𝓣 E G25 b56 Δ0 at75
-            d75 = Typed.s-seq 𝓤 H A W 𝓣 E G25 G26 b12 b55 Δ0 (Typed.ask s23) at74 (Scalar.t-op2 𝓤 H A W E 𝓣 G25 Syntax.eq (Scalar.oAt 8 (Syntax.tyInt Syntax.w64)
+            d78 : Typed.Typed 𝓤 H A 𝓣 E G25 b58 Δ0 at78
+            d78 = Typed.s-seq 𝓤 H A W 𝓣 E G25 G26 b12 b57 Δ0 (Typed.ask s23) at77 (Scalar.t-op2 𝓤 H A W E 𝓣 G25 Syntax.eq (Scalar.oAt 8 (Syntax.tyInt Syntax.w64)
                 (Row.valS (Row.sInt Syntax.w64))) (Scalar.oInt Syntax.w64 0) 13 (Rows.sc-here Row.sBool) Syntax.tyBool (Row.valS Row.sBool) (Row.sBool .of)
                 (Scalar.reads-sc 𝓤 H A W (Row.sInt Syntax.w64), Path'.refl) tt (Reads'.room-gone 𝓤 H A Syntax.tyBool) (Scalar.holds-sc 𝓤 H A W Row.sBool)
-                Path'.refl (λ u. Path'.refl) λ u. tt) d74
+                Path'.refl (λ u. Path'.refl) λ u. tt) d77
 
-            d76 : Typed.Typed 𝓤 H A 𝓣 E G24 b56 Δ0 at76
-            d76 = Typed.g-pre 𝓤 H A W 𝓣 E G24 G25 b56 Δ0 (Typed.pass T24 T25 s22) at75 (Scalar.g-room 𝓤 H A W E G24 3 (Syntax.tyStruct (102 ∷ 105 ∷ 101 ∷ 108 ∷
+            d79 : Typed.Typed 𝓤 H A 𝓣 E G24 b58 Δ0 at79
+            d79 = Typed.g-pre 𝓤 H A W 𝓣 E G24 G25 b58 Δ0 (Typed.pass T24 T25 s22) at78 (Scalar.g-room 𝓤 H A W E G24 3 (Syntax.tyStruct (102 ∷ 105 ∷ 101 ∷ 108 ∷
                 100 ∷ 115 ∷ 58 ∷ 58 ∷ 70 ∷ 114 ∷ 97 ∷ 103 ∷ 109 ∷ 101 ∷ 110 ∷ 116 ∷ 78 ∷ 117 ∷ 109 ∷ 98 ∷ 101 ∷ 114 ∷ []) (Syntax.tcons (Syntax.tyInt Syntax.w32)
                 Syntax.tnil)) (Local.room-whole 𝓤 H A W (Declared.row FragmentNumber.the-type) (Syntax.tyStruct (102 ∷ 105 ∷ 101 ∷ 108 ∷ 100 ∷ 115 ∷ 58 ∷ 58 ∷ 70
                 ∷ 114 ∷ 97 ∷ 103 ∷ 109 ∷ 101 ∷ 110 ∷ 116 ∷ 78 ∷ 117 ∷ 109 ∷ 98 ∷ 101 ∷ 114 ∷ []) (Syntax.tcons (Syntax.tyInt Syntax.w32) Syntax.tnil))
-                Path'.refl)) d75
+                Path'.refl)) d78
 
-            d77 : Typed.Typed 𝓤 H A 𝓣 E G23 b57 Δ0 at77
-            d77 = Typed.s-seq 𝓤 H A W 𝓣 E G23 G24 b11 b56 Δ0 (Typed.ask s21) at76 (Scalar.t-op1 𝓤 H A W E 𝓣 G23 (Syntax.cast Syntax.unsigned Syntax.unsigned
+            d80 : Typed.Typed 𝓤 H A 𝓣 E G23 b59 Δ0 at80
+            d80 = Typed.s-seq 𝓤 H A W 𝓣 E G23 G24 b11 b58 Δ0 (Typed.ask s21) at79 (Scalar.t-op1 𝓤 H A W E 𝓣 G23 (Syntax.cast Syntax.unsigned Syntax.unsigned
                 Syntax.w64) (Scalar.oFld 3 (Syntax.field 0 ∷ []) (Syntax.tyInt Syntax.w32) 0 (Reads.fieldV FragmentNumber.the-type Laws.the-laws 0)) 8
                 (Rows.sc-here (Row.sInt Syntax.w64)) (Syntax.tyInt Syntax.w64) (Row.valS (Row.sInt Syntax.w64)) (Row.sInt Syntax.w64 .of) (
                   Reads.reads-field 𝓤 H
                       A W FragmentNumber.the-type Laws.the-laws 0 (Syntax.tyInt Syntax.w32) 0 Path'.refl,
                   Path'.refl,
                 ) (Reads'.room-gone 𝓤 H A (Syntax.tyInt
-                Syntax.w64)) (Scalar.holds-sc 𝓤 H A W (Row.sInt Syntax.w64)) Path'.refl (λ u. Path'.refl) λ u. tt) d76
+                Syntax.w64)) (Scalar.holds-sc 𝓤 H A W (Row.sInt Syntax.w64)) Path'.refl (λ u. Path'.refl) λ u. tt) d79
 
-            d78 : Typed.Typed 𝓤 H A 𝓣 E G22 b57 Δ0 at78
-            d78 = Typed.g-pre 𝓤 H A W 𝓣 E G22 G23 b57 Δ0 (Typed.give s20) at77 (Know'.g-struct-known 𝓤 H A W E FragmentNumber.the-type Laws.the-laws G22 3 (λ x.
-                x) (Reads'.as-is 𝓤 H A (Rows.whole (Declared.row FragmentNumber.the-type)))) d77
+            d81 : Typed.Typed 𝓤 H A 𝓣 E G22 b59 Δ0 at81
+            d81 = Typed.g-pre 𝓤 H A W 𝓣 E G22 G23 b59 Δ0 (Typed.give s20) at80 (Know'.g-struct-known 𝓤 H A W E FragmentNumber.the-type Laws.the-laws G22 3 (λ x.
+                x) (Reads'.as-is 𝓤 H A (Rows.whole (Declared.row FragmentNumber.the-type)))) d80
 
-            d79 : Typed.Typed 𝓤 H A 𝓣 E G21 b57 Δ0 at79
-            d79 = Typed.g-pre 𝓤 H A W 𝓣 E G21 G22 b57 Δ0 (Typed.pass T21 T22 s19) at78 (Scalar.g-room 𝓤 H A W E G21 5 (Syntax.tyStruct (115 ∷ 116 ∷ 111 ∷ 114 ∷
+            d82 : Typed.Typed 𝓤 H A 𝓣 E G21 b59 Δ0 at82
+            d82 = Typed.g-pre 𝓤 H A W 𝓣 E G21 G22 b59 Δ0 (Typed.pass T21 T22 s19) at81 (Scalar.g-room 𝓤 H A W E G21 5 (Syntax.tyStruct (115 ∷ 116 ∷ 111 ∷ 114 ∷
                 101 ∷ 58 ∷ 58 ∷ 72 ∷ 101 ∷ 108 ∷ 100 ∷ []) (Syntax.tcons (Syntax.tyInt Syntax.w8) (Syntax.tcons (Syntax.tyInt Syntax.w64) (Syntax.tcons
                 (Syntax.tyInt Syntax.w64) (Syntax.tcons (Syntax.tyInt Syntax.w64) (Syntax.tcons (Syntax.tyInt Syntax.w64) Syntax.tnil)))))) (Local.room-whole 𝓤 H
                 A W (Declared.row Held.the-type) (Syntax.tyStruct (115 ∷ 116 ∷ 111 ∷ 114 ∷ 101 ∷ 58 ∷ 58 ∷ 72 ∷ 101 ∷ 108 ∷ 100 ∷ []) (Syntax.tcons (Syntax.tyInt
                 Syntax.w8) (Syntax.tcons (Syntax.tyInt Syntax.w64) (Syntax.tcons (Syntax.tyInt Syntax.w64) (Syntax.tcons (Syntax.tyInt Syntax.w64) (Syntax.tcons
-                (Syntax.tyInt Syntax.w64) Syntax.tnil)))))) Path'.refl)) d78
+                (Syntax.tyInt Syntax.w64) Syntax.tnil)))))) Path'.refl)) d81
 
-            d80 : Typed.Typed 𝓤 H A 𝓣 E G20 b58 Δ0 at80
-            d80 = Typed.s-seq 𝓤 H A W 𝓣 E G20 G21 b10 b57 Δ0 (Typed.pass T20 T21 s18) at79 (Scalar.t-use 𝓤 H A W E 𝓣 G20 (Scalar.oFld 5 (Syntax.field 2 ∷ [])
-                (Syntax.tyInt Syntax.w64) 16 (Reads.fieldV Held.the-type Laws'.the-laws 2)) 7 (Rows.sc-here (Row.sInt Syntax.w64)) (Syntax.tyInt Syntax.w64)
+            d83 : Typed.Typed 𝓤 H A 𝓣 E G20 b60 Δ0 at83
+            d83 = Typed.s-seq 𝓤 H A W 𝓣 E G20 G21 b10 b59 Δ0 (Typed.pass T20 T21 s18) at82 (Scalar.t-use 𝓤 H A W E 𝓣 G20 (Scalar.oFld 5 (Syntax.field 2 ∷ [])
+                (Syntax.tyInt Syntax.w64) 16 (Reads.fieldV Held.the-type Laws''.the-laws 2)) 7 (Rows.sc-here (Row.sInt Syntax.w64)) (Syntax.tyInt Syntax.w64)
                 (Row.valS (Row.sInt Syntax.w64)) (Row.sInt Syntax.w64 .of) (
-                  Reads.reads-field 𝓤 H A W Held.the-type Laws'.the-laws 2 (Syntax.tyInt Syntax.w64) 16
+                  Reads.reads-field 𝓤 H A W Held.the-type Laws''.the-laws 2 (Syntax.tyInt Syntax.w64)
+                      16 Path'.refl,
+                  Path'.refl,
+                ) (Reads'.room-gone 𝓤 H A (Syntax.tyInt Syntax.w64)) (Scalar.holds-sc 𝓤 H A W (Row.sInt Syntax.w64)) Path'.refl (λ u.
+                Path'.refl) λ u. tt) d82
+
+            d84 : Typed.Typed 𝓤 H A 𝓣 E G13 b61 Δ0 at84
+            d84 = Typed.s-seq 𝓤 H A W 𝓣 E G13 G20 b9 b60 Δ0 (Typed.pass T13 T20 s17) at83 (Scalar.t-use 𝓤 H A W E 𝓣 G13 (Scalar.oFld 5 (Syntax.field 1 ∷ [])
+                (Syntax.tyInt Syntax.w64) 8 (Reads.fieldV Held.the-type Laws''.the-laws 1)) 6 (Rows.sc-here (Row.sInt Syntax.w64)) (Syntax.tyInt Syntax.w64)
+                (Row.valS (Row.sInt Syntax.w64)) (Row.sInt Syntax.w64 .of) (
+                  Reads.reads-field 𝓤 H A W Held.the-type Laws''.the-laws 1 (Syntax.tyInt Syntax.w64) 8
                       Path'.refl,
                   Path'.refl,
                 ) (Reads'.room-gone 𝓤 H A (Syntax.tyInt Syntax.w64)) (Scalar.holds-sc 𝓤 H A W (Row.sInt Syntax.w64)) Path'.refl (λ u.
-                Path'.refl) λ u. tt) d79
+                Path'.refl) λ u. tt) d83
 
-            d81 : Typed.Typed 𝓤 H A 𝓣 E G13 b59 Δ0 at81
-            d81 = Typed.s-seq 𝓤 H A W 𝓣 E G13 G20 b9 b58 Δ0 (Typed.pass T13 T20 s17) at80 (Scalar.t-use 𝓤 H A W E 𝓣 G13 (Scalar.oFld 5 (Syntax.field 1 ∷ [])
-                (Syntax.tyInt Syntax.w64) 8 (Reads.fieldV Held.the-type Laws'.the-laws 1)) 6 (Rows.sc-here (Row.sInt Syntax.w64)) (Syntax.tyInt Syntax.w64)
-                (Row.valS (Row.sInt Syntax.w64)) (Row.sInt Syntax.w64 .of) (
-                  Reads.reads-field 𝓤 H A W Held.the-type Laws'.the-laws 1 (Syntax.tyInt Syntax.w64) 8
-                      Path'.refl,
+            d85 : Typed.Typed 𝓤 H A 𝓣 E G12 b62 Δ0 at85
+            d85 = Typed.t-seq 𝓤 H A W 𝓣 E G12 G13 b8 b61 Δ0 at8 at84 d8 d84
+
+            d86 : Typed.Typed 𝓤 H A 𝓣 E G11 b63 Δ0 at86
+            d86 = Typed.s-seq 𝓤 H A W 𝓣 E G11 G12 b3 b62 Δ0 (Typed.ask s10) at85 (Scalar.t-op2 𝓤 H A W E 𝓣 G11 Syntax.ne (Scalar.oFld 5 (Syntax.field 0 ∷ [])
+                (Syntax.tyInt Syntax.w8) 0 (Reads.fieldV Held.the-type Laws''.the-laws 0)) (Scalar.oInt Syntax.w8 0) 13 (Rows.sc-here Row.sBool) Syntax.tyBool
+                (Row.valS Row.sBool) (Row.sBool .of) (
+                  Reads.reads-field 𝓤 H A W Held.the-type Laws''.the-laws 0 (Syntax.tyInt Syntax.w8) 0 Path'.refl,
                   Path'.refl,
-                ) (Reads'.room-gone 𝓤 H A (Syntax.tyInt Syntax.w64)) (Scalar.holds-sc 𝓤 H A W (Row.sInt Syntax.w64)) Path'.refl (λ u.
-                Path'.refl) λ u. tt) d80
+                ) tt (Reads'.room-gone 𝓤 H A Syntax.tyBool) (Scalar.holds-sc 𝓤 H A W Row.sBool) Path'.refl (λ u. Path'.refl) λ u. tt) d85
 
-            d82 : Typed.Typed 𝓤 H A 𝓣 E G12 b60 Δ0 at82
-            d82 = Typed.t-seq 𝓤 H A W 𝓣 E G12 G13 b8 b59 Δ0 at8 at81 d8 d81
+            d87 : Typed.Typed 𝓤 H A 𝓣 E G10 b63 Δ0 at87
+            d87 = Typed.g-pre 𝓤 H A W 𝓣 E G10 G11 b63 Δ0 (Typed.give s9) at86 (Know'.g-struct-known 𝓤 H A W E Held.the-type Laws''.the-laws G10 5 (λ x. x)
+                (Reads'.as-is 𝓤 H A (Rows.whole (Declared.row Held.the-type)))) d86
 
-            d83 : Typed.Typed 𝓤 H A 𝓣 E G11 b61 Δ0 at83
-            d83 = Typed.s-seq 𝓤 H A W 𝓣 E G11 G12 b3 b60 Δ0 (Typed.ask s10) at82 (Scalar.t-op2 𝓤 H A W E 𝓣 G11 Syntax.ne (Scalar.oFld 5 (Syntax.field 0 ∷ [])
-                (Syntax.tyInt Syntax.w8) 0 (Reads.fieldV Held.the-type Laws'.the-laws 0)) (Scalar.oInt Syntax.w8 0) 13 (Rows.sc-here Row.sBool) Syntax.tyBool
-                (Row.valS Row.sBool) (Row.sBool .of) (Reads.reads-field 𝓤 H A W Held.the-type Laws'.the-laws 0 (Syntax.tyInt Syntax.w8) 0 Path'.refl, Path'.refl)
-                tt (Reads'.room-gone 𝓤 H A Syntax.tyBool) (Scalar.holds-sc 𝓤 H A W Row.sBool) Path'.refl (λ u. Path'.refl) λ u. tt) d82
+            d88 : Typed.Typed 𝓤 H A 𝓣 E G9 b63 Δ0 at88
+            d88 = Typed.g-pre 𝓤 H A W 𝓣 E G9 G10 b63 Δ0 (λ Ψ. Ψ) at87 (Lifetime.g-forget 𝓤 H A W E G9 2 Row.dead Path'.refl) d87
 
-            d84 : Typed.Typed 𝓤 H A 𝓣 E G10 b61 Δ0 at84
-            d84 = Typed.g-pre 𝓤 H A W 𝓣 E G10 G11 b61 Δ0 (Typed.give s9) at83 (Know'.g-struct-known 𝓤 H A W E Held.the-type Laws'.the-laws G10 5 (λ x. x)
-                (Reads'.as-is 𝓤 H A (Rows.whole (Declared.row Held.the-type)))) d83
-
-            d85 : Typed.Typed 𝓤 H A 𝓣 E G9 b61 Δ0 at85
-            d85 = Typed.g-pre 𝓤 H A W 𝓣 E G9 G10 b61 Δ0 (λ Ψ. Ψ) at84 (Lifetime.g-forget 𝓤 H A W E G9 2 Row.dead Path'.refl) d84
-
-            d86 : Typed.Typed 𝓤 H A 𝓣 E G8 b61 Δ0 at86
-            d86 = Typed.g-pre 𝓤 H A W 𝓣 E G8 G9 b61 Δ0 (Typed.pass T7 T9 s7) at85 (Reshare.g-back-sl-shr 𝓤 H A W E SlotAs.row G8 2 1 2 (Syntax.tyRef
+            d89 : Typed.Typed 𝓤 H A 𝓣 E G8 b63 Δ0 at89
+            d89 = Typed.g-pre 𝓤 H A W 𝓣 E G8 G9 b63 Δ0 (Typed.pass T7 T9 s7) at88 (Reshare.g-back-sl-shr 𝓤 H A W E SlotAs.row G8 2 1 2 (Syntax.tyRef
                 (Syntax.named 1) Syntax.mut SlotAs.pointee) (Row.lease (κs .1 .0) (qs .1 .0)) (λ x. x) (Reads'.as-is 𝓤 H A (Reshare.mslice-owedS SlotAs.row
-                (Syntax.tyRef (Syntax.named 1) Syntax.mut SlotAs.pointee) 1 2 (Row.lease (κs .1 .0) (qs .1 .0)))) Path'.refl Path'.refl) d85
+                (Syntax.tyRef (Syntax.named 1) Syntax.mut SlotAs.pointee) 1 2 (Row.lease (κs .1 .0) (qs .1 .0)))) Path'.refl Path'.refl) d88
 
-            d87 : Typed.Typed 𝓤 H A 𝓣 E G7 b61 Δ0 at87
-            d87 = Typed.g-pre 𝓤 H A W 𝓣 E G7 G8 b61 Δ0 (λ Ψ. Ψ) at86 (Lifetime.g-end 𝓤 H A W E G7 2 Path'.refl) d86
+            d90 : Typed.Typed 𝓤 H A 𝓣 E G7 b63 Δ0 at90
+            d90 = Typed.g-pre 𝓤 H A W 𝓣 E G7 G8 b63 Δ0 (λ Ψ. Ψ) at89 (Lifetime.g-end 𝓤 H A W E G7 2 Path'.refl) d89
 
-            d88 : Typed.Typed 𝓤 H A 𝓣 E G6 b61 Δ0 at88
-            d88 = Typed.g-pre 𝓤 H A W 𝓣 E G6 G7 b61 Δ0 (Typed.pass T6 T7 s5) at87 (Scalar.g-room 𝓤 H A W E G6 12 (Syntax.tyStruct (38 ∷ 91 ∷ 93 ∷ [])
+            d91 : Typed.Typed 𝓤 H A 𝓣 E G6 b63 Δ0 at91
+            d91 = Typed.g-pre 𝓤 H A W 𝓣 E G6 G7 b63 Δ0 (Typed.pass T6 T7 s5) at90 (Scalar.g-room 𝓤 H A W E G6 12 (Syntax.tyStruct (38 ∷ 91 ∷ 93 ∷ [])
                 (Syntax.tcons (Syntax.tyRef Syntax.erased Syntax.imm SlotAs.pointee) (Syntax.tcons (Syntax.tyInt Syntax.w64) Syntax.tnil))) (Shared.room-sslice 𝓤
-                H A W SlotAs.row (Syntax.tyRef Syntax.erased Syntax.imm SlotAs.pointee) 2)) d87
+                H A W SlotAs.row (Syntax.tyRef Syntax.erased Syntax.imm SlotAs.pointee) 2)) d90
 
-            d89 : Typed.Typed 𝓤 H A 𝓣 E G5 b62 Δ0 at89
-            d89 = Typed.s-seq 𝓤 H A W 𝓣 E G5 G6 b2 b61 Δ0 (Typed.both s4) at88 (Plain.t-call-plain 𝓤 H A W 𝓣 2 ps·0 r·0 (claims· .0) (claims· .1) "store::judge"
+            d92 : Typed.Typed 𝓤 H A 𝓣 E G5 b64 Δ0 at92
+            d92 = Typed.s-seq 𝓤 H A W 𝓣 E G5 G6 b2 b63 Δ0 (Typed.both s4) at91 (Plain.t-call-plain 𝓤 H A W 𝓣 2 ps·0 r·0 (claims· .0) (claims· .1) "store::judge"
                 (known .0) E (λ pos β. β) G5 (
                   record { pos = 1; ty = Syntax.tyRef (Syntax.named 0) Syntax.imm (Syntax.tyInt Syntax.w8); ref = λ x. x },
                   (
@@ -3504,10 +3900,10 @@ module _ (claims· : Claims) where
                 ) (Reads'.room-gone 𝓤 H A (Syntax.tyStruct (115 ∷ 116 ∷ 111 ∷
                 114 ∷ 101 ∷ 58 ∷ 58 ∷ 72 ∷ 101 ∷ 108 ∷ 100 ∷ []) (Syntax.tcons (Syntax.tyInt Syntax.w8) (Syntax.tcons (Syntax.tyInt Syntax.w64) (Syntax.tcons
                 (Syntax.tyInt Syntax.w64) (Syntax.tcons (Syntax.tyInt Syntax.w64) (Syntax.tcons (Syntax.tyInt Syntax.w64) Syntax.tnil))))))) (tt, (tt, tt))
-                Path'.refl) d88
+                Path'.refl) d91
 
-            d90 : Typed.Typed 𝓤 H A 𝓣 E G4 b63 Δ0 at90
-            d90 = Typed.s-seq 𝓤 H A W 𝓣 E G4 G5 b1 b62 Δ0 (Typed.ask s3) at89 (Relend.t-sl-aggregate 𝓤 H A W E SlotAs.row 𝓣 (Relend.asShr SlotAs.row) G4 11 12 2
+            d93 : Typed.Typed 𝓤 H A 𝓣 E G4 b65 Δ0 at93
+            d93 = Typed.s-seq 𝓤 H A W 𝓣 E G4 G5 b1 b64 Δ0 (Typed.ask s3) at92 (Relend.t-sl-aggregate 𝓤 H A W E SlotAs.row 𝓣 (Relend.asShr SlotAs.row) G4 11 12 2
                 (Syntax.tyRef Syntax.erased Syntax.imm SlotAs.pointee) (Syntax.tyRef Syntax.erased Syntax.imm SlotAs.pointee) (λ x. x) (Scalar.oFld 2
                 (Syntax.field 1 ∷ []) (Syntax.tyInt Syntax.w64) 8 λ v. Shared.lenV (v .0)) (Reads'.as-is 𝓤 H A (Relend.ssptr SlotAs.row (Syntax.tyRef
                 Syntax.erased Syntax.imm SlotAs.pointee) 2)) (Reads'.room-gone 𝓤 H A (Syntax.tyStruct (38 ∷ 91 ∷ 93 ∷ []) (Syntax.tcons (Syntax.tyRef
@@ -3516,16 +3912,16 @@ module _ (claims· : Claims) where
                       (Syntax.tyRef (Syntax.named 1) Syntax.mut SlotAs.pointee) 1 2 (Row.lease (κs .1 .0) (qs .1 .0)) 8 Path'.refl,
                   Path'.refl,
                 ) Path'.refl Path'.refl λ
-                b o k. tt) d89
+                b o k. tt) d92
 
-            d91 : Typed.Typed 𝓤 H A 𝓣 E G3 b64 Δ0 at91
-            d91 = Typed.s-seq 𝓤 H A W 𝓣 E G3 G4 b0 b63 Δ0 (Typed.give s2) at90 (Reshare.t-sl-reshare 𝓤 H A W E SlotAs.row 𝓣 G3 2 11 1 2 (Syntax.tyRef
+            d94 : Typed.Typed 𝓤 H A 𝓣 E G3 b66 Δ0 at94
+            d94 = Typed.s-seq 𝓤 H A W 𝓣 E G3 G4 b0 b65 Δ0 (Typed.give s2) at93 (Reshare.t-sl-reshare 𝓤 H A W E SlotAs.row 𝓣 G3 2 11 1 2 (Syntax.tyRef
                 (Syntax.named 1) Syntax.mut SlotAs.pointee) (Syntax.tyRef Syntax.erased Syntax.imm SlotAs.pointee) (Row.lease (κs .1 .0) (qs .1 .0)) 0 (λ x. x)
                 (Reads'.as-is 𝓤 H A (Mut.mslice SlotAs.row (Syntax.tyRef (Syntax.named 1) Syntax.mut SlotAs.pointee) 1)) (Reads'.room-gone 𝓤 H A (Syntax.tyRef
-                Syntax.erased Syntax.imm SlotAs.pointee)) Path'.refl tt Path'.refl Path'.refl Path'.refl λ b o. tt) d90
+                Syntax.erased Syntax.imm SlotAs.pointee)) Path'.refl tt Path'.refl Path'.refl Path'.refl λ b o. tt) d93
 
-            d92 : Typed.Typed 𝓤 H A 𝓣 E G2 b64 Δ0 at92
-            d92 = Typed.g-pre 𝓤 H A W 𝓣 E G2 G3 b64 Δ0 (λ Ψ. Ψ) at91 (Lifetime.g-begin 𝓤 H A W E G2 2 (
+            d95 : Typed.Typed 𝓤 H A 𝓣 E G2 b66 Δ0 at95
+            d95 = Typed.g-pre 𝓤 H A W 𝓣 E G2 G3 b66 Δ0 (λ Ψ. Ψ) at94 (Lifetime.g-begin 𝓤 H A W E G2 2 (
               tt,
               (
                 tt,
@@ -3549,7 +3945,7 @@ module _ (claims· : Claims) where
                                   tt,
                                   (
                                     tt,
-                                    (tt, (tt, (tt, (tt, (tt, (tt, (tt, (tt, (tt, tt))))))))),
+                                    (tt, (tt, (tt, (tt, (tt, (tt, (tt, (tt, (tt, (tt, tt)))))))))),
                                   ),
                                 ),
                               ),
@@ -3561,15 +3957,15 @@ module _ (claims· : Claims) where
                   ),
                 ),
               ),
-            )) d91
+            )) d94
 
-            d93 : Typed.Typed 𝓤 H A 𝓣 E G0 b64 Δ0 at93
-            d93 = Typed.g-pre 𝓤 H A W 𝓣 E G0 G2 b64 Δ0 (Typed.give s0) at92 (Know.g-shs-known 𝓤 H A W (Referent.fInt Syntax.w8) E G0 1 0 (Syntax.tyRef
+            d96 : Typed.Typed 𝓤 H A 𝓣 E G0 b66 Δ0 at96
+            d96 = Typed.g-pre 𝓤 H A W 𝓣 E G0 G2 b66 Δ0 (Typed.give s0) at95 (Know.g-shs-known 𝓤 H A W (Referent.fInt Syntax.w8) E G0 1 0 (Syntax.tyRef
                 (Syntax.named 0) Syntax.imm (Syntax.tyInt Syntax.w8)) (Row.lease (κs .0) (qs .0)) 0 (λ x. x) record { fits = Dec'.lit< tt } (Reads'.as-is 𝓤 H A
-                (Rows.sslice (Referent.rtF (Referent.fInt Syntax.w8)) (Syntax.tyRef (Syntax.named 0) Syntax.imm (Syntax.tyInt Syntax.w8)) 0)) Path'.refl tt) d92
+                (Rows.sslice (Referent.rtF (Referent.fInt Syntax.w8)) (Syntax.tyRef (Syntax.named 0) Syntax.imm (Syntax.tyInt Syntax.w8)) 0)) Path'.refl tt) d95
 
-            pub typed : Typed.Typed 𝓤 H A 𝓣 E (Function.Γin 2 ps r xs m κs qs) b64 (Function.Δret 2 ps r xs m κs qs) Φ
-            typed = d93
+            pub typed : Typed.Typed 𝓤 H A 𝓣 E (Function.Γin 2 ps r xs m κs qs) b66 (Function.Δret 2 ps r xs m κs qs) Φ
+            typed = d96
 
         module _ (κs : Lifetimes.Lfts 2) where
           pub record Args : Type 0 where
@@ -3578,20 +3974,20 @@ module _ (claims· : Claims) where
             pub fragment : Kinds.Den {n = 2} κs (Value.pVal record {
               ty = Declared.row FragmentNumber.the-type;
               one = Path'.refl;
-              val = Laws''.val
+              val = Laws'3.val
                   FragmentNumber.the-type Laws.the-laws;
-              tells = Laws''.tells FragmentNumber.the-type Laws.the-laws;
-              still = Laws''.still FragmentNumber.the-type
+              tells = Laws'3.tells FragmentNumber.the-type Laws.the-laws;
+              still = Laws'3.still FragmentNumber.the-type
                   Laws.the-copy Exit.yes;
               row = Rows.whole (Declared.row FragmentNumber.the-type);
               rd = λ x. x;
               mk = λ x. x;
             } λ M 𝓤 H A W. record {
               copies =
-                  Laws''.copy FragmentNumber.the-type Laws.the-copy 𝓤 H A W;
-              lawful = Laws''.lawful FragmentNumber.the-type Laws.the-laws 𝓤 H A W;
+                  Laws'3.copy FragmentNumber.the-type Laws.the-copy 𝓤 H A W;
+              lawful = Laws'3.lawful FragmentNumber.the-type Laws.the-laws 𝓤 H A W;
               makes =
-                  Laws''.makes FragmentNumber.the-type Laws.the-plain 𝓤 H A;
+                  Laws'3.makes FragmentNumber.the-type Laws.the-plain 𝓤 H A;
               in-mem = Local.mem-whole 𝓤 H A W (Declared.row FragmentNumber.the-type);
               of-mem =
                   Local.whole-mem 𝓤 H A W (Declared.row FragmentNumber.the-type);
@@ -3690,7 +4086,7 @@ module _ (claims· : Claims) where
         m8 = λ before given. s10 .next (m7 before given)
 
         abbrev W1 : (before : After-judge) → (given : s9 .gives (m6 (before .before) (After-judge·gave before))) → Typed.Want O1
-        W1 = λ before given. Typed.wantNext T13 O0 (at81 (W0 (before .before .before .before .κs) (before .before .before .before .args))) (W0 (before .before
+        W1 = λ before given. Typed.wantNext T13 O0 (at84 (W0 (before .before .before .before .κs) (before .before .before .before .args))) (W0 (before .before
             .before .before .κs) (before .before .before .before .args))
 
         module _ (before· : After-judge) where
@@ -3779,7 +4175,7 @@ module _ (claims· : Claims) where
         m21 = λ before given. s23 .next (m20 before given)
 
         abbrev W2 : (before : Else1) → (given : s20 .gives (m17 (before .before))) → Typed.Want O2
-        W2 = λ before given. Typed.wantNext T27 O0 (at73 (W0 (before .before .before .before .before .before .κs) (before .before .before .before .before .before
+        W2 = λ before given. Typed.wantNext T27 O0 (at76 (W0 (before .before .before .before .before .before .κs) (before .before .before .before .before .before
             .args))) (W0 (before .before .before .before .before .before .κs) (before .before .before .before .before .before .args))
 
         module _ (before· : After-struct-known2) where
@@ -3835,7 +4231,7 @@ module _ (claims· : Claims) where
         m29 = λ before. s31 .next (m28 before)
 
         abbrev W3 : (before : After-struct-known2) → Typed.Want O3
-        W3 = λ before. Typed.wantNext T36 O0 (at71 (W0 (before .before .before .before .before .before .before .κs) (before .before .before .before .before
+        W3 = λ before. Typed.wantNext T36 O0 (at74 (W0 (before .before .before .before .before .before .before .κs) (before .before .before .before .before
             .before .before .args))) (W0 (before .before .before .before .before .before .before .κs) (before .before .before .before .before .before .before
             .args))
 
@@ -3889,14 +4285,14 @@ module _ (claims· : Claims) where
         abbrev pub m36 : (before : Else2) → Typed.Mo T43
         m36 = λ before. s38 (m29 (before .before))
 
-        abbrev pub Need-add-b : Type 0
-        Need-add-b = (c : Else3) → s39 .asks (m36 (c .before))
+        abbrev pub Need-add-t14 : Type 0
+        Need-add-t14 = (c : Else3) → s39 .asks (m36 (c .before))
 
         abbrev pub m37 : (before : Else2) → Typed.Mo T44
         m37 = λ before. s39 .next (m36 before)
 
-        abbrev pub Need-sub-b : Type 0
-        Need-sub-b = (c : Else3) → s40 .asks (m37 (c .before))
+        abbrev pub Need-sub-t15 : Type 0
+        Need-sub-t15 = (c : Else3) → s40 .asks (m37 (c .before))
 
         abbrev pub m38 : (before : Else2) → Typed.Mo T45
         m38 = λ before. s40 .next (m37 before)
@@ -3904,114 +4300,114 @@ module _ (claims· : Claims) where
         abbrev pub m39 : (before : Else2) → Typed.Mo T46
         m39 = λ before. s41 (m38 before)
 
-        abbrev pub Need-mark-byte-requires : Type 0
-        Need-mark-byte-requires = (c : Else3) → s42 .asks (m39 (c .before))
+        abbrev pub m40 : (before : Else2) → Typed.Mo T47
+        m40 = λ before. s42 (m39 before)
 
-        abbrev pub m40 : (before : Else3) → (given : s42 .gives (m39 (before .before))) → Typed.Mo T47
-        m40 = λ before given. s42 .next (m39 (before .before)) given
+        abbrev pub m41 : (before : Else2) → Typed.Mo T48
+        m41 = λ before. s43 (m40 before)
+
+        abbrev pub Need-mark-byte-requires : Type 0
+        Need-mark-byte-requires = (c : Else3) → s44 .asks (m41 (c .before))
+
+        abbrev pub m42 : (before : Else3) → (given : s44 .gives (m41 (before .before))) → Typed.Mo T49
+        m42 = λ before given. s44 .next (m41 (before .before)) given
 
         module _ (before· : Else3) where
           abbrev pub After-mark-byte·own : Type 0
-          After-mark-byte·own = Called.Called ps·1 r·1 (claims· .3) T46 (Bool.bAt 4 λ x. x, tt) (m39 (before· .before))
+          After-mark-byte·own = Called.Called ps·1 r·1 (claims· .3) T48 (Bool.bAt 4 λ x. x, tt) (m41 (before· .before))
 
         pub record After-mark-byte : Type 0 where
           pub before : Else3
           pub mark-byte : After-mark-byte·own before
 
-        abbrev pub After-mark-byte·gave : (c : After-mark-byte) → s42 .gives (m39 (c .before .before))
-        After-mark-byte·gave = λ c. Called.given ps·1 r·1 (claims· .3) T46 (Bool.bAt 4 λ x. x, tt) (m39 (c .before .before)) (c .mark-byte)
+        abbrev pub After-mark-byte·gave : (c : After-mark-byte) → s44 .gives (m41 (c .before .before))
+        After-mark-byte·gave = λ c. Called.given ps·1 r·1 (claims· .3) T48 (Bool.bAt 4 λ x. x, tt) (m41 (c .before .before)) (c .mark-byte)
 
         abbrev pub Need-slice-reshare-prefix-mark-of : Type 0
-        Need-slice-reshare-prefix-mark-of = (c : After-mark-byte) → s44 .asks (m40 (c .before) (After-mark-byte·gave c))
+        Need-slice-reshare-prefix-mark-of = (c : After-mark-byte) → s46 .asks (m42 (c .before) (After-mark-byte·gave c))
 
-        abbrev pub m41 : (before : After-mark-byte) → (given : s44 .gives (m40 (before .before) (After-mark-byte·gave before))) → Typed.Mo T49
-        m41 = λ before given. s44 .next (m40 (before .before) (After-mark-byte·gave before)) given
+        abbrev pub m43 : (before : After-mark-byte) → (given : s46 .gives (m42 (before .before) (After-mark-byte·gave before))) → Typed.Mo T51
+        m43 = λ before given. s46 .next (m42 (before .before) (After-mark-byte·gave before)) given
 
         module _ (before· : After-mark-byte) where
           pub record After-mark-of-arg·own : Type 0 where
-            pub given : s44 .gives (m40 (before· .before) (After-mark-byte·gave before·))
+            pub given : s46 .gives (m42 (before· .before) (After-mark-byte·gave before·))
 
         pub record After-mark-of-arg : Type 0 where
           pub before : After-mark-byte
           pub mark-of-arg : After-mark-of-arg·own before
 
         abbrev pub Need-slice-aggregate-mark-of : Type 0
-        Need-slice-aggregate-mark-of = (c : After-mark-of-arg) → Relend.CountIs T49 16 17 (λ x. x) (λ u. u .1 .1 .1 .1 .1 .1 .0) (m41 (c .before) (c .mark-of-arg
+        Need-slice-aggregate-mark-of = (c : After-mark-of-arg) → Relend.CountIs T51 17 18 (λ x. x) (λ u. u .1 .1 .1 .1 .1 .1 .0) (m43 (c .before) (c .mark-of-arg
             .given))
 
-        abbrev pub m42 : (before : After-mark-byte) → (given : s44 .gives (m40 (before .before) (After-mark-byte·gave before))) → Typed.Mo T50
-        m42 = λ before given. s45 .next (m41 before given)
+        abbrev pub m44 : (before : After-mark-byte) → (given : s46 .gives (m42 (before .before) (After-mark-byte·gave before))) → Typed.Mo T52
+        m44 = λ before given. s47 .next (m43 before given)
+
+        abbrev pub m45 : (before : After-mark-byte) → (given : s46 .gives (m42 (before .before) (After-mark-byte·gave before))) → Typed.Mo T53
+        m45 = λ before given. s48 (m44 before given)
 
         abbrev pub Need-mark-of-requires : Type 0
-        Need-mark-of-requires = (c : After-mark-of-arg) → s46 .asks (m42 (c .before) (c .mark-of-arg .given))
+        Need-mark-of-requires = (c : After-mark-of-arg) → s49 .asks (m45 (c .before) (c .mark-of-arg .given))
 
-        abbrev pub m43 : (before : After-mark-of-arg) → (given : s46 .gives (m42 (before .before) (before .mark-of-arg .given))) → Typed.Mo T51
-        m43 = λ before given. s46 .next (m42 (before .before) (before .mark-of-arg .given)) given
+        abbrev pub m46 : (before : After-mark-of-arg) → (given : s49 .gives (m45 (before .before) (before .mark-of-arg .given))) → Typed.Mo T54
+        m46 = λ before given. s49 .next (m45 (before .before) (before .mark-of-arg .given)) given
 
         module _ (before· : After-mark-of-arg) where
           abbrev pub After-mark-of·own : Type 0
-          After-mark-of·own = Called.Called ps·2 r·2 (claims· .5) T50 (
+          After-mark-of·own = Called.Called ps·2 r·2 (claims· .5) T53 (
             record {
-              pos = 17;
+              pos = 18;
               ty = Syntax.tyRef Syntax.erased Syntax.imm SlotAs.pointee;
               ref = λ x.
                   x;
             },
-            (Num.vAt 9 λ x. x, tt),
-          ) (m42 (before· .before) (before· .mark-of-arg .given))
+            (record { pos = 9; st = []; d = 0; at = λ x. x }, tt),
+          ) (m45 (before· .before) (before· .mark-of-arg .given))
 
         pub record After-mark-of : Type 0 where
           pub before : After-mark-of-arg
           pub mark-of : After-mark-of·own before
 
-        abbrev pub After-mark-of·gave : (c : After-mark-of) → s46 .gives (m42 (c .before .before) (c .before .mark-of-arg .given))
-        After-mark-of·gave = λ c. Called.given ps·2 r·2 (claims· .5) T50 (
+        abbrev pub After-mark-of·gave : (c : After-mark-of) → s49 .gives (m45 (c .before .before) (c .before .mark-of-arg .given))
+        After-mark-of·gave = λ c. Called.given ps·2 r·2 (claims· .5) T53 (
           record {
-            pos = 17;
+            pos = 18;
             ty = Syntax.tyRef Syntax.erased Syntax.imm SlotAs.pointee;
             ref = λ
                 x. x;
           },
-          (Num.vAt 9 λ x. x, tt),
-        ) (m42 (c .before .before) (c .before .mark-of-arg .given)) (c .mark-of)
+          (record { pos = 9; st = []; d = 0; at = λ x. x }, tt),
+        ) (m45 (c .before .before) (c .before .mark-of-arg .given)) (c .mark-of)
 
-        abbrev pub m44 : (before : After-mark-of-arg) → (given : s46 .gives (m42 (before .before) (before .mark-of-arg .given))) → Typed.Mo T52
-        m44 = λ before given. s47 (m43 before given)
+        abbrev pub m47 : (before : After-mark-of-arg) → (given : s49 .gives (m45 (before .before) (before .mark-of-arg .given))) → Typed.Mo T55
+        m47 = λ before given. s50 (m46 before given)
 
-        abbrev pub m45 : (before : After-mark-of-arg) → (given : s46 .gives (m42 (before .before) (before .mark-of-arg .given))) → Typed.Mo T54
-        m45 = λ before given. s49 (m44 before given)
+        abbrev pub m48 : (before : After-mark-of-arg) → (given : s49 .gives (m45 (before .before) (before .mark-of-arg .given))) → Typed.Mo T57
+        m48 = λ before given. s52 (m47 before given)
 
-        abbrev pub m46 : (before : After-mark-of-arg) → (given : s46 .gives (m42 (before .before) (before .mark-of-arg .given))) → Typed.Mo T56
-        m46 = λ before given. s51 .next (m45 before given)
+        abbrev pub m49 : (before : After-mark-of-arg) → (given : s49 .gives (m45 (before .before) (before .mark-of-arg .given))) → Typed.Mo T59
+        m49 = λ before given. s54 .next (m48 before given)
 
-        abbrev W4 : (before : After-mark-of-arg) → (given : s46 .gives (m42 (before .before) (before .mark-of-arg .given))) → Typed.Want O4
-        W4 = λ before given. Typed.wantNext T57 O0 (at57 (W0 (before .before .before .before .before .before .before .before .before .before .before .κs) (before
+        abbrev W4 : (before : After-mark-of-arg) → (given : s49 .gives (m45 (before .before) (before .mark-of-arg .given))) → Typed.Want O4
+        W4 = λ before given. Typed.wantNext T60 O0 (at57 (W0 (before .before .before .before .before .before .before .before .before .before .before .κs) (before
             .before .before .before .before .before .before .before .before .before .before .args))) (W0 (before .before .before .before .before .before .before
             .before .before .before .before .κs) (before .before .before .before .before .before .before .before .before .before .before .args))
 
-        abbrev pub m47 : (before : After-mark-of-arg) → (given : s46 .gives (m42 (before .before) (before .mark-of-arg .given))) → Typed.Mo T58
-        m47 = λ before given. s52 (m46 before given)
+        abbrev pub m50 : (before : After-mark-of-arg) → (given : s49 .gives (m45 (before .before) (before .mark-of-arg .given))) → Typed.Mo T61
+        m50 = λ before given. s55 (m49 before given)
 
         module _ (before· : After-mark-of) where
           pub record Then4·own : Type 0 where
-            pub taken : Path'._≡_ {A = Nat.ℕ} (Row.get 15 (T54 .locals) (m45 (before· .before) (After-mark-of·gave before·))) (Row.get 10 (T54 .locals) (m45
+            pub taken : Path'._≡_ {A = Nat.ℕ} (Row.get 16 (T57 .locals) (m48 (before· .before) (After-mark-of·gave before·))) (Row.get 10 (T57 .locals) (m48
                 (before· .before) (After-mark-of·gave before·)))
 
         pub record Then4 : Type 0 where
           pub before : After-mark-of
           pub if4 : Then4·own before
 
-        abbrev pub m48 : (before : After-mark-of) → Typed.Mo T59
-        m48 = λ before. s53 (m47 (before .before) (After-mark-of·gave before))
-
-        abbrev pub m49 : (before : After-mark-of) → Typed.Mo T60
-        m49 = λ before. s54 (m48 before)
-
-        abbrev pub m50 : (before : After-mark-of) → Typed.Mo T61
-        m50 = λ before. s55 (m49 before)
-
         abbrev pub m51 : (before : After-mark-of) → Typed.Mo T62
-        m51 = λ before. s56 (m50 before)
+        m51 = λ before. s56 (m50 (before .before) (After-mark-of·gave before))
 
         abbrev pub m52 : (before : After-mark-of) → Typed.Mo T63
         m52 = λ before. s57 (m51 before)
@@ -4025,8 +4421,17 @@ module _ (claims· : Claims) where
         abbrev pub m55 : (before : After-mark-of) → Typed.Mo T66
         m55 = λ before. s60 (m54 before)
 
+        abbrev pub m56 : (before : After-mark-of) → Typed.Mo T67
+        m56 = λ before. s61 (m55 before)
+
+        abbrev pub m57 : (before : After-mark-of) → Typed.Mo T68
+        m57 = λ before. s62 (m56 before)
+
+        abbrev pub m58 : (before : After-mark-of) → Typed.Mo T69
+        m58 = λ before. s63 (m57 before)
+
         abbrev pub Need-same-length-4 : Type 0
-        Need-same-length-4 = (c : Then4) → MutSlice.SameLen (Row.get 2 (T66 .locals) (m55 (c .before))) (dens (c .before .before .before .before .before .before
+        Need-same-length-4 = (c : Then4) → MutSlice.SameLen (Row.get 2 (T69 .locals) (m58 (c .before))) (dens (c .before .before .before .before .before .before
             .before .before .before .before .before .before .κs) (c .before .before .before .before .before .before .before .before .before .before .before
             .before .args) .1 .0)
 
@@ -4034,116 +4439,117 @@ module _ (claims· : Claims) where
         Need-returns-4 = (c : Then4) → Post· (c .before .before .before .before .before .before .before .before .before .before .before .before .κs) (dens (c
             .before .before .before .before .before .before .before .before .before .before .before .before .κs) (c .before .before .before .before .before
             .before .before .before .before .before .before .before .args)) (Function.resV r (c .before .before .before .before .before .before .before .before
-            .before .before .before .before .κs) (m55 (c .before) .0)) (Clauses.atExit (Kinds.endedOf 2 ps r) (c .before .before .before .before .before .before
+            .before .before .before .before .κs) (m58 (c .before) .0)) (Clauses.atExit (Kinds.endedOf 2 ps r) (c .before .before .before .before .before .before
             .before .before .before .before .before .before .κs) (dens (c .before .before .before .before .before .before .before .before .before .before .before
             .before .κs) (c .before .before .before .before .before .before .before .before .before .before .before .before .args)) (Enter.lastsP (c .before
             .before .before .before .before .before .before .before .before .before .before .before .κs) 1 ps xs (dens (c .before .before .before .before .before
             .before .before .before .before .before .before .before .κs) (c .before .before .before .before .before .before .before .before .before .before
-            .before .before .args)) (m55 (c .before) .1)))
+            .before .before .args)) (m58 (c .before) .1)))
 
         module _ (before· : After-mark-of) where
           pub record Else4·own : Type 0 where
-            pub left : Path'._≡_ {A = Nat.ℕ} (Row.get 15 (T54 .locals) (m45 (before· .before) (After-mark-of·gave before·))) (Row.get 10 (T54 .locals) (m45
+            pub left : Path'._≡_ {A = Nat.ℕ} (Row.get 16 (T57 .locals) (m48 (before· .before) (After-mark-of·gave before·))) (Row.get 10 (T57 .locals) (m48
                 (before· .before) (After-mark-of·gave before·))) → ⊥
 
         pub record Else4 : Type 0 where
           pub before : After-mark-of
           pub if4 : Else4·own before
 
-        abbrev pub m56 : (before : After-mark-of) → Typed.Mo T67
-        m56 = λ before. s61 (m47 (before .before) (After-mark-of·gave before))
+        abbrev pub m59 : (before : After-mark-of) → Typed.Mo T70
+        m59 = λ before. s64 (m50 (before .before) (After-mark-of·gave before))
 
         abbrev pub Need-slice-relend-prefix-mark-all : Type 0
-        Need-slice-relend-prefix-mark-all = (c : Else4) → s63 .asks (m56 (c .before))
+        Need-slice-relend-prefix-mark-all = (c : Else4) → s66 .asks (m59 (c .before))
 
-        abbrev pub m57 : (before : Else4) → (given : s63 .gives (m56 (before .before))) → Typed.Mo T69
-        m57 = λ before given. s63 .next (m56 (before .before)) given
+        abbrev pub m60 : (before : Else4) → (given : s66 .gives (m59 (before .before))) → Typed.Mo T72
+        m60 = λ before given. s66 .next (m59 (before .before)) given
 
         module _ (before· : Else4) where
           pub record After-mark-all-arg·own : Type 0 where
-            pub given : s63 .gives (m56 (before· .before))
+            pub given : s66 .gives (m59 (before· .before))
 
         pub record After-mark-all-arg : Type 0 where
           pub before : Else4
           pub mark-all-arg : After-mark-all-arg·own before
 
         abbrev pub Need-slice-aggregate-mark-all : Type 0
-        Need-slice-aggregate-mark-all = (c : After-mark-all-arg) → Relend.CountIs T69 19 20 (λ x. x) (λ u. u .1 .1 .1 .1 .1 .1 .0) (m57 (c .before) (c
+        Need-slice-aggregate-mark-all = (c : After-mark-all-arg) → Relend.CountIs T72 20 21 (λ x. x) (λ u. u .1 .1 .1 .1 .1 .1 .0) (m60 (c .before) (c
             .mark-all-arg .given))
 
-        abbrev pub m58 : (before : Else4) → (given : s63 .gives (m56 (before .before))) → Typed.Mo T70
-        m58 = λ before given. s64 .next (m57 before given)
+        abbrev pub m61 : (before : Else4) → (given : s66 .gives (m59 (before .before))) → Typed.Mo T73
+        m61 = λ before given. s67 .next (m60 before given)
 
         abbrev pub Need-mark-all-requires : Type 0
-        Need-mark-all-requires = (c : After-mark-all-arg) → s65 .asks (m58 (c .before) (c .mark-all-arg .given))
+        Need-mark-all-requires = (c : After-mark-all-arg) → s68 .asks (m61 (c .before) (c .mark-all-arg .given))
 
-        abbrev pub m59 : (before : After-mark-all-arg) → (given : s65 .gives (m58 (before .before) (before .mark-all-arg .given))) → Typed.Mo T71
-        m59 = λ before given. s65 .next (m58 (before .before) (before .mark-all-arg .given)) given
+        abbrev pub m62 : (before : After-mark-all-arg) → (given : s68 .gives (m61 (before .before) (before .mark-all-arg .given))) → Typed.Mo T74
+        m62 = λ before given. s68 .next (m61 (before .before) (before .mark-all-arg .given)) given
 
         module _ (before· : After-mark-all-arg) where
           abbrev pub After-mark-all·own : Type 0
-          After-mark-all·own = Called.Called ps·3 r·3 (claims· .7) T70 (
+          After-mark-all·own = Called.Called ps·3 r·3 (claims· .7) T73 (
             record {
-              pos = 20;
+              pos = 21;
               ty = Syntax.tyRef Syntax.erased Syntax.mut SlotAs.pointee;
               ref = λ x.
                   x;
             },
-            (Num.vAt 9 λ x. x, (Num.vAt 10 λ x. x, tt)),
-          ) (m58 (before· .before) (before· .mark-all-arg .given))
+            (record { pos = 9; st = []; d = 0; at = λ x. x }, (Num.vAt 10 λ x. x, tt)),
+          ) (m61 (before· .before) (before· .mark-all-arg .given))
 
         pub record After-mark-all : Type 0 where
           pub before : After-mark-all-arg
           pub mark-all : After-mark-all·own before
 
-        abbrev pub After-mark-all·gave : (c : After-mark-all) → s65 .gives (m58 (c .before .before) (c .before .mark-all-arg .given))
-        After-mark-all·gave = λ c. Called.given ps·3 r·3 (claims· .7) T70 (
+        abbrev pub After-mark-all·gave : (c : After-mark-all) → s68 .gives (m61 (c .before .before) (c .before .mark-all-arg .given))
+        After-mark-all·gave = λ c. Called.given ps·3 r·3 (claims· .7) T73 (
           record {
-            pos = 20;
+            pos = 21;
             ty = Syntax.tyRef Syntax.erased Syntax.mut SlotAs.pointee;
             ref = λ
                 x. x;
           },
-          (Num.vAt 9 λ x. x, (Num.vAt 10 λ x. x, tt)),
-        ) (m58 (c .before .before) (c .before .mark-all-arg .given)) (c .mark-all)
+          (record { pos = 9; st = []; d = 0; at = λ x. x }, (Num.vAt 10 λ x. x, tt)),
+        ) (m61 (c .before .before) (c .before .mark-all-arg .given))
+            (c .mark-all)
 
-        abbrev pub m60 : (before : After-mark-all-arg) → (given : s65 .gives (m58 (before .before) (before .mark-all-arg .given))) → Typed.Mo T72
-        m60 = λ before given. s66 (m59 before given)
+        abbrev pub m63 : (before : After-mark-all-arg) → (given : s68 .gives (m61 (before .before) (before .mark-all-arg .given))) → Typed.Mo T75
+        m63 = λ before given. s69 (m62 before given)
 
-        abbrev pub m61 : (before : After-mark-all) → (given : s68 .gives (m60 (before .before) (After-mark-all·gave before))) → Typed.Mo T74
-        m61 = λ before given. s68 .next (m60 (before .before) (After-mark-all·gave before)) given
+        abbrev pub m64 : (before : After-mark-all-arg) → (given : s68 .gives (m61 (before .before) (before .mark-all-arg .given))) → Typed.Mo T76
+        m64 = λ before given. s70 (m63 before given)
 
-        abbrev pub m62 : (before : After-mark-all) → (given : s68 .gives (m60 (before .before) (After-mark-all·gave before))) → Typed.Mo T76
-        m62 = λ before given. s70 (m61 before given)
+        abbrev pub m65 : (before : After-mark-all) → (given : s72 .gives (m64 (before .before) (After-mark-all·gave before))) → Typed.Mo T78
+        m65 = λ before given. s72 .next (m64 (before .before) (After-mark-all·gave before)) given
 
-        abbrev pub m63 : (before : After-mark-all) → (given : s68 .gives (m60 (before .before) (After-mark-all·gave before))) → Typed.Mo T77
-        m63 = λ before given. s71 (m62 before given)
-
-        abbrev pub m64 : (before : After-mark-all) → (given : s68 .gives (m60 (before .before) (After-mark-all·gave before))) → Typed.Mo T78
-        m64 = λ before given. s72 (m63 before given)
-
-        abbrev pub m65 : (before : After-mark-all) → (given : s68 .gives (m60 (before .before) (After-mark-all·gave before))) → Typed.Mo T79
-        m65 = λ before given. s73 (m64 before given)
-
-        abbrev pub m66 : (before : After-mark-all) → (given : s68 .gives (m60 (before .before) (After-mark-all·gave before))) → Typed.Mo T80
+        abbrev pub m66 : (before : After-mark-all) → (given : s72 .gives (m64 (before .before) (After-mark-all·gave before))) → Typed.Mo T80
         m66 = λ before given. s74 (m65 before given)
 
-        abbrev pub m67 : (before : After-mark-all) → (given : s68 .gives (m60 (before .before) (After-mark-all·gave before))) → Typed.Mo T81
+        abbrev pub m67 : (before : After-mark-all) → (given : s72 .gives (m64 (before .before) (After-mark-all·gave before))) → Typed.Mo T81
         m67 = λ before given. s75 (m66 before given)
 
-        abbrev pub m68 : (before : After-mark-all) → (given : s68 .gives (m60 (before .before) (After-mark-all·gave before))) → Typed.Mo T82
+        abbrev pub m68 : (before : After-mark-all) → (given : s72 .gives (m64 (before .before) (After-mark-all·gave before))) → Typed.Mo T82
         m68 = λ before given. s76 (m67 before given)
+
+        abbrev pub m69 : (before : After-mark-all) → (given : s72 .gives (m64 (before .before) (After-mark-all·gave before))) → Typed.Mo T83
+        m69 = λ before given. s77 (m68 before given)
+
+        abbrev pub m70 : (before : After-mark-all) → (given : s72 .gives (m64 (before .before) (After-mark-all·gave before))) → Typed.Mo T84
+        m70 = λ before given. s78 (m69 before given)
+
+        abbrev pub m71 : (before : After-mark-all) → (given : s72 .gives (m64 (before .before) (After-mark-all·gave before))) → Typed.Mo T85
+        m71 = λ before given. s79 (m70 before given)
 
         module _ (before· : After-mark-all) where
           pub record After-table·own : Type 0 where
-            pub given : s68 .gives (m60 (before· .before) (After-mark-all·gave before·))
+            pub given : s72 .gives (m64 (before· .before) (After-mark-all·gave before·))
 
         pub record After-table : Type 0 where
           pub before : After-mark-all
           pub table : After-table·own before
 
         abbrev pub Need-same-length-5 : Type 0
-        Need-same-length-5 = (c : After-table) → MutSlice.SameLen (Row.get 2 (T82 .locals) (m68 (c .before) (c .table .given))) (dens (c .before .before .before
+        Need-same-length-5 = (c : After-table) → MutSlice.SameLen (Row.get 2 (T85 .locals) (m71 (c .before) (c .table .given))) (dens (c .before .before .before
             .before .before .before .before .before .before .before .before .before .before .before .before .κs) (c .before .before .before .before .before
             .before .before .before .before .before .before .before .before .before .before .args) .1 .0)
 
@@ -4151,23 +4557,23 @@ module _ (claims· : Claims) where
         Need-returns-5 = (c : After-table) → Post· (c .before .before .before .before .before .before .before .before .before .before .before .before .before
             .before .before .κs) (dens (c .before .before .before .before .before .before .before .before .before .before .before .before .before .before .before
             .κs) (c .before .before .before .before .before .before .before .before .before .before .before .before .before .before .before .args))
-            (Function.resV r (c .before .before .before .before .before .before .before .before .before .before .before .before .before .before .before .κs) (m68
+            (Function.resV r (c .before .before .before .before .before .before .before .before .before .before .before .before .before .before .before .κs) (m71
             (c .before) (c .table .given) .0)) (Clauses.atExit (Kinds.endedOf 2 ps r) (c .before .before .before .before .before .before .before .before .before
             .before .before .before .before .before .before .κs) (dens (c .before .before .before .before .before .before .before .before .before .before .before
             .before .before .before .before .κs) (c .before .before .before .before .before .before .before .before .before .before .before .before .before
             .before .before .args)) (Enter.lastsP (c .before .before .before .before .before .before .before .before .before .before .before .before .before
             .before .before .κs) 1 ps xs (dens (c .before .before .before .before .before .before .before .before .before .before .before .before .before .before
-            .before .κs) (c .before .before .before .before .before .before .before .before .before .before .before .before .before .before .before .args)) (m68
+            .before .κs) (c .before .before .before .before .before .before .before .before .before .before .before .before .before .before .before .args)) (m71
             (c .before) (c .table .given) .1)))
 
         module _ (judge-requires : Need-judge-requires) (same-length : Need-same-length) (returns : Need-returns) (cast-f : Need-cast-f) (same-length-2 :
-            Need-same-length-2) (returns-2 : Need-returns-2) (same-length-3 : Need-same-length-3) (returns-3 : Need-returns-3) (add-b : Need-add-b) (sub-b :
-            Need-sub-b) (mark-byte-requires : Need-mark-byte-requires) (slice-reshare-prefix-mark-of : Need-slice-reshare-prefix-mark-of)
+            Need-same-length-2) (returns-2 : Need-returns-2) (same-length-3 : Need-same-length-3) (returns-3 : Need-returns-3) (add-t14 : Need-add-t14) (sub-t15
+            : Need-sub-t15) (mark-byte-requires : Need-mark-byte-requires) (slice-reshare-prefix-mark-of : Need-slice-reshare-prefix-mark-of)
             (slice-aggregate-mark-of : Need-slice-aggregate-mark-of) (mark-of-requires : Need-mark-of-requires) (same-length-4 : Need-same-length-4) (returns-4 :
             Need-returns-4) (slice-relend-prefix-mark-all : Need-slice-relend-prefix-mark-all) (slice-aggregate-mark-all : Need-slice-aggregate-mark-all)
             (mark-all-requires : Need-mark-all-requires) (same-length-5 : Need-same-length-5) (returns-5 : Need-returns-5) where
           lay16 : (c : After-mark-all) → at53 (W0 (c .before .before .before .before .before .before .before .before .before .before .before .before .before
-              .before .κs) (c .before .before .before .before .before .before .before .before .before .before .before .before .before .before .args)) (m59 (c
+              .before .κs) (c .before .before .before .before .before .before .before .before .before .before .before .before .before .before .args)) (m62 (c
               .before) (After-mark-all·gave c))
           lay16 = λ c. (
             Path'.refl,
@@ -4175,8 +4581,8 @@ module _ (claims· : Claims) where
               (
                 Path'.refl,
                 (
-                  MutSlice.fix-len (Row.get 2 (T82 .locals) (m68 record { before = c .before; mark-all = c .mark-all } g)
-                      .ptr) (Row.get 2 (T82 .locals) (m68 record { before = c .before; mark-all = c .mark-all } g) .name) (Row.get 2 (T82 .locals) (m68 record {
+                  MutSlice.fix-len (Row.get 2 (T85 .locals) (m71 record { before = c .before; mark-all = c .mark-all } g)
+                      .ptr) (Row.get 2 (T85 .locals) (m71 record { before = c .before; mark-all = c .mark-all } g) .name) (Row.get 2 (T85 .locals) (m71 record {
                         before
                             = c .before;
                         mark-all = c .mark-all;
@@ -4194,12 +4600,12 @@ module _ (claims· : Claims) where
           )
 
           lay15 : (c : Else4) → at57 (W0 (c .before .before .before .before .before .before .before .before .before .before .before .before .κs) (c .before
-              .before .before .before .before .before .before .before .before .before .before .before .args)) (m56 (c .before))
+              .before .before .before .before .before .before .before .before .before .before .before .args)) (m59 (c .before))
           lay15 = λ c. (
             slice-relend-prefix-mark-all record { before = c .before; if4 = c .if4 },
             λ g. (
-              Relend.count-is T69 19 20 (λ x. x) (λ u. u .1 .1 .1 .1 .1
-                  .1 .0) (m57 record { before = c .before; if4 = c .if4 } g) (slice-aggregate-mark-all record {
+              Relend.count-is T72 20 21 (λ x. x) (λ u. u .1 .1 .1 .1 .1
+                  .1 .0) (m60 record { before = c .before; if4 = c .if4 } g) (slice-aggregate-mark-all record {
                     before = record {
                       before = c .before;
                       if4 = c .if4;
@@ -4217,29 +4623,29 @@ module _ (claims· : Claims) where
                     before = record { before = c .before; if4 = c .if4 };
                     mark-all-arg = record { given = g };
                   };
-                  mark-all = Called.called ps·3 r·3 (claims· .7) T70 (
+                  mark-all = Called.called ps·3 r·3 (claims· .7) T73 (
                     record {
-                      pos = 20;
+                      pos = 21;
                       ty = Syntax.tyRef Syntax.erased Syntax.mut SlotAs.pointee;
                       ref = λ x. x;
                     },
-                    (Num.vAt 9 λ x. x, (Num.vAt 10 λ x. x, tt)),
-                  ) (m58 record { before = c .before; if4 = c .if4 } g) g';
+                    (record { pos = 9; st = []; d = 0; at = λ x. x }, (Num.vAt 10 λ x. x, tt)),
+                  ) (m61 record { before = c .before; if4 = c .if4 } g) g';
                 },
               ),
             ),
           )
 
-          lay14 : (c : Else4) → at39 (W4 (c .before .before) (After-mark-of·gave (c .before))) (m47 (c .before .before) (After-mark-of·gave (c .before)))
+          lay14 : (c : Else4) → at39 (W4 (c .before .before) (After-mark-of·gave (c .before))) (m50 (c .before .before) (After-mark-of·gave (c .before)))
           lay14 = λ c. lay15 record { before = c .before; if4 = c .if4 }
 
-          lay13 : (c : Then4) → at37 (W4 (c .before .before) (After-mark-of·gave (c .before))) (m47 (c .before .before) (After-mark-of·gave (c .before)))
+          lay13 : (c : Then4) → at37 (W4 (c .before .before) (After-mark-of·gave (c .before))) (m50 (c .before .before) (After-mark-of·gave (c .before)))
           lay13 = λ c. (
             (
               Path'.refl,
               (
-                MutSlice.fix-len (Row.get 2 (T66 .locals) (m55 (c .before)) .ptr) (Row.get 2 (T66 .locals) (m55 (c .before)) .name)
-                    (Row.get 2 (T66 .locals) (m55 (c .before)) .now) (dens (c .before .before .before .before .before .before .before .before .before .before .before
+                MutSlice.fix-len (Row.get 2 (T69 .locals) (m58 (c .before)) .ptr) (Row.get 2 (T69 .locals) (m58 (c .before)) .name)
+                    (Row.get 2 (T69 .locals) (m58 (c .before)) .now) (dens (c .before .before .before .before .before .before .before .before .before .before .before
                     .before .κs) (c .before .before .before .before .before .before .before .before .before .before .before .before .args) .1 .0 .now) (same-length-4
                     record { before = c .before; if4 = c .if4 }),
                 (tt, (tt, tt)),
@@ -4249,7 +4655,7 @@ module _ (claims· : Claims) where
           )
 
           lay12 : (c : After-mark-of) → at63 (W0 (c .before .before .before .before .before .before .before .before .before .before .before .κs) (c .before
-              .before .before .before .before .before .before .before .before .before .before .args)) (m43 (c .before) (After-mark-of·gave c))
+              .before .before .before .before .before .before .before .before .before .before .args)) (m46 (c .before) (After-mark-of·gave c))
           lay12 = λ c. (
             tt,
             (
@@ -4257,27 +4663,27 @@ module _ (claims· : Claims) where
                 before = record { before = c .before; mark-of = c .mark-of };
                 if4 = record {
                   taken = Tests.eqb-true (Row.get
-                      15 (T54 .locals) (m45 (c .before) (After-mark-of·gave c))) (Row.get 10 (T54 .locals) (m45 (c .before) (After-mark-of·gave c))) taken;
+                      16 (T57 .locals) (m48 (c .before) (After-mark-of·gave c))) (Row.get 10 (T57 .locals) (m48 (c .before) (After-mark-of·gave c))) taken;
                 };
               },
               λ left.
                   lay14 record {
                     before = record { before = c .before; mark-of = c .mark-of };
                     if4 = record {
-                      left = Tests.eqb-false (Row.get 15 (T54 .locals) (m45
-                          (c .before) (After-mark-of·gave c))) (Row.get 10 (T54 .locals) (m45 (c .before) (After-mark-of·gave c))) left;
+                      left = Tests.eqb-false (Row.get 16 (T57 .locals) (m48
+                          (c .before) (After-mark-of·gave c))) (Row.get 10 (T57 .locals) (m48 (c .before) (After-mark-of·gave c))) left;
                     };
                   },
             ),
           )
 
-          lay11 : (c : After-mark-byte) → at67 (W0 (c .before .before .before .before .before .before .before .before .before .κs) (c .before .before .before
-              .before .before .before .before .before .before .args)) (m40 (c .before) (After-mark-byte·gave c))
+          lay11 : (c : After-mark-byte) → at68 (W0 (c .before .before .before .before .before .before .before .before .before .κs) (c .before .before .before
+              .before .before .before .before .before .before .args)) (m42 (c .before) (After-mark-byte·gave c))
           lay11 = λ c. (
             slice-reshare-prefix-mark-of record { before = c .before; mark-byte = c .mark-byte },
             λ g. (
-              Relend.count-is T49 16 17 (λ x. x) (λ u. u .1
-                  .1 .1 .1 .1 .1 .0) (m41 record { before = c .before; mark-byte = c .mark-byte } g) (slice-aggregate-mark-of record {
+              Relend.count-is T51 17 18 (λ x. x) (λ u. u .1
+                  .1 .1 .1 .1 .1 .0) (m43 record { before = c .before; mark-byte = c .mark-byte } g) (slice-aggregate-mark-of record {
                     before = record {
                       before = c
                           .before;
@@ -4301,30 +4707,29 @@ module _ (claims· : Claims) where
                     };
                     mark-of-arg = record { given = g };
                   };
-                  mark-of = Called.called ps·2 r·2 (claims· .5) T50 (
+                  mark-of = Called.called ps·2 r·2 (claims· .5) T53 (
                     record {
-                      pos = 17;
+                      pos = 18;
                       ty =
                           Syntax.tyRef Syntax.erased Syntax.imm SlotAs.pointee;
                       ref = λ x. x;
                     },
-                    (Num.vAt 9 λ x. x, tt),
-                  ) (m42 record {
+                    (record { pos = 9; st = []; d = 0; at = λ x. x }, tt),
+                  ) (m45 record {
                     before = c .before;
-                    mark-byte = c
-                        .mark-byte;
+                    mark-byte = c .mark-byte;
                   } g) g';
                 },
               ),
             ),
           )
 
-          lay10 : (c : Else3) → at71 (W0 (c .before .before .before .before .before .before .before .before .κs) (c .before .before .before .before .before
+          lay10 : (c : Else3) → at74 (W0 (c .before .before .before .before .before .before .before .before .κs) (c .before .before .before .before .before
               .before .before .before .args)) (m36 (c .before))
           lay10 = λ c. (
-            add-b record { before = c .before; if3 = c .if3 },
+            add-t14 record { before = c .before; if3 = c .if3 },
             (
-              sub-b record { before = c .before; if3 = c .if3 },
+              sub-t15 record { before = c .before; if3 = c .if3 },
               (
                 mark-byte-requires record {
                   before = c .before;
@@ -4333,7 +4738,7 @@ module _ (claims· : Claims) where
                 λ g. lay11 record {
                   before = record { before = c .before; if3 = c .if3 };
                   mark-byte = Called.called ps·1 r·1
-                      (claims· .3) T46 (Bool.bAt 4 λ x. x, tt) (m39 (c .before)) g;
+                      (claims· .3) T48 (Bool.bAt 4 λ x. x, tt) (m41 (c .before)) g;
                 },
               ),
             ),
@@ -4357,7 +4762,7 @@ module _ (claims· : Claims) where
                 record { before = c .before; if3 = c .if3 },
           )
 
-          lay7 : (c : Else2) → at73 (W0 (c .before .before .before .before .before .before .before .κs) (c .before .before .before .before .before .before
+          lay7 : (c : Else2) → at76 (W0 (c .before .before .before .before .before .before .before .κs) (c .before .before .before .before .before .before
               .before .args)) (m28 (c .before))
           lay7 = λ c. (
             tt,
@@ -4402,7 +4807,7 @@ module _ (claims· : Claims) where
             },
           )
 
-          lay4 : (c : Else1) → at81 (W0 (c .before .before .before .before .before .κs) (c .before .before .before .before .before .args)) (m14 (c .before))
+          lay4 : (c : Else1) → at84 (W0 (c .before .before .before .before .before .κs) (c .before .before .before .before .before .args)) (m14 (c .before))
           lay4 = λ c. λ g. (
             cast-f record { before = record { before = c .before; if1 = c .if1 }; struct-known2 = record { given = g } },
             (
@@ -4445,7 +4850,7 @@ module _ (claims· : Claims) where
             returns record { before = c .before; if1 = c .if1 },
           )
 
-          lay1 : (c : After-judge) → at88 (W0 (c .before .before .before .κs) (c .before .before .before .args)) (m4 (c .before) (After-judge·gave c))
+          lay1 : (c : After-judge) → at91 (W0 (c .before .before .before .κs) (c .before .before .before .args)) (m4 (c .before) (After-judge·gave c))
           lay1 = λ c. λ g. (
             tt,
             (
@@ -4487,7 +4892,7 @@ module _ (claims· : Claims) where
             ),
           )
 
-          pub laid : (c : Start) → at93 (W0 (c .κs) (c .args)) (m0 (c .κs) (c .args))
+          pub laid : (c : Start) → at96 (W0 (c .κs) (c .args)) (m0 (c .κs) (c .args))
           laid = λ c. λ g. λ g'. (
             Path'.refl,
             (

@@ -197,13 +197,13 @@ abbrev pub Need-returns-3 : Type 0
 Need-returns-3 = Lts.Need-returns-3 (Reads'.Asked, Reads'.Learnt, Reads.Asked, Reads.Learnt, Reads'3.Asked, Reads'3.Learnt, Reads''.Asked, Reads''.Learnt)
     Reads'4.Pre Reads'4.Post
 
-abbrev pub Need-add-b : Type 0
-Need-add-b = Lts.Need-add-b (Reads'.Asked, Reads'.Learnt, Reads.Asked, Reads.Learnt, Reads'3.Asked, Reads'3.Learnt, Reads''.Asked, Reads''.Learnt) Reads'4.Pre
-    Reads'4.Post
+abbrev pub Need-add-t14 : Type 0
+Need-add-t14 = Lts.Need-add-t14 (Reads'.Asked, Reads'.Learnt, Reads.Asked, Reads.Learnt, Reads'3.Asked, Reads'3.Learnt, Reads''.Asked, Reads''.Learnt)
+    Reads'4.Pre Reads'4.Post
 
-abbrev pub Need-sub-b : Type 0
-Need-sub-b = Lts.Need-sub-b (Reads'.Asked, Reads'.Learnt, Reads.Asked, Reads.Learnt, Reads'3.Asked, Reads'3.Learnt, Reads''.Asked, Reads''.Learnt) Reads'4.Pre
-    Reads'4.Post
+abbrev pub Need-sub-t15 : Type 0
+Need-sub-t15 = Lts.Need-sub-t15 (Reads'.Asked, Reads'.Learnt, Reads.Asked, Reads.Learnt, Reads'3.Asked, Reads'3.Learnt, Reads''.Asked, Reads''.Learnt)
+    Reads'4.Pre Reads'4.Post
 
 abbrev pub Need-mark-byte-requires : Type 0
 Need-mark-byte-requires = Lts.Need-mark-byte-requires (
@@ -323,7 +323,7 @@ Need-returns-5 = Lts.Need-returns-5 (Reads'.Asked, Reads'.Learnt, Reads.Asked, R
 
 module _ {M : Type 1} where
   pub spec : (answer : Need-judge-requires) → (answer : Need-same-length) → (answer : Need-returns) → (answer : Need-cast-f) → (answer : Need-same-length-2) →
-      (answer : Need-returns-2) → (answer : Need-same-length-3) → (answer : Need-returns-3) → (answer : Need-add-b) → (answer : Need-sub-b) → (answer :
+      (answer : Need-returns-2) → (answer : Need-same-length-3) → (answer : Need-returns-3) → (answer : Need-add-t14) → (answer : Need-sub-t15) → (answer :
       Need-mark-byte-requires) → (answer : Need-slice-reshare-prefix-mark-of) → (answer : Need-slice-aggregate-mark-of) → (answer : Need-mark-of-requires) →
       (answer : Need-same-length-4) → (answer : Need-returns-4) → (answer : Need-slice-relend-prefix-mark-all) → (answer : Need-slice-aggregate-mark-all) →
       (answer : Need-mark-all-requires) → (answer : Need-same-length-5) → (answer : Need-returns-5) → Lts.Closed (

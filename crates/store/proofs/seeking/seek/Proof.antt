@@ -1,3 +1,5 @@
+use mathlib.Core.Path.{ap}
+use Rattle.fields.specs.declared.Serial.{Serial}
 use native.Mathlib.Omega.{arith}
 use native.Mathlib.Nat.{le-trans}
 use Prim.Native.Nat.{_≤_, _-_}
@@ -15,7 +17,7 @@ use Rattle.store.proofs.Walked.seeking.seek.Reads as reads
 use Rattle.store.proofs.seeking.seek.Proof.Lts as lts
 
 abbrev Inv-loop : tie.InvT-loop
-Inv-loop table hi x s₀ near₀ looks₀ s near looks = (s .hi ≤ hi) × (Rises table hi → Bracket (serialAt table) 0 hi x (s .lo) (s .hi))
+Inv-loop table hi x s₀ near₀ looks₀ s near looks = (s .hi ≤ hi) × (Rises table hi → Bracket (serialAt table) 0 hi (x .0) (s .lo) (s .hi))
 
 abbrev μ-loop : tie.MeasureT-loop
 μ-loop table hi x s₀ near₀ looks₀ s near looks = s .hi - s .lo
@@ -42,7 +44,7 @@ loop-less : tie.Need-loop-less Inv-loop μ-loop
 loop-less c = rw (c .before .part .ensures) (part-less (c .before .before .before .before .before .before .before .loop .s) _ _ _ (c .before .before .before .before .probe .ensures .0) (c .before .before .before .before .probe .ensures .1))
 
 loop-again : tie.Need-loop-again Inv-loop μ-loop
-loop-again c = rw (c .before .part .ensures) (le-trans (part-within (c .before .before .before .before .before .before .before .loop .s) _ _ _ (c .before .before .before .before .probe .ensures .1)) (c .before .before .before .before .before .before .before .loop .inv .0), λ r. slot-held (c .before .before .before .before .before .before .before .before .args .table .now) _ _ (c .before .before .before .before .before .before .before .loop .s) _ _ _ (c .before .before .before .slot-at .ensures) (c .before .before .serial-of .ensures) (c .before .before .before .before .probe .ensures .0) (c .before .before .before .before .probe .ensures .1) r (c .before .before .before .before .before .before .before .loop .inv .1 r))
+loop-again c = rw (c .before .part .ensures) (le-trans (part-within (c .before .before .before .before .before .before .before .loop .s) _ _ _ (c .before .before .before .before .probe .ensures .1)) (c .before .before .before .before .before .before .before .loop .inv .0), λ r. slot-held (c .before .before .before .before .before .before .before .before .args .table .now) _ _ (c .before .before .before .before .before .before .before .loop .s) _ _ _ (c .before .before .before .slot-at .ensures) (ap (λ (n : Serial). n .0) (c .before .before .serial-of .ensures)) (c .before .before .before .before .probe .ensures .0) (c .before .before .before .before .probe .ensures .1) r (c .before .before .before .before .before .before .before .loop .inv .1 r))
 
 returns : tie.Need-returns Inv-loop μ-loop
 returns c = λ r. bracket-met _ _ _ _ _ _ (c .before .before .loop .inv .1 r) (c .if1 .left)

@@ -2,6 +2,7 @@
 
 use std::fs;
 use std::os::unix::fs::symlink;
+use std::path::Path;
 
 use crate::folder::Folder;
 use crate::texts::{arginine, three};
@@ -41,6 +42,24 @@ fn check_lists_the_report() {
     answer.is(1, "verdict=20\nline=0\nlines=0\nremark=0\n");
     let answer = folder.station(&["check", "--report", "a.pdb", "long.pdb"]);
     answer.is(1, "file=long.pdb\nverdict=20\n");
+}
+
+#[test]
+fn check_lists_what_the_report_program_prints() {
+    let folder = Folder::new("cases");
+    let cases = Path::new(env!("CARGO_MANIFEST_DIR")).join("../../../crates/report/cases");
+    let stored = |name: &str| fs::read_to_string(cases.join(name)).expect("a stored case");
+    let texts = [
+        ("accepted", 0, stored("accepted.in")),
+        ("refused", 1, stored("refused.in")),
+        ("longest", 1, " ".repeat(65_529)),
+        ("too_long", 1, " ".repeat(65_530)),
+    ];
+    for (name, status, text) in texts {
+        folder.file("a.pdb", text);
+        let answer = folder.station(&["check", "--report", "a.pdb"]);
+        assert_eq!((answer.status, answer.out), (status, stored(&format!("{name}.out"))), "{name}");
+    }
 }
 
 #[test]

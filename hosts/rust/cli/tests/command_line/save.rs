@@ -18,10 +18,50 @@ fragment  chain  residues  atoms  first      last       where
        3  B             1      1  ALA 8      ALA 8      in
 ";
     assert_eq!((answer.status, answer.out.as_str()), (0, expected));
-    folder.station(&["fragments", "a.pdb", "--aside", "4"]).is(1, "fragment 4: refused with 15");
-    folder.station(&["fragments", "a.pdb", "--aside", "2,2"]).is(1, "fragment 2: refused with 16");
+    assert_eq!(folder.station(&["fragments", "a.pdb", "--aside", "2,2-2"]).out, expected);
     folder.station(&["fragments", "."]).is(2, "it is a folder");
     folder.station(&["fragments", "none"]).is(2, "could not be read");
+}
+
+#[test]
+fn fragments_that_cannot_be_set_aside() {
+    let folder = Folder::new("aside");
+    folder.file("a.pdb", three());
+    let aside = |list: &str| folder.station(&["fragments", "a.pdb", "--aside", list]);
+    let answer = aside("4");
+    answer.is(1, "a.pdb: fragment 4: refused with 15: there is no such fragment\n  the entry has 3 fragments\n");
+    assert_eq!(answer.out, "");
+    aside("2-4294967295").is(1, "fragment 4: refused with 15");
+    aside("2-99999999999").is(2, "there is no fragment 99999999999; no entry has so many");
+    aside("0").is(2, "--aside 0: there is no fragment 0; they count from 1 (see station --help)");
+    aside("1,3-2").is(2, "--aside 1,3-2: the range 3-2 is the wrong way round; 2-3 would do");
+    aside("1;2").is(2, "\"1;2\" is no fragment number and no range; a list is such as 2,5 or 2,7-9");
+    folder.file("bare.pdb", [line("HEADER"), master(0, 0, 0), line("END")].concat());
+    folder.station(&["fragments", "bare.pdb"]).is(0, "fragment  chain");
+    folder.station(&["fragments", "bare.pdb", "--aside", "1"]).is(1, "the entry has 0 fragments");
+}
+
+/// An order for each water would judge the text 25,000 times, for a minute or more.
+#[test]
+fn thousands_of_waters_at_once() {
+    let folder = Folder::new("waters");
+    let (chains, waters) = (8, 25_002);
+    let mut lines = vec![line("HEADER")];
+    for (chain, serial) in ('A'..).take(chains).zip((1u32..).step_by(2)) {
+        lines.push(atom("ATOM", serial, chain, 1, "0.000"));
+        lines.push(line(&format!("TER   {:5}      ALA {chain}   1", serial + 1)));
+    }
+    let chain = lines.concat();
+    let water = |index: u32| atom("HETATM", 17 + index, 'W', (index % 9_999) as i32, "1.000");
+    let tail: String = (0..waters).map(water).collect();
+    let end = |atoms: u32| master(atoms, 8, 0) + &line("END");
+    folder.file("a.pdb", chain.clone() + &tail + &end(8 + waters));
+    let save = ["save", "a.pdb", "--out", "dry", "--tray", "water", "--aside", "9-25010"];
+    folder.station(&save).is(0, "water: 25002 lines");
+    assert!(folder.read("dry") == chain + &end(8));
+    assert!(folder.read("water") == tail);
+    folder.station(&["fragments", "a.pdb", "--aside", "2,5,9-25010"]).is(0, "   25010  W             1      1");
+    folder.station(&["fragments", "a.pdb", "--aside", "9-25011"]).is(1, "fragment 25011: refused with 15");
 }
 
 #[test]

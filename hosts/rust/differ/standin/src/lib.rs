@@ -76,9 +76,34 @@ pub unsafe extern "C" fn station_order(
     fragment: u32,
     aside: u8,
 ) -> u32 {
-    let mark = if aside == 0 { Mark::In } else { Mark::Aside };
     let fragment = reference::FragmentNumber(fragment);
-    number(reference::order(lent(text, n), lent_mut(table, slots), fragment, mark))
+    number(reference::order(lent(text, n), lent_mut(table, slots), fragment, Mark::asked(aside)))
+}
+
+#[no_mangle]
+pub unsafe extern "C" fn station_arrange(
+    text: *const u8,
+    n: usize,
+    table: *mut Slot,
+    slots: usize,
+    aside: *const u8,
+    fragments: usize,
+) -> u32 {
+    let marks: Vec<Mark> = lent(aside, fragments).iter().copied().map(Mark::asked).collect();
+    number(reference::arrange(lent(text, n), lent_mut(table, slots), &marks))
+}
+
+#[no_mangle]
+pub unsafe extern "C" fn station_fragments(
+    text: *const u8,
+    n: usize,
+    table: *const Slot,
+    slots: usize,
+    out: *mut u32,
+    room: usize,
+    count: *mut u64,
+) -> u32 {
+    counted(reference::fragment_numbers(lent(text, n), lent(table, slots), lent_mut(out, room)), count)
 }
 
 #[no_mangle]

@@ -1,8 +1,10 @@
 -- Machine-made by tools/walks; do not edit.
 use Rattle.store.proofs.SlotAs
 use Prim.Native.Nat
+use Rattle.fragments.proofs.FromLast
+use Rattle.fragments.proofs.FromLast.Laws
 use Rattle.fragments.proofs.Tail
-use Rattle.fragments.proofs.Tail.Laws
+use Rattle.fragments.proofs.Tail.Laws as Laws'
 use borrow.Author.Called
 use borrow.Author.Tests
 use borrow.Fn.Any
@@ -34,7 +36,7 @@ use borrow.Table.Typed
 use contract.Lifetimes
 use denote.Exit
 use denote.Struct.Declared
-use denote.Struct.Laws as Laws'
+use denote.Struct.Laws as Laws''
 use denote.Triple.Clauses
 use denote.Triple.Statement
 use ghost.Atoms
@@ -49,7 +51,26 @@ use prog.Wp
 use types.Kit
 
 abbrev pub ps : List.List (Kinds.PK 1)
-ps = MutSlice.pMutS SlotAs.row 0 tt ∷ Num.pNum Syntax.w64 ∷ Num.pNum Syntax.w8 ∷ []
+ps = MutSlice.pMutS SlotAs.row 0 tt ∷ (Value.pVal record {
+  ty = Declared.row FromLast.the-type;
+  one = Path'.refl;
+  val = Laws''.val FromLast.the-type
+      Laws.the-laws;
+  tells = Laws''.tells FromLast.the-type Laws.the-laws;
+  still = Laws''.still FromLast.the-type Laws.the-copy Exit.yes;
+  row = Rows'.whole
+      (Declared.row FromLast.the-type);
+  rd = λ x. x;
+  mk = λ x. x;
+} λ M 𝓤 H A W. record {
+  copies = Laws''.copy FromLast.the-type Laws.the-copy 𝓤 H A W;
+  lawful =
+      Laws''.lawful FromLast.the-type Laws.the-laws 𝓤 H A W;
+  makes = Laws''.makes FromLast.the-type Laws.the-plain 𝓤 H A;
+  in-mem = Local.mem-whole 𝓤 H A W
+      (Declared.row FromLast.the-type);
+  of-mem = Local.whole-mem 𝓤 H A W (Declared.row FromLast.the-type);
+}) ∷ Num.pNum Syntax.w8 ∷ []
 
 abbrev pub r : Kinds.RK 1
 r = Unit'.rUnit
@@ -74,89 +95,107 @@ abbrev pub r·0 : Kinds.RK 0
 r·0 = Value.rVal record {
   ty = Declared.row Tail.the-type;
   one = Path'.refl;
-  val = Laws'.val Tail.the-type Laws.the-laws;
-  tells = Laws'.tells Tail.the-type
-      Laws.the-laws;
-  still = Laws'.still Tail.the-type Laws.the-copy Exit.yes;
+  val = Laws''.val Tail.the-type Laws'.the-laws;
+  tells = Laws''.tells Tail.the-type
+      Laws'.the-laws;
+  still = Laws''.still Tail.the-type Laws'.the-copy Exit.yes;
   row = Rows'.whole (Declared.row Tail.the-type);
   rd = λ x. x;
   mk = λ x. x;
-} λ M 𝓤
-    H A W. record {
-      copies = Laws'.copy Tail.the-type Laws.the-copy 𝓤 H A W;
-      lawful = Laws'.lawful Tail.the-type Laws.the-laws 𝓤 H A W;
-      makes = Laws'.makes
-          Tail.the-type Laws.the-plain 𝓤 H A;
+} λ M
+    𝓤 H A W. record {
+      copies = Laws''.copy Tail.the-type Laws'.the-copy 𝓤 H A W;
+      lawful = Laws''.lawful Tail.the-type Laws'.the-laws 𝓤 H A W;
+      makes =
+          Laws''.makes Tail.the-type Laws'.the-plain 𝓤 H A;
       in-mem = Local.mem-whole 𝓤 H A W (Declared.row Tail.the-type);
-      of-mem = Local.whole-mem 𝓤 H A W (Declared.row
-          Tail.the-type);
+      of-mem = Local.whole-mem 𝓤 H A W
+          (Declared.row Tail.the-type);
     }
 
 abbrev pub ps·1 : List.List (Kinds.PK 0)
 ps·1 = SlotAs.param ∷ (Value.pVal record {
   ty = Declared.row Tail.the-type;
   one = Path'.refl;
-  val = Laws'.val Tail.the-type Laws.the-laws;
-  tells = Laws'.tells
-      Tail.the-type Laws.the-laws;
-  still = Laws'.still Tail.the-type Laws.the-copy Exit.yes;
+  val = Laws''.val Tail.the-type Laws'.the-laws;
+  tells =
+      Laws''.tells Tail.the-type Laws'.the-laws;
+  still = Laws''.still Tail.the-type Laws'.the-copy Exit.yes;
   row = Rows'.whole (Declared.row Tail.the-type);
-  rd = λ x. x;
-  mk = λ
-      x. x;
+  rd =
+      λ x. x;
+  mk = λ x. x;
 } λ M 𝓤 H A W. record {
-  copies = Laws'.copy Tail.the-type Laws.the-copy 𝓤 H A W;
-  lawful = Laws'.lawful Tail.the-type Laws.the-laws 𝓤 H A W;
-  makes =
-      Laws'.makes Tail.the-type Laws.the-plain 𝓤 H A;
+  copies = Laws''.copy Tail.the-type Laws'.the-copy 𝓤 H A W;
+  lawful = Laws''.lawful Tail.the-type Laws'.the-laws
+      𝓤 H A W;
+  makes = Laws''.makes Tail.the-type Laws'.the-plain 𝓤 H A;
   in-mem = Local.mem-whole 𝓤 H A W (Declared.row Tail.the-type);
-  of-mem = Local.whole-mem 𝓤 H A W
-      (Declared.row Tail.the-type);
+  of-mem = Local.whole-mem
+      𝓤 H A W (Declared.row Tail.the-type);
 }) ∷ []
 
 abbrev pub r·1 : Kinds.RK 0
 r·1 = Value.rVal record {
   ty = Declared.row Tail.the-type;
   one = Path'.refl;
-  val = Laws'.val Tail.the-type Laws.the-laws;
-  tells = Laws'.tells Tail.the-type
-      Laws.the-laws;
-  still = Laws'.still Tail.the-type Laws.the-copy Exit.yes;
+  val = Laws''.val Tail.the-type Laws'.the-laws;
+  tells = Laws''.tells Tail.the-type
+      Laws'.the-laws;
+  still = Laws''.still Tail.the-type Laws'.the-copy Exit.yes;
   row = Rows'.whole (Declared.row Tail.the-type);
   rd = λ x. x;
   mk = λ x. x;
-} λ M 𝓤
-    H A W. record {
-      copies = Laws'.copy Tail.the-type Laws.the-copy 𝓤 H A W;
-      lawful = Laws'.lawful Tail.the-type Laws.the-laws 𝓤 H A W;
-      makes = Laws'.makes
-          Tail.the-type Laws.the-plain 𝓤 H A;
+} λ M
+    𝓤 H A W. record {
+      copies = Laws''.copy Tail.the-type Laws'.the-copy 𝓤 H A W;
+      lawful = Laws''.lawful Tail.the-type Laws'.the-laws 𝓤 H A W;
+      makes =
+          Laws''.makes Tail.the-type Laws'.the-plain 𝓤 H A;
       in-mem = Local.mem-whole 𝓤 H A W (Declared.row Tail.the-type);
-      of-mem = Local.whole-mem 𝓤 H A W (Declared.row
-          Tail.the-type);
+      of-mem = Local.whole-mem 𝓤 H A W
+          (Declared.row Tail.the-type);
     }
 
 abbrev pub ps·2 : List.List (Kinds.PK 0)
 ps·2 = (Value.pVal record {
   ty = Declared.row Tail.the-type;
   one = Path'.refl;
-  val = Laws'.val Tail.the-type Laws.the-laws;
-  tells = Laws'.tells Tail.the-type
-      Laws.the-laws;
-  still = Laws'.still Tail.the-type Laws.the-copy Exit.yes;
+  val = Laws''.val Tail.the-type Laws'.the-laws;
+  tells = Laws''.tells
+      Tail.the-type Laws'.the-laws;
+  still = Laws''.still Tail.the-type Laws'.the-copy Exit.yes;
   row = Rows'.whole (Declared.row Tail.the-type);
   rd = λ x. x;
+  mk =
+      λ x. x;
+} λ M 𝓤 H A W. record {
+  copies = Laws''.copy Tail.the-type Laws'.the-copy 𝓤 H A W;
+  lawful = Laws''.lawful Tail.the-type Laws'.the-laws 𝓤 H A W;
+  makes = Laws''.makes Tail.the-type Laws'.the-plain 𝓤 H A;
+  in-mem = Local.mem-whole 𝓤 H A W (Declared.row Tail.the-type);
+  of-mem = Local.whole-mem 𝓤 H A W
+      (Declared.row Tail.the-type);
+}) ∷ SlotAs.param ∷ (Value.pVal record {
+  ty = Declared.row FromLast.the-type;
+  one = Path'.refl;
+  val = Laws''.val
+      FromLast.the-type Laws.the-laws;
+  tells = Laws''.tells FromLast.the-type Laws.the-laws;
+  still = Laws''.still FromLast.the-type Laws.the-copy Exit.yes;
+  row =
+      Rows'.whole (Declared.row FromLast.the-type);
+  rd = λ x. x;
   mk = λ x. x;
-} λ M 𝓤
-    H A W. record {
-      copies = Laws'.copy Tail.the-type Laws.the-copy 𝓤 H A W;
-      lawful = Laws'.lawful Tail.the-type Laws.the-laws 𝓤 H A W;
-      makes = Laws'.makes
-          Tail.the-type Laws.the-plain 𝓤 H A;
-      in-mem = Local.mem-whole 𝓤 H A W (Declared.row Tail.the-type);
-      of-mem = Local.whole-mem 𝓤 H A W (Declared.row
-          Tail.the-type);
-    }) ∷ SlotAs.param ∷ Num.pNum Syntax.w64 ∷ Num.pNum Syntax.w8 ∷ []
+} λ M 𝓤 H A W. record {
+  copies = Laws''.copy FromLast.the-type Laws.the-copy 𝓤 H A
+      W;
+  lawful = Laws''.lawful FromLast.the-type Laws.the-laws 𝓤 H A W;
+  makes = Laws''.makes FromLast.the-type Laws.the-plain 𝓤 H A;
+  in-mem = Local.mem-whole 𝓤
+      H A W (Declared.row FromLast.the-type);
+  of-mem = Local.whole-mem 𝓤 H A W (Declared.row FromLast.the-type);
+}) ∷ Num.pNum Syntax.w8 ∷ []
 
 abbrev pub r·2 : Kinds.RK 0
 r·2 = SlotAs.result
@@ -282,30 +321,9 @@ Claims = Kinds.In 0 ps·0 × Kinds.Out 0 ps·0 r·0 × Kinds.In 0 ps·1 × Kinds
 abbrev pub t0 : List.List Row.Entry
 t0 = (0, Rows'.any-gone Syntax.tyUnit) ∷ (1, Mut.mslice SlotAs.row (Syntax.tyRef (Syntax.named 0) Syntax.mut SlotAs.pointee) 0) ∷ (
   2,
-  Rows'.sc-here (Row.sInt
-      Syntax.w64),
+  Rows'.whole (Declared.row
+      FromLast.the-type),
 ) ∷ (3, Rows'.sc-here (Row.sInt Syntax.w8)) ∷ (4, Rows'.any-gone (Syntax.tyInt Syntax.w64)) ∷ (
-  5,
-  Rows'.any-gone (Syntax.tyStruct (102 ∷ 114 ∷
-      97 ∷ 103 ∷ 109 ∷ 101 ∷ 110 ∷ 116 ∷ 115 ∷ 58 ∷ 58 ∷ 84 ∷ 97 ∷ 105 ∷ 108 ∷ []) (Syntax.tcons Syntax.tyBool (Syntax.tcons Syntax.tyBool (Syntax.tcons
-      (Syntax.tyStruct (114 ∷ 101 ∷ 115 ∷ 105 ∷ 100 ∷ 117 ∷ 101 ∷ 58 ∷ 58 ∷ 82 ∷ 101 ∷ 115 ∷ 105 ∷ 100 ∷ 117 ∷ 101 ∷ []) (Syntax.tcons (Syntax.tyStruct (110 ∷ 97
-      ∷ 109 ∷ 101 ∷ 115 ∷ 58 ∷ 58 ∷ 84 ∷ 104 ∷ 114 ∷ 101 ∷ 101 ∷ []) (Syntax.tcons (Syntax.tyInt Syntax.w8) (Syntax.tcons (Syntax.tyInt Syntax.w8) (Syntax.tcons
-      (Syntax.tyInt Syntax.w8) Syntax.tnil)))) (Syntax.tcons (Syntax.tyInt Syntax.w8) (Syntax.tcons (Syntax.tyStruct (102 ∷ 105 ∷ 101 ∷ 108 ∷ 100 ∷ 115 ∷ 58 ∷ 58
-      ∷ 82 ∷ 101 ∷ 115 ∷ 105 ∷ 100 ∷ 117 ∷ 101 ∷ 78 ∷ 117 ∷ 109 ∷ 98 ∷ 101 ∷ 114 ∷ []) (Syntax.tcons (Syntax.tyInt Syntax.w32) Syntax.tnil)) (Syntax.tcons
-      (Syntax.tyInt Syntax.w8) Syntax.tnil))))) (Syntax.tcons (Syntax.tyInt Syntax.w8) (Syntax.tcons (Syntax.tyInt Syntax.w64) (Syntax.tcons Syntax.tyBool
-      Syntax.tnil))))))),
-) ∷ (6, Rows'.any-gone SlotAs.ty) ∷ (7, Rows'.any-gone SlotAs.ty) ∷ (8, Rows'.any-gone Syntax.tyBool) ∷ (
-  9,
-  Rows'.any-gone (Syntax.tyInt
-      Syntax.w64),
-) ∷ (10, Rows'.any-gone Syntax.tyPtr) ∷ (11, Rows'.any-gone SlotAs.ty) ∷ (12, Rows'.any-gone Syntax.tyPtr) ∷ []
-
-abbrev pub t1 : List.List Row.Entry
-t1 = (0, Rows'.sc-here Row.sUnit) ∷ (1, Mut.mslice SlotAs.row (Syntax.tyRef (Syntax.named 0) Syntax.mut SlotAs.pointee) 0) ∷ (
-  2,
-  Rows'.any-gone (Syntax.tyInt
-      Syntax.w64),
-) ∷ (3, Rows'.any-gone (Syntax.tyInt Syntax.w8)) ∷ (4, Rows'.any-gone (Syntax.tyInt Syntax.w64)) ∷ (
   5,
   Rows'.any-gone (Syntax.tyStruct (102 ∷
       114 ∷ 97 ∷ 103 ∷ 109 ∷ 101 ∷ 110 ∷ 116 ∷ 115 ∷ 58 ∷ 58 ∷ 84 ∷ 97 ∷ 105 ∷ 108 ∷ []) (Syntax.tcons Syntax.tyBool (Syntax.tcons Syntax.tyBool (Syntax.tcons
@@ -321,15 +339,34 @@ t1 = (0, Rows'.sc-here Row.sUnit) ∷ (1, Mut.mslice SlotAs.row (Syntax.tyRef (S
       Syntax.w64),
 ) ∷ (10, Rows'.any-gone Syntax.tyPtr) ∷ (11, Rows'.any-gone SlotAs.ty) ∷ (12, Rows'.any-gone Syntax.tyPtr) ∷ []
 
+abbrev pub t1 : List.List Row.Entry
+t1 = (0, Rows'.sc-here Row.sUnit) ∷ (1, Mut.mslice SlotAs.row (Syntax.tyRef (Syntax.named 0) Syntax.mut SlotAs.pointee) 0) ∷ (
+  2,
+  Rows'.any-gone
+      (Syntax.tyStruct (102 ∷ 114 ∷ 97 ∷ 103 ∷ 109 ∷ 101 ∷ 110 ∷ 116 ∷ 115 ∷ 58 ∷ 58 ∷ 70 ∷ 114 ∷ 111 ∷ 109 ∷ 76 ∷ 97 ∷ 115 ∷ 116 ∷ []) (Syntax.tcons
+      (Syntax.tyInt Syntax.w64) Syntax.tnil)),
+) ∷ (3, Rows'.any-gone (Syntax.tyInt Syntax.w8)) ∷ (4, Rows'.any-gone (Syntax.tyInt Syntax.w64)) ∷ (
+  5,
+  Rows'.any-gone (Syntax.tyStruct (102 ∷ 114 ∷ 97 ∷ 103 ∷ 109 ∷ 101 ∷ 110 ∷ 116 ∷ 115 ∷ 58 ∷ 58 ∷ 84 ∷ 97 ∷ 105 ∷ 108 ∷ []) (Syntax.tcons Syntax.tyBool
+      (Syntax.tcons Syntax.tyBool (Syntax.tcons (Syntax.tyStruct (114 ∷ 101 ∷ 115 ∷ 105 ∷ 100 ∷ 117 ∷ 101 ∷ 58 ∷ 58 ∷ 82 ∷ 101 ∷ 115 ∷ 105 ∷ 100 ∷ 117 ∷ 101 ∷
+      []) (Syntax.tcons (Syntax.tyStruct (110 ∷ 97 ∷ 109 ∷ 101 ∷ 115 ∷ 58 ∷ 58 ∷ 84 ∷ 104 ∷ 114 ∷ 101 ∷ 101 ∷ []) (Syntax.tcons (Syntax.tyInt Syntax.w8)
+      (Syntax.tcons (Syntax.tyInt Syntax.w8) (Syntax.tcons (Syntax.tyInt Syntax.w8) Syntax.tnil)))) (Syntax.tcons (Syntax.tyInt Syntax.w8) (Syntax.tcons
+      (Syntax.tyStruct (102 ∷ 105 ∷ 101 ∷ 108 ∷ 100 ∷ 115 ∷ 58 ∷ 58 ∷ 82 ∷ 101 ∷ 115 ∷ 105 ∷ 100 ∷ 117 ∷ 101 ∷ 78 ∷ 117 ∷ 109 ∷ 98 ∷ 101 ∷ 114 ∷ [])
+      (Syntax.tcons (Syntax.tyInt Syntax.w32) Syntax.tnil)) (Syntax.tcons (Syntax.tyInt Syntax.w8) Syntax.tnil))))) (Syntax.tcons (Syntax.tyInt Syntax.w8)
+      (Syntax.tcons (Syntax.tyInt Syntax.w64) (Syntax.tcons Syntax.tyBool Syntax.tnil))))))),
+) ∷ (6, Rows'.any-gone SlotAs.ty) ∷ (7, Rows'.any-gone SlotAs.ty) ∷
+    (8, Rows'.any-gone Syntax.tyBool) ∷ (9, Rows'.any-gone (Syntax.tyInt Syntax.w64)) ∷ (10, Rows'.any-gone Syntax.tyPtr) ∷ (11, Rows'.any-gone SlotAs.ty) ∷
+    (12, Rows'.any-gone Syntax.tyPtr) ∷ []
+
 abbrev pub t2 : List.List Row.Entry
 t2 = (0, Rows'.any-gone Syntax.tyUnit) ∷ (1, Mut.mslice SlotAs.row (Syntax.tyRef (Syntax.named 0) Syntax.mut SlotAs.pointee) 0) ∷ (
   2,
-  Rows'.sc-here (Row.sInt
-      Syntax.w64),
+  Rows'.whole (Declared.row
+      FromLast.the-type),
 ) ∷ (3, Rows'.sc-here (Row.sInt Syntax.w8)) ∷ (4, Rows'.sc-here (Row.sInt Syntax.w64)) ∷ (
   5,
-  Rows'.any-gone (Syntax.tyStruct (102 ∷ 114 ∷ 97 ∷
-      103 ∷ 109 ∷ 101 ∷ 110 ∷ 116 ∷ 115 ∷ 58 ∷ 58 ∷ 84 ∷ 97 ∷ 105 ∷ 108 ∷ []) (Syntax.tcons Syntax.tyBool (Syntax.tcons Syntax.tyBool (Syntax.tcons
+  Rows'.any-gone (Syntax.tyStruct (102 ∷ 114 ∷
+      97 ∷ 103 ∷ 109 ∷ 101 ∷ 110 ∷ 116 ∷ 115 ∷ 58 ∷ 58 ∷ 84 ∷ 97 ∷ 105 ∷ 108 ∷ []) (Syntax.tcons Syntax.tyBool (Syntax.tcons Syntax.tyBool (Syntax.tcons
       (Syntax.tyStruct (114 ∷ 101 ∷ 115 ∷ 105 ∷ 100 ∷ 117 ∷ 101 ∷ 58 ∷ 58 ∷ 82 ∷ 101 ∷ 115 ∷ 105 ∷ 100 ∷ 117 ∷ 101 ∷ []) (Syntax.tcons (Syntax.tyStruct (110 ∷ 97
       ∷ 109 ∷ 101 ∷ 115 ∷ 58 ∷ 58 ∷ 84 ∷ 104 ∷ 114 ∷ 101 ∷ 101 ∷ []) (Syntax.tcons (Syntax.tyInt Syntax.w8) (Syntax.tcons (Syntax.tyInt Syntax.w8) (Syntax.tcons
       (Syntax.tyInt Syntax.w8) Syntax.tnil)))) (Syntax.tcons (Syntax.tyInt Syntax.w8) (Syntax.tcons (Syntax.tyStruct (102 ∷ 105 ∷ 101 ∷ 108 ∷ 100 ∷ 115 ∷ 58 ∷ 58
@@ -345,284 +382,297 @@ t2 = (0, Rows'.any-gone Syntax.tyUnit) ∷ (1, Mut.mslice SlotAs.row (Syntax.tyR
 abbrev pub t3 : List.List Row.Entry
 t3 = (0, Rows'.any-gone Syntax.tyUnit) ∷ (1, Mut.mslice SlotAs.row (Syntax.tyRef (Syntax.named 0) Syntax.mut SlotAs.pointee) 0) ∷ (
   2,
-  Rows'.sc-here (Row.sInt
-      Syntax.w64),
-) ∷ (3, Rows'.sc-here (Row.sInt Syntax.w8)) ∷ (4, Rows'.sc-here (Row.sInt Syntax.w64)) ∷ (5, Rows'.whole (Declared.row Tail.the-type)) ∷ (
-  6,
-  Rows'.any-gone SlotAs.ty,
-) ∷ (7, Rows'.any-gone SlotAs.ty) ∷ (8, Rows'.any-gone Syntax.tyBool) ∷ (9, Rows'.any-gone (Syntax.tyInt Syntax.w64)) ∷ (
-  10,
-  Rows'.any-gone Syntax.tyPtr,
-) ∷ (11, Rows'.any-gone SlotAs.ty) ∷ (12, Rows'.any-gone Syntax.tyPtr) ∷ []
+  Rows'.whole (Declared.row
+      FromLast.the-type),
+) ∷ (3, Rows'.sc-here (Row.sInt Syntax.w8)) ∷ (4, Rows'.sc-here (Row.sInt Syntax.w64)) ∷ (5, Rows'.whole (Declared.row Tail.the-type)) ∷
+    (6, Rows'.any-gone SlotAs.ty) ∷ (7, Rows'.any-gone SlotAs.ty) ∷ (8, Rows'.any-gone Syntax.tyBool) ∷ (9, Rows'.any-gone (Syntax.tyInt Syntax.w64)) ∷ (
+      10,
+      Rows'.any-gone Syntax.tyPtr,
+    ) ∷ (11, Rows'.any-gone SlotAs.ty) ∷ (12, Rows'.any-gone Syntax.tyPtr) ∷ []
 
 abbrev pub t4 : List.List Row.Entry
 t4 = (0, Rows'.any-gone Syntax.tyUnit) ∷ (1, Mut.mslice SlotAs.row (Syntax.tyRef (Syntax.named 0) Syntax.mut SlotAs.pointee) 0) ∷ (
   2,
-  Rows'.sc-here (Row.sInt
-      Syntax.w64),
-) ∷ (3, Rows'.sc-here (Row.sInt Syntax.w8)) ∷ (4, Rows'.sc-here (Row.sInt Syntax.w64)) ∷ (5, Rows'.whole (Declared.row Tail.the-type)) ∷ (
-  6,
-  Rows'.any-gone SlotAs.ty,
-) ∷ (7, Rows'.any-gone SlotAs.ty) ∷ (8, Rows'.sc-here Row.sBool) ∷ (9, Rows'.any-gone (Syntax.tyInt Syntax.w64)) ∷ (
-  10,
-  Rows'.any-gone Syntax.tyPtr,
-) ∷ (11, Rows'.any-gone SlotAs.ty) ∷ (12, Rows'.any-gone Syntax.tyPtr) ∷ []
+  Rows'.any-gone
+      (Syntax.tyStruct (102 ∷ 114 ∷ 97 ∷ 103 ∷ 109 ∷ 101 ∷ 110 ∷ 116 ∷ 115 ∷ 58 ∷ 58 ∷ 70 ∷ 114 ∷ 111 ∷ 109 ∷ 76 ∷ 97 ∷ 115 ∷ 116 ∷ []) (Syntax.tcons
+      (Syntax.tyInt Syntax.w64) Syntax.tnil)),
+) ∷ (3, Rows'.sc-here (Row.sInt Syntax.w8)) ∷ (4, Rows'.sc-here (Row.sInt Syntax.w64)) ∷ (
+  5,
+  Rows'.any-gone
+      (Syntax.tyStruct (102 ∷ 114 ∷ 97 ∷ 103 ∷ 109 ∷ 101 ∷ 110 ∷ 116 ∷ 115 ∷ 58 ∷ 58 ∷ 84 ∷ 97 ∷ 105 ∷ 108 ∷ []) (Syntax.tcons Syntax.tyBool (Syntax.tcons
+      Syntax.tyBool (Syntax.tcons (Syntax.tyStruct (114 ∷ 101 ∷ 115 ∷ 105 ∷ 100 ∷ 117 ∷ 101 ∷ 58 ∷ 58 ∷ 82 ∷ 101 ∷ 115 ∷ 105 ∷ 100 ∷ 117 ∷ 101 ∷ [])
+      (Syntax.tcons (Syntax.tyStruct (110 ∷ 97 ∷ 109 ∷ 101 ∷ 115 ∷ 58 ∷ 58 ∷ 84 ∷ 104 ∷ 114 ∷ 101 ∷ 101 ∷ []) (Syntax.tcons (Syntax.tyInt Syntax.w8)
+      (Syntax.tcons (Syntax.tyInt Syntax.w8) (Syntax.tcons (Syntax.tyInt Syntax.w8) Syntax.tnil)))) (Syntax.tcons (Syntax.tyInt Syntax.w8) (Syntax.tcons
+      (Syntax.tyStruct (102 ∷ 105 ∷ 101 ∷ 108 ∷ 100 ∷ 115 ∷ 58 ∷ 58 ∷ 82 ∷ 101 ∷ 115 ∷ 105 ∷ 100 ∷ 117 ∷ 101 ∷ 78 ∷ 117 ∷ 109 ∷ 98 ∷ 101 ∷ 114 ∷ [])
+      (Syntax.tcons (Syntax.tyInt Syntax.w32) Syntax.tnil)) (Syntax.tcons (Syntax.tyInt Syntax.w8) Syntax.tnil))))) (Syntax.tcons (Syntax.tyInt Syntax.w8)
+      (Syntax.tcons (Syntax.tyInt Syntax.w64) (Syntax.tcons Syntax.tyBool Syntax.tnil))))))),
+) ∷ (6, Rows'.any-gone SlotAs.ty) ∷ (7, Rows'.any-gone SlotAs.ty) ∷
+    (8, Rows'.any-gone Syntax.tyBool) ∷ (9, Rows'.any-gone (Syntax.tyInt Syntax.w64)) ∷ (10, Rows'.any-gone Syntax.tyPtr) ∷ (11, Rows'.any-gone SlotAs.ty) ∷
+    (12, Rows'.any-gone Syntax.tyPtr) ∷ []
 
 abbrev pub t5 : List.List Row.Entry
 t5 = (0, Rows'.any-gone Syntax.tyUnit) ∷ (1, Mut.mslice SlotAs.row (Syntax.tyRef (Syntax.named 0) Syntax.mut SlotAs.pointee) 0) ∷ (
   2,
-  Rows'.sc-here (Row.sInt
-      Syntax.w64),
-) ∷ (3, Rows'.sc-here (Row.sInt Syntax.w8)) ∷ (4, Rows'.sc-here (Row.sInt Syntax.w64)) ∷ (
-  5,
-  Rows'.any-gone (Syntax.tyStruct (102 ∷ 114 ∷ 97 ∷
-      103 ∷ 109 ∷ 101 ∷ 110 ∷ 116 ∷ 115 ∷ 58 ∷ 58 ∷ 84 ∷ 97 ∷ 105 ∷ 108 ∷ []) (Syntax.tcons Syntax.tyBool (Syntax.tcons Syntax.tyBool (Syntax.tcons
-      (Syntax.tyStruct (114 ∷ 101 ∷ 115 ∷ 105 ∷ 100 ∷ 117 ∷ 101 ∷ 58 ∷ 58 ∷ 82 ∷ 101 ∷ 115 ∷ 105 ∷ 100 ∷ 117 ∷ 101 ∷ []) (Syntax.tcons (Syntax.tyStruct (110 ∷ 97
-      ∷ 109 ∷ 101 ∷ 115 ∷ 58 ∷ 58 ∷ 84 ∷ 104 ∷ 114 ∷ 101 ∷ 101 ∷ []) (Syntax.tcons (Syntax.tyInt Syntax.w8) (Syntax.tcons (Syntax.tyInt Syntax.w8) (Syntax.tcons
-      (Syntax.tyInt Syntax.w8) Syntax.tnil)))) (Syntax.tcons (Syntax.tyInt Syntax.w8) (Syntax.tcons (Syntax.tyStruct (102 ∷ 105 ∷ 101 ∷ 108 ∷ 100 ∷ 115 ∷ 58 ∷ 58
-      ∷ 82 ∷ 101 ∷ 115 ∷ 105 ∷ 100 ∷ 117 ∷ 101 ∷ 78 ∷ 117 ∷ 109 ∷ 98 ∷ 101 ∷ 114 ∷ []) (Syntax.tcons (Syntax.tyInt Syntax.w32) Syntax.tnil)) (Syntax.tcons
-      (Syntax.tyInt Syntax.w8) Syntax.tnil))))) (Syntax.tcons (Syntax.tyInt Syntax.w8) (Syntax.tcons (Syntax.tyInt Syntax.w64) (Syntax.tcons Syntax.tyBool
-      Syntax.tnil))))))),
-) ∷ (6, Rows'.any-gone SlotAs.ty) ∷ (7, Rows'.any-gone SlotAs.ty) ∷ (8, Rows'.sc-here Row.sBool) ∷ (
-  9,
-  Rows'.any-gone (Syntax.tyInt
-      Syntax.w64),
-) ∷ (10, Rows'.any-gone Syntax.tyPtr) ∷ (11, Rows'.any-gone SlotAs.ty) ∷ (12, Rows'.any-gone Syntax.tyPtr) ∷ []
+  Rows'.whole (Declared.row
+      FromLast.the-type),
+) ∷ (3, Rows'.sc-here (Row.sInt Syntax.w8)) ∷ (4, Rows'.sc-here (Row.sInt Syntax.w64)) ∷ (5, Rows'.whole (Declared.row Tail.the-type)) ∷
+    (6, Rows'.any-gone SlotAs.ty) ∷ (7, Rows'.any-gone SlotAs.ty) ∷ (8, Rows'.sc-here Row.sBool) ∷ (9, Rows'.any-gone (Syntax.tyInt Syntax.w64)) ∷ (
+      10,
+      Rows'.any-gone Syntax.tyPtr,
+    ) ∷ (11, Rows'.any-gone SlotAs.ty) ∷ (12, Rows'.any-gone Syntax.tyPtr) ∷ []
 
 abbrev pub t6 : List.List Row.Entry
 t6 = (0, Rows'.any-gone Syntax.tyUnit) ∷ (1, Mut.mslice SlotAs.row (Syntax.tyRef (Syntax.named 0) Syntax.mut SlotAs.pointee) 0) ∷ (
   2,
-  Rows'.sc-here (Row.sInt
-      Syntax.w64),
-) ∷ (3, Rows'.sc-here (Row.sInt Syntax.w8)) ∷ (4, Rows'.sc-here (Row.sInt Syntax.w64)) ∷ (5, Rows'.whole (Declared.row Tail.the-type)) ∷ (
-  6,
-  Rows'.any-gone SlotAs.ty,
-) ∷ (7, Rows'.any-gone SlotAs.ty) ∷ (8, Rows'.any-gone Syntax.tyBool) ∷ (9, Rows'.sc-here (Row.sInt Syntax.w64)) ∷ (
-  10,
-  Rows'.any-gone Syntax.tyPtr,
-) ∷ (11, Rows'.any-gone SlotAs.ty) ∷ (12, Rows'.any-gone Syntax.tyPtr) ∷ []
+  Rows'.any-gone
+      (Syntax.tyStruct (102 ∷ 114 ∷ 97 ∷ 103 ∷ 109 ∷ 101 ∷ 110 ∷ 116 ∷ 115 ∷ 58 ∷ 58 ∷ 70 ∷ 114 ∷ 111 ∷ 109 ∷ 76 ∷ 97 ∷ 115 ∷ 116 ∷ []) (Syntax.tcons
+      (Syntax.tyInt Syntax.w64) Syntax.tnil)),
+) ∷ (3, Rows'.sc-here (Row.sInt Syntax.w8)) ∷ (4, Rows'.sc-here (Row.sInt Syntax.w64)) ∷ (
+  5,
+  Rows'.whole
+      (Declared.row Tail.the-type),
+) ∷ (6, Rows'.any-gone SlotAs.ty) ∷ (7, Rows'.any-gone SlotAs.ty) ∷ (8, Rows'.sc-here Row.sBool) ∷ (
+  9,
+  Rows'.any-gone
+      (Syntax.tyInt Syntax.w64),
+) ∷ (10, Rows'.any-gone Syntax.tyPtr) ∷ (11, Rows'.any-gone SlotAs.ty) ∷ (12, Rows'.any-gone Syntax.tyPtr) ∷ []
 
 abbrev pub t7 : List.List Row.Entry
 t7 = (0, Rows'.any-gone Syntax.tyUnit) ∷ (1, Mut.mslice SlotAs.row (Syntax.tyRef (Syntax.named 0) Syntax.mut SlotAs.pointee) 0) ∷ (
   2,
-  Rows'.sc-here (Row.sInt
-      Syntax.w64),
-) ∷ (3, Rows'.sc-here (Row.sInt Syntax.w8)) ∷ (4, Rows'.sc-here (Row.sInt Syntax.w64)) ∷ (5, Rows'.whole (Declared.row Tail.the-type)) ∷ (
-  6,
-  Rows'.any-gone SlotAs.ty,
-) ∷ (7, Rows'.any-gone SlotAs.ty) ∷ (8, Rows'.any-gone Syntax.tyBool) ∷ (9, Rows'.sc-here (Row.sInt Syntax.w64)) ∷ (
-  10,
-  Rows'.sc-here Row.sPtr,
-) ∷ (11, Rows'.any-gone SlotAs.ty) ∷ (12, Rows'.any-gone Syntax.tyPtr) ∷ []
+  Rows'.any-gone
+      (Syntax.tyStruct (102 ∷ 114 ∷ 97 ∷ 103 ∷ 109 ∷ 101 ∷ 110 ∷ 116 ∷ 115 ∷ 58 ∷ 58 ∷ 70 ∷ 114 ∷ 111 ∷ 109 ∷ 76 ∷ 97 ∷ 115 ∷ 116 ∷ []) (Syntax.tcons
+      (Syntax.tyInt Syntax.w64) Syntax.tnil)),
+) ∷ (3, Rows'.sc-here (Row.sInt Syntax.w8)) ∷ (4, Rows'.sc-here (Row.sInt Syntax.w64)) ∷ (
+  5,
+  Rows'.any-gone
+      (Syntax.tyStruct (102 ∷ 114 ∷ 97 ∷ 103 ∷ 109 ∷ 101 ∷ 110 ∷ 116 ∷ 115 ∷ 58 ∷ 58 ∷ 84 ∷ 97 ∷ 105 ∷ 108 ∷ []) (Syntax.tcons Syntax.tyBool (Syntax.tcons
+      Syntax.tyBool (Syntax.tcons (Syntax.tyStruct (114 ∷ 101 ∷ 115 ∷ 105 ∷ 100 ∷ 117 ∷ 101 ∷ 58 ∷ 58 ∷ 82 ∷ 101 ∷ 115 ∷ 105 ∷ 100 ∷ 117 ∷ 101 ∷ [])
+      (Syntax.tcons (Syntax.tyStruct (110 ∷ 97 ∷ 109 ∷ 101 ∷ 115 ∷ 58 ∷ 58 ∷ 84 ∷ 104 ∷ 114 ∷ 101 ∷ 101 ∷ []) (Syntax.tcons (Syntax.tyInt Syntax.w8)
+      (Syntax.tcons (Syntax.tyInt Syntax.w8) (Syntax.tcons (Syntax.tyInt Syntax.w8) Syntax.tnil)))) (Syntax.tcons (Syntax.tyInt Syntax.w8) (Syntax.tcons
+      (Syntax.tyStruct (102 ∷ 105 ∷ 101 ∷ 108 ∷ 100 ∷ 115 ∷ 58 ∷ 58 ∷ 82 ∷ 101 ∷ 115 ∷ 105 ∷ 100 ∷ 117 ∷ 101 ∷ 78 ∷ 117 ∷ 109 ∷ 98 ∷ 101 ∷ 114 ∷ [])
+      (Syntax.tcons (Syntax.tyInt Syntax.w32) Syntax.tnil)) (Syntax.tcons (Syntax.tyInt Syntax.w8) Syntax.tnil))))) (Syntax.tcons (Syntax.tyInt Syntax.w8)
+      (Syntax.tcons (Syntax.tyInt Syntax.w64) (Syntax.tcons Syntax.tyBool Syntax.tnil))))))),
+) ∷ (6, Rows'.any-gone SlotAs.ty) ∷ (7, Rows'.any-gone SlotAs.ty) ∷
+    (8, Rows'.sc-here Row.sBool) ∷ (9, Rows'.any-gone (Syntax.tyInt Syntax.w64)) ∷ (10, Rows'.any-gone Syntax.tyPtr) ∷ (11, Rows'.any-gone SlotAs.ty) ∷ (
+      12,
+      Rows'.any-gone Syntax.tyPtr,
+    ) ∷ []
 
 abbrev pub t8 : List.List Row.Entry
 t8 = (0, Rows'.any-gone Syntax.tyUnit) ∷ (1, Mut.mslice SlotAs.row (Syntax.tyRef (Syntax.named 0) Syntax.mut SlotAs.pointee) 0) ∷ (
   2,
-  Rows'.sc-here (Row.sInt
-      Syntax.w64),
-) ∷ (3, Rows'.sc-here (Row.sInt Syntax.w8)) ∷ (4, Rows'.sc-here (Row.sInt Syntax.w64)) ∷ (5, Rows'.whole (Declared.row Tail.the-type)) ∷ (
-  6,
-  Rows'.any-gone SlotAs.ty,
-) ∷ (7, Rows'.any-gone SlotAs.ty) ∷ (8, Rows'.any-gone Syntax.tyBool) ∷ (9, Rows'.sc-here (Row.sInt Syntax.w64)) ∷ (
-  10,
-  Rows'.sc-here Row.sPtr,
-) ∷ (11, SlotAs.whole) ∷ (12, Rows'.any-gone Syntax.tyPtr) ∷ []
+  Rows'.whole (Declared.row
+      FromLast.the-type),
+) ∷ (3, Rows'.sc-here (Row.sInt Syntax.w8)) ∷ (4, Rows'.sc-here (Row.sInt Syntax.w64)) ∷ (5, Rows'.whole (Declared.row Tail.the-type)) ∷
+    (6, Rows'.any-gone SlotAs.ty) ∷ (7, Rows'.any-gone SlotAs.ty) ∷ (8, Rows'.any-gone Syntax.tyBool) ∷ (9, Rows'.sc-here (Row.sInt Syntax.w64)) ∷ (
+      10,
+      Rows'.any-gone Syntax.tyPtr,
+    ) ∷ (11, Rows'.any-gone SlotAs.ty) ∷ (12, Rows'.any-gone Syntax.tyPtr) ∷ []
 
 abbrev pub t9 : List.List Row.Entry
 t9 = (0, Rows'.any-gone Syntax.tyUnit) ∷ (1, Mut.mslice SlotAs.row (Syntax.tyRef (Syntax.named 0) Syntax.mut SlotAs.pointee) 0) ∷ (
   2,
-  Rows'.sc-here (Row.sInt
-      Syntax.w64),
-) ∷ (3, Rows'.sc-here (Row.sInt Syntax.w8)) ∷ (4, Rows'.sc-here (Row.sInt Syntax.w64)) ∷ (5, Rows'.whole (Declared.row Tail.the-type)) ∷ (
-  6,
-  Rows'.any-gone SlotAs.ty,
-) ∷ (7, Rows'.any-gone SlotAs.ty) ∷ (8, Rows'.any-gone Syntax.tyBool) ∷ (9, Rows'.any-gone (Syntax.tyInt Syntax.w64)) ∷ (
-  10,
-  Rows'.sc-here Row.sPtr,
-) ∷ (11, SlotAs.whole) ∷ (12, Rows'.any-gone Syntax.tyPtr) ∷ []
+  Rows'.whole (Declared.row
+      FromLast.the-type),
+) ∷ (3, Rows'.sc-here (Row.sInt Syntax.w8)) ∷ (4, Rows'.sc-here (Row.sInt Syntax.w64)) ∷ (5, Rows'.whole (Declared.row Tail.the-type)) ∷
+    (6, Rows'.any-gone SlotAs.ty) ∷ (7, Rows'.any-gone SlotAs.ty) ∷ (8, Rows'.any-gone Syntax.tyBool) ∷ (9, Rows'.sc-here (Row.sInt Syntax.w64)) ∷ (
+      10,
+      Rows'.sc-here Row.sPtr,
+    ) ∷ (11, Rows'.any-gone SlotAs.ty) ∷ (12, Rows'.any-gone Syntax.tyPtr) ∷ []
 
 abbrev pub t10 : List.List Row.Entry
 t10 = (0, Rows'.any-gone Syntax.tyUnit) ∷ (1, Mut.mslice SlotAs.row (Syntax.tyRef (Syntax.named 0) Syntax.mut SlotAs.pointee) 0) ∷ (
   2,
+  Rows'.whole
+      (Declared.row FromLast.the-type),
+) ∷ (3, Rows'.sc-here (Row.sInt Syntax.w8)) ∷ (4, Rows'.sc-here (Row.sInt Syntax.w64)) ∷ (
+  5,
+  Rows'.whole (Declared.row
+      Tail.the-type),
+) ∷ (6, Rows'.any-gone SlotAs.ty) ∷ (7, Rows'.any-gone SlotAs.ty) ∷ (8, Rows'.any-gone Syntax.tyBool) ∷ (
+  9,
   Rows'.sc-here (Row.sInt
       Syntax.w64),
-) ∷ (3, Rows'.sc-here (Row.sInt Syntax.w8)) ∷ (4, Rows'.sc-here (Row.sInt Syntax.w64)) ∷ (5, Rows'.whole (Declared.row Tail.the-type)) ∷ (
-  6,
-  Rows'.any-gone SlotAs.ty,
-) ∷ (7, Rows'.any-gone SlotAs.ty) ∷ (8, Rows'.any-gone Syntax.tyBool) ∷ (9, Rows'.any-gone (Syntax.tyInt Syntax.w64)) ∷ (
-  10,
-  Rows'.any-gone Syntax.tyPtr,
-) ∷ (11, SlotAs.whole) ∷ (12, Rows'.any-gone Syntax.tyPtr) ∷ []
+) ∷ (10, Rows'.sc-here Row.sPtr) ∷ (11, SlotAs.whole) ∷ (12, Rows'.any-gone Syntax.tyPtr) ∷ []
 
 abbrev pub t11 : List.List Row.Entry
 t11 = (0, Rows'.any-gone Syntax.tyUnit) ∷ (1, Mut.mslice SlotAs.row (Syntax.tyRef (Syntax.named 0) Syntax.mut SlotAs.pointee) 0) ∷ (
   2,
-  Rows'.sc-here (Row.sInt
+  Rows'.whole
+      (Declared.row FromLast.the-type),
+) ∷ (3, Rows'.sc-here (Row.sInt Syntax.w8)) ∷ (4, Rows'.sc-here (Row.sInt Syntax.w64)) ∷ (
+  5,
+  Rows'.whole (Declared.row
+      Tail.the-type),
+) ∷ (6, Rows'.any-gone SlotAs.ty) ∷ (7, Rows'.any-gone SlotAs.ty) ∷ (8, Rows'.any-gone Syntax.tyBool) ∷ (
+  9,
+  Rows'.any-gone (Syntax.tyInt
       Syntax.w64),
-) ∷ (3, Rows'.sc-here (Row.sInt Syntax.w8)) ∷ (4, Rows'.sc-here (Row.sInt Syntax.w64)) ∷ (5, Rows'.whole (Declared.row Tail.the-type)) ∷ (
-  6,
-  SlotAs.whole,
-) ∷ (7, Rows'.any-gone SlotAs.ty) ∷ (8, Rows'.any-gone Syntax.tyBool) ∷ (9, Rows'.any-gone (Syntax.tyInt Syntax.w64)) ∷ (
-  10,
-  Rows'.any-gone
-      Syntax.tyPtr,
-) ∷ (11, SlotAs.whole) ∷ (12, Rows'.any-gone Syntax.tyPtr) ∷ []
+) ∷ (10, Rows'.sc-here Row.sPtr) ∷ (11, SlotAs.whole) ∷ (12, Rows'.any-gone Syntax.tyPtr) ∷ []
 
 abbrev pub t12 : List.List Row.Entry
 t12 = (0, Rows'.any-gone Syntax.tyUnit) ∷ (1, Mut.mslice SlotAs.row (Syntax.tyRef (Syntax.named 0) Syntax.mut SlotAs.pointee) 0) ∷ (
   2,
-  Rows'.sc-here (Row.sInt
+  Rows'.whole
+      (Declared.row FromLast.the-type),
+) ∷ (3, Rows'.sc-here (Row.sInt Syntax.w8)) ∷ (4, Rows'.sc-here (Row.sInt Syntax.w64)) ∷ (
+  5,
+  Rows'.whole (Declared.row
+      Tail.the-type),
+) ∷ (6, Rows'.any-gone SlotAs.ty) ∷ (7, Rows'.any-gone SlotAs.ty) ∷ (8, Rows'.any-gone Syntax.tyBool) ∷ (
+  9,
+  Rows'.any-gone (Syntax.tyInt
       Syntax.w64),
-) ∷ (3, Rows'.sc-here (Row.sInt Syntax.w8)) ∷ (4, Rows'.sc-here (Row.sInt Syntax.w64)) ∷ (5, Rows'.whole (Declared.row Tail.the-type)) ∷ (
-  6,
-  SlotAs.whole,
-) ∷ (7, Rows'.any-gone SlotAs.ty) ∷ (8, Rows'.any-gone Syntax.tyBool) ∷ (9, Rows'.any-gone (Syntax.tyInt Syntax.w64)) ∷ (
-  10,
-  Rows'.any-gone
-      Syntax.tyPtr,
-) ∷ (11, Rows'.any-gone SlotAs.ty) ∷ (12, Rows'.any-gone Syntax.tyPtr) ∷ []
+) ∷ (10, Rows'.any-gone Syntax.tyPtr) ∷ (11, SlotAs.whole) ∷ (12, Rows'.any-gone Syntax.tyPtr) ∷ []
 
 abbrev pub t13 : List.List Row.Entry
 t13 = (0, Rows'.any-gone Syntax.tyUnit) ∷ (1, Mut.mslice SlotAs.row (Syntax.tyRef (Syntax.named 0) Syntax.mut SlotAs.pointee) 0) ∷ (
   2,
-  Rows'.sc-here (Row.sInt
-      Syntax.w64),
-) ∷ (3, Rows'.sc-here (Row.sInt Syntax.w8)) ∷ (4, Rows'.sc-here (Row.sInt Syntax.w64)) ∷ (5, Rows'.whole (Declared.row Tail.the-type)) ∷ (
-  6,
-  SlotAs.whole,
-) ∷ (7, SlotAs.whole) ∷ (8, Rows'.any-gone Syntax.tyBool) ∷ (9, Rows'.any-gone (Syntax.tyInt Syntax.w64)) ∷ (10, Rows'.any-gone Syntax.tyPtr) ∷
-    (11, Rows'.any-gone SlotAs.ty) ∷ (12, Rows'.any-gone Syntax.tyPtr) ∷ []
+  Rows'.whole
+      (Declared.row FromLast.the-type),
+) ∷ (3, Rows'.sc-here (Row.sInt Syntax.w8)) ∷ (4, Rows'.sc-here (Row.sInt Syntax.w64)) ∷ (
+  5,
+  Rows'.whole (Declared.row
+      Tail.the-type),
+) ∷ (6, SlotAs.whole) ∷ (7, Rows'.any-gone SlotAs.ty) ∷ (8, Rows'.any-gone Syntax.tyBool) ∷ (9, Rows'.any-gone (Syntax.tyInt Syntax.w64)) ∷
+    (10, Rows'.any-gone Syntax.tyPtr) ∷ (11, SlotAs.whole) ∷ (12, Rows'.any-gone Syntax.tyPtr) ∷ []
 
 abbrev pub t14 : List.List Row.Entry
 t14 = (0, Rows'.any-gone Syntax.tyUnit) ∷ (1, Mut.mslice SlotAs.row (Syntax.tyRef (Syntax.named 0) Syntax.mut SlotAs.pointee) 0) ∷ (
   2,
-  Rows'.sc-here (Row.sInt
-      Syntax.w64),
-) ∷ (3, Rows'.sc-here (Row.sInt Syntax.w8)) ∷ (4, Rows'.sc-here (Row.sInt Syntax.w64)) ∷ (5, Rows'.whole (Declared.row Tail.the-type)) ∷ (
-  6,
-  Rows'.any-gone SlotAs.ty,
-) ∷ (7, SlotAs.whole) ∷ (8, Rows'.any-gone Syntax.tyBool) ∷ (9, Rows'.any-gone (Syntax.tyInt Syntax.w64)) ∷ (
-  10,
-  Rows'.any-gone
-      Syntax.tyPtr,
-) ∷ (11, Rows'.any-gone SlotAs.ty) ∷ (12, Rows'.any-gone Syntax.tyPtr) ∷ []
+  Rows'.whole
+      (Declared.row FromLast.the-type),
+) ∷ (3, Rows'.sc-here (Row.sInt Syntax.w8)) ∷ (4, Rows'.sc-here (Row.sInt Syntax.w64)) ∷ (
+  5,
+  Rows'.whole (Declared.row
+      Tail.the-type),
+) ∷ (6, SlotAs.whole) ∷ (7, Rows'.any-gone SlotAs.ty) ∷ (8, Rows'.any-gone Syntax.tyBool) ∷ (9, Rows'.any-gone (Syntax.tyInt Syntax.w64)) ∷
+    (10, Rows'.any-gone Syntax.tyPtr) ∷ (11, Rows'.any-gone SlotAs.ty) ∷ (12, Rows'.any-gone Syntax.tyPtr) ∷ []
 
 abbrev pub t15 : List.List Row.Entry
 t15 = (0, Rows'.any-gone Syntax.tyUnit) ∷ (1, Mut.mslice SlotAs.row (Syntax.tyRef (Syntax.named 0) Syntax.mut SlotAs.pointee) 0) ∷ (
   2,
-  Rows'.sc-here (Row.sInt
-      Syntax.w64),
-) ∷ (3, Rows'.sc-here (Row.sInt Syntax.w8)) ∷ (4, Rows'.sc-here (Row.sInt Syntax.w64)) ∷ (5, Rows'.whole (Declared.row Tail.the-type)) ∷ (
-  6,
-  Rows'.any-gone SlotAs.ty,
-) ∷ (7, SlotAs.whole) ∷ (8, Rows'.any-gone Syntax.tyBool) ∷ (9, Rows'.sc-here (Row.sInt Syntax.w64)) ∷ (
+  Rows'.whole
+      (Declared.row FromLast.the-type),
+) ∷ (3, Rows'.sc-here (Row.sInt Syntax.w8)) ∷ (4, Rows'.sc-here (Row.sInt Syntax.w64)) ∷ (
+  5,
+  Rows'.whole (Declared.row
+      Tail.the-type),
+) ∷ (6, SlotAs.whole) ∷ (7, SlotAs.whole) ∷ (8, Rows'.any-gone Syntax.tyBool) ∷ (9, Rows'.any-gone (Syntax.tyInt Syntax.w64)) ∷ (
   10,
-  Rows'.any-gone
-      Syntax.tyPtr,
+  Rows'.any-gone Syntax.tyPtr,
 ) ∷ (11, Rows'.any-gone SlotAs.ty) ∷ (12, Rows'.any-gone Syntax.tyPtr) ∷ []
 
 abbrev pub t16 : List.List Row.Entry
 t16 = (0, Rows'.any-gone Syntax.tyUnit) ∷ (1, Mut.mslice SlotAs.row (Syntax.tyRef (Syntax.named 0) Syntax.mut SlotAs.pointee) 0) ∷ (
   2,
-  Rows'.sc-here (Row.sInt
-      Syntax.w64),
-) ∷ (3, Rows'.sc-here (Row.sInt Syntax.w8)) ∷ (4, Rows'.sc-here (Row.sInt Syntax.w64)) ∷ (5, Rows'.whole (Declared.row Tail.the-type)) ∷ (
-  6,
-  Rows'.any-gone SlotAs.ty,
-) ∷ (7, SlotAs.whole) ∷ (8, Rows'.any-gone Syntax.tyBool) ∷ (9, Rows'.sc-here (Row.sInt Syntax.w64)) ∷ (
-  10,
-  Rows'.any-gone
-      Syntax.tyPtr,
-) ∷ (11, Rows'.any-gone SlotAs.ty) ∷ (12, Rows'.sc-here Row.sPtr) ∷ []
+  Rows'.whole
+      (Declared.row FromLast.the-type),
+) ∷ (3, Rows'.sc-here (Row.sInt Syntax.w8)) ∷ (4, Rows'.sc-here (Row.sInt Syntax.w64)) ∷ (
+  5,
+  Rows'.whole (Declared.row
+      Tail.the-type),
+) ∷ (6, Rows'.any-gone SlotAs.ty) ∷ (7, SlotAs.whole) ∷ (8, Rows'.any-gone Syntax.tyBool) ∷ (9, Rows'.any-gone (Syntax.tyInt Syntax.w64)) ∷
+    (10, Rows'.any-gone Syntax.tyPtr) ∷ (11, Rows'.any-gone SlotAs.ty) ∷ (12, Rows'.any-gone Syntax.tyPtr) ∷ []
 
 abbrev pub t17 : List.List Row.Entry
 t17 = (0, Rows'.any-gone Syntax.tyUnit) ∷ (1, Mut.mslice SlotAs.row (Syntax.tyRef (Syntax.named 0) Syntax.mut SlotAs.pointee) 0) ∷ (
   2,
-  Rows'.sc-here (Row.sInt
-      Syntax.w64),
-) ∷ (3, Rows'.sc-here (Row.sInt Syntax.w8)) ∷ (4, Rows'.sc-here (Row.sInt Syntax.w64)) ∷ (5, Rows'.whole (Declared.row Tail.the-type)) ∷ (
-  6,
-  Rows'.any-gone SlotAs.ty,
-) ∷ (7, Rows'.any-gone SlotAs.ty) ∷ (8, Rows'.any-gone Syntax.tyBool) ∷ (9, Rows'.sc-here (Row.sInt Syntax.w64)) ∷ (
+  Rows'.whole
+      (Declared.row FromLast.the-type),
+) ∷ (3, Rows'.sc-here (Row.sInt Syntax.w8)) ∷ (4, Rows'.sc-here (Row.sInt Syntax.w64)) ∷ (
+  5,
+  Rows'.whole (Declared.row
+      Tail.the-type),
+) ∷ (6, Rows'.any-gone SlotAs.ty) ∷ (7, SlotAs.whole) ∷ (8, Rows'.any-gone Syntax.tyBool) ∷ (9, Rows'.sc-here (Row.sInt Syntax.w64)) ∷ (
   10,
   Rows'.any-gone Syntax.tyPtr,
-) ∷ (11, Rows'.any-gone SlotAs.ty) ∷ (12, Rows'.sc-here Row.sPtr) ∷ []
+) ∷ (11, Rows'.any-gone SlotAs.ty) ∷ (12, Rows'.any-gone Syntax.tyPtr) ∷ []
 
 abbrev pub t18 : List.List Row.Entry
 t18 = (0, Rows'.any-gone Syntax.tyUnit) ∷ (1, Mut.mslice SlotAs.row (Syntax.tyRef (Syntax.named 0) Syntax.mut SlotAs.pointee) 0) ∷ (
   2,
-  Rows'.sc-here (Row.sInt
-      Syntax.w64),
-) ∷ (3, Rows'.sc-here (Row.sInt Syntax.w8)) ∷ (4, Rows'.sc-here (Row.sInt Syntax.w64)) ∷ (5, Rows'.whole (Declared.row Tail.the-type)) ∷ (
-  6,
-  Rows'.any-gone SlotAs.ty,
-) ∷ (7, Rows'.any-gone SlotAs.ty) ∷ (8, Rows'.any-gone Syntax.tyBool) ∷ (9, Rows'.any-gone (Syntax.tyInt Syntax.w64)) ∷ (
+  Rows'.whole
+      (Declared.row FromLast.the-type),
+) ∷ (3, Rows'.sc-here (Row.sInt Syntax.w8)) ∷ (4, Rows'.sc-here (Row.sInt Syntax.w64)) ∷ (
+  5,
+  Rows'.whole (Declared.row
+      Tail.the-type),
+) ∷ (6, Rows'.any-gone SlotAs.ty) ∷ (7, SlotAs.whole) ∷ (8, Rows'.any-gone Syntax.tyBool) ∷ (9, Rows'.sc-here (Row.sInt Syntax.w64)) ∷ (
   10,
   Rows'.any-gone Syntax.tyPtr,
 ) ∷ (11, Rows'.any-gone SlotAs.ty) ∷ (12, Rows'.sc-here Row.sPtr) ∷ []
 
 abbrev pub t19 : List.List Row.Entry
-t19 = (0, Rows'.sc-here Row.sUnit) ∷ (1, Mut.mslice SlotAs.row (Syntax.tyRef (Syntax.named 0) Syntax.mut SlotAs.pointee) 0) ∷ (
+t19 = (0, Rows'.any-gone Syntax.tyUnit) ∷ (1, Mut.mslice SlotAs.row (Syntax.tyRef (Syntax.named 0) Syntax.mut SlotAs.pointee) 0) ∷ (
   2,
-  Rows'.sc-here (Row.sInt
-      Syntax.w64),
+  Rows'.whole
+      (Declared.row FromLast.the-type),
 ) ∷ (3, Rows'.sc-here (Row.sInt Syntax.w8)) ∷ (4, Rows'.sc-here (Row.sInt Syntax.w64)) ∷ (
   5,
-  Rows'.any-gone (Syntax.tyStruct (102 ∷ 114 ∷ 97 ∷
-      103 ∷ 109 ∷ 101 ∷ 110 ∷ 116 ∷ 115 ∷ 58 ∷ 58 ∷ 84 ∷ 97 ∷ 105 ∷ 108 ∷ []) (Syntax.tcons Syntax.tyBool (Syntax.tcons Syntax.tyBool (Syntax.tcons
-      (Syntax.tyStruct (114 ∷ 101 ∷ 115 ∷ 105 ∷ 100 ∷ 117 ∷ 101 ∷ 58 ∷ 58 ∷ 82 ∷ 101 ∷ 115 ∷ 105 ∷ 100 ∷ 117 ∷ 101 ∷ []) (Syntax.tcons (Syntax.tyStruct (110 ∷ 97
-      ∷ 109 ∷ 101 ∷ 115 ∷ 58 ∷ 58 ∷ 84 ∷ 104 ∷ 114 ∷ 101 ∷ 101 ∷ []) (Syntax.tcons (Syntax.tyInt Syntax.w8) (Syntax.tcons (Syntax.tyInt Syntax.w8) (Syntax.tcons
-      (Syntax.tyInt Syntax.w8) Syntax.tnil)))) (Syntax.tcons (Syntax.tyInt Syntax.w8) (Syntax.tcons (Syntax.tyStruct (102 ∷ 105 ∷ 101 ∷ 108 ∷ 100 ∷ 115 ∷ 58 ∷ 58
-      ∷ 82 ∷ 101 ∷ 115 ∷ 105 ∷ 100 ∷ 117 ∷ 101 ∷ 78 ∷ 117 ∷ 109 ∷ 98 ∷ 101 ∷ 114 ∷ []) (Syntax.tcons (Syntax.tyInt Syntax.w32) Syntax.tnil)) (Syntax.tcons
-      (Syntax.tyInt Syntax.w8) Syntax.tnil))))) (Syntax.tcons (Syntax.tyInt Syntax.w8) (Syntax.tcons (Syntax.tyInt Syntax.w64) (Syntax.tcons Syntax.tyBool
-      Syntax.tnil))))))),
+  Rows'.whole (Declared.row
+      Tail.the-type),
 ) ∷ (6, Rows'.any-gone SlotAs.ty) ∷ (7, Rows'.any-gone SlotAs.ty) ∷ (8, Rows'.any-gone Syntax.tyBool) ∷ (
   9,
-  Rows'.any-gone (Syntax.tyInt
-      Syntax.w64),
-) ∷ (10, Rows'.any-gone Syntax.tyPtr) ∷ (11, Rows'.any-gone SlotAs.ty) ∷ (12, Rows'.any-gone Syntax.tyPtr) ∷ []
-
-abbrev pub t20 : List.List Row.Entry
-t20 = (0, Rows'.sc-here Row.sUnit) ∷ (1, Mut.mslice SlotAs.row (Syntax.tyRef (Syntax.named 0) Syntax.mut SlotAs.pointee) 0) ∷ (
-  2,
   Rows'.sc-here (Row.sInt
       Syntax.w64),
-) ∷ (3, Rows'.sc-here (Row.sInt Syntax.w8)) ∷ (4, Rows'.any-gone (Syntax.tyInt Syntax.w64)) ∷ (
+) ∷ (10, Rows'.any-gone Syntax.tyPtr) ∷ (11, Rows'.any-gone SlotAs.ty) ∷ (12, Rows'.sc-here Row.sPtr) ∷ []
+
+abbrev pub t20 : List.List Row.Entry
+t20 = (0, Rows'.any-gone Syntax.tyUnit) ∷ (1, Mut.mslice SlotAs.row (Syntax.tyRef (Syntax.named 0) Syntax.mut SlotAs.pointee) 0) ∷ (
+  2,
+  Rows'.whole
+      (Declared.row FromLast.the-type),
+) ∷ (3, Rows'.sc-here (Row.sInt Syntax.w8)) ∷ (4, Rows'.sc-here (Row.sInt Syntax.w64)) ∷ (
   5,
-  Rows'.any-gone (Syntax.tyStruct (102 ∷ 114 ∷
-      97 ∷ 103 ∷ 109 ∷ 101 ∷ 110 ∷ 116 ∷ 115 ∷ 58 ∷ 58 ∷ 84 ∷ 97 ∷ 105 ∷ 108 ∷ []) (Syntax.tcons Syntax.tyBool (Syntax.tcons Syntax.tyBool (Syntax.tcons
-      (Syntax.tyStruct (114 ∷ 101 ∷ 115 ∷ 105 ∷ 100 ∷ 117 ∷ 101 ∷ 58 ∷ 58 ∷ 82 ∷ 101 ∷ 115 ∷ 105 ∷ 100 ∷ 117 ∷ 101 ∷ []) (Syntax.tcons (Syntax.tyStruct (110 ∷ 97
-      ∷ 109 ∷ 101 ∷ 115 ∷ 58 ∷ 58 ∷ 84 ∷ 104 ∷ 114 ∷ 101 ∷ 101 ∷ []) (Syntax.tcons (Syntax.tyInt Syntax.w8) (Syntax.tcons (Syntax.tyInt Syntax.w8) (Syntax.tcons
-      (Syntax.tyInt Syntax.w8) Syntax.tnil)))) (Syntax.tcons (Syntax.tyInt Syntax.w8) (Syntax.tcons (Syntax.tyStruct (102 ∷ 105 ∷ 101 ∷ 108 ∷ 100 ∷ 115 ∷ 58 ∷ 58
-      ∷ 82 ∷ 101 ∷ 115 ∷ 105 ∷ 100 ∷ 117 ∷ 101 ∷ 78 ∷ 117 ∷ 109 ∷ 98 ∷ 101 ∷ 114 ∷ []) (Syntax.tcons (Syntax.tyInt Syntax.w32) Syntax.tnil)) (Syntax.tcons
-      (Syntax.tyInt Syntax.w8) Syntax.tnil))))) (Syntax.tcons (Syntax.tyInt Syntax.w8) (Syntax.tcons (Syntax.tyInt Syntax.w64) (Syntax.tcons Syntax.tyBool
-      Syntax.tnil))))))),
+  Rows'.whole (Declared.row
+      Tail.the-type),
 ) ∷ (6, Rows'.any-gone SlotAs.ty) ∷ (7, Rows'.any-gone SlotAs.ty) ∷ (8, Rows'.any-gone Syntax.tyBool) ∷ (
   9,
   Rows'.any-gone (Syntax.tyInt
       Syntax.w64),
-) ∷ (10, Rows'.any-gone Syntax.tyPtr) ∷ (11, Rows'.any-gone SlotAs.ty) ∷ (12, Rows'.any-gone Syntax.tyPtr) ∷ []
+) ∷ (10, Rows'.any-gone Syntax.tyPtr) ∷ (11, Rows'.any-gone SlotAs.ty) ∷ (12, Rows'.sc-here Row.sPtr) ∷ []
 
 abbrev pub t21 : List.List Row.Entry
 t21 = (0, Rows'.sc-here Row.sUnit) ∷ (1, Mut.mslice SlotAs.row (Syntax.tyRef (Syntax.named 0) Syntax.mut SlotAs.pointee) 0) ∷ (
   2,
-  Rows'.any-gone (Syntax.tyInt
-      Syntax.w64),
+  Rows'.any-gone
+      (Syntax.tyStruct (102 ∷ 114 ∷ 97 ∷ 103 ∷ 109 ∷ 101 ∷ 110 ∷ 116 ∷ 115 ∷ 58 ∷ 58 ∷ 70 ∷ 114 ∷ 111 ∷ 109 ∷ 76 ∷ 97 ∷ 115 ∷ 116 ∷ []) (Syntax.tcons
+      (Syntax.tyInt Syntax.w64) Syntax.tnil)),
+) ∷ (3, Rows'.sc-here (Row.sInt Syntax.w8)) ∷ (4, Rows'.sc-here (Row.sInt Syntax.w64)) ∷ (
+  5,
+  Rows'.any-gone
+      (Syntax.tyStruct (102 ∷ 114 ∷ 97 ∷ 103 ∷ 109 ∷ 101 ∷ 110 ∷ 116 ∷ 115 ∷ 58 ∷ 58 ∷ 84 ∷ 97 ∷ 105 ∷ 108 ∷ []) (Syntax.tcons Syntax.tyBool (Syntax.tcons
+      Syntax.tyBool (Syntax.tcons (Syntax.tyStruct (114 ∷ 101 ∷ 115 ∷ 105 ∷ 100 ∷ 117 ∷ 101 ∷ 58 ∷ 58 ∷ 82 ∷ 101 ∷ 115 ∷ 105 ∷ 100 ∷ 117 ∷ 101 ∷ [])
+      (Syntax.tcons (Syntax.tyStruct (110 ∷ 97 ∷ 109 ∷ 101 ∷ 115 ∷ 58 ∷ 58 ∷ 84 ∷ 104 ∷ 114 ∷ 101 ∷ 101 ∷ []) (Syntax.tcons (Syntax.tyInt Syntax.w8)
+      (Syntax.tcons (Syntax.tyInt Syntax.w8) (Syntax.tcons (Syntax.tyInt Syntax.w8) Syntax.tnil)))) (Syntax.tcons (Syntax.tyInt Syntax.w8) (Syntax.tcons
+      (Syntax.tyStruct (102 ∷ 105 ∷ 101 ∷ 108 ∷ 100 ∷ 115 ∷ 58 ∷ 58 ∷ 82 ∷ 101 ∷ 115 ∷ 105 ∷ 100 ∷ 117 ∷ 101 ∷ 78 ∷ 117 ∷ 109 ∷ 98 ∷ 101 ∷ 114 ∷ [])
+      (Syntax.tcons (Syntax.tyInt Syntax.w32) Syntax.tnil)) (Syntax.tcons (Syntax.tyInt Syntax.w8) Syntax.tnil))))) (Syntax.tcons (Syntax.tyInt Syntax.w8)
+      (Syntax.tcons (Syntax.tyInt Syntax.w64) (Syntax.tcons Syntax.tyBool Syntax.tnil))))))),
+) ∷ (6, Rows'.any-gone SlotAs.ty) ∷ (7, Rows'.any-gone SlotAs.ty) ∷
+    (8, Rows'.any-gone Syntax.tyBool) ∷ (9, Rows'.any-gone (Syntax.tyInt Syntax.w64)) ∷ (10, Rows'.any-gone Syntax.tyPtr) ∷ (11, Rows'.any-gone SlotAs.ty) ∷
+    (12, Rows'.any-gone Syntax.tyPtr) ∷ []
+
+abbrev pub t22 : List.List Row.Entry
+t22 = (0, Rows'.sc-here Row.sUnit) ∷ (1, Mut.mslice SlotAs.row (Syntax.tyRef (Syntax.named 0) Syntax.mut SlotAs.pointee) 0) ∷ (
+  2,
+  Rows'.any-gone
+      (Syntax.tyStruct (102 ∷ 114 ∷ 97 ∷ 103 ∷ 109 ∷ 101 ∷ 110 ∷ 116 ∷ 115 ∷ 58 ∷ 58 ∷ 70 ∷ 114 ∷ 111 ∷ 109 ∷ 76 ∷ 97 ∷ 115 ∷ 116 ∷ []) (Syntax.tcons
+      (Syntax.tyInt Syntax.w64) Syntax.tnil)),
 ) ∷ (3, Rows'.sc-here (Row.sInt Syntax.w8)) ∷ (4, Rows'.any-gone (Syntax.tyInt Syntax.w64)) ∷ (
   5,
-  Rows'.any-gone (Syntax.tyStruct (102 ∷ 114 ∷
-      97 ∷ 103 ∷ 109 ∷ 101 ∷ 110 ∷ 116 ∷ 115 ∷ 58 ∷ 58 ∷ 84 ∷ 97 ∷ 105 ∷ 108 ∷ []) (Syntax.tcons Syntax.tyBool (Syntax.tcons Syntax.tyBool (Syntax.tcons
-      (Syntax.tyStruct (114 ∷ 101 ∷ 115 ∷ 105 ∷ 100 ∷ 117 ∷ 101 ∷ 58 ∷ 58 ∷ 82 ∷ 101 ∷ 115 ∷ 105 ∷ 100 ∷ 117 ∷ 101 ∷ []) (Syntax.tcons (Syntax.tyStruct (110 ∷ 97
-      ∷ 109 ∷ 101 ∷ 115 ∷ 58 ∷ 58 ∷ 84 ∷ 104 ∷ 114 ∷ 101 ∷ 101 ∷ []) (Syntax.tcons (Syntax.tyInt Syntax.w8) (Syntax.tcons (Syntax.tyInt Syntax.w8) (Syntax.tcons
-      (Syntax.tyInt Syntax.w8) Syntax.tnil)))) (Syntax.tcons (Syntax.tyInt Syntax.w8) (Syntax.tcons (Syntax.tyStruct (102 ∷ 105 ∷ 101 ∷ 108 ∷ 100 ∷ 115 ∷ 58 ∷ 58
-      ∷ 82 ∷ 101 ∷ 115 ∷ 105 ∷ 100 ∷ 117 ∷ 101 ∷ 78 ∷ 117 ∷ 109 ∷ 98 ∷ 101 ∷ 114 ∷ []) (Syntax.tcons (Syntax.tyInt Syntax.w32) Syntax.tnil)) (Syntax.tcons
-      (Syntax.tyInt Syntax.w8) Syntax.tnil))))) (Syntax.tcons (Syntax.tyInt Syntax.w8) (Syntax.tcons (Syntax.tyInt Syntax.w64) (Syntax.tcons Syntax.tyBool
-      Syntax.tnil))))))),
-) ∷ (6, Rows'.any-gone SlotAs.ty) ∷ (7, Rows'.any-gone SlotAs.ty) ∷ (8, Rows'.any-gone Syntax.tyBool) ∷ (
-  9,
-  Rows'.any-gone (Syntax.tyInt
-      Syntax.w64),
-) ∷ (10, Rows'.any-gone Syntax.tyPtr) ∷ (11, Rows'.any-gone SlotAs.ty) ∷ (12, Rows'.any-gone Syntax.tyPtr) ∷ []
+  Rows'.any-gone
+      (Syntax.tyStruct (102 ∷ 114 ∷ 97 ∷ 103 ∷ 109 ∷ 101 ∷ 110 ∷ 116 ∷ 115 ∷ 58 ∷ 58 ∷ 84 ∷ 97 ∷ 105 ∷ 108 ∷ []) (Syntax.tcons Syntax.tyBool (Syntax.tcons
+      Syntax.tyBool (Syntax.tcons (Syntax.tyStruct (114 ∷ 101 ∷ 115 ∷ 105 ∷ 100 ∷ 117 ∷ 101 ∷ 58 ∷ 58 ∷ 82 ∷ 101 ∷ 115 ∷ 105 ∷ 100 ∷ 117 ∷ 101 ∷ [])
+      (Syntax.tcons (Syntax.tyStruct (110 ∷ 97 ∷ 109 ∷ 101 ∷ 115 ∷ 58 ∷ 58 ∷ 84 ∷ 104 ∷ 114 ∷ 101 ∷ 101 ∷ []) (Syntax.tcons (Syntax.tyInt Syntax.w8)
+      (Syntax.tcons (Syntax.tyInt Syntax.w8) (Syntax.tcons (Syntax.tyInt Syntax.w8) Syntax.tnil)))) (Syntax.tcons (Syntax.tyInt Syntax.w8) (Syntax.tcons
+      (Syntax.tyStruct (102 ∷ 105 ∷ 101 ∷ 108 ∷ 100 ∷ 115 ∷ 58 ∷ 58 ∷ 82 ∷ 101 ∷ 115 ∷ 105 ∷ 100 ∷ 117 ∷ 101 ∷ 78 ∷ 117 ∷ 109 ∷ 98 ∷ 101 ∷ 114 ∷ [])
+      (Syntax.tcons (Syntax.tyInt Syntax.w32) Syntax.tnil)) (Syntax.tcons (Syntax.tyInt Syntax.w8) Syntax.tnil))))) (Syntax.tcons (Syntax.tyInt Syntax.w8)
+      (Syntax.tcons (Syntax.tyInt Syntax.w64) (Syntax.tcons Syntax.tyBool Syntax.tnil))))))),
+) ∷ (6, Rows'.any-gone SlotAs.ty) ∷ (7, Rows'.any-gone SlotAs.ty) ∷
+    (8, Rows'.any-gone Syntax.tyBool) ∷ (9, Rows'.any-gone (Syntax.tyInt Syntax.w64)) ∷ (10, Rows'.any-gone Syntax.tyPtr) ∷ (11, Rows'.any-gone SlotAs.ty) ∷
+    (12, Rows'.any-gone Syntax.tyPtr) ∷ []
 
 abbrev pub T0 : Row.Cx
 T0 = record { locals = t0; slots = [] }
@@ -637,10 +687,10 @@ abbrev pub T3 : Row.Cx
 T3 = record { locals = t3; slots = [] }
 
 abbrev pub T4 : Row.Cx
-T4 = record { locals = t2; slots = [] }
+T4 = record { locals = t4; slots = [] }
 
 abbrev pub T5 : Row.Cx
-T5 = record { locals = t4; slots = [] }
+T5 = record { locals = t5; slots = [] }
 
 abbrev pub T6 : Row.Cx
 T6 = record { locals = t3; slots = [] }
@@ -649,70 +699,70 @@ abbrev pub T7 : Row.Cx
 T7 = record { locals = t3; slots = [] }
 
 abbrev pub T8 : Row.Cx
-T8 = record { locals = t5; slots = [] }
+T8 = record { locals = t6; slots = [] }
 
 abbrev pub T9 : Row.Cx
-T9 = record { locals = t2; slots = [] }
+T9 = record { locals = t7; slots = [] }
 
 abbrev pub T10 : Row.Cx
-T10 = record { locals = t3; slots = [] }
+T10 = record { locals = t4; slots = [] }
 
 abbrev pub T11 : Row.Cx
-T11 = record { locals = t6; slots = [] }
+T11 = record { locals = t3; slots = [] }
 
 abbrev pub T12 : Row.Cx
-T12 = record { locals = t7; slots = [] }
+T12 = record { locals = t8; slots = [] }
 
 abbrev pub T13 : Row.Cx
-T13 = record { locals = t8; slots = [] }
+T13 = record { locals = t9; slots = [] }
 
 abbrev pub T14 : Row.Cx
-T14 = record { locals = t9; slots = [] }
+T14 = record { locals = t10; slots = [] }
 
 abbrev pub T15 : Row.Cx
-T15 = record { locals = t10; slots = [] }
+T15 = record { locals = t11; slots = [] }
 
 abbrev pub T16 : Row.Cx
-T16 = record { locals = t11; slots = [] }
+T16 = record { locals = t12; slots = [] }
 
 abbrev pub T17 : Row.Cx
-T17 = record { locals = t12; slots = [] }
+T17 = record { locals = t13; slots = [] }
 
 abbrev pub T18 : Row.Cx
-T18 = record { locals = t12; slots = [] }
+T18 = record { locals = t14; slots = [] }
 
 abbrev pub T19 : Row.Cx
-T19 = record { locals = t13; slots = [] }
+T19 = record { locals = t14; slots = [] }
 
 abbrev pub T20 : Row.Cx
-T20 = record { locals = t14; slots = [] }
+T20 = record { locals = t15; slots = [] }
 
 abbrev pub T21 : Row.Cx
-T21 = record { locals = t15; slots = [] }
+T21 = record { locals = t16; slots = [] }
 
 abbrev pub T22 : Row.Cx
-T22 = record { locals = t16; slots = [] }
+T22 = record { locals = t17; slots = [] }
 
 abbrev pub T23 : Row.Cx
-T23 = record { locals = t16; slots = [] }
+T23 = record { locals = t18; slots = [] }
 
 abbrev pub T24 : Row.Cx
-T24 = record { locals = t17; slots = [] }
+T24 = record { locals = t18; slots = [] }
 
 abbrev pub T25 : Row.Cx
-T25 = record { locals = t18; slots = [] }
+T25 = record { locals = t19; slots = [] }
 
 abbrev pub T26 : Row.Cx
-T26 = record { locals = t3; slots = [] }
+T26 = record { locals = t20; slots = [] }
 
 abbrev pub T27 : Row.Cx
-T27 = record { locals = t19; slots = [] }
+T27 = record { locals = t3; slots = [] }
 
 abbrev pub T28 : Row.Cx
-T28 = record { locals = t20; slots = [] }
+T28 = record { locals = t21; slots = [] }
 
 abbrev pub T29 : Row.Cx
-T29 = record { locals = t21; slots = [] }
+T29 = record { locals = t22; slots = [] }
 
 abbrev pub T30 : Row.Cx
 T30 = record { locals = t1; slots = [] }
@@ -733,14 +783,14 @@ abbrev pub O4 : Typed.Outs
 O4 = Typed.withNext (Option.some T6) O3
 
 abbrev pub InvT-loop : Type 1
-InvT-loop = List.List (SlotAs.row .Denot) → Rows'.sc-here (Row.sInt Syntax.w64) .Mod → Rows'.sc-here (Row.sInt Syntax.w8) .Mod → Rows'.sc-here (Row.sInt
-    Syntax.w64) .Mod → Rows'.whole (Declared.row Tail.the-type) .Mod → List.List (SlotAs.row .Denot) → Rows'.sc-here (Row.sInt Syntax.w64) .Mod → Rows'.whole
-    (Declared.row Tail.the-type) .Mod → Type 0
+InvT-loop = List.List (SlotAs.row .Denot) → Rows'.whole (Declared.row FromLast.the-type) .Mod → Rows'.sc-here (Row.sInt Syntax.w8) .Mod → Rows'.sc-here
+    (Row.sInt Syntax.w64) .Mod → Rows'.whole (Declared.row Tail.the-type) .Mod → List.List (SlotAs.row .Denot) → Rows'.sc-here (Row.sInt Syntax.w64) .Mod →
+    Rows'.whole (Declared.row Tail.the-type) .Mod → Type 0
 
 abbrev pub MeasureT-loop : Type 0
-MeasureT-loop = List.List (SlotAs.row .Denot) → Rows'.sc-here (Row.sInt Syntax.w64) .Mod → Rows'.sc-here (Row.sInt Syntax.w8) .Mod → Rows'.sc-here (Row.sInt
-    Syntax.w64) .Mod → Rows'.whole (Declared.row Tail.the-type) .Mod → List.List (SlotAs.row .Denot) → Rows'.sc-here (Row.sInt Syntax.w64) .Mod → Rows'.whole
-    (Declared.row Tail.the-type) .Mod → Nat.ℕ
+MeasureT-loop = List.List (SlotAs.row .Denot) → Rows'.whole (Declared.row FromLast.the-type) .Mod → Rows'.sc-here (Row.sInt Syntax.w8) .Mod → Rows'.sc-here
+    (Row.sInt Syntax.w64) .Mod → Rows'.whole (Declared.row Tail.the-type) .Mod → List.List (SlotAs.row .Denot) → Rows'.sc-here (Row.sInt Syntax.w64) .Mod →
+    Rows'.whole (Declared.row Tail.the-type) .Mod → Nat.ℕ
 
 module _ (claims· : Claims) where
   abbrev s0 : Typed.Mo T0 → Typed.Mo T2
@@ -764,7 +814,11 @@ module _ (claims· : Claims) where
   s3 = Scalar.n-room T5 8 Syntax.tyBool
 
   abbrev s4 : Typed.Mo T5 → Typed.Mo T8
-  s4 = Scalar.n-room T5 5 (Syntax.tyStruct (102 ∷ 114 ∷ 97 ∷ 103 ∷ 109 ∷ 101 ∷ 110 ∷ 116 ∷ 115 ∷ 58 ∷ 58 ∷ 84 ∷ 97 ∷ 105 ∷ 108 ∷ []) (Syntax.tcons
+  s4 = Scalar.n-room T5 2 (Syntax.tyStruct (102 ∷ 114 ∷ 97 ∷ 103 ∷ 109 ∷ 101 ∷ 110 ∷ 116 ∷ 115 ∷ 58 ∷ 58 ∷ 70 ∷ 114 ∷ 111 ∷ 109 ∷ 76 ∷ 97 ∷ 115 ∷ 116 ∷ [])
+      (Syntax.tcons (Syntax.tyInt Syntax.w64) Syntax.tnil))
+
+  abbrev s5 : Typed.Mo T8 → Typed.Mo T9
+  s5 = Scalar.n-room T8 5 (Syntax.tyStruct (102 ∷ 114 ∷ 97 ∷ 103 ∷ 109 ∷ 101 ∷ 110 ∷ 116 ∷ 115 ∷ 58 ∷ 58 ∷ 84 ∷ 97 ∷ 105 ∷ 108 ∷ []) (Syntax.tcons
       Syntax.tyBool (Syntax.tcons Syntax.tyBool (Syntax.tcons (Syntax.tyStruct (114 ∷ 101 ∷ 115 ∷ 105 ∷ 100 ∷ 117 ∷ 101 ∷ 58 ∷ 58 ∷ 82 ∷ 101 ∷ 115 ∷ 105 ∷ 100
       ∷ 117 ∷ 101 ∷ []) (Syntax.tcons (Syntax.tyStruct (110 ∷ 97 ∷ 109 ∷ 101 ∷ 115 ∷ 58 ∷ 58 ∷ 84 ∷ 104 ∷ 114 ∷ 101 ∷ 101 ∷ []) (Syntax.tcons (Syntax.tyInt
       Syntax.w8) (Syntax.tcons (Syntax.tyInt Syntax.w8) (Syntax.tcons (Syntax.tyInt Syntax.w8) Syntax.tnil)))) (Syntax.tcons (Syntax.tyInt Syntax.w8)
@@ -772,39 +826,39 @@ module _ (claims· : Claims) where
       []) (Syntax.tcons (Syntax.tyInt Syntax.w32) Syntax.tnil)) (Syntax.tcons (Syntax.tyInt Syntax.w8) Syntax.tnil))))) (Syntax.tcons (Syntax.tyInt Syntax.w8)
       (Syntax.tcons (Syntax.tyInt Syntax.w64) (Syntax.tcons Syntax.tyBool Syntax.tnil)))))))
 
-  abbrev s5 : Typed.Mo T8 → Typed.Mo T9
-  s5 = Scalar.n-room T8 8 Syntax.tyBool
+  abbrev s6 : Typed.Mo T9 → Typed.Mo T10
+  s6 = Scalar.n-room T9 8 Syntax.tyBool
 
-  abbrev s6 : Typed.Asks T6 T10
-  s6 = Scalar.k-op2 T6 (Syntax.sub Syntax.unsigned) (Scalar.oAt 4 (Syntax.tyInt Syntax.w64) (Row.valS (Row.sInt Syntax.w64))) (Scalar.oInt Syntax.w64 1) 4
-      (Rows'.sc-here (Row.sInt Syntax.w64)) (Row.sInt Syntax.w64 .of)
-
-  abbrev s7 : Typed.Asks T10 T11
-  s7 = Scalar.k-op2 T10 (Syntax.mul Syntax.unsigned) (Scalar.oAt 4 (Syntax.tyInt Syntax.w64) (Row.valS (Row.sInt Syntax.w64))) (Scalar.oInt Syntax.w64 44) 9
+  abbrev s7 : Typed.Asks T6 T11
+  s7 = Scalar.k-op2 T6 (Syntax.sub Syntax.unsigned) (Scalar.oAt 4 (Syntax.tyInt Syntax.w64) (Row.valS (Row.sInt Syntax.w64))) (Scalar.oInt Syntax.w64 1) 4
       (Rows'.sc-here (Row.sInt Syntax.w64)) (Row.sInt Syntax.w64 .of)
 
   abbrev s8 : Typed.Asks T11 T12
-  s8 = Scalar.k-op2 T11 Syntax.offset (Scalar.oFld 1 (Syntax.field 0 ∷ []) (Syntax.tyRef (Syntax.named 0) Syntax.mut SlotAs.pointee) 0 Reads.ptrVal)
+  s8 = Scalar.k-op2 T11 (Syntax.mul Syntax.unsigned) (Scalar.oAt 4 (Syntax.tyInt Syntax.w64) (Row.valS (Row.sInt Syntax.w64))) (Scalar.oInt Syntax.w64 44) 9
+      (Rows'.sc-here (Row.sInt Syntax.w64)) (Row.sInt Syntax.w64 .of)
+
+  abbrev s9 : Typed.Asks T12 T13
+  s9 = Scalar.k-op2 T12 Syntax.offset (Scalar.oFld 1 (Syntax.field 0 ∷ []) (Syntax.tyRef (Syntax.named 0) Syntax.mut SlotAs.pointee) 0 Reads.ptrVal)
       (Scalar.oAt 9 (Syntax.tyInt Syntax.w64) (Row.valS (Row.sInt Syntax.w64))) 10 (Rows'.sc-here Row.sPtr) (Row.sPtr .of)
 
-  abbrev s9 : Typed.Both T12 T13
-  s9 = Move.k-sl-copy-out SlotAs.row T12 1 10 11 0 (Syntax.tyRef (Syntax.named 0) Syntax.mut SlotAs.pointee) Row.off SlotAs.whole (Shared.bySize 44) (λ u. u .1
-      .1 .1 .1 .0) (λ x. x) SlotAs.none (λ x. Unit) (λ x. x) λ x. x
-
-  abbrev s10 : Typed.Mo T13 → Typed.Mo T14
-  s10 = Scalar.n-room T13 9 (Syntax.tyInt Syntax.w64)
+  abbrev s10 : Typed.Both T13 T14
+  s10 = Move.k-sl-copy-out SlotAs.row T13 1 10 11 0 (Syntax.tyRef (Syntax.named 0) Syntax.mut SlotAs.pointee) Row.off SlotAs.whole (Shared.bySize 44) (λ u. u
+      .1 .1 .1 .1 .0) (λ x. x) SlotAs.none (λ x. Unit) (λ x. x) λ x. x
 
   abbrev s11 : Typed.Mo T14 → Typed.Mo T15
-  s11 = Scalar.n-room T14 10 Syntax.tyPtr
+  s11 = Scalar.n-room T14 9 (Syntax.tyInt Syntax.w64)
 
   abbrev s12 : Typed.Mo T15 → Typed.Mo T16
-  s12 = LocalCopy.n-val-copy T15 11 6 SlotAs.row SlotAs.whole SlotAs.whole (λ x. x) (λ x. x) λ x. x
+  s12 = Scalar.n-room T15 10 Syntax.tyPtr
 
   abbrev s13 : Typed.Mo T16 → Typed.Mo T17
-  s13 = Scalar.n-room T16 11 SlotAs.ty
+  s13 = LocalCopy.n-val-copy T16 11 6 SlotAs.row SlotAs.whole SlotAs.whole (λ x. x) (λ x. x) λ x. x
 
-  abbrev s14 : Typed.Both T17 T18
-  s14 = Call.callB ps·1 r·1 (claims· .2) (claims· .3) T17 (
+  abbrev s14 : Typed.Mo T17 → Typed.Mo T18
+  s14 = Scalar.n-room T17 11 SlotAs.ty
+
+  abbrev s15 : Typed.Both T18 T19
+  s15 = Call.callB ps·1 r·1 (claims· .2) (claims· .3) T18 (
     record { pos = 6; st = []; d = 0; at = λ x. x },
     (
       record {
@@ -824,8 +878,8 @@ module _ (claims· : Claims) where
       []) (Syntax.tcons (Syntax.tyInt Syntax.w32) Syntax.tnil)) (Syntax.tcons (Syntax.tyInt Syntax.w8) Syntax.tnil))))) (Syntax.tcons (Syntax.tyInt Syntax.w8)
       (Syntax.tcons (Syntax.tyInt Syntax.w64) (Syntax.tcons Syntax.tyBool Syntax.tnil)))))))
 
-  abbrev s15 : Typed.Both T18 T19
-  s15 = Call.callB ps·2 r·2 (claims· .4) (claims· .5) T18 (
+  abbrev s16 : Typed.Both T19 T20
+  s16 = Call.callB ps·2 r·2 (claims· .4) (claims· .5) T19 (
     record { pos = 5; st = []; d = 0; at = λ x. x },
     (
       record {
@@ -835,42 +889,39 @@ module _ (claims· : Claims) where
         at = λ
             x. x;
       },
-      (Num.vAt 2 λ x. x, (Num.vAt 3 λ x. x, tt)),
+      (record { pos = 2; st = []; d = 0; at = λ x. x }, (Num.vAt 3 λ x. x, tt)),
     ),
   ) 7 [] SlotAs.ty
 
-  abbrev s16 : Typed.Mo T19 → Typed.Mo T20
-  s16 = Scalar.n-room T19 6 SlotAs.ty
-
-  abbrev s17 : Typed.Asks T20 T21
-  s17 = Scalar.k-op2 T20 (Syntax.mul Syntax.unsigned) (Scalar.oAt 4 (Syntax.tyInt Syntax.w64) (Row.valS (Row.sInt Syntax.w64))) (Scalar.oInt Syntax.w64 44) 9
-      (Rows'.sc-here (Row.sInt Syntax.w64)) (Row.sInt Syntax.w64 .of)
+  abbrev s17 : Typed.Mo T20 → Typed.Mo T21
+  s17 = Scalar.n-room T20 6 SlotAs.ty
 
   abbrev s18 : Typed.Asks T21 T22
-  s18 = Scalar.k-op2 T21 Syntax.offset (Scalar.oFld 1 (Syntax.field 0 ∷ []) (Syntax.tyRef (Syntax.named 0) Syntax.mut SlotAs.pointee) 0 Reads.ptrVal)
-      (Scalar.oAt 9 (Syntax.tyInt Syntax.w64) (Row.valS (Row.sInt Syntax.w64))) 12 (Rows'.sc-here Row.sPtr) (Row.sPtr .of)
+  s18 = Scalar.k-op2 T21 (Syntax.mul Syntax.unsigned) (Scalar.oAt 4 (Syntax.tyInt Syntax.w64) (Row.valS (Row.sInt Syntax.w64))) (Scalar.oInt Syntax.w64 44) 9
+      (Rows'.sc-here (Row.sInt Syntax.w64)) (Row.sInt Syntax.w64 .of)
 
   abbrev s19 : Typed.Asks T22 T23
-  s19 = Move.k-sl-set-from SlotAs.row T22 1 12 7 0 (Syntax.tyRef (Syntax.named 0) Syntax.mut SlotAs.pointee) Row.off SlotAs.whole (Shared.bySize 44) (λ u. u .1
+  s19 = Scalar.k-op2 T22 Syntax.offset (Scalar.oFld 1 (Syntax.field 0 ∷ []) (Syntax.tyRef (Syntax.named 0) Syntax.mut SlotAs.pointee) 0 Reads.ptrVal)
+      (Scalar.oAt 9 (Syntax.tyInt Syntax.w64) (Row.valS (Row.sInt Syntax.w64))) 12 (Rows'.sc-here Row.sPtr) (Row.sPtr .of)
+
+  abbrev s20 : Typed.Asks T23 T24
+  s20 = Move.k-sl-set-from SlotAs.row T23 1 12 7 0 (Syntax.tyRef (Syntax.named 0) Syntax.mut SlotAs.pointee) Row.off SlotAs.whole (Shared.bySize 44) (λ u. u .1
       .1 .1 .1 .0) (λ x. x) (λ x. x) (λ x. x) λ x. x
 
-  abbrev s20 : Typed.Mo T23 → Typed.Mo T24
-  s20 = Scalar.n-room T23 7 SlotAs.ty
-
   abbrev s21 : Typed.Mo T24 → Typed.Mo T25
-  s21 = Scalar.n-room T24 9 (Syntax.tyInt Syntax.w64)
+  s21 = Scalar.n-room T24 7 SlotAs.ty
 
   abbrev s22 : Typed.Mo T25 → Typed.Mo T26
-  s22 = Scalar.n-room T25 12 Syntax.tyPtr
+  s22 = Scalar.n-room T25 9 (Syntax.tyInt Syntax.w64)
 
-  abbrev s23 : Typed.Mo T4 → Typed.Mo T27
-  s23 = Scalar.n-use T4 Scalar.oUnit 0 (Rows'.sc-here Row.sUnit) (Row.sUnit .of)
+  abbrev s23 : Typed.Mo T26 → Typed.Mo T27
+  s23 = Scalar.n-room T26 12 Syntax.tyPtr
 
-  abbrev s24 : Typed.Mo T27 → Typed.Mo T28
-  s24 = Scalar.n-room T27 4 (Syntax.tyInt Syntax.w64)
+  abbrev s24 : Typed.Mo T4 → Typed.Mo T28
+  s24 = Scalar.n-use T4 Scalar.oUnit 0 (Rows'.sc-here Row.sUnit) (Row.sUnit .of)
 
   abbrev s25 : Typed.Mo T28 → Typed.Mo T29
-  s25 = Scalar.n-room T28 2 (Syntax.tyInt Syntax.w64)
+  s25 = Scalar.n-room T28 4 (Syntax.tyInt Syntax.w64)
 
   abbrev s26 : Typed.Mo T29 → Typed.Mo T30
   s26 = Scalar.n-room T29 3 (Syntax.tyInt Syntax.w8)
@@ -900,91 +951,91 @@ module _ (claims· : Claims) where
         abbrev at1 : Typed.TF T5 O4
         at1 = λ Ψ. Typed.pass T5 T7 s3 (at0 Ψ)
 
-        abbrev at2 : Typed.TF T9 O4
+        abbrev at2 : Typed.TF T10 O4
         at2 = Typed.atExit 1 O4
 
-        abbrev at3 : Typed.TF T8 O4
-        at3 = λ Ψ. Typed.pass T8 T9 s5 (at2 Ψ)
+        abbrev at3 : Typed.TF T9 O4
+        at3 = λ Ψ. Typed.pass T9 T10 s6 (at2 Ψ)
 
-        abbrev at4 : Typed.TF T5 O4
-        at4 = λ Ψ. Typed.pass T5 T8 s4 (at3 Ψ)
+        abbrev at4 : Typed.TF T8 O4
+        at4 = λ Ψ. Typed.pass T8 T9 s5 (at3 Ψ)
 
         abbrev at5 : Typed.TF T5 O4
-        at5 = Scalar.Φcond T5 O4 8 (λ x. x) at1 at4
+        at5 = λ Ψ. Typed.pass T5 T8 s4 (at4 Ψ)
 
-        abbrev at6 : Typed.TF T22 O3
-        at6 = λ Ψ. Typed.ask s19 (Typed.pass T23 T24 s20 (Typed.pass T24 T25 s21 (Typed.pass T25 T26 s22 (Typed.atNext O3 Ψ))))
+        abbrev at6 : Typed.TF T5 O4
+        at6 = Scalar.Φcond T5 O4 8 (λ x. x) at1 at5
 
-        abbrev at7 : Typed.TF T21 O3
-        at7 = λ Ψ. Typed.ask s18 (at6 Ψ)
+        abbrev at7 : Typed.TF T23 O3
+        at7 = λ Ψ. Typed.ask s20 (Typed.pass T24 T25 s21 (Typed.pass T25 T26 s22 (Typed.pass T26 T27 s23 (Typed.atNext O3 Ψ))))
 
-        abbrev at8 : Typed.TF T20 O3
-        at8 = λ Ψ. Typed.ask s17 (at7 Ψ)
+        abbrev at8 : Typed.TF T22 O3
+        at8 = λ Ψ. Typed.ask s19 (at7 Ψ)
 
-        abbrev at9 : Typed.TF T19 O3
-        at9 = λ Ψ. Typed.pass T19 T20 s16 (at8 Ψ)
+        abbrev at9 : Typed.TF T21 O3
+        at9 = λ Ψ. Typed.ask s18 (at8 Ψ)
 
-        abbrev at10 : Typed.TF T18 O3
-        at10 = λ Ψ. Typed.both s15 (at9 Ψ)
+        abbrev at10 : Typed.TF T20 O3
+        at10 = λ Ψ. Typed.pass T20 T21 s17 (at9 Ψ)
 
-        abbrev at11 : Typed.TF T17 O3
-        at11 = λ Ψ. Typed.both s14 (at10 Ψ)
+        abbrev at11 : Typed.TF T19 O3
+        at11 = λ Ψ. Typed.both s16 (at10 Ψ)
 
-        abbrev at12 : Typed.TF T16 O3
-        at12 = λ Ψ. Typed.pass T16 T17 s13 (at11 Ψ)
+        abbrev at12 : Typed.TF T18 O3
+        at12 = λ Ψ. Typed.both s15 (at11 Ψ)
 
-        abbrev at13 : Typed.TF T15 O3
-        at13 = λ Ψ. Typed.pass T15 T16 s12 (at12 Ψ)
+        abbrev at13 : Typed.TF T17 O3
+        at13 = λ Ψ. Typed.pass T17 T18 s14 (at12 Ψ)
 
-        abbrev at14 : Typed.TF T14 O3
-        at14 = λ Ψ. Typed.pass T14 T15 s11 (at13 Ψ)
+        abbrev at14 : Typed.TF T16 O3
+        at14 = λ Ψ. Typed.pass T16 T17 s13 (at13 Ψ)
 
-        abbrev at15 : Typed.TF T13 O3
-        at15 = λ Ψ. Typed.pass T13 T14 s10 (at14 Ψ)
+        abbrev at15 : Typed.TF T15 O3
+        at15 = λ Ψ. Typed.pass T15 T16 s12 (at14 Ψ)
 
-        abbrev at16 : Typed.TF T12 O3
-        at16 = λ Ψ. Typed.both s9 (at15 Ψ)
+        abbrev at16 : Typed.TF T14 O3
+        at16 = λ Ψ. Typed.pass T14 T15 s11 (at15 Ψ)
 
-        abbrev at17 : Typed.TF T11 O3
-        at17 = λ Ψ. Typed.ask s8 (at16 Ψ)
+        abbrev at17 : Typed.TF T13 O3
+        at17 = λ Ψ. Typed.both s10 (at16 Ψ)
 
-        abbrev at18 : Typed.TF T10 O3
-        at18 = λ Ψ. Typed.ask s7 (at17 Ψ)
+        abbrev at18 : Typed.TF T12 O3
+        at18 = λ Ψ. Typed.ask s9 (at17 Ψ)
 
-        abbrev at19 : Typed.TF T6 O3
-        at19 = λ Ψ. Typed.ask s6 (at18 Ψ)
+        abbrev at19 : Typed.TF T11 O3
+        at19 = λ Ψ. Typed.ask s8 (at18 Ψ)
 
-        abbrev at20 : Typed.TF T5 O3
-        at20 = λ Ψ. at5 (Typed.wantNext T6 O3 (at19 Ψ) Ψ)
+        abbrev at20 : Typed.TF T6 O3
+        at20 = λ Ψ. Typed.ask s7 (at19 Ψ)
 
-        abbrev at21 : Typed.TF T3 O3
-        at21 = λ Ψ. Typed.ask s2 (at20 Ψ)
+        abbrev at21 : Typed.TF T5 O3
+        at21 = λ Ψ. at6 (Typed.wantNext T6 O3 (at20 Ψ) Ψ)
 
-        abbrev at22 : Typed.TF T3 O2
-        at22 = Typed.LoopBy T3 O2 put0 (λ u vs. Inv·0 (Row.get 1 (T3 .locals) u .now) (Row.get 2 (T3 .locals) u) (Row.get 3 (T3 .locals) u) (Row.get 4 (T3
+        abbrev at22 : Typed.TF T3 O3
+        at22 = λ Ψ. Typed.ask s2 (at21 Ψ)
+
+        abbrev at23 : Typed.TF T3 O2
+        at23 = Typed.LoopBy T3 O2 put0 (λ u vs. Inv·0 (Row.get 1 (T3 .locals) u .now) (Row.get 2 (T3 .locals) u) (Row.get 3 (T3 .locals) u) (Row.get 4 (T3
             .locals) u) (Row.get 5 (T3 .locals) u) (vs .0) (vs .1) (vs .2)) (λ u vs. μ·0 (Row.get 1 (T3 .locals) u .now) (Row.get 2 (T3 .locals) u) (Row.get 3
-            (T3 .locals) u) (Row.get 4 (T3 .locals) u) (Row.get 5 (T3 .locals) u) (vs .0) (vs .1) (vs .2)) at21
+            (T3 .locals) u) (Row.get 4 (T3 .locals) u) (Row.get 5 (T3 .locals) u) (vs .0) (vs .1) (vs .2)) at22
 
-        abbrev at23 : Typed.TF T3 O1
-        at23 = λ Ψ. at22 (Typed.inBlock O1 Ψ)
+        abbrev at24 : Typed.TF T3 O1
+        at24 = λ Ψ. at23 (Typed.inBlock O1 Ψ)
 
-        abbrev at24 : Typed.TF T30 O0
-        at24 = Typed.atRet O0
+        abbrev at25 : Typed.TF T30 O0
+        at25 = Typed.atRet O0
 
-        abbrev at25 : Typed.TF T29 O0
-        at25 = λ Ψ. Typed.pass T29 T30 s26 (at24 Ψ)
+        abbrev at26 : Typed.TF T29 O0
+        at26 = λ Ψ. Typed.pass T29 T30 s26 (at25 Ψ)
 
-        abbrev at26 : Typed.TF T28 O0
-        at26 = λ Ψ. Typed.pass T28 T29 s25 (at25 Ψ)
-
-        abbrev at27 : Typed.TF T27 O0
-        at27 = λ Ψ. Typed.pass T27 T28 s24 (at26 Ψ)
+        abbrev at27 : Typed.TF T28 O0
+        at27 = λ Ψ. Typed.pass T28 T29 s25 (at26 Ψ)
 
         abbrev at28 : Typed.TF T4 O0
-        at28 = λ Ψ. Typed.pass T4 T27 s23 (at27 Ψ)
+        at28 = λ Ψ. Typed.pass T4 T28 s24 (at27 Ψ)
 
         abbrev at29 : Typed.TF T3 O0
-        at29 = λ Ψ. at23 (Typed.wantNext T4 O0 (at28 Ψ) Ψ)
+        at29 = λ Ψ. at24 (Typed.wantNext T4 O0 (at28 Ψ) Ψ)
 
         abbrev at30 : Typed.TF T2 O0
         at30 = λ Ψ. Typed.both s1 (at29 Ψ)
@@ -1014,10 +1065,10 @@ module _ (claims· : Claims) where
           G3 = record { locals = t3; slots = Row.lease (κs .0) (qs .0) ∷ [] }
 
           abbrev G4 : Row.Cx
-          G4 = record { locals = t2; slots = Row.lease (κs .0) (qs .0) ∷ [] }
+          G4 = record { locals = t4; slots = Row.lease (κs .0) (qs .0) ∷ [] }
 
           abbrev G5 : Row.Cx
-          G5 = record { locals = t4; slots = Row.lease (κs .0) (qs .0) ∷ [] }
+          G5 = record { locals = t5; slots = Row.lease (κs .0) (qs .0) ∷ [] }
 
           abbrev G6 : Row.Cx
           G6 = record { locals = t3; slots = Row.lease (κs .0) (qs .0) ∷ [] }
@@ -1026,70 +1077,70 @@ module _ (claims· : Claims) where
           G7 = record { locals = t3; slots = Row.lease (κs .0) (qs .0) ∷ [] }
 
           abbrev G8 : Row.Cx
-          G8 = record { locals = t5; slots = Row.lease (κs .0) (qs .0) ∷ [] }
+          G8 = record { locals = t6; slots = Row.lease (κs .0) (qs .0) ∷ [] }
 
           abbrev G9 : Row.Cx
-          G9 = record { locals = t2; slots = Row.lease (κs .0) (qs .0) ∷ [] }
+          G9 = record { locals = t7; slots = Row.lease (κs .0) (qs .0) ∷ [] }
 
           abbrev G10 : Row.Cx
-          G10 = record { locals = t3; slots = Row.lease (κs .0) (qs .0) ∷ [] }
+          G10 = record { locals = t4; slots = Row.lease (κs .0) (qs .0) ∷ [] }
 
           abbrev G11 : Row.Cx
-          G11 = record { locals = t6; slots = Row.lease (κs .0) (qs .0) ∷ [] }
+          G11 = record { locals = t3; slots = Row.lease (κs .0) (qs .0) ∷ [] }
 
           abbrev G12 : Row.Cx
-          G12 = record { locals = t7; slots = Row.lease (κs .0) (qs .0) ∷ [] }
+          G12 = record { locals = t8; slots = Row.lease (κs .0) (qs .0) ∷ [] }
 
           abbrev G13 : Row.Cx
-          G13 = record { locals = t8; slots = Row.lease (κs .0) (qs .0) ∷ [] }
+          G13 = record { locals = t9; slots = Row.lease (κs .0) (qs .0) ∷ [] }
 
           abbrev G14 : Row.Cx
-          G14 = record { locals = t9; slots = Row.lease (κs .0) (qs .0) ∷ [] }
+          G14 = record { locals = t10; slots = Row.lease (κs .0) (qs .0) ∷ [] }
 
           abbrev G15 : Row.Cx
-          G15 = record { locals = t10; slots = Row.lease (κs .0) (qs .0) ∷ [] }
+          G15 = record { locals = t11; slots = Row.lease (κs .0) (qs .0) ∷ [] }
 
           abbrev G16 : Row.Cx
-          G16 = record { locals = t11; slots = Row.lease (κs .0) (qs .0) ∷ [] }
+          G16 = record { locals = t12; slots = Row.lease (κs .0) (qs .0) ∷ [] }
 
           abbrev G17 : Row.Cx
-          G17 = record { locals = t12; slots = Row.lease (κs .0) (qs .0) ∷ [] }
+          G17 = record { locals = t13; slots = Row.lease (κs .0) (qs .0) ∷ [] }
 
           abbrev G18 : Row.Cx
-          G18 = record { locals = t12; slots = Row.lease (κs .0) (qs .0) ∷ [] }
+          G18 = record { locals = t14; slots = Row.lease (κs .0) (qs .0) ∷ [] }
 
           abbrev G19 : Row.Cx
-          G19 = record { locals = t13; slots = Row.lease (κs .0) (qs .0) ∷ [] }
+          G19 = record { locals = t14; slots = Row.lease (κs .0) (qs .0) ∷ [] }
 
           abbrev G20 : Row.Cx
-          G20 = record { locals = t14; slots = Row.lease (κs .0) (qs .0) ∷ [] }
+          G20 = record { locals = t15; slots = Row.lease (κs .0) (qs .0) ∷ [] }
 
           abbrev G21 : Row.Cx
-          G21 = record { locals = t15; slots = Row.lease (κs .0) (qs .0) ∷ [] }
+          G21 = record { locals = t16; slots = Row.lease (κs .0) (qs .0) ∷ [] }
 
           abbrev G22 : Row.Cx
-          G22 = record { locals = t16; slots = Row.lease (κs .0) (qs .0) ∷ [] }
+          G22 = record { locals = t17; slots = Row.lease (κs .0) (qs .0) ∷ [] }
 
           abbrev G23 : Row.Cx
-          G23 = record { locals = t16; slots = Row.lease (κs .0) (qs .0) ∷ [] }
+          G23 = record { locals = t18; slots = Row.lease (κs .0) (qs .0) ∷ [] }
 
           abbrev G24 : Row.Cx
-          G24 = record { locals = t17; slots = Row.lease (κs .0) (qs .0) ∷ [] }
+          G24 = record { locals = t18; slots = Row.lease (κs .0) (qs .0) ∷ [] }
 
           abbrev G25 : Row.Cx
-          G25 = record { locals = t18; slots = Row.lease (κs .0) (qs .0) ∷ [] }
+          G25 = record { locals = t19; slots = Row.lease (κs .0) (qs .0) ∷ [] }
 
           abbrev G26 : Row.Cx
-          G26 = record { locals = t3; slots = Row.lease (κs .0) (qs .0) ∷ [] }
+          G26 = record { locals = t20; slots = Row.lease (κs .0) (qs .0) ∷ [] }
 
           abbrev G27 : Row.Cx
-          G27 = record { locals = t19; slots = Row.lease (κs .0) (qs .0) ∷ [] }
+          G27 = record { locals = t3; slots = Row.lease (κs .0) (qs .0) ∷ [] }
 
           abbrev G28 : Row.Cx
-          G28 = record { locals = t20; slots = Row.lease (κs .0) (qs .0) ∷ [] }
+          G28 = record { locals = t21; slots = Row.lease (κs .0) (qs .0) ∷ [] }
 
           abbrev G29 : Row.Cx
-          G29 = record { locals = t21; slots = Row.lease (κs .0) (qs .0) ∷ [] }
+          G29 = record { locals = t22; slots = Row.lease (κs .0) (qs .0) ∷ [] }
 
           abbrev G30 : Row.Cx
           G30 = record { locals = t1; slots = Row.lease (κs .0) (qs .0) ∷ [] }
@@ -1120,14 +1171,15 @@ module _ (claims· : Claims) where
             d1 : Typed.Typed 𝓤 H A 𝓣 E G5 b3 Δ4 at1
             d1 = Typed.g-pre 𝓤 H A W 𝓣 E G5 G7 b3 Δ4 (Typed.pass T5 T7 s3) at0 (Scalar.g-room 𝓤 H A W E G5 8 Syntax.tyBool (Scalar.room-sc 𝓤 H A W Row.sBool)) d0
 
-            d2 : Typed.Typed 𝓤 H A 𝓣 E G9 b4 Δ4 at2
+            d2 : Typed.Typed 𝓤 H A 𝓣 E G10 b4 Δ4 at2
             d2 = Typed.t-exit 𝓤 H A W 𝓣 E 1 Δ4 tt
 
-            d3 : Typed.Typed 𝓤 H A 𝓣 E G8 b4 Δ4 at3
-            d3 = Typed.g-pre 𝓤 H A W 𝓣 E G8 G9 b4 Δ4 (Typed.pass T8 T9 s5) at2 (Scalar.g-room 𝓤 H A W E G8 8 Syntax.tyBool (Scalar.room-sc 𝓤 H A W Row.sBool)) d2
+            d3 : Typed.Typed 𝓤 H A 𝓣 E G9 b4 Δ4 at3
+            d3 = Typed.g-pre 𝓤 H A W 𝓣 E G9 G10 b4 Δ4 (Typed.pass T9 T10 s6) at2 (Scalar.g-room 𝓤 H A W E G9 8 Syntax.tyBool (Scalar.room-sc 𝓤 H A W Row.sBool))
+                d2
 
-            d4 : Typed.Typed 𝓤 H A 𝓣 E G5 b4 Δ4 at4
-            d4 = Typed.g-pre 𝓤 H A W 𝓣 E G5 G8 b4 Δ4 (Typed.pass T5 T8 s4) at3 (Scalar.g-room 𝓤 H A W E G5 5 (Syntax.tyStruct (102 ∷ 114 ∷ 97 ∷ 103 ∷ 109 ∷ 101 ∷
+            d4 : Typed.Typed 𝓤 H A 𝓣 E G8 b4 Δ4 at4
+            d4 = Typed.g-pre 𝓤 H A W 𝓣 E G8 G9 b4 Δ4 (Typed.pass T8 T9 s5) at3 (Scalar.g-room 𝓤 H A W E G8 5 (Syntax.tyStruct (102 ∷ 114 ∷ 97 ∷ 103 ∷ 109 ∷ 101 ∷
                 110 ∷ 116 ∷ 115 ∷ 58 ∷ 58 ∷ 84 ∷ 97 ∷ 105 ∷ 108 ∷ []) (Syntax.tcons Syntax.tyBool (Syntax.tcons Syntax.tyBool (Syntax.tcons (Syntax.tyStruct (114
                 ∷ 101 ∷ 115 ∷ 105 ∷ 100 ∷ 117 ∷ 101 ∷ 58 ∷ 58 ∷ 82 ∷ 101 ∷ 115 ∷ 105 ∷ 100 ∷ 117 ∷ 101 ∷ []) (Syntax.tcons (Syntax.tyStruct (110 ∷ 97 ∷ 109 ∷ 101
                 ∷ 115 ∷ 58 ∷ 58 ∷ 84 ∷ 104 ∷ 114 ∷ 101 ∷ 101 ∷ []) (Syntax.tcons (Syntax.tyInt Syntax.w8) (Syntax.tcons (Syntax.tyInt Syntax.w8) (Syntax.tcons
@@ -1143,44 +1195,50 @@ module _ (claims· : Claims) where
                 (Syntax.tyInt Syntax.w32) Syntax.tnil)) (Syntax.tcons (Syntax.tyInt Syntax.w8) Syntax.tnil))))) (Syntax.tcons (Syntax.tyInt Syntax.w8)
                 (Syntax.tcons (Syntax.tyInt Syntax.w64) (Syntax.tcons Syntax.tyBool Syntax.tnil))))))) Path'.refl)) d3
 
-            d5 : Typed.Typed 𝓤 H A 𝓣 E G5 b5 Δ4 at5
-            d5 = Scalar.t-cond 𝓤 H A W E 𝓣 G5 8 (λ x. x) b3 b4 Δ4 at1 at4 (Scalar.reads-sc 𝓤 H A W Row.sBool) Path'.refl d1 d4
+            d5 : Typed.Typed 𝓤 H A 𝓣 E G5 b4 Δ4 at5
+            d5 = Typed.g-pre 𝓤 H A W 𝓣 E G5 G8 b4 Δ4 (Typed.pass T5 T8 s4) at4 (Scalar.g-room 𝓤 H A W E G5 2 (Syntax.tyStruct (102 ∷ 114 ∷ 97 ∷ 103 ∷ 109 ∷ 101 ∷
+                110 ∷ 116 ∷ 115 ∷ 58 ∷ 58 ∷ 70 ∷ 114 ∷ 111 ∷ 109 ∷ 76 ∷ 97 ∷ 115 ∷ 116 ∷ []) (Syntax.tcons (Syntax.tyInt Syntax.w64) Syntax.tnil))
+                (Local.room-whole 𝓤 H A W (Declared.row FromLast.the-type) (Syntax.tyStruct (102 ∷ 114 ∷ 97 ∷ 103 ∷ 109 ∷ 101 ∷ 110 ∷ 116 ∷ 115 ∷ 58 ∷ 58 ∷ 70 ∷
+                114 ∷ 111 ∷ 109 ∷ 76 ∷ 97 ∷ 115 ∷ 116 ∷ []) (Syntax.tcons (Syntax.tyInt Syntax.w64) Syntax.tnil)) Path'.refl)) d4
 
-            d6 : Typed.Typed 𝓤 H A 𝓣 E G22 b15 Δ3 at6
-            d6 = Typed.s-typed 𝓤 H A W 𝓣 E G22 b15 Δ3 (λ Ψ. Typed.ask s19 (Typed.pass T23 T24 s20 (Typed.pass T24 T25 s21 (Typed.pass T25 T26 s22 Ψ)))) tt
-                (Typed.g-post 𝓤 H A W 𝓣 E G22 G25 G26 b15 (λ Ψ. Typed.ask s19 (Typed.pass T23 T24 s20 (Typed.pass T24 T25 s21 Ψ))) (Typed.pass T25 T26 s22)
-                (Typed.g-post 𝓤 H A W 𝓣 E G22 G24 G25 b15 (λ Ψ. Typed.ask s19 (Typed.pass T23 T24 s20 Ψ)) (Typed.pass T24 T25 s21) (Typed.g-post 𝓤 H A W 𝓣 E G22
-                G23 G24 b15 (Typed.ask s19) (Typed.pass T23 T24 s20) (Move.t-sl-set-from 𝓤 H A W E SlotAs.row 𝓣 Path'.refl (λ ρ. Unit) G22 1 12 7 0 (Syntax.tyRef
+            d6 : Typed.Typed 𝓤 H A 𝓣 E G5 b5 Δ4 at6
+            d6 = Scalar.t-cond 𝓤 H A W E 𝓣 G5 8 (λ x. x) b3 b4 Δ4 at1 at5 (Scalar.reads-sc 𝓤 H A W Row.sBool) Path'.refl d1 d5
+
+            d7 : Typed.Typed 𝓤 H A 𝓣 E G23 b15 Δ3 at7
+            d7 = Typed.s-typed 𝓤 H A W 𝓣 E G23 b15 Δ3 (λ Ψ. Typed.ask s20 (Typed.pass T24 T25 s21 (Typed.pass T25 T26 s22 (Typed.pass T26 T27 s23 Ψ)))) tt
+                (Typed.g-post 𝓤 H A W 𝓣 E G23 G26 G27 b15 (λ Ψ. Typed.ask s20 (Typed.pass T24 T25 s21 (Typed.pass T25 T26 s22 Ψ))) (Typed.pass T26 T27 s23)
+                (Typed.g-post 𝓤 H A W 𝓣 E G23 G25 G26 b15 (λ Ψ. Typed.ask s20 (Typed.pass T24 T25 s21 Ψ)) (Typed.pass T25 T26 s22) (Typed.g-post 𝓤 H A W 𝓣 E G23
+                G24 G25 b15 (Typed.ask s20) (Typed.pass T24 T25 s21) (Move.t-sl-set-from 𝓤 H A W E SlotAs.row 𝓣 Path'.refl (λ ρ. Unit) G23 1 12 7 0 (Syntax.tyRef
                 (Syntax.named 0) Syntax.mut SlotAs.pointee) (Row.lease (κs .0) (qs .0)) SlotAs.ty SlotAs.ty SlotAs.whole (Shared.bySize 44) (λ u. u .1 .1 .1 .1
-                .0) (λ x. x) (λ x. x) (λ x. x) (λ x. x) (λ i o. Elements.at-mul o 44 i) Path'.refl Path'.refl (Own.told-none 𝓤 H A (G22 .slots)) (Reads.as-is 𝓤 H
+                .0) (λ x. x) (λ x. x) (λ x. x) (λ x. x) (λ i o. Elements.at-mul o 44 i) Path'.refl Path'.refl (Own.told-none 𝓤 H A (G23 .slots)) (Reads.as-is 𝓤 H
                 A (Mut.mslice SlotAs.row (Syntax.tyRef (Syntax.named 0) Syntax.mut SlotAs.pointee) 0)) (Reads.as-is 𝓤 H A (Rows'.sc-here Row.sPtr))
                 (Yields.yields-copy 𝓤 H A W (λ ρ. Unit) SlotAs.row Path'.refl (SlotAs.copies .copy 𝓤 H A W) SlotAs.whole (λ x. x) (λ x. x) (λ ρ told. SlotAs.mem
-                𝓤 H A W ρ) λ ρ told. SlotAs.of-mem 𝓤 H A W ρ) Path'.refl tt Path'.refl Path'.refl) (Scalar.g-room 𝓤 H A W E G23 7 SlotAs.ty (SlotAs.room 𝓤 H A
-                W))) (Scalar.g-room 𝓤 H A W E G24 9 (Syntax.tyInt Syntax.w64) (Scalar.room-sc 𝓤 H A W (Row.sInt Syntax.w64)))) (Scalar.g-room 𝓤 H A W E G25 12
+                𝓤 H A W ρ) λ ρ told. SlotAs.of-mem 𝓤 H A W ρ) Path'.refl tt Path'.refl Path'.refl) (Scalar.g-room 𝓤 H A W E G24 7 SlotAs.ty (SlotAs.room 𝓤 H A
+                W))) (Scalar.g-room 𝓤 H A W E G25 9 (Syntax.tyInt Syntax.w64) (Scalar.room-sc 𝓤 H A W (Row.sInt Syntax.w64)))) (Scalar.g-room 𝓤 H A W E G26 12
                 Syntax.tyPtr (Scalar.room-sc 𝓤 H A W Row.sPtr)))
 
-            d7 : Typed.Typed 𝓤 H A 𝓣 E G21 b16 Δ3 at7
-            d7 = Typed.s-seq 𝓤 H A W 𝓣 E G21 G22 b14 b15 Δ3 (Typed.ask s18) at6 (Scalar.t-op2 𝓤 H A W E 𝓣 G21 Syntax.offset (Scalar.oFld 1 (Syntax.field 0 ∷ [])
+            d8 : Typed.Typed 𝓤 H A 𝓣 E G22 b16 Δ3 at8
+            d8 = Typed.s-seq 𝓤 H A W 𝓣 E G22 G23 b14 b15 Δ3 (Typed.ask s19) at7 (Scalar.t-op2 𝓤 H A W E 𝓣 G22 Syntax.offset (Scalar.oFld 1 (Syntax.field 0 ∷ [])
                 (Syntax.tyRef (Syntax.named 0) Syntax.mut SlotAs.pointee) 0 Reads.ptrVal) (Scalar.oAt 9 (Syntax.tyInt Syntax.w64) (Row.valS (Row.sInt
                 Syntax.w64))) 12 (Rows'.sc-here Row.sPtr) Syntax.tyPtr (Row.valS Row.sPtr) (Row.sPtr .of) (
                   Mut.reads-mslice-ptr 𝓤 H A W SlotAs.row (Syntax.tyRef
                       (Syntax.named 0) Syntax.mut SlotAs.pointee) 0 0 Path'.refl,
                   Path'.refl,
                 ) (Scalar.reads-sc 𝓤 H A W (Row.sInt Syntax.w64), Path'.refl)
-                (Reads.room-gone 𝓤 H A Syntax.tyPtr) (Scalar.holds-sc 𝓤 H A W Row.sPtr) Path'.refl (λ u. Path'.refl) λ u. tt) d6
+                (Reads.room-gone 𝓤 H A Syntax.tyPtr) (Scalar.holds-sc 𝓤 H A W Row.sPtr) Path'.refl (λ u. Path'.refl) λ u. tt) d7
 
-            d8 : Typed.Typed 𝓤 H A 𝓣 E G20 b17 Δ3 at8
-            d8 = Typed.s-seq 𝓤 H A W 𝓣 E G20 G21 b13 b16 Δ3 (Typed.ask s17) at7 (Scalar.t-op2 𝓤 H A W E 𝓣 G20 (Syntax.mul Syntax.unsigned) (Scalar.oAt 4
+            d9 : Typed.Typed 𝓤 H A 𝓣 E G21 b17 Δ3 at9
+            d9 = Typed.s-seq 𝓤 H A W 𝓣 E G21 G22 b13 b16 Δ3 (Typed.ask s18) at8 (Scalar.t-op2 𝓤 H A W E 𝓣 G21 (Syntax.mul Syntax.unsigned) (Scalar.oAt 4
                 (Syntax.tyInt Syntax.w64) (Row.valS (Row.sInt Syntax.w64))) (Scalar.oInt Syntax.w64 44) 9 (Rows'.sc-here (Row.sInt Syntax.w64)) (Syntax.tyInt
                 Syntax.w64) (Row.valS (Row.sInt Syntax.w64)) (Row.sInt Syntax.w64 .of) (Scalar.reads-sc 𝓤 H A W (Row.sInt Syntax.w64), Path'.refl) tt
-                (Reads.room-gone 𝓤 H A (Syntax.tyInt Syntax.w64)) (Scalar.holds-sc 𝓤 H A W (Row.sInt Syntax.w64)) Path'.refl (λ u. Path'.refl) λ u. tt) d7
+                (Reads.room-gone 𝓤 H A (Syntax.tyInt Syntax.w64)) (Scalar.holds-sc 𝓤 H A W (Row.sInt Syntax.w64)) Path'.refl (λ u. Path'.refl) λ u. tt) d8
 
-            d9 : Typed.Typed 𝓤 H A 𝓣 E G19 b17 Δ3 at9
-            d9 = Typed.g-pre 𝓤 H A W 𝓣 E G19 G20 b17 Δ3 (Typed.pass T19 T20 s16) at8 (Scalar.g-room 𝓤 H A W E G19 6 SlotAs.ty (SlotAs.room 𝓤 H A W)) d8
+            d10 : Typed.Typed 𝓤 H A 𝓣 E G20 b17 Δ3 at10
+            d10 = Typed.g-pre 𝓤 H A W 𝓣 E G20 G21 b17 Δ3 (Typed.pass T20 T21 s17) at9 (Scalar.g-room 𝓤 H A W E G20 6 SlotAs.ty (SlotAs.room 𝓤 H A W)) d9
 
-            d10 : Typed.Typed 𝓤 H A 𝓣 E G18 b18 Δ3 at10
-            d10 = Typed.s-seq 𝓤 H A W 𝓣 E G18 G19 b12 b17 Δ3 (Typed.both s15) at9 (Plain.t-call-plain 𝓤 H A W 𝓣 0 ps·2 r·2 (claims· .4) (claims· .5)
-                "fragments::mark_slot" (known .2) E (λ pos β. β) G18 (
+            d11 : Typed.Typed 𝓤 H A 𝓣 E G19 b18 Δ3 at11
+            d11 = Typed.s-seq 𝓤 H A W 𝓣 E G19 G20 b12 b17 Δ3 (Typed.both s16) at10 (Plain.t-call-plain 𝓤 H A W 𝓣 0 ps·2 r·2 (claims· .4) (claims· .5)
+                "fragments::mark_slot" (known .2) E (λ pos β. β) G19 (
                   record { pos = 5; st = []; d = 0; at = λ x. x },
                   (
                     record {
@@ -1190,28 +1248,34 @@ module _ (claims· : Claims) where
                           0;
                       at = λ x. x;
                     },
-                    (Num.vAt 2 λ x. x, (Num.vAt 3 λ x. x, tt)),
+                    (record { pos = 2; st = []; d = 0; at = λ x. x }, (Num.vAt 3 λ x. x, tt)),
                   ),
-                ) 7 [] (Call.sub-id 𝓤 H A W (G18 .slots)) (
+                ) 7 [] (Call.sub-id 𝓤 H A W (G19 .slots)) (
                   (
-                    Yields.yields-copy 𝓤 H A W (λ ρ.
-                        Unit) (Declared.row Tail.the-type) Path'.refl (Copies.cStruct Tail.the-type Laws.the-laws Laws.the-copy .copy 𝓤 H A W) (Rows'.whole (Declared.row
-                        Tail.the-type)) (λ x. x) (λ x. x) (λ ρ told. Local.mem-whole 𝓤 H A W (Declared.row Tail.the-type) ρ) λ ρ told. Local.whole-mem 𝓤 H A W
-                        (Declared.row Tail.the-type) ρ,
+                    Yields.yields-copy 𝓤 H A W (λ ρ. Unit) (Declared.row Tail.the-type) Path'.refl (Copies.cStruct Tail.the-type Laws'.the-laws Laws'.the-copy
+                        .copy 𝓤 H A W) (Rows'.whole (Declared.row Tail.the-type)) (λ x. x) (λ x. x) (λ ρ told. Local.mem-whole 𝓤 H A W (Declared.row Tail.the-type) ρ) λ
+                        ρ told. Local.whole-mem 𝓤 H A W (Declared.row Tail.the-type) ρ,
                     Path'.refl,
                   ),
                   (
                     (SlotAs.yields 𝓤 H A W, Path'.refl),
                     (
-                      (Scalar.reads-sc 𝓤 H A W (Row.sInt Syntax.w64), Path'.refl),
+                      (
+                        Yields.yields-copy 𝓤 H A W
+                            (λ ρ. Unit) (Declared.row FromLast.the-type) Path'.refl (Copies.cStruct FromLast.the-type Laws.the-laws Laws.the-copy .copy 𝓤 H A W) (Rows'.whole
+                            (Declared.row FromLast.the-type)) (λ x. x) (λ x. x) (λ ρ told. Local.mem-whole 𝓤 H A W (Declared.row FromLast.the-type) ρ) λ ρ told.
+                            Local.whole-mem 𝓤 H A W (Declared.row FromLast.the-type) ρ,
+                        Path'.refl,
+                      ),
                       ((Scalar.reads-sc 𝓤 H A W (Row.sInt Syntax.w8), Path'.refl), tt),
                     ),
                   ),
-                ) (Reads.room-gone 𝓤 H A SlotAs.ty) tt Path'.refl) d9
+                )
+                (Reads.room-gone 𝓤 H A SlotAs.ty) tt Path'.refl) d10
 
-            d11 : Typed.Typed 𝓤 H A 𝓣 E G17 b19 Δ3 at11
-            d11 = Typed.s-seq 𝓤 H A W 𝓣 E G17 G18 b11 b18 Δ3 (Typed.both s14) at10 (Plain.t-call-plain 𝓤 H A W 𝓣 0 ps·1 r·1 (claims· .2) (claims· .3)
-                "fragments::step_tail" (known .1) E (λ pos β. β) G17 (
+            d12 : Typed.Typed 𝓤 H A 𝓣 E G18 b19 Δ3 at12
+            d12 = Typed.s-seq 𝓤 H A W 𝓣 E G18 G19 b11 b18 Δ3 (Typed.both s15) at11 (Plain.t-call-plain 𝓤 H A W 𝓣 0 ps·1 r·1 (claims· .2) (claims· .3)
+                "fragments::step_tail" (known .1) E (λ pos β. β) G18 (
                   record { pos = 6; st = []; d = 0; at = λ x. x },
                   (
                     record {
@@ -1223,115 +1287,111 @@ module _ (claims· : Claims) where
                     },
                     tt,
                   ),
-                ) 5 [] (Call.sub-id 𝓤 H A W (G17 .slots)) (
+                ) 5 [] (Call.sub-id 𝓤 H A W (G18 .slots)) (
                   (SlotAs.yields 𝓤 H A W, Path'.refl),
                   (
                     (
                       Yields.yields-copy 𝓤 H A W (λ ρ.
-                          Unit) (Declared.row Tail.the-type) Path'.refl (Copies.cStruct Tail.the-type Laws.the-laws Laws.the-copy .copy 𝓤 H A W) (Rows'.whole (Declared.row
-                          Tail.the-type)) (λ x. x) (λ x. x) (λ ρ told. Local.mem-whole 𝓤 H A W (Declared.row Tail.the-type) ρ) λ ρ told. Local.whole-mem 𝓤 H A W
-                          (Declared.row Tail.the-type) ρ,
+                          Unit) (Declared.row Tail.the-type) Path'.refl (Copies.cStruct Tail.the-type Laws'.the-laws Laws'.the-copy .copy 𝓤 H A W) (Rows'.whole
+                          (Declared.row Tail.the-type)) (λ x. x) (λ x. x) (λ ρ told. Local.mem-whole 𝓤 H A W (Declared.row Tail.the-type) ρ) λ ρ told. Local.whole-mem 𝓤 H
+                          A W (Declared.row Tail.the-type) ρ,
                       Path'.refl,
                     ),
                     tt,
                   ),
-                ) (Local.room-whole 𝓤 H A W (Declared.row Tail.the-type) (Syntax.tyStruct (102 ∷ 114 ∷ 97 ∷ 103 ∷
-                109 ∷ 101 ∷ 110 ∷ 116 ∷ 115 ∷ 58 ∷ 58 ∷ 84 ∷ 97 ∷ 105 ∷ 108 ∷ []) (Syntax.tcons Syntax.tyBool (Syntax.tcons Syntax.tyBool (Syntax.tcons
+                ) (Local.room-whole 𝓤 H A W (Declared.row Tail.the-type) (Syntax.tyStruct (102 ∷ 114 ∷ 97 ∷
+                103 ∷ 109 ∷ 101 ∷ 110 ∷ 116 ∷ 115 ∷ 58 ∷ 58 ∷ 84 ∷ 97 ∷ 105 ∷ 108 ∷ []) (Syntax.tcons Syntax.tyBool (Syntax.tcons Syntax.tyBool (Syntax.tcons
                 (Syntax.tyStruct (114 ∷ 101 ∷ 115 ∷ 105 ∷ 100 ∷ 117 ∷ 101 ∷ 58 ∷ 58 ∷ 82 ∷ 101 ∷ 115 ∷ 105 ∷ 100 ∷ 117 ∷ 101 ∷ []) (Syntax.tcons (Syntax.tyStruct
                 (110 ∷ 97 ∷ 109 ∷ 101 ∷ 115 ∷ 58 ∷ 58 ∷ 84 ∷ 104 ∷ 114 ∷ 101 ∷ 101 ∷ []) (Syntax.tcons (Syntax.tyInt Syntax.w8) (Syntax.tcons (Syntax.tyInt
                 Syntax.w8) (Syntax.tcons (Syntax.tyInt Syntax.w8) Syntax.tnil)))) (Syntax.tcons (Syntax.tyInt Syntax.w8) (Syntax.tcons (Syntax.tyStruct (102 ∷
                 105 ∷ 101 ∷ 108 ∷ 100 ∷ 115 ∷ 58 ∷ 58 ∷ 82 ∷ 101 ∷ 115 ∷ 105 ∷ 100 ∷ 117 ∷ 101 ∷ 78 ∷ 117 ∷ 109 ∷ 98 ∷ 101 ∷ 114 ∷ []) (Syntax.tcons
                 (Syntax.tyInt Syntax.w32) Syntax.tnil)) (Syntax.tcons (Syntax.tyInt Syntax.w8) Syntax.tnil))))) (Syntax.tcons (Syntax.tyInt Syntax.w8)
-                (Syntax.tcons (Syntax.tyInt Syntax.w64) (Syntax.tcons Syntax.tyBool Syntax.tnil))))))) Path'.refl) tt Path'.refl) d10
+                (Syntax.tcons (Syntax.tyInt Syntax.w64) (Syntax.tcons Syntax.tyBool Syntax.tnil))))))) Path'.refl) tt Path'.refl) d11
 
-            d12 : Typed.Typed 𝓤 H A 𝓣 E G16 b19 Δ3 at12
-            d12 = Typed.g-pre 𝓤 H A W 𝓣 E G16 G17 b19 Δ3 (Typed.pass T16 T17 s13) at11 (Scalar.g-room 𝓤 H A W E G16 11 SlotAs.ty (SlotAs.room 𝓤 H A W)) d11
+            d13 : Typed.Typed 𝓤 H A 𝓣 E G17 b19 Δ3 at13
+            d13 = Typed.g-pre 𝓤 H A W 𝓣 E G17 G18 b19 Δ3 (Typed.pass T17 T18 s14) at12 (Scalar.g-room 𝓤 H A W E G17 11 SlotAs.ty (SlotAs.room 𝓤 H A W)) d12
 
-            d13 : Typed.Typed 𝓤 H A 𝓣 E G15 b20 Δ3 at13
-            d13 = Typed.s-seq 𝓤 H A W 𝓣 E G15 G16 b10 b19 Δ3 (Typed.pass T15 T16 s12) at12 (LocalCopy.t-val-copy 𝓤 H A W E 𝓣 (λ ρ. Unit) G15 11 6 SlotAs.row
-                SlotAs.ty SlotAs.ty SlotAs.whole SlotAs.whole (λ x. x) (λ x. x) (λ x. x) Path'.refl (Own.told-none 𝓤 H A (G15 .slots)) (Yields.yields-copy 𝓤 H A
+            d14 : Typed.Typed 𝓤 H A 𝓣 E G16 b20 Δ3 at14
+            d14 = Typed.s-seq 𝓤 H A W 𝓣 E G16 G17 b10 b19 Δ3 (Typed.pass T16 T17 s13) at13 (LocalCopy.t-val-copy 𝓤 H A W E 𝓣 (λ ρ. Unit) G16 11 6 SlotAs.row
+                SlotAs.ty SlotAs.ty SlotAs.whole SlotAs.whole (λ x. x) (λ x. x) (λ x. x) Path'.refl (Own.told-none 𝓤 H A (G16 .slots)) (Yields.yields-copy 𝓤 H A
                 W (λ ρ. Unit) SlotAs.row Path'.refl (SlotAs.copies .copy 𝓤 H A W) SlotAs.whole (λ x. x) (λ x. x) (λ ρ told. SlotAs.mem 𝓤 H A W ρ) λ ρ told.
                 SlotAs.of-mem 𝓤 H A W ρ) (Reads.room-gone 𝓤 H A SlotAs.ty) (Yields.makes-mem 𝓤 H A W (λ ρ. Unit) SlotAs.row Path'.refl SlotAs.whole (λ x. x) λ ρ
-                told. SlotAs.of-mem 𝓤 H A W ρ) Path'.refl Path'.refl) d12
+                told. SlotAs.of-mem 𝓤 H A W ρ) Path'.refl Path'.refl) d13
 
-            d14 : Typed.Typed 𝓤 H A 𝓣 E G14 b20 Δ3 at14
-            d14 = Typed.g-pre 𝓤 H A W 𝓣 E G14 G15 b20 Δ3 (Typed.pass T14 T15 s11) at13 (Scalar.g-room 𝓤 H A W E G14 10 Syntax.tyPtr (Scalar.room-sc 𝓤 H A W
-                Row.sPtr)) d13
+            d15 : Typed.Typed 𝓤 H A 𝓣 E G15 b20 Δ3 at15
+            d15 = Typed.g-pre 𝓤 H A W 𝓣 E G15 G16 b20 Δ3 (Typed.pass T15 T16 s12) at14 (Scalar.g-room 𝓤 H A W E G15 10 Syntax.tyPtr (Scalar.room-sc 𝓤 H A W
+                Row.sPtr)) d14
 
-            d15 : Typed.Typed 𝓤 H A 𝓣 E G13 b20 Δ3 at15
-            d15 = Typed.g-pre 𝓤 H A W 𝓣 E G13 G14 b20 Δ3 (Typed.pass T13 T14 s10) at14 (Scalar.g-room 𝓤 H A W E G13 9 (Syntax.tyInt Syntax.w64) (Scalar.room-sc 𝓤
-                H A W (Row.sInt Syntax.w64))) d14
+            d16 : Typed.Typed 𝓤 H A 𝓣 E G14 b20 Δ3 at16
+            d16 = Typed.g-pre 𝓤 H A W 𝓣 E G14 G15 b20 Δ3 (Typed.pass T14 T15 s11) at15 (Scalar.g-room 𝓤 H A W E G14 9 (Syntax.tyInt Syntax.w64) (Scalar.room-sc 𝓤
+                H A W (Row.sInt Syntax.w64))) d15
 
-            d16 : Typed.Typed 𝓤 H A 𝓣 E G12 b21 Δ3 at16
-            d16 = Typed.s-seq 𝓤 H A W 𝓣 E G12 G13 b9 b20 Δ3 (Typed.both s9) at15 (Move.t-sl-copy-out 𝓤 H A W E SlotAs.row 𝓣 Path'.refl (SlotAs.copies .copy 𝓤 H A
-                W) (λ ρ. Unit) G12 1 10 11 0 (Syntax.tyRef (Syntax.named 0) Syntax.mut SlotAs.pointee) (Row.lease (κs .0) (qs .0)) SlotAs.ty SlotAs.ty
+            d17 : Typed.Typed 𝓤 H A 𝓣 E G13 b21 Δ3 at17
+            d17 = Typed.s-seq 𝓤 H A W 𝓣 E G13 G14 b9 b20 Δ3 (Typed.both s10) at16 (Move.t-sl-copy-out 𝓤 H A W E SlotAs.row 𝓣 Path'.refl (SlotAs.copies .copy 𝓤 H
+                A W) (λ ρ. Unit) G13 1 10 11 0 (Syntax.tyRef (Syntax.named 0) Syntax.mut SlotAs.pointee) (Row.lease (κs .0) (qs .0)) SlotAs.ty SlotAs.ty
                 SlotAs.whole (Shared.bySize 44) (λ u. u .1 .1 .1 .1 .0) (λ x. x) SlotAs.none (λ x. Unit) (λ x. x) (λ x. x) (λ i o. Elements.at-mul o 44 i)
-                Path'.refl Path'.refl (Own.told-none 𝓤 H A (G12 .slots)) (DerefMove.learns-nothing 𝓤 H A SlotAs.row) (Reads.as-is 𝓤 H A (Mut.mslice SlotAs.row
+                Path'.refl Path'.refl (Own.told-none 𝓤 H A (G13 .slots)) (DerefMove.learns-nothing 𝓤 H A SlotAs.row) (Reads.as-is 𝓤 H A (Mut.mslice SlotAs.row
                 (Syntax.tyRef (Syntax.named 0) Syntax.mut SlotAs.pointee) 0)) (Reads.as-is 𝓤 H A (Rows'.sc-here Row.sPtr)) (Reads.room-gone 𝓤 H A SlotAs.ty)
                 (Yields.makes-mem 𝓤 H A W (λ ρ. Unit) SlotAs.row Path'.refl SlotAs.whole (λ x. x) λ ρ told. SlotAs.of-mem 𝓤 H A W ρ) Path'.refl tt Path'.refl
-                Path'.refl) d15
+                Path'.refl) d16
 
-            d17 : Typed.Typed 𝓤 H A 𝓣 E G11 b22 Δ3 at17
-            d17 = Typed.s-seq 𝓤 H A W 𝓣 E G11 G12 b8 b21 Δ3 (Typed.ask s8) at16 (Scalar.t-op2 𝓤 H A W E 𝓣 G11 Syntax.offset (Scalar.oFld 1 (Syntax.field 0 ∷ [])
+            d18 : Typed.Typed 𝓤 H A 𝓣 E G12 b22 Δ3 at18
+            d18 = Typed.s-seq 𝓤 H A W 𝓣 E G12 G13 b8 b21 Δ3 (Typed.ask s9) at17 (Scalar.t-op2 𝓤 H A W E 𝓣 G12 Syntax.offset (Scalar.oFld 1 (Syntax.field 0 ∷ [])
                 (Syntax.tyRef (Syntax.named 0) Syntax.mut SlotAs.pointee) 0 Reads.ptrVal) (Scalar.oAt 9 (Syntax.tyInt Syntax.w64) (Row.valS (Row.sInt
                 Syntax.w64))) 10 (Rows'.sc-here Row.sPtr) Syntax.tyPtr (Row.valS Row.sPtr) (Row.sPtr .of) (
                   Mut.reads-mslice-ptr 𝓤 H A W SlotAs.row (Syntax.tyRef
                       (Syntax.named 0) Syntax.mut SlotAs.pointee) 0 0 Path'.refl,
                   Path'.refl,
                 ) (Scalar.reads-sc 𝓤 H A W (Row.sInt Syntax.w64), Path'.refl)
-                (Reads.room-gone 𝓤 H A Syntax.tyPtr) (Scalar.holds-sc 𝓤 H A W Row.sPtr) Path'.refl (λ u. Path'.refl) λ u. tt) d16
+                (Reads.room-gone 𝓤 H A Syntax.tyPtr) (Scalar.holds-sc 𝓤 H A W Row.sPtr) Path'.refl (λ u. Path'.refl) λ u. tt) d17
 
-            d18 : Typed.Typed 𝓤 H A 𝓣 E G10 b23 Δ3 at18
-            d18 = Typed.s-seq 𝓤 H A W 𝓣 E G10 G11 b7 b22 Δ3 (Typed.ask s7) at17 (Scalar.t-op2 𝓤 H A W E 𝓣 G10 (Syntax.mul Syntax.unsigned) (Scalar.oAt 4
+            d19 : Typed.Typed 𝓤 H A 𝓣 E G11 b23 Δ3 at19
+            d19 = Typed.s-seq 𝓤 H A W 𝓣 E G11 G12 b7 b22 Δ3 (Typed.ask s8) at18 (Scalar.t-op2 𝓤 H A W E 𝓣 G11 (Syntax.mul Syntax.unsigned) (Scalar.oAt 4
                 (Syntax.tyInt Syntax.w64) (Row.valS (Row.sInt Syntax.w64))) (Scalar.oInt Syntax.w64 44) 9 (Rows'.sc-here (Row.sInt Syntax.w64)) (Syntax.tyInt
                 Syntax.w64) (Row.valS (Row.sInt Syntax.w64)) (Row.sInt Syntax.w64 .of) (Scalar.reads-sc 𝓤 H A W (Row.sInt Syntax.w64), Path'.refl) tt
-                (Reads.room-gone 𝓤 H A (Syntax.tyInt Syntax.w64)) (Scalar.holds-sc 𝓤 H A W (Row.sInt Syntax.w64)) Path'.refl (λ u. Path'.refl) λ u. tt) d17
+                (Reads.room-gone 𝓤 H A (Syntax.tyInt Syntax.w64)) (Scalar.holds-sc 𝓤 H A W (Row.sInt Syntax.w64)) Path'.refl (λ u. Path'.refl) λ u. tt) d18
 
-            d19 : Typed.Typed 𝓤 H A 𝓣 E G6 b24 Δ3 at19
-            d19 = Typed.s-seq 𝓤 H A W 𝓣 E G6 G10 b6 b23 Δ3 (Typed.ask s6) at18 (Scalar.t-op2 𝓤 H A W E 𝓣 G6 (Syntax.sub Syntax.unsigned) (Scalar.oAt 4
+            d20 : Typed.Typed 𝓤 H A 𝓣 E G6 b24 Δ3 at20
+            d20 = Typed.s-seq 𝓤 H A W 𝓣 E G6 G11 b6 b23 Δ3 (Typed.ask s7) at19 (Scalar.t-op2 𝓤 H A W E 𝓣 G6 (Syntax.sub Syntax.unsigned) (Scalar.oAt 4
                 (Syntax.tyInt Syntax.w64) (Row.valS (Row.sInt Syntax.w64))) (Scalar.oInt Syntax.w64 1) 4 (Rows'.sc-here (Row.sInt Syntax.w64)) (Syntax.tyInt
                 Syntax.w64) (Row.valS (Row.sInt Syntax.w64)) (Row.sInt Syntax.w64 .of) (Scalar.reads-sc 𝓤 H A W (Row.sInt Syntax.w64), Path'.refl) tt
-                (Scalar.room-sc 𝓤 H A W (Row.sInt Syntax.w64)) (Scalar.holds-sc 𝓤 H A W (Row.sInt Syntax.w64)) Path'.refl (λ u. Path'.refl) λ u. tt) d18
+                (Scalar.room-sc 𝓤 H A W (Row.sInt Syntax.w64)) (Scalar.holds-sc 𝓤 H A W (Row.sInt Syntax.w64)) Path'.refl (λ u. Path'.refl) λ u. tt) d19
 
-            d20 : Typed.Typed 𝓤 H A 𝓣 E G5 b25 Δ3 at20
-            d20 = Typed.t-seq 𝓤 H A W 𝓣 E G5 G6 b5 b24 Δ3 at5 at19 d5 d19
+            d21 : Typed.Typed 𝓤 H A 𝓣 E G5 b25 Δ3 at21
+            d21 = Typed.t-seq 𝓤 H A W 𝓣 E G5 G6 b5 b24 Δ3 at6 at20 d6 d20
 
-            d21 : Typed.Typed 𝓤 H A 𝓣 E G3 b26 Δ3 at21
-            d21 = Typed.s-seq 𝓤 H A W 𝓣 E G3 G5 b2 b25 Δ3 (Typed.ask s2) at20 (Scalar.t-op2 𝓤 H A W E 𝓣 G3 (Syntax.lt Syntax.unsigned) (Scalar.oInt Syntax.w64 0)
+            d22 : Typed.Typed 𝓤 H A 𝓣 E G3 b26 Δ3 at22
+            d22 = Typed.s-seq 𝓤 H A W 𝓣 E G3 G5 b2 b25 Δ3 (Typed.ask s2) at21 (Scalar.t-op2 𝓤 H A W E 𝓣 G3 (Syntax.lt Syntax.unsigned) (Scalar.oInt Syntax.w64 0)
                 (Scalar.oAt 4 (Syntax.tyInt Syntax.w64) (Row.valS (Row.sInt Syntax.w64))) 8 (Rows'.sc-here Row.sBool) Syntax.tyBool (Row.valS Row.sBool)
                 (Row.sBool .of) tt (Scalar.reads-sc 𝓤 H A W (Row.sInt Syntax.w64), Path'.refl) (Reads.room-gone 𝓤 H A Syntax.tyBool) (Scalar.holds-sc 𝓤 H A W
-                Row.sBool) Path'.refl (λ u. Path'.refl) λ u. tt) d20
+                Row.sBool) Path'.refl (λ u. Path'.refl) λ u. tt) d21
 
-            d22 : Typed.Typed 𝓤 H A 𝓣 E G3 b27 Δ2 at22
-            d22 = Typed.t-loop-by 𝓤 H A W 𝓣 E G3 b26 Δ2 put0 (λ u vs. Inv·0 (Row.get 1 (T3 .locals) u .now) (Row.get 2 (T3 .locals) u) (Row.get 3 (T3 .locals) u)
+            d23 : Typed.Typed 𝓤 H A 𝓣 E G3 b27 Δ2 at23
+            d23 = Typed.t-loop-by 𝓤 H A W 𝓣 E G3 b26 Δ2 put0 (λ u vs. Inv·0 (Row.get 1 (T3 .locals) u .now) (Row.get 2 (T3 .locals) u) (Row.get 3 (T3 .locals) u)
                 (Row.get 4 (T3 .locals) u) (Row.get 5 (T3 .locals) u) (vs .0) (vs .1) (vs .2)) (λ u vs. μ·0 (Row.get 1 (T3 .locals) u .now) (Row.get 2 (T3
-                .locals) u) (Row.get 3 (T3 .locals) u) (Row.get 4 (T3 .locals) u) (Row.get 5 (T3 .locals) u) (vs .0) (vs .1) (vs .2)) at21 d21
+                .locals) u) (Row.get 3 (T3 .locals) u) (Row.get 4 (T3 .locals) u) (Row.get 5 (T3 .locals) u) (vs .0) (vs .1) (vs .2)) at22 d22
 
-            d23 : Typed.Typed 𝓤 H A 𝓣 E G3 b28 Δ1 at23
-            d23 = Typed.t-block 𝓤 H A W 𝓣 E G3 b27 Δ1 at22 d22
+            d24 : Typed.Typed 𝓤 H A 𝓣 E G3 b28 Δ1 at24
+            d24 = Typed.t-block 𝓤 H A W 𝓣 E G3 b27 Δ1 at23 d23
 
-            d24 : Typed.Typed 𝓤 H A 𝓣 E G30 b30 Δ0 at24
-            d24 = Typed.t-return 𝓤 H A W 𝓣 E Δ0 tt
+            d25 : Typed.Typed 𝓤 H A 𝓣 E G30 b30 Δ0 at25
+            d25 = Typed.t-return 𝓤 H A W 𝓣 E Δ0 tt
 
-            d25 : Typed.Typed 𝓤 H A 𝓣 E G29 b30 Δ0 at25
-            d25 = Typed.g-pre 𝓤 H A W 𝓣 E G29 G30 b30 Δ0 (Typed.pass T29 T30 s26) at24 (Scalar.g-room 𝓤 H A W E G29 3 (Syntax.tyInt Syntax.w8) (Scalar.room-sc 𝓤
-                H A W (Row.sInt Syntax.w8))) d24
+            d26 : Typed.Typed 𝓤 H A 𝓣 E G29 b30 Δ0 at26
+            d26 = Typed.g-pre 𝓤 H A W 𝓣 E G29 G30 b30 Δ0 (Typed.pass T29 T30 s26) at25 (Scalar.g-room 𝓤 H A W E G29 3 (Syntax.tyInt Syntax.w8) (Scalar.room-sc 𝓤
+                H A W (Row.sInt Syntax.w8))) d25
 
-            d26 : Typed.Typed 𝓤 H A 𝓣 E G28 b30 Δ0 at26
-            d26 = Typed.g-pre 𝓤 H A W 𝓣 E G28 G29 b30 Δ0 (Typed.pass T28 T29 s25) at25 (Scalar.g-room 𝓤 H A W E G28 2 (Syntax.tyInt Syntax.w64) (Scalar.room-sc 𝓤
-                H A W (Row.sInt Syntax.w64))) d25
-
-            d27 : Typed.Typed 𝓤 H A 𝓣 E G27 b30 Δ0 at27
-            d27 = Typed.g-pre 𝓤 H A W 𝓣 E G27 G28 b30 Δ0 (Typed.pass T27 T28 s24) at26 (Scalar.g-room 𝓤 H A W E G27 4 (Syntax.tyInt Syntax.w64) (Scalar.room-sc 𝓤
+            d27 : Typed.Typed 𝓤 H A 𝓣 E G28 b30 Δ0 at27
+            d27 = Typed.g-pre 𝓤 H A W 𝓣 E G28 G29 b30 Δ0 (Typed.pass T28 T29 s25) at26 (Scalar.g-room 𝓤 H A W E G28 4 (Syntax.tyInt Syntax.w64) (Scalar.room-sc 𝓤
                 H A W (Row.sInt Syntax.w64))) d26
 
             d28 : Typed.Typed 𝓤 H A 𝓣 E G4 b31 Δ0 at28
-            d28 = Typed.s-seq 𝓤 H A W 𝓣 E G4 G27 b29 b30 Δ0 (Typed.pass T4 T27 s23) at27 (Scalar.t-use 𝓤 H A W E 𝓣 G4 Scalar.oUnit 0 (Rows'.sc-here Row.sUnit)
+            d28 = Typed.s-seq 𝓤 H A W 𝓣 E G4 G28 b29 b30 Δ0 (Typed.pass T4 T28 s24) at27 (Scalar.t-use 𝓤 H A W E 𝓣 G4 Scalar.oUnit 0 (Rows'.sc-here Row.sUnit)
                 Syntax.tyUnit (Row.valS Row.sUnit) (Row.sUnit .of) tt (Reads.room-gone 𝓤 H A Syntax.tyUnit) (Scalar.holds-sc 𝓤 H A W Row.sUnit) Path'.refl (λ u.
                 Path'.refl) λ u. tt) d27
 
             d29 : Typed.Typed 𝓤 H A 𝓣 E G3 b32 Δ0 at29
-            d29 = Typed.t-seq 𝓤 H A W 𝓣 E G3 G4 b28 b31 Δ0 at23 at28 d23 d28
+            d29 = Typed.t-seq 𝓤 H A W 𝓣 E G3 G4 b28 b31 Δ0 at24 at28 d24 d28
 
             d30 : Typed.Typed 𝓤 H A 𝓣 E G2 b33 Δ0 at30
             d30 = Typed.s-seq 𝓤 H A W 𝓣 E G2 G3 b1 b32 Δ0 (Typed.both s1) at29 (Plain.t-call-plain 𝓤 H A W 𝓣 0 ps·0 r·0 (claims· .0) (claims· .1)
@@ -1359,7 +1419,26 @@ module _ (claims· : Claims) where
         module _ (κs : Lifetimes.Lfts 1) where
           pub record Args : Type 0 where
             pub table : Kinds.Den {n = 1} κs (MutSlice.pMutS SlotAs.row 0 tt)
-            pub b : Kinds.Den {n = 1} κs (Num.pNum Syntax.w64)
+            pub b : Kinds.Den {n = 1} κs (Value.pVal record {
+              ty = Declared.row FromLast.the-type;
+              one = Path'.refl;
+              val = Laws''.val FromLast.the-type
+                  Laws.the-laws;
+              tells = Laws''.tells FromLast.the-type Laws.the-laws;
+              still = Laws''.still FromLast.the-type Laws.the-copy Exit.yes;
+              row =
+                  Rows'.whole (Declared.row FromLast.the-type);
+              rd = λ x. x;
+              mk = λ x. x;
+            } λ M 𝓤 H A W. record {
+              copies = Laws''.copy FromLast.the-type
+                  Laws.the-copy 𝓤 H A W;
+              lawful = Laws''.lawful FromLast.the-type Laws.the-laws 𝓤 H A W;
+              makes = Laws''.makes FromLast.the-type Laws.the-plain 𝓤 H
+                  A;
+              in-mem = Local.mem-whole 𝓤 H A W (Declared.row FromLast.the-type);
+              of-mem = Local.whole-mem 𝓤 H A W (Declared.row FromLast.the-type);
+            })
             pub m : Kinds.Den {n = 1} κs (Num.pNum Syntax.w8)
 
           abbrev pub dens : (a : Args) → Kinds.Dens κs ps
@@ -1367,7 +1446,6 @@ module _ (claims· : Claims) where
 
           module _ (args· : Args) where
             pub record Ranges : Type 0 where
-              pub b : Val.Fits Syntax.w64 (args· .b)
               pub m : Val.Fits Syntax.w8 (args· .m)
 
         abbrev pub m0 : (κs : Lifetimes.Lfts 1) → (args : Args κs) → Typed.Mo T0
@@ -1443,7 +1521,7 @@ module _ (claims· : Claims) where
             (Declared.row Tail.the-type) .Mod) → Typed.Want O3
         W3 = λ before table k t. Typed.inLoop T3 O2 (Typed.Round T3 O2 put0 (λ u vs. Inv·0 (Row.get 1 (T3 .locals) u .now) (Row.get 2 (T3 .locals) u) (Row.get 3
             (T3 .locals) u) (Row.get 4 (T3 .locals) u) (Row.get 5 (T3 .locals) u) (vs .0) (vs .1) (vs .2)) (λ u vs. μ·0 (Row.get 1 (T3 .locals) u .now) (Row.get
-            2 (T3 .locals) u) (Row.get 3 (T3 .locals) u) (Row.get 4 (T3 .locals) u) (Row.get 5 (T3 .locals) u) (vs .0) (vs .1) (vs .2)) at21 (m2 (before .before)
+            2 (T3 .locals) u) (Row.get 3 (T3 .locals) u) (Row.get 4 (T3 .locals) u) (Row.get 5 (T3 .locals) u) (vs .0) (vs .1) (vs .2)) at22 (m2 (before .before)
             (After-end-tail·gave before)) (table, k, t)) (W2 (before .before) (After-end-tail·gave before))
 
         abbrev pub m4 : (before : After-end-tail) → (table : List.List (SlotAs.row .Denot)) → (k : Rows'.sc-here (Row.sInt Syntax.w64) .Mod) → (t : Rows'.whole
@@ -1452,7 +1530,7 @@ module _ (claims· : Claims) where
 
         abbrev W4 : (before : After-end-tail) → (table : List.List (SlotAs.row .Denot)) → (k : Rows'.sc-here (Row.sInt Syntax.w64) .Mod) → (t : Rows'.whole
             (Declared.row Tail.the-type) .Mod) → Typed.Want O4
-        W4 = λ before table k t. Typed.wantNext T6 O3 (at19 (W3 before table k t)) (W3 before table k t)
+        W4 = λ before table k t. Typed.wantNext T6 O3 (at20 (W3 before table k t)) (W3 before table k t)
 
         module _ (before· : After-end-tail) where
           pub record At-loop·own : Type 0 where
@@ -1492,56 +1570,59 @@ module _ (claims· : Claims) where
         abbrev pub m7 : (before : At-loop) → Typed.Mo T9
         m7 = λ before. s5 (m6 before)
 
-        abbrev pub Need-sub-k : Type 0
-        Need-sub-k = (c : In-loop) → s6 .asks (m5 (c .before))
-
         abbrev pub m8 : (before : At-loop) → Typed.Mo T10
-        m8 = λ before. s6 .next (m5 before)
+        m8 = λ before. s6 (m7 before)
 
-        abbrev pub Need-mul-s : Type 0
-        Need-mul-s = (c : In-loop) → s7 .asks (m8 (c .before))
+        abbrev pub Need-sub-k : Type 0
+        Need-sub-k = (c : In-loop) → s7 .asks (m5 (c .before))
 
         abbrev pub m9 : (before : At-loop) → Typed.Mo T11
-        m9 = λ before. s7 .next (m8 before)
+        m9 = λ before. s7 .next (m5 before)
+
+        abbrev pub Need-mul-s : Type 0
+        Need-mul-s = (c : In-loop) → s8 .asks (m9 (c .before))
 
         abbrev pub m10 : (before : At-loop) → Typed.Mo T12
         m10 = λ before. s8 .next (m9 before)
 
+        abbrev pub m11 : (before : At-loop) → Typed.Mo T13
+        m11 = λ before. s9 .next (m10 before)
+
         abbrev pub Need-slice-copy-out-s : Type 0
-        Need-slice-copy-out-s = (c : In-loop) → Shared.InSlice T12 1 10 (λ x. x) (λ u. u .1 .1 .1 .1 .0) (m10 (c .before))
+        Need-slice-copy-out-s = (c : In-loop) → Shared.InSlice T13 1 10 (λ x. x) (λ u. u .1 .1 .1 .1 .0) (m11 (c .before))
 
-        abbrev pub m11 : (before : In-loop) → (given : s9 .gives (m10 (before .before))) → Typed.Mo T13
-        m11 = λ before given. s9 .next (m10 (before .before)) given
+        abbrev pub m12 : (before : In-loop) → (given : s10 .gives (m11 (before .before))) → Typed.Mo T14
+        m12 = λ before given. s10 .next (m11 (before .before)) given
 
-        abbrev pub m12 : (before : In-loop) → (given : s9 .gives (m10 (before .before))) → Typed.Mo T14
-        m12 = λ before given. s10 (m11 before given)
-
-        abbrev pub m13 : (before : In-loop) → (given : s9 .gives (m10 (before .before))) → Typed.Mo T15
+        abbrev pub m13 : (before : In-loop) → (given : s10 .gives (m11 (before .before))) → Typed.Mo T15
         m13 = λ before given. s11 (m12 before given)
 
-        abbrev pub m14 : (before : In-loop) → (given : s9 .gives (m10 (before .before))) → Typed.Mo T16
+        abbrev pub m14 : (before : In-loop) → (given : s10 .gives (m11 (before .before))) → Typed.Mo T16
         m14 = λ before given. s12 (m13 before given)
 
-        abbrev pub m15 : (before : In-loop) → (given : s9 .gives (m10 (before .before))) → Typed.Mo T17
+        abbrev pub m15 : (before : In-loop) → (given : s10 .gives (m11 (before .before))) → Typed.Mo T17
         m15 = λ before given. s13 (m14 before given)
+
+        abbrev pub m16 : (before : In-loop) → (given : s10 .gives (m11 (before .before))) → Typed.Mo T18
+        m16 = λ before given. s14 (m15 before given)
 
         module _ (before· : In-loop) where
           pub record After-s·own : Type 0 where
-            pub given : s9 .gives (m10 (before· .before))
+            pub given : s10 .gives (m11 (before· .before))
 
         pub record After-s : Type 0 where
           pub before : In-loop
           pub s : After-s·own before
 
         abbrev pub Need-step-tail-requires : Type 0
-        Need-step-tail-requires = (c : After-s) → s14 .asks (m15 (c .before) (c .s .given))
+        Need-step-tail-requires = (c : After-s) → s15 .asks (m16 (c .before) (c .s .given))
 
-        abbrev pub m16 : (before : After-s) → (given : s14 .gives (m15 (before .before) (before .s .given))) → Typed.Mo T18
-        m16 = λ before given. s14 .next (m15 (before .before) (before .s .given)) given
+        abbrev pub m17 : (before : After-s) → (given : s15 .gives (m16 (before .before) (before .s .given))) → Typed.Mo T19
+        m17 = λ before given. s15 .next (m16 (before .before) (before .s .given)) given
 
         module _ (before· : After-s) where
           abbrev pub After-step-tail·own : Type 0
-          After-step-tail·own = Called.Called ps·1 r·1 (claims· .3) T17 (
+          After-step-tail·own = Called.Called ps·1 r·1 (claims· .3) T18 (
             record { pos = 6; st = []; d = 0; at = λ x. x },
             (
               record {
@@ -1553,14 +1634,14 @@ module _ (claims· : Claims) where
               },
               tt,
             ),
-          ) (m15 (before· .before) (before· .s .given))
+          ) (m16 (before· .before) (before· .s .given))
 
         pub record After-step-tail : Type 0 where
           pub before : After-s
           pub step-tail : After-step-tail·own before
 
-        abbrev pub After-step-tail·gave : (c : After-step-tail) → s14 .gives (m15 (c .before .before) (c .before .s .given))
-        After-step-tail·gave = λ c. Called.given ps·1 r·1 (claims· .3) T17 (
+        abbrev pub After-step-tail·gave : (c : After-step-tail) → s15 .gives (m16 (c .before .before) (c .before .s .given))
+        After-step-tail·gave = λ c. Called.given ps·1 r·1 (claims· .3) T18 (
           record { pos = 6; st = []; d = 0; at = λ x. x },
           (
             record {
@@ -1572,17 +1653,17 @@ module _ (claims· : Claims) where
             },
             tt,
           ),
-        ) (m15 (c .before .before) (c .before .s .given)) (c .step-tail)
+        ) (m16 (c .before .before) (c .before .s .given)) (c .step-tail)
 
         abbrev pub Need-mark-slot-requires : Type 0
-        Need-mark-slot-requires = (c : After-step-tail) → s15 .asks (m16 (c .before) (After-step-tail·gave c))
+        Need-mark-slot-requires = (c : After-step-tail) → s16 .asks (m17 (c .before) (After-step-tail·gave c))
 
-        abbrev pub m17 : (before : After-step-tail) → (given : s15 .gives (m16 (before .before) (After-step-tail·gave before))) → Typed.Mo T19
-        m17 = λ before given. s15 .next (m16 (before .before) (After-step-tail·gave before)) given
+        abbrev pub m18 : (before : After-step-tail) → (given : s16 .gives (m17 (before .before) (After-step-tail·gave before))) → Typed.Mo T20
+        m18 = λ before given. s16 .next (m17 (before .before) (After-step-tail·gave before)) given
 
         module _ (before· : After-step-tail) where
           abbrev pub After-mark-slot·own : Type 0
-          After-mark-slot·own = Called.Called ps·2 r·2 (claims· .5) T18 (
+          After-mark-slot·own = Called.Called ps·2 r·2 (claims· .5) T19 (
             record { pos = 5; st = []; d = 0; at = λ x. x },
             (
               record {
@@ -1592,16 +1673,17 @@ module _ (claims· : Claims) where
                     = 0;
                 at = λ x. x;
               },
-              (Num.vAt 2 λ x. x, (Num.vAt 3 λ x. x, tt)),
+              (record { pos = 2; st = []; d = 0; at = λ x. x }, (Num.vAt 3 λ x. x, tt)),
             ),
-          ) (m16 (before· .before) (After-step-tail·gave before·))
+          ) (m17 (before· .before) (After-step-tail·gave
+              before·))
 
         pub record After-mark-slot : Type 0 where
           pub before : After-step-tail
           pub mark-slot : After-mark-slot·own before
 
-        abbrev pub After-mark-slot·gave : (c : After-mark-slot) → s15 .gives (m16 (c .before .before) (After-step-tail·gave (c .before)))
-        After-mark-slot·gave = λ c. Called.given ps·2 r·2 (claims· .5) T18 (
+        abbrev pub After-mark-slot·gave : (c : After-mark-slot) → s16 .gives (m17 (c .before .before) (After-step-tail·gave (c .before)))
+        After-mark-slot·gave = λ c. Called.given ps·2 r·2 (claims· .5) T19 (
           record { pos = 5; st = []; d = 0; at = λ x. x },
           (
             record {
@@ -1611,37 +1693,37 @@ module _ (claims· : Claims) where
               d = 0;
               at = λ x. x;
             },
-            (Num.vAt 2 λ x. x, (Num.vAt 3 λ x. x, tt)),
+            (record { pos = 2; st = []; d = 0; at = λ x. x }, (Num.vAt 3 λ x. x, tt)),
           ),
-        ) (m16 (c .before .before) (After-step-tail·gave (c .before))) (c
-            .mark-slot)
+        ) (m17 (c .before .before)
+            (After-step-tail·gave (c .before))) (c .mark-slot)
 
-        abbrev pub m18 : (before : After-step-tail) → (given : s15 .gives (m16 (before .before) (After-step-tail·gave before))) → Typed.Mo T20
-        m18 = λ before given. s16 (m17 before given)
+        abbrev pub m19 : (before : After-step-tail) → (given : s16 .gives (m17 (before .before) (After-step-tail·gave before))) → Typed.Mo T21
+        m19 = λ before given. s17 (m18 before given)
 
         abbrev pub Need-mul-u : Type 0
-        Need-mul-u = (c : After-mark-slot) → s17 .asks (m18 (c .before) (After-mark-slot·gave c))
+        Need-mul-u = (c : After-mark-slot) → s18 .asks (m19 (c .before) (After-mark-slot·gave c))
 
-        abbrev pub m19 : (before : After-step-tail) → (given : s15 .gives (m16 (before .before) (After-step-tail·gave before))) → Typed.Mo T21
-        m19 = λ before given. s17 .next (m18 before given)
-
-        abbrev pub m20 : (before : After-step-tail) → (given : s15 .gives (m16 (before .before) (After-step-tail·gave before))) → Typed.Mo T22
+        abbrev pub m20 : (before : After-step-tail) → (given : s16 .gives (m17 (before .before) (After-step-tail·gave before))) → Typed.Mo T22
         m20 = λ before given. s18 .next (m19 before given)
 
-        abbrev pub Need-slice-set-from-u : Type 0
-        Need-slice-set-from-u = (c : After-mark-slot) → Shared.InSlice T22 1 12 (λ x. x) (λ u. u .1 .1 .1 .1 .0) (m20 (c .before) (After-mark-slot·gave c))
-
-        abbrev pub m21 : (before : After-step-tail) → (given : s15 .gives (m16 (before .before) (After-step-tail·gave before))) → Typed.Mo T23
+        abbrev pub m21 : (before : After-step-tail) → (given : s16 .gives (m17 (before .before) (After-step-tail·gave before))) → Typed.Mo T23
         m21 = λ before given. s19 .next (m20 before given)
 
-        abbrev pub m22 : (before : After-step-tail) → (given : s15 .gives (m16 (before .before) (After-step-tail·gave before))) → Typed.Mo T24
-        m22 = λ before given. s20 (m21 before given)
+        abbrev pub Need-slice-set-from-u : Type 0
+        Need-slice-set-from-u = (c : After-mark-slot) → Shared.InSlice T23 1 12 (λ x. x) (λ u. u .1 .1 .1 .1 .0) (m21 (c .before) (After-mark-slot·gave c))
 
-        abbrev pub m23 : (before : After-step-tail) → (given : s15 .gives (m16 (before .before) (After-step-tail·gave before))) → Typed.Mo T25
+        abbrev pub m22 : (before : After-step-tail) → (given : s16 .gives (m17 (before .before) (After-step-tail·gave before))) → Typed.Mo T24
+        m22 = λ before given. s20 .next (m21 before given)
+
+        abbrev pub m23 : (before : After-step-tail) → (given : s16 .gives (m17 (before .before) (After-step-tail·gave before))) → Typed.Mo T25
         m23 = λ before given. s21 (m22 before given)
 
-        abbrev pub m24 : (before : After-step-tail) → (given : s15 .gives (m16 (before .before) (After-step-tail·gave before))) → Typed.Mo T26
+        abbrev pub m24 : (before : After-step-tail) → (given : s16 .gives (m17 (before .before) (After-step-tail·gave before))) → Typed.Mo T26
         m24 = λ before given. s22 (m23 before given)
+
+        abbrev pub m25 : (before : After-step-tail) → (given : s16 .gives (m17 (before .before) (After-step-tail·gave before))) → Typed.Mo T27
+        m25 = λ before given. s23 (m24 before given)
 
         abbrev pub Need-loop-less : Type 0
         Need-loop-less = (c : After-mark-slot) → Nat._<_ (μ·0 (Row.get 1 (T3 .locals) (m2 (c .before .before .before .before .before .before)
@@ -1649,8 +1731,8 @@ module _ (claims· : Claims) where
             .before) (After-end-tail·gave (c .before .before .before .before .before)))) (Row.get 3 (T3 .locals) (m2 (c .before .before .before .before .before
             .before) (After-end-tail·gave (c .before .before .before .before .before)))) (Row.get 4 (T3 .locals) (m2 (c .before .before .before .before .before
             .before) (After-end-tail·gave (c .before .before .before .before .before)))) (Row.get 5 (T3 .locals) (m2 (c .before .before .before .before .before
-            .before) (After-end-tail·gave (c .before .before .before .before .before)))) (Row.get 1 (T3 .locals) (m24 (c .before) (After-mark-slot·gave c)) .now)
-            (Row.get 4 (T3 .locals) (m24 (c .before) (After-mark-slot·gave c))) (Row.get 5 (T3 .locals) (m24 (c .before) (After-mark-slot·gave c)))) (μ·0
+            .before) (After-end-tail·gave (c .before .before .before .before .before)))) (Row.get 1 (T3 .locals) (m25 (c .before) (After-mark-slot·gave c)) .now)
+            (Row.get 4 (T3 .locals) (m25 (c .before) (After-mark-slot·gave c))) (Row.get 5 (T3 .locals) (m25 (c .before) (After-mark-slot·gave c)))) (μ·0
             (Row.get 1 (T3 .locals) (m2 (c .before .before .before .before .before .before) (After-end-tail·gave (c .before .before .before .before .before)))
             .now) (Row.get 2 (T3 .locals) (m2 (c .before .before .before .before .before .before) (After-end-tail·gave (c .before .before .before .before
             .before)))) (Row.get 3 (T3 .locals) (m2 (c .before .before .before .before .before .before) (After-end-tail·gave (c .before .before .before .before
@@ -1665,14 +1747,11 @@ module _ (claims· : Claims) where
             (c .before .before .before .before .before)))) (Row.get 3 (T3 .locals) (m2 (c .before .before .before .before .before .before) (After-end-tail·gave
             (c .before .before .before .before .before)))) (Row.get 4 (T3 .locals) (m2 (c .before .before .before .before .before .before) (After-end-tail·gave
             (c .before .before .before .before .before)))) (Row.get 5 (T3 .locals) (m2 (c .before .before .before .before .before .before) (After-end-tail·gave
-            (c .before .before .before .before .before)))) (Row.get 1 (T3 .locals) (m24 (c .before) (After-mark-slot·gave c)) .now) (Row.get 4 (T3 .locals) (m24
-            (c .before) (After-mark-slot·gave c))) (Row.get 5 (T3 .locals) (m24 (c .before) (After-mark-slot·gave c)))
-
-        abbrev pub m25 : (before : At-loop) → Typed.Mo T27
-        m25 = λ before. s23 (m7 before)
+            (c .before .before .before .before .before)))) (Row.get 1 (T3 .locals) (m25 (c .before) (After-mark-slot·gave c)) .now) (Row.get 4 (T3 .locals) (m25
+            (c .before) (After-mark-slot·gave c))) (Row.get 5 (T3 .locals) (m25 (c .before) (After-mark-slot·gave c)))
 
         abbrev pub m26 : (before : At-loop) → Typed.Mo T28
-        m26 = λ before. s24 (m25 before)
+        m26 = λ before. s24 (m8 before)
 
         abbrev pub m27 : (before : At-loop) → Typed.Mo T29
         m27 = λ before. s25 (m26 before)
@@ -1694,7 +1773,7 @@ module _ (claims· : Claims) where
             Need-slice-copy-out-s) (step-tail-requires : Need-step-tail-requires) (mark-slot-requires : Need-mark-slot-requires) (mul-u : Need-mul-u)
             (slice-set-from-u : Need-slice-set-from-u) (loop-less : Need-loop-less) (loop-again : Need-loop-again) (same-length : Need-same-length) (returns :
             Need-returns) where
-          lay7 : (c : After-loop) → at28 (W0 (c .before .before .before .κs) (c .before .before .before .args)) (m7 (c .before))
+          lay7 : (c : After-loop) → at28 (W0 (c .before .before .before .κs) (c .before .before .before .args)) (m8 (c .before))
           lay7 = λ c. (
             (
               MutSlice.fix-len (Row.get 1 (T30 .locals) (m28 (c .before)) .ptr) (Row.get 1 (T30 .locals) (m28 (c .before)) .name) (Row.get 1 (T30
@@ -1708,8 +1787,8 @@ module _ (claims· : Claims) where
             returns record { before = c .before; loop-test = c .loop-test },
           )
 
-          lay6 : (c : After-mark-slot) → at9 (W3 (c .before .before .before .before .before) (c .before .before .before .before .loop .table) (c .before .before
-              .before .before .loop .k) (c .before .before .before .before .loop .t)) (m17 (c .before) (After-mark-slot·gave c))
+          lay6 : (c : After-mark-slot) → at10 (W3 (c .before .before .before .before .before) (c .before .before .before .before .loop .table) (c .before .before
+              .before .before .loop .k) (c .before .before .before .before .loop .t)) (m18 (c .before) (After-mark-slot·gave c))
           lay6 = λ c. (
             mul-u record { before = c .before; mark-slot = c .mark-slot },
             (
@@ -1730,18 +1809,18 @@ module _ (claims· : Claims) where
                       (After-end-tail·gave (c .before .before .before .before .before)))) (Row.get 3 (T3 .locals) (m2 (c .before .before .before .before .before .before)
                       (After-end-tail·gave (c .before .before .before .before .before)))) (Row.get 4 (T3 .locals) (m2 (c .before .before .before .before .before .before)
                       (After-end-tail·gave (c .before .before .before .before .before)))) (Row.get 5 (T3 .locals) (m2 (c .before .before .before .before .before .before)
-                      (After-end-tail·gave (c .before .before .before .before .before)))) (Row.get 1 (T3 .locals) (m24 (c .before) (After-mark-slot·gave c)) .now)
-                      (Row.get 4 (T3 .locals) (m24 (c .before) (After-mark-slot·gave c))) (Row.get 5 (T3 .locals) (m24 (c .before) (After-mark-slot·gave c))),
+                      (After-end-tail·gave (c .before .before .before .before .before)))) (Row.get 1 (T3 .locals) (m25 (c .before) (After-mark-slot·gave c)) .now)
+                      (Row.get 4 (T3 .locals) (m25 (c .before) (After-mark-slot·gave c))) (Row.get 5 (T3 .locals) (m25 (c .before) (After-mark-slot·gave c))),
                   loop-less
                       record { before = c .before; mark-slot = c .mark-slot },
                   (
                     (
-                      Row.get 1 (T3 .locals) (m24 (c .before) (After-mark-slot·gave c)) .now,
+                      Row.get 1 (T3 .locals) (m25 (c .before) (After-mark-slot·gave c)) .now,
                       Row.get 4 (T3
-                          .locals) (m24 (c .before) (After-mark-slot·gave c)),
-                      Row.get 5 (T3 .locals) (m24 (c .before) (After-mark-slot·gave c)),
+                          .locals) (m25 (c .before) (After-mark-slot·gave c)),
+                      Row.get 5 (T3 .locals) (m25 (c .before) (After-mark-slot·gave c)),
                     ),
-                    Path'.refl {a = m24 (c
+                    Path'.refl {a = m25 (c
                         .before) (After-mark-slot·gave c)},
                     loop-again record { before = c .before; mark-slot = c .mark-slot },
                     Path'.refl {a = μ·0 (Row.get 1 (T3 .locals)
@@ -1750,16 +1829,16 @@ module _ (claims· : Claims) where
                         .locals) (m2 (c .before .before .before .before .before .before) (After-end-tail·gave (c .before .before .before .before .before)))) (Row.get 4 (T3
                         .locals) (m2 (c .before .before .before .before .before .before) (After-end-tail·gave (c .before .before .before .before .before)))) (Row.get 5 (T3
                         .locals) (m2 (c .before .before .before .before .before .before) (After-end-tail·gave (c .before .before .before .before .before)))) (Row.get 1 (T3
-                        .locals) (m24 (c .before) (After-mark-slot·gave c)) .now) (Row.get 4 (T3 .locals) (m24 (c .before) (After-mark-slot·gave c))) (Row.get 5 (T3
-                        .locals) (m24 (c .before) (After-mark-slot·gave c)))},
+                        .locals) (m25 (c .before) (After-mark-slot·gave c)) .now) (Row.get 4 (T3 .locals) (m25 (c .before) (After-mark-slot·gave c))) (Row.get 5 (T3
+                        .locals) (m25 (c .before) (After-mark-slot·gave c)))},
                   ),
                 ),
               ),
             ),
           )
 
-          lay5 : (c : After-step-tail) → at10 (W3 (c .before .before .before .before) (c .before .before .before .loop .table) (c .before .before .before .loop
-              .k) (c .before .before .before .loop .t)) (m16 (c .before) (After-step-tail·gave c))
+          lay5 : (c : After-step-tail) → at11 (W3 (c .before .before .before .before) (c .before .before .before .loop .table) (c .before .before .before .loop
+              .k) (c .before .before .before .loop .t)) (m17 (c .before) (After-step-tail·gave c))
           lay5 = λ c. (
             mark-slot-requires record { before = c .before; step-tail = c .step-tail },
             λ g. lay6 record {
@@ -1767,7 +1846,7 @@ module _ (claims· : Claims) where
                 before = c .before;
                 step-tail = c .step-tail;
               };
-              mark-slot = Called.called ps·2 r·2 (claims· .5) T18 (
+              mark-slot = Called.called ps·2 r·2 (claims· .5) T19 (
                 record { pos = 5; st = []; d = 0; at = λ x. x },
                 (
                   record {
@@ -1776,13 +1855,14 @@ module _ (claims· : Claims) where
                     d = 0;
                     at = λ x. x;
                   },
-                  (Num.vAt 2 λ x. x, (Num.vAt 3 λ x. x, tt)),
+                  (record { pos = 2; st = []; d = 0; at = λ x. x }, (Num.vAt 3 λ x. x, tt)),
                 ),
-              ) (m16 (c .before) (After-step-tail·gave c)) g;
+              ) (m17 (c .before)
+                  (After-step-tail·gave c)) g;
             },
           )
 
-          lay4 : (c : In-loop) → at19 (W3 (c .before .before) (c .before .loop .table) (c .before .loop .k) (c .before .loop .t)) (m5 (c .before))
+          lay4 : (c : In-loop) → at20 (W3 (c .before .before) (c .before .loop .table) (c .before .loop .k) (c .before .loop .t)) (m5 (c .before))
           lay4 = λ c. (
             sub-k record { before = c .before; loop-test = c .loop-test },
             (
@@ -1805,7 +1885,7 @@ module _ (claims· : Claims) where
                         };
                         s = record { given = g };
                       };
-                      step-tail = Called.called ps·1 r·1 (claims· .3) T17 (
+                      step-tail = Called.called ps·1 r·1 (claims· .3) T18 (
                         record {
                           pos = 6;
                           st = [];
@@ -1813,7 +1893,7 @@ module _ (claims· : Claims) where
                           at = λ x. x;
                         },
                         (record { pos = 5; st = []; d = 0; at = λ x. x }, tt),
-                      ) (m15 record {
+                      ) (m16 record {
                         before = c .before;
                         loop-test = c
                             .loop-test;
@@ -1825,7 +1905,7 @@ module _ (claims· : Claims) where
             ),
           )
 
-          lay3 : (c : After-loop) → at4 (W4 (c .before .before) (c .before .loop .table) (c .before .loop .k) (c .before .loop .t)) (m4 (c .before .before) (c
+          lay3 : (c : After-loop) → at5 (W4 (c .before .before) (c .before .loop .table) (c .before .loop .k) (c .before .loop .t)) (m4 (c .before .before) (c
               .before .loop .table) (c .before .loop .k) (c .before .loop .t))
           lay3 = λ c. lay7 record { before = c .before; loop-test = c .loop-test }
 
@@ -1888,9 +1968,8 @@ module _ (claims· : Claims) where
               args = record { table = a .0; b = a .1 .0; m = a .1 .1 .0 };
               good = good;
               fits = record {
-                b = record
-                    { fits = good .1 .0 .1 };
-                m = record { fits = good .1 .1 .0 .1 };
+                m = record
+                    { fits = good .1 .1 .0 .1 };
               };
               pre = pre;
             }

@@ -1,8 +1,10 @@
 -- Machine-made by tools/walks; do not edit.
 use Rattle.store.proofs.SlotAs
 use Prim.Native.Nat
+use Rattle.fragments.proofs.FromLast
+use Rattle.fragments.proofs.FromLast.Laws
 use Rattle.fragments.proofs.Tail
-use Rattle.fragments.proofs.Tail.Laws
+use Rattle.fragments.proofs.Tail.Laws as Laws'
 use borrow.Author.Called
 use borrow.Author.Tests
 use borrow.Fn.Any
@@ -32,7 +34,7 @@ use borrow.Table.Typed
 use contract.Lifetimes
 use denote.Exit
 use denote.Struct.Declared
-use denote.Struct.Laws as Laws'
+use denote.Struct.Laws as Laws''
 use denote.Triple.Clauses
 use denote.Triple.Statement
 use ghost.Atoms
@@ -42,12 +44,30 @@ use mathlib.Core.List.{[], _∷_}
 use mathlib.Core.Option
 use mathlib.Core.Path as Path'
 use mir.Syntax
-use mir.Val
 use prog.Wp
 use types.Kit
 
 abbrev pub ps : List.List (Kinds.PK 1)
-ps = ShrSlice.pShrS SlotAs.row 0 tt ∷ Num.pNum Syntax.w64 ∷ []
+ps = ShrSlice.pShrS SlotAs.row 0 tt ∷ (Value.pVal record {
+  ty = Declared.row FromLast.the-type;
+  one = Path'.refl;
+  val = Laws''.val FromLast.the-type
+      Laws.the-laws;
+  tells = Laws''.tells FromLast.the-type Laws.the-laws;
+  still = Laws''.still FromLast.the-type Laws.the-copy Exit.yes;
+  row = Rows'.whole
+      (Declared.row FromLast.the-type);
+  rd = λ x. x;
+  mk = λ x. x;
+} λ M 𝓤 H A W. record {
+  copies = Laws''.copy FromLast.the-type Laws.the-copy 𝓤 H A W;
+  lawful =
+      Laws''.lawful FromLast.the-type Laws.the-laws 𝓤 H A W;
+  makes = Laws''.makes FromLast.the-type Laws.the-plain 𝓤 H A;
+  in-mem = Local.mem-whole 𝓤 H A W
+      (Declared.row FromLast.the-type);
+  of-mem = Local.whole-mem 𝓤 H A W (Declared.row FromLast.the-type);
+}) ∷ []
 
 abbrev pub r : Kinds.RK 1
 r = Num.rNum Syntax.w8
@@ -72,89 +92,107 @@ abbrev pub r·0 : Kinds.RK 0
 r·0 = Value.rVal record {
   ty = Declared.row Tail.the-type;
   one = Path'.refl;
-  val = Laws'.val Tail.the-type Laws.the-laws;
-  tells = Laws'.tells Tail.the-type
-      Laws.the-laws;
-  still = Laws'.still Tail.the-type Laws.the-copy Exit.yes;
+  val = Laws''.val Tail.the-type Laws'.the-laws;
+  tells = Laws''.tells Tail.the-type
+      Laws'.the-laws;
+  still = Laws''.still Tail.the-type Laws'.the-copy Exit.yes;
   row = Rows'.whole (Declared.row Tail.the-type);
   rd = λ x. x;
   mk = λ x. x;
-} λ M 𝓤
-    H A W. record {
-      copies = Laws'.copy Tail.the-type Laws.the-copy 𝓤 H A W;
-      lawful = Laws'.lawful Tail.the-type Laws.the-laws 𝓤 H A W;
-      makes = Laws'.makes
-          Tail.the-type Laws.the-plain 𝓤 H A;
+} λ M
+    𝓤 H A W. record {
+      copies = Laws''.copy Tail.the-type Laws'.the-copy 𝓤 H A W;
+      lawful = Laws''.lawful Tail.the-type Laws'.the-laws 𝓤 H A W;
+      makes =
+          Laws''.makes Tail.the-type Laws'.the-plain 𝓤 H A;
       in-mem = Local.mem-whole 𝓤 H A W (Declared.row Tail.the-type);
-      of-mem = Local.whole-mem 𝓤 H A W (Declared.row
-          Tail.the-type);
+      of-mem = Local.whole-mem 𝓤 H A W
+          (Declared.row Tail.the-type);
     }
 
 abbrev pub ps·1 : List.List (Kinds.PK 0)
 ps·1 = SlotAs.param ∷ (Value.pVal record {
   ty = Declared.row Tail.the-type;
   one = Path'.refl;
-  val = Laws'.val Tail.the-type Laws.the-laws;
-  tells = Laws'.tells
-      Tail.the-type Laws.the-laws;
-  still = Laws'.still Tail.the-type Laws.the-copy Exit.yes;
+  val = Laws''.val Tail.the-type Laws'.the-laws;
+  tells =
+      Laws''.tells Tail.the-type Laws'.the-laws;
+  still = Laws''.still Tail.the-type Laws'.the-copy Exit.yes;
   row = Rows'.whole (Declared.row Tail.the-type);
-  rd = λ x. x;
-  mk = λ
-      x. x;
+  rd =
+      λ x. x;
+  mk = λ x. x;
 } λ M 𝓤 H A W. record {
-  copies = Laws'.copy Tail.the-type Laws.the-copy 𝓤 H A W;
-  lawful = Laws'.lawful Tail.the-type Laws.the-laws 𝓤 H A W;
-  makes =
-      Laws'.makes Tail.the-type Laws.the-plain 𝓤 H A;
+  copies = Laws''.copy Tail.the-type Laws'.the-copy 𝓤 H A W;
+  lawful = Laws''.lawful Tail.the-type Laws'.the-laws
+      𝓤 H A W;
+  makes = Laws''.makes Tail.the-type Laws'.the-plain 𝓤 H A;
   in-mem = Local.mem-whole 𝓤 H A W (Declared.row Tail.the-type);
-  of-mem = Local.whole-mem 𝓤 H A W
-      (Declared.row Tail.the-type);
+  of-mem = Local.whole-mem
+      𝓤 H A W (Declared.row Tail.the-type);
 }) ∷ []
 
 abbrev pub r·1 : Kinds.RK 0
 r·1 = Value.rVal record {
   ty = Declared.row Tail.the-type;
   one = Path'.refl;
-  val = Laws'.val Tail.the-type Laws.the-laws;
-  tells = Laws'.tells Tail.the-type
-      Laws.the-laws;
-  still = Laws'.still Tail.the-type Laws.the-copy Exit.yes;
+  val = Laws''.val Tail.the-type Laws'.the-laws;
+  tells = Laws''.tells Tail.the-type
+      Laws'.the-laws;
+  still = Laws''.still Tail.the-type Laws'.the-copy Exit.yes;
   row = Rows'.whole (Declared.row Tail.the-type);
   rd = λ x. x;
   mk = λ x. x;
-} λ M 𝓤
-    H A W. record {
-      copies = Laws'.copy Tail.the-type Laws.the-copy 𝓤 H A W;
-      lawful = Laws'.lawful Tail.the-type Laws.the-laws 𝓤 H A W;
-      makes = Laws'.makes
-          Tail.the-type Laws.the-plain 𝓤 H A;
+} λ M
+    𝓤 H A W. record {
+      copies = Laws''.copy Tail.the-type Laws'.the-copy 𝓤 H A W;
+      lawful = Laws''.lawful Tail.the-type Laws'.the-laws 𝓤 H A W;
+      makes =
+          Laws''.makes Tail.the-type Laws'.the-plain 𝓤 H A;
       in-mem = Local.mem-whole 𝓤 H A W (Declared.row Tail.the-type);
-      of-mem = Local.whole-mem 𝓤 H A W (Declared.row
-          Tail.the-type);
+      of-mem = Local.whole-mem 𝓤 H A W
+          (Declared.row Tail.the-type);
     }
 
 abbrev pub ps·2 : List.List (Kinds.PK 0)
 ps·2 = (Value.pVal record {
   ty = Declared.row Tail.the-type;
   one = Path'.refl;
-  val = Laws'.val Tail.the-type Laws.the-laws;
-  tells = Laws'.tells Tail.the-type
-      Laws.the-laws;
-  still = Laws'.still Tail.the-type Laws.the-copy Exit.yes;
+  val = Laws''.val Tail.the-type Laws'.the-laws;
+  tells = Laws''.tells
+      Tail.the-type Laws'.the-laws;
+  still = Laws''.still Tail.the-type Laws'.the-copy Exit.yes;
   row = Rows'.whole (Declared.row Tail.the-type);
   rd = λ x. x;
+  mk =
+      λ x. x;
+} λ M 𝓤 H A W. record {
+  copies = Laws''.copy Tail.the-type Laws'.the-copy 𝓤 H A W;
+  lawful = Laws''.lawful Tail.the-type Laws'.the-laws 𝓤 H A W;
+  makes = Laws''.makes Tail.the-type Laws'.the-plain 𝓤 H A;
+  in-mem = Local.mem-whole 𝓤 H A W (Declared.row Tail.the-type);
+  of-mem = Local.whole-mem 𝓤 H A W
+      (Declared.row Tail.the-type);
+}) ∷ SlotAs.param ∷ (Value.pVal record {
+  ty = Declared.row FromLast.the-type;
+  one = Path'.refl;
+  val = Laws''.val
+      FromLast.the-type Laws.the-laws;
+  tells = Laws''.tells FromLast.the-type Laws.the-laws;
+  still = Laws''.still FromLast.the-type Laws.the-copy Exit.yes;
+  row =
+      Rows'.whole (Declared.row FromLast.the-type);
+  rd = λ x. x;
   mk = λ x. x;
-} λ M 𝓤
-    H A W. record {
-      copies = Laws'.copy Tail.the-type Laws.the-copy 𝓤 H A W;
-      lawful = Laws'.lawful Tail.the-type Laws.the-laws 𝓤 H A W;
-      makes = Laws'.makes
-          Tail.the-type Laws.the-plain 𝓤 H A;
-      in-mem = Local.mem-whole 𝓤 H A W (Declared.row Tail.the-type);
-      of-mem = Local.whole-mem 𝓤 H A W (Declared.row
-          Tail.the-type);
-    }) ∷ SlotAs.param ∷ Num.pNum Syntax.w64 ∷ Num.pNum Syntax.w8 ∷ []
+} λ M 𝓤 H A W. record {
+  copies = Laws''.copy FromLast.the-type Laws.the-copy 𝓤 H A
+      W;
+  lawful = Laws''.lawful FromLast.the-type Laws.the-laws 𝓤 H A W;
+  makes = Laws''.makes FromLast.the-type Laws.the-plain 𝓤 H A;
+  in-mem = Local.mem-whole 𝓤
+      H A W (Declared.row FromLast.the-type);
+  of-mem = Local.whole-mem 𝓤 H A W (Declared.row FromLast.the-type);
+}) ∷ Num.pNum Syntax.w8 ∷ []
 
 abbrev pub r·2 : Kinds.RK 0
 r·2 = Num.rNum Syntax.w8
@@ -267,34 +305,14 @@ Claims = Kinds.In 0 ps·0 × Kinds.Out 0 ps·0 r·0 × Kinds.In 0 ps·1 × Kinds
 abbrev pub t0 : List.List Row.Entry
 t0 = (0, Rows'.any-gone (Syntax.tyInt Syntax.w8)) ∷ (1, Rows'.sslice SlotAs.row (Syntax.tyRef (Syntax.named 0) Syntax.imm SlotAs.pointee) 0) ∷ (
   2,
-  Rows'.sc-here (Row.sInt Syntax.w64),
+  Rows'.whole
+      (Declared.row FromLast.the-type),
 ) ∷ (3, Rows'.any-gone (Syntax.tyInt Syntax.w64)) ∷ (
   4,
-  Rows'.any-gone (Syntax.tyStruct (102 ∷ 114 ∷ 97 ∷ 103 ∷ 109 ∷
-      101 ∷ 110 ∷ 116 ∷ 115 ∷ 58 ∷ 58 ∷ 84 ∷ 97 ∷ 105 ∷ 108 ∷ []) (Syntax.tcons Syntax.tyBool (Syntax.tcons Syntax.tyBool (Syntax.tcons (Syntax.tyStruct (114 ∷
-      101 ∷ 115 ∷ 105 ∷ 100 ∷ 117 ∷ 101 ∷ 58 ∷ 58 ∷ 82 ∷ 101 ∷ 115 ∷ 105 ∷ 100 ∷ 117 ∷ 101 ∷ []) (Syntax.tcons (Syntax.tyStruct (110 ∷ 97 ∷ 109 ∷ 101 ∷ 115 ∷ 58
-      ∷ 58 ∷ 84 ∷ 104 ∷ 114 ∷ 101 ∷ 101 ∷ []) (Syntax.tcons (Syntax.tyInt Syntax.w8) (Syntax.tcons (Syntax.tyInt Syntax.w8) (Syntax.tcons (Syntax.tyInt
-      Syntax.w8) Syntax.tnil)))) (Syntax.tcons (Syntax.tyInt Syntax.w8) (Syntax.tcons (Syntax.tyStruct (102 ∷ 105 ∷ 101 ∷ 108 ∷ 100 ∷ 115 ∷ 58 ∷ 58 ∷ 82 ∷ 101 ∷
-      115 ∷ 105 ∷ 100 ∷ 117 ∷ 101 ∷ 78 ∷ 117 ∷ 109 ∷ 98 ∷ 101 ∷ 114 ∷ []) (Syntax.tcons (Syntax.tyInt Syntax.w32) Syntax.tnil)) (Syntax.tcons (Syntax.tyInt
-      Syntax.w8) Syntax.tnil))))) (Syntax.tcons (Syntax.tyInt Syntax.w8) (Syntax.tcons (Syntax.tyInt Syntax.w64) (Syntax.tcons Syntax.tyBool Syntax.tnil))))))),
-)
-    ∷ (5, Rows'.any-gone (Syntax.tyInt Syntax.w8)) ∷ (6, Rows'.any-gone SlotAs.ty) ∷ (7, Rows'.any-gone Syntax.tyBool) ∷ (
-      8,
-      Rows'.any-gone (Syntax.tyInt
-          Syntax.w64),
-    ) ∷ (9, Rows'.any-gone Syntax.tyPtr) ∷ (10, Rows'.any-gone SlotAs.ty) ∷ []
-
-abbrev pub t1 : List.List Row.Entry
-t1 = (0, Rows'.sc-here (Row.sInt Syntax.w8)) ∷ (1, Rows'.sslice SlotAs.row (Syntax.tyRef (Syntax.named 0) Syntax.imm SlotAs.pointee) 0) ∷ (
-  2,
-  Rows'.any-gone
-      (Syntax.tyInt Syntax.w64),
-) ∷ (3, Rows'.any-gone (Syntax.tyInt Syntax.w64)) ∷ (
-  4,
-  Rows'.any-gone (Syntax.tyStruct (102 ∷ 114 ∷ 97 ∷ 103 ∷ 109 ∷ 101 ∷ 110 ∷
-      116 ∷ 115 ∷ 58 ∷ 58 ∷ 84 ∷ 97 ∷ 105 ∷ 108 ∷ []) (Syntax.tcons Syntax.tyBool (Syntax.tcons Syntax.tyBool (Syntax.tcons (Syntax.tyStruct (114 ∷ 101 ∷ 115 ∷
-      105 ∷ 100 ∷ 117 ∷ 101 ∷ 58 ∷ 58 ∷ 82 ∷ 101 ∷ 115 ∷ 105 ∷ 100 ∷ 117 ∷ 101 ∷ []) (Syntax.tcons (Syntax.tyStruct (110 ∷ 97 ∷ 109 ∷ 101 ∷ 115 ∷ 58 ∷ 58 ∷ 84 ∷
-      104 ∷ 114 ∷ 101 ∷ 101 ∷ []) (Syntax.tcons (Syntax.tyInt Syntax.w8) (Syntax.tcons (Syntax.tyInt Syntax.w8) (Syntax.tcons (Syntax.tyInt Syntax.w8)
+  Rows'.any-gone (Syntax.tyStruct (102 ∷ 114 ∷ 97 ∷ 103 ∷ 109 ∷ 101 ∷
+      110 ∷ 116 ∷ 115 ∷ 58 ∷ 58 ∷ 84 ∷ 97 ∷ 105 ∷ 108 ∷ []) (Syntax.tcons Syntax.tyBool (Syntax.tcons Syntax.tyBool (Syntax.tcons (Syntax.tyStruct (114 ∷ 101 ∷
+      115 ∷ 105 ∷ 100 ∷ 117 ∷ 101 ∷ 58 ∷ 58 ∷ 82 ∷ 101 ∷ 115 ∷ 105 ∷ 100 ∷ 117 ∷ 101 ∷ []) (Syntax.tcons (Syntax.tyStruct (110 ∷ 97 ∷ 109 ∷ 101 ∷ 115 ∷ 58 ∷ 58 ∷
+      84 ∷ 104 ∷ 114 ∷ 101 ∷ 101 ∷ []) (Syntax.tcons (Syntax.tyInt Syntax.w8) (Syntax.tcons (Syntax.tyInt Syntax.w8) (Syntax.tcons (Syntax.tyInt Syntax.w8)
       Syntax.tnil)))) (Syntax.tcons (Syntax.tyInt Syntax.w8) (Syntax.tcons (Syntax.tyStruct (102 ∷ 105 ∷ 101 ∷ 108 ∷ 100 ∷ 115 ∷ 58 ∷ 58 ∷ 82 ∷ 101 ∷ 115 ∷ 105 ∷
       100 ∷ 117 ∷ 101 ∷ 78 ∷ 117 ∷ 109 ∷ 98 ∷ 101 ∷ 114 ∷ []) (Syntax.tcons (Syntax.tyInt Syntax.w32) Syntax.tnil)) (Syntax.tcons (Syntax.tyInt Syntax.w8)
       Syntax.tnil))))) (Syntax.tcons (Syntax.tyInt Syntax.w8) (Syntax.tcons (Syntax.tyInt Syntax.w64) (Syntax.tcons Syntax.tyBool Syntax.tnil))))))),
@@ -307,16 +325,39 @@ t1 = (0, Rows'.sc-here (Row.sInt Syntax.w8)) ∷ (1, Rows'.sslice SlotAs.row (Sy
       Syntax.w64),
 ) ∷ (9, Rows'.any-gone Syntax.tyPtr) ∷ (10, Rows'.any-gone SlotAs.ty) ∷ []
 
+abbrev pub t1 : List.List Row.Entry
+t1 = (0, Rows'.sc-here (Row.sInt Syntax.w8)) ∷ (1, Rows'.sslice SlotAs.row (Syntax.tyRef (Syntax.named 0) Syntax.imm SlotAs.pointee) 0) ∷ (
+  2,
+  Rows'.any-gone
+      (Syntax.tyStruct (102 ∷ 114 ∷ 97 ∷ 103 ∷ 109 ∷ 101 ∷ 110 ∷ 116 ∷ 115 ∷ 58 ∷ 58 ∷ 70 ∷ 114 ∷ 111 ∷ 109 ∷ 76 ∷ 97 ∷ 115 ∷ 116 ∷ []) (Syntax.tcons
+      (Syntax.tyInt Syntax.w64) Syntax.tnil)),
+) ∷ (3, Rows'.any-gone (Syntax.tyInt Syntax.w64)) ∷ (
+  4,
+  Rows'.any-gone (Syntax.tyStruct (102 ∷ 114 ∷ 97 ∷ 103 ∷ 109
+      ∷ 101 ∷ 110 ∷ 116 ∷ 115 ∷ 58 ∷ 58 ∷ 84 ∷ 97 ∷ 105 ∷ 108 ∷ []) (Syntax.tcons Syntax.tyBool (Syntax.tcons Syntax.tyBool (Syntax.tcons (Syntax.tyStruct (114 ∷
+      101 ∷ 115 ∷ 105 ∷ 100 ∷ 117 ∷ 101 ∷ 58 ∷ 58 ∷ 82 ∷ 101 ∷ 115 ∷ 105 ∷ 100 ∷ 117 ∷ 101 ∷ []) (Syntax.tcons (Syntax.tyStruct (110 ∷ 97 ∷ 109 ∷ 101 ∷ 115 ∷ 58
+      ∷ 58 ∷ 84 ∷ 104 ∷ 114 ∷ 101 ∷ 101 ∷ []) (Syntax.tcons (Syntax.tyInt Syntax.w8) (Syntax.tcons (Syntax.tyInt Syntax.w8) (Syntax.tcons (Syntax.tyInt
+      Syntax.w8) Syntax.tnil)))) (Syntax.tcons (Syntax.tyInt Syntax.w8) (Syntax.tcons (Syntax.tyStruct (102 ∷ 105 ∷ 101 ∷ 108 ∷ 100 ∷ 115 ∷ 58 ∷ 58 ∷ 82 ∷ 101 ∷
+      115 ∷ 105 ∷ 100 ∷ 117 ∷ 101 ∷ 78 ∷ 117 ∷ 109 ∷ 98 ∷ 101 ∷ 114 ∷ []) (Syntax.tcons (Syntax.tyInt Syntax.w32) Syntax.tnil)) (Syntax.tcons (Syntax.tyInt
+      Syntax.w8) Syntax.tnil))))) (Syntax.tcons (Syntax.tyInt Syntax.w8) (Syntax.tcons (Syntax.tyInt Syntax.w64) (Syntax.tcons Syntax.tyBool Syntax.tnil))))))),
+)
+    ∷ (5, Rows'.any-gone (Syntax.tyInt Syntax.w8)) ∷ (6, Rows'.any-gone SlotAs.ty) ∷ (7, Rows'.any-gone Syntax.tyBool) ∷ (
+      8,
+      Rows'.any-gone (Syntax.tyInt
+          Syntax.w64),
+    ) ∷ (9, Rows'.any-gone Syntax.tyPtr) ∷ (10, Rows'.any-gone SlotAs.ty) ∷ []
+
 abbrev pub t2 : List.List Row.Entry
 t2 = (0, Rows'.any-gone (Syntax.tyInt Syntax.w8)) ∷ (1, Rows'.sslice SlotAs.row (Syntax.tyRef (Syntax.named 0) Syntax.imm SlotAs.pointee) 0) ∷ (
   2,
-  Rows'.sc-here (Row.sInt Syntax.w64),
+  Rows'.whole
+      (Declared.row FromLast.the-type),
 ) ∷ (3, Rows'.sc-here (Row.sInt Syntax.w64)) ∷ (
   4,
-  Rows'.any-gone (Syntax.tyStruct (102 ∷ 114 ∷ 97 ∷ 103 ∷ 109 ∷ 101 ∷
-      110 ∷ 116 ∷ 115 ∷ 58 ∷ 58 ∷ 84 ∷ 97 ∷ 105 ∷ 108 ∷ []) (Syntax.tcons Syntax.tyBool (Syntax.tcons Syntax.tyBool (Syntax.tcons (Syntax.tyStruct (114 ∷ 101 ∷
-      115 ∷ 105 ∷ 100 ∷ 117 ∷ 101 ∷ 58 ∷ 58 ∷ 82 ∷ 101 ∷ 115 ∷ 105 ∷ 100 ∷ 117 ∷ 101 ∷ []) (Syntax.tcons (Syntax.tyStruct (110 ∷ 97 ∷ 109 ∷ 101 ∷ 115 ∷ 58 ∷ 58 ∷
-      84 ∷ 104 ∷ 114 ∷ 101 ∷ 101 ∷ []) (Syntax.tcons (Syntax.tyInt Syntax.w8) (Syntax.tcons (Syntax.tyInt Syntax.w8) (Syntax.tcons (Syntax.tyInt Syntax.w8)
+  Rows'.any-gone (Syntax.tyStruct (102 ∷ 114 ∷ 97 ∷ 103 ∷ 109 ∷ 101 ∷ 110
+      ∷ 116 ∷ 115 ∷ 58 ∷ 58 ∷ 84 ∷ 97 ∷ 105 ∷ 108 ∷ []) (Syntax.tcons Syntax.tyBool (Syntax.tcons Syntax.tyBool (Syntax.tcons (Syntax.tyStruct (114 ∷ 101 ∷ 115 ∷
+      105 ∷ 100 ∷ 117 ∷ 101 ∷ 58 ∷ 58 ∷ 82 ∷ 101 ∷ 115 ∷ 105 ∷ 100 ∷ 117 ∷ 101 ∷ []) (Syntax.tcons (Syntax.tyStruct (110 ∷ 97 ∷ 109 ∷ 101 ∷ 115 ∷ 58 ∷ 58 ∷ 84 ∷
+      104 ∷ 114 ∷ 101 ∷ 101 ∷ []) (Syntax.tcons (Syntax.tyInt Syntax.w8) (Syntax.tcons (Syntax.tyInt Syntax.w8) (Syntax.tcons (Syntax.tyInt Syntax.w8)
       Syntax.tnil)))) (Syntax.tcons (Syntax.tyInt Syntax.w8) (Syntax.tcons (Syntax.tyStruct (102 ∷ 105 ∷ 101 ∷ 108 ∷ 100 ∷ 115 ∷ 58 ∷ 58 ∷ 82 ∷ 101 ∷ 115 ∷ 105 ∷
       100 ∷ 117 ∷ 101 ∷ 78 ∷ 117 ∷ 109 ∷ 98 ∷ 101 ∷ 114 ∷ []) (Syntax.tcons (Syntax.tyInt Syntax.w32) Syntax.tnil)) (Syntax.tcons (Syntax.tyInt Syntax.w8)
       Syntax.tnil))))) (Syntax.tcons (Syntax.tyInt Syntax.w8) (Syntax.tcons (Syntax.tyInt Syntax.w64) (Syntax.tcons Syntax.tyBool Syntax.tnil))))))),
@@ -332,7 +373,8 @@ t2 = (0, Rows'.any-gone (Syntax.tyInt Syntax.w8)) ∷ (1, Rows'.sslice SlotAs.ro
 abbrev pub t3 : List.List Row.Entry
 t3 = (0, Rows'.any-gone (Syntax.tyInt Syntax.w8)) ∷ (1, Rows'.sslice SlotAs.row (Syntax.tyRef (Syntax.named 0) Syntax.imm SlotAs.pointee) 0) ∷ (
   2,
-  Rows'.sc-here (Row.sInt Syntax.w64),
+  Rows'.whole
+      (Declared.row FromLast.the-type),
 ) ∷ (3, Rows'.sc-here (Row.sInt Syntax.w64)) ∷ (4, Rows'.whole (Declared.row Tail.the-type)) ∷ (
   5,
   Rows'.any-gone
@@ -345,24 +387,191 @@ t3 = (0, Rows'.any-gone (Syntax.tyInt Syntax.w8)) ∷ (1, Rows'.sslice SlotAs.ro
 abbrev pub t4 : List.List Row.Entry
 t4 = (0, Rows'.any-gone (Syntax.tyInt Syntax.w8)) ∷ (1, Rows'.sslice SlotAs.row (Syntax.tyRef (Syntax.named 0) Syntax.imm SlotAs.pointee) 0) ∷ (
   2,
-  Rows'.sc-here (Row.sInt Syntax.w64),
+  Rows'.whole
+      (Declared.row FromLast.the-type),
 ) ∷ (3, Rows'.sc-here (Row.sInt Syntax.w64)) ∷ (4, Rows'.whole (Declared.row Tail.the-type)) ∷ (
   5,
-  Rows'.sc-here
-      (Row.sInt Syntax.w8),
+  Rows'.sc-here (Row.sInt
+      Syntax.w8),
 ) ∷ (6, Rows'.any-gone SlotAs.ty) ∷ (7, Rows'.any-gone Syntax.tyBool) ∷ (8, Rows'.any-gone (Syntax.tyInt Syntax.w64)) ∷ (
   9,
-  Rows'.any-gone Syntax.tyPtr,
+  Rows'.any-gone
+      Syntax.tyPtr,
 ) ∷ (10, Rows'.any-gone SlotAs.ty) ∷ []
 
 abbrev pub t5 : List.List Row.Entry
 t5 = (0, Rows'.any-gone (Syntax.tyInt Syntax.w8)) ∷ (1, Rows'.sslice SlotAs.row (Syntax.tyRef (Syntax.named 0) Syntax.imm SlotAs.pointee) 0) ∷ (
   2,
-  Rows'.sc-here (Row.sInt Syntax.w64),
+  Rows'.any-gone (Syntax.tyStruct (102 ∷ 114 ∷ 97 ∷ 103 ∷ 109 ∷ 101 ∷ 110 ∷ 116 ∷ 115 ∷ 58 ∷ 58 ∷ 70 ∷ 114 ∷ 111 ∷ 109 ∷ 76 ∷ 97 ∷ 115 ∷ 116 ∷ [])
+      (Syntax.tcons (Syntax.tyInt Syntax.w64) Syntax.tnil)),
 ) ∷ (3, Rows'.sc-here (Row.sInt Syntax.w64)) ∷ (
   4,
-  Rows'.any-gone (Syntax.tyStruct (102 ∷ 114 ∷ 97 ∷ 103 ∷ 109 ∷ 101 ∷
-      110 ∷ 116 ∷ 115 ∷ 58 ∷ 58 ∷ 84 ∷ 97 ∷ 105 ∷ 108 ∷ []) (Syntax.tcons Syntax.tyBool (Syntax.tcons Syntax.tyBool (Syntax.tcons (Syntax.tyStruct (114 ∷ 101 ∷
+  Rows'.any-gone (Syntax.tyStruct (102 ∷ 114 ∷ 97 ∷
+      103 ∷ 109 ∷ 101 ∷ 110 ∷ 116 ∷ 115 ∷ 58 ∷ 58 ∷ 84 ∷ 97 ∷ 105 ∷ 108 ∷ []) (Syntax.tcons Syntax.tyBool (Syntax.tcons Syntax.tyBool (Syntax.tcons
+      (Syntax.tyStruct (114 ∷ 101 ∷ 115 ∷ 105 ∷ 100 ∷ 117 ∷ 101 ∷ 58 ∷ 58 ∷ 82 ∷ 101 ∷ 115 ∷ 105 ∷ 100 ∷ 117 ∷ 101 ∷ []) (Syntax.tcons (Syntax.tyStruct (110 ∷ 97
+      ∷ 109 ∷ 101 ∷ 115 ∷ 58 ∷ 58 ∷ 84 ∷ 104 ∷ 114 ∷ 101 ∷ 101 ∷ []) (Syntax.tcons (Syntax.tyInt Syntax.w8) (Syntax.tcons (Syntax.tyInt Syntax.w8) (Syntax.tcons
+      (Syntax.tyInt Syntax.w8) Syntax.tnil)))) (Syntax.tcons (Syntax.tyInt Syntax.w8) (Syntax.tcons (Syntax.tyStruct (102 ∷ 105 ∷ 101 ∷ 108 ∷ 100 ∷ 115 ∷ 58 ∷ 58
+      ∷ 82 ∷ 101 ∷ 115 ∷ 105 ∷ 100 ∷ 117 ∷ 101 ∷ 78 ∷ 117 ∷ 109 ∷ 98 ∷ 101 ∷ 114 ∷ []) (Syntax.tcons (Syntax.tyInt Syntax.w32) Syntax.tnil)) (Syntax.tcons
+      (Syntax.tyInt Syntax.w8) Syntax.tnil))))) (Syntax.tcons (Syntax.tyInt Syntax.w8) (Syntax.tcons (Syntax.tyInt Syntax.w64) (Syntax.tcons Syntax.tyBool
+      Syntax.tnil))))))),
+) ∷ (5, Rows'.sc-here (Row.sInt Syntax.w8)) ∷ (6, Rows'.any-gone SlotAs.ty) ∷ (7, Rows'.any-gone Syntax.tyBool) ∷ (
+  8,
+  Rows'.any-gone
+      (Syntax.tyInt Syntax.w64),
+) ∷ (9, Rows'.any-gone Syntax.tyPtr) ∷ (10, Rows'.any-gone SlotAs.ty) ∷ []
+
+abbrev pub t6 : List.List Row.Entry
+t6 = (0, Rows'.any-gone (Syntax.tyInt Syntax.w8)) ∷ (1, Rows'.sslice SlotAs.row (Syntax.tyRef (Syntax.named 0) Syntax.imm SlotAs.pointee) 0) ∷ (
+  2,
+  Rows'.whole
+      (Declared.row FromLast.the-type),
+) ∷ (3, Rows'.sc-here (Row.sInt Syntax.w64)) ∷ (4, Rows'.whole (Declared.row Tail.the-type)) ∷ (
+  5,
+  Rows'.sc-here (Row.sInt
+      Syntax.w8),
+) ∷ (6, Rows'.any-gone SlotAs.ty) ∷ (7, Rows'.sc-here Row.sBool) ∷ (8, Rows'.any-gone (Syntax.tyInt Syntax.w64)) ∷ (
+  9,
+  Rows'.any-gone
+      Syntax.tyPtr,
+) ∷ (10, Rows'.any-gone SlotAs.ty) ∷ []
+
+abbrev pub t7 : List.List Row.Entry
+t7 = (0, Rows'.any-gone (Syntax.tyInt Syntax.w8)) ∷ (1, Rows'.sslice SlotAs.row (Syntax.tyRef (Syntax.named 0) Syntax.imm SlotAs.pointee) 0) ∷ (
+  2,
+  Rows'.any-gone (Syntax.tyStruct (102 ∷ 114 ∷ 97 ∷ 103 ∷ 109 ∷ 101 ∷ 110 ∷ 116 ∷ 115 ∷ 58 ∷ 58 ∷ 70 ∷ 114 ∷ 111 ∷ 109 ∷ 76 ∷ 97 ∷ 115 ∷ 116 ∷ [])
+      (Syntax.tcons (Syntax.tyInt Syntax.w64) Syntax.tnil)),
+) ∷ (3, Rows'.sc-here (Row.sInt Syntax.w64)) ∷ (4, Rows'.whole (Declared.row Tail.the-type)) ∷ (
+  5,
+  Rows'.sc-here (Row.sInt Syntax.w8),
+) ∷ (6, Rows'.any-gone SlotAs.ty) ∷ (7, Rows'.sc-here Row.sBool) ∷ (8, Rows'.any-gone (Syntax.tyInt Syntax.w64)) ∷ (
+  9,
+  Rows'.any-gone Syntax.tyPtr,
+) ∷ (10, Rows'.any-gone SlotAs.ty) ∷ []
+
+abbrev pub t8 : List.List Row.Entry
+t8 = (0, Rows'.any-gone (Syntax.tyInt Syntax.w8)) ∷ (1, Rows'.sslice SlotAs.row (Syntax.tyRef (Syntax.named 0) Syntax.imm SlotAs.pointee) 0) ∷ (
+  2,
+  Rows'.any-gone (Syntax.tyStruct (102 ∷ 114 ∷ 97 ∷ 103 ∷ 109 ∷ 101 ∷ 110 ∷ 116 ∷ 115 ∷ 58 ∷ 58 ∷ 70 ∷ 114 ∷ 111 ∷ 109 ∷ 76 ∷ 97 ∷ 115 ∷ 116 ∷ [])
+      (Syntax.tcons (Syntax.tyInt Syntax.w64) Syntax.tnil)),
+) ∷ (3, Rows'.sc-here (Row.sInt Syntax.w64)) ∷ (
+  4,
+  Rows'.any-gone (Syntax.tyStruct (102 ∷ 114 ∷ 97 ∷
+      103 ∷ 109 ∷ 101 ∷ 110 ∷ 116 ∷ 115 ∷ 58 ∷ 58 ∷ 84 ∷ 97 ∷ 105 ∷ 108 ∷ []) (Syntax.tcons Syntax.tyBool (Syntax.tcons Syntax.tyBool (Syntax.tcons
+      (Syntax.tyStruct (114 ∷ 101 ∷ 115 ∷ 105 ∷ 100 ∷ 117 ∷ 101 ∷ 58 ∷ 58 ∷ 82 ∷ 101 ∷ 115 ∷ 105 ∷ 100 ∷ 117 ∷ 101 ∷ []) (Syntax.tcons (Syntax.tyStruct (110 ∷ 97
+      ∷ 109 ∷ 101 ∷ 115 ∷ 58 ∷ 58 ∷ 84 ∷ 104 ∷ 114 ∷ 101 ∷ 101 ∷ []) (Syntax.tcons (Syntax.tyInt Syntax.w8) (Syntax.tcons (Syntax.tyInt Syntax.w8) (Syntax.tcons
+      (Syntax.tyInt Syntax.w8) Syntax.tnil)))) (Syntax.tcons (Syntax.tyInt Syntax.w8) (Syntax.tcons (Syntax.tyStruct (102 ∷ 105 ∷ 101 ∷ 108 ∷ 100 ∷ 115 ∷ 58 ∷ 58
+      ∷ 82 ∷ 101 ∷ 115 ∷ 105 ∷ 100 ∷ 117 ∷ 101 ∷ 78 ∷ 117 ∷ 109 ∷ 98 ∷ 101 ∷ 114 ∷ []) (Syntax.tcons (Syntax.tyInt Syntax.w32) Syntax.tnil)) (Syntax.tcons
+      (Syntax.tyInt Syntax.w8) Syntax.tnil))))) (Syntax.tcons (Syntax.tyInt Syntax.w8) (Syntax.tcons (Syntax.tyInt Syntax.w64) (Syntax.tcons Syntax.tyBool
+      Syntax.tnil))))))),
+) ∷ (5, Rows'.sc-here (Row.sInt Syntax.w8)) ∷ (6, Rows'.any-gone SlotAs.ty) ∷ (7, Rows'.sc-here Row.sBool) ∷ (
+  8,
+  Rows'.any-gone
+      (Syntax.tyInt Syntax.w64),
+) ∷ (9, Rows'.any-gone Syntax.tyPtr) ∷ (10, Rows'.any-gone SlotAs.ty) ∷ []
+
+abbrev pub t9 : List.List Row.Entry
+t9 = (0, Rows'.any-gone (Syntax.tyInt Syntax.w8)) ∷ (1, Rows'.sslice SlotAs.row (Syntax.tyRef (Syntax.named 0) Syntax.imm SlotAs.pointee) 0) ∷ (
+  2,
+  Rows'.whole
+      (Declared.row FromLast.the-type),
+) ∷ (3, Rows'.sc-here (Row.sInt Syntax.w64)) ∷ (4, Rows'.whole (Declared.row Tail.the-type)) ∷ (
+  5,
+  Rows'.sc-here (Row.sInt
+      Syntax.w8),
+) ∷ (6, Rows'.any-gone SlotAs.ty) ∷ (7, Rows'.any-gone Syntax.tyBool) ∷ (8, Rows'.sc-here (Row.sInt Syntax.w64)) ∷ (
+  9,
+  Rows'.any-gone
+      Syntax.tyPtr,
+) ∷ (10, Rows'.any-gone SlotAs.ty) ∷ []
+
+abbrev pub t10 : List.List Row.Entry
+t10 = (0, Rows'.any-gone (Syntax.tyInt Syntax.w8)) ∷ (1, Rows'.sslice SlotAs.row (Syntax.tyRef (Syntax.named 0) Syntax.imm SlotAs.pointee) 0) ∷ (
+  2,
+  Rows'.whole
+      (Declared.row FromLast.the-type),
+) ∷ (3, Rows'.sc-here (Row.sInt Syntax.w64)) ∷ (4, Rows'.whole (Declared.row Tail.the-type)) ∷ (
+  5,
+  Rows'.sc-here (Row.sInt
+      Syntax.w8),
+) ∷ (6, Rows'.any-gone SlotAs.ty) ∷ (7, Rows'.any-gone Syntax.tyBool) ∷ (8, Rows'.sc-here (Row.sInt Syntax.w64)) ∷ (9, Rows'.sc-here Row.sPtr) ∷
+    (10, Rows'.any-gone SlotAs.ty) ∷ []
+
+abbrev pub t11 : List.List Row.Entry
+t11 = (0, Rows'.any-gone (Syntax.tyInt Syntax.w8)) ∷ (1, Rows'.sslice SlotAs.row (Syntax.tyRef (Syntax.named 0) Syntax.imm SlotAs.pointee) 0) ∷ (
+  2,
+  Rows'.whole
+      (Declared.row FromLast.the-type),
+) ∷ (3, Rows'.sc-here (Row.sInt Syntax.w64)) ∷ (4, Rows'.whole (Declared.row Tail.the-type)) ∷ (
+  5,
+  Rows'.sc-here (Row.sInt
+      Syntax.w8),
+) ∷ (6, Rows'.any-gone SlotAs.ty) ∷ (7, Rows'.any-gone Syntax.tyBool) ∷ (8, Rows'.sc-here (Row.sInt Syntax.w64)) ∷ (9, Rows'.sc-here Row.sPtr) ∷
+    (10, SlotAs.whole) ∷ []
+
+abbrev pub t12 : List.List Row.Entry
+t12 = (0, Rows'.any-gone (Syntax.tyInt Syntax.w8)) ∷ (1, Rows'.sslice SlotAs.row (Syntax.tyRef (Syntax.named 0) Syntax.imm SlotAs.pointee) 0) ∷ (
+  2,
+  Rows'.whole
+      (Declared.row FromLast.the-type),
+) ∷ (3, Rows'.sc-here (Row.sInt Syntax.w64)) ∷ (4, Rows'.whole (Declared.row Tail.the-type)) ∷ (
+  5,
+  Rows'.sc-here (Row.sInt
+      Syntax.w8),
+) ∷ (6, Rows'.any-gone SlotAs.ty) ∷ (7, Rows'.any-gone Syntax.tyBool) ∷ (8, Rows'.any-gone (Syntax.tyInt Syntax.w64)) ∷ (
+  9,
+  Rows'.sc-here
+      Row.sPtr,
+) ∷ (10, SlotAs.whole) ∷ []
+
+abbrev pub t13 : List.List Row.Entry
+t13 = (0, Rows'.any-gone (Syntax.tyInt Syntax.w8)) ∷ (1, Rows'.sslice SlotAs.row (Syntax.tyRef (Syntax.named 0) Syntax.imm SlotAs.pointee) 0) ∷ (
+  2,
+  Rows'.whole
+      (Declared.row FromLast.the-type),
+) ∷ (3, Rows'.sc-here (Row.sInt Syntax.w64)) ∷ (4, Rows'.whole (Declared.row Tail.the-type)) ∷ (
+  5,
+  Rows'.sc-here (Row.sInt
+      Syntax.w8),
+) ∷ (6, Rows'.any-gone SlotAs.ty) ∷ (7, Rows'.any-gone Syntax.tyBool) ∷ (8, Rows'.any-gone (Syntax.tyInt Syntax.w64)) ∷ (
+  9,
+  Rows'.any-gone
+      Syntax.tyPtr,
+) ∷ (10, SlotAs.whole) ∷ []
+
+abbrev pub t14 : List.List Row.Entry
+t14 = (0, Rows'.any-gone (Syntax.tyInt Syntax.w8)) ∷ (1, Rows'.sslice SlotAs.row (Syntax.tyRef (Syntax.named 0) Syntax.imm SlotAs.pointee) 0) ∷ (
+  2,
+  Rows'.whole
+      (Declared.row FromLast.the-type),
+) ∷ (3, Rows'.sc-here (Row.sInt Syntax.w64)) ∷ (4, Rows'.whole (Declared.row Tail.the-type)) ∷ (
+  5,
+  Rows'.sc-here (Row.sInt
+      Syntax.w8),
+) ∷ (6, SlotAs.whole) ∷ (7, Rows'.any-gone Syntax.tyBool) ∷ (8, Rows'.any-gone (Syntax.tyInt Syntax.w64)) ∷ (9, Rows'.any-gone Syntax.tyPtr) ∷
+    (10, SlotAs.whole) ∷ []
+
+abbrev pub t15 : List.List Row.Entry
+t15 = (0, Rows'.any-gone (Syntax.tyInt Syntax.w8)) ∷ (1, Rows'.sslice SlotAs.row (Syntax.tyRef (Syntax.named 0) Syntax.imm SlotAs.pointee) 0) ∷ (
+  2,
+  Rows'.whole
+      (Declared.row FromLast.the-type),
+) ∷ (3, Rows'.sc-here (Row.sInt Syntax.w64)) ∷ (4, Rows'.whole (Declared.row Tail.the-type)) ∷ (
+  5,
+  Rows'.sc-here (Row.sInt
+      Syntax.w8),
+) ∷ (6, SlotAs.whole) ∷ (7, Rows'.any-gone Syntax.tyBool) ∷ (8, Rows'.any-gone (Syntax.tyInt Syntax.w64)) ∷ (9, Rows'.any-gone Syntax.tyPtr) ∷
+    (10, Rows'.any-gone SlotAs.ty) ∷ []
+
+abbrev pub t16 : List.List Row.Entry
+t16 = (0, Rows'.sc-here (Row.sInt Syntax.w8)) ∷ (1, Rows'.sslice SlotAs.row (Syntax.tyRef (Syntax.named 0) Syntax.imm SlotAs.pointee) 0) ∷ (
+  2,
+  Rows'.any-gone
+      (Syntax.tyStruct (102 ∷ 114 ∷ 97 ∷ 103 ∷ 109 ∷ 101 ∷ 110 ∷ 116 ∷ 115 ∷ 58 ∷ 58 ∷ 70 ∷ 114 ∷ 111 ∷ 109 ∷ 76 ∷ 97 ∷ 115 ∷ 116 ∷ []) (Syntax.tcons
+      (Syntax.tyInt Syntax.w64) Syntax.tnil)),
+) ∷ (3, Rows'.sc-here (Row.sInt Syntax.w64)) ∷ (
+  4,
+  Rows'.any-gone (Syntax.tyStruct (102 ∷ 114 ∷ 97 ∷ 103 ∷ 109 ∷ 101
+      ∷ 110 ∷ 116 ∷ 115 ∷ 58 ∷ 58 ∷ 84 ∷ 97 ∷ 105 ∷ 108 ∷ []) (Syntax.tcons Syntax.tyBool (Syntax.tcons Syntax.tyBool (Syntax.tcons (Syntax.tyStruct (114 ∷ 101 ∷
       115 ∷ 105 ∷ 100 ∷ 117 ∷ 101 ∷ 58 ∷ 58 ∷ 82 ∷ 101 ∷ 115 ∷ 105 ∷ 100 ∷ 117 ∷ 101 ∷ []) (Syntax.tcons (Syntax.tyStruct (110 ∷ 97 ∷ 109 ∷ 101 ∷ 115 ∷ 58 ∷ 58 ∷
       84 ∷ 104 ∷ 114 ∷ 101 ∷ 101 ∷ []) (Syntax.tcons (Syntax.tyInt Syntax.w8) (Syntax.tcons (Syntax.tyInt Syntax.w8) (Syntax.tcons (Syntax.tyInt Syntax.w8)
       Syntax.tnil)))) (Syntax.tcons (Syntax.tyInt Syntax.w8) (Syntax.tcons (Syntax.tyStruct (102 ∷ 105 ∷ 101 ∷ 108 ∷ 100 ∷ 115 ∷ 58 ∷ 58 ∷ 82 ∷ 101 ∷ 115 ∷ 105 ∷
@@ -374,205 +583,27 @@ t5 = (0, Rows'.any-gone (Syntax.tyInt Syntax.w8)) ∷ (1, Rows'.sslice SlotAs.ro
 ) ∷ (6, Rows'.any-gone SlotAs.ty) ∷ (7, Rows'.any-gone Syntax.tyBool) ∷ (8, Rows'.any-gone (Syntax.tyInt Syntax.w64)) ∷
     (9, Rows'.any-gone Syntax.tyPtr) ∷ (10, Rows'.any-gone SlotAs.ty) ∷ []
 
-abbrev pub t6 : List.List Row.Entry
-t6 = (0, Rows'.any-gone (Syntax.tyInt Syntax.w8)) ∷ (1, Rows'.sslice SlotAs.row (Syntax.tyRef (Syntax.named 0) Syntax.imm SlotAs.pointee) 0) ∷ (
-  2,
-  Rows'.sc-here (Row.sInt Syntax.w64),
-) ∷ (3, Rows'.sc-here (Row.sInt Syntax.w64)) ∷ (4, Rows'.whole (Declared.row Tail.the-type)) ∷ (
-  5,
-  Rows'.sc-here
-      (Row.sInt Syntax.w8),
-) ∷ (6, Rows'.any-gone SlotAs.ty) ∷ (7, Rows'.sc-here Row.sBool) ∷ (8, Rows'.any-gone (Syntax.tyInt Syntax.w64)) ∷ (
-  9,
-  Rows'.any-gone
-      Syntax.tyPtr,
-) ∷ (10, Rows'.any-gone SlotAs.ty) ∷ []
-
-abbrev pub t7 : List.List Row.Entry
-t7 = (0, Rows'.any-gone (Syntax.tyInt Syntax.w8)) ∷ (1, Rows'.sslice SlotAs.row (Syntax.tyRef (Syntax.named 0) Syntax.imm SlotAs.pointee) 0) ∷ (
-  2,
-  Rows'.sc-here (Row.sInt Syntax.w64),
-) ∷ (3, Rows'.sc-here (Row.sInt Syntax.w64)) ∷ (
-  4,
-  Rows'.any-gone (Syntax.tyStruct (102 ∷ 114 ∷ 97 ∷ 103 ∷ 109 ∷ 101 ∷
-      110 ∷ 116 ∷ 115 ∷ 58 ∷ 58 ∷ 84 ∷ 97 ∷ 105 ∷ 108 ∷ []) (Syntax.tcons Syntax.tyBool (Syntax.tcons Syntax.tyBool (Syntax.tcons (Syntax.tyStruct (114 ∷ 101 ∷
-      115 ∷ 105 ∷ 100 ∷ 117 ∷ 101 ∷ 58 ∷ 58 ∷ 82 ∷ 101 ∷ 115 ∷ 105 ∷ 100 ∷ 117 ∷ 101 ∷ []) (Syntax.tcons (Syntax.tyStruct (110 ∷ 97 ∷ 109 ∷ 101 ∷ 115 ∷ 58 ∷ 58 ∷
-      84 ∷ 104 ∷ 114 ∷ 101 ∷ 101 ∷ []) (Syntax.tcons (Syntax.tyInt Syntax.w8) (Syntax.tcons (Syntax.tyInt Syntax.w8) (Syntax.tcons (Syntax.tyInt Syntax.w8)
-      Syntax.tnil)))) (Syntax.tcons (Syntax.tyInt Syntax.w8) (Syntax.tcons (Syntax.tyStruct (102 ∷ 105 ∷ 101 ∷ 108 ∷ 100 ∷ 115 ∷ 58 ∷ 58 ∷ 82 ∷ 101 ∷ 115 ∷ 105 ∷
-      100 ∷ 117 ∷ 101 ∷ 78 ∷ 117 ∷ 109 ∷ 98 ∷ 101 ∷ 114 ∷ []) (Syntax.tcons (Syntax.tyInt Syntax.w32) Syntax.tnil)) (Syntax.tcons (Syntax.tyInt Syntax.w8)
-      Syntax.tnil))))) (Syntax.tcons (Syntax.tyInt Syntax.w8) (Syntax.tcons (Syntax.tyInt Syntax.w64) (Syntax.tcons Syntax.tyBool Syntax.tnil))))))),
-) ∷ (
-  5,
-  Rows'.sc-here (Row.sInt Syntax.w8),
-) ∷ (6, Rows'.any-gone SlotAs.ty) ∷ (7, Rows'.sc-here Row.sBool) ∷ (8, Rows'.any-gone (Syntax.tyInt Syntax.w64)) ∷ (
-  9,
-  Rows'.any-gone Syntax.tyPtr,
-) ∷ (10, Rows'.any-gone SlotAs.ty) ∷ []
-
-abbrev pub t8 : List.List Row.Entry
-t8 = (0, Rows'.any-gone (Syntax.tyInt Syntax.w8)) ∷ (1, Rows'.sslice SlotAs.row (Syntax.tyRef (Syntax.named 0) Syntax.imm SlotAs.pointee) 0) ∷ (
-  2,
-  Rows'.sc-here (Row.sInt Syntax.w64),
-) ∷ (3, Rows'.sc-here (Row.sInt Syntax.w64)) ∷ (4, Rows'.whole (Declared.row Tail.the-type)) ∷ (
-  5,
-  Rows'.sc-here
-      (Row.sInt Syntax.w8),
-) ∷ (6, Rows'.any-gone SlotAs.ty) ∷ (7, Rows'.any-gone Syntax.tyBool) ∷ (8, Rows'.sc-here (Row.sInt Syntax.w64)) ∷ (
-  9,
-  Rows'.any-gone
-      Syntax.tyPtr,
-) ∷ (10, Rows'.any-gone SlotAs.ty) ∷ []
-
-abbrev pub t9 : List.List Row.Entry
-t9 = (0, Rows'.any-gone (Syntax.tyInt Syntax.w8)) ∷ (1, Rows'.sslice SlotAs.row (Syntax.tyRef (Syntax.named 0) Syntax.imm SlotAs.pointee) 0) ∷ (
-  2,
-  Rows'.sc-here (Row.sInt Syntax.w64),
-) ∷ (3, Rows'.sc-here (Row.sInt Syntax.w64)) ∷ (4, Rows'.whole (Declared.row Tail.the-type)) ∷ (
-  5,
-  Rows'.sc-here
-      (Row.sInt Syntax.w8),
-) ∷ (6, Rows'.any-gone SlotAs.ty) ∷ (7, Rows'.any-gone Syntax.tyBool) ∷ (8, Rows'.sc-here (Row.sInt Syntax.w64)) ∷ (
-  9,
-  Rows'.sc-here
-      Row.sPtr,
-) ∷ (10, Rows'.any-gone SlotAs.ty) ∷ []
-
-abbrev pub t10 : List.List Row.Entry
-t10 = (0, Rows'.any-gone (Syntax.tyInt Syntax.w8)) ∷ (1, Rows'.sslice SlotAs.row (Syntax.tyRef (Syntax.named 0) Syntax.imm SlotAs.pointee) 0) ∷ (
-  2,
-  Rows'.sc-here (Row.sInt Syntax.w64),
-) ∷ (3, Rows'.sc-here (Row.sInt Syntax.w64)) ∷ (4, Rows'.whole (Declared.row Tail.the-type)) ∷ (
-  5,
-  Rows'.sc-here
-      (Row.sInt Syntax.w8),
-) ∷ (6, Rows'.any-gone SlotAs.ty) ∷ (7, Rows'.any-gone Syntax.tyBool) ∷ (8, Rows'.sc-here (Row.sInt Syntax.w64)) ∷ (
-  9,
-  Rows'.sc-here
-      Row.sPtr,
-) ∷ (10, SlotAs.whole) ∷ []
-
-abbrev pub t11 : List.List Row.Entry
-t11 = (0, Rows'.any-gone (Syntax.tyInt Syntax.w8)) ∷ (1, Rows'.sslice SlotAs.row (Syntax.tyRef (Syntax.named 0) Syntax.imm SlotAs.pointee) 0) ∷ (
-  2,
-  Rows'.sc-here (Row.sInt Syntax.w64),
-) ∷ (3, Rows'.sc-here (Row.sInt Syntax.w64)) ∷ (4, Rows'.whole (Declared.row Tail.the-type)) ∷ (
-  5,
-  Rows'.sc-here
-      (Row.sInt Syntax.w8),
-) ∷ (6, Rows'.any-gone SlotAs.ty) ∷ (7, Rows'.any-gone Syntax.tyBool) ∷ (8, Rows'.any-gone (Syntax.tyInt Syntax.w64)) ∷ (
-  9,
-  Rows'.sc-here Row.sPtr,
-) ∷ (10, SlotAs.whole) ∷ []
-
-abbrev pub t12 : List.List Row.Entry
-t12 = (0, Rows'.any-gone (Syntax.tyInt Syntax.w8)) ∷ (1, Rows'.sslice SlotAs.row (Syntax.tyRef (Syntax.named 0) Syntax.imm SlotAs.pointee) 0) ∷ (
-  2,
-  Rows'.sc-here (Row.sInt Syntax.w64),
-) ∷ (3, Rows'.sc-here (Row.sInt Syntax.w64)) ∷ (4, Rows'.whole (Declared.row Tail.the-type)) ∷ (
-  5,
-  Rows'.sc-here
-      (Row.sInt Syntax.w8),
-) ∷ (6, Rows'.any-gone SlotAs.ty) ∷ (7, Rows'.any-gone Syntax.tyBool) ∷ (8, Rows'.any-gone (Syntax.tyInt Syntax.w64)) ∷ (
-  9,
-  Rows'.any-gone Syntax.tyPtr,
-) ∷ (10, SlotAs.whole) ∷ []
-
-abbrev pub t13 : List.List Row.Entry
-t13 = (0, Rows'.any-gone (Syntax.tyInt Syntax.w8)) ∷ (1, Rows'.sslice SlotAs.row (Syntax.tyRef (Syntax.named 0) Syntax.imm SlotAs.pointee) 0) ∷ (
-  2,
-  Rows'.sc-here (Row.sInt Syntax.w64),
-) ∷ (3, Rows'.sc-here (Row.sInt Syntax.w64)) ∷ (4, Rows'.whole (Declared.row Tail.the-type)) ∷ (
-  5,
-  Rows'.sc-here
-      (Row.sInt Syntax.w8),
-) ∷ (6, SlotAs.whole) ∷ (7, Rows'.any-gone Syntax.tyBool) ∷ (8, Rows'.any-gone (Syntax.tyInt Syntax.w64)) ∷ (
-  9,
-  Rows'.any-gone
-      Syntax.tyPtr,
-) ∷ (10, SlotAs.whole) ∷ []
-
-abbrev pub t14 : List.List Row.Entry
-t14 = (0, Rows'.any-gone (Syntax.tyInt Syntax.w8)) ∷ (1, Rows'.sslice SlotAs.row (Syntax.tyRef (Syntax.named 0) Syntax.imm SlotAs.pointee) 0) ∷ (
-  2,
-  Rows'.sc-here (Row.sInt Syntax.w64),
-) ∷ (3, Rows'.sc-here (Row.sInt Syntax.w64)) ∷ (4, Rows'.whole (Declared.row Tail.the-type)) ∷ (
-  5,
-  Rows'.sc-here
-      (Row.sInt Syntax.w8),
-) ∷ (6, SlotAs.whole) ∷ (7, Rows'.any-gone Syntax.tyBool) ∷ (8, Rows'.any-gone (Syntax.tyInt Syntax.w64)) ∷ (
-  9,
-  Rows'.any-gone
-      Syntax.tyPtr,
-) ∷ (10, Rows'.any-gone SlotAs.ty) ∷ []
-
-abbrev pub t15 : List.List Row.Entry
-t15 = (0, Rows'.sc-here (Row.sInt Syntax.w8)) ∷ (1, Rows'.sslice SlotAs.row (Syntax.tyRef (Syntax.named 0) Syntax.imm SlotAs.pointee) 0) ∷ (
-  2,
-  Rows'.sc-here
-      (Row.sInt Syntax.w64),
-) ∷ (3, Rows'.sc-here (Row.sInt Syntax.w64)) ∷ (
-  4,
-  Rows'.any-gone (Syntax.tyStruct (102 ∷ 114 ∷ 97 ∷ 103 ∷ 109 ∷ 101 ∷ 110 ∷ 116 ∷ 115
-      ∷ 58 ∷ 58 ∷ 84 ∷ 97 ∷ 105 ∷ 108 ∷ []) (Syntax.tcons Syntax.tyBool (Syntax.tcons Syntax.tyBool (Syntax.tcons (Syntax.tyStruct (114 ∷ 101 ∷ 115 ∷ 105 ∷ 100 ∷
-      117 ∷ 101 ∷ 58 ∷ 58 ∷ 82 ∷ 101 ∷ 115 ∷ 105 ∷ 100 ∷ 117 ∷ 101 ∷ []) (Syntax.tcons (Syntax.tyStruct (110 ∷ 97 ∷ 109 ∷ 101 ∷ 115 ∷ 58 ∷ 58 ∷ 84 ∷ 104 ∷ 114 ∷
-      101 ∷ 101 ∷ []) (Syntax.tcons (Syntax.tyInt Syntax.w8) (Syntax.tcons (Syntax.tyInt Syntax.w8) (Syntax.tcons (Syntax.tyInt Syntax.w8) Syntax.tnil))))
-      (Syntax.tcons (Syntax.tyInt Syntax.w8) (Syntax.tcons (Syntax.tyStruct (102 ∷ 105 ∷ 101 ∷ 108 ∷ 100 ∷ 115 ∷ 58 ∷ 58 ∷ 82 ∷ 101 ∷ 115 ∷ 105 ∷ 100 ∷ 117 ∷ 101
-      ∷ 78 ∷ 117 ∷ 109 ∷ 98 ∷ 101 ∷ 114 ∷ []) (Syntax.tcons (Syntax.tyInt Syntax.w32) Syntax.tnil)) (Syntax.tcons (Syntax.tyInt Syntax.w8) Syntax.tnil)))))
-      (Syntax.tcons (Syntax.tyInt Syntax.w8) (Syntax.tcons (Syntax.tyInt Syntax.w64) (Syntax.tcons Syntax.tyBool Syntax.tnil))))))),
-) ∷ (
-  5,
-  Rows'.sc-here
-      (Row.sInt Syntax.w8),
-) ∷ (6, Rows'.any-gone SlotAs.ty) ∷ (7, Rows'.any-gone Syntax.tyBool) ∷ (8, Rows'.any-gone (Syntax.tyInt Syntax.w64)) ∷ (
-  9,
-  Rows'.any-gone Syntax.tyPtr,
-) ∷ (10, Rows'.any-gone SlotAs.ty) ∷ []
-
-abbrev pub t16 : List.List Row.Entry
-t16 = (0, Rows'.sc-here (Row.sInt Syntax.w8)) ∷ (1, Rows'.sslice SlotAs.row (Syntax.tyRef (Syntax.named 0) Syntax.imm SlotAs.pointee) 0) ∷ (
-  2,
-  Rows'.sc-here
-      (Row.sInt Syntax.w64),
-) ∷ (3, Rows'.any-gone (Syntax.tyInt Syntax.w64)) ∷ (
-  4,
-  Rows'.any-gone (Syntax.tyStruct (102 ∷ 114 ∷ 97 ∷ 103 ∷ 109 ∷ 101 ∷ 110 ∷ 116
-      ∷ 115 ∷ 58 ∷ 58 ∷ 84 ∷ 97 ∷ 105 ∷ 108 ∷ []) (Syntax.tcons Syntax.tyBool (Syntax.tcons Syntax.tyBool (Syntax.tcons (Syntax.tyStruct (114 ∷ 101 ∷ 115 ∷ 105 ∷
-      100 ∷ 117 ∷ 101 ∷ 58 ∷ 58 ∷ 82 ∷ 101 ∷ 115 ∷ 105 ∷ 100 ∷ 117 ∷ 101 ∷ []) (Syntax.tcons (Syntax.tyStruct (110 ∷ 97 ∷ 109 ∷ 101 ∷ 115 ∷ 58 ∷ 58 ∷ 84 ∷ 104 ∷
-      114 ∷ 101 ∷ 101 ∷ []) (Syntax.tcons (Syntax.tyInt Syntax.w8) (Syntax.tcons (Syntax.tyInt Syntax.w8) (Syntax.tcons (Syntax.tyInt Syntax.w8) Syntax.tnil))))
-      (Syntax.tcons (Syntax.tyInt Syntax.w8) (Syntax.tcons (Syntax.tyStruct (102 ∷ 105 ∷ 101 ∷ 108 ∷ 100 ∷ 115 ∷ 58 ∷ 58 ∷ 82 ∷ 101 ∷ 115 ∷ 105 ∷ 100 ∷ 117 ∷ 101
-      ∷ 78 ∷ 117 ∷ 109 ∷ 98 ∷ 101 ∷ 114 ∷ []) (Syntax.tcons (Syntax.tyInt Syntax.w32) Syntax.tnil)) (Syntax.tcons (Syntax.tyInt Syntax.w8) Syntax.tnil)))))
-      (Syntax.tcons (Syntax.tyInt Syntax.w8) (Syntax.tcons (Syntax.tyInt Syntax.w64) (Syntax.tcons Syntax.tyBool Syntax.tnil))))))),
-) ∷ (
-  5,
-  Rows'.sc-here
-      (Row.sInt Syntax.w8),
-) ∷ (6, Rows'.any-gone SlotAs.ty) ∷ (7, Rows'.any-gone Syntax.tyBool) ∷ (8, Rows'.any-gone (Syntax.tyInt Syntax.w64)) ∷ (
-  9,
-  Rows'.any-gone Syntax.tyPtr,
-) ∷ (10, Rows'.any-gone SlotAs.ty) ∷ []
-
 abbrev pub t17 : List.List Row.Entry
 t17 = (0, Rows'.sc-here (Row.sInt Syntax.w8)) ∷ (1, Rows'.sslice SlotAs.row (Syntax.tyRef (Syntax.named 0) Syntax.imm SlotAs.pointee) 0) ∷ (
   2,
-  Rows'.sc-here
-      (Row.sInt Syntax.w64),
+  Rows'.any-gone
+      (Syntax.tyStruct (102 ∷ 114 ∷ 97 ∷ 103 ∷ 109 ∷ 101 ∷ 110 ∷ 116 ∷ 115 ∷ 58 ∷ 58 ∷ 70 ∷ 114 ∷ 111 ∷ 109 ∷ 76 ∷ 97 ∷ 115 ∷ 116 ∷ []) (Syntax.tcons
+      (Syntax.tyInt Syntax.w64) Syntax.tnil)),
 ) ∷ (3, Rows'.any-gone (Syntax.tyInt Syntax.w64)) ∷ (
   4,
-  Rows'.any-gone (Syntax.tyStruct (102 ∷ 114 ∷ 97 ∷ 103 ∷ 109 ∷ 101 ∷ 110 ∷ 116
-      ∷ 115 ∷ 58 ∷ 58 ∷ 84 ∷ 97 ∷ 105 ∷ 108 ∷ []) (Syntax.tcons Syntax.tyBool (Syntax.tcons Syntax.tyBool (Syntax.tcons (Syntax.tyStruct (114 ∷ 101 ∷ 115 ∷ 105 ∷
-      100 ∷ 117 ∷ 101 ∷ 58 ∷ 58 ∷ 82 ∷ 101 ∷ 115 ∷ 105 ∷ 100 ∷ 117 ∷ 101 ∷ []) (Syntax.tcons (Syntax.tyStruct (110 ∷ 97 ∷ 109 ∷ 101 ∷ 115 ∷ 58 ∷ 58 ∷ 84 ∷ 104 ∷
-      114 ∷ 101 ∷ 101 ∷ []) (Syntax.tcons (Syntax.tyInt Syntax.w8) (Syntax.tcons (Syntax.tyInt Syntax.w8) (Syntax.tcons (Syntax.tyInt Syntax.w8) Syntax.tnil))))
-      (Syntax.tcons (Syntax.tyInt Syntax.w8) (Syntax.tcons (Syntax.tyStruct (102 ∷ 105 ∷ 101 ∷ 108 ∷ 100 ∷ 115 ∷ 58 ∷ 58 ∷ 82 ∷ 101 ∷ 115 ∷ 105 ∷ 100 ∷ 117 ∷ 101
-      ∷ 78 ∷ 117 ∷ 109 ∷ 98 ∷ 101 ∷ 114 ∷ []) (Syntax.tcons (Syntax.tyInt Syntax.w32) Syntax.tnil)) (Syntax.tcons (Syntax.tyInt Syntax.w8) Syntax.tnil)))))
-      (Syntax.tcons (Syntax.tyInt Syntax.w8) (Syntax.tcons (Syntax.tyInt Syntax.w64) (Syntax.tcons Syntax.tyBool Syntax.tnil))))))),
-) ∷ (
-  5,
-  Rows'.any-gone
-      (Syntax.tyInt Syntax.w8),
-) ∷ (6, Rows'.any-gone SlotAs.ty) ∷ (7, Rows'.any-gone Syntax.tyBool) ∷ (8, Rows'.any-gone (Syntax.tyInt Syntax.w64)) ∷ (
-  9,
-  Rows'.any-gone Syntax.tyPtr,
-) ∷ (10, Rows'.any-gone SlotAs.ty) ∷ []
+  Rows'.any-gone (Syntax.tyStruct (102 ∷ 114 ∷ 97 ∷ 103 ∷ 109
+      ∷ 101 ∷ 110 ∷ 116 ∷ 115 ∷ 58 ∷ 58 ∷ 84 ∷ 97 ∷ 105 ∷ 108 ∷ []) (Syntax.tcons Syntax.tyBool (Syntax.tcons Syntax.tyBool (Syntax.tcons (Syntax.tyStruct (114 ∷
+      101 ∷ 115 ∷ 105 ∷ 100 ∷ 117 ∷ 101 ∷ 58 ∷ 58 ∷ 82 ∷ 101 ∷ 115 ∷ 105 ∷ 100 ∷ 117 ∷ 101 ∷ []) (Syntax.tcons (Syntax.tyStruct (110 ∷ 97 ∷ 109 ∷ 101 ∷ 115 ∷ 58
+      ∷ 58 ∷ 84 ∷ 104 ∷ 114 ∷ 101 ∷ 101 ∷ []) (Syntax.tcons (Syntax.tyInt Syntax.w8) (Syntax.tcons (Syntax.tyInt Syntax.w8) (Syntax.tcons (Syntax.tyInt
+      Syntax.w8) Syntax.tnil)))) (Syntax.tcons (Syntax.tyInt Syntax.w8) (Syntax.tcons (Syntax.tyStruct (102 ∷ 105 ∷ 101 ∷ 108 ∷ 100 ∷ 115 ∷ 58 ∷ 58 ∷ 82 ∷ 101 ∷
+      115 ∷ 105 ∷ 100 ∷ 117 ∷ 101 ∷ 78 ∷ 117 ∷ 109 ∷ 98 ∷ 101 ∷ 114 ∷ []) (Syntax.tcons (Syntax.tyInt Syntax.w32) Syntax.tnil)) (Syntax.tcons (Syntax.tyInt
+      Syntax.w8) Syntax.tnil))))) (Syntax.tcons (Syntax.tyInt Syntax.w8) (Syntax.tcons (Syntax.tyInt Syntax.w64) (Syntax.tcons Syntax.tyBool Syntax.tnil))))))),
+)
+    ∷ (5, Rows'.sc-here (Row.sInt Syntax.w8)) ∷ (6, Rows'.any-gone SlotAs.ty) ∷ (7, Rows'.any-gone Syntax.tyBool) ∷ (
+      8,
+      Rows'.any-gone (Syntax.tyInt
+          Syntax.w64),
+    ) ∷ (9, Rows'.any-gone Syntax.tyPtr) ∷ (10, Rows'.any-gone SlotAs.ty) ∷ []
 
 abbrev pub T0 : Row.Cx
 T0 = record { locals = t0; slots = [] }
@@ -605,13 +636,13 @@ abbrev pub T9 : Row.Cx
 T9 = record { locals = t7; slots = [] }
 
 abbrev pub T10 : Row.Cx
-T10 = record { locals = t5; slots = [] }
+T10 = record { locals = t8; slots = [] }
 
 abbrev pub T11 : Row.Cx
-T11 = record { locals = t4; slots = [] }
+T11 = record { locals = t5; slots = [] }
 
 abbrev pub T12 : Row.Cx
-T12 = record { locals = t8; slots = [] }
+T12 = record { locals = t4; slots = [] }
 
 abbrev pub T13 : Row.Cx
 T13 = record { locals = t9; slots = [] }
@@ -632,16 +663,16 @@ abbrev pub T18 : Row.Cx
 T18 = record { locals = t14; slots = [] }
 
 abbrev pub T19 : Row.Cx
-T19 = record { locals = t14; slots = [] }
+T19 = record { locals = t15; slots = [] }
 
 abbrev pub T20 : Row.Cx
-T20 = record { locals = t14; slots = [] }
+T20 = record { locals = t15; slots = [] }
 
 abbrev pub T21 : Row.Cx
-T21 = record { locals = t4; slots = [] }
+T21 = record { locals = t15; slots = [] }
 
 abbrev pub T22 : Row.Cx
-T22 = record { locals = t15; slots = [] }
+T22 = record { locals = t4; slots = [] }
 
 abbrev pub T23 : Row.Cx
 T23 = record { locals = t16; slots = [] }
@@ -668,14 +699,14 @@ abbrev pub O4 : Typed.Outs
 O4 = Typed.withNext (Option.some T7) O3
 
 abbrev pub InvT-loop : Type 1
-InvT-loop = List.List (SlotAs.row .Denot) → Rows'.sc-here (Row.sInt Syntax.w64) .Mod → Rows'.sc-here (Row.sInt Syntax.w64) .Mod → Rows'.whole (Declared.row
-    Tail.the-type) .Mod → Rows'.sc-here (Row.sInt Syntax.w8) .Mod → Rows'.sc-here (Row.sInt Syntax.w64) .Mod → Rows'.whole (Declared.row Tail.the-type) .Mod →
-    Rows'.sc-here (Row.sInt Syntax.w8) .Mod → Type 0
+InvT-loop = List.List (SlotAs.row .Denot) → Rows'.whole (Declared.row FromLast.the-type) .Mod → Rows'.sc-here (Row.sInt Syntax.w64) .Mod → Rows'.whole
+    (Declared.row Tail.the-type) .Mod → Rows'.sc-here (Row.sInt Syntax.w8) .Mod → Rows'.sc-here (Row.sInt Syntax.w64) .Mod → Rows'.whole (Declared.row
+    Tail.the-type) .Mod → Rows'.sc-here (Row.sInt Syntax.w8) .Mod → Type 0
 
 abbrev pub MeasureT-loop : Type 0
-MeasureT-loop = List.List (SlotAs.row .Denot) → Rows'.sc-here (Row.sInt Syntax.w64) .Mod → Rows'.sc-here (Row.sInt Syntax.w64) .Mod → Rows'.whole (Declared.row
-    Tail.the-type) .Mod → Rows'.sc-here (Row.sInt Syntax.w8) .Mod → Rows'.sc-here (Row.sInt Syntax.w64) .Mod → Rows'.whole (Declared.row Tail.the-type) .Mod →
-    Rows'.sc-here (Row.sInt Syntax.w8) .Mod → Nat.ℕ
+MeasureT-loop = List.List (SlotAs.row .Denot) → Rows'.whole (Declared.row FromLast.the-type) .Mod → Rows'.sc-here (Row.sInt Syntax.w64) .Mod → Rows'.whole
+    (Declared.row Tail.the-type) .Mod → Rows'.sc-here (Row.sInt Syntax.w8) .Mod → Rows'.sc-here (Row.sInt Syntax.w64) .Mod → Rows'.whole (Declared.row
+    Tail.the-type) .Mod → Rows'.sc-here (Row.sInt Syntax.w8) .Mod → Nat.ℕ
 
 module _ (claims· : Claims) where
   abbrev s0 : Typed.Mo T0 → Typed.Mo T2
@@ -702,7 +733,11 @@ module _ (claims· : Claims) where
   s4 = Scalar.n-room T6 7 Syntax.tyBool
 
   abbrev s5 : Typed.Mo T6 → Typed.Mo T9
-  s5 = Scalar.n-room T6 4 (Syntax.tyStruct (102 ∷ 114 ∷ 97 ∷ 103 ∷ 109 ∷ 101 ∷ 110 ∷ 116 ∷ 115 ∷ 58 ∷ 58 ∷ 84 ∷ 97 ∷ 105 ∷ 108 ∷ []) (Syntax.tcons
+  s5 = Scalar.n-room T6 2 (Syntax.tyStruct (102 ∷ 114 ∷ 97 ∷ 103 ∷ 109 ∷ 101 ∷ 110 ∷ 116 ∷ 115 ∷ 58 ∷ 58 ∷ 70 ∷ 114 ∷ 111 ∷ 109 ∷ 76 ∷ 97 ∷ 115 ∷ 116 ∷ [])
+      (Syntax.tcons (Syntax.tyInt Syntax.w64) Syntax.tnil))
+
+  abbrev s6 : Typed.Mo T9 → Typed.Mo T10
+  s6 = Scalar.n-room T9 4 (Syntax.tyStruct (102 ∷ 114 ∷ 97 ∷ 103 ∷ 109 ∷ 101 ∷ 110 ∷ 116 ∷ 115 ∷ 58 ∷ 58 ∷ 84 ∷ 97 ∷ 105 ∷ 108 ∷ []) (Syntax.tcons
       Syntax.tyBool (Syntax.tcons Syntax.tyBool (Syntax.tcons (Syntax.tyStruct (114 ∷ 101 ∷ 115 ∷ 105 ∷ 100 ∷ 117 ∷ 101 ∷ 58 ∷ 58 ∷ 82 ∷ 101 ∷ 115 ∷ 105 ∷ 100
       ∷ 117 ∷ 101 ∷ []) (Syntax.tcons (Syntax.tyStruct (110 ∷ 97 ∷ 109 ∷ 101 ∷ 115 ∷ 58 ∷ 58 ∷ 84 ∷ 104 ∷ 114 ∷ 101 ∷ 101 ∷ []) (Syntax.tcons (Syntax.tyInt
       Syntax.w8) (Syntax.tcons (Syntax.tyInt Syntax.w8) (Syntax.tcons (Syntax.tyInt Syntax.w8) Syntax.tnil)))) (Syntax.tcons (Syntax.tyInt Syntax.w8)
@@ -710,39 +745,39 @@ module _ (claims· : Claims) where
       []) (Syntax.tcons (Syntax.tyInt Syntax.w32) Syntax.tnil)) (Syntax.tcons (Syntax.tyInt Syntax.w8) Syntax.tnil))))) (Syntax.tcons (Syntax.tyInt Syntax.w8)
       (Syntax.tcons (Syntax.tyInt Syntax.w64) (Syntax.tcons Syntax.tyBool Syntax.tnil)))))))
 
-  abbrev s6 : Typed.Mo T9 → Typed.Mo T10
-  s6 = Scalar.n-room T9 7 Syntax.tyBool
+  abbrev s7 : Typed.Mo T10 → Typed.Mo T11
+  s7 = Scalar.n-room T10 7 Syntax.tyBool
 
-  abbrev s7 : Typed.Asks T7 T11
-  s7 = Scalar.k-op2 T7 (Syntax.sub Syntax.unsigned) (Scalar.oAt 3 (Syntax.tyInt Syntax.w64) (Row.valS (Row.sInt Syntax.w64))) (Scalar.oInt Syntax.w64 1) 3
-      (Rows'.sc-here (Row.sInt Syntax.w64)) (Row.sInt Syntax.w64 .of)
-
-  abbrev s8 : Typed.Asks T11 T12
-  s8 = Scalar.k-op2 T11 (Syntax.mul Syntax.unsigned) (Scalar.oAt 3 (Syntax.tyInt Syntax.w64) (Row.valS (Row.sInt Syntax.w64))) (Scalar.oInt Syntax.w64 44) 8
+  abbrev s8 : Typed.Asks T7 T12
+  s8 = Scalar.k-op2 T7 (Syntax.sub Syntax.unsigned) (Scalar.oAt 3 (Syntax.tyInt Syntax.w64) (Row.valS (Row.sInt Syntax.w64))) (Scalar.oInt Syntax.w64 1) 3
       (Rows'.sc-here (Row.sInt Syntax.w64)) (Row.sInt Syntax.w64 .of)
 
   abbrev s9 : Typed.Asks T12 T13
-  s9 = Scalar.k-op2 T12 Syntax.offset (Scalar.oFld 1 (Syntax.field 0 ∷ []) (Syntax.tyRef (Syntax.named 0) Syntax.imm SlotAs.pointee) 0 Reads.ptrVal)
+  s9 = Scalar.k-op2 T12 (Syntax.mul Syntax.unsigned) (Scalar.oAt 3 (Syntax.tyInt Syntax.w64) (Row.valS (Row.sInt Syntax.w64))) (Scalar.oInt Syntax.w64 44) 8
+      (Rows'.sc-here (Row.sInt Syntax.w64)) (Row.sInt Syntax.w64 .of)
+
+  abbrev s10 : Typed.Asks T13 T14
+  s10 = Scalar.k-op2 T13 Syntax.offset (Scalar.oFld 1 (Syntax.field 0 ∷ []) (Syntax.tyRef (Syntax.named 0) Syntax.imm SlotAs.pointee) 0 Reads.ptrVal)
       (Scalar.oAt 8 (Syntax.tyInt Syntax.w64) (Row.valS (Row.sInt Syntax.w64))) 9 (Rows'.sc-here Row.sPtr) (Row.sPtr .of)
 
-  abbrev s10 : Typed.Both T13 T14
-  s10 = Move.k-shs-copy-out SlotAs.row T13 1 9 10 0 (Syntax.tyRef (Syntax.named 0) Syntax.imm SlotAs.pointee) Row.off SlotAs.whole (Shared.bySize 44) (λ u. u
+  abbrev s11 : Typed.Both T14 T15
+  s11 = Move.k-shs-copy-out SlotAs.row T14 1 9 10 0 (Syntax.tyRef (Syntax.named 0) Syntax.imm SlotAs.pointee) Row.off SlotAs.whole (Shared.bySize 44) (λ u. u
       .1 .1 .1 .0) (λ x. x) SlotAs.none (λ x. Unit) (λ x. x) λ x. x
 
-  abbrev s11 : Typed.Mo T14 → Typed.Mo T15
-  s11 = Scalar.n-room T14 8 (Syntax.tyInt Syntax.w64)
-
   abbrev s12 : Typed.Mo T15 → Typed.Mo T16
-  s12 = Scalar.n-room T15 9 Syntax.tyPtr
+  s12 = Scalar.n-room T15 8 (Syntax.tyInt Syntax.w64)
 
   abbrev s13 : Typed.Mo T16 → Typed.Mo T17
-  s13 = LocalCopy.n-val-copy T16 10 6 SlotAs.row SlotAs.whole SlotAs.whole (λ x. x) (λ x. x) λ x. x
+  s13 = Scalar.n-room T16 9 Syntax.tyPtr
 
   abbrev s14 : Typed.Mo T17 → Typed.Mo T18
-  s14 = Scalar.n-room T17 10 SlotAs.ty
+  s14 = LocalCopy.n-val-copy T17 10 6 SlotAs.row SlotAs.whole SlotAs.whole (λ x. x) (λ x. x) λ x. x
 
-  abbrev s15 : Typed.Both T18 T19
-  s15 = Call.callB ps·1 r·1 (claims· .2) (claims· .3) T18 (
+  abbrev s15 : Typed.Mo T18 → Typed.Mo T19
+  s15 = Scalar.n-room T18 10 SlotAs.ty
+
+  abbrev s16 : Typed.Both T19 T20
+  s16 = Call.callB ps·1 r·1 (claims· .2) (claims· .3) T19 (
     record { pos = 6; st = []; d = 0; at = λ x. x },
     (
       record {
@@ -762,8 +797,8 @@ module _ (claims· : Claims) where
       []) (Syntax.tcons (Syntax.tyInt Syntax.w32) Syntax.tnil)) (Syntax.tcons (Syntax.tyInt Syntax.w8) Syntax.tnil))))) (Syntax.tcons (Syntax.tyInt Syntax.w8)
       (Syntax.tcons (Syntax.tyInt Syntax.w64) (Syntax.tcons Syntax.tyBool Syntax.tnil)))))))
 
-  abbrev s16 : Typed.Both T19 T20
-  s16 = Call.callB ps·2 r·2 (claims· .4) (claims· .5) T19 (
+  abbrev s17 : Typed.Both T20 T21
+  s17 = Call.callB ps·2 r·2 (claims· .4) (claims· .5) T20 (
     record { pos = 4; st = []; d = 0; at = λ x. x },
     (
       record {
@@ -773,24 +808,21 @@ module _ (claims· : Claims) where
         at = λ
             x. x;
       },
-      (Num.vAt 2 λ x. x, (Num.vAt 5 λ x. x, tt)),
+      (record { pos = 2; st = []; d = 0; at = λ x. x }, (Num.vAt 5 λ x. x, tt)),
     ),
   ) 5 [] (Syntax.tyInt Syntax.w8)
 
-  abbrev s17 : Typed.Mo T20 → Typed.Mo T21
-  s17 = Scalar.n-room T20 6 SlotAs.ty
+  abbrev s18 : Typed.Mo T21 → Typed.Mo T22
+  s18 = Scalar.n-room T21 6 SlotAs.ty
 
-  abbrev s18 : Typed.Mo T5 → Typed.Mo T22
-  s18 = Scalar.n-use T5 (Scalar.oAt 5 (Syntax.tyInt Syntax.w8) (Row.valS (Row.sInt Syntax.w8))) 0 (Rows'.sc-here (Row.sInt Syntax.w8)) (Row.sInt Syntax.w8 .of)
-
-  abbrev s19 : Typed.Mo T22 → Typed.Mo T23
-  s19 = Scalar.n-room T22 3 (Syntax.tyInt Syntax.w64)
+  abbrev s19 : Typed.Mo T5 → Typed.Mo T23
+  s19 = Scalar.n-use T5 (Scalar.oAt 5 (Syntax.tyInt Syntax.w8) (Row.valS (Row.sInt Syntax.w8))) 0 (Rows'.sc-here (Row.sInt Syntax.w8)) (Row.sInt Syntax.w8 .of)
 
   abbrev s20 : Typed.Mo T23 → Typed.Mo T24
-  s20 = Scalar.n-room T23 5 (Syntax.tyInt Syntax.w8)
+  s20 = Scalar.n-room T23 3 (Syntax.tyInt Syntax.w64)
 
   abbrev s21 : Typed.Mo T24 → Typed.Mo T25
-  s21 = Scalar.n-room T24 2 (Syntax.tyInt Syntax.w64)
+  s21 = Scalar.n-room T24 5 (Syntax.tyInt Syntax.w8)
 
   abbrev put0 : Rows'.sc-here (Row.sInt Syntax.w64) .Mod × Rows'.whole (Declared.row Tail.the-type) .Mod × Rows'.sc-here (Row.sInt Syntax.w8) .Mod → Typed.Mo
       T4 → Typed.Mo T4
@@ -813,79 +845,79 @@ module _ (claims· : Claims) where
         abbrev at1 : Typed.TF T6 O4
         at1 = λ Ψ. Typed.pass T6 T8 s4 (at0 Ψ)
 
-        abbrev at2 : Typed.TF T10 O4
+        abbrev at2 : Typed.TF T11 O4
         at2 = Typed.atExit 1 O4
 
-        abbrev at3 : Typed.TF T9 O4
-        at3 = λ Ψ. Typed.pass T9 T10 s6 (at2 Ψ)
+        abbrev at3 : Typed.TF T10 O4
+        at3 = λ Ψ. Typed.pass T10 T11 s7 (at2 Ψ)
 
-        abbrev at4 : Typed.TF T6 O4
-        at4 = λ Ψ. Typed.pass T6 T9 s5 (at3 Ψ)
+        abbrev at4 : Typed.TF T9 O4
+        at4 = λ Ψ. Typed.pass T9 T10 s6 (at3 Ψ)
 
         abbrev at5 : Typed.TF T6 O4
-        at5 = Scalar.Φcond T6 O4 7 (λ x. x) at1 at4
+        at5 = λ Ψ. Typed.pass T6 T9 s5 (at4 Ψ)
 
-        abbrev at6 : Typed.TF T19 O3
-        at6 = λ Ψ. Typed.both s16 (Typed.pass T20 T21 s17 (Typed.atNext O3 Ψ))
+        abbrev at6 : Typed.TF T6 O4
+        at6 = Scalar.Φcond T6 O4 7 (λ x. x) at1 at5
 
-        abbrev at7 : Typed.TF T18 O3
-        at7 = λ Ψ. Typed.both s15 (at6 Ψ)
+        abbrev at7 : Typed.TF T20 O3
+        at7 = λ Ψ. Typed.both s17 (Typed.pass T21 T22 s18 (Typed.atNext O3 Ψ))
 
-        abbrev at8 : Typed.TF T17 O3
-        at8 = λ Ψ. Typed.pass T17 T18 s14 (at7 Ψ)
+        abbrev at8 : Typed.TF T19 O3
+        at8 = λ Ψ. Typed.both s16 (at7 Ψ)
 
-        abbrev at9 : Typed.TF T16 O3
-        at9 = λ Ψ. Typed.pass T16 T17 s13 (at8 Ψ)
+        abbrev at9 : Typed.TF T18 O3
+        at9 = λ Ψ. Typed.pass T18 T19 s15 (at8 Ψ)
 
-        abbrev at10 : Typed.TF T15 O3
-        at10 = λ Ψ. Typed.pass T15 T16 s12 (at9 Ψ)
+        abbrev at10 : Typed.TF T17 O3
+        at10 = λ Ψ. Typed.pass T17 T18 s14 (at9 Ψ)
 
-        abbrev at11 : Typed.TF T14 O3
-        at11 = λ Ψ. Typed.pass T14 T15 s11 (at10 Ψ)
+        abbrev at11 : Typed.TF T16 O3
+        at11 = λ Ψ. Typed.pass T16 T17 s13 (at10 Ψ)
 
-        abbrev at12 : Typed.TF T13 O3
-        at12 = λ Ψ. Typed.both s10 (at11 Ψ)
+        abbrev at12 : Typed.TF T15 O3
+        at12 = λ Ψ. Typed.pass T15 T16 s12 (at11 Ψ)
 
-        abbrev at13 : Typed.TF T12 O3
-        at13 = λ Ψ. Typed.ask s9 (at12 Ψ)
+        abbrev at13 : Typed.TF T14 O3
+        at13 = λ Ψ. Typed.both s11 (at12 Ψ)
 
-        abbrev at14 : Typed.TF T11 O3
-        at14 = λ Ψ. Typed.ask s8 (at13 Ψ)
+        abbrev at14 : Typed.TF T13 O3
+        at14 = λ Ψ. Typed.ask s10 (at13 Ψ)
 
-        abbrev at15 : Typed.TF T7 O3
-        at15 = λ Ψ. Typed.ask s7 (at14 Ψ)
+        abbrev at15 : Typed.TF T12 O3
+        at15 = λ Ψ. Typed.ask s9 (at14 Ψ)
 
-        abbrev at16 : Typed.TF T6 O3
-        at16 = λ Ψ. at5 (Typed.wantNext T7 O3 (at15 Ψ) Ψ)
+        abbrev at16 : Typed.TF T7 O3
+        at16 = λ Ψ. Typed.ask s8 (at15 Ψ)
 
-        abbrev at17 : Typed.TF T4 O3
-        at17 = λ Ψ. Typed.ask s3 (at16 Ψ)
+        abbrev at17 : Typed.TF T6 O3
+        at17 = λ Ψ. at6 (Typed.wantNext T7 O3 (at16 Ψ) Ψ)
 
-        abbrev at18 : Typed.TF T4 O2
-        at18 = Typed.LoopBy T4 O2 put0 (λ u vs. Inv·0 (Row.get 1 (T4 .locals) u .now) (Row.get 2 (T4 .locals) u) (Row.get 3 (T4 .locals) u) (Row.get 4 (T4
+        abbrev at18 : Typed.TF T4 O3
+        at18 = λ Ψ. Typed.ask s3 (at17 Ψ)
+
+        abbrev at19 : Typed.TF T4 O2
+        at19 = Typed.LoopBy T4 O2 put0 (λ u vs. Inv·0 (Row.get 1 (T4 .locals) u .now) (Row.get 2 (T4 .locals) u) (Row.get 3 (T4 .locals) u) (Row.get 4 (T4
             .locals) u) (Row.get 5 (T4 .locals) u) (vs .0) (vs .1) (vs .2)) (λ u vs. μ·0 (Row.get 1 (T4 .locals) u .now) (Row.get 2 (T4 .locals) u) (Row.get 3
-            (T4 .locals) u) (Row.get 4 (T4 .locals) u) (Row.get 5 (T4 .locals) u) (vs .0) (vs .1) (vs .2)) at17
+            (T4 .locals) u) (Row.get 4 (T4 .locals) u) (Row.get 5 (T4 .locals) u) (vs .0) (vs .1) (vs .2)) at18
 
-        abbrev at19 : Typed.TF T4 O1
-        at19 = λ Ψ. at18 (Typed.inBlock O1 Ψ)
+        abbrev at20 : Typed.TF T4 O1
+        at20 = λ Ψ. at19 (Typed.inBlock O1 Ψ)
 
-        abbrev at20 : Typed.TF T25 O0
-        at20 = Typed.atRet O0
+        abbrev at21 : Typed.TF T25 O0
+        at21 = Typed.atRet O0
 
-        abbrev at21 : Typed.TF T24 O0
-        at21 = λ Ψ. Typed.pass T24 T25 s21 (at20 Ψ)
+        abbrev at22 : Typed.TF T24 O0
+        at22 = λ Ψ. Typed.pass T24 T25 s21 (at21 Ψ)
 
-        abbrev at22 : Typed.TF T23 O0
-        at22 = λ Ψ. Typed.pass T23 T24 s20 (at21 Ψ)
-
-        abbrev at23 : Typed.TF T22 O0
-        at23 = λ Ψ. Typed.pass T22 T23 s19 (at22 Ψ)
+        abbrev at23 : Typed.TF T23 O0
+        at23 = λ Ψ. Typed.pass T23 T24 s20 (at22 Ψ)
 
         abbrev at24 : Typed.TF T5 O0
-        at24 = λ Ψ. Typed.pass T5 T22 s18 (at23 Ψ)
+        at24 = λ Ψ. Typed.pass T5 T23 s19 (at23 Ψ)
 
         abbrev at25 : Typed.TF T4 O0
-        at25 = λ Ψ. at19 (Typed.wantNext T5 O0 (at24 Ψ) Ψ)
+        at25 = λ Ψ. at20 (Typed.wantNext T5 O0 (at24 Ψ) Ψ)
 
         abbrev at26 : Typed.TF T3 O0
         at26 = λ Ψ. Typed.pass T3 T4 s2 (at25 Ψ)
@@ -936,13 +968,13 @@ module _ (claims· : Claims) where
           G9 = record { locals = t7; slots = Row.lease (κs .0) (qs .0) ∷ [] }
 
           abbrev G10 : Row.Cx
-          G10 = record { locals = t5; slots = Row.lease (κs .0) (qs .0) ∷ [] }
+          G10 = record { locals = t8; slots = Row.lease (κs .0) (qs .0) ∷ [] }
 
           abbrev G11 : Row.Cx
-          G11 = record { locals = t4; slots = Row.lease (κs .0) (qs .0) ∷ [] }
+          G11 = record { locals = t5; slots = Row.lease (κs .0) (qs .0) ∷ [] }
 
           abbrev G12 : Row.Cx
-          G12 = record { locals = t8; slots = Row.lease (κs .0) (qs .0) ∷ [] }
+          G12 = record { locals = t4; slots = Row.lease (κs .0) (qs .0) ∷ [] }
 
           abbrev G13 : Row.Cx
           G13 = record { locals = t9; slots = Row.lease (κs .0) (qs .0) ∷ [] }
@@ -963,16 +995,16 @@ module _ (claims· : Claims) where
           G18 = record { locals = t14; slots = Row.lease (κs .0) (qs .0) ∷ [] }
 
           abbrev G19 : Row.Cx
-          G19 = record { locals = t14; slots = Row.lease (κs .0) (qs .0) ∷ [] }
+          G19 = record { locals = t15; slots = Row.lease (κs .0) (qs .0) ∷ [] }
 
           abbrev G20 : Row.Cx
-          G20 = record { locals = t14; slots = Row.lease (κs .0) (qs .0) ∷ [] }
+          G20 = record { locals = t15; slots = Row.lease (κs .0) (qs .0) ∷ [] }
 
           abbrev G21 : Row.Cx
-          G21 = record { locals = t4; slots = Row.lease (κs .0) (qs .0) ∷ [] }
+          G21 = record { locals = t15; slots = Row.lease (κs .0) (qs .0) ∷ [] }
 
           abbrev G22 : Row.Cx
-          G22 = record { locals = t15; slots = Row.lease (κs .0) (qs .0) ∷ [] }
+          G22 = record { locals = t4; slots = Row.lease (κs .0) (qs .0) ∷ [] }
 
           abbrev G23 : Row.Cx
           G23 = record { locals = t16; slots = Row.lease (κs .0) (qs .0) ∷ [] }
@@ -1009,76 +1041,84 @@ module _ (claims· : Claims) where
             d1 : Typed.Typed 𝓤 H A 𝓣 E G6 b4 Δ4 at1
             d1 = Typed.g-pre 𝓤 H A W 𝓣 E G6 G8 b4 Δ4 (Typed.pass T6 T8 s4) at0 (Scalar.g-room 𝓤 H A W E G6 7 Syntax.tyBool (Scalar.room-sc 𝓤 H A W Row.sBool)) d0
 
-            d2 : Typed.Typed 𝓤 H A 𝓣 E G10 b5 Δ4 at2
+            d2 : Typed.Typed 𝓤 H A 𝓣 E G11 b5 Δ4 at2
             d2 = Typed.t-exit 𝓤 H A W 𝓣 E 1 Δ4 tt
 
-            d3 : Typed.Typed 𝓤 H A 𝓣 E G9 b5 Δ4 at3
-            d3 = Typed.g-pre 𝓤 H A W 𝓣 E G9 G10 b5 Δ4 (Typed.pass T9 T10 s6) at2 (Scalar.g-room 𝓤 H A W E G9 7 Syntax.tyBool (Scalar.room-sc 𝓤 H A W Row.sBool))
-                d2
+            d3 : Typed.Typed 𝓤 H A 𝓣 E G10 b5 Δ4 at3
+            d3 = Typed.g-pre 𝓤 H A W 𝓣 E G10 G11 b5 Δ4 (Typed.pass T10 T11 s7) at2 (Scalar.g-room 𝓤 H A W E G10 7 Syntax.tyBool (Scalar.room-sc 𝓤 H A W
+                Row.sBool)) d2
 
-            d4 : Typed.Typed 𝓤 H A 𝓣 E G6 b5 Δ4 at4
-            d4 = Typed.g-pre 𝓤 H A W 𝓣 E G6 G9 b5 Δ4 (Typed.pass T6 T9 s5) at3 (Scalar.g-room 𝓤 H A W E G6 4 (Syntax.tyStruct (102 ∷ 114 ∷ 97 ∷ 103 ∷ 109 ∷ 101 ∷
-                110 ∷ 116 ∷ 115 ∷ 58 ∷ 58 ∷ 84 ∷ 97 ∷ 105 ∷ 108 ∷ []) (Syntax.tcons Syntax.tyBool (Syntax.tcons Syntax.tyBool (Syntax.tcons (Syntax.tyStruct (114
-                ∷ 101 ∷ 115 ∷ 105 ∷ 100 ∷ 117 ∷ 101 ∷ 58 ∷ 58 ∷ 82 ∷ 101 ∷ 115 ∷ 105 ∷ 100 ∷ 117 ∷ 101 ∷ []) (Syntax.tcons (Syntax.tyStruct (110 ∷ 97 ∷ 109 ∷ 101
-                ∷ 115 ∷ 58 ∷ 58 ∷ 84 ∷ 104 ∷ 114 ∷ 101 ∷ 101 ∷ []) (Syntax.tcons (Syntax.tyInt Syntax.w8) (Syntax.tcons (Syntax.tyInt Syntax.w8) (Syntax.tcons
-                (Syntax.tyInt Syntax.w8) Syntax.tnil)))) (Syntax.tcons (Syntax.tyInt Syntax.w8) (Syntax.tcons (Syntax.tyStruct (102 ∷ 105 ∷ 101 ∷ 108 ∷ 100 ∷ 115
-                ∷ 58 ∷ 58 ∷ 82 ∷ 101 ∷ 115 ∷ 105 ∷ 100 ∷ 117 ∷ 101 ∷ 78 ∷ 117 ∷ 109 ∷ 98 ∷ 101 ∷ 114 ∷ []) (Syntax.tcons (Syntax.tyInt Syntax.w32) Syntax.tnil))
-                (Syntax.tcons (Syntax.tyInt Syntax.w8) Syntax.tnil))))) (Syntax.tcons (Syntax.tyInt Syntax.w8) (Syntax.tcons (Syntax.tyInt Syntax.w64)
-                (Syntax.tcons Syntax.tyBool Syntax.tnil))))))) (Local.room-whole 𝓤 H A W (Declared.row Tail.the-type) (Syntax.tyStruct (102 ∷ 114 ∷ 97 ∷ 103 ∷
-                109 ∷ 101 ∷ 110 ∷ 116 ∷ 115 ∷ 58 ∷ 58 ∷ 84 ∷ 97 ∷ 105 ∷ 108 ∷ []) (Syntax.tcons Syntax.tyBool (Syntax.tcons Syntax.tyBool (Syntax.tcons
-                (Syntax.tyStruct (114 ∷ 101 ∷ 115 ∷ 105 ∷ 100 ∷ 117 ∷ 101 ∷ 58 ∷ 58 ∷ 82 ∷ 101 ∷ 115 ∷ 105 ∷ 100 ∷ 117 ∷ 101 ∷ []) (Syntax.tcons (Syntax.tyStruct
-                (110 ∷ 97 ∷ 109 ∷ 101 ∷ 115 ∷ 58 ∷ 58 ∷ 84 ∷ 104 ∷ 114 ∷ 101 ∷ 101 ∷ []) (Syntax.tcons (Syntax.tyInt Syntax.w8) (Syntax.tcons (Syntax.tyInt
-                Syntax.w8) (Syntax.tcons (Syntax.tyInt Syntax.w8) Syntax.tnil)))) (Syntax.tcons (Syntax.tyInt Syntax.w8) (Syntax.tcons (Syntax.tyStruct (102 ∷
-                105 ∷ 101 ∷ 108 ∷ 100 ∷ 115 ∷ 58 ∷ 58 ∷ 82 ∷ 101 ∷ 115 ∷ 105 ∷ 100 ∷ 117 ∷ 101 ∷ 78 ∷ 117 ∷ 109 ∷ 98 ∷ 101 ∷ 114 ∷ []) (Syntax.tcons
-                (Syntax.tyInt Syntax.w32) Syntax.tnil)) (Syntax.tcons (Syntax.tyInt Syntax.w8) Syntax.tnil))))) (Syntax.tcons (Syntax.tyInt Syntax.w8)
-                (Syntax.tcons (Syntax.tyInt Syntax.w64) (Syntax.tcons Syntax.tyBool Syntax.tnil))))))) Path'.refl)) d3
+            d4 : Typed.Typed 𝓤 H A 𝓣 E G9 b5 Δ4 at4
+            d4 = Typed.g-pre 𝓤 H A W 𝓣 E G9 G10 b5 Δ4 (Typed.pass T9 T10 s6) at3 (Scalar.g-room 𝓤 H A W E G9 4 (Syntax.tyStruct (102 ∷ 114 ∷ 97 ∷ 103 ∷ 109 ∷ 101
+                ∷ 110 ∷ 116 ∷ 115 ∷ 58 ∷ 58 ∷ 84 ∷ 97 ∷ 105 ∷ 108 ∷ []) (Syntax.tcons Syntax.tyBool (Syntax.tcons Syntax.tyBool (Syntax.tcons (Syntax.tyStruct
+                (114 ∷ 101 ∷ 115 ∷ 105 ∷ 100 ∷ 117 ∷ 101 ∷ 58 ∷ 58 ∷ 82 ∷ 101 ∷ 115 ∷ 105 ∷ 100 ∷ 117 ∷ 101 ∷ []) (Syntax.tcons (Syntax.tyStruct (110 ∷ 97 ∷ 109
+                ∷ 101 ∷ 115 ∷ 58 ∷ 58 ∷ 84 ∷ 104 ∷ 114 ∷ 101 ∷ 101 ∷ []) (Syntax.tcons (Syntax.tyInt Syntax.w8) (Syntax.tcons (Syntax.tyInt Syntax.w8)
+                (Syntax.tcons (Syntax.tyInt Syntax.w8) Syntax.tnil)))) (Syntax.tcons (Syntax.tyInt Syntax.w8) (Syntax.tcons (Syntax.tyStruct (102 ∷ 105 ∷ 101 ∷
+                108 ∷ 100 ∷ 115 ∷ 58 ∷ 58 ∷ 82 ∷ 101 ∷ 115 ∷ 105 ∷ 100 ∷ 117 ∷ 101 ∷ 78 ∷ 117 ∷ 109 ∷ 98 ∷ 101 ∷ 114 ∷ []) (Syntax.tcons (Syntax.tyInt
+                Syntax.w32) Syntax.tnil)) (Syntax.tcons (Syntax.tyInt Syntax.w8) Syntax.tnil))))) (Syntax.tcons (Syntax.tyInt Syntax.w8) (Syntax.tcons
+                (Syntax.tyInt Syntax.w64) (Syntax.tcons Syntax.tyBool Syntax.tnil))))))) (Local.room-whole 𝓤 H A W (Declared.row Tail.the-type) (Syntax.tyStruct
+                (102 ∷ 114 ∷ 97 ∷ 103 ∷ 109 ∷ 101 ∷ 110 ∷ 116 ∷ 115 ∷ 58 ∷ 58 ∷ 84 ∷ 97 ∷ 105 ∷ 108 ∷ []) (Syntax.tcons Syntax.tyBool (Syntax.tcons Syntax.tyBool
+                (Syntax.tcons (Syntax.tyStruct (114 ∷ 101 ∷ 115 ∷ 105 ∷ 100 ∷ 117 ∷ 101 ∷ 58 ∷ 58 ∷ 82 ∷ 101 ∷ 115 ∷ 105 ∷ 100 ∷ 117 ∷ 101 ∷ []) (Syntax.tcons
+                (Syntax.tyStruct (110 ∷ 97 ∷ 109 ∷ 101 ∷ 115 ∷ 58 ∷ 58 ∷ 84 ∷ 104 ∷ 114 ∷ 101 ∷ 101 ∷ []) (Syntax.tcons (Syntax.tyInt Syntax.w8) (Syntax.tcons
+                (Syntax.tyInt Syntax.w8) (Syntax.tcons (Syntax.tyInt Syntax.w8) Syntax.tnil)))) (Syntax.tcons (Syntax.tyInt Syntax.w8) (Syntax.tcons
+                (Syntax.tyStruct (102 ∷ 105 ∷ 101 ∷ 108 ∷ 100 ∷ 115 ∷ 58 ∷ 58 ∷ 82 ∷ 101 ∷ 115 ∷ 105 ∷ 100 ∷ 117 ∷ 101 ∷ 78 ∷ 117 ∷ 109 ∷ 98 ∷ 101 ∷ 114 ∷ [])
+                (Syntax.tcons (Syntax.tyInt Syntax.w32) Syntax.tnil)) (Syntax.tcons (Syntax.tyInt Syntax.w8) Syntax.tnil))))) (Syntax.tcons (Syntax.tyInt
+                Syntax.w8) (Syntax.tcons (Syntax.tyInt Syntax.w64) (Syntax.tcons Syntax.tyBool Syntax.tnil))))))) Path'.refl)) d3
 
-            d5 : Typed.Typed 𝓤 H A 𝓣 E G6 b6 Δ4 at5
-            d5 = Scalar.t-cond 𝓤 H A W E 𝓣 G6 7 (λ x. x) b4 b5 Δ4 at1 at4 (Scalar.reads-sc 𝓤 H A W Row.sBool) Path'.refl d1 d4
+            d5 : Typed.Typed 𝓤 H A 𝓣 E G6 b5 Δ4 at5
+            d5 = Typed.g-pre 𝓤 H A W 𝓣 E G6 G9 b5 Δ4 (Typed.pass T6 T9 s5) at4 (Scalar.g-room 𝓤 H A W E G6 2 (Syntax.tyStruct (102 ∷ 114 ∷ 97 ∷ 103 ∷ 109 ∷ 101 ∷
+                110 ∷ 116 ∷ 115 ∷ 58 ∷ 58 ∷ 70 ∷ 114 ∷ 111 ∷ 109 ∷ 76 ∷ 97 ∷ 115 ∷ 116 ∷ []) (Syntax.tcons (Syntax.tyInt Syntax.w64) Syntax.tnil))
+                (Local.room-whole 𝓤 H A W (Declared.row FromLast.the-type) (Syntax.tyStruct (102 ∷ 114 ∷ 97 ∷ 103 ∷ 109 ∷ 101 ∷ 110 ∷ 116 ∷ 115 ∷ 58 ∷ 58 ∷ 70 ∷
+                114 ∷ 111 ∷ 109 ∷ 76 ∷ 97 ∷ 115 ∷ 116 ∷ []) (Syntax.tcons (Syntax.tyInt Syntax.w64) Syntax.tnil)) Path'.refl)) d4
 
-            d6 : Typed.Typed 𝓤 H A 𝓣 E G19 b13 Δ3 at6
-            d6 = Typed.s-typed 𝓤 H A W 𝓣 E G19 b13 Δ3 (λ Ψ. Typed.both s16 (Typed.pass T20 T21 s17 Ψ)) tt (Typed.g-post 𝓤 H A W 𝓣 E G19 G20 G21 b13 (Typed.both
-                s16) (Typed.pass T20 T21 s17) (Plain.t-call-plain 𝓤 H A W 𝓣 0 ps·2 r·2 (claims· .4) (claims· .5) "fragments::pick_mark" (known .2) E (λ pos β. β)
-                G19 (
+            d6 : Typed.Typed 𝓤 H A 𝓣 E G6 b6 Δ4 at6
+            d6 = Scalar.t-cond 𝓤 H A W E 𝓣 G6 7 (λ x. x) b4 b5 Δ4 at1 at5 (Scalar.reads-sc 𝓤 H A W Row.sBool) Path'.refl d1 d5
+
+            d7 : Typed.Typed 𝓤 H A 𝓣 E G20 b13 Δ3 at7
+            d7 = Typed.s-typed 𝓤 H A W 𝓣 E G20 b13 Δ3 (λ Ψ. Typed.both s17 (Typed.pass T21 T22 s18 Ψ)) tt (Typed.g-post 𝓤 H A W 𝓣 E G20 G21 G22 b13 (Typed.both
+                s17) (Typed.pass T21 T22 s18) (Plain.t-call-plain 𝓤 H A W 𝓣 0 ps·2 r·2 (claims· .4) (claims· .5) "fragments::pick_mark" (known .2) E (λ pos β. β)
+                G20 (
                   record { pos = 4; st = []; d = 0; at = λ x. x },
                   (
                     record { pos = 6; st = []; d = 0; at = λ x. x },
                     (
-                      Num.vAt 2 λ x. x,
-                      (
-                        Num.vAt 5 λ
-                            x. x,
-                        tt,
-                      ),
+                      record {
+                        pos = 2;
+                        st =
+                            [];
+                        d = 0;
+                        at = λ x. x;
+                      },
+                      (Num.vAt 5 λ x. x, tt),
                     ),
                   ),
-                ) 5 [] (Call.sub-id 𝓤 H A W (G19 .slots)) (
+                ) 5 [] (Call.sub-id 𝓤 H A W (G20 .slots)) (
                   (
-                    Yields.yields-copy 𝓤 H A W (λ ρ. Unit) (Declared.row Tail.the-type) Path'.refl
-                        (Copies.cStruct Tail.the-type Laws.the-laws Laws.the-copy .copy 𝓤 H A W) (Rows'.whole (Declared.row Tail.the-type)) (λ x. x) (λ x. x) (λ ρ told.
-                        Local.mem-whole 𝓤 H A W (Declared.row Tail.the-type) ρ) λ ρ told. Local.whole-mem 𝓤 H A W (Declared.row Tail.the-type) ρ,
+                    Yields.yields-copy 𝓤 H A W (λ ρ. Unit)
+                        (Declared.row Tail.the-type) Path'.refl (Copies.cStruct Tail.the-type Laws'.the-laws Laws'.the-copy .copy 𝓤 H A W) (Rows'.whole (Declared.row
+                        Tail.the-type)) (λ x. x) (λ x. x) (λ ρ told. Local.mem-whole 𝓤 H A W (Declared.row Tail.the-type) ρ) λ ρ told. Local.whole-mem 𝓤 H A W
+                        (Declared.row Tail.the-type) ρ,
                     Path'.refl,
                   ),
                   (
                     (SlotAs.yields 𝓤 H A W, Path'.refl),
                     (
-                      (Scalar.reads-sc 𝓤 H A W (Row.sInt Syntax.w64), Path'.refl),
                       (
-                        (
-                          Scalar.reads-sc 𝓤 H A W (Row.sInt
-                              Syntax.w8),
-                          Path'.refl,
-                        ),
-                        tt,
+                        Yields.yields-copy 𝓤 H A W (λ ρ. Unit) (Declared.row
+                            FromLast.the-type) Path'.refl (Copies.cStruct FromLast.the-type Laws.the-laws Laws.the-copy .copy 𝓤 H A W) (Rows'.whole (Declared.row
+                            FromLast.the-type)) (λ x. x) (λ x. x) (λ ρ told. Local.mem-whole 𝓤 H A W (Declared.row FromLast.the-type) ρ) λ ρ told. Local.whole-mem 𝓤 H A W
+                            (Declared.row FromLast.the-type) ρ,
+                        Path'.refl,
                       ),
+                      ((Scalar.reads-sc 𝓤 H A W (Row.sInt Syntax.w8), Path'.refl), tt),
                     ),
                   ),
-                ) (Scalar.room-sc 𝓤 H A W (Row.sInt Syntax.w8)) tt Path'.refl) (Scalar.g-room 𝓤 H A W E G20 6 SlotAs.ty
-                (SlotAs.room 𝓤 H A W)))
+                ) (Scalar.room-sc 𝓤 H A W
+                (Row.sInt Syntax.w8)) tt Path'.refl) (Scalar.g-room 𝓤 H A W E G21 6 SlotAs.ty (SlotAs.room 𝓤 H A W)))
 
-            d7 : Typed.Typed 𝓤 H A 𝓣 E G18 b14 Δ3 at7
-            d7 = Typed.s-seq 𝓤 H A W 𝓣 E G18 G19 b12 b13 Δ3 (Typed.both s15) at6 (Plain.t-call-plain 𝓤 H A W 𝓣 0 ps·1 r·1 (claims· .2) (claims· .3)
-                "fragments::step_tail" (known .1) E (λ pos β. β) G18 (
+            d8 : Typed.Typed 𝓤 H A 𝓣 E G19 b14 Δ3 at8
+            d8 = Typed.s-seq 𝓤 H A W 𝓣 E G19 G20 b12 b13 Δ3 (Typed.both s16) at7 (Plain.t-call-plain 𝓤 H A W 𝓣 0 ps·1 r·1 (claims· .2) (claims· .3)
+                "fragments::step_tail" (known .1) E (λ pos β. β) G19 (
                   record { pos = 6; st = []; d = 0; at = λ x. x },
                   (
                     record {
@@ -1090,116 +1130,112 @@ module _ (claims· : Claims) where
                     },
                     tt,
                   ),
-                ) 4 [] (Call.sub-id 𝓤 H A W (G18 .slots)) (
+                ) 4 [] (Call.sub-id 𝓤 H A W (G19 .slots)) (
                   (SlotAs.yields 𝓤 H A W, Path'.refl),
                   (
                     (
                       Yields.yields-copy 𝓤 H A W (λ ρ.
-                          Unit) (Declared.row Tail.the-type) Path'.refl (Copies.cStruct Tail.the-type Laws.the-laws Laws.the-copy .copy 𝓤 H A W) (Rows'.whole (Declared.row
-                          Tail.the-type)) (λ x. x) (λ x. x) (λ ρ told. Local.mem-whole 𝓤 H A W (Declared.row Tail.the-type) ρ) λ ρ told. Local.whole-mem 𝓤 H A W
-                          (Declared.row Tail.the-type) ρ,
+                          Unit) (Declared.row Tail.the-type) Path'.refl (Copies.cStruct Tail.the-type Laws'.the-laws Laws'.the-copy .copy 𝓤 H A W) (Rows'.whole
+                          (Declared.row Tail.the-type)) (λ x. x) (λ x. x) (λ ρ told. Local.mem-whole 𝓤 H A W (Declared.row Tail.the-type) ρ) λ ρ told. Local.whole-mem 𝓤 H
+                          A W (Declared.row Tail.the-type) ρ,
                       Path'.refl,
                     ),
                     tt,
                   ),
-                ) (Local.room-whole 𝓤 H A W (Declared.row Tail.the-type) (Syntax.tyStruct (102 ∷ 114 ∷ 97 ∷ 103 ∷
-                109 ∷ 101 ∷ 110 ∷ 116 ∷ 115 ∷ 58 ∷ 58 ∷ 84 ∷ 97 ∷ 105 ∷ 108 ∷ []) (Syntax.tcons Syntax.tyBool (Syntax.tcons Syntax.tyBool (Syntax.tcons
+                ) (Local.room-whole 𝓤 H A W (Declared.row Tail.the-type) (Syntax.tyStruct (102 ∷ 114 ∷ 97 ∷
+                103 ∷ 109 ∷ 101 ∷ 110 ∷ 116 ∷ 115 ∷ 58 ∷ 58 ∷ 84 ∷ 97 ∷ 105 ∷ 108 ∷ []) (Syntax.tcons Syntax.tyBool (Syntax.tcons Syntax.tyBool (Syntax.tcons
                 (Syntax.tyStruct (114 ∷ 101 ∷ 115 ∷ 105 ∷ 100 ∷ 117 ∷ 101 ∷ 58 ∷ 58 ∷ 82 ∷ 101 ∷ 115 ∷ 105 ∷ 100 ∷ 117 ∷ 101 ∷ []) (Syntax.tcons (Syntax.tyStruct
                 (110 ∷ 97 ∷ 109 ∷ 101 ∷ 115 ∷ 58 ∷ 58 ∷ 84 ∷ 104 ∷ 114 ∷ 101 ∷ 101 ∷ []) (Syntax.tcons (Syntax.tyInt Syntax.w8) (Syntax.tcons (Syntax.tyInt
                 Syntax.w8) (Syntax.tcons (Syntax.tyInt Syntax.w8) Syntax.tnil)))) (Syntax.tcons (Syntax.tyInt Syntax.w8) (Syntax.tcons (Syntax.tyStruct (102 ∷
                 105 ∷ 101 ∷ 108 ∷ 100 ∷ 115 ∷ 58 ∷ 58 ∷ 82 ∷ 101 ∷ 115 ∷ 105 ∷ 100 ∷ 117 ∷ 101 ∷ 78 ∷ 117 ∷ 109 ∷ 98 ∷ 101 ∷ 114 ∷ []) (Syntax.tcons
                 (Syntax.tyInt Syntax.w32) Syntax.tnil)) (Syntax.tcons (Syntax.tyInt Syntax.w8) Syntax.tnil))))) (Syntax.tcons (Syntax.tyInt Syntax.w8)
-                (Syntax.tcons (Syntax.tyInt Syntax.w64) (Syntax.tcons Syntax.tyBool Syntax.tnil))))))) Path'.refl) tt Path'.refl) d6
+                (Syntax.tcons (Syntax.tyInt Syntax.w64) (Syntax.tcons Syntax.tyBool Syntax.tnil))))))) Path'.refl) tt Path'.refl) d7
 
-            d8 : Typed.Typed 𝓤 H A 𝓣 E G17 b14 Δ3 at8
-            d8 = Typed.g-pre 𝓤 H A W 𝓣 E G17 G18 b14 Δ3 (Typed.pass T17 T18 s14) at7 (Scalar.g-room 𝓤 H A W E G17 10 SlotAs.ty (SlotAs.room 𝓤 H A W)) d7
+            d9 : Typed.Typed 𝓤 H A 𝓣 E G18 b14 Δ3 at9
+            d9 = Typed.g-pre 𝓤 H A W 𝓣 E G18 G19 b14 Δ3 (Typed.pass T18 T19 s15) at8 (Scalar.g-room 𝓤 H A W E G18 10 SlotAs.ty (SlotAs.room 𝓤 H A W)) d8
 
-            d9 : Typed.Typed 𝓤 H A 𝓣 E G16 b15 Δ3 at9
-            d9 = Typed.s-seq 𝓤 H A W 𝓣 E G16 G17 b11 b14 Δ3 (Typed.pass T16 T17 s13) at8 (LocalCopy.t-val-copy 𝓤 H A W E 𝓣 (λ ρ. Unit) G16 10 6 SlotAs.row
-                SlotAs.ty SlotAs.ty SlotAs.whole SlotAs.whole (λ x. x) (λ x. x) (λ x. x) Path'.refl (Own.told-none 𝓤 H A (G16 .slots)) (Yields.yields-copy 𝓤 H A
+            d10 : Typed.Typed 𝓤 H A 𝓣 E G17 b15 Δ3 at10
+            d10 = Typed.s-seq 𝓤 H A W 𝓣 E G17 G18 b11 b14 Δ3 (Typed.pass T17 T18 s14) at9 (LocalCopy.t-val-copy 𝓤 H A W E 𝓣 (λ ρ. Unit) G17 10 6 SlotAs.row
+                SlotAs.ty SlotAs.ty SlotAs.whole SlotAs.whole (λ x. x) (λ x. x) (λ x. x) Path'.refl (Own.told-none 𝓤 H A (G17 .slots)) (Yields.yields-copy 𝓤 H A
                 W (λ ρ. Unit) SlotAs.row Path'.refl (SlotAs.copies .copy 𝓤 H A W) SlotAs.whole (λ x. x) (λ x. x) (λ ρ told. SlotAs.mem 𝓤 H A W ρ) λ ρ told.
                 SlotAs.of-mem 𝓤 H A W ρ) (Reads.room-gone 𝓤 H A SlotAs.ty) (Yields.makes-mem 𝓤 H A W (λ ρ. Unit) SlotAs.row Path'.refl SlotAs.whole (λ x. x) λ ρ
-                told. SlotAs.of-mem 𝓤 H A W ρ) Path'.refl Path'.refl) d8
+                told. SlotAs.of-mem 𝓤 H A W ρ) Path'.refl Path'.refl) d9
 
-            d10 : Typed.Typed 𝓤 H A 𝓣 E G15 b15 Δ3 at10
-            d10 = Typed.g-pre 𝓤 H A W 𝓣 E G15 G16 b15 Δ3 (Typed.pass T15 T16 s12) at9 (Scalar.g-room 𝓤 H A W E G15 9 Syntax.tyPtr (Scalar.room-sc 𝓤 H A W
-                Row.sPtr)) d9
+            d11 : Typed.Typed 𝓤 H A 𝓣 E G16 b15 Δ3 at11
+            d11 = Typed.g-pre 𝓤 H A W 𝓣 E G16 G17 b15 Δ3 (Typed.pass T16 T17 s13) at10 (Scalar.g-room 𝓤 H A W E G16 9 Syntax.tyPtr (Scalar.room-sc 𝓤 H A W
+                Row.sPtr)) d10
 
-            d11 : Typed.Typed 𝓤 H A 𝓣 E G14 b15 Δ3 at11
-            d11 = Typed.g-pre 𝓤 H A W 𝓣 E G14 G15 b15 Δ3 (Typed.pass T14 T15 s11) at10 (Scalar.g-room 𝓤 H A W E G14 8 (Syntax.tyInt Syntax.w64) (Scalar.room-sc 𝓤
-                H A W (Row.sInt Syntax.w64))) d10
+            d12 : Typed.Typed 𝓤 H A 𝓣 E G15 b15 Δ3 at12
+            d12 = Typed.g-pre 𝓤 H A W 𝓣 E G15 G16 b15 Δ3 (Typed.pass T15 T16 s12) at11 (Scalar.g-room 𝓤 H A W E G15 8 (Syntax.tyInt Syntax.w64) (Scalar.room-sc 𝓤
+                H A W (Row.sInt Syntax.w64))) d11
 
-            d12 : Typed.Typed 𝓤 H A 𝓣 E G13 b16 Δ3 at12
-            d12 = Typed.s-seq 𝓤 H A W 𝓣 E G13 G14 b10 b15 Δ3 (Typed.both s10) at11 (Move.t-shs-copy-out 𝓤 H A W E SlotAs.row 𝓣 Path'.refl (SlotAs.copies .copy 𝓤
-                H A W) (Copies.halved 𝓤 H A W SlotAs.copies) (λ ρ. Unit) G13 1 9 10 0 (Syntax.tyRef (Syntax.named 0) Syntax.imm SlotAs.pointee) (Row.lease (κs
+            d13 : Typed.Typed 𝓤 H A 𝓣 E G14 b16 Δ3 at13
+            d13 = Typed.s-seq 𝓤 H A W 𝓣 E G14 G15 b10 b15 Δ3 (Typed.both s11) at12 (Move.t-shs-copy-out 𝓤 H A W E SlotAs.row 𝓣 Path'.refl (SlotAs.copies .copy 𝓤
+                H A W) (Copies.halved 𝓤 H A W SlotAs.copies) (λ ρ. Unit) G14 1 9 10 0 (Syntax.tyRef (Syntax.named 0) Syntax.imm SlotAs.pointee) (Row.lease (κs
                 .0) (qs .0)) SlotAs.ty SlotAs.ty SlotAs.whole (Shared.bySize 44) (λ u. u .1 .1 .1 .0) (λ x. x) SlotAs.none (λ x. Unit) (λ x. x) (λ x. x) (λ i o.
-                Elements.at-mul o 44 i) Path'.refl Path'.refl (Own.told-none 𝓤 H A (G13 .slots)) (DerefMove.learns-nothing 𝓤 H A SlotAs.row) (Reads.as-is 𝓤 H A
+                Elements.at-mul o 44 i) Path'.refl Path'.refl (Own.told-none 𝓤 H A (G14 .slots)) (DerefMove.learns-nothing 𝓤 H A SlotAs.row) (Reads.as-is 𝓤 H A
                 (Rows'.sslice SlotAs.row (Syntax.tyRef (Syntax.named 0) Syntax.imm SlotAs.pointee) 0)) (Reads.as-is 𝓤 H A (Rows'.sc-here Row.sPtr))
                 (Reads.room-gone 𝓤 H A SlotAs.ty) (Yields.makes-mem 𝓤 H A W (λ ρ. Unit) SlotAs.row Path'.refl SlotAs.whole (λ x. x) λ ρ told. SlotAs.of-mem 𝓤 H A
-                W ρ) Path'.refl tt Path'.refl Path'.refl) d11
+                W ρ) Path'.refl tt Path'.refl Path'.refl) d12
 
-            d13 : Typed.Typed 𝓤 H A 𝓣 E G12 b17 Δ3 at13
-            d13 = Typed.s-seq 𝓤 H A W 𝓣 E G12 G13 b9 b16 Δ3 (Typed.ask s9) at12 (Scalar.t-op2 𝓤 H A W E 𝓣 G12 Syntax.offset (Scalar.oFld 1 (Syntax.field 0 ∷ [])
+            d14 : Typed.Typed 𝓤 H A 𝓣 E G13 b17 Δ3 at14
+            d14 = Typed.s-seq 𝓤 H A W 𝓣 E G13 G14 b9 b16 Δ3 (Typed.ask s10) at13 (Scalar.t-op2 𝓤 H A W E 𝓣 G13 Syntax.offset (Scalar.oFld 1 (Syntax.field 0 ∷ [])
                 (Syntax.tyRef (Syntax.named 0) Syntax.imm SlotAs.pointee) 0 Reads.ptrVal) (Scalar.oAt 8 (Syntax.tyInt Syntax.w64) (Row.valS (Row.sInt
                 Syntax.w64))) 9 (Rows'.sc-here Row.sPtr) Syntax.tyPtr (Row.valS Row.sPtr) (Row.sPtr .of) (
                   Shared.reads-sslice-ptr 𝓤 H A W SlotAs.row
                       (Syntax.tyRef (Syntax.named 0) Syntax.imm SlotAs.pointee) 0 0 Path'.refl,
                   Path'.refl,
                 ) (Scalar.reads-sc 𝓤 H A W (Row.sInt Syntax.w64), Path'.refl)
-                (Reads.room-gone 𝓤 H A Syntax.tyPtr) (Scalar.holds-sc 𝓤 H A W Row.sPtr) Path'.refl (λ u. Path'.refl) λ u. tt) d12
+                (Reads.room-gone 𝓤 H A Syntax.tyPtr) (Scalar.holds-sc 𝓤 H A W Row.sPtr) Path'.refl (λ u. Path'.refl) λ u. tt) d13
 
-            d14 : Typed.Typed 𝓤 H A 𝓣 E G11 b18 Δ3 at14
-            d14 = Typed.s-seq 𝓤 H A W 𝓣 E G11 G12 b8 b17 Δ3 (Typed.ask s8) at13 (Scalar.t-op2 𝓤 H A W E 𝓣 G11 (Syntax.mul Syntax.unsigned) (Scalar.oAt 3
+            d15 : Typed.Typed 𝓤 H A 𝓣 E G12 b18 Δ3 at15
+            d15 = Typed.s-seq 𝓤 H A W 𝓣 E G12 G13 b8 b17 Δ3 (Typed.ask s9) at14 (Scalar.t-op2 𝓤 H A W E 𝓣 G12 (Syntax.mul Syntax.unsigned) (Scalar.oAt 3
                 (Syntax.tyInt Syntax.w64) (Row.valS (Row.sInt Syntax.w64))) (Scalar.oInt Syntax.w64 44) 8 (Rows'.sc-here (Row.sInt Syntax.w64)) (Syntax.tyInt
                 Syntax.w64) (Row.valS (Row.sInt Syntax.w64)) (Row.sInt Syntax.w64 .of) (Scalar.reads-sc 𝓤 H A W (Row.sInt Syntax.w64), Path'.refl) tt
-                (Reads.room-gone 𝓤 H A (Syntax.tyInt Syntax.w64)) (Scalar.holds-sc 𝓤 H A W (Row.sInt Syntax.w64)) Path'.refl (λ u. Path'.refl) λ u. tt) d13
+                (Reads.room-gone 𝓤 H A (Syntax.tyInt Syntax.w64)) (Scalar.holds-sc 𝓤 H A W (Row.sInt Syntax.w64)) Path'.refl (λ u. Path'.refl) λ u. tt) d14
 
-            d15 : Typed.Typed 𝓤 H A 𝓣 E G7 b19 Δ3 at15
-            d15 = Typed.s-seq 𝓤 H A W 𝓣 E G7 G11 b7 b18 Δ3 (Typed.ask s7) at14 (Scalar.t-op2 𝓤 H A W E 𝓣 G7 (Syntax.sub Syntax.unsigned) (Scalar.oAt 3
+            d16 : Typed.Typed 𝓤 H A 𝓣 E G7 b19 Δ3 at16
+            d16 = Typed.s-seq 𝓤 H A W 𝓣 E G7 G12 b7 b18 Δ3 (Typed.ask s8) at15 (Scalar.t-op2 𝓤 H A W E 𝓣 G7 (Syntax.sub Syntax.unsigned) (Scalar.oAt 3
                 (Syntax.tyInt Syntax.w64) (Row.valS (Row.sInt Syntax.w64))) (Scalar.oInt Syntax.w64 1) 3 (Rows'.sc-here (Row.sInt Syntax.w64)) (Syntax.tyInt
                 Syntax.w64) (Row.valS (Row.sInt Syntax.w64)) (Row.sInt Syntax.w64 .of) (Scalar.reads-sc 𝓤 H A W (Row.sInt Syntax.w64), Path'.refl) tt
-                (Scalar.room-sc 𝓤 H A W (Row.sInt Syntax.w64)) (Scalar.holds-sc 𝓤 H A W (Row.sInt Syntax.w64)) Path'.refl (λ u. Path'.refl) λ u. tt) d14
+                (Scalar.room-sc 𝓤 H A W (Row.sInt Syntax.w64)) (Scalar.holds-sc 𝓤 H A W (Row.sInt Syntax.w64)) Path'.refl (λ u. Path'.refl) λ u. tt) d15
 
-            d16 : Typed.Typed 𝓤 H A 𝓣 E G6 b20 Δ3 at16
-            d16 = Typed.t-seq 𝓤 H A W 𝓣 E G6 G7 b6 b19 Δ3 at5 at15 d5 d15
+            d17 : Typed.Typed 𝓤 H A 𝓣 E G6 b20 Δ3 at17
+            d17 = Typed.t-seq 𝓤 H A W 𝓣 E G6 G7 b6 b19 Δ3 at6 at16 d6 d16
 
-            d17 : Typed.Typed 𝓤 H A 𝓣 E G4 b21 Δ3 at17
-            d17 = Typed.s-seq 𝓤 H A W 𝓣 E G4 G6 b3 b20 Δ3 (Typed.ask s3) at16 (Scalar.t-op2 𝓤 H A W E 𝓣 G4 (Syntax.lt Syntax.unsigned) (Scalar.oInt Syntax.w64 0)
+            d18 : Typed.Typed 𝓤 H A 𝓣 E G4 b21 Δ3 at18
+            d18 = Typed.s-seq 𝓤 H A W 𝓣 E G4 G6 b3 b20 Δ3 (Typed.ask s3) at17 (Scalar.t-op2 𝓤 H A W E 𝓣 G4 (Syntax.lt Syntax.unsigned) (Scalar.oInt Syntax.w64 0)
                 (Scalar.oAt 3 (Syntax.tyInt Syntax.w64) (Row.valS (Row.sInt Syntax.w64))) 7 (Rows'.sc-here Row.sBool) Syntax.tyBool (Row.valS Row.sBool)
                 (Row.sBool .of) tt (Scalar.reads-sc 𝓤 H A W (Row.sInt Syntax.w64), Path'.refl) (Reads.room-gone 𝓤 H A Syntax.tyBool) (Scalar.holds-sc 𝓤 H A W
-                Row.sBool) Path'.refl (λ u. Path'.refl) λ u. tt) d16
+                Row.sBool) Path'.refl (λ u. Path'.refl) λ u. tt) d17
 
-            d18 : Typed.Typed 𝓤 H A 𝓣 E G4 b22 Δ2 at18
-            d18 = Typed.t-loop-by 𝓤 H A W 𝓣 E G4 b21 Δ2 put0 (λ u vs. Inv·0 (Row.get 1 (T4 .locals) u .now) (Row.get 2 (T4 .locals) u) (Row.get 3 (T4 .locals) u)
+            d19 : Typed.Typed 𝓤 H A 𝓣 E G4 b22 Δ2 at19
+            d19 = Typed.t-loop-by 𝓤 H A W 𝓣 E G4 b21 Δ2 put0 (λ u vs. Inv·0 (Row.get 1 (T4 .locals) u .now) (Row.get 2 (T4 .locals) u) (Row.get 3 (T4 .locals) u)
                 (Row.get 4 (T4 .locals) u) (Row.get 5 (T4 .locals) u) (vs .0) (vs .1) (vs .2)) (λ u vs. μ·0 (Row.get 1 (T4 .locals) u .now) (Row.get 2 (T4
-                .locals) u) (Row.get 3 (T4 .locals) u) (Row.get 4 (T4 .locals) u) (Row.get 5 (T4 .locals) u) (vs .0) (vs .1) (vs .2)) at17 d17
+                .locals) u) (Row.get 3 (T4 .locals) u) (Row.get 4 (T4 .locals) u) (Row.get 5 (T4 .locals) u) (vs .0) (vs .1) (vs .2)) at18 d18
 
-            d19 : Typed.Typed 𝓤 H A 𝓣 E G4 b23 Δ1 at19
-            d19 = Typed.t-block 𝓤 H A W 𝓣 E G4 b22 Δ1 at18 d18
+            d20 : Typed.Typed 𝓤 H A 𝓣 E G4 b23 Δ1 at20
+            d20 = Typed.t-block 𝓤 H A W 𝓣 E G4 b22 Δ1 at19 d19
 
-            d20 : Typed.Typed 𝓤 H A 𝓣 E G25 b25 Δ0 at20
-            d20 = Typed.t-return 𝓤 H A W 𝓣 E Δ0 tt
+            d21 : Typed.Typed 𝓤 H A 𝓣 E G25 b25 Δ0 at21
+            d21 = Typed.t-return 𝓤 H A W 𝓣 E Δ0 tt
 
-            d21 : Typed.Typed 𝓤 H A 𝓣 E G24 b25 Δ0 at21
-            d21 = Typed.g-pre 𝓤 H A W 𝓣 E G24 G25 b25 Δ0 (Typed.pass T24 T25 s21) at20 (Scalar.g-room 𝓤 H A W E G24 2 (Syntax.tyInt Syntax.w64) (Scalar.room-sc 𝓤
-                H A W (Row.sInt Syntax.w64))) d20
-
-            d22 : Typed.Typed 𝓤 H A 𝓣 E G23 b25 Δ0 at22
-            d22 = Typed.g-pre 𝓤 H A W 𝓣 E G23 G24 b25 Δ0 (Typed.pass T23 T24 s20) at21 (Scalar.g-room 𝓤 H A W E G23 5 (Syntax.tyInt Syntax.w8) (Scalar.room-sc 𝓤
+            d22 : Typed.Typed 𝓤 H A 𝓣 E G24 b25 Δ0 at22
+            d22 = Typed.g-pre 𝓤 H A W 𝓣 E G24 G25 b25 Δ0 (Typed.pass T24 T25 s21) at21 (Scalar.g-room 𝓤 H A W E G24 5 (Syntax.tyInt Syntax.w8) (Scalar.room-sc 𝓤
                 H A W (Row.sInt Syntax.w8))) d21
 
-            d23 : Typed.Typed 𝓤 H A 𝓣 E G22 b25 Δ0 at23
-            d23 = Typed.g-pre 𝓤 H A W 𝓣 E G22 G23 b25 Δ0 (Typed.pass T22 T23 s19) at22 (Scalar.g-room 𝓤 H A W E G22 3 (Syntax.tyInt Syntax.w64) (Scalar.room-sc 𝓤
+            d23 : Typed.Typed 𝓤 H A 𝓣 E G23 b25 Δ0 at23
+            d23 = Typed.g-pre 𝓤 H A W 𝓣 E G23 G24 b25 Δ0 (Typed.pass T23 T24 s20) at22 (Scalar.g-room 𝓤 H A W E G23 3 (Syntax.tyInt Syntax.w64) (Scalar.room-sc 𝓤
                 H A W (Row.sInt Syntax.w64))) d22
 
             d24 : Typed.Typed 𝓤 H A 𝓣 E G5 b26 Δ0 at24
-            d24 = Typed.s-seq 𝓤 H A W 𝓣 E G5 G22 b24 b25 Δ0 (Typed.pass T5 T22 s18) at23 (Scalar.t-use 𝓤 H A W E 𝓣 G5 (Scalar.oAt 5 (Syntax.tyInt Syntax.w8)
+            d24 = Typed.s-seq 𝓤 H A W 𝓣 E G5 G23 b24 b25 Δ0 (Typed.pass T5 T23 s19) at23 (Scalar.t-use 𝓤 H A W E 𝓣 G5 (Scalar.oAt 5 (Syntax.tyInt Syntax.w8)
                 (Row.valS (Row.sInt Syntax.w8))) 0 (Rows'.sc-here (Row.sInt Syntax.w8)) (Syntax.tyInt Syntax.w8) (Row.valS (Row.sInt Syntax.w8)) (Row.sInt
                 Syntax.w8 .of) (Scalar.reads-sc 𝓤 H A W (Row.sInt Syntax.w8), Path'.refl) (Reads.room-gone 𝓤 H A (Syntax.tyInt Syntax.w8)) (Scalar.holds-sc 𝓤 H A
                 W (Row.sInt Syntax.w8)) Path'.refl (λ u. Path'.refl) λ u. tt) d23
 
             d25 : Typed.Typed 𝓤 H A 𝓣 E G4 b27 Δ0 at25
-            d25 = Typed.t-seq 𝓤 H A W 𝓣 E G4 G5 b23 b26 Δ0 at19 at24 d19 d24
+            d25 = Typed.t-seq 𝓤 H A W 𝓣 E G4 G5 b23 b26 Δ0 at20 at24 d20 d24
 
             d26 : Typed.Typed 𝓤 H A 𝓣 E G3 b28 Δ0 at26
             d26 = Typed.s-seq 𝓤 H A W 𝓣 E G3 G4 b2 b27 Δ0 (Typed.pass T3 T4 s2) at25 (Scalar.t-use 𝓤 H A W E 𝓣 G3 (Scalar.oInt Syntax.w8 0) 5 (Rows'.sc-here
@@ -1232,14 +1268,29 @@ module _ (claims· : Claims) where
         module _ (κs : Lifetimes.Lfts 1) where
           pub record Args : Type 0 where
             pub table : Kinds.Den {n = 1} κs (ShrSlice.pShrS SlotAs.row 0 tt)
-            pub b : Kinds.Den {n = 1} κs (Num.pNum Syntax.w64)
+            pub b : Kinds.Den {n = 1} κs (Value.pVal record {
+              ty = Declared.row FromLast.the-type;
+              one = Path'.refl;
+              val = Laws''.val FromLast.the-type
+                  Laws.the-laws;
+              tells = Laws''.tells FromLast.the-type Laws.the-laws;
+              still = Laws''.still FromLast.the-type Laws.the-copy Exit.yes;
+              row =
+                  Rows'.whole (Declared.row FromLast.the-type);
+              rd = λ x. x;
+              mk = λ x. x;
+            } λ M 𝓤 H A W. record {
+              copies = Laws''.copy FromLast.the-type
+                  Laws.the-copy 𝓤 H A W;
+              lawful = Laws''.lawful FromLast.the-type Laws.the-laws 𝓤 H A W;
+              makes = Laws''.makes FromLast.the-type Laws.the-plain 𝓤 H
+                  A;
+              in-mem = Local.mem-whole 𝓤 H A W (Declared.row FromLast.the-type);
+              of-mem = Local.whole-mem 𝓤 H A W (Declared.row FromLast.the-type);
+            })
 
           abbrev pub dens : (a : Args) → Kinds.Dens κs ps
           dens = λ a. (a .table, (a .b, tt))
-
-          module _ (args· : Args) where
-            pub record Ranges : Type 0 where
-              pub b : Val.Fits Syntax.w64 (args· .b)
 
         abbrev pub m0 : (κs : Lifetimes.Lfts 1) → (args : Args κs) → Typed.Mo T0
         m0 = λ κs args. (tt, Enter.partsP κs 1 ps xs (dens κs args))
@@ -1256,7 +1307,6 @@ module _ (claims· : Claims) where
           pub κs : Lifetimes.Lfts 1
           pub args : Args κs
           pub good : Kinds.GoodsP κs ps (dens κs args)
-          pub fits : Ranges κs args
           pub pre : Pre· κs (dens κs args)
 
         abbrev pub m1 : (κs : Lifetimes.Lfts 1) → (args : Args κs) → Typed.Mo T2
@@ -1311,7 +1361,7 @@ module _ (claims· : Claims) where
             Rows'.sc-here (Row.sInt Syntax.w8) .Mod) → Typed.Want O3
         W3 = λ before k t m. Typed.inLoop T4 O2 (Typed.Round T4 O2 put0 (λ u vs. Inv·0 (Row.get 1 (T4 .locals) u .now) (Row.get 2 (T4 .locals) u) (Row.get 3 (T4
             .locals) u) (Row.get 4 (T4 .locals) u) (Row.get 5 (T4 .locals) u) (vs .0) (vs .1) (vs .2)) (λ u vs. μ·0 (Row.get 1 (T4 .locals) u .now) (Row.get 2
-            (T4 .locals) u) (Row.get 3 (T4 .locals) u) (Row.get 4 (T4 .locals) u) (Row.get 5 (T4 .locals) u) (vs .0) (vs .1) (vs .2)) at17 (m3 (before .before)
+            (T4 .locals) u) (Row.get 3 (T4 .locals) u) (Row.get 4 (T4 .locals) u) (Row.get 5 (T4 .locals) u) (vs .0) (vs .1) (vs .2)) at18 (m3 (before .before)
             (After-end-tail·gave before)) (k, t, m)) (W2 (before .before) (After-end-tail·gave before))
 
         abbrev pub m5 : (before : After-end-tail) → (k : Rows'.sc-here (Row.sInt Syntax.w64) .Mod) → (t : Rows'.whole (Declared.row Tail.the-type) .Mod) → (m :
@@ -1320,7 +1370,7 @@ module _ (claims· : Claims) where
 
         abbrev W4 : (before : After-end-tail) → (k : Rows'.sc-here (Row.sInt Syntax.w64) .Mod) → (t : Rows'.whole (Declared.row Tail.the-type) .Mod) → (m :
             Rows'.sc-here (Row.sInt Syntax.w8) .Mod) → Typed.Want O4
-        W4 = λ before k t m. Typed.wantNext T7 O3 (at15 (W3 before k t m)) (W3 before k t m)
+        W4 = λ before k t m. Typed.wantNext T7 O3 (at16 (W3 before k t m)) (W3 before k t m)
 
         module _ (before· : After-end-tail) where
           pub record At-loop·own : Type 0 where
@@ -1360,56 +1410,59 @@ module _ (claims· : Claims) where
         abbrev pub m8 : (before : At-loop) → Typed.Mo T10
         m8 = λ before. s6 (m7 before)
 
-        abbrev pub Need-sub-k : Type 0
-        Need-sub-k = (c : In-loop) → s7 .asks (m6 (c .before))
-
         abbrev pub m9 : (before : At-loop) → Typed.Mo T11
-        m9 = λ before. s7 .next (m6 before)
+        m9 = λ before. s7 (m8 before)
 
-        abbrev pub Need-mul-s : Type 0
-        Need-mul-s = (c : In-loop) → s8 .asks (m9 (c .before))
+        abbrev pub Need-sub-k : Type 0
+        Need-sub-k = (c : In-loop) → s8 .asks (m6 (c .before))
 
         abbrev pub m10 : (before : At-loop) → Typed.Mo T12
-        m10 = λ before. s8 .next (m9 before)
+        m10 = λ before. s8 .next (m6 before)
+
+        abbrev pub Need-mul-s : Type 0
+        Need-mul-s = (c : In-loop) → s9 .asks (m10 (c .before))
 
         abbrev pub m11 : (before : At-loop) → Typed.Mo T13
         m11 = λ before. s9 .next (m10 before)
 
+        abbrev pub m12 : (before : At-loop) → Typed.Mo T14
+        m12 = λ before. s10 .next (m11 before)
+
         abbrev pub Need-shared-slice-copy-out-s : Type 0
-        Need-shared-slice-copy-out-s = (c : In-loop) → Shared.InSlice T13 1 9 (λ x. x) (λ u. u .1 .1 .1 .0) (m11 (c .before))
+        Need-shared-slice-copy-out-s = (c : In-loop) → Shared.InSlice T14 1 9 (λ x. x) (λ u. u .1 .1 .1 .0) (m12 (c .before))
 
-        abbrev pub m12 : (before : In-loop) → (given : s10 .gives (m11 (before .before))) → Typed.Mo T14
-        m12 = λ before given. s10 .next (m11 (before .before)) given
+        abbrev pub m13 : (before : In-loop) → (given : s11 .gives (m12 (before .before))) → Typed.Mo T15
+        m13 = λ before given. s11 .next (m12 (before .before)) given
 
-        abbrev pub m13 : (before : In-loop) → (given : s10 .gives (m11 (before .before))) → Typed.Mo T15
-        m13 = λ before given. s11 (m12 before given)
-
-        abbrev pub m14 : (before : In-loop) → (given : s10 .gives (m11 (before .before))) → Typed.Mo T16
+        abbrev pub m14 : (before : In-loop) → (given : s11 .gives (m12 (before .before))) → Typed.Mo T16
         m14 = λ before given. s12 (m13 before given)
 
-        abbrev pub m15 : (before : In-loop) → (given : s10 .gives (m11 (before .before))) → Typed.Mo T17
+        abbrev pub m15 : (before : In-loop) → (given : s11 .gives (m12 (before .before))) → Typed.Mo T17
         m15 = λ before given. s13 (m14 before given)
 
-        abbrev pub m16 : (before : In-loop) → (given : s10 .gives (m11 (before .before))) → Typed.Mo T18
+        abbrev pub m16 : (before : In-loop) → (given : s11 .gives (m12 (before .before))) → Typed.Mo T18
         m16 = λ before given. s14 (m15 before given)
+
+        abbrev pub m17 : (before : In-loop) → (given : s11 .gives (m12 (before .before))) → Typed.Mo T19
+        m17 = λ before given. s15 (m16 before given)
 
         module _ (before· : In-loop) where
           pub record After-s·own : Type 0 where
-            pub given : s10 .gives (m11 (before· .before))
+            pub given : s11 .gives (m12 (before· .before))
 
         pub record After-s : Type 0 where
           pub before : In-loop
           pub s : After-s·own before
 
         abbrev pub Need-step-tail-requires : Type 0
-        Need-step-tail-requires = (c : After-s) → s15 .asks (m16 (c .before) (c .s .given))
+        Need-step-tail-requires = (c : After-s) → s16 .asks (m17 (c .before) (c .s .given))
 
-        abbrev pub m17 : (before : After-s) → (given : s15 .gives (m16 (before .before) (before .s .given))) → Typed.Mo T19
-        m17 = λ before given. s15 .next (m16 (before .before) (before .s .given)) given
+        abbrev pub m18 : (before : After-s) → (given : s16 .gives (m17 (before .before) (before .s .given))) → Typed.Mo T20
+        m18 = λ before given. s16 .next (m17 (before .before) (before .s .given)) given
 
         module _ (before· : After-s) where
           abbrev pub After-step-tail·own : Type 0
-          After-step-tail·own = Called.Called ps·1 r·1 (claims· .3) T18 (
+          After-step-tail·own = Called.Called ps·1 r·1 (claims· .3) T19 (
             record { pos = 6; st = []; d = 0; at = λ x. x },
             (
               record {
@@ -1421,14 +1474,14 @@ module _ (claims· : Claims) where
               },
               tt,
             ),
-          ) (m16 (before· .before) (before· .s .given))
+          ) (m17 (before· .before) (before· .s .given))
 
         pub record After-step-tail : Type 0 where
           pub before : After-s
           pub step-tail : After-step-tail·own before
 
-        abbrev pub After-step-tail·gave : (c : After-step-tail) → s15 .gives (m16 (c .before .before) (c .before .s .given))
-        After-step-tail·gave = λ c. Called.given ps·1 r·1 (claims· .3) T18 (
+        abbrev pub After-step-tail·gave : (c : After-step-tail) → s16 .gives (m17 (c .before .before) (c .before .s .given))
+        After-step-tail·gave = λ c. Called.given ps·1 r·1 (claims· .3) T19 (
           record { pos = 6; st = []; d = 0; at = λ x. x },
           (
             record {
@@ -1440,20 +1493,20 @@ module _ (claims· : Claims) where
             },
             tt,
           ),
-        ) (m16 (c .before .before) (c .before .s .given)) (c .step-tail)
+        ) (m17 (c .before .before) (c .before .s .given)) (c .step-tail)
 
         abbrev pub Need-pick-mark-requires : Type 0
-        Need-pick-mark-requires = (c : After-step-tail) → s16 .asks (m17 (c .before) (After-step-tail·gave c))
+        Need-pick-mark-requires = (c : After-step-tail) → s17 .asks (m18 (c .before) (After-step-tail·gave c))
 
-        abbrev pub m18 : (before : After-step-tail) → (given : s16 .gives (m17 (before .before) (After-step-tail·gave before))) → Typed.Mo T20
-        m18 = λ before given. s16 .next (m17 (before .before) (After-step-tail·gave before)) given
+        abbrev pub m19 : (before : After-step-tail) → (given : s17 .gives (m18 (before .before) (After-step-tail·gave before))) → Typed.Mo T21
+        m19 = λ before given. s17 .next (m18 (before .before) (After-step-tail·gave before)) given
 
-        abbrev pub m19 : (before : After-step-tail) → (given : s16 .gives (m17 (before .before) (After-step-tail·gave before))) → Typed.Mo T21
-        m19 = λ before given. s17 (m18 before given)
+        abbrev pub m20 : (before : After-step-tail) → (given : s17 .gives (m18 (before .before) (After-step-tail·gave before))) → Typed.Mo T22
+        m20 = λ before given. s18 (m19 before given)
 
         module _ (before· : After-step-tail) where
           abbrev pub After-pick-mark·own : Type 0
-          After-pick-mark·own = Called.Called ps·2 r·2 (claims· .5) T19 (
+          After-pick-mark·own = Called.Called ps·2 r·2 (claims· .5) T20 (
             record { pos = 4; st = []; d = 0; at = λ x. x },
             (
               record {
@@ -1463,16 +1516,17 @@ module _ (claims· : Claims) where
                     = 0;
                 at = λ x. x;
               },
-              (Num.vAt 2 λ x. x, (Num.vAt 5 λ x. x, tt)),
+              (record { pos = 2; st = []; d = 0; at = λ x. x }, (Num.vAt 5 λ x. x, tt)),
             ),
-          ) (m17 (before· .before) (After-step-tail·gave before·))
+          ) (m18 (before· .before) (After-step-tail·gave
+              before·))
 
         pub record After-pick-mark : Type 0 where
           pub before : After-step-tail
           pub pick-mark : After-pick-mark·own before
 
-        abbrev pub After-pick-mark·gave : (c : After-pick-mark) → s16 .gives (m17 (c .before .before) (After-step-tail·gave (c .before)))
-        After-pick-mark·gave = λ c. Called.given ps·2 r·2 (claims· .5) T19 (
+        abbrev pub After-pick-mark·gave : (c : After-pick-mark) → s17 .gives (m18 (c .before .before) (After-step-tail·gave (c .before)))
+        After-pick-mark·gave = λ c. Called.given ps·2 r·2 (claims· .5) T20 (
           record { pos = 4; st = []; d = 0; at = λ x. x },
           (
             record {
@@ -1482,10 +1536,10 @@ module _ (claims· : Claims) where
               d = 0;
               at = λ x. x;
             },
-            (Num.vAt 2 λ x. x, (Num.vAt 5 λ x. x, tt)),
+            (record { pos = 2; st = []; d = 0; at = λ x. x }, (Num.vAt 5 λ x. x, tt)),
           ),
-        ) (m17 (c .before .before) (After-step-tail·gave (c .before))) (c
-            .pick-mark)
+        ) (m18 (c .before .before)
+            (After-step-tail·gave (c .before))) (c .pick-mark)
 
         abbrev pub Need-loop-less : Type 0
         Need-loop-less = (c : After-pick-mark) → Nat._<_ (μ·0 (Row.get 1 (T4 .locals) (m3 (c .before .before .before .before .before .before)
@@ -1493,8 +1547,8 @@ module _ (claims· : Claims) where
             .before) (After-end-tail·gave (c .before .before .before .before .before)))) (Row.get 3 (T4 .locals) (m3 (c .before .before .before .before .before
             .before) (After-end-tail·gave (c .before .before .before .before .before)))) (Row.get 4 (T4 .locals) (m3 (c .before .before .before .before .before
             .before) (After-end-tail·gave (c .before .before .before .before .before)))) (Row.get 5 (T4 .locals) (m3 (c .before .before .before .before .before
-            .before) (After-end-tail·gave (c .before .before .before .before .before)))) (Row.get 3 (T4 .locals) (m19 (c .before) (After-pick-mark·gave c)))
-            (Row.get 4 (T4 .locals) (m19 (c .before) (After-pick-mark·gave c))) (Row.get 5 (T4 .locals) (m19 (c .before) (After-pick-mark·gave c)))) (μ·0
+            .before) (After-end-tail·gave (c .before .before .before .before .before)))) (Row.get 3 (T4 .locals) (m20 (c .before) (After-pick-mark·gave c)))
+            (Row.get 4 (T4 .locals) (m20 (c .before) (After-pick-mark·gave c))) (Row.get 5 (T4 .locals) (m20 (c .before) (After-pick-mark·gave c)))) (μ·0
             (Row.get 1 (T4 .locals) (m3 (c .before .before .before .before .before .before) (After-end-tail·gave (c .before .before .before .before .before)))
             .now) (Row.get 2 (T4 .locals) (m3 (c .before .before .before .before .before .before) (After-end-tail·gave (c .before .before .before .before
             .before)))) (Row.get 3 (T4 .locals) (m3 (c .before .before .before .before .before .before) (After-end-tail·gave (c .before .before .before .before
@@ -1508,14 +1562,11 @@ module _ (claims· : Claims) where
             (c .before .before .before .before .before)))) (Row.get 3 (T4 .locals) (m3 (c .before .before .before .before .before .before) (After-end-tail·gave
             (c .before .before .before .before .before)))) (Row.get 4 (T4 .locals) (m3 (c .before .before .before .before .before .before) (After-end-tail·gave
             (c .before .before .before .before .before)))) (Row.get 5 (T4 .locals) (m3 (c .before .before .before .before .before .before) (After-end-tail·gave
-            (c .before .before .before .before .before)))) (Row.get 3 (T4 .locals) (m19 (c .before) (After-pick-mark·gave c))) (Row.get 4 (T4 .locals) (m19 (c
-            .before) (After-pick-mark·gave c))) (Row.get 5 (T4 .locals) (m19 (c .before) (After-pick-mark·gave c)))
-
-        abbrev pub m20 : (before : At-loop) → Typed.Mo T22
-        m20 = λ before. s18 (m8 before)
+            (c .before .before .before .before .before)))) (Row.get 3 (T4 .locals) (m20 (c .before) (After-pick-mark·gave c))) (Row.get 4 (T4 .locals) (m20 (c
+            .before) (After-pick-mark·gave c))) (Row.get 5 (T4 .locals) (m20 (c .before) (After-pick-mark·gave c)))
 
         abbrev pub m21 : (before : At-loop) → Typed.Mo T23
-        m21 = λ before. s19 (m20 before)
+        m21 = λ before. s19 (m9 before)
 
         abbrev pub m22 : (before : At-loop) → Typed.Mo T24
         m22 = λ before. s20 (m21 before)
@@ -1532,11 +1583,11 @@ module _ (claims· : Claims) where
         module _ (end-tail-requires : Need-end-tail-requires) (loop-holds : Need-loop-holds) (sub-k : Need-sub-k) (mul-s : Need-mul-s) (shared-slice-copy-out-s :
             Need-shared-slice-copy-out-s) (step-tail-requires : Need-step-tail-requires) (pick-mark-requires : Need-pick-mark-requires) (loop-less :
             Need-loop-less) (loop-again : Need-loop-again) (returns : Need-returns) where
-          lay6 : (c : After-loop) → at24 (W0 (c .before .before .before .κs) (c .before .before .before .args)) (m8 (c .before))
+          lay6 : (c : After-loop) → at24 (W0 (c .before .before .before .κs) (c .before .before .before .args)) (m9 (c .before))
           lay6 = λ c. ((Path'.refl, (tt, tt)), returns record { before = c .before; loop-test = c .loop-test })
 
-          lay5 : (c : After-step-tail) → at6 (W3 (c .before .before .before .before) (c .before .before .before .loop .k) (c .before .before .before .loop .t) (c
-              .before .before .before .loop .m)) (m17 (c .before) (After-step-tail·gave c))
+          lay5 : (c : After-step-tail) → at7 (W3 (c .before .before .before .before) (c .before .before .before .loop .k) (c .before .before .before .loop .t) (c
+              .before .before .before .loop .m)) (m18 (c .before) (After-step-tail·gave c))
           lay5 = λ c. (
             pick-mark-requires record { before = c .before; step-tail = c .step-tail },
             λ g. (
@@ -1545,8 +1596,8 @@ module _ (claims· : Claims) where
                   .before .before) (After-end-tail·gave (c .before .before .before .before)))) (Row.get 3 (T4 .locals) (m3 (c .before .before .before .before
                   .before) (After-end-tail·gave (c .before .before .before .before)))) (Row.get 4 (T4 .locals) (m3 (c .before .before .before .before .before)
                   (After-end-tail·gave (c .before .before .before .before)))) (Row.get 5 (T4 .locals) (m3 (c .before .before .before .before .before)
-                  (After-end-tail·gave (c .before .before .before .before)))) (Row.get 3 (T4 .locals) (m19 record { before = c .before; step-tail = c .step-tail }
-                  g)) (Row.get 4 (T4 .locals) (m19 record { before = c .before; step-tail = c .step-tail } g)) (Row.get 5 (T4 .locals) (m19 record {
+                  (After-end-tail·gave (c .before .before .before .before)))) (Row.get 3 (T4 .locals) (m20 record { before = c .before; step-tail = c .step-tail }
+                  g)) (Row.get 4 (T4 .locals) (m20 record { before = c .before; step-tail = c .step-tail } g)) (Row.get 5 (T4 .locals) (m20 record {
                     before = c
                         .before;
                     step-tail = c .step-tail;
@@ -1554,7 +1605,7 @@ module _ (claims· : Claims) where
               loop-less record {
                 before = record { before = c .before; step-tail = c .step-tail };
                 pick-mark =
-                    Called.called ps·2 r·2 (claims· .5) T19 (
+                    Called.called ps·2 r·2 (claims· .5) T20 (
                       record { pos = 4; st = []; d = 0; at = λ x. x },
                       (
                         record {
@@ -1563,60 +1614,57 @@ module _ (claims· : Claims) where
                           d = 0;
                           at = λ x. x;
                         },
-                        (Num.vAt 2 λ x. x, (Num.vAt 5 λ x. x, tt)),
+                        (record { pos = 2; st = []; d = 0; at = λ x. x }, (Num.vAt 5 λ x. x, tt)),
                       ),
-                    ) (m17 (c .before) (After-step-tail·gave c)) g;
+                    ) (m18 (c .before) (After-step-tail·gave c)) g;
               },
               (
                 (
-                  Row.get 3 (T4 .locals) (m19 record {
-                    before = c
-                        .before;
-                    step-tail = c .step-tail;
+                  Row.get 3
+                      (T4 .locals) (m20 record { before = c .before; step-tail = c .step-tail } g),
+                  Row.get 4 (T4 .locals) (m20 record {
+                    before = c .before;
+                    step-tail =
+                        c .step-tail;
                   } g),
-                  Row.get 4 (T4 .locals) (m19 record { before = c .before; step-tail = c .step-tail } g),
-                  Row.get 5 (T4
-                      .locals) (m19 record { before = c .before; step-tail = c .step-tail } g),
+                  Row.get 5 (T4 .locals) (m20 record { before = c .before; step-tail = c .step-tail } g),
                 ),
-                Path'.refl {a = m19 record {
-                  before = c .before;
-                  step-tail = c
-                      .step-tail;
+                Path'.refl {a = m20 record {
+                  before =
+                      c .before;
+                  step-tail = c .step-tail;
                 } g},
                 loop-again record {
                   before = record { before = c .before; step-tail = c .step-tail };
-                  pick-mark = Called.called ps·2 r·2 (claims·
-                      .5) T19 (
+                  pick-mark =
+                      Called.called ps·2 r·2 (claims· .5) T20 (
                         record { pos = 4; st = []; d = 0; at = λ x. x },
                         (
-                          record { pos = 6; st = []; d = 0; at = λ x. x },
-                          (
-                            Num.vAt 2 λ x. x,
-                            (
-                              Num.vAt 5
-                                  λ x. x,
-                              tt,
-                            ),
-                          ),
+                          record {
+                            pos = 6;
+                            st = [];
+                            d = 0;
+                            at = λ x. x;
+                          },
+                          (record { pos = 2; st = []; d = 0; at = λ x. x }, (Num.vAt 5 λ x. x, tt)),
                         ),
-                      ) (m17 (c .before) (After-step-tail·gave c)) g;
+                      ) (m18 (c .before) (After-step-tail·gave c)) g;
                 },
-                Path'.refl {a = μ·0 (Row.get 1 (T4 .locals) (m3 (c .before .before .before .before
-                    .before) (After-end-tail·gave (c .before .before .before .before))) .now) (Row.get 2 (T4 .locals) (m3 (c .before .before .before .before .before)
-                    (After-end-tail·gave (c .before .before .before .before)))) (Row.get 3 (T4 .locals) (m3 (c .before .before .before .before .before)
-                    (After-end-tail·gave (c .before .before .before .before)))) (Row.get 4 (T4 .locals) (m3 (c .before .before .before .before .before)
-                    (After-end-tail·gave (c .before .before .before .before)))) (Row.get 5 (T4 .locals) (m3 (c .before .before .before .before .before)
-                    (After-end-tail·gave (c .before .before .before .before)))) (Row.get 3 (T4 .locals) (m19 record { before = c .before; step-tail = c .step-tail }
-                    g)) (Row.get 4 (T4 .locals) (m19 record { before = c .before; step-tail = c .step-tail } g)) (Row.get 5 (T4 .locals) (m19 record {
-                      before = c
-                          .before;
+                Path'.refl {a
+                    = μ·0 (Row.get 1 (T4 .locals) (m3 (c .before .before .before .before .before) (After-end-tail·gave (c .before .before .before .before))) .now)
+                    (Row.get 2 (T4 .locals) (m3 (c .before .before .before .before .before) (After-end-tail·gave (c .before .before .before .before)))) (Row.get 3 (T4
+                    .locals) (m3 (c .before .before .before .before .before) (After-end-tail·gave (c .before .before .before .before)))) (Row.get 4 (T4 .locals) (m3 (c
+                    .before .before .before .before .before) (After-end-tail·gave (c .before .before .before .before)))) (Row.get 5 (T4 .locals) (m3 (c .before .before
+                    .before .before .before) (After-end-tail·gave (c .before .before .before .before)))) (Row.get 3 (T4 .locals) (m20 record {
+                      before = c .before;
                       step-tail = c .step-tail;
-                    } g))},
+                    } g)) (Row.get 4 (T4 .locals) (m20 record { before = c .before; step-tail = c .step-tail } g)) (Row.get 5 (T4 .locals)
+                    (m20 record { before = c .before; step-tail = c .step-tail } g))},
               ),
             ),
           )
 
-          lay4 : (c : In-loop) → at15 (W3 (c .before .before) (c .before .loop .k) (c .before .loop .t) (c .before .loop .m)) (m6 (c .before))
+          lay4 : (c : In-loop) → at16 (W3 (c .before .before) (c .before .loop .k) (c .before .loop .t) (c .before .loop .m)) (m6 (c .before))
           lay4 = λ c. (
             sub-k record { before = c .before; loop-test = c .loop-test },
             (
@@ -1636,7 +1684,7 @@ module _ (claims· : Claims) where
                             record { before = c .before; loop-test = c .loop-test };
                         s = record { given = g };
                       };
-                      step-tail = Called.called ps·1 r·1 (claims· .3) T18 (
+                      step-tail = Called.called ps·1 r·1 (claims· .3) T19 (
                         record {
                           pos = 6;
                           st = [];
@@ -1644,7 +1692,7 @@ module _ (claims· : Claims) where
                           at = λ x. x;
                         },
                         (record { pos = 4; st = []; d = 0; at = λ x. x }, tt),
-                      ) (m16 record {
+                      ) (m17 record {
                         before = c .before;
                         loop-test = c .loop-test;
                       } g) g';
@@ -1655,7 +1703,7 @@ module _ (claims· : Claims) where
             ),
           )
 
-          lay3 : (c : After-loop) → at4 (W4 (c .before .before) (c .before .loop .k) (c .before .loop .t) (c .before .loop .m)) (m5 (c .before .before) (c
+          lay3 : (c : After-loop) → at5 (W4 (c .before .before) (c .before .loop .k) (c .before .loop .t) (c .before .loop .m)) (m5 (c .before .before) (c
               .before .loop .k) (c .before .loop .t) (c .before .loop .m))
           lay3 = λ c. lay6 record { before = c .before; loop-test = c .loop-test }
 
@@ -1712,18 +1760,7 @@ module _ (claims· : Claims) where
           module _ (κs : Lifetimes.Lfts 1) (qs : Lifetimes.Shares 1) where
             pub asked : (a : Kinds.Dens κs ps) → (good : Kinds.GoodsP κs ps a) → (pre : Pre· κs a) → (bs : List.List Nat.ℕ) → Φ (Any.wantQ 1 ps r xs m κs qs a
                 (Post· κs a)) (Function.init 1 ps r xs m κs qs a)
-            asked = λ a good pre bs. laid record {
-              κs = κs;
-              args = record { table = a .0; b = a .1 .0 };
-              good = good;
-              fits = record {
-                b = record {
-                  fits = good .1
-                      .0 .1;
-                };
-              };
-              pre = pre;
-            }
+            asked = λ a good pre bs. laid record { κs = κs; args = record { table = a .0; b = a .1 .0 }; good = good; pre = pre }
 
           module _ {M : Type 1} (𝓤 : URA.URA M) (H : Wp.Heap 𝓤) (A : Atoms.Atoms 𝓤) (W : Kit.Given 𝓤 H A) (𝓣 : Wp.Tables 𝓤 H) (known0 : Plain.Known 𝓤 H A W 𝓣 0
               ps·0 r·0 (claims· .0) (claims· .1) "fragments::end_tail") (known1 : Plain.Known 𝓤 H A W 𝓣 0 ps·1 r·1 (claims· .2) (claims· .3)

@@ -1,6 +1,8 @@
 -- Machine-made by tools/walks; do not edit.
 use Rattle.store.proofs.SlotAs
 use Prim.Native.Nat
+use Rattle.fields.proofs.Serial
+use Rattle.fields.proofs.Serial.Laws
 use borrow.Author.Called
 use borrow.Fn.Any
 use borrow.Fn.Call
@@ -12,13 +14,20 @@ use borrow.Fn.Plain
 use borrow.Kind.Bool
 use borrow.Kind.Num
 use borrow.Kind.ShrSlice
+use borrow.Kind.Value
+use borrow.Rule.Local
 use borrow.Rule.Scalar
 use borrow.Rule.Slice.Shared
+use borrow.Rule.Yields
+use borrow.Table.Copies
 use borrow.Table.Reads
 use borrow.Table.Row
 use borrow.Table.Rows as Rows'
 use borrow.Table.Typed
 use contract.Lifetimes
+use denote.Exit
+use denote.Struct.Declared
+use denote.Struct.Laws as Laws'
 use denote.Triple.Clauses
 use denote.Triple.Statement
 use ghost.Atoms
@@ -33,7 +42,25 @@ use prog.Wp
 use types.Kit
 
 abbrev pub ps : List.List (Kinds.PK 1)
-ps = ShrSlice.pShrS SlotAs.row 0 tt ∷ Num.pNum Syntax.w64 ∷ Num.pNum Syntax.w64 ∷ Num.pNum Syntax.w32 ∷ []
+ps = ShrSlice.pShrS SlotAs.row 0 tt ∷ Num.pNum Syntax.w64 ∷ Num.pNum Syntax.w64 ∷ (Value.pVal record {
+  ty = Declared.row Serial.the-type;
+  one = Path'.refl;
+  val
+      = Laws'.val Serial.the-type Laws.the-laws;
+  tells = Laws'.tells Serial.the-type Laws.the-laws;
+  still = Laws'.still Serial.the-type Laws.the-copy Exit.yes;
+  row = Rows'.whole (Declared.row Serial.the-type);
+  rd = λ x. x;
+  mk = λ x. x;
+} λ M 𝓤 H A W. record {
+  copies = Laws'.copy Serial.the-type Laws.the-copy 𝓤 H A
+      W;
+  lawful = Laws'.lawful Serial.the-type Laws.the-laws 𝓤 H A W;
+  makes = Laws'.makes Serial.the-type Laws.the-plain 𝓤 H A;
+  in-mem = Local.mem-whole 𝓤 H A W
+      (Declared.row Serial.the-type);
+  of-mem = Local.whole-mem 𝓤 H A W (Declared.row Serial.the-type);
+}) ∷ []
 
 abbrev pub r : Kinds.RK 1
 r = Bool.rBool
@@ -51,7 +78,25 @@ abbrev pub r·0 : Kinds.RK 1
 r·0 = SlotAs.result
 
 abbrev pub ps·1 : List.List (Kinds.PK 0)
-ps·1 = Num.pNum Syntax.w32 ∷ SlotAs.param ∷ []
+ps·1 = (Value.pVal record {
+  ty = Declared.row Serial.the-type;
+  one = Path'.refl;
+  val = Laws'.val Serial.the-type Laws.the-laws;
+  tells = Laws'.tells
+      Serial.the-type Laws.the-laws;
+  still = Laws'.still Serial.the-type Laws.the-copy Exit.yes;
+  row = Rows'.whole (Declared.row Serial.the-type);
+  rd = λ x. x;
+  mk = λ x. x;
+} λ M 𝓤 H A W. record {
+  copies = Laws'.copy Serial.the-type Laws.the-copy 𝓤 H A W;
+  lawful = Laws'.lawful Serial.the-type Laws.the-laws 𝓤 H A
+      W;
+  makes = Laws'.makes Serial.the-type Laws.the-plain 𝓤 H A;
+  in-mem = Local.mem-whole 𝓤 H A W (Declared.row Serial.the-type);
+  of-mem = Local.whole-mem 𝓤 H
+      A W (Declared.row Serial.the-type);
+}) ∷ SlotAs.param ∷ []
 
 abbrev pub r·1 : Kinds.RK 0
 r·1 = Bool.rBool
@@ -105,10 +150,9 @@ t0 = (0, Rows'.any-gone Syntax.tyBool) ∷ (1, Rows'.sslice SlotAs.row (Syntax.t
   2,
   Rows'.sc-here (Row.sInt
       Syntax.w64),
-) ∷ (3, Rows'.sc-here (Row.sInt Syntax.w64)) ∷ (4, Rows'.sc-here (Row.sInt Syntax.w32)) ∷ (5, Rows'.any-gone SlotAs.ty) ∷ (
+) ∷ (3, Rows'.sc-here (Row.sInt Syntax.w64)) ∷ (4, Rows'.whole (Declared.row Serial.the-type)) ∷ (5, Rows'.any-gone SlotAs.ty) ∷ (
   6,
-  Rows'.any-gone
-      Syntax.tyBool,
+  Rows'.any-gone Syntax.tyBool,
 ) ∷ (7, Rows'.any-gone Syntax.tyBool) ∷ []
 
 abbrev pub t1 : List.List Row.Entry
@@ -116,103 +160,133 @@ t1 = (0, Rows'.sc-here Row.sBool) ∷ (1, Rows'.sslice SlotAs.row (Syntax.tyRef 
   2,
   Rows'.any-gone (Syntax.tyInt
       Syntax.w64),
-) ∷ (3, Rows'.any-gone (Syntax.tyInt Syntax.w64)) ∷ (4, Rows'.any-gone (Syntax.tyInt Syntax.w32)) ∷ (5, Rows'.any-gone SlotAs.ty) ∷ (
-  6,
-  Rows'.any-gone Syntax.tyBool,
-) ∷ (7, Rows'.any-gone Syntax.tyBool) ∷ []
+) ∷ (3, Rows'.any-gone (Syntax.tyInt Syntax.w64)) ∷ (
+  4,
+  Rows'.any-gone (Syntax.tyStruct (102 ∷ 105 ∷ 101 ∷ 108 ∷ 100 ∷ 115 ∷ 58 ∷ 58 ∷ 83 ∷ 101
+      ∷ 114 ∷ 105 ∷ 97 ∷ 108 ∷ []) (Syntax.tcons (Syntax.tyInt Syntax.w32) Syntax.tnil)),
+) ∷ (5, Rows'.any-gone SlotAs.ty) ∷ (6, Rows'.any-gone Syntax.tyBool) ∷
+    (7, Rows'.any-gone Syntax.tyBool) ∷ []
 
 abbrev pub t2 : List.List Row.Entry
 t2 = (0, Rows'.any-gone Syntax.tyBool) ∷ (1, Rows'.sslice SlotAs.row (Syntax.tyRef (Syntax.named 0) Syntax.imm SlotAs.pointee) 0) ∷ (
   2,
   Rows'.sc-here (Row.sInt
       Syntax.w64),
-) ∷ (3, Rows'.sc-here (Row.sInt Syntax.w64)) ∷ (4, Rows'.sc-here (Row.sInt Syntax.w32)) ∷ (5, SlotAs.whole) ∷ (6, Rows'.any-gone Syntax.tyBool)
-    ∷ (7, Rows'.any-gone Syntax.tyBool) ∷ []
+) ∷ (3, Rows'.sc-here (Row.sInt Syntax.w64)) ∷ (4, Rows'.whole (Declared.row Serial.the-type)) ∷ (5, SlotAs.whole) ∷ (
+  6,
+  Rows'.any-gone
+      Syntax.tyBool,
+) ∷ (7, Rows'.any-gone Syntax.tyBool) ∷ []
 
 abbrev pub t3 : List.List Row.Entry
 t3 = (0, Rows'.any-gone Syntax.tyBool) ∷ (1, Rows'.sslice SlotAs.row (Syntax.tyRef (Syntax.named 0) Syntax.imm SlotAs.pointee) 0) ∷ (
   2,
   Rows'.sc-here (Row.sInt
       Syntax.w64),
-) ∷ (3, Rows'.sc-here (Row.sInt Syntax.w64)) ∷ (4, Rows'.sc-here (Row.sInt Syntax.w32)) ∷ (5, SlotAs.whole) ∷ (6, Rows'.sc-here Row.sBool) ∷ (
-  7,
-  Rows'.any-gone Syntax.tyBool,
-) ∷ []
+) ∷ (3, Rows'.sc-here (Row.sInt Syntax.w64)) ∷ (4, Rows'.whole (Declared.row Serial.the-type)) ∷ (5, SlotAs.whole) ∷ (
+  6,
+  Rows'.sc-here
+      Row.sBool,
+) ∷ (7, Rows'.any-gone Syntax.tyBool) ∷ []
 
 abbrev pub t4 : List.List Row.Entry
 t4 = (0, Rows'.any-gone Syntax.tyBool) ∷ (1, Rows'.sslice SlotAs.row (Syntax.tyRef (Syntax.named 0) Syntax.imm SlotAs.pointee) 0) ∷ (
   2,
   Rows'.sc-here (Row.sInt
       Syntax.w64),
-) ∷ (3, Rows'.sc-here (Row.sInt Syntax.w64)) ∷ (4, Rows'.sc-here (Row.sInt Syntax.w32)) ∷ (5, Rows'.any-gone SlotAs.ty) ∷ (
-  6,
-  Rows'.sc-here
-      Row.sBool,
-) ∷ (7, Rows'.any-gone Syntax.tyBool) ∷ []
+) ∷ (3, Rows'.sc-here (Row.sInt Syntax.w64)) ∷ (
+  4,
+  Rows'.any-gone (Syntax.tyStruct (102 ∷ 105 ∷ 101 ∷ 108 ∷ 100 ∷ 115 ∷ 58 ∷ 58 ∷ 83 ∷ 101 ∷ 114
+      ∷ 105 ∷ 97 ∷ 108 ∷ []) (Syntax.tcons (Syntax.tyInt Syntax.w32) Syntax.tnil)),
+) ∷ (5, SlotAs.whole) ∷ (6, Rows'.sc-here Row.sBool) ∷ (
+  7,
+  Rows'.any-gone
+      Syntax.tyBool,
+) ∷ []
 
 abbrev pub t5 : List.List Row.Entry
 t5 = (0, Rows'.any-gone Syntax.tyBool) ∷ (1, Rows'.sslice SlotAs.row (Syntax.tyRef (Syntax.named 0) Syntax.imm SlotAs.pointee) 0) ∷ (
   2,
   Rows'.sc-here (Row.sInt
       Syntax.w64),
-) ∷ (3, Rows'.sc-here (Row.sInt Syntax.w64)) ∷ (4, Rows'.sc-here (Row.sInt Syntax.w32)) ∷ (5, Rows'.any-gone SlotAs.ty) ∷ (
-  6,
-  Rows'.sc-here
-      Row.sBool,
-) ∷ (7, Rows'.sc-here Row.sBool) ∷ []
+) ∷ (3, Rows'.sc-here (Row.sInt Syntax.w64)) ∷ (
+  4,
+  Rows'.any-gone (Syntax.tyStruct (102 ∷ 105 ∷ 101 ∷ 108 ∷ 100 ∷ 115 ∷ 58 ∷ 58 ∷ 83 ∷ 101 ∷ 114
+      ∷ 105 ∷ 97 ∷ 108 ∷ []) (Syntax.tcons (Syntax.tyInt Syntax.w32) Syntax.tnil)),
+) ∷ (5, Rows'.any-gone SlotAs.ty) ∷ (6, Rows'.sc-here Row.sBool) ∷ (
+  7,
+  Rows'.any-gone Syntax.tyBool,
+) ∷ []
 
 abbrev pub t6 : List.List Row.Entry
-t6 = (0, Rows'.sc-here Row.sBool) ∷ (1, Rows'.sslice SlotAs.row (Syntax.tyRef (Syntax.named 0) Syntax.imm SlotAs.pointee) 0) ∷ (
+t6 = (0, Rows'.any-gone Syntax.tyBool) ∷ (1, Rows'.sslice SlotAs.row (Syntax.tyRef (Syntax.named 0) Syntax.imm SlotAs.pointee) 0) ∷ (
   2,
   Rows'.sc-here (Row.sInt
       Syntax.w64),
-) ∷ (3, Rows'.sc-here (Row.sInt Syntax.w64)) ∷ (4, Rows'.sc-here (Row.sInt Syntax.w32)) ∷ (5, Rows'.any-gone SlotAs.ty) ∷ (
-  6,
-  Rows'.sc-here
-      Row.sBool,
-) ∷ (7, Rows'.sc-here Row.sBool) ∷ []
+) ∷ (3, Rows'.sc-here (Row.sInt Syntax.w64)) ∷ (
+  4,
+  Rows'.any-gone (Syntax.tyStruct (102 ∷ 105 ∷ 101 ∷ 108 ∷ 100 ∷ 115 ∷ 58 ∷ 58 ∷ 83 ∷ 101 ∷ 114
+      ∷ 105 ∷ 97 ∷ 108 ∷ []) (Syntax.tcons (Syntax.tyInt Syntax.w32) Syntax.tnil)),
+) ∷ (5, Rows'.any-gone SlotAs.ty) ∷ (6, Rows'.sc-here Row.sBool) ∷ (
+  7,
+  Rows'.sc-here Row.sBool,
+) ∷ []
 
 abbrev pub t7 : List.List Row.Entry
 t7 = (0, Rows'.sc-here Row.sBool) ∷ (1, Rows'.sslice SlotAs.row (Syntax.tyRef (Syntax.named 0) Syntax.imm SlotAs.pointee) 0) ∷ (
   2,
   Rows'.sc-here (Row.sInt
       Syntax.w64),
-) ∷ (3, Rows'.sc-here (Row.sInt Syntax.w64)) ∷ (4, Rows'.sc-here (Row.sInt Syntax.w32)) ∷ (5, Rows'.any-gone SlotAs.ty) ∷ (
-  6,
-  Rows'.any-gone
-      Syntax.tyBool,
-) ∷ (7, Rows'.sc-here Row.sBool) ∷ []
+) ∷ (3, Rows'.sc-here (Row.sInt Syntax.w64)) ∷ (
+  4,
+  Rows'.any-gone (Syntax.tyStruct (102 ∷ 105 ∷ 101 ∷ 108 ∷ 100 ∷ 115 ∷ 58 ∷ 58 ∷ 83 ∷ 101 ∷ 114
+      ∷ 105 ∷ 97 ∷ 108 ∷ []) (Syntax.tcons (Syntax.tyInt Syntax.w32) Syntax.tnil)),
+) ∷ (5, Rows'.any-gone SlotAs.ty) ∷ (6, Rows'.sc-here Row.sBool) ∷ (
+  7,
+  Rows'.sc-here Row.sBool,
+) ∷ []
 
 abbrev pub t8 : List.List Row.Entry
 t8 = (0, Rows'.sc-here Row.sBool) ∷ (1, Rows'.sslice SlotAs.row (Syntax.tyRef (Syntax.named 0) Syntax.imm SlotAs.pointee) 0) ∷ (
   2,
   Rows'.sc-here (Row.sInt
       Syntax.w64),
-) ∷ (3, Rows'.sc-here (Row.sInt Syntax.w64)) ∷ (4, Rows'.sc-here (Row.sInt Syntax.w32)) ∷ (5, Rows'.any-gone SlotAs.ty) ∷ (
-  6,
-  Rows'.any-gone
-      Syntax.tyBool,
-) ∷ (7, Rows'.any-gone Syntax.tyBool) ∷ []
+) ∷ (3, Rows'.sc-here (Row.sInt Syntax.w64)) ∷ (
+  4,
+  Rows'.any-gone (Syntax.tyStruct (102 ∷ 105 ∷ 101 ∷ 108 ∷ 100 ∷ 115 ∷ 58 ∷ 58 ∷ 83 ∷ 101 ∷ 114
+      ∷ 105 ∷ 97 ∷ 108 ∷ []) (Syntax.tcons (Syntax.tyInt Syntax.w32) Syntax.tnil)),
+) ∷ (5, Rows'.any-gone SlotAs.ty) ∷ (6, Rows'.any-gone Syntax.tyBool) ∷ (
+  7,
+  Rows'.sc-here Row.sBool,
+) ∷ []
 
 abbrev pub t9 : List.List Row.Entry
 t9 = (0, Rows'.sc-here Row.sBool) ∷ (1, Rows'.sslice SlotAs.row (Syntax.tyRef (Syntax.named 0) Syntax.imm SlotAs.pointee) 0) ∷ (
   2,
-  Rows'.any-gone (Syntax.tyInt
+  Rows'.sc-here (Row.sInt
       Syntax.w64),
-) ∷ (3, Rows'.sc-here (Row.sInt Syntax.w64)) ∷ (4, Rows'.sc-here (Row.sInt Syntax.w32)) ∷ (5, Rows'.any-gone SlotAs.ty) ∷ (
-  6,
-  Rows'.any-gone
-      Syntax.tyBool,
-) ∷ (7, Rows'.any-gone Syntax.tyBool) ∷ []
+) ∷ (3, Rows'.sc-here (Row.sInt Syntax.w64)) ∷ (
+  4,
+  Rows'.any-gone (Syntax.tyStruct (102 ∷ 105 ∷ 101 ∷ 108 ∷ 100 ∷ 115 ∷ 58 ∷ 58 ∷ 83 ∷ 101 ∷ 114
+      ∷ 105 ∷ 97 ∷ 108 ∷ []) (Syntax.tcons (Syntax.tyInt Syntax.w32) Syntax.tnil)),
+) ∷ (5, Rows'.any-gone SlotAs.ty) ∷ (6, Rows'.any-gone Syntax.tyBool) ∷ (
+  7,
+  Rows'.any-gone Syntax.tyBool,
+) ∷ []
 
 abbrev pub t10 : List.List Row.Entry
 t10 = (0, Rows'.sc-here Row.sBool) ∷ (1, Rows'.sslice SlotAs.row (Syntax.tyRef (Syntax.named 0) Syntax.imm SlotAs.pointee) 0) ∷ (
   2,
   Rows'.any-gone
       (Syntax.tyInt Syntax.w64),
-) ∷ (3, Rows'.any-gone (Syntax.tyInt Syntax.w64)) ∷ (4, Rows'.sc-here (Row.sInt Syntax.w32)) ∷ (5, Rows'.any-gone SlotAs.ty) ∷ (
+) ∷ (3, Rows'.sc-here (Row.sInt Syntax.w64)) ∷ (
+  4,
+  Rows'.any-gone (Syntax.tyStruct (102 ∷ 105 ∷ 101 ∷ 108 ∷ 100 ∷ 115 ∷ 58 ∷ 58 ∷
+      83 ∷ 101 ∷ 114 ∷ 105 ∷ 97 ∷ 108 ∷ []) (Syntax.tcons (Syntax.tyInt Syntax.w32) Syntax.tnil)),
+) ∷ (5, Rows'.any-gone SlotAs.ty) ∷ (
   6,
-  Rows'.any-gone Syntax.tyBool,
+  Rows'.any-gone
+      Syntax.tyBool,
 ) ∷ (7, Rows'.any-gone Syntax.tyBool) ∷ []
 
 abbrev pub T0 : Row.Cx
@@ -262,32 +336,45 @@ module _ (claims· : Claims) where
   ) 5 (0 ∷ []) SlotAs.ty
 
   abbrev s1 : Typed.Both T2 T3
-  s1 = Call.callB ps·1 r·1 (claims· .2) (claims· .3) T2 (Num.vAt 4 λ x. x, (record { pos = 5; st = []; d = 0; at = λ x. x }, tt)) 6 [] Syntax.tyBool
+  s1 = Call.callB ps·1 r·1 (claims· .2) (claims· .3) T2 (
+    record { pos = 4; st = []; d = 0; at = λ x. x },
+    (
+      record {
+        pos = 5;
+        st = [];
+        d = 0;
+        at = λ
+            x. x;
+      },
+      tt,
+    ),
+  ) 6 [] Syntax.tyBool
 
   abbrev s2 : Typed.Mo T3 → Typed.Mo T4
-  s2 = Scalar.n-room T3 5 SlotAs.ty
+  s2 = Scalar.n-room T3 4 (Syntax.tyStruct (102 ∷ 105 ∷ 101 ∷ 108 ∷ 100 ∷ 115 ∷ 58 ∷ 58 ∷ 83 ∷ 101 ∷ 114 ∷ 105 ∷ 97 ∷ 108 ∷ []) (Syntax.tcons (Syntax.tyInt
+      Syntax.w32) Syntax.tnil))
 
-  abbrev s3 : Typed.Asks T4 T5
-  s3 = Scalar.k-op2 T4 (Syntax.lt Syntax.unsigned) (Scalar.oAt 3 (Syntax.tyInt Syntax.w64) (Row.valS (Row.sInt Syntax.w64))) (Scalar.oAt 2 (Syntax.tyInt
+  abbrev s3 : Typed.Mo T4 → Typed.Mo T5
+  s3 = Scalar.n-room T4 5 SlotAs.ty
+
+  abbrev s4 : Typed.Asks T5 T6
+  s4 = Scalar.k-op2 T5 (Syntax.lt Syntax.unsigned) (Scalar.oAt 3 (Syntax.tyInt Syntax.w64) (Row.valS (Row.sInt Syntax.w64))) (Scalar.oAt 2 (Syntax.tyInt
       Syntax.w64) (Row.valS (Row.sInt Syntax.w64))) 7 (Rows'.sc-here Row.sBool) (Row.sBool .of)
 
-  abbrev s4 : Typed.Both T5 T6
-  s4 = Call.callB ps·2 r·2 (claims· .4) (claims· .5) T5 (Bool.bAt 7 λ x. x, (Bool.bAt 6 λ x. x, tt)) 0 [] Syntax.tyBool
-
-  abbrev s5 : Typed.Mo T6 → Typed.Mo T7
-  s5 = Scalar.n-room T6 6 Syntax.tyBool
+  abbrev s5 : Typed.Both T6 T7
+  s5 = Call.callB ps·2 r·2 (claims· .4) (claims· .5) T6 (Bool.bAt 7 λ x. x, (Bool.bAt 6 λ x. x, tt)) 0 [] Syntax.tyBool
 
   abbrev s6 : Typed.Mo T7 → Typed.Mo T8
-  s6 = Scalar.n-room T7 7 Syntax.tyBool
+  s6 = Scalar.n-room T7 6 Syntax.tyBool
 
   abbrev s7 : Typed.Mo T8 → Typed.Mo T9
-  s7 = Scalar.n-room T8 2 (Syntax.tyInt Syntax.w64)
+  s7 = Scalar.n-room T8 7 Syntax.tyBool
 
   abbrev s8 : Typed.Mo T9 → Typed.Mo T10
-  s8 = Scalar.n-room T9 3 (Syntax.tyInt Syntax.w64)
+  s8 = Scalar.n-room T9 2 (Syntax.tyInt Syntax.w64)
 
   abbrev s9 : Typed.Mo T10 → Typed.Mo T11
-  s9 = Scalar.n-room T10 4 (Syntax.tyInt Syntax.w32)
+  s9 = Scalar.n-room T10 3 (Syntax.tyInt Syntax.w64)
 
   module _ (Pre· : (κs : Lifetimes.Lfts 1) → Kinds.Dens κs ps → Type 0) (Post· : (κs : Lifetimes.Lfts 1) → (a : Kinds.Dens κs ps) → Kinds.Plain 1 ps r κs)
     where
@@ -315,13 +402,13 @@ module _ (claims· : Claims) where
         at4 = λ Ψ. Typed.pass T7 T8 s6 (at3 Ψ)
 
         abbrev at5 : Typed.TF T6 O0
-        at5 = λ Ψ. Typed.pass T6 T7 s5 (at4 Ψ)
+        at5 = λ Ψ. Typed.both s5 (at4 Ψ)
 
         abbrev at6 : Typed.TF T5 O0
-        at6 = λ Ψ. Typed.both s4 (at5 Ψ)
+        at6 = λ Ψ. Typed.ask s4 (at5 Ψ)
 
         abbrev at7 : Typed.TF T4 O0
-        at7 = λ Ψ. Typed.ask s3 (at6 Ψ)
+        at7 = λ Ψ. Typed.pass T4 T5 s3 (at6 Ψ)
 
         abbrev at8 : Typed.TF T3 O0
         at8 = λ Ψ. Typed.pass T3 T4 s2 (at7 Ψ)
@@ -389,52 +476,61 @@ module _ (claims· : Claims) where
             d0 = Typed.t-return 𝓤 H A W 𝓣 E Δ0 tt
 
             d1 : Typed.Typed 𝓤 H A 𝓣 E G10 b4 Δ0 at1
-            d1 = Typed.g-pre 𝓤 H A W 𝓣 E G10 G11 b4 Δ0 (Typed.pass T10 T11 s9) at0 (Scalar.g-room 𝓤 H A W E G10 4 (Syntax.tyInt Syntax.w32) (Scalar.room-sc 𝓤 H A
-                W (Row.sInt Syntax.w32))) d0
+            d1 = Typed.g-pre 𝓤 H A W 𝓣 E G10 G11 b4 Δ0 (Typed.pass T10 T11 s9) at0 (Scalar.g-room 𝓤 H A W E G10 3 (Syntax.tyInt Syntax.w64) (Scalar.room-sc 𝓤 H A
+                W (Row.sInt Syntax.w64))) d0
 
             d2 : Typed.Typed 𝓤 H A 𝓣 E G9 b4 Δ0 at2
-            d2 = Typed.g-pre 𝓤 H A W 𝓣 E G9 G10 b4 Δ0 (Typed.pass T9 T10 s8) at1 (Scalar.g-room 𝓤 H A W E G9 3 (Syntax.tyInt Syntax.w64) (Scalar.room-sc 𝓤 H A W
+            d2 = Typed.g-pre 𝓤 H A W 𝓣 E G9 G10 b4 Δ0 (Typed.pass T9 T10 s8) at1 (Scalar.g-room 𝓤 H A W E G9 2 (Syntax.tyInt Syntax.w64) (Scalar.room-sc 𝓤 H A W
                 (Row.sInt Syntax.w64))) d1
 
             d3 : Typed.Typed 𝓤 H A 𝓣 E G8 b4 Δ0 at3
-            d3 = Typed.g-pre 𝓤 H A W 𝓣 E G8 G9 b4 Δ0 (Typed.pass T8 T9 s7) at2 (Scalar.g-room 𝓤 H A W E G8 2 (Syntax.tyInt Syntax.w64) (Scalar.room-sc 𝓤 H A W
-                (Row.sInt Syntax.w64))) d2
+            d3 = Typed.g-pre 𝓤 H A W 𝓣 E G8 G9 b4 Δ0 (Typed.pass T8 T9 s7) at2 (Scalar.g-room 𝓤 H A W E G8 7 Syntax.tyBool (Scalar.room-sc 𝓤 H A W Row.sBool)) d2
 
             d4 : Typed.Typed 𝓤 H A 𝓣 E G7 b4 Δ0 at4
-            d4 = Typed.g-pre 𝓤 H A W 𝓣 E G7 G8 b4 Δ0 (Typed.pass T7 T8 s6) at3 (Scalar.g-room 𝓤 H A W E G7 7 Syntax.tyBool (Scalar.room-sc 𝓤 H A W Row.sBool)) d3
+            d4 = Typed.g-pre 𝓤 H A W 𝓣 E G7 G8 b4 Δ0 (Typed.pass T7 T8 s6) at3 (Scalar.g-room 𝓤 H A W E G7 6 Syntax.tyBool (Scalar.room-sc 𝓤 H A W Row.sBool)) d3
 
-            d5 : Typed.Typed 𝓤 H A 𝓣 E G6 b4 Δ0 at5
-            d5 = Typed.g-pre 𝓤 H A W 𝓣 E G6 G7 b4 Δ0 (Typed.pass T6 T7 s5) at4 (Scalar.g-room 𝓤 H A W E G6 6 Syntax.tyBool (Scalar.room-sc 𝓤 H A W Row.sBool)) d4
-
-            d6 : Typed.Typed 𝓤 H A 𝓣 E G5 b5 Δ0 at6
-            d6 = Typed.s-seq 𝓤 H A W 𝓣 E G5 G6 b3 b4 Δ0 (Typed.both s4) at5 (Plain.t-call-plain 𝓤 H A W 𝓣 0 ps·2 r·2 (claims· .4) (claims· .5) "ascii::both_of"
-                (known .2) E (λ pos β. β) G5 (Bool.bAt 7 λ x. x, (Bool.bAt 6 λ x. x, tt)) 0 [] (Call.sub-id 𝓤 H A W (G5 .slots)) (
+            d5 : Typed.Typed 𝓤 H A 𝓣 E G6 b5 Δ0 at5
+            d5 = Typed.s-seq 𝓤 H A W 𝓣 E G6 G7 b3 b4 Δ0 (Typed.both s5) at4 (Plain.t-call-plain 𝓤 H A W 𝓣 0 ps·2 r·2 (claims· .4) (claims· .5) "ascii::both_of"
+                (known .2) E (λ pos β. β) G6 (Bool.bAt 7 λ x. x, (Bool.bAt 6 λ x. x, tt)) 0 [] (Call.sub-id 𝓤 H A W (G6 .slots)) (
                   (
                     Scalar.reads-sc 𝓤 H A W
                         Row.sBool,
                     Path'.refl,
                   ),
                   ((Scalar.reads-sc 𝓤 H A W Row.sBool, Path'.refl), tt),
-                ) (Reads.room-gone 𝓤 H A Syntax.tyBool) tt Path'.refl) d5
+                ) (Reads.room-gone 𝓤 H A Syntax.tyBool) tt Path'.refl) d4
 
-            d7 : Typed.Typed 𝓤 H A 𝓣 E G4 b6 Δ0 at7
-            d7 = Typed.s-seq 𝓤 H A W 𝓣 E G4 G5 b2 b5 Δ0 (Typed.ask s3) at6 (Scalar.t-op2 𝓤 H A W E 𝓣 G4 (Syntax.lt Syntax.unsigned) (Scalar.oAt 3 (Syntax.tyInt
+            d6 : Typed.Typed 𝓤 H A 𝓣 E G5 b6 Δ0 at6
+            d6 = Typed.s-seq 𝓤 H A W 𝓣 E G5 G6 b2 b5 Δ0 (Typed.ask s4) at5 (Scalar.t-op2 𝓤 H A W E 𝓣 G5 (Syntax.lt Syntax.unsigned) (Scalar.oAt 3 (Syntax.tyInt
                 Syntax.w64) (Row.valS (Row.sInt Syntax.w64))) (Scalar.oAt 2 (Syntax.tyInt Syntax.w64) (Row.valS (Row.sInt Syntax.w64))) 7 (Rows'.sc-here
                 Row.sBool) Syntax.tyBool (Row.valS Row.sBool) (Row.sBool .of) (Scalar.reads-sc 𝓤 H A W (Row.sInt Syntax.w64), Path'.refl) (
                   Scalar.reads-sc 𝓤 H A
                       W (Row.sInt Syntax.w64),
                   Path'.refl,
                 ) (Reads.room-gone 𝓤 H A Syntax.tyBool) (Scalar.holds-sc 𝓤 H A W Row.sBool) Path'.refl (λ u. Path'.refl) λ u.
-                tt) d6
+                tt) d5
+
+            d7 : Typed.Typed 𝓤 H A 𝓣 E G4 b6 Δ0 at7
+            d7 = Typed.g-pre 𝓤 H A W 𝓣 E G4 G5 b6 Δ0 (Typed.pass T4 T5 s3) at6 (Scalar.g-room 𝓤 H A W E G4 5 SlotAs.ty (SlotAs.room 𝓤 H A W)) d6
 
             d8 : Typed.Typed 𝓤 H A 𝓣 E G3 b6 Δ0 at8
-            d8 = Typed.g-pre 𝓤 H A W 𝓣 E G3 G4 b6 Δ0 (Typed.pass T3 T4 s2) at7 (Scalar.g-room 𝓤 H A W E G3 5 SlotAs.ty (SlotAs.room 𝓤 H A W)) d7
+            d8 = Typed.g-pre 𝓤 H A W 𝓣 E G3 G4 b6 Δ0 (Typed.pass T3 T4 s2) at7 (Scalar.g-room 𝓤 H A W E G3 4 (Syntax.tyStruct (102 ∷ 105 ∷ 101 ∷ 108 ∷ 100 ∷ 115
+                ∷ 58 ∷ 58 ∷ 83 ∷ 101 ∷ 114 ∷ 105 ∷ 97 ∷ 108 ∷ []) (Syntax.tcons (Syntax.tyInt Syntax.w32) Syntax.tnil)) (Local.room-whole 𝓤 H A W (Declared.row
+                Serial.the-type) (Syntax.tyStruct (102 ∷ 105 ∷ 101 ∷ 108 ∷ 100 ∷ 115 ∷ 58 ∷ 58 ∷ 83 ∷ 101 ∷ 114 ∷ 105 ∷ 97 ∷ 108 ∷ []) (Syntax.tcons
+                (Syntax.tyInt Syntax.w32) Syntax.tnil)) Path'.refl)) d7
 
             d9 : Typed.Typed 𝓤 H A 𝓣 E G2 b7 Δ0 at9
             d9 = Typed.s-seq 𝓤 H A W 𝓣 E G2 G3 b1 b6 Δ0 (Typed.both s1) at8 (Plain.t-call-plain 𝓤 H A W 𝓣 0 ps·1 r·1 (claims· .2) (claims· .3) "bonds::is_aside"
-                (known .1) E (λ pos β. β) G2 (Num.vAt 4 λ x. x, (record { pos = 5; st = []; d = 0; at = λ x. x }, tt)) 6 [] (Call.sub-id 𝓤 H A W (G2
-                .slots)) ((Scalar.reads-sc 𝓤 H A W (Row.sInt Syntax.w32), Path'.refl), ((SlotAs.yields 𝓤 H A W, Path'.refl), tt)) (Reads.room-gone 𝓤 H A
-                Syntax.tyBool) tt Path'.refl) d8
+                (known .1) E (λ pos β. β) G2 (record { pos = 4; st = []; d = 0; at = λ x. x }, (record { pos = 5; st = []; d = 0; at = λ x. x }, tt)) 6
+                [] (Call.sub-id 𝓤 H A W (G2 .slots)) (
+                  (
+                    Yields.yields-copy 𝓤 H A W (λ ρ. Unit) (Declared.row Serial.the-type) Path'.refl (Copies.cStruct
+                        Serial.the-type Laws.the-laws Laws.the-copy .copy 𝓤 H A W) (Rows'.whole (Declared.row Serial.the-type)) (λ x. x) (λ x. x) (λ ρ told.
+                        Local.mem-whole 𝓤 H A W (Declared.row Serial.the-type) ρ) λ ρ told. Local.whole-mem 𝓤 H A W (Declared.row Serial.the-type) ρ,
+                    Path'.refl,
+                  ),
+                  ((SlotAs.yields 𝓤 H A W, Path'.refl), tt),
+                ) (Reads.room-gone 𝓤 H A Syntax.tyBool) tt Path'.refl) d8
 
             d10 : Typed.Typed 𝓤 H A 𝓣 E G0 b8 Δ0 at10
             d10 = Typed.s-seq 𝓤 H A W 𝓣 E G0 G2 b0 b7 Δ0 (Typed.both s0) at9 (Plain.t-call-plain 𝓤 H A W 𝓣 1 ps·0 r·0 (claims· .0) (claims· .1)
@@ -463,7 +559,25 @@ module _ (claims· : Claims) where
             pub table : Kinds.Den {n = 1} κs (ShrSlice.pShrS SlotAs.row 0 tt)
             pub k : Kinds.Den {n = 1} κs (Num.pNum Syntax.w64)
             pub m : Kinds.Den {n = 1} κs (Num.pNum Syntax.w64)
-            pub x : Kinds.Den {n = 1} κs (Num.pNum Syntax.w32)
+            pub x : Kinds.Den {n = 1} κs (Value.pVal record {
+              ty = Declared.row Serial.the-type;
+              one = Path'.refl;
+              val = Laws'.val Serial.the-type Laws.the-laws;
+              tells = Laws'.tells Serial.the-type Laws.the-laws;
+              still = Laws'.still Serial.the-type Laws.the-copy Exit.yes;
+              row = Rows'.whole (Declared.row
+                  Serial.the-type);
+              rd = λ x. x;
+              mk = λ x. x;
+            } λ M 𝓤 H A W. record {
+              copies = Laws'.copy Serial.the-type Laws.the-copy 𝓤 H A W;
+              lawful =
+                  Laws'.lawful Serial.the-type Laws.the-laws 𝓤 H A W;
+              makes = Laws'.makes Serial.the-type Laws.the-plain 𝓤 H A;
+              in-mem = Local.mem-whole 𝓤 H A W
+                  (Declared.row Serial.the-type);
+              of-mem = Local.whole-mem 𝓤 H A W (Declared.row Serial.the-type);
+            })
 
           abbrev pub dens : (a : Args) → Kinds.Dens κs ps
           dens = λ a. (a .table, (a .k, (a .m, (a .x, tt))))
@@ -472,7 +586,6 @@ module _ (claims· : Claims) where
             pub record Ranges : Type 0 where
               pub k : Val.Fits Syntax.w64 (args· .k)
               pub m : Val.Fits Syntax.w64 (args· .m)
-              pub x : Val.Fits Syntax.w32 (args· .x)
 
         abbrev pub m0 : (κs : Lifetimes.Lfts 1) → (args : Args κs) → Typed.Mo T0
         m0 = λ κs args. (tt, Enter.partsP κs 1 ps xs (dens κs args))
@@ -533,55 +646,76 @@ module _ (claims· : Claims) where
 
         module _ (before· : After-slot-at) where
           abbrev pub After-is-aside·own : Type 0
-          After-is-aside·own = Called.Called ps·1 r·1 (claims· .3) T2 (Num.vAt 4 λ x. x, (record { pos = 5; st = []; d = 0; at = λ x. x }, tt)) (m1 (before·
-              .before) (After-slot-at·gave before·))
+          After-is-aside·own = Called.Called ps·1 r·1 (claims· .3) T2 (
+            record { pos = 4; st = []; d = 0; at = λ x. x },
+            (
+              record {
+                pos = 5;
+                st = [];
+                d =
+                    0;
+                at = λ x. x;
+              },
+              tt,
+            ),
+          ) (m1 (before· .before) (After-slot-at·gave before·))
 
         pub record After-is-aside : Type 0 where
           pub before : After-slot-at
           pub is-aside : After-is-aside·own before
 
         abbrev pub After-is-aside·gave : (c : After-is-aside) → s1 .gives (m1 (c .before .before) (After-slot-at·gave (c .before)))
-        After-is-aside·gave = λ c. Called.given ps·1 r·1 (claims· .3) T2 (Num.vAt 4 λ x. x, (record { pos = 5; st = []; d = 0; at = λ x. x }, tt)) (m1 (c
-            .before .before) (After-slot-at·gave (c .before))) (c .is-aside)
+        After-is-aside·gave = λ c. Called.given ps·1 r·1 (claims· .3) T2 (
+          record { pos = 4; st = []; d = 0; at = λ x. x },
+          (
+            record {
+              pos = 5;
+              st = [];
+              d = 0;
+              at = λ x. x;
+            },
+            tt,
+          ),
+        ) (m1 (c .before .before) (After-slot-at·gave (c .before))) (c .is-aside)
 
         abbrev pub m3 : (before : After-slot-at) → (given : s1 .gives (m1 (before .before) (After-slot-at·gave before))) → Typed.Mo T4
         m3 = λ before given. s2 (m2 before given)
 
         abbrev pub m4 : (before : After-slot-at) → (given : s1 .gives (m1 (before .before) (After-slot-at·gave before))) → Typed.Mo T5
-        m4 = λ before given. s3 .next (m3 before given)
+        m4 = λ before given. s3 (m3 before given)
+
+        abbrev pub m5 : (before : After-slot-at) → (given : s1 .gives (m1 (before .before) (After-slot-at·gave before))) → Typed.Mo T6
+        m5 = λ before given. s4 .next (m4 before given)
 
         abbrev pub Need-both-of-requires : Type 0
-        Need-both-of-requires = (c : After-is-aside) → s4 .asks (m4 (c .before) (After-is-aside·gave c))
+        Need-both-of-requires = (c : After-is-aside) → s5 .asks (m5 (c .before) (After-is-aside·gave c))
 
-        abbrev pub m5 : (before : After-is-aside) → (given : s4 .gives (m4 (before .before) (After-is-aside·gave before))) → Typed.Mo T6
-        m5 = λ before given. s4 .next (m4 (before .before) (After-is-aside·gave before)) given
+        abbrev pub m6 : (before : After-is-aside) → (given : s5 .gives (m5 (before .before) (After-is-aside·gave before))) → Typed.Mo T7
+        m6 = λ before given. s5 .next (m5 (before .before) (After-is-aside·gave before)) given
 
         module _ (before· : After-is-aside) where
           abbrev pub After-both-of·own : Type 0
-          After-both-of·own = Called.Called ps·2 r·2 (claims· .5) T5 (Bool.bAt 7 λ x. x, (Bool.bAt 6 λ x. x, tt)) (m4 (before· .before) (After-is-aside·gave
+          After-both-of·own = Called.Called ps·2 r·2 (claims· .5) T6 (Bool.bAt 7 λ x. x, (Bool.bAt 6 λ x. x, tt)) (m5 (before· .before) (After-is-aside·gave
               before·))
 
         pub record After-both-of : Type 0 where
           pub before : After-is-aside
           pub both-of : After-both-of·own before
 
-        abbrev pub After-both-of·gave : (c : After-both-of) → s4 .gives (m4 (c .before .before) (After-is-aside·gave (c .before)))
-        After-both-of·gave = λ c. Called.given ps·2 r·2 (claims· .5) T5 (Bool.bAt 7 λ x. x, (Bool.bAt 6 λ x. x, tt)) (m4 (c .before .before) (After-is-aside·gave
+        abbrev pub After-both-of·gave : (c : After-both-of) → s5 .gives (m5 (c .before .before) (After-is-aside·gave (c .before)))
+        After-both-of·gave = λ c. Called.given ps·2 r·2 (claims· .5) T6 (Bool.bAt 7 λ x. x, (Bool.bAt 6 λ x. x, tt)) (m5 (c .before .before) (After-is-aside·gave
             (c .before))) (c .both-of)
 
-        abbrev pub m6 : (before : After-is-aside) → (given : s4 .gives (m4 (before .before) (After-is-aside·gave before))) → Typed.Mo T7
-        m6 = λ before given. s5 (m5 before given)
-
-        abbrev pub m7 : (before : After-is-aside) → (given : s4 .gives (m4 (before .before) (After-is-aside·gave before))) → Typed.Mo T8
+        abbrev pub m7 : (before : After-is-aside) → (given : s5 .gives (m5 (before .before) (After-is-aside·gave before))) → Typed.Mo T8
         m7 = λ before given. s6 (m6 before given)
 
-        abbrev pub m8 : (before : After-is-aside) → (given : s4 .gives (m4 (before .before) (After-is-aside·gave before))) → Typed.Mo T9
+        abbrev pub m8 : (before : After-is-aside) → (given : s5 .gives (m5 (before .before) (After-is-aside·gave before))) → Typed.Mo T9
         m8 = λ before given. s7 (m7 before given)
 
-        abbrev pub m9 : (before : After-is-aside) → (given : s4 .gives (m4 (before .before) (After-is-aside·gave before))) → Typed.Mo T10
+        abbrev pub m9 : (before : After-is-aside) → (given : s5 .gives (m5 (before .before) (After-is-aside·gave before))) → Typed.Mo T10
         m9 = λ before given. s8 (m8 before given)
 
-        abbrev pub m10 : (before : After-is-aside) → (given : s4 .gives (m4 (before .before) (After-is-aside·gave before))) → Typed.Mo T11
+        abbrev pub m10 : (before : After-is-aside) → (given : s5 .gives (m5 (before .before) (After-is-aside·gave before))) → Typed.Mo T11
         m10 = λ before given. s9 (m9 before given)
 
         abbrev pub Need-returns : Type 0
@@ -592,7 +726,7 @@ module _ (claims· : Claims) where
 
         module _ (slot-at-requires : Need-slot-at-requires) (is-aside-requires : Need-is-aside-requires) (both-of-requires : Need-both-of-requires) (returns :
             Need-returns) where
-          lay3 : (c : After-both-of) → at5 (W0 (c .before .before .before .κs) (c .before .before .before .args)) (m5 (c .before) (After-both-of·gave c))
+          lay3 : (c : After-both-of) → at4 (W0 (c .before .before .before .κs) (c .before .before .before .args)) (m6 (c .before) (After-both-of·gave c))
           lay3 = λ c. ((Path'.refl, (tt, (tt, (tt, tt)))), returns record { before = c .before; both-of = c .both-of })
 
           lay2 : (c : After-is-aside) → at8 (W0 (c .before .before .κs) (c .before .before .args)) (m2 (c .before) (After-is-aside·gave c))
@@ -605,7 +739,7 @@ module _ (claims· : Claims) where
                   before = c .before;
                   is-aside = c .is-aside;
                 };
-                both-of = Called.called ps·2 r·2 (claims· .5) T5 (Bool.bAt 7 λ x. x, (Bool.bAt 6 λ x. x, tt)) (m4 (c .before)
+                both-of = Called.called ps·2 r·2 (claims· .5) T6 (Bool.bAt 7 λ x. x, (Bool.bAt 6 λ x. x, tt)) (m5 (c .before)
                     (After-is-aside·gave c)) g;
               },
             ),
@@ -620,8 +754,19 @@ module _ (claims· : Claims) where
                 slot-at =
                     c .slot-at;
               };
-              is-aside = Called.called ps·1 r·1 (claims· .3) T2 (Num.vAt 4 λ x. x, (record { pos = 5; st = []; d = 0; at = λ x. x }, tt)) (m1
-                  (c .before) (After-slot-at·gave c)) g;
+              is-aside = Called.called ps·1 r·1 (claims· .3) T2 (
+                record { pos = 4; st = []; d = 0; at = λ x. x },
+                (
+                  record {
+                    pos = 5;
+                    st =
+                        [];
+                    d = 0;
+                    at = λ x. x;
+                  },
+                  tt,
+                ),
+              ) (m1 (c .before) (After-slot-at·gave c)) g;
             },
           )
 
@@ -650,7 +795,7 @@ module _ (claims· : Claims) where
               args = record { table = a .0; k = a .1 .0; m = a .1 .1 .0; x = a .1 .1 .1 .0 };
               good = good;
               fits =
-                  record { k = record { fits = good .1 .0 .1 }; m = record { fits = good .1 .1 .0 .1 }; x = record { fits = good .1 .1 .1 .0 .1 } };
+                  record { k = record { fits = good .1 .0 .1 }; m = record { fits = good .1 .1 .0 .1 } };
               pre = pre;
             }
 

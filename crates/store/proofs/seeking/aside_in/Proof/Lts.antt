@@ -1,8 +1,10 @@
 -- Machine-made by tools/walks; do not edit.
 use Rattle.store.proofs.SlotAs
 use Prim.Native.Nat
+use Rattle.fields.proofs.Serial
+use Rattle.fields.proofs.Serial.Laws
 use Rattle.search.proofs.Near
-use Rattle.search.proofs.Near.Laws
+use Rattle.search.proofs.Near.Laws as Laws'
 use borrow.Author.Called
 use borrow.Fn.Any
 use borrow.Fn.Call
@@ -27,7 +29,7 @@ use borrow.Table.Typed
 use contract.Lifetimes
 use denote.Exit
 use denote.Struct.Declared
-use denote.Struct.Laws as Laws'
+use denote.Struct.Laws as Laws''
 use denote.Triple.Clauses
 use denote.Triple.Statement
 use ghost.Atoms
@@ -45,23 +47,40 @@ abbrev pub ps : List.List (Kinds.PK 1)
 ps = ShrSlice.pShrS SlotAs.row 0 tt ∷ Num.pNum Syntax.w64 ∷ (Value.pVal record {
   ty = Declared.row Near.the-type;
   one = Path'.refl;
-  val = Laws'.val
-      Near.the-type Laws.the-laws;
-  tells = Laws'.tells Near.the-type Laws.the-laws;
-  still = Laws'.still Near.the-type Laws.the-copy Exit.yes;
-  row = Rows.whole
-      (Declared.row Near.the-type);
+  val = Laws''.val
+      Near.the-type Laws'.the-laws;
+  tells = Laws''.tells Near.the-type Laws'.the-laws;
+  still = Laws''.still Near.the-type Laws'.the-copy Exit.yes;
+  row =
+      Rows.whole (Declared.row Near.the-type);
   rd = λ x. x;
   mk = λ x. x;
 } λ M 𝓤 H A W. record {
-  copies = Laws'.copy Near.the-type Laws.the-copy 𝓤 H A W;
-  lawful =
-      Laws'.lawful Near.the-type Laws.the-laws 𝓤 H A W;
-  makes = Laws'.makes Near.the-type Laws.the-plain 𝓤 H A;
-  in-mem = Local.mem-whole 𝓤 H A W (Declared.row
-      Near.the-type);
+  copies = Laws''.copy Near.the-type Laws'.the-copy 𝓤 H A W;
+  lawful = Laws''.lawful Near.the-type Laws'.the-laws 𝓤 H A W;
+  makes = Laws''.makes Near.the-type Laws'.the-plain 𝓤 H A;
+  in-mem = Local.mem-whole 𝓤 H A W
+      (Declared.row Near.the-type);
   of-mem = Local.whole-mem 𝓤 H A W (Declared.row Near.the-type);
-}) ∷ Num.pNum Syntax.w32 ∷ []
+}) ∷ (Value.pVal record {
+  ty = Declared.row Serial.the-type;
+  one = Path'.refl;
+  val = Laws''.val Serial.the-type Laws.the-laws;
+  tells = Laws''.tells Serial.the-type Laws.the-laws;
+  still = Laws''.still Serial.the-type
+      Laws.the-copy Exit.yes;
+  row = Rows.whole (Declared.row Serial.the-type);
+  rd = λ x. x;
+  mk = λ x. x;
+} λ M 𝓤 H A W. record {
+  copies = Laws''.copy
+      Serial.the-type Laws.the-copy 𝓤 H A W;
+  lawful = Laws''.lawful Serial.the-type Laws.the-laws 𝓤 H A W;
+  makes = Laws''.makes Serial.the-type Laws.the-plain 𝓤
+      H A;
+  in-mem = Local.mem-whole 𝓤 H A W (Declared.row Serial.the-type);
+  of-mem = Local.whole-mem 𝓤 H A W (Declared.row Serial.the-type);
+}) ∷ []
 
 abbrev pub r : Kinds.RK 1
 r = Bool.rBool
@@ -76,29 +95,64 @@ abbrev pub ps·0 : List.List (Kinds.PK 1)
 ps·0 = ShrSlice.pShrS SlotAs.row 0 tt ∷ Num.pNum Syntax.w64 ∷ (Value.pVal record {
   ty = Declared.row Near.the-type;
   one = Path'.refl;
-  val = Laws'.val
-      Near.the-type Laws.the-laws;
-  tells = Laws'.tells Near.the-type Laws.the-laws;
-  still = Laws'.still Near.the-type Laws.the-copy Exit.yes;
-  row = Rows.whole
-      (Declared.row Near.the-type);
+  val = Laws''.val
+      Near.the-type Laws'.the-laws;
+  tells = Laws''.tells Near.the-type Laws'.the-laws;
+  still = Laws''.still Near.the-type Laws'.the-copy Exit.yes;
+  row =
+      Rows.whole (Declared.row Near.the-type);
   rd = λ x. x;
   mk = λ x. x;
 } λ M 𝓤 H A W. record {
-  copies = Laws'.copy Near.the-type Laws.the-copy 𝓤 H A W;
-  lawful =
-      Laws'.lawful Near.the-type Laws.the-laws 𝓤 H A W;
-  makes = Laws'.makes Near.the-type Laws.the-plain 𝓤 H A;
-  in-mem = Local.mem-whole 𝓤 H A W (Declared.row
-      Near.the-type);
+  copies = Laws''.copy Near.the-type Laws'.the-copy 𝓤 H A W;
+  lawful = Laws''.lawful Near.the-type Laws'.the-laws 𝓤 H A W;
+  makes = Laws''.makes Near.the-type Laws'.the-plain 𝓤 H A;
+  in-mem = Local.mem-whole 𝓤 H A W
+      (Declared.row Near.the-type);
   of-mem = Local.whole-mem 𝓤 H A W (Declared.row Near.the-type);
-}) ∷ Num.pNum Syntax.w32 ∷ []
+}) ∷ (Value.pVal record {
+  ty = Declared.row Serial.the-type;
+  one = Path'.refl;
+  val = Laws''.val Serial.the-type Laws.the-laws;
+  tells = Laws''.tells Serial.the-type Laws.the-laws;
+  still = Laws''.still Serial.the-type
+      Laws.the-copy Exit.yes;
+  row = Rows.whole (Declared.row Serial.the-type);
+  rd = λ x. x;
+  mk = λ x. x;
+} λ M 𝓤 H A W. record {
+  copies = Laws''.copy
+      Serial.the-type Laws.the-copy 𝓤 H A W;
+  lawful = Laws''.lawful Serial.the-type Laws.the-laws 𝓤 H A W;
+  makes = Laws''.makes Serial.the-type Laws.the-plain 𝓤
+      H A;
+  in-mem = Local.mem-whole 𝓤 H A W (Declared.row Serial.the-type);
+  of-mem = Local.whole-mem 𝓤 H A W (Declared.row Serial.the-type);
+}) ∷ []
 
 abbrev pub r·0 : Kinds.RK 1
 r·0 = Num.rNum Syntax.w64
 
 abbrev pub ps·1 : List.List (Kinds.PK 1)
-ps·1 = ShrSlice.pShrS SlotAs.row 0 tt ∷ Num.pNum Syntax.w64 ∷ Num.pNum Syntax.w64 ∷ Num.pNum Syntax.w32 ∷ []
+ps·1 = ShrSlice.pShrS SlotAs.row 0 tt ∷ Num.pNum Syntax.w64 ∷ Num.pNum Syntax.w64 ∷ (Value.pVal record {
+  ty = Declared.row Serial.the-type;
+  one = Path'.refl;
+  val = Laws''.val Serial.the-type Laws.the-laws;
+  tells = Laws''.tells Serial.the-type Laws.the-laws;
+  still = Laws''.still Serial.the-type Laws.the-copy
+      Exit.yes;
+  row = Rows.whole (Declared.row Serial.the-type);
+  rd = λ x. x;
+  mk = λ x. x;
+} λ M 𝓤 H A W. record {
+  copies = Laws''.copy Serial.the-type
+      Laws.the-copy 𝓤 H A W;
+  lawful = Laws''.lawful Serial.the-type Laws.the-laws 𝓤 H A W;
+  makes = Laws''.makes Serial.the-type Laws.the-plain 𝓤 H A;
+  in-mem =
+      Local.mem-whole 𝓤 H A W (Declared.row Serial.the-type);
+  of-mem = Local.whole-mem 𝓤 H A W (Declared.row Serial.the-type);
+}) ∷ []
 
 abbrev pub r·1 : Kinds.RK 1
 r·1 = Bool.rBool
@@ -134,7 +188,8 @@ t0 = (0, Rows.any-gone Syntax.tyBool) ∷ (1, Rows.sslice SlotAs.row (Syntax.tyR
   2,
   Rows.sc-here (Row.sInt
       Syntax.w64),
-) ∷ (3, Rows.whole (Declared.row Near.the-type)) ∷ (4, Rows.sc-here (Row.sInt Syntax.w32)) ∷ (5, Rows.any-gone (Syntax.tyInt Syntax.w64)) ∷ []
+) ∷ (3, Rows.whole (Declared.row Near.the-type)) ∷ (4, Rows.whole (Declared.row Serial.the-type)) ∷ (5, Rows.any-gone (Syntax.tyInt Syntax.w64))
+    ∷ []
 
 abbrev pub t1 : List.List Row.Entry
 t1 = (0, Rows.sc-here Row.sBool) ∷ (1, Rows.sslice SlotAs.row (Syntax.tyRef (Syntax.named 0) Syntax.imm SlotAs.pointee) 0) ∷ (
@@ -144,19 +199,20 @@ t1 = (0, Rows.sc-here Row.sBool) ∷ (1, Rows.sslice SlotAs.row (Syntax.tyRef (S
 ) ∷ (
   3,
   Rows.any-gone (Syntax.tyStruct (115 ∷ 101 ∷ 97 ∷ 114 ∷ 99 ∷ 104 ∷ 58 ∷ 58 ∷ 78 ∷ 101 ∷ 97 ∷ 114 ∷ []) (Syntax.tcons (Syntax.tyInt
-      Syntax.w64) (Syntax.tcons (Syntax.tyInt Syntax.w32) Syntax.tnil))),
-) ∷ (4, Rows.any-gone (Syntax.tyInt Syntax.w32)) ∷ (
-  5,
-  Rows.any-gone (Syntax.tyInt
-      Syntax.w64),
-) ∷ []
+      Syntax.w64) (Syntax.tcons (Syntax.tyStruct (102 ∷ 105 ∷ 101 ∷ 108 ∷ 100 ∷ 115 ∷ 58 ∷ 58 ∷ 83 ∷ 101 ∷ 114 ∷ 105 ∷ 97 ∷ 108 ∷ []) (Syntax.tcons (Syntax.tyInt
+      Syntax.w32) Syntax.tnil)) Syntax.tnil))),
+) ∷ (
+  4,
+  Rows.any-gone (Syntax.tyStruct (102 ∷ 105 ∷ 101 ∷ 108 ∷ 100 ∷ 115 ∷ 58 ∷ 58 ∷ 83 ∷ 101 ∷ 114 ∷ 105 ∷ 97 ∷
+      108 ∷ []) (Syntax.tcons (Syntax.tyInt Syntax.w32) Syntax.tnil)),
+) ∷ (5, Rows.any-gone (Syntax.tyInt Syntax.w64)) ∷ []
 
 abbrev pub t2 : List.List Row.Entry
 t2 = (0, Rows.any-gone Syntax.tyBool) ∷ (1, Rows.sslice SlotAs.row (Syntax.tyRef (Syntax.named 0) Syntax.imm SlotAs.pointee) 0) ∷ (
   2,
   Rows.sc-here (Row.sInt
       Syntax.w64),
-) ∷ (3, Rows.whole (Declared.row Near.the-type)) ∷ (4, Rows.sc-here (Row.sInt Syntax.w32)) ∷ (5, Rows.sc-here (Row.sInt Syntax.w64)) ∷ []
+) ∷ (3, Rows.whole (Declared.row Near.the-type)) ∷ (4, Rows.whole (Declared.row Serial.the-type)) ∷ (5, Rows.sc-here (Row.sInt Syntax.w64)) ∷ []
 
 abbrev pub t3 : List.List Row.Entry
 t3 = (0, Rows.any-gone Syntax.tyBool) ∷ (1, Rows.sslice SlotAs.row (Syntax.tyRef (Syntax.named 0) Syntax.imm SlotAs.pointee) 0) ∷ (
@@ -166,9 +222,9 @@ t3 = (0, Rows.any-gone Syntax.tyBool) ∷ (1, Rows.sslice SlotAs.row (Syntax.tyR
 ) ∷ (
   3,
   Rows.any-gone (Syntax.tyStruct (115 ∷ 101 ∷ 97 ∷ 114 ∷ 99 ∷ 104 ∷ 58 ∷ 58 ∷ 78 ∷ 101 ∷ 97 ∷ 114 ∷ []) (Syntax.tcons (Syntax.tyInt
-      Syntax.w64) (Syntax.tcons (Syntax.tyInt Syntax.w32) Syntax.tnil))),
-) ∷ (4, Rows.sc-here (Row.sInt Syntax.w32)) ∷ (5, Rows.sc-here (Row.sInt Syntax.w64)) ∷
-    []
+      Syntax.w64) (Syntax.tcons (Syntax.tyStruct (102 ∷ 105 ∷ 101 ∷ 108 ∷ 100 ∷ 115 ∷ 58 ∷ 58 ∷ 83 ∷ 101 ∷ 114 ∷ 105 ∷ 97 ∷ 108 ∷ []) (Syntax.tcons (Syntax.tyInt
+      Syntax.w32) Syntax.tnil)) Syntax.tnil))),
+) ∷ (4, Rows.whole (Declared.row Serial.the-type)) ∷ (5, Rows.sc-here (Row.sInt Syntax.w64)) ∷ []
 
 abbrev pub t4 : List.List Row.Entry
 t4 = (0, Rows.sc-here Row.sBool) ∷ (1, Rows.sslice SlotAs.row (Syntax.tyRef (Syntax.named 0) Syntax.imm SlotAs.pointee) 0) ∷ (
@@ -178,9 +234,9 @@ t4 = (0, Rows.sc-here Row.sBool) ∷ (1, Rows.sslice SlotAs.row (Syntax.tyRef (S
 ) ∷ (
   3,
   Rows.any-gone (Syntax.tyStruct (115 ∷ 101 ∷ 97 ∷ 114 ∷ 99 ∷ 104 ∷ 58 ∷ 58 ∷ 78 ∷ 101 ∷ 97 ∷ 114 ∷ []) (Syntax.tcons (Syntax.tyInt
-      Syntax.w64) (Syntax.tcons (Syntax.tyInt Syntax.w32) Syntax.tnil))),
-) ∷ (4, Rows.sc-here (Row.sInt Syntax.w32)) ∷ (5, Rows.sc-here (Row.sInt Syntax.w64)) ∷
-    []
+      Syntax.w64) (Syntax.tcons (Syntax.tyStruct (102 ∷ 105 ∷ 101 ∷ 108 ∷ 100 ∷ 115 ∷ 58 ∷ 58 ∷ 83 ∷ 101 ∷ 114 ∷ 105 ∷ 97 ∷ 108 ∷ []) (Syntax.tcons (Syntax.tyInt
+      Syntax.w32) Syntax.tnil)) Syntax.tnil))),
+) ∷ (4, Rows.whole (Declared.row Serial.the-type)) ∷ (5, Rows.sc-here (Row.sInt Syntax.w64)) ∷ []
 
 abbrev pub t5 : List.List Row.Entry
 t5 = (0, Rows.sc-here Row.sBool) ∷ (1, Rows.sslice SlotAs.row (Syntax.tyRef (Syntax.named 0) Syntax.imm SlotAs.pointee) 0) ∷ (
@@ -190,27 +246,29 @@ t5 = (0, Rows.sc-here Row.sBool) ∷ (1, Rows.sslice SlotAs.row (Syntax.tyRef (S
 ) ∷ (
   3,
   Rows.any-gone (Syntax.tyStruct (115 ∷ 101 ∷ 97 ∷ 114 ∷ 99 ∷ 104 ∷ 58 ∷ 58 ∷ 78 ∷ 101 ∷ 97 ∷ 114 ∷ []) (Syntax.tcons (Syntax.tyInt
-      Syntax.w64) (Syntax.tcons (Syntax.tyInt Syntax.w32) Syntax.tnil))),
-) ∷ (4, Rows.sc-here (Row.sInt Syntax.w32)) ∷ (
-  5,
-  Rows.any-gone (Syntax.tyInt
-      Syntax.w64),
-) ∷ []
+      Syntax.w64) (Syntax.tcons (Syntax.tyStruct (102 ∷ 105 ∷ 101 ∷ 108 ∷ 100 ∷ 115 ∷ 58 ∷ 58 ∷ 83 ∷ 101 ∷ 114 ∷ 105 ∷ 97 ∷ 108 ∷ []) (Syntax.tcons (Syntax.tyInt
+      Syntax.w32) Syntax.tnil)) Syntax.tnil))),
+) ∷ (
+  4,
+  Rows.any-gone (Syntax.tyStruct (102 ∷ 105 ∷ 101 ∷ 108 ∷ 100 ∷ 115 ∷ 58 ∷ 58 ∷ 83 ∷ 101 ∷ 114 ∷ 105 ∷ 97 ∷
+      108 ∷ []) (Syntax.tcons (Syntax.tyInt Syntax.w32) Syntax.tnil)),
+) ∷ (5, Rows.sc-here (Row.sInt Syntax.w64)) ∷ []
 
 abbrev pub t6 : List.List Row.Entry
 t6 = (0, Rows.sc-here Row.sBool) ∷ (1, Rows.sslice SlotAs.row (Syntax.tyRef (Syntax.named 0) Syntax.imm SlotAs.pointee) 0) ∷ (
   2,
-  Rows.any-gone (Syntax.tyInt
+  Rows.sc-here (Row.sInt
       Syntax.w64),
 ) ∷ (
   3,
   Rows.any-gone (Syntax.tyStruct (115 ∷ 101 ∷ 97 ∷ 114 ∷ 99 ∷ 104 ∷ 58 ∷ 58 ∷ 78 ∷ 101 ∷ 97 ∷ 114 ∷ []) (Syntax.tcons (Syntax.tyInt
-      Syntax.w64) (Syntax.tcons (Syntax.tyInt Syntax.w32) Syntax.tnil))),
-) ∷ (4, Rows.sc-here (Row.sInt Syntax.w32)) ∷ (
-  5,
-  Rows.any-gone (Syntax.tyInt
-      Syntax.w64),
-) ∷ []
+      Syntax.w64) (Syntax.tcons (Syntax.tyStruct (102 ∷ 105 ∷ 101 ∷ 108 ∷ 100 ∷ 115 ∷ 58 ∷ 58 ∷ 83 ∷ 101 ∷ 114 ∷ 105 ∷ 97 ∷ 108 ∷ []) (Syntax.tcons (Syntax.tyInt
+      Syntax.w32) Syntax.tnil)) Syntax.tnil))),
+) ∷ (
+  4,
+  Rows.any-gone (Syntax.tyStruct (102 ∷ 105 ∷ 101 ∷ 108 ∷ 100 ∷ 115 ∷ 58 ∷ 58 ∷ 83 ∷ 101 ∷ 114 ∷ 105 ∷ 97 ∷
+      108 ∷ []) (Syntax.tcons (Syntax.tyInt Syntax.w32) Syntax.tnil)),
+) ∷ (5, Rows.any-gone (Syntax.tyInt Syntax.w64)) ∷ []
 
 abbrev pub T0 : Row.Cx
 T0 = record { locals = t0; slots = [] }
@@ -243,27 +301,30 @@ module _ (claims· : Claims) where
   abbrev s0 : Typed.Both T0 T2
   s0 = Call.callB ps·0 r·0 (claims· .0) (claims· .1) T0 (
     record { pos = 1; ty = Syntax.tyRef (Syntax.named 0) Syntax.imm SlotAs.pointee; ref = λ x. x },
-    (Num.vAt 2 λ x. x, (record { pos = 3; st = []; d = 0; at = λ x. x }, (Num.vAt 4 λ x. x, tt))),
-  ) 5 (0 ∷ []) (Syntax.tyInt Syntax.w64)
+    (Num.vAt 2 λ x. x, (record { pos = 3; st = []; d = 0; at = λ x. x }, (record { pos = 4; st = []; d = 0; at = λ x. x }, tt))),
+  ) 5 (0 ∷ [])
+      (Syntax.tyInt Syntax.w64)
 
   abbrev s1 : Typed.Mo T2 → Typed.Mo T3
   s1 = Scalar.n-room T2 3 (Syntax.tyStruct (115 ∷ 101 ∷ 97 ∷ 114 ∷ 99 ∷ 104 ∷ 58 ∷ 58 ∷ 78 ∷ 101 ∷ 97 ∷ 114 ∷ []) (Syntax.tcons (Syntax.tyInt Syntax.w64)
-      (Syntax.tcons (Syntax.tyInt Syntax.w32) Syntax.tnil)))
+      (Syntax.tcons (Syntax.tyStruct (102 ∷ 105 ∷ 101 ∷ 108 ∷ 100 ∷ 115 ∷ 58 ∷ 58 ∷ 83 ∷ 101 ∷ 114 ∷ 105 ∷ 97 ∷ 108 ∷ []) (Syntax.tcons (Syntax.tyInt
+      Syntax.w32) Syntax.tnil)) Syntax.tnil)))
 
   abbrev s2 : Typed.Both T3 T4
   s2 = Call.callB ps·1 r·1 (claims· .2) (claims· .3) T3 (
     record { pos = 1; ty = Syntax.tyRef (Syntax.named 0) Syntax.imm SlotAs.pointee; ref = λ x. x },
-    (Num.vAt 2 λ x. x, (Num.vAt 5 λ x. x, (Num.vAt 4 λ x. x, tt))),
+    (Num.vAt 2 λ x. x, (Num.vAt 5 λ x. x, (record { pos = 4; st = []; d = 0; at = λ x. x }, tt))),
   ) 0 (0 ∷ []) Syntax.tyBool
 
   abbrev s3 : Typed.Mo T4 → Typed.Mo T5
-  s3 = Scalar.n-room T4 5 (Syntax.tyInt Syntax.w64)
+  s3 = Scalar.n-room T4 4 (Syntax.tyStruct (102 ∷ 105 ∷ 101 ∷ 108 ∷ 100 ∷ 115 ∷ 58 ∷ 58 ∷ 83 ∷ 101 ∷ 114 ∷ 105 ∷ 97 ∷ 108 ∷ []) (Syntax.tcons (Syntax.tyInt
+      Syntax.w32) Syntax.tnil))
 
   abbrev s4 : Typed.Mo T5 → Typed.Mo T6
-  s4 = Scalar.n-room T5 2 (Syntax.tyInt Syntax.w64)
+  s4 = Scalar.n-room T5 5 (Syntax.tyInt Syntax.w64)
 
   abbrev s5 : Typed.Mo T6 → Typed.Mo T7
-  s5 = Scalar.n-room T6 4 (Syntax.tyInt Syntax.w32)
+  s5 = Scalar.n-room T6 2 (Syntax.tyInt Syntax.w64)
 
   module _ (Pre· : (κs : Lifetimes.Lfts 1) → Kinds.Dens κs ps → Type 0) (Post· : (κs : Lifetimes.Lfts 1) → (a : Kinds.Dens κs ps) → Kinds.Plain 1 ps r κs)
     where
@@ -340,16 +401,18 @@ module _ (claims· : Claims) where
             d0 = Typed.t-return 𝓤 H A W 𝓣 E Δ0 tt
 
             d1 : Typed.Typed 𝓤 H A 𝓣 E G6 b2 Δ0 at1
-            d1 = Typed.g-pre 𝓤 H A W 𝓣 E G6 G7 b2 Δ0 (Typed.pass T6 T7 s5) at0 (Scalar.g-room 𝓤 H A W E G6 4 (Syntax.tyInt Syntax.w32) (Scalar.room-sc 𝓤 H A W
-                (Row.sInt Syntax.w32))) d0
+            d1 = Typed.g-pre 𝓤 H A W 𝓣 E G6 G7 b2 Δ0 (Typed.pass T6 T7 s5) at0 (Scalar.g-room 𝓤 H A W E G6 2 (Syntax.tyInt Syntax.w64) (Scalar.room-sc 𝓤 H A W
+                (Row.sInt Syntax.w64))) d0
 
             d2 : Typed.Typed 𝓤 H A 𝓣 E G5 b2 Δ0 at2
-            d2 = Typed.g-pre 𝓤 H A W 𝓣 E G5 G6 b2 Δ0 (Typed.pass T5 T6 s4) at1 (Scalar.g-room 𝓤 H A W E G5 2 (Syntax.tyInt Syntax.w64) (Scalar.room-sc 𝓤 H A W
+            d2 = Typed.g-pre 𝓤 H A W 𝓣 E G5 G6 b2 Δ0 (Typed.pass T5 T6 s4) at1 (Scalar.g-room 𝓤 H A W E G5 5 (Syntax.tyInt Syntax.w64) (Scalar.room-sc 𝓤 H A W
                 (Row.sInt Syntax.w64))) d1
 
             d3 : Typed.Typed 𝓤 H A 𝓣 E G4 b2 Δ0 at3
-            d3 = Typed.g-pre 𝓤 H A W 𝓣 E G4 G5 b2 Δ0 (Typed.pass T4 T5 s3) at2 (Scalar.g-room 𝓤 H A W E G4 5 (Syntax.tyInt Syntax.w64) (Scalar.room-sc 𝓤 H A W
-                (Row.sInt Syntax.w64))) d2
+            d3 = Typed.g-pre 𝓤 H A W 𝓣 E G4 G5 b2 Δ0 (Typed.pass T4 T5 s3) at2 (Scalar.g-room 𝓤 H A W E G4 4 (Syntax.tyStruct (102 ∷ 105 ∷ 101 ∷ 108 ∷ 100 ∷ 115
+                ∷ 58 ∷ 58 ∷ 83 ∷ 101 ∷ 114 ∷ 105 ∷ 97 ∷ 108 ∷ []) (Syntax.tcons (Syntax.tyInt Syntax.w32) Syntax.tnil)) (Local.room-whole 𝓤 H A W (Declared.row
+                Serial.the-type) (Syntax.tyStruct (102 ∷ 105 ∷ 101 ∷ 108 ∷ 100 ∷ 115 ∷ 58 ∷ 58 ∷ 83 ∷ 101 ∷ 114 ∷ 105 ∷ 97 ∷ 108 ∷ []) (Syntax.tcons
+                (Syntax.tyInt Syntax.w32) Syntax.tnil)) Path'.refl)) d2
 
             d4 : Typed.Typed 𝓤 H A 𝓣 E G3 b3 Δ0 at4
             d4 = Typed.s-seq 𝓤 H A W 𝓣 E G3 G4 b1 b2 Δ0 (Typed.both s2) at3 (Plain.t-call-plain 𝓤 H A W 𝓣 1 ps·1 r·1 (claims· .2) (claims· .3)
@@ -360,32 +423,37 @@ module _ (claims· : Claims) where
                     ref = λ
                         x. x;
                   },
-                  (Num.vAt 2 λ x. x, (Num.vAt 5 λ x. x, (Num.vAt 4 λ x. x, tt))),
-                ) 0 (0 ∷ []) (Call.sub-id 𝓤 H A W (G3 .slots)) (
-                  ShrSlice.spares-sslice 𝓤 H
-                      A W SlotAs.row (Syntax.tyRef (Syntax.named 0) Syntax.imm SlotAs.pointee) 0,
-                  Shared.reads-sslice 𝓤 H A W SlotAs.row (Syntax.tyRef (Syntax.named 0)
-                      Syntax.imm SlotAs.pointee) 0,
+                  (Num.vAt 2 λ x. x, (Num.vAt 5 λ x. x, (record { pos = 4; st = []; d = 0; at = λ x. x }, tt))),
+                ) 0 (0 ∷ []) (Call.sub-id 𝓤 H A W (G3
+                .slots)) (
+                  ShrSlice.spares-sslice 𝓤 H A W SlotAs.row (Syntax.tyRef (Syntax.named 0) Syntax.imm SlotAs.pointee) 0,
+                  Shared.reads-sslice 𝓤 H A W
+                      SlotAs.row (Syntax.tyRef (Syntax.named 0) Syntax.imm SlotAs.pointee) 0,
                   Path'.refl,
                   (
                     (Scalar.reads-sc 𝓤 H A W (Row.sInt Syntax.w64), Path'.refl),
                     (
+                      (Scalar.reads-sc 𝓤 H A W (Row.sInt Syntax.w64), Path'.refl),
                       (
-                        Scalar.reads-sc 𝓤 H A W (Row.sInt
-                            Syntax.w64),
-                        Path'.refl,
+                        (
+                          Yields.yields-copy 𝓤 H A W (λ ρ. Unit) (Declared.row Serial.the-type) Path'.refl
+                              (Copies.cStruct Serial.the-type Laws.the-laws Laws.the-copy .copy 𝓤 H A W) (Rows.whole (Declared.row Serial.the-type)) (λ x. x) (λ x. x) (λ ρ
+                              told. Local.mem-whole 𝓤 H A W (Declared.row Serial.the-type) ρ) λ ρ told. Local.whole-mem 𝓤 H A W (Declared.row Serial.the-type) ρ,
+                          Path'.refl,
+                        ),
+                        tt,
                       ),
-                      ((Scalar.reads-sc 𝓤 H A W (Row.sInt Syntax.w32), Path'.refl), tt),
                     ),
                   ),
-                ) (Reads.room-gone 𝓤 H A Syntax.tyBool) (tt, tt)
-                Path'.refl) d3
+                ) (Reads.room-gone 𝓤 H A Syntax.tyBool) (tt, tt) Path'.refl) d3
 
             d5 : Typed.Typed 𝓤 H A 𝓣 E G2 b3 Δ0 at5
             d5 = Typed.g-pre 𝓤 H A W 𝓣 E G2 G3 b3 Δ0 (Typed.pass T2 T3 s1) at4 (Scalar.g-room 𝓤 H A W E G2 3 (Syntax.tyStruct (115 ∷ 101 ∷ 97 ∷ 114 ∷ 99 ∷ 104 ∷
-                58 ∷ 58 ∷ 78 ∷ 101 ∷ 97 ∷ 114 ∷ []) (Syntax.tcons (Syntax.tyInt Syntax.w64) (Syntax.tcons (Syntax.tyInt Syntax.w32) Syntax.tnil)))
-                (Local.room-whole 𝓤 H A W (Declared.row Near.the-type) (Syntax.tyStruct (115 ∷ 101 ∷ 97 ∷ 114 ∷ 99 ∷ 104 ∷ 58 ∷ 58 ∷ 78 ∷ 101 ∷ 97 ∷ 114 ∷ [])
-                (Syntax.tcons (Syntax.tyInt Syntax.w64) (Syntax.tcons (Syntax.tyInt Syntax.w32) Syntax.tnil))) Path'.refl)) d4
+                58 ∷ 58 ∷ 78 ∷ 101 ∷ 97 ∷ 114 ∷ []) (Syntax.tcons (Syntax.tyInt Syntax.w64) (Syntax.tcons (Syntax.tyStruct (102 ∷ 105 ∷ 101 ∷ 108 ∷ 100 ∷ 115 ∷
+                58 ∷ 58 ∷ 83 ∷ 101 ∷ 114 ∷ 105 ∷ 97 ∷ 108 ∷ []) (Syntax.tcons (Syntax.tyInt Syntax.w32) Syntax.tnil)) Syntax.tnil))) (Local.room-whole 𝓤 H A W
+                (Declared.row Near.the-type) (Syntax.tyStruct (115 ∷ 101 ∷ 97 ∷ 114 ∷ 99 ∷ 104 ∷ 58 ∷ 58 ∷ 78 ∷ 101 ∷ 97 ∷ 114 ∷ []) (Syntax.tcons (Syntax.tyInt
+                Syntax.w64) (Syntax.tcons (Syntax.tyStruct (102 ∷ 105 ∷ 101 ∷ 108 ∷ 100 ∷ 115 ∷ 58 ∷ 58 ∷ 83 ∷ 101 ∷ 114 ∷ 105 ∷ 97 ∷ 108 ∷ []) (Syntax.tcons
+                (Syntax.tyInt Syntax.w32) Syntax.tnil)) Syntax.tnil))) Path'.refl)) d4
 
             d6 : Typed.Typed 𝓤 H A 𝓣 E G0 b4 Δ0 at6
             d6 = Typed.s-seq 𝓤 H A W 𝓣 E G0 G2 b0 b3 Δ0 (Typed.both s0) at5 (Plain.t-call-plain 𝓤 H A W 𝓣 1 ps·0 r·0 (claims· .0) (claims· .1)
@@ -396,27 +464,39 @@ module _ (claims· : Claims) where
                     ref = λ x.
                         x;
                   },
-                  (Num.vAt 2 λ x. x, (record { pos = 3; st = []; d = 0; at = λ x. x }, (Num.vAt 4 λ x. x, tt))),
-                ) 5 (0 ∷ []) (Call.sub-id 𝓤 H A W (G0
-                .slots)) (
-                  ShrSlice.spares-sslice 𝓤 H A W SlotAs.row (Syntax.tyRef (Syntax.named 0) Syntax.imm SlotAs.pointee) 0,
-                  Shared.reads-sslice 𝓤 H A W
-                      SlotAs.row (Syntax.tyRef (Syntax.named 0) Syntax.imm SlotAs.pointee) 0,
+                  (Num.vAt 2 λ x. x, (record { pos = 3; st = []; d = 0; at = λ x. x }, (record { pos = 4; st = []; d = 0; at = λ x. x }, tt))),
+                ) 5
+                (0 ∷ []) (Call.sub-id 𝓤 H A W (G0 .slots)) (
+                  ShrSlice.spares-sslice 𝓤 H A W SlotAs.row (Syntax.tyRef (Syntax.named 0) Syntax.imm SlotAs.pointee)
+                      0,
+                  Shared.reads-sslice 𝓤 H A W SlotAs.row (Syntax.tyRef (Syntax.named 0) Syntax.imm SlotAs.pointee) 0,
                   Path'.refl,
                   (
-                    (Scalar.reads-sc 𝓤 H A W (Row.sInt Syntax.w64), Path'.refl),
+                    (
+                      Scalar.reads-sc 𝓤 H A W
+                          (Row.sInt Syntax.w64),
+                      Path'.refl,
+                    ),
                     (
                       (
-                        Yields.yields-copy 𝓤 H A W (λ ρ. Unit) (Declared.row Near.the-type) Path'.refl (Copies.cStruct Near.the-type Laws.the-laws Laws.the-copy .copy
-                            𝓤 H A W) (Rows.whole (Declared.row Near.the-type)) (λ x. x) (λ x. x) (λ ρ told. Local.mem-whole 𝓤 H A W (Declared.row Near.the-type) ρ) λ ρ told.
-                            Local.whole-mem 𝓤 H A W (Declared.row Near.the-type) ρ,
+                        Yields.yields-copy 𝓤 H A W (λ ρ. Unit) (Declared.row Near.the-type) Path'.refl (Copies.cStruct
+                            Near.the-type Laws'.the-laws Laws'.the-copy .copy 𝓤 H A W) (Rows.whole (Declared.row Near.the-type)) (λ x. x) (λ x. x) (λ ρ told. Local.mem-whole
+                            𝓤 H A W (Declared.row Near.the-type) ρ) λ ρ told. Local.whole-mem 𝓤 H A W (Declared.row Near.the-type) ρ,
                         Path'.refl,
                       ),
-                      ((Scalar.reads-sc 𝓤 H A W (Row.sInt Syntax.w32), Path'.refl), tt),
+                      (
+                        (
+                          Yields.yields-copy 𝓤 H A
+                              W (λ ρ. Unit) (Declared.row Serial.the-type) Path'.refl (Copies.cStruct Serial.the-type Laws.the-laws Laws.the-copy .copy 𝓤 H A W) (Rows.whole
+                              (Declared.row Serial.the-type)) (λ x. x) (λ x. x) (λ ρ told. Local.mem-whole 𝓤 H A W (Declared.row Serial.the-type) ρ) λ ρ told. Local.whole-mem
+                              𝓤 H A W (Declared.row Serial.the-type) ρ,
+                          Path'.refl,
+                        ),
+                        tt,
+                      ),
                     ),
                   ),
-                )
-                (Reads.room-gone 𝓤 H A (Syntax.tyInt Syntax.w64)) (tt, tt) Path'.refl) d5
+                ) (Reads.room-gone 𝓤 H A (Syntax.tyInt Syntax.w64)) (tt, tt) Path'.refl) d5
 
             pub typed : Typed.Typed 𝓤 H A 𝓣 E (Function.Γin 1 ps r xs m κs qs) b4 (Function.Δret 1 ps r xs m κs qs) Φ
             typed = d6
@@ -428,23 +508,41 @@ module _ (claims· : Claims) where
             pub n : Kinds.Den {n = 1} κs (Value.pVal record {
               ty = Declared.row Near.the-type;
               one = Path'.refl;
-              val = Laws'.val Near.the-type Laws.the-laws;
-              tells = Laws'.tells Near.the-type Laws.the-laws;
-              still = Laws'.still Near.the-type Laws.the-copy Exit.yes;
+              val = Laws''.val Near.the-type Laws'.the-laws;
+              tells = Laws''.tells Near.the-type Laws'.the-laws;
+              still = Laws''.still Near.the-type Laws'.the-copy Exit.yes;
               row = Rows.whole (Declared.row
                   Near.the-type);
               rd = λ x. x;
               mk = λ x. x;
             } λ M 𝓤 H A W. record {
-              copies = Laws'.copy Near.the-type Laws.the-copy 𝓤 H A W;
-              lawful = Laws'.lawful
-                  Near.the-type Laws.the-laws 𝓤 H A W;
-              makes = Laws'.makes Near.the-type Laws.the-plain 𝓤 H A;
-              in-mem = Local.mem-whole 𝓤 H A W (Declared.row
-                  Near.the-type);
+              copies = Laws''.copy Near.the-type Laws'.the-copy 𝓤 H A W;
+              lawful =
+                  Laws''.lawful Near.the-type Laws'.the-laws 𝓤 H A W;
+              makes = Laws''.makes Near.the-type Laws'.the-plain 𝓤 H A;
+              in-mem = Local.mem-whole 𝓤 H A W
+                  (Declared.row Near.the-type);
               of-mem = Local.whole-mem 𝓤 H A W (Declared.row Near.the-type);
             })
-            pub x : Kinds.Den {n = 1} κs (Num.pNum Syntax.w32)
+            pub x : Kinds.Den {n = 1} κs (Value.pVal record {
+              ty = Declared.row Serial.the-type;
+              one = Path'.refl;
+              val = Laws''.val Serial.the-type
+                  Laws.the-laws;
+              tells = Laws''.tells Serial.the-type Laws.the-laws;
+              still = Laws''.still Serial.the-type Laws.the-copy Exit.yes;
+              row = Rows.whole
+                  (Declared.row Serial.the-type);
+              rd = λ x. x;
+              mk = λ x. x;
+            } λ M 𝓤 H A W. record {
+              copies = Laws''.copy Serial.the-type Laws.the-copy 𝓤 H A W;
+              lawful = Laws''.lawful Serial.the-type Laws.the-laws 𝓤 H A W;
+              makes = Laws''.makes Serial.the-type Laws.the-plain 𝓤 H A;
+              in-mem = Local.mem-whole
+                  𝓤 H A W (Declared.row Serial.the-type);
+              of-mem = Local.whole-mem 𝓤 H A W (Declared.row Serial.the-type);
+            })
 
           abbrev pub dens : (a : Args) → Kinds.Dens κs ps
           dens = λ a. (a .table, (a .k, (a .n, (a .x, tt))))
@@ -452,7 +550,6 @@ module _ (claims· : Claims) where
           module _ (args· : Args) where
             pub record Ranges : Type 0 where
               pub k : Val.Fits Syntax.w64 (args· .k)
-              pub x : Val.Fits Syntax.w32 (args· .x)
 
         abbrev pub m0 : (κs : Lifetimes.Lfts 1) → (args : Args κs) → Typed.Mo T0
         m0 = λ κs args. (tt, Enter.partsP κs 1 ps xs (dens κs args))
@@ -486,8 +583,9 @@ module _ (claims· : Claims) where
               ty = Syntax.tyRef (Syntax.named 0) Syntax.imm SlotAs.pointee;
               ref = λ x. x;
             },
-            (Num.vAt 2 λ x. x, (record { pos = 3; st = []; d = 0; at = λ x. x }, (Num.vAt 4 λ x. x, tt))),
-          ) (m0 (before· .κs) (before· .args))
+            (Num.vAt 2 λ x. x, (record { pos = 3; st = []; d = 0; at = λ x. x }, (record { pos = 4; st = []; d = 0; at = λ x. x }, tt))),
+          ) (m0
+              (before· .κs) (before· .args))
 
         pub record After-seek : Type 0 where
           pub before : Start
@@ -501,9 +599,9 @@ module _ (claims· : Claims) where
             ref = λ x.
                 x;
           },
-          (Num.vAt 2 λ x. x, (record { pos = 3; st = []; d = 0; at = λ x. x }, (Num.vAt 4 λ x. x, tt))),
-        ) (m0 (c .before .κs) (c .before .args)) (c
-            .seek)
+          (Num.vAt 2 λ x. x, (record { pos = 3; st = []; d = 0; at = λ x. x }, (record { pos = 4; st = []; d = 0; at = λ x. x }, tt))),
+        ) (m0 (c
+            .before .κs) (c .before .args)) (c .seek)
 
         abbrev pub m2 : (before : Start) → (given : s0 .gives (m0 (before .κs) (before .args))) → Typed.Mo T3
         m2 = λ before given. s1 (m1 before given)
@@ -523,8 +621,9 @@ module _ (claims· : Claims) where
               ref = λ x.
                   x;
             },
-            (Num.vAt 2 λ x. x, (Num.vAt 5 λ x. x, (Num.vAt 4 λ x. x, tt))),
-          ) (m2 (before· .before) (After-seek·gave before·))
+            (Num.vAt 2 λ x. x, (Num.vAt 5 λ x. x, (record { pos = 4; st = []; d = 0; at = λ x. x }, tt))),
+          ) (m2 (before· .before) (After-seek·gave
+              before·))
 
         pub record After-aside-at : Type 0 where
           pub before : After-seek
@@ -538,8 +637,9 @@ module _ (claims· : Claims) where
             ref = λ
                 x. x;
           },
-          (Num.vAt 2 λ x. x, (Num.vAt 5 λ x. x, (Num.vAt 4 λ x. x, tt))),
-        ) (m2 (c .before .before) (After-seek·gave (c .before))) (c .aside-at)
+          (Num.vAt 2 λ x. x, (Num.vAt 5 λ x. x, (record { pos = 4; st = []; d = 0; at = λ x. x }, tt))),
+        ) (m2 (c .before .before) (After-seek·gave
+            (c .before))) (c .aside-at)
 
         abbrev pub m4 : (before : After-seek) → (given : s2 .gives (m2 (before .before) (After-seek·gave before))) → Typed.Mo T5
         m4 = λ before given. s3 (m3 before given)
@@ -574,7 +674,7 @@ module _ (claims· : Claims) where
                   ty = Syntax.tyRef (Syntax.named 0) Syntax.imm SlotAs.pointee;
                   ref = λ x. x;
                 },
-                (Num.vAt 2 λ x. x, (Num.vAt 5 λ x. x, (Num.vAt 4 λ x. x, tt))),
+                (Num.vAt 2 λ x. x, (Num.vAt 5 λ x. x, (record { pos = 4; st = []; d = 0; at = λ x. x }, tt))),
               ) (m2 (c .before) (After-seek·gave c)) g;
             },
           )
@@ -596,8 +696,12 @@ module _ (claims· : Claims) where
                   (
                     record { pos = 3; st = []; d = 0; at = λ x. x },
                     (
-                      Num.vAt 4 λ
-                          x. x,
+                      record {
+                        pos = 4;
+                        st = [];
+                        d = 0;
+                        at = λ x. x;
+                      },
                       tt,
                     ),
                   ),
@@ -614,7 +718,7 @@ module _ (claims· : Claims) where
               args = record { table = a .0; k = a .1 .0; n = a .1 .1 .0; x = a .1 .1 .1 .0 };
               good = good;
               fits =
-                  record { k = record { fits = good .1 .0 .1 }; x = record { fits = good .1 .1 .1 .0 .1 } };
+                  record { k = record { fits = good .1 .0 .1 } };
               pre = pre;
             }
 

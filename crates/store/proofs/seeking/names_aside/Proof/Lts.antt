@@ -126,8 +126,9 @@ xs = Syntax.tyStruct (102 ∷ 105 ∷ 101 ∷ 108 ∷ 100 ∷ 115 ∷ 58 ∷ 58 
     ∷ Syntax.tyStruct (102 ∷ 105 ∷ 101 ∷ 108 ∷ 100 ∷ 115 ∷ 58 ∷ 58 ∷ 83 ∷ 101 ∷ 114 ∷ 105 ∷ 97 ∷ 108 ∷ []) (Syntax.tcons (Syntax.tyInt Syntax.w32) Syntax.tnil)
     ∷ Syntax.tyStruct (102 ∷ 105 ∷ 101 ∷ 108 ∷ 100 ∷ 115 ∷ 58 ∷ 58 ∷ 83 ∷ 101 ∷ 114 ∷ 105 ∷ 97 ∷ 108 ∷ []) (Syntax.tcons (Syntax.tyInt Syntax.w32) Syntax.tnil)
     ∷ Syntax.tyInt Syntax.w64 ∷ (Syntax.tyStruct (115 ∷ 101 ∷ 97 ∷ 114 ∷ 99 ∷ 104 ∷ 58 ∷ 58 ∷ 78 ∷ 101 ∷ 97 ∷ 114 ∷ []) (Syntax.tcons (Syntax.tyInt Syntax.w64)
-    (Syntax.tcons (Syntax.tyInt Syntax.w32) Syntax.tnil))) ∷ Syntax.tyBool ∷ Syntax.tyBool ∷ Syntax.tyBool ∷ Syntax.tyBool ∷ Syntax.tyBool ∷ Syntax.tyBool ∷
-    Syntax.tyBool ∷ Syntax.tyBool ∷ Syntax.tyBool ∷ []
+    (Syntax.tcons (Syntax.tyStruct (102 ∷ 105 ∷ 101 ∷ 108 ∷ 100 ∷ 115 ∷ 58 ∷ 58 ∷ 83 ∷ 101 ∷ 114 ∷ 105 ∷ 97 ∷ 108 ∷ []) (Syntax.tcons (Syntax.tyInt Syntax.w32)
+    Syntax.tnil)) Syntax.tnil))) ∷ Syntax.tyBool ∷ Syntax.tyBool ∷ Syntax.tyBool ∷ Syntax.tyBool ∷ Syntax.tyBool ∷ Syntax.tyBool ∷ Syntax.tyBool ∷
+    Syntax.tyBool ∷ Syntax.tyBool ∷ []
 
 abbrev pub m : Nat.ℕ
 m = 0
@@ -151,13 +152,50 @@ ps·0 = ShrSlice.pShrS SlotAs.row 0 tt ∷ Num.pNum Syntax.w64 ∷ (Value.pVal r
   in-mem = Local.mem-whole 𝓤 H A W
       (Declared.row Near.the-type);
   of-mem = Local.whole-mem 𝓤 H A W (Declared.row Near.the-type);
-}) ∷ Num.pNum Syntax.w32 ∷ []
+}) ∷ (Value.pVal record {
+  ty = Declared.row Serial.the-type;
+  one = Path'.refl;
+  val = Laws'4.val Serial.the-type Laws'.the-laws;
+  tells = Laws'4.tells Serial.the-type Laws'.the-laws;
+  still = Laws'4.still
+      Serial.the-type Laws'.the-copy Exit.yes;
+  row = Rows.whole (Declared.row Serial.the-type);
+  rd = λ x. x;
+  mk = λ x. x;
+} λ M 𝓤 H A W. record {
+  copies =
+      Laws'4.copy Serial.the-type Laws'.the-copy 𝓤 H A W;
+  lawful = Laws'4.lawful Serial.the-type Laws'.the-laws 𝓤 H A W;
+  makes = Laws'4.makes Serial.the-type
+      Laws'.the-plain 𝓤 H A;
+  in-mem = Local.mem-whole 𝓤 H A W (Declared.row Serial.the-type);
+  of-mem = Local.whole-mem 𝓤 H A W (Declared.row Serial.the-type);
+})
+    ∷ []
 
 abbrev pub r·0 : Kinds.RK 1
 r·0 = Num.rNum Syntax.w64
 
 abbrev pub ps·1 : List.List (Kinds.PK 1)
-ps·1 = ShrSlice.pShrS SlotAs.row 0 tt ∷ Num.pNum Syntax.w64 ∷ Num.pNum Syntax.w64 ∷ Num.pNum Syntax.w32 ∷ []
+ps·1 = ShrSlice.pShrS SlotAs.row 0 tt ∷ Num.pNum Syntax.w64 ∷ Num.pNum Syntax.w64 ∷ (Value.pVal record {
+  ty = Declared.row Serial.the-type;
+  one = Path'.refl;
+  val = Laws'4.val Serial.the-type Laws'.the-laws;
+  tells = Laws'4.tells Serial.the-type Laws'.the-laws;
+  still = Laws'4.still Serial.the-type Laws'.the-copy
+      Exit.yes;
+  row = Rows.whole (Declared.row Serial.the-type);
+  rd = λ x. x;
+  mk = λ x. x;
+} λ M 𝓤 H A W. record {
+  copies = Laws'4.copy Serial.the-type
+      Laws'.the-copy 𝓤 H A W;
+  lawful = Laws'4.lawful Serial.the-type Laws'.the-laws 𝓤 H A W;
+  makes = Laws'4.makes Serial.the-type Laws'.the-plain 𝓤 H A;
+  in-mem =
+      Local.mem-whole 𝓤 H A W (Declared.row Serial.the-type);
+  of-mem = Local.whole-mem 𝓤 H A W (Declared.row Serial.the-type);
+}) ∷ []
 
 abbrev pub r·1 : Kinds.RK 1
 r·1 = Bool.rBool
@@ -181,7 +219,26 @@ ps·2 = ShrSlice.pShrS SlotAs.row 0 tt ∷ Num.pNum Syntax.w64 ∷ (Value.pVal r
   in-mem = Local.mem-whole 𝓤 H A W
       (Declared.row Near.the-type);
   of-mem = Local.whole-mem 𝓤 H A W (Declared.row Near.the-type);
-}) ∷ Num.pNum Syntax.w32 ∷ []
+}) ∷ (Value.pVal record {
+  ty = Declared.row Serial.the-type;
+  one = Path'.refl;
+  val = Laws'4.val Serial.the-type Laws'.the-laws;
+  tells = Laws'4.tells Serial.the-type Laws'.the-laws;
+  still = Laws'4.still
+      Serial.the-type Laws'.the-copy Exit.yes;
+  row = Rows.whole (Declared.row Serial.the-type);
+  rd = λ x. x;
+  mk = λ x. x;
+} λ M 𝓤 H A W. record {
+  copies =
+      Laws'4.copy Serial.the-type Laws'.the-copy 𝓤 H A W;
+  lawful = Laws'4.lawful Serial.the-type Laws'.the-laws 𝓤 H A W;
+  makes = Laws'4.makes Serial.the-type
+      Laws'.the-plain 𝓤 H A;
+  in-mem = Local.mem-whole 𝓤 H A W (Declared.row Serial.the-type);
+  of-mem = Local.whole-mem 𝓤 H A W (Declared.row Serial.the-type);
+})
+    ∷ []
 
 abbrev pub r·2 : Kinds.RK 1
 r·2 = Bool.rBool
@@ -214,31 +271,30 @@ b4 = Syntax.assign (Syntax.place 9 []) (Syntax.rvOpd (Syntax.copy (Syntax.place 
 
 abbrev b5 : Syntax.Body
 b5 = Syntax.call "store::seeking::seek" (Syntax.copy (Syntax.place 1 []) ∷ Syntax.copy (Syntax.place 2 []) ∷ Syntax.copy (Syntax.place 3 []) ∷
-    Syntax.copy (Syntax.place 5 (Syntax.field 0 ∷ [])) ∷ []) (Syntax.place 10 [])
+    Syntax.copy (Syntax.place 5 []) ∷ []) (Syntax.place 10 [])
 
 abbrev b6 : Syntax.Body
-b6 = Syntax.assign (Syntax.place 11 []) (Syntax.aggregate (Syntax.copy (Syntax.place 10 []) ∷ Syntax.copy (Syntax.place 5 (Syntax.field 0 ∷ [])) ∷
-    []))
+b6 = Syntax.assign (Syntax.place 11 []) (Syntax.aggregate (Syntax.copy (Syntax.place 10 []) ∷ Syntax.copy (Syntax.place 5 []) ∷ []))
 
 abbrev b7 : Syntax.Body
 b7 = Syntax.call "store::seeking::aside_at" (Syntax.copy (Syntax.place 1 []) ∷ Syntax.copy (Syntax.place 2 []) ∷ Syntax.copy (Syntax.place 10
-    []) ∷ Syntax.copy (Syntax.place 5 (Syntax.field 0 ∷ [])) ∷ []) (Syntax.place 12 [])
+    []) ∷ Syntax.copy (Syntax.place 5 []) ∷ []) (Syntax.place 12 [])
 
 abbrev b8 : Syntax.Body
 b8 = Syntax.call "store::seeking::aside_in" (Syntax.copy (Syntax.place 1 []) ∷ Syntax.copy (Syntax.place 2 []) ∷ Syntax.copy (Syntax.place 11
-    []) ∷ Syntax.copy (Syntax.place 6 (Syntax.field 0 ∷ [])) ∷ []) (Syntax.place 13 [])
+    []) ∷ Syntax.copy (Syntax.place 6 []) ∷ []) (Syntax.place 13 [])
 
 abbrev b9 : Syntax.Body
 b9 = Syntax.call "store::seeking::aside_in" (Syntax.copy (Syntax.place 1 []) ∷ Syntax.copy (Syntax.place 2 []) ∷ Syntax.copy (Syntax.place 11
-    []) ∷ Syntax.copy (Syntax.place 7 (Syntax.field 0 ∷ [])) ∷ []) (Syntax.place 14 [])
+    []) ∷ Syntax.copy (Syntax.place 7 []) ∷ []) (Syntax.place 14 [])
 
 abbrev b10 : Syntax.Body
 b10 = Syntax.call "store::seeking::aside_in" (Syntax.copy (Syntax.place 1 []) ∷ Syntax.copy (Syntax.place 2 []) ∷ Syntax.copy (Syntax.place 11
-    []) ∷ Syntax.copy (Syntax.place 8 (Syntax.field 0 ∷ [])) ∷ []) (Syntax.place 15 [])
+    []) ∷ Syntax.copy (Syntax.place 8 []) ∷ []) (Syntax.place 15 [])
 
 abbrev b11 : Syntax.Body
 b11 = Syntax.call "store::seeking::aside_in" (Syntax.copy (Syntax.place 1 []) ∷ Syntax.copy (Syntax.place 2 []) ∷ Syntax.copy (Syntax.place 11
-    []) ∷ Syntax.copy (Syntax.place 9 (Syntax.field 0 ∷ [])) ∷ []) (Syntax.place 16 [])
+    []) ∷ Syntax.copy (Syntax.place 9 []) ∷ []) (Syntax.place 16 [])
 
 abbrev b12 : Syntax.Body
 b12 = Syntax.call "ascii::either_of" (Syntax.copy (Syntax.place 15 []) ∷ Syntax.copy (Syntax.place 16 []) ∷ []) (Syntax.place 17 [])
@@ -253,7 +309,7 @@ abbrev b15 : Syntax.Body
 b15 = Syntax.call "ascii::either_of" (Syntax.copy (Syntax.place 12 []) ∷ Syntax.copy (Syntax.place 19 []) ∷ []) (Syntax.place 20 [])
 
 abbrev b16 : Syntax.Body
-b16 = Syntax.assign (Syntax.place 0 []) (Syntax.aggregate (Syntax.copy (Syntax.place 20 []) ∷ Syntax.copy (Syntax.place 11 []) ∷ []))
+b16 = Syntax.assign (Syntax.place 0 []) (Syntax.aggregate (Syntax.copy (Syntax.place 11 []) ∷ Syntax.copy (Syntax.place 20 []) ∷ []))
 
 abbrev b17 : Syntax.Body
 b17 = Syntax.return
@@ -319,13 +375,71 @@ Claims = Kinds.In 1 ps·0 × Kinds.Out 1 ps·0 r·0 × Kinds.In 1 ps·1 × Kinds
 abbrev pub t0 : List.List Row.Entry
 t0 = (
   0,
-  Rows.any-gone (Syntax.tyStruct (115 ∷ 101 ∷ 97 ∷ 114 ∷ 99 ∷ 104 ∷ 58 ∷ 58 ∷ 83 ∷ 111 ∷ 117 ∷ 103 ∷ 104 ∷ 116 ∷ []) (Syntax.tcons Syntax.tyBool
-      (Syntax.tcons (Syntax.tyStruct (115 ∷ 101 ∷ 97 ∷ 114 ∷ 99 ∷ 104 ∷ 58 ∷ 58 ∷ 78 ∷ 101 ∷ 97 ∷ 114 ∷ []) (Syntax.tcons (Syntax.tyInt Syntax.w64) (Syntax.tcons
-      (Syntax.tyInt Syntax.w32) Syntax.tnil))) Syntax.tnil))),
+  Rows.any-gone (Syntax.tyStruct (115 ∷ 101 ∷ 97 ∷ 114 ∷ 99 ∷ 104 ∷ 58 ∷ 58 ∷ 83 ∷ 111 ∷ 117 ∷ 103 ∷ 104 ∷ 116 ∷ []) (Syntax.tcons (Syntax.tyStruct (115
+      ∷ 101 ∷ 97 ∷ 114 ∷ 99 ∷ 104 ∷ 58 ∷ 58 ∷ 78 ∷ 101 ∷ 97 ∷ 114 ∷ []) (Syntax.tcons (Syntax.tyInt Syntax.w64) (Syntax.tcons (Syntax.tyStruct (102 ∷ 105 ∷ 101 ∷
+      108 ∷ 100 ∷ 115 ∷ 58 ∷ 58 ∷ 83 ∷ 101 ∷ 114 ∷ 105 ∷ 97 ∷ 108 ∷ []) (Syntax.tcons (Syntax.tyInt Syntax.w32) Syntax.tnil)) Syntax.tnil))) (Syntax.tcons
+      Syntax.tyBool Syntax.tnil))),
 ) ∷ (1, Rows.sslice SlotAs.row (Syntax.tyRef (Syntax.named 0) Syntax.imm SlotAs.pointee) 0) ∷ (
   2,
-  Rows.sc-here (Row.sInt Syntax.w64),
+  Rows.sc-here (Row.sInt
+      Syntax.w64),
 ) ∷ (3, Rows.whole (Declared.row Near.the-type)) ∷ (4, Rows.whole (Declared.row Conect.the-type)) ∷ (
+  5,
+  Rows.any-gone (Syntax.tyStruct (102 ∷
+      105 ∷ 101 ∷ 108 ∷ 100 ∷ 115 ∷ 58 ∷ 58 ∷ 83 ∷ 101 ∷ 114 ∷ 105 ∷ 97 ∷ 108 ∷ []) (Syntax.tcons (Syntax.tyInt Syntax.w32) Syntax.tnil)),
+) ∷ (
+  6,
+  Rows.any-gone
+      (Syntax.tyStruct (102 ∷ 105 ∷ 101 ∷ 108 ∷ 100 ∷ 115 ∷ 58 ∷ 58 ∷ 83 ∷ 101 ∷ 114 ∷ 105 ∷ 97 ∷ 108 ∷ []) (Syntax.tcons (Syntax.tyInt Syntax.w32)
+      Syntax.tnil)),
+) ∷ (
+  7,
+  Rows.any-gone (Syntax.tyStruct (102 ∷ 105 ∷ 101 ∷ 108 ∷ 100 ∷ 115 ∷ 58 ∷ 58 ∷ 83 ∷ 101 ∷ 114 ∷ 105 ∷ 97 ∷ 108 ∷ []) (Syntax.tcons
+      (Syntax.tyInt Syntax.w32) Syntax.tnil)),
+) ∷ (
+  8,
+  Rows.any-gone (Syntax.tyStruct (102 ∷ 105 ∷ 101 ∷ 108 ∷ 100 ∷ 115 ∷ 58 ∷ 58 ∷ 83 ∷ 101 ∷ 114 ∷ 105 ∷ 97 ∷
+      108 ∷ []) (Syntax.tcons (Syntax.tyInt Syntax.w32) Syntax.tnil)),
+) ∷ (
+  9,
+  Rows.any-gone (Syntax.tyStruct (102 ∷ 105 ∷ 101 ∷ 108 ∷ 100 ∷ 115 ∷ 58 ∷ 58 ∷ 83 ∷
+      101 ∷ 114 ∷ 105 ∷ 97 ∷ 108 ∷ []) (Syntax.tcons (Syntax.tyInt Syntax.w32) Syntax.tnil)),
+) ∷ (10, Rows.any-gone (Syntax.tyInt Syntax.w64)) ∷ (
+  11,
+  Rows.any-gone (Syntax.tyStruct (115 ∷ 101 ∷ 97 ∷ 114 ∷ 99 ∷ 104 ∷ 58 ∷ 58 ∷ 78 ∷ 101 ∷ 97 ∷ 114 ∷ []) (Syntax.tcons (Syntax.tyInt Syntax.w64) (Syntax.tcons
+      (Syntax.tyStruct (102 ∷ 105 ∷ 101 ∷ 108 ∷ 100 ∷ 115 ∷ 58 ∷ 58 ∷ 83 ∷ 101 ∷ 114 ∷ 105 ∷ 97 ∷ 108 ∷ []) (Syntax.tcons (Syntax.tyInt Syntax.w32) Syntax.tnil))
+      Syntax.tnil))),
+) ∷ (12, Rows.any-gone Syntax.tyBool) ∷ (13, Rows.any-gone Syntax.tyBool) ∷ (14, Rows.any-gone Syntax.tyBool) ∷ (
+  15,
+  Rows.any-gone
+      Syntax.tyBool,
+) ∷ []
+
+abbrev pub t1 : List.List Row.Entry
+t1 = (16, Rows.any-gone Syntax.tyBool) ∷ (17, Rows.any-gone Syntax.tyBool) ∷ (18, Rows.any-gone Syntax.tyBool) ∷ (19, Rows.any-gone Syntax.tyBool) ∷ (
+  20,
+  Rows.any-gone Syntax.tyBool,
+) ∷ []
+
+abbrev pub t2 : List.List Row.Entry
+t2 = (0, Rows.whole (Declared.row Sought.the-type)) ∷ (1, Rows.sslice SlotAs.row (Syntax.tyRef (Syntax.named 0) Syntax.imm SlotAs.pointee) 0) ∷ (
+  2,
+  Rows.any-gone (Syntax.tyInt Syntax.w64),
+) ∷ (
+  3,
+  Rows.any-gone (Syntax.tyStruct (115 ∷ 101 ∷ 97 ∷ 114 ∷ 99 ∷ 104 ∷ 58 ∷ 58 ∷ 78 ∷ 101 ∷ 97 ∷ 114 ∷ [])
+      (Syntax.tcons (Syntax.tyInt Syntax.w64) (Syntax.tcons (Syntax.tyStruct (102 ∷ 105 ∷ 101 ∷ 108 ∷ 100 ∷ 115 ∷ 58 ∷ 58 ∷ 83 ∷ 101 ∷ 114 ∷ 105 ∷ 97 ∷ 108 ∷ [])
+      (Syntax.tcons (Syntax.tyInt Syntax.w32) Syntax.tnil)) Syntax.tnil))),
+) ∷ (
+  4,
+  Rows.any-gone (Syntax.tyStruct (99 ∷ 111 ∷ 110 ∷ 101 ∷ 99 ∷ 116 ∷ 58 ∷ 58 ∷ 67
+      ∷ 111 ∷ 110 ∷ 101 ∷ 99 ∷ 116 ∷ []) (Syntax.tcons (Syntax.tyStruct (102 ∷ 105 ∷ 101 ∷ 108 ∷ 100 ∷ 115 ∷ 58 ∷ 58 ∷ 83 ∷ 101 ∷ 114 ∷ 105 ∷ 97 ∷ 108 ∷ [])
+      (Syntax.tcons (Syntax.tyInt Syntax.w32) Syntax.tnil)) (Syntax.tcons (Syntax.tyStruct (102 ∷ 105 ∷ 101 ∷ 108 ∷ 100 ∷ 115 ∷ 58 ∷ 58 ∷ 83 ∷ 101 ∷ 114 ∷ 105 ∷
+      97 ∷ 108 ∷ []) (Syntax.tcons (Syntax.tyInt Syntax.w32) Syntax.tnil)) (Syntax.tcons (Syntax.tyStruct (102 ∷ 105 ∷ 101 ∷ 108 ∷ 100 ∷ 115 ∷ 58 ∷ 58 ∷ 83 ∷ 101
+      ∷ 114 ∷ 105 ∷ 97 ∷ 108 ∷ []) (Syntax.tcons (Syntax.tyInt Syntax.w32) Syntax.tnil)) (Syntax.tcons (Syntax.tyStruct (102 ∷ 105 ∷ 101 ∷ 108 ∷ 100 ∷ 115 ∷ 58 ∷
+      58 ∷ 83 ∷ 101 ∷ 114 ∷ 105 ∷ 97 ∷ 108 ∷ []) (Syntax.tcons (Syntax.tyInt Syntax.w32) Syntax.tnil)) (Syntax.tcons (Syntax.tyStruct (102 ∷ 105 ∷ 101 ∷ 108 ∷
+      100 ∷ 115 ∷ 58 ∷ 58 ∷ 83 ∷ 101 ∷ 114 ∷ 105 ∷ 97 ∷ 108 ∷ []) (Syntax.tcons (Syntax.tyInt Syntax.w32) Syntax.tnil)) Syntax.tnil)))))),
+) ∷ (
   5,
   Rows.any-gone
       (Syntax.tyStruct (102 ∷ 105 ∷ 101 ∷ 108 ∷ 100 ∷ 115 ∷ 58 ∷ 58 ∷ 83 ∷ 101 ∷ 114 ∷ 105 ∷ 97 ∷ 108 ∷ []) (Syntax.tcons (Syntax.tyInt Syntax.w32)
@@ -353,97 +467,42 @@ t0 = (
 ) ∷ (
   11,
   Rows.any-gone (Syntax.tyStruct (115 ∷ 101 ∷ 97 ∷ 114 ∷ 99 ∷ 104 ∷ 58 ∷ 58 ∷ 78 ∷ 101 ∷ 97 ∷ 114 ∷ []) (Syntax.tcons (Syntax.tyInt
-      Syntax.w64) (Syntax.tcons (Syntax.tyInt Syntax.w32) Syntax.tnil))),
-) ∷ (12, Rows.any-gone Syntax.tyBool) ∷ (13, Rows.any-gone Syntax.tyBool) ∷ (
-  14,
-  Rows.any-gone Syntax.tyBool,
-) ∷ (15, Rows.any-gone Syntax.tyBool) ∷ []
-
-abbrev pub t1 : List.List Row.Entry
-t1 = (16, Rows.any-gone Syntax.tyBool) ∷ (17, Rows.any-gone Syntax.tyBool) ∷ (18, Rows.any-gone Syntax.tyBool) ∷ (19, Rows.any-gone Syntax.tyBool) ∷ (
-  20,
-  Rows.any-gone Syntax.tyBool,
-) ∷ []
-
-abbrev pub t2 : List.List Row.Entry
-t2 = (0, Rows.whole (Declared.row Sought.the-type)) ∷ (1, Rows.sslice SlotAs.row (Syntax.tyRef (Syntax.named 0) Syntax.imm SlotAs.pointee) 0) ∷ (
-  2,
-  Rows.any-gone (Syntax.tyInt Syntax.w64),
-) ∷ (
-  3,
-  Rows.any-gone (Syntax.tyStruct (115 ∷ 101 ∷ 97 ∷ 114 ∷ 99 ∷ 104 ∷ 58 ∷ 58 ∷ 78 ∷ 101 ∷ 97 ∷ 114 ∷ [])
-      (Syntax.tcons (Syntax.tyInt Syntax.w64) (Syntax.tcons (Syntax.tyInt Syntax.w32) Syntax.tnil))),
-) ∷ (
-  4,
-  Rows.any-gone (Syntax.tyStruct (99 ∷ 111 ∷ 110 ∷ 101
-      ∷ 99 ∷ 116 ∷ 58 ∷ 58 ∷ 67 ∷ 111 ∷ 110 ∷ 101 ∷ 99 ∷ 116 ∷ []) (Syntax.tcons (Syntax.tyStruct (102 ∷ 105 ∷ 101 ∷ 108 ∷ 100 ∷ 115 ∷ 58 ∷ 58 ∷ 83 ∷ 101 ∷ 114 ∷
-      105 ∷ 97 ∷ 108 ∷ []) (Syntax.tcons (Syntax.tyInt Syntax.w32) Syntax.tnil)) (Syntax.tcons (Syntax.tyStruct (102 ∷ 105 ∷ 101 ∷ 108 ∷ 100 ∷ 115 ∷ 58 ∷ 58 ∷ 83
-      ∷ 101 ∷ 114 ∷ 105 ∷ 97 ∷ 108 ∷ []) (Syntax.tcons (Syntax.tyInt Syntax.w32) Syntax.tnil)) (Syntax.tcons (Syntax.tyStruct (102 ∷ 105 ∷ 101 ∷ 108 ∷ 100 ∷ 115
-      ∷ 58 ∷ 58 ∷ 83 ∷ 101 ∷ 114 ∷ 105 ∷ 97 ∷ 108 ∷ []) (Syntax.tcons (Syntax.tyInt Syntax.w32) Syntax.tnil)) (Syntax.tcons (Syntax.tyStruct (102 ∷ 105 ∷ 101 ∷
-      108 ∷ 100 ∷ 115 ∷ 58 ∷ 58 ∷ 83 ∷ 101 ∷ 114 ∷ 105 ∷ 97 ∷ 108 ∷ []) (Syntax.tcons (Syntax.tyInt Syntax.w32) Syntax.tnil)) (Syntax.tcons (Syntax.tyStruct (102
-      ∷ 105 ∷ 101 ∷ 108 ∷ 100 ∷ 115 ∷ 58 ∷ 58 ∷ 83 ∷ 101 ∷ 114 ∷ 105 ∷ 97 ∷ 108 ∷ []) (Syntax.tcons (Syntax.tyInt Syntax.w32) Syntax.tnil)) Syntax.tnil)))))),
-) ∷ (
-  5,
-  Rows.any-gone (Syntax.tyStruct (102 ∷ 105 ∷ 101 ∷ 108 ∷ 100 ∷ 115 ∷ 58 ∷ 58 ∷ 83 ∷ 101 ∷ 114 ∷ 105 ∷ 97 ∷ 108 ∷ []) (Syntax.tcons (Syntax.tyInt
-      Syntax.w32) Syntax.tnil)),
-) ∷ (
-  6,
-  Rows.any-gone (Syntax.tyStruct (102 ∷ 105 ∷ 101 ∷ 108 ∷ 100 ∷ 115 ∷ 58 ∷ 58 ∷ 83 ∷ 101 ∷ 114 ∷ 105 ∷ 97 ∷ 108 ∷ [])
-      (Syntax.tcons (Syntax.tyInt Syntax.w32) Syntax.tnil)),
-) ∷ (
-  7,
-  Rows.any-gone (Syntax.tyStruct (102 ∷ 105 ∷ 101 ∷ 108 ∷ 100 ∷ 115 ∷ 58 ∷ 58 ∷ 83 ∷ 101 ∷ 114 ∷
-      105 ∷ 97 ∷ 108 ∷ []) (Syntax.tcons (Syntax.tyInt Syntax.w32) Syntax.tnil)),
-) ∷ (
-  8,
-  Rows.any-gone (Syntax.tyStruct (102 ∷ 105 ∷ 101 ∷ 108 ∷ 100 ∷ 115 ∷ 58 ∷
-      58 ∷ 83 ∷ 101 ∷ 114 ∷ 105 ∷ 97 ∷ 108 ∷ []) (Syntax.tcons (Syntax.tyInt Syntax.w32) Syntax.tnil)),
-) ∷ (
-  9,
-  Rows.any-gone (Syntax.tyStruct (102 ∷ 105 ∷ 101 ∷
-      108 ∷ 100 ∷ 115 ∷ 58 ∷ 58 ∷ 83 ∷ 101 ∷ 114 ∷ 105 ∷ 97 ∷ 108 ∷ []) (Syntax.tcons (Syntax.tyInt Syntax.w32) Syntax.tnil)),
-) ∷ (
-  10,
-  Rows.any-gone (Syntax.tyInt
-      Syntax.w64),
-) ∷ (
-  11,
-  Rows.any-gone (Syntax.tyStruct (115 ∷ 101 ∷ 97 ∷ 114 ∷ 99 ∷ 104 ∷ 58 ∷ 58 ∷ 78 ∷ 101 ∷ 97 ∷ 114 ∷ []) (Syntax.tcons (Syntax.tyInt
-      Syntax.w64) (Syntax.tcons (Syntax.tyInt Syntax.w32) Syntax.tnil))),
-) ∷ (12, Rows.any-gone Syntax.tyBool) ∷ (13, Rows.any-gone Syntax.tyBool) ∷ (
-  14,
-  Rows.any-gone Syntax.tyBool,
-) ∷ (15, Rows.any-gone Syntax.tyBool) ∷ []
+      Syntax.w64) (Syntax.tcons (Syntax.tyStruct (102 ∷ 105 ∷ 101 ∷ 108 ∷ 100 ∷ 115 ∷ 58 ∷ 58 ∷ 83 ∷ 101 ∷ 114 ∷ 105 ∷ 97 ∷ 108 ∷ []) (Syntax.tcons (Syntax.tyInt
+      Syntax.w32) Syntax.tnil)) Syntax.tnil))),
+) ∷ (12, Rows.any-gone Syntax.tyBool) ∷ (13, Rows.any-gone Syntax.tyBool) ∷ (14, Rows.any-gone Syntax.tyBool) ∷
+    (15, Rows.any-gone Syntax.tyBool) ∷ []
 
 abbrev pub t3 : List.List Row.Entry
 t3 = (
   0,
-  Rows.any-gone (Syntax.tyStruct (115 ∷ 101 ∷ 97 ∷ 114 ∷ 99 ∷ 104 ∷ 58 ∷ 58 ∷ 83 ∷ 111 ∷ 117 ∷ 103 ∷ 104 ∷ 116 ∷ []) (Syntax.tcons Syntax.tyBool
-      (Syntax.tcons (Syntax.tyStruct (115 ∷ 101 ∷ 97 ∷ 114 ∷ 99 ∷ 104 ∷ 58 ∷ 58 ∷ 78 ∷ 101 ∷ 97 ∷ 114 ∷ []) (Syntax.tcons (Syntax.tyInt Syntax.w64) (Syntax.tcons
-      (Syntax.tyInt Syntax.w32) Syntax.tnil))) Syntax.tnil))),
+  Rows.any-gone (Syntax.tyStruct (115 ∷ 101 ∷ 97 ∷ 114 ∷ 99 ∷ 104 ∷ 58 ∷ 58 ∷ 83 ∷ 111 ∷ 117 ∷ 103 ∷ 104 ∷ 116 ∷ []) (Syntax.tcons (Syntax.tyStruct (115
+      ∷ 101 ∷ 97 ∷ 114 ∷ 99 ∷ 104 ∷ 58 ∷ 58 ∷ 78 ∷ 101 ∷ 97 ∷ 114 ∷ []) (Syntax.tcons (Syntax.tyInt Syntax.w64) (Syntax.tcons (Syntax.tyStruct (102 ∷ 105 ∷ 101 ∷
+      108 ∷ 100 ∷ 115 ∷ 58 ∷ 58 ∷ 83 ∷ 101 ∷ 114 ∷ 105 ∷ 97 ∷ 108 ∷ []) (Syntax.tcons (Syntax.tyInt Syntax.w32) Syntax.tnil)) Syntax.tnil))) (Syntax.tcons
+      Syntax.tyBool Syntax.tnil))),
 ) ∷ (1, Rows.sslice SlotAs.row (Syntax.tyRef (Syntax.named 0) Syntax.imm SlotAs.pointee) 0) ∷ (
   2,
-  Rows.sc-here (Row.sInt Syntax.w64),
+  Rows.sc-here (Row.sInt
+      Syntax.w64),
 ) ∷ (3, Rows.whole (Declared.row Near.the-type)) ∷ (4, Rows.whole (Declared.row Conect.the-type)) ∷ (
   5,
-  Rows.whole
-      (Declared.row Serial.the-type),
+  Rows.whole (Declared.row
+      Serial.the-type),
 ) ∷ (
   6,
-  Rows.any-gone (Syntax.tyStruct (102 ∷ 105 ∷ 101 ∷ 108 ∷ 100 ∷ 115 ∷ 58 ∷ 58 ∷ 83 ∷ 101 ∷ 114 ∷ 105 ∷ 97 ∷ 108 ∷ [])
-      (Syntax.tcons (Syntax.tyInt Syntax.w32) Syntax.tnil)),
+  Rows.any-gone (Syntax.tyStruct (102 ∷ 105 ∷ 101 ∷ 108 ∷ 100 ∷ 115 ∷ 58 ∷ 58 ∷ 83 ∷ 101 ∷ 114 ∷ 105 ∷ 97 ∷ 108 ∷ []) (Syntax.tcons
+      (Syntax.tyInt Syntax.w32) Syntax.tnil)),
 ) ∷ (
   7,
-  Rows.any-gone (Syntax.tyStruct (102 ∷ 105 ∷ 101 ∷ 108 ∷ 100 ∷ 115 ∷ 58 ∷ 58 ∷ 83 ∷ 101 ∷ 114 ∷
-      105 ∷ 97 ∷ 108 ∷ []) (Syntax.tcons (Syntax.tyInt Syntax.w32) Syntax.tnil)),
+  Rows.any-gone (Syntax.tyStruct (102 ∷ 105 ∷ 101 ∷ 108 ∷ 100 ∷ 115 ∷ 58 ∷ 58 ∷ 83 ∷ 101 ∷ 114 ∷ 105 ∷ 97 ∷
+      108 ∷ []) (Syntax.tcons (Syntax.tyInt Syntax.w32) Syntax.tnil)),
 ) ∷ (
   8,
-  Rows.any-gone (Syntax.tyStruct (102 ∷ 105 ∷ 101 ∷ 108 ∷ 100 ∷ 115 ∷ 58 ∷
-      58 ∷ 83 ∷ 101 ∷ 114 ∷ 105 ∷ 97 ∷ 108 ∷ []) (Syntax.tcons (Syntax.tyInt Syntax.w32) Syntax.tnil)),
+  Rows.any-gone (Syntax.tyStruct (102 ∷ 105 ∷ 101 ∷ 108 ∷ 100 ∷ 115 ∷ 58 ∷ 58 ∷ 83 ∷
+      101 ∷ 114 ∷ 105 ∷ 97 ∷ 108 ∷ []) (Syntax.tcons (Syntax.tyInt Syntax.w32) Syntax.tnil)),
 ) ∷ (
   9,
-  Rows.any-gone (Syntax.tyStruct (102 ∷ 105 ∷ 101 ∷
-      108 ∷ 100 ∷ 115 ∷ 58 ∷ 58 ∷ 83 ∷ 101 ∷ 114 ∷ 105 ∷ 97 ∷ 108 ∷ []) (Syntax.tcons (Syntax.tyInt Syntax.w32) Syntax.tnil)),
+  Rows.any-gone (Syntax.tyStruct (102 ∷ 105 ∷ 101 ∷ 108 ∷ 100 ∷
+      115 ∷ 58 ∷ 58 ∷ 83 ∷ 101 ∷ 114 ∷ 105 ∷ 97 ∷ 108 ∷ []) (Syntax.tcons (Syntax.tyInt Syntax.w32) Syntax.tnil)),
 ) ∷ (
   10,
   Rows.any-gone (Syntax.tyInt
@@ -451,65 +510,106 @@ t3 = (
 ) ∷ (
   11,
   Rows.any-gone (Syntax.tyStruct (115 ∷ 101 ∷ 97 ∷ 114 ∷ 99 ∷ 104 ∷ 58 ∷ 58 ∷ 78 ∷ 101 ∷ 97 ∷ 114 ∷ []) (Syntax.tcons (Syntax.tyInt
-      Syntax.w64) (Syntax.tcons (Syntax.tyInt Syntax.w32) Syntax.tnil))),
-) ∷ (12, Rows.any-gone Syntax.tyBool) ∷ (13, Rows.any-gone Syntax.tyBool) ∷ (
-  14,
-  Rows.any-gone Syntax.tyBool,
-) ∷ (15, Rows.any-gone Syntax.tyBool) ∷ []
+      Syntax.w64) (Syntax.tcons (Syntax.tyStruct (102 ∷ 105 ∷ 101 ∷ 108 ∷ 100 ∷ 115 ∷ 58 ∷ 58 ∷ 83 ∷ 101 ∷ 114 ∷ 105 ∷ 97 ∷ 108 ∷ []) (Syntax.tcons (Syntax.tyInt
+      Syntax.w32) Syntax.tnil)) Syntax.tnil))),
+) ∷ (12, Rows.any-gone Syntax.tyBool) ∷ (13, Rows.any-gone Syntax.tyBool) ∷ (14, Rows.any-gone Syntax.tyBool) ∷
+    (15, Rows.any-gone Syntax.tyBool) ∷ []
 
 abbrev pub t4 : List.List Row.Entry
 t4 = (
   0,
-  Rows.any-gone (Syntax.tyStruct (115 ∷ 101 ∷ 97 ∷ 114 ∷ 99 ∷ 104 ∷ 58 ∷ 58 ∷ 83 ∷ 111 ∷ 117 ∷ 103 ∷ 104 ∷ 116 ∷ []) (Syntax.tcons Syntax.tyBool
-      (Syntax.tcons (Syntax.tyStruct (115 ∷ 101 ∷ 97 ∷ 114 ∷ 99 ∷ 104 ∷ 58 ∷ 58 ∷ 78 ∷ 101 ∷ 97 ∷ 114 ∷ []) (Syntax.tcons (Syntax.tyInt Syntax.w64) (Syntax.tcons
-      (Syntax.tyInt Syntax.w32) Syntax.tnil))) Syntax.tnil))),
+  Rows.any-gone (Syntax.tyStruct (115 ∷ 101 ∷ 97 ∷ 114 ∷ 99 ∷ 104 ∷ 58 ∷ 58 ∷ 83 ∷ 111 ∷ 117 ∷ 103 ∷ 104 ∷ 116 ∷ []) (Syntax.tcons (Syntax.tyStruct (115
+      ∷ 101 ∷ 97 ∷ 114 ∷ 99 ∷ 104 ∷ 58 ∷ 58 ∷ 78 ∷ 101 ∷ 97 ∷ 114 ∷ []) (Syntax.tcons (Syntax.tyInt Syntax.w64) (Syntax.tcons (Syntax.tyStruct (102 ∷ 105 ∷ 101 ∷
+      108 ∷ 100 ∷ 115 ∷ 58 ∷ 58 ∷ 83 ∷ 101 ∷ 114 ∷ 105 ∷ 97 ∷ 108 ∷ []) (Syntax.tcons (Syntax.tyInt Syntax.w32) Syntax.tnil)) Syntax.tnil))) (Syntax.tcons
+      Syntax.tyBool Syntax.tnil))),
 ) ∷ (1, Rows.sslice SlotAs.row (Syntax.tyRef (Syntax.named 0) Syntax.imm SlotAs.pointee) 0) ∷ (
   2,
-  Rows.sc-here (Row.sInt Syntax.w64),
+  Rows.sc-here (Row.sInt
+      Syntax.w64),
 ) ∷ (3, Rows.whole (Declared.row Near.the-type)) ∷ (4, Rows.whole (Declared.row Conect.the-type)) ∷ (
   5,
-  Rows.whole
-      (Declared.row Serial.the-type),
+  Rows.whole (Declared.row
+      Serial.the-type),
 ) ∷ (6, Rows.whole (Declared.row Serial.the-type)) ∷ (
   7,
-  Rows.any-gone (Syntax.tyStruct (102 ∷ 105 ∷ 101 ∷ 108 ∷ 100 ∷ 115 ∷
-      58 ∷ 58 ∷ 83 ∷ 101 ∷ 114 ∷ 105 ∷ 97 ∷ 108 ∷ []) (Syntax.tcons (Syntax.tyInt Syntax.w32) Syntax.tnil)),
+  Rows.any-gone (Syntax.tyStruct (102 ∷ 105 ∷ 101 ∷ 108 ∷ 100 ∷ 115 ∷ 58 ∷ 58 ∷ 83 ∷
+      101 ∷ 114 ∷ 105 ∷ 97 ∷ 108 ∷ []) (Syntax.tcons (Syntax.tyInt Syntax.w32) Syntax.tnil)),
 ) ∷ (
   8,
-  Rows.any-gone (Syntax.tyStruct (102 ∷ 105 ∷
-      101 ∷ 108 ∷ 100 ∷ 115 ∷ 58 ∷ 58 ∷ 83 ∷ 101 ∷ 114 ∷ 105 ∷ 97 ∷ 108 ∷ []) (Syntax.tcons (Syntax.tyInt Syntax.w32) Syntax.tnil)),
+  Rows.any-gone (Syntax.tyStruct (102 ∷ 105 ∷ 101 ∷ 108 ∷ 100 ∷
+      115 ∷ 58 ∷ 58 ∷ 83 ∷ 101 ∷ 114 ∷ 105 ∷ 97 ∷ 108 ∷ []) (Syntax.tcons (Syntax.tyInt Syntax.w32) Syntax.tnil)),
 ) ∷ (
   9,
+  Rows.any-gone (Syntax.tyStruct (102 ∷
+      105 ∷ 101 ∷ 108 ∷ 100 ∷ 115 ∷ 58 ∷ 58 ∷ 83 ∷ 101 ∷ 114 ∷ 105 ∷ 97 ∷ 108 ∷ []) (Syntax.tcons (Syntax.tyInt Syntax.w32) Syntax.tnil)),
+) ∷ (
+  10,
   Rows.any-gone
-      (Syntax.tyStruct (102 ∷ 105 ∷ 101 ∷ 108 ∷ 100 ∷ 115 ∷ 58 ∷ 58 ∷ 83 ∷ 101 ∷ 114 ∷ 105 ∷ 97 ∷ 108 ∷ []) (Syntax.tcons (Syntax.tyInt Syntax.w32)
-      Syntax.tnil)),
-) ∷ (10, Rows.any-gone (Syntax.tyInt Syntax.w64)) ∷ (
+      (Syntax.tyInt Syntax.w64),
+) ∷ (
   11,
-  Rows.any-gone (Syntax.tyStruct (115 ∷ 101 ∷ 97 ∷ 114 ∷ 99 ∷ 104 ∷ 58 ∷ 58 ∷ 78 ∷ 101
-      ∷ 97 ∷ 114 ∷ []) (Syntax.tcons (Syntax.tyInt Syntax.w64) (Syntax.tcons (Syntax.tyInt Syntax.w32) Syntax.tnil))),
-) ∷ (12, Rows.any-gone Syntax.tyBool) ∷ (
-  13,
-  Rows.any-gone Syntax.tyBool,
-) ∷ (14, Rows.any-gone Syntax.tyBool) ∷ (15, Rows.any-gone Syntax.tyBool) ∷ []
+  Rows.any-gone (Syntax.tyStruct (115 ∷ 101 ∷ 97 ∷ 114 ∷ 99 ∷ 104 ∷ 58 ∷ 58 ∷ 78 ∷ 101 ∷ 97 ∷ 114 ∷ []) (Syntax.tcons
+      (Syntax.tyInt Syntax.w64) (Syntax.tcons (Syntax.tyStruct (102 ∷ 105 ∷ 101 ∷ 108 ∷ 100 ∷ 115 ∷ 58 ∷ 58 ∷ 83 ∷ 101 ∷ 114 ∷ 105 ∷ 97 ∷ 108 ∷ []) (Syntax.tcons
+      (Syntax.tyInt Syntax.w32) Syntax.tnil)) Syntax.tnil))),
+) ∷ (12, Rows.any-gone Syntax.tyBool) ∷ (13, Rows.any-gone Syntax.tyBool) ∷ (
+  14,
+  Rows.any-gone
+      Syntax.tyBool,
+) ∷ (15, Rows.any-gone Syntax.tyBool) ∷ []
 
 abbrev pub t5 : List.List Row.Entry
 t5 = (
   0,
-  Rows.any-gone (Syntax.tyStruct (115 ∷ 101 ∷ 97 ∷ 114 ∷ 99 ∷ 104 ∷ 58 ∷ 58 ∷ 83 ∷ 111 ∷ 117 ∷ 103 ∷ 104 ∷ 116 ∷ []) (Syntax.tcons Syntax.tyBool
-      (Syntax.tcons (Syntax.tyStruct (115 ∷ 101 ∷ 97 ∷ 114 ∷ 99 ∷ 104 ∷ 58 ∷ 58 ∷ 78 ∷ 101 ∷ 97 ∷ 114 ∷ []) (Syntax.tcons (Syntax.tyInt Syntax.w64) (Syntax.tcons
-      (Syntax.tyInt Syntax.w32) Syntax.tnil))) Syntax.tnil))),
+  Rows.any-gone (Syntax.tyStruct (115 ∷ 101 ∷ 97 ∷ 114 ∷ 99 ∷ 104 ∷ 58 ∷ 58 ∷ 83 ∷ 111 ∷ 117 ∷ 103 ∷ 104 ∷ 116 ∷ []) (Syntax.tcons (Syntax.tyStruct (115
+      ∷ 101 ∷ 97 ∷ 114 ∷ 99 ∷ 104 ∷ 58 ∷ 58 ∷ 78 ∷ 101 ∷ 97 ∷ 114 ∷ []) (Syntax.tcons (Syntax.tyInt Syntax.w64) (Syntax.tcons (Syntax.tyStruct (102 ∷ 105 ∷ 101 ∷
+      108 ∷ 100 ∷ 115 ∷ 58 ∷ 58 ∷ 83 ∷ 101 ∷ 114 ∷ 105 ∷ 97 ∷ 108 ∷ []) (Syntax.tcons (Syntax.tyInt Syntax.w32) Syntax.tnil)) Syntax.tnil))) (Syntax.tcons
+      Syntax.tyBool Syntax.tnil))),
 ) ∷ (1, Rows.sslice SlotAs.row (Syntax.tyRef (Syntax.named 0) Syntax.imm SlotAs.pointee) 0) ∷ (
   2,
-  Rows.sc-here (Row.sInt Syntax.w64),
+  Rows.sc-here (Row.sInt
+      Syntax.w64),
 ) ∷ (3, Rows.whole (Declared.row Near.the-type)) ∷ (4, Rows.whole (Declared.row Conect.the-type)) ∷ (
   5,
-  Rows.whole
-      (Declared.row Serial.the-type),
+  Rows.whole (Declared.row
+      Serial.the-type),
 ) ∷ (6, Rows.whole (Declared.row Serial.the-type)) ∷ (7, Rows.whole (Declared.row Serial.the-type)) ∷ (
   8,
-  Rows.any-gone
-      (Syntax.tyStruct (102 ∷ 105 ∷ 101 ∷ 108 ∷ 100 ∷ 115 ∷ 58 ∷ 58 ∷ 83 ∷ 101 ∷ 114 ∷ 105 ∷ 97 ∷ 108 ∷ []) (Syntax.tcons (Syntax.tyInt Syntax.w32)
+  Rows.any-gone (Syntax.tyStruct
+      (102 ∷ 105 ∷ 101 ∷ 108 ∷ 100 ∷ 115 ∷ 58 ∷ 58 ∷ 83 ∷ 101 ∷ 114 ∷ 105 ∷ 97 ∷ 108 ∷ []) (Syntax.tcons (Syntax.tyInt Syntax.w32) Syntax.tnil)),
+) ∷ (
+  9,
+  Rows.any-gone (Syntax.tyStruct (102 ∷ 105 ∷ 101 ∷ 108 ∷ 100 ∷ 115 ∷ 58 ∷ 58 ∷ 83 ∷ 101 ∷ 114 ∷ 105 ∷ 97 ∷ 108 ∷ []) (Syntax.tcons (Syntax.tyInt Syntax.w32)
       Syntax.tnil)),
+) ∷ (10, Rows.any-gone (Syntax.tyInt Syntax.w64)) ∷ (
+  11,
+  Rows.any-gone (Syntax.tyStruct (115 ∷ 101 ∷ 97 ∷ 114 ∷ 99 ∷ 104 ∷ 58 ∷ 58 ∷ 78 ∷ 101
+      ∷ 97 ∷ 114 ∷ []) (Syntax.tcons (Syntax.tyInt Syntax.w64) (Syntax.tcons (Syntax.tyStruct (102 ∷ 105 ∷ 101 ∷ 108 ∷ 100 ∷ 115 ∷ 58 ∷ 58 ∷ 83 ∷ 101 ∷ 114 ∷ 105
+      ∷ 97 ∷ 108 ∷ []) (Syntax.tcons (Syntax.tyInt Syntax.w32) Syntax.tnil)) Syntax.tnil))),
+) ∷ (12, Rows.any-gone Syntax.tyBool) ∷ (
+  13,
+  Rows.any-gone
+      Syntax.tyBool,
+) ∷ (14, Rows.any-gone Syntax.tyBool) ∷ (15, Rows.any-gone Syntax.tyBool) ∷ []
+
+abbrev pub t6 : List.List Row.Entry
+t6 = (
+  0,
+  Rows.any-gone (Syntax.tyStruct (115 ∷ 101 ∷ 97 ∷ 114 ∷ 99 ∷ 104 ∷ 58 ∷ 58 ∷ 83 ∷ 111 ∷ 117 ∷ 103 ∷ 104 ∷ 116 ∷ []) (Syntax.tcons (Syntax.tyStruct (115
+      ∷ 101 ∷ 97 ∷ 114 ∷ 99 ∷ 104 ∷ 58 ∷ 58 ∷ 78 ∷ 101 ∷ 97 ∷ 114 ∷ []) (Syntax.tcons (Syntax.tyInt Syntax.w64) (Syntax.tcons (Syntax.tyStruct (102 ∷ 105 ∷ 101 ∷
+      108 ∷ 100 ∷ 115 ∷ 58 ∷ 58 ∷ 83 ∷ 101 ∷ 114 ∷ 105 ∷ 97 ∷ 108 ∷ []) (Syntax.tcons (Syntax.tyInt Syntax.w32) Syntax.tnil)) Syntax.tnil))) (Syntax.tcons
+      Syntax.tyBool Syntax.tnil))),
+) ∷ (1, Rows.sslice SlotAs.row (Syntax.tyRef (Syntax.named 0) Syntax.imm SlotAs.pointee) 0) ∷ (
+  2,
+  Rows.sc-here (Row.sInt
+      Syntax.w64),
+) ∷ (3, Rows.whole (Declared.row Near.the-type)) ∷ (4, Rows.whole (Declared.row Conect.the-type)) ∷ (
+  5,
+  Rows.whole (Declared.row
+      Serial.the-type),
+) ∷ (6, Rows.whole (Declared.row Serial.the-type)) ∷ (7, Rows.whole (Declared.row Serial.the-type)) ∷ (
+  8,
+  Rows.whole (Declared.row
+      Serial.the-type),
 ) ∷ (
   9,
   Rows.any-gone (Syntax.tyStruct (102 ∷ 105 ∷ 101 ∷ 108 ∷ 100 ∷ 115 ∷ 58 ∷ 58 ∷ 83 ∷ 101 ∷ 114 ∷ 105 ∷ 97 ∷ 108 ∷ []) (Syntax.tcons
@@ -517,50 +617,63 @@ t5 = (
 ) ∷ (10, Rows.any-gone (Syntax.tyInt Syntax.w64)) ∷ (
   11,
   Rows.any-gone (Syntax.tyStruct (115 ∷ 101 ∷ 97 ∷ 114 ∷ 99 ∷
-      104 ∷ 58 ∷ 58 ∷ 78 ∷ 101 ∷ 97 ∷ 114 ∷ []) (Syntax.tcons (Syntax.tyInt Syntax.w64) (Syntax.tcons (Syntax.tyInt Syntax.w32) Syntax.tnil))),
+      104 ∷ 58 ∷ 58 ∷ 78 ∷ 101 ∷ 97 ∷ 114 ∷ []) (Syntax.tcons (Syntax.tyInt Syntax.w64) (Syntax.tcons (Syntax.tyStruct (102 ∷ 105 ∷ 101 ∷ 108 ∷ 100 ∷ 115 ∷ 58 ∷
+      58 ∷ 83 ∷ 101 ∷ 114 ∷ 105 ∷ 97 ∷ 108 ∷ []) (Syntax.tcons (Syntax.tyInt Syntax.w32) Syntax.tnil)) Syntax.tnil))),
+) ∷ (12, Rows.any-gone Syntax.tyBool) ∷ (
+  13,
+  Rows.any-gone Syntax.tyBool,
+) ∷ (14, Rows.any-gone Syntax.tyBool) ∷ (15, Rows.any-gone Syntax.tyBool) ∷ []
+
+abbrev pub t7 : List.List Row.Entry
+t7 = (
+  0,
+  Rows.any-gone (Syntax.tyStruct (115 ∷ 101 ∷ 97 ∷ 114 ∷ 99 ∷ 104 ∷ 58 ∷ 58 ∷ 83 ∷ 111 ∷ 117 ∷ 103 ∷ 104 ∷ 116 ∷ []) (Syntax.tcons (Syntax.tyStruct (115
+      ∷ 101 ∷ 97 ∷ 114 ∷ 99 ∷ 104 ∷ 58 ∷ 58 ∷ 78 ∷ 101 ∷ 97 ∷ 114 ∷ []) (Syntax.tcons (Syntax.tyInt Syntax.w64) (Syntax.tcons (Syntax.tyStruct (102 ∷ 105 ∷ 101 ∷
+      108 ∷ 100 ∷ 115 ∷ 58 ∷ 58 ∷ 83 ∷ 101 ∷ 114 ∷ 105 ∷ 97 ∷ 108 ∷ []) (Syntax.tcons (Syntax.tyInt Syntax.w32) Syntax.tnil)) Syntax.tnil))) (Syntax.tcons
+      Syntax.tyBool Syntax.tnil))),
+) ∷ (1, Rows.sslice SlotAs.row (Syntax.tyRef (Syntax.named 0) Syntax.imm SlotAs.pointee) 0) ∷ (
+  2,
+  Rows.sc-here (Row.sInt
+      Syntax.w64),
+) ∷ (3, Rows.whole (Declared.row Near.the-type)) ∷ (4, Rows.whole (Declared.row Conect.the-type)) ∷ (
+  5,
+  Rows.whole (Declared.row
+      Serial.the-type),
+) ∷ (6, Rows.whole (Declared.row Serial.the-type)) ∷ (7, Rows.whole (Declared.row Serial.the-type)) ∷ (
+  8,
+  Rows.whole (Declared.row
+      Serial.the-type),
+) ∷ (9, Rows.whole (Declared.row Serial.the-type)) ∷ (10, Rows.any-gone (Syntax.tyInt Syntax.w64)) ∷ (
+  11,
+  Rows.any-gone (Syntax.tyStruct
+      (115 ∷ 101 ∷ 97 ∷ 114 ∷ 99 ∷ 104 ∷ 58 ∷ 58 ∷ 78 ∷ 101 ∷ 97 ∷ 114 ∷ []) (Syntax.tcons (Syntax.tyInt Syntax.w64) (Syntax.tcons (Syntax.tyStruct (102 ∷ 105 ∷
+      101 ∷ 108 ∷ 100 ∷ 115 ∷ 58 ∷ 58 ∷ 83 ∷ 101 ∷ 114 ∷ 105 ∷ 97 ∷ 108 ∷ []) (Syntax.tcons (Syntax.tyInt Syntax.w32) Syntax.tnil)) Syntax.tnil))),
 ) ∷ (
   12,
   Rows.any-gone Syntax.tyBool,
 ) ∷ (13, Rows.any-gone Syntax.tyBool) ∷ (14, Rows.any-gone Syntax.tyBool) ∷ (15, Rows.any-gone Syntax.tyBool) ∷ []
 
-abbrev pub t6 : List.List Row.Entry
-t6 = (
+abbrev pub t8 : List.List Row.Entry
+t8 = (
   0,
-  Rows.any-gone (Syntax.tyStruct (115 ∷ 101 ∷ 97 ∷ 114 ∷ 99 ∷ 104 ∷ 58 ∷ 58 ∷ 83 ∷ 111 ∷ 117 ∷ 103 ∷ 104 ∷ 116 ∷ []) (Syntax.tcons Syntax.tyBool
-      (Syntax.tcons (Syntax.tyStruct (115 ∷ 101 ∷ 97 ∷ 114 ∷ 99 ∷ 104 ∷ 58 ∷ 58 ∷ 78 ∷ 101 ∷ 97 ∷ 114 ∷ []) (Syntax.tcons (Syntax.tyInt Syntax.w64) (Syntax.tcons
-      (Syntax.tyInt Syntax.w32) Syntax.tnil))) Syntax.tnil))),
+  Rows.any-gone (Syntax.tyStruct (115 ∷ 101 ∷ 97 ∷ 114 ∷ 99 ∷ 104 ∷ 58 ∷ 58 ∷ 83 ∷ 111 ∷ 117 ∷ 103 ∷ 104 ∷ 116 ∷ []) (Syntax.tcons (Syntax.tyStruct (115
+      ∷ 101 ∷ 97 ∷ 114 ∷ 99 ∷ 104 ∷ 58 ∷ 58 ∷ 78 ∷ 101 ∷ 97 ∷ 114 ∷ []) (Syntax.tcons (Syntax.tyInt Syntax.w64) (Syntax.tcons (Syntax.tyStruct (102 ∷ 105 ∷ 101 ∷
+      108 ∷ 100 ∷ 115 ∷ 58 ∷ 58 ∷ 83 ∷ 101 ∷ 114 ∷ 105 ∷ 97 ∷ 108 ∷ []) (Syntax.tcons (Syntax.tyInt Syntax.w32) Syntax.tnil)) Syntax.tnil))) (Syntax.tcons
+      Syntax.tyBool Syntax.tnil))),
 ) ∷ (1, Rows.sslice SlotAs.row (Syntax.tyRef (Syntax.named 0) Syntax.imm SlotAs.pointee) 0) ∷ (
   2,
-  Rows.sc-here (Row.sInt Syntax.w64),
-) ∷ (3, Rows.whole (Declared.row Near.the-type)) ∷ (4, Rows.whole (Declared.row Conect.the-type)) ∷ (
-  5,
-  Rows.whole
-      (Declared.row Serial.the-type),
-) ∷ (6, Rows.whole (Declared.row Serial.the-type)) ∷ (7, Rows.whole (Declared.row Serial.the-type)) ∷ (
-  8,
-  Rows.whole
-      (Declared.row Serial.the-type),
+  Rows.sc-here (Row.sInt
+      Syntax.w64),
+) ∷ (3, Rows.whole (Declared.row Near.the-type)) ∷ (
+  4,
+  Rows.any-gone (Syntax.tyStruct (99 ∷ 111 ∷ 110 ∷ 101 ∷ 99 ∷ 116 ∷ 58 ∷ 58 ∷ 67 ∷ 111 ∷
+      110 ∷ 101 ∷ 99 ∷ 116 ∷ []) (Syntax.tcons (Syntax.tyStruct (102 ∷ 105 ∷ 101 ∷ 108 ∷ 100 ∷ 115 ∷ 58 ∷ 58 ∷ 83 ∷ 101 ∷ 114 ∷ 105 ∷ 97 ∷ 108 ∷ [])
+      (Syntax.tcons (Syntax.tyInt Syntax.w32) Syntax.tnil)) (Syntax.tcons (Syntax.tyStruct (102 ∷ 105 ∷ 101 ∷ 108 ∷ 100 ∷ 115 ∷ 58 ∷ 58 ∷ 83 ∷ 101 ∷ 114 ∷ 105 ∷
+      97 ∷ 108 ∷ []) (Syntax.tcons (Syntax.tyInt Syntax.w32) Syntax.tnil)) (Syntax.tcons (Syntax.tyStruct (102 ∷ 105 ∷ 101 ∷ 108 ∷ 100 ∷ 115 ∷ 58 ∷ 58 ∷ 83 ∷ 101
+      ∷ 114 ∷ 105 ∷ 97 ∷ 108 ∷ []) (Syntax.tcons (Syntax.tyInt Syntax.w32) Syntax.tnil)) (Syntax.tcons (Syntax.tyStruct (102 ∷ 105 ∷ 101 ∷ 108 ∷ 100 ∷ 115 ∷ 58 ∷
+      58 ∷ 83 ∷ 101 ∷ 114 ∷ 105 ∷ 97 ∷ 108 ∷ []) (Syntax.tcons (Syntax.tyInt Syntax.w32) Syntax.tnil)) (Syntax.tcons (Syntax.tyStruct (102 ∷ 105 ∷ 101 ∷ 108 ∷
+      100 ∷ 115 ∷ 58 ∷ 58 ∷ 83 ∷ 101 ∷ 114 ∷ 105 ∷ 97 ∷ 108 ∷ []) (Syntax.tcons (Syntax.tyInt Syntax.w32) Syntax.tnil)) Syntax.tnil)))))),
 ) ∷ (
-  9,
-  Rows.any-gone (Syntax.tyStruct (102 ∷ 105 ∷ 101 ∷ 108 ∷ 100 ∷ 115 ∷ 58 ∷ 58 ∷ 83 ∷ 101 ∷ 114 ∷ 105 ∷ 97 ∷ 108 ∷ [])
-      (Syntax.tcons (Syntax.tyInt Syntax.w32) Syntax.tnil)),
-) ∷ (10, Rows.any-gone (Syntax.tyInt Syntax.w64)) ∷ (
-  11,
-  Rows.any-gone (Syntax.tyStruct (115 ∷ 101 ∷
-      97 ∷ 114 ∷ 99 ∷ 104 ∷ 58 ∷ 58 ∷ 78 ∷ 101 ∷ 97 ∷ 114 ∷ []) (Syntax.tcons (Syntax.tyInt Syntax.w64) (Syntax.tcons (Syntax.tyInt Syntax.w32) Syntax.tnil))),
-) ∷
-    (12, Rows.any-gone Syntax.tyBool) ∷ (13, Rows.any-gone Syntax.tyBool) ∷ (14, Rows.any-gone Syntax.tyBool) ∷ (15, Rows.any-gone Syntax.tyBool) ∷ []
-
-abbrev pub t7 : List.List Row.Entry
-t7 = (
-  0,
-  Rows.any-gone (Syntax.tyStruct (115 ∷ 101 ∷ 97 ∷ 114 ∷ 99 ∷ 104 ∷ 58 ∷ 58 ∷ 83 ∷ 111 ∷ 117 ∷ 103 ∷ 104 ∷ 116 ∷ []) (Syntax.tcons Syntax.tyBool
-      (Syntax.tcons (Syntax.tyStruct (115 ∷ 101 ∷ 97 ∷ 114 ∷ 99 ∷ 104 ∷ 58 ∷ 58 ∷ 78 ∷ 101 ∷ 97 ∷ 114 ∷ []) (Syntax.tcons (Syntax.tyInt Syntax.w64) (Syntax.tcons
-      (Syntax.tyInt Syntax.w32) Syntax.tnil))) Syntax.tnil))),
-) ∷ (1, Rows.sslice SlotAs.row (Syntax.tyRef (Syntax.named 0) Syntax.imm SlotAs.pointee) 0) ∷ (
-  2,
-  Rows.sc-here (Row.sInt Syntax.w64),
-) ∷ (3, Rows.whole (Declared.row Near.the-type)) ∷ (4, Rows.whole (Declared.row Conect.the-type)) ∷ (
   5,
   Rows.whole
       (Declared.row Serial.the-type),
@@ -571,399 +684,364 @@ t7 = (
 ) ∷ (9, Rows.whole (Declared.row Serial.the-type)) ∷ (10, Rows.any-gone (Syntax.tyInt Syntax.w64)) ∷ (
   11,
   Rows.any-gone
-      (Syntax.tyStruct (115 ∷ 101 ∷ 97 ∷ 114 ∷ 99 ∷ 104 ∷ 58 ∷ 58 ∷ 78 ∷ 101 ∷ 97 ∷ 114 ∷ []) (Syntax.tcons (Syntax.tyInt Syntax.w64) (Syntax.tcons (Syntax.tyInt
-      Syntax.w32) Syntax.tnil))),
+      (Syntax.tyStruct (115 ∷ 101 ∷ 97 ∷ 114 ∷ 99 ∷ 104 ∷ 58 ∷ 58 ∷ 78 ∷ 101 ∷ 97 ∷ 114 ∷ []) (Syntax.tcons (Syntax.tyInt Syntax.w64) (Syntax.tcons
+      (Syntax.tyStruct (102 ∷ 105 ∷ 101 ∷ 108 ∷ 100 ∷ 115 ∷ 58 ∷ 58 ∷ 83 ∷ 101 ∷ 114 ∷ 105 ∷ 97 ∷ 108 ∷ []) (Syntax.tcons (Syntax.tyInt Syntax.w32) Syntax.tnil))
+      Syntax.tnil))),
 ) ∷ (12, Rows.any-gone Syntax.tyBool) ∷ (13, Rows.any-gone Syntax.tyBool) ∷ (14, Rows.any-gone Syntax.tyBool) ∷ (
   15,
-  Rows.any-gone Syntax.tyBool,
+  Rows.any-gone
+      Syntax.tyBool,
 ) ∷ []
-
-abbrev pub t8 : List.List Row.Entry
-t8 = (
-  0,
-  Rows.any-gone (Syntax.tyStruct (115 ∷ 101 ∷ 97 ∷ 114 ∷ 99 ∷ 104 ∷ 58 ∷ 58 ∷ 83 ∷ 111 ∷ 117 ∷ 103 ∷ 104 ∷ 116 ∷ []) (Syntax.tcons Syntax.tyBool
-      (Syntax.tcons (Syntax.tyStruct (115 ∷ 101 ∷ 97 ∷ 114 ∷ 99 ∷ 104 ∷ 58 ∷ 58 ∷ 78 ∷ 101 ∷ 97 ∷ 114 ∷ []) (Syntax.tcons (Syntax.tyInt Syntax.w64) (Syntax.tcons
-      (Syntax.tyInt Syntax.w32) Syntax.tnil))) Syntax.tnil))),
-) ∷ (1, Rows.sslice SlotAs.row (Syntax.tyRef (Syntax.named 0) Syntax.imm SlotAs.pointee) 0) ∷ (
-  2,
-  Rows.sc-here (Row.sInt Syntax.w64),
-) ∷ (3, Rows.whole (Declared.row Near.the-type)) ∷ (
-  4,
-  Rows.any-gone (Syntax.tyStruct (99 ∷ 111 ∷ 110 ∷ 101 ∷ 99 ∷ 116 ∷
-      58 ∷ 58 ∷ 67 ∷ 111 ∷ 110 ∷ 101 ∷ 99 ∷ 116 ∷ []) (Syntax.tcons (Syntax.tyStruct (102 ∷ 105 ∷ 101 ∷ 108 ∷ 100 ∷ 115 ∷ 58 ∷ 58 ∷ 83 ∷ 101 ∷ 114 ∷ 105 ∷ 97 ∷
-      108 ∷ []) (Syntax.tcons (Syntax.tyInt Syntax.w32) Syntax.tnil)) (Syntax.tcons (Syntax.tyStruct (102 ∷ 105 ∷ 101 ∷ 108 ∷ 100 ∷ 115 ∷ 58 ∷ 58 ∷ 83 ∷ 101 ∷
-      114 ∷ 105 ∷ 97 ∷ 108 ∷ []) (Syntax.tcons (Syntax.tyInt Syntax.w32) Syntax.tnil)) (Syntax.tcons (Syntax.tyStruct (102 ∷ 105 ∷ 101 ∷ 108 ∷ 100 ∷ 115 ∷ 58 ∷
-      58 ∷ 83 ∷ 101 ∷ 114 ∷ 105 ∷ 97 ∷ 108 ∷ []) (Syntax.tcons (Syntax.tyInt Syntax.w32) Syntax.tnil)) (Syntax.tcons (Syntax.tyStruct (102 ∷ 105 ∷ 101 ∷ 108 ∷
-      100 ∷ 115 ∷ 58 ∷ 58 ∷ 83 ∷ 101 ∷ 114 ∷ 105 ∷ 97 ∷ 108 ∷ []) (Syntax.tcons (Syntax.tyInt Syntax.w32) Syntax.tnil)) (Syntax.tcons (Syntax.tyStruct (102 ∷ 105
-      ∷ 101 ∷ 108 ∷ 100 ∷ 115 ∷ 58 ∷ 58 ∷ 83 ∷ 101 ∷ 114 ∷ 105 ∷ 97 ∷ 108 ∷ []) (Syntax.tcons (Syntax.tyInt Syntax.w32) Syntax.tnil)) Syntax.tnil)))))),
-) ∷ (
-  5,
-  Rows.whole (Declared.row Serial.the-type),
-) ∷ (6, Rows.whole (Declared.row Serial.the-type)) ∷ (7, Rows.whole (Declared.row Serial.the-type)) ∷ (
-  8,
-  Rows.whole (Declared.row Serial.the-type),
-) ∷ (9, Rows.whole (Declared.row Serial.the-type)) ∷ (10, Rows.any-gone (Syntax.tyInt Syntax.w64)) ∷ (
-  11,
-  Rows.any-gone (Syntax.tyStruct (115 ∷ 101 ∷ 97 ∷ 114 ∷ 99 ∷ 104 ∷ 58 ∷ 58 ∷ 78 ∷ 101 ∷ 97 ∷ 114 ∷ []) (Syntax.tcons (Syntax.tyInt Syntax.w64) (Syntax.tcons
-      (Syntax.tyInt Syntax.w32) Syntax.tnil))),
-) ∷ (12, Rows.any-gone Syntax.tyBool) ∷ (13, Rows.any-gone Syntax.tyBool) ∷ (14, Rows.any-gone Syntax.tyBool) ∷
-    (15, Rows.any-gone Syntax.tyBool) ∷ []
 
 abbrev pub t9 : List.List Row.Entry
 t9 = (
   0,
-  Rows.any-gone (Syntax.tyStruct (115 ∷ 101 ∷ 97 ∷ 114 ∷ 99 ∷ 104 ∷ 58 ∷ 58 ∷ 83 ∷ 111 ∷ 117 ∷ 103 ∷ 104 ∷ 116 ∷ []) (Syntax.tcons Syntax.tyBool
-      (Syntax.tcons (Syntax.tyStruct (115 ∷ 101 ∷ 97 ∷ 114 ∷ 99 ∷ 104 ∷ 58 ∷ 58 ∷ 78 ∷ 101 ∷ 97 ∷ 114 ∷ []) (Syntax.tcons (Syntax.tyInt Syntax.w64) (Syntax.tcons
-      (Syntax.tyInt Syntax.w32) Syntax.tnil))) Syntax.tnil))),
+  Rows.any-gone (Syntax.tyStruct (115 ∷ 101 ∷ 97 ∷ 114 ∷ 99 ∷ 104 ∷ 58 ∷ 58 ∷ 83 ∷ 111 ∷ 117 ∷ 103 ∷ 104 ∷ 116 ∷ []) (Syntax.tcons (Syntax.tyStruct (115
+      ∷ 101 ∷ 97 ∷ 114 ∷ 99 ∷ 104 ∷ 58 ∷ 58 ∷ 78 ∷ 101 ∷ 97 ∷ 114 ∷ []) (Syntax.tcons (Syntax.tyInt Syntax.w64) (Syntax.tcons (Syntax.tyStruct (102 ∷ 105 ∷ 101 ∷
+      108 ∷ 100 ∷ 115 ∷ 58 ∷ 58 ∷ 83 ∷ 101 ∷ 114 ∷ 105 ∷ 97 ∷ 108 ∷ []) (Syntax.tcons (Syntax.tyInt Syntax.w32) Syntax.tnil)) Syntax.tnil))) (Syntax.tcons
+      Syntax.tyBool Syntax.tnil))),
 ) ∷ (1, Rows.sslice SlotAs.row (Syntax.tyRef (Syntax.named 0) Syntax.imm SlotAs.pointee) 0) ∷ (
   2,
-  Rows.sc-here (Row.sInt Syntax.w64),
+  Rows.sc-here (Row.sInt
+      Syntax.w64),
 ) ∷ (3, Rows.whole (Declared.row Near.the-type)) ∷ (
   4,
-  Rows.any-gone (Syntax.tyStruct (99 ∷ 111 ∷ 110 ∷ 101 ∷ 99 ∷ 116 ∷
-      58 ∷ 58 ∷ 67 ∷ 111 ∷ 110 ∷ 101 ∷ 99 ∷ 116 ∷ []) (Syntax.tcons (Syntax.tyStruct (102 ∷ 105 ∷ 101 ∷ 108 ∷ 100 ∷ 115 ∷ 58 ∷ 58 ∷ 83 ∷ 101 ∷ 114 ∷ 105 ∷ 97 ∷
-      108 ∷ []) (Syntax.tcons (Syntax.tyInt Syntax.w32) Syntax.tnil)) (Syntax.tcons (Syntax.tyStruct (102 ∷ 105 ∷ 101 ∷ 108 ∷ 100 ∷ 115 ∷ 58 ∷ 58 ∷ 83 ∷ 101 ∷
-      114 ∷ 105 ∷ 97 ∷ 108 ∷ []) (Syntax.tcons (Syntax.tyInt Syntax.w32) Syntax.tnil)) (Syntax.tcons (Syntax.tyStruct (102 ∷ 105 ∷ 101 ∷ 108 ∷ 100 ∷ 115 ∷ 58 ∷
+  Rows.any-gone (Syntax.tyStruct (99 ∷ 111 ∷ 110 ∷ 101 ∷ 99 ∷ 116 ∷ 58 ∷ 58 ∷ 67 ∷ 111 ∷
+      110 ∷ 101 ∷ 99 ∷ 116 ∷ []) (Syntax.tcons (Syntax.tyStruct (102 ∷ 105 ∷ 101 ∷ 108 ∷ 100 ∷ 115 ∷ 58 ∷ 58 ∷ 83 ∷ 101 ∷ 114 ∷ 105 ∷ 97 ∷ 108 ∷ [])
+      (Syntax.tcons (Syntax.tyInt Syntax.w32) Syntax.tnil)) (Syntax.tcons (Syntax.tyStruct (102 ∷ 105 ∷ 101 ∷ 108 ∷ 100 ∷ 115 ∷ 58 ∷ 58 ∷ 83 ∷ 101 ∷ 114 ∷ 105 ∷
+      97 ∷ 108 ∷ []) (Syntax.tcons (Syntax.tyInt Syntax.w32) Syntax.tnil)) (Syntax.tcons (Syntax.tyStruct (102 ∷ 105 ∷ 101 ∷ 108 ∷ 100 ∷ 115 ∷ 58 ∷ 58 ∷ 83 ∷ 101
+      ∷ 114 ∷ 105 ∷ 97 ∷ 108 ∷ []) (Syntax.tcons (Syntax.tyInt Syntax.w32) Syntax.tnil)) (Syntax.tcons (Syntax.tyStruct (102 ∷ 105 ∷ 101 ∷ 108 ∷ 100 ∷ 115 ∷ 58 ∷
       58 ∷ 83 ∷ 101 ∷ 114 ∷ 105 ∷ 97 ∷ 108 ∷ []) (Syntax.tcons (Syntax.tyInt Syntax.w32) Syntax.tnil)) (Syntax.tcons (Syntax.tyStruct (102 ∷ 105 ∷ 101 ∷ 108 ∷
-      100 ∷ 115 ∷ 58 ∷ 58 ∷ 83 ∷ 101 ∷ 114 ∷ 105 ∷ 97 ∷ 108 ∷ []) (Syntax.tcons (Syntax.tyInt Syntax.w32) Syntax.tnil)) (Syntax.tcons (Syntax.tyStruct (102 ∷ 105
-      ∷ 101 ∷ 108 ∷ 100 ∷ 115 ∷ 58 ∷ 58 ∷ 83 ∷ 101 ∷ 114 ∷ 105 ∷ 97 ∷ 108 ∷ []) (Syntax.tcons (Syntax.tyInt Syntax.w32) Syntax.tnil)) Syntax.tnil)))))),
+      100 ∷ 115 ∷ 58 ∷ 58 ∷ 83 ∷ 101 ∷ 114 ∷ 105 ∷ 97 ∷ 108 ∷ []) (Syntax.tcons (Syntax.tyInt Syntax.w32) Syntax.tnil)) Syntax.tnil)))))),
 ) ∷ (
   5,
-  Rows.whole (Declared.row Serial.the-type),
+  Rows.whole
+      (Declared.row Serial.the-type),
 ) ∷ (6, Rows.whole (Declared.row Serial.the-type)) ∷ (7, Rows.whole (Declared.row Serial.the-type)) ∷ (
   8,
-  Rows.whole (Declared.row Serial.the-type),
+  Rows.whole
+      (Declared.row Serial.the-type),
 ) ∷ (9, Rows.whole (Declared.row Serial.the-type)) ∷ (10, Rows.sc-here (Row.sInt Syntax.w64)) ∷ (
   11,
   Rows.any-gone
-      (Syntax.tyStruct (115 ∷ 101 ∷ 97 ∷ 114 ∷ 99 ∷ 104 ∷ 58 ∷ 58 ∷ 78 ∷ 101 ∷ 97 ∷ 114 ∷ []) (Syntax.tcons (Syntax.tyInt Syntax.w64) (Syntax.tcons (Syntax.tyInt
-      Syntax.w32) Syntax.tnil))),
+      (Syntax.tyStruct (115 ∷ 101 ∷ 97 ∷ 114 ∷ 99 ∷ 104 ∷ 58 ∷ 58 ∷ 78 ∷ 101 ∷ 97 ∷ 114 ∷ []) (Syntax.tcons (Syntax.tyInt Syntax.w64) (Syntax.tcons
+      (Syntax.tyStruct (102 ∷ 105 ∷ 101 ∷ 108 ∷ 100 ∷ 115 ∷ 58 ∷ 58 ∷ 83 ∷ 101 ∷ 114 ∷ 105 ∷ 97 ∷ 108 ∷ []) (Syntax.tcons (Syntax.tyInt Syntax.w32) Syntax.tnil))
+      Syntax.tnil))),
 ) ∷ (12, Rows.any-gone Syntax.tyBool) ∷ (13, Rows.any-gone Syntax.tyBool) ∷ (14, Rows.any-gone Syntax.tyBool) ∷ (
   15,
-  Rows.any-gone Syntax.tyBool,
+  Rows.any-gone
+      Syntax.tyBool,
 ) ∷ []
 
 abbrev pub t10 : List.List Row.Entry
 t10 = (
   0,
-  Rows.any-gone (Syntax.tyStruct (115 ∷ 101 ∷ 97 ∷ 114 ∷ 99 ∷ 104 ∷ 58 ∷ 58 ∷ 83 ∷ 111 ∷ 117 ∷ 103 ∷ 104 ∷ 116 ∷ []) (Syntax.tcons Syntax.tyBool
-      (Syntax.tcons (Syntax.tyStruct (115 ∷ 101 ∷ 97 ∷ 114 ∷ 99 ∷ 104 ∷ 58 ∷ 58 ∷ 78 ∷ 101 ∷ 97 ∷ 114 ∷ []) (Syntax.tcons (Syntax.tyInt Syntax.w64) (Syntax.tcons
-      (Syntax.tyInt Syntax.w32) Syntax.tnil))) Syntax.tnil))),
+  Rows.any-gone (Syntax.tyStruct (115 ∷ 101 ∷ 97 ∷ 114 ∷ 99 ∷ 104 ∷ 58 ∷ 58 ∷ 83 ∷ 111 ∷ 117 ∷ 103 ∷ 104 ∷ 116 ∷ []) (Syntax.tcons (Syntax.tyStruct
+      (115 ∷ 101 ∷ 97 ∷ 114 ∷ 99 ∷ 104 ∷ 58 ∷ 58 ∷ 78 ∷ 101 ∷ 97 ∷ 114 ∷ []) (Syntax.tcons (Syntax.tyInt Syntax.w64) (Syntax.tcons (Syntax.tyStruct (102 ∷ 105 ∷
+      101 ∷ 108 ∷ 100 ∷ 115 ∷ 58 ∷ 58 ∷ 83 ∷ 101 ∷ 114 ∷ 105 ∷ 97 ∷ 108 ∷ []) (Syntax.tcons (Syntax.tyInt Syntax.w32) Syntax.tnil)) Syntax.tnil))) (Syntax.tcons
+      Syntax.tyBool Syntax.tnil))),
 ) ∷ (1, Rows.sslice SlotAs.row (Syntax.tyRef (Syntax.named 0) Syntax.imm SlotAs.pointee) 0) ∷ (
   2,
-  Rows.sc-here (Row.sInt Syntax.w64),
+  Rows.sc-here (Row.sInt
+      Syntax.w64),
 ) ∷ (
   3,
-  Rows.any-gone (Syntax.tyStruct (115 ∷ 101 ∷ 97 ∷ 114 ∷ 99 ∷ 104 ∷ 58 ∷ 58 ∷ 78 ∷ 101 ∷ 97 ∷ 114 ∷ [])
-      (Syntax.tcons (Syntax.tyInt Syntax.w64) (Syntax.tcons (Syntax.tyInt Syntax.w32) Syntax.tnil))),
+  Rows.any-gone (Syntax.tyStruct (115 ∷ 101 ∷ 97 ∷ 114 ∷ 99 ∷ 104 ∷ 58 ∷ 58 ∷ 78 ∷ 101 ∷ 97 ∷ 114 ∷ []) (Syntax.tcons (Syntax.tyInt
+      Syntax.w64) (Syntax.tcons (Syntax.tyStruct (102 ∷ 105 ∷ 101 ∷ 108 ∷ 100 ∷ 115 ∷ 58 ∷ 58 ∷ 83 ∷ 101 ∷ 114 ∷ 105 ∷ 97 ∷ 108 ∷ []) (Syntax.tcons (Syntax.tyInt
+      Syntax.w32) Syntax.tnil)) Syntax.tnil))),
 ) ∷ (
   4,
-  Rows.any-gone (Syntax.tyStruct (99 ∷ 111 ∷ 110 ∷ 101
-      ∷ 99 ∷ 116 ∷ 58 ∷ 58 ∷ 67 ∷ 111 ∷ 110 ∷ 101 ∷ 99 ∷ 116 ∷ []) (Syntax.tcons (Syntax.tyStruct (102 ∷ 105 ∷ 101 ∷ 108 ∷ 100 ∷ 115 ∷ 58 ∷ 58 ∷ 83 ∷ 101 ∷ 114 ∷
-      105 ∷ 97 ∷ 108 ∷ []) (Syntax.tcons (Syntax.tyInt Syntax.w32) Syntax.tnil)) (Syntax.tcons (Syntax.tyStruct (102 ∷ 105 ∷ 101 ∷ 108 ∷ 100 ∷ 115 ∷ 58 ∷ 58 ∷ 83
-      ∷ 101 ∷ 114 ∷ 105 ∷ 97 ∷ 108 ∷ []) (Syntax.tcons (Syntax.tyInt Syntax.w32) Syntax.tnil)) (Syntax.tcons (Syntax.tyStruct (102 ∷ 105 ∷ 101 ∷ 108 ∷ 100 ∷ 115
-      ∷ 58 ∷ 58 ∷ 83 ∷ 101 ∷ 114 ∷ 105 ∷ 97 ∷ 108 ∷ []) (Syntax.tcons (Syntax.tyInt Syntax.w32) Syntax.tnil)) (Syntax.tcons (Syntax.tyStruct (102 ∷ 105 ∷ 101 ∷
-      108 ∷ 100 ∷ 115 ∷ 58 ∷ 58 ∷ 83 ∷ 101 ∷ 114 ∷ 105 ∷ 97 ∷ 108 ∷ []) (Syntax.tcons (Syntax.tyInt Syntax.w32) Syntax.tnil)) (Syntax.tcons (Syntax.tyStruct (102
-      ∷ 105 ∷ 101 ∷ 108 ∷ 100 ∷ 115 ∷ 58 ∷ 58 ∷ 83 ∷ 101 ∷ 114 ∷ 105 ∷ 97 ∷ 108 ∷ []) (Syntax.tcons (Syntax.tyInt Syntax.w32) Syntax.tnil)) Syntax.tnil)))))),
-) ∷
-    (5, Rows.whole (Declared.row Serial.the-type)) ∷ (6, Rows.whole (Declared.row Serial.the-type)) ∷ (7, Rows.whole (Declared.row Serial.the-type)) ∷ (
-      8,
+  Rows.any-gone (Syntax.tyStruct (99 ∷ 111 ∷ 110 ∷ 101 ∷ 99 ∷ 116 ∷ 58 ∷ 58 ∷ 67 ∷ 111 ∷ 110 ∷ 101 ∷ 99 ∷ 116
+      ∷ []) (Syntax.tcons (Syntax.tyStruct (102 ∷ 105 ∷ 101 ∷ 108 ∷ 100 ∷ 115 ∷ 58 ∷ 58 ∷ 83 ∷ 101 ∷ 114 ∷ 105 ∷ 97 ∷ 108 ∷ []) (Syntax.tcons (Syntax.tyInt
+      Syntax.w32) Syntax.tnil)) (Syntax.tcons (Syntax.tyStruct (102 ∷ 105 ∷ 101 ∷ 108 ∷ 100 ∷ 115 ∷ 58 ∷ 58 ∷ 83 ∷ 101 ∷ 114 ∷ 105 ∷ 97 ∷ 108 ∷ []) (Syntax.tcons
+      (Syntax.tyInt Syntax.w32) Syntax.tnil)) (Syntax.tcons (Syntax.tyStruct (102 ∷ 105 ∷ 101 ∷ 108 ∷ 100 ∷ 115 ∷ 58 ∷ 58 ∷ 83 ∷ 101 ∷ 114 ∷ 105 ∷ 97 ∷ 108 ∷ [])
+      (Syntax.tcons (Syntax.tyInt Syntax.w32) Syntax.tnil)) (Syntax.tcons (Syntax.tyStruct (102 ∷ 105 ∷ 101 ∷ 108 ∷ 100 ∷ 115 ∷ 58 ∷ 58 ∷ 83 ∷ 101 ∷ 114 ∷ 105 ∷
+      97 ∷ 108 ∷ []) (Syntax.tcons (Syntax.tyInt Syntax.w32) Syntax.tnil)) (Syntax.tcons (Syntax.tyStruct (102 ∷ 105 ∷ 101 ∷ 108 ∷ 100 ∷ 115 ∷ 58 ∷ 58 ∷ 83 ∷ 101
+      ∷ 114 ∷ 105 ∷ 97 ∷ 108 ∷ []) (Syntax.tcons (Syntax.tyInt Syntax.w32) Syntax.tnil)) Syntax.tnil)))))),
+) ∷ (5, Rows.whole (Declared.row Serial.the-type)) ∷
+    (6, Rows.whole (Declared.row Serial.the-type)) ∷ (7, Rows.whole (Declared.row Serial.the-type)) ∷ (8, Rows.whole (Declared.row Serial.the-type)) ∷ (
+      9,
       Rows.whole (Declared.row Serial.the-type),
-    ) ∷ (9, Rows.whole (Declared.row Serial.the-type)) ∷ (10, Rows.sc-here (Row.sInt Syntax.w64)) ∷ (
+    ) ∷ (10, Rows.sc-here (Row.sInt Syntax.w64)) ∷ (
       11,
-      Rows.any-gone
-          (Syntax.tyStruct (115 ∷ 101 ∷ 97 ∷ 114 ∷ 99 ∷ 104 ∷ 58 ∷ 58 ∷ 78 ∷ 101 ∷ 97 ∷ 114 ∷ []) (Syntax.tcons (Syntax.tyInt Syntax.w64) (Syntax.tcons (Syntax.tyInt
-          Syntax.w32) Syntax.tnil))),
-    ) ∷ (12, Rows.any-gone Syntax.tyBool) ∷ (13, Rows.any-gone Syntax.tyBool) ∷ (14, Rows.any-gone Syntax.tyBool) ∷ (
-      15,
+      Rows.any-gone (Syntax.tyStruct (115 ∷ 101 ∷ 97 ∷ 114 ∷ 99 ∷
+          104 ∷ 58 ∷ 58 ∷ 78 ∷ 101 ∷ 97 ∷ 114 ∷ []) (Syntax.tcons (Syntax.tyInt Syntax.w64) (Syntax.tcons (Syntax.tyStruct (102 ∷ 105 ∷ 101 ∷ 108 ∷ 100 ∷ 115 ∷ 58 ∷
+          58 ∷ 83 ∷ 101 ∷ 114 ∷ 105 ∷ 97 ∷ 108 ∷ []) (Syntax.tcons (Syntax.tyInt Syntax.w32) Syntax.tnil)) Syntax.tnil))),
+    ) ∷ (12, Rows.any-gone Syntax.tyBool) ∷ (
+      13,
       Rows.any-gone Syntax.tyBool,
-    ) ∷ []
+    ) ∷ (14, Rows.any-gone Syntax.tyBool) ∷ (15, Rows.any-gone Syntax.tyBool) ∷ []
 
 abbrev pub t11 : List.List Row.Entry
 t11 = (
   0,
-  Rows.any-gone (Syntax.tyStruct (115 ∷ 101 ∷ 97 ∷ 114 ∷ 99 ∷ 104 ∷ 58 ∷ 58 ∷ 83 ∷ 111 ∷ 117 ∷ 103 ∷ 104 ∷ 116 ∷ []) (Syntax.tcons Syntax.tyBool
-      (Syntax.tcons (Syntax.tyStruct (115 ∷ 101 ∷ 97 ∷ 114 ∷ 99 ∷ 104 ∷ 58 ∷ 58 ∷ 78 ∷ 101 ∷ 97 ∷ 114 ∷ []) (Syntax.tcons (Syntax.tyInt Syntax.w64) (Syntax.tcons
-      (Syntax.tyInt Syntax.w32) Syntax.tnil))) Syntax.tnil))),
+  Rows.any-gone (Syntax.tyStruct (115 ∷ 101 ∷ 97 ∷ 114 ∷ 99 ∷ 104 ∷ 58 ∷ 58 ∷ 83 ∷ 111 ∷ 117 ∷ 103 ∷ 104 ∷ 116 ∷ []) (Syntax.tcons (Syntax.tyStruct
+      (115 ∷ 101 ∷ 97 ∷ 114 ∷ 99 ∷ 104 ∷ 58 ∷ 58 ∷ 78 ∷ 101 ∷ 97 ∷ 114 ∷ []) (Syntax.tcons (Syntax.tyInt Syntax.w64) (Syntax.tcons (Syntax.tyStruct (102 ∷ 105 ∷
+      101 ∷ 108 ∷ 100 ∷ 115 ∷ 58 ∷ 58 ∷ 83 ∷ 101 ∷ 114 ∷ 105 ∷ 97 ∷ 108 ∷ []) (Syntax.tcons (Syntax.tyInt Syntax.w32) Syntax.tnil)) Syntax.tnil))) (Syntax.tcons
+      Syntax.tyBool Syntax.tnil))),
 ) ∷ (1, Rows.sslice SlotAs.row (Syntax.tyRef (Syntax.named 0) Syntax.imm SlotAs.pointee) 0) ∷ (
   2,
-  Rows.sc-here (Row.sInt Syntax.w64),
+  Rows.sc-here (Row.sInt
+      Syntax.w64),
 ) ∷ (
   3,
-  Rows.any-gone (Syntax.tyStruct (115 ∷ 101 ∷ 97 ∷ 114 ∷ 99 ∷ 104 ∷ 58 ∷ 58 ∷ 78 ∷ 101 ∷ 97 ∷ 114 ∷ [])
-      (Syntax.tcons (Syntax.tyInt Syntax.w64) (Syntax.tcons (Syntax.tyInt Syntax.w32) Syntax.tnil))),
+  Rows.any-gone (Syntax.tyStruct (115 ∷ 101 ∷ 97 ∷ 114 ∷ 99 ∷ 104 ∷ 58 ∷ 58 ∷ 78 ∷ 101 ∷ 97 ∷ 114 ∷ []) (Syntax.tcons (Syntax.tyInt
+      Syntax.w64) (Syntax.tcons (Syntax.tyStruct (102 ∷ 105 ∷ 101 ∷ 108 ∷ 100 ∷ 115 ∷ 58 ∷ 58 ∷ 83 ∷ 101 ∷ 114 ∷ 105 ∷ 97 ∷ 108 ∷ []) (Syntax.tcons (Syntax.tyInt
+      Syntax.w32) Syntax.tnil)) Syntax.tnil))),
 ) ∷ (
   4,
-  Rows.any-gone (Syntax.tyStruct (99 ∷ 111 ∷ 110 ∷ 101
-      ∷ 99 ∷ 116 ∷ 58 ∷ 58 ∷ 67 ∷ 111 ∷ 110 ∷ 101 ∷ 99 ∷ 116 ∷ []) (Syntax.tcons (Syntax.tyStruct (102 ∷ 105 ∷ 101 ∷ 108 ∷ 100 ∷ 115 ∷ 58 ∷ 58 ∷ 83 ∷ 101 ∷ 114 ∷
-      105 ∷ 97 ∷ 108 ∷ []) (Syntax.tcons (Syntax.tyInt Syntax.w32) Syntax.tnil)) (Syntax.tcons (Syntax.tyStruct (102 ∷ 105 ∷ 101 ∷ 108 ∷ 100 ∷ 115 ∷ 58 ∷ 58 ∷ 83
-      ∷ 101 ∷ 114 ∷ 105 ∷ 97 ∷ 108 ∷ []) (Syntax.tcons (Syntax.tyInt Syntax.w32) Syntax.tnil)) (Syntax.tcons (Syntax.tyStruct (102 ∷ 105 ∷ 101 ∷ 108 ∷ 100 ∷ 115
-      ∷ 58 ∷ 58 ∷ 83 ∷ 101 ∷ 114 ∷ 105 ∷ 97 ∷ 108 ∷ []) (Syntax.tcons (Syntax.tyInt Syntax.w32) Syntax.tnil)) (Syntax.tcons (Syntax.tyStruct (102 ∷ 105 ∷ 101 ∷
-      108 ∷ 100 ∷ 115 ∷ 58 ∷ 58 ∷ 83 ∷ 101 ∷ 114 ∷ 105 ∷ 97 ∷ 108 ∷ []) (Syntax.tcons (Syntax.tyInt Syntax.w32) Syntax.tnil)) (Syntax.tcons (Syntax.tyStruct (102
-      ∷ 105 ∷ 101 ∷ 108 ∷ 100 ∷ 115 ∷ 58 ∷ 58 ∷ 83 ∷ 101 ∷ 114 ∷ 105 ∷ 97 ∷ 108 ∷ []) (Syntax.tcons (Syntax.tyInt Syntax.w32) Syntax.tnil)) Syntax.tnil)))))),
-) ∷
-    (5, Rows.whole (Declared.row Serial.the-type)) ∷ (6, Rows.whole (Declared.row Serial.the-type)) ∷ (7, Rows.whole (Declared.row Serial.the-type)) ∷ (
-      8,
+  Rows.any-gone (Syntax.tyStruct (99 ∷ 111 ∷ 110 ∷ 101 ∷ 99 ∷ 116 ∷ 58 ∷ 58 ∷ 67 ∷ 111 ∷ 110 ∷ 101 ∷ 99 ∷ 116
+      ∷ []) (Syntax.tcons (Syntax.tyStruct (102 ∷ 105 ∷ 101 ∷ 108 ∷ 100 ∷ 115 ∷ 58 ∷ 58 ∷ 83 ∷ 101 ∷ 114 ∷ 105 ∷ 97 ∷ 108 ∷ []) (Syntax.tcons (Syntax.tyInt
+      Syntax.w32) Syntax.tnil)) (Syntax.tcons (Syntax.tyStruct (102 ∷ 105 ∷ 101 ∷ 108 ∷ 100 ∷ 115 ∷ 58 ∷ 58 ∷ 83 ∷ 101 ∷ 114 ∷ 105 ∷ 97 ∷ 108 ∷ []) (Syntax.tcons
+      (Syntax.tyInt Syntax.w32) Syntax.tnil)) (Syntax.tcons (Syntax.tyStruct (102 ∷ 105 ∷ 101 ∷ 108 ∷ 100 ∷ 115 ∷ 58 ∷ 58 ∷ 83 ∷ 101 ∷ 114 ∷ 105 ∷ 97 ∷ 108 ∷ [])
+      (Syntax.tcons (Syntax.tyInt Syntax.w32) Syntax.tnil)) (Syntax.tcons (Syntax.tyStruct (102 ∷ 105 ∷ 101 ∷ 108 ∷ 100 ∷ 115 ∷ 58 ∷ 58 ∷ 83 ∷ 101 ∷ 114 ∷ 105 ∷
+      97 ∷ 108 ∷ []) (Syntax.tcons (Syntax.tyInt Syntax.w32) Syntax.tnil)) (Syntax.tcons (Syntax.tyStruct (102 ∷ 105 ∷ 101 ∷ 108 ∷ 100 ∷ 115 ∷ 58 ∷ 58 ∷ 83 ∷ 101
+      ∷ 114 ∷ 105 ∷ 97 ∷ 108 ∷ []) (Syntax.tcons (Syntax.tyInt Syntax.w32) Syntax.tnil)) Syntax.tnil)))))),
+) ∷ (5, Rows.whole (Declared.row Serial.the-type)) ∷
+    (6, Rows.whole (Declared.row Serial.the-type)) ∷ (7, Rows.whole (Declared.row Serial.the-type)) ∷ (8, Rows.whole (Declared.row Serial.the-type)) ∷ (
+      9,
       Rows.whole (Declared.row Serial.the-type),
-    ) ∷ (9, Rows.whole (Declared.row Serial.the-type)) ∷ (10, Rows.sc-here (Row.sInt Syntax.w64)) ∷ (
-      11,
-      Rows.whole
-          (Declared.row (Apart.apartT Near.the-type)),
-    ) ∷ (12, Rows.any-gone Syntax.tyBool) ∷ (13, Rows.any-gone Syntax.tyBool) ∷ (14, Rows.any-gone Syntax.tyBool) ∷
-    (15, Rows.any-gone Syntax.tyBool) ∷ []
+    ) ∷ (10, Rows.sc-here (Row.sInt Syntax.w64)) ∷ (11, Rows.whole (Declared.row (Apart.apartT Near.the-type))) ∷ (
+      12,
+      Rows.any-gone Syntax.tyBool,
+    ) ∷ (13, Rows.any-gone Syntax.tyBool) ∷ (14, Rows.any-gone Syntax.tyBool) ∷ (15, Rows.any-gone Syntax.tyBool) ∷ []
 
 abbrev pub t12 : List.List Row.Entry
 t12 = (
   0,
-  Rows.any-gone (Syntax.tyStruct (115 ∷ 101 ∷ 97 ∷ 114 ∷ 99 ∷ 104 ∷ 58 ∷ 58 ∷ 83 ∷ 111 ∷ 117 ∷ 103 ∷ 104 ∷ 116 ∷ []) (Syntax.tcons Syntax.tyBool
-      (Syntax.tcons (Syntax.tyStruct (115 ∷ 101 ∷ 97 ∷ 114 ∷ 99 ∷ 104 ∷ 58 ∷ 58 ∷ 78 ∷ 101 ∷ 97 ∷ 114 ∷ []) (Syntax.tcons (Syntax.tyInt Syntax.w64) (Syntax.tcons
-      (Syntax.tyInt Syntax.w32) Syntax.tnil))) Syntax.tnil))),
+  Rows.any-gone (Syntax.tyStruct (115 ∷ 101 ∷ 97 ∷ 114 ∷ 99 ∷ 104 ∷ 58 ∷ 58 ∷ 83 ∷ 111 ∷ 117 ∷ 103 ∷ 104 ∷ 116 ∷ []) (Syntax.tcons (Syntax.tyStruct
+      (115 ∷ 101 ∷ 97 ∷ 114 ∷ 99 ∷ 104 ∷ 58 ∷ 58 ∷ 78 ∷ 101 ∷ 97 ∷ 114 ∷ []) (Syntax.tcons (Syntax.tyInt Syntax.w64) (Syntax.tcons (Syntax.tyStruct (102 ∷ 105 ∷
+      101 ∷ 108 ∷ 100 ∷ 115 ∷ 58 ∷ 58 ∷ 83 ∷ 101 ∷ 114 ∷ 105 ∷ 97 ∷ 108 ∷ []) (Syntax.tcons (Syntax.tyInt Syntax.w32) Syntax.tnil)) Syntax.tnil))) (Syntax.tcons
+      Syntax.tyBool Syntax.tnil))),
 ) ∷ (1, Rows.sslice SlotAs.row (Syntax.tyRef (Syntax.named 0) Syntax.imm SlotAs.pointee) 0) ∷ (
   2,
-  Rows.sc-here (Row.sInt Syntax.w64),
+  Rows.sc-here (Row.sInt
+      Syntax.w64),
 ) ∷ (
   3,
-  Rows.any-gone (Syntax.tyStruct (115 ∷ 101 ∷ 97 ∷ 114 ∷ 99 ∷ 104 ∷ 58 ∷ 58 ∷ 78 ∷ 101 ∷ 97 ∷ 114 ∷ [])
-      (Syntax.tcons (Syntax.tyInt Syntax.w64) (Syntax.tcons (Syntax.tyInt Syntax.w32) Syntax.tnil))),
+  Rows.any-gone (Syntax.tyStruct (115 ∷ 101 ∷ 97 ∷ 114 ∷ 99 ∷ 104 ∷ 58 ∷ 58 ∷ 78 ∷ 101 ∷ 97 ∷ 114 ∷ []) (Syntax.tcons (Syntax.tyInt
+      Syntax.w64) (Syntax.tcons (Syntax.tyStruct (102 ∷ 105 ∷ 101 ∷ 108 ∷ 100 ∷ 115 ∷ 58 ∷ 58 ∷ 83 ∷ 101 ∷ 114 ∷ 105 ∷ 97 ∷ 108 ∷ []) (Syntax.tcons (Syntax.tyInt
+      Syntax.w32) Syntax.tnil)) Syntax.tnil))),
 ) ∷ (
   4,
-  Rows.any-gone (Syntax.tyStruct (99 ∷ 111 ∷ 110 ∷ 101
-      ∷ 99 ∷ 116 ∷ 58 ∷ 58 ∷ 67 ∷ 111 ∷ 110 ∷ 101 ∷ 99 ∷ 116 ∷ []) (Syntax.tcons (Syntax.tyStruct (102 ∷ 105 ∷ 101 ∷ 108 ∷ 100 ∷ 115 ∷ 58 ∷ 58 ∷ 83 ∷ 101 ∷ 114 ∷
-      105 ∷ 97 ∷ 108 ∷ []) (Syntax.tcons (Syntax.tyInt Syntax.w32) Syntax.tnil)) (Syntax.tcons (Syntax.tyStruct (102 ∷ 105 ∷ 101 ∷ 108 ∷ 100 ∷ 115 ∷ 58 ∷ 58 ∷ 83
-      ∷ 101 ∷ 114 ∷ 105 ∷ 97 ∷ 108 ∷ []) (Syntax.tcons (Syntax.tyInt Syntax.w32) Syntax.tnil)) (Syntax.tcons (Syntax.tyStruct (102 ∷ 105 ∷ 101 ∷ 108 ∷ 100 ∷ 115
-      ∷ 58 ∷ 58 ∷ 83 ∷ 101 ∷ 114 ∷ 105 ∷ 97 ∷ 108 ∷ []) (Syntax.tcons (Syntax.tyInt Syntax.w32) Syntax.tnil)) (Syntax.tcons (Syntax.tyStruct (102 ∷ 105 ∷ 101 ∷
-      108 ∷ 100 ∷ 115 ∷ 58 ∷ 58 ∷ 83 ∷ 101 ∷ 114 ∷ 105 ∷ 97 ∷ 108 ∷ []) (Syntax.tcons (Syntax.tyInt Syntax.w32) Syntax.tnil)) (Syntax.tcons (Syntax.tyStruct (102
-      ∷ 105 ∷ 101 ∷ 108 ∷ 100 ∷ 115 ∷ 58 ∷ 58 ∷ 83 ∷ 101 ∷ 114 ∷ 105 ∷ 97 ∷ 108 ∷ []) (Syntax.tcons (Syntax.tyInt Syntax.w32) Syntax.tnil)) Syntax.tnil)))))),
-) ∷
-    (5, Rows.whole (Declared.row Serial.the-type)) ∷ (6, Rows.whole (Declared.row Serial.the-type)) ∷ (7, Rows.whole (Declared.row Serial.the-type)) ∷ (
-      8,
+  Rows.any-gone (Syntax.tyStruct (99 ∷ 111 ∷ 110 ∷ 101 ∷ 99 ∷ 116 ∷ 58 ∷ 58 ∷ 67 ∷ 111 ∷ 110 ∷ 101 ∷ 99 ∷ 116
+      ∷ []) (Syntax.tcons (Syntax.tyStruct (102 ∷ 105 ∷ 101 ∷ 108 ∷ 100 ∷ 115 ∷ 58 ∷ 58 ∷ 83 ∷ 101 ∷ 114 ∷ 105 ∷ 97 ∷ 108 ∷ []) (Syntax.tcons (Syntax.tyInt
+      Syntax.w32) Syntax.tnil)) (Syntax.tcons (Syntax.tyStruct (102 ∷ 105 ∷ 101 ∷ 108 ∷ 100 ∷ 115 ∷ 58 ∷ 58 ∷ 83 ∷ 101 ∷ 114 ∷ 105 ∷ 97 ∷ 108 ∷ []) (Syntax.tcons
+      (Syntax.tyInt Syntax.w32) Syntax.tnil)) (Syntax.tcons (Syntax.tyStruct (102 ∷ 105 ∷ 101 ∷ 108 ∷ 100 ∷ 115 ∷ 58 ∷ 58 ∷ 83 ∷ 101 ∷ 114 ∷ 105 ∷ 97 ∷ 108 ∷ [])
+      (Syntax.tcons (Syntax.tyInt Syntax.w32) Syntax.tnil)) (Syntax.tcons (Syntax.tyStruct (102 ∷ 105 ∷ 101 ∷ 108 ∷ 100 ∷ 115 ∷ 58 ∷ 58 ∷ 83 ∷ 101 ∷ 114 ∷ 105 ∷
+      97 ∷ 108 ∷ []) (Syntax.tcons (Syntax.tyInt Syntax.w32) Syntax.tnil)) (Syntax.tcons (Syntax.tyStruct (102 ∷ 105 ∷ 101 ∷ 108 ∷ 100 ∷ 115 ∷ 58 ∷ 58 ∷ 83 ∷ 101
+      ∷ 114 ∷ 105 ∷ 97 ∷ 108 ∷ []) (Syntax.tcons (Syntax.tyInt Syntax.w32) Syntax.tnil)) Syntax.tnil)))))),
+) ∷ (5, Rows.whole (Declared.row Serial.the-type)) ∷
+    (6, Rows.whole (Declared.row Serial.the-type)) ∷ (7, Rows.whole (Declared.row Serial.the-type)) ∷ (8, Rows.whole (Declared.row Serial.the-type)) ∷ (
+      9,
       Rows.whole (Declared.row Serial.the-type),
-    ) ∷ (9, Rows.whole (Declared.row Serial.the-type)) ∷ (10, Rows.sc-here (Row.sInt Syntax.w64)) ∷ (
-      11,
-      Rows.whole
-          (Declared.row (Apart.apartT Near.the-type)),
-    ) ∷ (12, Rows.sc-here Row.sBool) ∷ (13, Rows.any-gone Syntax.tyBool) ∷ (14, Rows.any-gone Syntax.tyBool) ∷ (
-      15,
-      Rows.any-gone Syntax.tyBool,
-    ) ∷ []
+    ) ∷ (10, Rows.sc-here (Row.sInt Syntax.w64)) ∷ (11, Rows.whole (Declared.row (Apart.apartT Near.the-type))) ∷ (
+      12,
+      Rows.sc-here Row.sBool,
+    ) ∷ (13, Rows.any-gone Syntax.tyBool) ∷ (14, Rows.any-gone Syntax.tyBool) ∷ (15, Rows.any-gone Syntax.tyBool) ∷ []
 
 abbrev pub t13 : List.List Row.Entry
 t13 = (
   0,
-  Rows.any-gone (Syntax.tyStruct (115 ∷ 101 ∷ 97 ∷ 114 ∷ 99 ∷ 104 ∷ 58 ∷ 58 ∷ 83 ∷ 111 ∷ 117 ∷ 103 ∷ 104 ∷ 116 ∷ []) (Syntax.tcons Syntax.tyBool
-      (Syntax.tcons (Syntax.tyStruct (115 ∷ 101 ∷ 97 ∷ 114 ∷ 99 ∷ 104 ∷ 58 ∷ 58 ∷ 78 ∷ 101 ∷ 97 ∷ 114 ∷ []) (Syntax.tcons (Syntax.tyInt Syntax.w64) (Syntax.tcons
-      (Syntax.tyInt Syntax.w32) Syntax.tnil))) Syntax.tnil))),
+  Rows.any-gone (Syntax.tyStruct (115 ∷ 101 ∷ 97 ∷ 114 ∷ 99 ∷ 104 ∷ 58 ∷ 58 ∷ 83 ∷ 111 ∷ 117 ∷ 103 ∷ 104 ∷ 116 ∷ []) (Syntax.tcons (Syntax.tyStruct
+      (115 ∷ 101 ∷ 97 ∷ 114 ∷ 99 ∷ 104 ∷ 58 ∷ 58 ∷ 78 ∷ 101 ∷ 97 ∷ 114 ∷ []) (Syntax.tcons (Syntax.tyInt Syntax.w64) (Syntax.tcons (Syntax.tyStruct (102 ∷ 105 ∷
+      101 ∷ 108 ∷ 100 ∷ 115 ∷ 58 ∷ 58 ∷ 83 ∷ 101 ∷ 114 ∷ 105 ∷ 97 ∷ 108 ∷ []) (Syntax.tcons (Syntax.tyInt Syntax.w32) Syntax.tnil)) Syntax.tnil))) (Syntax.tcons
+      Syntax.tyBool Syntax.tnil))),
 ) ∷ (1, Rows.sslice SlotAs.row (Syntax.tyRef (Syntax.named 0) Syntax.imm SlotAs.pointee) 0) ∷ (
   2,
-  Rows.sc-here (Row.sInt Syntax.w64),
+  Rows.sc-here (Row.sInt
+      Syntax.w64),
 ) ∷ (
   3,
-  Rows.any-gone (Syntax.tyStruct (115 ∷ 101 ∷ 97 ∷ 114 ∷ 99 ∷ 104 ∷ 58 ∷ 58 ∷ 78 ∷ 101 ∷ 97 ∷ 114 ∷ [])
-      (Syntax.tcons (Syntax.tyInt Syntax.w64) (Syntax.tcons (Syntax.tyInt Syntax.w32) Syntax.tnil))),
+  Rows.any-gone (Syntax.tyStruct (115 ∷ 101 ∷ 97 ∷ 114 ∷ 99 ∷ 104 ∷ 58 ∷ 58 ∷ 78 ∷ 101 ∷ 97 ∷ 114 ∷ []) (Syntax.tcons (Syntax.tyInt
+      Syntax.w64) (Syntax.tcons (Syntax.tyStruct (102 ∷ 105 ∷ 101 ∷ 108 ∷ 100 ∷ 115 ∷ 58 ∷ 58 ∷ 83 ∷ 101 ∷ 114 ∷ 105 ∷ 97 ∷ 108 ∷ []) (Syntax.tcons (Syntax.tyInt
+      Syntax.w32) Syntax.tnil)) Syntax.tnil))),
 ) ∷ (
   4,
-  Rows.any-gone (Syntax.tyStruct (99 ∷ 111 ∷ 110 ∷ 101
-      ∷ 99 ∷ 116 ∷ 58 ∷ 58 ∷ 67 ∷ 111 ∷ 110 ∷ 101 ∷ 99 ∷ 116 ∷ []) (Syntax.tcons (Syntax.tyStruct (102 ∷ 105 ∷ 101 ∷ 108 ∷ 100 ∷ 115 ∷ 58 ∷ 58 ∷ 83 ∷ 101 ∷ 114 ∷
-      105 ∷ 97 ∷ 108 ∷ []) (Syntax.tcons (Syntax.tyInt Syntax.w32) Syntax.tnil)) (Syntax.tcons (Syntax.tyStruct (102 ∷ 105 ∷ 101 ∷ 108 ∷ 100 ∷ 115 ∷ 58 ∷ 58 ∷ 83
-      ∷ 101 ∷ 114 ∷ 105 ∷ 97 ∷ 108 ∷ []) (Syntax.tcons (Syntax.tyInt Syntax.w32) Syntax.tnil)) (Syntax.tcons (Syntax.tyStruct (102 ∷ 105 ∷ 101 ∷ 108 ∷ 100 ∷ 115
-      ∷ 58 ∷ 58 ∷ 83 ∷ 101 ∷ 114 ∷ 105 ∷ 97 ∷ 108 ∷ []) (Syntax.tcons (Syntax.tyInt Syntax.w32) Syntax.tnil)) (Syntax.tcons (Syntax.tyStruct (102 ∷ 105 ∷ 101 ∷
-      108 ∷ 100 ∷ 115 ∷ 58 ∷ 58 ∷ 83 ∷ 101 ∷ 114 ∷ 105 ∷ 97 ∷ 108 ∷ []) (Syntax.tcons (Syntax.tyInt Syntax.w32) Syntax.tnil)) (Syntax.tcons (Syntax.tyStruct (102
-      ∷ 105 ∷ 101 ∷ 108 ∷ 100 ∷ 115 ∷ 58 ∷ 58 ∷ 83 ∷ 101 ∷ 114 ∷ 105 ∷ 97 ∷ 108 ∷ []) (Syntax.tcons (Syntax.tyInt Syntax.w32) Syntax.tnil)) Syntax.tnil)))))),
+  Rows.any-gone (Syntax.tyStruct (99 ∷ 111 ∷ 110 ∷ 101 ∷ 99 ∷ 116 ∷ 58 ∷ 58 ∷ 67 ∷ 111 ∷ 110 ∷ 101 ∷ 99 ∷ 116
+      ∷ []) (Syntax.tcons (Syntax.tyStruct (102 ∷ 105 ∷ 101 ∷ 108 ∷ 100 ∷ 115 ∷ 58 ∷ 58 ∷ 83 ∷ 101 ∷ 114 ∷ 105 ∷ 97 ∷ 108 ∷ []) (Syntax.tcons (Syntax.tyInt
+      Syntax.w32) Syntax.tnil)) (Syntax.tcons (Syntax.tyStruct (102 ∷ 105 ∷ 101 ∷ 108 ∷ 100 ∷ 115 ∷ 58 ∷ 58 ∷ 83 ∷ 101 ∷ 114 ∷ 105 ∷ 97 ∷ 108 ∷ []) (Syntax.tcons
+      (Syntax.tyInt Syntax.w32) Syntax.tnil)) (Syntax.tcons (Syntax.tyStruct (102 ∷ 105 ∷ 101 ∷ 108 ∷ 100 ∷ 115 ∷ 58 ∷ 58 ∷ 83 ∷ 101 ∷ 114 ∷ 105 ∷ 97 ∷ 108 ∷ [])
+      (Syntax.tcons (Syntax.tyInt Syntax.w32) Syntax.tnil)) (Syntax.tcons (Syntax.tyStruct (102 ∷ 105 ∷ 101 ∷ 108 ∷ 100 ∷ 115 ∷ 58 ∷ 58 ∷ 83 ∷ 101 ∷ 114 ∷ 105 ∷
+      97 ∷ 108 ∷ []) (Syntax.tcons (Syntax.tyInt Syntax.w32) Syntax.tnil)) (Syntax.tcons (Syntax.tyStruct (102 ∷ 105 ∷ 101 ∷ 108 ∷ 100 ∷ 115 ∷ 58 ∷ 58 ∷ 83 ∷ 101
+      ∷ 114 ∷ 105 ∷ 97 ∷ 108 ∷ []) (Syntax.tcons (Syntax.tyInt Syntax.w32) Syntax.tnil)) Syntax.tnil)))))),
 ) ∷ (
   5,
-  Rows.any-gone (Syntax.tyStruct (102 ∷ 105 ∷ 101 ∷ 108 ∷ 100 ∷ 115 ∷ 58 ∷ 58 ∷ 83 ∷ 101 ∷ 114 ∷ 105 ∷ 97 ∷ 108 ∷ []) (Syntax.tcons (Syntax.tyInt
-      Syntax.w32) Syntax.tnil)),
-) ∷ (6, Rows.whole (Declared.row Serial.the-type)) ∷ (7, Rows.whole (Declared.row Serial.the-type)) ∷ (
-  8,
+  Rows.any-gone (Syntax.tyStruct (102 ∷ 105 ∷ 101
+      ∷ 108 ∷ 100 ∷ 115 ∷ 58 ∷ 58 ∷ 83 ∷ 101 ∷ 114 ∷ 105 ∷ 97 ∷ 108 ∷ []) (Syntax.tcons (Syntax.tyInt Syntax.w32) Syntax.tnil)),
+) ∷ (
+  6,
   Rows.whole (Declared.row
       Serial.the-type),
-) ∷ (9, Rows.whole (Declared.row Serial.the-type)) ∷ (10, Rows.sc-here (Row.sInt Syntax.w64)) ∷ (
-  11,
-  Rows.whole (Declared.row (Apart.apartT
-      Near.the-type)),
-) ∷ (12, Rows.sc-here Row.sBool) ∷ (13, Rows.any-gone Syntax.tyBool) ∷ (14, Rows.any-gone Syntax.tyBool) ∷ (15, Rows.any-gone Syntax.tyBool)
-    ∷ []
+) ∷ (7, Rows.whole (Declared.row Serial.the-type)) ∷ (8, Rows.whole (Declared.row Serial.the-type)) ∷ (
+  9,
+  Rows.whole (Declared.row
+      Serial.the-type),
+) ∷ (10, Rows.sc-here (Row.sInt Syntax.w64)) ∷ (11, Rows.whole (Declared.row (Apart.apartT Near.the-type))) ∷ (12, Rows.sc-here Row.sBool)
+    ∷ (13, Rows.any-gone Syntax.tyBool) ∷ (14, Rows.any-gone Syntax.tyBool) ∷ (15, Rows.any-gone Syntax.tyBool) ∷ []
 
 abbrev pub t14 : List.List Row.Entry
 t14 = (
   0,
-  Rows.any-gone (Syntax.tyStruct (115 ∷ 101 ∷ 97 ∷ 114 ∷ 99 ∷ 104 ∷ 58 ∷ 58 ∷ 83 ∷ 111 ∷ 117 ∷ 103 ∷ 104 ∷ 116 ∷ []) (Syntax.tcons Syntax.tyBool
-      (Syntax.tcons (Syntax.tyStruct (115 ∷ 101 ∷ 97 ∷ 114 ∷ 99 ∷ 104 ∷ 58 ∷ 58 ∷ 78 ∷ 101 ∷ 97 ∷ 114 ∷ []) (Syntax.tcons (Syntax.tyInt Syntax.w64) (Syntax.tcons
-      (Syntax.tyInt Syntax.w32) Syntax.tnil))) Syntax.tnil))),
+  Rows.any-gone (Syntax.tyStruct (115 ∷ 101 ∷ 97 ∷ 114 ∷ 99 ∷ 104 ∷ 58 ∷ 58 ∷ 83 ∷ 111 ∷ 117 ∷ 103 ∷ 104 ∷ 116 ∷ []) (Syntax.tcons (Syntax.tyStruct
+      (115 ∷ 101 ∷ 97 ∷ 114 ∷ 99 ∷ 104 ∷ 58 ∷ 58 ∷ 78 ∷ 101 ∷ 97 ∷ 114 ∷ []) (Syntax.tcons (Syntax.tyInt Syntax.w64) (Syntax.tcons (Syntax.tyStruct (102 ∷ 105 ∷
+      101 ∷ 108 ∷ 100 ∷ 115 ∷ 58 ∷ 58 ∷ 83 ∷ 101 ∷ 114 ∷ 105 ∷ 97 ∷ 108 ∷ []) (Syntax.tcons (Syntax.tyInt Syntax.w32) Syntax.tnil)) Syntax.tnil))) (Syntax.tcons
+      Syntax.tyBool Syntax.tnil))),
 ) ∷ (1, Rows.sslice SlotAs.row (Syntax.tyRef (Syntax.named 0) Syntax.imm SlotAs.pointee) 0) ∷ (
   2,
-  Rows.sc-here (Row.sInt Syntax.w64),
+  Rows.sc-here (Row.sInt
+      Syntax.w64),
 ) ∷ (
   3,
-  Rows.any-gone (Syntax.tyStruct (115 ∷ 101 ∷ 97 ∷ 114 ∷ 99 ∷ 104 ∷ 58 ∷ 58 ∷ 78 ∷ 101 ∷ 97 ∷ 114 ∷ [])
-      (Syntax.tcons (Syntax.tyInt Syntax.w64) (Syntax.tcons (Syntax.tyInt Syntax.w32) Syntax.tnil))),
+  Rows.any-gone (Syntax.tyStruct (115 ∷ 101 ∷ 97 ∷ 114 ∷ 99 ∷ 104 ∷ 58 ∷ 58 ∷ 78 ∷ 101 ∷ 97 ∷ 114 ∷ []) (Syntax.tcons (Syntax.tyInt
+      Syntax.w64) (Syntax.tcons (Syntax.tyStruct (102 ∷ 105 ∷ 101 ∷ 108 ∷ 100 ∷ 115 ∷ 58 ∷ 58 ∷ 83 ∷ 101 ∷ 114 ∷ 105 ∷ 97 ∷ 108 ∷ []) (Syntax.tcons (Syntax.tyInt
+      Syntax.w32) Syntax.tnil)) Syntax.tnil))),
 ) ∷ (
   4,
-  Rows.any-gone (Syntax.tyStruct (99 ∷ 111 ∷ 110 ∷ 101
-      ∷ 99 ∷ 116 ∷ 58 ∷ 58 ∷ 67 ∷ 111 ∷ 110 ∷ 101 ∷ 99 ∷ 116 ∷ []) (Syntax.tcons (Syntax.tyStruct (102 ∷ 105 ∷ 101 ∷ 108 ∷ 100 ∷ 115 ∷ 58 ∷ 58 ∷ 83 ∷ 101 ∷ 114 ∷
-      105 ∷ 97 ∷ 108 ∷ []) (Syntax.tcons (Syntax.tyInt Syntax.w32) Syntax.tnil)) (Syntax.tcons (Syntax.tyStruct (102 ∷ 105 ∷ 101 ∷ 108 ∷ 100 ∷ 115 ∷ 58 ∷ 58 ∷ 83
-      ∷ 101 ∷ 114 ∷ 105 ∷ 97 ∷ 108 ∷ []) (Syntax.tcons (Syntax.tyInt Syntax.w32) Syntax.tnil)) (Syntax.tcons (Syntax.tyStruct (102 ∷ 105 ∷ 101 ∷ 108 ∷ 100 ∷ 115
-      ∷ 58 ∷ 58 ∷ 83 ∷ 101 ∷ 114 ∷ 105 ∷ 97 ∷ 108 ∷ []) (Syntax.tcons (Syntax.tyInt Syntax.w32) Syntax.tnil)) (Syntax.tcons (Syntax.tyStruct (102 ∷ 105 ∷ 101 ∷
-      108 ∷ 100 ∷ 115 ∷ 58 ∷ 58 ∷ 83 ∷ 101 ∷ 114 ∷ 105 ∷ 97 ∷ 108 ∷ []) (Syntax.tcons (Syntax.tyInt Syntax.w32) Syntax.tnil)) (Syntax.tcons (Syntax.tyStruct (102
-      ∷ 105 ∷ 101 ∷ 108 ∷ 100 ∷ 115 ∷ 58 ∷ 58 ∷ 83 ∷ 101 ∷ 114 ∷ 105 ∷ 97 ∷ 108 ∷ []) (Syntax.tcons (Syntax.tyInt Syntax.w32) Syntax.tnil)) Syntax.tnil)))))),
+  Rows.any-gone (Syntax.tyStruct (99 ∷ 111 ∷ 110 ∷ 101 ∷ 99 ∷ 116 ∷ 58 ∷ 58 ∷ 67 ∷ 111 ∷ 110 ∷ 101 ∷ 99 ∷ 116
+      ∷ []) (Syntax.tcons (Syntax.tyStruct (102 ∷ 105 ∷ 101 ∷ 108 ∷ 100 ∷ 115 ∷ 58 ∷ 58 ∷ 83 ∷ 101 ∷ 114 ∷ 105 ∷ 97 ∷ 108 ∷ []) (Syntax.tcons (Syntax.tyInt
+      Syntax.w32) Syntax.tnil)) (Syntax.tcons (Syntax.tyStruct (102 ∷ 105 ∷ 101 ∷ 108 ∷ 100 ∷ 115 ∷ 58 ∷ 58 ∷ 83 ∷ 101 ∷ 114 ∷ 105 ∷ 97 ∷ 108 ∷ []) (Syntax.tcons
+      (Syntax.tyInt Syntax.w32) Syntax.tnil)) (Syntax.tcons (Syntax.tyStruct (102 ∷ 105 ∷ 101 ∷ 108 ∷ 100 ∷ 115 ∷ 58 ∷ 58 ∷ 83 ∷ 101 ∷ 114 ∷ 105 ∷ 97 ∷ 108 ∷ [])
+      (Syntax.tcons (Syntax.tyInt Syntax.w32) Syntax.tnil)) (Syntax.tcons (Syntax.tyStruct (102 ∷ 105 ∷ 101 ∷ 108 ∷ 100 ∷ 115 ∷ 58 ∷ 58 ∷ 83 ∷ 101 ∷ 114 ∷ 105 ∷
+      97 ∷ 108 ∷ []) (Syntax.tcons (Syntax.tyInt Syntax.w32) Syntax.tnil)) (Syntax.tcons (Syntax.tyStruct (102 ∷ 105 ∷ 101 ∷ 108 ∷ 100 ∷ 115 ∷ 58 ∷ 58 ∷ 83 ∷ 101
+      ∷ 114 ∷ 105 ∷ 97 ∷ 108 ∷ []) (Syntax.tcons (Syntax.tyInt Syntax.w32) Syntax.tnil)) Syntax.tnil)))))),
 ) ∷ (
   5,
-  Rows.any-gone (Syntax.tyStruct (102 ∷ 105 ∷ 101 ∷ 108 ∷ 100 ∷ 115 ∷ 58 ∷ 58 ∷ 83 ∷ 101 ∷ 114 ∷ 105 ∷ 97 ∷ 108 ∷ []) (Syntax.tcons (Syntax.tyInt
-      Syntax.w32) Syntax.tnil)),
-) ∷ (6, Rows.whole (Declared.row Serial.the-type)) ∷ (7, Rows.whole (Declared.row Serial.the-type)) ∷ (
-  8,
+  Rows.any-gone (Syntax.tyStruct (102 ∷ 105 ∷ 101
+      ∷ 108 ∷ 100 ∷ 115 ∷ 58 ∷ 58 ∷ 83 ∷ 101 ∷ 114 ∷ 105 ∷ 97 ∷ 108 ∷ []) (Syntax.tcons (Syntax.tyInt Syntax.w32) Syntax.tnil)),
+) ∷ (
+  6,
   Rows.whole (Declared.row
       Serial.the-type),
-) ∷ (9, Rows.whole (Declared.row Serial.the-type)) ∷ (10, Rows.sc-here (Row.sInt Syntax.w64)) ∷ (
-  11,
+) ∷ (7, Rows.whole (Declared.row Serial.the-type)) ∷ (8, Rows.whole (Declared.row Serial.the-type)) ∷ (
+  9,
   Rows.whole (Declared.row
-      Near.the-type),
-) ∷ (12, Rows.sc-here Row.sBool) ∷ (13, Rows.any-gone Syntax.tyBool) ∷ (14, Rows.any-gone Syntax.tyBool) ∷ (15, Rows.any-gone Syntax.tyBool)
-    ∷ []
+      Serial.the-type),
+) ∷ (10, Rows.sc-here (Row.sInt Syntax.w64)) ∷ (11, Rows.whole (Declared.row Near.the-type)) ∷ (12, Rows.sc-here Row.sBool) ∷ (
+  13,
+  Rows.any-gone Syntax.tyBool,
+) ∷ (14, Rows.any-gone Syntax.tyBool) ∷ (15, Rows.any-gone Syntax.tyBool) ∷ []
 
 abbrev pub t15 : List.List Row.Entry
 t15 = (
   0,
-  Rows.any-gone (Syntax.tyStruct (115 ∷ 101 ∷ 97 ∷ 114 ∷ 99 ∷ 104 ∷ 58 ∷ 58 ∷ 83 ∷ 111 ∷ 117 ∷ 103 ∷ 104 ∷ 116 ∷ []) (Syntax.tcons Syntax.tyBool
-      (Syntax.tcons (Syntax.tyStruct (115 ∷ 101 ∷ 97 ∷ 114 ∷ 99 ∷ 104 ∷ 58 ∷ 58 ∷ 78 ∷ 101 ∷ 97 ∷ 114 ∷ []) (Syntax.tcons (Syntax.tyInt Syntax.w64) (Syntax.tcons
-      (Syntax.tyInt Syntax.w32) Syntax.tnil))) Syntax.tnil))),
+  Rows.any-gone (Syntax.tyStruct (115 ∷ 101 ∷ 97 ∷ 114 ∷ 99 ∷ 104 ∷ 58 ∷ 58 ∷ 83 ∷ 111 ∷ 117 ∷ 103 ∷ 104 ∷ 116 ∷ []) (Syntax.tcons (Syntax.tyStruct
+      (115 ∷ 101 ∷ 97 ∷ 114 ∷ 99 ∷ 104 ∷ 58 ∷ 58 ∷ 78 ∷ 101 ∷ 97 ∷ 114 ∷ []) (Syntax.tcons (Syntax.tyInt Syntax.w64) (Syntax.tcons (Syntax.tyStruct (102 ∷ 105 ∷
+      101 ∷ 108 ∷ 100 ∷ 115 ∷ 58 ∷ 58 ∷ 83 ∷ 101 ∷ 114 ∷ 105 ∷ 97 ∷ 108 ∷ []) (Syntax.tcons (Syntax.tyInt Syntax.w32) Syntax.tnil)) Syntax.tnil))) (Syntax.tcons
+      Syntax.tyBool Syntax.tnil))),
 ) ∷ (1, Rows.sslice SlotAs.row (Syntax.tyRef (Syntax.named 0) Syntax.imm SlotAs.pointee) 0) ∷ (
   2,
-  Rows.sc-here (Row.sInt Syntax.w64),
+  Rows.sc-here (Row.sInt
+      Syntax.w64),
 ) ∷ (
   3,
-  Rows.any-gone (Syntax.tyStruct (115 ∷ 101 ∷ 97 ∷ 114 ∷ 99 ∷ 104 ∷ 58 ∷ 58 ∷ 78 ∷ 101 ∷ 97 ∷ 114 ∷ [])
-      (Syntax.tcons (Syntax.tyInt Syntax.w64) (Syntax.tcons (Syntax.tyInt Syntax.w32) Syntax.tnil))),
+  Rows.any-gone (Syntax.tyStruct (115 ∷ 101 ∷ 97 ∷ 114 ∷ 99 ∷ 104 ∷ 58 ∷ 58 ∷ 78 ∷ 101 ∷ 97 ∷ 114 ∷ []) (Syntax.tcons (Syntax.tyInt
+      Syntax.w64) (Syntax.tcons (Syntax.tyStruct (102 ∷ 105 ∷ 101 ∷ 108 ∷ 100 ∷ 115 ∷ 58 ∷ 58 ∷ 83 ∷ 101 ∷ 114 ∷ 105 ∷ 97 ∷ 108 ∷ []) (Syntax.tcons (Syntax.tyInt
+      Syntax.w32) Syntax.tnil)) Syntax.tnil))),
 ) ∷ (
   4,
-  Rows.any-gone (Syntax.tyStruct (99 ∷ 111 ∷ 110 ∷ 101
-      ∷ 99 ∷ 116 ∷ 58 ∷ 58 ∷ 67 ∷ 111 ∷ 110 ∷ 101 ∷ 99 ∷ 116 ∷ []) (Syntax.tcons (Syntax.tyStruct (102 ∷ 105 ∷ 101 ∷ 108 ∷ 100 ∷ 115 ∷ 58 ∷ 58 ∷ 83 ∷ 101 ∷ 114 ∷
-      105 ∷ 97 ∷ 108 ∷ []) (Syntax.tcons (Syntax.tyInt Syntax.w32) Syntax.tnil)) (Syntax.tcons (Syntax.tyStruct (102 ∷ 105 ∷ 101 ∷ 108 ∷ 100 ∷ 115 ∷ 58 ∷ 58 ∷ 83
-      ∷ 101 ∷ 114 ∷ 105 ∷ 97 ∷ 108 ∷ []) (Syntax.tcons (Syntax.tyInt Syntax.w32) Syntax.tnil)) (Syntax.tcons (Syntax.tyStruct (102 ∷ 105 ∷ 101 ∷ 108 ∷ 100 ∷ 115
-      ∷ 58 ∷ 58 ∷ 83 ∷ 101 ∷ 114 ∷ 105 ∷ 97 ∷ 108 ∷ []) (Syntax.tcons (Syntax.tyInt Syntax.w32) Syntax.tnil)) (Syntax.tcons (Syntax.tyStruct (102 ∷ 105 ∷ 101 ∷
-      108 ∷ 100 ∷ 115 ∷ 58 ∷ 58 ∷ 83 ∷ 101 ∷ 114 ∷ 105 ∷ 97 ∷ 108 ∷ []) (Syntax.tcons (Syntax.tyInt Syntax.w32) Syntax.tnil)) (Syntax.tcons (Syntax.tyStruct (102
-      ∷ 105 ∷ 101 ∷ 108 ∷ 100 ∷ 115 ∷ 58 ∷ 58 ∷ 83 ∷ 101 ∷ 114 ∷ 105 ∷ 97 ∷ 108 ∷ []) (Syntax.tcons (Syntax.tyInt Syntax.w32) Syntax.tnil)) Syntax.tnil)))))),
+  Rows.any-gone (Syntax.tyStruct (99 ∷ 111 ∷ 110 ∷ 101 ∷ 99 ∷ 116 ∷ 58 ∷ 58 ∷ 67 ∷ 111 ∷ 110 ∷ 101 ∷ 99 ∷ 116
+      ∷ []) (Syntax.tcons (Syntax.tyStruct (102 ∷ 105 ∷ 101 ∷ 108 ∷ 100 ∷ 115 ∷ 58 ∷ 58 ∷ 83 ∷ 101 ∷ 114 ∷ 105 ∷ 97 ∷ 108 ∷ []) (Syntax.tcons (Syntax.tyInt
+      Syntax.w32) Syntax.tnil)) (Syntax.tcons (Syntax.tyStruct (102 ∷ 105 ∷ 101 ∷ 108 ∷ 100 ∷ 115 ∷ 58 ∷ 58 ∷ 83 ∷ 101 ∷ 114 ∷ 105 ∷ 97 ∷ 108 ∷ []) (Syntax.tcons
+      (Syntax.tyInt Syntax.w32) Syntax.tnil)) (Syntax.tcons (Syntax.tyStruct (102 ∷ 105 ∷ 101 ∷ 108 ∷ 100 ∷ 115 ∷ 58 ∷ 58 ∷ 83 ∷ 101 ∷ 114 ∷ 105 ∷ 97 ∷ 108 ∷ [])
+      (Syntax.tcons (Syntax.tyInt Syntax.w32) Syntax.tnil)) (Syntax.tcons (Syntax.tyStruct (102 ∷ 105 ∷ 101 ∷ 108 ∷ 100 ∷ 115 ∷ 58 ∷ 58 ∷ 83 ∷ 101 ∷ 114 ∷ 105 ∷
+      97 ∷ 108 ∷ []) (Syntax.tcons (Syntax.tyInt Syntax.w32) Syntax.tnil)) (Syntax.tcons (Syntax.tyStruct (102 ∷ 105 ∷ 101 ∷ 108 ∷ 100 ∷ 115 ∷ 58 ∷ 58 ∷ 83 ∷ 101
+      ∷ 114 ∷ 105 ∷ 97 ∷ 108 ∷ []) (Syntax.tcons (Syntax.tyInt Syntax.w32) Syntax.tnil)) Syntax.tnil)))))),
 ) ∷ (
   5,
-  Rows.any-gone (Syntax.tyStruct (102 ∷ 105 ∷ 101 ∷ 108 ∷ 100 ∷ 115 ∷ 58 ∷ 58 ∷ 83 ∷ 101 ∷ 114 ∷ 105 ∷ 97 ∷ 108 ∷ []) (Syntax.tcons (Syntax.tyInt
-      Syntax.w32) Syntax.tnil)),
-) ∷ (6, Rows.whole (Declared.row Serial.the-type)) ∷ (7, Rows.whole (Declared.row Serial.the-type)) ∷ (
-  8,
+  Rows.any-gone (Syntax.tyStruct (102 ∷ 105 ∷ 101
+      ∷ 108 ∷ 100 ∷ 115 ∷ 58 ∷ 58 ∷ 83 ∷ 101 ∷ 114 ∷ 105 ∷ 97 ∷ 108 ∷ []) (Syntax.tcons (Syntax.tyInt Syntax.w32) Syntax.tnil)),
+) ∷ (
+  6,
   Rows.whole (Declared.row
       Serial.the-type),
-) ∷ (9, Rows.whole (Declared.row Serial.the-type)) ∷ (10, Rows.sc-here (Row.sInt Syntax.w64)) ∷ (
-  11,
+) ∷ (7, Rows.whole (Declared.row Serial.the-type)) ∷ (8, Rows.whole (Declared.row Serial.the-type)) ∷ (
+  9,
   Rows.whole (Declared.row
-      Near.the-type),
-) ∷ (12, Rows.sc-here Row.sBool) ∷ (13, Rows.sc-here Row.sBool) ∷ (14, Rows.any-gone Syntax.tyBool) ∷ (15, Rows.any-gone Syntax.tyBool) ∷ []
+      Serial.the-type),
+) ∷ (10, Rows.sc-here (Row.sInt Syntax.w64)) ∷ (11, Rows.whole (Declared.row Near.the-type)) ∷ (12, Rows.sc-here Row.sBool) ∷ (
+  13,
+  Rows.sc-here Row.sBool,
+) ∷ (14, Rows.any-gone Syntax.tyBool) ∷ (15, Rows.any-gone Syntax.tyBool) ∷ []
 
 abbrev pub t16 : List.List Row.Entry
 t16 = (
   0,
-  Rows.any-gone (Syntax.tyStruct (115 ∷ 101 ∷ 97 ∷ 114 ∷ 99 ∷ 104 ∷ 58 ∷ 58 ∷ 83 ∷ 111 ∷ 117 ∷ 103 ∷ 104 ∷ 116 ∷ []) (Syntax.tcons Syntax.tyBool
-      (Syntax.tcons (Syntax.tyStruct (115 ∷ 101 ∷ 97 ∷ 114 ∷ 99 ∷ 104 ∷ 58 ∷ 58 ∷ 78 ∷ 101 ∷ 97 ∷ 114 ∷ []) (Syntax.tcons (Syntax.tyInt Syntax.w64) (Syntax.tcons
-      (Syntax.tyInt Syntax.w32) Syntax.tnil))) Syntax.tnil))),
+  Rows.any-gone (Syntax.tyStruct (115 ∷ 101 ∷ 97 ∷ 114 ∷ 99 ∷ 104 ∷ 58 ∷ 58 ∷ 83 ∷ 111 ∷ 117 ∷ 103 ∷ 104 ∷ 116 ∷ []) (Syntax.tcons (Syntax.tyStruct
+      (115 ∷ 101 ∷ 97 ∷ 114 ∷ 99 ∷ 104 ∷ 58 ∷ 58 ∷ 78 ∷ 101 ∷ 97 ∷ 114 ∷ []) (Syntax.tcons (Syntax.tyInt Syntax.w64) (Syntax.tcons (Syntax.tyStruct (102 ∷ 105 ∷
+      101 ∷ 108 ∷ 100 ∷ 115 ∷ 58 ∷ 58 ∷ 83 ∷ 101 ∷ 114 ∷ 105 ∷ 97 ∷ 108 ∷ []) (Syntax.tcons (Syntax.tyInt Syntax.w32) Syntax.tnil)) Syntax.tnil))) (Syntax.tcons
+      Syntax.tyBool Syntax.tnil))),
 ) ∷ (1, Rows.sslice SlotAs.row (Syntax.tyRef (Syntax.named 0) Syntax.imm SlotAs.pointee) 0) ∷ (
   2,
-  Rows.sc-here (Row.sInt Syntax.w64),
+  Rows.sc-here (Row.sInt
+      Syntax.w64),
 ) ∷ (
   3,
-  Rows.any-gone (Syntax.tyStruct (115 ∷ 101 ∷ 97 ∷ 114 ∷ 99 ∷ 104 ∷ 58 ∷ 58 ∷ 78 ∷ 101 ∷ 97 ∷ 114 ∷ [])
-      (Syntax.tcons (Syntax.tyInt Syntax.w64) (Syntax.tcons (Syntax.tyInt Syntax.w32) Syntax.tnil))),
+  Rows.any-gone (Syntax.tyStruct (115 ∷ 101 ∷ 97 ∷ 114 ∷ 99 ∷ 104 ∷ 58 ∷ 58 ∷ 78 ∷ 101 ∷ 97 ∷ 114 ∷ []) (Syntax.tcons (Syntax.tyInt
+      Syntax.w64) (Syntax.tcons (Syntax.tyStruct (102 ∷ 105 ∷ 101 ∷ 108 ∷ 100 ∷ 115 ∷ 58 ∷ 58 ∷ 83 ∷ 101 ∷ 114 ∷ 105 ∷ 97 ∷ 108 ∷ []) (Syntax.tcons (Syntax.tyInt
+      Syntax.w32) Syntax.tnil)) Syntax.tnil))),
 ) ∷ (
   4,
-  Rows.any-gone (Syntax.tyStruct (99 ∷ 111 ∷ 110 ∷ 101
-      ∷ 99 ∷ 116 ∷ 58 ∷ 58 ∷ 67 ∷ 111 ∷ 110 ∷ 101 ∷ 99 ∷ 116 ∷ []) (Syntax.tcons (Syntax.tyStruct (102 ∷ 105 ∷ 101 ∷ 108 ∷ 100 ∷ 115 ∷ 58 ∷ 58 ∷ 83 ∷ 101 ∷ 114 ∷
-      105 ∷ 97 ∷ 108 ∷ []) (Syntax.tcons (Syntax.tyInt Syntax.w32) Syntax.tnil)) (Syntax.tcons (Syntax.tyStruct (102 ∷ 105 ∷ 101 ∷ 108 ∷ 100 ∷ 115 ∷ 58 ∷ 58 ∷ 83
-      ∷ 101 ∷ 114 ∷ 105 ∷ 97 ∷ 108 ∷ []) (Syntax.tcons (Syntax.tyInt Syntax.w32) Syntax.tnil)) (Syntax.tcons (Syntax.tyStruct (102 ∷ 105 ∷ 101 ∷ 108 ∷ 100 ∷ 115
-      ∷ 58 ∷ 58 ∷ 83 ∷ 101 ∷ 114 ∷ 105 ∷ 97 ∷ 108 ∷ []) (Syntax.tcons (Syntax.tyInt Syntax.w32) Syntax.tnil)) (Syntax.tcons (Syntax.tyStruct (102 ∷ 105 ∷ 101 ∷
-      108 ∷ 100 ∷ 115 ∷ 58 ∷ 58 ∷ 83 ∷ 101 ∷ 114 ∷ 105 ∷ 97 ∷ 108 ∷ []) (Syntax.tcons (Syntax.tyInt Syntax.w32) Syntax.tnil)) (Syntax.tcons (Syntax.tyStruct (102
-      ∷ 105 ∷ 101 ∷ 108 ∷ 100 ∷ 115 ∷ 58 ∷ 58 ∷ 83 ∷ 101 ∷ 114 ∷ 105 ∷ 97 ∷ 108 ∷ []) (Syntax.tcons (Syntax.tyInt Syntax.w32) Syntax.tnil)) Syntax.tnil)))))),
+  Rows.any-gone (Syntax.tyStruct (99 ∷ 111 ∷ 110 ∷ 101 ∷ 99 ∷ 116 ∷ 58 ∷ 58 ∷ 67 ∷ 111 ∷ 110 ∷ 101 ∷ 99 ∷ 116
+      ∷ []) (Syntax.tcons (Syntax.tyStruct (102 ∷ 105 ∷ 101 ∷ 108 ∷ 100 ∷ 115 ∷ 58 ∷ 58 ∷ 83 ∷ 101 ∷ 114 ∷ 105 ∷ 97 ∷ 108 ∷ []) (Syntax.tcons (Syntax.tyInt
+      Syntax.w32) Syntax.tnil)) (Syntax.tcons (Syntax.tyStruct (102 ∷ 105 ∷ 101 ∷ 108 ∷ 100 ∷ 115 ∷ 58 ∷ 58 ∷ 83 ∷ 101 ∷ 114 ∷ 105 ∷ 97 ∷ 108 ∷ []) (Syntax.tcons
+      (Syntax.tyInt Syntax.w32) Syntax.tnil)) (Syntax.tcons (Syntax.tyStruct (102 ∷ 105 ∷ 101 ∷ 108 ∷ 100 ∷ 115 ∷ 58 ∷ 58 ∷ 83 ∷ 101 ∷ 114 ∷ 105 ∷ 97 ∷ 108 ∷ [])
+      (Syntax.tcons (Syntax.tyInt Syntax.w32) Syntax.tnil)) (Syntax.tcons (Syntax.tyStruct (102 ∷ 105 ∷ 101 ∷ 108 ∷ 100 ∷ 115 ∷ 58 ∷ 58 ∷ 83 ∷ 101 ∷ 114 ∷ 105 ∷
+      97 ∷ 108 ∷ []) (Syntax.tcons (Syntax.tyInt Syntax.w32) Syntax.tnil)) (Syntax.tcons (Syntax.tyStruct (102 ∷ 105 ∷ 101 ∷ 108 ∷ 100 ∷ 115 ∷ 58 ∷ 58 ∷ 83 ∷ 101
+      ∷ 114 ∷ 105 ∷ 97 ∷ 108 ∷ []) (Syntax.tcons (Syntax.tyInt Syntax.w32) Syntax.tnil)) Syntax.tnil)))))),
 ) ∷ (
   5,
-  Rows.any-gone (Syntax.tyStruct (102 ∷ 105 ∷ 101 ∷ 108 ∷ 100 ∷ 115 ∷ 58 ∷ 58 ∷ 83 ∷ 101 ∷ 114 ∷ 105 ∷ 97 ∷ 108 ∷ []) (Syntax.tcons (Syntax.tyInt
-      Syntax.w32) Syntax.tnil)),
+  Rows.any-gone (Syntax.tyStruct (102 ∷ 105 ∷ 101
+      ∷ 108 ∷ 100 ∷ 115 ∷ 58 ∷ 58 ∷ 83 ∷ 101 ∷ 114 ∷ 105 ∷ 97 ∷ 108 ∷ []) (Syntax.tcons (Syntax.tyInt Syntax.w32) Syntax.tnil)),
 ) ∷ (
   6,
-  Rows.any-gone (Syntax.tyStruct (102 ∷ 105 ∷ 101 ∷ 108 ∷ 100 ∷ 115 ∷ 58 ∷ 58 ∷ 83 ∷ 101 ∷ 114 ∷ 105 ∷ 97 ∷ 108 ∷ [])
-      (Syntax.tcons (Syntax.tyInt Syntax.w32) Syntax.tnil)),
-) ∷ (7, Rows.whole (Declared.row Serial.the-type)) ∷ (8, Rows.whole (Declared.row Serial.the-type)) ∷
-    (9, Rows.whole (Declared.row Serial.the-type)) ∷ (10, Rows.sc-here (Row.sInt Syntax.w64)) ∷ (11, Rows.whole (Declared.row Near.the-type)) ∷ (
-      12,
-      Rows.sc-here Row.sBool,
-    ) ∷ (13, Rows.sc-here Row.sBool) ∷ (14, Rows.any-gone Syntax.tyBool) ∷ (15, Rows.any-gone Syntax.tyBool) ∷ []
+  Rows.any-gone
+      (Syntax.tyStruct (102 ∷ 105 ∷ 101 ∷ 108 ∷ 100 ∷ 115 ∷ 58 ∷ 58 ∷ 83 ∷ 101 ∷ 114 ∷ 105 ∷ 97 ∷ 108 ∷ []) (Syntax.tcons (Syntax.tyInt Syntax.w32)
+      Syntax.tnil)),
+) ∷ (7, Rows.whole (Declared.row Serial.the-type)) ∷ (8, Rows.whole (Declared.row Serial.the-type)) ∷ (
+  9,
+  Rows.whole (Declared.row
+      Serial.the-type),
+) ∷ (10, Rows.sc-here (Row.sInt Syntax.w64)) ∷ (11, Rows.whole (Declared.row Near.the-type)) ∷ (12, Rows.sc-here Row.sBool) ∷ (
+  13,
+  Rows.sc-here Row.sBool,
+) ∷ (14, Rows.any-gone Syntax.tyBool) ∷ (15, Rows.any-gone Syntax.tyBool) ∷ []
 
 abbrev pub t17 : List.List Row.Entry
 t17 = (
   0,
-  Rows.any-gone (Syntax.tyStruct (115 ∷ 101 ∷ 97 ∷ 114 ∷ 99 ∷ 104 ∷ 58 ∷ 58 ∷ 83 ∷ 111 ∷ 117 ∷ 103 ∷ 104 ∷ 116 ∷ []) (Syntax.tcons Syntax.tyBool
-      (Syntax.tcons (Syntax.tyStruct (115 ∷ 101 ∷ 97 ∷ 114 ∷ 99 ∷ 104 ∷ 58 ∷ 58 ∷ 78 ∷ 101 ∷ 97 ∷ 114 ∷ []) (Syntax.tcons (Syntax.tyInt Syntax.w64) (Syntax.tcons
-      (Syntax.tyInt Syntax.w32) Syntax.tnil))) Syntax.tnil))),
+  Rows.any-gone (Syntax.tyStruct (115 ∷ 101 ∷ 97 ∷ 114 ∷ 99 ∷ 104 ∷ 58 ∷ 58 ∷ 83 ∷ 111 ∷ 117 ∷ 103 ∷ 104 ∷ 116 ∷ []) (Syntax.tcons (Syntax.tyStruct
+      (115 ∷ 101 ∷ 97 ∷ 114 ∷ 99 ∷ 104 ∷ 58 ∷ 58 ∷ 78 ∷ 101 ∷ 97 ∷ 114 ∷ []) (Syntax.tcons (Syntax.tyInt Syntax.w64) (Syntax.tcons (Syntax.tyStruct (102 ∷ 105 ∷
+      101 ∷ 108 ∷ 100 ∷ 115 ∷ 58 ∷ 58 ∷ 83 ∷ 101 ∷ 114 ∷ 105 ∷ 97 ∷ 108 ∷ []) (Syntax.tcons (Syntax.tyInt Syntax.w32) Syntax.tnil)) Syntax.tnil))) (Syntax.tcons
+      Syntax.tyBool Syntax.tnil))),
 ) ∷ (1, Rows.sslice SlotAs.row (Syntax.tyRef (Syntax.named 0) Syntax.imm SlotAs.pointee) 0) ∷ (
   2,
-  Rows.sc-here (Row.sInt Syntax.w64),
+  Rows.sc-here (Row.sInt
+      Syntax.w64),
 ) ∷ (
   3,
-  Rows.any-gone (Syntax.tyStruct (115 ∷ 101 ∷ 97 ∷ 114 ∷ 99 ∷ 104 ∷ 58 ∷ 58 ∷ 78 ∷ 101 ∷ 97 ∷ 114 ∷ [])
-      (Syntax.tcons (Syntax.tyInt Syntax.w64) (Syntax.tcons (Syntax.tyInt Syntax.w32) Syntax.tnil))),
+  Rows.any-gone (Syntax.tyStruct (115 ∷ 101 ∷ 97 ∷ 114 ∷ 99 ∷ 104 ∷ 58 ∷ 58 ∷ 78 ∷ 101 ∷ 97 ∷ 114 ∷ []) (Syntax.tcons (Syntax.tyInt
+      Syntax.w64) (Syntax.tcons (Syntax.tyStruct (102 ∷ 105 ∷ 101 ∷ 108 ∷ 100 ∷ 115 ∷ 58 ∷ 58 ∷ 83 ∷ 101 ∷ 114 ∷ 105 ∷ 97 ∷ 108 ∷ []) (Syntax.tcons (Syntax.tyInt
+      Syntax.w32) Syntax.tnil)) Syntax.tnil))),
 ) ∷ (
   4,
-  Rows.any-gone (Syntax.tyStruct (99 ∷ 111 ∷ 110 ∷ 101
-      ∷ 99 ∷ 116 ∷ 58 ∷ 58 ∷ 67 ∷ 111 ∷ 110 ∷ 101 ∷ 99 ∷ 116 ∷ []) (Syntax.tcons (Syntax.tyStruct (102 ∷ 105 ∷ 101 ∷ 108 ∷ 100 ∷ 115 ∷ 58 ∷ 58 ∷ 83 ∷ 101 ∷ 114 ∷
-      105 ∷ 97 ∷ 108 ∷ []) (Syntax.tcons (Syntax.tyInt Syntax.w32) Syntax.tnil)) (Syntax.tcons (Syntax.tyStruct (102 ∷ 105 ∷ 101 ∷ 108 ∷ 100 ∷ 115 ∷ 58 ∷ 58 ∷ 83
-      ∷ 101 ∷ 114 ∷ 105 ∷ 97 ∷ 108 ∷ []) (Syntax.tcons (Syntax.tyInt Syntax.w32) Syntax.tnil)) (Syntax.tcons (Syntax.tyStruct (102 ∷ 105 ∷ 101 ∷ 108 ∷ 100 ∷ 115
-      ∷ 58 ∷ 58 ∷ 83 ∷ 101 ∷ 114 ∷ 105 ∷ 97 ∷ 108 ∷ []) (Syntax.tcons (Syntax.tyInt Syntax.w32) Syntax.tnil)) (Syntax.tcons (Syntax.tyStruct (102 ∷ 105 ∷ 101 ∷
-      108 ∷ 100 ∷ 115 ∷ 58 ∷ 58 ∷ 83 ∷ 101 ∷ 114 ∷ 105 ∷ 97 ∷ 108 ∷ []) (Syntax.tcons (Syntax.tyInt Syntax.w32) Syntax.tnil)) (Syntax.tcons (Syntax.tyStruct (102
-      ∷ 105 ∷ 101 ∷ 108 ∷ 100 ∷ 115 ∷ 58 ∷ 58 ∷ 83 ∷ 101 ∷ 114 ∷ 105 ∷ 97 ∷ 108 ∷ []) (Syntax.tcons (Syntax.tyInt Syntax.w32) Syntax.tnil)) Syntax.tnil)))))),
+  Rows.any-gone (Syntax.tyStruct (99 ∷ 111 ∷ 110 ∷ 101 ∷ 99 ∷ 116 ∷ 58 ∷ 58 ∷ 67 ∷ 111 ∷ 110 ∷ 101 ∷ 99 ∷ 116
+      ∷ []) (Syntax.tcons (Syntax.tyStruct (102 ∷ 105 ∷ 101 ∷ 108 ∷ 100 ∷ 115 ∷ 58 ∷ 58 ∷ 83 ∷ 101 ∷ 114 ∷ 105 ∷ 97 ∷ 108 ∷ []) (Syntax.tcons (Syntax.tyInt
+      Syntax.w32) Syntax.tnil)) (Syntax.tcons (Syntax.tyStruct (102 ∷ 105 ∷ 101 ∷ 108 ∷ 100 ∷ 115 ∷ 58 ∷ 58 ∷ 83 ∷ 101 ∷ 114 ∷ 105 ∷ 97 ∷ 108 ∷ []) (Syntax.tcons
+      (Syntax.tyInt Syntax.w32) Syntax.tnil)) (Syntax.tcons (Syntax.tyStruct (102 ∷ 105 ∷ 101 ∷ 108 ∷ 100 ∷ 115 ∷ 58 ∷ 58 ∷ 83 ∷ 101 ∷ 114 ∷ 105 ∷ 97 ∷ 108 ∷ [])
+      (Syntax.tcons (Syntax.tyInt Syntax.w32) Syntax.tnil)) (Syntax.tcons (Syntax.tyStruct (102 ∷ 105 ∷ 101 ∷ 108 ∷ 100 ∷ 115 ∷ 58 ∷ 58 ∷ 83 ∷ 101 ∷ 114 ∷ 105 ∷
+      97 ∷ 108 ∷ []) (Syntax.tcons (Syntax.tyInt Syntax.w32) Syntax.tnil)) (Syntax.tcons (Syntax.tyStruct (102 ∷ 105 ∷ 101 ∷ 108 ∷ 100 ∷ 115 ∷ 58 ∷ 58 ∷ 83 ∷ 101
+      ∷ 114 ∷ 105 ∷ 97 ∷ 108 ∷ []) (Syntax.tcons (Syntax.tyInt Syntax.w32) Syntax.tnil)) Syntax.tnil)))))),
 ) ∷ (
   5,
-  Rows.any-gone (Syntax.tyStruct (102 ∷ 105 ∷ 101 ∷ 108 ∷ 100 ∷ 115 ∷ 58 ∷ 58 ∷ 83 ∷ 101 ∷ 114 ∷ 105 ∷ 97 ∷ 108 ∷ []) (Syntax.tcons (Syntax.tyInt
-      Syntax.w32) Syntax.tnil)),
+  Rows.any-gone (Syntax.tyStruct (102 ∷ 105 ∷ 101
+      ∷ 108 ∷ 100 ∷ 115 ∷ 58 ∷ 58 ∷ 83 ∷ 101 ∷ 114 ∷ 105 ∷ 97 ∷ 108 ∷ []) (Syntax.tcons (Syntax.tyInt Syntax.w32) Syntax.tnil)),
 ) ∷ (
   6,
-  Rows.any-gone (Syntax.tyStruct (102 ∷ 105 ∷ 101 ∷ 108 ∷ 100 ∷ 115 ∷ 58 ∷ 58 ∷ 83 ∷ 101 ∷ 114 ∷ 105 ∷ 97 ∷ 108 ∷ [])
-      (Syntax.tcons (Syntax.tyInt Syntax.w32) Syntax.tnil)),
-) ∷ (7, Rows.whole (Declared.row Serial.the-type)) ∷ (8, Rows.whole (Declared.row Serial.the-type)) ∷
-    (9, Rows.whole (Declared.row Serial.the-type)) ∷ (10, Rows.sc-here (Row.sInt Syntax.w64)) ∷ (11, Rows.whole (Declared.row Near.the-type)) ∷ (
-      12,
-      Rows.sc-here Row.sBool,
-    ) ∷ (13, Rows.sc-here Row.sBool) ∷ (14, Rows.sc-here Row.sBool) ∷ (15, Rows.any-gone Syntax.tyBool) ∷ []
-
-abbrev pub t18 : List.List Row.Entry
-t18 = (
-  0,
-  Rows.any-gone (Syntax.tyStruct (115 ∷ 101 ∷ 97 ∷ 114 ∷ 99 ∷ 104 ∷ 58 ∷ 58 ∷ 83 ∷ 111 ∷ 117 ∷ 103 ∷ 104 ∷ 116 ∷ []) (Syntax.tcons Syntax.tyBool
-      (Syntax.tcons (Syntax.tyStruct (115 ∷ 101 ∷ 97 ∷ 114 ∷ 99 ∷ 104 ∷ 58 ∷ 58 ∷ 78 ∷ 101 ∷ 97 ∷ 114 ∷ []) (Syntax.tcons (Syntax.tyInt Syntax.w64) (Syntax.tcons
-      (Syntax.tyInt Syntax.w32) Syntax.tnil))) Syntax.tnil))),
-) ∷ (1, Rows.sslice SlotAs.row (Syntax.tyRef (Syntax.named 0) Syntax.imm SlotAs.pointee) 0) ∷ (
-  2,
-  Rows.sc-here (Row.sInt Syntax.w64),
-) ∷ (
-  3,
-  Rows.any-gone (Syntax.tyStruct (115 ∷ 101 ∷ 97 ∷ 114 ∷ 99 ∷ 104 ∷ 58 ∷ 58 ∷ 78 ∷ 101 ∷ 97 ∷ 114 ∷ [])
-      (Syntax.tcons (Syntax.tyInt Syntax.w64) (Syntax.tcons (Syntax.tyInt Syntax.w32) Syntax.tnil))),
-) ∷ (
-  4,
-  Rows.any-gone (Syntax.tyStruct (99 ∷ 111 ∷ 110 ∷ 101
-      ∷ 99 ∷ 116 ∷ 58 ∷ 58 ∷ 67 ∷ 111 ∷ 110 ∷ 101 ∷ 99 ∷ 116 ∷ []) (Syntax.tcons (Syntax.tyStruct (102 ∷ 105 ∷ 101 ∷ 108 ∷ 100 ∷ 115 ∷ 58 ∷ 58 ∷ 83 ∷ 101 ∷ 114 ∷
-      105 ∷ 97 ∷ 108 ∷ []) (Syntax.tcons (Syntax.tyInt Syntax.w32) Syntax.tnil)) (Syntax.tcons (Syntax.tyStruct (102 ∷ 105 ∷ 101 ∷ 108 ∷ 100 ∷ 115 ∷ 58 ∷ 58 ∷ 83
-      ∷ 101 ∷ 114 ∷ 105 ∷ 97 ∷ 108 ∷ []) (Syntax.tcons (Syntax.tyInt Syntax.w32) Syntax.tnil)) (Syntax.tcons (Syntax.tyStruct (102 ∷ 105 ∷ 101 ∷ 108 ∷ 100 ∷ 115
-      ∷ 58 ∷ 58 ∷ 83 ∷ 101 ∷ 114 ∷ 105 ∷ 97 ∷ 108 ∷ []) (Syntax.tcons (Syntax.tyInt Syntax.w32) Syntax.tnil)) (Syntax.tcons (Syntax.tyStruct (102 ∷ 105 ∷ 101 ∷
-      108 ∷ 100 ∷ 115 ∷ 58 ∷ 58 ∷ 83 ∷ 101 ∷ 114 ∷ 105 ∷ 97 ∷ 108 ∷ []) (Syntax.tcons (Syntax.tyInt Syntax.w32) Syntax.tnil)) (Syntax.tcons (Syntax.tyStruct (102
-      ∷ 105 ∷ 101 ∷ 108 ∷ 100 ∷ 115 ∷ 58 ∷ 58 ∷ 83 ∷ 101 ∷ 114 ∷ 105 ∷ 97 ∷ 108 ∷ []) (Syntax.tcons (Syntax.tyInt Syntax.w32) Syntax.tnil)) Syntax.tnil)))))),
-) ∷ (
-  5,
-  Rows.any-gone (Syntax.tyStruct (102 ∷ 105 ∷ 101 ∷ 108 ∷ 100 ∷ 115 ∷ 58 ∷ 58 ∷ 83 ∷ 101 ∷ 114 ∷ 105 ∷ 97 ∷ 108 ∷ []) (Syntax.tcons (Syntax.tyInt
-      Syntax.w32) Syntax.tnil)),
-) ∷ (
-  6,
-  Rows.any-gone (Syntax.tyStruct (102 ∷ 105 ∷ 101 ∷ 108 ∷ 100 ∷ 115 ∷ 58 ∷ 58 ∷ 83 ∷ 101 ∷ 114 ∷ 105 ∷ 97 ∷ 108 ∷ [])
-      (Syntax.tcons (Syntax.tyInt Syntax.w32) Syntax.tnil)),
-) ∷ (
-  7,
-  Rows.any-gone (Syntax.tyStruct (102 ∷ 105 ∷ 101 ∷ 108 ∷ 100 ∷ 115 ∷ 58 ∷ 58 ∷ 83 ∷ 101 ∷ 114 ∷
-      105 ∷ 97 ∷ 108 ∷ []) (Syntax.tcons (Syntax.tyInt Syntax.w32) Syntax.tnil)),
-) ∷ (8, Rows.whole (Declared.row Serial.the-type)) ∷ (
+  Rows.any-gone
+      (Syntax.tyStruct (102 ∷ 105 ∷ 101 ∷ 108 ∷ 100 ∷ 115 ∷ 58 ∷ 58 ∷ 83 ∷ 101 ∷ 114 ∷ 105 ∷ 97 ∷ 108 ∷ []) (Syntax.tcons (Syntax.tyInt Syntax.w32)
+      Syntax.tnil)),
+) ∷ (7, Rows.whole (Declared.row Serial.the-type)) ∷ (8, Rows.whole (Declared.row Serial.the-type)) ∷ (
   9,
   Rows.whole (Declared.row
       Serial.the-type),
@@ -972,94 +1050,146 @@ t18 = (
   Rows.sc-here Row.sBool,
 ) ∷ (14, Rows.sc-here Row.sBool) ∷ (15, Rows.any-gone Syntax.tyBool) ∷ []
 
+abbrev pub t18 : List.List Row.Entry
+t18 = (
+  0,
+  Rows.any-gone (Syntax.tyStruct (115 ∷ 101 ∷ 97 ∷ 114 ∷ 99 ∷ 104 ∷ 58 ∷ 58 ∷ 83 ∷ 111 ∷ 117 ∷ 103 ∷ 104 ∷ 116 ∷ []) (Syntax.tcons (Syntax.tyStruct
+      (115 ∷ 101 ∷ 97 ∷ 114 ∷ 99 ∷ 104 ∷ 58 ∷ 58 ∷ 78 ∷ 101 ∷ 97 ∷ 114 ∷ []) (Syntax.tcons (Syntax.tyInt Syntax.w64) (Syntax.tcons (Syntax.tyStruct (102 ∷ 105 ∷
+      101 ∷ 108 ∷ 100 ∷ 115 ∷ 58 ∷ 58 ∷ 83 ∷ 101 ∷ 114 ∷ 105 ∷ 97 ∷ 108 ∷ []) (Syntax.tcons (Syntax.tyInt Syntax.w32) Syntax.tnil)) Syntax.tnil))) (Syntax.tcons
+      Syntax.tyBool Syntax.tnil))),
+) ∷ (1, Rows.sslice SlotAs.row (Syntax.tyRef (Syntax.named 0) Syntax.imm SlotAs.pointee) 0) ∷ (
+  2,
+  Rows.sc-here (Row.sInt
+      Syntax.w64),
+) ∷ (
+  3,
+  Rows.any-gone (Syntax.tyStruct (115 ∷ 101 ∷ 97 ∷ 114 ∷ 99 ∷ 104 ∷ 58 ∷ 58 ∷ 78 ∷ 101 ∷ 97 ∷ 114 ∷ []) (Syntax.tcons (Syntax.tyInt
+      Syntax.w64) (Syntax.tcons (Syntax.tyStruct (102 ∷ 105 ∷ 101 ∷ 108 ∷ 100 ∷ 115 ∷ 58 ∷ 58 ∷ 83 ∷ 101 ∷ 114 ∷ 105 ∷ 97 ∷ 108 ∷ []) (Syntax.tcons (Syntax.tyInt
+      Syntax.w32) Syntax.tnil)) Syntax.tnil))),
+) ∷ (
+  4,
+  Rows.any-gone (Syntax.tyStruct (99 ∷ 111 ∷ 110 ∷ 101 ∷ 99 ∷ 116 ∷ 58 ∷ 58 ∷ 67 ∷ 111 ∷ 110 ∷ 101 ∷ 99 ∷ 116
+      ∷ []) (Syntax.tcons (Syntax.tyStruct (102 ∷ 105 ∷ 101 ∷ 108 ∷ 100 ∷ 115 ∷ 58 ∷ 58 ∷ 83 ∷ 101 ∷ 114 ∷ 105 ∷ 97 ∷ 108 ∷ []) (Syntax.tcons (Syntax.tyInt
+      Syntax.w32) Syntax.tnil)) (Syntax.tcons (Syntax.tyStruct (102 ∷ 105 ∷ 101 ∷ 108 ∷ 100 ∷ 115 ∷ 58 ∷ 58 ∷ 83 ∷ 101 ∷ 114 ∷ 105 ∷ 97 ∷ 108 ∷ []) (Syntax.tcons
+      (Syntax.tyInt Syntax.w32) Syntax.tnil)) (Syntax.tcons (Syntax.tyStruct (102 ∷ 105 ∷ 101 ∷ 108 ∷ 100 ∷ 115 ∷ 58 ∷ 58 ∷ 83 ∷ 101 ∷ 114 ∷ 105 ∷ 97 ∷ 108 ∷ [])
+      (Syntax.tcons (Syntax.tyInt Syntax.w32) Syntax.tnil)) (Syntax.tcons (Syntax.tyStruct (102 ∷ 105 ∷ 101 ∷ 108 ∷ 100 ∷ 115 ∷ 58 ∷ 58 ∷ 83 ∷ 101 ∷ 114 ∷ 105 ∷
+      97 ∷ 108 ∷ []) (Syntax.tcons (Syntax.tyInt Syntax.w32) Syntax.tnil)) (Syntax.tcons (Syntax.tyStruct (102 ∷ 105 ∷ 101 ∷ 108 ∷ 100 ∷ 115 ∷ 58 ∷ 58 ∷ 83 ∷ 101
+      ∷ 114 ∷ 105 ∷ 97 ∷ 108 ∷ []) (Syntax.tcons (Syntax.tyInt Syntax.w32) Syntax.tnil)) Syntax.tnil)))))),
+) ∷ (
+  5,
+  Rows.any-gone (Syntax.tyStruct (102 ∷ 105 ∷ 101
+      ∷ 108 ∷ 100 ∷ 115 ∷ 58 ∷ 58 ∷ 83 ∷ 101 ∷ 114 ∷ 105 ∷ 97 ∷ 108 ∷ []) (Syntax.tcons (Syntax.tyInt Syntax.w32) Syntax.tnil)),
+) ∷ (
+  6,
+  Rows.any-gone
+      (Syntax.tyStruct (102 ∷ 105 ∷ 101 ∷ 108 ∷ 100 ∷ 115 ∷ 58 ∷ 58 ∷ 83 ∷ 101 ∷ 114 ∷ 105 ∷ 97 ∷ 108 ∷ []) (Syntax.tcons (Syntax.tyInt Syntax.w32)
+      Syntax.tnil)),
+) ∷ (
+  7,
+  Rows.any-gone (Syntax.tyStruct (102 ∷ 105 ∷ 101 ∷ 108 ∷ 100 ∷ 115 ∷ 58 ∷ 58 ∷ 83 ∷ 101 ∷ 114 ∷ 105 ∷ 97 ∷ 108 ∷ []) (Syntax.tcons
+      (Syntax.tyInt Syntax.w32) Syntax.tnil)),
+) ∷ (8, Rows.whole (Declared.row Serial.the-type)) ∷ (9, Rows.whole (Declared.row Serial.the-type)) ∷ (
+  10,
+  Rows.sc-here (Row.sInt Syntax.w64),
+) ∷ (11, Rows.whole (Declared.row Near.the-type)) ∷ (12, Rows.sc-here Row.sBool) ∷ (13, Rows.sc-here Row.sBool) ∷ (
+  14,
+  Rows.sc-here Row.sBool,
+) ∷ (15, Rows.any-gone Syntax.tyBool) ∷ []
+
 abbrev pub t19 : List.List Row.Entry
 t19 = (
   0,
-  Rows.any-gone (Syntax.tyStruct (115 ∷ 101 ∷ 97 ∷ 114 ∷ 99 ∷ 104 ∷ 58 ∷ 58 ∷ 83 ∷ 111 ∷ 117 ∷ 103 ∷ 104 ∷ 116 ∷ []) (Syntax.tcons Syntax.tyBool
-      (Syntax.tcons (Syntax.tyStruct (115 ∷ 101 ∷ 97 ∷ 114 ∷ 99 ∷ 104 ∷ 58 ∷ 58 ∷ 78 ∷ 101 ∷ 97 ∷ 114 ∷ []) (Syntax.tcons (Syntax.tyInt Syntax.w64) (Syntax.tcons
-      (Syntax.tyInt Syntax.w32) Syntax.tnil))) Syntax.tnil))),
+  Rows.any-gone (Syntax.tyStruct (115 ∷ 101 ∷ 97 ∷ 114 ∷ 99 ∷ 104 ∷ 58 ∷ 58 ∷ 83 ∷ 111 ∷ 117 ∷ 103 ∷ 104 ∷ 116 ∷ []) (Syntax.tcons (Syntax.tyStruct
+      (115 ∷ 101 ∷ 97 ∷ 114 ∷ 99 ∷ 104 ∷ 58 ∷ 58 ∷ 78 ∷ 101 ∷ 97 ∷ 114 ∷ []) (Syntax.tcons (Syntax.tyInt Syntax.w64) (Syntax.tcons (Syntax.tyStruct (102 ∷ 105 ∷
+      101 ∷ 108 ∷ 100 ∷ 115 ∷ 58 ∷ 58 ∷ 83 ∷ 101 ∷ 114 ∷ 105 ∷ 97 ∷ 108 ∷ []) (Syntax.tcons (Syntax.tyInt Syntax.w32) Syntax.tnil)) Syntax.tnil))) (Syntax.tcons
+      Syntax.tyBool Syntax.tnil))),
 ) ∷ (1, Rows.sslice SlotAs.row (Syntax.tyRef (Syntax.named 0) Syntax.imm SlotAs.pointee) 0) ∷ (
   2,
-  Rows.sc-here (Row.sInt Syntax.w64),
+  Rows.sc-here (Row.sInt
+      Syntax.w64),
 ) ∷ (
   3,
-  Rows.any-gone (Syntax.tyStruct (115 ∷ 101 ∷ 97 ∷ 114 ∷ 99 ∷ 104 ∷ 58 ∷ 58 ∷ 78 ∷ 101 ∷ 97 ∷ 114 ∷ [])
-      (Syntax.tcons (Syntax.tyInt Syntax.w64) (Syntax.tcons (Syntax.tyInt Syntax.w32) Syntax.tnil))),
+  Rows.any-gone (Syntax.tyStruct (115 ∷ 101 ∷ 97 ∷ 114 ∷ 99 ∷ 104 ∷ 58 ∷ 58 ∷ 78 ∷ 101 ∷ 97 ∷ 114 ∷ []) (Syntax.tcons (Syntax.tyInt
+      Syntax.w64) (Syntax.tcons (Syntax.tyStruct (102 ∷ 105 ∷ 101 ∷ 108 ∷ 100 ∷ 115 ∷ 58 ∷ 58 ∷ 83 ∷ 101 ∷ 114 ∷ 105 ∷ 97 ∷ 108 ∷ []) (Syntax.tcons (Syntax.tyInt
+      Syntax.w32) Syntax.tnil)) Syntax.tnil))),
 ) ∷ (
   4,
-  Rows.any-gone (Syntax.tyStruct (99 ∷ 111 ∷ 110 ∷ 101
-      ∷ 99 ∷ 116 ∷ 58 ∷ 58 ∷ 67 ∷ 111 ∷ 110 ∷ 101 ∷ 99 ∷ 116 ∷ []) (Syntax.tcons (Syntax.tyStruct (102 ∷ 105 ∷ 101 ∷ 108 ∷ 100 ∷ 115 ∷ 58 ∷ 58 ∷ 83 ∷ 101 ∷ 114 ∷
-      105 ∷ 97 ∷ 108 ∷ []) (Syntax.tcons (Syntax.tyInt Syntax.w32) Syntax.tnil)) (Syntax.tcons (Syntax.tyStruct (102 ∷ 105 ∷ 101 ∷ 108 ∷ 100 ∷ 115 ∷ 58 ∷ 58 ∷ 83
-      ∷ 101 ∷ 114 ∷ 105 ∷ 97 ∷ 108 ∷ []) (Syntax.tcons (Syntax.tyInt Syntax.w32) Syntax.tnil)) (Syntax.tcons (Syntax.tyStruct (102 ∷ 105 ∷ 101 ∷ 108 ∷ 100 ∷ 115
-      ∷ 58 ∷ 58 ∷ 83 ∷ 101 ∷ 114 ∷ 105 ∷ 97 ∷ 108 ∷ []) (Syntax.tcons (Syntax.tyInt Syntax.w32) Syntax.tnil)) (Syntax.tcons (Syntax.tyStruct (102 ∷ 105 ∷ 101 ∷
-      108 ∷ 100 ∷ 115 ∷ 58 ∷ 58 ∷ 83 ∷ 101 ∷ 114 ∷ 105 ∷ 97 ∷ 108 ∷ []) (Syntax.tcons (Syntax.tyInt Syntax.w32) Syntax.tnil)) (Syntax.tcons (Syntax.tyStruct (102
-      ∷ 105 ∷ 101 ∷ 108 ∷ 100 ∷ 115 ∷ 58 ∷ 58 ∷ 83 ∷ 101 ∷ 114 ∷ 105 ∷ 97 ∷ 108 ∷ []) (Syntax.tcons (Syntax.tyInt Syntax.w32) Syntax.tnil)) Syntax.tnil)))))),
+  Rows.any-gone (Syntax.tyStruct (99 ∷ 111 ∷ 110 ∷ 101 ∷ 99 ∷ 116 ∷ 58 ∷ 58 ∷ 67 ∷ 111 ∷ 110 ∷ 101 ∷ 99 ∷ 116
+      ∷ []) (Syntax.tcons (Syntax.tyStruct (102 ∷ 105 ∷ 101 ∷ 108 ∷ 100 ∷ 115 ∷ 58 ∷ 58 ∷ 83 ∷ 101 ∷ 114 ∷ 105 ∷ 97 ∷ 108 ∷ []) (Syntax.tcons (Syntax.tyInt
+      Syntax.w32) Syntax.tnil)) (Syntax.tcons (Syntax.tyStruct (102 ∷ 105 ∷ 101 ∷ 108 ∷ 100 ∷ 115 ∷ 58 ∷ 58 ∷ 83 ∷ 101 ∷ 114 ∷ 105 ∷ 97 ∷ 108 ∷ []) (Syntax.tcons
+      (Syntax.tyInt Syntax.w32) Syntax.tnil)) (Syntax.tcons (Syntax.tyStruct (102 ∷ 105 ∷ 101 ∷ 108 ∷ 100 ∷ 115 ∷ 58 ∷ 58 ∷ 83 ∷ 101 ∷ 114 ∷ 105 ∷ 97 ∷ 108 ∷ [])
+      (Syntax.tcons (Syntax.tyInt Syntax.w32) Syntax.tnil)) (Syntax.tcons (Syntax.tyStruct (102 ∷ 105 ∷ 101 ∷ 108 ∷ 100 ∷ 115 ∷ 58 ∷ 58 ∷ 83 ∷ 101 ∷ 114 ∷ 105 ∷
+      97 ∷ 108 ∷ []) (Syntax.tcons (Syntax.tyInt Syntax.w32) Syntax.tnil)) (Syntax.tcons (Syntax.tyStruct (102 ∷ 105 ∷ 101 ∷ 108 ∷ 100 ∷ 115 ∷ 58 ∷ 58 ∷ 83 ∷ 101
+      ∷ 114 ∷ 105 ∷ 97 ∷ 108 ∷ []) (Syntax.tcons (Syntax.tyInt Syntax.w32) Syntax.tnil)) Syntax.tnil)))))),
 ) ∷ (
   5,
-  Rows.any-gone (Syntax.tyStruct (102 ∷ 105 ∷ 101 ∷ 108 ∷ 100 ∷ 115 ∷ 58 ∷ 58 ∷ 83 ∷ 101 ∷ 114 ∷ 105 ∷ 97 ∷ 108 ∷ []) (Syntax.tcons (Syntax.tyInt
-      Syntax.w32) Syntax.tnil)),
+  Rows.any-gone (Syntax.tyStruct (102 ∷ 105 ∷ 101
+      ∷ 108 ∷ 100 ∷ 115 ∷ 58 ∷ 58 ∷ 83 ∷ 101 ∷ 114 ∷ 105 ∷ 97 ∷ 108 ∷ []) (Syntax.tcons (Syntax.tyInt Syntax.w32) Syntax.tnil)),
 ) ∷ (
   6,
-  Rows.any-gone (Syntax.tyStruct (102 ∷ 105 ∷ 101 ∷ 108 ∷ 100 ∷ 115 ∷ 58 ∷ 58 ∷ 83 ∷ 101 ∷ 114 ∷ 105 ∷ 97 ∷ 108 ∷ [])
-      (Syntax.tcons (Syntax.tyInt Syntax.w32) Syntax.tnil)),
+  Rows.any-gone
+      (Syntax.tyStruct (102 ∷ 105 ∷ 101 ∷ 108 ∷ 100 ∷ 115 ∷ 58 ∷ 58 ∷ 83 ∷ 101 ∷ 114 ∷ 105 ∷ 97 ∷ 108 ∷ []) (Syntax.tcons (Syntax.tyInt Syntax.w32)
+      Syntax.tnil)),
 ) ∷ (
   7,
-  Rows.any-gone (Syntax.tyStruct (102 ∷ 105 ∷ 101 ∷ 108 ∷ 100 ∷ 115 ∷ 58 ∷ 58 ∷ 83 ∷ 101 ∷ 114 ∷
-      105 ∷ 97 ∷ 108 ∷ []) (Syntax.tcons (Syntax.tyInt Syntax.w32) Syntax.tnil)),
-) ∷ (8, Rows.whole (Declared.row Serial.the-type)) ∷ (
-  9,
-  Rows.whole (Declared.row
-      Serial.the-type),
-) ∷ (10, Rows.sc-here (Row.sInt Syntax.w64)) ∷ (11, Rows.whole (Declared.row Near.the-type)) ∷ (12, Rows.sc-here Row.sBool) ∷ (
-  13,
-  Rows.sc-here Row.sBool,
-) ∷ (14, Rows.sc-here Row.sBool) ∷ (15, Rows.sc-here Row.sBool) ∷ []
-
-abbrev pub t20 : List.List Row.Entry
-t20 = (
-  0,
-  Rows.any-gone (Syntax.tyStruct (115 ∷ 101 ∷ 97 ∷ 114 ∷ 99 ∷ 104 ∷ 58 ∷ 58 ∷ 83 ∷ 111 ∷ 117 ∷ 103 ∷ 104 ∷ 116 ∷ []) (Syntax.tcons Syntax.tyBool
-      (Syntax.tcons (Syntax.tyStruct (115 ∷ 101 ∷ 97 ∷ 114 ∷ 99 ∷ 104 ∷ 58 ∷ 58 ∷ 78 ∷ 101 ∷ 97 ∷ 114 ∷ []) (Syntax.tcons (Syntax.tyInt Syntax.w64) (Syntax.tcons
-      (Syntax.tyInt Syntax.w32) Syntax.tnil))) Syntax.tnil))),
-) ∷ (1, Rows.sslice SlotAs.row (Syntax.tyRef (Syntax.named 0) Syntax.imm SlotAs.pointee) 0) ∷ (
-  2,
-  Rows.sc-here (Row.sInt Syntax.w64),
-) ∷ (
-  3,
-  Rows.any-gone (Syntax.tyStruct (115 ∷ 101 ∷ 97 ∷ 114 ∷ 99 ∷ 104 ∷ 58 ∷ 58 ∷ 78 ∷ 101 ∷ 97 ∷ 114 ∷ [])
-      (Syntax.tcons (Syntax.tyInt Syntax.w64) (Syntax.tcons (Syntax.tyInt Syntax.w32) Syntax.tnil))),
-) ∷ (
-  4,
-  Rows.any-gone (Syntax.tyStruct (99 ∷ 111 ∷ 110 ∷ 101
-      ∷ 99 ∷ 116 ∷ 58 ∷ 58 ∷ 67 ∷ 111 ∷ 110 ∷ 101 ∷ 99 ∷ 116 ∷ []) (Syntax.tcons (Syntax.tyStruct (102 ∷ 105 ∷ 101 ∷ 108 ∷ 100 ∷ 115 ∷ 58 ∷ 58 ∷ 83 ∷ 101 ∷ 114 ∷
-      105 ∷ 97 ∷ 108 ∷ []) (Syntax.tcons (Syntax.tyInt Syntax.w32) Syntax.tnil)) (Syntax.tcons (Syntax.tyStruct (102 ∷ 105 ∷ 101 ∷ 108 ∷ 100 ∷ 115 ∷ 58 ∷ 58 ∷ 83
-      ∷ 101 ∷ 114 ∷ 105 ∷ 97 ∷ 108 ∷ []) (Syntax.tcons (Syntax.tyInt Syntax.w32) Syntax.tnil)) (Syntax.tcons (Syntax.tyStruct (102 ∷ 105 ∷ 101 ∷ 108 ∷ 100 ∷ 115
-      ∷ 58 ∷ 58 ∷ 83 ∷ 101 ∷ 114 ∷ 105 ∷ 97 ∷ 108 ∷ []) (Syntax.tcons (Syntax.tyInt Syntax.w32) Syntax.tnil)) (Syntax.tcons (Syntax.tyStruct (102 ∷ 105 ∷ 101 ∷
-      108 ∷ 100 ∷ 115 ∷ 58 ∷ 58 ∷ 83 ∷ 101 ∷ 114 ∷ 105 ∷ 97 ∷ 108 ∷ []) (Syntax.tcons (Syntax.tyInt Syntax.w32) Syntax.tnil)) (Syntax.tcons (Syntax.tyStruct (102
-      ∷ 105 ∷ 101 ∷ 108 ∷ 100 ∷ 115 ∷ 58 ∷ 58 ∷ 83 ∷ 101 ∷ 114 ∷ 105 ∷ 97 ∷ 108 ∷ []) (Syntax.tcons (Syntax.tyInt Syntax.w32) Syntax.tnil)) Syntax.tnil)))))),
-) ∷ (
-  5,
-  Rows.any-gone (Syntax.tyStruct (102 ∷ 105 ∷ 101 ∷ 108 ∷ 100 ∷ 115 ∷ 58 ∷ 58 ∷ 83 ∷ 101 ∷ 114 ∷ 105 ∷ 97 ∷ 108 ∷ []) (Syntax.tcons (Syntax.tyInt
-      Syntax.w32) Syntax.tnil)),
-) ∷ (
-  6,
-  Rows.any-gone (Syntax.tyStruct (102 ∷ 105 ∷ 101 ∷ 108 ∷ 100 ∷ 115 ∷ 58 ∷ 58 ∷ 83 ∷ 101 ∷ 114 ∷ 105 ∷ 97 ∷ 108 ∷ [])
-      (Syntax.tcons (Syntax.tyInt Syntax.w32) Syntax.tnil)),
-) ∷ (
-  7,
-  Rows.any-gone (Syntax.tyStruct (102 ∷ 105 ∷ 101 ∷ 108 ∷ 100 ∷ 115 ∷ 58 ∷ 58 ∷ 83 ∷ 101 ∷ 114 ∷
-      105 ∷ 97 ∷ 108 ∷ []) (Syntax.tcons (Syntax.tyInt Syntax.w32) Syntax.tnil)),
-) ∷ (
-  8,
-  Rows.any-gone (Syntax.tyStruct (102 ∷ 105 ∷ 101 ∷ 108 ∷ 100 ∷ 115 ∷ 58 ∷
-      58 ∷ 83 ∷ 101 ∷ 114 ∷ 105 ∷ 97 ∷ 108 ∷ []) (Syntax.tcons (Syntax.tyInt Syntax.w32) Syntax.tnil)),
-) ∷ (9, Rows.whole (Declared.row Serial.the-type)) ∷ (
+  Rows.any-gone (Syntax.tyStruct (102 ∷ 105 ∷ 101 ∷ 108 ∷ 100 ∷ 115 ∷ 58 ∷ 58 ∷ 83 ∷ 101 ∷ 114 ∷ 105 ∷ 97 ∷ 108 ∷ []) (Syntax.tcons
+      (Syntax.tyInt Syntax.w32) Syntax.tnil)),
+) ∷ (8, Rows.whole (Declared.row Serial.the-type)) ∷ (9, Rows.whole (Declared.row Serial.the-type)) ∷ (
   10,
   Rows.sc-here (Row.sInt Syntax.w64),
 ) ∷ (11, Rows.whole (Declared.row Near.the-type)) ∷ (12, Rows.sc-here Row.sBool) ∷ (13, Rows.sc-here Row.sBool) ∷ (
   14,
   Rows.sc-here Row.sBool,
 ) ∷ (15, Rows.sc-here Row.sBool) ∷ []
+
+abbrev pub t20 : List.List Row.Entry
+t20 = (
+  0,
+  Rows.any-gone (Syntax.tyStruct (115 ∷ 101 ∷ 97 ∷ 114 ∷ 99 ∷ 104 ∷ 58 ∷ 58 ∷ 83 ∷ 111 ∷ 117 ∷ 103 ∷ 104 ∷ 116 ∷ []) (Syntax.tcons (Syntax.tyStruct
+      (115 ∷ 101 ∷ 97 ∷ 114 ∷ 99 ∷ 104 ∷ 58 ∷ 58 ∷ 78 ∷ 101 ∷ 97 ∷ 114 ∷ []) (Syntax.tcons (Syntax.tyInt Syntax.w64) (Syntax.tcons (Syntax.tyStruct (102 ∷ 105 ∷
+      101 ∷ 108 ∷ 100 ∷ 115 ∷ 58 ∷ 58 ∷ 83 ∷ 101 ∷ 114 ∷ 105 ∷ 97 ∷ 108 ∷ []) (Syntax.tcons (Syntax.tyInt Syntax.w32) Syntax.tnil)) Syntax.tnil))) (Syntax.tcons
+      Syntax.tyBool Syntax.tnil))),
+) ∷ (1, Rows.sslice SlotAs.row (Syntax.tyRef (Syntax.named 0) Syntax.imm SlotAs.pointee) 0) ∷ (
+  2,
+  Rows.sc-here (Row.sInt
+      Syntax.w64),
+) ∷ (
+  3,
+  Rows.any-gone (Syntax.tyStruct (115 ∷ 101 ∷ 97 ∷ 114 ∷ 99 ∷ 104 ∷ 58 ∷ 58 ∷ 78 ∷ 101 ∷ 97 ∷ 114 ∷ []) (Syntax.tcons (Syntax.tyInt
+      Syntax.w64) (Syntax.tcons (Syntax.tyStruct (102 ∷ 105 ∷ 101 ∷ 108 ∷ 100 ∷ 115 ∷ 58 ∷ 58 ∷ 83 ∷ 101 ∷ 114 ∷ 105 ∷ 97 ∷ 108 ∷ []) (Syntax.tcons (Syntax.tyInt
+      Syntax.w32) Syntax.tnil)) Syntax.tnil))),
+) ∷ (
+  4,
+  Rows.any-gone (Syntax.tyStruct (99 ∷ 111 ∷ 110 ∷ 101 ∷ 99 ∷ 116 ∷ 58 ∷ 58 ∷ 67 ∷ 111 ∷ 110 ∷ 101 ∷ 99 ∷ 116
+      ∷ []) (Syntax.tcons (Syntax.tyStruct (102 ∷ 105 ∷ 101 ∷ 108 ∷ 100 ∷ 115 ∷ 58 ∷ 58 ∷ 83 ∷ 101 ∷ 114 ∷ 105 ∷ 97 ∷ 108 ∷ []) (Syntax.tcons (Syntax.tyInt
+      Syntax.w32) Syntax.tnil)) (Syntax.tcons (Syntax.tyStruct (102 ∷ 105 ∷ 101 ∷ 108 ∷ 100 ∷ 115 ∷ 58 ∷ 58 ∷ 83 ∷ 101 ∷ 114 ∷ 105 ∷ 97 ∷ 108 ∷ []) (Syntax.tcons
+      (Syntax.tyInt Syntax.w32) Syntax.tnil)) (Syntax.tcons (Syntax.tyStruct (102 ∷ 105 ∷ 101 ∷ 108 ∷ 100 ∷ 115 ∷ 58 ∷ 58 ∷ 83 ∷ 101 ∷ 114 ∷ 105 ∷ 97 ∷ 108 ∷ [])
+      (Syntax.tcons (Syntax.tyInt Syntax.w32) Syntax.tnil)) (Syntax.tcons (Syntax.tyStruct (102 ∷ 105 ∷ 101 ∷ 108 ∷ 100 ∷ 115 ∷ 58 ∷ 58 ∷ 83 ∷ 101 ∷ 114 ∷ 105 ∷
+      97 ∷ 108 ∷ []) (Syntax.tcons (Syntax.tyInt Syntax.w32) Syntax.tnil)) (Syntax.tcons (Syntax.tyStruct (102 ∷ 105 ∷ 101 ∷ 108 ∷ 100 ∷ 115 ∷ 58 ∷ 58 ∷ 83 ∷ 101
+      ∷ 114 ∷ 105 ∷ 97 ∷ 108 ∷ []) (Syntax.tcons (Syntax.tyInt Syntax.w32) Syntax.tnil)) Syntax.tnil)))))),
+) ∷ (
+  5,
+  Rows.any-gone (Syntax.tyStruct (102 ∷ 105 ∷ 101
+      ∷ 108 ∷ 100 ∷ 115 ∷ 58 ∷ 58 ∷ 83 ∷ 101 ∷ 114 ∷ 105 ∷ 97 ∷ 108 ∷ []) (Syntax.tcons (Syntax.tyInt Syntax.w32) Syntax.tnil)),
+) ∷ (
+  6,
+  Rows.any-gone
+      (Syntax.tyStruct (102 ∷ 105 ∷ 101 ∷ 108 ∷ 100 ∷ 115 ∷ 58 ∷ 58 ∷ 83 ∷ 101 ∷ 114 ∷ 105 ∷ 97 ∷ 108 ∷ []) (Syntax.tcons (Syntax.tyInt Syntax.w32)
+      Syntax.tnil)),
+) ∷ (
+  7,
+  Rows.any-gone (Syntax.tyStruct (102 ∷ 105 ∷ 101 ∷ 108 ∷ 100 ∷ 115 ∷ 58 ∷ 58 ∷ 83 ∷ 101 ∷ 114 ∷ 105 ∷ 97 ∷ 108 ∷ []) (Syntax.tcons
+      (Syntax.tyInt Syntax.w32) Syntax.tnil)),
+) ∷ (
+  8,
+  Rows.any-gone (Syntax.tyStruct (102 ∷ 105 ∷ 101 ∷ 108 ∷ 100 ∷ 115 ∷ 58 ∷ 58 ∷ 83 ∷ 101 ∷ 114 ∷ 105 ∷ 97 ∷
+      108 ∷ []) (Syntax.tcons (Syntax.tyInt Syntax.w32) Syntax.tnil)),
+) ∷ (9, Rows.whole (Declared.row Serial.the-type)) ∷ (
+  10,
+  Rows.sc-here (Row.sInt
+      Syntax.w64),
+) ∷ (11, Rows.whole (Declared.row Near.the-type)) ∷ (12, Rows.sc-here Row.sBool) ∷ (13, Rows.sc-here Row.sBool) ∷ (14, Rows.sc-here Row.sBool) ∷
+    (15, Rows.sc-here Row.sBool) ∷ []
 
 abbrev pub t21 : List.List Row.Entry
 t21 = (16, Rows.sc-here Row.sBool) ∷ (17, Rows.any-gone Syntax.tyBool) ∷ (18, Rows.any-gone Syntax.tyBool) ∷ (19, Rows.any-gone Syntax.tyBool) ∷ (
@@ -1070,51 +1200,55 @@ t21 = (16, Rows.sc-here Row.sBool) ∷ (17, Rows.any-gone Syntax.tyBool) ∷ (18
 abbrev pub t22 : List.List Row.Entry
 t22 = (
   0,
-  Rows.any-gone (Syntax.tyStruct (115 ∷ 101 ∷ 97 ∷ 114 ∷ 99 ∷ 104 ∷ 58 ∷ 58 ∷ 83 ∷ 111 ∷ 117 ∷ 103 ∷ 104 ∷ 116 ∷ []) (Syntax.tcons Syntax.tyBool
-      (Syntax.tcons (Syntax.tyStruct (115 ∷ 101 ∷ 97 ∷ 114 ∷ 99 ∷ 104 ∷ 58 ∷ 58 ∷ 78 ∷ 101 ∷ 97 ∷ 114 ∷ []) (Syntax.tcons (Syntax.tyInt Syntax.w64) (Syntax.tcons
-      (Syntax.tyInt Syntax.w32) Syntax.tnil))) Syntax.tnil))),
+  Rows.any-gone (Syntax.tyStruct (115 ∷ 101 ∷ 97 ∷ 114 ∷ 99 ∷ 104 ∷ 58 ∷ 58 ∷ 83 ∷ 111 ∷ 117 ∷ 103 ∷ 104 ∷ 116 ∷ []) (Syntax.tcons (Syntax.tyStruct
+      (115 ∷ 101 ∷ 97 ∷ 114 ∷ 99 ∷ 104 ∷ 58 ∷ 58 ∷ 78 ∷ 101 ∷ 97 ∷ 114 ∷ []) (Syntax.tcons (Syntax.tyInt Syntax.w64) (Syntax.tcons (Syntax.tyStruct (102 ∷ 105 ∷
+      101 ∷ 108 ∷ 100 ∷ 115 ∷ 58 ∷ 58 ∷ 83 ∷ 101 ∷ 114 ∷ 105 ∷ 97 ∷ 108 ∷ []) (Syntax.tcons (Syntax.tyInt Syntax.w32) Syntax.tnil)) Syntax.tnil))) (Syntax.tcons
+      Syntax.tyBool Syntax.tnil))),
 ) ∷ (1, Rows.sslice SlotAs.row (Syntax.tyRef (Syntax.named 0) Syntax.imm SlotAs.pointee) 0) ∷ (
   2,
-  Rows.sc-here (Row.sInt Syntax.w64),
-) ∷ (
-  3,
-  Rows.any-gone (Syntax.tyStruct (115 ∷ 101 ∷ 97 ∷ 114 ∷ 99 ∷ 104 ∷ 58 ∷ 58 ∷ 78 ∷ 101 ∷ 97 ∷ 114 ∷ [])
-      (Syntax.tcons (Syntax.tyInt Syntax.w64) (Syntax.tcons (Syntax.tyInt Syntax.w32) Syntax.tnil))),
-) ∷ (
-  4,
-  Rows.any-gone (Syntax.tyStruct (99 ∷ 111 ∷ 110 ∷ 101
-      ∷ 99 ∷ 116 ∷ 58 ∷ 58 ∷ 67 ∷ 111 ∷ 110 ∷ 101 ∷ 99 ∷ 116 ∷ []) (Syntax.tcons (Syntax.tyStruct (102 ∷ 105 ∷ 101 ∷ 108 ∷ 100 ∷ 115 ∷ 58 ∷ 58 ∷ 83 ∷ 101 ∷ 114 ∷
-      105 ∷ 97 ∷ 108 ∷ []) (Syntax.tcons (Syntax.tyInt Syntax.w32) Syntax.tnil)) (Syntax.tcons (Syntax.tyStruct (102 ∷ 105 ∷ 101 ∷ 108 ∷ 100 ∷ 115 ∷ 58 ∷ 58 ∷ 83
-      ∷ 101 ∷ 114 ∷ 105 ∷ 97 ∷ 108 ∷ []) (Syntax.tcons (Syntax.tyInt Syntax.w32) Syntax.tnil)) (Syntax.tcons (Syntax.tyStruct (102 ∷ 105 ∷ 101 ∷ 108 ∷ 100 ∷ 115
-      ∷ 58 ∷ 58 ∷ 83 ∷ 101 ∷ 114 ∷ 105 ∷ 97 ∷ 108 ∷ []) (Syntax.tcons (Syntax.tyInt Syntax.w32) Syntax.tnil)) (Syntax.tcons (Syntax.tyStruct (102 ∷ 105 ∷ 101 ∷
-      108 ∷ 100 ∷ 115 ∷ 58 ∷ 58 ∷ 83 ∷ 101 ∷ 114 ∷ 105 ∷ 97 ∷ 108 ∷ []) (Syntax.tcons (Syntax.tyInt Syntax.w32) Syntax.tnil)) (Syntax.tcons (Syntax.tyStruct (102
-      ∷ 105 ∷ 101 ∷ 108 ∷ 100 ∷ 115 ∷ 58 ∷ 58 ∷ 83 ∷ 101 ∷ 114 ∷ 105 ∷ 97 ∷ 108 ∷ []) (Syntax.tcons (Syntax.tyInt Syntax.w32) Syntax.tnil)) Syntax.tnil)))))),
-) ∷ (
-  5,
-  Rows.any-gone (Syntax.tyStruct (102 ∷ 105 ∷ 101 ∷ 108 ∷ 100 ∷ 115 ∷ 58 ∷ 58 ∷ 83 ∷ 101 ∷ 114 ∷ 105 ∷ 97 ∷ 108 ∷ []) (Syntax.tcons (Syntax.tyInt
-      Syntax.w32) Syntax.tnil)),
-) ∷ (
-  6,
-  Rows.any-gone (Syntax.tyStruct (102 ∷ 105 ∷ 101 ∷ 108 ∷ 100 ∷ 115 ∷ 58 ∷ 58 ∷ 83 ∷ 101 ∷ 114 ∷ 105 ∷ 97 ∷ 108 ∷ [])
-      (Syntax.tcons (Syntax.tyInt Syntax.w32) Syntax.tnil)),
-) ∷ (
-  7,
-  Rows.any-gone (Syntax.tyStruct (102 ∷ 105 ∷ 101 ∷ 108 ∷ 100 ∷ 115 ∷ 58 ∷ 58 ∷ 83 ∷ 101 ∷ 114 ∷
-      105 ∷ 97 ∷ 108 ∷ []) (Syntax.tcons (Syntax.tyInt Syntax.w32) Syntax.tnil)),
-) ∷ (
-  8,
-  Rows.any-gone (Syntax.tyStruct (102 ∷ 105 ∷ 101 ∷ 108 ∷ 100 ∷ 115 ∷ 58 ∷
-      58 ∷ 83 ∷ 101 ∷ 114 ∷ 105 ∷ 97 ∷ 108 ∷ []) (Syntax.tcons (Syntax.tyInt Syntax.w32) Syntax.tnil)),
-) ∷ (
-  9,
-  Rows.any-gone (Syntax.tyStruct (102 ∷ 105 ∷ 101 ∷
-      108 ∷ 100 ∷ 115 ∷ 58 ∷ 58 ∷ 83 ∷ 101 ∷ 114 ∷ 105 ∷ 97 ∷ 108 ∷ []) (Syntax.tcons (Syntax.tyInt Syntax.w32) Syntax.tnil)),
-) ∷ (
-  10,
   Rows.sc-here (Row.sInt
       Syntax.w64),
-) ∷ (11, Rows.whole (Declared.row Near.the-type)) ∷ (12, Rows.sc-here Row.sBool) ∷ (13, Rows.sc-here Row.sBool) ∷ (14, Rows.sc-here Row.sBool) ∷
-    (15, Rows.sc-here Row.sBool) ∷ []
+) ∷ (
+  3,
+  Rows.any-gone (Syntax.tyStruct (115 ∷ 101 ∷ 97 ∷ 114 ∷ 99 ∷ 104 ∷ 58 ∷ 58 ∷ 78 ∷ 101 ∷ 97 ∷ 114 ∷ []) (Syntax.tcons (Syntax.tyInt
+      Syntax.w64) (Syntax.tcons (Syntax.tyStruct (102 ∷ 105 ∷ 101 ∷ 108 ∷ 100 ∷ 115 ∷ 58 ∷ 58 ∷ 83 ∷ 101 ∷ 114 ∷ 105 ∷ 97 ∷ 108 ∷ []) (Syntax.tcons (Syntax.tyInt
+      Syntax.w32) Syntax.tnil)) Syntax.tnil))),
+) ∷ (
+  4,
+  Rows.any-gone (Syntax.tyStruct (99 ∷ 111 ∷ 110 ∷ 101 ∷ 99 ∷ 116 ∷ 58 ∷ 58 ∷ 67 ∷ 111 ∷ 110 ∷ 101 ∷ 99 ∷ 116
+      ∷ []) (Syntax.tcons (Syntax.tyStruct (102 ∷ 105 ∷ 101 ∷ 108 ∷ 100 ∷ 115 ∷ 58 ∷ 58 ∷ 83 ∷ 101 ∷ 114 ∷ 105 ∷ 97 ∷ 108 ∷ []) (Syntax.tcons (Syntax.tyInt
+      Syntax.w32) Syntax.tnil)) (Syntax.tcons (Syntax.tyStruct (102 ∷ 105 ∷ 101 ∷ 108 ∷ 100 ∷ 115 ∷ 58 ∷ 58 ∷ 83 ∷ 101 ∷ 114 ∷ 105 ∷ 97 ∷ 108 ∷ []) (Syntax.tcons
+      (Syntax.tyInt Syntax.w32) Syntax.tnil)) (Syntax.tcons (Syntax.tyStruct (102 ∷ 105 ∷ 101 ∷ 108 ∷ 100 ∷ 115 ∷ 58 ∷ 58 ∷ 83 ∷ 101 ∷ 114 ∷ 105 ∷ 97 ∷ 108 ∷ [])
+      (Syntax.tcons (Syntax.tyInt Syntax.w32) Syntax.tnil)) (Syntax.tcons (Syntax.tyStruct (102 ∷ 105 ∷ 101 ∷ 108 ∷ 100 ∷ 115 ∷ 58 ∷ 58 ∷ 83 ∷ 101 ∷ 114 ∷ 105 ∷
+      97 ∷ 108 ∷ []) (Syntax.tcons (Syntax.tyInt Syntax.w32) Syntax.tnil)) (Syntax.tcons (Syntax.tyStruct (102 ∷ 105 ∷ 101 ∷ 108 ∷ 100 ∷ 115 ∷ 58 ∷ 58 ∷ 83 ∷ 101
+      ∷ 114 ∷ 105 ∷ 97 ∷ 108 ∷ []) (Syntax.tcons (Syntax.tyInt Syntax.w32) Syntax.tnil)) Syntax.tnil)))))),
+) ∷ (
+  5,
+  Rows.any-gone (Syntax.tyStruct (102 ∷ 105 ∷ 101
+      ∷ 108 ∷ 100 ∷ 115 ∷ 58 ∷ 58 ∷ 83 ∷ 101 ∷ 114 ∷ 105 ∷ 97 ∷ 108 ∷ []) (Syntax.tcons (Syntax.tyInt Syntax.w32) Syntax.tnil)),
+) ∷ (
+  6,
+  Rows.any-gone
+      (Syntax.tyStruct (102 ∷ 105 ∷ 101 ∷ 108 ∷ 100 ∷ 115 ∷ 58 ∷ 58 ∷ 83 ∷ 101 ∷ 114 ∷ 105 ∷ 97 ∷ 108 ∷ []) (Syntax.tcons (Syntax.tyInt Syntax.w32)
+      Syntax.tnil)),
+) ∷ (
+  7,
+  Rows.any-gone (Syntax.tyStruct (102 ∷ 105 ∷ 101 ∷ 108 ∷ 100 ∷ 115 ∷ 58 ∷ 58 ∷ 83 ∷ 101 ∷ 114 ∷ 105 ∷ 97 ∷ 108 ∷ []) (Syntax.tcons
+      (Syntax.tyInt Syntax.w32) Syntax.tnil)),
+) ∷ (
+  8,
+  Rows.any-gone (Syntax.tyStruct (102 ∷ 105 ∷ 101 ∷ 108 ∷ 100 ∷ 115 ∷ 58 ∷ 58 ∷ 83 ∷ 101 ∷ 114 ∷ 105 ∷ 97 ∷
+      108 ∷ []) (Syntax.tcons (Syntax.tyInt Syntax.w32) Syntax.tnil)),
+) ∷ (
+  9,
+  Rows.any-gone (Syntax.tyStruct (102 ∷ 105 ∷ 101 ∷ 108 ∷ 100 ∷ 115 ∷ 58 ∷ 58 ∷ 83 ∷
+      101 ∷ 114 ∷ 105 ∷ 97 ∷ 108 ∷ []) (Syntax.tcons (Syntax.tyInt Syntax.w32) Syntax.tnil)),
+) ∷ (10, Rows.sc-here (Row.sInt Syntax.w64)) ∷ (
+  11,
+  Rows.whole
+      (Declared.row Near.the-type),
+) ∷ (12, Rows.sc-here Row.sBool) ∷ (13, Rows.sc-here Row.sBool) ∷ (14, Rows.sc-here Row.sBool) ∷ (15, Rows.sc-here Row.sBool) ∷
+    []
 
 abbrev pub t23 : List.List Row.Entry
 t23 = (16, Rows.sc-here Row.sBool) ∷ (17, Rows.sc-here Row.sBool) ∷ (18, Rows.any-gone Syntax.tyBool) ∷ (19, Rows.any-gone Syntax.tyBool) ∷ (
@@ -1146,78 +1280,81 @@ t27 = (0, Rows.whole (Declared.row (Apart.apartT Sought.the-type))) ∷ (1, Rows
     (2, Rows.sc-here (Row.sInt Syntax.w64)) ∷ (
       3,
       Rows.any-gone (Syntax.tyStruct (115 ∷ 101 ∷ 97 ∷ 114 ∷ 99 ∷ 104 ∷ 58 ∷ 58 ∷ 78 ∷ 101 ∷ 97 ∷ 114 ∷ [])
-          (Syntax.tcons (Syntax.tyInt Syntax.w64) (Syntax.tcons (Syntax.tyInt Syntax.w32) Syntax.tnil))),
+          (Syntax.tcons (Syntax.tyInt Syntax.w64) (Syntax.tcons (Syntax.tyStruct (102 ∷ 105 ∷ 101 ∷ 108 ∷ 100 ∷ 115 ∷ 58 ∷ 58 ∷ 83 ∷ 101 ∷ 114 ∷ 105 ∷ 97 ∷ 108 ∷ [])
+          (Syntax.tcons (Syntax.tyInt Syntax.w32) Syntax.tnil)) Syntax.tnil))),
     ) ∷ (
       4,
-      Rows.any-gone (Syntax.tyStruct (99 ∷ 111 ∷ 110 ∷ 101
-          ∷ 99 ∷ 116 ∷ 58 ∷ 58 ∷ 67 ∷ 111 ∷ 110 ∷ 101 ∷ 99 ∷ 116 ∷ []) (Syntax.tcons (Syntax.tyStruct (102 ∷ 105 ∷ 101 ∷ 108 ∷ 100 ∷ 115 ∷ 58 ∷ 58 ∷ 83 ∷ 101 ∷ 114 ∷
-          105 ∷ 97 ∷ 108 ∷ []) (Syntax.tcons (Syntax.tyInt Syntax.w32) Syntax.tnil)) (Syntax.tcons (Syntax.tyStruct (102 ∷ 105 ∷ 101 ∷ 108 ∷ 100 ∷ 115 ∷ 58 ∷ 58 ∷ 83
-          ∷ 101 ∷ 114 ∷ 105 ∷ 97 ∷ 108 ∷ []) (Syntax.tcons (Syntax.tyInt Syntax.w32) Syntax.tnil)) (Syntax.tcons (Syntax.tyStruct (102 ∷ 105 ∷ 101 ∷ 108 ∷ 100 ∷ 115
-          ∷ 58 ∷ 58 ∷ 83 ∷ 101 ∷ 114 ∷ 105 ∷ 97 ∷ 108 ∷ []) (Syntax.tcons (Syntax.tyInt Syntax.w32) Syntax.tnil)) (Syntax.tcons (Syntax.tyStruct (102 ∷ 105 ∷ 101 ∷
-          108 ∷ 100 ∷ 115 ∷ 58 ∷ 58 ∷ 83 ∷ 101 ∷ 114 ∷ 105 ∷ 97 ∷ 108 ∷ []) (Syntax.tcons (Syntax.tyInt Syntax.w32) Syntax.tnil)) (Syntax.tcons (Syntax.tyStruct (102
-          ∷ 105 ∷ 101 ∷ 108 ∷ 100 ∷ 115 ∷ 58 ∷ 58 ∷ 83 ∷ 101 ∷ 114 ∷ 105 ∷ 97 ∷ 108 ∷ []) (Syntax.tcons (Syntax.tyInt Syntax.w32) Syntax.tnil)) Syntax.tnil)))))),
+      Rows.any-gone (Syntax.tyStruct (99 ∷ 111 ∷ 110 ∷ 101 ∷ 99 ∷ 116 ∷ 58 ∷ 58 ∷ 67
+          ∷ 111 ∷ 110 ∷ 101 ∷ 99 ∷ 116 ∷ []) (Syntax.tcons (Syntax.tyStruct (102 ∷ 105 ∷ 101 ∷ 108 ∷ 100 ∷ 115 ∷ 58 ∷ 58 ∷ 83 ∷ 101 ∷ 114 ∷ 105 ∷ 97 ∷ 108 ∷ [])
+          (Syntax.tcons (Syntax.tyInt Syntax.w32) Syntax.tnil)) (Syntax.tcons (Syntax.tyStruct (102 ∷ 105 ∷ 101 ∷ 108 ∷ 100 ∷ 115 ∷ 58 ∷ 58 ∷ 83 ∷ 101 ∷ 114 ∷ 105 ∷
+          97 ∷ 108 ∷ []) (Syntax.tcons (Syntax.tyInt Syntax.w32) Syntax.tnil)) (Syntax.tcons (Syntax.tyStruct (102 ∷ 105 ∷ 101 ∷ 108 ∷ 100 ∷ 115 ∷ 58 ∷ 58 ∷ 83 ∷ 101
+          ∷ 114 ∷ 105 ∷ 97 ∷ 108 ∷ []) (Syntax.tcons (Syntax.tyInt Syntax.w32) Syntax.tnil)) (Syntax.tcons (Syntax.tyStruct (102 ∷ 105 ∷ 101 ∷ 108 ∷ 100 ∷ 115 ∷ 58 ∷
+          58 ∷ 83 ∷ 101 ∷ 114 ∷ 105 ∷ 97 ∷ 108 ∷ []) (Syntax.tcons (Syntax.tyInt Syntax.w32) Syntax.tnil)) (Syntax.tcons (Syntax.tyStruct (102 ∷ 105 ∷ 101 ∷ 108 ∷
+          100 ∷ 115 ∷ 58 ∷ 58 ∷ 83 ∷ 101 ∷ 114 ∷ 105 ∷ 97 ∷ 108 ∷ []) (Syntax.tcons (Syntax.tyInt Syntax.w32) Syntax.tnil)) Syntax.tnil)))))),
     ) ∷ (
       5,
-      Rows.any-gone (Syntax.tyStruct (102 ∷ 105 ∷ 101 ∷ 108 ∷ 100 ∷ 115 ∷ 58 ∷ 58 ∷ 83 ∷ 101 ∷ 114 ∷ 105 ∷ 97 ∷ 108 ∷ []) (Syntax.tcons (Syntax.tyInt
-          Syntax.w32) Syntax.tnil)),
+      Rows.any-gone
+          (Syntax.tyStruct (102 ∷ 105 ∷ 101 ∷ 108 ∷ 100 ∷ 115 ∷ 58 ∷ 58 ∷ 83 ∷ 101 ∷ 114 ∷ 105 ∷ 97 ∷ 108 ∷ []) (Syntax.tcons (Syntax.tyInt Syntax.w32)
+          Syntax.tnil)),
     ) ∷ (
       6,
-      Rows.any-gone (Syntax.tyStruct (102 ∷ 105 ∷ 101 ∷ 108 ∷ 100 ∷ 115 ∷ 58 ∷ 58 ∷ 83 ∷ 101 ∷ 114 ∷ 105 ∷ 97 ∷ 108 ∷ [])
-          (Syntax.tcons (Syntax.tyInt Syntax.w32) Syntax.tnil)),
+      Rows.any-gone (Syntax.tyStruct (102 ∷ 105 ∷ 101 ∷ 108 ∷ 100 ∷ 115 ∷ 58 ∷ 58 ∷ 83 ∷ 101 ∷ 114 ∷ 105 ∷ 97 ∷ 108 ∷ []) (Syntax.tcons
+          (Syntax.tyInt Syntax.w32) Syntax.tnil)),
     ) ∷ (
       7,
-      Rows.any-gone (Syntax.tyStruct (102 ∷ 105 ∷ 101 ∷ 108 ∷ 100 ∷ 115 ∷ 58 ∷ 58 ∷ 83 ∷ 101 ∷ 114 ∷
-          105 ∷ 97 ∷ 108 ∷ []) (Syntax.tcons (Syntax.tyInt Syntax.w32) Syntax.tnil)),
+      Rows.any-gone (Syntax.tyStruct (102 ∷ 105 ∷ 101 ∷ 108 ∷ 100 ∷ 115 ∷ 58 ∷ 58 ∷ 83 ∷ 101 ∷ 114 ∷ 105 ∷ 97 ∷
+          108 ∷ []) (Syntax.tcons (Syntax.tyInt Syntax.w32) Syntax.tnil)),
     ) ∷ (
       8,
-      Rows.any-gone (Syntax.tyStruct (102 ∷ 105 ∷ 101 ∷ 108 ∷ 100 ∷ 115 ∷ 58 ∷
-          58 ∷ 83 ∷ 101 ∷ 114 ∷ 105 ∷ 97 ∷ 108 ∷ []) (Syntax.tcons (Syntax.tyInt Syntax.w32) Syntax.tnil)),
+      Rows.any-gone (Syntax.tyStruct (102 ∷ 105 ∷ 101 ∷ 108 ∷ 100 ∷ 115 ∷ 58 ∷ 58 ∷ 83 ∷
+          101 ∷ 114 ∷ 105 ∷ 97 ∷ 108 ∷ []) (Syntax.tcons (Syntax.tyInt Syntax.w32) Syntax.tnil)),
     ) ∷ (
       9,
-      Rows.any-gone (Syntax.tyStruct (102 ∷ 105 ∷ 101 ∷
-          108 ∷ 100 ∷ 115 ∷ 58 ∷ 58 ∷ 83 ∷ 101 ∷ 114 ∷ 105 ∷ 97 ∷ 108 ∷ []) (Syntax.tcons (Syntax.tyInt Syntax.w32) Syntax.tnil)),
-    ) ∷ (
-      10,
-      Rows.sc-here (Row.sInt
-          Syntax.w64),
-    ) ∷ (11, Rows.whole (Declared.row Near.the-type)) ∷ (12, Rows.sc-here Row.sBool) ∷ (13, Rows.sc-here Row.sBool) ∷ (14, Rows.sc-here Row.sBool) ∷
-    (15, Rows.sc-here Row.sBool) ∷ []
+      Rows.any-gone (Syntax.tyStruct (102 ∷ 105 ∷ 101 ∷ 108 ∷ 100 ∷
+          115 ∷ 58 ∷ 58 ∷ 83 ∷ 101 ∷ 114 ∷ 105 ∷ 97 ∷ 108 ∷ []) (Syntax.tcons (Syntax.tyInt Syntax.w32) Syntax.tnil)),
+    ) ∷ (10, Rows.sc-here (Row.sInt Syntax.w64)) ∷
+    (11, Rows.whole (Declared.row Near.the-type)) ∷ (12, Rows.sc-here Row.sBool) ∷ (13, Rows.sc-here Row.sBool) ∷ (14, Rows.sc-here Row.sBool) ∷ (
+      15,
+      Rows.sc-here Row.sBool,
+    ) ∷ []
 
 abbrev pub t28 : List.List Row.Entry
 t28 = (0, Rows.whole (Declared.row (Apart.apartT Sought.the-type))) ∷ (1, Rows.sslice SlotAs.row (Syntax.tyRef (Syntax.named 0) Syntax.imm SlotAs.pointee) 0) ∷
     (2, Rows.sc-here (Row.sInt Syntax.w64)) ∷ (
       3,
       Rows.any-gone (Syntax.tyStruct (115 ∷ 101 ∷ 97 ∷ 114 ∷ 99 ∷ 104 ∷ 58 ∷ 58 ∷ 78 ∷ 101 ∷ 97 ∷ 114 ∷ [])
-          (Syntax.tcons (Syntax.tyInt Syntax.w64) (Syntax.tcons (Syntax.tyInt Syntax.w32) Syntax.tnil))),
+          (Syntax.tcons (Syntax.tyInt Syntax.w64) (Syntax.tcons (Syntax.tyStruct (102 ∷ 105 ∷ 101 ∷ 108 ∷ 100 ∷ 115 ∷ 58 ∷ 58 ∷ 83 ∷ 101 ∷ 114 ∷ 105 ∷ 97 ∷ 108 ∷ [])
+          (Syntax.tcons (Syntax.tyInt Syntax.w32) Syntax.tnil)) Syntax.tnil))),
     ) ∷ (
       4,
-      Rows.any-gone (Syntax.tyStruct (99 ∷ 111 ∷ 110 ∷ 101
-          ∷ 99 ∷ 116 ∷ 58 ∷ 58 ∷ 67 ∷ 111 ∷ 110 ∷ 101 ∷ 99 ∷ 116 ∷ []) (Syntax.tcons (Syntax.tyStruct (102 ∷ 105 ∷ 101 ∷ 108 ∷ 100 ∷ 115 ∷ 58 ∷ 58 ∷ 83 ∷ 101 ∷ 114 ∷
-          105 ∷ 97 ∷ 108 ∷ []) (Syntax.tcons (Syntax.tyInt Syntax.w32) Syntax.tnil)) (Syntax.tcons (Syntax.tyStruct (102 ∷ 105 ∷ 101 ∷ 108 ∷ 100 ∷ 115 ∷ 58 ∷ 58 ∷ 83
-          ∷ 101 ∷ 114 ∷ 105 ∷ 97 ∷ 108 ∷ []) (Syntax.tcons (Syntax.tyInt Syntax.w32) Syntax.tnil)) (Syntax.tcons (Syntax.tyStruct (102 ∷ 105 ∷ 101 ∷ 108 ∷ 100 ∷ 115
-          ∷ 58 ∷ 58 ∷ 83 ∷ 101 ∷ 114 ∷ 105 ∷ 97 ∷ 108 ∷ []) (Syntax.tcons (Syntax.tyInt Syntax.w32) Syntax.tnil)) (Syntax.tcons (Syntax.tyStruct (102 ∷ 105 ∷ 101 ∷
-          108 ∷ 100 ∷ 115 ∷ 58 ∷ 58 ∷ 83 ∷ 101 ∷ 114 ∷ 105 ∷ 97 ∷ 108 ∷ []) (Syntax.tcons (Syntax.tyInt Syntax.w32) Syntax.tnil)) (Syntax.tcons (Syntax.tyStruct (102
-          ∷ 105 ∷ 101 ∷ 108 ∷ 100 ∷ 115 ∷ 58 ∷ 58 ∷ 83 ∷ 101 ∷ 114 ∷ 105 ∷ 97 ∷ 108 ∷ []) (Syntax.tcons (Syntax.tyInt Syntax.w32) Syntax.tnil)) Syntax.tnil)))))),
+      Rows.any-gone (Syntax.tyStruct (99 ∷ 111 ∷ 110 ∷ 101 ∷ 99 ∷ 116 ∷ 58 ∷ 58 ∷ 67
+          ∷ 111 ∷ 110 ∷ 101 ∷ 99 ∷ 116 ∷ []) (Syntax.tcons (Syntax.tyStruct (102 ∷ 105 ∷ 101 ∷ 108 ∷ 100 ∷ 115 ∷ 58 ∷ 58 ∷ 83 ∷ 101 ∷ 114 ∷ 105 ∷ 97 ∷ 108 ∷ [])
+          (Syntax.tcons (Syntax.tyInt Syntax.w32) Syntax.tnil)) (Syntax.tcons (Syntax.tyStruct (102 ∷ 105 ∷ 101 ∷ 108 ∷ 100 ∷ 115 ∷ 58 ∷ 58 ∷ 83 ∷ 101 ∷ 114 ∷ 105 ∷
+          97 ∷ 108 ∷ []) (Syntax.tcons (Syntax.tyInt Syntax.w32) Syntax.tnil)) (Syntax.tcons (Syntax.tyStruct (102 ∷ 105 ∷ 101 ∷ 108 ∷ 100 ∷ 115 ∷ 58 ∷ 58 ∷ 83 ∷ 101
+          ∷ 114 ∷ 105 ∷ 97 ∷ 108 ∷ []) (Syntax.tcons (Syntax.tyInt Syntax.w32) Syntax.tnil)) (Syntax.tcons (Syntax.tyStruct (102 ∷ 105 ∷ 101 ∷ 108 ∷ 100 ∷ 115 ∷ 58 ∷
+          58 ∷ 83 ∷ 101 ∷ 114 ∷ 105 ∷ 97 ∷ 108 ∷ []) (Syntax.tcons (Syntax.tyInt Syntax.w32) Syntax.tnil)) (Syntax.tcons (Syntax.tyStruct (102 ∷ 105 ∷ 101 ∷ 108 ∷
+          100 ∷ 115 ∷ 58 ∷ 58 ∷ 83 ∷ 101 ∷ 114 ∷ 105 ∷ 97 ∷ 108 ∷ []) (Syntax.tcons (Syntax.tyInt Syntax.w32) Syntax.tnil)) Syntax.tnil)))))),
     ) ∷ (
       5,
-      Rows.any-gone (Syntax.tyStruct (102 ∷ 105 ∷ 101 ∷ 108 ∷ 100 ∷ 115 ∷ 58 ∷ 58 ∷ 83 ∷ 101 ∷ 114 ∷ 105 ∷ 97 ∷ 108 ∷ []) (Syntax.tcons (Syntax.tyInt
-          Syntax.w32) Syntax.tnil)),
+      Rows.any-gone
+          (Syntax.tyStruct (102 ∷ 105 ∷ 101 ∷ 108 ∷ 100 ∷ 115 ∷ 58 ∷ 58 ∷ 83 ∷ 101 ∷ 114 ∷ 105 ∷ 97 ∷ 108 ∷ []) (Syntax.tcons (Syntax.tyInt Syntax.w32)
+          Syntax.tnil)),
     ) ∷ (
       6,
-      Rows.any-gone (Syntax.tyStruct (102 ∷ 105 ∷ 101 ∷ 108 ∷ 100 ∷ 115 ∷ 58 ∷ 58 ∷ 83 ∷ 101 ∷ 114 ∷ 105 ∷ 97 ∷ 108 ∷ [])
-          (Syntax.tcons (Syntax.tyInt Syntax.w32) Syntax.tnil)),
+      Rows.any-gone (Syntax.tyStruct (102 ∷ 105 ∷ 101 ∷ 108 ∷ 100 ∷ 115 ∷ 58 ∷ 58 ∷ 83 ∷ 101 ∷ 114 ∷ 105 ∷ 97 ∷ 108 ∷ []) (Syntax.tcons
+          (Syntax.tyInt Syntax.w32) Syntax.tnil)),
     ) ∷ (
       7,
-      Rows.any-gone (Syntax.tyStruct (102 ∷ 105 ∷ 101 ∷ 108 ∷ 100 ∷ 115 ∷ 58 ∷ 58 ∷ 83 ∷ 101 ∷ 114 ∷
-          105 ∷ 97 ∷ 108 ∷ []) (Syntax.tcons (Syntax.tyInt Syntax.w32) Syntax.tnil)),
+      Rows.any-gone (Syntax.tyStruct (102 ∷ 105 ∷ 101 ∷ 108 ∷ 100 ∷ 115 ∷ 58 ∷ 58 ∷ 83 ∷ 101 ∷ 114 ∷ 105 ∷ 97 ∷
+          108 ∷ []) (Syntax.tcons (Syntax.tyInt Syntax.w32) Syntax.tnil)),
     ) ∷ (
       8,
-      Rows.any-gone (Syntax.tyStruct (102 ∷ 105 ∷ 101 ∷ 108 ∷ 100 ∷ 115 ∷ 58 ∷
-          58 ∷ 83 ∷ 101 ∷ 114 ∷ 105 ∷ 97 ∷ 108 ∷ []) (Syntax.tcons (Syntax.tyInt Syntax.w32) Syntax.tnil)),
+      Rows.any-gone (Syntax.tyStruct (102 ∷ 105 ∷ 101 ∷ 108 ∷ 100 ∷ 115 ∷ 58 ∷ 58 ∷ 83 ∷
+          101 ∷ 114 ∷ 105 ∷ 97 ∷ 108 ∷ []) (Syntax.tcons (Syntax.tyInt Syntax.w32) Syntax.tnil)),
     ) ∷ (
       9,
-      Rows.any-gone (Syntax.tyStruct (102 ∷ 105 ∷ 101 ∷
-          108 ∷ 100 ∷ 115 ∷ 58 ∷ 58 ∷ 83 ∷ 101 ∷ 114 ∷ 105 ∷ 97 ∷ 108 ∷ []) (Syntax.tcons (Syntax.tyInt Syntax.w32) Syntax.tnil)),
+      Rows.any-gone (Syntax.tyStruct (102 ∷ 105 ∷ 101 ∷ 108 ∷ 100 ∷
+          115 ∷ 58 ∷ 58 ∷ 83 ∷ 101 ∷ 114 ∷ 105 ∷ 97 ∷ 108 ∷ []) (Syntax.tcons (Syntax.tyInt Syntax.w32) Syntax.tnil)),
     ) ∷ (
       10,
       Rows.any-gone (Syntax.tyInt
@@ -1230,36 +1367,38 @@ t29 = (0, Rows.whole (Declared.row (Apart.apartT Sought.the-type))) ∷ (1, Rows
     (2, Rows.sc-here (Row.sInt Syntax.w64)) ∷ (
       3,
       Rows.any-gone (Syntax.tyStruct (115 ∷ 101 ∷ 97 ∷ 114 ∷ 99 ∷ 104 ∷ 58 ∷ 58 ∷ 78 ∷ 101 ∷ 97 ∷ 114 ∷ [])
-          (Syntax.tcons (Syntax.tyInt Syntax.w64) (Syntax.tcons (Syntax.tyInt Syntax.w32) Syntax.tnil))),
+          (Syntax.tcons (Syntax.tyInt Syntax.w64) (Syntax.tcons (Syntax.tyStruct (102 ∷ 105 ∷ 101 ∷ 108 ∷ 100 ∷ 115 ∷ 58 ∷ 58 ∷ 83 ∷ 101 ∷ 114 ∷ 105 ∷ 97 ∷ 108 ∷ [])
+          (Syntax.tcons (Syntax.tyInt Syntax.w32) Syntax.tnil)) Syntax.tnil))),
     ) ∷ (
       4,
-      Rows.any-gone (Syntax.tyStruct (99 ∷ 111 ∷ 110 ∷ 101
-          ∷ 99 ∷ 116 ∷ 58 ∷ 58 ∷ 67 ∷ 111 ∷ 110 ∷ 101 ∷ 99 ∷ 116 ∷ []) (Syntax.tcons (Syntax.tyStruct (102 ∷ 105 ∷ 101 ∷ 108 ∷ 100 ∷ 115 ∷ 58 ∷ 58 ∷ 83 ∷ 101 ∷ 114 ∷
-          105 ∷ 97 ∷ 108 ∷ []) (Syntax.tcons (Syntax.tyInt Syntax.w32) Syntax.tnil)) (Syntax.tcons (Syntax.tyStruct (102 ∷ 105 ∷ 101 ∷ 108 ∷ 100 ∷ 115 ∷ 58 ∷ 58 ∷ 83
-          ∷ 101 ∷ 114 ∷ 105 ∷ 97 ∷ 108 ∷ []) (Syntax.tcons (Syntax.tyInt Syntax.w32) Syntax.tnil)) (Syntax.tcons (Syntax.tyStruct (102 ∷ 105 ∷ 101 ∷ 108 ∷ 100 ∷ 115
-          ∷ 58 ∷ 58 ∷ 83 ∷ 101 ∷ 114 ∷ 105 ∷ 97 ∷ 108 ∷ []) (Syntax.tcons (Syntax.tyInt Syntax.w32) Syntax.tnil)) (Syntax.tcons (Syntax.tyStruct (102 ∷ 105 ∷ 101 ∷
-          108 ∷ 100 ∷ 115 ∷ 58 ∷ 58 ∷ 83 ∷ 101 ∷ 114 ∷ 105 ∷ 97 ∷ 108 ∷ []) (Syntax.tcons (Syntax.tyInt Syntax.w32) Syntax.tnil)) (Syntax.tcons (Syntax.tyStruct (102
-          ∷ 105 ∷ 101 ∷ 108 ∷ 100 ∷ 115 ∷ 58 ∷ 58 ∷ 83 ∷ 101 ∷ 114 ∷ 105 ∷ 97 ∷ 108 ∷ []) (Syntax.tcons (Syntax.tyInt Syntax.w32) Syntax.tnil)) Syntax.tnil)))))),
+      Rows.any-gone (Syntax.tyStruct (99 ∷ 111 ∷ 110 ∷ 101 ∷ 99 ∷ 116 ∷ 58 ∷ 58 ∷ 67
+          ∷ 111 ∷ 110 ∷ 101 ∷ 99 ∷ 116 ∷ []) (Syntax.tcons (Syntax.tyStruct (102 ∷ 105 ∷ 101 ∷ 108 ∷ 100 ∷ 115 ∷ 58 ∷ 58 ∷ 83 ∷ 101 ∷ 114 ∷ 105 ∷ 97 ∷ 108 ∷ [])
+          (Syntax.tcons (Syntax.tyInt Syntax.w32) Syntax.tnil)) (Syntax.tcons (Syntax.tyStruct (102 ∷ 105 ∷ 101 ∷ 108 ∷ 100 ∷ 115 ∷ 58 ∷ 58 ∷ 83 ∷ 101 ∷ 114 ∷ 105 ∷
+          97 ∷ 108 ∷ []) (Syntax.tcons (Syntax.tyInt Syntax.w32) Syntax.tnil)) (Syntax.tcons (Syntax.tyStruct (102 ∷ 105 ∷ 101 ∷ 108 ∷ 100 ∷ 115 ∷ 58 ∷ 58 ∷ 83 ∷ 101
+          ∷ 114 ∷ 105 ∷ 97 ∷ 108 ∷ []) (Syntax.tcons (Syntax.tyInt Syntax.w32) Syntax.tnil)) (Syntax.tcons (Syntax.tyStruct (102 ∷ 105 ∷ 101 ∷ 108 ∷ 100 ∷ 115 ∷ 58 ∷
+          58 ∷ 83 ∷ 101 ∷ 114 ∷ 105 ∷ 97 ∷ 108 ∷ []) (Syntax.tcons (Syntax.tyInt Syntax.w32) Syntax.tnil)) (Syntax.tcons (Syntax.tyStruct (102 ∷ 105 ∷ 101 ∷ 108 ∷
+          100 ∷ 115 ∷ 58 ∷ 58 ∷ 83 ∷ 101 ∷ 114 ∷ 105 ∷ 97 ∷ 108 ∷ []) (Syntax.tcons (Syntax.tyInt Syntax.w32) Syntax.tnil)) Syntax.tnil)))))),
     ) ∷ (
       5,
-      Rows.any-gone (Syntax.tyStruct (102 ∷ 105 ∷ 101 ∷ 108 ∷ 100 ∷ 115 ∷ 58 ∷ 58 ∷ 83 ∷ 101 ∷ 114 ∷ 105 ∷ 97 ∷ 108 ∷ []) (Syntax.tcons (Syntax.tyInt
-          Syntax.w32) Syntax.tnil)),
+      Rows.any-gone
+          (Syntax.tyStruct (102 ∷ 105 ∷ 101 ∷ 108 ∷ 100 ∷ 115 ∷ 58 ∷ 58 ∷ 83 ∷ 101 ∷ 114 ∷ 105 ∷ 97 ∷ 108 ∷ []) (Syntax.tcons (Syntax.tyInt Syntax.w32)
+          Syntax.tnil)),
     ) ∷ (
       6,
-      Rows.any-gone (Syntax.tyStruct (102 ∷ 105 ∷ 101 ∷ 108 ∷ 100 ∷ 115 ∷ 58 ∷ 58 ∷ 83 ∷ 101 ∷ 114 ∷ 105 ∷ 97 ∷ 108 ∷ [])
-          (Syntax.tcons (Syntax.tyInt Syntax.w32) Syntax.tnil)),
+      Rows.any-gone (Syntax.tyStruct (102 ∷ 105 ∷ 101 ∷ 108 ∷ 100 ∷ 115 ∷ 58 ∷ 58 ∷ 83 ∷ 101 ∷ 114 ∷ 105 ∷ 97 ∷ 108 ∷ []) (Syntax.tcons
+          (Syntax.tyInt Syntax.w32) Syntax.tnil)),
     ) ∷ (
       7,
-      Rows.any-gone (Syntax.tyStruct (102 ∷ 105 ∷ 101 ∷ 108 ∷ 100 ∷ 115 ∷ 58 ∷ 58 ∷ 83 ∷ 101 ∷ 114 ∷
-          105 ∷ 97 ∷ 108 ∷ []) (Syntax.tcons (Syntax.tyInt Syntax.w32) Syntax.tnil)),
+      Rows.any-gone (Syntax.tyStruct (102 ∷ 105 ∷ 101 ∷ 108 ∷ 100 ∷ 115 ∷ 58 ∷ 58 ∷ 83 ∷ 101 ∷ 114 ∷ 105 ∷ 97 ∷
+          108 ∷ []) (Syntax.tcons (Syntax.tyInt Syntax.w32) Syntax.tnil)),
     ) ∷ (
       8,
-      Rows.any-gone (Syntax.tyStruct (102 ∷ 105 ∷ 101 ∷ 108 ∷ 100 ∷ 115 ∷ 58 ∷
-          58 ∷ 83 ∷ 101 ∷ 114 ∷ 105 ∷ 97 ∷ 108 ∷ []) (Syntax.tcons (Syntax.tyInt Syntax.w32) Syntax.tnil)),
+      Rows.any-gone (Syntax.tyStruct (102 ∷ 105 ∷ 101 ∷ 108 ∷ 100 ∷ 115 ∷ 58 ∷ 58 ∷ 83 ∷
+          101 ∷ 114 ∷ 105 ∷ 97 ∷ 108 ∷ []) (Syntax.tcons (Syntax.tyInt Syntax.w32) Syntax.tnil)),
     ) ∷ (
       9,
-      Rows.any-gone (Syntax.tyStruct (102 ∷ 105 ∷ 101 ∷
-          108 ∷ 100 ∷ 115 ∷ 58 ∷ 58 ∷ 83 ∷ 101 ∷ 114 ∷ 105 ∷ 97 ∷ 108 ∷ []) (Syntax.tcons (Syntax.tyInt Syntax.w32) Syntax.tnil)),
+      Rows.any-gone (Syntax.tyStruct (102 ∷ 105 ∷ 101 ∷ 108 ∷ 100 ∷
+          115 ∷ 58 ∷ 58 ∷ 83 ∷ 101 ∷ 114 ∷ 105 ∷ 97 ∷ 108 ∷ []) (Syntax.tcons (Syntax.tyInt Syntax.w32) Syntax.tnil)),
     ) ∷ (
       10,
       Rows.any-gone (Syntax.tyInt
@@ -1267,48 +1406,51 @@ t29 = (0, Rows.whole (Declared.row (Apart.apartT Sought.the-type))) ∷ (1, Rows
     ) ∷ (
       11,
       Rows.any-gone (Syntax.tyStruct (115 ∷ 101 ∷ 97 ∷ 114 ∷ 99 ∷ 104 ∷ 58 ∷ 58 ∷ 78 ∷ 101 ∷ 97 ∷ 114 ∷ []) (Syntax.tcons (Syntax.tyInt
-          Syntax.w64) (Syntax.tcons (Syntax.tyInt Syntax.w32) Syntax.tnil))),
-    ) ∷ (12, Rows.sc-here Row.sBool) ∷ (13, Rows.sc-here Row.sBool) ∷ (
-      14,
+          Syntax.w64) (Syntax.tcons (Syntax.tyStruct (102 ∷ 105 ∷ 101 ∷ 108 ∷ 100 ∷ 115 ∷ 58 ∷ 58 ∷ 83 ∷ 101 ∷ 114 ∷ 105 ∷ 97 ∷ 108 ∷ []) (Syntax.tcons (Syntax.tyInt
+          Syntax.w32) Syntax.tnil)) Syntax.tnil))),
+    ) ∷ (12, Rows.sc-here Row.sBool) ∷ (13, Rows.sc-here Row.sBool) ∷ (14, Rows.sc-here Row.sBool) ∷ (
+      15,
       Rows.sc-here
           Row.sBool,
-    ) ∷ (15, Rows.sc-here Row.sBool) ∷ []
+    ) ∷ []
 
 abbrev pub t30 : List.List Row.Entry
 t30 = (0, Rows.whole (Declared.row (Apart.apartT Sought.the-type))) ∷ (1, Rows.sslice SlotAs.row (Syntax.tyRef (Syntax.named 0) Syntax.imm SlotAs.pointee) 0) ∷
     (2, Rows.sc-here (Row.sInt Syntax.w64)) ∷ (
       3,
       Rows.any-gone (Syntax.tyStruct (115 ∷ 101 ∷ 97 ∷ 114 ∷ 99 ∷ 104 ∷ 58 ∷ 58 ∷ 78 ∷ 101 ∷ 97 ∷ 114 ∷ [])
-          (Syntax.tcons (Syntax.tyInt Syntax.w64) (Syntax.tcons (Syntax.tyInt Syntax.w32) Syntax.tnil))),
+          (Syntax.tcons (Syntax.tyInt Syntax.w64) (Syntax.tcons (Syntax.tyStruct (102 ∷ 105 ∷ 101 ∷ 108 ∷ 100 ∷ 115 ∷ 58 ∷ 58 ∷ 83 ∷ 101 ∷ 114 ∷ 105 ∷ 97 ∷ 108 ∷ [])
+          (Syntax.tcons (Syntax.tyInt Syntax.w32) Syntax.tnil)) Syntax.tnil))),
     ) ∷ (
       4,
-      Rows.any-gone (Syntax.tyStruct (99 ∷ 111 ∷ 110 ∷ 101
-          ∷ 99 ∷ 116 ∷ 58 ∷ 58 ∷ 67 ∷ 111 ∷ 110 ∷ 101 ∷ 99 ∷ 116 ∷ []) (Syntax.tcons (Syntax.tyStruct (102 ∷ 105 ∷ 101 ∷ 108 ∷ 100 ∷ 115 ∷ 58 ∷ 58 ∷ 83 ∷ 101 ∷ 114 ∷
-          105 ∷ 97 ∷ 108 ∷ []) (Syntax.tcons (Syntax.tyInt Syntax.w32) Syntax.tnil)) (Syntax.tcons (Syntax.tyStruct (102 ∷ 105 ∷ 101 ∷ 108 ∷ 100 ∷ 115 ∷ 58 ∷ 58 ∷ 83
-          ∷ 101 ∷ 114 ∷ 105 ∷ 97 ∷ 108 ∷ []) (Syntax.tcons (Syntax.tyInt Syntax.w32) Syntax.tnil)) (Syntax.tcons (Syntax.tyStruct (102 ∷ 105 ∷ 101 ∷ 108 ∷ 100 ∷ 115
-          ∷ 58 ∷ 58 ∷ 83 ∷ 101 ∷ 114 ∷ 105 ∷ 97 ∷ 108 ∷ []) (Syntax.tcons (Syntax.tyInt Syntax.w32) Syntax.tnil)) (Syntax.tcons (Syntax.tyStruct (102 ∷ 105 ∷ 101 ∷
-          108 ∷ 100 ∷ 115 ∷ 58 ∷ 58 ∷ 83 ∷ 101 ∷ 114 ∷ 105 ∷ 97 ∷ 108 ∷ []) (Syntax.tcons (Syntax.tyInt Syntax.w32) Syntax.tnil)) (Syntax.tcons (Syntax.tyStruct (102
-          ∷ 105 ∷ 101 ∷ 108 ∷ 100 ∷ 115 ∷ 58 ∷ 58 ∷ 83 ∷ 101 ∷ 114 ∷ 105 ∷ 97 ∷ 108 ∷ []) (Syntax.tcons (Syntax.tyInt Syntax.w32) Syntax.tnil)) Syntax.tnil)))))),
+      Rows.any-gone (Syntax.tyStruct (99 ∷ 111 ∷ 110 ∷ 101 ∷ 99 ∷ 116 ∷ 58 ∷ 58 ∷ 67
+          ∷ 111 ∷ 110 ∷ 101 ∷ 99 ∷ 116 ∷ []) (Syntax.tcons (Syntax.tyStruct (102 ∷ 105 ∷ 101 ∷ 108 ∷ 100 ∷ 115 ∷ 58 ∷ 58 ∷ 83 ∷ 101 ∷ 114 ∷ 105 ∷ 97 ∷ 108 ∷ [])
+          (Syntax.tcons (Syntax.tyInt Syntax.w32) Syntax.tnil)) (Syntax.tcons (Syntax.tyStruct (102 ∷ 105 ∷ 101 ∷ 108 ∷ 100 ∷ 115 ∷ 58 ∷ 58 ∷ 83 ∷ 101 ∷ 114 ∷ 105 ∷
+          97 ∷ 108 ∷ []) (Syntax.tcons (Syntax.tyInt Syntax.w32) Syntax.tnil)) (Syntax.tcons (Syntax.tyStruct (102 ∷ 105 ∷ 101 ∷ 108 ∷ 100 ∷ 115 ∷ 58 ∷ 58 ∷ 83 ∷ 101
+          ∷ 114 ∷ 105 ∷ 97 ∷ 108 ∷ []) (Syntax.tcons (Syntax.tyInt Syntax.w32) Syntax.tnil)) (Syntax.tcons (Syntax.tyStruct (102 ∷ 105 ∷ 101 ∷ 108 ∷ 100 ∷ 115 ∷ 58 ∷
+          58 ∷ 83 ∷ 101 ∷ 114 ∷ 105 ∷ 97 ∷ 108 ∷ []) (Syntax.tcons (Syntax.tyInt Syntax.w32) Syntax.tnil)) (Syntax.tcons (Syntax.tyStruct (102 ∷ 105 ∷ 101 ∷ 108 ∷
+          100 ∷ 115 ∷ 58 ∷ 58 ∷ 83 ∷ 101 ∷ 114 ∷ 105 ∷ 97 ∷ 108 ∷ []) (Syntax.tcons (Syntax.tyInt Syntax.w32) Syntax.tnil)) Syntax.tnil)))))),
     ) ∷ (
       5,
-      Rows.any-gone (Syntax.tyStruct (102 ∷ 105 ∷ 101 ∷ 108 ∷ 100 ∷ 115 ∷ 58 ∷ 58 ∷ 83 ∷ 101 ∷ 114 ∷ 105 ∷ 97 ∷ 108 ∷ []) (Syntax.tcons (Syntax.tyInt
-          Syntax.w32) Syntax.tnil)),
+      Rows.any-gone
+          (Syntax.tyStruct (102 ∷ 105 ∷ 101 ∷ 108 ∷ 100 ∷ 115 ∷ 58 ∷ 58 ∷ 83 ∷ 101 ∷ 114 ∷ 105 ∷ 97 ∷ 108 ∷ []) (Syntax.tcons (Syntax.tyInt Syntax.w32)
+          Syntax.tnil)),
     ) ∷ (
       6,
-      Rows.any-gone (Syntax.tyStruct (102 ∷ 105 ∷ 101 ∷ 108 ∷ 100 ∷ 115 ∷ 58 ∷ 58 ∷ 83 ∷ 101 ∷ 114 ∷ 105 ∷ 97 ∷ 108 ∷ [])
-          (Syntax.tcons (Syntax.tyInt Syntax.w32) Syntax.tnil)),
+      Rows.any-gone (Syntax.tyStruct (102 ∷ 105 ∷ 101 ∷ 108 ∷ 100 ∷ 115 ∷ 58 ∷ 58 ∷ 83 ∷ 101 ∷ 114 ∷ 105 ∷ 97 ∷ 108 ∷ []) (Syntax.tcons
+          (Syntax.tyInt Syntax.w32) Syntax.tnil)),
     ) ∷ (
       7,
-      Rows.any-gone (Syntax.tyStruct (102 ∷ 105 ∷ 101 ∷ 108 ∷ 100 ∷ 115 ∷ 58 ∷ 58 ∷ 83 ∷ 101 ∷ 114 ∷
-          105 ∷ 97 ∷ 108 ∷ []) (Syntax.tcons (Syntax.tyInt Syntax.w32) Syntax.tnil)),
+      Rows.any-gone (Syntax.tyStruct (102 ∷ 105 ∷ 101 ∷ 108 ∷ 100 ∷ 115 ∷ 58 ∷ 58 ∷ 83 ∷ 101 ∷ 114 ∷ 105 ∷ 97 ∷
+          108 ∷ []) (Syntax.tcons (Syntax.tyInt Syntax.w32) Syntax.tnil)),
     ) ∷ (
       8,
-      Rows.any-gone (Syntax.tyStruct (102 ∷ 105 ∷ 101 ∷ 108 ∷ 100 ∷ 115 ∷ 58 ∷
-          58 ∷ 83 ∷ 101 ∷ 114 ∷ 105 ∷ 97 ∷ 108 ∷ []) (Syntax.tcons (Syntax.tyInt Syntax.w32) Syntax.tnil)),
+      Rows.any-gone (Syntax.tyStruct (102 ∷ 105 ∷ 101 ∷ 108 ∷ 100 ∷ 115 ∷ 58 ∷ 58 ∷ 83 ∷
+          101 ∷ 114 ∷ 105 ∷ 97 ∷ 108 ∷ []) (Syntax.tcons (Syntax.tyInt Syntax.w32) Syntax.tnil)),
     ) ∷ (
       9,
-      Rows.any-gone (Syntax.tyStruct (102 ∷ 105 ∷ 101 ∷
-          108 ∷ 100 ∷ 115 ∷ 58 ∷ 58 ∷ 83 ∷ 101 ∷ 114 ∷ 105 ∷ 97 ∷ 108 ∷ []) (Syntax.tcons (Syntax.tyInt Syntax.w32) Syntax.tnil)),
+      Rows.any-gone (Syntax.tyStruct (102 ∷ 105 ∷ 101 ∷ 108 ∷ 100 ∷
+          115 ∷ 58 ∷ 58 ∷ 83 ∷ 101 ∷ 114 ∷ 105 ∷ 97 ∷ 108 ∷ []) (Syntax.tcons (Syntax.tyInt Syntax.w32) Syntax.tnil)),
     ) ∷ (
       10,
       Rows.any-gone (Syntax.tyInt
@@ -1316,48 +1458,50 @@ t30 = (0, Rows.whole (Declared.row (Apart.apartT Sought.the-type))) ∷ (1, Rows
     ) ∷ (
       11,
       Rows.any-gone (Syntax.tyStruct (115 ∷ 101 ∷ 97 ∷ 114 ∷ 99 ∷ 104 ∷ 58 ∷ 58 ∷ 78 ∷ 101 ∷ 97 ∷ 114 ∷ []) (Syntax.tcons (Syntax.tyInt
-          Syntax.w64) (Syntax.tcons (Syntax.tyInt Syntax.w32) Syntax.tnil))),
-    ) ∷ (12, Rows.any-gone Syntax.tyBool) ∷ (13, Rows.sc-here Row.sBool) ∷ (
-      14,
-      Rows.sc-here
-          Row.sBool,
-    ) ∷ (15, Rows.sc-here Row.sBool) ∷ []
+          Syntax.w64) (Syntax.tcons (Syntax.tyStruct (102 ∷ 105 ∷ 101 ∷ 108 ∷ 100 ∷ 115 ∷ 58 ∷ 58 ∷ 83 ∷ 101 ∷ 114 ∷ 105 ∷ 97 ∷ 108 ∷ []) (Syntax.tcons (Syntax.tyInt
+          Syntax.w32) Syntax.tnil)) Syntax.tnil))),
+    ) ∷ (12, Rows.any-gone Syntax.tyBool) ∷ (13, Rows.sc-here Row.sBool) ∷ (14, Rows.sc-here Row.sBool) ∷ (
+      15,
+      Rows.sc-here Row.sBool,
+    ) ∷ []
 
 abbrev pub t31 : List.List Row.Entry
 t31 = (0, Rows.whole (Declared.row (Apart.apartT Sought.the-type))) ∷ (1, Rows.sslice SlotAs.row (Syntax.tyRef (Syntax.named 0) Syntax.imm SlotAs.pointee) 0) ∷
     (2, Rows.sc-here (Row.sInt Syntax.w64)) ∷ (
       3,
       Rows.any-gone (Syntax.tyStruct (115 ∷ 101 ∷ 97 ∷ 114 ∷ 99 ∷ 104 ∷ 58 ∷ 58 ∷ 78 ∷ 101 ∷ 97 ∷ 114 ∷ [])
-          (Syntax.tcons (Syntax.tyInt Syntax.w64) (Syntax.tcons (Syntax.tyInt Syntax.w32) Syntax.tnil))),
+          (Syntax.tcons (Syntax.tyInt Syntax.w64) (Syntax.tcons (Syntax.tyStruct (102 ∷ 105 ∷ 101 ∷ 108 ∷ 100 ∷ 115 ∷ 58 ∷ 58 ∷ 83 ∷ 101 ∷ 114 ∷ 105 ∷ 97 ∷ 108 ∷ [])
+          (Syntax.tcons (Syntax.tyInt Syntax.w32) Syntax.tnil)) Syntax.tnil))),
     ) ∷ (
       4,
-      Rows.any-gone (Syntax.tyStruct (99 ∷ 111 ∷ 110 ∷ 101
-          ∷ 99 ∷ 116 ∷ 58 ∷ 58 ∷ 67 ∷ 111 ∷ 110 ∷ 101 ∷ 99 ∷ 116 ∷ []) (Syntax.tcons (Syntax.tyStruct (102 ∷ 105 ∷ 101 ∷ 108 ∷ 100 ∷ 115 ∷ 58 ∷ 58 ∷ 83 ∷ 101 ∷ 114 ∷
-          105 ∷ 97 ∷ 108 ∷ []) (Syntax.tcons (Syntax.tyInt Syntax.w32) Syntax.tnil)) (Syntax.tcons (Syntax.tyStruct (102 ∷ 105 ∷ 101 ∷ 108 ∷ 100 ∷ 115 ∷ 58 ∷ 58 ∷ 83
-          ∷ 101 ∷ 114 ∷ 105 ∷ 97 ∷ 108 ∷ []) (Syntax.tcons (Syntax.tyInt Syntax.w32) Syntax.tnil)) (Syntax.tcons (Syntax.tyStruct (102 ∷ 105 ∷ 101 ∷ 108 ∷ 100 ∷ 115
-          ∷ 58 ∷ 58 ∷ 83 ∷ 101 ∷ 114 ∷ 105 ∷ 97 ∷ 108 ∷ []) (Syntax.tcons (Syntax.tyInt Syntax.w32) Syntax.tnil)) (Syntax.tcons (Syntax.tyStruct (102 ∷ 105 ∷ 101 ∷
-          108 ∷ 100 ∷ 115 ∷ 58 ∷ 58 ∷ 83 ∷ 101 ∷ 114 ∷ 105 ∷ 97 ∷ 108 ∷ []) (Syntax.tcons (Syntax.tyInt Syntax.w32) Syntax.tnil)) (Syntax.tcons (Syntax.tyStruct (102
-          ∷ 105 ∷ 101 ∷ 108 ∷ 100 ∷ 115 ∷ 58 ∷ 58 ∷ 83 ∷ 101 ∷ 114 ∷ 105 ∷ 97 ∷ 108 ∷ []) (Syntax.tcons (Syntax.tyInt Syntax.w32) Syntax.tnil)) Syntax.tnil)))))),
+      Rows.any-gone (Syntax.tyStruct (99 ∷ 111 ∷ 110 ∷ 101 ∷ 99 ∷ 116 ∷ 58 ∷ 58 ∷ 67
+          ∷ 111 ∷ 110 ∷ 101 ∷ 99 ∷ 116 ∷ []) (Syntax.tcons (Syntax.tyStruct (102 ∷ 105 ∷ 101 ∷ 108 ∷ 100 ∷ 115 ∷ 58 ∷ 58 ∷ 83 ∷ 101 ∷ 114 ∷ 105 ∷ 97 ∷ 108 ∷ [])
+          (Syntax.tcons (Syntax.tyInt Syntax.w32) Syntax.tnil)) (Syntax.tcons (Syntax.tyStruct (102 ∷ 105 ∷ 101 ∷ 108 ∷ 100 ∷ 115 ∷ 58 ∷ 58 ∷ 83 ∷ 101 ∷ 114 ∷ 105 ∷
+          97 ∷ 108 ∷ []) (Syntax.tcons (Syntax.tyInt Syntax.w32) Syntax.tnil)) (Syntax.tcons (Syntax.tyStruct (102 ∷ 105 ∷ 101 ∷ 108 ∷ 100 ∷ 115 ∷ 58 ∷ 58 ∷ 83 ∷ 101
+          ∷ 114 ∷ 105 ∷ 97 ∷ 108 ∷ []) (Syntax.tcons (Syntax.tyInt Syntax.w32) Syntax.tnil)) (Syntax.tcons (Syntax.tyStruct (102 ∷ 105 ∷ 101 ∷ 108 ∷ 100 ∷ 115 ∷ 58 ∷
+          58 ∷ 83 ∷ 101 ∷ 114 ∷ 105 ∷ 97 ∷ 108 ∷ []) (Syntax.tcons (Syntax.tyInt Syntax.w32) Syntax.tnil)) (Syntax.tcons (Syntax.tyStruct (102 ∷ 105 ∷ 101 ∷ 108 ∷
+          100 ∷ 115 ∷ 58 ∷ 58 ∷ 83 ∷ 101 ∷ 114 ∷ 105 ∷ 97 ∷ 108 ∷ []) (Syntax.tcons (Syntax.tyInt Syntax.w32) Syntax.tnil)) Syntax.tnil)))))),
     ) ∷ (
       5,
-      Rows.any-gone (Syntax.tyStruct (102 ∷ 105 ∷ 101 ∷ 108 ∷ 100 ∷ 115 ∷ 58 ∷ 58 ∷ 83 ∷ 101 ∷ 114 ∷ 105 ∷ 97 ∷ 108 ∷ []) (Syntax.tcons (Syntax.tyInt
-          Syntax.w32) Syntax.tnil)),
+      Rows.any-gone
+          (Syntax.tyStruct (102 ∷ 105 ∷ 101 ∷ 108 ∷ 100 ∷ 115 ∷ 58 ∷ 58 ∷ 83 ∷ 101 ∷ 114 ∷ 105 ∷ 97 ∷ 108 ∷ []) (Syntax.tcons (Syntax.tyInt Syntax.w32)
+          Syntax.tnil)),
     ) ∷ (
       6,
-      Rows.any-gone (Syntax.tyStruct (102 ∷ 105 ∷ 101 ∷ 108 ∷ 100 ∷ 115 ∷ 58 ∷ 58 ∷ 83 ∷ 101 ∷ 114 ∷ 105 ∷ 97 ∷ 108 ∷ [])
-          (Syntax.tcons (Syntax.tyInt Syntax.w32) Syntax.tnil)),
+      Rows.any-gone (Syntax.tyStruct (102 ∷ 105 ∷ 101 ∷ 108 ∷ 100 ∷ 115 ∷ 58 ∷ 58 ∷ 83 ∷ 101 ∷ 114 ∷ 105 ∷ 97 ∷ 108 ∷ []) (Syntax.tcons
+          (Syntax.tyInt Syntax.w32) Syntax.tnil)),
     ) ∷ (
       7,
-      Rows.any-gone (Syntax.tyStruct (102 ∷ 105 ∷ 101 ∷ 108 ∷ 100 ∷ 115 ∷ 58 ∷ 58 ∷ 83 ∷ 101 ∷ 114 ∷
-          105 ∷ 97 ∷ 108 ∷ []) (Syntax.tcons (Syntax.tyInt Syntax.w32) Syntax.tnil)),
+      Rows.any-gone (Syntax.tyStruct (102 ∷ 105 ∷ 101 ∷ 108 ∷ 100 ∷ 115 ∷ 58 ∷ 58 ∷ 83 ∷ 101 ∷ 114 ∷ 105 ∷ 97 ∷
+          108 ∷ []) (Syntax.tcons (Syntax.tyInt Syntax.w32) Syntax.tnil)),
     ) ∷ (
       8,
-      Rows.any-gone (Syntax.tyStruct (102 ∷ 105 ∷ 101 ∷ 108 ∷ 100 ∷ 115 ∷ 58 ∷
-          58 ∷ 83 ∷ 101 ∷ 114 ∷ 105 ∷ 97 ∷ 108 ∷ []) (Syntax.tcons (Syntax.tyInt Syntax.w32) Syntax.tnil)),
+      Rows.any-gone (Syntax.tyStruct (102 ∷ 105 ∷ 101 ∷ 108 ∷ 100 ∷ 115 ∷ 58 ∷ 58 ∷ 83 ∷
+          101 ∷ 114 ∷ 105 ∷ 97 ∷ 108 ∷ []) (Syntax.tcons (Syntax.tyInt Syntax.w32) Syntax.tnil)),
     ) ∷ (
       9,
-      Rows.any-gone (Syntax.tyStruct (102 ∷ 105 ∷ 101 ∷
-          108 ∷ 100 ∷ 115 ∷ 58 ∷ 58 ∷ 83 ∷ 101 ∷ 114 ∷ 105 ∷ 97 ∷ 108 ∷ []) (Syntax.tcons (Syntax.tyInt Syntax.w32) Syntax.tnil)),
+      Rows.any-gone (Syntax.tyStruct (102 ∷ 105 ∷ 101 ∷ 108 ∷ 100 ∷
+          115 ∷ 58 ∷ 58 ∷ 83 ∷ 101 ∷ 114 ∷ 105 ∷ 97 ∷ 108 ∷ []) (Syntax.tcons (Syntax.tyInt Syntax.w32) Syntax.tnil)),
     ) ∷ (
       10,
       Rows.any-gone (Syntax.tyInt
@@ -1365,47 +1509,50 @@ t31 = (0, Rows.whole (Declared.row (Apart.apartT Sought.the-type))) ∷ (1, Rows
     ) ∷ (
       11,
       Rows.any-gone (Syntax.tyStruct (115 ∷ 101 ∷ 97 ∷ 114 ∷ 99 ∷ 104 ∷ 58 ∷ 58 ∷ 78 ∷ 101 ∷ 97 ∷ 114 ∷ []) (Syntax.tcons (Syntax.tyInt
-          Syntax.w64) (Syntax.tcons (Syntax.tyInt Syntax.w32) Syntax.tnil))),
-    ) ∷ (12, Rows.any-gone Syntax.tyBool) ∷ (13, Rows.any-gone Syntax.tyBool) ∷ (
-      14,
+          Syntax.w64) (Syntax.tcons (Syntax.tyStruct (102 ∷ 105 ∷ 101 ∷ 108 ∷ 100 ∷ 115 ∷ 58 ∷ 58 ∷ 83 ∷ 101 ∷ 114 ∷ 105 ∷ 97 ∷ 108 ∷ []) (Syntax.tcons (Syntax.tyInt
+          Syntax.w32) Syntax.tnil)) Syntax.tnil))),
+    ) ∷ (12, Rows.any-gone Syntax.tyBool) ∷ (13, Rows.any-gone Syntax.tyBool) ∷ (14, Rows.sc-here Row.sBool) ∷ (
+      15,
       Rows.sc-here Row.sBool,
-    ) ∷ (15, Rows.sc-here Row.sBool) ∷ []
+    ) ∷ []
 
 abbrev pub t32 : List.List Row.Entry
 t32 = (0, Rows.whole (Declared.row (Apart.apartT Sought.the-type))) ∷ (1, Rows.sslice SlotAs.row (Syntax.tyRef (Syntax.named 0) Syntax.imm SlotAs.pointee) 0) ∷
     (2, Rows.sc-here (Row.sInt Syntax.w64)) ∷ (
       3,
       Rows.any-gone (Syntax.tyStruct (115 ∷ 101 ∷ 97 ∷ 114 ∷ 99 ∷ 104 ∷ 58 ∷ 58 ∷ 78 ∷ 101 ∷ 97 ∷ 114 ∷ [])
-          (Syntax.tcons (Syntax.tyInt Syntax.w64) (Syntax.tcons (Syntax.tyInt Syntax.w32) Syntax.tnil))),
+          (Syntax.tcons (Syntax.tyInt Syntax.w64) (Syntax.tcons (Syntax.tyStruct (102 ∷ 105 ∷ 101 ∷ 108 ∷ 100 ∷ 115 ∷ 58 ∷ 58 ∷ 83 ∷ 101 ∷ 114 ∷ 105 ∷ 97 ∷ 108 ∷ [])
+          (Syntax.tcons (Syntax.tyInt Syntax.w32) Syntax.tnil)) Syntax.tnil))),
     ) ∷ (
       4,
-      Rows.any-gone (Syntax.tyStruct (99 ∷ 111 ∷ 110 ∷ 101
-          ∷ 99 ∷ 116 ∷ 58 ∷ 58 ∷ 67 ∷ 111 ∷ 110 ∷ 101 ∷ 99 ∷ 116 ∷ []) (Syntax.tcons (Syntax.tyStruct (102 ∷ 105 ∷ 101 ∷ 108 ∷ 100 ∷ 115 ∷ 58 ∷ 58 ∷ 83 ∷ 101 ∷ 114 ∷
-          105 ∷ 97 ∷ 108 ∷ []) (Syntax.tcons (Syntax.tyInt Syntax.w32) Syntax.tnil)) (Syntax.tcons (Syntax.tyStruct (102 ∷ 105 ∷ 101 ∷ 108 ∷ 100 ∷ 115 ∷ 58 ∷ 58 ∷ 83
-          ∷ 101 ∷ 114 ∷ 105 ∷ 97 ∷ 108 ∷ []) (Syntax.tcons (Syntax.tyInt Syntax.w32) Syntax.tnil)) (Syntax.tcons (Syntax.tyStruct (102 ∷ 105 ∷ 101 ∷ 108 ∷ 100 ∷ 115
-          ∷ 58 ∷ 58 ∷ 83 ∷ 101 ∷ 114 ∷ 105 ∷ 97 ∷ 108 ∷ []) (Syntax.tcons (Syntax.tyInt Syntax.w32) Syntax.tnil)) (Syntax.tcons (Syntax.tyStruct (102 ∷ 105 ∷ 101 ∷
-          108 ∷ 100 ∷ 115 ∷ 58 ∷ 58 ∷ 83 ∷ 101 ∷ 114 ∷ 105 ∷ 97 ∷ 108 ∷ []) (Syntax.tcons (Syntax.tyInt Syntax.w32) Syntax.tnil)) (Syntax.tcons (Syntax.tyStruct (102
-          ∷ 105 ∷ 101 ∷ 108 ∷ 100 ∷ 115 ∷ 58 ∷ 58 ∷ 83 ∷ 101 ∷ 114 ∷ 105 ∷ 97 ∷ 108 ∷ []) (Syntax.tcons (Syntax.tyInt Syntax.w32) Syntax.tnil)) Syntax.tnil)))))),
+      Rows.any-gone (Syntax.tyStruct (99 ∷ 111 ∷ 110 ∷ 101 ∷ 99 ∷ 116 ∷ 58 ∷ 58 ∷ 67
+          ∷ 111 ∷ 110 ∷ 101 ∷ 99 ∷ 116 ∷ []) (Syntax.tcons (Syntax.tyStruct (102 ∷ 105 ∷ 101 ∷ 108 ∷ 100 ∷ 115 ∷ 58 ∷ 58 ∷ 83 ∷ 101 ∷ 114 ∷ 105 ∷ 97 ∷ 108 ∷ [])
+          (Syntax.tcons (Syntax.tyInt Syntax.w32) Syntax.tnil)) (Syntax.tcons (Syntax.tyStruct (102 ∷ 105 ∷ 101 ∷ 108 ∷ 100 ∷ 115 ∷ 58 ∷ 58 ∷ 83 ∷ 101 ∷ 114 ∷ 105 ∷
+          97 ∷ 108 ∷ []) (Syntax.tcons (Syntax.tyInt Syntax.w32) Syntax.tnil)) (Syntax.tcons (Syntax.tyStruct (102 ∷ 105 ∷ 101 ∷ 108 ∷ 100 ∷ 115 ∷ 58 ∷ 58 ∷ 83 ∷ 101
+          ∷ 114 ∷ 105 ∷ 97 ∷ 108 ∷ []) (Syntax.tcons (Syntax.tyInt Syntax.w32) Syntax.tnil)) (Syntax.tcons (Syntax.tyStruct (102 ∷ 105 ∷ 101 ∷ 108 ∷ 100 ∷ 115 ∷ 58 ∷
+          58 ∷ 83 ∷ 101 ∷ 114 ∷ 105 ∷ 97 ∷ 108 ∷ []) (Syntax.tcons (Syntax.tyInt Syntax.w32) Syntax.tnil)) (Syntax.tcons (Syntax.tyStruct (102 ∷ 105 ∷ 101 ∷ 108 ∷
+          100 ∷ 115 ∷ 58 ∷ 58 ∷ 83 ∷ 101 ∷ 114 ∷ 105 ∷ 97 ∷ 108 ∷ []) (Syntax.tcons (Syntax.tyInt Syntax.w32) Syntax.tnil)) Syntax.tnil)))))),
     ) ∷ (
       5,
-      Rows.any-gone (Syntax.tyStruct (102 ∷ 105 ∷ 101 ∷ 108 ∷ 100 ∷ 115 ∷ 58 ∷ 58 ∷ 83 ∷ 101 ∷ 114 ∷ 105 ∷ 97 ∷ 108 ∷ []) (Syntax.tcons (Syntax.tyInt
-          Syntax.w32) Syntax.tnil)),
+      Rows.any-gone
+          (Syntax.tyStruct (102 ∷ 105 ∷ 101 ∷ 108 ∷ 100 ∷ 115 ∷ 58 ∷ 58 ∷ 83 ∷ 101 ∷ 114 ∷ 105 ∷ 97 ∷ 108 ∷ []) (Syntax.tcons (Syntax.tyInt Syntax.w32)
+          Syntax.tnil)),
     ) ∷ (
       6,
-      Rows.any-gone (Syntax.tyStruct (102 ∷ 105 ∷ 101 ∷ 108 ∷ 100 ∷ 115 ∷ 58 ∷ 58 ∷ 83 ∷ 101 ∷ 114 ∷ 105 ∷ 97 ∷ 108 ∷ [])
-          (Syntax.tcons (Syntax.tyInt Syntax.w32) Syntax.tnil)),
+      Rows.any-gone (Syntax.tyStruct (102 ∷ 105 ∷ 101 ∷ 108 ∷ 100 ∷ 115 ∷ 58 ∷ 58 ∷ 83 ∷ 101 ∷ 114 ∷ 105 ∷ 97 ∷ 108 ∷ []) (Syntax.tcons
+          (Syntax.tyInt Syntax.w32) Syntax.tnil)),
     ) ∷ (
       7,
-      Rows.any-gone (Syntax.tyStruct (102 ∷ 105 ∷ 101 ∷ 108 ∷ 100 ∷ 115 ∷ 58 ∷ 58 ∷ 83 ∷ 101 ∷ 114 ∷
-          105 ∷ 97 ∷ 108 ∷ []) (Syntax.tcons (Syntax.tyInt Syntax.w32) Syntax.tnil)),
+      Rows.any-gone (Syntax.tyStruct (102 ∷ 105 ∷ 101 ∷ 108 ∷ 100 ∷ 115 ∷ 58 ∷ 58 ∷ 83 ∷ 101 ∷ 114 ∷ 105 ∷ 97 ∷
+          108 ∷ []) (Syntax.tcons (Syntax.tyInt Syntax.w32) Syntax.tnil)),
     ) ∷ (
       8,
-      Rows.any-gone (Syntax.tyStruct (102 ∷ 105 ∷ 101 ∷ 108 ∷ 100 ∷ 115 ∷ 58 ∷
-          58 ∷ 83 ∷ 101 ∷ 114 ∷ 105 ∷ 97 ∷ 108 ∷ []) (Syntax.tcons (Syntax.tyInt Syntax.w32) Syntax.tnil)),
+      Rows.any-gone (Syntax.tyStruct (102 ∷ 105 ∷ 101 ∷ 108 ∷ 100 ∷ 115 ∷ 58 ∷ 58 ∷ 83 ∷
+          101 ∷ 114 ∷ 105 ∷ 97 ∷ 108 ∷ []) (Syntax.tcons (Syntax.tyInt Syntax.w32) Syntax.tnil)),
     ) ∷ (
       9,
-      Rows.any-gone (Syntax.tyStruct (102 ∷ 105 ∷ 101 ∷
-          108 ∷ 100 ∷ 115 ∷ 58 ∷ 58 ∷ 83 ∷ 101 ∷ 114 ∷ 105 ∷ 97 ∷ 108 ∷ []) (Syntax.tcons (Syntax.tyInt Syntax.w32) Syntax.tnil)),
+      Rows.any-gone (Syntax.tyStruct (102 ∷ 105 ∷ 101 ∷ 108 ∷ 100 ∷
+          115 ∷ 58 ∷ 58 ∷ 83 ∷ 101 ∷ 114 ∷ 105 ∷ 97 ∷ 108 ∷ []) (Syntax.tcons (Syntax.tyInt Syntax.w32) Syntax.tnil)),
     ) ∷ (
       10,
       Rows.any-gone (Syntax.tyInt
@@ -1413,47 +1560,48 @@ t32 = (0, Rows.whole (Declared.row (Apart.apartT Sought.the-type))) ∷ (1, Rows
     ) ∷ (
       11,
       Rows.any-gone (Syntax.tyStruct (115 ∷ 101 ∷ 97 ∷ 114 ∷ 99 ∷ 104 ∷ 58 ∷ 58 ∷ 78 ∷ 101 ∷ 97 ∷ 114 ∷ []) (Syntax.tcons (Syntax.tyInt
-          Syntax.w64) (Syntax.tcons (Syntax.tyInt Syntax.w32) Syntax.tnil))),
-    ) ∷ (12, Rows.any-gone Syntax.tyBool) ∷ (13, Rows.any-gone Syntax.tyBool) ∷ (
-      14,
-      Rows.any-gone Syntax.tyBool,
-    ) ∷ (15, Rows.sc-here Row.sBool) ∷ []
+          Syntax.w64) (Syntax.tcons (Syntax.tyStruct (102 ∷ 105 ∷ 101 ∷ 108 ∷ 100 ∷ 115 ∷ 58 ∷ 58 ∷ 83 ∷ 101 ∷ 114 ∷ 105 ∷ 97 ∷ 108 ∷ []) (Syntax.tcons (Syntax.tyInt
+          Syntax.w32) Syntax.tnil)) Syntax.tnil))),
+    ) ∷ (12, Rows.any-gone Syntax.tyBool) ∷ (13, Rows.any-gone Syntax.tyBool) ∷ (14, Rows.any-gone Syntax.tyBool) ∷
+    (15, Rows.sc-here Row.sBool) ∷ []
 
 abbrev pub t33 : List.List Row.Entry
 t33 = (0, Rows.whole (Declared.row (Apart.apartT Sought.the-type))) ∷ (1, Rows.sslice SlotAs.row (Syntax.tyRef (Syntax.named 0) Syntax.imm SlotAs.pointee) 0) ∷
     (2, Rows.sc-here (Row.sInt Syntax.w64)) ∷ (
       3,
       Rows.any-gone (Syntax.tyStruct (115 ∷ 101 ∷ 97 ∷ 114 ∷ 99 ∷ 104 ∷ 58 ∷ 58 ∷ 78 ∷ 101 ∷ 97 ∷ 114 ∷ [])
-          (Syntax.tcons (Syntax.tyInt Syntax.w64) (Syntax.tcons (Syntax.tyInt Syntax.w32) Syntax.tnil))),
+          (Syntax.tcons (Syntax.tyInt Syntax.w64) (Syntax.tcons (Syntax.tyStruct (102 ∷ 105 ∷ 101 ∷ 108 ∷ 100 ∷ 115 ∷ 58 ∷ 58 ∷ 83 ∷ 101 ∷ 114 ∷ 105 ∷ 97 ∷ 108 ∷ [])
+          (Syntax.tcons (Syntax.tyInt Syntax.w32) Syntax.tnil)) Syntax.tnil))),
     ) ∷ (
       4,
-      Rows.any-gone (Syntax.tyStruct (99 ∷ 111 ∷ 110 ∷ 101
-          ∷ 99 ∷ 116 ∷ 58 ∷ 58 ∷ 67 ∷ 111 ∷ 110 ∷ 101 ∷ 99 ∷ 116 ∷ []) (Syntax.tcons (Syntax.tyStruct (102 ∷ 105 ∷ 101 ∷ 108 ∷ 100 ∷ 115 ∷ 58 ∷ 58 ∷ 83 ∷ 101 ∷ 114 ∷
-          105 ∷ 97 ∷ 108 ∷ []) (Syntax.tcons (Syntax.tyInt Syntax.w32) Syntax.tnil)) (Syntax.tcons (Syntax.tyStruct (102 ∷ 105 ∷ 101 ∷ 108 ∷ 100 ∷ 115 ∷ 58 ∷ 58 ∷ 83
-          ∷ 101 ∷ 114 ∷ 105 ∷ 97 ∷ 108 ∷ []) (Syntax.tcons (Syntax.tyInt Syntax.w32) Syntax.tnil)) (Syntax.tcons (Syntax.tyStruct (102 ∷ 105 ∷ 101 ∷ 108 ∷ 100 ∷ 115
-          ∷ 58 ∷ 58 ∷ 83 ∷ 101 ∷ 114 ∷ 105 ∷ 97 ∷ 108 ∷ []) (Syntax.tcons (Syntax.tyInt Syntax.w32) Syntax.tnil)) (Syntax.tcons (Syntax.tyStruct (102 ∷ 105 ∷ 101 ∷
-          108 ∷ 100 ∷ 115 ∷ 58 ∷ 58 ∷ 83 ∷ 101 ∷ 114 ∷ 105 ∷ 97 ∷ 108 ∷ []) (Syntax.tcons (Syntax.tyInt Syntax.w32) Syntax.tnil)) (Syntax.tcons (Syntax.tyStruct (102
-          ∷ 105 ∷ 101 ∷ 108 ∷ 100 ∷ 115 ∷ 58 ∷ 58 ∷ 83 ∷ 101 ∷ 114 ∷ 105 ∷ 97 ∷ 108 ∷ []) (Syntax.tcons (Syntax.tyInt Syntax.w32) Syntax.tnil)) Syntax.tnil)))))),
+      Rows.any-gone (Syntax.tyStruct (99 ∷ 111 ∷ 110 ∷ 101 ∷ 99 ∷ 116 ∷ 58 ∷ 58 ∷ 67
+          ∷ 111 ∷ 110 ∷ 101 ∷ 99 ∷ 116 ∷ []) (Syntax.tcons (Syntax.tyStruct (102 ∷ 105 ∷ 101 ∷ 108 ∷ 100 ∷ 115 ∷ 58 ∷ 58 ∷ 83 ∷ 101 ∷ 114 ∷ 105 ∷ 97 ∷ 108 ∷ [])
+          (Syntax.tcons (Syntax.tyInt Syntax.w32) Syntax.tnil)) (Syntax.tcons (Syntax.tyStruct (102 ∷ 105 ∷ 101 ∷ 108 ∷ 100 ∷ 115 ∷ 58 ∷ 58 ∷ 83 ∷ 101 ∷ 114 ∷ 105 ∷
+          97 ∷ 108 ∷ []) (Syntax.tcons (Syntax.tyInt Syntax.w32) Syntax.tnil)) (Syntax.tcons (Syntax.tyStruct (102 ∷ 105 ∷ 101 ∷ 108 ∷ 100 ∷ 115 ∷ 58 ∷ 58 ∷ 83 ∷ 101
+          ∷ 114 ∷ 105 ∷ 97 ∷ 108 ∷ []) (Syntax.tcons (Syntax.tyInt Syntax.w32) Syntax.tnil)) (Syntax.tcons (Syntax.tyStruct (102 ∷ 105 ∷ 101 ∷ 108 ∷ 100 ∷ 115 ∷ 58 ∷
+          58 ∷ 83 ∷ 101 ∷ 114 ∷ 105 ∷ 97 ∷ 108 ∷ []) (Syntax.tcons (Syntax.tyInt Syntax.w32) Syntax.tnil)) (Syntax.tcons (Syntax.tyStruct (102 ∷ 105 ∷ 101 ∷ 108 ∷
+          100 ∷ 115 ∷ 58 ∷ 58 ∷ 83 ∷ 101 ∷ 114 ∷ 105 ∷ 97 ∷ 108 ∷ []) (Syntax.tcons (Syntax.tyInt Syntax.w32) Syntax.tnil)) Syntax.tnil)))))),
     ) ∷ (
       5,
-      Rows.any-gone (Syntax.tyStruct (102 ∷ 105 ∷ 101 ∷ 108 ∷ 100 ∷ 115 ∷ 58 ∷ 58 ∷ 83 ∷ 101 ∷ 114 ∷ 105 ∷ 97 ∷ 108 ∷ []) (Syntax.tcons (Syntax.tyInt
-          Syntax.w32) Syntax.tnil)),
+      Rows.any-gone
+          (Syntax.tyStruct (102 ∷ 105 ∷ 101 ∷ 108 ∷ 100 ∷ 115 ∷ 58 ∷ 58 ∷ 83 ∷ 101 ∷ 114 ∷ 105 ∷ 97 ∷ 108 ∷ []) (Syntax.tcons (Syntax.tyInt Syntax.w32)
+          Syntax.tnil)),
     ) ∷ (
       6,
-      Rows.any-gone (Syntax.tyStruct (102 ∷ 105 ∷ 101 ∷ 108 ∷ 100 ∷ 115 ∷ 58 ∷ 58 ∷ 83 ∷ 101 ∷ 114 ∷ 105 ∷ 97 ∷ 108 ∷ [])
-          (Syntax.tcons (Syntax.tyInt Syntax.w32) Syntax.tnil)),
+      Rows.any-gone (Syntax.tyStruct (102 ∷ 105 ∷ 101 ∷ 108 ∷ 100 ∷ 115 ∷ 58 ∷ 58 ∷ 83 ∷ 101 ∷ 114 ∷ 105 ∷ 97 ∷ 108 ∷ []) (Syntax.tcons
+          (Syntax.tyInt Syntax.w32) Syntax.tnil)),
     ) ∷ (
       7,
-      Rows.any-gone (Syntax.tyStruct (102 ∷ 105 ∷ 101 ∷ 108 ∷ 100 ∷ 115 ∷ 58 ∷ 58 ∷ 83 ∷ 101 ∷ 114 ∷
-          105 ∷ 97 ∷ 108 ∷ []) (Syntax.tcons (Syntax.tyInt Syntax.w32) Syntax.tnil)),
+      Rows.any-gone (Syntax.tyStruct (102 ∷ 105 ∷ 101 ∷ 108 ∷ 100 ∷ 115 ∷ 58 ∷ 58 ∷ 83 ∷ 101 ∷ 114 ∷ 105 ∷ 97 ∷
+          108 ∷ []) (Syntax.tcons (Syntax.tyInt Syntax.w32) Syntax.tnil)),
     ) ∷ (
       8,
-      Rows.any-gone (Syntax.tyStruct (102 ∷ 105 ∷ 101 ∷ 108 ∷ 100 ∷ 115 ∷ 58 ∷
-          58 ∷ 83 ∷ 101 ∷ 114 ∷ 105 ∷ 97 ∷ 108 ∷ []) (Syntax.tcons (Syntax.tyInt Syntax.w32) Syntax.tnil)),
+      Rows.any-gone (Syntax.tyStruct (102 ∷ 105 ∷ 101 ∷ 108 ∷ 100 ∷ 115 ∷ 58 ∷ 58 ∷ 83 ∷
+          101 ∷ 114 ∷ 105 ∷ 97 ∷ 108 ∷ []) (Syntax.tcons (Syntax.tyInt Syntax.w32) Syntax.tnil)),
     ) ∷ (
       9,
-      Rows.any-gone (Syntax.tyStruct (102 ∷ 105 ∷ 101 ∷
-          108 ∷ 100 ∷ 115 ∷ 58 ∷ 58 ∷ 83 ∷ 101 ∷ 114 ∷ 105 ∷ 97 ∷ 108 ∷ []) (Syntax.tcons (Syntax.tyInt Syntax.w32) Syntax.tnil)),
+      Rows.any-gone (Syntax.tyStruct (102 ∷ 105 ∷ 101 ∷ 108 ∷ 100 ∷
+          115 ∷ 58 ∷ 58 ∷ 83 ∷ 101 ∷ 114 ∷ 105 ∷ 97 ∷ 108 ∷ []) (Syntax.tcons (Syntax.tyInt Syntax.w32) Syntax.tnil)),
     ) ∷ (
       10,
       Rows.any-gone (Syntax.tyInt
@@ -1461,11 +1609,10 @@ t33 = (0, Rows.whole (Declared.row (Apart.apartT Sought.the-type))) ∷ (1, Rows
     ) ∷ (
       11,
       Rows.any-gone (Syntax.tyStruct (115 ∷ 101 ∷ 97 ∷ 114 ∷ 99 ∷ 104 ∷ 58 ∷ 58 ∷ 78 ∷ 101 ∷ 97 ∷ 114 ∷ []) (Syntax.tcons (Syntax.tyInt
-          Syntax.w64) (Syntax.tcons (Syntax.tyInt Syntax.w32) Syntax.tnil))),
-    ) ∷ (12, Rows.any-gone Syntax.tyBool) ∷ (13, Rows.any-gone Syntax.tyBool) ∷ (
-      14,
-      Rows.any-gone Syntax.tyBool,
-    ) ∷ (15, Rows.any-gone Syntax.tyBool) ∷ []
+          Syntax.w64) (Syntax.tcons (Syntax.tyStruct (102 ∷ 105 ∷ 101 ∷ 108 ∷ 100 ∷ 115 ∷ 58 ∷ 58 ∷ 83 ∷ 101 ∷ 114 ∷ 105 ∷ 97 ∷ 108 ∷ []) (Syntax.tcons (Syntax.tyInt
+          Syntax.w32) Syntax.tnil)) Syntax.tnil))),
+    ) ∷ (12, Rows.any-gone Syntax.tyBool) ∷ (13, Rows.any-gone Syntax.tyBool) ∷ (14, Rows.any-gone Syntax.tyBool) ∷
+    (15, Rows.any-gone Syntax.tyBool) ∷ []
 
 abbrev pub t34 : List.List Row.Entry
 t34 = (16, Rows.any-gone Syntax.tyBool) ∷ (17, Rows.sc-here Row.sBool) ∷ (18, Rows.sc-here Row.sBool) ∷ (19, Rows.sc-here Row.sBool) ∷ (
@@ -1498,36 +1645,38 @@ t38 = (0, Rows.whole (Declared.row (Apart.apartT Sought.the-type))) ∷ (1, Rows
     (2, Rows.any-gone (Syntax.tyInt Syntax.w64)) ∷ (
       3,
       Rows.any-gone (Syntax.tyStruct (115 ∷ 101 ∷ 97 ∷ 114 ∷ 99 ∷ 104 ∷ 58 ∷ 58 ∷ 78 ∷ 101 ∷ 97 ∷ 114 ∷ [])
-          (Syntax.tcons (Syntax.tyInt Syntax.w64) (Syntax.tcons (Syntax.tyInt Syntax.w32) Syntax.tnil))),
+          (Syntax.tcons (Syntax.tyInt Syntax.w64) (Syntax.tcons (Syntax.tyStruct (102 ∷ 105 ∷ 101 ∷ 108 ∷ 100 ∷ 115 ∷ 58 ∷ 58 ∷ 83 ∷ 101 ∷ 114 ∷ 105 ∷ 97 ∷ 108 ∷ [])
+          (Syntax.tcons (Syntax.tyInt Syntax.w32) Syntax.tnil)) Syntax.tnil))),
     ) ∷ (
       4,
-      Rows.any-gone (Syntax.tyStruct (99 ∷ 111 ∷ 110 ∷ 101
-          ∷ 99 ∷ 116 ∷ 58 ∷ 58 ∷ 67 ∷ 111 ∷ 110 ∷ 101 ∷ 99 ∷ 116 ∷ []) (Syntax.tcons (Syntax.tyStruct (102 ∷ 105 ∷ 101 ∷ 108 ∷ 100 ∷ 115 ∷ 58 ∷ 58 ∷ 83 ∷ 101 ∷ 114 ∷
-          105 ∷ 97 ∷ 108 ∷ []) (Syntax.tcons (Syntax.tyInt Syntax.w32) Syntax.tnil)) (Syntax.tcons (Syntax.tyStruct (102 ∷ 105 ∷ 101 ∷ 108 ∷ 100 ∷ 115 ∷ 58 ∷ 58 ∷ 83
-          ∷ 101 ∷ 114 ∷ 105 ∷ 97 ∷ 108 ∷ []) (Syntax.tcons (Syntax.tyInt Syntax.w32) Syntax.tnil)) (Syntax.tcons (Syntax.tyStruct (102 ∷ 105 ∷ 101 ∷ 108 ∷ 100 ∷ 115
-          ∷ 58 ∷ 58 ∷ 83 ∷ 101 ∷ 114 ∷ 105 ∷ 97 ∷ 108 ∷ []) (Syntax.tcons (Syntax.tyInt Syntax.w32) Syntax.tnil)) (Syntax.tcons (Syntax.tyStruct (102 ∷ 105 ∷ 101 ∷
-          108 ∷ 100 ∷ 115 ∷ 58 ∷ 58 ∷ 83 ∷ 101 ∷ 114 ∷ 105 ∷ 97 ∷ 108 ∷ []) (Syntax.tcons (Syntax.tyInt Syntax.w32) Syntax.tnil)) (Syntax.tcons (Syntax.tyStruct (102
-          ∷ 105 ∷ 101 ∷ 108 ∷ 100 ∷ 115 ∷ 58 ∷ 58 ∷ 83 ∷ 101 ∷ 114 ∷ 105 ∷ 97 ∷ 108 ∷ []) (Syntax.tcons (Syntax.tyInt Syntax.w32) Syntax.tnil)) Syntax.tnil)))))),
+      Rows.any-gone (Syntax.tyStruct (99 ∷ 111 ∷ 110 ∷ 101 ∷ 99 ∷ 116 ∷ 58 ∷ 58 ∷ 67
+          ∷ 111 ∷ 110 ∷ 101 ∷ 99 ∷ 116 ∷ []) (Syntax.tcons (Syntax.tyStruct (102 ∷ 105 ∷ 101 ∷ 108 ∷ 100 ∷ 115 ∷ 58 ∷ 58 ∷ 83 ∷ 101 ∷ 114 ∷ 105 ∷ 97 ∷ 108 ∷ [])
+          (Syntax.tcons (Syntax.tyInt Syntax.w32) Syntax.tnil)) (Syntax.tcons (Syntax.tyStruct (102 ∷ 105 ∷ 101 ∷ 108 ∷ 100 ∷ 115 ∷ 58 ∷ 58 ∷ 83 ∷ 101 ∷ 114 ∷ 105 ∷
+          97 ∷ 108 ∷ []) (Syntax.tcons (Syntax.tyInt Syntax.w32) Syntax.tnil)) (Syntax.tcons (Syntax.tyStruct (102 ∷ 105 ∷ 101 ∷ 108 ∷ 100 ∷ 115 ∷ 58 ∷ 58 ∷ 83 ∷ 101
+          ∷ 114 ∷ 105 ∷ 97 ∷ 108 ∷ []) (Syntax.tcons (Syntax.tyInt Syntax.w32) Syntax.tnil)) (Syntax.tcons (Syntax.tyStruct (102 ∷ 105 ∷ 101 ∷ 108 ∷ 100 ∷ 115 ∷ 58 ∷
+          58 ∷ 83 ∷ 101 ∷ 114 ∷ 105 ∷ 97 ∷ 108 ∷ []) (Syntax.tcons (Syntax.tyInt Syntax.w32) Syntax.tnil)) (Syntax.tcons (Syntax.tyStruct (102 ∷ 105 ∷ 101 ∷ 108 ∷
+          100 ∷ 115 ∷ 58 ∷ 58 ∷ 83 ∷ 101 ∷ 114 ∷ 105 ∷ 97 ∷ 108 ∷ []) (Syntax.tcons (Syntax.tyInt Syntax.w32) Syntax.tnil)) Syntax.tnil)))))),
     ) ∷ (
       5,
-      Rows.any-gone (Syntax.tyStruct (102 ∷ 105 ∷ 101 ∷ 108 ∷ 100 ∷ 115 ∷ 58 ∷ 58 ∷ 83 ∷ 101 ∷ 114 ∷ 105 ∷ 97 ∷ 108 ∷ []) (Syntax.tcons (Syntax.tyInt
-          Syntax.w32) Syntax.tnil)),
+      Rows.any-gone
+          (Syntax.tyStruct (102 ∷ 105 ∷ 101 ∷ 108 ∷ 100 ∷ 115 ∷ 58 ∷ 58 ∷ 83 ∷ 101 ∷ 114 ∷ 105 ∷ 97 ∷ 108 ∷ []) (Syntax.tcons (Syntax.tyInt Syntax.w32)
+          Syntax.tnil)),
     ) ∷ (
       6,
-      Rows.any-gone (Syntax.tyStruct (102 ∷ 105 ∷ 101 ∷ 108 ∷ 100 ∷ 115 ∷ 58 ∷ 58 ∷ 83 ∷ 101 ∷ 114 ∷ 105 ∷ 97 ∷ 108 ∷ [])
-          (Syntax.tcons (Syntax.tyInt Syntax.w32) Syntax.tnil)),
+      Rows.any-gone (Syntax.tyStruct (102 ∷ 105 ∷ 101 ∷ 108 ∷ 100 ∷ 115 ∷ 58 ∷ 58 ∷ 83 ∷ 101 ∷ 114 ∷ 105 ∷ 97 ∷ 108 ∷ []) (Syntax.tcons
+          (Syntax.tyInt Syntax.w32) Syntax.tnil)),
     ) ∷ (
       7,
-      Rows.any-gone (Syntax.tyStruct (102 ∷ 105 ∷ 101 ∷ 108 ∷ 100 ∷ 115 ∷ 58 ∷ 58 ∷ 83 ∷ 101 ∷ 114 ∷
-          105 ∷ 97 ∷ 108 ∷ []) (Syntax.tcons (Syntax.tyInt Syntax.w32) Syntax.tnil)),
+      Rows.any-gone (Syntax.tyStruct (102 ∷ 105 ∷ 101 ∷ 108 ∷ 100 ∷ 115 ∷ 58 ∷ 58 ∷ 83 ∷ 101 ∷ 114 ∷ 105 ∷ 97 ∷
+          108 ∷ []) (Syntax.tcons (Syntax.tyInt Syntax.w32) Syntax.tnil)),
     ) ∷ (
       8,
-      Rows.any-gone (Syntax.tyStruct (102 ∷ 105 ∷ 101 ∷ 108 ∷ 100 ∷ 115 ∷ 58 ∷
-          58 ∷ 83 ∷ 101 ∷ 114 ∷ 105 ∷ 97 ∷ 108 ∷ []) (Syntax.tcons (Syntax.tyInt Syntax.w32) Syntax.tnil)),
+      Rows.any-gone (Syntax.tyStruct (102 ∷ 105 ∷ 101 ∷ 108 ∷ 100 ∷ 115 ∷ 58 ∷ 58 ∷ 83 ∷
+          101 ∷ 114 ∷ 105 ∷ 97 ∷ 108 ∷ []) (Syntax.tcons (Syntax.tyInt Syntax.w32) Syntax.tnil)),
     ) ∷ (
       9,
-      Rows.any-gone (Syntax.tyStruct (102 ∷ 105 ∷ 101 ∷
-          108 ∷ 100 ∷ 115 ∷ 58 ∷ 58 ∷ 83 ∷ 101 ∷ 114 ∷ 105 ∷ 97 ∷ 108 ∷ []) (Syntax.tcons (Syntax.tyInt Syntax.w32) Syntax.tnil)),
+      Rows.any-gone (Syntax.tyStruct (102 ∷ 105 ∷ 101 ∷ 108 ∷ 100 ∷
+          115 ∷ 58 ∷ 58 ∷ 83 ∷ 101 ∷ 114 ∷ 105 ∷ 97 ∷ 108 ∷ []) (Syntax.tcons (Syntax.tyInt Syntax.w32) Syntax.tnil)),
     ) ∷ (
       10,
       Rows.any-gone (Syntax.tyInt
@@ -1535,11 +1684,10 @@ t38 = (0, Rows.whole (Declared.row (Apart.apartT Sought.the-type))) ∷ (1, Rows
     ) ∷ (
       11,
       Rows.any-gone (Syntax.tyStruct (115 ∷ 101 ∷ 97 ∷ 114 ∷ 99 ∷ 104 ∷ 58 ∷ 58 ∷ 78 ∷ 101 ∷ 97 ∷ 114 ∷ []) (Syntax.tcons (Syntax.tyInt
-          Syntax.w64) (Syntax.tcons (Syntax.tyInt Syntax.w32) Syntax.tnil))),
-    ) ∷ (12, Rows.any-gone Syntax.tyBool) ∷ (13, Rows.any-gone Syntax.tyBool) ∷ (
-      14,
-      Rows.any-gone Syntax.tyBool,
-    ) ∷ (15, Rows.any-gone Syntax.tyBool) ∷ []
+          Syntax.w64) (Syntax.tcons (Syntax.tyStruct (102 ∷ 105 ∷ 101 ∷ 108 ∷ 100 ∷ 115 ∷ 58 ∷ 58 ∷ 83 ∷ 101 ∷ 114 ∷ 105 ∷ 97 ∷ 108 ∷ []) (Syntax.tcons (Syntax.tyInt
+          Syntax.w32) Syntax.tnil)) Syntax.tnil))),
+    ) ∷ (12, Rows.any-gone Syntax.tyBool) ∷ (13, Rows.any-gone Syntax.tyBool) ∷ (14, Rows.any-gone Syntax.tyBool) ∷
+    (15, Rows.any-gone Syntax.tyBool) ∷ []
 
 abbrev pub T0 : Row.Cx
 T0 = record { locals = List._++_ t0 t1; slots = [] }
@@ -1737,23 +1885,17 @@ module _ (claims· : Claims) where
   abbrev s6 : (bs : List.List Nat.ℕ) → Typed.Both T7 T8
   s6 = λ bs. Call.callB ps·0 r·0 (claims· .0) (claims· .1) T7 (
     record { pos = 1; ty = Syntax.tyRef (Syntax.named 0) Syntax.imm SlotAs.pointee; ref = λ x. x },
-    (Num.vAt 2 λ x. x, (record { pos = 3; st = []; d = 0; at = λ x. x }, (Num.vFld 5 (Syntax.field 0 ∷ []) 0 λ x. Serial.struct .as-values x .0, tt))),
-  )
-      10 (0 ∷ []) (Syntax.tyInt Syntax.w64)
+    (Num.vAt 2 λ x. x, (record { pos = 3; st = []; d = 0; at = λ x. x }, (record { pos = 5; st = []; d = 0; at = λ x. x }, tt))),
+  ) 10 (0 ∷ [])
+      (Syntax.tyInt Syntax.w64)
 
   abbrev s7 : (bs : List.List Nat.ℕ) → Typed.Mo T8 → Typed.Mo T9
   s7 = λ bs. Scalar.n-room T8 3 (Syntax.tyStruct (115 ∷ 101 ∷ 97 ∷ 114 ∷ 99 ∷ 104 ∷ 58 ∷ 58 ∷ 78 ∷ 101 ∷ 97 ∷ 114 ∷ []) (Syntax.tcons (Syntax.tyInt Syntax.w64)
-      (Syntax.tcons (Syntax.tyInt Syntax.w32) Syntax.tnil)))
+      (Syntax.tcons (Syntax.tyStruct (102 ∷ 105 ∷ 101 ∷ 108 ∷ 100 ∷ 115 ∷ 58 ∷ 58 ∷ 83 ∷ 101 ∷ 114 ∷ 105 ∷ 97 ∷ 108 ∷ []) (Syntax.tcons (Syntax.tyInt
+      Syntax.w32) Syntax.tnil)) Syntax.tnil)))
 
   abbrev s8 : (bs : List.List Nat.ℕ) → Typed.Mo T9 → Typed.Mo T10
-  s8 = λ bs. Make.n-struct-make (Apart.apartT Near.the-type) T9 11 λ m. (
-    m .1 .1 .1 .1 .1 .1 .1 .1 .1 .1 .0,
-    (
-      Serial.struct .as-values (m .1 .1 .1 .1 .1 .0)
-          .0,
-      tt,
-    ),
-  )
+  s8 = λ bs. Make.n-struct-make (Apart.apartT Near.the-type) T9 11 λ m. (m .1 .1 .1 .1 .1 .1 .1 .1 .1 .1 .0, (m .1 .1 .1 .1 .1 .0, tt))
 
   abbrev s9 : (bs : List.List Nat.ℕ) → Typed.Both T10 T11
   s9 = λ bs. Call.callB ps·1 r·1 (claims· .2) (claims· .3) T10 (
@@ -1762,7 +1904,7 @@ module _ (claims· : Claims) where
       ty = Syntax.tyRef (Syntax.named 0) Syntax.imm SlotAs.pointee;
       ref = λ x. x;
     },
-    (Num.vAt 2 λ x. x, (Num.vAt 10 λ x. x, (Num.vFld 5 (Syntax.field 0 ∷ []) 0 λ x. Serial.struct .as-values x .0, tt))),
+    (Num.vAt 2 λ x. x, (Num.vAt 10 λ x. x, (record { pos = 5; st = []; d = 0; at = λ x. x }, tt))),
   ) 12 (0 ∷ []) Syntax.tyBool
 
   abbrev s10 : (bs : List.List Nat.ℕ) → Typed.Mo T11 → Typed.Mo T12
@@ -1779,17 +1921,9 @@ module _ (claims· : Claims) where
       ty = Syntax.tyRef (Syntax.named 0) Syntax.imm SlotAs.pointee;
       ref = λ x. x;
     },
-    (
-      Num.vAt 2 λ x. x,
-      (
-        record { pos = 11; st = []; d = 0; at = λ x. x },
-        (
-          Num.vFld 6 (Syntax.field 0 ∷ []) 0 λ x. Serial.struct .as-values x .0,
-          tt,
-        ),
-      ),
-    ),
-  ) 13 (0 ∷ []) Syntax.tyBool
+    (Num.vAt 2 λ x. x, (record { pos = 11; st = []; d = 0; at = λ x. x }, (record { pos = 6; st = []; d = 0; at = λ x. x }, tt))),
+  ) 13 (0 ∷ [])
+      Syntax.tyBool
 
   abbrev s13 : (bs : List.List Nat.ℕ) → Typed.Mo T14 → Typed.Mo T15
   s13 = λ bs. Scalar.n-room T14 6 (Syntax.tyStruct (102 ∷ 105 ∷ 101 ∷ 108 ∷ 100 ∷ 115 ∷ 58 ∷ 58 ∷ 83 ∷ 101 ∷ 114 ∷ 105 ∷ 97 ∷ 108 ∷ []) (Syntax.tcons
@@ -1802,17 +1936,9 @@ module _ (claims· : Claims) where
       ty = Syntax.tyRef (Syntax.named 0) Syntax.imm SlotAs.pointee;
       ref = λ x. x;
     },
-    (
-      Num.vAt 2 λ x. x,
-      (
-        record { pos = 11; st = []; d = 0; at = λ x. x },
-        (
-          Num.vFld 7 (Syntax.field 0 ∷ []) 0 λ x. Serial.struct .as-values x .0,
-          tt,
-        ),
-      ),
-    ),
-  ) 14 (0 ∷ []) Syntax.tyBool
+    (Num.vAt 2 λ x. x, (record { pos = 11; st = []; d = 0; at = λ x. x }, (record { pos = 7; st = []; d = 0; at = λ x. x }, tt))),
+  ) 14 (0 ∷ [])
+      Syntax.tyBool
 
   abbrev s15 : (bs : List.List Nat.ℕ) → Typed.Mo T16 → Typed.Mo T17
   s15 = λ bs. Scalar.n-room T16 7 (Syntax.tyStruct (102 ∷ 105 ∷ 101 ∷ 108 ∷ 100 ∷ 115 ∷ 58 ∷ 58 ∷ 83 ∷ 101 ∷ 114 ∷ 105 ∷ 97 ∷ 108 ∷ []) (Syntax.tcons
@@ -1825,17 +1951,9 @@ module _ (claims· : Claims) where
       ty = Syntax.tyRef (Syntax.named 0) Syntax.imm SlotAs.pointee;
       ref = λ x. x;
     },
-    (
-      Num.vAt 2 λ x. x,
-      (
-        record { pos = 11; st = []; d = 0; at = λ x. x },
-        (
-          Num.vFld 8 (Syntax.field 0 ∷ []) 0 λ x. Serial.struct .as-values x .0,
-          tt,
-        ),
-      ),
-    ),
-  ) 15 (0 ∷ []) Syntax.tyBool
+    (Num.vAt 2 λ x. x, (record { pos = 11; st = []; d = 0; at = λ x. x }, (record { pos = 8; st = []; d = 0; at = λ x. x }, tt))),
+  ) 15 (0 ∷ [])
+      Syntax.tyBool
 
   abbrev s17 : (bs : List.List Nat.ℕ) → Typed.Mo T18 → Typed.Mo T19
   s17 = λ bs. Scalar.n-room T18 8 (Syntax.tyStruct (102 ∷ 105 ∷ 101 ∷ 108 ∷ 100 ∷ 115 ∷ 58 ∷ 58 ∷ 83 ∷ 101 ∷ 114 ∷ 105 ∷ 97 ∷ 108 ∷ []) (Syntax.tcons
@@ -1848,17 +1966,9 @@ module _ (claims· : Claims) where
       ty = Syntax.tyRef (Syntax.named 0) Syntax.imm SlotAs.pointee;
       ref = λ x. x;
     },
-    (
-      Num.vAt 2 λ x. x,
-      (
-        record { pos = 11; st = []; d = 0; at = λ x. x },
-        (
-          Num.vFld 9 (Syntax.field 0 ∷ []) 0 λ x. Serial.struct .as-values x .0,
-          tt,
-        ),
-      ),
-    ),
-  ) 16 (0 ∷ []) Syntax.tyBool
+    (Num.vAt 2 λ x. x, (record { pos = 11; st = []; d = 0; at = λ x. x }, (record { pos = 9; st = []; d = 0; at = λ x. x }, tt))),
+  ) 16 (0 ∷ [])
+      Syntax.tyBool
 
   abbrev s19 : (bs : List.List Nat.ℕ) → Typed.Mo T20 → Typed.Mo T21
   s19 = λ bs. Scalar.n-room T20 9 (Syntax.tyStruct (102 ∷ 105 ∷ 101 ∷ 108 ∷ 100 ∷ 115 ∷ 58 ∷ 58 ∷ 83 ∷ 101 ∷ 114 ∷ 105 ∷ 97 ∷ 108 ∷ []) (Syntax.tcons
@@ -1878,9 +1988,9 @@ module _ (claims· : Claims) where
 
   abbrev s24 : (bs : List.List Nat.ℕ) → Typed.Mo T25 → Typed.Mo T26
   s24 = λ bs. Make.n-struct-make (Apart.apartT Sought.the-type) T25 0 λ m. (
-    m .1 .1 .1 .1 .1 .1 .1 .1 .1 .1 .1 .1 .1 .1 .1 .1 .1 .1 .1 .1 .0,
+    m .1 .1 .1 .1 .1 .1 .1 .1 .1 .1 .1 .0,
     (
-      m .1 .1 .1 .1 .1
+      m .1 .1 .1 .1 .1 .1 .1 .1 .1 .1 .1 .1 .1 .1
           .1 .1 .1 .1 .1 .1 .0,
       tt,
     ),
@@ -1891,7 +2001,8 @@ module _ (claims· : Claims) where
 
   abbrev s26 : (bs : List.List Nat.ℕ) → Typed.Mo T27 → Typed.Mo T28
   s26 = λ bs. Scalar.n-room T27 11 (Syntax.tyStruct (115 ∷ 101 ∷ 97 ∷ 114 ∷ 99 ∷ 104 ∷ 58 ∷ 58 ∷ 78 ∷ 101 ∷ 97 ∷ 114 ∷ []) (Syntax.tcons (Syntax.tyInt
-      Syntax.w64) (Syntax.tcons (Syntax.tyInt Syntax.w32) Syntax.tnil)))
+      Syntax.w64) (Syntax.tcons (Syntax.tyStruct (102 ∷ 105 ∷ 101 ∷ 108 ∷ 100 ∷ 115 ∷ 58 ∷ 58 ∷ 83 ∷ 101 ∷ 114 ∷ 105 ∷ 97 ∷ 108 ∷ []) (Syntax.tcons
+      (Syntax.tyInt Syntax.w32) Syntax.tnil)) Syntax.tnil)))
 
   abbrev s27 : (bs : List.List Nat.ℕ) → Typed.Mo T28 → Typed.Mo T29
   s27 = λ bs. Scalar.n-room T28 12 Syntax.tyBool
@@ -2242,9 +2353,11 @@ module _ (claims· : Claims) where
 
             d12 : Typed.Typed 𝓤 H A 𝓣 E G27 b17 Δ0 (at12 bs)
             d12 = Typed.g-pre 𝓤 H A W 𝓣 E G27 G28 b17 Δ0 (Typed.pass T27 T28 (s26 bs)) (at11 bs) (Scalar.g-room 𝓤 H A W E G27 11 (Syntax.tyStruct (115 ∷ 101 ∷ 97
-                ∷ 114 ∷ 99 ∷ 104 ∷ 58 ∷ 58 ∷ 78 ∷ 101 ∷ 97 ∷ 114 ∷ []) (Syntax.tcons (Syntax.tyInt Syntax.w64) (Syntax.tcons (Syntax.tyInt Syntax.w32)
-                Syntax.tnil))) (Local.room-whole 𝓤 H A W (Declared.row Near.the-type) (Syntax.tyStruct (115 ∷ 101 ∷ 97 ∷ 114 ∷ 99 ∷ 104 ∷ 58 ∷ 58 ∷ 78 ∷ 101 ∷ 97
-                ∷ 114 ∷ []) (Syntax.tcons (Syntax.tyInt Syntax.w64) (Syntax.tcons (Syntax.tyInt Syntax.w32) Syntax.tnil))) Path'.refl)) d11
+                ∷ 114 ∷ 99 ∷ 104 ∷ 58 ∷ 58 ∷ 78 ∷ 101 ∷ 97 ∷ 114 ∷ []) (Syntax.tcons (Syntax.tyInt Syntax.w64) (Syntax.tcons (Syntax.tyStruct (102 ∷ 105 ∷ 101 ∷
+                108 ∷ 100 ∷ 115 ∷ 58 ∷ 58 ∷ 83 ∷ 101 ∷ 114 ∷ 105 ∷ 97 ∷ 108 ∷ []) (Syntax.tcons (Syntax.tyInt Syntax.w32) Syntax.tnil)) Syntax.tnil)))
+                (Local.room-whole 𝓤 H A W (Declared.row Near.the-type) (Syntax.tyStruct (115 ∷ 101 ∷ 97 ∷ 114 ∷ 99 ∷ 104 ∷ 58 ∷ 58 ∷ 78 ∷ 101 ∷ 97 ∷ 114 ∷ [])
+                (Syntax.tcons (Syntax.tyInt Syntax.w64) (Syntax.tcons (Syntax.tyStruct (102 ∷ 105 ∷ 101 ∷ 108 ∷ 100 ∷ 115 ∷ 58 ∷ 58 ∷ 83 ∷ 101 ∷ 114 ∷ 105 ∷ 97 ∷
+                108 ∷ []) (Syntax.tcons (Syntax.tyInt Syntax.w32) Syntax.tnil)) Syntax.tnil))) Path'.refl)) d11
 
             d13 : Typed.Typed 𝓤 H A 𝓣 E G26 b17 Δ0 (at13 bs)
             d13 = Typed.g-pre 𝓤 H A W 𝓣 E G26 G27 b17 Δ0 (Typed.pass T26 T27 (s25 bs)) (at12 bs) (Scalar.g-room 𝓤 H A W E G26 10 (Syntax.tyInt Syntax.w64)
@@ -2252,35 +2365,45 @@ module _ (claims· : Claims) where
 
             d14 : Typed.Typed 𝓤 H A 𝓣 E G25 b18 Δ0 (at14 bs)
             d14 = Typed.s-seq 𝓤 H A W 𝓣 E G25 G26 b16 b17 Δ0 (Typed.pass T25 T26 (s24 bs)) (at13 bs) (Make.t-struct-make 𝓤 H A W E 𝓣 (Apart.apartT
-                Sought.the-type) Laws'3.the-laws Laws'3.the-plain G25 0 (Scalar.oAt 20 Syntax.tyBool (Row.valS Row.sBool) ∷ (Scalar.oAt 11 (Syntax.tyStruct (115
-                ∷ 101 ∷ 97 ∷ 114 ∷ 99 ∷ 104 ∷ 58 ∷ 58 ∷ 78 ∷ 101 ∷ 97 ∷ 114 ∷ []) (Syntax.tcons (Syntax.tyInt Syntax.w64) (Syntax.tcons (Syntax.tyInt Syntax.w32)
-                Syntax.tnil))) (Laws'4.val Near.the-type Laws''.the-laws)) ∷ []) (λ m. (
-                  m .1 .1 .1 .1 .1 .1 .1 .1 .1 .1 .1 .1 .1 .1 .1 .1 .1 .1 .1 .1 .0,
+                Sought.the-type) Laws'3.the-laws Laws'3.the-plain G25 0 ((Scalar.oAt 11 (Syntax.tyStruct (115 ∷ 101 ∷ 97 ∷ 114 ∷ 99 ∷ 104 ∷ 58 ∷ 58 ∷ 78 ∷ 101 ∷
+                97 ∷ 114 ∷ []) (Syntax.tcons (Syntax.tyInt Syntax.w64) (Syntax.tcons (Syntax.tyStruct (102 ∷ 105 ∷ 101 ∷ 108 ∷ 100 ∷ 115 ∷ 58 ∷ 58 ∷ 83 ∷ 101 ∷
+                114 ∷ 105 ∷ 97 ∷ 108 ∷ []) (Syntax.tcons (Syntax.tyInt Syntax.w32) Syntax.tnil)) Syntax.tnil))) (Laws'4.val Near.the-type Laws''.the-laws)) ∷
+                Scalar.oAt 20 Syntax.tyBool (Row.valS Row.sBool) ∷ []) (λ m. (
+                  m .1 .1 .1 .1 .1 .1 .1 .1 .1 .1 .1 .0,
                   (
-                    m .1
-                        .1 .1 .1 .1 .1 .1 .1 .1 .1 .1 .0,
+                    m .1 .1 .1 .1 .1 .1 .1 .1 .1 .1 .1 .1 .1 .1
+                        .1 .1 .1 .1 .1 .1 .0,
                     tt,
                   ),
-                )) (Reads'.room-gone 𝓤 H A (Syntax.tyStruct (115 ∷ 101 ∷ 97 ∷ 114 ∷ 99 ∷ 104 ∷ 58 ∷ 58 ∷ 83 ∷ 111 ∷ 117 ∷
-                103 ∷ 104 ∷ 116 ∷ []) (Syntax.tcons Syntax.tyBool (Syntax.tcons (Syntax.tyStruct (115 ∷ 101 ∷ 97 ∷ 114 ∷ 99 ∷ 104 ∷ 58 ∷ 58 ∷ 78 ∷ 101 ∷ 97 ∷ 114
-                ∷ []) (Syntax.tcons (Syntax.tyInt Syntax.w64) (Syntax.tcons (Syntax.tyInt Syntax.w32) Syntax.tnil))) Syntax.tnil)))) (
+                )) (Reads'.room-gone 𝓤 H A (Syntax.tyStruct (115 ∷ 101 ∷ 97 ∷ 114 ∷ 99 ∷ 104 ∷ 58 ∷ 58 ∷ 83 ∷ 111 ∷ 117 ∷ 103 ∷ 104 ∷
+                116 ∷ []) (Syntax.tcons (Syntax.tyStruct (115 ∷ 101 ∷ 97 ∷ 114 ∷ 99 ∷ 104 ∷ 58 ∷ 58 ∷ 78 ∷ 101 ∷ 97 ∷ 114 ∷ []) (Syntax.tcons (Syntax.tyInt
+                Syntax.w64) (Syntax.tcons (Syntax.tyStruct (102 ∷ 105 ∷ 101 ∷ 108 ∷ 100 ∷ 115 ∷ 58 ∷ 58 ∷ 83 ∷ 101 ∷ 114 ∷ 105 ∷ 97 ∷ 108 ∷ []) (Syntax.tcons
+                (Syntax.tyInt Syntax.w32) Syntax.tnil)) Syntax.tnil))) (Syntax.tcons Syntax.tyBool Syntax.tnil)))) (
                   (
-                    Scalar.reads-sc 𝓤 H A W
-                        Row.sBool,
+                    Reads.reads-struct 𝓤 H A W Near.the-type
+                        Laws''.the-laws,
                     Path'.refl,
                   ),
-                  ((Reads.reads-struct 𝓤 H A W Near.the-type Laws''.the-laws, Path'.refl), tt),
-                ) Path'.refl (λ u. Path'.refl) λ m.
-                Make.is-wt (Apart.apartT Sought.the-type) Laws'3.the-laws (
-                  Make.bool-wt,
-                  (
-                    Make.struct-wt Near.the-type Laws''.the-laws (
-                      Make.u64-wt,
-                      (Make.u32-wt, tt),
+                  ((Scalar.reads-sc 𝓤 H A W Row.sBool, Path'.refl), tt),
+                ) Path'.refl (λ u. Path'.refl) λ m. Make.is-wt (Apart.apartT
+                Sought.the-type) Laws'3.the-laws (
+                  Make.struct-wt Near.the-type Laws''.the-laws (
+                    Make.u64-wt,
+                    (
+                      Make.struct-wt Serial.the-type Laws'.the-laws
+                          (Make.u32-wt, tt),
+                      tt,
                     ),
+                  ),
+                  (Make.bool-wt, tt),
+                ) (
+                  m .1 .1 .1 .1 .1 .1 .1 .1 .1 .1 .1 .0,
+                  (
+                    m .1 .1 .1 .1 .1 .1 .1 .1 .1 .1 .1 .1 .1 .1 .1 .1 .1 .1 .1
+                        .1 .0,
                     tt,
                   ),
-                ) (m .1 .1 .1 .1 .1 .1 .1 .1 .1 .1 .1 .1 .1 .1 .1 .1 .1 .1 .1 .1 .0, (m .1 .1 .1 .1 .1 .1 .1 .1 .1 .1 .1 .0, tt))) d13
+                )) d13
 
             d15 : Typed.Typed 𝓤 H A 𝓣 E G24 b19 Δ0 (at15 bs)
             d15 = Typed.s-seq 𝓤 H A W 𝓣 E G24 G25 b15 b18 Δ0 (Typed.both (s23 bs)) (at14 bs) (Plain.t-call-plain 𝓤 H A W 𝓣 0 ps·3 r·3 (claims· .6) (claims· .7)
@@ -2321,20 +2444,11 @@ module _ (claims· : Claims) where
                     ref = λ
                         x. x;
                   },
-                  (
-                    Num.vAt 2 λ x. x,
-                    (
-                      record { pos = 11; st = []; d = 0; at = λ x. x },
-                      (
-                        Num.vFld 9 (Syntax.field 0 ∷ []) 0 λ x. Serial.struct
-                            .as-values x .0,
-                        tt,
-                      ),
-                    ),
-                  ),
-                ) 16 (0 ∷ []) (Call.sub-id 𝓤 H A W (G19 .slots)) (
-                  ShrSlice.spares-sslice 𝓤 H A W SlotAs.row (Syntax.tyRef (Syntax.named 0)
-                      Syntax.imm SlotAs.pointee) 0,
+                  (Num.vAt 2 λ x. x, (record { pos = 11; st = []; d = 0; at = λ x. x }, (record { pos = 9; st = []; d = 0; at = λ x. x }, tt))),
+                )
+                16 (0 ∷ []) (Call.sub-id 𝓤 H A W (G19 .slots)) (
+                  ShrSlice.spares-sslice 𝓤 H A W SlotAs.row (Syntax.tyRef (Syntax.named 0) Syntax.imm
+                      SlotAs.pointee) 0,
                   Shared.reads-sslice 𝓤 H A W SlotAs.row (Syntax.tyRef (Syntax.named 0) Syntax.imm SlotAs.pointee) 0,
                   Path'.refl,
                   (
@@ -2346,11 +2460,19 @@ module _ (claims· : Claims) where
                             told. Local.mem-whole 𝓤 H A W (Declared.row Near.the-type) ρ) λ ρ told. Local.whole-mem 𝓤 H A W (Declared.row Near.the-type) ρ,
                         Path'.refl,
                       ),
-                      ((Reads.reads-field 𝓤 H A W Serial.the-type Laws'.the-laws 0 (Syntax.tyInt Syntax.w32) 0 Path'.refl, Path'.refl), tt),
+                      (
+                        (
+                          Yields.yields-copy 𝓤 H A W (λ ρ. Unit) (Declared.row Serial.the-type) Path'.refl (Copies.cStruct Serial.the-type Laws'.the-laws Laws'.the-copy
+                              .copy 𝓤 H A W) (Rows.whole (Declared.row Serial.the-type)) (λ x. x) (λ x. x) (λ ρ told. Local.mem-whole 𝓤 H A W (Declared.row Serial.the-type) ρ)
+                              λ ρ told. Local.whole-mem 𝓤 H A W (Declared.row Serial.the-type) ρ,
+                          Path'.refl,
+                        ),
+                        tt,
+                      ),
                     ),
                   ),
-                ) (Reads'.room-gone 𝓤 H A
-                Syntax.tyBool) (tt, tt) Path'.refl) d19
+                ) (Reads'.room-gone 𝓤 H A Syntax.tyBool) (tt, tt)
+                Path'.refl) d19
 
             d21 : Typed.Typed 𝓤 H A 𝓣 E G18 b23 Δ0 (at21 bs)
             d21 = Typed.g-pre 𝓤 H A W 𝓣 E G18 G19 b23 Δ0 (Typed.pass T18 T19 (s17 bs)) (at20 bs) (Scalar.g-room 𝓤 H A W E G18 8 (Syntax.tyStruct (102 ∷ 105 ∷ 101
@@ -2367,20 +2489,11 @@ module _ (claims· : Claims) where
                     ref = λ
                         x. x;
                   },
-                  (
-                    Num.vAt 2 λ x. x,
-                    (
-                      record { pos = 11; st = []; d = 0; at = λ x. x },
-                      (
-                        Num.vFld 8 (Syntax.field 0 ∷ []) 0 λ x. Serial.struct
-                            .as-values x .0,
-                        tt,
-                      ),
-                    ),
-                  ),
-                ) 15 (0 ∷ []) (Call.sub-id 𝓤 H A W (G17 .slots)) (
-                  ShrSlice.spares-sslice 𝓤 H A W SlotAs.row (Syntax.tyRef (Syntax.named 0)
-                      Syntax.imm SlotAs.pointee) 0,
+                  (Num.vAt 2 λ x. x, (record { pos = 11; st = []; d = 0; at = λ x. x }, (record { pos = 8; st = []; d = 0; at = λ x. x }, tt))),
+                )
+                15 (0 ∷ []) (Call.sub-id 𝓤 H A W (G17 .slots)) (
+                  ShrSlice.spares-sslice 𝓤 H A W SlotAs.row (Syntax.tyRef (Syntax.named 0) Syntax.imm
+                      SlotAs.pointee) 0,
                   Shared.reads-sslice 𝓤 H A W SlotAs.row (Syntax.tyRef (Syntax.named 0) Syntax.imm SlotAs.pointee) 0,
                   Path'.refl,
                   (
@@ -2392,11 +2505,19 @@ module _ (claims· : Claims) where
                             told. Local.mem-whole 𝓤 H A W (Declared.row Near.the-type) ρ) λ ρ told. Local.whole-mem 𝓤 H A W (Declared.row Near.the-type) ρ,
                         Path'.refl,
                       ),
-                      ((Reads.reads-field 𝓤 H A W Serial.the-type Laws'.the-laws 0 (Syntax.tyInt Syntax.w32) 0 Path'.refl, Path'.refl), tt),
+                      (
+                        (
+                          Yields.yields-copy 𝓤 H A W (λ ρ. Unit) (Declared.row Serial.the-type) Path'.refl (Copies.cStruct Serial.the-type Laws'.the-laws Laws'.the-copy
+                              .copy 𝓤 H A W) (Rows.whole (Declared.row Serial.the-type)) (λ x. x) (λ x. x) (λ ρ told. Local.mem-whole 𝓤 H A W (Declared.row Serial.the-type) ρ)
+                              λ ρ told. Local.whole-mem 𝓤 H A W (Declared.row Serial.the-type) ρ,
+                          Path'.refl,
+                        ),
+                        tt,
+                      ),
                     ),
                   ),
-                ) (Reads'.room-gone 𝓤 H A
-                Syntax.tyBool) (tt, tt) Path'.refl) d21
+                ) (Reads'.room-gone 𝓤 H A Syntax.tyBool) (tt, tt)
+                Path'.refl) d21
 
             d23 : Typed.Typed 𝓤 H A 𝓣 E G16 b24 Δ0 (at23 bs)
             d23 = Typed.g-pre 𝓤 H A W 𝓣 E G16 G17 b24 Δ0 (Typed.pass T16 T17 (s15 bs)) (at22 bs) (Scalar.g-room 𝓤 H A W E G16 7 (Syntax.tyStruct (102 ∷ 105 ∷ 101
@@ -2413,20 +2534,11 @@ module _ (claims· : Claims) where
                     ref = λ
                         x. x;
                   },
-                  (
-                    Num.vAt 2 λ x. x,
-                    (
-                      record { pos = 11; st = []; d = 0; at = λ x. x },
-                      (
-                        Num.vFld 7 (Syntax.field 0 ∷ []) 0 λ x. Serial.struct
-                            .as-values x .0,
-                        tt,
-                      ),
-                    ),
-                  ),
-                ) 14 (0 ∷ []) (Call.sub-id 𝓤 H A W (G15 .slots)) (
-                  ShrSlice.spares-sslice 𝓤 H A W SlotAs.row (Syntax.tyRef (Syntax.named 0)
-                      Syntax.imm SlotAs.pointee) 0,
+                  (Num.vAt 2 λ x. x, (record { pos = 11; st = []; d = 0; at = λ x. x }, (record { pos = 7; st = []; d = 0; at = λ x. x }, tt))),
+                )
+                14 (0 ∷ []) (Call.sub-id 𝓤 H A W (G15 .slots)) (
+                  ShrSlice.spares-sslice 𝓤 H A W SlotAs.row (Syntax.tyRef (Syntax.named 0) Syntax.imm
+                      SlotAs.pointee) 0,
                   Shared.reads-sslice 𝓤 H A W SlotAs.row (Syntax.tyRef (Syntax.named 0) Syntax.imm SlotAs.pointee) 0,
                   Path'.refl,
                   (
@@ -2438,11 +2550,19 @@ module _ (claims· : Claims) where
                             told. Local.mem-whole 𝓤 H A W (Declared.row Near.the-type) ρ) λ ρ told. Local.whole-mem 𝓤 H A W (Declared.row Near.the-type) ρ,
                         Path'.refl,
                       ),
-                      ((Reads.reads-field 𝓤 H A W Serial.the-type Laws'.the-laws 0 (Syntax.tyInt Syntax.w32) 0 Path'.refl, Path'.refl), tt),
+                      (
+                        (
+                          Yields.yields-copy 𝓤 H A W (λ ρ. Unit) (Declared.row Serial.the-type) Path'.refl (Copies.cStruct Serial.the-type Laws'.the-laws Laws'.the-copy
+                              .copy 𝓤 H A W) (Rows.whole (Declared.row Serial.the-type)) (λ x. x) (λ x. x) (λ ρ told. Local.mem-whole 𝓤 H A W (Declared.row Serial.the-type) ρ)
+                              λ ρ told. Local.whole-mem 𝓤 H A W (Declared.row Serial.the-type) ρ,
+                          Path'.refl,
+                        ),
+                        tt,
+                      ),
                     ),
                   ),
-                ) (Reads'.room-gone 𝓤 H A
-                Syntax.tyBool) (tt, tt) Path'.refl) d23
+                ) (Reads'.room-gone 𝓤 H A Syntax.tyBool) (tt, tt)
+                Path'.refl) d23
 
             d25 : Typed.Typed 𝓤 H A 𝓣 E G14 b25 Δ0 (at25 bs)
             d25 = Typed.g-pre 𝓤 H A W 𝓣 E G14 G15 b25 Δ0 (Typed.pass T14 T15 (s13 bs)) (at24 bs) (Scalar.g-room 𝓤 H A W E G14 6 (Syntax.tyStruct (102 ∷ 105 ∷ 101
@@ -2459,20 +2579,11 @@ module _ (claims· : Claims) where
                     ref = λ
                         x. x;
                   },
-                  (
-                    Num.vAt 2 λ x. x,
-                    (
-                      record { pos = 11; st = []; d = 0; at = λ x. x },
-                      (
-                        Num.vFld 6 (Syntax.field 0 ∷ []) 0 λ x. Serial.struct
-                            .as-values x .0,
-                        tt,
-                      ),
-                    ),
-                  ),
-                ) 13 (0 ∷ []) (Call.sub-id 𝓤 H A W (G13 .slots)) (
-                  ShrSlice.spares-sslice 𝓤 H A W SlotAs.row (Syntax.tyRef (Syntax.named 0)
-                      Syntax.imm SlotAs.pointee) 0,
+                  (Num.vAt 2 λ x. x, (record { pos = 11; st = []; d = 0; at = λ x. x }, (record { pos = 6; st = []; d = 0; at = λ x. x }, tt))),
+                )
+                13 (0 ∷ []) (Call.sub-id 𝓤 H A W (G13 .slots)) (
+                  ShrSlice.spares-sslice 𝓤 H A W SlotAs.row (Syntax.tyRef (Syntax.named 0) Syntax.imm
+                      SlotAs.pointee) 0,
                   Shared.reads-sslice 𝓤 H A W SlotAs.row (Syntax.tyRef (Syntax.named 0) Syntax.imm SlotAs.pointee) 0,
                   Path'.refl,
                   (
@@ -2484,11 +2595,19 @@ module _ (claims· : Claims) where
                             told. Local.mem-whole 𝓤 H A W (Declared.row Near.the-type) ρ) λ ρ told. Local.whole-mem 𝓤 H A W (Declared.row Near.the-type) ρ,
                         Path'.refl,
                       ),
-                      ((Reads.reads-field 𝓤 H A W Serial.the-type Laws'.the-laws 0 (Syntax.tyInt Syntax.w32) 0 Path'.refl, Path'.refl), tt),
+                      (
+                        (
+                          Yields.yields-copy 𝓤 H A W (λ ρ. Unit) (Declared.row Serial.the-type) Path'.refl (Copies.cStruct Serial.the-type Laws'.the-laws Laws'.the-copy
+                              .copy 𝓤 H A W) (Rows.whole (Declared.row Serial.the-type)) (λ x. x) (λ x. x) (λ ρ told. Local.mem-whole 𝓤 H A W (Declared.row Serial.the-type) ρ)
+                              λ ρ told. Local.whole-mem 𝓤 H A W (Declared.row Serial.the-type) ρ,
+                          Path'.refl,
+                        ),
+                        tt,
+                      ),
                     ),
                   ),
-                ) (Reads'.room-gone 𝓤 H A
-                Syntax.tyBool) (tt, tt) Path'.refl) d25
+                ) (Reads'.room-gone 𝓤 H A Syntax.tyBool) (tt, tt)
+                Path'.refl) d25
 
             d27 : Typed.Typed 𝓤 H A 𝓣 E G12 b26 Δ0 (at27 bs)
             d27 = Typed.g-pre 𝓤 H A W 𝓣 E G12 G13 b26 Δ0 (Typed.pass T12 T13 (s11 bs)) (at26 bs) (AtSlots.g-as-by 𝓤 H A W E (λ ρ. Unit) G12 11 (Rows.whole
@@ -2510,24 +2629,22 @@ module _ (claims· : Claims) where
                     ref = λ
                         x. x;
                   },
-                  (Num.vAt 2 λ x. x, (Num.vAt 10 λ x. x, (Num.vFld 5 (Syntax.field 0 ∷ []) 0 λ x. Serial.struct .as-values x .0, tt))),
-                ) 12 (0 ∷ [])
-                (Call.sub-id 𝓤 H A W (G10 .slots)) (
+                  (Num.vAt 2 λ x. x, (Num.vAt 10 λ x. x, (record { pos = 5; st = []; d = 0; at = λ x. x }, tt))),
+                ) 12 (0 ∷ []) (Call.sub-id 𝓤 H A W
+                (G10 .slots)) (
                   ShrSlice.spares-sslice 𝓤 H A W SlotAs.row (Syntax.tyRef (Syntax.named 0) Syntax.imm SlotAs.pointee) 0,
-                  Shared.reads-sslice 𝓤 H A W SlotAs.row (Syntax.tyRef (Syntax.named 0) Syntax.imm SlotAs.pointee) 0,
+                  Shared.reads-sslice 𝓤 H A W
+                      SlotAs.row (Syntax.tyRef (Syntax.named 0) Syntax.imm SlotAs.pointee) 0,
                   Path'.refl,
                   (
-                    (
-                      Scalar.reads-sc 𝓤 H A W
-                          (Row.sInt Syntax.w64),
-                      Path'.refl,
-                    ),
+                    (Scalar.reads-sc 𝓤 H A W (Row.sInt Syntax.w64), Path'.refl),
                     (
                       (Scalar.reads-sc 𝓤 H A W (Row.sInt Syntax.w64), Path'.refl),
                       (
                         (
-                          Reads.reads-field 𝓤 H A W Serial.the-type
-                              Laws'.the-laws 0 (Syntax.tyInt Syntax.w32) 0 Path'.refl,
+                          Yields.yields-copy 𝓤 H A W (λ ρ. Unit) (Declared.row Serial.the-type) Path'.refl
+                              (Copies.cStruct Serial.the-type Laws'.the-laws Laws'.the-copy .copy 𝓤 H A W) (Rows.whole (Declared.row Serial.the-type)) (λ x. x) (λ x. x) (λ ρ
+                              told. Local.mem-whole 𝓤 H A W (Declared.row Serial.the-type) ρ) λ ρ told. Local.whole-mem 𝓤 H A W (Declared.row Serial.the-type) ρ,
                           Path'.refl,
                         ),
                         tt,
@@ -2538,34 +2655,33 @@ module _ (claims· : Claims) where
 
             d30 : Typed.Typed 𝓤 H A 𝓣 E G9 b28 Δ0 (at30 bs)
             d30 = Typed.s-seq 𝓤 H A W 𝓣 E G9 G10 b6 b27 Δ0 (Typed.pass T9 T10 (s8 bs)) (at29 bs) (Make.t-struct-make 𝓤 H A W E 𝓣 (Apart.apartT Near.the-type)
-                Laws''.the-laws Laws''.the-plain G9 11 (Scalar.oAt 10 (Syntax.tyInt Syntax.w64) (Row.valS (Row.sInt Syntax.w64)) ∷ Scalar.oFld 5 (Syntax.field 0
-                ∷ []) (Syntax.tyInt Syntax.w32) 0 (Reads.fieldV Serial.the-type Laws'.the-laws 0) ∷ []) (λ m. (
-                  m .1 .1 .1 .1 .1 .1 .1 .1 .1 .1 .0,
+                Laws''.the-laws Laws''.the-plain G9 11 (Scalar.oAt 10 (Syntax.tyInt Syntax.w64) (Row.valS (Row.sInt Syntax.w64)) ∷ (Scalar.oAt 5 (Syntax.tyStruct
+                (102 ∷ 105 ∷ 101 ∷ 108 ∷ 100 ∷ 115 ∷ 58 ∷ 58 ∷ 83 ∷ 101 ∷ 114 ∷ 105 ∷ 97 ∷ 108 ∷ []) (Syntax.tcons (Syntax.tyInt Syntax.w32) Syntax.tnil))
+                (Laws'4.val Serial.the-type Laws'.the-laws)) ∷ []) (λ m. (m .1 .1 .1 .1 .1 .1 .1 .1 .1 .1 .0, (m .1 .1 .1 .1 .1 .0, tt))) (Reads'.room-gone 𝓤 H A
+                (Syntax.tyStruct (115 ∷ 101 ∷ 97 ∷ 114 ∷ 99 ∷ 104 ∷ 58 ∷ 58 ∷ 78 ∷ 101 ∷ 97 ∷ 114 ∷ []) (Syntax.tcons (Syntax.tyInt Syntax.w64) (Syntax.tcons
+                (Syntax.tyStruct (102 ∷ 105 ∷ 101 ∷ 108 ∷ 100 ∷ 115 ∷ 58 ∷ 58 ∷ 83 ∷ 101 ∷ 114 ∷ 105 ∷ 97 ∷ 108 ∷ []) (Syntax.tcons (Syntax.tyInt Syntax.w32)
+                Syntax.tnil)) Syntax.tnil)))) (
+                  (Scalar.reads-sc 𝓤 H A W (Row.sInt Syntax.w64), Path'.refl),
                   (
-                    Serial.struct
-                        .as-values (m .1 .1 .1 .1 .1 .0) .0,
+                    (
+                      Reads.reads-struct 𝓤 H A W Serial.the-type
+                          Laws'.the-laws,
+                      Path'.refl,
+                    ),
                     tt,
                   ),
-                )) (Reads'.room-gone 𝓤 H A (Syntax.tyStruct (115 ∷ 101 ∷ 97 ∷ 114 ∷ 99 ∷ 104 ∷ 58 ∷ 58 ∷ 78 ∷ 101 ∷ 97 ∷
-                114 ∷ []) (Syntax.tcons (Syntax.tyInt Syntax.w64) (Syntax.tcons (Syntax.tyInt Syntax.w32) Syntax.tnil)))) (
-                  (
-                    Scalar.reads-sc 𝓤 H A W (Row.sInt
-                        Syntax.w64),
-                    Path'.refl,
-                  ),
-                  ((Reads.reads-field 𝓤 H A W Serial.the-type Laws'.the-laws 0 (Syntax.tyInt Syntax.w32) 0 Path'.refl, Path'.refl), tt),
-                )
-                Path'.refl (λ u. Path'.refl) λ m. Make.is-wt (Apart.apartT Near.the-type) Laws''.the-laws (Make.u64-wt, (Make.u32-wt, tt)) (
-                  m .1 .1 .1 .1 .1 .1
-                      .1 .1 .1 .1 .0,
-                  (Serial.struct .as-values (m .1 .1 .1 .1 .1 .0) .0, tt),
-                )) d29
+                ) Path'.refl (λ u. Path'.refl) λ m. Make.is-wt (Apart.apartT Near.the-type) Laws''.the-laws (
+                  Make.u64-wt,
+                  (Make.struct-wt Serial.the-type Laws'.the-laws (Make.u32-wt, tt), tt),
+                ) (m .1 .1 .1 .1 .1 .1 .1 .1 .1 .1 .0, (m .1 .1 .1 .1 .1 .0, tt))) d29
 
             d31 : Typed.Typed 𝓤 H A 𝓣 E G8 b28 Δ0 (at31 bs)
             d31 = Typed.g-pre 𝓤 H A W 𝓣 E G8 G9 b28 Δ0 (Typed.pass T8 T9 (s7 bs)) (at30 bs) (Scalar.g-room 𝓤 H A W E G8 3 (Syntax.tyStruct (115 ∷ 101 ∷ 97 ∷ 114
-                ∷ 99 ∷ 104 ∷ 58 ∷ 58 ∷ 78 ∷ 101 ∷ 97 ∷ 114 ∷ []) (Syntax.tcons (Syntax.tyInt Syntax.w64) (Syntax.tcons (Syntax.tyInt Syntax.w32) Syntax.tnil)))
+                ∷ 99 ∷ 104 ∷ 58 ∷ 58 ∷ 78 ∷ 101 ∷ 97 ∷ 114 ∷ []) (Syntax.tcons (Syntax.tyInt Syntax.w64) (Syntax.tcons (Syntax.tyStruct (102 ∷ 105 ∷ 101 ∷ 108 ∷
+                100 ∷ 115 ∷ 58 ∷ 58 ∷ 83 ∷ 101 ∷ 114 ∷ 105 ∷ 97 ∷ 108 ∷ []) (Syntax.tcons (Syntax.tyInt Syntax.w32) Syntax.tnil)) Syntax.tnil)))
                 (Local.room-whole 𝓤 H A W (Declared.row Near.the-type) (Syntax.tyStruct (115 ∷ 101 ∷ 97 ∷ 114 ∷ 99 ∷ 104 ∷ 58 ∷ 58 ∷ 78 ∷ 101 ∷ 97 ∷ 114 ∷ [])
-                (Syntax.tcons (Syntax.tyInt Syntax.w64) (Syntax.tcons (Syntax.tyInt Syntax.w32) Syntax.tnil))) Path'.refl)) d30
+                (Syntax.tcons (Syntax.tyInt Syntax.w64) (Syntax.tcons (Syntax.tyStruct (102 ∷ 105 ∷ 101 ∷ 108 ∷ 100 ∷ 115 ∷ 58 ∷ 58 ∷ 83 ∷ 101 ∷ 114 ∷ 105 ∷ 97 ∷
+                108 ∷ []) (Syntax.tcons (Syntax.tyInt Syntax.w32) Syntax.tnil)) Syntax.tnil))) Path'.refl)) d30
 
             d32 : Typed.Typed 𝓤 H A 𝓣 E G7 b29 Δ0 (at32 bs)
             d32 = Typed.s-seq 𝓤 H A W 𝓣 E G7 G8 b5 b28 Δ0 (Typed.both (s6 bs)) (at31 bs) (Plain.t-call-plain 𝓤 H A W 𝓣 1 ps·0 r·0 (claims· .0) (claims· .1)
@@ -2576,36 +2692,41 @@ module _ (claims· : Claims) where
                     ref = λ x.
                         x;
                   },
+                  (Num.vAt 2 λ x. x, (record { pos = 3; st = []; d = 0; at = λ x. x }, (record { pos = 5; st = []; d = 0; at = λ x. x }, tt))),
+                ) 10
+                (0 ∷ []) (Call.sub-id 𝓤 H A W (G7 .slots)) (
+                  ShrSlice.spares-sslice 𝓤 H A W SlotAs.row (Syntax.tyRef (Syntax.named 0) Syntax.imm SlotAs.pointee)
+                      0,
+                  Shared.reads-sslice 𝓤 H A W SlotAs.row (Syntax.tyRef (Syntax.named 0) Syntax.imm SlotAs.pointee) 0,
+                  Path'.refl,
                   (
-                    Num.vAt 2 λ x. x,
                     (
-                      record { pos = 3; st = []; d = 0; at = λ x. x },
+                      Scalar.reads-sc 𝓤 H A W
+                          (Row.sInt Syntax.w64),
+                      Path'.refl,
+                    ),
+                    (
                       (
-                        Num.vFld 5 (Syntax.field 0 ∷ []) 0 λ x. Serial.struct .as-values
-                            x .0,
+                        Yields.yields-copy 𝓤 H A W (λ ρ. Unit) (Declared.row Near.the-type) Path'.refl (Copies.cStruct
+                            Near.the-type Laws''.the-laws Laws''.the-copy .copy 𝓤 H A W) (Rows.whole (Declared.row Near.the-type)) (λ x. x) (λ x. x) (λ ρ told.
+                            Local.mem-whole 𝓤 H A W (Declared.row Near.the-type) ρ) λ ρ told. Local.whole-mem 𝓤 H A W (Declared.row Near.the-type) ρ,
+                        Path'.refl,
+                      ),
+                      (
+                        (
+                          Yields.yields-copy 𝓤 H A W (λ ρ. Unit) (Declared.row Serial.the-type) Path'.refl (Copies.cStruct Serial.the-type Laws'.the-laws Laws'.the-copy
+                              .copy 𝓤 H A W) (Rows.whole (Declared.row Serial.the-type)) (λ x. x) (λ x. x) (λ ρ told. Local.mem-whole 𝓤 H A W (Declared.row Serial.the-type) ρ)
+                              λ ρ told. Local.whole-mem 𝓤 H A W (Declared.row Serial.the-type) ρ,
+                          Path'.refl,
+                        ),
                         tt,
                       ),
                     ),
                   ),
-                ) 10 (0 ∷ []) (Call.sub-id 𝓤 H A W (G7 .slots)) (
-                  ShrSlice.spares-sslice 𝓤 H A W SlotAs.row (Syntax.tyRef (Syntax.named 0) Syntax.imm
-                      SlotAs.pointee) 0,
-                  Shared.reads-sslice 𝓤 H A W SlotAs.row (Syntax.tyRef (Syntax.named 0) Syntax.imm SlotAs.pointee) 0,
-                  Path'.refl,
-                  (
-                    (Scalar.reads-sc 𝓤 H A W (Row.sInt Syntax.w64), Path'.refl),
-                    (
-                      (
-                        Yields.yields-copy 𝓤 H A W (λ ρ. Unit) (Declared.row Near.the-type) Path'.refl
-                            (Copies.cStruct Near.the-type Laws''.the-laws Laws''.the-copy .copy 𝓤 H A W) (Rows.whole (Declared.row Near.the-type)) (λ x. x) (λ x. x) (λ ρ
-                            told. Local.mem-whole 𝓤 H A W (Declared.row Near.the-type) ρ) λ ρ told. Local.whole-mem 𝓤 H A W (Declared.row Near.the-type) ρ,
-                        Path'.refl,
-                      ),
-                      ((Reads.reads-field 𝓤 H A W Serial.the-type Laws'.the-laws 0 (Syntax.tyInt Syntax.w32) 0 Path'.refl, Path'.refl), tt),
-                    ),
-                  ),
-                ) (Reads'.room-gone 𝓤 H A
-                (Syntax.tyInt Syntax.w64)) (tt, tt) Path'.refl) d31
+                ) (Reads'.room-gone 𝓤 H A (Syntax.tyInt Syntax.w64)) (
+                  tt,
+                  tt,
+                ) Path'.refl) d31
 
             d33 : Typed.Typed 𝓤 H A 𝓣 E G6 b29 Δ0 (at33 bs)
             d33 = Typed.g-pre 𝓤 H A W 𝓣 E G6 G7 b29 Δ0 (Typed.pass T6 T7 (s5 bs)) (at32 bs) (Scalar.g-room 𝓤 H A W E G6 4 (Syntax.tyStruct (99 ∷ 111 ∷ 110 ∷ 101
@@ -2951,18 +3072,9 @@ module _ (claims· : Claims) where
               ty = Syntax.tyRef (Syntax.named 0) Syntax.imm SlotAs.pointee;
               ref = λ x. x;
             },
-            (
-              Num.vAt 2 λ x. x,
-              (
-                record { pos = 3; st = []; d = 0; at = λ x. x },
-                (
-                  Num.vFld 5 (Syntax.field 0 ∷ []) 0 λ x. Serial.struct .as-values x
-                      .0,
-                  tt,
-                ),
-              ),
-            ),
-          ) (m6 (before· .before) (before· .v .given))
+            (Num.vAt 2 λ x. x, (record { pos = 3; st = []; d = 0; at = λ x. x }, (record { pos = 5; st = []; d = 0; at = λ x. x }, tt))),
+          ) (m6
+              (before· .before) (before· .v .given))
 
         pub record After-seek : Type 0 where
           pub before : After-v
@@ -2977,18 +3089,9 @@ module _ (claims· : Claims) where
             ref = λ x.
                 x;
           },
-          (
-            Num.vAt 2 λ x. x,
-            (
-              record { pos = 3; st = []; d = 0; at = λ x. x },
-              (
-                Num.vFld 5 (Syntax.field 0 ∷ []) 0 λ x. Serial.struct .as-values x
-                    .0,
-                tt,
-              ),
-            ),
-          ),
-        ) (m6 (c .before .before) (c .before .v .given)) (c .seek)
+          (Num.vAt 2 λ x. x, (record { pos = 3; st = []; d = 0; at = λ x. x }, (record { pos = 5; st = []; d = 0; at = λ x. x }, tt))),
+        ) (m6 (c
+            .before .before) (c .before .v .given)) (c .seek)
 
         abbrev pub m8 : (before : After-v) → (given : s6 (before .before .before .before .before .before .blocks) .gives (m6 (before .before) (before .v
             .given))) → Typed.Mo T9
@@ -3014,9 +3117,9 @@ module _ (claims· : Claims) where
               ref = λ
                   x. x;
             },
-            (Num.vAt 2 λ x. x, (Num.vAt 10 λ x. x, (Num.vFld 5 (Syntax.field 0 ∷ []) 0 λ x. Serial.struct .as-values x .0, tt))),
-          ) (m9 (before·
-              .before) (After-seek·gave before·))
+            (Num.vAt 2 λ x. x, (Num.vAt 10 λ x. x, (record { pos = 5; st = []; d = 0; at = λ x. x }, tt))),
+          ) (m9 (before· .before)
+              (After-seek·gave before·))
 
         pub record After-aside-at : Type 0 where
           pub before : After-seek
@@ -3031,9 +3134,9 @@ module _ (claims· : Claims) where
             ref =
                 λ x. x;
           },
-          (Num.vAt 2 λ x. x, (Num.vAt 10 λ x. x, (Num.vFld 5 (Syntax.field 0 ∷ []) 0 λ x. Serial.struct .as-values x .0, tt))),
-        ) (m9 (c .before
-            .before) (After-seek·gave (c .before))) (c .aside-at)
+          (Num.vAt 2 λ x. x, (Num.vAt 10 λ x. x, (record { pos = 5; st = []; d = 0; at = λ x. x }, tt))),
+        ) (m9 (c .before .before)
+            (After-seek·gave (c .before))) (c .aside-at)
 
         abbrev pub m11 : (before : After-seek) → (given : s9 (before .before .before .before .before .before .before .blocks) .gives (m9 (before .before)
             (After-seek·gave before))) → Typed.Mo T12
@@ -3061,18 +3164,9 @@ module _ (claims· : Claims) where
               ref = λ
                   x. x;
             },
-            (
-              Num.vAt 2 λ x. x,
-              (
-                record { pos = 11; st = []; d = 0; at = λ x. x },
-                (
-                  Num.vFld 6 (Syntax.field 0 ∷ []) 0 λ x. Serial.struct
-                      .as-values x .0,
-                  tt,
-                ),
-              ),
-            ),
-          ) (m12 (before· .before) (After-aside-at·gave before·))
+            (Num.vAt 2 λ x. x, (record { pos = 11; st = []; d = 0; at = λ x. x }, (record { pos = 6; st = []; d = 0; at = λ x. x }, tt))),
+          )
+              (m12 (before· .before) (After-aside-at·gave before·))
 
         pub record After-aside-in : Type 0 where
           pub before : After-aside-at
@@ -3087,18 +3181,9 @@ module _ (claims· : Claims) where
             ref =
                 λ x. x;
           },
-          (
-            Num.vAt 2 λ x. x,
-            (
-              record { pos = 11; st = []; d = 0; at = λ x. x },
-              (
-                Num.vFld 6 (Syntax.field 0 ∷ []) 0 λ x. Serial.struct
-                    .as-values x .0,
-                tt,
-              ),
-            ),
-          ),
-        ) (m12 (c .before .before) (After-aside-at·gave (c .before))) (c .aside-in)
+          (Num.vAt 2 λ x. x, (record { pos = 11; st = []; d = 0; at = λ x. x }, (record { pos = 6; st = []; d = 0; at = λ x. x }, tt))),
+        )
+            (m12 (c .before .before) (After-aside-at·gave (c .before))) (c .aside-in)
 
         abbrev pub m14 : (before : After-aside-at) → (given : s12 (before .before .before .before .before .before .before .before .blocks) .gives (m12 (before
             .before) (After-aside-at·gave before))) → Typed.Mo T15
@@ -3122,18 +3207,9 @@ module _ (claims· : Claims) where
               ref = λ
                   x. x;
             },
-            (
-              Num.vAt 2 λ x. x,
-              (
-                record { pos = 11; st = []; d = 0; at = λ x. x },
-                (
-                  Num.vFld 7 (Syntax.field 0 ∷ []) 0 λ x. Serial.struct
-                      .as-values x .0,
-                  tt,
-                ),
-              ),
-            ),
-          ) (m14 (before· .before) (After-aside-in·gave before·))
+            (Num.vAt 2 λ x. x, (record { pos = 11; st = []; d = 0; at = λ x. x }, (record { pos = 7; st = []; d = 0; at = λ x. x }, tt))),
+          )
+              (m14 (before· .before) (After-aside-in·gave before·))
 
         pub record After-aside-in2 : Type 0 where
           pub before : After-aside-in
@@ -3148,18 +3224,9 @@ module _ (claims· : Claims) where
             ref =
                 λ x. x;
           },
-          (
-            Num.vAt 2 λ x. x,
-            (
-              record { pos = 11; st = []; d = 0; at = λ x. x },
-              (
-                Num.vFld 7 (Syntax.field 0 ∷ []) 0 λ x. Serial.struct
-                    .as-values x .0,
-                tt,
-              ),
-            ),
-          ),
-        ) (m14 (c .before .before) (After-aside-in·gave (c .before))) (c .aside-in2)
+          (Num.vAt 2 λ x. x, (record { pos = 11; st = []; d = 0; at = λ x. x }, (record { pos = 7; st = []; d = 0; at = λ x. x }, tt))),
+        )
+            (m14 (c .before .before) (After-aside-in·gave (c .before))) (c .aside-in2)
 
         abbrev pub m16 : (before : After-aside-in) → (given : s14 (before .before .before .before .before .before .before .before .before .blocks) .gives (m14
             (before .before) (After-aside-in·gave before))) → Typed.Mo T17
@@ -3183,18 +3250,9 @@ module _ (claims· : Claims) where
               ref = λ
                   x. x;
             },
-            (
-              Num.vAt 2 λ x. x,
-              (
-                record { pos = 11; st = []; d = 0; at = λ x. x },
-                (
-                  Num.vFld 8 (Syntax.field 0 ∷ []) 0 λ x. Serial.struct
-                      .as-values x .0,
-                  tt,
-                ),
-              ),
-            ),
-          ) (m16 (before· .before) (After-aside-in2·gave before·))
+            (Num.vAt 2 λ x. x, (record { pos = 11; st = []; d = 0; at = λ x. x }, (record { pos = 8; st = []; d = 0; at = λ x. x }, tt))),
+          )
+              (m16 (before· .before) (After-aside-in2·gave before·))
 
         pub record After-aside-in3 : Type 0 where
           pub before : After-aside-in2
@@ -3209,18 +3267,9 @@ module _ (claims· : Claims) where
             ref =
                 λ x. x;
           },
-          (
-            Num.vAt 2 λ x. x,
-            (
-              record { pos = 11; st = []; d = 0; at = λ x. x },
-              (
-                Num.vFld 8 (Syntax.field 0 ∷ []) 0 λ x. Serial.struct
-                    .as-values x .0,
-                tt,
-              ),
-            ),
-          ),
-        ) (m16 (c .before .before) (After-aside-in2·gave (c .before))) (c .aside-in3)
+          (Num.vAt 2 λ x. x, (record { pos = 11; st = []; d = 0; at = λ x. x }, (record { pos = 8; st = []; d = 0; at = λ x. x }, tt))),
+        )
+            (m16 (c .before .before) (After-aside-in2·gave (c .before))) (c .aside-in3)
 
         abbrev pub m18 : (before : After-aside-in2) → (given : s16 (before .before .before .before .before .before .before .before .before .before .blocks)
             .gives (m16 (before .before) (After-aside-in2·gave before))) → Typed.Mo T19
@@ -3244,18 +3293,9 @@ module _ (claims· : Claims) where
               ref = λ
                   x. x;
             },
-            (
-              Num.vAt 2 λ x. x,
-              (
-                record { pos = 11; st = []; d = 0; at = λ x. x },
-                (
-                  Num.vFld 9 (Syntax.field 0 ∷ []) 0 λ x. Serial.struct
-                      .as-values x .0,
-                  tt,
-                ),
-              ),
-            ),
-          ) (m18 (before· .before) (After-aside-in3·gave before·))
+            (Num.vAt 2 λ x. x, (record { pos = 11; st = []; d = 0; at = λ x. x }, (record { pos = 9; st = []; d = 0; at = λ x. x }, tt))),
+          )
+              (m18 (before· .before) (After-aside-in3·gave before·))
 
         pub record After-aside-in4 : Type 0 where
           pub before : After-aside-in3
@@ -3270,18 +3310,9 @@ module _ (claims· : Claims) where
             ref =
                 λ x. x;
           },
-          (
-            Num.vAt 2 λ x. x,
-            (
-              record { pos = 11; st = []; d = 0; at = λ x. x },
-              (
-                Num.vFld 9 (Syntax.field 0 ∷ []) 0 λ x. Serial.struct
-                    .as-values x .0,
-                tt,
-              ),
-            ),
-          ),
-        ) (m18 (c .before .before) (After-aside-in3·gave (c .before))) (c .aside-in4)
+          (Num.vAt 2 λ x. x, (record { pos = 11; st = []; d = 0; at = λ x. x }, (record { pos = 9; st = []; d = 0; at = λ x. x }, tt))),
+        )
+            (m18 (c .before .before) (After-aside-in3·gave (c .before))) (c .aside-in4)
 
         abbrev pub m20 : (before : After-aside-in3) → (given : s18 (before .before .before .before .before .before .before .before .before .before .before
             .blocks) .gives (m18 (before .before) (After-aside-in3·gave before))) → Typed.Mo T21
@@ -3560,8 +3591,12 @@ module _ (claims· : Claims) where
                   (
                     record { pos = 11; st = []; d = 0; at = λ x. x },
                     (
-                      Num.vFld 9 (Syntax.field 0 ∷ []) 0 λ
-                          x. Serial.struct .as-values x .0,
+                      record {
+                        pos = 9;
+                        st = [];
+                        d = 0;
+                        at = λ x. x;
+                      },
                       tt,
                     ),
                   ),
@@ -3592,8 +3627,12 @@ module _ (claims· : Claims) where
                   (
                     record { pos = 11; st = []; d = 0; at = λ x. x },
                     (
-                      Num.vFld 8 (Syntax.field 0 ∷ []) 0 λ
-                          x. Serial.struct .as-values x .0,
+                      record {
+                        pos = 8;
+                        st = [];
+                        d = 0;
+                        at = λ x. x;
+                      },
                       tt,
                     ),
                   ),
@@ -3624,8 +3663,12 @@ module _ (claims· : Claims) where
                   (
                     record { pos = 11; st = []; d = 0; at = λ x. x },
                     (
-                      Num.vFld 7 (Syntax.field 0 ∷ []) 0 λ
-                          x. Serial.struct .as-values x .0,
+                      record {
+                        pos = 7;
+                        st = [];
+                        d = 0;
+                        at = λ x. x;
+                      },
                       tt,
                     ),
                   ),
@@ -3657,8 +3700,12 @@ module _ (claims· : Claims) where
                   (
                     record { pos = 11; st = []; d = 0; at = λ x. x },
                     (
-                      Num.vFld 6 (Syntax.field 0 ∷ []) 0 λ
-                          x. Serial.struct .as-values x .0,
+                      record {
+                        pos = 6;
+                        st = [];
+                        d = 0;
+                        at = λ x. x;
+                      },
                       tt,
                     ),
                   ),
@@ -3684,9 +3731,8 @@ module _ (claims· : Claims) where
                   ref = λ x.
                       x;
                 },
-                (Num.vAt 2 λ x. x, (Num.vAt 10 λ x. x, (Num.vFld 5 (Syntax.field 0 ∷ []) 0 λ x. Serial.struct .as-values x .0, tt))),
-              ) (m9 (c .before)
-                  (After-seek·gave c)) g;
+                (Num.vAt 2 λ x. x, (Num.vAt 10 λ x. x, (record { pos = 5; st = []; d = 0; at = λ x. x }, tt))),
+              ) (m9 (c .before) (After-seek·gave c)) g;
             },
           )
 
@@ -3745,21 +3791,16 @@ module _ (claims· : Claims) where
                             (
                               record { pos = 3; st = []; d = 0; at = λ x. x },
                               (
-                                Num.vFld 5 (Syntax.field 0 ∷ []) 0 λ x. Serial.struct
-                                    .as-values x .0,
+                                record { pos = 5; st = []; d = 0; at = λ x. x },
                                 tt,
                               ),
                             ),
                           ),
                         ) (m6 record {
                           before = record {
-                            before = record {
-                              before = record { before = c; x = record { given = g } };
-                              p = record {
-                                given = g';
-                              };
-                            };
-                            q = record { given = g'' };
+                            before = record { before = record { before = c; x = record { given = g } }; p = record { given = g' } };
+                            q =
+                                record { given = g'' };
                           };
                           u = record { given = g'3 };
                         } g'4) g'5;

@@ -26,6 +26,8 @@ macro_rules! planted {
     };
 }
 
+mod fragments;
+
 planted! {
     ter_counts_as_coordinate: check(text: *const u8, n: usize, answer: *mut u64) {
         let number = (LINKED.check)(text, n, answer);
@@ -340,6 +342,12 @@ fn table_read_before_its_start() {
 }
 
 #[test]
+#[cfg(target_os = "linux")]
+fn list_read_past_its_end() {
+    assert_touches_a_fence("reads_past_the_list");
+}
+
+#[test]
 #[ignore = "ends the program; text_read_past_its_end runs it"]
 fn reads_past_the_end() {
     unsafe extern "C" fn wrong(text: *const u8, n: usize, answer: *mut u64) -> u32 {
@@ -359,4 +367,22 @@ fn reads_before_the_start() {
     }
     differ::fence::watch();
     differ::run_fenced(Library { frame: wrong, ..LINKED }, 5, 0..CASES);
+}
+
+#[test]
+#[ignore = "ends the program; list_read_past_its_end runs it"]
+fn reads_past_the_list() {
+    unsafe extern "C" fn wrong(
+        text: *const u8,
+        n: usize,
+        table: *mut Slot,
+        slots: usize,
+        aside: *const u8,
+        fragments: usize,
+    ) -> u32 {
+        std::hint::black_box(aside.add(fragments).read_volatile());
+        (LINKED.arrange)(text, n, table, slots, aside, fragments)
+    }
+    differ::fence::watch();
+    differ::run_fenced(Library { arrange: wrong, ..LINKED }, 5, 0..CASES);
 }

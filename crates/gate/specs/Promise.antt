@@ -1,0 +1,68 @@
+-- What follows of any text from the answer of the check, in plain words: the statement. It is proved in proofs/.
+use Rattle.ascii.specs.Library.{ℕ, zero, suc, _+_, _*_, _-_, _≤_, _<_, List, true, _≡_, _⊎_, length, take, eqb, pick}
+use Rattle.conect.specs.declared.{Conect.Conect}
+use Rattle.master.specs.declared.{Tally.Tally}
+use Rattle.pieces.specs.declared.{Line.the-variants.Typed}
+use Rattle.places.specs.declared.{Counts.Counts}
+use Rattle.places.specs.Counts.{countOf, sameCounts}
+use Rattle.facets.specs.Facets.{lineKind, isCoord}
+use Rattle.rows.specs.Text.{row}
+use Rattle.serials.specs.Known.{isSite}
+use Rattle.serials.specs.Search.{serialOf}
+use Rattle.gate.specs.Gate.{checkOf}
+use Rattle.line.specs.declared.Record.the-variants as rec
+
+-- x is the serial of an ATOM or HETATM line before line i
+abbrev pub AtomBefore : List ℕ → ℕ → ℕ → Type 0
+AtomBefore t i x = (j : ℕ) × (j < i) × (isSite x (row t j) ≡ true)
+
+-- a partner that is there is
+abbrev pub PartnerBefore : List ℕ → ℕ → ℕ → Type 0
+PartnerBefore t i x = (x ≡ 0) ⊎ AtomBefore t i x
+
+-- each number on a CONECT line, which is line i, is the serial of such a line
+pub record Names (t : List ℕ) (i : ℕ) (bond : Conect) : Type 0 where
+  pub serial : AtomBefore t i (bond .serial .0)
+  pub a : PartnerBefore t i (bond .a .0)
+  pub b : PartnerBefore t i (bond .b .0)
+  pub c : PartnerBefore t i (bond .c .0)
+  pub d : PartnerBefore t i (bond .d .0)
+
+-- how many of the first n lines are counted in `which` of the nine counts
+unfoldable pub linesOf : ℕ → List ℕ → ℕ → ℕ
+linesOf which t zero = 0
+linesOf which t (suc n) = pick (eqb (countOf (lineKind (row t n))) which) (linesOf which t n + 1) (linesOf which t n)
+
+-- the nine numbers of such lines among the first n
+abbrev pub countsTo : List ℕ → ℕ → Counts
+countsTo t n =
+    record {
+      remark = linesOf 1 t n;
+      het = linesOf 2 t n;
+      helix = linesOf 3 t n;
+      sheet = linesOf 4 t n;
+      xform = linesOf 5 t n;
+      coord = linesOf 6 t n;
+      ter = linesOf 7 t n;
+      conect = linesOf 8 t n;
+      seq = linesOf 9 t n;
+    }
+
+pub record Consequences (t : List ℕ) : Type 0 where
+  -- among the good lines serials rise over ATOM, HETATM and TER
+  pub serials-rise : (j k : ℕ) → j < k → k < checkOf t .good → isCoord (row t j) ≡ true → isCoord (row t k) ≡ true
+      → serialOf (row t j) < serialOf (row t k)
+  -- every number on a good CONECT line is the serial of an ATOM or HETATM line before it
+  pub conects-name : (i : ℕ) (c : Conect) → i < checkOf t .good → row t i ≡ Typed (rec.Conect c) → Names t i c
+  -- the numbers of a good MASTER line are the numbers of such lines before it
+  pub masters-count : (i : ℕ) (m : Tally) → i < checkOf t .good → row t i ≡ Typed (rec.Master m) → sameCounts m (countsTo t i) ≡ true
+  -- the nine counts of the answer are the numbers of such lines among the good ones
+  pub counts-true : checkOf t .counts ≡ countsTo t (checkOf t .good)
+  -- a granted text is its good lines, and the last of them is END
+  pub ends : checkOf t .number ≡ 0
+      → (length t ≡ 81 * checkOf t .good) × (0 < checkOf t .good) × (row t (checkOf t .good - 1) ≡ Typed rec.End)
+  -- any first n of the good lines, by themselves, have no offence: they are granted, or over before END
+  pub prefixes : (n : ℕ) → n ≤ checkOf t .good
+      → (checkOf (take (81 * n) t) .good ≡ n) × ((checkOf (take (81 * n) t) .number ≡ 0) ⊎ (checkOf (take (81 * n) t) .number ≡ 12))
+  -- a refused text offends in the line after its good ones
+  pub offends : (checkOf t .number ≡ 0 → ⊥) → checkOf t .line ≡ checkOf t .good + 1
