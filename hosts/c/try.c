@@ -346,10 +346,13 @@ static void count(const char *what, const char *line, uint32_t before, uint32_t 
 static void lines(const char *entry, const text *wrong)
 {
     static const char *names[5] = {"HEADER", "ATOM", "TER", "MASTER", "END"};
-    char byte[80];
+    char byte[80], hydrogen[80];
     size_t i;
     memcpy(byte, entry + LINE, 80);
     byte[79] = '\n';
+    memcpy(hydrogen, entry + LINE, 80);
+    memcpy(hydrogen + 12, "HH11", 4);
+    memcpy(hydrogen + 76, " H", 2);
     slot("ATOM", entry + LINE, 80, 0);
     slot("79 columns", entry + LINE, 79, 1);
     slot("81 columns", entry + LINE, 81, 1);
@@ -362,6 +365,9 @@ static void lines(const char *entry, const text *wrong)
     rewrite("a field wrong", wrong->bytes + LINE, 80, 80, 6);
     rewrite("into just enough", entry + LINE, 80, 80, 0);
     rewrite("into a byte less", entry + LINE, 80, 79, 17);
+    rewrite("a name of four columns, HH11", hydrogen, 80, 80, 0);
+    hydrogen[15] = ' ';
+    rewrite("a name of three from column 13, HH1", hydrogen, 80, 80, 6);
     count("HETATM", "HETATM", 9, 10, 0);
     count("END", "END   ", 9, 9, 0);
     count("three bytes", "END", 9, 9, 4);

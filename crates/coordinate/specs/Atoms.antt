@@ -1,8 +1,8 @@
 -- ATOM and HETATM: their columns 7 to 80.
-use Rattle.ascii.specs.Library.{Bool, ℤ, pick, both, same}
+use Rattle.ascii.specs.Library.{Bool, ℤ, pick, both, either, same}
 use Rattle.fields.specs.Format.{Format, wholeF, wholeRealF, realF, byteF, _then_, after, held, under, shut}
 use Rattle.names.specs.declared.{Four.Four, Pair.Pair}
-use Rattle.names.specs.Names.{pairF, fourF, isAtomName, isAlternate, isCharge}
+use Rattle.names.specs.Names.{pairF, fourF, isBlank, isFull, isAtomName, isAlternate, isCharge}
 use Rattle.elements.specs.Elements.{isElement}
 use Rattle.kinds.specs.declared.{Kind.Kind}
 use Rattle.residue.specs.Residues.{residueF}
@@ -50,10 +50,12 @@ speciesColumns =
 abbrev pub speciesF : Format Species
 speciesF = shut 4 speciesColumns
 
--- ---- columns 7 to 80. Columns 13 and 14 equal columns 77 and 78, which are blamed
--- an atom's name begins with its element
+-- ---- columns 7 to 80. Columns 77 and 78 are blamed where the name in columns 13 to 16 is not one of the element
+-- an atom's name begins with its element; one of a single letter may also stand in column 13 of a name that fills all four columns
 unfoldable pub leadsElement : Four → Pair → Bool
-leadsElement n e = both (same (n .a) (e .a)) (same (n .b) (e .b))
+leadsElement n e =
+    either (both (same (n .a) (e .a)) (same (n .b) (e .b)))
+    (both (both (isBlank (e .a)) (same (n .a) (e .b))) (isFull n))
 
 unfoldable pub atomColumns : Format Atom
 atomColumns =

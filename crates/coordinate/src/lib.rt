@@ -156,11 +156,15 @@ fn read_species(line: &[u8]) -> ReadSpecies
     }
 }
 
-// An atom's name begins with its element.
+// An atom's name begins with its element; one of a single letter may also stand first in a name that fills all four columns.
 fn leads(n: Four, e: Pair) -> bool
     ensures { λ r. ⌜ r ≡ leadsElement n e ⌝ }
 {
-    ascii::both_of(ascii::is(n.a, e.a), ascii::is(n.b, e.b))
+    if ascii::both_of(ascii::is(n.a, e.a), ascii::is(n.b, e.b)) {
+        return true;
+    }
+    let first = ascii::both_of(names::is_blank(e.a), ascii::is(n.a, e.b));
+    ascii::both_of(first, names::is_full(n))
 }
 
 pub fn read_atom(line: &[u8]) -> ReadAtom

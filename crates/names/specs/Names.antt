@@ -90,6 +90,10 @@ paddedThree b c d = either (both (isNameByte b) (paddedTwo c d)) (both (isBlank 
 abbrev pub isAtomName : Four → Bool
 isAtomName n = both (both (isColumn (n .a)) (isColumn (n .b))) (paddedTwo (n .c) (n .d))
 
+-- name characters in all four columns
+abbrev pub isFull : Four → Bool
+isFull n = both (both (isNameByte (n .a)) (isNameByte (n .b))) (both (isNameByte (n .c)) (isNameByte (n .d)))
+
 -- an atom's name in a registration: at most one blank, then one or more name characters, then blanks
 abbrev pub isBondName : Four → Bool
 isBondName n =

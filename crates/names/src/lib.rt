@@ -4,7 +4,7 @@ ghost use Prim.Native.Nat.{_+_, _≤_};
 ghost use mathlib.Core.List.{_∷_, []};
 ghost use lib.ListN.{length};
 ghost use Rattle.columns.specs.Columns.{Put};
-ghost use Rattle.names.specs.Names.{pairAt, threeAt, fourAt, samePair, sameThree, sameFour, isBlank, isChain, isInsertion, isAlternate, isFilled, isColumn, isNameByte, rightThree, isResidue, isIdentifier, isCharge, paddedTwo, paddedThree, isAtomName, isBondName};
+ghost use Rattle.names.specs.Names.{pairAt, threeAt, fourAt, samePair, sameThree, sameFour, isBlank, isChain, isInsertion, isAlternate, isFilled, isColumn, isNameByte, rightThree, isResidue, isIdentifier, isCharge, paddedTwo, paddedThree, isFull, isAtomName, isBondName};
 
 #[repr(C)]
 pub struct Pair {
@@ -229,6 +229,16 @@ fn padded_three(b: u8, c: u8, d: u8) -> bool
     ascii::either_of(
         ascii::both_of(is_name_byte(b), padded_two(c, d)),
         ascii::both_of(is_blank(b), ascii::both_of(is_blank(c), is_blank(d))),
+    )
+}
+
+// Name characters in all four columns.
+pub fn is_full(n: Four) -> bool
+    ensures { λ r. ⌜ r ≡ isFull n ⌝ }
+{
+    ascii::both_of(
+        ascii::both_of(is_name_byte(n.a), is_name_byte(n.b)),
+        ascii::both_of(is_name_byte(n.c), is_name_byte(n.d)),
     )
 }
 

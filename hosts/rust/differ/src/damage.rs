@@ -3,7 +3,8 @@
 use station::raw::Slot;
 
 use crate::chance::Chance;
-use crate::entry::{line, master, named, put, put_number, Columns, COORDINATES, NAMES};
+use crate::entry::{line, master, named, put, put_number, Columns, ATOMS, COORDINATES, NAMES};
+use crate::names::{nearly, put_name};
 
 /// Names that are nearly known.
 const NEARLY: [&str; 17] = [
@@ -169,6 +170,7 @@ pub fn damage_line(chance: &mut Chance, line: &mut Columns) {
                 put(line, *chance.pick(&blanks), &[edge(chance)]);
             }
         }
+        9 if named(line, ATOMS) => put_name(line, nearly(chance)),
         9 if line.starts_with(b"SHEET") && chance.once_in(2) => put(line, 42, &[b' '; 29]),
         9 if line.starts_with(b"SHEET") => {
             // Strand 1, whatever stands in its registration.
@@ -196,7 +198,7 @@ fn try_damage(chance: &mut Chance, lines: &mut Vec<Columns>) -> Option<()> {
     }
     let at = chance.below(lines.len());
     let other = chance.below(lines.len());
-    match chance.below(23) {
+    match chance.below(25) {
         0 => {
             lines.remove(at);
         }
@@ -263,6 +265,7 @@ fn try_damage(chance: &mut Chance, lines: &mut Vec<Columns>) -> Option<()> {
                 lines.remove(at);
             }
         }
+        22 | 23 => put_name(named_line(chance, lines, ATOMS)?, nearly(chance)),
         _ => damage_line(chance, &mut lines[at]),
     }
     Some(())

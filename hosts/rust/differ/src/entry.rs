@@ -1,6 +1,7 @@
 //! Entries and lines made up by chance that obey the rules. Nothing here comes from the reference.
 
 use crate::chance::Chance;
+use crate::names::{put_name, right};
 
 /// A line of 80 columns.
 pub type Columns = [u8; 80];
@@ -16,6 +17,9 @@ pub const NAMES: [&str; 27] = [
 /// The names of lines that a table has slots for.
 pub const COORDINATES: &[&[u8; 6]] = &[b"ATOM  ", b"HETATM", b"TER   "];
 
+/// The names of lines that have an atom.
+pub const ATOMS: &[&[u8; 6]] = &[b"ATOM  ", b"HETATM"];
+
 /// Whether a line has one of these names.
 pub fn named(line: &[u8], names: &[&[u8; 6]]) -> bool {
     names.iter().any(|name| line.starts_with(*name))
@@ -24,10 +28,6 @@ pub fn named(line: &[u8], names: &[&[u8; 6]]) -> bool {
 /// Names of the carried kinds before HELIX, by place, HEADER left out.
 const CARRIED: [&str; 11] =
     ["TITLE", "COMPND", "SOURCE", "KEYWDS", "EXPDTA", "AUTHOR", "REVDAT", "JRNL", "REMARK", "SEQRES", "HET"];
-
-/// Elements of good atoms; single lines try every pair of letters.
-const ELEMENTS: [&str; 16] =
-    [" C", " N", " O", " H", " D", " S", " P", "CA", "FE", "ZN", "NA", "CL", "OG", " U", "HG", " K"];
 
 const RESIDUES: [&str; 8] = ["ALA", "GLY", " DA", "  U", "HOH", "5MC", "  7", "ZN2"];
 
@@ -116,9 +116,7 @@ pub fn chain(chance: &mut Chance) -> u8 {
 pub fn atom(chance: &mut Chance, name: &str, serial: i64, residue: &Residue) -> Columns {
     let mut line = line(name);
     put_number(&mut line, 7, 11, serial);
-    let element = chance.pick(&ELEMENTS).as_bytes();
-    put(&mut line, 13, element);
-    put(&mut line, 15, chance.pick(&["  ", "A ", "1 ", "' ", "* ", "B1", "H1", "''"]).as_bytes());
+    put_name(&mut line, right(chance));
     put(&mut line, 17, &[*chance.pick(b"    ABZ0129")]);
     put_residue(&mut line, residue, 18, 22, 23);
     for from in [31, 39, 47] {
@@ -127,7 +125,6 @@ pub fn atom(chance: &mut Chance, name: &str, serial: i64, residue: &Residue) -> 
     }
     put_real(&mut line, 55, 60, 2, number(chance, 0, 100));
     put_real(&mut line, 61, 66, 2, number(chance, -9_999, 99_999));
-    put(&mut line, 77, element);
     put(&mut line, 79, chance.pick(&["  ", "  ", "  ", "1+", "9-", "2-"]).as_bytes());
     line
 }

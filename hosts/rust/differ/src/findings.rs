@@ -2,6 +2,8 @@
 
 use std::collections::BTreeMap;
 
+use crate::names::Form;
+
 /// Which call was made.
 #[derive(Clone, Copy, Debug, PartialEq, Eq, PartialOrd, Ord)]
 #[allow(missing_docs)]
@@ -39,6 +41,9 @@ impl Call {
         Call::CountLine,
     ];
 
+    /// The calls in which every form of an atom's name has to be met.
+    pub const NAMED: [Call; 2] = [Call::Check, Call::SlotOfLine];
+
     /// The numbers that the call can answer.
     pub fn numbers(self) -> &'static [u32] {
         match self {
@@ -67,6 +72,9 @@ pub struct Findings {
     pub shown: Vec<String>,
     /// How often a call answered a number.
     pub reached: BTreeMap<(Call, u32), u64>,
+    /// How often a call met a form of an atom's name: a right one in what was granted, a wrong one that alone was the cause of
+    /// a refusal.
+    pub forms: BTreeMap<(Call, Form), u64>,
 }
 
 /// Differences that are kept in words.
@@ -78,6 +86,13 @@ impl Findings {
         let possible = Call::ALL.iter().flat_map(|call| call.numbers().iter().map(|number| (*call, *number)));
         possible.filter(|answer| !self.reached.contains_key(answer)).collect()
     }
+
+    /// The forms of an atom's name that a call never met.
+    pub fn unmet(&self) -> Vec<(Call, Form)> {
+        let possible = Call::NAMED.iter().flat_map(|call| Form::ALL.map(|form| (*call, form)));
+        possible.filter(|met| !self.forms.contains_key(met)).collect()
+    }
+
     /// Takes down one call of a case: the number that is due, the number that came, and where memory is wrong.
     pub fn note(&mut self, case: u64, call: Call, due: u32, came: u32, memory: &[(&str, Option<isize>)]) {
         self.calls += 1;

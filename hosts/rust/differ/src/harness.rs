@@ -5,6 +5,7 @@ use station::raw::{Library, Slot, Tally};
 
 use crate::findings::{Call, Findings};
 use crate::lent::{Lent, Sides};
+use crate::names::{put_name, Form};
 use crate::slots::{to_library, to_reference};
 
 /// The two sides of the comparison.
@@ -23,6 +24,15 @@ pub struct Harness {
 
 fn number<T>(answer: &Result<T, Refusal>) -> u32 {
     answer.as_ref().map_or_else(|refusal| refusal.number(), |_| 0)
+}
+
+/// Whether a line is refused for the name of its atom alone: with another name it reads.
+fn wrong_by_name(line: &[u8]) -> bool {
+    let mended = line.try_into().map(|mut columns| {
+        put_name(&mut columns, (*b" N  ", *b" N"));
+        columns
+    });
+    mended.is_ok_and(|columns| reference::read_line(&columns).is_ok())
 }
 
 impl Harness {
@@ -64,6 +74,25 @@ impl Harness {
         self.findings.note(self.case, call, due, came, memory);
     }
 
+    /// Takes down the form of the atom's name in a line that was granted, or refused with 6.
+    fn note_form(&mut self, call: Call, line: &[u8], number: u32) {
+        if let Some(form) = Form::of_line(line) {
+            let met = if form.right() { number == 0 } else { number == 6 && wrong_by_name(line) };
+            if met {
+                *self.findings.forms.entry((call, form)).or_insert(0) += 1;
+            }
+        }
+    }
+
+    /// Takes down the forms of all names in a text that was granted, or of the one in the line refused with 6.
+    fn note_forms(&mut self, text: &[u8], number: u32, line: u64) {
+        for (piece, at) in text.chunks(81).zip(1..) {
+            if number == 0 || (number == 6 && at == line) {
+                self.note_form(Call::Check, &piece[..piece.len().min(80)], number);
+            }
+        }
+    }
+
     /// Checks a text.
     pub fn check(&mut self, text: &[u8]) -> u32 {
         let lent = self.lend_text(text);
@@ -76,6 +105,7 @@ impl Harness {
         answer.due()[..3].copy_from_slice(&head);
         answer.due()[3..].copy_from_slice(&verdict.tally.counts());
         self.note(Call::Check, due, came, &[("text", lent.first_wrong()), ("answer", answer.first_wrong())]);
+        self.note_forms(text, due, verdict.line);
         due
     }
 
@@ -231,6 +261,7 @@ impl Harness {
             came,
             &[("line", lent.first_wrong()), ("slot", slot.first_wrong())],
         );
+        self.note_form(Call::SlotOfLine, line, number(&answer));
         number(&answer)
     }
 

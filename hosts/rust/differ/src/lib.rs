@@ -14,6 +14,7 @@ pub mod fence;
 mod findings;
 pub mod harness;
 pub mod lent;
+pub mod names;
 pub mod slots;
 mod sweep;
 

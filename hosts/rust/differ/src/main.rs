@@ -3,6 +3,7 @@
 use std::process::ExitCode;
 use std::time::Instant;
 
+use differ::names::Form;
 use differ::{Call, Findings};
 use station::raw::LINKED;
 
@@ -15,12 +16,12 @@ usage: differ [--cases N] [--seed S] [--only CASE]
   --seed S     the seed of the run (1)
   --only CASE  this one case of the seed, by its number
 
-The cases are followed by a sweep: every byte in every column of a line of each kind, every element, every narrow number,
-every length, every name.
+The cases are followed by a sweep: every byte in every column of a line of each kind, every element, atoms' names over a few
+bytes, every narrow number, every length, every name.
 
-Exit status: 0 no difference, 1 a difference or a number of refusal that was not reached, 2 wrong arguments,
-3 the library touched memory that was not lent to it.
-Runs of fewer than 5000 cases do not ask that every number be reached.
+Exit status: 0 no difference, 1 a difference, or a number of refusal or a form of an atom's name that was not reached, 2 wrong
+arguments, 3 the library touched memory that was not lent to it.
+Runs of fewer than 5000 cases do not ask that every number and form be reached.
 ";
 
 /// Runs below this are too short to reach every number.
@@ -58,6 +59,11 @@ fn print(findings: &Findings) {
         let numbers: Vec<String> = call.numbers().iter().map(reached).collect();
         println!("{:12} {}", format!("{call:?}"), numbers.join(" "));
     }
+    for call in Call::NAMED {
+        let met = |form: &Form| format!("{form:?}:{}", findings.forms.get(&(call, *form)).unwrap_or(&0));
+        let forms: Vec<String> = Form::ALL.iter().map(met).collect();
+        println!("{:12} names {}", format!("{call:?}"), forms.join(" "));
+    }
     for difference in &findings.shown {
         println!("{difference}");
     }
@@ -86,18 +92,21 @@ fn main() -> ExitCode {
     for difference in &swept.shown {
         println!("sweep: {difference}");
     }
-    let unreached = findings.unreached();
+    let (unreached, unmet) = (findings.unreached(), findings.unmet());
     let asked = count >= ENOUGH;
     if asked {
         for (call, number) in &unreached {
             println!("{call:?} never answered {number}");
+        }
+        for (call, form) in &unmet {
+            println!("{call:?} never met a name {form:?}");
         }
     }
     let differences = findings.differences + swept.differences;
     println!("{} calls in {seconds:.1} s, {:.0} cases/s", findings.calls, count as f64 / seconds);
     println!("{} calls of the sweep, {} differences", swept.calls, swept.differences);
     println!("{count} cases, {differences} differences");
-    if differences > 0 || (asked && !unreached.is_empty()) {
+    if differences > 0 || (asked && !(unreached.is_empty() && unmet.is_empty())) {
         ExitCode::FAILURE
     } else {
         ExitCode::SUCCESS

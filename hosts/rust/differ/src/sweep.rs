@@ -1,14 +1,15 @@
-//! What is few enough to be tried out in full: every byte in every column of a line of each kind, every element, every
-//! number of the narrow fields, every length, every name.
+//! What is few enough to be tried out in full: every byte in every column of a line of each kind, every element, every name
+//! of an atom over a few bytes, every number of the narrow fields, every length, every name of a line.
 
 use station::raw::{Library, Slot, Tally};
 
 use crate::entry::{line, put, put_number, Columns, NAMES};
 use crate::findings::Findings;
 use crate::harness::Harness;
+use crate::names::put_name;
 
 /// Good lines of the typed kinds.
-const LINES: [&str; 12] = [
+const LINES: [&str; 13] = [
     "ATOM     32  N  AARG A  -3      11.281  86.699  94.383  0.50 35.88           N",
     "HETATM99999 CA    CA b9999Z   -999.9999999.999  -0.001  1.00-99.99          CA2+",
     "ATOM      1  D1*  DG 0   0       0.000   0.000   0.000  0.00  0.00           D1-",
@@ -21,7 +22,11 @@ const LINES: [&str; 12] = [
     "CONECT 1179  746 1184 1195 1203",
     "MASTER       40    0    1    2    3    0    0    6  768    2   20   18",
     "END",
+    "ATOM    137 HH11 ARG A  12      -0.500   1.250  12.000  1.00 10.00           H",
 ];
+
+/// Bytes of atoms' names: blanks, letters of elements of one and of two letters, other name characters, and none.
+const NAMED: &[u8] = b" CHA1'#h";
 
 /// Runs the sweep against a library.
 pub fn sweep(library: Library) -> Findings {
@@ -31,6 +36,7 @@ pub fn sweep(library: Library) -> Findings {
         lengths(&mut harness, base);
     }
     elements(&mut harness);
+    atoms(&mut harness);
     numbers(&mut harness);
     names(&mut harness);
     harness.findings
@@ -70,6 +76,19 @@ fn elements(harness: &mut Harness) {
             try_line(harness, &line);
             put(&mut line, 13, &[first, second]);
             try_line(harness, &line);
+        }
+    }
+}
+
+/// Every name of these bytes, with elements that it may begin with.
+fn atoms(harness: &mut Harness) {
+    let mut line = line(LINES[0]);
+    for (&a, &b) in NAMED.iter().flat_map(|a| NAMED.iter().map(move |b| (a, b))) {
+        for (&c, &d) in NAMED.iter().flat_map(|c| NAMED.iter().map(move |d| (c, d))) {
+            for element in [b" C", b" H", b"CA", b"AC"] {
+                put_name(&mut line, ([a, b, c, d], *element));
+                try_line(harness, &line);
+            }
         }
     }
 }

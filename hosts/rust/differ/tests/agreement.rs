@@ -1,7 +1,8 @@
 //! The linked library against the reference, and the source of entries against the rules.
 
 use differ::chance::Chance;
-use differ::entry::{entry, text, typed_line};
+use differ::entry::{entry, named, text, typed_line};
+use differ::names::Form;
 use station::raw::LINKED;
 
 #[test]
@@ -9,6 +10,7 @@ fn no_difference_and_every_number_reached() {
     let findings = differ::run_fenced(LINKED, 7, 0..8_000);
     assert_eq!(findings.differences, 0, "{:#?}", findings.shown);
     assert_eq!(findings.unreached(), []);
+    assert_eq!(findings.unmet(), []);
 }
 
 #[test]
@@ -24,6 +26,16 @@ fn made_up_entries_are_accepted() {
         let bytes = text(&entry(&mut chance));
         let verdict = reference::check(&bytes);
         assert_eq!(verdict.refusal, None, "line {}: {}", verdict.line, String::from_utf8_lossy(&bytes));
+    }
+}
+
+#[test]
+fn made_up_entries_have_names_of_four_columns() {
+    let mut chance = Chance::new(3);
+    for kind in [b"ATOM  ", b"HETATM"] {
+        let filled = |line: &[u8; 80]| named(line, &[kind]) && Form::of_line(line) == Some(Form::Filled);
+        let having = (0..500).filter(|_| entry(&mut chance).iter().any(filled)).count();
+        assert!(having > 100, "{having} entries of 500");
     }
 }
 

@@ -146,7 +146,13 @@ pub fn charge(field: [u8; 2]) -> bool {
 
 /// The name of an atom of this element.
 pub fn atom_name(name: [u8; 4], element: [u8; 2]) -> bool {
-    name[..2] == element && then_blanks(&name[2..], name_character)
+    let in_its_columns = name[..2] == element && then_blanks(&name[2..], name_character);
+    in_its_columns || from_column_13(name, element)
+}
+
+/// A name that fills its columns and begins with the letter of an element of one letter.
+fn from_column_13(name: [u8; 4], element: [u8; 2]) -> bool {
+    element[0] == b' ' && name[0] == element[1] && name[1..].iter().all(|&byte| name_character(byte))
 }
 
 /// The name of an atom in a registration: no element is known there.
@@ -198,11 +204,45 @@ mod tests {
     #[test]
     fn names() {
         assert!(atom_name(*b" CA ", *b" C") && atom_name(*b"CA  ", *b"CA") && atom_name(*b" N  ", *b" N"));
-        assert!(!atom_name(*b" CA ", *b"CA") && !atom_name(*b" C A", *b" C") && !atom_name(*b"HH11", *b" H"));
+        assert!(!atom_name(*b" CA ", *b"CA") && !atom_name(*b" C A", *b" C") && !atom_name(*b"CA  ", *b" C"));
         assert!(registration_atom(*b" N  ") && registration_atom(*b"N   ") && registration_atom(*b"HH11"));
         assert!(!registration_atom(*b"  N ") && !registration_atom(*b"    ") && !registration_atom(*b"N O "));
         assert!(residue_name(b"  A") && residue_name(b"5MC") && !residue_name(b"A  ") && !residue_name(b"   "));
         assert!(charge(*b"  ") && charge(*b"2+") && !charge(*b" +") && !charge(*b"0+") && !charge(*b"+2"));
         assert!(identifier(b"  ~") && !identifier(b"A B") && !identifier(b"A  "));
+    }
+
+    #[test]
+    fn names_of_four_columns() {
+        for (name, element) in [
+            (b"HH11", b" H"),
+            (b"HG21", b" H"),
+            (b"HG21", b"HG"),
+            (b"DD11", b" D"),
+            (b"CA12", b" C"),
+            (b"CA12", b"CA"),
+            (b"H5''", b" H"),
+            (b"C***", b" C"),
+        ] {
+            assert!(atom_name(*name, *element), "{}", String::from_utf8_lossy(name));
+        }
+        for (name, element) in [
+            (b"HH1 ", b" H"),
+            (b"H 11", b" H"),
+            (b"HH 1", b" H"),
+            (b"H   ", b" H"),
+            (b"H#11", b" H"),
+            (b"HH#1", b" H"),
+            (b"HH1#", b" H"),
+            (b"Hh11", b" H"),
+            (b"hH11", b" H"),
+            (b"CA1 ", b" C"),
+            (b"1HH1", b" H"),
+            (b"DD11", b" H"),
+            (b"CB12", b"CA"),
+            (b"HH11", b"HG"),
+        ] {
+            assert!(!atom_name(*name, *element), "{}", String::from_utf8_lossy(name));
+        }
     }
 }

@@ -221,6 +221,33 @@ mod tests {
         }
     }
 
+    /// The name and the element of an atom, and whether a line with them reads, of either kind.
+    #[test]
+    fn name_and_element() {
+        for (name, element, right) in [
+            (b"HH11", b" H", true),
+            (b"HG21", b" H", true),
+            (b"DD11", b" D", true),
+            (b"CA12", b" C", true),
+            (b"CA12", b"CA", true),
+            (b"HH1 ", b" H", false),
+            (b"H#11", b" H", false),
+            (b"CA1 ", b" C", false),
+            (b"1HH1", b" H", false),
+            (b"X111", b" X", false),
+        ] {
+            for kind in [b"ATOM  ", b"HETATM"] {
+                let line = changed(&changed(&changed(ARGININE, 1, kind), 13, name), 77, element);
+                match read_line(&line) {
+                    Ok(Record::Atom(atom) | Record::Hetatm(atom)) => {
+                        assert!(right && atom.name == *name && atom.element == *element)
+                    }
+                    other => assert!(!right && other == Err(Refusal::Field), "{}", String::from_utf8_lossy(name)),
+                }
+            }
+        }
+    }
+
     #[test]
     fn numbers_of_a_single_line() {
         assert_eq!(read_line(&ARGININE[..79]), Err(Refusal::Length));

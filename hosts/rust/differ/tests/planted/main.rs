@@ -27,6 +27,7 @@ macro_rules! planted {
 }
 
 mod fragments;
+mod names;
 
 planted! {
     ter_counts_as_coordinate: check(text: *const u8, n: usize, answer: *mut u64) {
