@@ -1,7 +1,8 @@
 /* The station: the C names of the proved library.
  *
  * A text is any bytes; an accepted text is one PDB coordinate entry that obeys docs/FORMAT.md, where the numbers of
- * refusal are listed. Unless its comment says otherwise a function returns the number of refusal, 0 if it grants.
+ * refusal are listed; 1 to 12 and 21 are those of a text. Unless its comment says otherwise a function returns the
+ * number of refusal, 0 if it grants.
  * A refusal leaves every lent buffer, slot and tally as it was; a grant changes only the bytes or slots it needs.
  * Nothing is kept between calls and nothing is taken on trust: each call judges the text and the table anew. The
  * caller sees to it that pointers and lengths describe memory of its own, and that memory the call writes to
@@ -51,33 +52,34 @@ typedef struct {
 } station_tally;
 
 /* Checks a text. `answer` receives the number, the line refused (0 if none), the good lines, and the nine counts over
- * the good lines in the order of station_tally. Returns the number as well: 0, or 1 to 12. */
+ * the good lines in the order of station_tally. Returns the number as well: 0, 1 to 12, or 21. */
 uint32_t station_check(const uint8_t *text, size_t n, uint64_t answer[12]);
 
 /* Loads an accepted text: one slot for each ATOM, HETATM and TER line, in order, all marked in. `count` receives the
- * slots filled, 0 if refused. 1 to 12 for the text; 13 if `slots` is below what the text needs. */
+ * slots filled, 0 if refused. 1 to 12 and 21 for the text; 13 if `slots` is below what the text needs. */
 uint32_t station_load(const uint8_t *text, size_t n, station_slot *table, size_t slots, uint64_t *count);
 
-/* Sets one fragment aside (`aside` not 0) or puts it back (0) by marking its slots. Fragments count from 1. 1 to 12 for
- * the text; 13; 18 if the table is not this text's; 15 if there is no such fragment; 16 if it has that mark already. */
+/* Sets one fragment aside (`aside` not 0) or puts it back (0) by marking its slots. Fragments count from 1. 1 to 12 and
+ * 21 for the text; 13; 18 if the table is not this text's; 15 if there is no such fragment; 16 if it has that mark
+ * already. */
 uint32_t station_order(const uint8_t *text, size_t n, station_slot *table, size_t slots, uint32_t fragment,
                        uint8_t aside);
 
 /* Sets aside or puts back every fragment at once: `aside` has a byte for each, from fragment 1 on, 0 for in, any other
  * for aside. The table is then as station_order would leave it, fragment by fragment; one that is already there changes
- * nothing. 1 to 12 for the text; 13; 18; 15 if `fragments` is not how many there are. */
+ * nothing. 1 to 12 and 21 for the text; 13; 18; 15 if `fragments` is not how many there are. */
 uint32_t station_arrange(const uint8_t *text, size_t n, station_slot *table, size_t slots, const uint8_t *aside,
                          size_t fragments);
 
 /* Tells for each slot that the text needs, in order, the number of its fragment, aside or not; the last number is how
  * many fragments there are. `count` receives the numbers written, 0 if refused; room for `slots` numbers is always
- * enough. 1 to 12 for the text; 13; 18; 17 if `room` is below the slots that the text needs. */
+ * enough. 1 to 12 and 21 for the text; 13; 18; 17 if `room` is below the slots that the text needs. */
 uint32_t station_fragments(const uint8_t *text, size_t n, const station_slot *table, size_t slots, uint32_t *out,
                            size_t room, uint64_t *count);
 
 /* Writes the entry without the fragments set aside, without the CONECT lines that name one of their atoms, and with
  * MASTER counted again. `count` receives the bytes written, 0 if refused; `n` bytes of room are always enough. 1 to 12
- * for the text; 13; 18; 17 if `room` is below the bytes to be written. */
+ * and 21 for the text; 13; 18; 17 if `room` is below the bytes to be written. */
 uint32_t station_save(const uint8_t *text, size_t n, const station_slot *table, size_t slots, uint8_t *out,
                       size_t room, uint64_t *count);
 

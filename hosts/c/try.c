@@ -5,99 +5,8 @@
  * Standard input is the first worked example: HEADER, ATOM, TER, MASTER, END. All that is lent stands between guard
  * bytes, and texts begin at an odd address. A line is printed for each thing tried; the last one is 'N passed, M
  * failed', and the exit status is 0 exactly if M is 0. */
-#include <stdarg.h>
-#include <stdio.h>
-#include <stdlib.h>
-#include <string.h>
-
+#include "lent.h"
 #include "station.h"
-
-static unsigned passed, failed;
-
-static void told(int good, const char *format, ...)
-{
-    va_list words;
-    va_start(words, format);
-    printf("%s  ", good ? "ok    " : "NOT OK");
-    vprintf(format, words);
-    putchar('\n');
-    va_end(words);
-    if (good) passed++; else failed++;
-}
-
-/* ---- lent memory */
-
-enum { GUARD = 64, LINE = 81 };
-
-typedef struct {
-    uint8_t *block, *before; /* guard, content, guard; the content as it was lent */
-    size_t front, size;
-} lent;
-
-/* Lends `size` bytes, with this content or with anything; bytes begin at an odd address, all else at an even one. */
-static lent lend(const void *content, size_t size, int bytes)
-{
-    lent l = {NULL, NULL, GUARD + (bytes ? 1 : 0), size};
-    l.block = malloc(l.front + size + GUARD);
-    l.before = malloc(size + 1);
-    if (!l.block || !l.before) exit(2);
-    memset(l.block, 0xa7, l.front + size + GUARD);
-    if (content) memcpy(l.block + l.front, content, size); else memset(l.block + l.front, 0x5c, size);
-    memcpy(l.before, l.block + l.front, size);
-    return l;
-}
-
-static void *at(const lent *l) { return l->block + l->front; }
-
-static int guarded(const lent *l)
-{
-    size_t i;
-    for (i = 0; i < l->front + GUARD; i++)
-        if (l->block[i < l->front ? i : i + l->size] != 0xa7) return 0;
-    return 1;
-}
-
-/* Whether the content is as it was lent from the byte `from` on. */
-static int as_lent_from(const lent *l, size_t from)
-{
-    return guarded(l) && memcmp(l->block + l->front + from, l->before + from, l->size - from) == 0;
-}
-
-static int as_lent(const lent *l) { return as_lent_from(l, 0); }
-
-static void give_back(lent *l)
-{
-    free(l->block);
-    free(l->before);
-}
-
-/* ---- texts */
-
-typedef struct { char bytes[12 * LINE]; size_t size; } text;
-
-/* Adds a line, filled up with blanks to 80 columns. */
-static void add(text *t, const char *columns)
-{
-    memset(t->bytes + t->size, ' ', LINE - 1);
-    memcpy(t->bytes + t->size, columns, strlen(columns));
-    t->bytes[t->size + LINE - 1] = '\n';
-    t->size += LINE;
-}
-
-/* The entry of the worked example on orders, with a CONECT line: three fragments. */
-static text three(void)
-{
-    text t = {{0}, 0};
-    add(&t, "HEADER");
-    add(&t, "ATOM      1  C   ALA A   1       0.000   2.000   3.000  1.00  0.00           C");
-    add(&t, "TER       2      ALA A   1");
-    add(&t, "HETATM    3  O   HOH B   7      -1.500   2.000   3.000  1.00  0.00           O");
-    add(&t, "HETATM    4  O   HOH B   8       9.000   2.000   3.000  1.00  0.00           O");
-    add(&t, "CONECT    3    4");
-    add(&t, "MASTER        0    0    0    0    0    0    0    0    3    1    1    0");
-    add(&t, "END");
-    return t;
-}
 
 /* ---- the layout */
 
@@ -139,7 +48,7 @@ static void check(const char *what, const char *bytes, size_t n, uint64_t number
 static void checks(const char *entry, const text *wrong)
 {
     char more[5 * LINE + 1];
-    text t = three();
+    text t = three(), twins = three_with("B   7");
     memcpy(more, entry, 5 * LINE);
     more[5 * LINE] = ' ';
     check("the example", entry, 5 * LINE, 0, 0, 5, 1, 1, 0);
@@ -150,6 +59,11 @@ static void checks(const char *entry, const text *wrong)
     check("no END", entry, 4 * LINE, 12, 5, 4, 1, 1, 0);
     check("no HEADER", entry + LINE, 4 * LINE, 5, 1, 0, 0, 0, 0);
     check("nothing", entry, 0, 12, 1, 0, 0, 0, 0);
+    check("the same atom twice", twins.bytes, twins.size, 21, 5, 4, 2, 1, 0);
+    twins.bytes[4 * LINE + 16] = 'A';
+    check("the same atom at two locations", twins.bytes, twins.size, 0, 0, 8, 3, 1, 1);
+    memcpy(twins.bytes + 4 * LINE + 12, twins.bytes + LINE + 12, 68);
+    check("the same atom, ATOM and HETATM", twins.bytes, twins.size, 21, 5, 4, 2, 1, 0);
 }
 
 /* ---- the table */
@@ -206,7 +120,7 @@ static void write(const char *what, writes *call, const text *t, const station_s
 
 static void orders(const text *wrong)
 {
-    text t = three(), saved = {{0}, 0}, tray = {{0}, 0}, none = {{0}, 0};
+    text t = three(), twins = three_with("B   7"), saved = {{0}, 0}, tray = {{0}, 0}, none = {{0}, 0};
     station_slot is[4], other[4];
     uint64_t count;
     station_load((const uint8_t *)t.bytes, t.size, is, 4, &count);
@@ -225,6 +139,7 @@ static void orders(const text *wrong)
     order("fragment 4", &t, is, 4, 4, 1, 15, NULL);
     order("a short table", &t, is, 3, 1, 1, 13, NULL);
     order("a wrong text", wrong, is, 4, 1, 1, 6, NULL);
+    order("the same atom twice", &twins, is, 4, 1, 1, 21, NULL);
     memcpy(other, is, sizeof other);
     other[3].x++;
     order("another text's table", &t, other, 4, 1, 1, 18, NULL);
@@ -234,10 +149,12 @@ static void orders(const text *wrong)
     write("save: a short table", station_save, &t, is, 3, t.size, 13, &saved);
     write("save: another text's table", station_save, &t, other, 4, t.size, 18, &saved);
     write("save: a wrong text", station_save, wrong, is, 4, t.size, 6, &saved);
+    write("save: the same atom twice", station_save, &twins, is, 4, t.size, 21, &saved);
     write("tray: with room to spare", station_tray, &t, is, 4, t.size, 0, &tray);
     write("tray: into just enough", station_tray, &t, is, 4, tray.size, 0, &tray);
     write("tray: into a byte less", station_tray, &t, is, 4, tray.size - 1, 17, &tray);
     write("tray: into nothing", station_tray, &t, is, 4, 0, 17, &tray);
+    write("tray: the same atom twice", station_tray, &twins, is, 4, t.size, 21, &tray);
     order("fragment 1 aside, by 255", &t, is, 4, 1, 255, 0, "1110");
     order("fragment 1 back", &t, is, 4, 1, 0, 0, "0010");
     order("fragment 2 back", &t, is, 4, 2, 0, 0, "0000");
@@ -281,7 +198,7 @@ static void fragments(const char *what, const text *t, const station_slot *is, s
 static void at_once(const text *wrong)
 {
     static const uint8_t second[4] = {0, 1, 0, 0}, others[3] = {1, 0, 255}, none[3] = {0};
-    text t = three();
+    text t = three(), twins = three_with("B   7");
     station_slot is[5], other[4]; /* a slot to spare, whose content plays no part */
     uint64_t count;
     memset(is, 0x77, sizeof is);
@@ -296,6 +213,7 @@ static void at_once(const text *wrong)
     fragments("a short table", &t, is, 3, 4, 13);
     fragments("a fragment with two marks", &t, other, 4, 4, 18);
     fragments("a wrong text", wrong, is, 4, 4, 6);
+    fragments("the same atom twice", &twins, is, 4, 4, 21);
     arrange("the second aside", &t, is, 4, second, 3, 0, "0010");
     arrange("the second aside again", &t, is, 4, second, 3, 0, "0010");
     arrange("a byte too few", &t, is, 4, second, 2, 15, NULL);
@@ -304,6 +222,7 @@ static void at_once(const text *wrong)
     arrange("a short table", &t, is, 3, others, 3, 13, NULL);
     arrange("a fragment with two marks", &t, other, 4, others, 3, 18, NULL);
     arrange("a wrong text", wrong, is, 4, others, 3, 6, NULL);
+    arrange("the same atom twice", &twins, is, 4, others, 3, 21, NULL);
     arrange("the others aside, by 1 and 255", &t, is, 4, others, 3, 0, "1101");
     fragments("whatever is aside", &t, is, 5, 6, 0);
     is[4].mark = 7;
@@ -419,7 +338,7 @@ static void feeds(void)
 int main(void)
 {
     char entry[5 * LINE + 1];
-    text wrong = {{0}, 5 * LINE};
+    text wrong = {{0}, 5 * LINE}, twins = three_with("B   7");
     if (fread(entry, 1, sizeof entry, stdin) != 5 * LINE) {
         fputs("standard input is not the first worked example (crates/report/stdin)\n", stderr);
         return 2;
@@ -432,6 +351,8 @@ int main(void)
     load("a slot to spare", entry, 5 * LINE, 3, 0);
     load("a slot too few", entry, 5 * LINE, 1, 13);
     load("a wrong text", wrong.bytes, 5 * LINE, 2, 6);
+    load("the same atom twice", twins.bytes, twins.size, 4, 21);
+    load("the same atom twice, a short table", twins.bytes, twins.size, 1, 21);
     orders(&wrong);
     at_once(&wrong);
     lines(entry, &wrong);

@@ -2,7 +2,7 @@
 import os, re, shutil, subprocess, sys
 
 from .files import write
-from .sources import source, types_of
+from .sources import below, source, types_of
 
 
 def dev(repo, name, *words):  # what `rt dev` says
@@ -23,10 +23,15 @@ def generate(repo, name, out):
         sys.exit(said[:4000])
 
 
+def listed(line, kept):  # a line of crates.txt; a crate that is written anew may name any below it, since its stubs make up values of their types
+    name, colon, _ = line.partition(":")
+    return line if not colon or line.startswith("#") or kept(name) else f"{name}: {' '.join(below(name))}\n"
+
+
 def linked(repo, kept):  # a repository with links to the crates that are kept; its target/ stays, so that they are not proved again
     shutil.rmtree(f"{repo}/crates", ignore_errors=True)
     os.makedirs(f"{repo}/crates", exist_ok=True)
-    shutil.copy("crates.txt", f"{repo}/crates.txt")
+    write(f"{repo}/crates.txt", "".join(listed(line, kept) for line in open("crates.txt", encoding="utf-8")))
     for c in os.listdir("crates"):
         if kept(c): os.symlink(os.path.abspath(f"crates/{c}"), f"{repo}/crates/{c}")
 

@@ -57,11 +57,25 @@ def bound(files, f, g):  # whether one of two functions calls the other
     return calls(f, g) or calls(g, f)
 
 
+def listing():  # what crates.txt lists for each crate
+    lines = (l.partition(":") for l in open("crates.txt", encoding="utf-8") if ":" in l and not l.startswith("#"))
+    return {name: crates.split() for name, _, crates in lines}
+
+
+def below(crate):  # the crates that a crate needs, and those that these need, in the order of crates.txt
+    needs, found, ends = listing(), set(), [crate]
+    while ends:
+        more = [c for c in needs.get(ends.pop(), []) if c not in found]
+        found.update(more)
+        ends += more
+    return [c for c in needs if c in found] + sorted(found - set(needs))
+
+
 class Sources:
     def __init__(self, crate, structs):
         self.crate, self.structs = crate, structs
-        needs = {l.split(":")[0]: l.split(":")[1].split() for l in open("crates.txt") if ":" in l}
-        self.needs = needs[crate]
+        needs = listing()
+        self.needs = below(crate)
         twins = {c for c in self.needs if c in needs and self.lends(c)}  # they too are twins, and so are the crates between
         while more := {c for c in self.needs if c not in twins and twins & set(needs.get(c, []))}:
             twins |= more

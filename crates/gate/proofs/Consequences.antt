@@ -12,6 +12,9 @@ use lib.ListN.{length, take, drop, length-take}
 use lib.Seq.{take-take}
 use Rattle.ascii.specs.Tests.{either}
 use Rattle.ascii.proofs.Choice.{picks, not-false, both-split, either-split, either-none}
+use Rattle.coordinate.specs.declared.Identity.{Identity}
+use Rattle.coordinate.specs.declared.Atom.{Atom}
+use Rattle.residue.specs.Residues.{sameResidue}
 use Rattle.master.specs.declared.Tally.{Tally}
 use Rattle.conect.specs.declared.Conect.{Conect as ConectOf}
 use Rattle.line.specs.declared.Record.{Record}
@@ -31,12 +34,15 @@ use Rattle.rules.specs.Rules.{judgeOf, nextOf, carriedNext, typedNext, startOf}
 use Rattle.rules.proofs.Laws.{judge-typed, judge-wrong}
 use Rattle.gate.specs.declared.Verdict.{Verdict}
 use Rattle.rows.specs.Text.{pieceAt, row, down}
-use Rattle.serials.specs.Known.{isSite, someOf, named, partnerKnown, bondKnown, lookOf}
-use Rattle.gate.specs.Gate.{refusedOf, finishOf, checkLines, checkOf}
-use Rattle.gate.specs.Promise.{PartnerBefore, Names, linesOf, countsTo, Consequences}
+use Rattle.serials.specs.Known.{isSite, someOf, named, partnerKnown, bondKnown}
+use Rattle.gate.specs.Gate.{lookOf, refusedOf, finishOf, checkLines, checkOf}
+use Rattle.gate.specs.Promise.{PartnerBefore, Names, SixFields, linesOf, countsTo, Consequences}
 use Rattle.serials.specs.Search.{serialOf}
 use Rattle.rows.proofs.Cut.{cut-done}
 use Rattle.serials.proofs.Rows.{carried-ends, bad-number}
+use Rattle.serials.proofs.Block.{some-at}
+use Rattle.twins.specs.Twins.{sameAtom, isTwin}
+use Rattle.twins.proofs.Self.{atom-self}
 use Rattle.gate.proofs.Runs.{stateAt, GoodTo, Reached, reached, unrolled, answered}
 
 -- ---- serials rise
@@ -55,6 +61,21 @@ rising t n g j k h l cj ck =
     high : (R : Reached t n) → (b : Bool) → ltb k (R .span .hi) ≡ b → k < R .span .hi
     high R true u = ltb-true k (R .span .hi) u
     high R false u = absurd (false≢true (sym (R .block .high k (ltb-false _ _ u) l) ∙ ck))
+
+-- ---- no two atoms share the six fields
+shared-same : (a b : Identity) → SixFields b a → sameAtom b a ≡ true
+unfolding sameAtom sameResidue
+shared-same a b e =
+    let s = atom-self a in
+    rw (e .residue-name, e .chain, e .residue-number, e .insertion, e .name, e .alternate) s
+
+pub differ : (t : List ℕ) (n : ℕ) → GoodTo (row t) n → (j k : ℕ) (x y : Bool) (a b : Atom) → j < k → k < n → row t j ≡ Typed (Coordinate x a)
+    → row t k ≡ Typed (Coordinate y b) → SixFields (b .identity) (a .identity) → ⊥
+differ t n g j k x y a b h l ea eb e =
+    let q : judgeOf (lookOf (down (row t) k) (Typed (Coordinate y b))) (stateAt (row t) k) (Typed (Coordinate y b)) ≡ 0 = rw eb at (g k l) in
+    let z : someOf (isTwin (b .identity)) (down (row t) k) ≡ false = judge-typed _ (stateAt (row t) k) (Coordinate y b) q .twin in
+    let f : isTwin (b .identity) (row t j) ≡ true = rw ea (shared-same (a .identity) (b .identity) e) in
+    false≢true (sym z ∙ some-at (isTwin (b .identity)) (row t) k j h f)
 
 -- ---- every number on a CONECT line is the serial of an ATOM or HETATM line before it
 some-where : (f : Line → Bool) (L : ℕ → Line) (n : ℕ) → someOf f (down L n) ≡ true → (j : ℕ) × (j < n) × (f (L j) ≡ true)
@@ -188,6 +209,7 @@ consequences t =
     let A = answered t in
     record {
       serials-rise = rising t ((checkOf t) .good) (A .good-to);
+      atoms-differ = differ t ((checkOf t) .good) (A .good-to);
       conects-name = λ i c. conect-names t ((checkOf t) .good) i c (A .good-to);
       masters-count = λ i m. master-totals t ((checkOf t) .good) i m (A .good-to);
       counts-true = A .counts ∙ counted t ((checkOf t) .good) (A .good-to);

@@ -2,12 +2,12 @@
 -- Assumes nothing.
 use Prim.Native.Nat.{ℕ, _+_, _*_, _≤_, _<_}
 use mathlib.Core.List.{List, _∷_, map}
-use mathlib.Core.Bool.{Bool}
-use mathlib.Core.Path.{_≡_, refl, sym, _∙_, ap}
+use mathlib.Core.Bool.{Bool, true, false, true≢false}
+use mathlib.Core.Path.{_≡_, refl, sym, _∙_, ap, subst}
 use native.Mathlib.Omega.{arith}
 use native.Mathlib.Numerals.{add-one}
-use borrow.Author.Tests.{eq-eqb, ne-eqb}
-use lib.Dec.{eqb}
+use borrow.Author.Tests.{eq-eqb, ne-eqb, ltb-true, ltb-false, lt-ltb}
+use lib.Dec.{eqb, ltb}
 use lib.ListN.{length, take, drop, length-take, length-drop}
 use Rattle.ascii.proofs.Choice.{picks}
 use Rattle.pieces.specs.declared.Line.{Line}
@@ -24,9 +24,10 @@ use Rattle.search.specs.Search.{span}
 use Rattle.facets.specs.Facets.{isCoord}
 use Rattle.gate.specs.declared.Verdict.{Verdict}
 use Rattle.rows.specs.Text.{cut, pieceAt, row, down}
-use Rattle.serials.specs.Known.{lookOf}
-use Rattle.gate.specs.Gate.{numberIn, checkLines, checkOf, refusedOf, finishOf}
+use Rattle.gate.specs.Gate.{lookOf, numberIn, checkLines, checkOf, refusedOf, finishOf}
 use Rattle.serials.specs.Search.{growOf, Block, Rising}
+use Rattle.trail.specs.declared.Watch.{Watch}
+use Rattle.trail.specs.Trail.{Watched}
 use Rattle.rows.proofs.Cut.{cut-next, cut-done}
 use Rattle.serials.proofs.Rows.{carried-away, bad-number, piece-long}
 use Rattle.serials.proofs.Block.{grow-carried, grow-typed}
@@ -156,9 +157,31 @@ pub sofar-done : (t : List ℕ) (i : ℕ) (b : Span) (s : State) (r : Verdict) �
 unfolding checkLines
 sofar-done t i b s r S h e = e ∙ sym (S .rest ∙ rw (cut-done t i h))
 
+-- where a coordinate line comes after others, these reach up to it
+pub joined : (t : List ℕ) (i : ℕ) (b : Span) (s u : State) (l : Line) → l ≡ row t i → isCoord l ≡ true → Block (row t) i b s → Block (row t) (i + 1) (growOf b i l) u
+    → b .lo < b .hi → b .hi ≡ i
+joined t i b s u l el c B G h = go (ltb (b .hi) i) refl
+  where
+    lo : growOf b i l .lo ≡ b .lo
+    lo = rw (c, lt-ltb (b .lo) (b .hi) h)
+
+    hi : growOf b i l .hi ≡ i + 1
+    hi = rw c
+
+    go : (x : Bool) → ltb (b .hi) i ≡ x → b .hi ≡ i
+    go true e =
+        let g : b .hi < i = ltb-true _ _ e in
+        let p : isCoord (row t (b .hi)) ≡ true = G .coord (b .hi) (omega (arith, lo)) (omega (arith, hi)) in
+        absurd (true≢false (sym p ∙ B .high (b .hi) (omega arith) g))
+    go false e = let g : i ≤ b .hi = ltb-false _ _ e in omega (arith, B .hi-le)
+
 -- the number that is judged after a look back
-pub judged-number : (seen : List Line) (s : State) (l : Line) (v : Looked) (j : ℕ) → v ≡ lookOf seen l → j ≡ judgeOf v s l → j ≡ numberIn seen s l
-judged-number seen s l v j e f = rw e at f
+pub judged-number : (seen : List Line) (s : State) (l : Line) (k w : Bool) (j : ℕ) → k ≡ lookOf seen l .known → w ≡ lookOf seen l .twin
+    → j ≡ judgeOf (record { known = k; twin = w }) s l → j ≡ numberIn seen s l
+judged-number seen s l k w j e f g = rw (e, f) at g
+
+pub watched-on : (t : List ℕ) (b c : Span) (w : Watch) → b ≡ c → Watched t c w → Watched t b w
+watched-on t b c w e h = subst (λ (x : Span). Watched t x w) (sym e) h
 
 -- ---- a turn, as the code has it: l is the line, j its number of refusal
 module _ (t : List ℕ) (i : ℕ) (b : Span) (s : State) (S : Sofar t i b s) (h : 81 * i < length t) (l : Line) (j : ℕ)
@@ -171,3 +194,9 @@ module _ (t : List ℕ) (i : ℕ) (b : Span) (s : State) (S : Sofar t i b s) (h 
 
   pub turn-next : j ≡ 0 → (c : Span) → c ≡ growOf b i l → (u : State) → u ≡ nextOf s l → Sofar t (i + 1) c u
   turn-next e c ec u eu = rw (ec, eu, el) (sofar-next t i b s S h (sym turn-number ∙ e))
+
+  -- what the turn leaves to look back by is known of the lines with this one
+  pub turn-watched : j ≡ 0 → (w : Watch) → ((isCoord l ≡ true → b .lo < b .hi → b .hi ≡ i) → Watched t (growOf b i l) w) → (c : Span) → c ≡ growOf b i l → Watched t c w
+  turn-watched e w f c ec =
+      let G : Block (row t) (i + 1) (growOf b i l) (nextOf s l) = turn-next e (growOf b i l) refl (nextOf s l) refl .block in
+      watched-on t c (growOf b i l) w ec (f (λ y. joined t i b s (nextOf s l) l el y (S .block) G))

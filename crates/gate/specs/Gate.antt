@@ -2,12 +2,14 @@
 use Rattle.ascii.specs.Library.{ℕ, _+_, List, [], _∷_, map, eqb, pick}
 use Rattle.pieces.specs.declared.{Line.Line}
 use Rattle.pieces.specs.Pieces.{lineOf}
-use Rattle.rules.specs.declared.{State.State}
+use Rattle.facets.specs.Facets.{spotIn, bondIn}
+use Rattle.rules.specs.declared.{Looked.Looked, State.State}
 use Rattle.places.specs.Places.{endPlace}
 use Rattle.rules.specs.Rules.{judgeOf, nextOf, startOf}
 use Rattle.gate.specs.declared.{Verdict.Verdict}
 use Rattle.rows.specs.Text.{cut}
-use Rattle.serials.specs.Known.{lookOf}
+use Rattle.serials.specs.Known.{bondKnown}
+use Rattle.twins.specs.Twins.{twinOf}
 
 -- the next line gets the number n
 unfoldable pub refusedOf : ℕ → State → Verdict
@@ -16,6 +18,10 @@ refusedOf n s = record { number = n; line = s .lines + 1; good = s .lines; count
 -- the text is over: granted where END was the last line, else 12
 unfoldable pub finishOf : State → Verdict
 finishOf s = pick (eqb (s .place) endPlace) (record { number = 0; line = 0; good = s .lines; counts = s .counts }) (refusedOf 12 s)
+
+-- what a look back over the lines seen says of a line
+abbrev pub lookOf : List Line → Line → Looked
+lookOf seen l = record { known = bondKnown seen (bondIn l); twin = twinOf seen (spotIn l) }
 
 -- the number of a line, after the good lines seen (the last one first), which left the state s
 abbrev pub numberIn : List Line → State → Line → ℕ

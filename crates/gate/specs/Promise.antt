@@ -1,5 +1,6 @@
 -- What follows of any text from the answer of the check, in plain words: the statement. It is proved in proofs/.
-use Rattle.ascii.specs.Library.{ℕ, zero, suc, _+_, _*_, _-_, _≤_, _<_, List, true, _≡_, _⊎_, length, take, eqb, pick}
+use Rattle.ascii.specs.Library.{ℕ, zero, suc, _+_, _*_, _-_, _≤_, _<_, List, Bool, true, _≡_, _⊎_, length, take, eqb, pick}
+use Rattle.coordinate.specs.declared.{Identity.Identity, Atom.Atom}
 use Rattle.conect.specs.declared.{Conect.Conect}
 use Rattle.master.specs.declared.{Tally.Tally}
 use Rattle.pieces.specs.declared.{Line.the-variants.Typed}
@@ -28,6 +29,15 @@ pub record Names (t : List ℕ) (i : ℕ) (bond : Conect) : Type 0 where
   pub c : PartnerBefore t i (bond .c .0)
   pub d : PartnerBefore t i (bond .d .0)
 
+-- two atoms share the six fields
+pub record SixFields (a b : Identity) : Type 0 where
+  pub residue-name : a .residue .name ≡ b .residue .name
+  pub chain : a .residue .chain ≡ b .residue .chain
+  pub residue-number : a .residue .number ≡ b .residue .number
+  pub insertion : a .residue .insertion ≡ b .residue .insertion
+  pub name : a .name ≡ b .name
+  pub alternate : a .alternate ≡ b .alternate
+
 -- how many of the first n lines are counted in `which` of the nine counts
 unfoldable pub linesOf : ℕ → List ℕ → ℕ → ℕ
 linesOf which t zero = 0
@@ -52,6 +62,9 @@ pub record Consequences (t : List ℕ) : Type 0 where
   -- among the good lines serials rise over ATOM, HETATM and TER
   pub serials-rise : (j k : ℕ) → j < k → k < checkOf t .good → isCoord (row t j) ≡ true → isCoord (row t k) ≡ true
       → serialOf (row t j) < serialOf (row t k)
+  -- no two ATOM or HETATM lines among the good ones share residue name, chain, residue number, insertion code, atom name and alternate letter
+  pub atoms-differ : (j k : ℕ) (x y : Bool) (a b : Atom) → j < k → k < checkOf t .good → row t j ≡ Typed (rec.Coordinate x a)
+      → row t k ≡ Typed (rec.Coordinate y b) → SixFields (b .identity) (a .identity) → ⊥
   -- every number on a good CONECT line is the serial of an ATOM or HETATM line before it
   pub conects-name : (i : ℕ) (c : Conect) → i < checkOf t .good → row t i ≡ Typed (rec.Conect c) → Names t i c
   -- the numbers of a good MASTER line are the numbers of such lines before it

@@ -1,16 +1,23 @@
 // The gate over a whole text.
 use pieces::Line;
 use places::Counts;
+use rules::Looked;
 use rules::State;
 use serials::Past;
+use trail::Watch;
 ghost use mathlib.Core.Path.{_≡_};
-ghost use Prim.Native.Nat.{ℕ, _<_};
+ghost use mathlib.Core.List.{List};
+ghost use Prim.Native.Nat.{ℕ, _*_, _<_};
+ghost use lib.ListN.{length};
+ghost use mathlib.Core.Bool.{true};
 ghost use Rattle.places.specs.Room.{Room};
+ghost use Rattle.facets.specs.Facets.{isCoord};
 ghost use Rattle.rows.specs.Text.{row, down};
 ghost use Rattle.rules.specs.declared.State.{State as StateOf};
 ghost use Rattle.rules.specs.Rules.{startOf, nextOf};
 ghost use Rattle.search.specs.Search.{span};
 ghost use Rattle.serials.specs.Search.{growOf, Block, Rising};
+ghost use Rattle.trail.specs.Trail.{Watched};
 ghost use Rattle.gate.specs.Gate.{refusedOf, finishOf, numberIn, checkOf};
 
 // The answer: the number of refusal, the offending line (0 if granted), the count of good lines, and the nine counts over those.
@@ -21,10 +28,11 @@ pub struct Verdict {
     pub counts: Counts,
 }
 
-// What is carried from line to line: the state, and what is remembered to look back by.
+// What is carried from line to line: the state, and what is remembered to look back by, for serials and for atoms.
 pub struct Course {
     pub state: State,
     pub past: Past,
+    pub watch: Watch,
 }
 
 // What a line gives: its number, and where that is 0 how it goes on.
@@ -57,25 +65,41 @@ pub fn check(text: &[u8]) -> Verdict
 // Before the first line.
 pub fn start() -> Course
     ensures { λ r. ⌜ (r .state ≡ startOf) × (r .past .block ≡ span 0 0) ⌝ }
+    ensures { λ r. ⌜ ((t : List ℕ) → Watched t (span 0 0) (r .watch)) ⌝ }
 {
     let s = rules::start();
     let p = serials::nothing();
-    Course { state: s, past: p }
+    let w = trail::start();
+    Course {
+        state: s,
+        past: p,
+        watch: w,
+    }
 }
 
 // What line i gives, which is l.
 pub fn turn(text: &[u8], i: usize, c: Course, l: Line) -> Onward
+    requires { ⌜ (81 * i < length (now text)) × (l ≡ row (now text) i) ⌝ }
     requires { ⌜ Rising (now text) (c .past .block .lo) (c .past .block .hi) ⌝ }
+    requires { ⌜ Watched (now text) (c .past .block) (c .watch) ⌝ }
     requires { ⌜ Room (c .state .counts) ⌝ }
     requires { ⌜ (c .state .lines < 9223372036854775808) × (i < 9223372036854775808) ⌝ }
     ensures { λ r. ⌜ ((n : ℕ) (s : StateOf) → Block (row (now (text .entry))) n (c .past .block) s → r .number ≡ numberIn (down (row (now (text .entry))) n) (c .state) l) ⌝ }
     ensures { λ r. ⌜ (r .number ≡ 0 → (r .course .state ≡ nextOf (c .state) l) × (r .course .past .block ≡ growOf (c .past .block) i l)) ⌝ }
+    ensures { λ r. ⌜ (r .number ≡ 0 → (isCoord l ≡ true → c .past .block .lo < c .past .block .hi → c .past .block .hi ≡ i) → Watched (now (text .entry)) (growOf (c .past .block) i l) (r .course .watch)) ⌝ }
 {
     let s = c.state;
     let p = c.past;
-    let v = serials::look_back(text, p, l);
-    let look = v.looked;
-    let near = v.near;
+    let w = c.watch;
+    let b = p.block;
+    let k = serials::known(text, p, l);
+    let near = k.near;
+    let g = twins::look(text, b, w, i, l);
+    let watch = g.watch;
+    let look = Looked {
+        known: k.yes,
+        twin: g.twin,
+    };
     let j = rules::judge(look, s, l);
     if j != 0 {
         return Onward {
@@ -87,7 +111,11 @@ pub fn turn(text: &[u8], i: usize, c: Course, l: Line) -> Onward
     let q = serials::remember(p, near, i, l);
     Onward {
         number: 0,
-        course: Course { state: t, past: q },
+        course: Course {
+            state: t,
+            past: q,
+            watch: watch,
+        },
     }
 }
 

@@ -27,6 +27,7 @@ pub record Good (look : Looked) (s : State) (r : Record) : Type 0 where
   pub place : placeBad (s .place) (recordKind r) ≡ false
   pub serial : serialBad (s .last) (spotOf r) ≡ false
   pub run : runBad (s .run) (spotOf r) ≡ false
+  pub twin : look .twin ≡ false
   pub bond : bondBad (look .known) (s .bond) (bondOf r) ≡ false
   pub fold : foldBad (s .helix) (s .ladder) (foldOf r) ≡ false
   pub count : countBad (s .counts) (totalOf r) ≡ false
@@ -36,13 +37,15 @@ unfolding typedBad
 typed-good look s r e5 =
     let e7 = pick-rest (placeBad (s .place) (recordKind r)) 5 _ (omega arith) e5 in
     let e8 = pick-rest (serialBad (s .last) (spotOf r)) 7 _ (omega arith) e7 in
-    let e9 = pick-rest (runBad (s .run) (spotOf r)) 8 _ (omega arith) e8 in
+    let e21 = pick-rest (runBad (s .run) (spotOf r)) 8 _ (omega arith) e8 in
+    let e9 = pick-rest (look .twin) 21 _ (omega arith) e21 in
     let e10 = pick-rest (bondBad (look .known) (s .bond) (bondOf r)) 9 _ (omega arith) e9 in
     let e11 = pick-rest (foldBad (s .helix) (s .ladder) (foldOf r)) 10 _ (omega arith) e10 in
     record {
       place = pick-no (placeBad (s .place) (recordKind r)) 5 _ (omega arith) e5;
       serial = pick-no (serialBad (s .last) (spotOf r)) 7 _ (omega arith) e7;
       run = pick-no (runBad (s .run) (spotOf r)) 8 _ (omega arith) e8;
+      twin = pick-no (look .twin) 21 _ (omega arith) e21;
       bond = pick-no (bondBad (look .known) (s .bond) (bondOf r)) 9 _ (omega arith) e9;
       fold = pick-no (foldBad (s .helix) (s .ladder) (foldOf r)) 10 _ (omega arith) e10;
       count = pick-no (countBad (s .counts) (totalOf r)) 11 _ (omega arith) e11;
@@ -50,7 +53,7 @@ typed-good look s r e5 =
 
 pub good-typed : (look : Looked) (s : State) (r : Record) → Good look s r → typedBad look s r ≡ 0
 unfolding typedBad
-good-typed look s r g = rw (g .place, g .serial, g .run, g .bond, g .fold, g .count)
+good-typed look s r g = rw (g .place, g .serial, g .run, g .twin, g .bond, g .fold, g .count)
 
 -- ---- any line
 pub judge-typed : (look : Looked) (s : State) (r : Record) → judgeOf look s (Typed r) ≡ 0 → Good look s r

@@ -116,15 +116,16 @@ abbrev pub countBad : Counts → Total → Bool
 countBad n (Counted t) = not (sameCounts t n)
 countBad n Uncounted = false
 
--- ---- the lowest number of a typed line, 0 where it is good
+-- ---- the first number of a typed line, 0 where it is good; 21: its atom stands on a line before it (twin)
 unfoldable pub typedBad : Looked → State → Record → ℕ
 typedBad look s r =
     pick (placeBad (s .place) (recordKind r)) 5
     (pick (serialBad (s .last) (spotOf r)) 7
     (pick (runBad (s .run) (spotOf r)) 8
+    (pick (look .twin) 21
     (pick (bondBad (look .known) (s .bond) (bondOf r)) 9
     (pick (foldBad (s .helix) (s .ladder) (foldOf r)) 10
-    (pick (countBad (s .counts) (totalOf r)) 11 0)))))
+    (pick (countBad (s .counts) (totalOf r)) 11 0))))))
 
 -- the number of any line, and what a look back over the lines before it said
 unfoldable pub judgeOf : Looked → State → Line → ℕ

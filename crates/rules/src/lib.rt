@@ -45,9 +45,11 @@ pub struct Ladder {
     pub strands: u32,
 }
 
-// What a look back over the lines before a line says: each number on a CONECT line is the serial of an atom.
+// What a look back over the lines before a line says: each number on a CONECT line is the serial of an atom; the atom of an ATOM or HETATM
+// line stands on one of them.
 pub struct Looked {
     pub known: bool,
+    pub twin: bool,
 }
 
 // What the good lines so far leave to judge the next by.
@@ -66,7 +68,7 @@ pub struct State {
     pub lines: u64,
 }
 
-// The lowest number of a typed line, 0 where it is good. It goes from the highest number to the lowest with no branch.
+// The first number of a typed line, 0 where it is good. It goes from the last test to the first with no branch.
 fn typed_bad(look: Looked, s: State, r: Record) -> u8
     ensures { λ n. ⌜ n ≡ typedBad look s r ⌝ }
 {
@@ -81,7 +83,8 @@ fn typed_bad(look: Looked, s: State, r: Record) -> u8
     let n11 = choose(count_bad(counts, total), 11, 0);
     let n10 = choose(fold_bad(s.helix, ladder, fold), 10, n11);
     let n9 = choose(bond_bad(look.known, s.bond, bond), 9, n10);
-    let n8 = choose(run_bad(run, spot), 8, n9);
+    let n21 = choose(look.twin, 21, n9);
+    let n8 = choose(run_bad(run, spot), 8, n21);
     let n7 = choose(serial_bad(s.last, spot), 7, n8);
     choose(places::place_bad(s.place, k), 5, n7)
 }

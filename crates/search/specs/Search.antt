@@ -5,6 +5,10 @@ use Rattle.search.specs.declared.{Span.Span}
 abbrev pub span : ℕ → ℕ → Span
 span lo hi = record { lo = lo; hi = hi }
 
+-- a span with place n taken in; an empty one begins there
+abbrev pub including : Span → ℕ → Span
+including s n = span (pick (ltb (s .lo) (s .hi)) (s .lo) n) (n + 1)
+
 -- what is left to search for x once `there` was seen at place m
 unfoldable pub partOf : Span → ℕ → ℕ → ℕ → Span
 partOf s m there x = pick (ltb there x) (span (m + 1) (s .hi)) (pick (eqb there x) (span m m) (span (s .lo) m))

@@ -175,3 +175,13 @@ pub some-none : (f : Line → Bool) (L : ℕ → Line) (n : ℕ) → ((j : ℕ) 
 unfolding someOf down either
 some-none f L zero h = refl
 some-none f L (suc n) h = rw (h n (omega arith)) (some-none f L n (λ j g. h j (omega arith)))
+
+-- a test that is false off the coordinate lines, and that none of the block passes, is passed by none of the lines so far
+pub block-none : (f : Line → Bool) → ((l : Line) → isCoord l ≡ false → f l ≡ false) → (L : ℕ → Line) (n : ℕ) (b : Span) (s : State) → Block L n b s
+    → ((j : ℕ) → b .lo ≤ j → j < b .hi → f (L j) ≡ false) → someOf f (down L n) ≡ false
+block-none f off L n b s B none = some-none f L n (λ j h. go j h (ltb j (b .lo)) refl (ltb j (b .hi)) refl)
+  where
+    go : (j : ℕ) → j < n → (y : Bool) → ltb j (b .lo) ≡ y → (z : Bool) → ltb j (b .hi) ≡ z → f (L j) ≡ false
+    go j h true u z v = off (L j) (B .low j (ltb-true _ _ u))
+    go j h false u true v = none j (ltb-false _ _ u) (ltb-true _ _ v)
+    go j h false u false v = off (L j) (B .high j (ltb-false _ _ v) h)

@@ -24,7 +24,7 @@ use Rattle.search.proofs.Halving.{part-held}
 use Rattle.rows.specs.Text.{pieceAt, row, down}
 use Rattle.serials.specs.Known.{isAtom, isSite, named, partnerKnown, bondKnown}
 use Rattle.serials.specs.Search.{spotSerial, serialOf, Block, Rising, Finds}
-use Rattle.serials.proofs.Block.{some-at, some-none}
+use Rattle.serials.proofs.Block.{some-at, block-none}
 use Rattle.serials.proofs.Rows.{coord-serial}
 
 -- ---- an ATOM or HETATM line with serial x is a coordinate line with that serial
@@ -74,12 +74,7 @@ pub found-named : (L : ℕ → Line) (n : ℕ) (b : Span) (s : State) (x j : ℕ
 found-named L n b s x j B f = sym (some-at (isSite x) L n j (omega (arith, B .hi-le, f .1)) (f .2))
 
 pub nowhere-named : (L : ℕ → Line) (n : ℕ) (b : Span) (s : State) (x : ℕ) → Block L n b s → Finds L (b .lo) (b .hi) x found.Nowhere → false ≡ named (down L n) x
-nowhere-named L n b s x B f = sym (some-none (isSite x) L n (λ j h. go j h (ltb j (b .lo)) refl (ltb j (b .hi)) refl))
-  where
-    go : (j : ℕ) → j < n → (y : Bool) → ltb j (b .lo) ≡ y → (z : Bool) → ltb j (b .hi) ≡ z → isSite x (L j) ≡ false
-    go j h true u z v = site-coord (spotIn (L j)) x (B .low j (ltb-true _ _ u))
-    go j h false u true v = f j (ltb-false _ _ u) (ltb-true _ _ v)
-    go j h false u false v = site-coord (spotIn (L j)) x (B .high j (ltb-false _ _ v) h)
+nowhere-named L n b s x B f = sym (block-none (isSite x) (λ l. site-coord (spotIn l) x) L n b s B f)
 
 -- ---- the numbers of a CONECT line, looked for one after the other
 pub partner-absent : (seen : List Line) (x : ℕ) → x ≡ 0 → true ≡ partnerKnown seen x

@@ -2,8 +2,7 @@
 use Rattle.ascii.specs.Library.{ℕ, List, [], _∷_, Bool, true, false, eqb, both, either}
 use Rattle.pieces.specs.declared.{Line.Line}
 use Rattle.facets.specs.declared.{Spot.Spot, Spot.the-variants.Site, Spot.the-variants.Close, Spot.the-variants.Nowhere, Bond.Bond, Bond.the-variants.Bonds, Bond.the-variants.Loose}
-use Rattle.facets.specs.Facets.{spotIn, bondIn}
-use Rattle.rules.specs.declared.{Looked.Looked}
+use Rattle.facets.specs.Facets.{spotIn}
 
 -- the ATOM or HETATM line with serial n
 abbrev pub isAtom : ℕ → Spot → Bool
@@ -35,7 +34,3 @@ bondKnown seen (Bonds c) =
     (both (partnerKnown seen (c .b .0))
     (both (partnerKnown seen (c .c .0)) (partnerKnown seen (c .d .0)))))
 bondKnown seen Loose = true
-
--- all that is looked back for
-abbrev pub lookOf : List Line → Line → Looked
-lookOf seen l = record { known = bondKnown seen (bondIn l) }

@@ -1,12 +1,12 @@
 -- Where the coordinate lines of a text stand, and what a search among them says. (Nothing here is part of the answer.)
-use Rattle.ascii.specs.Library.{ℕ, _+_, _*_, _≤_, _<_, List, true, false, _⊎_, _≡_, ltb, length, pick}
+use Rattle.ascii.specs.Library.{ℕ, _+_, _*_, _≤_, _<_, List, true, false, _⊎_, _≡_, length, pick}
 use Rattle.pieces.specs.declared.{Line.Line}
 use Rattle.facets.specs.declared.{Spot.Spot, Spot.the-variants.Site, Spot.the-variants.Close, Spot.the-variants.Nowhere}
 use Rattle.facets.specs.Facets.{spotIn, isCoord}
 use Rattle.rules.specs.declared.{State.State}
 use Rattle.places.specs.Places.{coordinatePlace, endPlace}
 use Rattle.search.specs.declared.{Span.Span, Found.Found}
-use Rattle.search.specs.Search.{span}
+use Rattle.search.specs.Search.{including}
 use Rattle.rows.specs.Text.{row}
 use Rattle.serials.specs.Known.{isSite}
 use Rattle.search.specs.declared.Found.the-variants as found
@@ -22,7 +22,7 @@ serialOf l = spotSerial (spotIn l)
 
 -- the block of the coordinate lines, with line n taken in
 abbrev pub growOf : Span → ℕ → Line → Span
-growOf b n l = pick (isCoord l) (span (pick (ltb (b .lo) (b .hi)) (b .lo) n) (n + 1)) b
+growOf b n l = pick (isCoord l) (including b n) b
 
 -- a place before the coordinate lines; those inside a trio have numbers above that of END
 abbrev pub Before : ℕ → Type 0

@@ -4,7 +4,6 @@ use conect::Conect;
 use facets::Bond;
 use fields::Serial;
 use pieces::Line;
-use rules::Looked;
 use search::Found;
 use search::Near;
 use search::Sought;
@@ -19,19 +18,13 @@ ghost use Rattle.facets.specs.Facets.{bondIn, isCoord};
 ghost use Rattle.rules.specs.declared.State.{State as StateOf};
 ghost use Rattle.rows.specs.Text.{pieceAt, row, down};
 ghost use Rattle.search.specs.Search.{span, Bracket};
-ghost use Rattle.serials.specs.Known.{isSite, named, partnerKnown, bondKnown, lookOf};
+ghost use Rattle.serials.specs.Known.{isSite, named, partnerKnown, bondKnown};
 ghost use Rattle.serials.specs.Search.{serialOf, growOf, Block, Rising, Finds};
 
 // What is remembered of the lines so far, to look back by: the block of the coordinate lines, and where the last serial was found.
 pub struct Past {
     pub block: Span,
     pub near: Near,
-}
-
-// Where the last serial was found, and what a look back says.
-pub struct Sight {
-    pub near: Near,
-    pub looked: Looked,
 }
 
 // The serial in columns 7-11 of line i.
@@ -156,7 +149,7 @@ fn conect_known(text: &[u8], p: Past, c: Conect) -> Sought
 }
 
 // Whether each number on a CONECT line is the serial of an ATOM or HETATM line so far.
-fn known(text: &[u8], p: Past, l: Line) -> Sought
+pub fn known(text: &[u8], p: Past, l: Line) -> Sought
     requires { ⌜ Rising (now text) (p .block .lo) (p .block .hi) ⌝ }
     ensures { λ r. ⌜ ((n : ℕ) (s : StateOf) → Block (row (now (text .entry))) n (p .block) s → r .yes ≡ bondKnown (down (row (now (text .entry))) n) (bondIn l)) ⌝ }
 {
@@ -168,19 +161,6 @@ fn known(text: &[u8], p: Past, l: Line) -> Sought
             near: near,
             yes: true,
         },
-    }
-}
-
-// What a look back over the lines so far says of a line.
-pub fn look_back(text: &[u8], p: Past, l: Line) -> Sight
-    requires { ⌜ Rising (now text) (p .block .lo) (p .block .hi) ⌝ }
-    ensures { λ r. ⌜ ((n : ℕ) (s : StateOf) → Block (row (now (text .entry))) n (p .block) s → r .looked ≡ lookOf (down (row (now (text .entry))) n) l) ⌝ }
-{
-    let k = known(text, p, l);
-    let near = k.near;
-    Sight {
-        near: near,
-        looked: Looked { known: k.yes },
     }
 }
 

@@ -17,7 +17,7 @@ use Rattle.search.specs.Search.{span}
 use Rattle.rows.specs.Text.{row}
 use Rattle.facets.specs.Facets.{isCoord}
 use Rattle.serials.specs.Search.{serialOf, growOf, Block}
-use Rattle.gate.proofs.Sofar.{Sofar}
+use Rattle.gate.proofs.Sofar.{Sofar, joined}
 use Rattle.slots.specs.declared.Slot.{Slot}
 use Rattle.slots.specs.Slots.{noSlot}
 use Rattle.table.specs.Table.{linesFrom, slotsOf, loadedOf, fits, oneOf, fitsFrom}
@@ -54,24 +54,6 @@ pub seen-rises : (t : List ℕ) (xs : List Slot) (i : ℕ) (b : Span) (s : State
 seen-rises t xs i b s k fit kept K e i' j z h g =
     let u : serialOf (row t (b .lo + i')) < serialOf (row t (b .lo + j)) = K .sofar .block .rise (b .lo + i') (b .lo + j) (omega arith) (omega arith) (omega (arith, K .spots)) in
     rw (K .serials e i' (omega arith), K .serials e j g) u
-
--- where a coordinate line comes after others, these reach up to it
-joined : (t : List ℕ) (i : ℕ) (b : Span) (s u : State) (l : Line) → l ≡ row t i → isCoord l ≡ true → Block (row t) i b s → Block (row t) (i + 1) (growOf b i l) u
-    → b .lo < b .hi → b .hi ≡ i
-joined t i b s u l el c B G h = go (ltb (b .hi) i) refl
-  where
-    lo : growOf b i l .lo ≡ b .lo
-    lo = rw (c, lt-ltb (b .lo) (b .hi) h)
-
-    hi : growOf b i l .hi ≡ i + 1
-    hi = rw c
-
-    go : (x : Bool) → ltb (b .hi) i ≡ x → b .hi ≡ i
-    go true e =
-        let g : b .hi < i = ltb-true _ _ e in
-        let p : isCoord (row t (b .hi)) ≡ true = G .coord (b .hi) (omega (arith, lo)) (omega (arith, hi)) in
-        absurd (true≢false (sym p ∙ B .high (b .hi) (omega arith) g))
-    go false e = let g : i ≤ b .hi = ltb-false _ _ e in omega (arith, B .hi-le)
 
 module _ (t : List ℕ) (xs : List Slot) (i : ℕ) (b : Span) (s : State) (k : ℕ) (fit : Bool) (kept : ℕ) (K : Seen t xs i b s k fit kept)
     (h : 81 * i < length t) (l : Line) (el : l ≡ row t i) (b' : Span) (eb : b' ≡ growOf b i l) (s' : State) (S : Sofar t (i + 1) b' s')

@@ -16,8 +16,7 @@ use Rattle.places.specs.Room.{Room}
 use Rattle.rules.specs.Rules.{judgeOf}
 use Rattle.rows.specs.Text.{cut, pieceAt, row, down}
 use Rattle.facets.specs.Facets.{isCoord}
-use Rattle.serials.specs.Known.{lookOf}
-use Rattle.gate.specs.Gate.{checkOf}
+use Rattle.gate.specs.Gate.{lookOf, checkOf}
 use Rattle.rows.proofs.Cut.{cut-next, cut-done}
 use Rattle.gate.proofs.Runs.{stateAt, reached, answered}
 use Rattle.slots.specs.declared.Slot.{Slot}

@@ -14,8 +14,7 @@ use Rattle.rules.specs.declared.State.{State}
 use Rattle.places.specs.Counts.{noCounts}
 use Rattle.rules.specs.Rules.{nextOf, startOf}
 use Rattle.rows.specs.Text.{cut}
-use Rattle.serials.specs.Known.{lookOf}
-use Rattle.gate.specs.Gate.{checkLines, checkOf}
+use Rattle.gate.specs.Gate.{lookOf, checkLines, checkOf}
 use Rattle.slots.specs.declared.Slot.{Slot}
 use Rattle.table.specs.Table.{linesFrom, loadedOf, oneOf, tableOf}
 use Rattle.table.specs.Deal.{stays, counted, written, outputOf}

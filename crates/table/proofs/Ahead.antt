@@ -1,12 +1,12 @@
 -- Looking ahead in an accepted text: a run that no TER closes any more holds no ATOM, and past the coordinate lines no run is closed.
 -- Assumes nothing.
+use Rattle.gate.specs.Gate.{lookOf}
 use Prim.Native.Nat.{ℕ, _≤_, _<_}
 use mathlib.Core.List.{List, [], _∷_}
 use mathlib.Core.Bool.{Bool, true, false, not}
 use mathlib.Core.Path.{_≡_, refl, sym, _∙_, ap}
 use mathlib.Core.Logic.{inl, ⊎-elim}
 use native.Mathlib.Omega.{arith}
-use Rattle.serials.specs.Known.{lookOf}
 use Rattle.rules.specs.declared.Looked.{Looked}
 use Rattle.ascii.specs.Tests.{pick, either}
 use Rattle.ascii.proofs.Choice.{never, either-none}

@@ -15,8 +15,7 @@ use Rattle.rules.specs.declared.State.{State}
 use Rattle.places.specs.Counts.{noCounts}
 use Rattle.rules.specs.Rules.{judgeOf, nextOf, startOf}
 use Rattle.rows.specs.Text.{cut}
-use Rattle.serials.specs.Known.{lookOf}
-use Rattle.gate.specs.Gate.{checkOf}
+use Rattle.gate.specs.Gate.{lookOf, checkOf}
 use Rattle.slots.specs.declared.Slot.{Slot}
 use Rattle.table.specs.Table.{oneOf}
 use Rattle.table.specs.Deal.{stays, counted, tallyOf, masterPiece, isMaster, written}

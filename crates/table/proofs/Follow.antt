@@ -8,7 +8,7 @@ use mathlib.Core.Logic.{inl, inr}
 use native.Mathlib.Omega.{arith}
 use native.Mathlib.Nat.{le-trans, le-of-lt, le-refl}
 use borrow.Author.Tests.{leb-false, not-false}
-use Rattle.serials.specs.Known.{lookOf}
+use Rattle.gate.specs.Gate.{lookOf}
 use Rattle.rules.specs.declared.Looked.{Looked}
 use Rattle.ascii.specs.Tests.{both, either}
 use Rattle.ascii.proofs.Choice.{never}
@@ -116,12 +116,12 @@ module _ (xs : List Slot) (j : ℕ) (seen : List Line) (s k : State) (het : Bool
   unfolding nextOf typedNext siteNext
   site-het c = tail-het _ (nextOf s (Typed (Coordinate het a))) (s .run) het ls (sane-next _ s (Typed (Coordinate het a)) S (f .0) (f .1)) (f .2) refl c
 
-  pub site-judged : (v : Looked) → isIn xs j ≡ true → judgeOf v k (Typed (Coordinate het a)) ≡ 0
-  site-judged v i =
+  pub site-judged : (v : Looked) → v .twin ≡ false → isIn xs j ≡ true → judgeOf v k (Typed (Coordinate het a)) ≡ 0
+  site-judged v w i =
       good-trails _ v s k (Coordinate het a) (M .trails) site-good
       (site-place (k .place) het ∙ place-behind (k .place) (s .place) kind.Atom refl (M .trails .place) site-low)
       (site-run (s .run) (k .run) het (a .identity .residue .chain) (closes ls) (λ c. in-run _ _ (isIn xs j) i (site-closed c)) site-tail site-het (site-good .run))
-      refl refl
+      w refl refl
 
   pub site-in : isIn xs j ≡ true → Follows xs (j + 1) (nextOf s (Typed (Coordinate het a))) (nextOf k (Typed (Coordinate het a))) ls
   unfolding nextOf typedNext siteNext either
@@ -159,10 +159,10 @@ module _ (xs : List Slot) (j : ℕ) (s k : State) (t : TerOf) (ls : List Line) (
   unfolding closes either
   ter-closed = M .closed refl
 
-  pub ter-judged : (v : Looked) → isIn xs j ≡ true → judgeOf v k (Typed (Ter t)) ≡ 0
-  ter-judged v i =
+  pub ter-judged : (v : Looked) → v .twin ≡ false → isIn xs j ≡ true → judgeOf v k (Typed (Ter t)) ≡ 0
+  ter-judged v w i =
       good-trails _ v s k (Ter t) (M .trails) g (place-behind (k .place) (s .place) kind.Ter refl (M .trails .place) (g .place))
-      (rw (in-run _ _ (isIn xs j) i ter-closed) (g .run)) refl refl
+      (rw (in-run _ _ (isIn xs j) i ter-closed) (g .run)) w refl refl
 
   pub ter-in : Follows xs (j + 1) (nextOf s (Typed (Ter t))) (nextOf k (Typed (Ter t))) ls
   unfolding nextOf typedNext

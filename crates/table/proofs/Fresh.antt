@@ -7,59 +7,29 @@ use mathlib.Core.Path.{_≡_, refl, sym, _∙_, ap}
 use native.Mathlib.Omega.{arith}
 use borrow.Author.Tests.{eq-eqb}
 use lib.Dec.{eqb, leb}
-use lib.IntN.{ℤ, natAbs}
 use lib.ListN.{length, drop, getD, length-append}
 use lib.Seq.{take-at, append-snoc, getD-append-seam}
-use Rattle.ascii.specs.Tests.{pick, both, either, alike}
+use Rattle.ascii.specs.Tests.{pick, both, either}
 use Rattle.ascii.proofs.Choice.{both-join}
-use Rattle.fields.specs.Field.{isNeg, sameInteger}
 use Rattle.names.specs.declared.Pair.{Pair}
-use Rattle.names.specs.declared.Three.{Three}
-use Rattle.names.specs.declared.Four.{Four}
 use Rattle.coordinate.specs.declared.Position.{Position}
-use Rattle.residue.specs.declared.Residue.{Residue}
 use Rattle.pieces.specs.declared.Line.{Line}
-use Rattle.residue.specs.Residues.{sameResidue}
+use Rattle.twins.proofs.Self.{equal, integer-self, four-self, residue-self}
 use Rattle.gate.specs.Gate.{checkOf}
 use Rattle.facets.specs.declared.Spot.{Spot}
 use Rattle.facets.specs.declared.Spot.the-variants.{Site, Close, Nowhere}
 use Rattle.facets.specs.Facets.{spotIn, isCoord}
 use Rattle.slots.specs.declared.Slot.{Slot}
-use Rattle.names.specs.Names.{samePair, sameFour, sameThree}
+use Rattle.names.specs.Names.{samePair}
 use Rattle.slots.specs.Slots.{markIn, markAside, noSlot, spotSlot, lineSlot, samePosition, sameMeasures, residueOf, sameNames, sameSlot}
 use Rattle.fragments.specs.Fragments.{joins, stepTail, tailOf, markOf}
 use Rattle.table.specs.Table.{over, linesFrom, slotsOf, loadedOf, fits, fitsFrom, mine}
 use Rattle.table.proofs.Ready.{Ready}
 
 -- ---- a slot is the same as itself
-equal : (n : ℕ) → eqb n n ≡ true
-equal n = eq-eqb n n refl
-
-alike-self : (b : Bool) → alike b b ≡ true
-alike-self true = refl
-alike-self false = refl
-
-integer-self : (z : ℤ) → sameInteger z z ≡ true
-integer-self z = both-join _ _ (alike-self (isNeg z)) (equal (natAbs z))
-
 pair-self : (p : Pair) → samePair p p ≡ true
 unfolding samePair
 pair-self p = both-join _ _ (equal (p .a)) (equal (p .b))
-
-four-self : (p : Four) → sameFour p p ≡ true
-unfolding sameFour
-four-self p = both-join _ _ (both-join _ _ (equal (p .a)) (equal (p .b))) (both-join _ _ (equal (p .c)) (equal (p .d)))
-
-three-self : (p : Three) → sameThree p p ≡ true
-unfolding sameThree
-three-self p = both-join _ _ (equal (p .a)) (both-join _ _ (equal (p .b)) (equal (p .c)))
-
-residue-self : (r : Residue) → sameResidue r r ≡ true
-unfolding sameResidue
-residue-self r =
-    both-join _ _ (three-self (r .name))
-    (both-join _ _ (equal (r .chain))
-    (both-join _ _ (integer-self (r .number .0)) (equal (r .insertion))))
 
 position-self : (p : Position) → samePosition p p ≡ true
 unfolding samePosition

@@ -13,6 +13,7 @@ use Rattle.ascii.specs.Tests.{either}
 use Rattle.kinds.specs.declared.Kind.{Kind}
 use Rattle.kinds.specs.declared.Kind.the-variants as kind
 use Rattle.coordinate.specs.declared.Atom.{Atom}
+use Rattle.coordinate.specs.declared.Identity.{Identity}
 use Rattle.ter.specs.declared.Ter.{Ter as TerOf}
 use Rattle.helix.specs.declared.Helix.{Helix as HelixOf}
 use Rattle.sheet.specs.declared.Sheet.{Sheet as SheetOf}
@@ -26,8 +27,9 @@ use Rattle.rules.specs.declared.State.{State}
 use Rattle.rules.specs.Rules.{noRun, judgeOf, carriedNext, typedNext, nextOf, startOf}
 use Rattle.places.proofs.Laws.{place-low, place-high}
 use Rattle.rules.proofs.Laws.{Good, judge-typed, judge-carried, judge-wrong}
-use Rattle.serials.specs.Known.{isSite, someOf, bondKnown, lookOf}
-use Rattle.gate.specs.Gate.{numberIn, checkLines}
+use Rattle.serials.specs.Known.{isSite, someOf, bondKnown}
+use Rattle.twins.specs.Twins.{isTwin}
+use Rattle.gate.specs.Gate.{lookOf, numberIn, checkLines}
 use Rattle.facets.specs.Facets.{isCoord}
 use Rattle.serials.specs.Search.{Before}
 use Rattle.slots.specs.declared.Slot.{Slot}
@@ -51,13 +53,13 @@ Again xs j ls = (seen kept : List Line) (s k : State) → Held xs j seen kept �
 module _ (xs : List Slot) (j : ℕ) (seen kept : List Line) (s k : State) (H : Held xs j seen kept) (S : Sane s) where
   -- a line that stays as it is, or as m
   stay : (l m : Line) (ls : List Line) → Again xs j ls → Fine seen s (l ∷ ls) → Paired xs j (l ∷ ls)
-      → ((n : ℕ) → isSite n l ≡ false) → isCoord l ≡ false
+      → ((n : ℕ) → isSite n l ≡ false) → ((a : Identity) → isTwin a m ≡ false) → isCoord l ≡ false
       → savedLines xs j (k .counts) (l ∷ ls) ≡ m ∷ savedLines xs j (nextOf k m .counts) ls
       → numberIn kept k m ≡ 0 → Follows xs j (nextOf s l) (nextOf k m) ls → Kept xs j kept k (l ∷ ls)
-  stay l m ls again f P none c e g M =
+  stay l m ls again f P none other c e g M =
       rw e
       (granted-step kept k m _ g
-      (again (l ∷ seen) (m ∷ kept) (nextOf s l) (nextOf k m) (held-other xs j seen kept H l m none) (sane-next _ s l S (f .0) (f .1)) (f .2) (paired-other xs j l ls c P) M))
+      (again (l ∷ seen) (m ∷ kept) (nextOf s l) (nextOf k m) (held-other xs j seen kept H l m none other) (sane-next _ s l S (f .0) (f .1)) (f .2) (paired-other xs j l ls c P) M))
 
   -- carried lines, HELIX and SHEET
   keep-carried : (x : Kind) (ls : List Line) → Again xs j ls → Fine seen s (Carried x ∷ ls) → Paired xs j (Carried x ∷ ls) → Follows xs j s k (Carried x ∷ ls) → Kept xs j kept k (Carried x ∷ ls)
@@ -65,7 +67,7 @@ module _ (xs : List Slot) (j : ℕ) (seen kept : List Line) (s k : State) (H : H
   keep-carried x ls again f P M =
       let b : Before (s .place) = f .0 .after (s .place) (judge-carried (lookOf seen (Carried x)) s x (f .1) .0) in
       let T = M .trails in
-      stay (Carried x) (Carried x) ls again f P (λ n. refl) refl (saved-stay xs j (k .counts) (Carried x) ls refl refl)
+      stay (Carried x) (Carried x) ls again f P (λ n. refl) (λ a. refl) refl (saved-stay xs j (k .counts) (Carried x) ls refl refl)
       (carried-trails (lookOf seen (Carried x)) (lookOf kept (Carried x)) s k x (behind-before (k .place) (s .place) (T .place) b) (T .ladder) (f .1))
       (front-next xs j s k (nextOf s (Carried x)) (nextOf k (Carried x)) (Carried x) ls S M b refl refl
       (record { place = inl refl; last = T .last; bond = T .bond; helix = T .helix; ladder = T .ladder }))
@@ -77,8 +79,8 @@ module _ (xs : List Slot) (j : ℕ) (seen kept : List Line) (s k : State) (H : H
       let b : Before (s .place) = inl (omega (arith, place-high (s .place) kind.Helix (g .place))) in
       let T = M .trails in
       let r : k .run .atom ≡ false = ap (λ (y : Run). y .atom) (M .early b) in
-      stay (Typed (Helix h)) (Typed (Helix h)) ls again f P (λ n. refl) refl (saved-stay xs j (k .counts) (Typed (Helix h)) ls refl refl)
-      (good-trails _ _ s k (Helix h) T g (place-behind (k .place) (s .place) kind.Helix refl (T .place) (g .place)) r refl refl)
+      stay (Typed (Helix h)) (Typed (Helix h)) ls again f P (λ n. refl) (λ a. refl) refl (saved-stay xs j (k .counts) (Typed (Helix h)) ls refl refl)
+      (good-trails _ _ s k (Helix h) T g (place-behind (k .place) (s .place) kind.Helix refl (T .place) (g .place)) r refl refl refl)
       (front-next xs j s k (nextOf s (Typed (Helix h))) (nextOf k (Typed (Helix h))) (Typed (Helix h)) ls S M b refl refl
       (record { place = inl refl; last = T .last; bond = T .bond; helix = refl; ladder = T .ladder }))
 
@@ -89,8 +91,8 @@ module _ (xs : List Slot) (j : ℕ) (seen kept : List Line) (s k : State) (H : H
       let b : Before (s .place) = inl (omega (arith, place-high (s .place) kind.Sheet (g .place))) in
       let T = M .trails in
       let r : k .run .atom ≡ false = ap (λ (y : Run). y .atom) (M .early b) in
-      stay (Typed (Sheet h)) (Typed (Sheet h)) ls again f P (λ n. refl) refl (saved-stay xs j (k .counts) (Typed (Sheet h)) ls refl refl)
-      (good-trails _ _ s k (Sheet h) T g (place-behind (k .place) (s .place) kind.Sheet refl (T .place) (g .place)) r refl refl)
+      stay (Typed (Sheet h)) (Typed (Sheet h)) ls again f P (λ n. refl) (λ a. refl) refl (saved-stay xs j (k .counts) (Typed (Sheet h)) ls refl refl)
+      (good-trails _ _ s k (Sheet h) T g (place-behind (k .place) (s .place) kind.Sheet refl (T .place) (g .place)) r refl refl refl)
       (front-next xs j s k (nextOf s (Typed (Sheet h))) (nextOf k (Typed (Sheet h))) (Typed (Sheet h)) ls S M b refl refl
       (record { place = inl refl; last = T .last; bond = T .bond; helix = T .helix; ladder = refl }))
 
@@ -103,7 +105,7 @@ module _ (xs : List Slot) (j : ℕ) (seen kept : List Line) (s k : State) (H : H
       go : (b : Bool) → isIn xs j ≡ b → Kept xs j kept k (Typed (Coordinate het a) ∷ ls)
       go true i =
           rw (saved-in xs j (k .counts) (Typed (Coordinate het a)) ls refl i)
-          (granted-step kept k (Typed (Coordinate het a)) _ (site-judged xs j seen s k het a ls S f (P .0 refl) M _ i)
+          (granted-step kept k (Typed (Coordinate het a)) _ (site-judged xs j seen s k het a ls S f (P .0 refl) M _ (H .twins (a .identity) (judge-typed _ s (Coordinate het a) (f .1) .twin)) i)
           (again _ _ (nextOf s (Typed (Coordinate het a))) (nextOf k (Typed (Coordinate het a))) (held-in xs j seen kept H _ ls (P .0 refl)) (sane-next _ s _ S (f .0) (f .1)) (f .2) (paired-site xs j _ ls refl P)
           (site-in xs j seen s k het a ls S f (P .0 refl) M i)))
       go false i =
@@ -119,7 +121,7 @@ module _ (xs : List Slot) (j : ℕ) (seen kept : List Line) (s k : State) (H : H
       go : (b : Bool) → isIn xs j ≡ b → Kept xs j kept k (Typed (Ter t) ∷ ls)
       go true i =
           rw (saved-in xs j (k .counts) (Typed (Ter t)) ls refl i)
-          (granted-step kept k (Typed (Ter t)) _ (ter-judged xs j s k t ls _ (judge-typed _ s (Ter t) (f .1)) M _ i)
+          (granted-step kept k (Typed (Ter t)) _ (ter-judged xs j s k t ls _ (judge-typed _ s (Ter t) (f .1)) M _ refl i)
           (again _ _ (nextOf s (Typed (Ter t))) (nextOf k (Typed (Ter t))) (held-in xs j seen kept H _ ls (P .0 refl)) (sane-next _ s _ S (f .0) (f .1)) (f .2) (paired-site xs j _ ls refl P)
           (ter-in xs j s k t ls _ (judge-typed _ s (Ter t) (f .1)) M)))
       go false i =
@@ -153,8 +155,8 @@ module _ (xs : List Slot) (j : ℕ) (seen kept : List Line) (s k : State) (H : H
 
       go : (b : Bool) → stays xs j (Typed (Conect c)) ≡ b → Kept xs j kept k (Typed (Conect c) ∷ ls)
       go true i =
-          stay (Typed (Conect c)) (Typed (Conect c)) ls again f P (λ n. refl) refl (saved-stay xs j (k .counts) (Typed (Conect c)) ls refl i)
-          (good-trails (lookOf seen (Typed (Conect c))) (lookOf kept (Typed (Conect c))) s k (Conect c) (M .trails) g (place-behind (k .place) (s .place) kind.Conect refl (M .trails .place) (g .place)) idle
+          stay (Typed (Conect c)) (Typed (Conect c)) ls again f P (λ n. refl) (λ a. refl) refl (saved-stay xs j (k .counts) (Typed (Conect c)) ls refl i)
+          (good-trails (lookOf seen (Typed (Conect c))) (lookOf kept (Typed (Conect c))) s k (Conect c) (M .trails) g (place-behind (k .place) (s .place) kind.Conect refl (M .trails .place) (g .place)) idle refl
           (bond-join (bondKnown kept (Bonds c)) (k .bond) c (held-bond xs j seen kept H c (bond .0) (not-true _ i)) (le-trans (M .trails .bond) (bond .1))) refl)
           (back-next xs j (nextOf s (Typed (Conect c))) (nextOf k (Typed (Conect c))) ls none idle (omega arith) (omega arith)
           (record { place = inl refl; last = M .trails .last; bond = le-refl _; helix = M .trails .helix; ladder = M .trails .ladder }))
@@ -178,8 +180,8 @@ module _ (xs : List Slot) (j : ℕ) (seen kept : List Line) (s k : State) (H : H
       let none : closes ls ≡ false = no-close _ (nextOf s (Typed (Master t))) ls (f .2) (omega arith) (omega arith) in
       let idle : k .run .atom ≡ false = M .tail none in
       let T = M .trails in
-      stay (Typed (Master t)) (Typed (Master (tallyOf (k .counts)))) ls again f P (λ n. refl) refl (saved-stay xs j (k .counts) (Typed (Master t)) ls refl refl)
-      (master-trails _ _ s k t T (judge-typed _ s (Master t) (f .1)) idle)
+      stay (Typed (Master t)) (Typed (Master (tallyOf (k .counts)))) ls again f P (λ n. refl) (λ a. refl) refl (saved-stay xs j (k .counts) (Typed (Master t)) ls refl refl)
+      (master-trails _ _ s k t T (judge-typed _ s (Master t) (f .1)) idle refl)
       (back-next xs j (nextOf s (Typed (Master t))) (nextOf k (Typed (Master (tallyOf (k .counts))))) ls none idle (omega arith) (omega arith)
       (record { place = inl refl; last = T .last; bond = T .bond; helix = T .helix; ladder = T .ladder }))
 
@@ -192,8 +194,8 @@ module _ (xs : List Slot) (j : ℕ) (seen kept : List Line) (s k : State) (H : H
       let g = judge-typed _ s End (f .1) in
       let low : 20 ≤ s .place = place-low (s .place) kind.End (g .place) in
       let e : k .place ≡ s .place = behind-same (k .place) (s .place) (T .place) (omega arith) in
-      stay (Typed End) (Typed End) ls again f P (λ n. refl) refl (saved-stay xs j (k .counts) (Typed End) ls refl refl)
-      (good-trails _ _ s k End T g (rw e (g .place)) idle refl refl)
+      stay (Typed End) (Typed End) ls again f P (λ n. refl) (λ a. refl) refl (saved-stay xs j (k .counts) (Typed End) ls refl refl)
+      (good-trails _ _ s k End T g (rw e (g .place)) idle refl refl refl)
       (back-next xs j (nextOf s (Typed End)) (nextOf k (Typed End)) ls none idle (omega arith) (omega arith)
       (record { place = inl refl; last = T .last; bond = T .bond; helix = T .helix; ladder = T .ladder }))
 
@@ -216,7 +218,7 @@ kept-granted xs j (Typed End ∷ ls) seen kept s k H S f P M = keep-end xs j see
 pub start-granted : (xs : List Slot) (ls : List Line) → Fine [] startOf ls → Paired xs 0 ls → checkLines [] startOf (savedLines xs 0 (startOf .counts) ls) .number ≡ 0
 unfolding startOf someOf
 start-granted xs ls f P =
-    kept-granted xs 0 ls [] [] startOf startOf (λ n e a. e) (record { early = λ b. refl; late = λ h g. refl }) f P
+    kept-granted xs 0 ls [] [] startOf startOf (record { atoms = λ n e a. e; twins = λ a e. e }) (record { early = λ b. refl; late = λ h g. refl }) f P
     (record {
       trails = record { place = inl refl; last = le-refl _; bond = le-refl _; helix = refl; ladder = refl };
       closed = λ c. run-both noRun noRun (isIn xs 0) refl refl;

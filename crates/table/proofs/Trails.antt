@@ -93,14 +93,15 @@ bond-join known last c e h = rw (e, le-ltb (c .serial .0) (last .0) h)
 
 -- ---- a typed line among the kept ones, where its place, its run, its bonds and its counts are right
 pub good-trails : (known v : Looked) (s k : State) (r : Record) → Trails s k → Good known s r → placeBad (k .place) (recordKind r) ≡ false
-    → runBad (k .run) (spotOf r) ≡ false → bondBad (v .known) (k .bond) (bondOf r) ≡ false → countBad (k .counts) (totalOf r) ≡ false → judgeOf v k (Typed r) ≡ 0
+    → runBad (k .run) (spotOf r) ≡ false → v .twin ≡ false → bondBad (v .known) (k .bond) (bondOf r) ≡ false → countBad (k .counts) (totalOf r) ≡ false → judgeOf v k (Typed r) ≡ 0
 unfolding judgeOf
-good-trails known v s k r T g p run bond count =
+good-trails known v s k r T g p run twin bond count =
     good-typed v k r
     (record {
       place = p;
       serial = serial-trails (k .last) (s .last) (spotOf r) (T .last) (g .serial);
       run = run;
+      twin = twin;
       bond = bond;
       fold = rw (T .helix, T .ladder) (g .fold);
       count = count;
@@ -112,15 +113,16 @@ unfolding sameCounts both
 same-tally q =
     rw (eq-eqb (q .remark) (q .remark) refl, eq-eqb (q .het) (q .het) refl, eq-eqb (q .helix) (q .helix) refl, eq-eqb (q .sheet) (q .sheet) refl, eq-eqb (q .xform) (q .xform) refl, eq-eqb (q .coord) (q .coord) refl, eq-eqb (q .ter) (q .ter) refl, eq-eqb (q .conect) (q .conect) refl, eq-eqb (q .seq) (q .seq) refl)
 
-pub master-trails : (known v : Looked) (s k : State) (t : Tally) → Trails s k → Good known s (Master t) → k .run .atom ≡ false
+pub master-trails : (known v : Looked) (s k : State) (t : Tally) → Trails s k → Good known s (Master t) → k .run .atom ≡ false → v .twin ≡ false
     → judgeOf v k (Typed (Master (tallyOf (k .counts)))) ≡ 0
 unfolding judgeOf
-master-trails known v s k t T g a =
+master-trails known v s k t T g a w =
     good-typed v k (Master (tallyOf (k .counts)))
     (record {
       place = place-behind (k .place) (s .place) kind.Master refl (T .place) (g .place);
       serial = refl;
       run = a;
+      twin = w;
       bond = refl;
       fold = rw (T .ladder) (g .fold);
       count = rw (same-tally (k .counts));

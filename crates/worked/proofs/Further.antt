@@ -24,6 +24,7 @@ use Rattle.places.specs.Counts.{raised, sameCounts}
 use Rattle.rules.specs.Rules.{siteBad, closeBad, siteNext, unfinished, typedBad, judgeOf, startOf, carriedNext, typedNext, nextOf}
 use Rattle.rows.specs.Text.{cutAtMost, cut}
 use Rattle.serials.specs.Known.{someOf}
+use Rattle.twins.specs.Twins.{sameAtom}
 use Rattle.gate.specs.Gate.{refusedOf, finishOf, checkLines, checkOf}
 use Rattle.names.specs.Names.{samePair, sameFour, sameThree}
 use Rattle.slots.specs.Slots.{markAside, noSlot, samePosition, sameMeasures, sameNames, sameSlot, withMark}
@@ -56,7 +57,7 @@ pub record Further : Type 0 where
   pub no-atom : frameOf [] ≡ Refused 19
 
 pub further : Further
-unfolding parted bonded single entry rest loaded ordered both either between same firstOf blankAt gapOf cleanAt blame blamedOf leftmost blanks endsDigit leadOf furtherOf grownOf numberOf leader render signedOf isNeg wholeIn integerIn elements indexOf atomicOf wordAt kindNamed kindOf residueColumns positionColumns identityColumns measureColumns speciesColumns leadsElement atomColumns terColumns partnerColumns differs unbroken conectColumns serialsColumns partnersColumns notesColumns shapeColumns atomsColumns masterColumns judged readingOf readLine columnsOf lineOf placeBad raised sameCounts sameThree sameResidue siteBad closeBad siteNext unfinished typedBad judgeOf startOf carriedNext typedNext nextOf cutAtMost cut someOf refusedOf finishOf checkLines checkOf samePair sameFour samePosition sameMeasures sameNames sameSlot withMark joins stepTail tailOf markOf marked linesFrom slotsOf fits fitsFrom belongs tableOf orderOf ordersOf isAside aside stays counted masterPiece written share dealt outputOf boundsFrom framedOf
+unfolding parted bonded single entry rest loaded ordered both either between same firstOf blankAt gapOf cleanAt blame blamedOf leftmost blanks endsDigit leadOf furtherOf grownOf numberOf leader render signedOf isNeg wholeIn integerIn elements indexOf atomicOf wordAt kindNamed kindOf residueColumns positionColumns identityColumns measureColumns speciesColumns leadsElement atomColumns terColumns partnerColumns differs unbroken conectColumns serialsColumns partnersColumns notesColumns shapeColumns atomsColumns masterColumns judged readingOf readLine columnsOf lineOf placeBad raised sameCounts sameThree sameResidue siteBad closeBad siteNext unfinished typedBad judgeOf startOf carriedNext typedNext nextOf cutAtMost cut someOf sameAtom refusedOf finishOf checkLines checkOf samePair sameFour samePosition sameMeasures sameNames sameSlot withMark joins stepTail tailOf markOf marked linesFrom slotsOf fits fitsFrom belongs tableOf orderOf ordersOf isAside aside stays counted masterPiece written share dealt outputOf boundsFrom framedOf
 further =
     record {
       back = refl;

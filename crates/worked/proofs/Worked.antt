@@ -20,6 +20,7 @@ use Rattle.places.specs.Counts.{raised, sameCounts}
 use Rattle.rules.specs.Rules.{siteBad, closeBad, siteNext, unfinished, typedBad, judgeOf, startOf, carriedNext, typedNext, nextOf}
 use Rattle.rows.specs.Text.{cutAtMost, cut}
 use Rattle.serials.specs.Known.{someOf}
+use Rattle.twins.specs.Twins.{sameAtom}
 use Rattle.gate.specs.Gate.{refusedOf, finishOf, checkLines, checkOf}
 use Rattle.names.specs.Names.{samePair, sameFour, sameThree}
 use Rattle.slots.specs.Slots.{samePosition, sameMeasures, sameNames, sameSlot, withMark}
@@ -30,11 +31,11 @@ use Rattle.table.specs.Deal.{isAside, aside, stays, counted, masterPiece, writt
 use Rattle.feed.specs.Exact.{exactly}
 use Rattle.feed.specs.Feed.{isDrawn}
 use Rattle.feed.specs.Frame.{lower, higher, widened, takenIn, boundsFrom, framedOf}
-use Rattle.worked.specs.Texts.{nitrogenLine, nitrogenRecord, shortest, beyond, twice, entry, rest}
+use Rattle.worked.specs.Texts.{nitrogenLine, nitrogenRecord, shortest, beyond, twice, again, alternates, entry, rest}
 use Rattle.worked.specs.Worked.{Worked, loaded, ordered}
 
 pub worked : Worked
-unfolding nitrogenLine nitrogenRecord shortest beyond twice entry rest loaded ordered both either between same firstOf blankAt gapOf cleanAt blame blamedOf leftmost blanks endsDigit leadOf furtherOf grownOf numberOf leader render signedOf isNeg wholeIn integerIn elements indexOf atomicOf wordAt kindNamed kindOf residueColumns positionColumns identityColumns measureColumns speciesColumns leadsElement atomColumns terColumns partnerColumns differs unbroken conectColumns serialsColumns partnersColumns notesColumns shapeColumns atomsColumns masterColumns judged readingOf readLine columnsOf lineOf placeBad raised sameCounts sameThree sameResidue siteBad closeBad siteNext unfinished typedBad judgeOf startOf carriedNext typedNext nextOf cutAtMost cut someOf refusedOf finishOf checkLines checkOf samePair sameFour samePosition sameMeasures sameNames sameSlot withMark joins stepTail tailOf markOf marked linesFrom slotsOf fits fitsFrom belongs tableOf orderOf ordersOf isAside aside stays counted masterPiece written share dealt outputOf boundsFrom takenIn isDrawn widened lower higher framedOf exactly
+unfolding nitrogenLine nitrogenRecord shortest beyond twice again alternates entry rest loaded ordered both either between same firstOf blankAt gapOf cleanAt blame blamedOf leftmost blanks endsDigit leadOf furtherOf grownOf numberOf leader render signedOf isNeg wholeIn integerIn elements indexOf atomicOf wordAt kindNamed kindOf residueColumns positionColumns identityColumns measureColumns speciesColumns leadsElement atomColumns terColumns partnerColumns differs unbroken conectColumns serialsColumns partnersColumns notesColumns shapeColumns atomsColumns masterColumns judged readingOf readLine columnsOf lineOf placeBad raised sameCounts sameThree sameResidue siteBad closeBad siteNext unfinished typedBad judgeOf startOf carriedNext typedNext nextOf cutAtMost cut someOf sameAtom refusedOf finishOf checkLines checkOf samePair sameFour samePosition sameMeasures sameNames sameSlot withMark joins stepTail tailOf markOf marked linesFrom slotsOf fits fitsFrom belongs tableOf orderOf ordersOf isAside aside stays counted masterPiece written share dealt outputOf boundsFrom takenIn isDrawn widened lower higher framedOf exactly
 worked =
     record {
       atom = refl;
@@ -49,6 +50,8 @@ worked =
       zeroth-serial = refl;
       empty = refl;
       same-serial = (refl, refl);
+      same-atom = (refl, refl);
+      other-letter = (refl, refl);
       one-byte-more = (refl, (refl, refl));
       three = refl;
       granted = refl;

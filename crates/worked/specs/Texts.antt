@@ -66,6 +66,23 @@ twice =
     ∷ "ATOM      5  CA  ARG A   1      11.281  86.699  94.383  0.50 35.88           C"
     ∷ [])
 
+-- an ATOM line again, with another serial and another x; and the same with alternate letters blank and A
+unfoldable pub again : List ℕ
+again =
+    textOf
+    ("HEADER"
+    ∷ "ATOM      5  N   ARG A   1      11.281  86.699  94.383  0.50 35.88           N"
+    ∷ "ATOM      6  N   ARG A   1      12.281  86.699  94.383  0.50 35.88           N"
+    ∷ [])
+
+unfoldable pub alternates : List ℕ
+alternates =
+    textOf
+    ("HEADER"
+    ∷ "ATOM      5  N   ARG A   1      11.281  86.699  94.383  0.50 35.88           N"
+    ∷ "ATOM      6  N  AARG A   1      12.281  86.699  94.383  0.50 35.88           N"
+    ∷ [])
+
 -- a chain of one atom, closed, and two waters
 abbrev pub chain : String
 chain = "ATOM      1  N   ARG A   1      11.281  86.699  94.383  0.50 35.88           N"

@@ -10,7 +10,7 @@ use Rattle.table.specs.Deal.{outputOf}
 use Rattle.feed.specs.declared.{Framed.the-variants.Around}
 use Rattle.feed.specs.Exact.{whole, half}
 use Rattle.feed.specs.Frame.{frameOf}
-use Rattle.worked.specs.Texts.{coordinate, occupancy, serial, nitrogenLine, nitrogenRecord, textOf, shortest, beyond, twice, water7, entry, rest, slotAt}
+use Rattle.worked.specs.Texts.{coordinate, occupancy, serial, nitrogenLine, nitrogenRecord, textOf, shortest, beyond, twice, again, alternates, water7, entry, rest, slotAt}
 
 -- the table of the entry just loaded, and with fragment 2 set aside
 unfoldable pub loaded : List Slot
@@ -38,6 +38,9 @@ pub record Worked : Type 0 where
   pub empty : checkOf [] ≡ record { number = 12; line = 1; good = 0; counts = noCounts }
   -- ATOM serials 5, 5
   pub same-serial : (checkOf twice .number ≡ 7) × (checkOf twice .line ≡ 3)
+  -- the same atom twice, and with alternate letters blank and A: that text is only over too soon
+  pub same-atom : (checkOf again .number ≡ 21) × (checkOf again .line ≡ 3)
+  pub other-letter : (checkOf alternates .number ≡ 12) × (checkOf alternates .line ≡ 4)
   -- one byte after END
   pub one-byte-more : (checkOf shortest .number ≡ 0) × ((checkOf beyond .number ≡ 1) × (checkOf beyond .line ≡ 4))
   -- the chain with its TER, and each water: three fragments

@@ -54,9 +54,12 @@ place-bad-requires c κs = search needs
 choose-requires-6 : tie.Need-choose-requires-6
 choose-requires-6 c κs = search needs
 
+choose-requires-7 : tie.Need-choose-requires-7
+choose-requires-7 c κs = search needs
+
 returns : tie.Need-returns
 unfolding typedBad
-returns c = rw (c .choose6 .ensures, c .before .place-bad .ensures, c .before .before .choose5 .ensures, c .before .before .before .serial-bad .ensures, c .before .before .before .before .choose4 .ensures, c .before .before .before .before .before .run-bad .ensures, c .before .before .before .before .before .before .choose3 .ensures, c .before .before .before .before .before .before .before .bond-bad .ensures, c .before .before .before .before .before .before .before .before .choose2 .ensures, c .before .before .before .before .before .before .before .before .before .fold-bad .ensures, c .before .before .before .before .before .before .before .before .before .before .choose .ensures, c .before .before .before .before .before .before .before .before .before .before .before .count-bad .ensures, c .before .before .before .before .before .before .before .before .before .before .before .before .record-kind .ensures, c .before .before .before .before .before .before .before .before .before .before .before .before .before .total-of .ensures, c .before .before .before .before .before .before .before .before .before .before .before .before .before .before .fold-of .ensures, c .before .before .before .before .before .before .before .before .before .before .before .before .before .before .before .bond-of .ensures, c .before .before .before .before .before .before .before .before .before .before .before .before .before .before .before .before .spot-of .ensures)
+returns c = rw (c .choose7 .ensures, c .before .place-bad .ensures, c .before .before .choose6 .ensures, c .before .before .before .serial-bad .ensures, c .before .before .before .before .choose5 .ensures, c .before .before .before .before .before .run-bad .ensures, c .before .before .before .before .before .before .choose4 .ensures, c .before .before .before .before .before .before .before .choose3 .ensures, c .before .before .before .before .before .before .before .before .bond-bad .ensures, c .before .before .before .before .before .before .before .before .before .choose2 .ensures, c .before .before .before .before .before .before .before .before .before .before .fold-bad .ensures, c .before .before .before .before .before .before .before .before .before .before .before .choose .ensures, c .before .before .before .before .before .before .before .before .before .before .before .before .count-bad .ensures, c .before .before .before .before .before .before .before .before .before .before .before .before .before .record-kind .ensures, c .before .before .before .before .before .before .before .before .before .before .before .before .before .before .total-of .ensures, c .before .before .before .before .before .before .before .before .before .before .before .before .before .before .before .fold-of .ensures, c .before .before .before .before .before .before .before .before .before .before .before .before .before .before .before .before .bond-of .ensures, c .before .before .before .before .before .before .before .before .before .before .before .before .before .before .before .before .before .spot-of .ensures)
 
 pub typed-bad-spec : {M : Type 1} → statement M
 typed-bad-spec =
@@ -73,10 +76,11 @@ typed-bad-spec =
     choose-requires-2
     bond-bad-requires
     choose-requires-3
-    run-bad-requires
     choose-requires-4
-    serial-bad-requires
+    run-bad-requires
     choose-requires-5
-    place-bad-requires
+    serial-bad-requires
     choose-requires-6
+    place-bad-requires
+    choose-requires-7
     returns)

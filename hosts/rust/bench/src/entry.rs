@@ -6,7 +6,7 @@ use std::fmt::Write;
 const RUNS: usize = 8;
 
 /// Names and elements of the atoms of a residue.
-const ATOMS: [(&str, &str); 8] = [
+pub const ATOMS: [(&str, &str); 8] = [
     (" N  ", " N"),
     (" CA ", " C"),
     (" C  ", " C"),
@@ -30,11 +30,16 @@ pub struct Entry {
 impl Entry {
     /// An entry of so many lines, nearly all of them ATOM, HETATM and TER.
     pub fn of_lines(lines: usize) -> Entry {
+        Entry::of_coordinates(lines, format!("{} lines", grouped(lines)), Writer::coordinates)
+    }
+
+    /// An entry of so many lines, all but a few of them written as told.
+    pub fn of_coordinates(lines: usize, name: String, write: impl FnOnce(&mut Writer, usize)) -> Entry {
         let remarks = lines / 1_000;
         let mut writer = Writer::default();
         writer.head(remarks);
-        writer.coordinates(lines - remarks - 3);
-        writer.finish(format!("{} lines", grouped(lines)))
+        write(&mut writer, lines - remarks - 3);
+        writer.finish(name)
     }
 
     /// An entry of so many atoms and CONECT lines.
@@ -60,14 +65,17 @@ pub fn grouped(number: usize) -> String {
     }
 }
 
+/// Writes an entry from the top.
 #[derive(Default)]
-struct Writer {
+pub struct Writer {
     text: String,
-    chance: Chance,
+    /// Where places and orders come from.
+    pub chance: Chance,
     remarks: usize,
     serial: usize,
     /// The serials of the atoms.
     atoms: Vec<usize>,
+    ters: usize,
     bonds: usize,
 }
 
@@ -77,7 +85,8 @@ impl Writer {
         let _ = writeln!(self.text, "{columns:80}");
     }
 
-    fn head(&mut self, remarks: usize) {
+    /// What stands before the coordinates.
+    pub fn head(&mut self, remarks: usize) {
         self.remarks = remarks;
         self.line("HEADER    MADE UP FOR THE BENCHMARK");
         for _ in 0..remarks {
@@ -86,7 +95,7 @@ impl Writer {
     }
 
     /// So many ATOM, TER and HETATM lines.
-    fn coordinates(&mut self, lines: usize) {
+    pub fn coordinates(&mut self, lines: usize) {
         let tail = lines / 10;
         let closed = lines - tail;
         for (run, chain) in (b'A'..).map(char::from).take(RUNS).enumerate() {
@@ -104,17 +113,29 @@ impl Writer {
             let (name, element) = ATOMS[atom % ATOMS.len()];
             self.atom("ATOM", name, &residue(atom), element);
         }
-        self.serial += 1;
-        self.line(&format!("TER   {:5}      {}", self.serial, residue(lines - 2)));
+        self.ter(&residue(lines - 2));
     }
 
-    fn atom(&mut self, kind: &str, name: &str, residue: &str, element: &str) {
+    /// The TER of a residue.
+    pub fn ter(&mut self, residue: &str) {
+        self.serial += 1;
+        self.ters += 1;
+        self.line(&format!("TER   {:5}      {residue}", self.serial));
+    }
+
+    /// An atom, by its name of four columns, and its residue from its name to its insertion code.
+    pub fn atom(&mut self, kind: &str, name: &str, residue: &str, element: &str) {
+        self.alternate(kind, name, ' ', residue, element);
+    }
+
+    /// An atom with an alternate location.
+    pub fn alternate(&mut self, kind: &str, name: &str, alternate: char, residue: &str, element: &str) {
         self.serial += 1;
         self.atoms.push(self.serial);
         let [x, y, z] = [(); 3].map(|()| self.chance.below(300_000) as f64 / 1_000.0 - 100.0);
         let temperature = self.chance.below(10_000) as f64 / 100.0;
         let place = format!("{x:8.3}{y:8.3}{z:8.3}  1.00{temperature:6.2}").replace("-0.000", " 0.000");
-        self.line(&format!("{kind:6}{:5} {name} {residue}    {place}          {element}", self.serial));
+        self.line(&format!("{kind:6}{:5} {name}{alternate}{residue:10}   {place}          {element}", self.serial));
     }
 
     /// So many CONECT lines, each with up to four partners anywhere in the entry.
@@ -131,10 +152,11 @@ impl Writer {
         }
     }
 
-    fn finish(mut self, name: String) -> Entry {
+    /// What stands behind the coordinates and bonds.
+    pub fn finish(mut self, name: String) -> Entry {
         let zeros = "    0".repeat(7);
-        let (remarks, atoms, bonds) = (self.remarks, self.atoms.len(), self.bonds);
-        self.line(&format!("MASTER    {remarks:5}{zeros}{atoms:5}{RUNS:5}{bonds:5}    0"));
+        let (remarks, atoms, ters, bonds) = (self.remarks, self.atoms.len(), self.ters, self.bonds);
+        self.line(&format!("MASTER    {remarks:5}{zeros}{atoms:5}{ters:5}{bonds:5}    0"));
         self.line("END");
         Entry { name, text: self.text.into_bytes(), atoms }
     }
@@ -142,13 +164,20 @@ impl Writer {
 
 /// Numbers that look like chance and are the same in every run.
 #[derive(Default)]
-struct Chance(u64);
+pub struct Chance(u64);
 
 impl Chance {
     /// A number below a limit.
-    fn below(&mut self, limit: usize) -> usize {
+    pub fn below(&mut self, limit: usize) -> usize {
         self.0 = self.0.wrapping_mul(6_364_136_223_846_793_005).wrapping_add(1_442_695_040_888_963_407);
         (self.0 >> 33) as usize % limit
+    }
+
+    /// Puts items into any order.
+    pub fn shuffle<T>(&mut self, items: &mut [T]) {
+        for last in (1..items.len()).rev() {
+            items.swap(last, self.below(last + 1));
+        }
     }
 }
 

@@ -1,6 +1,7 @@
 //! Takes the times of one entry.
 
 use std::hint::black_box;
+use std::time::{Duration, Instant};
 
 use crate::clock::Best;
 use crate::entry::Entry;
@@ -68,6 +69,27 @@ pub fn times(entry: &Entry, calls: &[Call]) -> Times {
 
 fn turn(best: &mut Best, side: &mut impl Side, call: Call) {
     best.turn(|| side.call(call));
+}
+
+/// A text that took so long has had its turns, whatever comes of the others.
+const PATIENCE: Duration = Duration::from_secs(5);
+
+/// The times of the check alone on some entries, in nanoseconds.
+pub fn checks(entries: &[Entry]) -> Vec<Best> {
+    let mut times = vec![(Best::default(), Duration::ZERO); entries.len()];
+    for entry in entries {
+        let granted =
+            reference::check(&entry.text).refusal.is_none() && station::Entry::check(&entry.text).is_granted();
+        assert!(granted, "{} is refused", entry.name);
+    }
+    for _ in 0..ROUNDS {
+        for (entry, (best, taken)) in entries.iter().zip(&mut times).filter(|(_, (_, taken))| *taken < PATIENCE) {
+            let begun = Instant::now();
+            best.turn(|| station::Entry::check(black_box(&entry.text)));
+            *taken += begun.elapsed();
+        }
+    }
+    times.into_iter().map(|(best, _)| best).collect()
 }
 
 /// The stack that the calls of the library use on one entry.

@@ -2,7 +2,8 @@
 
 use std::fmt::Write;
 
-use crate::entry::grouped;
+use crate::clock::Best;
+use crate::entry::{grouped, Entry};
 use crate::measure::{Stacks, Times};
 use crate::sides::Call;
 
@@ -43,6 +44,26 @@ pub fn peers(times: &[Times]) -> String {
     };
     let rows: Vec<_> = times.iter().map(row).collect();
     table(&["Entry", "check, ns a line", "byte loop", "check / byte loop", "gemmi", "gemmi / check"], &rows)
+}
+
+/// The check of texts that differ in how far it has to look back: a row for each text, columns for each size. The first row
+/// is what the others are held against.
+pub fn searches(sizes: &[(Vec<Entry>, Vec<Best>)]) -> String {
+    let mut head = vec!["Text".to_owned()];
+    let mut rows = Vec::new();
+    for (entries, times) in sizes {
+        let lines = entries.first().map_or(0, Entry::lines);
+        head.extend([format!("{} lines, ns a line", grouped(lines)), "/ first row".to_owned()]);
+        rows.resize(entries.len(), Vec::new());
+        for ((row, entry), time) in rows.iter_mut().zip(entries).zip(times) {
+            if row.is_empty() {
+                row.push(entry.name.clone());
+            }
+            let first = times.first().map(|best| best.0);
+            row.extend([number(time.0 / entry.lines() as f64), ratio(Some(time.0), first)]);
+        }
+    }
+    table(&head.iter().map(String::as_str).collect::<Vec<_>>(), &rows)
 }
 
 /// The ratios that have a bar.
@@ -114,5 +135,19 @@ mod tests {
         assert_eq!(ratio(Some(3.0), Some(2.0)), "1.50");
         assert_eq!(ratio(None, Some(2.0)), "-");
         assert_eq!([1.26, 123.4].map(number), ["1.3", "123"]);
+    }
+
+    #[test]
+    fn searches_have_a_row_for_each_text() {
+        let text = |name: &str, lines: usize| Entry { name: name.to_owned(), text: vec![b' '; 81 * lines], atoms: 0 };
+        let texts = |lines| vec![text("a", lines), text("b", lines)];
+        let sizes = [(texts(10), vec![Best(500.0), Best(1_000.0)]), (texts(100), vec![Best(2_500.0); 2])];
+        let expected = "\
+| Text | 10 lines, ns a line | / first row | 100 lines, ns a line | / first row |
+|---|---|---|---|---|
+| a | 50 | 1.00 | 25 | 1.00 |
+| b | 100 | 2.00 | 25 | 1.00 |
+";
+        assert_eq!(searches(&sizes), expected);
     }
 }

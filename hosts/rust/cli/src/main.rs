@@ -9,6 +9,7 @@ mod fragments;
 mod input;
 mod output;
 mod problem;
+mod same_atom;
 mod save;
 mod svg;
 mod words;

@@ -1,6 +1,10 @@
 //! `station save`.
 
+use std::panic::resume_unwind;
 use std::path::Path;
+use std::thread;
+
+use station::{Refusal, Table};
 
 use crate::aside::Aside;
 use crate::fragments::{self, refused};
@@ -20,8 +24,7 @@ pub fn run(
 ) -> Result<Status, Problem> {
     let input = input::read(file)?;
     let table = fragments::load(&input, aside)?;
-    let saved = table.save().map_err(|refusal| refused(&input, refusal))?;
-    let dropped = table.tray().map_err(|refusal| refused(&input, refusal))?;
+    let (saved, dropped) = parts(&table, tray.is_some()).map_err(|refusal| refused(&input, refusal))?;
     let mut orders = vec![Order { option: "--out", path: out, bytes: &saved }];
     if let Some(path) = tray {
         orders.push(Order { option: "--tray", path, bytes: &dropped });
@@ -33,4 +36,18 @@ pub fn run(
         console.say_line(format_args!("{}: {}", output_name(path), lines(&dropped)))?;
     }
     Ok(Status::Done)
+}
+
+/// The saved entry, and the tray where it is wanted: each call judges text and table anew and writes its own bytes,
+/// so the two go side by side.
+fn parts(table: &Table, tray: bool) -> Result<(Vec<u8>, Vec<u8>), Refusal> {
+    if !tray {
+        return Ok((table.save()?, Vec::new()));
+    }
+    thread::scope(|scope| {
+        let dropped = scope.spawn(|| table.tray());
+        let saved = table.save()?;
+        let dropped = dropped.join().unwrap_or_else(|panic| resume_unwind(panic))?;
+        Ok((saved, dropped))
+    })
 }

@@ -5,7 +5,7 @@ use std::path::Path;
 
 use station::{pieces, Refusal, Verdict};
 
-use crate::counts;
+use crate::{counts, same_atom};
 
 /// What the check found, in words: one line, and for a refusal the line that is refused and a cause.
 pub fn describe(name: &str, text: &[u8], verdict: &Verdict) -> String {
@@ -100,6 +100,7 @@ fn cause(text: &[u8], verdict: &Verdict, refusal: Refusal) -> Option<String> {
     match refusal {
         Refusal::LENGTH | Refusal::NEWLINE | Refusal::BYTE => form(text, verdict, piece),
         Refusal::NAME => piece.get(..6).map(unknown_name),
+        Refusal::SAME_ATOM => same_atom::above(text, verdict.line),
         Refusal::COUNT => counts::wrong(piece.first_chunk()?, &verdict.counts),
         _ => None,
     }

@@ -4,12 +4,13 @@ use station::raw::{Library, Slot, Tally};
 
 use crate::chance::Chance;
 use crate::damage::{damage_line, damage_lines, damage_table, damage_text, recount, rename};
-use crate::entry::{entry, named, text, typed_line, COORDINATES};
+use crate::entry::{entry, large_entry, named, text, typed_line, COORDINATES};
 use crate::fence;
 use crate::findings::Findings;
 use crate::harness::Harness;
 use crate::lent::Sides;
 use crate::slots::to_reference;
+use crate::twinning;
 
 /// Runs the cases of a seed against a library, with guards round all buffers.
 pub fn run(library: Library, seed: u64, cases: impl Iterator<Item = u64>) -> Findings {
@@ -37,6 +38,7 @@ fn run_with(mut harness: Harness, seed: u64, cases: impl Iterator<Item = u64>, s
 fn one(harness: &mut Harness, chance: &mut Chance) {
     harness.guard = chance.byte();
     match chance.below(16) {
+        0..=4 if chance.once_in(150) => a_large_text(harness, chance),
         0..=4 => a_text(harness, chance),
         5..=8 => a_table(harness, chance),
         9..=12 => some_lines(harness, chance),
@@ -89,6 +91,20 @@ fn a_text(harness: &mut Harness, chance: &mut Chance) {
         let room = any_room(chance, coordinates);
         harness.fragments(&bytes, &table, room);
     }
+}
+
+/// A text with many atoms, mostly with one of them twice, and far apart.
+fn a_large_text(harness: &mut Harness, chance: &mut Chance) {
+    let mut lines = large_entry(chance);
+    if !chance.once_in(8) {
+        // Where there are no two atoms for it, the entry stays as it is.
+        let _ = twinning::damage_far(chance, &mut lines);
+    }
+    let bytes = text(&lines);
+    harness.check(&bytes);
+    let mut table = vec![any_slot(chance); lines.len()];
+    harness.load(&bytes, &mut table);
+    harness.save(&bytes, &table, bytes.len());
 }
 
 /// An accepted entry and its table: orders, arrangements, damage, saving, drawing.

@@ -5,6 +5,7 @@ use station::raw::Slot;
 use crate::chance::Chance;
 use crate::entry::{line, master, named, put, put_number, Columns, ATOMS, COORDINATES, NAMES};
 use crate::names::{nearly, put_name};
+use crate::twinning;
 
 /// Names that are nearly known.
 const NEARLY: [&str; 17] = [
@@ -198,7 +199,7 @@ fn try_damage(chance: &mut Chance, lines: &mut Vec<Columns>) -> Option<()> {
     }
     let at = chance.below(lines.len());
     let other = chance.below(lines.len());
-    match chance.below(25) {
+    match chance.below(31) {
         0 => {
             lines.remove(at);
         }
@@ -266,6 +267,7 @@ fn try_damage(chance: &mut Chance, lines: &mut Vec<Columns>) -> Option<()> {
             }
         }
         22 | 23 => put_name(named_line(chance, lines, ATOMS)?, nearly(chance)),
+        24..=29 => twinning::damage(chance, lines)?,
         _ => damage_line(chance, &mut lines[at]),
     }
     Some(())

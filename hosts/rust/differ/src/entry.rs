@@ -1,7 +1,9 @@
 //! Entries and lines made up by chance that obey the rules. Nothing here comes from the reference.
 
 use crate::chance::Chance;
+use crate::coordinates::coordinates;
 use crate::names::{put_name, right};
+use crate::twinning::nearly;
 
 /// A line of 80 columns.
 pub type Columns = [u8; 80];
@@ -37,9 +39,9 @@ const CHAINS: &[u8] = b"AAABBCa0z9";
 #[derive(Clone, Copy, Debug)]
 pub struct Residue {
     name: [u8; 3],
-    chain: u8,
-    number: i64,
-    insertion: u8,
+    pub(crate) chain: u8,
+    pub(crate) number: i64,
+    pub(crate) insertion: u8,
 }
 
 /// A line with a text at its left.
@@ -199,7 +201,8 @@ pub fn conect(chance: &mut Chance, serial: i64, atoms: &[i64]) -> Option<Columns
 /// The MASTER line of these lines.
 pub fn master(lines: &[Columns]) -> Columns {
     let count = |names: &[&str]| {
-        lines.iter().filter(|line| names.iter().any(|name| &line[..6] == format!("{name:6}").as_bytes())).count() as i64
+        lines.iter().filter(|line| names.iter().any(|name| line[..6].trim_ascii_end() == name.as_bytes())).count()
+            as i64
     };
     let counts = [
         count(&["REMARK"]),
@@ -268,53 +271,24 @@ fn head(chance: &mut Chance) -> Vec<Columns> {
     lines
 }
 
-/// Coordinates of an entry: closed runs, then a tail of heterogens. Answers the serials of the atoms.
-fn coordinates(chance: &mut Chance, lines: &mut Vec<Columns>, most: usize) -> Vec<i64> {
-    let mut atoms = Vec::new();
-    let mut serial = if chance.once_in(20) { 99_000 } else { chance.within(0, 40) };
-    let mut next = |chance: &mut Chance| {
-        serial += if chance.once_in(4) { chance.within(1, 9) } else { 1 };
-        serial
-    };
-    for _ in 0..chance.below(4) {
-        let chain = chain(chance);
-        let length = 1 + chance.below(most);
-        let first_atom = chance.below(length);
-        let mut place = residue(chance, chain);
-        for index in 0..length {
-            if chance.once_in(2) {
-                place = residue(chance, chain);
-            }
-            let name =
-                if index == first_atom || (index > first_atom && !chance.once_in(4)) { "ATOM" } else { "HETATM" };
-            let serial = next(chance);
-            atoms.push(serial);
-            lines.push(atom(chance, name, serial, &place));
-        }
-        lines.push(ter(next(chance), &place));
-    }
-    let chain_of_tail = chain(chance);
-    let mut place = residue(chance, chain_of_tail);
-    for _ in 0..chance.below(most) {
-        match chance.below(6) {
-            0 => place = residue(chance, place.chain),
-            1 => place.number = (place.number + 1).min(9_999),
-            2 => place.insertion = *chance.pick(b" AB"),
-            3 => place.chain = chain(chance),
-            _ => {}
-        }
-        let serial = next(chance);
-        atoms.push(serial);
-        lines.push(atom(chance, "HETATM", serial, &place));
-    }
-    atoms
-}
-
 /// An accepted entry.
 pub fn entry(chance: &mut Chance) -> Vec<Columns> {
-    let mut lines = head(chance);
     let most = if chance.once_in(50) { 60 } else { 6 };
+    entry_of_runs(chance, most)
+}
+
+/// An accepted entry of some thousand lines: what it takes to look back over many.
+pub fn large_entry(chance: &mut Chance) -> Vec<Columns> {
+    entry_of_runs(chance, 1_500)
+}
+
+/// An accepted entry with at most so many atoms in a run.
+fn entry_of_runs(chance: &mut Chance, most: usize) -> Vec<Columns> {
+    let mut lines = head(chance);
     let atoms = coordinates(chance, &mut lines, most);
+    for _ in 0..chance.below(4) {
+        nearly(chance, &mut lines);
+    }
     if chance.once_in(2) {
         for &serial in &atoms {
             if chance.once_in(3) {

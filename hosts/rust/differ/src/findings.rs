@@ -3,6 +3,7 @@
 use std::collections::BTreeMap;
 
 use crate::names::Form;
+use crate::twins::Kind;
 
 /// Which call was made.
 #[derive(Clone, Copy, Debug, PartialEq, Eq, PartialOrd, Ord)]
@@ -47,11 +48,11 @@ impl Call {
     /// The numbers that the call can answer.
     pub fn numbers(self) -> &'static [u32] {
         match self {
-            Call::Check => &[0, 1, 2, 3, 4, 5, 6, 7, 8, 9, 10, 11, 12],
-            Call::Load => &[0, 1, 2, 3, 4, 5, 6, 7, 8, 9, 10, 11, 12, 13],
-            Call::Order => &[0, 1, 2, 3, 4, 5, 6, 7, 8, 9, 10, 11, 12, 13, 15, 16, 18],
-            Call::Arrange => &[0, 1, 2, 3, 4, 5, 6, 7, 8, 9, 10, 11, 12, 13, 15, 18],
-            Call::Fragments | Call::Save | Call::Tray => &[0, 1, 2, 3, 4, 5, 6, 7, 8, 9, 10, 11, 12, 13, 17, 18],
+            Call::Check => &[0, 1, 2, 3, 4, 5, 6, 7, 8, 9, 10, 11, 12, 21],
+            Call::Load => &[0, 1, 2, 3, 4, 5, 6, 7, 8, 9, 10, 11, 12, 13, 21],
+            Call::Order => &[0, 1, 2, 3, 4, 5, 6, 7, 8, 9, 10, 11, 12, 13, 15, 16, 18, 21],
+            Call::Arrange => &[0, 1, 2, 3, 4, 5, 6, 7, 8, 9, 10, 11, 12, 13, 15, 18, 21],
+            Call::Fragments | Call::Save | Call::Tray => &[0, 1, 2, 3, 4, 5, 6, 7, 8, 9, 10, 11, 12, 13, 17, 18, 21],
             Call::SlotOfLine => &[0, 1, 3, 4, 6],
             Call::RewriteLine => &[0, 1, 3, 4, 6, 17],
             Call::Dot | Call::Stroke => &[0, 1],
@@ -75,6 +76,8 @@ pub struct Findings {
     /// How often a call met a form of an atom's name: a right one in what was granted, a wrong one that alone was the cause of
     /// a refusal.
     pub forms: BTreeMap<(Call, Form), u64>,
+    /// How often a check met a kind of pairs of atoms.
+    pub twins: BTreeMap<Kind, u64>,
 }
 
 /// Differences that are kept in words.
@@ -91,6 +94,11 @@ impl Findings {
     pub fn unmet(&self) -> Vec<(Call, Form)> {
         let possible = Call::NAMED.iter().flat_map(|call| Form::ALL.map(|form| (*call, form)));
         possible.filter(|met| !self.forms.contains_key(met)).collect()
+    }
+
+    /// The kinds of pairs of atoms that no check met.
+    pub fn unmet_twins(&self) -> Vec<Kind> {
+        Kind::ALL.into_iter().filter(|kind| !self.twins.contains_key(kind)).collect()
     }
 
     /// Takes down one call of a case: the number that is due, the number that came, and where memory is wrong.

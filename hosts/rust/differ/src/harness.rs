@@ -7,6 +7,7 @@ use crate::findings::{Call, Findings};
 use crate::lent::{Lent, Sides};
 use crate::names::{put_name, Form};
 use crate::slots::{to_library, to_reference};
+use crate::twins::{self, Kind};
 
 /// The two sides of the comparison.
 pub struct Harness {
@@ -93,6 +94,18 @@ impl Harness {
         }
     }
 
+    /// Takes down the kinds of pairs of atoms in a text.
+    fn note_twins(&mut self, text: &[u8], number: u32, line: u64) {
+        let mut met = twins::met(text, number, line);
+        let mended = (number == 21).then(|| reference::check(&twins::mended(text, line)));
+        if mended.is_some_and(|verdict| verdict.refusal == Some(Refusal::Bond)) {
+            met.insert(Kind::BondBelow);
+        }
+        for kind in met {
+            *self.findings.twins.entry(kind).or_insert(0) += 1;
+        }
+    }
+
     /// Checks a text.
     pub fn check(&mut self, text: &[u8]) -> u32 {
         let lent = self.lend_text(text);
@@ -106,6 +119,7 @@ impl Harness {
         answer.due()[3..].copy_from_slice(&verdict.tally.counts());
         self.note(Call::Check, due, came, &[("text", lent.first_wrong()), ("answer", answer.first_wrong())]);
         self.note_forms(text, due, verdict.line);
+        self.note_twins(text, due, verdict.line);
         due
     }
 

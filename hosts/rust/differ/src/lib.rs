@@ -8,6 +8,7 @@
 
 pub mod cases;
 pub mod chance;
+mod coordinates;
 mod damage;
 pub mod entry;
 pub mod fence;
@@ -17,6 +18,8 @@ pub mod lent;
 pub mod names;
 pub mod slots;
 mod sweep;
+mod twinning;
+pub mod twins;
 
 pub use cases::{run, run_fenced};
 pub use findings::{Call, Findings};

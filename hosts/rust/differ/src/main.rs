@@ -4,6 +4,7 @@ use std::process::ExitCode;
 use std::time::Instant;
 
 use differ::names::Form;
+use differ::twins::Kind;
 use differ::{Call, Findings};
 use station::raw::LINKED;
 
@@ -17,11 +18,11 @@ usage: differ [--cases N] [--seed S] [--only CASE]
   --only CASE  this one case of the seed, by its number
 
 The cases are followed by a sweep: every byte in every column of a line of each kind, every element, atoms' names over a few
-bytes, every narrow number, every length, every name.
+bytes, two atoms that differ in one column, every narrow number, every length, every name.
 
-Exit status: 0 no difference, 1 a difference, or a number of refusal or a form of an atom's name that was not reached, 2 wrong
-arguments, 3 the library touched memory that was not lent to it.
-Runs of fewer than 5000 cases do not ask that every number and form be reached.
+Exit status: 0 no difference, 1 a difference, or a number of refusal, a form of an atom's name or a kind of pairs of atoms that
+was not reached, 2 wrong arguments, 3 the library touched memory that was not lent to it.
+Runs of fewer than 5000 cases do not ask that every number, form and kind be reached.
 ";
 
 /// Runs below this are too short to reach every number.
@@ -64,6 +65,8 @@ fn print(findings: &Findings) {
         let forms: Vec<String> = Form::ALL.iter().map(met).collect();
         println!("{:12} names {}", format!("{call:?}"), forms.join(" "));
     }
+    let met = |kind: &Kind| format!("{kind:?}:{}", findings.twins.get(kind).unwrap_or(&0));
+    println!("{:12} pairs {}", "Check", Kind::ALL.iter().map(met).collect::<Vec<_>>().join(" "));
     for difference in &findings.shown {
         println!("{difference}");
     }
@@ -92,7 +95,7 @@ fn main() -> ExitCode {
     for difference in &swept.shown {
         println!("sweep: {difference}");
     }
-    let (unreached, unmet) = (findings.unreached(), findings.unmet());
+    let (unreached, unmet, unmet_twins) = (findings.unreached(), findings.unmet(), findings.unmet_twins());
     let asked = count >= ENOUGH;
     if asked {
         for (call, number) in &unreached {
@@ -101,12 +104,15 @@ fn main() -> ExitCode {
         for (call, form) in &unmet {
             println!("{call:?} never met a name {form:?}");
         }
+        for kind in &unmet_twins {
+            println!("Check never met a pair of atoms {kind:?}");
+        }
     }
     let differences = findings.differences + swept.differences;
     println!("{} calls in {seconds:.1} s, {:.0} cases/s", findings.calls, count as f64 / seconds);
     println!("{} calls of the sweep, {} differences", swept.calls, swept.differences);
     println!("{count} cases, {differences} differences");
-    if differences > 0 || (asked && !(unreached.is_empty() && unmet.is_empty())) {
+    if differences > 0 || (asked && !(unreached.is_empty() && unmet.is_empty() && unmet_twins.is_empty())) {
         ExitCode::FAILURE
     } else {
         ExitCode::SUCCESS

@@ -1,9 +1,10 @@
 //! What is few enough to be tried out in full: every byte in every column of a line of each kind, every element, every name
-//! of an atom over a few bytes, every number of the narrow fields, every length, every name of a line.
+//! of an atom over a few bytes, two atoms that differ in one column, every number of the narrow fields, every length, every
+//! name of a line.
 
 use station::raw::{Library, Slot, Tally};
 
-use crate::entry::{line, put, put_number, Columns, NAMES};
+use crate::entry::{line, master, put, put_number, text, Columns, NAMES};
 use crate::findings::Findings;
 use crate::harness::Harness;
 use crate::names::put_name;
@@ -25,6 +26,14 @@ const LINES: [&str; 13] = [
     "ATOM    137 HH11 ARG A  12      -0.500   1.250  12.000  1.00 10.00           H",
 ];
 
+/// An atom as ATOM and as HETATM, its TER, and once more.
+const TWINS: [&str; 4] = [
+    "ATOM      1 CA12AARG A  15B     11.281  86.699  94.383  0.50 35.88           C",
+    "HETATM    1 CA12AARG A  15B     11.281  86.699  94.383  0.50 35.88           C",
+    "TER       2      ARG A  15B",
+    "HETATM   12 CA12AARG A  15B     11.281  86.699  94.383  0.50 35.88           C",
+];
+
 /// Bytes of atoms' names: blanks, letters of elements of one and of two letters, other name characters, and none.
 const NAMED: &[u8] = b" CHA1'#h";
 
@@ -37,6 +46,7 @@ pub fn sweep(library: Library) -> Findings {
     }
     elements(&mut harness);
     atoms(&mut harness);
+    twins(&mut harness);
     numbers(&mut harness);
     names(&mut harness);
     harness.findings
@@ -88,6 +98,22 @@ fn atoms(harness: &mut Harness) {
             for element in [b" C", b" H", b"CA", b"AC"] {
                 put_name(&mut line, ([a, b, c, d], *element));
                 try_line(harness, &line);
+            }
+        }
+    }
+}
+
+/// Texts with an atom once more, every byte in every column of its second line: right below the first, and behind a TER.
+fn twins(harness: &mut Harness) {
+    let [first, hetatm, ter] = [TWINS[0], TWINS[1], TWINS[2]].map(line);
+    for above in [&[line("HEADER"), hetatm][..], &[line("HEADER"), first, ter]] {
+        for at in 1..=80 {
+            for byte in 0..=255 {
+                let mut twin = line(TWINS[3]);
+                put(&mut twin, at, &[byte]);
+                let mut lines = [above, &[twin]].concat();
+                lines.extend([master(&lines), line("END")]);
+                harness.check(&text(&lines));
             }
         }
     }

@@ -11,6 +11,7 @@ fn no_difference_and_every_number_reached() {
     assert_eq!(findings.differences, 0, "{:#?}", findings.shown);
     assert_eq!(findings.unreached(), []);
     assert_eq!(findings.unmet(), []);
+    assert_eq!(findings.unmet_twins(), []);
 }
 
 #[test]

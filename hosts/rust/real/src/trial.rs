@@ -4,7 +4,7 @@ use std::collections::BTreeMap;
 use std::fmt::Display;
 
 use differ::chance::Chance;
-use differ::entry::{named, COORDINATES};
+use differ::entry::{named, ATOMS, COORDINATES};
 use differ::slots::to_reference;
 use reference::{Mark, Slot};
 use station::{pieces, Entry, FragmentNumber, Line, Refusal, Table};
@@ -16,6 +16,8 @@ const SEED: u64 = 1;
 const SETS: usize = 3;
 /// How many times an entry is damaged.
 const DAMAGES: usize = 60;
+/// How many times an accepted entry is given one of its atoms twice.
+const TWINS: usize = 20;
 
 /// The other lines with typed columns.
 const OTHER_TYPED: [&[u8; 6]; 5] = [b"HELIX ", b"SHEET ", b"CONECT", b"MASTER", b"END   "];
@@ -98,6 +100,22 @@ fn damaged(chance: &mut Chance, text: &[u8]) -> Vec<u8> {
     lines.concat()
 }
 
+/// The text with one of its atoms twice, and the line that is refused for it, from 1.
+fn with_twins(chance: &mut Chance, text: &[u8]) -> Option<(Vec<u8>, u64)> {
+    let lines: Vec<&[u8]> = pieces(text).collect();
+    let atoms: Vec<usize> = (0..lines.len()).filter(|&at| named(lines[at], ATOMS)).collect();
+    let (a, b) = (*chance.pick(&atoms), *chance.pick(&atoms));
+    let (first, second) = (a.min(b), a.max(b));
+    // In a closed run another chain would be refused with 8.
+    let closed = lines[second..].iter().any(|line| line.starts_with(b"TER   "));
+    let fits = first < second && (!closed || lines[first][21] == lines[second][21]);
+    let mut twins = text.to_vec();
+    for columns in [12..27, 76..78] {
+        twins.copy_within(81 * first + columns.start..81 * first + columns.end, 81 * second + columns.start);
+    }
+    fits.then_some((twins, second as u64 + 1))
+}
+
 /// One entry under trial.
 pub struct Trial<'e> {
     listed: &'e Listed,
@@ -135,6 +153,7 @@ impl<'e> Trial<'e> {
         self.single_lines();
         if self.listed.accepted.is_some() {
             self.fragments();
+            self.twins();
         }
         self.damage();
     }
@@ -309,6 +328,19 @@ impl<'e> Trial<'e> {
         let (lines, others): (Vec<_>, Vec<_>) = pieces(tray).partition(|piece| named(piece, COORDINATES));
         self.hold("other coordinate lines in the tray", lines == due);
         self.hold("the tray has more than CONECT lines", others.iter().all(|piece| piece.starts_with(b"CONECT")));
+    }
+
+    /// An atom that comes twice is found, wherever the two stand.
+    fn twins(&mut self) {
+        for _ in 0..TWINS {
+            // A few pairs do not fit.
+            let made = (0..50).find_map(|_| with_twins(&mut self.chance, self.text));
+            let Some((text, line)) = made else { return self.hold("there are no two atoms", false) };
+            let (library, reference) = (of_library(&text), of_reference(&text));
+            let right = library == reference && library[..3] == [21, line, line - 1];
+            self.hold(format_args!("twins at {line}: library {library:?}, reference {reference:?}"), right);
+            *self.reached.entry(library[0]).or_default() += 1;
+        }
     }
 
     /// Damaged texts are answered alike.

@@ -1,9 +1,11 @@
 //! The check of a whole text.
 
+use std::collections::HashSet;
+
 use crate::columns::Columns;
 use crate::line::LineName;
 use crate::reading::read_fields;
-use crate::record::{Conect, Record, Residue, Sheet};
+use crate::record::{Conect, Label, Record, Residue, Sheet};
 use crate::tally::Tally;
 use crate::{Refusal, Serial};
 
@@ -83,6 +85,8 @@ struct Above {
     serial: Option<Serial>,
     /// The serials of all ATOM and HETATM lines; they rise.
     atoms: Vec<Serial>,
+    /// The labels of all ATOM and HETATM lines.
+    labels: HashSet<Label>,
     run: Run,
     /// The serial of the last CONECT.
     conect: Option<Serial>,
@@ -102,7 +106,7 @@ struct Run {
 }
 
 impl Above {
-    /// Judges one line: the lowest number that applies.
+    /// Judges one line: the first number that applies, 21 being looked for between 8 and 9.
     fn judge<'t>(&self, piece: &'t [u8]) -> Result<GoodLine<'t>, Refusal> {
         if piece.len() < 81 {
             return Err(Refusal::Length);
@@ -122,6 +126,7 @@ impl Above {
         let rules = [
             (self.serial_rises(record), Refusal::Serial),
             (self.run_allows(record), Refusal::Run),
+            (self.atom_is_new(record), Refusal::SameAtom),
             (self.bond_stands(record), Refusal::Bond),
             (self.in_sequence(record), Refusal::Sequence),
             (self.counts_true(record), Refusal::Count),
@@ -150,6 +155,14 @@ impl Above {
             Some(Record::Hetatm(atom)) => !run.holds_atom || run.chain == Some(atom.residue.chain),
             Some(Record::Ter(ter)) => run.holds_atom && run.last == Some(ter.residue),
             Some(Record::Conect(_) | Record::Master(_) | Record::End) => !run.holds_atom,
+            _ => true,
+        }
+    }
+
+    /// 21: no line above has the same atom.
+    fn atom_is_new(&self, record: Option<Record>) -> bool {
+        match record {
+            Some(Record::Atom(atom) | Record::Hetatm(atom)) => !self.labels.contains(&atom.label()),
             _ => true,
         }
     }
@@ -201,6 +214,7 @@ impl Above {
             Some(Record::Atom(atom) | Record::Hetatm(atom)) => {
                 self.serial = Some(atom.serial);
                 self.atoms.push(atom.serial);
+                self.labels.insert(atom.label());
                 self.run.add(line.name == LineName::Atom, atom.residue);
             }
             Some(Record::Ter(ter)) => {
@@ -286,6 +300,47 @@ mod tests {
         assert_eq!(with(ter(3, 'B', 1)), (8, 4));
         assert_eq!(with(atom("ATOM", 3, 'B', 1)), (8, 4));
         assert_eq!(with(atom("HETATM", 3, 'C', 1)), (12, 5));
+    }
+
+    /// An atom of residue ALA A 1, or one that has some columns otherwise, and then a second one.
+    fn with_second(first: [u8; 80], second: [u8; 80]) -> (u32, u64) {
+        answer_of(&[line("HEADER"), first, second])
+    }
+
+    #[test]
+    fn the_same_atom() {
+        let (first, second) = (atom("ATOM", 1, 'A', 1), changed(&atom("ATOM", 2, 'A', 1), 31, b"   9.000"));
+        assert_eq!(with_second(first, second), (21, 3));
+        assert_eq!(with_second(atom("HETATM", 1, 'A', 1), second), (21, 3));
+        assert_eq!(with_second(first, atom("HETATM", 2, 'A', 1)), (21, 3));
+        assert_eq!(with_second(first, changed(&second, 79, b"2+")), (21, 3));
+        assert_eq!(with_second(changed(&first, 17, b"A"), changed(&second, 17, b"A")), (21, 3));
+        for (column, other) in [(13, &b" CA "[..]), (17, b"A"), (18, b"GLY"), (23, b"   2"), (27, b"A")] {
+            assert_eq!(with_second(first, changed(&second, column, other)), (12, 4), "column {column}");
+        }
+        assert_eq!(with_second(atom("HETATM", 1, 'A', 1), atom("HETATM", 2, 'B', 1)), (12, 4));
+        assert_eq!(with_second(changed(&first, 17, b"A"), changed(&second, 17, b"B")), (12, 4));
+    }
+
+    #[test]
+    fn the_same_name_of_two_elements() {
+        let named = |serial, name, element| changed(&changed(&atom("HETATM", serial, 'A', 1), 13, name), 77, element);
+        assert_eq!(with_second(named(1, b"CA12", b" C"), named(2, b"CA12", b"CA")), (21, 3));
+        assert_eq!(with_second(named(1, b" CA ", b" C"), named(2, b"CA  ", b"CA")), (12, 4));
+    }
+
+    #[test]
+    fn the_same_atom_far_below() {
+        let closed = [line("HEADER"), atom("ATOM", 1, 'A', 1), ter(2, 'A', 1)];
+        let with = |more: &[[u8; 80]]| answer_of(&[&closed[..], more].concat());
+        let other = atom("HETATM", 3, 'B', 1);
+        assert_eq!(with(&[other, atom("HETATM", 4, 'A', 1)]), (21, 5));
+        assert_eq!(with(&[other, atom("HETATM", 3, 'A', 1)]), (7, 5));
+        assert_eq!(with(&[atom("ATOM", 3, 'B', 1), atom("HETATM", 4, 'A', 1)]), (8, 5));
+        assert_eq!(with(&[atom("HETATM", 4, 'A', 1), line("CONECT    1    9")]), (21, 4));
+        let named = |serial, name| changed(&atom("ATOM", serial, 'A', 1), 13, name);
+        assert_eq!(with(&[named(3, b" CA "), ter(4, 'A', 1), named(5, b" CB "), ter(6, 'A', 1)]), (12, 8));
+        assert_eq!(with(&[named(3, b" CA "), ter(4, 'A', 1), named(5, b" CA ")]), (21, 6));
     }
 
     #[test]

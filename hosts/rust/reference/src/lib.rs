@@ -43,7 +43,7 @@ pub use writing::{rewrite_line, write_record};
 pub struct Serial(pub u32);
 
 /// The number of a residue in its chain: -999 to 9999.
-#[derive(Clone, Copy, Debug, Default, PartialEq, Eq)]
+#[derive(Clone, Copy, Debug, Default, PartialEq, Eq, Hash)]
 pub struct ResidueNumber(pub i32);
 
 /// The number of a fragment of an entry, from 1.

@@ -185,12 +185,6 @@ mod tests {
     use super::*;
     use crate::samples::*;
 
-    fn changed(line: &[u8; 80], from: usize, bytes: &[u8]) -> [u8; 80] {
-        let mut line = *line;
-        line[from - 1..from - 1 + bytes.len()].copy_from_slice(bytes);
-        line
-    }
-
     fn refused(line: &[u8; 80], from: usize, bytes: &[u8]) -> bool {
         read_line(&changed(line, from, bytes)) == Err(Refusal::Field)
     }

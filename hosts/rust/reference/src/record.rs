@@ -4,7 +4,7 @@ use crate::tally::Tally;
 use crate::{ResidueNumber, Serial};
 
 /// A residue: what ATOM, TER, HELIX and SHEET lines name.
-#[derive(Clone, Copy, Debug, PartialEq, Eq)]
+#[derive(Clone, Copy, Debug, PartialEq, Eq, Hash)]
 pub struct Residue {
     /// Its name, with blanks on the left.
     pub name: [u8; 3],
@@ -37,6 +37,21 @@ pub struct Atom {
     pub element: [u8; 2],
     /// The charge, its two columns.
     pub charge: [u8; 2],
+}
+
+/// What no two atoms of a text share: residue, name and alternate location.
+#[derive(Clone, Copy, Debug, PartialEq, Eq, Hash)]
+pub struct Label {
+    residue: Residue,
+    name: [u8; 4],
+    alternate: u8,
+}
+
+impl Atom {
+    /// What tells it from all other atoms of its text.
+    pub fn label(&self) -> Label {
+        Label { residue: self.residue, name: self.name, alternate: self.alternate }
+    }
 }
 
 /// A TER line.

@@ -42,6 +42,8 @@ pub enum Refusal {
     OtherTable = 18,
     /// There is no atom to frame.
     NothingToFrame = 19,
+    /// A line above has the same atom.
+    SameAtom = 21,
 }
 
 impl Refusal {

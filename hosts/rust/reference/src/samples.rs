@@ -7,6 +7,13 @@ pub fn line(text: &str) -> [u8; 80] {
     line
 }
 
+/// A line with other bytes from a column on.
+pub fn changed(line: &[u8; 80], column: usize, bytes: &[u8]) -> [u8; 80] {
+    let mut changed = *line;
+    changed[column - 1..column - 1 + bytes.len()].copy_from_slice(bytes);
+    changed
+}
+
 /// A text of lines.
 pub fn text(lines: &[[u8; 80]]) -> Vec<u8> {
     lines.iter().flat_map(|line| line.iter().copied().chain([b'\n'])).collect()

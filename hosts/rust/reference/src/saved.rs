@@ -64,8 +64,8 @@ fn parted<'t>(text: &'t [u8], table: &[Slot]) -> Result<(Vec<GoodLine<'t>>, Vec<
 mod tests {
     use super::*;
     use crate::samples::*;
-    use crate::table::{loaded, order};
-    use crate::{check, FragmentNumber};
+    use crate::table::loaded;
+    use crate::{arrange, check, fragment_numbers, load, order, FragmentNumber};
 
     /// The saved text and the tray after setting fragments aside.
     fn saved(text: &[u8], aside: &[u32]) -> (Vec<u8>, Vec<u8>) {
@@ -106,6 +106,24 @@ mod tests {
         let slots = loaded(&arginine_entry()).expect("an accepted entry");
         assert_eq!(tray(&arginine_entry(), &slots, &mut []), Ok(0));
         assert_eq!(tray(&arginine_entry(), &slots[..1], &mut []), Err(Refusal::ShortTable));
+    }
+
+    /// 21 comes before 13, 18 and 17, and nothing is written.
+    #[test]
+    fn the_same_atom_in_every_call() {
+        let entry = three_fragments(&[]);
+        let mut slots = loaded(&entry).expect("an accepted entry");
+        let fresh = slots.clone();
+        let (first, second) = (atom("HETATM", 3, 'B', 7), atom("HETATM", 4, 'B', 7));
+        let twins = [&entry[..3 * 81], &text(&[first, second]), &entry[5 * 81..]].concat();
+        let twice = Err(Refusal::SameAtom);
+        let (mut out, mut numbers) = ([7; 9], [7; 9]);
+        assert_eq!(load(&twins, &mut slots[..1]), twice);
+        assert_eq!(order(&twins, &mut slots, FragmentNumber(9), Mark::Aside), Err(Refusal::SameAtom));
+        assert_eq!(arrange(&twins, &mut slots, &[]), Err(Refusal::SameAtom));
+        assert_eq!(fragment_numbers(&twins, &slots, &mut numbers), twice);
+        assert_eq!((save(&twins, &slots, &mut out), tray(&twins, &slots, &mut out)), (twice, twice));
+        assert_eq!((slots, out, numbers), (fresh, [7; 9], [7; 9]));
     }
 
     #[test]

@@ -54,6 +54,8 @@ impl Refusal {
     pub const NOTHING_TO_FRAME: Refusal = Refusal(19);
     /// The input is too long for the report.
     pub const LONG_INPUT: Refusal = Refusal(20);
+    /// An atom that a line above has already.
+    pub const SAME_ATOM: Refusal = Refusal(21);
 
     /// The number.
     pub fn number(self) -> u32 {
@@ -83,6 +85,7 @@ impl Refusal {
             18 => "the table does not belong to the text",
             19 => "there is no atom to frame",
             20 => "the input is longer than the report takes",
+            21 => "a line above has the same atom: name, alternate location and residue",
             _ => "for a reason that this program does not know",
         }
     }

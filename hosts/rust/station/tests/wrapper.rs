@@ -8,8 +8,9 @@ fn line(text: &str) -> String {
     format!("{text:80}\n")
 }
 
-fn atom(name: &str, serial: u32, residue: &str, x: &str) -> String {
-    line(&format!("{name:6}{serial:5}  C   {residue:10}   {x:>8}   2.000   3.000  1.00  0.00           C"))
+/// A carbon: what stands of its name in columns 15-16, and its residue.
+fn atom(name: &str, serial: u32, carbon: &str, residue: &str, x: &str) -> String {
+    line(&format!("{name:6}{serial:5}  C{carbon:2} {residue:10}   {x:>8}   2.000   3.000  1.00  0.00           C"))
 }
 
 fn master(coordinates: u32, ter: u32, conect: u32) -> String {
@@ -20,13 +21,13 @@ fn master(coordinates: u32, ter: u32, conect: u32) -> String {
 fn entry() -> String {
     [
         line("HEADER"),
-        atom("ATOM", 1, "ALA A   1", "0.000"),
-        atom("ATOM", 2, "ALA A   1", "1.000"),
-        atom("ATOM", 3, "GLY A   2A", "2.000"),
+        atom("ATOM", 1, "", "ALA A   1", "0.000"),
+        atom("ATOM", 2, "A", "ALA A   1", "1.000"),
+        atom("ATOM", 3, "", "GLY A   2A", "2.000"),
         line("TER       4      GLY A   2A"),
-        atom("HETATM", 5, "HEM B   7", "-4.000"),
-        atom("HETATM", 6, "HEM B   7", "4.001"),
-        atom("HETATM", 9, "HOH B   7", "9.000"),
+        atom("HETATM", 5, "1", "HEM B   7", "-4.000"),
+        atom("HETATM", 6, "2", "HEM B   7", "4.001"),
+        atom("HETATM", 9, "", "HOH B   7", "9.000"),
         line("CONECT    5    6    9"),
         master(6, 1, 1),
         line("END"),
@@ -85,6 +86,14 @@ fn orders_are_refused_by_number() -> Result<(), Refusal> {
     assert_eq!(table.tray()?, b"");
     assert_eq!(Table::load(b"").map(|table| table.slots().len()), Err(Refusal::OVER));
     Ok(())
+}
+
+#[test]
+fn the_same_atom_twice() {
+    let twins = entry().replace("  C2  HEM", "  C1  HEM");
+    let verdict = Entry::check(twins.as_bytes());
+    assert_eq!((verdict.refusal, verdict.line, verdict.good_lines), (Some(Refusal::SAME_ATOM), 7, 6));
+    assert_eq!(Table::load(twins.as_bytes()).map(|table| table.slots().len()), Err(Refusal::SAME_ATOM));
 }
 
 #[test]
@@ -158,9 +167,10 @@ fn refusals_in_words() {
         Refusal::OTHER_TABLE,
         Refusal::NOTHING_TO_FRAME,
         Refusal::LONG_INPUT,
+        Refusal::SAME_ATOM,
     ];
-    assert!(all.iter().map(|refusal| refusal.number()).eq(1..=20));
-    assert_eq!(all.iter().map(|refusal| refusal.meaning()).collect::<BTreeSet<_>>().len(), 20);
+    assert!(all.iter().map(|refusal| refusal.number()).eq(1..=21));
+    assert_eq!(all.iter().map(|refusal| refusal.meaning()).collect::<BTreeSet<_>>().len(), 21);
     let error: Box<dyn std::error::Error> = Box::new(Refusal::OVER);
     assert_eq!(error.to_string(), "refused with 12: the text is over before END");
     assert_eq!(format!("{:?}", Refusal::OVER), "Refusal(12: the text is over before END)");

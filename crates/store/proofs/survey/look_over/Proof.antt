@@ -4,7 +4,8 @@ use Prim.Native.Nat.{_*_, _-_}
 use lib.ListN.{length}
 use native.Mathlib.Omega.{arith}
 use mathlib.Core.Path.{ap}
-use Rattle.gate.proofs.Sofar.{sofar-start, sofar-rising, sofar-done, turn-refused, turn-next}
+use Rattle.gate.proofs.Sofar.{sofar-start, sofar-rising, sofar-done, turn-refused, turn-next, turn-watched, watched-on}
+use Rattle.trail.specs.Trail.{Watched}
 use Rattle.store.proofs.Lines.{row-small, need-done, fits-done, kept-done}
 use Rattle.store.proofs.Looking.{Seen, seen-start, seen-next, seen-rises}
 -- `store::survey::look_over` meets its contract. `Proof/` has its derivation, written by tools/walk.py. Assumes nothing.
@@ -17,7 +18,7 @@ use Rattle.store.proofs.Walked.survey.look_over.Reads as reads
 use Rattle.store.proofs.survey.look_over.Proof.Lts as lts
 
 abbrev Inv-loop : tie.InvT-loop
-Inv-loop text table i₀ c₀ k₀ fit₀ kept₀ near₀ i c k fit kept near = Seen text table i (c .past .block) (c .state) k fit kept
+Inv-loop text table i₀ c₀ k₀ fit₀ kept₀ near₀ i c k fit kept near = Seen text table i (c .past .block) (c .state) k fit kept × Watched text (c .past .block) (c .watch)
 
 abbrev μ-loop : tie.MeasureT-loop
 μ-loop text table i₀ c₀ k₀ fit₀ kept₀ near₀ i c k fit kept near = length text - 81 * i
@@ -26,20 +27,20 @@ start-requires : tie.Need-start-requires Inv-loop μ-loop
 start-requires c = search needs
 
 loop-holds : tie.Need-loop-holds Inv-loop μ-loop
-loop-holds c = rw (c .start .ensures .0, c .start .ensures .1) (seen-start _ _ _ (sofar-start _))
+loop-holds c = (rw (c .start .ensures .0 .0, c .start .ensures .0 .1) (seen-start _ _ _ (sofar-start _)), watched-on _ _ _ _ (c .start .ensures .0 .1) (c .start .ensures .1 _))
 
 mul-loop : tie.Need-mul-loop Inv-loop μ-loop
-mul-loop c = omega (arith, c .loop .inv .sofar .within)
+mul-loop c = omega (arith, c .loop .inv .0 .sofar .within)
 
 line-at-requires : tie.Need-line-at-requires Inv-loop μ-loop
 line-at-requires c = omega arith
 
 turn-requires : tie.Need-turn-requires Inv-loop μ-loop
-turn-requires c = λ κs. (sofar-rising _ _ _ _ (c .before .before .loop .inv .sofar), (search needs, (omega (arith, c .before .before .loop .inv .sofar .lines), omega arith)))
+turn-requires c = λ κs. ((c .before .loop-test .taken, c .line-at .ensures), (sofar-rising _ _ _ _ (c .before .before .loop .inv .0 .sofar), (c .before .before .loop .inv .1, (search needs, (omega (arith, c .before .before .loop .inv .0 .sofar .lines), omega (arith, c .before .before .loop .inv .0 .sofar .within))))))
 
 returns : tie.Need-returns Inv-loop μ-loop
 unfolding refusedOf
-returns c = (ap (λ (v : Verdict). v .number) (turn-refused _ _ _ _ (c .before .before .before .before .before .loop .inv .sofar) (c .before .before .before .before .loop-test .taken) _ _ (c .before .before .before .line-at .ensures) (c .before .before .turn .ensures .0 _ _ (c .before .before .before .before .before .loop .inv .sofar .block)) (c .if1 .taken)), λ z. absurd (c .if1 .taken z))
+returns c = (ap (λ (v : Verdict). v .number) (turn-refused _ _ _ _ (c .before .before .before .before .before .loop .inv .0 .sofar) (c .before .before .before .before .loop-test .taken) _ _ (c .before .before .before .line-at .ensures) (c .before .before .turn .ensures .0 _ _ (c .before .before .before .before .before .loop .inv .0 .sofar .block)) (c .if1 .taken)), λ z. absurd (c .if1 .taken z))
 
 slot-at-requires : tie.Need-slot-at-requires Inv-loop μ-loop
 slot-at-requires c = search needs
@@ -51,34 +52,43 @@ both-of-requires : tie.Need-both-of-requires Inv-loop μ-loop
 both-of-requires c = search needs
 
 stays-requires : tie.Need-stays-requires Inv-loop μ-loop
-stays-requires c = λ κs. (omega (arith, c .before .before .before .before .before .before .before .before .before .loop .inv .spots, c .before .before .before .before .before .before .before .before .before .loop .inv .sofar .block .hi-le, c .before .before .before .before .before .before .before .before .before .loop .inv .sofar .within, c .before .before .before .before .before .before .before .before), c .before .before .slot-at .ensures)
+stays-requires c = λ κs. (omega (arith, c .before .before .before .before .before .before .before .before .before .loop .inv .0 .spots, c .before .before .before .before .before .before .before .before .before .loop .inv .0 .sofar .block .hi-le, c .before .before .before .before .before .before .before .before .before .loop .inv .0 .sofar .within, c .before .before .before .before .before .before .before .before), c .before .before .slot-at .ensures)
 
 one-if-requires : tie.Need-one-if-requires Inv-loop μ-loop
 one-if-requires c = search needs
 
 add-kept : tie.Need-add-kept Inv-loop μ-loop
-add-kept c = omega (arith, c .before .before .before .before .before .before .before .before .before .before .before .before .loop .inv .few, c .one-if .ensures .1, c .before .before .before .before .before .before .before .before .before .before .before .before .loop .inv .sofar .within, c .before .before .before .before .before .before .before .before .before .before .before)
+add-kept c = omega (arith, c .before .before .before .before .before .before .before .before .before .before .before .before .loop .inv .0 .few, c .one-if .ensures .1, c .before .before .before .before .before .before .before .before .before .before .before .before .loop .inv .0 .sofar .within, c .before .before .before .before .before .before .before .before .before .before .before)
 
 one-of-requires : tie.Need-one-of-requires Inv-loop μ-loop
 one-of-requires c = search needs
 
 add-k : tie.Need-add-k Inv-loop μ-loop
-add-k c = omega (arith, c .before .before .before .before .before .before .before .before .before .before .before .before .before .loop .inv .spots, c .before .before .before .before .before .before .before .before .before .before .before .before .before .loop .inv .sofar .block .hi-le, c .one-of .ensures .1, c .before .before .before .before .before .before .before .before .before .before .before .before .before .loop .inv .sofar .within, c .before .before .before .before .before .before .before .before .before .before .before .before)
+add-k c = omega (arith, c .before .before .before .before .before .before .before .before .before .before .before .before .before .loop .inv .0 .spots, c .before .before .before .before .before .before .before .before .before .before .before .before .before .loop .inv .0 .sofar .block .hi-le, c .one-of .ensures .1, c .before .before .before .before .before .before .before .before .before .before .before .before .before .loop .inv .0 .sofar .within, c .before .before .before .before .before .before .before .before .before .before .before .before)
 
 add-i : tie.Need-add-i Inv-loop μ-loop
-add-i c = omega (arith, c .before .before .before .before .before .before .before .before .before .before .before .before .before .loop .inv .sofar .within, c .before .before .before .before .before .before .before .before .before .before .before .before)
+add-i c = omega (arith, c .before .before .before .before .before .before .before .before .before .before .before .before .before .loop .inv .0 .sofar .within, c .before .before .before .before .before .before .before .before .before .before .before .before)
 
 loop-less : tie.Need-loop-less Inv-loop μ-loop
 loop-less c = search needs
 
 loop-again : tie.Need-loop-again Inv-loop μ-loop
-loop-again c = let S = c .before .before .before .before .before .before .before .before .before .before .before .before .before .loop .inv in let h = c .before .before .before .before .before .before .before .before .before .before .before .before .loop-test .taken in let el = c .before .before .before .before .before .before .before .before .before .before .before .line-at .ensures in let n = c .before .before .before .before .before .before .before .before .before .before .turn .ensures .0 _ _ (S .sofar .block) in let e = c .before .before .before .before .before .before .before .before .before .before .turn .ensures .1 (c .before .before .before .before .before .before .before .before .if1 .left) in rw (c .before .before .before .before .both-of .ensures, c .before .one-if .ensures .0, c .one-of .ensures .0) (seen-next _ _ _ _ _ _ _ _ S h _ el _ (e .1) _ (turn-next _ _ _ _ (S .sofar) h _ _ el n (c .before .before .before .before .before .before .before .before .if1 .left) _ (e .1) _ (e .0)) _ (c .before .before .before .before .before .before .slot-at .ensures) _ (c .before .before .before .before .before .fits2 .ensures) _ (c .before .before .before .stays .ensures))
+loop-again c =
+    let S = c .before .before .before .before .before .before .before .before .before .before .before .before .before .loop .inv .0 in
+    let h = c .before .before .before .before .before .before .before .before .before .before .before .before .loop-test .taken in
+    let el = c .before .before .before .before .before .before .before .before .before .before .before .line-at .ensures in
+    let n = c .before .before .before .before .before .before .before .before .before .before .turn .ensures .0 _ _ (S .sofar .block) in
+    let z = c .before .before .before .before .before .before .before .before .if1 .left in
+    let e = c .before .before .before .before .before .before .before .before .before .before .turn .ensures .1 .0 z in (
+      rw (c .before .before .before .before .both-of .ensures, c .before .one-if .ensures .0, c .one-of .ensures .0) (seen-next _ _ _ _ _ _ _ _ S h _ el _ (e .1) _ (turn-next _ _ _ _ (S .sofar) h _ _ el n z _ (e .1) _ (e .0)) _ (c .before .before .before .before .before .before .slot-at .ensures) _ (c .before .before .before .before .before .fits2 .ensures) _ (c .before .before .before .stays .ensures)),
+      turn-watched _ _ _ _ (S .sofar) h _ _ el n z _ (c .before .before .before .before .before .before .before .before .before .before .turn .ensures .1 .1 z) _ (e .1),
+    )
 
 finish-requires : tie.Need-finish-requires Inv-loop μ-loop
 finish-requires c = search needs
 
 returns-2 : tie.Need-returns-2 Inv-loop μ-loop
-returns-2 c = (ap (λ (v : Verdict). v .number) (sofar-done _ _ _ _ _ (c .before .before .before .loop .inv .sofar) (c .before .before .loop-test .left) (c .finish .ensures)), λ z. record { need = need-done _ _ _ _ (c .before .before .loop-test .left) (c .before .before .before .loop .inv .need); fits = fits-done _ _ _ _ _ _ (c .before .before .loop-test .left) (c .before .before .before .loop .inv .fitted); lines = omega (arith, c .before .before .before .loop .inv .sofar .within, c .before .before .loop-test .left); kept = λ e. kept-done _ _ _ _ _ _ (c .before .before .loop-test .left) (c .before .before .before .loop .inv .kept e); rises = λ e. seen-rises _ _ _ _ _ _ _ _ (c .before .before .before .loop .inv) e })
+returns-2 c = (ap (λ (v : Verdict). v .number) (sofar-done _ _ _ _ _ (c .before .before .before .loop .inv .0 .sofar) (c .before .before .loop-test .left) (c .finish .ensures)), λ z. record { need = need-done _ _ _ _ (c .before .before .loop-test .left) (c .before .before .before .loop .inv .0 .need); fits = fits-done _ _ _ _ _ _ (c .before .before .loop-test .left) (c .before .before .before .loop .inv .0 .fitted); lines = omega (arith, c .before .before .before .loop .inv .0 .sofar .within, c .before .before .loop-test .left); kept = λ e. kept-done _ _ _ _ _ _ (c .before .before .loop-test .left) (c .before .before .before .loop .inv .0 .kept e); rises = λ e. seen-rises _ _ _ _ _ _ _ _ (c .before .before .before .loop .inv .0) e })
 
 pub look-over-spec : {M : Type 1} → statement M
 look-over-spec =

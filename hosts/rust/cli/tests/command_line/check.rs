@@ -5,7 +5,7 @@ use std::os::unix::fs::symlink;
 use std::path::Path;
 
 use crate::folder::Folder;
-use crate::texts::{arginine, three};
+use crate::texts::{arginine, three, twins};
 
 #[test]
 fn check_grants() {
@@ -27,6 +27,24 @@ fn check_refuses_and_shows_the_line() {
     let answer = folder.station(&["check", "b.pdb"]);
     answer.is(1, "b.pdb: line 4: refused with 11: a count on MASTER is not the true one");
     answer.is(1, "the count of TER is 2, and there are 1\n  the count of SEQRES is 3, and there are 0");
+}
+
+#[test]
+fn check_names_both_lines_of_an_atom() {
+    let folder = Folder::new("twins");
+    folder.file("a.pdb", twins());
+    let answer = folder.station(&["check", "a.pdb"]);
+    let expected = "\
+a.pdb: line 5: refused with 21: a line above has the same atom: name, alternate location and residue
+  |HETATM    4  C   ALA A   1       9.000   2.000   3.000  1.00  0.00           C  |
+  line 2 has the same atom, C of ALA A 1:
+  |ATOM      1  C   ALA A   1       0.000   2.000   3.000  1.00  0.00           C  |
+";
+    assert_eq!((answer.status, answer.out.as_str()), (1, expected));
+    folder.station(&["check", "--report", "a.pdb"]).is(1, "verdict=21\nline=5\nlines=4\n");
+    let other = twins().replace("HETATM    4  C   ALA", "HETATM    4  C  AALA");
+    folder.file("b.pdb", other.replace("CONECT    3    1", "CONECT    3    4"));
+    folder.station(&["check", "b.pdb"]).is(0, "b.pdb: granted: 9 lines, 3 atoms");
 }
 
 #[test]

@@ -1,7 +1,7 @@
 //! `station draw`.
 
 use crate::folder::Folder;
-use crate::texts::three;
+use crate::texts::{three, twins};
 
 #[test]
 fn pictures() {
@@ -28,11 +28,16 @@ fn pictures_of_good_lines() {
     answer.is(0, "a.svg: 3 dots, 2 strokes");
     answer.is(0, "only the good lines were drawn: a.pdb: line 7: refused with 9");
     folder.station(&["draw", "a.pdb", "--svg", "b.svg", "--aside", "1"]).is(1, "in an accepted entry only");
+    folder.file("twins.pdb", twins());
+    let answer = folder.station(&["draw", "twins.pdb", "--svg", "twins.svg"]);
+    answer.is(0, "twins.svg: 2 dots, 0 strokes");
+    answer.is(0, "only the good lines were drawn: twins.pdb: line 5: refused with 21");
+    answer.is(0, "line 2 has the same atom, C of ALA A 1:");
     folder.file("empty.pdb", "");
     let answer = folder.station(&["draw", "empty.pdb", "--svg", "b.svg"]);
     answer.is(1, "the file is empty");
     answer.is(1, "there is no atom among the good lines, so nothing is drawn");
     folder.file("windows.pdb", three().replace('\n', "\r\n"));
     folder.station(&["draw", "windows.pdb", "--svg", "b.svg"]).is(1, "Windows line ends");
-    assert_eq!(folder.names(), ["a.pdb", "a.svg", "empty.pdb", "windows.pdb"]);
+    assert_eq!(folder.names(), ["a.pdb", "a.svg", "empty.pdb", "twins.pdb", "twins.svg", "windows.pdb"]);
 }

@@ -4,7 +4,7 @@ use std::fs;
 use std::os::unix::fs::symlink;
 
 use crate::folder::Folder;
-use crate::texts::{atom, line, master, three};
+use crate::texts::{atom, line, master, three, twins};
 
 #[test]
 fn fragments_are_listed() {
@@ -52,7 +52,9 @@ fn thousands_of_waters_at_once() {
         lines.push(line(&format!("TER   {:5}      ALA {chain}   1", serial + 1)));
     }
     let chain = lines.concat();
-    let water = |index: u32| atom("HETATM", 17 + index, 'W', (index % 9_999) as i32, "1.000");
+    // A chain has fewer numbers than there are waters.
+    let chain_of = |index: u32| ['U', 'V', 'W'][index as usize / 9_999];
+    let water = |index: u32| atom("HETATM", 17 + index, chain_of(index), (index % 9_999) as i32, "1.000");
     let tail: String = (0..waters).map(water).collect();
     let end = |atoms: u32| master(atoms, 8, 0) + &line("END");
     folder.file("a.pdb", chain.clone() + &tail + &end(8 + waters));
@@ -134,6 +136,24 @@ fn a_link_to_another_file_is_followed() {
     folder.station(&["save", "a.pdb", "--out", "soft", "--force"]).is(0, "9 lines");
     assert_eq!(folder.read("deep/old"), three());
     assert!(fs::symlink_metadata(folder.0.join("soft")).expect("the link").is_symlink());
+}
+
+/// The words are those of `check`.
+#[test]
+fn the_same_atom_twice_is_not_saved() {
+    let folder = Folder::new("twins-unsaved");
+    folder.file("a.pdb", twins());
+    let words = folder.station(&["check", "a.pdb"]).out;
+    assert!(words.contains("line 5: refused with 21") && words.contains("line 2 has the same atom"), "{words}");
+    for command in [
+        &["fragments", "a.pdb"][..],
+        &["save", "a.pdb", "--out", "out"],
+        &["save", "a.pdb", "--aside", "2", "--out", "out", "--tray", "tray"],
+        &["draw", "a.pdb", "--svg", "svg", "--aside", "2"],
+    ] {
+        folder.station(command).is(1, words.trim_end());
+    }
+    assert_eq!(folder.names(), ["a.pdb"]);
 }
 
 #[test]

@@ -39,3 +39,8 @@ pub fn three() -> String {
     ]
     .concat()
 }
+
+/// The last atom is the first one once more.
+pub fn twins() -> String {
+    three().replace("HETATM    4  C   ALA B   8", "HETATM    4  C   ALA A   1")
+}

@@ -28,6 +28,7 @@ macro_rules! planted {
 
 mod fragments;
 mod names;
+mod twins;
 
 planted! {
     ter_counts_as_coordinate: check(text: *const u8, n: usize, answer: *mut u64) {

@@ -122,7 +122,11 @@ xs = Syntax.tyInt Syntax.w64 ∷ (Syntax.tyStruct (103 ∷ 97 ∷ 116 ∷ 101 �
     (Syntax.tcons (Syntax.tyStruct (115 ∷ 101 ∷ 97 ∷ 114 ∷ 99 ∷ 104 ∷ 58 ∷ 58 ∷ 83 ∷ 112 ∷ 97 ∷ 110 ∷ []) (Syntax.tcons (Syntax.tyInt Syntax.w64) (Syntax.tcons
     (Syntax.tyInt Syntax.w64) Syntax.tnil))) (Syntax.tcons (Syntax.tyStruct (115 ∷ 101 ∷ 97 ∷ 114 ∷ 99 ∷ 104 ∷ 58 ∷ 58 ∷ 78 ∷ 101 ∷ 97 ∷ 114 ∷ [])
     (Syntax.tcons (Syntax.tyInt Syntax.w64) (Syntax.tcons (Syntax.tyStruct (102 ∷ 105 ∷ 101 ∷ 108 ∷ 100 ∷ 115 ∷ 58 ∷ 58 ∷ 83 ∷ 101 ∷ 114 ∷ 105 ∷ 97 ∷ 108 ∷ [])
-    (Syntax.tcons (Syntax.tyInt Syntax.w32) Syntax.tnil)) Syntax.tnil))) Syntax.tnil))) Syntax.tnil))) ∷ Syntax.tyInt Syntax.w64 ∷ Syntax.tyBool ∷ Syntax.tyInt
+    (Syntax.tcons (Syntax.tyInt Syntax.w32) Syntax.tnil)) Syntax.tnil))) Syntax.tnil))) (Syntax.tcons (Syntax.tyStruct (116 ∷ 114 ∷ 97 ∷ 105 ∷ 108 ∷ 58 ∷ 58 ∷
+    87 ∷ 97 ∷ 116 ∷ 99 ∷ 104 ∷ []) (Syntax.tcons (Syntax.tyInt Syntax.w64) (Syntax.tcons (Syntax.tyInt Syntax.w64) (Syntax.tcons (Syntax.tyInt Syntax.w64)
+    (Syntax.tcons (Syntax.tyInt Syntax.w64) (Syntax.tcons (Syntax.tyInt Syntax.w64) (Syntax.tcons (Syntax.tyInt Syntax.w64) (Syntax.tcons (Syntax.tyStruct (97
+    ∷ 104 ∷ 101 ∷ 97 ∷ 100 ∷ 58 ∷ 58 ∷ 65 ∷ 104 ∷ 101 ∷ 97 ∷ 100 ∷ []) (Syntax.tcons (Syntax.tyInt Syntax.w64) (Syntax.tcons (Syntax.tyInt Syntax.w64)
+    (Syntax.tcons (Syntax.tyInt Syntax.w64) Syntax.tnil)))) Syntax.tnil)))))))) Syntax.tnil)))) ∷ Syntax.tyInt Syntax.w64 ∷ Syntax.tyBool ∷ Syntax.tyInt
     Syntax.w64 ∷ (Syntax.tyStruct (115 ∷ 101 ∷ 97 ∷ 114 ∷ 99 ∷ 104 ∷ 58 ∷ 58 ∷ 78 ∷ 101 ∷ 97 ∷ 114 ∷ []) (Syntax.tcons (Syntax.tyInt Syntax.w64) (Syntax.tcons
     (Syntax.tyStruct (102 ∷ 105 ∷ 101 ∷ 108 ∷ 100 ∷ 115 ∷ 58 ∷ 58 ∷ 83 ∷ 101 ∷ 114 ∷ 105 ∷ 97 ∷ 108 ∷ []) (Syntax.tcons (Syntax.tyInt Syntax.w32) Syntax.tnil))
     Syntax.tnil))) ∷ (Syntax.tyEnum (112 ∷ 105 ∷ 101 ∷ 99 ∷ 101 ∷ 115 ∷ 58 ∷ 58 ∷ 76 ∷ 105 ∷ 110 ∷ 101 ∷ []) (Syntax.ttcons (Syntax.tcons (Syntax.tyInt
@@ -237,8 +241,12 @@ xs = Syntax.tyInt Syntax.w64 ∷ (Syntax.tyStruct (103 ∷ 97 ∷ 116 ∷ 101 �
     (Syntax.tyStruct (115 ∷ 101 ∷ 97 ∷ 114 ∷ 99 ∷ 104 ∷ 58 ∷ 58 ∷ 83 ∷ 112 ∷ 97 ∷ 110 ∷ []) (Syntax.tcons (Syntax.tyInt Syntax.w64) (Syntax.tcons (Syntax.tyInt
     Syntax.w64) Syntax.tnil))) (Syntax.tcons (Syntax.tyStruct (115 ∷ 101 ∷ 97 ∷ 114 ∷ 99 ∷ 104 ∷ 58 ∷ 58 ∷ 78 ∷ 101 ∷ 97 ∷ 114 ∷ []) (Syntax.tcons
     (Syntax.tyInt Syntax.w64) (Syntax.tcons (Syntax.tyStruct (102 ∷ 105 ∷ 101 ∷ 108 ∷ 100 ∷ 115 ∷ 58 ∷ 58 ∷ 83 ∷ 101 ∷ 114 ∷ 105 ∷ 97 ∷ 108 ∷ []) (Syntax.tcons
-    (Syntax.tyInt Syntax.w32) Syntax.tnil)) Syntax.tnil))) Syntax.tnil))) Syntax.tnil))) Syntax.tnil))) ∷ (Syntax.tyStruct (103 ∷ 97 ∷ 116 ∷ 101 ∷ 58 ∷ 58 ∷ 67
-    ∷ 111 ∷ 117 ∷ 114 ∷ 115 ∷ 101 ∷ []) (Syntax.tcons (Syntax.tyStruct (114 ∷ 117 ∷ 108 ∷ 101 ∷ 115 ∷ 58 ∷ 58 ∷ 83 ∷ 116 ∷ 97 ∷ 116 ∷ 101 ∷ []) (Syntax.tcons
+    (Syntax.tyInt Syntax.w32) Syntax.tnil)) Syntax.tnil))) Syntax.tnil))) (Syntax.tcons (Syntax.tyStruct (116 ∷ 114 ∷ 97 ∷ 105 ∷ 108 ∷ 58 ∷ 58 ∷ 87 ∷ 97 ∷ 116
+    ∷ 99 ∷ 104 ∷ []) (Syntax.tcons (Syntax.tyInt Syntax.w64) (Syntax.tcons (Syntax.tyInt Syntax.w64) (Syntax.tcons (Syntax.tyInt Syntax.w64) (Syntax.tcons
+    (Syntax.tyInt Syntax.w64) (Syntax.tcons (Syntax.tyInt Syntax.w64) (Syntax.tcons (Syntax.tyInt Syntax.w64) (Syntax.tcons (Syntax.tyStruct (97 ∷ 104 ∷ 101 ∷
+    97 ∷ 100 ∷ 58 ∷ 58 ∷ 65 ∷ 104 ∷ 101 ∷ 97 ∷ 100 ∷ []) (Syntax.tcons (Syntax.tyInt Syntax.w64) (Syntax.tcons (Syntax.tyInt Syntax.w64) (Syntax.tcons
+    (Syntax.tyInt Syntax.w64) Syntax.tnil)))) Syntax.tnil)))))))) Syntax.tnil)))) Syntax.tnil))) ∷ (Syntax.tyStruct (103 ∷ 97 ∷ 116 ∷ 101 ∷ 58 ∷ 58 ∷ 67 ∷ 111
+    ∷ 117 ∷ 114 ∷ 115 ∷ 101 ∷ []) (Syntax.tcons (Syntax.tyStruct (114 ∷ 117 ∷ 108 ∷ 101 ∷ 115 ∷ 58 ∷ 58 ∷ 83 ∷ 116 ∷ 97 ∷ 116 ∷ 101 ∷ []) (Syntax.tcons
     (Syntax.tyInt Syntax.w8) (Syntax.tcons (Syntax.tyStruct (102 ∷ 105 ∷ 101 ∷ 108 ∷ 100 ∷ 115 ∷ 58 ∷ 58 ∷ 83 ∷ 101 ∷ 114 ∷ 105 ∷ 97 ∷ 108 ∷ []) (Syntax.tcons
     (Syntax.tyInt Syntax.w32) Syntax.tnil)) (Syntax.tcons (Syntax.tyStruct (114 ∷ 117 ∷ 108 ∷ 101 ∷ 115 ∷ 58 ∷ 58 ∷ 82 ∷ 117 ∷ 110 ∷ []) (Syntax.tcons
     Syntax.tyBool (Syntax.tcons Syntax.tyBool (Syntax.tcons Syntax.tyBool (Syntax.tcons (Syntax.tyStruct (114 ∷ 101 ∷ 115 ∷ 105 ∷ 100 ∷ 117 ∷ 101 ∷ 58 ∷ 58 ∷
@@ -258,23 +266,27 @@ xs = Syntax.tyInt Syntax.w64 ∷ (Syntax.tyStruct (103 ∷ 97 ∷ 116 ∷ 101 �
     ∷ 114 ∷ 99 ∷ 104 ∷ 58 ∷ 58 ∷ 83 ∷ 112 ∷ 97 ∷ 110 ∷ []) (Syntax.tcons (Syntax.tyInt Syntax.w64) (Syntax.tcons (Syntax.tyInt Syntax.w64) Syntax.tnil)))
     (Syntax.tcons (Syntax.tyStruct (115 ∷ 101 ∷ 97 ∷ 114 ∷ 99 ∷ 104 ∷ 58 ∷ 58 ∷ 78 ∷ 101 ∷ 97 ∷ 114 ∷ []) (Syntax.tcons (Syntax.tyInt Syntax.w64) (Syntax.tcons
     (Syntax.tyStruct (102 ∷ 105 ∷ 101 ∷ 108 ∷ 100 ∷ 115 ∷ 58 ∷ 58 ∷ 83 ∷ 101 ∷ 114 ∷ 105 ∷ 97 ∷ 108 ∷ []) (Syntax.tcons (Syntax.tyInt Syntax.w32) Syntax.tnil))
-    Syntax.tnil))) Syntax.tnil))) Syntax.tnil))) ∷ SlotAs.ty ∷ Syntax.tyBool ∷ (Syntax.tyStruct (115 ∷ 101 ∷ 97 ∷ 114 ∷ 99 ∷ 104 ∷ 58 ∷ 58 ∷ 83 ∷ 111 ∷ 117 ∷
-    103 ∷ 104 ∷ 116 ∷ []) (Syntax.tcons (Syntax.tyStruct (115 ∷ 101 ∷ 97 ∷ 114 ∷ 99 ∷ 104 ∷ 58 ∷ 58 ∷ 78 ∷ 101 ∷ 97 ∷ 114 ∷ []) (Syntax.tcons (Syntax.tyInt
-    Syntax.w64) (Syntax.tcons (Syntax.tyStruct (102 ∷ 105 ∷ 101 ∷ 108 ∷ 100 ∷ 115 ∷ 58 ∷ 58 ∷ 83 ∷ 101 ∷ 114 ∷ 105 ∷ 97 ∷ 108 ∷ []) (Syntax.tcons (Syntax.tyInt
-    Syntax.w32) Syntax.tnil)) Syntax.tnil))) (Syntax.tcons Syntax.tyBool Syntax.tnil))) ∷ (Syntax.tyStruct (115 ∷ 101 ∷ 97 ∷ 114 ∷ 99 ∷ 104 ∷ 58 ∷ 58 ∷ 78 ∷
-    101 ∷ 97 ∷ 114 ∷ []) (Syntax.tcons (Syntax.tyInt Syntax.w64) (Syntax.tcons (Syntax.tyStruct (102 ∷ 105 ∷ 101 ∷ 108 ∷ 100 ∷ 115 ∷ 58 ∷ 58 ∷ 83 ∷ 101 ∷ 114 ∷
-    105 ∷ 97 ∷ 108 ∷ []) (Syntax.tcons (Syntax.tyInt Syntax.w32) Syntax.tnil)) Syntax.tnil))) ∷ (Syntax.tyStruct (114 ∷ 117 ∷ 108 ∷ 101 ∷ 115 ∷ 58 ∷ 58 ∷ 83 ∷
-    116 ∷ 97 ∷ 116 ∷ 101 ∷ []) (Syntax.tcons (Syntax.tyInt Syntax.w8) (Syntax.tcons (Syntax.tyStruct (102 ∷ 105 ∷ 101 ∷ 108 ∷ 100 ∷ 115 ∷ 58 ∷ 58 ∷ 83 ∷ 101 ∷
-    114 ∷ 105 ∷ 97 ∷ 108 ∷ []) (Syntax.tcons (Syntax.tyInt Syntax.w32) Syntax.tnil)) (Syntax.tcons (Syntax.tyStruct (114 ∷ 117 ∷ 108 ∷ 101 ∷ 115 ∷ 58 ∷ 58 ∷ 82
-    ∷ 117 ∷ 110 ∷ []) (Syntax.tcons Syntax.tyBool (Syntax.tcons Syntax.tyBool (Syntax.tcons Syntax.tyBool (Syntax.tcons (Syntax.tyStruct (114 ∷ 101 ∷ 115 ∷ 105
-    ∷ 100 ∷ 117 ∷ 101 ∷ 58 ∷ 58 ∷ 82 ∷ 101 ∷ 115 ∷ 105 ∷ 100 ∷ 117 ∷ 101 ∷ []) (Syntax.tcons (Syntax.tyStruct (110 ∷ 97 ∷ 109 ∷ 101 ∷ 115 ∷ 58 ∷ 58 ∷ 84 ∷ 104
-    ∷ 114 ∷ 101 ∷ 101 ∷ []) (Syntax.tcons (Syntax.tyInt Syntax.w8) (Syntax.tcons (Syntax.tyInt Syntax.w8) (Syntax.tcons (Syntax.tyInt Syntax.w8)
-    Syntax.tnil)))) (Syntax.tcons (Syntax.tyInt Syntax.w8) (Syntax.tcons (Syntax.tyStruct (102 ∷ 105 ∷ 101 ∷ 108 ∷ 100 ∷ 115 ∷ 58 ∷ 58 ∷ 82 ∷ 101 ∷ 115 ∷ 105 ∷
-    100 ∷ 117 ∷ 101 ∷ 78 ∷ 117 ∷ 109 ∷ 98 ∷ 101 ∷ 114 ∷ []) (Syntax.tcons (Syntax.tyInt Syntax.w32) Syntax.tnil)) (Syntax.tcons (Syntax.tyInt Syntax.w8)
-    Syntax.tnil))))) Syntax.tnil))))) (Syntax.tcons (Syntax.tyStruct (102 ∷ 105 ∷ 101 ∷ 108 ∷ 100 ∷ 115 ∷ 58 ∷ 58 ∷ 83 ∷ 101 ∷ 114 ∷ 105 ∷ 97 ∷ 108 ∷ [])
-    (Syntax.tcons (Syntax.tyInt Syntax.w32) Syntax.tnil)) (Syntax.tcons (Syntax.tyInt Syntax.w32) (Syntax.tcons (Syntax.tyStruct (114 ∷ 117 ∷ 108 ∷ 101 ∷ 115 ∷
-    58 ∷ 58 ∷ 76 ∷ 97 ∷ 100 ∷ 100 ∷ 101 ∷ 114 ∷ []) (Syntax.tcons (Syntax.tyStruct (110 ∷ 97 ∷ 109 ∷ 101 ∷ 115 ∷ 58 ∷ 58 ∷ 84 ∷ 104 ∷ 114 ∷ 101 ∷ 101 ∷ [])
-    (Syntax.tcons (Syntax.tyInt Syntax.w8) (Syntax.tcons (Syntax.tyInt Syntax.w8) (Syntax.tcons (Syntax.tyInt Syntax.w8) Syntax.tnil)))) (Syntax.tcons
+    Syntax.tnil))) Syntax.tnil))) (Syntax.tcons (Syntax.tyStruct (116 ∷ 114 ∷ 97 ∷ 105 ∷ 108 ∷ 58 ∷ 58 ∷ 87 ∷ 97 ∷ 116 ∷ 99 ∷ 104 ∷ []) (Syntax.tcons
+    (Syntax.tyInt Syntax.w64) (Syntax.tcons (Syntax.tyInt Syntax.w64) (Syntax.tcons (Syntax.tyInt Syntax.w64) (Syntax.tcons (Syntax.tyInt Syntax.w64)
+    (Syntax.tcons (Syntax.tyInt Syntax.w64) (Syntax.tcons (Syntax.tyInt Syntax.w64) (Syntax.tcons (Syntax.tyStruct (97 ∷ 104 ∷ 101 ∷ 97 ∷ 100 ∷ 58 ∷ 58 ∷ 65 ∷
+    104 ∷ 101 ∷ 97 ∷ 100 ∷ []) (Syntax.tcons (Syntax.tyInt Syntax.w64) (Syntax.tcons (Syntax.tyInt Syntax.w64) (Syntax.tcons (Syntax.tyInt Syntax.w64)
+    Syntax.tnil)))) Syntax.tnil)))))))) Syntax.tnil)))) ∷ SlotAs.ty ∷ Syntax.tyBool ∷ (Syntax.tyStruct (115 ∷ 101 ∷ 97 ∷ 114 ∷ 99 ∷ 104 ∷ 58 ∷ 58 ∷ 83 ∷ 111 ∷
+    117 ∷ 103 ∷ 104 ∷ 116 ∷ []) (Syntax.tcons (Syntax.tyStruct (115 ∷ 101 ∷ 97 ∷ 114 ∷ 99 ∷ 104 ∷ 58 ∷ 58 ∷ 78 ∷ 101 ∷ 97 ∷ 114 ∷ []) (Syntax.tcons
+    (Syntax.tyInt Syntax.w64) (Syntax.tcons (Syntax.tyStruct (102 ∷ 105 ∷ 101 ∷ 108 ∷ 100 ∷ 115 ∷ 58 ∷ 58 ∷ 83 ∷ 101 ∷ 114 ∷ 105 ∷ 97 ∷ 108 ∷ []) (Syntax.tcons
+    (Syntax.tyInt Syntax.w32) Syntax.tnil)) Syntax.tnil))) (Syntax.tcons Syntax.tyBool Syntax.tnil))) ∷ (Syntax.tyStruct (115 ∷ 101 ∷ 97 ∷ 114 ∷ 99 ∷ 104 ∷ 58
+    ∷ 58 ∷ 78 ∷ 101 ∷ 97 ∷ 114 ∷ []) (Syntax.tcons (Syntax.tyInt Syntax.w64) (Syntax.tcons (Syntax.tyStruct (102 ∷ 105 ∷ 101 ∷ 108 ∷ 100 ∷ 115 ∷ 58 ∷ 58 ∷ 83 ∷
+    101 ∷ 114 ∷ 105 ∷ 97 ∷ 108 ∷ []) (Syntax.tcons (Syntax.tyInt Syntax.w32) Syntax.tnil)) Syntax.tnil))) ∷ (Syntax.tyStruct (114 ∷ 117 ∷ 108 ∷ 101 ∷ 115 ∷ 58
+    ∷ 58 ∷ 83 ∷ 116 ∷ 97 ∷ 116 ∷ 101 ∷ []) (Syntax.tcons (Syntax.tyInt Syntax.w8) (Syntax.tcons (Syntax.tyStruct (102 ∷ 105 ∷ 101 ∷ 108 ∷ 100 ∷ 115 ∷ 58 ∷ 58 ∷
+    83 ∷ 101 ∷ 114 ∷ 105 ∷ 97 ∷ 108 ∷ []) (Syntax.tcons (Syntax.tyInt Syntax.w32) Syntax.tnil)) (Syntax.tcons (Syntax.tyStruct (114 ∷ 117 ∷ 108 ∷ 101 ∷ 115 ∷
+    58 ∷ 58 ∷ 82 ∷ 117 ∷ 110 ∷ []) (Syntax.tcons Syntax.tyBool (Syntax.tcons Syntax.tyBool (Syntax.tcons Syntax.tyBool (Syntax.tcons (Syntax.tyStruct (114 ∷
+    101 ∷ 115 ∷ 105 ∷ 100 ∷ 117 ∷ 101 ∷ 58 ∷ 58 ∷ 82 ∷ 101 ∷ 115 ∷ 105 ∷ 100 ∷ 117 ∷ 101 ∷ []) (Syntax.tcons (Syntax.tyStruct (110 ∷ 97 ∷ 109 ∷ 101 ∷ 115 ∷ 58
+    ∷ 58 ∷ 84 ∷ 104 ∷ 114 ∷ 101 ∷ 101 ∷ []) (Syntax.tcons (Syntax.tyInt Syntax.w8) (Syntax.tcons (Syntax.tyInt Syntax.w8) (Syntax.tcons (Syntax.tyInt
+    Syntax.w8) Syntax.tnil)))) (Syntax.tcons (Syntax.tyInt Syntax.w8) (Syntax.tcons (Syntax.tyStruct (102 ∷ 105 ∷ 101 ∷ 108 ∷ 100 ∷ 115 ∷ 58 ∷ 58 ∷ 82 ∷ 101 ∷
+    115 ∷ 105 ∷ 100 ∷ 117 ∷ 101 ∷ 78 ∷ 117 ∷ 109 ∷ 98 ∷ 101 ∷ 114 ∷ []) (Syntax.tcons (Syntax.tyInt Syntax.w32) Syntax.tnil)) (Syntax.tcons (Syntax.tyInt
+    Syntax.w8) Syntax.tnil))))) Syntax.tnil))))) (Syntax.tcons (Syntax.tyStruct (102 ∷ 105 ∷ 101 ∷ 108 ∷ 100 ∷ 115 ∷ 58 ∷ 58 ∷ 83 ∷ 101 ∷ 114 ∷ 105 ∷ 97 ∷ 108
+    ∷ []) (Syntax.tcons (Syntax.tyInt Syntax.w32) Syntax.tnil)) (Syntax.tcons (Syntax.tyInt Syntax.w32) (Syntax.tcons (Syntax.tyStruct (114 ∷ 117 ∷ 108 ∷ 101 ∷
+    115 ∷ 58 ∷ 58 ∷ 76 ∷ 97 ∷ 100 ∷ 100 ∷ 101 ∷ 114 ∷ []) (Syntax.tcons (Syntax.tyStruct (110 ∷ 97 ∷ 109 ∷ 101 ∷ 115 ∷ 58 ∷ 58 ∷ 84 ∷ 104 ∷ 114 ∷ 101 ∷ 101 ∷
+    []) (Syntax.tcons (Syntax.tyInt Syntax.w8) (Syntax.tcons (Syntax.tyInt Syntax.w8) (Syntax.tcons (Syntax.tyInt Syntax.w8) Syntax.tnil)))) (Syntax.tcons
     (Syntax.tyInt Syntax.w32) (Syntax.tcons (Syntax.tyInt Syntax.w32) Syntax.tnil)))) (Syntax.tcons (Syntax.tyStruct (112 ∷ 108 ∷ 97 ∷ 99 ∷ 101 ∷ 115 ∷ 58 ∷ 58
     ∷ 67 ∷ 111 ∷ 117 ∷ 110 ∷ 116 ∷ 115 ∷ []) (Syntax.tcons (Syntax.tyInt Syntax.w64) (Syntax.tcons (Syntax.tyInt Syntax.w64) (Syntax.tcons (Syntax.tyInt
     Syntax.w64) (Syntax.tcons (Syntax.tyInt Syntax.w64) (Syntax.tcons (Syntax.tyInt Syntax.w64) (Syntax.tcons (Syntax.tyInt Syntax.w64) (Syntax.tcons
@@ -843,32 +855,35 @@ t0 = (
       ∷ 114 ∷ 99 ∷ 104 ∷ 58 ∷ 58 ∷ 83 ∷ 112 ∷ 97 ∷ 110 ∷ []) (Syntax.tcons (Syntax.tyInt Syntax.w64) (Syntax.tcons (Syntax.tyInt Syntax.w64) Syntax.tnil)))
       (Syntax.tcons (Syntax.tyStruct (115 ∷ 101 ∷ 97 ∷ 114 ∷ 99 ∷ 104 ∷ 58 ∷ 58 ∷ 78 ∷ 101 ∷ 97 ∷ 114 ∷ []) (Syntax.tcons (Syntax.tyInt Syntax.w64) (Syntax.tcons
       (Syntax.tyStruct (102 ∷ 105 ∷ 101 ∷ 108 ∷ 100 ∷ 115 ∷ 58 ∷ 58 ∷ 83 ∷ 101 ∷ 114 ∷ 105 ∷ 97 ∷ 108 ∷ []) (Syntax.tcons (Syntax.tyInt Syntax.w32) Syntax.tnil))
-      Syntax.tnil))) Syntax.tnil))) Syntax.tnil))),
+      Syntax.tnil))) Syntax.tnil))) (Syntax.tcons (Syntax.tyStruct (116 ∷ 114 ∷ 97 ∷ 105 ∷ 108 ∷ 58 ∷ 58 ∷ 87 ∷ 97 ∷ 116 ∷ 99 ∷ 104 ∷ []) (Syntax.tcons
+      (Syntax.tyInt Syntax.w64) (Syntax.tcons (Syntax.tyInt Syntax.w64) (Syntax.tcons (Syntax.tyInt Syntax.w64) (Syntax.tcons (Syntax.tyInt Syntax.w64)
+      (Syntax.tcons (Syntax.tyInt Syntax.w64) (Syntax.tcons (Syntax.tyInt Syntax.w64) (Syntax.tcons (Syntax.tyStruct (97 ∷ 104 ∷ 101 ∷ 97 ∷ 100 ∷ 58 ∷ 58 ∷ 65 ∷
+      104 ∷ 101 ∷ 97 ∷ 100 ∷ []) (Syntax.tcons (Syntax.tyInt Syntax.w64) (Syntax.tcons (Syntax.tyInt Syntax.w64) (Syntax.tcons (Syntax.tyInt Syntax.w64)
+      Syntax.tnil)))) Syntax.tnil)))))))) Syntax.tnil)))),
 ) ∷ (5, Rows'.any-gone (Syntax.tyInt Syntax.w64)) ∷ (6, Rows'.any-gone Syntax.tyBool) ∷ (
   7,
-  Rows'.any-gone
-      (Syntax.tyInt Syntax.w64),
+  Rows'.any-gone (Syntax.tyInt Syntax.w64),
 ) ∷ (
   8,
-  Rows'.any-gone (Syntax.tyStruct (115 ∷ 101 ∷ 97 ∷ 114 ∷ 99 ∷ 104 ∷ 58 ∷ 58 ∷ 78 ∷ 101 ∷ 97 ∷ 114 ∷ []) (Syntax.tcons
-      (Syntax.tyInt Syntax.w64) (Syntax.tcons (Syntax.tyStruct (102 ∷ 105 ∷ 101 ∷ 108 ∷ 100 ∷ 115 ∷ 58 ∷ 58 ∷ 83 ∷ 101 ∷ 114 ∷ 105 ∷ 97 ∷ 108 ∷ []) (Syntax.tcons
-      (Syntax.tyInt Syntax.w32) Syntax.tnil)) Syntax.tnil))),
+  Rows'.any-gone (Syntax.tyStruct (115 ∷ 101 ∷ 97 ∷ 114 ∷ 99 ∷ 104 ∷ 58 ∷ 58 ∷ 78 ∷ 101 ∷ 97 ∷ 114 ∷ [])
+      (Syntax.tcons (Syntax.tyInt Syntax.w64) (Syntax.tcons (Syntax.tyStruct (102 ∷ 105 ∷ 101 ∷ 108 ∷ 100 ∷ 115 ∷ 58 ∷ 58 ∷ 83 ∷ 101 ∷ 114 ∷ 105 ∷ 97 ∷ 108 ∷ [])
+      (Syntax.tcons (Syntax.tyInt Syntax.w32) Syntax.tnil)) Syntax.tnil))),
 ) ∷ (
   9,
-  Rows'.any-gone (Syntax.tyEnum (112 ∷ 105 ∷ 101 ∷ 99 ∷ 101 ∷ 115 ∷ 58 ∷ 58 ∷ 76 ∷ 105 ∷ 110 ∷
-      101 ∷ []) (Syntax.ttcons (Syntax.tcons (Syntax.tyInt Syntax.w8) Syntax.tnil) (Syntax.ttcons (Syntax.tcons (Syntax.tyEnum (107 ∷ 105 ∷ 110 ∷ 100 ∷ 115 ∷ 58
-      ∷ 58 ∷ 75 ∷ 105 ∷ 110 ∷ 100 ∷ []) (Syntax.ttcons Syntax.tnil (Syntax.ttcons Syntax.tnil (Syntax.ttcons Syntax.tnil (Syntax.ttcons Syntax.tnil
-      (Syntax.ttcons Syntax.tnil (Syntax.ttcons Syntax.tnil (Syntax.ttcons Syntax.tnil (Syntax.ttcons Syntax.tnil (Syntax.ttcons Syntax.tnil (Syntax.ttcons
-      Syntax.tnil (Syntax.ttcons Syntax.tnil (Syntax.ttcons Syntax.tnil (Syntax.ttcons Syntax.tnil (Syntax.ttcons Syntax.tnil (Syntax.ttcons Syntax.tnil
-      (Syntax.ttcons Syntax.tnil (Syntax.ttcons Syntax.tnil (Syntax.ttcons Syntax.tnil (Syntax.ttcons Syntax.tnil (Syntax.ttcons Syntax.tnil (Syntax.ttcons
-      Syntax.tnil (Syntax.ttcons Syntax.tnil (Syntax.ttcons Syntax.tnil (Syntax.ttcons Syntax.tnil (Syntax.ttcons Syntax.tnil (Syntax.ttcons Syntax.tnil
-      (Syntax.ttcons Syntax.tnil (Syntax.ttcons Syntax.tnil Syntax.ttnil))))))))))))))))))))))))))))) (Syntax.tcons (Syntax.tyInt Syntax.w32) Syntax.tnil))
-      (Syntax.ttcons (Syntax.tcons (Syntax.tyEnum (107 ∷ 105 ∷ 110 ∷ 100 ∷ 115 ∷ 58 ∷ 58 ∷ 75 ∷ 105 ∷ 110 ∷ 100 ∷ []) (Syntax.ttcons Syntax.tnil (Syntax.ttcons
+  Rows'.any-gone (Syntax.tyEnum (112 ∷ 105 ∷ 101 ∷ 99 ∷ 101 ∷ 115 ∷ 58 ∷ 58 ∷ 76
+      ∷ 105 ∷ 110 ∷ 101 ∷ []) (Syntax.ttcons (Syntax.tcons (Syntax.tyInt Syntax.w8) Syntax.tnil) (Syntax.ttcons (Syntax.tcons (Syntax.tyEnum (107 ∷ 105 ∷ 110 ∷
+      100 ∷ 115 ∷ 58 ∷ 58 ∷ 75 ∷ 105 ∷ 110 ∷ 100 ∷ []) (Syntax.ttcons Syntax.tnil (Syntax.ttcons Syntax.tnil (Syntax.ttcons Syntax.tnil (Syntax.ttcons
       Syntax.tnil (Syntax.ttcons Syntax.tnil (Syntax.ttcons Syntax.tnil (Syntax.ttcons Syntax.tnil (Syntax.ttcons Syntax.tnil (Syntax.ttcons Syntax.tnil
       (Syntax.ttcons Syntax.tnil (Syntax.ttcons Syntax.tnil (Syntax.ttcons Syntax.tnil (Syntax.ttcons Syntax.tnil (Syntax.ttcons Syntax.tnil (Syntax.ttcons
       Syntax.tnil (Syntax.ttcons Syntax.tnil (Syntax.ttcons Syntax.tnil (Syntax.ttcons Syntax.tnil (Syntax.ttcons Syntax.tnil (Syntax.ttcons Syntax.tnil
       (Syntax.ttcons Syntax.tnil (Syntax.ttcons Syntax.tnil (Syntax.ttcons Syntax.tnil (Syntax.ttcons Syntax.tnil (Syntax.ttcons Syntax.tnil (Syntax.ttcons
-      Syntax.tnil (Syntax.ttcons Syntax.tnil (Syntax.ttcons Syntax.tnil (Syntax.ttcons Syntax.tnil (Syntax.ttcons Syntax.tnil
+      Syntax.tnil (Syntax.ttcons Syntax.tnil (Syntax.ttcons Syntax.tnil Syntax.ttnil))))))))))))))))))))))))))))) (Syntax.tcons (Syntax.tyInt Syntax.w32)
+      Syntax.tnil)) (Syntax.ttcons (Syntax.tcons (Syntax.tyEnum (107 ∷ 105 ∷ 110 ∷ 100 ∷ 115 ∷ 58 ∷ 58 ∷ 75 ∷ 105 ∷ 110 ∷ 100 ∷ []) (Syntax.ttcons Syntax.tnil
+      (Syntax.ttcons Syntax.tnil (Syntax.ttcons Syntax.tnil (Syntax.ttcons Syntax.tnil (Syntax.ttcons Syntax.tnil (Syntax.ttcons Syntax.tnil (Syntax.ttcons
+      Syntax.tnil (Syntax.ttcons Syntax.tnil (Syntax.ttcons Syntax.tnil (Syntax.ttcons Syntax.tnil (Syntax.ttcons Syntax.tnil (Syntax.ttcons Syntax.tnil
+      (Syntax.ttcons Syntax.tnil (Syntax.ttcons Syntax.tnil (Syntax.ttcons Syntax.tnil (Syntax.ttcons Syntax.tnil (Syntax.ttcons Syntax.tnil (Syntax.ttcons
+      Syntax.tnil (Syntax.ttcons Syntax.tnil (Syntax.ttcons Syntax.tnil (Syntax.ttcons Syntax.tnil (Syntax.ttcons Syntax.tnil (Syntax.ttcons Syntax.tnil
+      (Syntax.ttcons Syntax.tnil (Syntax.ttcons Syntax.tnil (Syntax.ttcons Syntax.tnil (Syntax.ttcons Syntax.tnil (Syntax.ttcons Syntax.tnil
       Syntax.ttnil))))))))))))))))))))))))))))) Syntax.tnil) (Syntax.ttcons (Syntax.tcons (Syntax.tyEnum (108 ∷ 105 ∷ 110 ∷ 101 ∷ 58 ∷ 58 ∷ 82 ∷ 101 ∷ 99 ∷ 111 ∷
       114 ∷ 100 ∷ []) (Syntax.ttcons (Syntax.tcons Syntax.tyBool (Syntax.tcons (Syntax.tyStruct (99 ∷ 111 ∷ 111 ∷ 114 ∷ 100 ∷ 105 ∷ 110 ∷ 97 ∷ 116 ∷ 101 ∷ 58 ∷
       58 ∷ 65 ∷ 116 ∷ 111 ∷ 109 ∷ []) (Syntax.tcons (Syntax.tyStruct (99 ∷ 111 ∷ 111 ∷ 114 ∷ 100 ∷ 105 ∷ 110 ∷ 97 ∷ 116 ∷ 101 ∷ 58 ∷ 58 ∷ 73 ∷ 100 ∷ 101 ∷ 110 ∷
@@ -971,16 +986,20 @@ t0 = (
           (Syntax.tcons (Syntax.tyStruct (115 ∷ 101 ∷ 97 ∷ 114 ∷ 99 ∷ 104 ∷ 58 ∷ 58 ∷ 83 ∷ 112 ∷ 97 ∷ 110 ∷ []) (Syntax.tcons (Syntax.tyInt Syntax.w64) (Syntax.tcons
           (Syntax.tyInt Syntax.w64) Syntax.tnil))) (Syntax.tcons (Syntax.tyStruct (115 ∷ 101 ∷ 97 ∷ 114 ∷ 99 ∷ 104 ∷ 58 ∷ 58 ∷ 78 ∷ 101 ∷ 97 ∷ 114 ∷ [])
           (Syntax.tcons (Syntax.tyInt Syntax.w64) (Syntax.tcons (Syntax.tyStruct (102 ∷ 105 ∷ 101 ∷ 108 ∷ 100 ∷ 115 ∷ 58 ∷ 58 ∷ 83 ∷ 101 ∷ 114 ∷ 105 ∷ 97 ∷ 108 ∷ [])
-          (Syntax.tcons (Syntax.tyInt Syntax.w32) Syntax.tnil)) Syntax.tnil))) Syntax.tnil))) Syntax.tnil))) Syntax.tnil))),
+          (Syntax.tcons (Syntax.tyInt Syntax.w32) Syntax.tnil)) Syntax.tnil))) Syntax.tnil))) (Syntax.tcons (Syntax.tyStruct (116 ∷ 114 ∷ 97 ∷ 105 ∷ 108 ∷ 58 ∷ 58 ∷
+          87 ∷ 97 ∷ 116 ∷ 99 ∷ 104 ∷ []) (Syntax.tcons (Syntax.tyInt Syntax.w64) (Syntax.tcons (Syntax.tyInt Syntax.w64) (Syntax.tcons (Syntax.tyInt Syntax.w64)
+          (Syntax.tcons (Syntax.tyInt Syntax.w64) (Syntax.tcons (Syntax.tyInt Syntax.w64) (Syntax.tcons (Syntax.tyInt Syntax.w64) (Syntax.tcons (Syntax.tyStruct (97
+          ∷ 104 ∷ 101 ∷ 97 ∷ 100 ∷ 58 ∷ 58 ∷ 65 ∷ 104 ∷ 101 ∷ 97 ∷ 100 ∷ []) (Syntax.tcons (Syntax.tyInt Syntax.w64) (Syntax.tcons (Syntax.tyInt Syntax.w64)
+          (Syntax.tcons (Syntax.tyInt Syntax.w64) Syntax.tnil)))) Syntax.tnil)))))))) Syntax.tnil)))) Syntax.tnil))),
     ) ∷ (
       11,
-      Rows'.any-gone (Syntax.tyStruct
-          (103 ∷ 97 ∷ 116 ∷ 101 ∷ 58 ∷ 58 ∷ 67 ∷ 111 ∷ 117 ∷ 114 ∷ 115 ∷ 101 ∷ []) (Syntax.tcons (Syntax.tyStruct (114 ∷ 117 ∷ 108 ∷ 101 ∷ 115 ∷ 58 ∷ 58 ∷ 83 ∷ 116 ∷
-          97 ∷ 116 ∷ 101 ∷ []) (Syntax.tcons (Syntax.tyInt Syntax.w8) (Syntax.tcons (Syntax.tyStruct (102 ∷ 105 ∷ 101 ∷ 108 ∷ 100 ∷ 115 ∷ 58 ∷ 58 ∷ 83 ∷ 101 ∷ 114 ∷
-          105 ∷ 97 ∷ 108 ∷ []) (Syntax.tcons (Syntax.tyInt Syntax.w32) Syntax.tnil)) (Syntax.tcons (Syntax.tyStruct (114 ∷ 117 ∷ 108 ∷ 101 ∷ 115 ∷ 58 ∷ 58 ∷ 82 ∷ 117
-          ∷ 110 ∷ []) (Syntax.tcons Syntax.tyBool (Syntax.tcons Syntax.tyBool (Syntax.tcons Syntax.tyBool (Syntax.tcons (Syntax.tyStruct (114 ∷ 101 ∷ 115 ∷ 105 ∷ 100
-          ∷ 117 ∷ 101 ∷ 58 ∷ 58 ∷ 82 ∷ 101 ∷ 115 ∷ 105 ∷ 100 ∷ 117 ∷ 101 ∷ []) (Syntax.tcons (Syntax.tyStruct (110 ∷ 97 ∷ 109 ∷ 101 ∷ 115 ∷ 58 ∷ 58 ∷ 84 ∷ 104 ∷ 114
-          ∷ 101 ∷ 101 ∷ []) (Syntax.tcons (Syntax.tyInt Syntax.w8) (Syntax.tcons (Syntax.tyInt Syntax.w8) (Syntax.tcons (Syntax.tyInt Syntax.w8) Syntax.tnil))))
+      Rows'.any-gone (Syntax.tyStruct (103 ∷
+          97 ∷ 116 ∷ 101 ∷ 58 ∷ 58 ∷ 67 ∷ 111 ∷ 117 ∷ 114 ∷ 115 ∷ 101 ∷ []) (Syntax.tcons (Syntax.tyStruct (114 ∷ 117 ∷ 108 ∷ 101 ∷ 115 ∷ 58 ∷ 58 ∷ 83 ∷ 116 ∷ 97 ∷
+          116 ∷ 101 ∷ []) (Syntax.tcons (Syntax.tyInt Syntax.w8) (Syntax.tcons (Syntax.tyStruct (102 ∷ 105 ∷ 101 ∷ 108 ∷ 100 ∷ 115 ∷ 58 ∷ 58 ∷ 83 ∷ 101 ∷ 114 ∷ 105 ∷
+          97 ∷ 108 ∷ []) (Syntax.tcons (Syntax.tyInt Syntax.w32) Syntax.tnil)) (Syntax.tcons (Syntax.tyStruct (114 ∷ 117 ∷ 108 ∷ 101 ∷ 115 ∷ 58 ∷ 58 ∷ 82 ∷ 117 ∷ 110
+          ∷ []) (Syntax.tcons Syntax.tyBool (Syntax.tcons Syntax.tyBool (Syntax.tcons Syntax.tyBool (Syntax.tcons (Syntax.tyStruct (114 ∷ 101 ∷ 115 ∷ 105 ∷ 100 ∷ 117
+          ∷ 101 ∷ 58 ∷ 58 ∷ 82 ∷ 101 ∷ 115 ∷ 105 ∷ 100 ∷ 117 ∷ 101 ∷ []) (Syntax.tcons (Syntax.tyStruct (110 ∷ 97 ∷ 109 ∷ 101 ∷ 115 ∷ 58 ∷ 58 ∷ 84 ∷ 104 ∷ 114 ∷ 101
+          ∷ 101 ∷ []) (Syntax.tcons (Syntax.tyInt Syntax.w8) (Syntax.tcons (Syntax.tyInt Syntax.w8) (Syntax.tcons (Syntax.tyInt Syntax.w8) Syntax.tnil))))
           (Syntax.tcons (Syntax.tyInt Syntax.w8) (Syntax.tcons (Syntax.tyStruct (102 ∷ 105 ∷ 101 ∷ 108 ∷ 100 ∷ 115 ∷ 58 ∷ 58 ∷ 82 ∷ 101 ∷ 115 ∷ 105 ∷ 100 ∷ 117 ∷ 101
           ∷ 78 ∷ 117 ∷ 109 ∷ 98 ∷ 101 ∷ 114 ∷ []) (Syntax.tcons (Syntax.tyInt Syntax.w32) Syntax.tnil)) (Syntax.tcons (Syntax.tyInt Syntax.w8) Syntax.tnil)))))
           Syntax.tnil))))) (Syntax.tcons (Syntax.tyStruct (102 ∷ 105 ∷ 101 ∷ 108 ∷ 100 ∷ 115 ∷ 58 ∷ 58 ∷ 83 ∷ 101 ∷ 114 ∷ 105 ∷ 97 ∷ 108 ∷ []) (Syntax.tcons
@@ -995,13 +1014,16 @@ t0 = (
           (Syntax.tyStruct (115 ∷ 101 ∷ 97 ∷ 114 ∷ 99 ∷ 104 ∷ 58 ∷ 58 ∷ 83 ∷ 112 ∷ 97 ∷ 110 ∷ []) (Syntax.tcons (Syntax.tyInt Syntax.w64) (Syntax.tcons (Syntax.tyInt
           Syntax.w64) Syntax.tnil))) (Syntax.tcons (Syntax.tyStruct (115 ∷ 101 ∷ 97 ∷ 114 ∷ 99 ∷ 104 ∷ 58 ∷ 58 ∷ 78 ∷ 101 ∷ 97 ∷ 114 ∷ []) (Syntax.tcons
           (Syntax.tyInt Syntax.w64) (Syntax.tcons (Syntax.tyStruct (102 ∷ 105 ∷ 101 ∷ 108 ∷ 100 ∷ 115 ∷ 58 ∷ 58 ∷ 83 ∷ 101 ∷ 114 ∷ 105 ∷ 97 ∷ 108 ∷ []) (Syntax.tcons
-          (Syntax.tyInt Syntax.w32) Syntax.tnil)) Syntax.tnil))) Syntax.tnil))) Syntax.tnil))),
-    ) ∷ (12, Rows'.any-gone SlotAs.ty) ∷ (13, Rows'.any-gone Syntax.tyBool)
-    ∷ (
+          (Syntax.tyInt Syntax.w32) Syntax.tnil)) Syntax.tnil))) Syntax.tnil))) (Syntax.tcons (Syntax.tyStruct (116 ∷ 114 ∷ 97 ∷ 105 ∷ 108 ∷ 58 ∷ 58 ∷ 87 ∷ 97 ∷ 116
+          ∷ 99 ∷ 104 ∷ []) (Syntax.tcons (Syntax.tyInt Syntax.w64) (Syntax.tcons (Syntax.tyInt Syntax.w64) (Syntax.tcons (Syntax.tyInt Syntax.w64) (Syntax.tcons
+          (Syntax.tyInt Syntax.w64) (Syntax.tcons (Syntax.tyInt Syntax.w64) (Syntax.tcons (Syntax.tyInt Syntax.w64) (Syntax.tcons (Syntax.tyStruct (97 ∷ 104 ∷ 101 ∷
+          97 ∷ 100 ∷ 58 ∷ 58 ∷ 65 ∷ 104 ∷ 101 ∷ 97 ∷ 100 ∷ []) (Syntax.tcons (Syntax.tyInt Syntax.w64) (Syntax.tcons (Syntax.tyInt Syntax.w64) (Syntax.tcons
+          (Syntax.tyInt Syntax.w64) Syntax.tnil)))) Syntax.tnil)))))))) Syntax.tnil)))),
+    ) ∷ (12, Rows'.any-gone SlotAs.ty) ∷ (13, Rows'.any-gone Syntax.tyBool) ∷ (
       14,
-      Rows'.any-gone (Syntax.tyStruct (115 ∷ 101 ∷ 97 ∷ 114 ∷ 99 ∷ 104 ∷ 58 ∷ 58 ∷ 83 ∷ 111 ∷ 117 ∷ 103 ∷ 104 ∷ 116 ∷ []) (Syntax.tcons (Syntax.tyStruct
-          (115 ∷ 101 ∷ 97 ∷ 114 ∷ 99 ∷ 104 ∷ 58 ∷ 58 ∷ 78 ∷ 101 ∷ 97 ∷ 114 ∷ []) (Syntax.tcons (Syntax.tyInt Syntax.w64) (Syntax.tcons (Syntax.tyStruct (102 ∷ 105 ∷
-          101 ∷ 108 ∷ 100 ∷ 115 ∷ 58 ∷ 58 ∷ 83 ∷ 101 ∷ 114 ∷ 105 ∷ 97 ∷ 108 ∷ []) (Syntax.tcons (Syntax.tyInt Syntax.w32) Syntax.tnil)) Syntax.tnil))) (Syntax.tcons
+      Rows'.any-gone (Syntax.tyStruct (115 ∷ 101 ∷ 97 ∷ 114 ∷ 99 ∷ 104 ∷ 58 ∷ 58 ∷ 83 ∷ 111 ∷ 117 ∷ 103 ∷ 104 ∷ 116 ∷ []) (Syntax.tcons (Syntax.tyStruct (115 ∷
+          101 ∷ 97 ∷ 114 ∷ 99 ∷ 104 ∷ 58 ∷ 58 ∷ 78 ∷ 101 ∷ 97 ∷ 114 ∷ []) (Syntax.tcons (Syntax.tyInt Syntax.w64) (Syntax.tcons (Syntax.tyStruct (102 ∷ 105 ∷ 101 ∷
+          108 ∷ 100 ∷ 115 ∷ 58 ∷ 58 ∷ 83 ∷ 101 ∷ 114 ∷ 105 ∷ 97 ∷ 108 ∷ []) (Syntax.tcons (Syntax.tyInt Syntax.w32) Syntax.tnil)) Syntax.tnil))) (Syntax.tcons
           Syntax.tyBool Syntax.tnil))),
     ) ∷ (
       15,
@@ -1078,32 +1100,35 @@ t2 = (0, Rows'.whole (Declared'.row Findings.the-type)) ∷ (
       ∷ 114 ∷ 99 ∷ 104 ∷ 58 ∷ 58 ∷ 83 ∷ 112 ∷ 97 ∷ 110 ∷ []) (Syntax.tcons (Syntax.tyInt Syntax.w64) (Syntax.tcons (Syntax.tyInt Syntax.w64) Syntax.tnil)))
       (Syntax.tcons (Syntax.tyStruct (115 ∷ 101 ∷ 97 ∷ 114 ∷ 99 ∷ 104 ∷ 58 ∷ 58 ∷ 78 ∷ 101 ∷ 97 ∷ 114 ∷ []) (Syntax.tcons (Syntax.tyInt Syntax.w64) (Syntax.tcons
       (Syntax.tyStruct (102 ∷ 105 ∷ 101 ∷ 108 ∷ 100 ∷ 115 ∷ 58 ∷ 58 ∷ 83 ∷ 101 ∷ 114 ∷ 105 ∷ 97 ∷ 108 ∷ []) (Syntax.tcons (Syntax.tyInt Syntax.w32) Syntax.tnil))
-      Syntax.tnil))) Syntax.tnil))) Syntax.tnil))),
+      Syntax.tnil))) Syntax.tnil))) (Syntax.tcons (Syntax.tyStruct (116 ∷ 114 ∷ 97 ∷ 105 ∷ 108 ∷ 58 ∷ 58 ∷ 87 ∷ 97 ∷ 116 ∷ 99 ∷ 104 ∷ []) (Syntax.tcons
+      (Syntax.tyInt Syntax.w64) (Syntax.tcons (Syntax.tyInt Syntax.w64) (Syntax.tcons (Syntax.tyInt Syntax.w64) (Syntax.tcons (Syntax.tyInt Syntax.w64)
+      (Syntax.tcons (Syntax.tyInt Syntax.w64) (Syntax.tcons (Syntax.tyInt Syntax.w64) (Syntax.tcons (Syntax.tyStruct (97 ∷ 104 ∷ 101 ∷ 97 ∷ 100 ∷ 58 ∷ 58 ∷ 65 ∷
+      104 ∷ 101 ∷ 97 ∷ 100 ∷ []) (Syntax.tcons (Syntax.tyInt Syntax.w64) (Syntax.tcons (Syntax.tyInt Syntax.w64) (Syntax.tcons (Syntax.tyInt Syntax.w64)
+      Syntax.tnil)))) Syntax.tnil)))))))) Syntax.tnil)))),
 ) ∷ (5, Rows'.any-gone (Syntax.tyInt Syntax.w64)) ∷ (6, Rows'.any-gone Syntax.tyBool) ∷ (
   7,
-  Rows'.any-gone
-      (Syntax.tyInt Syntax.w64),
+  Rows'.any-gone (Syntax.tyInt Syntax.w64),
 ) ∷ (
   8,
-  Rows'.any-gone (Syntax.tyStruct (115 ∷ 101 ∷ 97 ∷ 114 ∷ 99 ∷ 104 ∷ 58 ∷ 58 ∷ 78 ∷ 101 ∷ 97 ∷ 114 ∷ []) (Syntax.tcons
-      (Syntax.tyInt Syntax.w64) (Syntax.tcons (Syntax.tyStruct (102 ∷ 105 ∷ 101 ∷ 108 ∷ 100 ∷ 115 ∷ 58 ∷ 58 ∷ 83 ∷ 101 ∷ 114 ∷ 105 ∷ 97 ∷ 108 ∷ []) (Syntax.tcons
-      (Syntax.tyInt Syntax.w32) Syntax.tnil)) Syntax.tnil))),
+  Rows'.any-gone (Syntax.tyStruct (115 ∷ 101 ∷ 97 ∷ 114 ∷ 99 ∷ 104 ∷ 58 ∷ 58 ∷ 78 ∷ 101 ∷ 97 ∷ 114 ∷ [])
+      (Syntax.tcons (Syntax.tyInt Syntax.w64) (Syntax.tcons (Syntax.tyStruct (102 ∷ 105 ∷ 101 ∷ 108 ∷ 100 ∷ 115 ∷ 58 ∷ 58 ∷ 83 ∷ 101 ∷ 114 ∷ 105 ∷ 97 ∷ 108 ∷ [])
+      (Syntax.tcons (Syntax.tyInt Syntax.w32) Syntax.tnil)) Syntax.tnil))),
 ) ∷ (
   9,
-  Rows'.any-gone (Syntax.tyEnum (112 ∷ 105 ∷ 101 ∷ 99 ∷ 101 ∷ 115 ∷ 58 ∷ 58 ∷ 76 ∷ 105 ∷ 110 ∷
-      101 ∷ []) (Syntax.ttcons (Syntax.tcons (Syntax.tyInt Syntax.w8) Syntax.tnil) (Syntax.ttcons (Syntax.tcons (Syntax.tyEnum (107 ∷ 105 ∷ 110 ∷ 100 ∷ 115 ∷ 58
-      ∷ 58 ∷ 75 ∷ 105 ∷ 110 ∷ 100 ∷ []) (Syntax.ttcons Syntax.tnil (Syntax.ttcons Syntax.tnil (Syntax.ttcons Syntax.tnil (Syntax.ttcons Syntax.tnil
-      (Syntax.ttcons Syntax.tnil (Syntax.ttcons Syntax.tnil (Syntax.ttcons Syntax.tnil (Syntax.ttcons Syntax.tnil (Syntax.ttcons Syntax.tnil (Syntax.ttcons
-      Syntax.tnil (Syntax.ttcons Syntax.tnil (Syntax.ttcons Syntax.tnil (Syntax.ttcons Syntax.tnil (Syntax.ttcons Syntax.tnil (Syntax.ttcons Syntax.tnil
-      (Syntax.ttcons Syntax.tnil (Syntax.ttcons Syntax.tnil (Syntax.ttcons Syntax.tnil (Syntax.ttcons Syntax.tnil (Syntax.ttcons Syntax.tnil (Syntax.ttcons
-      Syntax.tnil (Syntax.ttcons Syntax.tnil (Syntax.ttcons Syntax.tnil (Syntax.ttcons Syntax.tnil (Syntax.ttcons Syntax.tnil (Syntax.ttcons Syntax.tnil
-      (Syntax.ttcons Syntax.tnil (Syntax.ttcons Syntax.tnil Syntax.ttnil))))))))))))))))))))))))))))) (Syntax.tcons (Syntax.tyInt Syntax.w32) Syntax.tnil))
-      (Syntax.ttcons (Syntax.tcons (Syntax.tyEnum (107 ∷ 105 ∷ 110 ∷ 100 ∷ 115 ∷ 58 ∷ 58 ∷ 75 ∷ 105 ∷ 110 ∷ 100 ∷ []) (Syntax.ttcons Syntax.tnil (Syntax.ttcons
+  Rows'.any-gone (Syntax.tyEnum (112 ∷ 105 ∷ 101 ∷ 99 ∷ 101 ∷ 115 ∷ 58 ∷ 58 ∷ 76
+      ∷ 105 ∷ 110 ∷ 101 ∷ []) (Syntax.ttcons (Syntax.tcons (Syntax.tyInt Syntax.w8) Syntax.tnil) (Syntax.ttcons (Syntax.tcons (Syntax.tyEnum (107 ∷ 105 ∷ 110 ∷
+      100 ∷ 115 ∷ 58 ∷ 58 ∷ 75 ∷ 105 ∷ 110 ∷ 100 ∷ []) (Syntax.ttcons Syntax.tnil (Syntax.ttcons Syntax.tnil (Syntax.ttcons Syntax.tnil (Syntax.ttcons
       Syntax.tnil (Syntax.ttcons Syntax.tnil (Syntax.ttcons Syntax.tnil (Syntax.ttcons Syntax.tnil (Syntax.ttcons Syntax.tnil (Syntax.ttcons Syntax.tnil
       (Syntax.ttcons Syntax.tnil (Syntax.ttcons Syntax.tnil (Syntax.ttcons Syntax.tnil (Syntax.ttcons Syntax.tnil (Syntax.ttcons Syntax.tnil (Syntax.ttcons
       Syntax.tnil (Syntax.ttcons Syntax.tnil (Syntax.ttcons Syntax.tnil (Syntax.ttcons Syntax.tnil (Syntax.ttcons Syntax.tnil (Syntax.ttcons Syntax.tnil
       (Syntax.ttcons Syntax.tnil (Syntax.ttcons Syntax.tnil (Syntax.ttcons Syntax.tnil (Syntax.ttcons Syntax.tnil (Syntax.ttcons Syntax.tnil (Syntax.ttcons
-      Syntax.tnil (Syntax.ttcons Syntax.tnil (Syntax.ttcons Syntax.tnil (Syntax.ttcons Syntax.tnil (Syntax.ttcons Syntax.tnil
+      Syntax.tnil (Syntax.ttcons Syntax.tnil (Syntax.ttcons Syntax.tnil Syntax.ttnil))))))))))))))))))))))))))))) (Syntax.tcons (Syntax.tyInt Syntax.w32)
+      Syntax.tnil)) (Syntax.ttcons (Syntax.tcons (Syntax.tyEnum (107 ∷ 105 ∷ 110 ∷ 100 ∷ 115 ∷ 58 ∷ 58 ∷ 75 ∷ 105 ∷ 110 ∷ 100 ∷ []) (Syntax.ttcons Syntax.tnil
+      (Syntax.ttcons Syntax.tnil (Syntax.ttcons Syntax.tnil (Syntax.ttcons Syntax.tnil (Syntax.ttcons Syntax.tnil (Syntax.ttcons Syntax.tnil (Syntax.ttcons
+      Syntax.tnil (Syntax.ttcons Syntax.tnil (Syntax.ttcons Syntax.tnil (Syntax.ttcons Syntax.tnil (Syntax.ttcons Syntax.tnil (Syntax.ttcons Syntax.tnil
+      (Syntax.ttcons Syntax.tnil (Syntax.ttcons Syntax.tnil (Syntax.ttcons Syntax.tnil (Syntax.ttcons Syntax.tnil (Syntax.ttcons Syntax.tnil (Syntax.ttcons
+      Syntax.tnil (Syntax.ttcons Syntax.tnil (Syntax.ttcons Syntax.tnil (Syntax.ttcons Syntax.tnil (Syntax.ttcons Syntax.tnil (Syntax.ttcons Syntax.tnil
+      (Syntax.ttcons Syntax.tnil (Syntax.ttcons Syntax.tnil (Syntax.ttcons Syntax.tnil (Syntax.ttcons Syntax.tnil (Syntax.ttcons Syntax.tnil
       Syntax.ttnil))))))))))))))))))))))))))))) Syntax.tnil) (Syntax.ttcons (Syntax.tcons (Syntax.tyEnum (108 ∷ 105 ∷ 110 ∷ 101 ∷ 58 ∷ 58 ∷ 82 ∷ 101 ∷ 99 ∷ 111 ∷
       114 ∷ 100 ∷ []) (Syntax.ttcons (Syntax.tcons Syntax.tyBool (Syntax.tcons (Syntax.tyStruct (99 ∷ 111 ∷ 111 ∷ 114 ∷ 100 ∷ 105 ∷ 110 ∷ 97 ∷ 116 ∷ 101 ∷ 58 ∷
       58 ∷ 65 ∷ 116 ∷ 111 ∷ 109 ∷ []) (Syntax.tcons (Syntax.tyStruct (99 ∷ 111 ∷ 111 ∷ 114 ∷ 100 ∷ 105 ∷ 110 ∷ 97 ∷ 116 ∷ 101 ∷ 58 ∷ 58 ∷ 73 ∷ 100 ∷ 101 ∷ 110 ∷
@@ -1206,16 +1231,20 @@ t2 = (0, Rows'.whole (Declared'.row Findings.the-type)) ∷ (
           (Syntax.tcons (Syntax.tyStruct (115 ∷ 101 ∷ 97 ∷ 114 ∷ 99 ∷ 104 ∷ 58 ∷ 58 ∷ 83 ∷ 112 ∷ 97 ∷ 110 ∷ []) (Syntax.tcons (Syntax.tyInt Syntax.w64) (Syntax.tcons
           (Syntax.tyInt Syntax.w64) Syntax.tnil))) (Syntax.tcons (Syntax.tyStruct (115 ∷ 101 ∷ 97 ∷ 114 ∷ 99 ∷ 104 ∷ 58 ∷ 58 ∷ 78 ∷ 101 ∷ 97 ∷ 114 ∷ [])
           (Syntax.tcons (Syntax.tyInt Syntax.w64) (Syntax.tcons (Syntax.tyStruct (102 ∷ 105 ∷ 101 ∷ 108 ∷ 100 ∷ 115 ∷ 58 ∷ 58 ∷ 83 ∷ 101 ∷ 114 ∷ 105 ∷ 97 ∷ 108 ∷ [])
-          (Syntax.tcons (Syntax.tyInt Syntax.w32) Syntax.tnil)) Syntax.tnil))) Syntax.tnil))) Syntax.tnil))) Syntax.tnil))),
+          (Syntax.tcons (Syntax.tyInt Syntax.w32) Syntax.tnil)) Syntax.tnil))) Syntax.tnil))) (Syntax.tcons (Syntax.tyStruct (116 ∷ 114 ∷ 97 ∷ 105 ∷ 108 ∷ 58 ∷ 58 ∷
+          87 ∷ 97 ∷ 116 ∷ 99 ∷ 104 ∷ []) (Syntax.tcons (Syntax.tyInt Syntax.w64) (Syntax.tcons (Syntax.tyInt Syntax.w64) (Syntax.tcons (Syntax.tyInt Syntax.w64)
+          (Syntax.tcons (Syntax.tyInt Syntax.w64) (Syntax.tcons (Syntax.tyInt Syntax.w64) (Syntax.tcons (Syntax.tyInt Syntax.w64) (Syntax.tcons (Syntax.tyStruct (97
+          ∷ 104 ∷ 101 ∷ 97 ∷ 100 ∷ 58 ∷ 58 ∷ 65 ∷ 104 ∷ 101 ∷ 97 ∷ 100 ∷ []) (Syntax.tcons (Syntax.tyInt Syntax.w64) (Syntax.tcons (Syntax.tyInt Syntax.w64)
+          (Syntax.tcons (Syntax.tyInt Syntax.w64) Syntax.tnil)))) Syntax.tnil)))))))) Syntax.tnil)))) Syntax.tnil))),
     ) ∷ (
       11,
-      Rows'.any-gone (Syntax.tyStruct
-          (103 ∷ 97 ∷ 116 ∷ 101 ∷ 58 ∷ 58 ∷ 67 ∷ 111 ∷ 117 ∷ 114 ∷ 115 ∷ 101 ∷ []) (Syntax.tcons (Syntax.tyStruct (114 ∷ 117 ∷ 108 ∷ 101 ∷ 115 ∷ 58 ∷ 58 ∷ 83 ∷ 116 ∷
-          97 ∷ 116 ∷ 101 ∷ []) (Syntax.tcons (Syntax.tyInt Syntax.w8) (Syntax.tcons (Syntax.tyStruct (102 ∷ 105 ∷ 101 ∷ 108 ∷ 100 ∷ 115 ∷ 58 ∷ 58 ∷ 83 ∷ 101 ∷ 114 ∷
-          105 ∷ 97 ∷ 108 ∷ []) (Syntax.tcons (Syntax.tyInt Syntax.w32) Syntax.tnil)) (Syntax.tcons (Syntax.tyStruct (114 ∷ 117 ∷ 108 ∷ 101 ∷ 115 ∷ 58 ∷ 58 ∷ 82 ∷ 117
-          ∷ 110 ∷ []) (Syntax.tcons Syntax.tyBool (Syntax.tcons Syntax.tyBool (Syntax.tcons Syntax.tyBool (Syntax.tcons (Syntax.tyStruct (114 ∷ 101 ∷ 115 ∷ 105 ∷ 100
-          ∷ 117 ∷ 101 ∷ 58 ∷ 58 ∷ 82 ∷ 101 ∷ 115 ∷ 105 ∷ 100 ∷ 117 ∷ 101 ∷ []) (Syntax.tcons (Syntax.tyStruct (110 ∷ 97 ∷ 109 ∷ 101 ∷ 115 ∷ 58 ∷ 58 ∷ 84 ∷ 104 ∷ 114
-          ∷ 101 ∷ 101 ∷ []) (Syntax.tcons (Syntax.tyInt Syntax.w8) (Syntax.tcons (Syntax.tyInt Syntax.w8) (Syntax.tcons (Syntax.tyInt Syntax.w8) Syntax.tnil))))
+      Rows'.any-gone (Syntax.tyStruct (103 ∷
+          97 ∷ 116 ∷ 101 ∷ 58 ∷ 58 ∷ 67 ∷ 111 ∷ 117 ∷ 114 ∷ 115 ∷ 101 ∷ []) (Syntax.tcons (Syntax.tyStruct (114 ∷ 117 ∷ 108 ∷ 101 ∷ 115 ∷ 58 ∷ 58 ∷ 83 ∷ 116 ∷ 97 ∷
+          116 ∷ 101 ∷ []) (Syntax.tcons (Syntax.tyInt Syntax.w8) (Syntax.tcons (Syntax.tyStruct (102 ∷ 105 ∷ 101 ∷ 108 ∷ 100 ∷ 115 ∷ 58 ∷ 58 ∷ 83 ∷ 101 ∷ 114 ∷ 105 ∷
+          97 ∷ 108 ∷ []) (Syntax.tcons (Syntax.tyInt Syntax.w32) Syntax.tnil)) (Syntax.tcons (Syntax.tyStruct (114 ∷ 117 ∷ 108 ∷ 101 ∷ 115 ∷ 58 ∷ 58 ∷ 82 ∷ 117 ∷ 110
+          ∷ []) (Syntax.tcons Syntax.tyBool (Syntax.tcons Syntax.tyBool (Syntax.tcons Syntax.tyBool (Syntax.tcons (Syntax.tyStruct (114 ∷ 101 ∷ 115 ∷ 105 ∷ 100 ∷ 117
+          ∷ 101 ∷ 58 ∷ 58 ∷ 82 ∷ 101 ∷ 115 ∷ 105 ∷ 100 ∷ 117 ∷ 101 ∷ []) (Syntax.tcons (Syntax.tyStruct (110 ∷ 97 ∷ 109 ∷ 101 ∷ 115 ∷ 58 ∷ 58 ∷ 84 ∷ 104 ∷ 114 ∷ 101
+          ∷ 101 ∷ []) (Syntax.tcons (Syntax.tyInt Syntax.w8) (Syntax.tcons (Syntax.tyInt Syntax.w8) (Syntax.tcons (Syntax.tyInt Syntax.w8) Syntax.tnil))))
           (Syntax.tcons (Syntax.tyInt Syntax.w8) (Syntax.tcons (Syntax.tyStruct (102 ∷ 105 ∷ 101 ∷ 108 ∷ 100 ∷ 115 ∷ 58 ∷ 58 ∷ 82 ∷ 101 ∷ 115 ∷ 105 ∷ 100 ∷ 117 ∷ 101
           ∷ 78 ∷ 117 ∷ 109 ∷ 98 ∷ 101 ∷ 114 ∷ []) (Syntax.tcons (Syntax.tyInt Syntax.w32) Syntax.tnil)) (Syntax.tcons (Syntax.tyInt Syntax.w8) Syntax.tnil)))))
           Syntax.tnil))))) (Syntax.tcons (Syntax.tyStruct (102 ∷ 105 ∷ 101 ∷ 108 ∷ 100 ∷ 115 ∷ 58 ∷ 58 ∷ 83 ∷ 101 ∷ 114 ∷ 105 ∷ 97 ∷ 108 ∷ []) (Syntax.tcons
@@ -1230,13 +1259,16 @@ t2 = (0, Rows'.whole (Declared'.row Findings.the-type)) ∷ (
           (Syntax.tyStruct (115 ∷ 101 ∷ 97 ∷ 114 ∷ 99 ∷ 104 ∷ 58 ∷ 58 ∷ 83 ∷ 112 ∷ 97 ∷ 110 ∷ []) (Syntax.tcons (Syntax.tyInt Syntax.w64) (Syntax.tcons (Syntax.tyInt
           Syntax.w64) Syntax.tnil))) (Syntax.tcons (Syntax.tyStruct (115 ∷ 101 ∷ 97 ∷ 114 ∷ 99 ∷ 104 ∷ 58 ∷ 58 ∷ 78 ∷ 101 ∷ 97 ∷ 114 ∷ []) (Syntax.tcons
           (Syntax.tyInt Syntax.w64) (Syntax.tcons (Syntax.tyStruct (102 ∷ 105 ∷ 101 ∷ 108 ∷ 100 ∷ 115 ∷ 58 ∷ 58 ∷ 83 ∷ 101 ∷ 114 ∷ 105 ∷ 97 ∷ 108 ∷ []) (Syntax.tcons
-          (Syntax.tyInt Syntax.w32) Syntax.tnil)) Syntax.tnil))) Syntax.tnil))) Syntax.tnil))),
-    ) ∷ (12, Rows'.any-gone SlotAs.ty) ∷ (13, Rows'.any-gone Syntax.tyBool)
-    ∷ (
+          (Syntax.tyInt Syntax.w32) Syntax.tnil)) Syntax.tnil))) Syntax.tnil))) (Syntax.tcons (Syntax.tyStruct (116 ∷ 114 ∷ 97 ∷ 105 ∷ 108 ∷ 58 ∷ 58 ∷ 87 ∷ 97 ∷ 116
+          ∷ 99 ∷ 104 ∷ []) (Syntax.tcons (Syntax.tyInt Syntax.w64) (Syntax.tcons (Syntax.tyInt Syntax.w64) (Syntax.tcons (Syntax.tyInt Syntax.w64) (Syntax.tcons
+          (Syntax.tyInt Syntax.w64) (Syntax.tcons (Syntax.tyInt Syntax.w64) (Syntax.tcons (Syntax.tyInt Syntax.w64) (Syntax.tcons (Syntax.tyStruct (97 ∷ 104 ∷ 101 ∷
+          97 ∷ 100 ∷ 58 ∷ 58 ∷ 65 ∷ 104 ∷ 101 ∷ 97 ∷ 100 ∷ []) (Syntax.tcons (Syntax.tyInt Syntax.w64) (Syntax.tcons (Syntax.tyInt Syntax.w64) (Syntax.tcons
+          (Syntax.tyInt Syntax.w64) Syntax.tnil)))) Syntax.tnil)))))))) Syntax.tnil)))),
+    ) ∷ (12, Rows'.any-gone SlotAs.ty) ∷ (13, Rows'.any-gone Syntax.tyBool) ∷ (
       14,
-      Rows'.any-gone (Syntax.tyStruct (115 ∷ 101 ∷ 97 ∷ 114 ∷ 99 ∷ 104 ∷ 58 ∷ 58 ∷ 83 ∷ 111 ∷ 117 ∷ 103 ∷ 104 ∷ 116 ∷ []) (Syntax.tcons (Syntax.tyStruct
-          (115 ∷ 101 ∷ 97 ∷ 114 ∷ 99 ∷ 104 ∷ 58 ∷ 58 ∷ 78 ∷ 101 ∷ 97 ∷ 114 ∷ []) (Syntax.tcons (Syntax.tyInt Syntax.w64) (Syntax.tcons (Syntax.tyStruct (102 ∷ 105 ∷
-          101 ∷ 108 ∷ 100 ∷ 115 ∷ 58 ∷ 58 ∷ 83 ∷ 101 ∷ 114 ∷ 105 ∷ 97 ∷ 108 ∷ []) (Syntax.tcons (Syntax.tyInt Syntax.w32) Syntax.tnil)) Syntax.tnil))) (Syntax.tcons
+      Rows'.any-gone (Syntax.tyStruct (115 ∷ 101 ∷ 97 ∷ 114 ∷ 99 ∷ 104 ∷ 58 ∷ 58 ∷ 83 ∷ 111 ∷ 117 ∷ 103 ∷ 104 ∷ 116 ∷ []) (Syntax.tcons (Syntax.tyStruct (115 ∷
+          101 ∷ 97 ∷ 114 ∷ 99 ∷ 104 ∷ 58 ∷ 58 ∷ 78 ∷ 101 ∷ 97 ∷ 114 ∷ []) (Syntax.tcons (Syntax.tyInt Syntax.w64) (Syntax.tcons (Syntax.tyStruct (102 ∷ 105 ∷ 101 ∷
+          108 ∷ 100 ∷ 115 ∷ 58 ∷ 58 ∷ 83 ∷ 101 ∷ 114 ∷ 105 ∷ 97 ∷ 108 ∷ []) (Syntax.tcons (Syntax.tyInt Syntax.w32) Syntax.tnil)) Syntax.tnil))) (Syntax.tcons
           Syntax.tyBool Syntax.tnil))),
     ) ∷ (
       15,
@@ -1282,32 +1314,35 @@ t3 = (
       ∷ 114 ∷ 99 ∷ 104 ∷ 58 ∷ 58 ∷ 83 ∷ 112 ∷ 97 ∷ 110 ∷ []) (Syntax.tcons (Syntax.tyInt Syntax.w64) (Syntax.tcons (Syntax.tyInt Syntax.w64) Syntax.tnil)))
       (Syntax.tcons (Syntax.tyStruct (115 ∷ 101 ∷ 97 ∷ 114 ∷ 99 ∷ 104 ∷ 58 ∷ 58 ∷ 78 ∷ 101 ∷ 97 ∷ 114 ∷ []) (Syntax.tcons (Syntax.tyInt Syntax.w64) (Syntax.tcons
       (Syntax.tyStruct (102 ∷ 105 ∷ 101 ∷ 108 ∷ 100 ∷ 115 ∷ 58 ∷ 58 ∷ 83 ∷ 101 ∷ 114 ∷ 105 ∷ 97 ∷ 108 ∷ []) (Syntax.tcons (Syntax.tyInt Syntax.w32) Syntax.tnil))
-      Syntax.tnil))) Syntax.tnil))) Syntax.tnil))),
+      Syntax.tnil))) Syntax.tnil))) (Syntax.tcons (Syntax.tyStruct (116 ∷ 114 ∷ 97 ∷ 105 ∷ 108 ∷ 58 ∷ 58 ∷ 87 ∷ 97 ∷ 116 ∷ 99 ∷ 104 ∷ []) (Syntax.tcons
+      (Syntax.tyInt Syntax.w64) (Syntax.tcons (Syntax.tyInt Syntax.w64) (Syntax.tcons (Syntax.tyInt Syntax.w64) (Syntax.tcons (Syntax.tyInt Syntax.w64)
+      (Syntax.tcons (Syntax.tyInt Syntax.w64) (Syntax.tcons (Syntax.tyInt Syntax.w64) (Syntax.tcons (Syntax.tyStruct (97 ∷ 104 ∷ 101 ∷ 97 ∷ 100 ∷ 58 ∷ 58 ∷ 65 ∷
+      104 ∷ 101 ∷ 97 ∷ 100 ∷ []) (Syntax.tcons (Syntax.tyInt Syntax.w64) (Syntax.tcons (Syntax.tyInt Syntax.w64) (Syntax.tcons (Syntax.tyInt Syntax.w64)
+      Syntax.tnil)))) Syntax.tnil)))))))) Syntax.tnil)))),
 ) ∷ (5, Rows'.any-gone (Syntax.tyInt Syntax.w64)) ∷ (6, Rows'.any-gone Syntax.tyBool) ∷ (
   7,
-  Rows'.any-gone
-      (Syntax.tyInt Syntax.w64),
+  Rows'.any-gone (Syntax.tyInt Syntax.w64),
 ) ∷ (
   8,
-  Rows'.any-gone (Syntax.tyStruct (115 ∷ 101 ∷ 97 ∷ 114 ∷ 99 ∷ 104 ∷ 58 ∷ 58 ∷ 78 ∷ 101 ∷ 97 ∷ 114 ∷ []) (Syntax.tcons
-      (Syntax.tyInt Syntax.w64) (Syntax.tcons (Syntax.tyStruct (102 ∷ 105 ∷ 101 ∷ 108 ∷ 100 ∷ 115 ∷ 58 ∷ 58 ∷ 83 ∷ 101 ∷ 114 ∷ 105 ∷ 97 ∷ 108 ∷ []) (Syntax.tcons
-      (Syntax.tyInt Syntax.w32) Syntax.tnil)) Syntax.tnil))),
+  Rows'.any-gone (Syntax.tyStruct (115 ∷ 101 ∷ 97 ∷ 114 ∷ 99 ∷ 104 ∷ 58 ∷ 58 ∷ 78 ∷ 101 ∷ 97 ∷ 114 ∷ [])
+      (Syntax.tcons (Syntax.tyInt Syntax.w64) (Syntax.tcons (Syntax.tyStruct (102 ∷ 105 ∷ 101 ∷ 108 ∷ 100 ∷ 115 ∷ 58 ∷ 58 ∷ 83 ∷ 101 ∷ 114 ∷ 105 ∷ 97 ∷ 108 ∷ [])
+      (Syntax.tcons (Syntax.tyInt Syntax.w32) Syntax.tnil)) Syntax.tnil))),
 ) ∷ (
   9,
-  Rows'.any-gone (Syntax.tyEnum (112 ∷ 105 ∷ 101 ∷ 99 ∷ 101 ∷ 115 ∷ 58 ∷ 58 ∷ 76 ∷ 105 ∷ 110 ∷
-      101 ∷ []) (Syntax.ttcons (Syntax.tcons (Syntax.tyInt Syntax.w8) Syntax.tnil) (Syntax.ttcons (Syntax.tcons (Syntax.tyEnum (107 ∷ 105 ∷ 110 ∷ 100 ∷ 115 ∷ 58
-      ∷ 58 ∷ 75 ∷ 105 ∷ 110 ∷ 100 ∷ []) (Syntax.ttcons Syntax.tnil (Syntax.ttcons Syntax.tnil (Syntax.ttcons Syntax.tnil (Syntax.ttcons Syntax.tnil
-      (Syntax.ttcons Syntax.tnil (Syntax.ttcons Syntax.tnil (Syntax.ttcons Syntax.tnil (Syntax.ttcons Syntax.tnil (Syntax.ttcons Syntax.tnil (Syntax.ttcons
-      Syntax.tnil (Syntax.ttcons Syntax.tnil (Syntax.ttcons Syntax.tnil (Syntax.ttcons Syntax.tnil (Syntax.ttcons Syntax.tnil (Syntax.ttcons Syntax.tnil
-      (Syntax.ttcons Syntax.tnil (Syntax.ttcons Syntax.tnil (Syntax.ttcons Syntax.tnil (Syntax.ttcons Syntax.tnil (Syntax.ttcons Syntax.tnil (Syntax.ttcons
-      Syntax.tnil (Syntax.ttcons Syntax.tnil (Syntax.ttcons Syntax.tnil (Syntax.ttcons Syntax.tnil (Syntax.ttcons Syntax.tnil (Syntax.ttcons Syntax.tnil
-      (Syntax.ttcons Syntax.tnil (Syntax.ttcons Syntax.tnil Syntax.ttnil))))))))))))))))))))))))))))) (Syntax.tcons (Syntax.tyInt Syntax.w32) Syntax.tnil))
-      (Syntax.ttcons (Syntax.tcons (Syntax.tyEnum (107 ∷ 105 ∷ 110 ∷ 100 ∷ 115 ∷ 58 ∷ 58 ∷ 75 ∷ 105 ∷ 110 ∷ 100 ∷ []) (Syntax.ttcons Syntax.tnil (Syntax.ttcons
+  Rows'.any-gone (Syntax.tyEnum (112 ∷ 105 ∷ 101 ∷ 99 ∷ 101 ∷ 115 ∷ 58 ∷ 58 ∷ 76
+      ∷ 105 ∷ 110 ∷ 101 ∷ []) (Syntax.ttcons (Syntax.tcons (Syntax.tyInt Syntax.w8) Syntax.tnil) (Syntax.ttcons (Syntax.tcons (Syntax.tyEnum (107 ∷ 105 ∷ 110 ∷
+      100 ∷ 115 ∷ 58 ∷ 58 ∷ 75 ∷ 105 ∷ 110 ∷ 100 ∷ []) (Syntax.ttcons Syntax.tnil (Syntax.ttcons Syntax.tnil (Syntax.ttcons Syntax.tnil (Syntax.ttcons
       Syntax.tnil (Syntax.ttcons Syntax.tnil (Syntax.ttcons Syntax.tnil (Syntax.ttcons Syntax.tnil (Syntax.ttcons Syntax.tnil (Syntax.ttcons Syntax.tnil
       (Syntax.ttcons Syntax.tnil (Syntax.ttcons Syntax.tnil (Syntax.ttcons Syntax.tnil (Syntax.ttcons Syntax.tnil (Syntax.ttcons Syntax.tnil (Syntax.ttcons
       Syntax.tnil (Syntax.ttcons Syntax.tnil (Syntax.ttcons Syntax.tnil (Syntax.ttcons Syntax.tnil (Syntax.ttcons Syntax.tnil (Syntax.ttcons Syntax.tnil
       (Syntax.ttcons Syntax.tnil (Syntax.ttcons Syntax.tnil (Syntax.ttcons Syntax.tnil (Syntax.ttcons Syntax.tnil (Syntax.ttcons Syntax.tnil (Syntax.ttcons
-      Syntax.tnil (Syntax.ttcons Syntax.tnil (Syntax.ttcons Syntax.tnil (Syntax.ttcons Syntax.tnil (Syntax.ttcons Syntax.tnil
+      Syntax.tnil (Syntax.ttcons Syntax.tnil (Syntax.ttcons Syntax.tnil Syntax.ttnil))))))))))))))))))))))))))))) (Syntax.tcons (Syntax.tyInt Syntax.w32)
+      Syntax.tnil)) (Syntax.ttcons (Syntax.tcons (Syntax.tyEnum (107 ∷ 105 ∷ 110 ∷ 100 ∷ 115 ∷ 58 ∷ 58 ∷ 75 ∷ 105 ∷ 110 ∷ 100 ∷ []) (Syntax.ttcons Syntax.tnil
+      (Syntax.ttcons Syntax.tnil (Syntax.ttcons Syntax.tnil (Syntax.ttcons Syntax.tnil (Syntax.ttcons Syntax.tnil (Syntax.ttcons Syntax.tnil (Syntax.ttcons
+      Syntax.tnil (Syntax.ttcons Syntax.tnil (Syntax.ttcons Syntax.tnil (Syntax.ttcons Syntax.tnil (Syntax.ttcons Syntax.tnil (Syntax.ttcons Syntax.tnil
+      (Syntax.ttcons Syntax.tnil (Syntax.ttcons Syntax.tnil (Syntax.ttcons Syntax.tnil (Syntax.ttcons Syntax.tnil (Syntax.ttcons Syntax.tnil (Syntax.ttcons
+      Syntax.tnil (Syntax.ttcons Syntax.tnil (Syntax.ttcons Syntax.tnil (Syntax.ttcons Syntax.tnil (Syntax.ttcons Syntax.tnil (Syntax.ttcons Syntax.tnil
+      (Syntax.ttcons Syntax.tnil (Syntax.ttcons Syntax.tnil (Syntax.ttcons Syntax.tnil (Syntax.ttcons Syntax.tnil (Syntax.ttcons Syntax.tnil
       Syntax.ttnil))))))))))))))))))))))))))))) Syntax.tnil) (Syntax.ttcons (Syntax.tcons (Syntax.tyEnum (108 ∷ 105 ∷ 110 ∷ 101 ∷ 58 ∷ 58 ∷ 82 ∷ 101 ∷ 99 ∷ 111 ∷
       114 ∷ 100 ∷ []) (Syntax.ttcons (Syntax.tcons Syntax.tyBool (Syntax.tcons (Syntax.tyStruct (99 ∷ 111 ∷ 111 ∷ 114 ∷ 100 ∷ 105 ∷ 110 ∷ 97 ∷ 116 ∷ 101 ∷ 58 ∷
       58 ∷ 65 ∷ 116 ∷ 111 ∷ 109 ∷ []) (Syntax.tcons (Syntax.tyStruct (99 ∷ 111 ∷ 111 ∷ 114 ∷ 100 ∷ 105 ∷ 110 ∷ 97 ∷ 116 ∷ 101 ∷ 58 ∷ 58 ∷ 73 ∷ 100 ∷ 101 ∷ 110 ∷
@@ -1410,16 +1445,20 @@ t3 = (
           (Syntax.tcons (Syntax.tyStruct (115 ∷ 101 ∷ 97 ∷ 114 ∷ 99 ∷ 104 ∷ 58 ∷ 58 ∷ 83 ∷ 112 ∷ 97 ∷ 110 ∷ []) (Syntax.tcons (Syntax.tyInt Syntax.w64) (Syntax.tcons
           (Syntax.tyInt Syntax.w64) Syntax.tnil))) (Syntax.tcons (Syntax.tyStruct (115 ∷ 101 ∷ 97 ∷ 114 ∷ 99 ∷ 104 ∷ 58 ∷ 58 ∷ 78 ∷ 101 ∷ 97 ∷ 114 ∷ [])
           (Syntax.tcons (Syntax.tyInt Syntax.w64) (Syntax.tcons (Syntax.tyStruct (102 ∷ 105 ∷ 101 ∷ 108 ∷ 100 ∷ 115 ∷ 58 ∷ 58 ∷ 83 ∷ 101 ∷ 114 ∷ 105 ∷ 97 ∷ 108 ∷ [])
-          (Syntax.tcons (Syntax.tyInt Syntax.w32) Syntax.tnil)) Syntax.tnil))) Syntax.tnil))) Syntax.tnil))) Syntax.tnil))),
+          (Syntax.tcons (Syntax.tyInt Syntax.w32) Syntax.tnil)) Syntax.tnil))) Syntax.tnil))) (Syntax.tcons (Syntax.tyStruct (116 ∷ 114 ∷ 97 ∷ 105 ∷ 108 ∷ 58 ∷ 58 ∷
+          87 ∷ 97 ∷ 116 ∷ 99 ∷ 104 ∷ []) (Syntax.tcons (Syntax.tyInt Syntax.w64) (Syntax.tcons (Syntax.tyInt Syntax.w64) (Syntax.tcons (Syntax.tyInt Syntax.w64)
+          (Syntax.tcons (Syntax.tyInt Syntax.w64) (Syntax.tcons (Syntax.tyInt Syntax.w64) (Syntax.tcons (Syntax.tyInt Syntax.w64) (Syntax.tcons (Syntax.tyStruct (97
+          ∷ 104 ∷ 101 ∷ 97 ∷ 100 ∷ 58 ∷ 58 ∷ 65 ∷ 104 ∷ 101 ∷ 97 ∷ 100 ∷ []) (Syntax.tcons (Syntax.tyInt Syntax.w64) (Syntax.tcons (Syntax.tyInt Syntax.w64)
+          (Syntax.tcons (Syntax.tyInt Syntax.w64) Syntax.tnil)))) Syntax.tnil)))))))) Syntax.tnil)))) Syntax.tnil))),
     ) ∷ (
       11,
-      Rows'.any-gone (Syntax.tyStruct
-          (103 ∷ 97 ∷ 116 ∷ 101 ∷ 58 ∷ 58 ∷ 67 ∷ 111 ∷ 117 ∷ 114 ∷ 115 ∷ 101 ∷ []) (Syntax.tcons (Syntax.tyStruct (114 ∷ 117 ∷ 108 ∷ 101 ∷ 115 ∷ 58 ∷ 58 ∷ 83 ∷ 116 ∷
-          97 ∷ 116 ∷ 101 ∷ []) (Syntax.tcons (Syntax.tyInt Syntax.w8) (Syntax.tcons (Syntax.tyStruct (102 ∷ 105 ∷ 101 ∷ 108 ∷ 100 ∷ 115 ∷ 58 ∷ 58 ∷ 83 ∷ 101 ∷ 114 ∷
-          105 ∷ 97 ∷ 108 ∷ []) (Syntax.tcons (Syntax.tyInt Syntax.w32) Syntax.tnil)) (Syntax.tcons (Syntax.tyStruct (114 ∷ 117 ∷ 108 ∷ 101 ∷ 115 ∷ 58 ∷ 58 ∷ 82 ∷ 117
-          ∷ 110 ∷ []) (Syntax.tcons Syntax.tyBool (Syntax.tcons Syntax.tyBool (Syntax.tcons Syntax.tyBool (Syntax.tcons (Syntax.tyStruct (114 ∷ 101 ∷ 115 ∷ 105 ∷ 100
-          ∷ 117 ∷ 101 ∷ 58 ∷ 58 ∷ 82 ∷ 101 ∷ 115 ∷ 105 ∷ 100 ∷ 117 ∷ 101 ∷ []) (Syntax.tcons (Syntax.tyStruct (110 ∷ 97 ∷ 109 ∷ 101 ∷ 115 ∷ 58 ∷ 58 ∷ 84 ∷ 104 ∷ 114
-          ∷ 101 ∷ 101 ∷ []) (Syntax.tcons (Syntax.tyInt Syntax.w8) (Syntax.tcons (Syntax.tyInt Syntax.w8) (Syntax.tcons (Syntax.tyInt Syntax.w8) Syntax.tnil))))
+      Rows'.any-gone (Syntax.tyStruct (103 ∷
+          97 ∷ 116 ∷ 101 ∷ 58 ∷ 58 ∷ 67 ∷ 111 ∷ 117 ∷ 114 ∷ 115 ∷ 101 ∷ []) (Syntax.tcons (Syntax.tyStruct (114 ∷ 117 ∷ 108 ∷ 101 ∷ 115 ∷ 58 ∷ 58 ∷ 83 ∷ 116 ∷ 97 ∷
+          116 ∷ 101 ∷ []) (Syntax.tcons (Syntax.tyInt Syntax.w8) (Syntax.tcons (Syntax.tyStruct (102 ∷ 105 ∷ 101 ∷ 108 ∷ 100 ∷ 115 ∷ 58 ∷ 58 ∷ 83 ∷ 101 ∷ 114 ∷ 105 ∷
+          97 ∷ 108 ∷ []) (Syntax.tcons (Syntax.tyInt Syntax.w32) Syntax.tnil)) (Syntax.tcons (Syntax.tyStruct (114 ∷ 117 ∷ 108 ∷ 101 ∷ 115 ∷ 58 ∷ 58 ∷ 82 ∷ 117 ∷ 110
+          ∷ []) (Syntax.tcons Syntax.tyBool (Syntax.tcons Syntax.tyBool (Syntax.tcons Syntax.tyBool (Syntax.tcons (Syntax.tyStruct (114 ∷ 101 ∷ 115 ∷ 105 ∷ 100 ∷ 117
+          ∷ 101 ∷ 58 ∷ 58 ∷ 82 ∷ 101 ∷ 115 ∷ 105 ∷ 100 ∷ 117 ∷ 101 ∷ []) (Syntax.tcons (Syntax.tyStruct (110 ∷ 97 ∷ 109 ∷ 101 ∷ 115 ∷ 58 ∷ 58 ∷ 84 ∷ 104 ∷ 114 ∷ 101
+          ∷ 101 ∷ []) (Syntax.tcons (Syntax.tyInt Syntax.w8) (Syntax.tcons (Syntax.tyInt Syntax.w8) (Syntax.tcons (Syntax.tyInt Syntax.w8) Syntax.tnil))))
           (Syntax.tcons (Syntax.tyInt Syntax.w8) (Syntax.tcons (Syntax.tyStruct (102 ∷ 105 ∷ 101 ∷ 108 ∷ 100 ∷ 115 ∷ 58 ∷ 58 ∷ 82 ∷ 101 ∷ 115 ∷ 105 ∷ 100 ∷ 117 ∷ 101
           ∷ 78 ∷ 117 ∷ 109 ∷ 98 ∷ 101 ∷ 114 ∷ []) (Syntax.tcons (Syntax.tyInt Syntax.w32) Syntax.tnil)) (Syntax.tcons (Syntax.tyInt Syntax.w8) Syntax.tnil)))))
           Syntax.tnil))))) (Syntax.tcons (Syntax.tyStruct (102 ∷ 105 ∷ 101 ∷ 108 ∷ 100 ∷ 115 ∷ 58 ∷ 58 ∷ 83 ∷ 101 ∷ 114 ∷ 105 ∷ 97 ∷ 108 ∷ []) (Syntax.tcons
@@ -1434,13 +1473,16 @@ t3 = (
           (Syntax.tyStruct (115 ∷ 101 ∷ 97 ∷ 114 ∷ 99 ∷ 104 ∷ 58 ∷ 58 ∷ 83 ∷ 112 ∷ 97 ∷ 110 ∷ []) (Syntax.tcons (Syntax.tyInt Syntax.w64) (Syntax.tcons (Syntax.tyInt
           Syntax.w64) Syntax.tnil))) (Syntax.tcons (Syntax.tyStruct (115 ∷ 101 ∷ 97 ∷ 114 ∷ 99 ∷ 104 ∷ 58 ∷ 58 ∷ 78 ∷ 101 ∷ 97 ∷ 114 ∷ []) (Syntax.tcons
           (Syntax.tyInt Syntax.w64) (Syntax.tcons (Syntax.tyStruct (102 ∷ 105 ∷ 101 ∷ 108 ∷ 100 ∷ 115 ∷ 58 ∷ 58 ∷ 83 ∷ 101 ∷ 114 ∷ 105 ∷ 97 ∷ 108 ∷ []) (Syntax.tcons
-          (Syntax.tyInt Syntax.w32) Syntax.tnil)) Syntax.tnil))) Syntax.tnil))) Syntax.tnil))),
-    ) ∷ (12, Rows'.any-gone SlotAs.ty) ∷ (13, Rows'.any-gone Syntax.tyBool)
-    ∷ (
+          (Syntax.tyInt Syntax.w32) Syntax.tnil)) Syntax.tnil))) Syntax.tnil))) (Syntax.tcons (Syntax.tyStruct (116 ∷ 114 ∷ 97 ∷ 105 ∷ 108 ∷ 58 ∷ 58 ∷ 87 ∷ 97 ∷ 116
+          ∷ 99 ∷ 104 ∷ []) (Syntax.tcons (Syntax.tyInt Syntax.w64) (Syntax.tcons (Syntax.tyInt Syntax.w64) (Syntax.tcons (Syntax.tyInt Syntax.w64) (Syntax.tcons
+          (Syntax.tyInt Syntax.w64) (Syntax.tcons (Syntax.tyInt Syntax.w64) (Syntax.tcons (Syntax.tyInt Syntax.w64) (Syntax.tcons (Syntax.tyStruct (97 ∷ 104 ∷ 101 ∷
+          97 ∷ 100 ∷ 58 ∷ 58 ∷ 65 ∷ 104 ∷ 101 ∷ 97 ∷ 100 ∷ []) (Syntax.tcons (Syntax.tyInt Syntax.w64) (Syntax.tcons (Syntax.tyInt Syntax.w64) (Syntax.tcons
+          (Syntax.tyInt Syntax.w64) Syntax.tnil)))) Syntax.tnil)))))))) Syntax.tnil)))),
+    ) ∷ (12, Rows'.any-gone SlotAs.ty) ∷ (13, Rows'.any-gone Syntax.tyBool) ∷ (
       14,
-      Rows'.any-gone (Syntax.tyStruct (115 ∷ 101 ∷ 97 ∷ 114 ∷ 99 ∷ 104 ∷ 58 ∷ 58 ∷ 83 ∷ 111 ∷ 117 ∷ 103 ∷ 104 ∷ 116 ∷ []) (Syntax.tcons (Syntax.tyStruct
-          (115 ∷ 101 ∷ 97 ∷ 114 ∷ 99 ∷ 104 ∷ 58 ∷ 58 ∷ 78 ∷ 101 ∷ 97 ∷ 114 ∷ []) (Syntax.tcons (Syntax.tyInt Syntax.w64) (Syntax.tcons (Syntax.tyStruct (102 ∷ 105 ∷
-          101 ∷ 108 ∷ 100 ∷ 115 ∷ 58 ∷ 58 ∷ 83 ∷ 101 ∷ 114 ∷ 105 ∷ 97 ∷ 108 ∷ []) (Syntax.tcons (Syntax.tyInt Syntax.w32) Syntax.tnil)) Syntax.tnil))) (Syntax.tcons
+      Rows'.any-gone (Syntax.tyStruct (115 ∷ 101 ∷ 97 ∷ 114 ∷ 99 ∷ 104 ∷ 58 ∷ 58 ∷ 83 ∷ 111 ∷ 117 ∷ 103 ∷ 104 ∷ 116 ∷ []) (Syntax.tcons (Syntax.tyStruct (115 ∷
+          101 ∷ 97 ∷ 114 ∷ 99 ∷ 104 ∷ 58 ∷ 58 ∷ 78 ∷ 101 ∷ 97 ∷ 114 ∷ []) (Syntax.tcons (Syntax.tyInt Syntax.w64) (Syntax.tcons (Syntax.tyStruct (102 ∷ 105 ∷ 101 ∷
+          108 ∷ 100 ∷ 115 ∷ 58 ∷ 58 ∷ 83 ∷ 101 ∷ 114 ∷ 105 ∷ 97 ∷ 108 ∷ []) (Syntax.tcons (Syntax.tyInt Syntax.w32) Syntax.tnil)) Syntax.tnil))) (Syntax.tcons
           Syntax.tyBool Syntax.tnil))),
     ) ∷ (
       15,
@@ -1589,16 +1631,20 @@ t4 = (
           (Syntax.tcons (Syntax.tyStruct (115 ∷ 101 ∷ 97 ∷ 114 ∷ 99 ∷ 104 ∷ 58 ∷ 58 ∷ 83 ∷ 112 ∷ 97 ∷ 110 ∷ []) (Syntax.tcons (Syntax.tyInt Syntax.w64) (Syntax.tcons
           (Syntax.tyInt Syntax.w64) Syntax.tnil))) (Syntax.tcons (Syntax.tyStruct (115 ∷ 101 ∷ 97 ∷ 114 ∷ 99 ∷ 104 ∷ 58 ∷ 58 ∷ 78 ∷ 101 ∷ 97 ∷ 114 ∷ [])
           (Syntax.tcons (Syntax.tyInt Syntax.w64) (Syntax.tcons (Syntax.tyStruct (102 ∷ 105 ∷ 101 ∷ 108 ∷ 100 ∷ 115 ∷ 58 ∷ 58 ∷ 83 ∷ 101 ∷ 114 ∷ 105 ∷ 97 ∷ 108 ∷ [])
-          (Syntax.tcons (Syntax.tyInt Syntax.w32) Syntax.tnil)) Syntax.tnil))) Syntax.tnil))) Syntax.tnil))) Syntax.tnil))),
+          (Syntax.tcons (Syntax.tyInt Syntax.w32) Syntax.tnil)) Syntax.tnil))) Syntax.tnil))) (Syntax.tcons (Syntax.tyStruct (116 ∷ 114 ∷ 97 ∷ 105 ∷ 108 ∷ 58 ∷ 58 ∷
+          87 ∷ 97 ∷ 116 ∷ 99 ∷ 104 ∷ []) (Syntax.tcons (Syntax.tyInt Syntax.w64) (Syntax.tcons (Syntax.tyInt Syntax.w64) (Syntax.tcons (Syntax.tyInt Syntax.w64)
+          (Syntax.tcons (Syntax.tyInt Syntax.w64) (Syntax.tcons (Syntax.tyInt Syntax.w64) (Syntax.tcons (Syntax.tyInt Syntax.w64) (Syntax.tcons (Syntax.tyStruct (97
+          ∷ 104 ∷ 101 ∷ 97 ∷ 100 ∷ 58 ∷ 58 ∷ 65 ∷ 104 ∷ 101 ∷ 97 ∷ 100 ∷ []) (Syntax.tcons (Syntax.tyInt Syntax.w64) (Syntax.tcons (Syntax.tyInt Syntax.w64)
+          (Syntax.tcons (Syntax.tyInt Syntax.w64) Syntax.tnil)))) Syntax.tnil)))))))) Syntax.tnil)))) Syntax.tnil))),
     ) ∷ (
       11,
-      Rows'.any-gone (Syntax.tyStruct
-          (103 ∷ 97 ∷ 116 ∷ 101 ∷ 58 ∷ 58 ∷ 67 ∷ 111 ∷ 117 ∷ 114 ∷ 115 ∷ 101 ∷ []) (Syntax.tcons (Syntax.tyStruct (114 ∷ 117 ∷ 108 ∷ 101 ∷ 115 ∷ 58 ∷ 58 ∷ 83 ∷ 116 ∷
-          97 ∷ 116 ∷ 101 ∷ []) (Syntax.tcons (Syntax.tyInt Syntax.w8) (Syntax.tcons (Syntax.tyStruct (102 ∷ 105 ∷ 101 ∷ 108 ∷ 100 ∷ 115 ∷ 58 ∷ 58 ∷ 83 ∷ 101 ∷ 114 ∷
-          105 ∷ 97 ∷ 108 ∷ []) (Syntax.tcons (Syntax.tyInt Syntax.w32) Syntax.tnil)) (Syntax.tcons (Syntax.tyStruct (114 ∷ 117 ∷ 108 ∷ 101 ∷ 115 ∷ 58 ∷ 58 ∷ 82 ∷ 117
-          ∷ 110 ∷ []) (Syntax.tcons Syntax.tyBool (Syntax.tcons Syntax.tyBool (Syntax.tcons Syntax.tyBool (Syntax.tcons (Syntax.tyStruct (114 ∷ 101 ∷ 115 ∷ 105 ∷ 100
-          ∷ 117 ∷ 101 ∷ 58 ∷ 58 ∷ 82 ∷ 101 ∷ 115 ∷ 105 ∷ 100 ∷ 117 ∷ 101 ∷ []) (Syntax.tcons (Syntax.tyStruct (110 ∷ 97 ∷ 109 ∷ 101 ∷ 115 ∷ 58 ∷ 58 ∷ 84 ∷ 104 ∷ 114
-          ∷ 101 ∷ 101 ∷ []) (Syntax.tcons (Syntax.tyInt Syntax.w8) (Syntax.tcons (Syntax.tyInt Syntax.w8) (Syntax.tcons (Syntax.tyInt Syntax.w8) Syntax.tnil))))
+      Rows'.any-gone (Syntax.tyStruct (103 ∷
+          97 ∷ 116 ∷ 101 ∷ 58 ∷ 58 ∷ 67 ∷ 111 ∷ 117 ∷ 114 ∷ 115 ∷ 101 ∷ []) (Syntax.tcons (Syntax.tyStruct (114 ∷ 117 ∷ 108 ∷ 101 ∷ 115 ∷ 58 ∷ 58 ∷ 83 ∷ 116 ∷ 97 ∷
+          116 ∷ 101 ∷ []) (Syntax.tcons (Syntax.tyInt Syntax.w8) (Syntax.tcons (Syntax.tyStruct (102 ∷ 105 ∷ 101 ∷ 108 ∷ 100 ∷ 115 ∷ 58 ∷ 58 ∷ 83 ∷ 101 ∷ 114 ∷ 105 ∷
+          97 ∷ 108 ∷ []) (Syntax.tcons (Syntax.tyInt Syntax.w32) Syntax.tnil)) (Syntax.tcons (Syntax.tyStruct (114 ∷ 117 ∷ 108 ∷ 101 ∷ 115 ∷ 58 ∷ 58 ∷ 82 ∷ 117 ∷ 110
+          ∷ []) (Syntax.tcons Syntax.tyBool (Syntax.tcons Syntax.tyBool (Syntax.tcons Syntax.tyBool (Syntax.tcons (Syntax.tyStruct (114 ∷ 101 ∷ 115 ∷ 105 ∷ 100 ∷ 117
+          ∷ 101 ∷ 58 ∷ 58 ∷ 82 ∷ 101 ∷ 115 ∷ 105 ∷ 100 ∷ 117 ∷ 101 ∷ []) (Syntax.tcons (Syntax.tyStruct (110 ∷ 97 ∷ 109 ∷ 101 ∷ 115 ∷ 58 ∷ 58 ∷ 84 ∷ 104 ∷ 114 ∷ 101
+          ∷ 101 ∷ []) (Syntax.tcons (Syntax.tyInt Syntax.w8) (Syntax.tcons (Syntax.tyInt Syntax.w8) (Syntax.tcons (Syntax.tyInt Syntax.w8) Syntax.tnil))))
           (Syntax.tcons (Syntax.tyInt Syntax.w8) (Syntax.tcons (Syntax.tyStruct (102 ∷ 105 ∷ 101 ∷ 108 ∷ 100 ∷ 115 ∷ 58 ∷ 58 ∷ 82 ∷ 101 ∷ 115 ∷ 105 ∷ 100 ∷ 117 ∷ 101
           ∷ 78 ∷ 117 ∷ 109 ∷ 98 ∷ 101 ∷ 114 ∷ []) (Syntax.tcons (Syntax.tyInt Syntax.w32) Syntax.tnil)) (Syntax.tcons (Syntax.tyInt Syntax.w8) Syntax.tnil)))))
           Syntax.tnil))))) (Syntax.tcons (Syntax.tyStruct (102 ∷ 105 ∷ 101 ∷ 108 ∷ 100 ∷ 115 ∷ 58 ∷ 58 ∷ 83 ∷ 101 ∷ 114 ∷ 105 ∷ 97 ∷ 108 ∷ []) (Syntax.tcons
@@ -1613,13 +1659,16 @@ t4 = (
           (Syntax.tyStruct (115 ∷ 101 ∷ 97 ∷ 114 ∷ 99 ∷ 104 ∷ 58 ∷ 58 ∷ 83 ∷ 112 ∷ 97 ∷ 110 ∷ []) (Syntax.tcons (Syntax.tyInt Syntax.w64) (Syntax.tcons (Syntax.tyInt
           Syntax.w64) Syntax.tnil))) (Syntax.tcons (Syntax.tyStruct (115 ∷ 101 ∷ 97 ∷ 114 ∷ 99 ∷ 104 ∷ 58 ∷ 58 ∷ 78 ∷ 101 ∷ 97 ∷ 114 ∷ []) (Syntax.tcons
           (Syntax.tyInt Syntax.w64) (Syntax.tcons (Syntax.tyStruct (102 ∷ 105 ∷ 101 ∷ 108 ∷ 100 ∷ 115 ∷ 58 ∷ 58 ∷ 83 ∷ 101 ∷ 114 ∷ 105 ∷ 97 ∷ 108 ∷ []) (Syntax.tcons
-          (Syntax.tyInt Syntax.w32) Syntax.tnil)) Syntax.tnil))) Syntax.tnil))) Syntax.tnil))),
-    ) ∷ (12, Rows'.any-gone SlotAs.ty) ∷ (13, Rows'.any-gone Syntax.tyBool)
-    ∷ (
+          (Syntax.tyInt Syntax.w32) Syntax.tnil)) Syntax.tnil))) Syntax.tnil))) (Syntax.tcons (Syntax.tyStruct (116 ∷ 114 ∷ 97 ∷ 105 ∷ 108 ∷ 58 ∷ 58 ∷ 87 ∷ 97 ∷ 116
+          ∷ 99 ∷ 104 ∷ []) (Syntax.tcons (Syntax.tyInt Syntax.w64) (Syntax.tcons (Syntax.tyInt Syntax.w64) (Syntax.tcons (Syntax.tyInt Syntax.w64) (Syntax.tcons
+          (Syntax.tyInt Syntax.w64) (Syntax.tcons (Syntax.tyInt Syntax.w64) (Syntax.tcons (Syntax.tyInt Syntax.w64) (Syntax.tcons (Syntax.tyStruct (97 ∷ 104 ∷ 101 ∷
+          97 ∷ 100 ∷ 58 ∷ 58 ∷ 65 ∷ 104 ∷ 101 ∷ 97 ∷ 100 ∷ []) (Syntax.tcons (Syntax.tyInt Syntax.w64) (Syntax.tcons (Syntax.tyInt Syntax.w64) (Syntax.tcons
+          (Syntax.tyInt Syntax.w64) Syntax.tnil)))) Syntax.tnil)))))))) Syntax.tnil)))),
+    ) ∷ (12, Rows'.any-gone SlotAs.ty) ∷ (13, Rows'.any-gone Syntax.tyBool) ∷ (
       14,
-      Rows'.any-gone (Syntax.tyStruct (115 ∷ 101 ∷ 97 ∷ 114 ∷ 99 ∷ 104 ∷ 58 ∷ 58 ∷ 83 ∷ 111 ∷ 117 ∷ 103 ∷ 104 ∷ 116 ∷ []) (Syntax.tcons (Syntax.tyStruct
-          (115 ∷ 101 ∷ 97 ∷ 114 ∷ 99 ∷ 104 ∷ 58 ∷ 58 ∷ 78 ∷ 101 ∷ 97 ∷ 114 ∷ []) (Syntax.tcons (Syntax.tyInt Syntax.w64) (Syntax.tcons (Syntax.tyStruct (102 ∷ 105 ∷
-          101 ∷ 108 ∷ 100 ∷ 115 ∷ 58 ∷ 58 ∷ 83 ∷ 101 ∷ 114 ∷ 105 ∷ 97 ∷ 108 ∷ []) (Syntax.tcons (Syntax.tyInt Syntax.w32) Syntax.tnil)) Syntax.tnil))) (Syntax.tcons
+      Rows'.any-gone (Syntax.tyStruct (115 ∷ 101 ∷ 97 ∷ 114 ∷ 99 ∷ 104 ∷ 58 ∷ 58 ∷ 83 ∷ 111 ∷ 117 ∷ 103 ∷ 104 ∷ 116 ∷ []) (Syntax.tcons (Syntax.tyStruct (115 ∷
+          101 ∷ 97 ∷ 114 ∷ 99 ∷ 104 ∷ 58 ∷ 58 ∷ 78 ∷ 101 ∷ 97 ∷ 114 ∷ []) (Syntax.tcons (Syntax.tyInt Syntax.w64) (Syntax.tcons (Syntax.tyStruct (102 ∷ 105 ∷ 101 ∷
+          108 ∷ 100 ∷ 115 ∷ 58 ∷ 58 ∷ 83 ∷ 101 ∷ 114 ∷ 105 ∷ 97 ∷ 108 ∷ []) (Syntax.tcons (Syntax.tyInt Syntax.w32) Syntax.tnil)) Syntax.tnil))) (Syntax.tcons
           Syntax.tyBool Syntax.tnil))),
     ) ∷ (
       15,
@@ -1768,16 +1817,20 @@ t5 = (
           (Syntax.tcons (Syntax.tyStruct (115 ∷ 101 ∷ 97 ∷ 114 ∷ 99 ∷ 104 ∷ 58 ∷ 58 ∷ 83 ∷ 112 ∷ 97 ∷ 110 ∷ []) (Syntax.tcons (Syntax.tyInt Syntax.w64) (Syntax.tcons
           (Syntax.tyInt Syntax.w64) Syntax.tnil))) (Syntax.tcons (Syntax.tyStruct (115 ∷ 101 ∷ 97 ∷ 114 ∷ 99 ∷ 104 ∷ 58 ∷ 58 ∷ 78 ∷ 101 ∷ 97 ∷ 114 ∷ [])
           (Syntax.tcons (Syntax.tyInt Syntax.w64) (Syntax.tcons (Syntax.tyStruct (102 ∷ 105 ∷ 101 ∷ 108 ∷ 100 ∷ 115 ∷ 58 ∷ 58 ∷ 83 ∷ 101 ∷ 114 ∷ 105 ∷ 97 ∷ 108 ∷ [])
-          (Syntax.tcons (Syntax.tyInt Syntax.w32) Syntax.tnil)) Syntax.tnil))) Syntax.tnil))) Syntax.tnil))) Syntax.tnil))),
+          (Syntax.tcons (Syntax.tyInt Syntax.w32) Syntax.tnil)) Syntax.tnil))) Syntax.tnil))) (Syntax.tcons (Syntax.tyStruct (116 ∷ 114 ∷ 97 ∷ 105 ∷ 108 ∷ 58 ∷ 58 ∷
+          87 ∷ 97 ∷ 116 ∷ 99 ∷ 104 ∷ []) (Syntax.tcons (Syntax.tyInt Syntax.w64) (Syntax.tcons (Syntax.tyInt Syntax.w64) (Syntax.tcons (Syntax.tyInt Syntax.w64)
+          (Syntax.tcons (Syntax.tyInt Syntax.w64) (Syntax.tcons (Syntax.tyInt Syntax.w64) (Syntax.tcons (Syntax.tyInt Syntax.w64) (Syntax.tcons (Syntax.tyStruct (97
+          ∷ 104 ∷ 101 ∷ 97 ∷ 100 ∷ 58 ∷ 58 ∷ 65 ∷ 104 ∷ 101 ∷ 97 ∷ 100 ∷ []) (Syntax.tcons (Syntax.tyInt Syntax.w64) (Syntax.tcons (Syntax.tyInt Syntax.w64)
+          (Syntax.tcons (Syntax.tyInt Syntax.w64) Syntax.tnil)))) Syntax.tnil)))))))) Syntax.tnil)))) Syntax.tnil))),
     ) ∷ (
       11,
-      Rows'.any-gone (Syntax.tyStruct
-          (103 ∷ 97 ∷ 116 ∷ 101 ∷ 58 ∷ 58 ∷ 67 ∷ 111 ∷ 117 ∷ 114 ∷ 115 ∷ 101 ∷ []) (Syntax.tcons (Syntax.tyStruct (114 ∷ 117 ∷ 108 ∷ 101 ∷ 115 ∷ 58 ∷ 58 ∷ 83 ∷ 116 ∷
-          97 ∷ 116 ∷ 101 ∷ []) (Syntax.tcons (Syntax.tyInt Syntax.w8) (Syntax.tcons (Syntax.tyStruct (102 ∷ 105 ∷ 101 ∷ 108 ∷ 100 ∷ 115 ∷ 58 ∷ 58 ∷ 83 ∷ 101 ∷ 114 ∷
-          105 ∷ 97 ∷ 108 ∷ []) (Syntax.tcons (Syntax.tyInt Syntax.w32) Syntax.tnil)) (Syntax.tcons (Syntax.tyStruct (114 ∷ 117 ∷ 108 ∷ 101 ∷ 115 ∷ 58 ∷ 58 ∷ 82 ∷ 117
-          ∷ 110 ∷ []) (Syntax.tcons Syntax.tyBool (Syntax.tcons Syntax.tyBool (Syntax.tcons Syntax.tyBool (Syntax.tcons (Syntax.tyStruct (114 ∷ 101 ∷ 115 ∷ 105 ∷ 100
-          ∷ 117 ∷ 101 ∷ 58 ∷ 58 ∷ 82 ∷ 101 ∷ 115 ∷ 105 ∷ 100 ∷ 117 ∷ 101 ∷ []) (Syntax.tcons (Syntax.tyStruct (110 ∷ 97 ∷ 109 ∷ 101 ∷ 115 ∷ 58 ∷ 58 ∷ 84 ∷ 104 ∷ 114
-          ∷ 101 ∷ 101 ∷ []) (Syntax.tcons (Syntax.tyInt Syntax.w8) (Syntax.tcons (Syntax.tyInt Syntax.w8) (Syntax.tcons (Syntax.tyInt Syntax.w8) Syntax.tnil))))
+      Rows'.any-gone (Syntax.tyStruct (103 ∷
+          97 ∷ 116 ∷ 101 ∷ 58 ∷ 58 ∷ 67 ∷ 111 ∷ 117 ∷ 114 ∷ 115 ∷ 101 ∷ []) (Syntax.tcons (Syntax.tyStruct (114 ∷ 117 ∷ 108 ∷ 101 ∷ 115 ∷ 58 ∷ 58 ∷ 83 ∷ 116 ∷ 97 ∷
+          116 ∷ 101 ∷ []) (Syntax.tcons (Syntax.tyInt Syntax.w8) (Syntax.tcons (Syntax.tyStruct (102 ∷ 105 ∷ 101 ∷ 108 ∷ 100 ∷ 115 ∷ 58 ∷ 58 ∷ 83 ∷ 101 ∷ 114 ∷ 105 ∷
+          97 ∷ 108 ∷ []) (Syntax.tcons (Syntax.tyInt Syntax.w32) Syntax.tnil)) (Syntax.tcons (Syntax.tyStruct (114 ∷ 117 ∷ 108 ∷ 101 ∷ 115 ∷ 58 ∷ 58 ∷ 82 ∷ 117 ∷ 110
+          ∷ []) (Syntax.tcons Syntax.tyBool (Syntax.tcons Syntax.tyBool (Syntax.tcons Syntax.tyBool (Syntax.tcons (Syntax.tyStruct (114 ∷ 101 ∷ 115 ∷ 105 ∷ 100 ∷ 117
+          ∷ 101 ∷ 58 ∷ 58 ∷ 82 ∷ 101 ∷ 115 ∷ 105 ∷ 100 ∷ 117 ∷ 101 ∷ []) (Syntax.tcons (Syntax.tyStruct (110 ∷ 97 ∷ 109 ∷ 101 ∷ 115 ∷ 58 ∷ 58 ∷ 84 ∷ 104 ∷ 114 ∷ 101
+          ∷ 101 ∷ []) (Syntax.tcons (Syntax.tyInt Syntax.w8) (Syntax.tcons (Syntax.tyInt Syntax.w8) (Syntax.tcons (Syntax.tyInt Syntax.w8) Syntax.tnil))))
           (Syntax.tcons (Syntax.tyInt Syntax.w8) (Syntax.tcons (Syntax.tyStruct (102 ∷ 105 ∷ 101 ∷ 108 ∷ 100 ∷ 115 ∷ 58 ∷ 58 ∷ 82 ∷ 101 ∷ 115 ∷ 105 ∷ 100 ∷ 117 ∷ 101
           ∷ 78 ∷ 117 ∷ 109 ∷ 98 ∷ 101 ∷ 114 ∷ []) (Syntax.tcons (Syntax.tyInt Syntax.w32) Syntax.tnil)) (Syntax.tcons (Syntax.tyInt Syntax.w8) Syntax.tnil)))))
           Syntax.tnil))))) (Syntax.tcons (Syntax.tyStruct (102 ∷ 105 ∷ 101 ∷ 108 ∷ 100 ∷ 115 ∷ 58 ∷ 58 ∷ 83 ∷ 101 ∷ 114 ∷ 105 ∷ 97 ∷ 108 ∷ []) (Syntax.tcons
@@ -1792,13 +1845,16 @@ t5 = (
           (Syntax.tyStruct (115 ∷ 101 ∷ 97 ∷ 114 ∷ 99 ∷ 104 ∷ 58 ∷ 58 ∷ 83 ∷ 112 ∷ 97 ∷ 110 ∷ []) (Syntax.tcons (Syntax.tyInt Syntax.w64) (Syntax.tcons (Syntax.tyInt
           Syntax.w64) Syntax.tnil))) (Syntax.tcons (Syntax.tyStruct (115 ∷ 101 ∷ 97 ∷ 114 ∷ 99 ∷ 104 ∷ 58 ∷ 58 ∷ 78 ∷ 101 ∷ 97 ∷ 114 ∷ []) (Syntax.tcons
           (Syntax.tyInt Syntax.w64) (Syntax.tcons (Syntax.tyStruct (102 ∷ 105 ∷ 101 ∷ 108 ∷ 100 ∷ 115 ∷ 58 ∷ 58 ∷ 83 ∷ 101 ∷ 114 ∷ 105 ∷ 97 ∷ 108 ∷ []) (Syntax.tcons
-          (Syntax.tyInt Syntax.w32) Syntax.tnil)) Syntax.tnil))) Syntax.tnil))) Syntax.tnil))),
-    ) ∷ (12, Rows'.any-gone SlotAs.ty) ∷ (13, Rows'.any-gone Syntax.tyBool)
-    ∷ (
+          (Syntax.tyInt Syntax.w32) Syntax.tnil)) Syntax.tnil))) Syntax.tnil))) (Syntax.tcons (Syntax.tyStruct (116 ∷ 114 ∷ 97 ∷ 105 ∷ 108 ∷ 58 ∷ 58 ∷ 87 ∷ 97 ∷ 116
+          ∷ 99 ∷ 104 ∷ []) (Syntax.tcons (Syntax.tyInt Syntax.w64) (Syntax.tcons (Syntax.tyInt Syntax.w64) (Syntax.tcons (Syntax.tyInt Syntax.w64) (Syntax.tcons
+          (Syntax.tyInt Syntax.w64) (Syntax.tcons (Syntax.tyInt Syntax.w64) (Syntax.tcons (Syntax.tyInt Syntax.w64) (Syntax.tcons (Syntax.tyStruct (97 ∷ 104 ∷ 101 ∷
+          97 ∷ 100 ∷ 58 ∷ 58 ∷ 65 ∷ 104 ∷ 101 ∷ 97 ∷ 100 ∷ []) (Syntax.tcons (Syntax.tyInt Syntax.w64) (Syntax.tcons (Syntax.tyInt Syntax.w64) (Syntax.tcons
+          (Syntax.tyInt Syntax.w64) Syntax.tnil)))) Syntax.tnil)))))))) Syntax.tnil)))),
+    ) ∷ (12, Rows'.any-gone SlotAs.ty) ∷ (13, Rows'.any-gone Syntax.tyBool) ∷ (
       14,
-      Rows'.any-gone (Syntax.tyStruct (115 ∷ 101 ∷ 97 ∷ 114 ∷ 99 ∷ 104 ∷ 58 ∷ 58 ∷ 83 ∷ 111 ∷ 117 ∷ 103 ∷ 104 ∷ 116 ∷ []) (Syntax.tcons (Syntax.tyStruct
-          (115 ∷ 101 ∷ 97 ∷ 114 ∷ 99 ∷ 104 ∷ 58 ∷ 58 ∷ 78 ∷ 101 ∷ 97 ∷ 114 ∷ []) (Syntax.tcons (Syntax.tyInt Syntax.w64) (Syntax.tcons (Syntax.tyStruct (102 ∷ 105 ∷
-          101 ∷ 108 ∷ 100 ∷ 115 ∷ 58 ∷ 58 ∷ 83 ∷ 101 ∷ 114 ∷ 105 ∷ 97 ∷ 108 ∷ []) (Syntax.tcons (Syntax.tyInt Syntax.w32) Syntax.tnil)) Syntax.tnil))) (Syntax.tcons
+      Rows'.any-gone (Syntax.tyStruct (115 ∷ 101 ∷ 97 ∷ 114 ∷ 99 ∷ 104 ∷ 58 ∷ 58 ∷ 83 ∷ 111 ∷ 117 ∷ 103 ∷ 104 ∷ 116 ∷ []) (Syntax.tcons (Syntax.tyStruct (115 ∷
+          101 ∷ 97 ∷ 114 ∷ 99 ∷ 104 ∷ 58 ∷ 58 ∷ 78 ∷ 101 ∷ 97 ∷ 114 ∷ []) (Syntax.tcons (Syntax.tyInt Syntax.w64) (Syntax.tcons (Syntax.tyStruct (102 ∷ 105 ∷ 101 ∷
+          108 ∷ 100 ∷ 115 ∷ 58 ∷ 58 ∷ 83 ∷ 101 ∷ 114 ∷ 105 ∷ 97 ∷ 108 ∷ []) (Syntax.tcons (Syntax.tyInt Syntax.w32) Syntax.tnil)) Syntax.tnil))) (Syntax.tcons
           Syntax.tyBool Syntax.tnil))),
     ) ∷ (
       15,
@@ -1947,16 +2003,20 @@ t6 = (
           (Syntax.tcons (Syntax.tyStruct (115 ∷ 101 ∷ 97 ∷ 114 ∷ 99 ∷ 104 ∷ 58 ∷ 58 ∷ 83 ∷ 112 ∷ 97 ∷ 110 ∷ []) (Syntax.tcons (Syntax.tyInt Syntax.w64) (Syntax.tcons
           (Syntax.tyInt Syntax.w64) Syntax.tnil))) (Syntax.tcons (Syntax.tyStruct (115 ∷ 101 ∷ 97 ∷ 114 ∷ 99 ∷ 104 ∷ 58 ∷ 58 ∷ 78 ∷ 101 ∷ 97 ∷ 114 ∷ [])
           (Syntax.tcons (Syntax.tyInt Syntax.w64) (Syntax.tcons (Syntax.tyStruct (102 ∷ 105 ∷ 101 ∷ 108 ∷ 100 ∷ 115 ∷ 58 ∷ 58 ∷ 83 ∷ 101 ∷ 114 ∷ 105 ∷ 97 ∷ 108 ∷ [])
-          (Syntax.tcons (Syntax.tyInt Syntax.w32) Syntax.tnil)) Syntax.tnil))) Syntax.tnil))) Syntax.tnil))) Syntax.tnil))),
+          (Syntax.tcons (Syntax.tyInt Syntax.w32) Syntax.tnil)) Syntax.tnil))) Syntax.tnil))) (Syntax.tcons (Syntax.tyStruct (116 ∷ 114 ∷ 97 ∷ 105 ∷ 108 ∷ 58 ∷ 58 ∷
+          87 ∷ 97 ∷ 116 ∷ 99 ∷ 104 ∷ []) (Syntax.tcons (Syntax.tyInt Syntax.w64) (Syntax.tcons (Syntax.tyInt Syntax.w64) (Syntax.tcons (Syntax.tyInt Syntax.w64)
+          (Syntax.tcons (Syntax.tyInt Syntax.w64) (Syntax.tcons (Syntax.tyInt Syntax.w64) (Syntax.tcons (Syntax.tyInt Syntax.w64) (Syntax.tcons (Syntax.tyStruct (97
+          ∷ 104 ∷ 101 ∷ 97 ∷ 100 ∷ 58 ∷ 58 ∷ 65 ∷ 104 ∷ 101 ∷ 97 ∷ 100 ∷ []) (Syntax.tcons (Syntax.tyInt Syntax.w64) (Syntax.tcons (Syntax.tyInt Syntax.w64)
+          (Syntax.tcons (Syntax.tyInt Syntax.w64) Syntax.tnil)))) Syntax.tnil)))))))) Syntax.tnil)))) Syntax.tnil))),
     ) ∷ (
       11,
-      Rows'.any-gone (Syntax.tyStruct
-          (103 ∷ 97 ∷ 116 ∷ 101 ∷ 58 ∷ 58 ∷ 67 ∷ 111 ∷ 117 ∷ 114 ∷ 115 ∷ 101 ∷ []) (Syntax.tcons (Syntax.tyStruct (114 ∷ 117 ∷ 108 ∷ 101 ∷ 115 ∷ 58 ∷ 58 ∷ 83 ∷ 116 ∷
-          97 ∷ 116 ∷ 101 ∷ []) (Syntax.tcons (Syntax.tyInt Syntax.w8) (Syntax.tcons (Syntax.tyStruct (102 ∷ 105 ∷ 101 ∷ 108 ∷ 100 ∷ 115 ∷ 58 ∷ 58 ∷ 83 ∷ 101 ∷ 114 ∷
-          105 ∷ 97 ∷ 108 ∷ []) (Syntax.tcons (Syntax.tyInt Syntax.w32) Syntax.tnil)) (Syntax.tcons (Syntax.tyStruct (114 ∷ 117 ∷ 108 ∷ 101 ∷ 115 ∷ 58 ∷ 58 ∷ 82 ∷ 117
-          ∷ 110 ∷ []) (Syntax.tcons Syntax.tyBool (Syntax.tcons Syntax.tyBool (Syntax.tcons Syntax.tyBool (Syntax.tcons (Syntax.tyStruct (114 ∷ 101 ∷ 115 ∷ 105 ∷ 100
-          ∷ 117 ∷ 101 ∷ 58 ∷ 58 ∷ 82 ∷ 101 ∷ 115 ∷ 105 ∷ 100 ∷ 117 ∷ 101 ∷ []) (Syntax.tcons (Syntax.tyStruct (110 ∷ 97 ∷ 109 ∷ 101 ∷ 115 ∷ 58 ∷ 58 ∷ 84 ∷ 104 ∷ 114
-          ∷ 101 ∷ 101 ∷ []) (Syntax.tcons (Syntax.tyInt Syntax.w8) (Syntax.tcons (Syntax.tyInt Syntax.w8) (Syntax.tcons (Syntax.tyInt Syntax.w8) Syntax.tnil))))
+      Rows'.any-gone (Syntax.tyStruct (103 ∷
+          97 ∷ 116 ∷ 101 ∷ 58 ∷ 58 ∷ 67 ∷ 111 ∷ 117 ∷ 114 ∷ 115 ∷ 101 ∷ []) (Syntax.tcons (Syntax.tyStruct (114 ∷ 117 ∷ 108 ∷ 101 ∷ 115 ∷ 58 ∷ 58 ∷ 83 ∷ 116 ∷ 97 ∷
+          116 ∷ 101 ∷ []) (Syntax.tcons (Syntax.tyInt Syntax.w8) (Syntax.tcons (Syntax.tyStruct (102 ∷ 105 ∷ 101 ∷ 108 ∷ 100 ∷ 115 ∷ 58 ∷ 58 ∷ 83 ∷ 101 ∷ 114 ∷ 105 ∷
+          97 ∷ 108 ∷ []) (Syntax.tcons (Syntax.tyInt Syntax.w32) Syntax.tnil)) (Syntax.tcons (Syntax.tyStruct (114 ∷ 117 ∷ 108 ∷ 101 ∷ 115 ∷ 58 ∷ 58 ∷ 82 ∷ 117 ∷ 110
+          ∷ []) (Syntax.tcons Syntax.tyBool (Syntax.tcons Syntax.tyBool (Syntax.tcons Syntax.tyBool (Syntax.tcons (Syntax.tyStruct (114 ∷ 101 ∷ 115 ∷ 105 ∷ 100 ∷ 117
+          ∷ 101 ∷ 58 ∷ 58 ∷ 82 ∷ 101 ∷ 115 ∷ 105 ∷ 100 ∷ 117 ∷ 101 ∷ []) (Syntax.tcons (Syntax.tyStruct (110 ∷ 97 ∷ 109 ∷ 101 ∷ 115 ∷ 58 ∷ 58 ∷ 84 ∷ 104 ∷ 114 ∷ 101
+          ∷ 101 ∷ []) (Syntax.tcons (Syntax.tyInt Syntax.w8) (Syntax.tcons (Syntax.tyInt Syntax.w8) (Syntax.tcons (Syntax.tyInt Syntax.w8) Syntax.tnil))))
           (Syntax.tcons (Syntax.tyInt Syntax.w8) (Syntax.tcons (Syntax.tyStruct (102 ∷ 105 ∷ 101 ∷ 108 ∷ 100 ∷ 115 ∷ 58 ∷ 58 ∷ 82 ∷ 101 ∷ 115 ∷ 105 ∷ 100 ∷ 117 ∷ 101
           ∷ 78 ∷ 117 ∷ 109 ∷ 98 ∷ 101 ∷ 114 ∷ []) (Syntax.tcons (Syntax.tyInt Syntax.w32) Syntax.tnil)) (Syntax.tcons (Syntax.tyInt Syntax.w8) Syntax.tnil)))))
           Syntax.tnil))))) (Syntax.tcons (Syntax.tyStruct (102 ∷ 105 ∷ 101 ∷ 108 ∷ 100 ∷ 115 ∷ 58 ∷ 58 ∷ 83 ∷ 101 ∷ 114 ∷ 105 ∷ 97 ∷ 108 ∷ []) (Syntax.tcons
@@ -1971,13 +2031,16 @@ t6 = (
           (Syntax.tyStruct (115 ∷ 101 ∷ 97 ∷ 114 ∷ 99 ∷ 104 ∷ 58 ∷ 58 ∷ 83 ∷ 112 ∷ 97 ∷ 110 ∷ []) (Syntax.tcons (Syntax.tyInt Syntax.w64) (Syntax.tcons (Syntax.tyInt
           Syntax.w64) Syntax.tnil))) (Syntax.tcons (Syntax.tyStruct (115 ∷ 101 ∷ 97 ∷ 114 ∷ 99 ∷ 104 ∷ 58 ∷ 58 ∷ 78 ∷ 101 ∷ 97 ∷ 114 ∷ []) (Syntax.tcons
           (Syntax.tyInt Syntax.w64) (Syntax.tcons (Syntax.tyStruct (102 ∷ 105 ∷ 101 ∷ 108 ∷ 100 ∷ 115 ∷ 58 ∷ 58 ∷ 83 ∷ 101 ∷ 114 ∷ 105 ∷ 97 ∷ 108 ∷ []) (Syntax.tcons
-          (Syntax.tyInt Syntax.w32) Syntax.tnil)) Syntax.tnil))) Syntax.tnil))) Syntax.tnil))),
-    ) ∷ (12, Rows'.any-gone SlotAs.ty) ∷ (13, Rows'.any-gone Syntax.tyBool)
-    ∷ (
+          (Syntax.tyInt Syntax.w32) Syntax.tnil)) Syntax.tnil))) Syntax.tnil))) (Syntax.tcons (Syntax.tyStruct (116 ∷ 114 ∷ 97 ∷ 105 ∷ 108 ∷ 58 ∷ 58 ∷ 87 ∷ 97 ∷ 116
+          ∷ 99 ∷ 104 ∷ []) (Syntax.tcons (Syntax.tyInt Syntax.w64) (Syntax.tcons (Syntax.tyInt Syntax.w64) (Syntax.tcons (Syntax.tyInt Syntax.w64) (Syntax.tcons
+          (Syntax.tyInt Syntax.w64) (Syntax.tcons (Syntax.tyInt Syntax.w64) (Syntax.tcons (Syntax.tyInt Syntax.w64) (Syntax.tcons (Syntax.tyStruct (97 ∷ 104 ∷ 101 ∷
+          97 ∷ 100 ∷ 58 ∷ 58 ∷ 65 ∷ 104 ∷ 101 ∷ 97 ∷ 100 ∷ []) (Syntax.tcons (Syntax.tyInt Syntax.w64) (Syntax.tcons (Syntax.tyInt Syntax.w64) (Syntax.tcons
+          (Syntax.tyInt Syntax.w64) Syntax.tnil)))) Syntax.tnil)))))))) Syntax.tnil)))),
+    ) ∷ (12, Rows'.any-gone SlotAs.ty) ∷ (13, Rows'.any-gone Syntax.tyBool) ∷ (
       14,
-      Rows'.any-gone (Syntax.tyStruct (115 ∷ 101 ∷ 97 ∷ 114 ∷ 99 ∷ 104 ∷ 58 ∷ 58 ∷ 83 ∷ 111 ∷ 117 ∷ 103 ∷ 104 ∷ 116 ∷ []) (Syntax.tcons (Syntax.tyStruct
-          (115 ∷ 101 ∷ 97 ∷ 114 ∷ 99 ∷ 104 ∷ 58 ∷ 58 ∷ 78 ∷ 101 ∷ 97 ∷ 114 ∷ []) (Syntax.tcons (Syntax.tyInt Syntax.w64) (Syntax.tcons (Syntax.tyStruct (102 ∷ 105 ∷
-          101 ∷ 108 ∷ 100 ∷ 115 ∷ 58 ∷ 58 ∷ 83 ∷ 101 ∷ 114 ∷ 105 ∷ 97 ∷ 108 ∷ []) (Syntax.tcons (Syntax.tyInt Syntax.w32) Syntax.tnil)) Syntax.tnil))) (Syntax.tcons
+      Rows'.any-gone (Syntax.tyStruct (115 ∷ 101 ∷ 97 ∷ 114 ∷ 99 ∷ 104 ∷ 58 ∷ 58 ∷ 83 ∷ 111 ∷ 117 ∷ 103 ∷ 104 ∷ 116 ∷ []) (Syntax.tcons (Syntax.tyStruct (115 ∷
+          101 ∷ 97 ∷ 114 ∷ 99 ∷ 104 ∷ 58 ∷ 58 ∷ 78 ∷ 101 ∷ 97 ∷ 114 ∷ []) (Syntax.tcons (Syntax.tyInt Syntax.w64) (Syntax.tcons (Syntax.tyStruct (102 ∷ 105 ∷ 101 ∷
+          108 ∷ 100 ∷ 115 ∷ 58 ∷ 58 ∷ 83 ∷ 101 ∷ 114 ∷ 105 ∷ 97 ∷ 108 ∷ []) (Syntax.tcons (Syntax.tyInt Syntax.w32) Syntax.tnil)) Syntax.tnil))) (Syntax.tcons
           Syntax.tyBool Syntax.tnil))),
     ) ∷ (
       15,
@@ -2126,16 +2189,20 @@ t7 = (
           (Syntax.tcons (Syntax.tyStruct (115 ∷ 101 ∷ 97 ∷ 114 ∷ 99 ∷ 104 ∷ 58 ∷ 58 ∷ 83 ∷ 112 ∷ 97 ∷ 110 ∷ []) (Syntax.tcons (Syntax.tyInt Syntax.w64) (Syntax.tcons
           (Syntax.tyInt Syntax.w64) Syntax.tnil))) (Syntax.tcons (Syntax.tyStruct (115 ∷ 101 ∷ 97 ∷ 114 ∷ 99 ∷ 104 ∷ 58 ∷ 58 ∷ 78 ∷ 101 ∷ 97 ∷ 114 ∷ [])
           (Syntax.tcons (Syntax.tyInt Syntax.w64) (Syntax.tcons (Syntax.tyStruct (102 ∷ 105 ∷ 101 ∷ 108 ∷ 100 ∷ 115 ∷ 58 ∷ 58 ∷ 83 ∷ 101 ∷ 114 ∷ 105 ∷ 97 ∷ 108 ∷ [])
-          (Syntax.tcons (Syntax.tyInt Syntax.w32) Syntax.tnil)) Syntax.tnil))) Syntax.tnil))) Syntax.tnil))) Syntax.tnil))),
+          (Syntax.tcons (Syntax.tyInt Syntax.w32) Syntax.tnil)) Syntax.tnil))) Syntax.tnil))) (Syntax.tcons (Syntax.tyStruct (116 ∷ 114 ∷ 97 ∷ 105 ∷ 108 ∷ 58 ∷ 58 ∷
+          87 ∷ 97 ∷ 116 ∷ 99 ∷ 104 ∷ []) (Syntax.tcons (Syntax.tyInt Syntax.w64) (Syntax.tcons (Syntax.tyInt Syntax.w64) (Syntax.tcons (Syntax.tyInt Syntax.w64)
+          (Syntax.tcons (Syntax.tyInt Syntax.w64) (Syntax.tcons (Syntax.tyInt Syntax.w64) (Syntax.tcons (Syntax.tyInt Syntax.w64) (Syntax.tcons (Syntax.tyStruct (97
+          ∷ 104 ∷ 101 ∷ 97 ∷ 100 ∷ 58 ∷ 58 ∷ 65 ∷ 104 ∷ 101 ∷ 97 ∷ 100 ∷ []) (Syntax.tcons (Syntax.tyInt Syntax.w64) (Syntax.tcons (Syntax.tyInt Syntax.w64)
+          (Syntax.tcons (Syntax.tyInt Syntax.w64) Syntax.tnil)))) Syntax.tnil)))))))) Syntax.tnil)))) Syntax.tnil))),
     ) ∷ (
       11,
-      Rows'.any-gone (Syntax.tyStruct
-          (103 ∷ 97 ∷ 116 ∷ 101 ∷ 58 ∷ 58 ∷ 67 ∷ 111 ∷ 117 ∷ 114 ∷ 115 ∷ 101 ∷ []) (Syntax.tcons (Syntax.tyStruct (114 ∷ 117 ∷ 108 ∷ 101 ∷ 115 ∷ 58 ∷ 58 ∷ 83 ∷ 116 ∷
-          97 ∷ 116 ∷ 101 ∷ []) (Syntax.tcons (Syntax.tyInt Syntax.w8) (Syntax.tcons (Syntax.tyStruct (102 ∷ 105 ∷ 101 ∷ 108 ∷ 100 ∷ 115 ∷ 58 ∷ 58 ∷ 83 ∷ 101 ∷ 114 ∷
-          105 ∷ 97 ∷ 108 ∷ []) (Syntax.tcons (Syntax.tyInt Syntax.w32) Syntax.tnil)) (Syntax.tcons (Syntax.tyStruct (114 ∷ 117 ∷ 108 ∷ 101 ∷ 115 ∷ 58 ∷ 58 ∷ 82 ∷ 117
-          ∷ 110 ∷ []) (Syntax.tcons Syntax.tyBool (Syntax.tcons Syntax.tyBool (Syntax.tcons Syntax.tyBool (Syntax.tcons (Syntax.tyStruct (114 ∷ 101 ∷ 115 ∷ 105 ∷ 100
-          ∷ 117 ∷ 101 ∷ 58 ∷ 58 ∷ 82 ∷ 101 ∷ 115 ∷ 105 ∷ 100 ∷ 117 ∷ 101 ∷ []) (Syntax.tcons (Syntax.tyStruct (110 ∷ 97 ∷ 109 ∷ 101 ∷ 115 ∷ 58 ∷ 58 ∷ 84 ∷ 104 ∷ 114
-          ∷ 101 ∷ 101 ∷ []) (Syntax.tcons (Syntax.tyInt Syntax.w8) (Syntax.tcons (Syntax.tyInt Syntax.w8) (Syntax.tcons (Syntax.tyInt Syntax.w8) Syntax.tnil))))
+      Rows'.any-gone (Syntax.tyStruct (103 ∷
+          97 ∷ 116 ∷ 101 ∷ 58 ∷ 58 ∷ 67 ∷ 111 ∷ 117 ∷ 114 ∷ 115 ∷ 101 ∷ []) (Syntax.tcons (Syntax.tyStruct (114 ∷ 117 ∷ 108 ∷ 101 ∷ 115 ∷ 58 ∷ 58 ∷ 83 ∷ 116 ∷ 97 ∷
+          116 ∷ 101 ∷ []) (Syntax.tcons (Syntax.tyInt Syntax.w8) (Syntax.tcons (Syntax.tyStruct (102 ∷ 105 ∷ 101 ∷ 108 ∷ 100 ∷ 115 ∷ 58 ∷ 58 ∷ 83 ∷ 101 ∷ 114 ∷ 105 ∷
+          97 ∷ 108 ∷ []) (Syntax.tcons (Syntax.tyInt Syntax.w32) Syntax.tnil)) (Syntax.tcons (Syntax.tyStruct (114 ∷ 117 ∷ 108 ∷ 101 ∷ 115 ∷ 58 ∷ 58 ∷ 82 ∷ 117 ∷ 110
+          ∷ []) (Syntax.tcons Syntax.tyBool (Syntax.tcons Syntax.tyBool (Syntax.tcons Syntax.tyBool (Syntax.tcons (Syntax.tyStruct (114 ∷ 101 ∷ 115 ∷ 105 ∷ 100 ∷ 117
+          ∷ 101 ∷ 58 ∷ 58 ∷ 82 ∷ 101 ∷ 115 ∷ 105 ∷ 100 ∷ 117 ∷ 101 ∷ []) (Syntax.tcons (Syntax.tyStruct (110 ∷ 97 ∷ 109 ∷ 101 ∷ 115 ∷ 58 ∷ 58 ∷ 84 ∷ 104 ∷ 114 ∷ 101
+          ∷ 101 ∷ []) (Syntax.tcons (Syntax.tyInt Syntax.w8) (Syntax.tcons (Syntax.tyInt Syntax.w8) (Syntax.tcons (Syntax.tyInt Syntax.w8) Syntax.tnil))))
           (Syntax.tcons (Syntax.tyInt Syntax.w8) (Syntax.tcons (Syntax.tyStruct (102 ∷ 105 ∷ 101 ∷ 108 ∷ 100 ∷ 115 ∷ 58 ∷ 58 ∷ 82 ∷ 101 ∷ 115 ∷ 105 ∷ 100 ∷ 117 ∷ 101
           ∷ 78 ∷ 117 ∷ 109 ∷ 98 ∷ 101 ∷ 114 ∷ []) (Syntax.tcons (Syntax.tyInt Syntax.w32) Syntax.tnil)) (Syntax.tcons (Syntax.tyInt Syntax.w8) Syntax.tnil)))))
           Syntax.tnil))))) (Syntax.tcons (Syntax.tyStruct (102 ∷ 105 ∷ 101 ∷ 108 ∷ 100 ∷ 115 ∷ 58 ∷ 58 ∷ 83 ∷ 101 ∷ 114 ∷ 105 ∷ 97 ∷ 108 ∷ []) (Syntax.tcons
@@ -2150,13 +2217,16 @@ t7 = (
           (Syntax.tyStruct (115 ∷ 101 ∷ 97 ∷ 114 ∷ 99 ∷ 104 ∷ 58 ∷ 58 ∷ 83 ∷ 112 ∷ 97 ∷ 110 ∷ []) (Syntax.tcons (Syntax.tyInt Syntax.w64) (Syntax.tcons (Syntax.tyInt
           Syntax.w64) Syntax.tnil))) (Syntax.tcons (Syntax.tyStruct (115 ∷ 101 ∷ 97 ∷ 114 ∷ 99 ∷ 104 ∷ 58 ∷ 58 ∷ 78 ∷ 101 ∷ 97 ∷ 114 ∷ []) (Syntax.tcons
           (Syntax.tyInt Syntax.w64) (Syntax.tcons (Syntax.tyStruct (102 ∷ 105 ∷ 101 ∷ 108 ∷ 100 ∷ 115 ∷ 58 ∷ 58 ∷ 83 ∷ 101 ∷ 114 ∷ 105 ∷ 97 ∷ 108 ∷ []) (Syntax.tcons
-          (Syntax.tyInt Syntax.w32) Syntax.tnil)) Syntax.tnil))) Syntax.tnil))) Syntax.tnil))),
-    ) ∷ (12, Rows'.any-gone SlotAs.ty) ∷ (13, Rows'.any-gone Syntax.tyBool)
-    ∷ (
+          (Syntax.tyInt Syntax.w32) Syntax.tnil)) Syntax.tnil))) Syntax.tnil))) (Syntax.tcons (Syntax.tyStruct (116 ∷ 114 ∷ 97 ∷ 105 ∷ 108 ∷ 58 ∷ 58 ∷ 87 ∷ 97 ∷ 116
+          ∷ 99 ∷ 104 ∷ []) (Syntax.tcons (Syntax.tyInt Syntax.w64) (Syntax.tcons (Syntax.tyInt Syntax.w64) (Syntax.tcons (Syntax.tyInt Syntax.w64) (Syntax.tcons
+          (Syntax.tyInt Syntax.w64) (Syntax.tcons (Syntax.tyInt Syntax.w64) (Syntax.tcons (Syntax.tyInt Syntax.w64) (Syntax.tcons (Syntax.tyStruct (97 ∷ 104 ∷ 101 ∷
+          97 ∷ 100 ∷ 58 ∷ 58 ∷ 65 ∷ 104 ∷ 101 ∷ 97 ∷ 100 ∷ []) (Syntax.tcons (Syntax.tyInt Syntax.w64) (Syntax.tcons (Syntax.tyInt Syntax.w64) (Syntax.tcons
+          (Syntax.tyInt Syntax.w64) Syntax.tnil)))) Syntax.tnil)))))))) Syntax.tnil)))),
+    ) ∷ (12, Rows'.any-gone SlotAs.ty) ∷ (13, Rows'.any-gone Syntax.tyBool) ∷ (
       14,
-      Rows'.any-gone (Syntax.tyStruct (115 ∷ 101 ∷ 97 ∷ 114 ∷ 99 ∷ 104 ∷ 58 ∷ 58 ∷ 83 ∷ 111 ∷ 117 ∷ 103 ∷ 104 ∷ 116 ∷ []) (Syntax.tcons (Syntax.tyStruct
-          (115 ∷ 101 ∷ 97 ∷ 114 ∷ 99 ∷ 104 ∷ 58 ∷ 58 ∷ 78 ∷ 101 ∷ 97 ∷ 114 ∷ []) (Syntax.tcons (Syntax.tyInt Syntax.w64) (Syntax.tcons (Syntax.tyStruct (102 ∷ 105 ∷
-          101 ∷ 108 ∷ 100 ∷ 115 ∷ 58 ∷ 58 ∷ 83 ∷ 101 ∷ 114 ∷ 105 ∷ 97 ∷ 108 ∷ []) (Syntax.tcons (Syntax.tyInt Syntax.w32) Syntax.tnil)) Syntax.tnil))) (Syntax.tcons
+      Rows'.any-gone (Syntax.tyStruct (115 ∷ 101 ∷ 97 ∷ 114 ∷ 99 ∷ 104 ∷ 58 ∷ 58 ∷ 83 ∷ 111 ∷ 117 ∷ 103 ∷ 104 ∷ 116 ∷ []) (Syntax.tcons (Syntax.tyStruct (115 ∷
+          101 ∷ 97 ∷ 114 ∷ 99 ∷ 104 ∷ 58 ∷ 58 ∷ 78 ∷ 101 ∷ 97 ∷ 114 ∷ []) (Syntax.tcons (Syntax.tyInt Syntax.w64) (Syntax.tcons (Syntax.tyStruct (102 ∷ 105 ∷ 101 ∷
+          108 ∷ 100 ∷ 115 ∷ 58 ∷ 58 ∷ 83 ∷ 101 ∷ 114 ∷ 105 ∷ 97 ∷ 108 ∷ []) (Syntax.tcons (Syntax.tyInt Syntax.w32) Syntax.tnil)) Syntax.tnil))) (Syntax.tcons
           Syntax.tyBool Syntax.tnil))),
     ) ∷ (
       15,
@@ -2369,16 +2439,20 @@ t10 = (
           (Syntax.tcons (Syntax.tyStruct (115 ∷ 101 ∷ 97 ∷ 114 ∷ 99 ∷ 104 ∷ 58 ∷ 58 ∷ 83 ∷ 112 ∷ 97 ∷ 110 ∷ []) (Syntax.tcons (Syntax.tyInt Syntax.w64) (Syntax.tcons
           (Syntax.tyInt Syntax.w64) Syntax.tnil))) (Syntax.tcons (Syntax.tyStruct (115 ∷ 101 ∷ 97 ∷ 114 ∷ 99 ∷ 104 ∷ 58 ∷ 58 ∷ 78 ∷ 101 ∷ 97 ∷ 114 ∷ [])
           (Syntax.tcons (Syntax.tyInt Syntax.w64) (Syntax.tcons (Syntax.tyStruct (102 ∷ 105 ∷ 101 ∷ 108 ∷ 100 ∷ 115 ∷ 58 ∷ 58 ∷ 83 ∷ 101 ∷ 114 ∷ 105 ∷ 97 ∷ 108 ∷ [])
-          (Syntax.tcons (Syntax.tyInt Syntax.w32) Syntax.tnil)) Syntax.tnil))) Syntax.tnil))) Syntax.tnil))) Syntax.tnil))),
+          (Syntax.tcons (Syntax.tyInt Syntax.w32) Syntax.tnil)) Syntax.tnil))) Syntax.tnil))) (Syntax.tcons (Syntax.tyStruct (116 ∷ 114 ∷ 97 ∷ 105 ∷ 108 ∷ 58 ∷ 58 ∷
+          87 ∷ 97 ∷ 116 ∷ 99 ∷ 104 ∷ []) (Syntax.tcons (Syntax.tyInt Syntax.w64) (Syntax.tcons (Syntax.tyInt Syntax.w64) (Syntax.tcons (Syntax.tyInt Syntax.w64)
+          (Syntax.tcons (Syntax.tyInt Syntax.w64) (Syntax.tcons (Syntax.tyInt Syntax.w64) (Syntax.tcons (Syntax.tyInt Syntax.w64) (Syntax.tcons (Syntax.tyStruct (97
+          ∷ 104 ∷ 101 ∷ 97 ∷ 100 ∷ 58 ∷ 58 ∷ 65 ∷ 104 ∷ 101 ∷ 97 ∷ 100 ∷ []) (Syntax.tcons (Syntax.tyInt Syntax.w64) (Syntax.tcons (Syntax.tyInt Syntax.w64)
+          (Syntax.tcons (Syntax.tyInt Syntax.w64) Syntax.tnil)))) Syntax.tnil)))))))) Syntax.tnil)))) Syntax.tnil))),
     ) ∷ (
       11,
-      Rows'.any-gone (Syntax.tyStruct
-          (103 ∷ 97 ∷ 116 ∷ 101 ∷ 58 ∷ 58 ∷ 67 ∷ 111 ∷ 117 ∷ 114 ∷ 115 ∷ 101 ∷ []) (Syntax.tcons (Syntax.tyStruct (114 ∷ 117 ∷ 108 ∷ 101 ∷ 115 ∷ 58 ∷ 58 ∷ 83 ∷ 116 ∷
-          97 ∷ 116 ∷ 101 ∷ []) (Syntax.tcons (Syntax.tyInt Syntax.w8) (Syntax.tcons (Syntax.tyStruct (102 ∷ 105 ∷ 101 ∷ 108 ∷ 100 ∷ 115 ∷ 58 ∷ 58 ∷ 83 ∷ 101 ∷ 114 ∷
-          105 ∷ 97 ∷ 108 ∷ []) (Syntax.tcons (Syntax.tyInt Syntax.w32) Syntax.tnil)) (Syntax.tcons (Syntax.tyStruct (114 ∷ 117 ∷ 108 ∷ 101 ∷ 115 ∷ 58 ∷ 58 ∷ 82 ∷ 117
-          ∷ 110 ∷ []) (Syntax.tcons Syntax.tyBool (Syntax.tcons Syntax.tyBool (Syntax.tcons Syntax.tyBool (Syntax.tcons (Syntax.tyStruct (114 ∷ 101 ∷ 115 ∷ 105 ∷ 100
-          ∷ 117 ∷ 101 ∷ 58 ∷ 58 ∷ 82 ∷ 101 ∷ 115 ∷ 105 ∷ 100 ∷ 117 ∷ 101 ∷ []) (Syntax.tcons (Syntax.tyStruct (110 ∷ 97 ∷ 109 ∷ 101 ∷ 115 ∷ 58 ∷ 58 ∷ 84 ∷ 104 ∷ 114
-          ∷ 101 ∷ 101 ∷ []) (Syntax.tcons (Syntax.tyInt Syntax.w8) (Syntax.tcons (Syntax.tyInt Syntax.w8) (Syntax.tcons (Syntax.tyInt Syntax.w8) Syntax.tnil))))
+      Rows'.any-gone (Syntax.tyStruct (103 ∷
+          97 ∷ 116 ∷ 101 ∷ 58 ∷ 58 ∷ 67 ∷ 111 ∷ 117 ∷ 114 ∷ 115 ∷ 101 ∷ []) (Syntax.tcons (Syntax.tyStruct (114 ∷ 117 ∷ 108 ∷ 101 ∷ 115 ∷ 58 ∷ 58 ∷ 83 ∷ 116 ∷ 97 ∷
+          116 ∷ 101 ∷ []) (Syntax.tcons (Syntax.tyInt Syntax.w8) (Syntax.tcons (Syntax.tyStruct (102 ∷ 105 ∷ 101 ∷ 108 ∷ 100 ∷ 115 ∷ 58 ∷ 58 ∷ 83 ∷ 101 ∷ 114 ∷ 105 ∷
+          97 ∷ 108 ∷ []) (Syntax.tcons (Syntax.tyInt Syntax.w32) Syntax.tnil)) (Syntax.tcons (Syntax.tyStruct (114 ∷ 117 ∷ 108 ∷ 101 ∷ 115 ∷ 58 ∷ 58 ∷ 82 ∷ 117 ∷ 110
+          ∷ []) (Syntax.tcons Syntax.tyBool (Syntax.tcons Syntax.tyBool (Syntax.tcons Syntax.tyBool (Syntax.tcons (Syntax.tyStruct (114 ∷ 101 ∷ 115 ∷ 105 ∷ 100 ∷ 117
+          ∷ 101 ∷ 58 ∷ 58 ∷ 82 ∷ 101 ∷ 115 ∷ 105 ∷ 100 ∷ 117 ∷ 101 ∷ []) (Syntax.tcons (Syntax.tyStruct (110 ∷ 97 ∷ 109 ∷ 101 ∷ 115 ∷ 58 ∷ 58 ∷ 84 ∷ 104 ∷ 114 ∷ 101
+          ∷ 101 ∷ []) (Syntax.tcons (Syntax.tyInt Syntax.w8) (Syntax.tcons (Syntax.tyInt Syntax.w8) (Syntax.tcons (Syntax.tyInt Syntax.w8) Syntax.tnil))))
           (Syntax.tcons (Syntax.tyInt Syntax.w8) (Syntax.tcons (Syntax.tyStruct (102 ∷ 105 ∷ 101 ∷ 108 ∷ 100 ∷ 115 ∷ 58 ∷ 58 ∷ 82 ∷ 101 ∷ 115 ∷ 105 ∷ 100 ∷ 117 ∷ 101
           ∷ 78 ∷ 117 ∷ 109 ∷ 98 ∷ 101 ∷ 114 ∷ []) (Syntax.tcons (Syntax.tyInt Syntax.w32) Syntax.tnil)) (Syntax.tcons (Syntax.tyInt Syntax.w8) Syntax.tnil)))))
           Syntax.tnil))))) (Syntax.tcons (Syntax.tyStruct (102 ∷ 105 ∷ 101 ∷ 108 ∷ 100 ∷ 115 ∷ 58 ∷ 58 ∷ 83 ∷ 101 ∷ 114 ∷ 105 ∷ 97 ∷ 108 ∷ []) (Syntax.tcons
@@ -2393,13 +2467,16 @@ t10 = (
           (Syntax.tyStruct (115 ∷ 101 ∷ 97 ∷ 114 ∷ 99 ∷ 104 ∷ 58 ∷ 58 ∷ 83 ∷ 112 ∷ 97 ∷ 110 ∷ []) (Syntax.tcons (Syntax.tyInt Syntax.w64) (Syntax.tcons (Syntax.tyInt
           Syntax.w64) Syntax.tnil))) (Syntax.tcons (Syntax.tyStruct (115 ∷ 101 ∷ 97 ∷ 114 ∷ 99 ∷ 104 ∷ 58 ∷ 58 ∷ 78 ∷ 101 ∷ 97 ∷ 114 ∷ []) (Syntax.tcons
           (Syntax.tyInt Syntax.w64) (Syntax.tcons (Syntax.tyStruct (102 ∷ 105 ∷ 101 ∷ 108 ∷ 100 ∷ 115 ∷ 58 ∷ 58 ∷ 83 ∷ 101 ∷ 114 ∷ 105 ∷ 97 ∷ 108 ∷ []) (Syntax.tcons
-          (Syntax.tyInt Syntax.w32) Syntax.tnil)) Syntax.tnil))) Syntax.tnil))) Syntax.tnil))),
-    ) ∷ (12, Rows'.any-gone SlotAs.ty) ∷ (13, Rows'.any-gone Syntax.tyBool)
-    ∷ (
+          (Syntax.tyInt Syntax.w32) Syntax.tnil)) Syntax.tnil))) Syntax.tnil))) (Syntax.tcons (Syntax.tyStruct (116 ∷ 114 ∷ 97 ∷ 105 ∷ 108 ∷ 58 ∷ 58 ∷ 87 ∷ 97 ∷ 116
+          ∷ 99 ∷ 104 ∷ []) (Syntax.tcons (Syntax.tyInt Syntax.w64) (Syntax.tcons (Syntax.tyInt Syntax.w64) (Syntax.tcons (Syntax.tyInt Syntax.w64) (Syntax.tcons
+          (Syntax.tyInt Syntax.w64) (Syntax.tcons (Syntax.tyInt Syntax.w64) (Syntax.tcons (Syntax.tyInt Syntax.w64) (Syntax.tcons (Syntax.tyStruct (97 ∷ 104 ∷ 101 ∷
+          97 ∷ 100 ∷ 58 ∷ 58 ∷ 65 ∷ 104 ∷ 101 ∷ 97 ∷ 100 ∷ []) (Syntax.tcons (Syntax.tyInt Syntax.w64) (Syntax.tcons (Syntax.tyInt Syntax.w64) (Syntax.tcons
+          (Syntax.tyInt Syntax.w64) Syntax.tnil)))) Syntax.tnil)))))))) Syntax.tnil)))),
+    ) ∷ (12, Rows'.any-gone SlotAs.ty) ∷ (13, Rows'.any-gone Syntax.tyBool) ∷ (
       14,
-      Rows'.any-gone (Syntax.tyStruct (115 ∷ 101 ∷ 97 ∷ 114 ∷ 99 ∷ 104 ∷ 58 ∷ 58 ∷ 83 ∷ 111 ∷ 117 ∷ 103 ∷ 104 ∷ 116 ∷ []) (Syntax.tcons (Syntax.tyStruct
-          (115 ∷ 101 ∷ 97 ∷ 114 ∷ 99 ∷ 104 ∷ 58 ∷ 58 ∷ 78 ∷ 101 ∷ 97 ∷ 114 ∷ []) (Syntax.tcons (Syntax.tyInt Syntax.w64) (Syntax.tcons (Syntax.tyStruct (102 ∷ 105 ∷
-          101 ∷ 108 ∷ 100 ∷ 115 ∷ 58 ∷ 58 ∷ 83 ∷ 101 ∷ 114 ∷ 105 ∷ 97 ∷ 108 ∷ []) (Syntax.tcons (Syntax.tyInt Syntax.w32) Syntax.tnil)) Syntax.tnil))) (Syntax.tcons
+      Rows'.any-gone (Syntax.tyStruct (115 ∷ 101 ∷ 97 ∷ 114 ∷ 99 ∷ 104 ∷ 58 ∷ 58 ∷ 83 ∷ 111 ∷ 117 ∷ 103 ∷ 104 ∷ 116 ∷ []) (Syntax.tcons (Syntax.tyStruct (115 ∷
+          101 ∷ 97 ∷ 114 ∷ 99 ∷ 104 ∷ 58 ∷ 58 ∷ 78 ∷ 101 ∷ 97 ∷ 114 ∷ []) (Syntax.tcons (Syntax.tyInt Syntax.w64) (Syntax.tcons (Syntax.tyStruct (102 ∷ 105 ∷ 101 ∷
+          108 ∷ 100 ∷ 115 ∷ 58 ∷ 58 ∷ 83 ∷ 101 ∷ 114 ∷ 105 ∷ 97 ∷ 108 ∷ []) (Syntax.tcons (Syntax.tyInt Syntax.w32) Syntax.tnil)) Syntax.tnil))) (Syntax.tcons
           Syntax.tyBool Syntax.tnil))),
     ) ∷ (
       15,
@@ -2543,16 +2620,20 @@ t11 = (
           (Syntax.tcons (Syntax.tyStruct (115 ∷ 101 ∷ 97 ∷ 114 ∷ 99 ∷ 104 ∷ 58 ∷ 58 ∷ 83 ∷ 112 ∷ 97 ∷ 110 ∷ []) (Syntax.tcons (Syntax.tyInt Syntax.w64) (Syntax.tcons
           (Syntax.tyInt Syntax.w64) Syntax.tnil))) (Syntax.tcons (Syntax.tyStruct (115 ∷ 101 ∷ 97 ∷ 114 ∷ 99 ∷ 104 ∷ 58 ∷ 58 ∷ 78 ∷ 101 ∷ 97 ∷ 114 ∷ [])
           (Syntax.tcons (Syntax.tyInt Syntax.w64) (Syntax.tcons (Syntax.tyStruct (102 ∷ 105 ∷ 101 ∷ 108 ∷ 100 ∷ 115 ∷ 58 ∷ 58 ∷ 83 ∷ 101 ∷ 114 ∷ 105 ∷ 97 ∷ 108 ∷ [])
-          (Syntax.tcons (Syntax.tyInt Syntax.w32) Syntax.tnil)) Syntax.tnil))) Syntax.tnil))) Syntax.tnil))) Syntax.tnil))),
+          (Syntax.tcons (Syntax.tyInt Syntax.w32) Syntax.tnil)) Syntax.tnil))) Syntax.tnil))) (Syntax.tcons (Syntax.tyStruct (116 ∷ 114 ∷ 97 ∷ 105 ∷ 108 ∷ 58 ∷ 58 ∷
+          87 ∷ 97 ∷ 116 ∷ 99 ∷ 104 ∷ []) (Syntax.tcons (Syntax.tyInt Syntax.w64) (Syntax.tcons (Syntax.tyInt Syntax.w64) (Syntax.tcons (Syntax.tyInt Syntax.w64)
+          (Syntax.tcons (Syntax.tyInt Syntax.w64) (Syntax.tcons (Syntax.tyInt Syntax.w64) (Syntax.tcons (Syntax.tyInt Syntax.w64) (Syntax.tcons (Syntax.tyStruct (97
+          ∷ 104 ∷ 101 ∷ 97 ∷ 100 ∷ 58 ∷ 58 ∷ 65 ∷ 104 ∷ 101 ∷ 97 ∷ 100 ∷ []) (Syntax.tcons (Syntax.tyInt Syntax.w64) (Syntax.tcons (Syntax.tyInt Syntax.w64)
+          (Syntax.tcons (Syntax.tyInt Syntax.w64) Syntax.tnil)))) Syntax.tnil)))))))) Syntax.tnil)))) Syntax.tnil))),
     ) ∷ (
       11,
-      Rows'.any-gone (Syntax.tyStruct
-          (103 ∷ 97 ∷ 116 ∷ 101 ∷ 58 ∷ 58 ∷ 67 ∷ 111 ∷ 117 ∷ 114 ∷ 115 ∷ 101 ∷ []) (Syntax.tcons (Syntax.tyStruct (114 ∷ 117 ∷ 108 ∷ 101 ∷ 115 ∷ 58 ∷ 58 ∷ 83 ∷ 116 ∷
-          97 ∷ 116 ∷ 101 ∷ []) (Syntax.tcons (Syntax.tyInt Syntax.w8) (Syntax.tcons (Syntax.tyStruct (102 ∷ 105 ∷ 101 ∷ 108 ∷ 100 ∷ 115 ∷ 58 ∷ 58 ∷ 83 ∷ 101 ∷ 114 ∷
-          105 ∷ 97 ∷ 108 ∷ []) (Syntax.tcons (Syntax.tyInt Syntax.w32) Syntax.tnil)) (Syntax.tcons (Syntax.tyStruct (114 ∷ 117 ∷ 108 ∷ 101 ∷ 115 ∷ 58 ∷ 58 ∷ 82 ∷ 117
-          ∷ 110 ∷ []) (Syntax.tcons Syntax.tyBool (Syntax.tcons Syntax.tyBool (Syntax.tcons Syntax.tyBool (Syntax.tcons (Syntax.tyStruct (114 ∷ 101 ∷ 115 ∷ 105 ∷ 100
-          ∷ 117 ∷ 101 ∷ 58 ∷ 58 ∷ 82 ∷ 101 ∷ 115 ∷ 105 ∷ 100 ∷ 117 ∷ 101 ∷ []) (Syntax.tcons (Syntax.tyStruct (110 ∷ 97 ∷ 109 ∷ 101 ∷ 115 ∷ 58 ∷ 58 ∷ 84 ∷ 104 ∷ 114
-          ∷ 101 ∷ 101 ∷ []) (Syntax.tcons (Syntax.tyInt Syntax.w8) (Syntax.tcons (Syntax.tyInt Syntax.w8) (Syntax.tcons (Syntax.tyInt Syntax.w8) Syntax.tnil))))
+      Rows'.any-gone (Syntax.tyStruct (103 ∷
+          97 ∷ 116 ∷ 101 ∷ 58 ∷ 58 ∷ 67 ∷ 111 ∷ 117 ∷ 114 ∷ 115 ∷ 101 ∷ []) (Syntax.tcons (Syntax.tyStruct (114 ∷ 117 ∷ 108 ∷ 101 ∷ 115 ∷ 58 ∷ 58 ∷ 83 ∷ 116 ∷ 97 ∷
+          116 ∷ 101 ∷ []) (Syntax.tcons (Syntax.tyInt Syntax.w8) (Syntax.tcons (Syntax.tyStruct (102 ∷ 105 ∷ 101 ∷ 108 ∷ 100 ∷ 115 ∷ 58 ∷ 58 ∷ 83 ∷ 101 ∷ 114 ∷ 105 ∷
+          97 ∷ 108 ∷ []) (Syntax.tcons (Syntax.tyInt Syntax.w32) Syntax.tnil)) (Syntax.tcons (Syntax.tyStruct (114 ∷ 117 ∷ 108 ∷ 101 ∷ 115 ∷ 58 ∷ 58 ∷ 82 ∷ 117 ∷ 110
+          ∷ []) (Syntax.tcons Syntax.tyBool (Syntax.tcons Syntax.tyBool (Syntax.tcons Syntax.tyBool (Syntax.tcons (Syntax.tyStruct (114 ∷ 101 ∷ 115 ∷ 105 ∷ 100 ∷ 117
+          ∷ 101 ∷ 58 ∷ 58 ∷ 82 ∷ 101 ∷ 115 ∷ 105 ∷ 100 ∷ 117 ∷ 101 ∷ []) (Syntax.tcons (Syntax.tyStruct (110 ∷ 97 ∷ 109 ∷ 101 ∷ 115 ∷ 58 ∷ 58 ∷ 84 ∷ 104 ∷ 114 ∷ 101
+          ∷ 101 ∷ []) (Syntax.tcons (Syntax.tyInt Syntax.w8) (Syntax.tcons (Syntax.tyInt Syntax.w8) (Syntax.tcons (Syntax.tyInt Syntax.w8) Syntax.tnil))))
           (Syntax.tcons (Syntax.tyInt Syntax.w8) (Syntax.tcons (Syntax.tyStruct (102 ∷ 105 ∷ 101 ∷ 108 ∷ 100 ∷ 115 ∷ 58 ∷ 58 ∷ 82 ∷ 101 ∷ 115 ∷ 105 ∷ 100 ∷ 117 ∷ 101
           ∷ 78 ∷ 117 ∷ 109 ∷ 98 ∷ 101 ∷ 114 ∷ []) (Syntax.tcons (Syntax.tyInt Syntax.w32) Syntax.tnil)) (Syntax.tcons (Syntax.tyInt Syntax.w8) Syntax.tnil)))))
           Syntax.tnil))))) (Syntax.tcons (Syntax.tyStruct (102 ∷ 105 ∷ 101 ∷ 108 ∷ 100 ∷ 115 ∷ 58 ∷ 58 ∷ 83 ∷ 101 ∷ 114 ∷ 105 ∷ 97 ∷ 108 ∷ []) (Syntax.tcons
@@ -2567,13 +2648,16 @@ t11 = (
           (Syntax.tyStruct (115 ∷ 101 ∷ 97 ∷ 114 ∷ 99 ∷ 104 ∷ 58 ∷ 58 ∷ 83 ∷ 112 ∷ 97 ∷ 110 ∷ []) (Syntax.tcons (Syntax.tyInt Syntax.w64) (Syntax.tcons (Syntax.tyInt
           Syntax.w64) Syntax.tnil))) (Syntax.tcons (Syntax.tyStruct (115 ∷ 101 ∷ 97 ∷ 114 ∷ 99 ∷ 104 ∷ 58 ∷ 58 ∷ 78 ∷ 101 ∷ 97 ∷ 114 ∷ []) (Syntax.tcons
           (Syntax.tyInt Syntax.w64) (Syntax.tcons (Syntax.tyStruct (102 ∷ 105 ∷ 101 ∷ 108 ∷ 100 ∷ 115 ∷ 58 ∷ 58 ∷ 83 ∷ 101 ∷ 114 ∷ 105 ∷ 97 ∷ 108 ∷ []) (Syntax.tcons
-          (Syntax.tyInt Syntax.w32) Syntax.tnil)) Syntax.tnil))) Syntax.tnil))) Syntax.tnil))),
-    ) ∷ (12, Rows'.any-gone SlotAs.ty) ∷ (13, Rows'.any-gone Syntax.tyBool)
-    ∷ (
+          (Syntax.tyInt Syntax.w32) Syntax.tnil)) Syntax.tnil))) Syntax.tnil))) (Syntax.tcons (Syntax.tyStruct (116 ∷ 114 ∷ 97 ∷ 105 ∷ 108 ∷ 58 ∷ 58 ∷ 87 ∷ 97 ∷ 116
+          ∷ 99 ∷ 104 ∷ []) (Syntax.tcons (Syntax.tyInt Syntax.w64) (Syntax.tcons (Syntax.tyInt Syntax.w64) (Syntax.tcons (Syntax.tyInt Syntax.w64) (Syntax.tcons
+          (Syntax.tyInt Syntax.w64) (Syntax.tcons (Syntax.tyInt Syntax.w64) (Syntax.tcons (Syntax.tyInt Syntax.w64) (Syntax.tcons (Syntax.tyStruct (97 ∷ 104 ∷ 101 ∷
+          97 ∷ 100 ∷ 58 ∷ 58 ∷ 65 ∷ 104 ∷ 101 ∷ 97 ∷ 100 ∷ []) (Syntax.tcons (Syntax.tyInt Syntax.w64) (Syntax.tcons (Syntax.tyInt Syntax.w64) (Syntax.tcons
+          (Syntax.tyInt Syntax.w64) Syntax.tnil)))) Syntax.tnil)))))))) Syntax.tnil)))),
+    ) ∷ (12, Rows'.any-gone SlotAs.ty) ∷ (13, Rows'.any-gone Syntax.tyBool) ∷ (
       14,
-      Rows'.any-gone (Syntax.tyStruct (115 ∷ 101 ∷ 97 ∷ 114 ∷ 99 ∷ 104 ∷ 58 ∷ 58 ∷ 83 ∷ 111 ∷ 117 ∷ 103 ∷ 104 ∷ 116 ∷ []) (Syntax.tcons (Syntax.tyStruct
-          (115 ∷ 101 ∷ 97 ∷ 114 ∷ 99 ∷ 104 ∷ 58 ∷ 58 ∷ 78 ∷ 101 ∷ 97 ∷ 114 ∷ []) (Syntax.tcons (Syntax.tyInt Syntax.w64) (Syntax.tcons (Syntax.tyStruct (102 ∷ 105 ∷
-          101 ∷ 108 ∷ 100 ∷ 115 ∷ 58 ∷ 58 ∷ 83 ∷ 101 ∷ 114 ∷ 105 ∷ 97 ∷ 108 ∷ []) (Syntax.tcons (Syntax.tyInt Syntax.w32) Syntax.tnil)) Syntax.tnil))) (Syntax.tcons
+      Rows'.any-gone (Syntax.tyStruct (115 ∷ 101 ∷ 97 ∷ 114 ∷ 99 ∷ 104 ∷ 58 ∷ 58 ∷ 83 ∷ 111 ∷ 117 ∷ 103 ∷ 104 ∷ 116 ∷ []) (Syntax.tcons (Syntax.tyStruct (115 ∷
+          101 ∷ 97 ∷ 114 ∷ 99 ∷ 104 ∷ 58 ∷ 58 ∷ 78 ∷ 101 ∷ 97 ∷ 114 ∷ []) (Syntax.tcons (Syntax.tyInt Syntax.w64) (Syntax.tcons (Syntax.tyStruct (102 ∷ 105 ∷ 101 ∷
+          108 ∷ 100 ∷ 115 ∷ 58 ∷ 58 ∷ 83 ∷ 101 ∷ 114 ∷ 105 ∷ 97 ∷ 108 ∷ []) (Syntax.tcons (Syntax.tyInt Syntax.w32) Syntax.tnil)) Syntax.tnil))) (Syntax.tcons
           Syntax.tyBool Syntax.tnil))),
     ) ∷ (
       15,
@@ -2793,13 +2877,17 @@ t17 = (
       (Syntax.tyStruct (115 ∷ 101 ∷ 97 ∷ 114 ∷ 99 ∷ 104 ∷ 58 ∷ 58 ∷ 83 ∷ 112 ∷ 97 ∷ 110 ∷ []) (Syntax.tcons (Syntax.tyInt Syntax.w64) (Syntax.tcons (Syntax.tyInt
       Syntax.w64) Syntax.tnil))) (Syntax.tcons (Syntax.tyStruct (115 ∷ 101 ∷ 97 ∷ 114 ∷ 99 ∷ 104 ∷ 58 ∷ 58 ∷ 78 ∷ 101 ∷ 97 ∷ 114 ∷ []) (Syntax.tcons
       (Syntax.tyInt Syntax.w64) (Syntax.tcons (Syntax.tyStruct (102 ∷ 105 ∷ 101 ∷ 108 ∷ 100 ∷ 115 ∷ 58 ∷ 58 ∷ 83 ∷ 101 ∷ 114 ∷ 105 ∷ 97 ∷ 108 ∷ []) (Syntax.tcons
-      (Syntax.tyInt Syntax.w32) Syntax.tnil)) Syntax.tnil))) Syntax.tnil))) Syntax.tnil))) Syntax.tnil))),
+      (Syntax.tyInt Syntax.w32) Syntax.tnil)) Syntax.tnil))) Syntax.tnil))) (Syntax.tcons (Syntax.tyStruct (116 ∷ 114 ∷ 97 ∷ 105 ∷ 108 ∷ 58 ∷ 58 ∷ 87 ∷ 97 ∷ 116
+      ∷ 99 ∷ 104 ∷ []) (Syntax.tcons (Syntax.tyInt Syntax.w64) (Syntax.tcons (Syntax.tyInt Syntax.w64) (Syntax.tcons (Syntax.tyInt Syntax.w64) (Syntax.tcons
+      (Syntax.tyInt Syntax.w64) (Syntax.tcons (Syntax.tyInt Syntax.w64) (Syntax.tcons (Syntax.tyInt Syntax.w64) (Syntax.tcons (Syntax.tyStruct (97 ∷ 104 ∷ 101 ∷
+      97 ∷ 100 ∷ 58 ∷ 58 ∷ 65 ∷ 104 ∷ 101 ∷ 97 ∷ 100 ∷ []) (Syntax.tcons (Syntax.tyInt Syntax.w64) (Syntax.tcons (Syntax.tyInt Syntax.w64) (Syntax.tcons
+      (Syntax.tyInt Syntax.w64) Syntax.tnil)))) Syntax.tnil)))))))) Syntax.tnil)))) Syntax.tnil))),
 ) ∷ (
   11,
-  Rows'.any-gone (Syntax.tyStruct (103 ∷ 97 ∷ 116
-      ∷ 101 ∷ 58 ∷ 58 ∷ 67 ∷ 111 ∷ 117 ∷ 114 ∷ 115 ∷ 101 ∷ []) (Syntax.tcons (Syntax.tyStruct (114 ∷ 117 ∷ 108 ∷ 101 ∷ 115 ∷ 58 ∷ 58 ∷ 83 ∷ 116 ∷ 97 ∷ 116 ∷ 101
-      ∷ []) (Syntax.tcons (Syntax.tyInt Syntax.w8) (Syntax.tcons (Syntax.tyStruct (102 ∷ 105 ∷ 101 ∷ 108 ∷ 100 ∷ 115 ∷ 58 ∷ 58 ∷ 83 ∷ 101 ∷ 114 ∷ 105 ∷ 97 ∷ 108
-      ∷ []) (Syntax.tcons (Syntax.tyInt Syntax.w32) Syntax.tnil)) (Syntax.tcons (Syntax.tyStruct (114 ∷ 117 ∷ 108 ∷ 101 ∷ 115 ∷ 58 ∷ 58 ∷ 82 ∷ 117 ∷ 110 ∷ [])
+  Rows'.any-gone (Syntax.tyStruct (103 ∷ 97 ∷ 116 ∷ 101
+      ∷ 58 ∷ 58 ∷ 67 ∷ 111 ∷ 117 ∷ 114 ∷ 115 ∷ 101 ∷ []) (Syntax.tcons (Syntax.tyStruct (114 ∷ 117 ∷ 108 ∷ 101 ∷ 115 ∷ 58 ∷ 58 ∷ 83 ∷ 116 ∷ 97 ∷ 116 ∷ 101 ∷ [])
+      (Syntax.tcons (Syntax.tyInt Syntax.w8) (Syntax.tcons (Syntax.tyStruct (102 ∷ 105 ∷ 101 ∷ 108 ∷ 100 ∷ 115 ∷ 58 ∷ 58 ∷ 83 ∷ 101 ∷ 114 ∷ 105 ∷ 97 ∷ 108 ∷ [])
+      (Syntax.tcons (Syntax.tyInt Syntax.w32) Syntax.tnil)) (Syntax.tcons (Syntax.tyStruct (114 ∷ 117 ∷ 108 ∷ 101 ∷ 115 ∷ 58 ∷ 58 ∷ 82 ∷ 117 ∷ 110 ∷ [])
       (Syntax.tcons Syntax.tyBool (Syntax.tcons Syntax.tyBool (Syntax.tcons Syntax.tyBool (Syntax.tcons (Syntax.tyStruct (114 ∷ 101 ∷ 115 ∷ 105 ∷ 100 ∷ 117 ∷ 101
       ∷ 58 ∷ 58 ∷ 82 ∷ 101 ∷ 115 ∷ 105 ∷ 100 ∷ 117 ∷ 101 ∷ []) (Syntax.tcons (Syntax.tyStruct (110 ∷ 97 ∷ 109 ∷ 101 ∷ 115 ∷ 58 ∷ 58 ∷ 84 ∷ 104 ∷ 114 ∷ 101 ∷ 101
       ∷ []) (Syntax.tcons (Syntax.tyInt Syntax.w8) (Syntax.tcons (Syntax.tyInt Syntax.w8) (Syntax.tcons (Syntax.tyInt Syntax.w8) Syntax.tnil)))) (Syntax.tcons
@@ -2817,18 +2905,23 @@ t17 = (
       ∷ 114 ∷ 99 ∷ 104 ∷ 58 ∷ 58 ∷ 83 ∷ 112 ∷ 97 ∷ 110 ∷ []) (Syntax.tcons (Syntax.tyInt Syntax.w64) (Syntax.tcons (Syntax.tyInt Syntax.w64) Syntax.tnil)))
       (Syntax.tcons (Syntax.tyStruct (115 ∷ 101 ∷ 97 ∷ 114 ∷ 99 ∷ 104 ∷ 58 ∷ 58 ∷ 78 ∷ 101 ∷ 97 ∷ 114 ∷ []) (Syntax.tcons (Syntax.tyInt Syntax.w64) (Syntax.tcons
       (Syntax.tyStruct (102 ∷ 105 ∷ 101 ∷ 108 ∷ 100 ∷ 115 ∷ 58 ∷ 58 ∷ 83 ∷ 101 ∷ 114 ∷ 105 ∷ 97 ∷ 108 ∷ []) (Syntax.tcons (Syntax.tyInt Syntax.w32) Syntax.tnil))
-      Syntax.tnil))) Syntax.tnil))) Syntax.tnil))),
+      Syntax.tnil))) Syntax.tnil))) (Syntax.tcons (Syntax.tyStruct (116 ∷ 114 ∷ 97 ∷ 105 ∷ 108 ∷ 58 ∷ 58 ∷ 87 ∷ 97 ∷ 116 ∷ 99 ∷ 104 ∷ []) (Syntax.tcons
+      (Syntax.tyInt Syntax.w64) (Syntax.tcons (Syntax.tyInt Syntax.w64) (Syntax.tcons (Syntax.tyInt Syntax.w64) (Syntax.tcons (Syntax.tyInt Syntax.w64)
+      (Syntax.tcons (Syntax.tyInt Syntax.w64) (Syntax.tcons (Syntax.tyInt Syntax.w64) (Syntax.tcons (Syntax.tyStruct (97 ∷ 104 ∷ 101 ∷ 97 ∷ 100 ∷ 58 ∷ 58 ∷ 65 ∷
+      104 ∷ 101 ∷ 97 ∷ 100 ∷ []) (Syntax.tcons (Syntax.tyInt Syntax.w64) (Syntax.tcons (Syntax.tyInt Syntax.w64) (Syntax.tcons (Syntax.tyInt Syntax.w64)
+      Syntax.tnil)))) Syntax.tnil)))))))) Syntax.tnil)))),
 ) ∷ (12, Rows'.any-gone SlotAs.ty) ∷ (13, Rows'.any-gone Syntax.tyBool) ∷ (
   14,
-  Rows'.any-gone (Syntax.tyStruct
-      (115 ∷ 101 ∷ 97 ∷ 114 ∷ 99 ∷ 104 ∷ 58 ∷ 58 ∷ 83 ∷ 111 ∷ 117 ∷ 103 ∷ 104 ∷ 116 ∷ []) (Syntax.tcons (Syntax.tyStruct (115 ∷ 101 ∷ 97 ∷ 114 ∷ 99 ∷ 104 ∷ 58 ∷
-      58 ∷ 78 ∷ 101 ∷ 97 ∷ 114 ∷ []) (Syntax.tcons (Syntax.tyInt Syntax.w64) (Syntax.tcons (Syntax.tyStruct (102 ∷ 105 ∷ 101 ∷ 108 ∷ 100 ∷ 115 ∷ 58 ∷ 58 ∷ 83 ∷
-      101 ∷ 114 ∷ 105 ∷ 97 ∷ 108 ∷ []) (Syntax.tcons (Syntax.tyInt Syntax.w32) Syntax.tnil)) Syntax.tnil))) (Syntax.tcons Syntax.tyBool Syntax.tnil))),
+  Rows'.any-gone
+      (Syntax.tyStruct (115 ∷ 101 ∷ 97 ∷ 114 ∷ 99 ∷ 104 ∷ 58 ∷ 58 ∷ 83 ∷ 111 ∷ 117 ∷ 103 ∷ 104 ∷ 116 ∷ []) (Syntax.tcons (Syntax.tyStruct (115 ∷ 101 ∷ 97 ∷ 114 ∷
+      99 ∷ 104 ∷ 58 ∷ 58 ∷ 78 ∷ 101 ∷ 97 ∷ 114 ∷ []) (Syntax.tcons (Syntax.tyInt Syntax.w64) (Syntax.tcons (Syntax.tyStruct (102 ∷ 105 ∷ 101 ∷ 108 ∷ 100 ∷ 115 ∷
+      58 ∷ 58 ∷ 83 ∷ 101 ∷ 114 ∷ 105 ∷ 97 ∷ 108 ∷ []) (Syntax.tcons (Syntax.tyInt Syntax.w32) Syntax.tnil)) Syntax.tnil))) (Syntax.tcons Syntax.tyBool
+      Syntax.tnil))),
 ) ∷ (
   15,
-  Rows'.any-gone (Syntax.tyStruct (115 ∷ 101 ∷ 97 ∷ 114 ∷ 99 ∷ 104 ∷ 58 ∷ 58 ∷ 78 ∷ 101 ∷ 97 ∷ 114 ∷ []) (Syntax.tcons (Syntax.tyInt Syntax.w64)
-      (Syntax.tcons (Syntax.tyStruct (102 ∷ 105 ∷ 101 ∷ 108 ∷ 100 ∷ 115 ∷ 58 ∷ 58 ∷ 83 ∷ 101 ∷ 114 ∷ 105 ∷ 97 ∷ 108 ∷ []) (Syntax.tcons (Syntax.tyInt Syntax.w32)
-      Syntax.tnil)) Syntax.tnil))),
+  Rows'.any-gone (Syntax.tyStruct (115 ∷ 101 ∷ 97 ∷ 114 ∷ 99 ∷ 104 ∷ 58 ∷ 58 ∷ 78 ∷ 101 ∷ 97 ∷ 114 ∷ []) (Syntax.tcons (Syntax.tyInt
+      Syntax.w64) (Syntax.tcons (Syntax.tyStruct (102 ∷ 105 ∷ 101 ∷ 108 ∷ 100 ∷ 115 ∷ 58 ∷ 58 ∷ 83 ∷ 101 ∷ 114 ∷ 105 ∷ 97 ∷ 108 ∷ []) (Syntax.tcons (Syntax.tyInt
+      Syntax.w32) Syntax.tnil)) Syntax.tnil))),
 ) ∷ []
 
 abbrev pub t18 : List.List Row.Entry
@@ -2875,18 +2968,23 @@ t18 = (
       ∷ 114 ∷ 99 ∷ 104 ∷ 58 ∷ 58 ∷ 83 ∷ 112 ∷ 97 ∷ 110 ∷ []) (Syntax.tcons (Syntax.tyInt Syntax.w64) (Syntax.tcons (Syntax.tyInt Syntax.w64) Syntax.tnil)))
       (Syntax.tcons (Syntax.tyStruct (115 ∷ 101 ∷ 97 ∷ 114 ∷ 99 ∷ 104 ∷ 58 ∷ 58 ∷ 78 ∷ 101 ∷ 97 ∷ 114 ∷ []) (Syntax.tcons (Syntax.tyInt Syntax.w64) (Syntax.tcons
       (Syntax.tyStruct (102 ∷ 105 ∷ 101 ∷ 108 ∷ 100 ∷ 115 ∷ 58 ∷ 58 ∷ 83 ∷ 101 ∷ 114 ∷ 105 ∷ 97 ∷ 108 ∷ []) (Syntax.tcons (Syntax.tyInt Syntax.w32) Syntax.tnil))
-      Syntax.tnil))) Syntax.tnil))) Syntax.tnil))),
+      Syntax.tnil))) Syntax.tnil))) (Syntax.tcons (Syntax.tyStruct (116 ∷ 114 ∷ 97 ∷ 105 ∷ 108 ∷ 58 ∷ 58 ∷ 87 ∷ 97 ∷ 116 ∷ 99 ∷ 104 ∷ []) (Syntax.tcons
+      (Syntax.tyInt Syntax.w64) (Syntax.tcons (Syntax.tyInt Syntax.w64) (Syntax.tcons (Syntax.tyInt Syntax.w64) (Syntax.tcons (Syntax.tyInt Syntax.w64)
+      (Syntax.tcons (Syntax.tyInt Syntax.w64) (Syntax.tcons (Syntax.tyInt Syntax.w64) (Syntax.tcons (Syntax.tyStruct (97 ∷ 104 ∷ 101 ∷ 97 ∷ 100 ∷ 58 ∷ 58 ∷ 65 ∷
+      104 ∷ 101 ∷ 97 ∷ 100 ∷ []) (Syntax.tcons (Syntax.tyInt Syntax.w64) (Syntax.tcons (Syntax.tyInt Syntax.w64) (Syntax.tcons (Syntax.tyInt Syntax.w64)
+      Syntax.tnil)))) Syntax.tnil)))))))) Syntax.tnil)))),
 ) ∷ (12, Rows'.any-gone SlotAs.ty) ∷ (13, Rows'.any-gone Syntax.tyBool) ∷ (
   14,
-  Rows'.any-gone (Syntax.tyStruct
-      (115 ∷ 101 ∷ 97 ∷ 114 ∷ 99 ∷ 104 ∷ 58 ∷ 58 ∷ 83 ∷ 111 ∷ 117 ∷ 103 ∷ 104 ∷ 116 ∷ []) (Syntax.tcons (Syntax.tyStruct (115 ∷ 101 ∷ 97 ∷ 114 ∷ 99 ∷ 104 ∷ 58 ∷
-      58 ∷ 78 ∷ 101 ∷ 97 ∷ 114 ∷ []) (Syntax.tcons (Syntax.tyInt Syntax.w64) (Syntax.tcons (Syntax.tyStruct (102 ∷ 105 ∷ 101 ∷ 108 ∷ 100 ∷ 115 ∷ 58 ∷ 58 ∷ 83 ∷
-      101 ∷ 114 ∷ 105 ∷ 97 ∷ 108 ∷ []) (Syntax.tcons (Syntax.tyInt Syntax.w32) Syntax.tnil)) Syntax.tnil))) (Syntax.tcons Syntax.tyBool Syntax.tnil))),
+  Rows'.any-gone
+      (Syntax.tyStruct (115 ∷ 101 ∷ 97 ∷ 114 ∷ 99 ∷ 104 ∷ 58 ∷ 58 ∷ 83 ∷ 111 ∷ 117 ∷ 103 ∷ 104 ∷ 116 ∷ []) (Syntax.tcons (Syntax.tyStruct (115 ∷ 101 ∷ 97 ∷ 114 ∷
+      99 ∷ 104 ∷ 58 ∷ 58 ∷ 78 ∷ 101 ∷ 97 ∷ 114 ∷ []) (Syntax.tcons (Syntax.tyInt Syntax.w64) (Syntax.tcons (Syntax.tyStruct (102 ∷ 105 ∷ 101 ∷ 108 ∷ 100 ∷ 115 ∷
+      58 ∷ 58 ∷ 83 ∷ 101 ∷ 114 ∷ 105 ∷ 97 ∷ 108 ∷ []) (Syntax.tcons (Syntax.tyInt Syntax.w32) Syntax.tnil)) Syntax.tnil))) (Syntax.tcons Syntax.tyBool
+      Syntax.tnil))),
 ) ∷ (
   15,
-  Rows'.any-gone (Syntax.tyStruct (115 ∷ 101 ∷ 97 ∷ 114 ∷ 99 ∷ 104 ∷ 58 ∷ 58 ∷ 78 ∷ 101 ∷ 97 ∷ 114 ∷ []) (Syntax.tcons (Syntax.tyInt Syntax.w64)
-      (Syntax.tcons (Syntax.tyStruct (102 ∷ 105 ∷ 101 ∷ 108 ∷ 100 ∷ 115 ∷ 58 ∷ 58 ∷ 83 ∷ 101 ∷ 114 ∷ 105 ∷ 97 ∷ 108 ∷ []) (Syntax.tcons (Syntax.tyInt Syntax.w32)
-      Syntax.tnil)) Syntax.tnil))),
+  Rows'.any-gone (Syntax.tyStruct (115 ∷ 101 ∷ 97 ∷ 114 ∷ 99 ∷ 104 ∷ 58 ∷ 58 ∷ 78 ∷ 101 ∷ 97 ∷ 114 ∷ []) (Syntax.tcons (Syntax.tyInt
+      Syntax.w64) (Syntax.tcons (Syntax.tyStruct (102 ∷ 105 ∷ 101 ∷ 108 ∷ 100 ∷ 115 ∷ 58 ∷ 58 ∷ 83 ∷ 101 ∷ 114 ∷ 105 ∷ 97 ∷ 108 ∷ []) (Syntax.tcons (Syntax.tyInt
+      Syntax.w32) Syntax.tnil)) Syntax.tnil))),
 ) ∷ []
 
 abbrev pub t19 : List.List Row.Entry
@@ -2926,11 +3024,15 @@ t19 = (
       ∷ 114 ∷ 99 ∷ 104 ∷ 58 ∷ 58 ∷ 83 ∷ 112 ∷ 97 ∷ 110 ∷ []) (Syntax.tcons (Syntax.tyInt Syntax.w64) (Syntax.tcons (Syntax.tyInt Syntax.w64) Syntax.tnil)))
       (Syntax.tcons (Syntax.tyStruct (115 ∷ 101 ∷ 97 ∷ 114 ∷ 99 ∷ 104 ∷ 58 ∷ 58 ∷ 78 ∷ 101 ∷ 97 ∷ 114 ∷ []) (Syntax.tcons (Syntax.tyInt Syntax.w64) (Syntax.tcons
       (Syntax.tyStruct (102 ∷ 105 ∷ 101 ∷ 108 ∷ 100 ∷ 115 ∷ 58 ∷ 58 ∷ 83 ∷ 101 ∷ 114 ∷ 105 ∷ 97 ∷ 108 ∷ []) (Syntax.tcons (Syntax.tyInt Syntax.w32) Syntax.tnil))
-      Syntax.tnil))) Syntax.tnil))) Syntax.tnil))),
+      Syntax.tnil))) Syntax.tnil))) (Syntax.tcons (Syntax.tyStruct (116 ∷ 114 ∷ 97 ∷ 105 ∷ 108 ∷ 58 ∷ 58 ∷ 87 ∷ 97 ∷ 116 ∷ 99 ∷ 104 ∷ []) (Syntax.tcons
+      (Syntax.tyInt Syntax.w64) (Syntax.tcons (Syntax.tyInt Syntax.w64) (Syntax.tcons (Syntax.tyInt Syntax.w64) (Syntax.tcons (Syntax.tyInt Syntax.w64)
+      (Syntax.tcons (Syntax.tyInt Syntax.w64) (Syntax.tcons (Syntax.tyInt Syntax.w64) (Syntax.tcons (Syntax.tyStruct (97 ∷ 104 ∷ 101 ∷ 97 ∷ 100 ∷ 58 ∷ 58 ∷ 65 ∷
+      104 ∷ 101 ∷ 97 ∷ 100 ∷ []) (Syntax.tcons (Syntax.tyInt Syntax.w64) (Syntax.tcons (Syntax.tyInt Syntax.w64) (Syntax.tcons (Syntax.tyInt Syntax.w64)
+      Syntax.tnil)))) Syntax.tnil)))))))) Syntax.tnil)))),
 ) ∷ (5, Rows'.sc-here (Row.sInt Syntax.w64)) ∷ (6, Rows'.sc-here Row.sBool) ∷ (
   7,
-  Rows'.sc-here (Row.sInt
-      Syntax.w64),
+  Rows'.sc-here
+      (Row.sInt Syntax.w64),
 ) ∷ (8, Rows'.whole (Declared'.row Near.the-type)) ∷ (9, Rows'.whole (Declared.row Line.the-type)) ∷ (
   10,
   Rows'.whole (Declared'.row
@@ -2958,18 +3060,23 @@ t19 = (
       ∷ 114 ∷ 99 ∷ 104 ∷ 58 ∷ 58 ∷ 83 ∷ 112 ∷ 97 ∷ 110 ∷ []) (Syntax.tcons (Syntax.tyInt Syntax.w64) (Syntax.tcons (Syntax.tyInt Syntax.w64) Syntax.tnil)))
       (Syntax.tcons (Syntax.tyStruct (115 ∷ 101 ∷ 97 ∷ 114 ∷ 99 ∷ 104 ∷ 58 ∷ 58 ∷ 78 ∷ 101 ∷ 97 ∷ 114 ∷ []) (Syntax.tcons (Syntax.tyInt Syntax.w64) (Syntax.tcons
       (Syntax.tyStruct (102 ∷ 105 ∷ 101 ∷ 108 ∷ 100 ∷ 115 ∷ 58 ∷ 58 ∷ 83 ∷ 101 ∷ 114 ∷ 105 ∷ 97 ∷ 108 ∷ []) (Syntax.tcons (Syntax.tyInt Syntax.w32) Syntax.tnil))
-      Syntax.tnil))) Syntax.tnil))) Syntax.tnil))),
+      Syntax.tnil))) Syntax.tnil))) (Syntax.tcons (Syntax.tyStruct (116 ∷ 114 ∷ 97 ∷ 105 ∷ 108 ∷ 58 ∷ 58 ∷ 87 ∷ 97 ∷ 116 ∷ 99 ∷ 104 ∷ []) (Syntax.tcons
+      (Syntax.tyInt Syntax.w64) (Syntax.tcons (Syntax.tyInt Syntax.w64) (Syntax.tcons (Syntax.tyInt Syntax.w64) (Syntax.tcons (Syntax.tyInt Syntax.w64)
+      (Syntax.tcons (Syntax.tyInt Syntax.w64) (Syntax.tcons (Syntax.tyInt Syntax.w64) (Syntax.tcons (Syntax.tyStruct (97 ∷ 104 ∷ 101 ∷ 97 ∷ 100 ∷ 58 ∷ 58 ∷ 65 ∷
+      104 ∷ 101 ∷ 97 ∷ 100 ∷ []) (Syntax.tcons (Syntax.tyInt Syntax.w64) (Syntax.tcons (Syntax.tyInt Syntax.w64) (Syntax.tcons (Syntax.tyInt Syntax.w64)
+      Syntax.tnil)))) Syntax.tnil)))))))) Syntax.tnil)))),
 ) ∷ (12, Rows'.any-gone SlotAs.ty) ∷ (13, Rows'.any-gone Syntax.tyBool) ∷ (
   14,
-  Rows'.any-gone (Syntax.tyStruct
-      (115 ∷ 101 ∷ 97 ∷ 114 ∷ 99 ∷ 104 ∷ 58 ∷ 58 ∷ 83 ∷ 111 ∷ 117 ∷ 103 ∷ 104 ∷ 116 ∷ []) (Syntax.tcons (Syntax.tyStruct (115 ∷ 101 ∷ 97 ∷ 114 ∷ 99 ∷ 104 ∷ 58 ∷
-      58 ∷ 78 ∷ 101 ∷ 97 ∷ 114 ∷ []) (Syntax.tcons (Syntax.tyInt Syntax.w64) (Syntax.tcons (Syntax.tyStruct (102 ∷ 105 ∷ 101 ∷ 108 ∷ 100 ∷ 115 ∷ 58 ∷ 58 ∷ 83 ∷
-      101 ∷ 114 ∷ 105 ∷ 97 ∷ 108 ∷ []) (Syntax.tcons (Syntax.tyInt Syntax.w32) Syntax.tnil)) Syntax.tnil))) (Syntax.tcons Syntax.tyBool Syntax.tnil))),
+  Rows'.any-gone
+      (Syntax.tyStruct (115 ∷ 101 ∷ 97 ∷ 114 ∷ 99 ∷ 104 ∷ 58 ∷ 58 ∷ 83 ∷ 111 ∷ 117 ∷ 103 ∷ 104 ∷ 116 ∷ []) (Syntax.tcons (Syntax.tyStruct (115 ∷ 101 ∷ 97 ∷ 114 ∷
+      99 ∷ 104 ∷ 58 ∷ 58 ∷ 78 ∷ 101 ∷ 97 ∷ 114 ∷ []) (Syntax.tcons (Syntax.tyInt Syntax.w64) (Syntax.tcons (Syntax.tyStruct (102 ∷ 105 ∷ 101 ∷ 108 ∷ 100 ∷ 115 ∷
+      58 ∷ 58 ∷ 83 ∷ 101 ∷ 114 ∷ 105 ∷ 97 ∷ 108 ∷ []) (Syntax.tcons (Syntax.tyInt Syntax.w32) Syntax.tnil)) Syntax.tnil))) (Syntax.tcons Syntax.tyBool
+      Syntax.tnil))),
 ) ∷ (
   15,
-  Rows'.any-gone (Syntax.tyStruct (115 ∷ 101 ∷ 97 ∷ 114 ∷ 99 ∷ 104 ∷ 58 ∷ 58 ∷ 78 ∷ 101 ∷ 97 ∷ 114 ∷ []) (Syntax.tcons (Syntax.tyInt Syntax.w64)
-      (Syntax.tcons (Syntax.tyStruct (102 ∷ 105 ∷ 101 ∷ 108 ∷ 100 ∷ 115 ∷ 58 ∷ 58 ∷ 83 ∷ 101 ∷ 114 ∷ 105 ∷ 97 ∷ 108 ∷ []) (Syntax.tcons (Syntax.tyInt Syntax.w32)
-      Syntax.tnil)) Syntax.tnil))),
+  Rows'.any-gone (Syntax.tyStruct (115 ∷ 101 ∷ 97 ∷ 114 ∷ 99 ∷ 104 ∷ 58 ∷ 58 ∷ 78 ∷ 101 ∷ 97 ∷ 114 ∷ []) (Syntax.tcons (Syntax.tyInt
+      Syntax.w64) (Syntax.tcons (Syntax.tyStruct (102 ∷ 105 ∷ 101 ∷ 108 ∷ 100 ∷ 115 ∷ 58 ∷ 58 ∷ 83 ∷ 101 ∷ 114 ∷ 105 ∷ 97 ∷ 108 ∷ []) (Syntax.tcons (Syntax.tyInt
+      Syntax.w32) Syntax.tnil)) Syntax.tnil))),
 ) ∷ []
 
 abbrev pub t20 : List.List Row.Entry
@@ -3009,55 +3116,64 @@ t20 = (
       ∷ 114 ∷ 99 ∷ 104 ∷ 58 ∷ 58 ∷ 83 ∷ 112 ∷ 97 ∷ 110 ∷ []) (Syntax.tcons (Syntax.tyInt Syntax.w64) (Syntax.tcons (Syntax.tyInt Syntax.w64) Syntax.tnil)))
       (Syntax.tcons (Syntax.tyStruct (115 ∷ 101 ∷ 97 ∷ 114 ∷ 99 ∷ 104 ∷ 58 ∷ 58 ∷ 78 ∷ 101 ∷ 97 ∷ 114 ∷ []) (Syntax.tcons (Syntax.tyInt Syntax.w64) (Syntax.tcons
       (Syntax.tyStruct (102 ∷ 105 ∷ 101 ∷ 108 ∷ 100 ∷ 115 ∷ 58 ∷ 58 ∷ 83 ∷ 101 ∷ 114 ∷ 105 ∷ 97 ∷ 108 ∷ []) (Syntax.tcons (Syntax.tyInt Syntax.w32) Syntax.tnil))
-      Syntax.tnil))) Syntax.tnil))) Syntax.tnil))),
+      Syntax.tnil))) Syntax.tnil))) (Syntax.tcons (Syntax.tyStruct (116 ∷ 114 ∷ 97 ∷ 105 ∷ 108 ∷ 58 ∷ 58 ∷ 87 ∷ 97 ∷ 116 ∷ 99 ∷ 104 ∷ []) (Syntax.tcons
+      (Syntax.tyInt Syntax.w64) (Syntax.tcons (Syntax.tyInt Syntax.w64) (Syntax.tcons (Syntax.tyInt Syntax.w64) (Syntax.tcons (Syntax.tyInt Syntax.w64)
+      (Syntax.tcons (Syntax.tyInt Syntax.w64) (Syntax.tcons (Syntax.tyInt Syntax.w64) (Syntax.tcons (Syntax.tyStruct (97 ∷ 104 ∷ 101 ∷ 97 ∷ 100 ∷ 58 ∷ 58 ∷ 65 ∷
+      104 ∷ 101 ∷ 97 ∷ 100 ∷ []) (Syntax.tcons (Syntax.tyInt Syntax.w64) (Syntax.tcons (Syntax.tyInt Syntax.w64) (Syntax.tcons (Syntax.tyInt Syntax.w64)
+      Syntax.tnil)))) Syntax.tnil)))))))) Syntax.tnil)))),
 ) ∷ (5, Rows'.sc-here (Row.sInt Syntax.w64)) ∷ (6, Rows'.sc-here Row.sBool) ∷ (
   7,
-  Rows'.sc-here (Row.sInt
-      Syntax.w64),
+  Rows'.sc-here
+      (Row.sInt Syntax.w64),
 ) ∷ (
   8,
-  Rows'.any-gone (Syntax.tyStruct (115 ∷ 101 ∷ 97 ∷ 114 ∷ 99 ∷ 104 ∷ 58 ∷ 58 ∷ 78 ∷ 101 ∷ 97 ∷ 114 ∷ []) (Syntax.tcons (Syntax.tyInt
-      Syntax.w64) (Syntax.tcons (Syntax.tyStruct (102 ∷ 105 ∷ 101 ∷ 108 ∷ 100 ∷ 115 ∷ 58 ∷ 58 ∷ 83 ∷ 101 ∷ 114 ∷ 105 ∷ 97 ∷ 108 ∷ []) (Syntax.tcons (Syntax.tyInt
-      Syntax.w32) Syntax.tnil)) Syntax.tnil))),
-) ∷ (9, Rows'.whole (Declared.row Line.the-type)) ∷ (10, Rows'.whole (Declared'.row Onward.the-type)) ∷ (
-  11,
-  Rows'.any-gone (Syntax.tyStruct (103 ∷ 97 ∷ 116 ∷ 101 ∷ 58 ∷ 58 ∷ 67 ∷ 111 ∷ 117 ∷ 114 ∷ 115 ∷ 101 ∷ []) (Syntax.tcons (Syntax.tyStruct (114 ∷ 117 ∷ 108 ∷
-      101 ∷ 115 ∷ 58 ∷ 58 ∷ 83 ∷ 116 ∷ 97 ∷ 116 ∷ 101 ∷ []) (Syntax.tcons (Syntax.tyInt Syntax.w8) (Syntax.tcons (Syntax.tyStruct (102 ∷ 105 ∷ 101 ∷ 108 ∷ 100 ∷
-      115 ∷ 58 ∷ 58 ∷ 83 ∷ 101 ∷ 114 ∷ 105 ∷ 97 ∷ 108 ∷ []) (Syntax.tcons (Syntax.tyInt Syntax.w32) Syntax.tnil)) (Syntax.tcons (Syntax.tyStruct (114 ∷ 117 ∷ 108
-      ∷ 101 ∷ 115 ∷ 58 ∷ 58 ∷ 82 ∷ 117 ∷ 110 ∷ []) (Syntax.tcons Syntax.tyBool (Syntax.tcons Syntax.tyBool (Syntax.tcons Syntax.tyBool (Syntax.tcons
-      (Syntax.tyStruct (114 ∷ 101 ∷ 115 ∷ 105 ∷ 100 ∷ 117 ∷ 101 ∷ 58 ∷ 58 ∷ 82 ∷ 101 ∷ 115 ∷ 105 ∷ 100 ∷ 117 ∷ 101 ∷ []) (Syntax.tcons (Syntax.tyStruct (110 ∷ 97
-      ∷ 109 ∷ 101 ∷ 115 ∷ 58 ∷ 58 ∷ 84 ∷ 104 ∷ 114 ∷ 101 ∷ 101 ∷ []) (Syntax.tcons (Syntax.tyInt Syntax.w8) (Syntax.tcons (Syntax.tyInt Syntax.w8) (Syntax.tcons
-      (Syntax.tyInt Syntax.w8) Syntax.tnil)))) (Syntax.tcons (Syntax.tyInt Syntax.w8) (Syntax.tcons (Syntax.tyStruct (102 ∷ 105 ∷ 101 ∷ 108 ∷ 100 ∷ 115 ∷ 58 ∷ 58
-      ∷ 82 ∷ 101 ∷ 115 ∷ 105 ∷ 100 ∷ 117 ∷ 101 ∷ 78 ∷ 117 ∷ 109 ∷ 98 ∷ 101 ∷ 114 ∷ []) (Syntax.tcons (Syntax.tyInt Syntax.w32) Syntax.tnil)) (Syntax.tcons
-      (Syntax.tyInt Syntax.w8) Syntax.tnil))))) Syntax.tnil))))) (Syntax.tcons (Syntax.tyStruct (102 ∷ 105 ∷ 101 ∷ 108 ∷ 100 ∷ 115 ∷ 58 ∷ 58 ∷ 83 ∷ 101 ∷ 114 ∷
-      105 ∷ 97 ∷ 108 ∷ []) (Syntax.tcons (Syntax.tyInt Syntax.w32) Syntax.tnil)) (Syntax.tcons (Syntax.tyInt Syntax.w32) (Syntax.tcons (Syntax.tyStruct (114 ∷
-      117 ∷ 108 ∷ 101 ∷ 115 ∷ 58 ∷ 58 ∷ 76 ∷ 97 ∷ 100 ∷ 100 ∷ 101 ∷ 114 ∷ []) (Syntax.tcons (Syntax.tyStruct (110 ∷ 97 ∷ 109 ∷ 101 ∷ 115 ∷ 58 ∷ 58 ∷ 84 ∷ 104 ∷
-      114 ∷ 101 ∷ 101 ∷ []) (Syntax.tcons (Syntax.tyInt Syntax.w8) (Syntax.tcons (Syntax.tyInt Syntax.w8) (Syntax.tcons (Syntax.tyInt Syntax.w8) Syntax.tnil))))
-      (Syntax.tcons (Syntax.tyInt Syntax.w32) (Syntax.tcons (Syntax.tyInt Syntax.w32) Syntax.tnil)))) (Syntax.tcons (Syntax.tyStruct (112 ∷ 108 ∷ 97 ∷ 99 ∷ 101 ∷
-      115 ∷ 58 ∷ 58 ∷ 67 ∷ 111 ∷ 117 ∷ 110 ∷ 116 ∷ 115 ∷ []) (Syntax.tcons (Syntax.tyInt Syntax.w64) (Syntax.tcons (Syntax.tyInt Syntax.w64) (Syntax.tcons
-      (Syntax.tyInt Syntax.w64) (Syntax.tcons (Syntax.tyInt Syntax.w64) (Syntax.tcons (Syntax.tyInt Syntax.w64) (Syntax.tcons (Syntax.tyInt Syntax.w64)
-      (Syntax.tcons (Syntax.tyInt Syntax.w64) (Syntax.tcons (Syntax.tyInt Syntax.w64) (Syntax.tcons (Syntax.tyInt Syntax.w64) Syntax.tnil)))))))))) (Syntax.tcons
-      (Syntax.tyInt Syntax.w64) Syntax.tnil))))))))) (Syntax.tcons (Syntax.tyStruct (115 ∷ 101 ∷ 114 ∷ 105 ∷ 97 ∷ 108 ∷ 115 ∷ 58 ∷ 58 ∷ 80 ∷ 97 ∷ 115 ∷ 116 ∷ [])
-      (Syntax.tcons (Syntax.tyStruct (115 ∷ 101 ∷ 97 ∷ 114 ∷ 99 ∷ 104 ∷ 58 ∷ 58 ∷ 83 ∷ 112 ∷ 97 ∷ 110 ∷ []) (Syntax.tcons (Syntax.tyInt Syntax.w64) (Syntax.tcons
-      (Syntax.tyInt Syntax.w64) Syntax.tnil))) (Syntax.tcons (Syntax.tyStruct (115 ∷ 101 ∷ 97 ∷ 114 ∷ 99 ∷ 104 ∷ 58 ∷ 58 ∷ 78 ∷ 101 ∷ 97 ∷ 114 ∷ [])
-      (Syntax.tcons (Syntax.tyInt Syntax.w64) (Syntax.tcons (Syntax.tyStruct (102 ∷ 105 ∷ 101 ∷ 108 ∷ 100 ∷ 115 ∷ 58 ∷ 58 ∷ 83 ∷ 101 ∷ 114 ∷ 105 ∷ 97 ∷ 108 ∷ [])
-      (Syntax.tcons (Syntax.tyInt Syntax.w32) Syntax.tnil)) Syntax.tnil))) Syntax.tnil))) Syntax.tnil))),
-) ∷ (12, Rows'.any-gone SlotAs.ty) ∷ (
-  13,
-  Rows'.any-gone
-      Syntax.tyBool,
-) ∷ (
-  14,
-  Rows'.any-gone (Syntax.tyStruct (115 ∷ 101 ∷ 97 ∷ 114 ∷ 99 ∷ 104 ∷ 58 ∷ 58 ∷ 83 ∷ 111 ∷ 117 ∷ 103 ∷ 104 ∷ 116 ∷ []) (Syntax.tcons
-      (Syntax.tyStruct (115 ∷ 101 ∷ 97 ∷ 114 ∷ 99 ∷ 104 ∷ 58 ∷ 58 ∷ 78 ∷ 101 ∷ 97 ∷ 114 ∷ []) (Syntax.tcons (Syntax.tyInt Syntax.w64) (Syntax.tcons
-      (Syntax.tyStruct (102 ∷ 105 ∷ 101 ∷ 108 ∷ 100 ∷ 115 ∷ 58 ∷ 58 ∷ 83 ∷ 101 ∷ 114 ∷ 105 ∷ 97 ∷ 108 ∷ []) (Syntax.tcons (Syntax.tyInt Syntax.w32) Syntax.tnil))
-      Syntax.tnil))) (Syntax.tcons Syntax.tyBool Syntax.tnil))),
-) ∷ (
-  15,
-  Rows'.any-gone (Syntax.tyStruct (115 ∷ 101 ∷ 97 ∷ 114 ∷ 99 ∷ 104 ∷ 58 ∷ 58 ∷ 78 ∷ 101 ∷
-      97 ∷ 114 ∷ []) (Syntax.tcons (Syntax.tyInt Syntax.w64) (Syntax.tcons (Syntax.tyStruct (102 ∷ 105 ∷ 101 ∷ 108 ∷ 100 ∷ 115 ∷ 58 ∷ 58 ∷ 83 ∷ 101 ∷ 114 ∷ 105 ∷
-      97 ∷ 108 ∷ []) (Syntax.tcons (Syntax.tyInt Syntax.w32) Syntax.tnil)) Syntax.tnil))),
-) ∷ []
+  Rows'.any-gone (Syntax.tyStruct (115 ∷ 101 ∷ 97 ∷ 114 ∷ 99 ∷ 104 ∷ 58 ∷ 58 ∷ 78 ∷ 101 ∷ 97 ∷ 114 ∷ []) (Syntax.tcons
+      (Syntax.tyInt Syntax.w64) (Syntax.tcons (Syntax.tyStruct (102 ∷ 105 ∷ 101 ∷ 108 ∷ 100 ∷ 115 ∷ 58 ∷ 58 ∷ 83 ∷ 101 ∷ 114 ∷ 105 ∷ 97 ∷ 108 ∷ []) (Syntax.tcons
+      (Syntax.tyInt Syntax.w32) Syntax.tnil)) Syntax.tnil))),
+) ∷ (9, Rows'.whole (Declared.row Line.the-type)) ∷ (10, Rows'.whole (Declared'.row Onward.the-type))
+    ∷ (
+      11,
+      Rows'.any-gone (Syntax.tyStruct (103 ∷ 97 ∷ 116 ∷ 101 ∷ 58 ∷ 58 ∷ 67 ∷ 111 ∷ 117 ∷ 114 ∷ 115 ∷ 101 ∷ []) (Syntax.tcons (Syntax.tyStruct (114 ∷ 117 ∷
+          108 ∷ 101 ∷ 115 ∷ 58 ∷ 58 ∷ 83 ∷ 116 ∷ 97 ∷ 116 ∷ 101 ∷ []) (Syntax.tcons (Syntax.tyInt Syntax.w8) (Syntax.tcons (Syntax.tyStruct (102 ∷ 105 ∷ 101 ∷ 108 ∷
+          100 ∷ 115 ∷ 58 ∷ 58 ∷ 83 ∷ 101 ∷ 114 ∷ 105 ∷ 97 ∷ 108 ∷ []) (Syntax.tcons (Syntax.tyInt Syntax.w32) Syntax.tnil)) (Syntax.tcons (Syntax.tyStruct (114 ∷ 117
+          ∷ 108 ∷ 101 ∷ 115 ∷ 58 ∷ 58 ∷ 82 ∷ 117 ∷ 110 ∷ []) (Syntax.tcons Syntax.tyBool (Syntax.tcons Syntax.tyBool (Syntax.tcons Syntax.tyBool (Syntax.tcons
+          (Syntax.tyStruct (114 ∷ 101 ∷ 115 ∷ 105 ∷ 100 ∷ 117 ∷ 101 ∷ 58 ∷ 58 ∷ 82 ∷ 101 ∷ 115 ∷ 105 ∷ 100 ∷ 117 ∷ 101 ∷ []) (Syntax.tcons (Syntax.tyStruct (110 ∷ 97
+          ∷ 109 ∷ 101 ∷ 115 ∷ 58 ∷ 58 ∷ 84 ∷ 104 ∷ 114 ∷ 101 ∷ 101 ∷ []) (Syntax.tcons (Syntax.tyInt Syntax.w8) (Syntax.tcons (Syntax.tyInt Syntax.w8) (Syntax.tcons
+          (Syntax.tyInt Syntax.w8) Syntax.tnil)))) (Syntax.tcons (Syntax.tyInt Syntax.w8) (Syntax.tcons (Syntax.tyStruct (102 ∷ 105 ∷ 101 ∷ 108 ∷ 100 ∷ 115 ∷ 58 ∷ 58
+          ∷ 82 ∷ 101 ∷ 115 ∷ 105 ∷ 100 ∷ 117 ∷ 101 ∷ 78 ∷ 117 ∷ 109 ∷ 98 ∷ 101 ∷ 114 ∷ []) (Syntax.tcons (Syntax.tyInt Syntax.w32) Syntax.tnil)) (Syntax.tcons
+          (Syntax.tyInt Syntax.w8) Syntax.tnil))))) Syntax.tnil))))) (Syntax.tcons (Syntax.tyStruct (102 ∷ 105 ∷ 101 ∷ 108 ∷ 100 ∷ 115 ∷ 58 ∷ 58 ∷ 83 ∷ 101 ∷ 114 ∷
+          105 ∷ 97 ∷ 108 ∷ []) (Syntax.tcons (Syntax.tyInt Syntax.w32) Syntax.tnil)) (Syntax.tcons (Syntax.tyInt Syntax.w32) (Syntax.tcons (Syntax.tyStruct (114 ∷
+          117 ∷ 108 ∷ 101 ∷ 115 ∷ 58 ∷ 58 ∷ 76 ∷ 97 ∷ 100 ∷ 100 ∷ 101 ∷ 114 ∷ []) (Syntax.tcons (Syntax.tyStruct (110 ∷ 97 ∷ 109 ∷ 101 ∷ 115 ∷ 58 ∷ 58 ∷ 84 ∷ 104 ∷
+          114 ∷ 101 ∷ 101 ∷ []) (Syntax.tcons (Syntax.tyInt Syntax.w8) (Syntax.tcons (Syntax.tyInt Syntax.w8) (Syntax.tcons (Syntax.tyInt Syntax.w8) Syntax.tnil))))
+          (Syntax.tcons (Syntax.tyInt Syntax.w32) (Syntax.tcons (Syntax.tyInt Syntax.w32) Syntax.tnil)))) (Syntax.tcons (Syntax.tyStruct (112 ∷ 108 ∷ 97 ∷ 99 ∷ 101 ∷
+          115 ∷ 58 ∷ 58 ∷ 67 ∷ 111 ∷ 117 ∷ 110 ∷ 116 ∷ 115 ∷ []) (Syntax.tcons (Syntax.tyInt Syntax.w64) (Syntax.tcons (Syntax.tyInt Syntax.w64) (Syntax.tcons
+          (Syntax.tyInt Syntax.w64) (Syntax.tcons (Syntax.tyInt Syntax.w64) (Syntax.tcons (Syntax.tyInt Syntax.w64) (Syntax.tcons (Syntax.tyInt Syntax.w64)
+          (Syntax.tcons (Syntax.tyInt Syntax.w64) (Syntax.tcons (Syntax.tyInt Syntax.w64) (Syntax.tcons (Syntax.tyInt Syntax.w64) Syntax.tnil)))))))))) (Syntax.tcons
+          (Syntax.tyInt Syntax.w64) Syntax.tnil))))))))) (Syntax.tcons (Syntax.tyStruct (115 ∷ 101 ∷ 114 ∷ 105 ∷ 97 ∷ 108 ∷ 115 ∷ 58 ∷ 58 ∷ 80 ∷ 97 ∷ 115 ∷ 116 ∷ [])
+          (Syntax.tcons (Syntax.tyStruct (115 ∷ 101 ∷ 97 ∷ 114 ∷ 99 ∷ 104 ∷ 58 ∷ 58 ∷ 83 ∷ 112 ∷ 97 ∷ 110 ∷ []) (Syntax.tcons (Syntax.tyInt Syntax.w64) (Syntax.tcons
+          (Syntax.tyInt Syntax.w64) Syntax.tnil))) (Syntax.tcons (Syntax.tyStruct (115 ∷ 101 ∷ 97 ∷ 114 ∷ 99 ∷ 104 ∷ 58 ∷ 58 ∷ 78 ∷ 101 ∷ 97 ∷ 114 ∷ [])
+          (Syntax.tcons (Syntax.tyInt Syntax.w64) (Syntax.tcons (Syntax.tyStruct (102 ∷ 105 ∷ 101 ∷ 108 ∷ 100 ∷ 115 ∷ 58 ∷ 58 ∷ 83 ∷ 101 ∷ 114 ∷ 105 ∷ 97 ∷ 108 ∷ [])
+          (Syntax.tcons (Syntax.tyInt Syntax.w32) Syntax.tnil)) Syntax.tnil))) Syntax.tnil))) (Syntax.tcons (Syntax.tyStruct (116 ∷ 114 ∷ 97 ∷ 105 ∷ 108 ∷ 58 ∷ 58 ∷
+          87 ∷ 97 ∷ 116 ∷ 99 ∷ 104 ∷ []) (Syntax.tcons (Syntax.tyInt Syntax.w64) (Syntax.tcons (Syntax.tyInt Syntax.w64) (Syntax.tcons (Syntax.tyInt Syntax.w64)
+          (Syntax.tcons (Syntax.tyInt Syntax.w64) (Syntax.tcons (Syntax.tyInt Syntax.w64) (Syntax.tcons (Syntax.tyInt Syntax.w64) (Syntax.tcons (Syntax.tyStruct (97
+          ∷ 104 ∷ 101 ∷ 97 ∷ 100 ∷ 58 ∷ 58 ∷ 65 ∷ 104 ∷ 101 ∷ 97 ∷ 100 ∷ []) (Syntax.tcons (Syntax.tyInt Syntax.w64) (Syntax.tcons (Syntax.tyInt Syntax.w64)
+          (Syntax.tcons (Syntax.tyInt Syntax.w64) Syntax.tnil)))) Syntax.tnil)))))))) Syntax.tnil)))),
+    ) ∷ (12, Rows'.any-gone SlotAs.ty) ∷ (
+      13,
+      Rows'.any-gone
+          Syntax.tyBool,
+    ) ∷ (
+      14,
+      Rows'.any-gone (Syntax.tyStruct (115 ∷ 101 ∷ 97 ∷ 114 ∷ 99 ∷ 104 ∷ 58 ∷ 58 ∷ 83 ∷ 111 ∷ 117 ∷ 103 ∷ 104 ∷ 116 ∷ []) (Syntax.tcons
+          (Syntax.tyStruct (115 ∷ 101 ∷ 97 ∷ 114 ∷ 99 ∷ 104 ∷ 58 ∷ 58 ∷ 78 ∷ 101 ∷ 97 ∷ 114 ∷ []) (Syntax.tcons (Syntax.tyInt Syntax.w64) (Syntax.tcons
+          (Syntax.tyStruct (102 ∷ 105 ∷ 101 ∷ 108 ∷ 100 ∷ 115 ∷ 58 ∷ 58 ∷ 83 ∷ 101 ∷ 114 ∷ 105 ∷ 97 ∷ 108 ∷ []) (Syntax.tcons (Syntax.tyInt Syntax.w32) Syntax.tnil))
+          Syntax.tnil))) (Syntax.tcons Syntax.tyBool Syntax.tnil))),
+    ) ∷ (
+      15,
+      Rows'.any-gone (Syntax.tyStruct (115 ∷ 101 ∷ 97 ∷ 114 ∷ 99 ∷ 104 ∷ 58 ∷ 58 ∷ 78 ∷ 101 ∷
+          97 ∷ 114 ∷ []) (Syntax.tcons (Syntax.tyInt Syntax.w64) (Syntax.tcons (Syntax.tyStruct (102 ∷ 105 ∷ 101 ∷ 108 ∷ 100 ∷ 115 ∷ 58 ∷ 58 ∷ 83 ∷ 101 ∷ 114 ∷ 105 ∷
+          97 ∷ 108 ∷ []) (Syntax.tcons (Syntax.tyInt Syntax.w32) Syntax.tnil)) Syntax.tnil))),
+    ) ∷ []
 
 abbrev pub t21 : List.List Row.Entry
 t21 = (
@@ -3096,43 +3212,47 @@ t21 = (
       ∷ 114 ∷ 99 ∷ 104 ∷ 58 ∷ 58 ∷ 83 ∷ 112 ∷ 97 ∷ 110 ∷ []) (Syntax.tcons (Syntax.tyInt Syntax.w64) (Syntax.tcons (Syntax.tyInt Syntax.w64) Syntax.tnil)))
       (Syntax.tcons (Syntax.tyStruct (115 ∷ 101 ∷ 97 ∷ 114 ∷ 99 ∷ 104 ∷ 58 ∷ 58 ∷ 78 ∷ 101 ∷ 97 ∷ 114 ∷ []) (Syntax.tcons (Syntax.tyInt Syntax.w64) (Syntax.tcons
       (Syntax.tyStruct (102 ∷ 105 ∷ 101 ∷ 108 ∷ 100 ∷ 115 ∷ 58 ∷ 58 ∷ 83 ∷ 101 ∷ 114 ∷ 105 ∷ 97 ∷ 108 ∷ []) (Syntax.tcons (Syntax.tyInt Syntax.w32) Syntax.tnil))
-      Syntax.tnil))) Syntax.tnil))) Syntax.tnil))),
+      Syntax.tnil))) Syntax.tnil))) (Syntax.tcons (Syntax.tyStruct (116 ∷ 114 ∷ 97 ∷ 105 ∷ 108 ∷ 58 ∷ 58 ∷ 87 ∷ 97 ∷ 116 ∷ 99 ∷ 104 ∷ []) (Syntax.tcons
+      (Syntax.tyInt Syntax.w64) (Syntax.tcons (Syntax.tyInt Syntax.w64) (Syntax.tcons (Syntax.tyInt Syntax.w64) (Syntax.tcons (Syntax.tyInt Syntax.w64)
+      (Syntax.tcons (Syntax.tyInt Syntax.w64) (Syntax.tcons (Syntax.tyInt Syntax.w64) (Syntax.tcons (Syntax.tyStruct (97 ∷ 104 ∷ 101 ∷ 97 ∷ 100 ∷ 58 ∷ 58 ∷ 65 ∷
+      104 ∷ 101 ∷ 97 ∷ 100 ∷ []) (Syntax.tcons (Syntax.tyInt Syntax.w64) (Syntax.tcons (Syntax.tyInt Syntax.w64) (Syntax.tcons (Syntax.tyInt Syntax.w64)
+      Syntax.tnil)))) Syntax.tnil)))))))) Syntax.tnil)))),
 ) ∷ (5, Rows'.sc-here (Row.sInt Syntax.w64)) ∷ (6, Rows'.sc-here Row.sBool) ∷ (
   7,
-  Rows'.sc-here (Row.sInt
-      Syntax.w64),
+  Rows'.sc-here
+      (Row.sInt Syntax.w64),
 ) ∷ (
   8,
-  Rows'.any-gone (Syntax.tyStruct (115 ∷ 101 ∷ 97 ∷ 114 ∷ 99 ∷ 104 ∷ 58 ∷ 58 ∷ 78 ∷ 101 ∷ 97 ∷ 114 ∷ []) (Syntax.tcons (Syntax.tyInt
-      Syntax.w64) (Syntax.tcons (Syntax.tyStruct (102 ∷ 105 ∷ 101 ∷ 108 ∷ 100 ∷ 115 ∷ 58 ∷ 58 ∷ 83 ∷ 101 ∷ 114 ∷ 105 ∷ 97 ∷ 108 ∷ []) (Syntax.tcons (Syntax.tyInt
-      Syntax.w32) Syntax.tnil)) Syntax.tnil))),
+  Rows'.any-gone (Syntax.tyStruct (115 ∷ 101 ∷ 97 ∷ 114 ∷ 99 ∷ 104 ∷ 58 ∷ 58 ∷ 78 ∷ 101 ∷ 97 ∷ 114 ∷ []) (Syntax.tcons
+      (Syntax.tyInt Syntax.w64) (Syntax.tcons (Syntax.tyStruct (102 ∷ 105 ∷ 101 ∷ 108 ∷ 100 ∷ 115 ∷ 58 ∷ 58 ∷ 83 ∷ 101 ∷ 114 ∷ 105 ∷ 97 ∷ 108 ∷ []) (Syntax.tcons
+      (Syntax.tyInt Syntax.w32) Syntax.tnil)) Syntax.tnil))),
 ) ∷ (
   9,
-  Rows'.any-gone (Syntax.tyEnum (112 ∷ 105 ∷ 101 ∷ 99 ∷ 101 ∷ 115 ∷ 58 ∷ 58 ∷ 76 ∷ 105 ∷ 110 ∷ 101 ∷ [])
-      (Syntax.ttcons (Syntax.tcons (Syntax.tyInt Syntax.w8) Syntax.tnil) (Syntax.ttcons (Syntax.tcons (Syntax.tyEnum (107 ∷ 105 ∷ 110 ∷ 100 ∷ 115 ∷ 58 ∷ 58 ∷ 75
-      ∷ 105 ∷ 110 ∷ 100 ∷ []) (Syntax.ttcons Syntax.tnil (Syntax.ttcons Syntax.tnil (Syntax.ttcons Syntax.tnil (Syntax.ttcons Syntax.tnil (Syntax.ttcons
-      Syntax.tnil (Syntax.ttcons Syntax.tnil (Syntax.ttcons Syntax.tnil (Syntax.ttcons Syntax.tnil (Syntax.ttcons Syntax.tnil (Syntax.ttcons Syntax.tnil
-      (Syntax.ttcons Syntax.tnil (Syntax.ttcons Syntax.tnil (Syntax.ttcons Syntax.tnil (Syntax.ttcons Syntax.tnil (Syntax.ttcons Syntax.tnil (Syntax.ttcons
-      Syntax.tnil (Syntax.ttcons Syntax.tnil (Syntax.ttcons Syntax.tnil (Syntax.ttcons Syntax.tnil (Syntax.ttcons Syntax.tnil (Syntax.ttcons Syntax.tnil
-      (Syntax.ttcons Syntax.tnil (Syntax.ttcons Syntax.tnil (Syntax.ttcons Syntax.tnil (Syntax.ttcons Syntax.tnil (Syntax.ttcons Syntax.tnil (Syntax.ttcons
-      Syntax.tnil (Syntax.ttcons Syntax.tnil Syntax.ttnil))))))))))))))))))))))))))))) (Syntax.tcons (Syntax.tyInt Syntax.w32) Syntax.tnil)) (Syntax.ttcons
-      (Syntax.tcons (Syntax.tyEnum (107 ∷ 105 ∷ 110 ∷ 100 ∷ 115 ∷ 58 ∷ 58 ∷ 75 ∷ 105 ∷ 110 ∷ 100 ∷ []) (Syntax.ttcons Syntax.tnil (Syntax.ttcons Syntax.tnil
+  Rows'.any-gone (Syntax.tyEnum (112 ∷ 105 ∷ 101 ∷ 99 ∷ 101 ∷ 115 ∷ 58 ∷ 58 ∷ 76 ∷ 105 ∷ 110 ∷
+      101 ∷ []) (Syntax.ttcons (Syntax.tcons (Syntax.tyInt Syntax.w8) Syntax.tnil) (Syntax.ttcons (Syntax.tcons (Syntax.tyEnum (107 ∷ 105 ∷ 110 ∷ 100 ∷ 115 ∷ 58
+      ∷ 58 ∷ 75 ∷ 105 ∷ 110 ∷ 100 ∷ []) (Syntax.ttcons Syntax.tnil (Syntax.ttcons Syntax.tnil (Syntax.ttcons Syntax.tnil (Syntax.ttcons Syntax.tnil
       (Syntax.ttcons Syntax.tnil (Syntax.ttcons Syntax.tnil (Syntax.ttcons Syntax.tnil (Syntax.ttcons Syntax.tnil (Syntax.ttcons Syntax.tnil (Syntax.ttcons
       Syntax.tnil (Syntax.ttcons Syntax.tnil (Syntax.ttcons Syntax.tnil (Syntax.ttcons Syntax.tnil (Syntax.ttcons Syntax.tnil (Syntax.ttcons Syntax.tnil
       (Syntax.ttcons Syntax.tnil (Syntax.ttcons Syntax.tnil (Syntax.ttcons Syntax.tnil (Syntax.ttcons Syntax.tnil (Syntax.ttcons Syntax.tnil (Syntax.ttcons
       Syntax.tnil (Syntax.ttcons Syntax.tnil (Syntax.ttcons Syntax.tnil (Syntax.ttcons Syntax.tnil (Syntax.ttcons Syntax.tnil (Syntax.ttcons Syntax.tnil
-      (Syntax.ttcons Syntax.tnil (Syntax.ttcons Syntax.tnil (Syntax.ttcons Syntax.tnil (Syntax.ttcons Syntax.tnil Syntax.ttnil)))))))))))))))))))))))))))))
-      Syntax.tnil) (Syntax.ttcons (Syntax.tcons (Syntax.tyEnum (108 ∷ 105 ∷ 110 ∷ 101 ∷ 58 ∷ 58 ∷ 82 ∷ 101 ∷ 99 ∷ 111 ∷ 114 ∷ 100 ∷ []) (Syntax.ttcons
-      (Syntax.tcons Syntax.tyBool (Syntax.tcons (Syntax.tyStruct (99 ∷ 111 ∷ 111 ∷ 114 ∷ 100 ∷ 105 ∷ 110 ∷ 97 ∷ 116 ∷ 101 ∷ 58 ∷ 58 ∷ 65 ∷ 116 ∷ 111 ∷ 109 ∷ [])
-      (Syntax.tcons (Syntax.tyStruct (99 ∷ 111 ∷ 111 ∷ 114 ∷ 100 ∷ 105 ∷ 110 ∷ 97 ∷ 116 ∷ 101 ∷ 58 ∷ 58 ∷ 73 ∷ 100 ∷ 101 ∷ 110 ∷ 116 ∷ 105 ∷ 116 ∷ 121 ∷ [])
-      (Syntax.tcons (Syntax.tyStruct (102 ∷ 105 ∷ 101 ∷ 108 ∷ 100 ∷ 115 ∷ 58 ∷ 58 ∷ 83 ∷ 101 ∷ 114 ∷ 105 ∷ 97 ∷ 108 ∷ []) (Syntax.tcons (Syntax.tyInt Syntax.w32)
-      Syntax.tnil)) (Syntax.tcons (Syntax.tyStruct (110 ∷ 97 ∷ 109 ∷ 101 ∷ 115 ∷ 58 ∷ 58 ∷ 70 ∷ 111 ∷ 117 ∷ 114 ∷ []) (Syntax.tcons (Syntax.tyInt Syntax.w8)
-      (Syntax.tcons (Syntax.tyInt Syntax.w8) (Syntax.tcons (Syntax.tyInt Syntax.w8) (Syntax.tcons (Syntax.tyInt Syntax.w8) Syntax.tnil))))) (Syntax.tcons
-      (Syntax.tyInt Syntax.w8) (Syntax.tcons (Syntax.tyStruct (114 ∷ 101 ∷ 115 ∷ 105 ∷ 100 ∷ 117 ∷ 101 ∷ 58 ∷ 58 ∷ 82 ∷ 101 ∷ 115 ∷ 105 ∷ 100 ∷ 117 ∷ 101 ∷ [])
-      (Syntax.tcons (Syntax.tyStruct (110 ∷ 97 ∷ 109 ∷ 101 ∷ 115 ∷ 58 ∷ 58 ∷ 84 ∷ 104 ∷ 114 ∷ 101 ∷ 101 ∷ []) (Syntax.tcons (Syntax.tyInt Syntax.w8)
-      (Syntax.tcons (Syntax.tyInt Syntax.w8) (Syntax.tcons (Syntax.tyInt Syntax.w8) Syntax.tnil)))) (Syntax.tcons (Syntax.tyInt Syntax.w8) (Syntax.tcons
-      (Syntax.tyStruct (102 ∷ 105 ∷ 101 ∷ 108 ∷ 100 ∷ 115 ∷ 58 ∷ 58 ∷ 82 ∷ 101 ∷ 115 ∷ 105 ∷ 100 ∷ 117 ∷ 101 ∷ 78 ∷ 117 ∷ 109 ∷ 98 ∷ 101 ∷ 114 ∷ [])
-      (Syntax.tcons (Syntax.tyInt Syntax.w32) Syntax.tnil)) (Syntax.tcons (Syntax.tyInt Syntax.w8) Syntax.tnil))))) Syntax.tnil))))) (Syntax.tcons
+      (Syntax.ttcons Syntax.tnil (Syntax.ttcons Syntax.tnil Syntax.ttnil))))))))))))))))))))))))))))) (Syntax.tcons (Syntax.tyInt Syntax.w32) Syntax.tnil))
+      (Syntax.ttcons (Syntax.tcons (Syntax.tyEnum (107 ∷ 105 ∷ 110 ∷ 100 ∷ 115 ∷ 58 ∷ 58 ∷ 75 ∷ 105 ∷ 110 ∷ 100 ∷ []) (Syntax.ttcons Syntax.tnil (Syntax.ttcons
+      Syntax.tnil (Syntax.ttcons Syntax.tnil (Syntax.ttcons Syntax.tnil (Syntax.ttcons Syntax.tnil (Syntax.ttcons Syntax.tnil (Syntax.ttcons Syntax.tnil
+      (Syntax.ttcons Syntax.tnil (Syntax.ttcons Syntax.tnil (Syntax.ttcons Syntax.tnil (Syntax.ttcons Syntax.tnil (Syntax.ttcons Syntax.tnil (Syntax.ttcons
+      Syntax.tnil (Syntax.ttcons Syntax.tnil (Syntax.ttcons Syntax.tnil (Syntax.ttcons Syntax.tnil (Syntax.ttcons Syntax.tnil (Syntax.ttcons Syntax.tnil
+      (Syntax.ttcons Syntax.tnil (Syntax.ttcons Syntax.tnil (Syntax.ttcons Syntax.tnil (Syntax.ttcons Syntax.tnil (Syntax.ttcons Syntax.tnil (Syntax.ttcons
+      Syntax.tnil (Syntax.ttcons Syntax.tnil (Syntax.ttcons Syntax.tnil (Syntax.ttcons Syntax.tnil (Syntax.ttcons Syntax.tnil
+      Syntax.ttnil))))))))))))))))))))))))))))) Syntax.tnil) (Syntax.ttcons (Syntax.tcons (Syntax.tyEnum (108 ∷ 105 ∷ 110 ∷ 101 ∷ 58 ∷ 58 ∷ 82 ∷ 101 ∷ 99 ∷ 111 ∷
+      114 ∷ 100 ∷ []) (Syntax.ttcons (Syntax.tcons Syntax.tyBool (Syntax.tcons (Syntax.tyStruct (99 ∷ 111 ∷ 111 ∷ 114 ∷ 100 ∷ 105 ∷ 110 ∷ 97 ∷ 116 ∷ 101 ∷ 58 ∷
+      58 ∷ 65 ∷ 116 ∷ 111 ∷ 109 ∷ []) (Syntax.tcons (Syntax.tyStruct (99 ∷ 111 ∷ 111 ∷ 114 ∷ 100 ∷ 105 ∷ 110 ∷ 97 ∷ 116 ∷ 101 ∷ 58 ∷ 58 ∷ 73 ∷ 100 ∷ 101 ∷ 110 ∷
+      116 ∷ 105 ∷ 116 ∷ 121 ∷ []) (Syntax.tcons (Syntax.tyStruct (102 ∷ 105 ∷ 101 ∷ 108 ∷ 100 ∷ 115 ∷ 58 ∷ 58 ∷ 83 ∷ 101 ∷ 114 ∷ 105 ∷ 97 ∷ 108 ∷ [])
+      (Syntax.tcons (Syntax.tyInt Syntax.w32) Syntax.tnil)) (Syntax.tcons (Syntax.tyStruct (110 ∷ 97 ∷ 109 ∷ 101 ∷ 115 ∷ 58 ∷ 58 ∷ 70 ∷ 111 ∷ 117 ∷ 114 ∷ [])
+      (Syntax.tcons (Syntax.tyInt Syntax.w8) (Syntax.tcons (Syntax.tyInt Syntax.w8) (Syntax.tcons (Syntax.tyInt Syntax.w8) (Syntax.tcons (Syntax.tyInt Syntax.w8)
+      Syntax.tnil))))) (Syntax.tcons (Syntax.tyInt Syntax.w8) (Syntax.tcons (Syntax.tyStruct (114 ∷ 101 ∷ 115 ∷ 105 ∷ 100 ∷ 117 ∷ 101 ∷ 58 ∷ 58 ∷ 82 ∷ 101 ∷ 115
+      ∷ 105 ∷ 100 ∷ 117 ∷ 101 ∷ []) (Syntax.tcons (Syntax.tyStruct (110 ∷ 97 ∷ 109 ∷ 101 ∷ 115 ∷ 58 ∷ 58 ∷ 84 ∷ 104 ∷ 114 ∷ 101 ∷ 101 ∷ []) (Syntax.tcons
+      (Syntax.tyInt Syntax.w8) (Syntax.tcons (Syntax.tyInt Syntax.w8) (Syntax.tcons (Syntax.tyInt Syntax.w8) Syntax.tnil)))) (Syntax.tcons (Syntax.tyInt
+      Syntax.w8) (Syntax.tcons (Syntax.tyStruct (102 ∷ 105 ∷ 101 ∷ 108 ∷ 100 ∷ 115 ∷ 58 ∷ 58 ∷ 82 ∷ 101 ∷ 115 ∷ 105 ∷ 100 ∷ 117 ∷ 101 ∷ 78 ∷ 117 ∷ 109 ∷ 98 ∷ 101
+      ∷ 114 ∷ []) (Syntax.tcons (Syntax.tyInt Syntax.w32) Syntax.tnil)) (Syntax.tcons (Syntax.tyInt Syntax.w8) Syntax.tnil))))) Syntax.tnil))))) (Syntax.tcons
       (Syntax.tyStruct (99 ∷ 111 ∷ 111 ∷ 114 ∷ 100 ∷ 105 ∷ 110 ∷ 97 ∷ 116 ∷ 101 ∷ 58 ∷ 58 ∷ 77 ∷ 101 ∷ 97 ∷ 115 ∷ 117 ∷ 114 ∷ 101 ∷ []) (Syntax.tcons
       (Syntax.tyStruct (99 ∷ 111 ∷ 111 ∷ 114 ∷ 100 ∷ 105 ∷ 110 ∷ 97 ∷ 116 ∷ 101 ∷ 58 ∷ 58 ∷ 80 ∷ 111 ∷ 115 ∷ 105 ∷ 116 ∷ 105 ∷ 111 ∷ 110 ∷ []) (Syntax.tcons
       (Syntax.tyInt Syntax.w32) (Syntax.tcons (Syntax.tyInt Syntax.w32) (Syntax.tcons (Syntax.tyInt Syntax.w32) Syntax.tnil)))) (Syntax.tcons (Syntax.tyInt
@@ -3224,18 +3344,23 @@ t21 = (
           ∷ 114 ∷ 99 ∷ 104 ∷ 58 ∷ 58 ∷ 83 ∷ 112 ∷ 97 ∷ 110 ∷ []) (Syntax.tcons (Syntax.tyInt Syntax.w64) (Syntax.tcons (Syntax.tyInt Syntax.w64) Syntax.tnil)))
           (Syntax.tcons (Syntax.tyStruct (115 ∷ 101 ∷ 97 ∷ 114 ∷ 99 ∷ 104 ∷ 58 ∷ 58 ∷ 78 ∷ 101 ∷ 97 ∷ 114 ∷ []) (Syntax.tcons (Syntax.tyInt Syntax.w64) (Syntax.tcons
           (Syntax.tyStruct (102 ∷ 105 ∷ 101 ∷ 108 ∷ 100 ∷ 115 ∷ 58 ∷ 58 ∷ 83 ∷ 101 ∷ 114 ∷ 105 ∷ 97 ∷ 108 ∷ []) (Syntax.tcons (Syntax.tyInt Syntax.w32) Syntax.tnil))
-          Syntax.tnil))) Syntax.tnil))) Syntax.tnil))),
+          Syntax.tnil))) Syntax.tnil))) (Syntax.tcons (Syntax.tyStruct (116 ∷ 114 ∷ 97 ∷ 105 ∷ 108 ∷ 58 ∷ 58 ∷ 87 ∷ 97 ∷ 116 ∷ 99 ∷ 104 ∷ []) (Syntax.tcons
+          (Syntax.tyInt Syntax.w64) (Syntax.tcons (Syntax.tyInt Syntax.w64) (Syntax.tcons (Syntax.tyInt Syntax.w64) (Syntax.tcons (Syntax.tyInt Syntax.w64)
+          (Syntax.tcons (Syntax.tyInt Syntax.w64) (Syntax.tcons (Syntax.tyInt Syntax.w64) (Syntax.tcons (Syntax.tyStruct (97 ∷ 104 ∷ 101 ∷ 97 ∷ 100 ∷ 58 ∷ 58 ∷ 65 ∷
+          104 ∷ 101 ∷ 97 ∷ 100 ∷ []) (Syntax.tcons (Syntax.tyInt Syntax.w64) (Syntax.tcons (Syntax.tyInt Syntax.w64) (Syntax.tcons (Syntax.tyInt Syntax.w64)
+          Syntax.tnil)))) Syntax.tnil)))))))) Syntax.tnil)))),
     ) ∷ (12, Rows'.any-gone SlotAs.ty) ∷ (13, Rows'.any-gone Syntax.tyBool) ∷ (
       14,
-      Rows'.any-gone (Syntax.tyStruct
-          (115 ∷ 101 ∷ 97 ∷ 114 ∷ 99 ∷ 104 ∷ 58 ∷ 58 ∷ 83 ∷ 111 ∷ 117 ∷ 103 ∷ 104 ∷ 116 ∷ []) (Syntax.tcons (Syntax.tyStruct (115 ∷ 101 ∷ 97 ∷ 114 ∷ 99 ∷ 104 ∷ 58 ∷
-          58 ∷ 78 ∷ 101 ∷ 97 ∷ 114 ∷ []) (Syntax.tcons (Syntax.tyInt Syntax.w64) (Syntax.tcons (Syntax.tyStruct (102 ∷ 105 ∷ 101 ∷ 108 ∷ 100 ∷ 115 ∷ 58 ∷ 58 ∷ 83 ∷
-          101 ∷ 114 ∷ 105 ∷ 97 ∷ 108 ∷ []) (Syntax.tcons (Syntax.tyInt Syntax.w32) Syntax.tnil)) Syntax.tnil))) (Syntax.tcons Syntax.tyBool Syntax.tnil))),
+      Rows'.any-gone
+          (Syntax.tyStruct (115 ∷ 101 ∷ 97 ∷ 114 ∷ 99 ∷ 104 ∷ 58 ∷ 58 ∷ 83 ∷ 111 ∷ 117 ∷ 103 ∷ 104 ∷ 116 ∷ []) (Syntax.tcons (Syntax.tyStruct (115 ∷ 101 ∷ 97 ∷ 114 ∷
+          99 ∷ 104 ∷ 58 ∷ 58 ∷ 78 ∷ 101 ∷ 97 ∷ 114 ∷ []) (Syntax.tcons (Syntax.tyInt Syntax.w64) (Syntax.tcons (Syntax.tyStruct (102 ∷ 105 ∷ 101 ∷ 108 ∷ 100 ∷ 115 ∷
+          58 ∷ 58 ∷ 83 ∷ 101 ∷ 114 ∷ 105 ∷ 97 ∷ 108 ∷ []) (Syntax.tcons (Syntax.tyInt Syntax.w32) Syntax.tnil)) Syntax.tnil))) (Syntax.tcons Syntax.tyBool
+          Syntax.tnil))),
     ) ∷ (
       15,
-      Rows'.any-gone (Syntax.tyStruct (115 ∷ 101 ∷ 97 ∷ 114 ∷ 99 ∷ 104 ∷ 58 ∷ 58 ∷ 78 ∷ 101 ∷ 97 ∷ 114 ∷ []) (Syntax.tcons (Syntax.tyInt Syntax.w64)
-          (Syntax.tcons (Syntax.tyStruct (102 ∷ 105 ∷ 101 ∷ 108 ∷ 100 ∷ 115 ∷ 58 ∷ 58 ∷ 83 ∷ 101 ∷ 114 ∷ 105 ∷ 97 ∷ 108 ∷ []) (Syntax.tcons (Syntax.tyInt Syntax.w32)
-          Syntax.tnil)) Syntax.tnil))),
+      Rows'.any-gone (Syntax.tyStruct (115 ∷ 101 ∷ 97 ∷ 114 ∷ 99 ∷ 104 ∷ 58 ∷ 58 ∷ 78 ∷ 101 ∷ 97 ∷ 114 ∷ []) (Syntax.tcons (Syntax.tyInt
+          Syntax.w64) (Syntax.tcons (Syntax.tyStruct (102 ∷ 105 ∷ 101 ∷ 108 ∷ 100 ∷ 115 ∷ 58 ∷ 58 ∷ 83 ∷ 101 ∷ 114 ∷ 105 ∷ 97 ∷ 108 ∷ []) (Syntax.tcons (Syntax.tyInt
+          Syntax.w32) Syntax.tnil)) Syntax.tnil))),
     ) ∷ []
 
 abbrev pub t22 : List.List Row.Entry
@@ -3270,43 +3395,47 @@ t22 = (0, Rows'.whole (Declared'.row (Apart.apartT Findings.the-type))) ∷ (
       ∷ 114 ∷ 99 ∷ 104 ∷ 58 ∷ 58 ∷ 83 ∷ 112 ∷ 97 ∷ 110 ∷ []) (Syntax.tcons (Syntax.tyInt Syntax.w64) (Syntax.tcons (Syntax.tyInt Syntax.w64) Syntax.tnil)))
       (Syntax.tcons (Syntax.tyStruct (115 ∷ 101 ∷ 97 ∷ 114 ∷ 99 ∷ 104 ∷ 58 ∷ 58 ∷ 78 ∷ 101 ∷ 97 ∷ 114 ∷ []) (Syntax.tcons (Syntax.tyInt Syntax.w64) (Syntax.tcons
       (Syntax.tyStruct (102 ∷ 105 ∷ 101 ∷ 108 ∷ 100 ∷ 115 ∷ 58 ∷ 58 ∷ 83 ∷ 101 ∷ 114 ∷ 105 ∷ 97 ∷ 108 ∷ []) (Syntax.tcons (Syntax.tyInt Syntax.w32) Syntax.tnil))
-      Syntax.tnil))) Syntax.tnil))) Syntax.tnil))),
+      Syntax.tnil))) Syntax.tnil))) (Syntax.tcons (Syntax.tyStruct (116 ∷ 114 ∷ 97 ∷ 105 ∷ 108 ∷ 58 ∷ 58 ∷ 87 ∷ 97 ∷ 116 ∷ 99 ∷ 104 ∷ []) (Syntax.tcons
+      (Syntax.tyInt Syntax.w64) (Syntax.tcons (Syntax.tyInt Syntax.w64) (Syntax.tcons (Syntax.tyInt Syntax.w64) (Syntax.tcons (Syntax.tyInt Syntax.w64)
+      (Syntax.tcons (Syntax.tyInt Syntax.w64) (Syntax.tcons (Syntax.tyInt Syntax.w64) (Syntax.tcons (Syntax.tyStruct (97 ∷ 104 ∷ 101 ∷ 97 ∷ 100 ∷ 58 ∷ 58 ∷ 65 ∷
+      104 ∷ 101 ∷ 97 ∷ 100 ∷ []) (Syntax.tcons (Syntax.tyInt Syntax.w64) (Syntax.tcons (Syntax.tyInt Syntax.w64) (Syntax.tcons (Syntax.tyInt Syntax.w64)
+      Syntax.tnil)))) Syntax.tnil)))))))) Syntax.tnil)))),
 ) ∷ (5, Rows'.sc-here (Row.sInt Syntax.w64)) ∷ (6, Rows'.sc-here Row.sBool) ∷ (
   7,
-  Rows'.sc-here (Row.sInt
-      Syntax.w64),
+  Rows'.sc-here
+      (Row.sInt Syntax.w64),
 ) ∷ (
   8,
-  Rows'.any-gone (Syntax.tyStruct (115 ∷ 101 ∷ 97 ∷ 114 ∷ 99 ∷ 104 ∷ 58 ∷ 58 ∷ 78 ∷ 101 ∷ 97 ∷ 114 ∷ []) (Syntax.tcons (Syntax.tyInt
-      Syntax.w64) (Syntax.tcons (Syntax.tyStruct (102 ∷ 105 ∷ 101 ∷ 108 ∷ 100 ∷ 115 ∷ 58 ∷ 58 ∷ 83 ∷ 101 ∷ 114 ∷ 105 ∷ 97 ∷ 108 ∷ []) (Syntax.tcons (Syntax.tyInt
-      Syntax.w32) Syntax.tnil)) Syntax.tnil))),
+  Rows'.any-gone (Syntax.tyStruct (115 ∷ 101 ∷ 97 ∷ 114 ∷ 99 ∷ 104 ∷ 58 ∷ 58 ∷ 78 ∷ 101 ∷ 97 ∷ 114 ∷ []) (Syntax.tcons
+      (Syntax.tyInt Syntax.w64) (Syntax.tcons (Syntax.tyStruct (102 ∷ 105 ∷ 101 ∷ 108 ∷ 100 ∷ 115 ∷ 58 ∷ 58 ∷ 83 ∷ 101 ∷ 114 ∷ 105 ∷ 97 ∷ 108 ∷ []) (Syntax.tcons
+      (Syntax.tyInt Syntax.w32) Syntax.tnil)) Syntax.tnil))),
 ) ∷ (
   9,
-  Rows'.any-gone (Syntax.tyEnum (112 ∷ 105 ∷ 101 ∷ 99 ∷ 101 ∷ 115 ∷ 58 ∷ 58 ∷ 76 ∷ 105 ∷ 110 ∷ 101 ∷ [])
-      (Syntax.ttcons (Syntax.tcons (Syntax.tyInt Syntax.w8) Syntax.tnil) (Syntax.ttcons (Syntax.tcons (Syntax.tyEnum (107 ∷ 105 ∷ 110 ∷ 100 ∷ 115 ∷ 58 ∷ 58 ∷ 75
-      ∷ 105 ∷ 110 ∷ 100 ∷ []) (Syntax.ttcons Syntax.tnil (Syntax.ttcons Syntax.tnil (Syntax.ttcons Syntax.tnil (Syntax.ttcons Syntax.tnil (Syntax.ttcons
-      Syntax.tnil (Syntax.ttcons Syntax.tnil (Syntax.ttcons Syntax.tnil (Syntax.ttcons Syntax.tnil (Syntax.ttcons Syntax.tnil (Syntax.ttcons Syntax.tnil
-      (Syntax.ttcons Syntax.tnil (Syntax.ttcons Syntax.tnil (Syntax.ttcons Syntax.tnil (Syntax.ttcons Syntax.tnil (Syntax.ttcons Syntax.tnil (Syntax.ttcons
-      Syntax.tnil (Syntax.ttcons Syntax.tnil (Syntax.ttcons Syntax.tnil (Syntax.ttcons Syntax.tnil (Syntax.ttcons Syntax.tnil (Syntax.ttcons Syntax.tnil
-      (Syntax.ttcons Syntax.tnil (Syntax.ttcons Syntax.tnil (Syntax.ttcons Syntax.tnil (Syntax.ttcons Syntax.tnil (Syntax.ttcons Syntax.tnil (Syntax.ttcons
-      Syntax.tnil (Syntax.ttcons Syntax.tnil Syntax.ttnil))))))))))))))))))))))))))))) (Syntax.tcons (Syntax.tyInt Syntax.w32) Syntax.tnil)) (Syntax.ttcons
-      (Syntax.tcons (Syntax.tyEnum (107 ∷ 105 ∷ 110 ∷ 100 ∷ 115 ∷ 58 ∷ 58 ∷ 75 ∷ 105 ∷ 110 ∷ 100 ∷ []) (Syntax.ttcons Syntax.tnil (Syntax.ttcons Syntax.tnil
+  Rows'.any-gone (Syntax.tyEnum (112 ∷ 105 ∷ 101 ∷ 99 ∷ 101 ∷ 115 ∷ 58 ∷ 58 ∷ 76 ∷ 105 ∷ 110 ∷
+      101 ∷ []) (Syntax.ttcons (Syntax.tcons (Syntax.tyInt Syntax.w8) Syntax.tnil) (Syntax.ttcons (Syntax.tcons (Syntax.tyEnum (107 ∷ 105 ∷ 110 ∷ 100 ∷ 115 ∷ 58
+      ∷ 58 ∷ 75 ∷ 105 ∷ 110 ∷ 100 ∷ []) (Syntax.ttcons Syntax.tnil (Syntax.ttcons Syntax.tnil (Syntax.ttcons Syntax.tnil (Syntax.ttcons Syntax.tnil
       (Syntax.ttcons Syntax.tnil (Syntax.ttcons Syntax.tnil (Syntax.ttcons Syntax.tnil (Syntax.ttcons Syntax.tnil (Syntax.ttcons Syntax.tnil (Syntax.ttcons
       Syntax.tnil (Syntax.ttcons Syntax.tnil (Syntax.ttcons Syntax.tnil (Syntax.ttcons Syntax.tnil (Syntax.ttcons Syntax.tnil (Syntax.ttcons Syntax.tnil
       (Syntax.ttcons Syntax.tnil (Syntax.ttcons Syntax.tnil (Syntax.ttcons Syntax.tnil (Syntax.ttcons Syntax.tnil (Syntax.ttcons Syntax.tnil (Syntax.ttcons
       Syntax.tnil (Syntax.ttcons Syntax.tnil (Syntax.ttcons Syntax.tnil (Syntax.ttcons Syntax.tnil (Syntax.ttcons Syntax.tnil (Syntax.ttcons Syntax.tnil
-      (Syntax.ttcons Syntax.tnil (Syntax.ttcons Syntax.tnil (Syntax.ttcons Syntax.tnil (Syntax.ttcons Syntax.tnil Syntax.ttnil)))))))))))))))))))))))))))))
-      Syntax.tnil) (Syntax.ttcons (Syntax.tcons (Syntax.tyEnum (108 ∷ 105 ∷ 110 ∷ 101 ∷ 58 ∷ 58 ∷ 82 ∷ 101 ∷ 99 ∷ 111 ∷ 114 ∷ 100 ∷ []) (Syntax.ttcons
-      (Syntax.tcons Syntax.tyBool (Syntax.tcons (Syntax.tyStruct (99 ∷ 111 ∷ 111 ∷ 114 ∷ 100 ∷ 105 ∷ 110 ∷ 97 ∷ 116 ∷ 101 ∷ 58 ∷ 58 ∷ 65 ∷ 116 ∷ 111 ∷ 109 ∷ [])
-      (Syntax.tcons (Syntax.tyStruct (99 ∷ 111 ∷ 111 ∷ 114 ∷ 100 ∷ 105 ∷ 110 ∷ 97 ∷ 116 ∷ 101 ∷ 58 ∷ 58 ∷ 73 ∷ 100 ∷ 101 ∷ 110 ∷ 116 ∷ 105 ∷ 116 ∷ 121 ∷ [])
-      (Syntax.tcons (Syntax.tyStruct (102 ∷ 105 ∷ 101 ∷ 108 ∷ 100 ∷ 115 ∷ 58 ∷ 58 ∷ 83 ∷ 101 ∷ 114 ∷ 105 ∷ 97 ∷ 108 ∷ []) (Syntax.tcons (Syntax.tyInt Syntax.w32)
-      Syntax.tnil)) (Syntax.tcons (Syntax.tyStruct (110 ∷ 97 ∷ 109 ∷ 101 ∷ 115 ∷ 58 ∷ 58 ∷ 70 ∷ 111 ∷ 117 ∷ 114 ∷ []) (Syntax.tcons (Syntax.tyInt Syntax.w8)
-      (Syntax.tcons (Syntax.tyInt Syntax.w8) (Syntax.tcons (Syntax.tyInt Syntax.w8) (Syntax.tcons (Syntax.tyInt Syntax.w8) Syntax.tnil))))) (Syntax.tcons
-      (Syntax.tyInt Syntax.w8) (Syntax.tcons (Syntax.tyStruct (114 ∷ 101 ∷ 115 ∷ 105 ∷ 100 ∷ 117 ∷ 101 ∷ 58 ∷ 58 ∷ 82 ∷ 101 ∷ 115 ∷ 105 ∷ 100 ∷ 117 ∷ 101 ∷ [])
-      (Syntax.tcons (Syntax.tyStruct (110 ∷ 97 ∷ 109 ∷ 101 ∷ 115 ∷ 58 ∷ 58 ∷ 84 ∷ 104 ∷ 114 ∷ 101 ∷ 101 ∷ []) (Syntax.tcons (Syntax.tyInt Syntax.w8)
-      (Syntax.tcons (Syntax.tyInt Syntax.w8) (Syntax.tcons (Syntax.tyInt Syntax.w8) Syntax.tnil)))) (Syntax.tcons (Syntax.tyInt Syntax.w8) (Syntax.tcons
-      (Syntax.tyStruct (102 ∷ 105 ∷ 101 ∷ 108 ∷ 100 ∷ 115 ∷ 58 ∷ 58 ∷ 82 ∷ 101 ∷ 115 ∷ 105 ∷ 100 ∷ 117 ∷ 101 ∷ 78 ∷ 117 ∷ 109 ∷ 98 ∷ 101 ∷ 114 ∷ [])
-      (Syntax.tcons (Syntax.tyInt Syntax.w32) Syntax.tnil)) (Syntax.tcons (Syntax.tyInt Syntax.w8) Syntax.tnil))))) Syntax.tnil))))) (Syntax.tcons
+      (Syntax.ttcons Syntax.tnil (Syntax.ttcons Syntax.tnil Syntax.ttnil))))))))))))))))))))))))))))) (Syntax.tcons (Syntax.tyInt Syntax.w32) Syntax.tnil))
+      (Syntax.ttcons (Syntax.tcons (Syntax.tyEnum (107 ∷ 105 ∷ 110 ∷ 100 ∷ 115 ∷ 58 ∷ 58 ∷ 75 ∷ 105 ∷ 110 ∷ 100 ∷ []) (Syntax.ttcons Syntax.tnil (Syntax.ttcons
+      Syntax.tnil (Syntax.ttcons Syntax.tnil (Syntax.ttcons Syntax.tnil (Syntax.ttcons Syntax.tnil (Syntax.ttcons Syntax.tnil (Syntax.ttcons Syntax.tnil
+      (Syntax.ttcons Syntax.tnil (Syntax.ttcons Syntax.tnil (Syntax.ttcons Syntax.tnil (Syntax.ttcons Syntax.tnil (Syntax.ttcons Syntax.tnil (Syntax.ttcons
+      Syntax.tnil (Syntax.ttcons Syntax.tnil (Syntax.ttcons Syntax.tnil (Syntax.ttcons Syntax.tnil (Syntax.ttcons Syntax.tnil (Syntax.ttcons Syntax.tnil
+      (Syntax.ttcons Syntax.tnil (Syntax.ttcons Syntax.tnil (Syntax.ttcons Syntax.tnil (Syntax.ttcons Syntax.tnil (Syntax.ttcons Syntax.tnil (Syntax.ttcons
+      Syntax.tnil (Syntax.ttcons Syntax.tnil (Syntax.ttcons Syntax.tnil (Syntax.ttcons Syntax.tnil (Syntax.ttcons Syntax.tnil
+      Syntax.ttnil))))))))))))))))))))))))))))) Syntax.tnil) (Syntax.ttcons (Syntax.tcons (Syntax.tyEnum (108 ∷ 105 ∷ 110 ∷ 101 ∷ 58 ∷ 58 ∷ 82 ∷ 101 ∷ 99 ∷ 111 ∷
+      114 ∷ 100 ∷ []) (Syntax.ttcons (Syntax.tcons Syntax.tyBool (Syntax.tcons (Syntax.tyStruct (99 ∷ 111 ∷ 111 ∷ 114 ∷ 100 ∷ 105 ∷ 110 ∷ 97 ∷ 116 ∷ 101 ∷ 58 ∷
+      58 ∷ 65 ∷ 116 ∷ 111 ∷ 109 ∷ []) (Syntax.tcons (Syntax.tyStruct (99 ∷ 111 ∷ 111 ∷ 114 ∷ 100 ∷ 105 ∷ 110 ∷ 97 ∷ 116 ∷ 101 ∷ 58 ∷ 58 ∷ 73 ∷ 100 ∷ 101 ∷ 110 ∷
+      116 ∷ 105 ∷ 116 ∷ 121 ∷ []) (Syntax.tcons (Syntax.tyStruct (102 ∷ 105 ∷ 101 ∷ 108 ∷ 100 ∷ 115 ∷ 58 ∷ 58 ∷ 83 ∷ 101 ∷ 114 ∷ 105 ∷ 97 ∷ 108 ∷ [])
+      (Syntax.tcons (Syntax.tyInt Syntax.w32) Syntax.tnil)) (Syntax.tcons (Syntax.tyStruct (110 ∷ 97 ∷ 109 ∷ 101 ∷ 115 ∷ 58 ∷ 58 ∷ 70 ∷ 111 ∷ 117 ∷ 114 ∷ [])
+      (Syntax.tcons (Syntax.tyInt Syntax.w8) (Syntax.tcons (Syntax.tyInt Syntax.w8) (Syntax.tcons (Syntax.tyInt Syntax.w8) (Syntax.tcons (Syntax.tyInt Syntax.w8)
+      Syntax.tnil))))) (Syntax.tcons (Syntax.tyInt Syntax.w8) (Syntax.tcons (Syntax.tyStruct (114 ∷ 101 ∷ 115 ∷ 105 ∷ 100 ∷ 117 ∷ 101 ∷ 58 ∷ 58 ∷ 82 ∷ 101 ∷ 115
+      ∷ 105 ∷ 100 ∷ 117 ∷ 101 ∷ []) (Syntax.tcons (Syntax.tyStruct (110 ∷ 97 ∷ 109 ∷ 101 ∷ 115 ∷ 58 ∷ 58 ∷ 84 ∷ 104 ∷ 114 ∷ 101 ∷ 101 ∷ []) (Syntax.tcons
+      (Syntax.tyInt Syntax.w8) (Syntax.tcons (Syntax.tyInt Syntax.w8) (Syntax.tcons (Syntax.tyInt Syntax.w8) Syntax.tnil)))) (Syntax.tcons (Syntax.tyInt
+      Syntax.w8) (Syntax.tcons (Syntax.tyStruct (102 ∷ 105 ∷ 101 ∷ 108 ∷ 100 ∷ 115 ∷ 58 ∷ 58 ∷ 82 ∷ 101 ∷ 115 ∷ 105 ∷ 100 ∷ 117 ∷ 101 ∷ 78 ∷ 117 ∷ 109 ∷ 98 ∷ 101
+      ∷ 114 ∷ []) (Syntax.tcons (Syntax.tyInt Syntax.w32) Syntax.tnil)) (Syntax.tcons (Syntax.tyInt Syntax.w8) Syntax.tnil))))) Syntax.tnil))))) (Syntax.tcons
       (Syntax.tyStruct (99 ∷ 111 ∷ 111 ∷ 114 ∷ 100 ∷ 105 ∷ 110 ∷ 97 ∷ 116 ∷ 101 ∷ 58 ∷ 58 ∷ 77 ∷ 101 ∷ 97 ∷ 115 ∷ 117 ∷ 114 ∷ 101 ∷ []) (Syntax.tcons
       (Syntax.tyStruct (99 ∷ 111 ∷ 111 ∷ 114 ∷ 100 ∷ 105 ∷ 110 ∷ 97 ∷ 116 ∷ 101 ∷ 58 ∷ 58 ∷ 80 ∷ 111 ∷ 115 ∷ 105 ∷ 116 ∷ 105 ∷ 111 ∷ 110 ∷ []) (Syntax.tcons
       (Syntax.tyInt Syntax.w32) (Syntax.tcons (Syntax.tyInt Syntax.w32) (Syntax.tcons (Syntax.tyInt Syntax.w32) Syntax.tnil)))) (Syntax.tcons (Syntax.tyInt
@@ -3398,18 +3527,23 @@ t22 = (0, Rows'.whole (Declared'.row (Apart.apartT Findings.the-type))) ∷ (
           ∷ 114 ∷ 99 ∷ 104 ∷ 58 ∷ 58 ∷ 83 ∷ 112 ∷ 97 ∷ 110 ∷ []) (Syntax.tcons (Syntax.tyInt Syntax.w64) (Syntax.tcons (Syntax.tyInt Syntax.w64) Syntax.tnil)))
           (Syntax.tcons (Syntax.tyStruct (115 ∷ 101 ∷ 97 ∷ 114 ∷ 99 ∷ 104 ∷ 58 ∷ 58 ∷ 78 ∷ 101 ∷ 97 ∷ 114 ∷ []) (Syntax.tcons (Syntax.tyInt Syntax.w64) (Syntax.tcons
           (Syntax.tyStruct (102 ∷ 105 ∷ 101 ∷ 108 ∷ 100 ∷ 115 ∷ 58 ∷ 58 ∷ 83 ∷ 101 ∷ 114 ∷ 105 ∷ 97 ∷ 108 ∷ []) (Syntax.tcons (Syntax.tyInt Syntax.w32) Syntax.tnil))
-          Syntax.tnil))) Syntax.tnil))) Syntax.tnil))),
+          Syntax.tnil))) Syntax.tnil))) (Syntax.tcons (Syntax.tyStruct (116 ∷ 114 ∷ 97 ∷ 105 ∷ 108 ∷ 58 ∷ 58 ∷ 87 ∷ 97 ∷ 116 ∷ 99 ∷ 104 ∷ []) (Syntax.tcons
+          (Syntax.tyInt Syntax.w64) (Syntax.tcons (Syntax.tyInt Syntax.w64) (Syntax.tcons (Syntax.tyInt Syntax.w64) (Syntax.tcons (Syntax.tyInt Syntax.w64)
+          (Syntax.tcons (Syntax.tyInt Syntax.w64) (Syntax.tcons (Syntax.tyInt Syntax.w64) (Syntax.tcons (Syntax.tyStruct (97 ∷ 104 ∷ 101 ∷ 97 ∷ 100 ∷ 58 ∷ 58 ∷ 65 ∷
+          104 ∷ 101 ∷ 97 ∷ 100 ∷ []) (Syntax.tcons (Syntax.tyInt Syntax.w64) (Syntax.tcons (Syntax.tyInt Syntax.w64) (Syntax.tcons (Syntax.tyInt Syntax.w64)
+          Syntax.tnil)))) Syntax.tnil)))))))) Syntax.tnil)))),
     ) ∷ (12, Rows'.any-gone SlotAs.ty) ∷ (13, Rows'.any-gone Syntax.tyBool) ∷ (
       14,
-      Rows'.any-gone (Syntax.tyStruct
-          (115 ∷ 101 ∷ 97 ∷ 114 ∷ 99 ∷ 104 ∷ 58 ∷ 58 ∷ 83 ∷ 111 ∷ 117 ∷ 103 ∷ 104 ∷ 116 ∷ []) (Syntax.tcons (Syntax.tyStruct (115 ∷ 101 ∷ 97 ∷ 114 ∷ 99 ∷ 104 ∷ 58 ∷
-          58 ∷ 78 ∷ 101 ∷ 97 ∷ 114 ∷ []) (Syntax.tcons (Syntax.tyInt Syntax.w64) (Syntax.tcons (Syntax.tyStruct (102 ∷ 105 ∷ 101 ∷ 108 ∷ 100 ∷ 115 ∷ 58 ∷ 58 ∷ 83 ∷
-          101 ∷ 114 ∷ 105 ∷ 97 ∷ 108 ∷ []) (Syntax.tcons (Syntax.tyInt Syntax.w32) Syntax.tnil)) Syntax.tnil))) (Syntax.tcons Syntax.tyBool Syntax.tnil))),
+      Rows'.any-gone
+          (Syntax.tyStruct (115 ∷ 101 ∷ 97 ∷ 114 ∷ 99 ∷ 104 ∷ 58 ∷ 58 ∷ 83 ∷ 111 ∷ 117 ∷ 103 ∷ 104 ∷ 116 ∷ []) (Syntax.tcons (Syntax.tyStruct (115 ∷ 101 ∷ 97 ∷ 114 ∷
+          99 ∷ 104 ∷ 58 ∷ 58 ∷ 78 ∷ 101 ∷ 97 ∷ 114 ∷ []) (Syntax.tcons (Syntax.tyInt Syntax.w64) (Syntax.tcons (Syntax.tyStruct (102 ∷ 105 ∷ 101 ∷ 108 ∷ 100 ∷ 115 ∷
+          58 ∷ 58 ∷ 83 ∷ 101 ∷ 114 ∷ 105 ∷ 97 ∷ 108 ∷ []) (Syntax.tcons (Syntax.tyInt Syntax.w32) Syntax.tnil)) Syntax.tnil))) (Syntax.tcons Syntax.tyBool
+          Syntax.tnil))),
     ) ∷ (
       15,
-      Rows'.any-gone (Syntax.tyStruct (115 ∷ 101 ∷ 97 ∷ 114 ∷ 99 ∷ 104 ∷ 58 ∷ 58 ∷ 78 ∷ 101 ∷ 97 ∷ 114 ∷ []) (Syntax.tcons (Syntax.tyInt Syntax.w64)
-          (Syntax.tcons (Syntax.tyStruct (102 ∷ 105 ∷ 101 ∷ 108 ∷ 100 ∷ 115 ∷ 58 ∷ 58 ∷ 83 ∷ 101 ∷ 114 ∷ 105 ∷ 97 ∷ 108 ∷ []) (Syntax.tcons (Syntax.tyInt Syntax.w32)
-          Syntax.tnil)) Syntax.tnil))),
+      Rows'.any-gone (Syntax.tyStruct (115 ∷ 101 ∷ 97 ∷ 114 ∷ 99 ∷ 104 ∷ 58 ∷ 58 ∷ 78 ∷ 101 ∷ 97 ∷ 114 ∷ []) (Syntax.tcons (Syntax.tyInt
+          Syntax.w64) (Syntax.tcons (Syntax.tyStruct (102 ∷ 105 ∷ 101 ∷ 108 ∷ 100 ∷ 115 ∷ 58 ∷ 58 ∷ 83 ∷ 101 ∷ 114 ∷ 105 ∷ 97 ∷ 108 ∷ []) (Syntax.tcons (Syntax.tyInt
+          Syntax.w32) Syntax.tnil)) Syntax.tnil))),
     ) ∷ []
 
 abbrev pub t23 : List.List Row.Entry
@@ -3444,43 +3578,47 @@ t23 = (0, Rows'.whole (Declared'.row (Apart.apartT Findings.the-type))) ∷ (
       ∷ 114 ∷ 99 ∷ 104 ∷ 58 ∷ 58 ∷ 83 ∷ 112 ∷ 97 ∷ 110 ∷ []) (Syntax.tcons (Syntax.tyInt Syntax.w64) (Syntax.tcons (Syntax.tyInt Syntax.w64) Syntax.tnil)))
       (Syntax.tcons (Syntax.tyStruct (115 ∷ 101 ∷ 97 ∷ 114 ∷ 99 ∷ 104 ∷ 58 ∷ 58 ∷ 78 ∷ 101 ∷ 97 ∷ 114 ∷ []) (Syntax.tcons (Syntax.tyInt Syntax.w64) (Syntax.tcons
       (Syntax.tyStruct (102 ∷ 105 ∷ 101 ∷ 108 ∷ 100 ∷ 115 ∷ 58 ∷ 58 ∷ 83 ∷ 101 ∷ 114 ∷ 105 ∷ 97 ∷ 108 ∷ []) (Syntax.tcons (Syntax.tyInt Syntax.w32) Syntax.tnil))
-      Syntax.tnil))) Syntax.tnil))) Syntax.tnil))),
+      Syntax.tnil))) Syntax.tnil))) (Syntax.tcons (Syntax.tyStruct (116 ∷ 114 ∷ 97 ∷ 105 ∷ 108 ∷ 58 ∷ 58 ∷ 87 ∷ 97 ∷ 116 ∷ 99 ∷ 104 ∷ []) (Syntax.tcons
+      (Syntax.tyInt Syntax.w64) (Syntax.tcons (Syntax.tyInt Syntax.w64) (Syntax.tcons (Syntax.tyInt Syntax.w64) (Syntax.tcons (Syntax.tyInt Syntax.w64)
+      (Syntax.tcons (Syntax.tyInt Syntax.w64) (Syntax.tcons (Syntax.tyInt Syntax.w64) (Syntax.tcons (Syntax.tyStruct (97 ∷ 104 ∷ 101 ∷ 97 ∷ 100 ∷ 58 ∷ 58 ∷ 65 ∷
+      104 ∷ 101 ∷ 97 ∷ 100 ∷ []) (Syntax.tcons (Syntax.tyInt Syntax.w64) (Syntax.tcons (Syntax.tyInt Syntax.w64) (Syntax.tcons (Syntax.tyInt Syntax.w64)
+      Syntax.tnil)))) Syntax.tnil)))))))) Syntax.tnil)))),
 ) ∷ (5, Rows'.sc-here (Row.sInt Syntax.w64)) ∷ (6, Rows'.sc-here Row.sBool) ∷ (
   7,
-  Rows'.sc-here (Row.sInt
-      Syntax.w64),
+  Rows'.sc-here
+      (Row.sInt Syntax.w64),
 ) ∷ (
   8,
-  Rows'.any-gone (Syntax.tyStruct (115 ∷ 101 ∷ 97 ∷ 114 ∷ 99 ∷ 104 ∷ 58 ∷ 58 ∷ 78 ∷ 101 ∷ 97 ∷ 114 ∷ []) (Syntax.tcons (Syntax.tyInt
-      Syntax.w64) (Syntax.tcons (Syntax.tyStruct (102 ∷ 105 ∷ 101 ∷ 108 ∷ 100 ∷ 115 ∷ 58 ∷ 58 ∷ 83 ∷ 101 ∷ 114 ∷ 105 ∷ 97 ∷ 108 ∷ []) (Syntax.tcons (Syntax.tyInt
-      Syntax.w32) Syntax.tnil)) Syntax.tnil))),
+  Rows'.any-gone (Syntax.tyStruct (115 ∷ 101 ∷ 97 ∷ 114 ∷ 99 ∷ 104 ∷ 58 ∷ 58 ∷ 78 ∷ 101 ∷ 97 ∷ 114 ∷ []) (Syntax.tcons
+      (Syntax.tyInt Syntax.w64) (Syntax.tcons (Syntax.tyStruct (102 ∷ 105 ∷ 101 ∷ 108 ∷ 100 ∷ 115 ∷ 58 ∷ 58 ∷ 83 ∷ 101 ∷ 114 ∷ 105 ∷ 97 ∷ 108 ∷ []) (Syntax.tcons
+      (Syntax.tyInt Syntax.w32) Syntax.tnil)) Syntax.tnil))),
 ) ∷ (
   9,
-  Rows'.any-gone (Syntax.tyEnum (112 ∷ 105 ∷ 101 ∷ 99 ∷ 101 ∷ 115 ∷ 58 ∷ 58 ∷ 76 ∷ 105 ∷ 110 ∷ 101 ∷ [])
-      (Syntax.ttcons (Syntax.tcons (Syntax.tyInt Syntax.w8) Syntax.tnil) (Syntax.ttcons (Syntax.tcons (Syntax.tyEnum (107 ∷ 105 ∷ 110 ∷ 100 ∷ 115 ∷ 58 ∷ 58 ∷ 75
-      ∷ 105 ∷ 110 ∷ 100 ∷ []) (Syntax.ttcons Syntax.tnil (Syntax.ttcons Syntax.tnil (Syntax.ttcons Syntax.tnil (Syntax.ttcons Syntax.tnil (Syntax.ttcons
-      Syntax.tnil (Syntax.ttcons Syntax.tnil (Syntax.ttcons Syntax.tnil (Syntax.ttcons Syntax.tnil (Syntax.ttcons Syntax.tnil (Syntax.ttcons Syntax.tnil
-      (Syntax.ttcons Syntax.tnil (Syntax.ttcons Syntax.tnil (Syntax.ttcons Syntax.tnil (Syntax.ttcons Syntax.tnil (Syntax.ttcons Syntax.tnil (Syntax.ttcons
-      Syntax.tnil (Syntax.ttcons Syntax.tnil (Syntax.ttcons Syntax.tnil (Syntax.ttcons Syntax.tnil (Syntax.ttcons Syntax.tnil (Syntax.ttcons Syntax.tnil
-      (Syntax.ttcons Syntax.tnil (Syntax.ttcons Syntax.tnil (Syntax.ttcons Syntax.tnil (Syntax.ttcons Syntax.tnil (Syntax.ttcons Syntax.tnil (Syntax.ttcons
-      Syntax.tnil (Syntax.ttcons Syntax.tnil Syntax.ttnil))))))))))))))))))))))))))))) (Syntax.tcons (Syntax.tyInt Syntax.w32) Syntax.tnil)) (Syntax.ttcons
-      (Syntax.tcons (Syntax.tyEnum (107 ∷ 105 ∷ 110 ∷ 100 ∷ 115 ∷ 58 ∷ 58 ∷ 75 ∷ 105 ∷ 110 ∷ 100 ∷ []) (Syntax.ttcons Syntax.tnil (Syntax.ttcons Syntax.tnil
+  Rows'.any-gone (Syntax.tyEnum (112 ∷ 105 ∷ 101 ∷ 99 ∷ 101 ∷ 115 ∷ 58 ∷ 58 ∷ 76 ∷ 105 ∷ 110 ∷
+      101 ∷ []) (Syntax.ttcons (Syntax.tcons (Syntax.tyInt Syntax.w8) Syntax.tnil) (Syntax.ttcons (Syntax.tcons (Syntax.tyEnum (107 ∷ 105 ∷ 110 ∷ 100 ∷ 115 ∷ 58
+      ∷ 58 ∷ 75 ∷ 105 ∷ 110 ∷ 100 ∷ []) (Syntax.ttcons Syntax.tnil (Syntax.ttcons Syntax.tnil (Syntax.ttcons Syntax.tnil (Syntax.ttcons Syntax.tnil
       (Syntax.ttcons Syntax.tnil (Syntax.ttcons Syntax.tnil (Syntax.ttcons Syntax.tnil (Syntax.ttcons Syntax.tnil (Syntax.ttcons Syntax.tnil (Syntax.ttcons
       Syntax.tnil (Syntax.ttcons Syntax.tnil (Syntax.ttcons Syntax.tnil (Syntax.ttcons Syntax.tnil (Syntax.ttcons Syntax.tnil (Syntax.ttcons Syntax.tnil
       (Syntax.ttcons Syntax.tnil (Syntax.ttcons Syntax.tnil (Syntax.ttcons Syntax.tnil (Syntax.ttcons Syntax.tnil (Syntax.ttcons Syntax.tnil (Syntax.ttcons
       Syntax.tnil (Syntax.ttcons Syntax.tnil (Syntax.ttcons Syntax.tnil (Syntax.ttcons Syntax.tnil (Syntax.ttcons Syntax.tnil (Syntax.ttcons Syntax.tnil
-      (Syntax.ttcons Syntax.tnil (Syntax.ttcons Syntax.tnil (Syntax.ttcons Syntax.tnil (Syntax.ttcons Syntax.tnil Syntax.ttnil)))))))))))))))))))))))))))))
-      Syntax.tnil) (Syntax.ttcons (Syntax.tcons (Syntax.tyEnum (108 ∷ 105 ∷ 110 ∷ 101 ∷ 58 ∷ 58 ∷ 82 ∷ 101 ∷ 99 ∷ 111 ∷ 114 ∷ 100 ∷ []) (Syntax.ttcons
-      (Syntax.tcons Syntax.tyBool (Syntax.tcons (Syntax.tyStruct (99 ∷ 111 ∷ 111 ∷ 114 ∷ 100 ∷ 105 ∷ 110 ∷ 97 ∷ 116 ∷ 101 ∷ 58 ∷ 58 ∷ 65 ∷ 116 ∷ 111 ∷ 109 ∷ [])
-      (Syntax.tcons (Syntax.tyStruct (99 ∷ 111 ∷ 111 ∷ 114 ∷ 100 ∷ 105 ∷ 110 ∷ 97 ∷ 116 ∷ 101 ∷ 58 ∷ 58 ∷ 73 ∷ 100 ∷ 101 ∷ 110 ∷ 116 ∷ 105 ∷ 116 ∷ 121 ∷ [])
-      (Syntax.tcons (Syntax.tyStruct (102 ∷ 105 ∷ 101 ∷ 108 ∷ 100 ∷ 115 ∷ 58 ∷ 58 ∷ 83 ∷ 101 ∷ 114 ∷ 105 ∷ 97 ∷ 108 ∷ []) (Syntax.tcons (Syntax.tyInt Syntax.w32)
-      Syntax.tnil)) (Syntax.tcons (Syntax.tyStruct (110 ∷ 97 ∷ 109 ∷ 101 ∷ 115 ∷ 58 ∷ 58 ∷ 70 ∷ 111 ∷ 117 ∷ 114 ∷ []) (Syntax.tcons (Syntax.tyInt Syntax.w8)
-      (Syntax.tcons (Syntax.tyInt Syntax.w8) (Syntax.tcons (Syntax.tyInt Syntax.w8) (Syntax.tcons (Syntax.tyInt Syntax.w8) Syntax.tnil))))) (Syntax.tcons
-      (Syntax.tyInt Syntax.w8) (Syntax.tcons (Syntax.tyStruct (114 ∷ 101 ∷ 115 ∷ 105 ∷ 100 ∷ 117 ∷ 101 ∷ 58 ∷ 58 ∷ 82 ∷ 101 ∷ 115 ∷ 105 ∷ 100 ∷ 117 ∷ 101 ∷ [])
-      (Syntax.tcons (Syntax.tyStruct (110 ∷ 97 ∷ 109 ∷ 101 ∷ 115 ∷ 58 ∷ 58 ∷ 84 ∷ 104 ∷ 114 ∷ 101 ∷ 101 ∷ []) (Syntax.tcons (Syntax.tyInt Syntax.w8)
-      (Syntax.tcons (Syntax.tyInt Syntax.w8) (Syntax.tcons (Syntax.tyInt Syntax.w8) Syntax.tnil)))) (Syntax.tcons (Syntax.tyInt Syntax.w8) (Syntax.tcons
-      (Syntax.tyStruct (102 ∷ 105 ∷ 101 ∷ 108 ∷ 100 ∷ 115 ∷ 58 ∷ 58 ∷ 82 ∷ 101 ∷ 115 ∷ 105 ∷ 100 ∷ 117 ∷ 101 ∷ 78 ∷ 117 ∷ 109 ∷ 98 ∷ 101 ∷ 114 ∷ [])
-      (Syntax.tcons (Syntax.tyInt Syntax.w32) Syntax.tnil)) (Syntax.tcons (Syntax.tyInt Syntax.w8) Syntax.tnil))))) Syntax.tnil))))) (Syntax.tcons
+      (Syntax.ttcons Syntax.tnil (Syntax.ttcons Syntax.tnil Syntax.ttnil))))))))))))))))))))))))))))) (Syntax.tcons (Syntax.tyInt Syntax.w32) Syntax.tnil))
+      (Syntax.ttcons (Syntax.tcons (Syntax.tyEnum (107 ∷ 105 ∷ 110 ∷ 100 ∷ 115 ∷ 58 ∷ 58 ∷ 75 ∷ 105 ∷ 110 ∷ 100 ∷ []) (Syntax.ttcons Syntax.tnil (Syntax.ttcons
+      Syntax.tnil (Syntax.ttcons Syntax.tnil (Syntax.ttcons Syntax.tnil (Syntax.ttcons Syntax.tnil (Syntax.ttcons Syntax.tnil (Syntax.ttcons Syntax.tnil
+      (Syntax.ttcons Syntax.tnil (Syntax.ttcons Syntax.tnil (Syntax.ttcons Syntax.tnil (Syntax.ttcons Syntax.tnil (Syntax.ttcons Syntax.tnil (Syntax.ttcons
+      Syntax.tnil (Syntax.ttcons Syntax.tnil (Syntax.ttcons Syntax.tnil (Syntax.ttcons Syntax.tnil (Syntax.ttcons Syntax.tnil (Syntax.ttcons Syntax.tnil
+      (Syntax.ttcons Syntax.tnil (Syntax.ttcons Syntax.tnil (Syntax.ttcons Syntax.tnil (Syntax.ttcons Syntax.tnil (Syntax.ttcons Syntax.tnil (Syntax.ttcons
+      Syntax.tnil (Syntax.ttcons Syntax.tnil (Syntax.ttcons Syntax.tnil (Syntax.ttcons Syntax.tnil (Syntax.ttcons Syntax.tnil
+      Syntax.ttnil))))))))))))))))))))))))))))) Syntax.tnil) (Syntax.ttcons (Syntax.tcons (Syntax.tyEnum (108 ∷ 105 ∷ 110 ∷ 101 ∷ 58 ∷ 58 ∷ 82 ∷ 101 ∷ 99 ∷ 111 ∷
+      114 ∷ 100 ∷ []) (Syntax.ttcons (Syntax.tcons Syntax.tyBool (Syntax.tcons (Syntax.tyStruct (99 ∷ 111 ∷ 111 ∷ 114 ∷ 100 ∷ 105 ∷ 110 ∷ 97 ∷ 116 ∷ 101 ∷ 58 ∷
+      58 ∷ 65 ∷ 116 ∷ 111 ∷ 109 ∷ []) (Syntax.tcons (Syntax.tyStruct (99 ∷ 111 ∷ 111 ∷ 114 ∷ 100 ∷ 105 ∷ 110 ∷ 97 ∷ 116 ∷ 101 ∷ 58 ∷ 58 ∷ 73 ∷ 100 ∷ 101 ∷ 110 ∷
+      116 ∷ 105 ∷ 116 ∷ 121 ∷ []) (Syntax.tcons (Syntax.tyStruct (102 ∷ 105 ∷ 101 ∷ 108 ∷ 100 ∷ 115 ∷ 58 ∷ 58 ∷ 83 ∷ 101 ∷ 114 ∷ 105 ∷ 97 ∷ 108 ∷ [])
+      (Syntax.tcons (Syntax.tyInt Syntax.w32) Syntax.tnil)) (Syntax.tcons (Syntax.tyStruct (110 ∷ 97 ∷ 109 ∷ 101 ∷ 115 ∷ 58 ∷ 58 ∷ 70 ∷ 111 ∷ 117 ∷ 114 ∷ [])
+      (Syntax.tcons (Syntax.tyInt Syntax.w8) (Syntax.tcons (Syntax.tyInt Syntax.w8) (Syntax.tcons (Syntax.tyInt Syntax.w8) (Syntax.tcons (Syntax.tyInt Syntax.w8)
+      Syntax.tnil))))) (Syntax.tcons (Syntax.tyInt Syntax.w8) (Syntax.tcons (Syntax.tyStruct (114 ∷ 101 ∷ 115 ∷ 105 ∷ 100 ∷ 117 ∷ 101 ∷ 58 ∷ 58 ∷ 82 ∷ 101 ∷ 115
+      ∷ 105 ∷ 100 ∷ 117 ∷ 101 ∷ []) (Syntax.tcons (Syntax.tyStruct (110 ∷ 97 ∷ 109 ∷ 101 ∷ 115 ∷ 58 ∷ 58 ∷ 84 ∷ 104 ∷ 114 ∷ 101 ∷ 101 ∷ []) (Syntax.tcons
+      (Syntax.tyInt Syntax.w8) (Syntax.tcons (Syntax.tyInt Syntax.w8) (Syntax.tcons (Syntax.tyInt Syntax.w8) Syntax.tnil)))) (Syntax.tcons (Syntax.tyInt
+      Syntax.w8) (Syntax.tcons (Syntax.tyStruct (102 ∷ 105 ∷ 101 ∷ 108 ∷ 100 ∷ 115 ∷ 58 ∷ 58 ∷ 82 ∷ 101 ∷ 115 ∷ 105 ∷ 100 ∷ 117 ∷ 101 ∷ 78 ∷ 117 ∷ 109 ∷ 98 ∷ 101
+      ∷ 114 ∷ []) (Syntax.tcons (Syntax.tyInt Syntax.w32) Syntax.tnil)) (Syntax.tcons (Syntax.tyInt Syntax.w8) Syntax.tnil))))) Syntax.tnil))))) (Syntax.tcons
       (Syntax.tyStruct (99 ∷ 111 ∷ 111 ∷ 114 ∷ 100 ∷ 105 ∷ 110 ∷ 97 ∷ 116 ∷ 101 ∷ 58 ∷ 58 ∷ 77 ∷ 101 ∷ 97 ∷ 115 ∷ 117 ∷ 114 ∷ 101 ∷ []) (Syntax.tcons
       (Syntax.tyStruct (99 ∷ 111 ∷ 111 ∷ 114 ∷ 100 ∷ 105 ∷ 110 ∷ 97 ∷ 116 ∷ 101 ∷ 58 ∷ 58 ∷ 80 ∷ 111 ∷ 115 ∷ 105 ∷ 116 ∷ 105 ∷ 111 ∷ 110 ∷ []) (Syntax.tcons
       (Syntax.tyInt Syntax.w32) (Syntax.tcons (Syntax.tyInt Syntax.w32) (Syntax.tcons (Syntax.tyInt Syntax.w32) Syntax.tnil)))) (Syntax.tcons (Syntax.tyInt
@@ -3572,16 +3710,20 @@ t23 = (0, Rows'.whole (Declared'.row (Apart.apartT Findings.the-type))) ∷ (
           (Syntax.tcons (Syntax.tyStruct (115 ∷ 101 ∷ 97 ∷ 114 ∷ 99 ∷ 104 ∷ 58 ∷ 58 ∷ 83 ∷ 112 ∷ 97 ∷ 110 ∷ []) (Syntax.tcons (Syntax.tyInt Syntax.w64) (Syntax.tcons
           (Syntax.tyInt Syntax.w64) Syntax.tnil))) (Syntax.tcons (Syntax.tyStruct (115 ∷ 101 ∷ 97 ∷ 114 ∷ 99 ∷ 104 ∷ 58 ∷ 58 ∷ 78 ∷ 101 ∷ 97 ∷ 114 ∷ [])
           (Syntax.tcons (Syntax.tyInt Syntax.w64) (Syntax.tcons (Syntax.tyStruct (102 ∷ 105 ∷ 101 ∷ 108 ∷ 100 ∷ 115 ∷ 58 ∷ 58 ∷ 83 ∷ 101 ∷ 114 ∷ 105 ∷ 97 ∷ 108 ∷ [])
-          (Syntax.tcons (Syntax.tyInt Syntax.w32) Syntax.tnil)) Syntax.tnil))) Syntax.tnil))) Syntax.tnil))) Syntax.tnil))),
+          (Syntax.tcons (Syntax.tyInt Syntax.w32) Syntax.tnil)) Syntax.tnil))) Syntax.tnil))) (Syntax.tcons (Syntax.tyStruct (116 ∷ 114 ∷ 97 ∷ 105 ∷ 108 ∷ 58 ∷ 58 ∷
+          87 ∷ 97 ∷ 116 ∷ 99 ∷ 104 ∷ []) (Syntax.tcons (Syntax.tyInt Syntax.w64) (Syntax.tcons (Syntax.tyInt Syntax.w64) (Syntax.tcons (Syntax.tyInt Syntax.w64)
+          (Syntax.tcons (Syntax.tyInt Syntax.w64) (Syntax.tcons (Syntax.tyInt Syntax.w64) (Syntax.tcons (Syntax.tyInt Syntax.w64) (Syntax.tcons (Syntax.tyStruct (97
+          ∷ 104 ∷ 101 ∷ 97 ∷ 100 ∷ 58 ∷ 58 ∷ 65 ∷ 104 ∷ 101 ∷ 97 ∷ 100 ∷ []) (Syntax.tcons (Syntax.tyInt Syntax.w64) (Syntax.tcons (Syntax.tyInt Syntax.w64)
+          (Syntax.tcons (Syntax.tyInt Syntax.w64) Syntax.tnil)))) Syntax.tnil)))))))) Syntax.tnil)))) Syntax.tnil))),
     ) ∷ (
       11,
-      Rows'.any-gone (Syntax.tyStruct
-          (103 ∷ 97 ∷ 116 ∷ 101 ∷ 58 ∷ 58 ∷ 67 ∷ 111 ∷ 117 ∷ 114 ∷ 115 ∷ 101 ∷ []) (Syntax.tcons (Syntax.tyStruct (114 ∷ 117 ∷ 108 ∷ 101 ∷ 115 ∷ 58 ∷ 58 ∷ 83 ∷ 116 ∷
-          97 ∷ 116 ∷ 101 ∷ []) (Syntax.tcons (Syntax.tyInt Syntax.w8) (Syntax.tcons (Syntax.tyStruct (102 ∷ 105 ∷ 101 ∷ 108 ∷ 100 ∷ 115 ∷ 58 ∷ 58 ∷ 83 ∷ 101 ∷ 114 ∷
-          105 ∷ 97 ∷ 108 ∷ []) (Syntax.tcons (Syntax.tyInt Syntax.w32) Syntax.tnil)) (Syntax.tcons (Syntax.tyStruct (114 ∷ 117 ∷ 108 ∷ 101 ∷ 115 ∷ 58 ∷ 58 ∷ 82 ∷ 117
-          ∷ 110 ∷ []) (Syntax.tcons Syntax.tyBool (Syntax.tcons Syntax.tyBool (Syntax.tcons Syntax.tyBool (Syntax.tcons (Syntax.tyStruct (114 ∷ 101 ∷ 115 ∷ 105 ∷ 100
-          ∷ 117 ∷ 101 ∷ 58 ∷ 58 ∷ 82 ∷ 101 ∷ 115 ∷ 105 ∷ 100 ∷ 117 ∷ 101 ∷ []) (Syntax.tcons (Syntax.tyStruct (110 ∷ 97 ∷ 109 ∷ 101 ∷ 115 ∷ 58 ∷ 58 ∷ 84 ∷ 104 ∷ 114
-          ∷ 101 ∷ 101 ∷ []) (Syntax.tcons (Syntax.tyInt Syntax.w8) (Syntax.tcons (Syntax.tyInt Syntax.w8) (Syntax.tcons (Syntax.tyInt Syntax.w8) Syntax.tnil))))
+      Rows'.any-gone (Syntax.tyStruct (103 ∷
+          97 ∷ 116 ∷ 101 ∷ 58 ∷ 58 ∷ 67 ∷ 111 ∷ 117 ∷ 114 ∷ 115 ∷ 101 ∷ []) (Syntax.tcons (Syntax.tyStruct (114 ∷ 117 ∷ 108 ∷ 101 ∷ 115 ∷ 58 ∷ 58 ∷ 83 ∷ 116 ∷ 97 ∷
+          116 ∷ 101 ∷ []) (Syntax.tcons (Syntax.tyInt Syntax.w8) (Syntax.tcons (Syntax.tyStruct (102 ∷ 105 ∷ 101 ∷ 108 ∷ 100 ∷ 115 ∷ 58 ∷ 58 ∷ 83 ∷ 101 ∷ 114 ∷ 105 ∷
+          97 ∷ 108 ∷ []) (Syntax.tcons (Syntax.tyInt Syntax.w32) Syntax.tnil)) (Syntax.tcons (Syntax.tyStruct (114 ∷ 117 ∷ 108 ∷ 101 ∷ 115 ∷ 58 ∷ 58 ∷ 82 ∷ 117 ∷ 110
+          ∷ []) (Syntax.tcons Syntax.tyBool (Syntax.tcons Syntax.tyBool (Syntax.tcons Syntax.tyBool (Syntax.tcons (Syntax.tyStruct (114 ∷ 101 ∷ 115 ∷ 105 ∷ 100 ∷ 117
+          ∷ 101 ∷ 58 ∷ 58 ∷ 82 ∷ 101 ∷ 115 ∷ 105 ∷ 100 ∷ 117 ∷ 101 ∷ []) (Syntax.tcons (Syntax.tyStruct (110 ∷ 97 ∷ 109 ∷ 101 ∷ 115 ∷ 58 ∷ 58 ∷ 84 ∷ 104 ∷ 114 ∷ 101
+          ∷ 101 ∷ []) (Syntax.tcons (Syntax.tyInt Syntax.w8) (Syntax.tcons (Syntax.tyInt Syntax.w8) (Syntax.tcons (Syntax.tyInt Syntax.w8) Syntax.tnil))))
           (Syntax.tcons (Syntax.tyInt Syntax.w8) (Syntax.tcons (Syntax.tyStruct (102 ∷ 105 ∷ 101 ∷ 108 ∷ 100 ∷ 115 ∷ 58 ∷ 58 ∷ 82 ∷ 101 ∷ 115 ∷ 105 ∷ 100 ∷ 117 ∷ 101
           ∷ 78 ∷ 117 ∷ 109 ∷ 98 ∷ 101 ∷ 114 ∷ []) (Syntax.tcons (Syntax.tyInt Syntax.w32) Syntax.tnil)) (Syntax.tcons (Syntax.tyInt Syntax.w8) Syntax.tnil)))))
           Syntax.tnil))))) (Syntax.tcons (Syntax.tyStruct (102 ∷ 105 ∷ 101 ∷ 108 ∷ 100 ∷ 115 ∷ 58 ∷ 58 ∷ 83 ∷ 101 ∷ 114 ∷ 105 ∷ 97 ∷ 108 ∷ []) (Syntax.tcons
@@ -3596,13 +3738,16 @@ t23 = (0, Rows'.whole (Declared'.row (Apart.apartT Findings.the-type))) ∷ (
           (Syntax.tyStruct (115 ∷ 101 ∷ 97 ∷ 114 ∷ 99 ∷ 104 ∷ 58 ∷ 58 ∷ 83 ∷ 112 ∷ 97 ∷ 110 ∷ []) (Syntax.tcons (Syntax.tyInt Syntax.w64) (Syntax.tcons (Syntax.tyInt
           Syntax.w64) Syntax.tnil))) (Syntax.tcons (Syntax.tyStruct (115 ∷ 101 ∷ 97 ∷ 114 ∷ 99 ∷ 104 ∷ 58 ∷ 58 ∷ 78 ∷ 101 ∷ 97 ∷ 114 ∷ []) (Syntax.tcons
           (Syntax.tyInt Syntax.w64) (Syntax.tcons (Syntax.tyStruct (102 ∷ 105 ∷ 101 ∷ 108 ∷ 100 ∷ 115 ∷ 58 ∷ 58 ∷ 83 ∷ 101 ∷ 114 ∷ 105 ∷ 97 ∷ 108 ∷ []) (Syntax.tcons
-          (Syntax.tyInt Syntax.w32) Syntax.tnil)) Syntax.tnil))) Syntax.tnil))) Syntax.tnil))),
-    ) ∷ (12, Rows'.any-gone SlotAs.ty) ∷ (13, Rows'.any-gone Syntax.tyBool)
-    ∷ (
+          (Syntax.tyInt Syntax.w32) Syntax.tnil)) Syntax.tnil))) Syntax.tnil))) (Syntax.tcons (Syntax.tyStruct (116 ∷ 114 ∷ 97 ∷ 105 ∷ 108 ∷ 58 ∷ 58 ∷ 87 ∷ 97 ∷ 116
+          ∷ 99 ∷ 104 ∷ []) (Syntax.tcons (Syntax.tyInt Syntax.w64) (Syntax.tcons (Syntax.tyInt Syntax.w64) (Syntax.tcons (Syntax.tyInt Syntax.w64) (Syntax.tcons
+          (Syntax.tyInt Syntax.w64) (Syntax.tcons (Syntax.tyInt Syntax.w64) (Syntax.tcons (Syntax.tyInt Syntax.w64) (Syntax.tcons (Syntax.tyStruct (97 ∷ 104 ∷ 101 ∷
+          97 ∷ 100 ∷ 58 ∷ 58 ∷ 65 ∷ 104 ∷ 101 ∷ 97 ∷ 100 ∷ []) (Syntax.tcons (Syntax.tyInt Syntax.w64) (Syntax.tcons (Syntax.tyInt Syntax.w64) (Syntax.tcons
+          (Syntax.tyInt Syntax.w64) Syntax.tnil)))) Syntax.tnil)))))))) Syntax.tnil)))),
+    ) ∷ (12, Rows'.any-gone SlotAs.ty) ∷ (13, Rows'.any-gone Syntax.tyBool) ∷ (
       14,
-      Rows'.any-gone (Syntax.tyStruct (115 ∷ 101 ∷ 97 ∷ 114 ∷ 99 ∷ 104 ∷ 58 ∷ 58 ∷ 83 ∷ 111 ∷ 117 ∷ 103 ∷ 104 ∷ 116 ∷ []) (Syntax.tcons (Syntax.tyStruct
-          (115 ∷ 101 ∷ 97 ∷ 114 ∷ 99 ∷ 104 ∷ 58 ∷ 58 ∷ 78 ∷ 101 ∷ 97 ∷ 114 ∷ []) (Syntax.tcons (Syntax.tyInt Syntax.w64) (Syntax.tcons (Syntax.tyStruct (102 ∷ 105 ∷
-          101 ∷ 108 ∷ 100 ∷ 115 ∷ 58 ∷ 58 ∷ 83 ∷ 101 ∷ 114 ∷ 105 ∷ 97 ∷ 108 ∷ []) (Syntax.tcons (Syntax.tyInt Syntax.w32) Syntax.tnil)) Syntax.tnil))) (Syntax.tcons
+      Rows'.any-gone (Syntax.tyStruct (115 ∷ 101 ∷ 97 ∷ 114 ∷ 99 ∷ 104 ∷ 58 ∷ 58 ∷ 83 ∷ 111 ∷ 117 ∷ 103 ∷ 104 ∷ 116 ∷ []) (Syntax.tcons (Syntax.tyStruct (115 ∷
+          101 ∷ 97 ∷ 114 ∷ 99 ∷ 104 ∷ 58 ∷ 58 ∷ 78 ∷ 101 ∷ 97 ∷ 114 ∷ []) (Syntax.tcons (Syntax.tyInt Syntax.w64) (Syntax.tcons (Syntax.tyStruct (102 ∷ 105 ∷ 101 ∷
+          108 ∷ 100 ∷ 115 ∷ 58 ∷ 58 ∷ 83 ∷ 101 ∷ 114 ∷ 105 ∷ 97 ∷ 108 ∷ []) (Syntax.tcons (Syntax.tyInt Syntax.w32) Syntax.tnil)) Syntax.tnil))) (Syntax.tcons
           Syntax.tyBool Syntax.tnil))),
     ) ∷ (
       15,
@@ -3643,406 +3788,12 @@ t24 = (0, Rows'.whole (Declared'.row (Apart.apartT Findings.the-type))) ∷ (
       ∷ 114 ∷ 99 ∷ 104 ∷ 58 ∷ 58 ∷ 83 ∷ 112 ∷ 97 ∷ 110 ∷ []) (Syntax.tcons (Syntax.tyInt Syntax.w64) (Syntax.tcons (Syntax.tyInt Syntax.w64) Syntax.tnil)))
       (Syntax.tcons (Syntax.tyStruct (115 ∷ 101 ∷ 97 ∷ 114 ∷ 99 ∷ 104 ∷ 58 ∷ 58 ∷ 78 ∷ 101 ∷ 97 ∷ 114 ∷ []) (Syntax.tcons (Syntax.tyInt Syntax.w64) (Syntax.tcons
       (Syntax.tyStruct (102 ∷ 105 ∷ 101 ∷ 108 ∷ 100 ∷ 115 ∷ 58 ∷ 58 ∷ 83 ∷ 101 ∷ 114 ∷ 105 ∷ 97 ∷ 108 ∷ []) (Syntax.tcons (Syntax.tyInt Syntax.w32) Syntax.tnil))
-      Syntax.tnil))) Syntax.tnil))) Syntax.tnil))),
+      Syntax.tnil))) Syntax.tnil))) (Syntax.tcons (Syntax.tyStruct (116 ∷ 114 ∷ 97 ∷ 105 ∷ 108 ∷ 58 ∷ 58 ∷ 87 ∷ 97 ∷ 116 ∷ 99 ∷ 104 ∷ []) (Syntax.tcons
+      (Syntax.tyInt Syntax.w64) (Syntax.tcons (Syntax.tyInt Syntax.w64) (Syntax.tcons (Syntax.tyInt Syntax.w64) (Syntax.tcons (Syntax.tyInt Syntax.w64)
+      (Syntax.tcons (Syntax.tyInt Syntax.w64) (Syntax.tcons (Syntax.tyInt Syntax.w64) (Syntax.tcons (Syntax.tyStruct (97 ∷ 104 ∷ 101 ∷ 97 ∷ 100 ∷ 58 ∷ 58 ∷ 65 ∷
+      104 ∷ 101 ∷ 97 ∷ 100 ∷ []) (Syntax.tcons (Syntax.tyInt Syntax.w64) (Syntax.tcons (Syntax.tyInt Syntax.w64) (Syntax.tcons (Syntax.tyInt Syntax.w64)
+      Syntax.tnil)))) Syntax.tnil)))))))) Syntax.tnil)))),
 ) ∷ (5, Rows'.sc-here (Row.sInt Syntax.w64)) ∷ (6, Rows'.sc-here Row.sBool) ∷ (
-  7,
-  Rows'.sc-here (Row.sInt
-      Syntax.w64),
-) ∷ (
-  8,
-  Rows'.any-gone (Syntax.tyStruct (115 ∷ 101 ∷ 97 ∷ 114 ∷ 99 ∷ 104 ∷ 58 ∷ 58 ∷ 78 ∷ 101 ∷ 97 ∷ 114 ∷ []) (Syntax.tcons (Syntax.tyInt
-      Syntax.w64) (Syntax.tcons (Syntax.tyStruct (102 ∷ 105 ∷ 101 ∷ 108 ∷ 100 ∷ 115 ∷ 58 ∷ 58 ∷ 83 ∷ 101 ∷ 114 ∷ 105 ∷ 97 ∷ 108 ∷ []) (Syntax.tcons (Syntax.tyInt
-      Syntax.w32) Syntax.tnil)) Syntax.tnil))),
-) ∷ (
-  9,
-  Rows'.any-gone (Syntax.tyEnum (112 ∷ 105 ∷ 101 ∷ 99 ∷ 101 ∷ 115 ∷ 58 ∷ 58 ∷ 76 ∷ 105 ∷ 110 ∷ 101 ∷ [])
-      (Syntax.ttcons (Syntax.tcons (Syntax.tyInt Syntax.w8) Syntax.tnil) (Syntax.ttcons (Syntax.tcons (Syntax.tyEnum (107 ∷ 105 ∷ 110 ∷ 100 ∷ 115 ∷ 58 ∷ 58 ∷ 75
-      ∷ 105 ∷ 110 ∷ 100 ∷ []) (Syntax.ttcons Syntax.tnil (Syntax.ttcons Syntax.tnil (Syntax.ttcons Syntax.tnil (Syntax.ttcons Syntax.tnil (Syntax.ttcons
-      Syntax.tnil (Syntax.ttcons Syntax.tnil (Syntax.ttcons Syntax.tnil (Syntax.ttcons Syntax.tnil (Syntax.ttcons Syntax.tnil (Syntax.ttcons Syntax.tnil
-      (Syntax.ttcons Syntax.tnil (Syntax.ttcons Syntax.tnil (Syntax.ttcons Syntax.tnil (Syntax.ttcons Syntax.tnil (Syntax.ttcons Syntax.tnil (Syntax.ttcons
-      Syntax.tnil (Syntax.ttcons Syntax.tnil (Syntax.ttcons Syntax.tnil (Syntax.ttcons Syntax.tnil (Syntax.ttcons Syntax.tnil (Syntax.ttcons Syntax.tnil
-      (Syntax.ttcons Syntax.tnil (Syntax.ttcons Syntax.tnil (Syntax.ttcons Syntax.tnil (Syntax.ttcons Syntax.tnil (Syntax.ttcons Syntax.tnil (Syntax.ttcons
-      Syntax.tnil (Syntax.ttcons Syntax.tnil Syntax.ttnil))))))))))))))))))))))))))))) (Syntax.tcons (Syntax.tyInt Syntax.w32) Syntax.tnil)) (Syntax.ttcons
-      (Syntax.tcons (Syntax.tyEnum (107 ∷ 105 ∷ 110 ∷ 100 ∷ 115 ∷ 58 ∷ 58 ∷ 75 ∷ 105 ∷ 110 ∷ 100 ∷ []) (Syntax.ttcons Syntax.tnil (Syntax.ttcons Syntax.tnil
-      (Syntax.ttcons Syntax.tnil (Syntax.ttcons Syntax.tnil (Syntax.ttcons Syntax.tnil (Syntax.ttcons Syntax.tnil (Syntax.ttcons Syntax.tnil (Syntax.ttcons
-      Syntax.tnil (Syntax.ttcons Syntax.tnil (Syntax.ttcons Syntax.tnil (Syntax.ttcons Syntax.tnil (Syntax.ttcons Syntax.tnil (Syntax.ttcons Syntax.tnil
-      (Syntax.ttcons Syntax.tnil (Syntax.ttcons Syntax.tnil (Syntax.ttcons Syntax.tnil (Syntax.ttcons Syntax.tnil (Syntax.ttcons Syntax.tnil (Syntax.ttcons
-      Syntax.tnil (Syntax.ttcons Syntax.tnil (Syntax.ttcons Syntax.tnil (Syntax.ttcons Syntax.tnil (Syntax.ttcons Syntax.tnil (Syntax.ttcons Syntax.tnil
-      (Syntax.ttcons Syntax.tnil (Syntax.ttcons Syntax.tnil (Syntax.ttcons Syntax.tnil (Syntax.ttcons Syntax.tnil Syntax.ttnil)))))))))))))))))))))))))))))
-      Syntax.tnil) (Syntax.ttcons (Syntax.tcons (Syntax.tyEnum (108 ∷ 105 ∷ 110 ∷ 101 ∷ 58 ∷ 58 ∷ 82 ∷ 101 ∷ 99 ∷ 111 ∷ 114 ∷ 100 ∷ []) (Syntax.ttcons
-      (Syntax.tcons Syntax.tyBool (Syntax.tcons (Syntax.tyStruct (99 ∷ 111 ∷ 111 ∷ 114 ∷ 100 ∷ 105 ∷ 110 ∷ 97 ∷ 116 ∷ 101 ∷ 58 ∷ 58 ∷ 65 ∷ 116 ∷ 111 ∷ 109 ∷ [])
-      (Syntax.tcons (Syntax.tyStruct (99 ∷ 111 ∷ 111 ∷ 114 ∷ 100 ∷ 105 ∷ 110 ∷ 97 ∷ 116 ∷ 101 ∷ 58 ∷ 58 ∷ 73 ∷ 100 ∷ 101 ∷ 110 ∷ 116 ∷ 105 ∷ 116 ∷ 121 ∷ [])
-      (Syntax.tcons (Syntax.tyStruct (102 ∷ 105 ∷ 101 ∷ 108 ∷ 100 ∷ 115 ∷ 58 ∷ 58 ∷ 83 ∷ 101 ∷ 114 ∷ 105 ∷ 97 ∷ 108 ∷ []) (Syntax.tcons (Syntax.tyInt Syntax.w32)
-      Syntax.tnil)) (Syntax.tcons (Syntax.tyStruct (110 ∷ 97 ∷ 109 ∷ 101 ∷ 115 ∷ 58 ∷ 58 ∷ 70 ∷ 111 ∷ 117 ∷ 114 ∷ []) (Syntax.tcons (Syntax.tyInt Syntax.w8)
-      (Syntax.tcons (Syntax.tyInt Syntax.w8) (Syntax.tcons (Syntax.tyInt Syntax.w8) (Syntax.tcons (Syntax.tyInt Syntax.w8) Syntax.tnil))))) (Syntax.tcons
-      (Syntax.tyInt Syntax.w8) (Syntax.tcons (Syntax.tyStruct (114 ∷ 101 ∷ 115 ∷ 105 ∷ 100 ∷ 117 ∷ 101 ∷ 58 ∷ 58 ∷ 82 ∷ 101 ∷ 115 ∷ 105 ∷ 100 ∷ 117 ∷ 101 ∷ [])
-      (Syntax.tcons (Syntax.tyStruct (110 ∷ 97 ∷ 109 ∷ 101 ∷ 115 ∷ 58 ∷ 58 ∷ 84 ∷ 104 ∷ 114 ∷ 101 ∷ 101 ∷ []) (Syntax.tcons (Syntax.tyInt Syntax.w8)
-      (Syntax.tcons (Syntax.tyInt Syntax.w8) (Syntax.tcons (Syntax.tyInt Syntax.w8) Syntax.tnil)))) (Syntax.tcons (Syntax.tyInt Syntax.w8) (Syntax.tcons
-      (Syntax.tyStruct (102 ∷ 105 ∷ 101 ∷ 108 ∷ 100 ∷ 115 ∷ 58 ∷ 58 ∷ 82 ∷ 101 ∷ 115 ∷ 105 ∷ 100 ∷ 117 ∷ 101 ∷ 78 ∷ 117 ∷ 109 ∷ 98 ∷ 101 ∷ 114 ∷ [])
-      (Syntax.tcons (Syntax.tyInt Syntax.w32) Syntax.tnil)) (Syntax.tcons (Syntax.tyInt Syntax.w8) Syntax.tnil))))) Syntax.tnil))))) (Syntax.tcons
-      (Syntax.tyStruct (99 ∷ 111 ∷ 111 ∷ 114 ∷ 100 ∷ 105 ∷ 110 ∷ 97 ∷ 116 ∷ 101 ∷ 58 ∷ 58 ∷ 77 ∷ 101 ∷ 97 ∷ 115 ∷ 117 ∷ 114 ∷ 101 ∷ []) (Syntax.tcons
-      (Syntax.tyStruct (99 ∷ 111 ∷ 111 ∷ 114 ∷ 100 ∷ 105 ∷ 110 ∷ 97 ∷ 116 ∷ 101 ∷ 58 ∷ 58 ∷ 80 ∷ 111 ∷ 115 ∷ 105 ∷ 116 ∷ 105 ∷ 111 ∷ 110 ∷ []) (Syntax.tcons
-      (Syntax.tyInt Syntax.w32) (Syntax.tcons (Syntax.tyInt Syntax.w32) (Syntax.tcons (Syntax.tyInt Syntax.w32) Syntax.tnil)))) (Syntax.tcons (Syntax.tyInt
-      Syntax.w32) (Syntax.tcons (Syntax.tyInt Syntax.w32) Syntax.tnil)))) (Syntax.tcons (Syntax.tyStruct (99 ∷ 111 ∷ 111 ∷ 114 ∷ 100 ∷ 105 ∷ 110 ∷ 97 ∷ 116 ∷ 101
-      ∷ 58 ∷ 58 ∷ 83 ∷ 112 ∷ 101 ∷ 99 ∷ 105 ∷ 101 ∷ 115 ∷ []) (Syntax.tcons (Syntax.tyStruct (110 ∷ 97 ∷ 109 ∷ 101 ∷ 115 ∷ 58 ∷ 58 ∷ 80 ∷ 97 ∷ 105 ∷ 114 ∷ [])
-      (Syntax.tcons (Syntax.tyInt Syntax.w8) (Syntax.tcons (Syntax.tyInt Syntax.w8) Syntax.tnil))) (Syntax.tcons (Syntax.tyStruct (110 ∷ 97 ∷ 109 ∷ 101 ∷ 115 ∷
-      58 ∷ 58 ∷ 80 ∷ 97 ∷ 105 ∷ 114 ∷ []) (Syntax.tcons (Syntax.tyInt Syntax.w8) (Syntax.tcons (Syntax.tyInt Syntax.w8) Syntax.tnil))) Syntax.tnil)))
-      Syntax.tnil)))) Syntax.tnil)) (Syntax.ttcons (Syntax.tcons (Syntax.tyStruct (116 ∷ 101 ∷ 114 ∷ 58 ∷ 58 ∷ 84 ∷ 101 ∷ 114 ∷ []) (Syntax.tcons
-      (Syntax.tyStruct (102 ∷ 105 ∷ 101 ∷ 108 ∷ 100 ∷ 115 ∷ 58 ∷ 58 ∷ 83 ∷ 101 ∷ 114 ∷ 105 ∷ 97 ∷ 108 ∷ []) (Syntax.tcons (Syntax.tyInt Syntax.w32) Syntax.tnil))
-      (Syntax.tcons (Syntax.tyStruct (114 ∷ 101 ∷ 115 ∷ 105 ∷ 100 ∷ 117 ∷ 101 ∷ 58 ∷ 58 ∷ 82 ∷ 101 ∷ 115 ∷ 105 ∷ 100 ∷ 117 ∷ 101 ∷ []) (Syntax.tcons
-      (Syntax.tyStruct (110 ∷ 97 ∷ 109 ∷ 101 ∷ 115 ∷ 58 ∷ 58 ∷ 84 ∷ 104 ∷ 114 ∷ 101 ∷ 101 ∷ []) (Syntax.tcons (Syntax.tyInt Syntax.w8) (Syntax.tcons
-      (Syntax.tyInt Syntax.w8) (Syntax.tcons (Syntax.tyInt Syntax.w8) Syntax.tnil)))) (Syntax.tcons (Syntax.tyInt Syntax.w8) (Syntax.tcons (Syntax.tyStruct (102
-      ∷ 105 ∷ 101 ∷ 108 ∷ 100 ∷ 115 ∷ 58 ∷ 58 ∷ 82 ∷ 101 ∷ 115 ∷ 105 ∷ 100 ∷ 117 ∷ 101 ∷ 78 ∷ 117 ∷ 109 ∷ 98 ∷ 101 ∷ 114 ∷ []) (Syntax.tcons (Syntax.tyInt
-      Syntax.w32) Syntax.tnil)) (Syntax.tcons (Syntax.tyInt Syntax.w8) Syntax.tnil))))) Syntax.tnil))) Syntax.tnil) (Syntax.ttcons (Syntax.tcons (Syntax.tyStruct
-      (104 ∷ 101 ∷ 108 ∷ 105 ∷ 120 ∷ 58 ∷ 58 ∷ 72 ∷ 101 ∷ 108 ∷ 105 ∷ 120 ∷ []) (Syntax.tcons (Syntax.tyStruct (104 ∷ 101 ∷ 108 ∷ 105 ∷ 120 ∷ 58 ∷ 58 ∷ 69 ∷ 120
-      ∷ 116 ∷ 101 ∷ 110 ∷ 116 ∷ []) (Syntax.tcons (Syntax.tyInt Syntax.w32) (Syntax.tcons (Syntax.tyStruct (110 ∷ 97 ∷ 109 ∷ 101 ∷ 115 ∷ 58 ∷ 58 ∷ 84 ∷ 104 ∷ 114
-      ∷ 101 ∷ 101 ∷ []) (Syntax.tcons (Syntax.tyInt Syntax.w8) (Syntax.tcons (Syntax.tyInt Syntax.w8) (Syntax.tcons (Syntax.tyInt Syntax.w8) Syntax.tnil))))
-      (Syntax.tcons (Syntax.tyStruct (114 ∷ 101 ∷ 115 ∷ 105 ∷ 100 ∷ 117 ∷ 101 ∷ 58 ∷ 58 ∷ 82 ∷ 101 ∷ 115 ∷ 105 ∷ 100 ∷ 117 ∷ 101 ∷ []) (Syntax.tcons
-      (Syntax.tyStruct (110 ∷ 97 ∷ 109 ∷ 101 ∷ 115 ∷ 58 ∷ 58 ∷ 84 ∷ 104 ∷ 114 ∷ 101 ∷ 101 ∷ []) (Syntax.tcons (Syntax.tyInt Syntax.w8) (Syntax.tcons
-      (Syntax.tyInt Syntax.w8) (Syntax.tcons (Syntax.tyInt Syntax.w8) Syntax.tnil)))) (Syntax.tcons (Syntax.tyInt Syntax.w8) (Syntax.tcons (Syntax.tyStruct (102
-      ∷ 105 ∷ 101 ∷ 108 ∷ 100 ∷ 115 ∷ 58 ∷ 58 ∷ 82 ∷ 101 ∷ 115 ∷ 105 ∷ 100 ∷ 117 ∷ 101 ∷ 78 ∷ 117 ∷ 109 ∷ 98 ∷ 101 ∷ 114 ∷ []) (Syntax.tcons (Syntax.tyInt
-      Syntax.w32) Syntax.tnil)) (Syntax.tcons (Syntax.tyInt Syntax.w8) Syntax.tnil))))) (Syntax.tcons (Syntax.tyStruct (114 ∷ 101 ∷ 115 ∷ 105 ∷ 100 ∷ 117 ∷ 101 ∷
-      58 ∷ 58 ∷ 82 ∷ 101 ∷ 115 ∷ 105 ∷ 100 ∷ 117 ∷ 101 ∷ []) (Syntax.tcons (Syntax.tyStruct (110 ∷ 97 ∷ 109 ∷ 101 ∷ 115 ∷ 58 ∷ 58 ∷ 84 ∷ 104 ∷ 114 ∷ 101 ∷ 101 ∷
-      []) (Syntax.tcons (Syntax.tyInt Syntax.w8) (Syntax.tcons (Syntax.tyInt Syntax.w8) (Syntax.tcons (Syntax.tyInt Syntax.w8) Syntax.tnil)))) (Syntax.tcons
-      (Syntax.tyInt Syntax.w8) (Syntax.tcons (Syntax.tyStruct (102 ∷ 105 ∷ 101 ∷ 108 ∷ 100 ∷ 115 ∷ 58 ∷ 58 ∷ 82 ∷ 101 ∷ 115 ∷ 105 ∷ 100 ∷ 117 ∷ 101 ∷ 78 ∷ 117 ∷
-      109 ∷ 98 ∷ 101 ∷ 114 ∷ []) (Syntax.tcons (Syntax.tyInt Syntax.w32) Syntax.tnil)) (Syntax.tcons (Syntax.tyInt Syntax.w8) Syntax.tnil))))) Syntax.tnil)))))
-      (Syntax.tcons (Syntax.tyInt Syntax.w32) (Syntax.tcons (Syntax.tyStruct (104 ∷ 101 ∷ 108 ∷ 105 ∷ 120 ∷ 58 ∷ 58 ∷ 67 ∷ 111 ∷ 109 ∷ 109 ∷ 101 ∷ 110 ∷ 116 ∷
-      []) (Syntax.tcons (Syntax.tyInt Syntax.w64) (Syntax.tcons (Syntax.tyInt Syntax.w64) (Syntax.tcons (Syntax.tyInt Syntax.w64) (Syntax.tcons (Syntax.tyInt
-      Syntax.w64) Syntax.tnil))))) (Syntax.tcons (Syntax.tyInt Syntax.w32) Syntax.tnil))))) Syntax.tnil) (Syntax.ttcons (Syntax.tcons (Syntax.tyStruct (115 ∷ 104
-      ∷ 101 ∷ 101 ∷ 116 ∷ 58 ∷ 58 ∷ 83 ∷ 104 ∷ 101 ∷ 101 ∷ 116 ∷ []) (Syntax.tcons (Syntax.tyStruct (115 ∷ 104 ∷ 101 ∷ 101 ∷ 116 ∷ 58 ∷ 58 ∷ 83 ∷ 116 ∷ 114 ∷ 97
-      ∷ 110 ∷ 100 ∷ []) (Syntax.tcons (Syntax.tyInt Syntax.w32) (Syntax.tcons (Syntax.tyStruct (110 ∷ 97 ∷ 109 ∷ 101 ∷ 115 ∷ 58 ∷ 58 ∷ 84 ∷ 104 ∷ 114 ∷ 101 ∷ 101
-      ∷ []) (Syntax.tcons (Syntax.tyInt Syntax.w8) (Syntax.tcons (Syntax.tyInt Syntax.w8) (Syntax.tcons (Syntax.tyInt Syntax.w8) Syntax.tnil)))) (Syntax.tcons
-      (Syntax.tyInt Syntax.w32) (Syntax.tcons (Syntax.tyStruct (114 ∷ 101 ∷ 115 ∷ 105 ∷ 100 ∷ 117 ∷ 101 ∷ 58 ∷ 58 ∷ 82 ∷ 101 ∷ 115 ∷ 105 ∷ 100 ∷ 117 ∷ 101 ∷ [])
-      (Syntax.tcons (Syntax.tyStruct (110 ∷ 97 ∷ 109 ∷ 101 ∷ 115 ∷ 58 ∷ 58 ∷ 84 ∷ 104 ∷ 114 ∷ 101 ∷ 101 ∷ []) (Syntax.tcons (Syntax.tyInt Syntax.w8)
-      (Syntax.tcons (Syntax.tyInt Syntax.w8) (Syntax.tcons (Syntax.tyInt Syntax.w8) Syntax.tnil)))) (Syntax.tcons (Syntax.tyInt Syntax.w8) (Syntax.tcons
-      (Syntax.tyStruct (102 ∷ 105 ∷ 101 ∷ 108 ∷ 100 ∷ 115 ∷ 58 ∷ 58 ∷ 82 ∷ 101 ∷ 115 ∷ 105 ∷ 100 ∷ 117 ∷ 101 ∷ 78 ∷ 117 ∷ 109 ∷ 98 ∷ 101 ∷ 114 ∷ [])
-      (Syntax.tcons (Syntax.tyInt Syntax.w32) Syntax.tnil)) (Syntax.tcons (Syntax.tyInt Syntax.w8) Syntax.tnil))))) (Syntax.tcons (Syntax.tyStruct (114 ∷ 101 ∷
-      115 ∷ 105 ∷ 100 ∷ 117 ∷ 101 ∷ 58 ∷ 58 ∷ 82 ∷ 101 ∷ 115 ∷ 105 ∷ 100 ∷ 117 ∷ 101 ∷ []) (Syntax.tcons (Syntax.tyStruct (110 ∷ 97 ∷ 109 ∷ 101 ∷ 115 ∷ 58 ∷ 58 ∷
-      84 ∷ 104 ∷ 114 ∷ 101 ∷ 101 ∷ []) (Syntax.tcons (Syntax.tyInt Syntax.w8) (Syntax.tcons (Syntax.tyInt Syntax.w8) (Syntax.tcons (Syntax.tyInt Syntax.w8)
-      Syntax.tnil)))) (Syntax.tcons (Syntax.tyInt Syntax.w8) (Syntax.tcons (Syntax.tyStruct (102 ∷ 105 ∷ 101 ∷ 108 ∷ 100 ∷ 115 ∷ 58 ∷ 58 ∷ 82 ∷ 101 ∷ 115 ∷ 105 ∷
-      100 ∷ 117 ∷ 101 ∷ 78 ∷ 117 ∷ 109 ∷ 98 ∷ 101 ∷ 114 ∷ []) (Syntax.tcons (Syntax.tyInt Syntax.w32) Syntax.tnil)) (Syntax.tcons (Syntax.tyInt Syntax.w8)
-      Syntax.tnil))))) (Syntax.tcons (Syntax.tyInt Syntax.w32) Syntax.tnil))))))) (Syntax.tcons (Syntax.tyEnum (115 ∷ 104 ∷ 101 ∷ 101 ∷ 116 ∷ 58 ∷ 58 ∷ 82 ∷ 101
-      ∷ 103 ∷ 105 ∷ 115 ∷ 116 ∷ 114 ∷ 97 ∷ 116 ∷ 105 ∷ 111 ∷ 110 ∷ []) (Syntax.ttcons Syntax.tnil (Syntax.ttcons (Syntax.tcons (Syntax.tyStruct (115 ∷ 104 ∷ 101
-      ∷ 101 ∷ 116 ∷ 58 ∷ 58 ∷ 66 ∷ 111 ∷ 110 ∷ 100 ∷ []) (Syntax.tcons (Syntax.tyStruct (110 ∷ 97 ∷ 109 ∷ 101 ∷ 115 ∷ 58 ∷ 58 ∷ 70 ∷ 111 ∷ 117 ∷ 114 ∷ [])
-      (Syntax.tcons (Syntax.tyInt Syntax.w8) (Syntax.tcons (Syntax.tyInt Syntax.w8) (Syntax.tcons (Syntax.tyInt Syntax.w8) (Syntax.tcons (Syntax.tyInt Syntax.w8)
-      Syntax.tnil))))) (Syntax.tcons (Syntax.tyStruct (114 ∷ 101 ∷ 115 ∷ 105 ∷ 100 ∷ 117 ∷ 101 ∷ 58 ∷ 58 ∷ 82 ∷ 101 ∷ 115 ∷ 105 ∷ 100 ∷ 117 ∷ 101 ∷ [])
-      (Syntax.tcons (Syntax.tyStruct (110 ∷ 97 ∷ 109 ∷ 101 ∷ 115 ∷ 58 ∷ 58 ∷ 84 ∷ 104 ∷ 114 ∷ 101 ∷ 101 ∷ []) (Syntax.tcons (Syntax.tyInt Syntax.w8)
-      (Syntax.tcons (Syntax.tyInt Syntax.w8) (Syntax.tcons (Syntax.tyInt Syntax.w8) Syntax.tnil)))) (Syntax.tcons (Syntax.tyInt Syntax.w8) (Syntax.tcons
-      (Syntax.tyStruct (102 ∷ 105 ∷ 101 ∷ 108 ∷ 100 ∷ 115 ∷ 58 ∷ 58 ∷ 82 ∷ 101 ∷ 115 ∷ 105 ∷ 100 ∷ 117 ∷ 101 ∷ 78 ∷ 117 ∷ 109 ∷ 98 ∷ 101 ∷ 114 ∷ [])
-      (Syntax.tcons (Syntax.tyInt Syntax.w32) Syntax.tnil)) (Syntax.tcons (Syntax.tyInt Syntax.w8) Syntax.tnil))))) (Syntax.tcons (Syntax.tyStruct (110 ∷ 97 ∷
-      109 ∷ 101 ∷ 115 ∷ 58 ∷ 58 ∷ 70 ∷ 111 ∷ 117 ∷ 114 ∷ []) (Syntax.tcons (Syntax.tyInt Syntax.w8) (Syntax.tcons (Syntax.tyInt Syntax.w8) (Syntax.tcons
-      (Syntax.tyInt Syntax.w8) (Syntax.tcons (Syntax.tyInt Syntax.w8) Syntax.tnil))))) (Syntax.tcons (Syntax.tyStruct (114 ∷ 101 ∷ 115 ∷ 105 ∷ 100 ∷ 117 ∷ 101 ∷
-      58 ∷ 58 ∷ 82 ∷ 101 ∷ 115 ∷ 105 ∷ 100 ∷ 117 ∷ 101 ∷ []) (Syntax.tcons (Syntax.tyStruct (110 ∷ 97 ∷ 109 ∷ 101 ∷ 115 ∷ 58 ∷ 58 ∷ 84 ∷ 104 ∷ 114 ∷ 101 ∷ 101 ∷
-      []) (Syntax.tcons (Syntax.tyInt Syntax.w8) (Syntax.tcons (Syntax.tyInt Syntax.w8) (Syntax.tcons (Syntax.tyInt Syntax.w8) Syntax.tnil)))) (Syntax.tcons
-      (Syntax.tyInt Syntax.w8) (Syntax.tcons (Syntax.tyStruct (102 ∷ 105 ∷ 101 ∷ 108 ∷ 100 ∷ 115 ∷ 58 ∷ 58 ∷ 82 ∷ 101 ∷ 115 ∷ 105 ∷ 100 ∷ 117 ∷ 101 ∷ 78 ∷ 117 ∷
-      109 ∷ 98 ∷ 101 ∷ 114 ∷ []) (Syntax.tcons (Syntax.tyInt Syntax.w32) Syntax.tnil)) (Syntax.tcons (Syntax.tyInt Syntax.w8) Syntax.tnil))))) Syntax.tnil)))))
-      Syntax.tnil) Syntax.ttnil))) Syntax.tnil))) Syntax.tnil) (Syntax.ttcons (Syntax.tcons (Syntax.tyStruct (99 ∷ 111 ∷ 110 ∷ 101 ∷ 99 ∷ 116 ∷ 58 ∷ 58 ∷ 67 ∷
-      111 ∷ 110 ∷ 101 ∷ 99 ∷ 116 ∷ []) (Syntax.tcons (Syntax.tyStruct (102 ∷ 105 ∷ 101 ∷ 108 ∷ 100 ∷ 115 ∷ 58 ∷ 58 ∷ 83 ∷ 101 ∷ 114 ∷ 105 ∷ 97 ∷ 108 ∷ [])
-      (Syntax.tcons (Syntax.tyInt Syntax.w32) Syntax.tnil)) (Syntax.tcons (Syntax.tyStruct (102 ∷ 105 ∷ 101 ∷ 108 ∷ 100 ∷ 115 ∷ 58 ∷ 58 ∷ 83 ∷ 101 ∷ 114 ∷ 105 ∷
-      97 ∷ 108 ∷ []) (Syntax.tcons (Syntax.tyInt Syntax.w32) Syntax.tnil)) (Syntax.tcons (Syntax.tyStruct (102 ∷ 105 ∷ 101 ∷ 108 ∷ 100 ∷ 115 ∷ 58 ∷ 58 ∷ 83 ∷ 101
-      ∷ 114 ∷ 105 ∷ 97 ∷ 108 ∷ []) (Syntax.tcons (Syntax.tyInt Syntax.w32) Syntax.tnil)) (Syntax.tcons (Syntax.tyStruct (102 ∷ 105 ∷ 101 ∷ 108 ∷ 100 ∷ 115 ∷ 58 ∷
-      58 ∷ 83 ∷ 101 ∷ 114 ∷ 105 ∷ 97 ∷ 108 ∷ []) (Syntax.tcons (Syntax.tyInt Syntax.w32) Syntax.tnil)) (Syntax.tcons (Syntax.tyStruct (102 ∷ 105 ∷ 101 ∷ 108 ∷
-      100 ∷ 115 ∷ 58 ∷ 58 ∷ 83 ∷ 101 ∷ 114 ∷ 105 ∷ 97 ∷ 108 ∷ []) (Syntax.tcons (Syntax.tyInt Syntax.w32) Syntax.tnil)) Syntax.tnil)))))) Syntax.tnil)
-      (Syntax.ttcons (Syntax.tcons (Syntax.tyStruct (109 ∷ 97 ∷ 115 ∷ 116 ∷ 101 ∷ 114 ∷ 58 ∷ 58 ∷ 84 ∷ 97 ∷ 108 ∷ 108 ∷ 121 ∷ []) (Syntax.tcons (Syntax.tyInt
-      Syntax.w32) (Syntax.tcons (Syntax.tyInt Syntax.w32) (Syntax.tcons (Syntax.tyInt Syntax.w32) (Syntax.tcons (Syntax.tyInt Syntax.w32) (Syntax.tcons
-      (Syntax.tyInt Syntax.w32) (Syntax.tcons (Syntax.tyInt Syntax.w32) (Syntax.tcons (Syntax.tyInt Syntax.w32) (Syntax.tcons (Syntax.tyInt Syntax.w32)
-      (Syntax.tcons (Syntax.tyInt Syntax.w32) Syntax.tnil)))))))))) Syntax.tnil) (Syntax.ttcons Syntax.tnil Syntax.ttnil)))))))) Syntax.tnil) Syntax.ttnil))))),
-)
-    ∷ (
-      10,
-      Rows'.any-gone (Syntax.tyStruct (103 ∷ 97 ∷ 116 ∷ 101 ∷ 58 ∷ 58 ∷ 79 ∷ 110 ∷ 119 ∷ 97 ∷ 114 ∷ 100 ∷ []) (Syntax.tcons (Syntax.tyInt Syntax.w8)
-          (Syntax.tcons (Syntax.tyStruct (103 ∷ 97 ∷ 116 ∷ 101 ∷ 58 ∷ 58 ∷ 67 ∷ 111 ∷ 117 ∷ 114 ∷ 115 ∷ 101 ∷ []) (Syntax.tcons (Syntax.tyStruct (114 ∷ 117 ∷ 108 ∷
-          101 ∷ 115 ∷ 58 ∷ 58 ∷ 83 ∷ 116 ∷ 97 ∷ 116 ∷ 101 ∷ []) (Syntax.tcons (Syntax.tyInt Syntax.w8) (Syntax.tcons (Syntax.tyStruct (102 ∷ 105 ∷ 101 ∷ 108 ∷ 100 ∷
-          115 ∷ 58 ∷ 58 ∷ 83 ∷ 101 ∷ 114 ∷ 105 ∷ 97 ∷ 108 ∷ []) (Syntax.tcons (Syntax.tyInt Syntax.w32) Syntax.tnil)) (Syntax.tcons (Syntax.tyStruct (114 ∷ 117 ∷ 108
-          ∷ 101 ∷ 115 ∷ 58 ∷ 58 ∷ 82 ∷ 117 ∷ 110 ∷ []) (Syntax.tcons Syntax.tyBool (Syntax.tcons Syntax.tyBool (Syntax.tcons Syntax.tyBool (Syntax.tcons
-          (Syntax.tyStruct (114 ∷ 101 ∷ 115 ∷ 105 ∷ 100 ∷ 117 ∷ 101 ∷ 58 ∷ 58 ∷ 82 ∷ 101 ∷ 115 ∷ 105 ∷ 100 ∷ 117 ∷ 101 ∷ []) (Syntax.tcons (Syntax.tyStruct (110 ∷ 97
-          ∷ 109 ∷ 101 ∷ 115 ∷ 58 ∷ 58 ∷ 84 ∷ 104 ∷ 114 ∷ 101 ∷ 101 ∷ []) (Syntax.tcons (Syntax.tyInt Syntax.w8) (Syntax.tcons (Syntax.tyInt Syntax.w8) (Syntax.tcons
-          (Syntax.tyInt Syntax.w8) Syntax.tnil)))) (Syntax.tcons (Syntax.tyInt Syntax.w8) (Syntax.tcons (Syntax.tyStruct (102 ∷ 105 ∷ 101 ∷ 108 ∷ 100 ∷ 115 ∷ 58 ∷ 58
-          ∷ 82 ∷ 101 ∷ 115 ∷ 105 ∷ 100 ∷ 117 ∷ 101 ∷ 78 ∷ 117 ∷ 109 ∷ 98 ∷ 101 ∷ 114 ∷ []) (Syntax.tcons (Syntax.tyInt Syntax.w32) Syntax.tnil)) (Syntax.tcons
-          (Syntax.tyInt Syntax.w8) Syntax.tnil))))) Syntax.tnil))))) (Syntax.tcons (Syntax.tyStruct (102 ∷ 105 ∷ 101 ∷ 108 ∷ 100 ∷ 115 ∷ 58 ∷ 58 ∷ 83 ∷ 101 ∷ 114 ∷
-          105 ∷ 97 ∷ 108 ∷ []) (Syntax.tcons (Syntax.tyInt Syntax.w32) Syntax.tnil)) (Syntax.tcons (Syntax.tyInt Syntax.w32) (Syntax.tcons (Syntax.tyStruct (114 ∷
-          117 ∷ 108 ∷ 101 ∷ 115 ∷ 58 ∷ 58 ∷ 76 ∷ 97 ∷ 100 ∷ 100 ∷ 101 ∷ 114 ∷ []) (Syntax.tcons (Syntax.tyStruct (110 ∷ 97 ∷ 109 ∷ 101 ∷ 115 ∷ 58 ∷ 58 ∷ 84 ∷ 104 ∷
-          114 ∷ 101 ∷ 101 ∷ []) (Syntax.tcons (Syntax.tyInt Syntax.w8) (Syntax.tcons (Syntax.tyInt Syntax.w8) (Syntax.tcons (Syntax.tyInt Syntax.w8) Syntax.tnil))))
-          (Syntax.tcons (Syntax.tyInt Syntax.w32) (Syntax.tcons (Syntax.tyInt Syntax.w32) Syntax.tnil)))) (Syntax.tcons (Syntax.tyStruct (112 ∷ 108 ∷ 97 ∷ 99 ∷ 101 ∷
-          115 ∷ 58 ∷ 58 ∷ 67 ∷ 111 ∷ 117 ∷ 110 ∷ 116 ∷ 115 ∷ []) (Syntax.tcons (Syntax.tyInt Syntax.w64) (Syntax.tcons (Syntax.tyInt Syntax.w64) (Syntax.tcons
-          (Syntax.tyInt Syntax.w64) (Syntax.tcons (Syntax.tyInt Syntax.w64) (Syntax.tcons (Syntax.tyInt Syntax.w64) (Syntax.tcons (Syntax.tyInt Syntax.w64)
-          (Syntax.tcons (Syntax.tyInt Syntax.w64) (Syntax.tcons (Syntax.tyInt Syntax.w64) (Syntax.tcons (Syntax.tyInt Syntax.w64) Syntax.tnil)))))))))) (Syntax.tcons
-          (Syntax.tyInt Syntax.w64) Syntax.tnil))))))))) (Syntax.tcons (Syntax.tyStruct (115 ∷ 101 ∷ 114 ∷ 105 ∷ 97 ∷ 108 ∷ 115 ∷ 58 ∷ 58 ∷ 80 ∷ 97 ∷ 115 ∷ 116 ∷ [])
-          (Syntax.tcons (Syntax.tyStruct (115 ∷ 101 ∷ 97 ∷ 114 ∷ 99 ∷ 104 ∷ 58 ∷ 58 ∷ 83 ∷ 112 ∷ 97 ∷ 110 ∷ []) (Syntax.tcons (Syntax.tyInt Syntax.w64) (Syntax.tcons
-          (Syntax.tyInt Syntax.w64) Syntax.tnil))) (Syntax.tcons (Syntax.tyStruct (115 ∷ 101 ∷ 97 ∷ 114 ∷ 99 ∷ 104 ∷ 58 ∷ 58 ∷ 78 ∷ 101 ∷ 97 ∷ 114 ∷ [])
-          (Syntax.tcons (Syntax.tyInt Syntax.w64) (Syntax.tcons (Syntax.tyStruct (102 ∷ 105 ∷ 101 ∷ 108 ∷ 100 ∷ 115 ∷ 58 ∷ 58 ∷ 83 ∷ 101 ∷ 114 ∷ 105 ∷ 97 ∷ 108 ∷ [])
-          (Syntax.tcons (Syntax.tyInt Syntax.w32) Syntax.tnil)) Syntax.tnil))) Syntax.tnil))) Syntax.tnil))) Syntax.tnil))),
-    ) ∷ (
-      11,
-      Rows'.any-gone (Syntax.tyStruct
-          (103 ∷ 97 ∷ 116 ∷ 101 ∷ 58 ∷ 58 ∷ 67 ∷ 111 ∷ 117 ∷ 114 ∷ 115 ∷ 101 ∷ []) (Syntax.tcons (Syntax.tyStruct (114 ∷ 117 ∷ 108 ∷ 101 ∷ 115 ∷ 58 ∷ 58 ∷ 83 ∷ 116 ∷
-          97 ∷ 116 ∷ 101 ∷ []) (Syntax.tcons (Syntax.tyInt Syntax.w8) (Syntax.tcons (Syntax.tyStruct (102 ∷ 105 ∷ 101 ∷ 108 ∷ 100 ∷ 115 ∷ 58 ∷ 58 ∷ 83 ∷ 101 ∷ 114 ∷
-          105 ∷ 97 ∷ 108 ∷ []) (Syntax.tcons (Syntax.tyInt Syntax.w32) Syntax.tnil)) (Syntax.tcons (Syntax.tyStruct (114 ∷ 117 ∷ 108 ∷ 101 ∷ 115 ∷ 58 ∷ 58 ∷ 82 ∷ 117
-          ∷ 110 ∷ []) (Syntax.tcons Syntax.tyBool (Syntax.tcons Syntax.tyBool (Syntax.tcons Syntax.tyBool (Syntax.tcons (Syntax.tyStruct (114 ∷ 101 ∷ 115 ∷ 105 ∷ 100
-          ∷ 117 ∷ 101 ∷ 58 ∷ 58 ∷ 82 ∷ 101 ∷ 115 ∷ 105 ∷ 100 ∷ 117 ∷ 101 ∷ []) (Syntax.tcons (Syntax.tyStruct (110 ∷ 97 ∷ 109 ∷ 101 ∷ 115 ∷ 58 ∷ 58 ∷ 84 ∷ 104 ∷ 114
-          ∷ 101 ∷ 101 ∷ []) (Syntax.tcons (Syntax.tyInt Syntax.w8) (Syntax.tcons (Syntax.tyInt Syntax.w8) (Syntax.tcons (Syntax.tyInt Syntax.w8) Syntax.tnil))))
-          (Syntax.tcons (Syntax.tyInt Syntax.w8) (Syntax.tcons (Syntax.tyStruct (102 ∷ 105 ∷ 101 ∷ 108 ∷ 100 ∷ 115 ∷ 58 ∷ 58 ∷ 82 ∷ 101 ∷ 115 ∷ 105 ∷ 100 ∷ 117 ∷ 101
-          ∷ 78 ∷ 117 ∷ 109 ∷ 98 ∷ 101 ∷ 114 ∷ []) (Syntax.tcons (Syntax.tyInt Syntax.w32) Syntax.tnil)) (Syntax.tcons (Syntax.tyInt Syntax.w8) Syntax.tnil)))))
-          Syntax.tnil))))) (Syntax.tcons (Syntax.tyStruct (102 ∷ 105 ∷ 101 ∷ 108 ∷ 100 ∷ 115 ∷ 58 ∷ 58 ∷ 83 ∷ 101 ∷ 114 ∷ 105 ∷ 97 ∷ 108 ∷ []) (Syntax.tcons
-          (Syntax.tyInt Syntax.w32) Syntax.tnil)) (Syntax.tcons (Syntax.tyInt Syntax.w32) (Syntax.tcons (Syntax.tyStruct (114 ∷ 117 ∷ 108 ∷ 101 ∷ 115 ∷ 58 ∷ 58 ∷ 76
-          ∷ 97 ∷ 100 ∷ 100 ∷ 101 ∷ 114 ∷ []) (Syntax.tcons (Syntax.tyStruct (110 ∷ 97 ∷ 109 ∷ 101 ∷ 115 ∷ 58 ∷ 58 ∷ 84 ∷ 104 ∷ 114 ∷ 101 ∷ 101 ∷ []) (Syntax.tcons
-          (Syntax.tyInt Syntax.w8) (Syntax.tcons (Syntax.tyInt Syntax.w8) (Syntax.tcons (Syntax.tyInt Syntax.w8) Syntax.tnil)))) (Syntax.tcons (Syntax.tyInt
-          Syntax.w32) (Syntax.tcons (Syntax.tyInt Syntax.w32) Syntax.tnil)))) (Syntax.tcons (Syntax.tyStruct (112 ∷ 108 ∷ 97 ∷ 99 ∷ 101 ∷ 115 ∷ 58 ∷ 58 ∷ 67 ∷ 111 ∷
-          117 ∷ 110 ∷ 116 ∷ 115 ∷ []) (Syntax.tcons (Syntax.tyInt Syntax.w64) (Syntax.tcons (Syntax.tyInt Syntax.w64) (Syntax.tcons (Syntax.tyInt Syntax.w64)
-          (Syntax.tcons (Syntax.tyInt Syntax.w64) (Syntax.tcons (Syntax.tyInt Syntax.w64) (Syntax.tcons (Syntax.tyInt Syntax.w64) (Syntax.tcons (Syntax.tyInt
-          Syntax.w64) (Syntax.tcons (Syntax.tyInt Syntax.w64) (Syntax.tcons (Syntax.tyInt Syntax.w64) Syntax.tnil)))))))))) (Syntax.tcons (Syntax.tyInt Syntax.w64)
-          Syntax.tnil))))))))) (Syntax.tcons (Syntax.tyStruct (115 ∷ 101 ∷ 114 ∷ 105 ∷ 97 ∷ 108 ∷ 115 ∷ 58 ∷ 58 ∷ 80 ∷ 97 ∷ 115 ∷ 116 ∷ []) (Syntax.tcons
-          (Syntax.tyStruct (115 ∷ 101 ∷ 97 ∷ 114 ∷ 99 ∷ 104 ∷ 58 ∷ 58 ∷ 83 ∷ 112 ∷ 97 ∷ 110 ∷ []) (Syntax.tcons (Syntax.tyInt Syntax.w64) (Syntax.tcons (Syntax.tyInt
-          Syntax.w64) Syntax.tnil))) (Syntax.tcons (Syntax.tyStruct (115 ∷ 101 ∷ 97 ∷ 114 ∷ 99 ∷ 104 ∷ 58 ∷ 58 ∷ 78 ∷ 101 ∷ 97 ∷ 114 ∷ []) (Syntax.tcons
-          (Syntax.tyInt Syntax.w64) (Syntax.tcons (Syntax.tyStruct (102 ∷ 105 ∷ 101 ∷ 108 ∷ 100 ∷ 115 ∷ 58 ∷ 58 ∷ 83 ∷ 101 ∷ 114 ∷ 105 ∷ 97 ∷ 108 ∷ []) (Syntax.tcons
-          (Syntax.tyInt Syntax.w32) Syntax.tnil)) Syntax.tnil))) Syntax.tnil))) Syntax.tnil))),
-    ) ∷ (12, Rows'.any-gone SlotAs.ty) ∷ (13, Rows'.any-gone Syntax.tyBool)
-    ∷ (
-      14,
-      Rows'.any-gone (Syntax.tyStruct (115 ∷ 101 ∷ 97 ∷ 114 ∷ 99 ∷ 104 ∷ 58 ∷ 58 ∷ 83 ∷ 111 ∷ 117 ∷ 103 ∷ 104 ∷ 116 ∷ []) (Syntax.tcons (Syntax.tyStruct
-          (115 ∷ 101 ∷ 97 ∷ 114 ∷ 99 ∷ 104 ∷ 58 ∷ 58 ∷ 78 ∷ 101 ∷ 97 ∷ 114 ∷ []) (Syntax.tcons (Syntax.tyInt Syntax.w64) (Syntax.tcons (Syntax.tyStruct (102 ∷ 105 ∷
-          101 ∷ 108 ∷ 100 ∷ 115 ∷ 58 ∷ 58 ∷ 83 ∷ 101 ∷ 114 ∷ 105 ∷ 97 ∷ 108 ∷ []) (Syntax.tcons (Syntax.tyInt Syntax.w32) Syntax.tnil)) Syntax.tnil))) (Syntax.tcons
-          Syntax.tyBool Syntax.tnil))),
-    ) ∷ (
-      15,
-      Rows'.any-gone (Syntax.tyStruct (115 ∷ 101 ∷ 97 ∷ 114 ∷ 99 ∷ 104 ∷ 58 ∷ 58 ∷ 78 ∷ 101 ∷ 97 ∷ 114 ∷ []) (Syntax.tcons
-          (Syntax.tyInt Syntax.w64) (Syntax.tcons (Syntax.tyStruct (102 ∷ 105 ∷ 101 ∷ 108 ∷ 100 ∷ 115 ∷ 58 ∷ 58 ∷ 83 ∷ 101 ∷ 114 ∷ 105 ∷ 97 ∷ 108 ∷ []) (Syntax.tcons
-          (Syntax.tyInt Syntax.w32) Syntax.tnil)) Syntax.tnil))),
-    ) ∷ []
-
-abbrev pub t25 : List.List Row.Entry
-t25 = (0, Rows'.whole (Declared'.row (Apart.apartT Findings.the-type))) ∷ (
-  1,
-  Rows'.sslice (Referent.rtF (Referent.fInt Syntax.w8)) (Syntax.tyRef (Syntax.named
-      0) Syntax.imm (Syntax.tyInt Syntax.w8)) 0,
-) ∷ (2, Rows'.sslice SlotAs.row (Syntax.tyRef (Syntax.named 1) Syntax.imm SlotAs.pointee) 1) ∷ (
-  3,
-  Rows'.any-gone
-      (Syntax.tyInt Syntax.w64),
-) ∷ (
-  4,
-  Rows'.any-gone (Syntax.tyStruct (103 ∷ 97 ∷ 116 ∷ 101 ∷ 58 ∷ 58 ∷ 67 ∷ 111 ∷ 117 ∷ 114 ∷ 115 ∷ 101 ∷ []) (Syntax.tcons
-      (Syntax.tyStruct (114 ∷ 117 ∷ 108 ∷ 101 ∷ 115 ∷ 58 ∷ 58 ∷ 83 ∷ 116 ∷ 97 ∷ 116 ∷ 101 ∷ []) (Syntax.tcons (Syntax.tyInt Syntax.w8) (Syntax.tcons
-      (Syntax.tyStruct (102 ∷ 105 ∷ 101 ∷ 108 ∷ 100 ∷ 115 ∷ 58 ∷ 58 ∷ 83 ∷ 101 ∷ 114 ∷ 105 ∷ 97 ∷ 108 ∷ []) (Syntax.tcons (Syntax.tyInt Syntax.w32) Syntax.tnil))
-      (Syntax.tcons (Syntax.tyStruct (114 ∷ 117 ∷ 108 ∷ 101 ∷ 115 ∷ 58 ∷ 58 ∷ 82 ∷ 117 ∷ 110 ∷ []) (Syntax.tcons Syntax.tyBool (Syntax.tcons Syntax.tyBool
-      (Syntax.tcons Syntax.tyBool (Syntax.tcons (Syntax.tyStruct (114 ∷ 101 ∷ 115 ∷ 105 ∷ 100 ∷ 117 ∷ 101 ∷ 58 ∷ 58 ∷ 82 ∷ 101 ∷ 115 ∷ 105 ∷ 100 ∷ 117 ∷ 101 ∷
-      []) (Syntax.tcons (Syntax.tyStruct (110 ∷ 97 ∷ 109 ∷ 101 ∷ 115 ∷ 58 ∷ 58 ∷ 84 ∷ 104 ∷ 114 ∷ 101 ∷ 101 ∷ []) (Syntax.tcons (Syntax.tyInt Syntax.w8)
-      (Syntax.tcons (Syntax.tyInt Syntax.w8) (Syntax.tcons (Syntax.tyInt Syntax.w8) Syntax.tnil)))) (Syntax.tcons (Syntax.tyInt Syntax.w8) (Syntax.tcons
-      (Syntax.tyStruct (102 ∷ 105 ∷ 101 ∷ 108 ∷ 100 ∷ 115 ∷ 58 ∷ 58 ∷ 82 ∷ 101 ∷ 115 ∷ 105 ∷ 100 ∷ 117 ∷ 101 ∷ 78 ∷ 117 ∷ 109 ∷ 98 ∷ 101 ∷ 114 ∷ [])
-      (Syntax.tcons (Syntax.tyInt Syntax.w32) Syntax.tnil)) (Syntax.tcons (Syntax.tyInt Syntax.w8) Syntax.tnil))))) Syntax.tnil))))) (Syntax.tcons
-      (Syntax.tyStruct (102 ∷ 105 ∷ 101 ∷ 108 ∷ 100 ∷ 115 ∷ 58 ∷ 58 ∷ 83 ∷ 101 ∷ 114 ∷ 105 ∷ 97 ∷ 108 ∷ []) (Syntax.tcons (Syntax.tyInt Syntax.w32) Syntax.tnil))
-      (Syntax.tcons (Syntax.tyInt Syntax.w32) (Syntax.tcons (Syntax.tyStruct (114 ∷ 117 ∷ 108 ∷ 101 ∷ 115 ∷ 58 ∷ 58 ∷ 76 ∷ 97 ∷ 100 ∷ 100 ∷ 101 ∷ 114 ∷ [])
-      (Syntax.tcons (Syntax.tyStruct (110 ∷ 97 ∷ 109 ∷ 101 ∷ 115 ∷ 58 ∷ 58 ∷ 84 ∷ 104 ∷ 114 ∷ 101 ∷ 101 ∷ []) (Syntax.tcons (Syntax.tyInt Syntax.w8)
-      (Syntax.tcons (Syntax.tyInt Syntax.w8) (Syntax.tcons (Syntax.tyInt Syntax.w8) Syntax.tnil)))) (Syntax.tcons (Syntax.tyInt Syntax.w32) (Syntax.tcons
-      (Syntax.tyInt Syntax.w32) Syntax.tnil)))) (Syntax.tcons (Syntax.tyStruct (112 ∷ 108 ∷ 97 ∷ 99 ∷ 101 ∷ 115 ∷ 58 ∷ 58 ∷ 67 ∷ 111 ∷ 117 ∷ 110 ∷ 116 ∷ 115 ∷
-      []) (Syntax.tcons (Syntax.tyInt Syntax.w64) (Syntax.tcons (Syntax.tyInt Syntax.w64) (Syntax.tcons (Syntax.tyInt Syntax.w64) (Syntax.tcons (Syntax.tyInt
-      Syntax.w64) (Syntax.tcons (Syntax.tyInt Syntax.w64) (Syntax.tcons (Syntax.tyInt Syntax.w64) (Syntax.tcons (Syntax.tyInt Syntax.w64) (Syntax.tcons
-      (Syntax.tyInt Syntax.w64) (Syntax.tcons (Syntax.tyInt Syntax.w64) Syntax.tnil)))))))))) (Syntax.tcons (Syntax.tyInt Syntax.w64) Syntax.tnil)))))))))
-      (Syntax.tcons (Syntax.tyStruct (115 ∷ 101 ∷ 114 ∷ 105 ∷ 97 ∷ 108 ∷ 115 ∷ 58 ∷ 58 ∷ 80 ∷ 97 ∷ 115 ∷ 116 ∷ []) (Syntax.tcons (Syntax.tyStruct (115 ∷ 101 ∷ 97
-      ∷ 114 ∷ 99 ∷ 104 ∷ 58 ∷ 58 ∷ 83 ∷ 112 ∷ 97 ∷ 110 ∷ []) (Syntax.tcons (Syntax.tyInt Syntax.w64) (Syntax.tcons (Syntax.tyInt Syntax.w64) Syntax.tnil)))
-      (Syntax.tcons (Syntax.tyStruct (115 ∷ 101 ∷ 97 ∷ 114 ∷ 99 ∷ 104 ∷ 58 ∷ 58 ∷ 78 ∷ 101 ∷ 97 ∷ 114 ∷ []) (Syntax.tcons (Syntax.tyInt Syntax.w64) (Syntax.tcons
-      (Syntax.tyStruct (102 ∷ 105 ∷ 101 ∷ 108 ∷ 100 ∷ 115 ∷ 58 ∷ 58 ∷ 83 ∷ 101 ∷ 114 ∷ 105 ∷ 97 ∷ 108 ∷ []) (Syntax.tcons (Syntax.tyInt Syntax.w32) Syntax.tnil))
-      Syntax.tnil))) Syntax.tnil))) Syntax.tnil))),
-) ∷ (5, Rows'.any-gone (Syntax.tyInt Syntax.w64)) ∷ (6, Rows'.sc-here Row.sBool) ∷ (
-  7,
-  Rows'.sc-here (Row.sInt
-      Syntax.w64),
-) ∷ (
-  8,
-  Rows'.any-gone (Syntax.tyStruct (115 ∷ 101 ∷ 97 ∷ 114 ∷ 99 ∷ 104 ∷ 58 ∷ 58 ∷ 78 ∷ 101 ∷ 97 ∷ 114 ∷ []) (Syntax.tcons (Syntax.tyInt
-      Syntax.w64) (Syntax.tcons (Syntax.tyStruct (102 ∷ 105 ∷ 101 ∷ 108 ∷ 100 ∷ 115 ∷ 58 ∷ 58 ∷ 83 ∷ 101 ∷ 114 ∷ 105 ∷ 97 ∷ 108 ∷ []) (Syntax.tcons (Syntax.tyInt
-      Syntax.w32) Syntax.tnil)) Syntax.tnil))),
-) ∷ (
-  9,
-  Rows'.any-gone (Syntax.tyEnum (112 ∷ 105 ∷ 101 ∷ 99 ∷ 101 ∷ 115 ∷ 58 ∷ 58 ∷ 76 ∷ 105 ∷ 110 ∷ 101 ∷ [])
-      (Syntax.ttcons (Syntax.tcons (Syntax.tyInt Syntax.w8) Syntax.tnil) (Syntax.ttcons (Syntax.tcons (Syntax.tyEnum (107 ∷ 105 ∷ 110 ∷ 100 ∷ 115 ∷ 58 ∷ 58 ∷ 75
-      ∷ 105 ∷ 110 ∷ 100 ∷ []) (Syntax.ttcons Syntax.tnil (Syntax.ttcons Syntax.tnil (Syntax.ttcons Syntax.tnil (Syntax.ttcons Syntax.tnil (Syntax.ttcons
-      Syntax.tnil (Syntax.ttcons Syntax.tnil (Syntax.ttcons Syntax.tnil (Syntax.ttcons Syntax.tnil (Syntax.ttcons Syntax.tnil (Syntax.ttcons Syntax.tnil
-      (Syntax.ttcons Syntax.tnil (Syntax.ttcons Syntax.tnil (Syntax.ttcons Syntax.tnil (Syntax.ttcons Syntax.tnil (Syntax.ttcons Syntax.tnil (Syntax.ttcons
-      Syntax.tnil (Syntax.ttcons Syntax.tnil (Syntax.ttcons Syntax.tnil (Syntax.ttcons Syntax.tnil (Syntax.ttcons Syntax.tnil (Syntax.ttcons Syntax.tnil
-      (Syntax.ttcons Syntax.tnil (Syntax.ttcons Syntax.tnil (Syntax.ttcons Syntax.tnil (Syntax.ttcons Syntax.tnil (Syntax.ttcons Syntax.tnil (Syntax.ttcons
-      Syntax.tnil (Syntax.ttcons Syntax.tnil Syntax.ttnil))))))))))))))))))))))))))))) (Syntax.tcons (Syntax.tyInt Syntax.w32) Syntax.tnil)) (Syntax.ttcons
-      (Syntax.tcons (Syntax.tyEnum (107 ∷ 105 ∷ 110 ∷ 100 ∷ 115 ∷ 58 ∷ 58 ∷ 75 ∷ 105 ∷ 110 ∷ 100 ∷ []) (Syntax.ttcons Syntax.tnil (Syntax.ttcons Syntax.tnil
-      (Syntax.ttcons Syntax.tnil (Syntax.ttcons Syntax.tnil (Syntax.ttcons Syntax.tnil (Syntax.ttcons Syntax.tnil (Syntax.ttcons Syntax.tnil (Syntax.ttcons
-      Syntax.tnil (Syntax.ttcons Syntax.tnil (Syntax.ttcons Syntax.tnil (Syntax.ttcons Syntax.tnil (Syntax.ttcons Syntax.tnil (Syntax.ttcons Syntax.tnil
-      (Syntax.ttcons Syntax.tnil (Syntax.ttcons Syntax.tnil (Syntax.ttcons Syntax.tnil (Syntax.ttcons Syntax.tnil (Syntax.ttcons Syntax.tnil (Syntax.ttcons
-      Syntax.tnil (Syntax.ttcons Syntax.tnil (Syntax.ttcons Syntax.tnil (Syntax.ttcons Syntax.tnil (Syntax.ttcons Syntax.tnil (Syntax.ttcons Syntax.tnil
-      (Syntax.ttcons Syntax.tnil (Syntax.ttcons Syntax.tnil (Syntax.ttcons Syntax.tnil (Syntax.ttcons Syntax.tnil Syntax.ttnil)))))))))))))))))))))))))))))
-      Syntax.tnil) (Syntax.ttcons (Syntax.tcons (Syntax.tyEnum (108 ∷ 105 ∷ 110 ∷ 101 ∷ 58 ∷ 58 ∷ 82 ∷ 101 ∷ 99 ∷ 111 ∷ 114 ∷ 100 ∷ []) (Syntax.ttcons
-      (Syntax.tcons Syntax.tyBool (Syntax.tcons (Syntax.tyStruct (99 ∷ 111 ∷ 111 ∷ 114 ∷ 100 ∷ 105 ∷ 110 ∷ 97 ∷ 116 ∷ 101 ∷ 58 ∷ 58 ∷ 65 ∷ 116 ∷ 111 ∷ 109 ∷ [])
-      (Syntax.tcons (Syntax.tyStruct (99 ∷ 111 ∷ 111 ∷ 114 ∷ 100 ∷ 105 ∷ 110 ∷ 97 ∷ 116 ∷ 101 ∷ 58 ∷ 58 ∷ 73 ∷ 100 ∷ 101 ∷ 110 ∷ 116 ∷ 105 ∷ 116 ∷ 121 ∷ [])
-      (Syntax.tcons (Syntax.tyStruct (102 ∷ 105 ∷ 101 ∷ 108 ∷ 100 ∷ 115 ∷ 58 ∷ 58 ∷ 83 ∷ 101 ∷ 114 ∷ 105 ∷ 97 ∷ 108 ∷ []) (Syntax.tcons (Syntax.tyInt Syntax.w32)
-      Syntax.tnil)) (Syntax.tcons (Syntax.tyStruct (110 ∷ 97 ∷ 109 ∷ 101 ∷ 115 ∷ 58 ∷ 58 ∷ 70 ∷ 111 ∷ 117 ∷ 114 ∷ []) (Syntax.tcons (Syntax.tyInt Syntax.w8)
-      (Syntax.tcons (Syntax.tyInt Syntax.w8) (Syntax.tcons (Syntax.tyInt Syntax.w8) (Syntax.tcons (Syntax.tyInt Syntax.w8) Syntax.tnil))))) (Syntax.tcons
-      (Syntax.tyInt Syntax.w8) (Syntax.tcons (Syntax.tyStruct (114 ∷ 101 ∷ 115 ∷ 105 ∷ 100 ∷ 117 ∷ 101 ∷ 58 ∷ 58 ∷ 82 ∷ 101 ∷ 115 ∷ 105 ∷ 100 ∷ 117 ∷ 101 ∷ [])
-      (Syntax.tcons (Syntax.tyStruct (110 ∷ 97 ∷ 109 ∷ 101 ∷ 115 ∷ 58 ∷ 58 ∷ 84 ∷ 104 ∷ 114 ∷ 101 ∷ 101 ∷ []) (Syntax.tcons (Syntax.tyInt Syntax.w8)
-      (Syntax.tcons (Syntax.tyInt Syntax.w8) (Syntax.tcons (Syntax.tyInt Syntax.w8) Syntax.tnil)))) (Syntax.tcons (Syntax.tyInt Syntax.w8) (Syntax.tcons
-      (Syntax.tyStruct (102 ∷ 105 ∷ 101 ∷ 108 ∷ 100 ∷ 115 ∷ 58 ∷ 58 ∷ 82 ∷ 101 ∷ 115 ∷ 105 ∷ 100 ∷ 117 ∷ 101 ∷ 78 ∷ 117 ∷ 109 ∷ 98 ∷ 101 ∷ 114 ∷ [])
-      (Syntax.tcons (Syntax.tyInt Syntax.w32) Syntax.tnil)) (Syntax.tcons (Syntax.tyInt Syntax.w8) Syntax.tnil))))) Syntax.tnil))))) (Syntax.tcons
-      (Syntax.tyStruct (99 ∷ 111 ∷ 111 ∷ 114 ∷ 100 ∷ 105 ∷ 110 ∷ 97 ∷ 116 ∷ 101 ∷ 58 ∷ 58 ∷ 77 ∷ 101 ∷ 97 ∷ 115 ∷ 117 ∷ 114 ∷ 101 ∷ []) (Syntax.tcons
-      (Syntax.tyStruct (99 ∷ 111 ∷ 111 ∷ 114 ∷ 100 ∷ 105 ∷ 110 ∷ 97 ∷ 116 ∷ 101 ∷ 58 ∷ 58 ∷ 80 ∷ 111 ∷ 115 ∷ 105 ∷ 116 ∷ 105 ∷ 111 ∷ 110 ∷ []) (Syntax.tcons
-      (Syntax.tyInt Syntax.w32) (Syntax.tcons (Syntax.tyInt Syntax.w32) (Syntax.tcons (Syntax.tyInt Syntax.w32) Syntax.tnil)))) (Syntax.tcons (Syntax.tyInt
-      Syntax.w32) (Syntax.tcons (Syntax.tyInt Syntax.w32) Syntax.tnil)))) (Syntax.tcons (Syntax.tyStruct (99 ∷ 111 ∷ 111 ∷ 114 ∷ 100 ∷ 105 ∷ 110 ∷ 97 ∷ 116 ∷ 101
-      ∷ 58 ∷ 58 ∷ 83 ∷ 112 ∷ 101 ∷ 99 ∷ 105 ∷ 101 ∷ 115 ∷ []) (Syntax.tcons (Syntax.tyStruct (110 ∷ 97 ∷ 109 ∷ 101 ∷ 115 ∷ 58 ∷ 58 ∷ 80 ∷ 97 ∷ 105 ∷ 114 ∷ [])
-      (Syntax.tcons (Syntax.tyInt Syntax.w8) (Syntax.tcons (Syntax.tyInt Syntax.w8) Syntax.tnil))) (Syntax.tcons (Syntax.tyStruct (110 ∷ 97 ∷ 109 ∷ 101 ∷ 115 ∷
-      58 ∷ 58 ∷ 80 ∷ 97 ∷ 105 ∷ 114 ∷ []) (Syntax.tcons (Syntax.tyInt Syntax.w8) (Syntax.tcons (Syntax.tyInt Syntax.w8) Syntax.tnil))) Syntax.tnil)))
-      Syntax.tnil)))) Syntax.tnil)) (Syntax.ttcons (Syntax.tcons (Syntax.tyStruct (116 ∷ 101 ∷ 114 ∷ 58 ∷ 58 ∷ 84 ∷ 101 ∷ 114 ∷ []) (Syntax.tcons
-      (Syntax.tyStruct (102 ∷ 105 ∷ 101 ∷ 108 ∷ 100 ∷ 115 ∷ 58 ∷ 58 ∷ 83 ∷ 101 ∷ 114 ∷ 105 ∷ 97 ∷ 108 ∷ []) (Syntax.tcons (Syntax.tyInt Syntax.w32) Syntax.tnil))
-      (Syntax.tcons (Syntax.tyStruct (114 ∷ 101 ∷ 115 ∷ 105 ∷ 100 ∷ 117 ∷ 101 ∷ 58 ∷ 58 ∷ 82 ∷ 101 ∷ 115 ∷ 105 ∷ 100 ∷ 117 ∷ 101 ∷ []) (Syntax.tcons
-      (Syntax.tyStruct (110 ∷ 97 ∷ 109 ∷ 101 ∷ 115 ∷ 58 ∷ 58 ∷ 84 ∷ 104 ∷ 114 ∷ 101 ∷ 101 ∷ []) (Syntax.tcons (Syntax.tyInt Syntax.w8) (Syntax.tcons
-      (Syntax.tyInt Syntax.w8) (Syntax.tcons (Syntax.tyInt Syntax.w8) Syntax.tnil)))) (Syntax.tcons (Syntax.tyInt Syntax.w8) (Syntax.tcons (Syntax.tyStruct (102
-      ∷ 105 ∷ 101 ∷ 108 ∷ 100 ∷ 115 ∷ 58 ∷ 58 ∷ 82 ∷ 101 ∷ 115 ∷ 105 ∷ 100 ∷ 117 ∷ 101 ∷ 78 ∷ 117 ∷ 109 ∷ 98 ∷ 101 ∷ 114 ∷ []) (Syntax.tcons (Syntax.tyInt
-      Syntax.w32) Syntax.tnil)) (Syntax.tcons (Syntax.tyInt Syntax.w8) Syntax.tnil))))) Syntax.tnil))) Syntax.tnil) (Syntax.ttcons (Syntax.tcons (Syntax.tyStruct
-      (104 ∷ 101 ∷ 108 ∷ 105 ∷ 120 ∷ 58 ∷ 58 ∷ 72 ∷ 101 ∷ 108 ∷ 105 ∷ 120 ∷ []) (Syntax.tcons (Syntax.tyStruct (104 ∷ 101 ∷ 108 ∷ 105 ∷ 120 ∷ 58 ∷ 58 ∷ 69 ∷ 120
-      ∷ 116 ∷ 101 ∷ 110 ∷ 116 ∷ []) (Syntax.tcons (Syntax.tyInt Syntax.w32) (Syntax.tcons (Syntax.tyStruct (110 ∷ 97 ∷ 109 ∷ 101 ∷ 115 ∷ 58 ∷ 58 ∷ 84 ∷ 104 ∷ 114
-      ∷ 101 ∷ 101 ∷ []) (Syntax.tcons (Syntax.tyInt Syntax.w8) (Syntax.tcons (Syntax.tyInt Syntax.w8) (Syntax.tcons (Syntax.tyInt Syntax.w8) Syntax.tnil))))
-      (Syntax.tcons (Syntax.tyStruct (114 ∷ 101 ∷ 115 ∷ 105 ∷ 100 ∷ 117 ∷ 101 ∷ 58 ∷ 58 ∷ 82 ∷ 101 ∷ 115 ∷ 105 ∷ 100 ∷ 117 ∷ 101 ∷ []) (Syntax.tcons
-      (Syntax.tyStruct (110 ∷ 97 ∷ 109 ∷ 101 ∷ 115 ∷ 58 ∷ 58 ∷ 84 ∷ 104 ∷ 114 ∷ 101 ∷ 101 ∷ []) (Syntax.tcons (Syntax.tyInt Syntax.w8) (Syntax.tcons
-      (Syntax.tyInt Syntax.w8) (Syntax.tcons (Syntax.tyInt Syntax.w8) Syntax.tnil)))) (Syntax.tcons (Syntax.tyInt Syntax.w8) (Syntax.tcons (Syntax.tyStruct (102
-      ∷ 105 ∷ 101 ∷ 108 ∷ 100 ∷ 115 ∷ 58 ∷ 58 ∷ 82 ∷ 101 ∷ 115 ∷ 105 ∷ 100 ∷ 117 ∷ 101 ∷ 78 ∷ 117 ∷ 109 ∷ 98 ∷ 101 ∷ 114 ∷ []) (Syntax.tcons (Syntax.tyInt
-      Syntax.w32) Syntax.tnil)) (Syntax.tcons (Syntax.tyInt Syntax.w8) Syntax.tnil))))) (Syntax.tcons (Syntax.tyStruct (114 ∷ 101 ∷ 115 ∷ 105 ∷ 100 ∷ 117 ∷ 101 ∷
-      58 ∷ 58 ∷ 82 ∷ 101 ∷ 115 ∷ 105 ∷ 100 ∷ 117 ∷ 101 ∷ []) (Syntax.tcons (Syntax.tyStruct (110 ∷ 97 ∷ 109 ∷ 101 ∷ 115 ∷ 58 ∷ 58 ∷ 84 ∷ 104 ∷ 114 ∷ 101 ∷ 101 ∷
-      []) (Syntax.tcons (Syntax.tyInt Syntax.w8) (Syntax.tcons (Syntax.tyInt Syntax.w8) (Syntax.tcons (Syntax.tyInt Syntax.w8) Syntax.tnil)))) (Syntax.tcons
-      (Syntax.tyInt Syntax.w8) (Syntax.tcons (Syntax.tyStruct (102 ∷ 105 ∷ 101 ∷ 108 ∷ 100 ∷ 115 ∷ 58 ∷ 58 ∷ 82 ∷ 101 ∷ 115 ∷ 105 ∷ 100 ∷ 117 ∷ 101 ∷ 78 ∷ 117 ∷
-      109 ∷ 98 ∷ 101 ∷ 114 ∷ []) (Syntax.tcons (Syntax.tyInt Syntax.w32) Syntax.tnil)) (Syntax.tcons (Syntax.tyInt Syntax.w8) Syntax.tnil))))) Syntax.tnil)))))
-      (Syntax.tcons (Syntax.tyInt Syntax.w32) (Syntax.tcons (Syntax.tyStruct (104 ∷ 101 ∷ 108 ∷ 105 ∷ 120 ∷ 58 ∷ 58 ∷ 67 ∷ 111 ∷ 109 ∷ 109 ∷ 101 ∷ 110 ∷ 116 ∷
-      []) (Syntax.tcons (Syntax.tyInt Syntax.w64) (Syntax.tcons (Syntax.tyInt Syntax.w64) (Syntax.tcons (Syntax.tyInt Syntax.w64) (Syntax.tcons (Syntax.tyInt
-      Syntax.w64) Syntax.tnil))))) (Syntax.tcons (Syntax.tyInt Syntax.w32) Syntax.tnil))))) Syntax.tnil) (Syntax.ttcons (Syntax.tcons (Syntax.tyStruct (115 ∷ 104
-      ∷ 101 ∷ 101 ∷ 116 ∷ 58 ∷ 58 ∷ 83 ∷ 104 ∷ 101 ∷ 101 ∷ 116 ∷ []) (Syntax.tcons (Syntax.tyStruct (115 ∷ 104 ∷ 101 ∷ 101 ∷ 116 ∷ 58 ∷ 58 ∷ 83 ∷ 116 ∷ 114 ∷ 97
-      ∷ 110 ∷ 100 ∷ []) (Syntax.tcons (Syntax.tyInt Syntax.w32) (Syntax.tcons (Syntax.tyStruct (110 ∷ 97 ∷ 109 ∷ 101 ∷ 115 ∷ 58 ∷ 58 ∷ 84 ∷ 104 ∷ 114 ∷ 101 ∷ 101
-      ∷ []) (Syntax.tcons (Syntax.tyInt Syntax.w8) (Syntax.tcons (Syntax.tyInt Syntax.w8) (Syntax.tcons (Syntax.tyInt Syntax.w8) Syntax.tnil)))) (Syntax.tcons
-      (Syntax.tyInt Syntax.w32) (Syntax.tcons (Syntax.tyStruct (114 ∷ 101 ∷ 115 ∷ 105 ∷ 100 ∷ 117 ∷ 101 ∷ 58 ∷ 58 ∷ 82 ∷ 101 ∷ 115 ∷ 105 ∷ 100 ∷ 117 ∷ 101 ∷ [])
-      (Syntax.tcons (Syntax.tyStruct (110 ∷ 97 ∷ 109 ∷ 101 ∷ 115 ∷ 58 ∷ 58 ∷ 84 ∷ 104 ∷ 114 ∷ 101 ∷ 101 ∷ []) (Syntax.tcons (Syntax.tyInt Syntax.w8)
-      (Syntax.tcons (Syntax.tyInt Syntax.w8) (Syntax.tcons (Syntax.tyInt Syntax.w8) Syntax.tnil)))) (Syntax.tcons (Syntax.tyInt Syntax.w8) (Syntax.tcons
-      (Syntax.tyStruct (102 ∷ 105 ∷ 101 ∷ 108 ∷ 100 ∷ 115 ∷ 58 ∷ 58 ∷ 82 ∷ 101 ∷ 115 ∷ 105 ∷ 100 ∷ 117 ∷ 101 ∷ 78 ∷ 117 ∷ 109 ∷ 98 ∷ 101 ∷ 114 ∷ [])
-      (Syntax.tcons (Syntax.tyInt Syntax.w32) Syntax.tnil)) (Syntax.tcons (Syntax.tyInt Syntax.w8) Syntax.tnil))))) (Syntax.tcons (Syntax.tyStruct (114 ∷ 101 ∷
-      115 ∷ 105 ∷ 100 ∷ 117 ∷ 101 ∷ 58 ∷ 58 ∷ 82 ∷ 101 ∷ 115 ∷ 105 ∷ 100 ∷ 117 ∷ 101 ∷ []) (Syntax.tcons (Syntax.tyStruct (110 ∷ 97 ∷ 109 ∷ 101 ∷ 115 ∷ 58 ∷ 58 ∷
-      84 ∷ 104 ∷ 114 ∷ 101 ∷ 101 ∷ []) (Syntax.tcons (Syntax.tyInt Syntax.w8) (Syntax.tcons (Syntax.tyInt Syntax.w8) (Syntax.tcons (Syntax.tyInt Syntax.w8)
-      Syntax.tnil)))) (Syntax.tcons (Syntax.tyInt Syntax.w8) (Syntax.tcons (Syntax.tyStruct (102 ∷ 105 ∷ 101 ∷ 108 ∷ 100 ∷ 115 ∷ 58 ∷ 58 ∷ 82 ∷ 101 ∷ 115 ∷ 105 ∷
-      100 ∷ 117 ∷ 101 ∷ 78 ∷ 117 ∷ 109 ∷ 98 ∷ 101 ∷ 114 ∷ []) (Syntax.tcons (Syntax.tyInt Syntax.w32) Syntax.tnil)) (Syntax.tcons (Syntax.tyInt Syntax.w8)
-      Syntax.tnil))))) (Syntax.tcons (Syntax.tyInt Syntax.w32) Syntax.tnil))))))) (Syntax.tcons (Syntax.tyEnum (115 ∷ 104 ∷ 101 ∷ 101 ∷ 116 ∷ 58 ∷ 58 ∷ 82 ∷ 101
-      ∷ 103 ∷ 105 ∷ 115 ∷ 116 ∷ 114 ∷ 97 ∷ 116 ∷ 105 ∷ 111 ∷ 110 ∷ []) (Syntax.ttcons Syntax.tnil (Syntax.ttcons (Syntax.tcons (Syntax.tyStruct (115 ∷ 104 ∷ 101
-      ∷ 101 ∷ 116 ∷ 58 ∷ 58 ∷ 66 ∷ 111 ∷ 110 ∷ 100 ∷ []) (Syntax.tcons (Syntax.tyStruct (110 ∷ 97 ∷ 109 ∷ 101 ∷ 115 ∷ 58 ∷ 58 ∷ 70 ∷ 111 ∷ 117 ∷ 114 ∷ [])
-      (Syntax.tcons (Syntax.tyInt Syntax.w8) (Syntax.tcons (Syntax.tyInt Syntax.w8) (Syntax.tcons (Syntax.tyInt Syntax.w8) (Syntax.tcons (Syntax.tyInt Syntax.w8)
-      Syntax.tnil))))) (Syntax.tcons (Syntax.tyStruct (114 ∷ 101 ∷ 115 ∷ 105 ∷ 100 ∷ 117 ∷ 101 ∷ 58 ∷ 58 ∷ 82 ∷ 101 ∷ 115 ∷ 105 ∷ 100 ∷ 117 ∷ 101 ∷ [])
-      (Syntax.tcons (Syntax.tyStruct (110 ∷ 97 ∷ 109 ∷ 101 ∷ 115 ∷ 58 ∷ 58 ∷ 84 ∷ 104 ∷ 114 ∷ 101 ∷ 101 ∷ []) (Syntax.tcons (Syntax.tyInt Syntax.w8)
-      (Syntax.tcons (Syntax.tyInt Syntax.w8) (Syntax.tcons (Syntax.tyInt Syntax.w8) Syntax.tnil)))) (Syntax.tcons (Syntax.tyInt Syntax.w8) (Syntax.tcons
-      (Syntax.tyStruct (102 ∷ 105 ∷ 101 ∷ 108 ∷ 100 ∷ 115 ∷ 58 ∷ 58 ∷ 82 ∷ 101 ∷ 115 ∷ 105 ∷ 100 ∷ 117 ∷ 101 ∷ 78 ∷ 117 ∷ 109 ∷ 98 ∷ 101 ∷ 114 ∷ [])
-      (Syntax.tcons (Syntax.tyInt Syntax.w32) Syntax.tnil)) (Syntax.tcons (Syntax.tyInt Syntax.w8) Syntax.tnil))))) (Syntax.tcons (Syntax.tyStruct (110 ∷ 97 ∷
-      109 ∷ 101 ∷ 115 ∷ 58 ∷ 58 ∷ 70 ∷ 111 ∷ 117 ∷ 114 ∷ []) (Syntax.tcons (Syntax.tyInt Syntax.w8) (Syntax.tcons (Syntax.tyInt Syntax.w8) (Syntax.tcons
-      (Syntax.tyInt Syntax.w8) (Syntax.tcons (Syntax.tyInt Syntax.w8) Syntax.tnil))))) (Syntax.tcons (Syntax.tyStruct (114 ∷ 101 ∷ 115 ∷ 105 ∷ 100 ∷ 117 ∷ 101 ∷
-      58 ∷ 58 ∷ 82 ∷ 101 ∷ 115 ∷ 105 ∷ 100 ∷ 117 ∷ 101 ∷ []) (Syntax.tcons (Syntax.tyStruct (110 ∷ 97 ∷ 109 ∷ 101 ∷ 115 ∷ 58 ∷ 58 ∷ 84 ∷ 104 ∷ 114 ∷ 101 ∷ 101 ∷
-      []) (Syntax.tcons (Syntax.tyInt Syntax.w8) (Syntax.tcons (Syntax.tyInt Syntax.w8) (Syntax.tcons (Syntax.tyInt Syntax.w8) Syntax.tnil)))) (Syntax.tcons
-      (Syntax.tyInt Syntax.w8) (Syntax.tcons (Syntax.tyStruct (102 ∷ 105 ∷ 101 ∷ 108 ∷ 100 ∷ 115 ∷ 58 ∷ 58 ∷ 82 ∷ 101 ∷ 115 ∷ 105 ∷ 100 ∷ 117 ∷ 101 ∷ 78 ∷ 117 ∷
-      109 ∷ 98 ∷ 101 ∷ 114 ∷ []) (Syntax.tcons (Syntax.tyInt Syntax.w32) Syntax.tnil)) (Syntax.tcons (Syntax.tyInt Syntax.w8) Syntax.tnil))))) Syntax.tnil)))))
-      Syntax.tnil) Syntax.ttnil))) Syntax.tnil))) Syntax.tnil) (Syntax.ttcons (Syntax.tcons (Syntax.tyStruct (99 ∷ 111 ∷ 110 ∷ 101 ∷ 99 ∷ 116 ∷ 58 ∷ 58 ∷ 67 ∷
-      111 ∷ 110 ∷ 101 ∷ 99 ∷ 116 ∷ []) (Syntax.tcons (Syntax.tyStruct (102 ∷ 105 ∷ 101 ∷ 108 ∷ 100 ∷ 115 ∷ 58 ∷ 58 ∷ 83 ∷ 101 ∷ 114 ∷ 105 ∷ 97 ∷ 108 ∷ [])
-      (Syntax.tcons (Syntax.tyInt Syntax.w32) Syntax.tnil)) (Syntax.tcons (Syntax.tyStruct (102 ∷ 105 ∷ 101 ∷ 108 ∷ 100 ∷ 115 ∷ 58 ∷ 58 ∷ 83 ∷ 101 ∷ 114 ∷ 105 ∷
-      97 ∷ 108 ∷ []) (Syntax.tcons (Syntax.tyInt Syntax.w32) Syntax.tnil)) (Syntax.tcons (Syntax.tyStruct (102 ∷ 105 ∷ 101 ∷ 108 ∷ 100 ∷ 115 ∷ 58 ∷ 58 ∷ 83 ∷ 101
-      ∷ 114 ∷ 105 ∷ 97 ∷ 108 ∷ []) (Syntax.tcons (Syntax.tyInt Syntax.w32) Syntax.tnil)) (Syntax.tcons (Syntax.tyStruct (102 ∷ 105 ∷ 101 ∷ 108 ∷ 100 ∷ 115 ∷ 58 ∷
-      58 ∷ 83 ∷ 101 ∷ 114 ∷ 105 ∷ 97 ∷ 108 ∷ []) (Syntax.tcons (Syntax.tyInt Syntax.w32) Syntax.tnil)) (Syntax.tcons (Syntax.tyStruct (102 ∷ 105 ∷ 101 ∷ 108 ∷
-      100 ∷ 115 ∷ 58 ∷ 58 ∷ 83 ∷ 101 ∷ 114 ∷ 105 ∷ 97 ∷ 108 ∷ []) (Syntax.tcons (Syntax.tyInt Syntax.w32) Syntax.tnil)) Syntax.tnil)))))) Syntax.tnil)
-      (Syntax.ttcons (Syntax.tcons (Syntax.tyStruct (109 ∷ 97 ∷ 115 ∷ 116 ∷ 101 ∷ 114 ∷ 58 ∷ 58 ∷ 84 ∷ 97 ∷ 108 ∷ 108 ∷ 121 ∷ []) (Syntax.tcons (Syntax.tyInt
-      Syntax.w32) (Syntax.tcons (Syntax.tyInt Syntax.w32) (Syntax.tcons (Syntax.tyInt Syntax.w32) (Syntax.tcons (Syntax.tyInt Syntax.w32) (Syntax.tcons
-      (Syntax.tyInt Syntax.w32) (Syntax.tcons (Syntax.tyInt Syntax.w32) (Syntax.tcons (Syntax.tyInt Syntax.w32) (Syntax.tcons (Syntax.tyInt Syntax.w32)
-      (Syntax.tcons (Syntax.tyInt Syntax.w32) Syntax.tnil)))))))))) Syntax.tnil) (Syntax.ttcons Syntax.tnil Syntax.ttnil)))))))) Syntax.tnil) Syntax.ttnil))))),
-)
-    ∷ (
-      10,
-      Rows'.any-gone (Syntax.tyStruct (103 ∷ 97 ∷ 116 ∷ 101 ∷ 58 ∷ 58 ∷ 79 ∷ 110 ∷ 119 ∷ 97 ∷ 114 ∷ 100 ∷ []) (Syntax.tcons (Syntax.tyInt Syntax.w8)
-          (Syntax.tcons (Syntax.tyStruct (103 ∷ 97 ∷ 116 ∷ 101 ∷ 58 ∷ 58 ∷ 67 ∷ 111 ∷ 117 ∷ 114 ∷ 115 ∷ 101 ∷ []) (Syntax.tcons (Syntax.tyStruct (114 ∷ 117 ∷ 108 ∷
-          101 ∷ 115 ∷ 58 ∷ 58 ∷ 83 ∷ 116 ∷ 97 ∷ 116 ∷ 101 ∷ []) (Syntax.tcons (Syntax.tyInt Syntax.w8) (Syntax.tcons (Syntax.tyStruct (102 ∷ 105 ∷ 101 ∷ 108 ∷ 100 ∷
-          115 ∷ 58 ∷ 58 ∷ 83 ∷ 101 ∷ 114 ∷ 105 ∷ 97 ∷ 108 ∷ []) (Syntax.tcons (Syntax.tyInt Syntax.w32) Syntax.tnil)) (Syntax.tcons (Syntax.tyStruct (114 ∷ 117 ∷ 108
-          ∷ 101 ∷ 115 ∷ 58 ∷ 58 ∷ 82 ∷ 117 ∷ 110 ∷ []) (Syntax.tcons Syntax.tyBool (Syntax.tcons Syntax.tyBool (Syntax.tcons Syntax.tyBool (Syntax.tcons
-          (Syntax.tyStruct (114 ∷ 101 ∷ 115 ∷ 105 ∷ 100 ∷ 117 ∷ 101 ∷ 58 ∷ 58 ∷ 82 ∷ 101 ∷ 115 ∷ 105 ∷ 100 ∷ 117 ∷ 101 ∷ []) (Syntax.tcons (Syntax.tyStruct (110 ∷ 97
-          ∷ 109 ∷ 101 ∷ 115 ∷ 58 ∷ 58 ∷ 84 ∷ 104 ∷ 114 ∷ 101 ∷ 101 ∷ []) (Syntax.tcons (Syntax.tyInt Syntax.w8) (Syntax.tcons (Syntax.tyInt Syntax.w8) (Syntax.tcons
-          (Syntax.tyInt Syntax.w8) Syntax.tnil)))) (Syntax.tcons (Syntax.tyInt Syntax.w8) (Syntax.tcons (Syntax.tyStruct (102 ∷ 105 ∷ 101 ∷ 108 ∷ 100 ∷ 115 ∷ 58 ∷ 58
-          ∷ 82 ∷ 101 ∷ 115 ∷ 105 ∷ 100 ∷ 117 ∷ 101 ∷ 78 ∷ 117 ∷ 109 ∷ 98 ∷ 101 ∷ 114 ∷ []) (Syntax.tcons (Syntax.tyInt Syntax.w32) Syntax.tnil)) (Syntax.tcons
-          (Syntax.tyInt Syntax.w8) Syntax.tnil))))) Syntax.tnil))))) (Syntax.tcons (Syntax.tyStruct (102 ∷ 105 ∷ 101 ∷ 108 ∷ 100 ∷ 115 ∷ 58 ∷ 58 ∷ 83 ∷ 101 ∷ 114 ∷
-          105 ∷ 97 ∷ 108 ∷ []) (Syntax.tcons (Syntax.tyInt Syntax.w32) Syntax.tnil)) (Syntax.tcons (Syntax.tyInt Syntax.w32) (Syntax.tcons (Syntax.tyStruct (114 ∷
-          117 ∷ 108 ∷ 101 ∷ 115 ∷ 58 ∷ 58 ∷ 76 ∷ 97 ∷ 100 ∷ 100 ∷ 101 ∷ 114 ∷ []) (Syntax.tcons (Syntax.tyStruct (110 ∷ 97 ∷ 109 ∷ 101 ∷ 115 ∷ 58 ∷ 58 ∷ 84 ∷ 104 ∷
-          114 ∷ 101 ∷ 101 ∷ []) (Syntax.tcons (Syntax.tyInt Syntax.w8) (Syntax.tcons (Syntax.tyInt Syntax.w8) (Syntax.tcons (Syntax.tyInt Syntax.w8) Syntax.tnil))))
-          (Syntax.tcons (Syntax.tyInt Syntax.w32) (Syntax.tcons (Syntax.tyInt Syntax.w32) Syntax.tnil)))) (Syntax.tcons (Syntax.tyStruct (112 ∷ 108 ∷ 97 ∷ 99 ∷ 101 ∷
-          115 ∷ 58 ∷ 58 ∷ 67 ∷ 111 ∷ 117 ∷ 110 ∷ 116 ∷ 115 ∷ []) (Syntax.tcons (Syntax.tyInt Syntax.w64) (Syntax.tcons (Syntax.tyInt Syntax.w64) (Syntax.tcons
-          (Syntax.tyInt Syntax.w64) (Syntax.tcons (Syntax.tyInt Syntax.w64) (Syntax.tcons (Syntax.tyInt Syntax.w64) (Syntax.tcons (Syntax.tyInt Syntax.w64)
-          (Syntax.tcons (Syntax.tyInt Syntax.w64) (Syntax.tcons (Syntax.tyInt Syntax.w64) (Syntax.tcons (Syntax.tyInt Syntax.w64) Syntax.tnil)))))))))) (Syntax.tcons
-          (Syntax.tyInt Syntax.w64) Syntax.tnil))))))))) (Syntax.tcons (Syntax.tyStruct (115 ∷ 101 ∷ 114 ∷ 105 ∷ 97 ∷ 108 ∷ 115 ∷ 58 ∷ 58 ∷ 80 ∷ 97 ∷ 115 ∷ 116 ∷ [])
-          (Syntax.tcons (Syntax.tyStruct (115 ∷ 101 ∷ 97 ∷ 114 ∷ 99 ∷ 104 ∷ 58 ∷ 58 ∷ 83 ∷ 112 ∷ 97 ∷ 110 ∷ []) (Syntax.tcons (Syntax.tyInt Syntax.w64) (Syntax.tcons
-          (Syntax.tyInt Syntax.w64) Syntax.tnil))) (Syntax.tcons (Syntax.tyStruct (115 ∷ 101 ∷ 97 ∷ 114 ∷ 99 ∷ 104 ∷ 58 ∷ 58 ∷ 78 ∷ 101 ∷ 97 ∷ 114 ∷ [])
-          (Syntax.tcons (Syntax.tyInt Syntax.w64) (Syntax.tcons (Syntax.tyStruct (102 ∷ 105 ∷ 101 ∷ 108 ∷ 100 ∷ 115 ∷ 58 ∷ 58 ∷ 83 ∷ 101 ∷ 114 ∷ 105 ∷ 97 ∷ 108 ∷ [])
-          (Syntax.tcons (Syntax.tyInt Syntax.w32) Syntax.tnil)) Syntax.tnil))) Syntax.tnil))) Syntax.tnil))) Syntax.tnil))),
-    ) ∷ (
-      11,
-      Rows'.any-gone (Syntax.tyStruct
-          (103 ∷ 97 ∷ 116 ∷ 101 ∷ 58 ∷ 58 ∷ 67 ∷ 111 ∷ 117 ∷ 114 ∷ 115 ∷ 101 ∷ []) (Syntax.tcons (Syntax.tyStruct (114 ∷ 117 ∷ 108 ∷ 101 ∷ 115 ∷ 58 ∷ 58 ∷ 83 ∷ 116 ∷
-          97 ∷ 116 ∷ 101 ∷ []) (Syntax.tcons (Syntax.tyInt Syntax.w8) (Syntax.tcons (Syntax.tyStruct (102 ∷ 105 ∷ 101 ∷ 108 ∷ 100 ∷ 115 ∷ 58 ∷ 58 ∷ 83 ∷ 101 ∷ 114 ∷
-          105 ∷ 97 ∷ 108 ∷ []) (Syntax.tcons (Syntax.tyInt Syntax.w32) Syntax.tnil)) (Syntax.tcons (Syntax.tyStruct (114 ∷ 117 ∷ 108 ∷ 101 ∷ 115 ∷ 58 ∷ 58 ∷ 82 ∷ 117
-          ∷ 110 ∷ []) (Syntax.tcons Syntax.tyBool (Syntax.tcons Syntax.tyBool (Syntax.tcons Syntax.tyBool (Syntax.tcons (Syntax.tyStruct (114 ∷ 101 ∷ 115 ∷ 105 ∷ 100
-          ∷ 117 ∷ 101 ∷ 58 ∷ 58 ∷ 82 ∷ 101 ∷ 115 ∷ 105 ∷ 100 ∷ 117 ∷ 101 ∷ []) (Syntax.tcons (Syntax.tyStruct (110 ∷ 97 ∷ 109 ∷ 101 ∷ 115 ∷ 58 ∷ 58 ∷ 84 ∷ 104 ∷ 114
-          ∷ 101 ∷ 101 ∷ []) (Syntax.tcons (Syntax.tyInt Syntax.w8) (Syntax.tcons (Syntax.tyInt Syntax.w8) (Syntax.tcons (Syntax.tyInt Syntax.w8) Syntax.tnil))))
-          (Syntax.tcons (Syntax.tyInt Syntax.w8) (Syntax.tcons (Syntax.tyStruct (102 ∷ 105 ∷ 101 ∷ 108 ∷ 100 ∷ 115 ∷ 58 ∷ 58 ∷ 82 ∷ 101 ∷ 115 ∷ 105 ∷ 100 ∷ 117 ∷ 101
-          ∷ 78 ∷ 117 ∷ 109 ∷ 98 ∷ 101 ∷ 114 ∷ []) (Syntax.tcons (Syntax.tyInt Syntax.w32) Syntax.tnil)) (Syntax.tcons (Syntax.tyInt Syntax.w8) Syntax.tnil)))))
-          Syntax.tnil))))) (Syntax.tcons (Syntax.tyStruct (102 ∷ 105 ∷ 101 ∷ 108 ∷ 100 ∷ 115 ∷ 58 ∷ 58 ∷ 83 ∷ 101 ∷ 114 ∷ 105 ∷ 97 ∷ 108 ∷ []) (Syntax.tcons
-          (Syntax.tyInt Syntax.w32) Syntax.tnil)) (Syntax.tcons (Syntax.tyInt Syntax.w32) (Syntax.tcons (Syntax.tyStruct (114 ∷ 117 ∷ 108 ∷ 101 ∷ 115 ∷ 58 ∷ 58 ∷ 76
-          ∷ 97 ∷ 100 ∷ 100 ∷ 101 ∷ 114 ∷ []) (Syntax.tcons (Syntax.tyStruct (110 ∷ 97 ∷ 109 ∷ 101 ∷ 115 ∷ 58 ∷ 58 ∷ 84 ∷ 104 ∷ 114 ∷ 101 ∷ 101 ∷ []) (Syntax.tcons
-          (Syntax.tyInt Syntax.w8) (Syntax.tcons (Syntax.tyInt Syntax.w8) (Syntax.tcons (Syntax.tyInt Syntax.w8) Syntax.tnil)))) (Syntax.tcons (Syntax.tyInt
-          Syntax.w32) (Syntax.tcons (Syntax.tyInt Syntax.w32) Syntax.tnil)))) (Syntax.tcons (Syntax.tyStruct (112 ∷ 108 ∷ 97 ∷ 99 ∷ 101 ∷ 115 ∷ 58 ∷ 58 ∷ 67 ∷ 111 ∷
-          117 ∷ 110 ∷ 116 ∷ 115 ∷ []) (Syntax.tcons (Syntax.tyInt Syntax.w64) (Syntax.tcons (Syntax.tyInt Syntax.w64) (Syntax.tcons (Syntax.tyInt Syntax.w64)
-          (Syntax.tcons (Syntax.tyInt Syntax.w64) (Syntax.tcons (Syntax.tyInt Syntax.w64) (Syntax.tcons (Syntax.tyInt Syntax.w64) (Syntax.tcons (Syntax.tyInt
-          Syntax.w64) (Syntax.tcons (Syntax.tyInt Syntax.w64) (Syntax.tcons (Syntax.tyInt Syntax.w64) Syntax.tnil)))))))))) (Syntax.tcons (Syntax.tyInt Syntax.w64)
-          Syntax.tnil))))))))) (Syntax.tcons (Syntax.tyStruct (115 ∷ 101 ∷ 114 ∷ 105 ∷ 97 ∷ 108 ∷ 115 ∷ 58 ∷ 58 ∷ 80 ∷ 97 ∷ 115 ∷ 116 ∷ []) (Syntax.tcons
-          (Syntax.tyStruct (115 ∷ 101 ∷ 97 ∷ 114 ∷ 99 ∷ 104 ∷ 58 ∷ 58 ∷ 83 ∷ 112 ∷ 97 ∷ 110 ∷ []) (Syntax.tcons (Syntax.tyInt Syntax.w64) (Syntax.tcons (Syntax.tyInt
-          Syntax.w64) Syntax.tnil))) (Syntax.tcons (Syntax.tyStruct (115 ∷ 101 ∷ 97 ∷ 114 ∷ 99 ∷ 104 ∷ 58 ∷ 58 ∷ 78 ∷ 101 ∷ 97 ∷ 114 ∷ []) (Syntax.tcons
-          (Syntax.tyInt Syntax.w64) (Syntax.tcons (Syntax.tyStruct (102 ∷ 105 ∷ 101 ∷ 108 ∷ 100 ∷ 115 ∷ 58 ∷ 58 ∷ 83 ∷ 101 ∷ 114 ∷ 105 ∷ 97 ∷ 108 ∷ []) (Syntax.tcons
-          (Syntax.tyInt Syntax.w32) Syntax.tnil)) Syntax.tnil))) Syntax.tnil))) Syntax.tnil))),
-    ) ∷ (12, Rows'.any-gone SlotAs.ty) ∷ (13, Rows'.any-gone Syntax.tyBool)
-    ∷ (
-      14,
-      Rows'.any-gone (Syntax.tyStruct (115 ∷ 101 ∷ 97 ∷ 114 ∷ 99 ∷ 104 ∷ 58 ∷ 58 ∷ 83 ∷ 111 ∷ 117 ∷ 103 ∷ 104 ∷ 116 ∷ []) (Syntax.tcons (Syntax.tyStruct
-          (115 ∷ 101 ∷ 97 ∷ 114 ∷ 99 ∷ 104 ∷ 58 ∷ 58 ∷ 78 ∷ 101 ∷ 97 ∷ 114 ∷ []) (Syntax.tcons (Syntax.tyInt Syntax.w64) (Syntax.tcons (Syntax.tyStruct (102 ∷ 105 ∷
-          101 ∷ 108 ∷ 100 ∷ 115 ∷ 58 ∷ 58 ∷ 83 ∷ 101 ∷ 114 ∷ 105 ∷ 97 ∷ 108 ∷ []) (Syntax.tcons (Syntax.tyInt Syntax.w32) Syntax.tnil)) Syntax.tnil))) (Syntax.tcons
-          Syntax.tyBool Syntax.tnil))),
-    ) ∷ (
-      15,
-      Rows'.any-gone (Syntax.tyStruct (115 ∷ 101 ∷ 97 ∷ 114 ∷ 99 ∷ 104 ∷ 58 ∷ 58 ∷ 78 ∷ 101 ∷ 97 ∷ 114 ∷ []) (Syntax.tcons
-          (Syntax.tyInt Syntax.w64) (Syntax.tcons (Syntax.tyStruct (102 ∷ 105 ∷ 101 ∷ 108 ∷ 100 ∷ 115 ∷ 58 ∷ 58 ∷ 83 ∷ 101 ∷ 114 ∷ 105 ∷ 97 ∷ 108 ∷ []) (Syntax.tcons
-          (Syntax.tyInt Syntax.w32) Syntax.tnil)) Syntax.tnil))),
-    ) ∷ []
-
-abbrev pub t26 : List.List Row.Entry
-t26 = (0, Rows'.whole (Declared'.row (Apart.apartT Findings.the-type))) ∷ (
-  1,
-  Rows'.sslice (Referent.rtF (Referent.fInt Syntax.w8)) (Syntax.tyRef (Syntax.named
-      0) Syntax.imm (Syntax.tyInt Syntax.w8)) 0,
-) ∷ (2, Rows'.sslice SlotAs.row (Syntax.tyRef (Syntax.named 1) Syntax.imm SlotAs.pointee) 1) ∷ (
-  3,
-  Rows'.any-gone
-      (Syntax.tyInt Syntax.w64),
-) ∷ (
-  4,
-  Rows'.any-gone (Syntax.tyStruct (103 ∷ 97 ∷ 116 ∷ 101 ∷ 58 ∷ 58 ∷ 67 ∷ 111 ∷ 117 ∷ 114 ∷ 115 ∷ 101 ∷ []) (Syntax.tcons
-      (Syntax.tyStruct (114 ∷ 117 ∷ 108 ∷ 101 ∷ 115 ∷ 58 ∷ 58 ∷ 83 ∷ 116 ∷ 97 ∷ 116 ∷ 101 ∷ []) (Syntax.tcons (Syntax.tyInt Syntax.w8) (Syntax.tcons
-      (Syntax.tyStruct (102 ∷ 105 ∷ 101 ∷ 108 ∷ 100 ∷ 115 ∷ 58 ∷ 58 ∷ 83 ∷ 101 ∷ 114 ∷ 105 ∷ 97 ∷ 108 ∷ []) (Syntax.tcons (Syntax.tyInt Syntax.w32) Syntax.tnil))
-      (Syntax.tcons (Syntax.tyStruct (114 ∷ 117 ∷ 108 ∷ 101 ∷ 115 ∷ 58 ∷ 58 ∷ 82 ∷ 117 ∷ 110 ∷ []) (Syntax.tcons Syntax.tyBool (Syntax.tcons Syntax.tyBool
-      (Syntax.tcons Syntax.tyBool (Syntax.tcons (Syntax.tyStruct (114 ∷ 101 ∷ 115 ∷ 105 ∷ 100 ∷ 117 ∷ 101 ∷ 58 ∷ 58 ∷ 82 ∷ 101 ∷ 115 ∷ 105 ∷ 100 ∷ 117 ∷ 101 ∷
-      []) (Syntax.tcons (Syntax.tyStruct (110 ∷ 97 ∷ 109 ∷ 101 ∷ 115 ∷ 58 ∷ 58 ∷ 84 ∷ 104 ∷ 114 ∷ 101 ∷ 101 ∷ []) (Syntax.tcons (Syntax.tyInt Syntax.w8)
-      (Syntax.tcons (Syntax.tyInt Syntax.w8) (Syntax.tcons (Syntax.tyInt Syntax.w8) Syntax.tnil)))) (Syntax.tcons (Syntax.tyInt Syntax.w8) (Syntax.tcons
-      (Syntax.tyStruct (102 ∷ 105 ∷ 101 ∷ 108 ∷ 100 ∷ 115 ∷ 58 ∷ 58 ∷ 82 ∷ 101 ∷ 115 ∷ 105 ∷ 100 ∷ 117 ∷ 101 ∷ 78 ∷ 117 ∷ 109 ∷ 98 ∷ 101 ∷ 114 ∷ [])
-      (Syntax.tcons (Syntax.tyInt Syntax.w32) Syntax.tnil)) (Syntax.tcons (Syntax.tyInt Syntax.w8) Syntax.tnil))))) Syntax.tnil))))) (Syntax.tcons
-      (Syntax.tyStruct (102 ∷ 105 ∷ 101 ∷ 108 ∷ 100 ∷ 115 ∷ 58 ∷ 58 ∷ 83 ∷ 101 ∷ 114 ∷ 105 ∷ 97 ∷ 108 ∷ []) (Syntax.tcons (Syntax.tyInt Syntax.w32) Syntax.tnil))
-      (Syntax.tcons (Syntax.tyInt Syntax.w32) (Syntax.tcons (Syntax.tyStruct (114 ∷ 117 ∷ 108 ∷ 101 ∷ 115 ∷ 58 ∷ 58 ∷ 76 ∷ 97 ∷ 100 ∷ 100 ∷ 101 ∷ 114 ∷ [])
-      (Syntax.tcons (Syntax.tyStruct (110 ∷ 97 ∷ 109 ∷ 101 ∷ 115 ∷ 58 ∷ 58 ∷ 84 ∷ 104 ∷ 114 ∷ 101 ∷ 101 ∷ []) (Syntax.tcons (Syntax.tyInt Syntax.w8)
-      (Syntax.tcons (Syntax.tyInt Syntax.w8) (Syntax.tcons (Syntax.tyInt Syntax.w8) Syntax.tnil)))) (Syntax.tcons (Syntax.tyInt Syntax.w32) (Syntax.tcons
-      (Syntax.tyInt Syntax.w32) Syntax.tnil)))) (Syntax.tcons (Syntax.tyStruct (112 ∷ 108 ∷ 97 ∷ 99 ∷ 101 ∷ 115 ∷ 58 ∷ 58 ∷ 67 ∷ 111 ∷ 117 ∷ 110 ∷ 116 ∷ 115 ∷
-      []) (Syntax.tcons (Syntax.tyInt Syntax.w64) (Syntax.tcons (Syntax.tyInt Syntax.w64) (Syntax.tcons (Syntax.tyInt Syntax.w64) (Syntax.tcons (Syntax.tyInt
-      Syntax.w64) (Syntax.tcons (Syntax.tyInt Syntax.w64) (Syntax.tcons (Syntax.tyInt Syntax.w64) (Syntax.tcons (Syntax.tyInt Syntax.w64) (Syntax.tcons
-      (Syntax.tyInt Syntax.w64) (Syntax.tcons (Syntax.tyInt Syntax.w64) Syntax.tnil)))))))))) (Syntax.tcons (Syntax.tyInt Syntax.w64) Syntax.tnil)))))))))
-      (Syntax.tcons (Syntax.tyStruct (115 ∷ 101 ∷ 114 ∷ 105 ∷ 97 ∷ 108 ∷ 115 ∷ 58 ∷ 58 ∷ 80 ∷ 97 ∷ 115 ∷ 116 ∷ []) (Syntax.tcons (Syntax.tyStruct (115 ∷ 101 ∷ 97
-      ∷ 114 ∷ 99 ∷ 104 ∷ 58 ∷ 58 ∷ 83 ∷ 112 ∷ 97 ∷ 110 ∷ []) (Syntax.tcons (Syntax.tyInt Syntax.w64) (Syntax.tcons (Syntax.tyInt Syntax.w64) Syntax.tnil)))
-      (Syntax.tcons (Syntax.tyStruct (115 ∷ 101 ∷ 97 ∷ 114 ∷ 99 ∷ 104 ∷ 58 ∷ 58 ∷ 78 ∷ 101 ∷ 97 ∷ 114 ∷ []) (Syntax.tcons (Syntax.tyInt Syntax.w64) (Syntax.tcons
-      (Syntax.tyStruct (102 ∷ 105 ∷ 101 ∷ 108 ∷ 100 ∷ 115 ∷ 58 ∷ 58 ∷ 83 ∷ 101 ∷ 114 ∷ 105 ∷ 97 ∷ 108 ∷ []) (Syntax.tcons (Syntax.tyInt Syntax.w32) Syntax.tnil))
-      Syntax.tnil))) Syntax.tnil))) Syntax.tnil))),
-) ∷ (5, Rows'.any-gone (Syntax.tyInt Syntax.w64)) ∷ (6, Rows'.any-gone Syntax.tyBool) ∷ (
   7,
   Rows'.sc-here
       (Row.sInt Syntax.w64),
@@ -4169,16 +3920,20 @@ t26 = (0, Rows'.whole (Declared'.row (Apart.apartT Findings.the-type))) ∷ (
           (Syntax.tcons (Syntax.tyStruct (115 ∷ 101 ∷ 97 ∷ 114 ∷ 99 ∷ 104 ∷ 58 ∷ 58 ∷ 83 ∷ 112 ∷ 97 ∷ 110 ∷ []) (Syntax.tcons (Syntax.tyInt Syntax.w64) (Syntax.tcons
           (Syntax.tyInt Syntax.w64) Syntax.tnil))) (Syntax.tcons (Syntax.tyStruct (115 ∷ 101 ∷ 97 ∷ 114 ∷ 99 ∷ 104 ∷ 58 ∷ 58 ∷ 78 ∷ 101 ∷ 97 ∷ 114 ∷ [])
           (Syntax.tcons (Syntax.tyInt Syntax.w64) (Syntax.tcons (Syntax.tyStruct (102 ∷ 105 ∷ 101 ∷ 108 ∷ 100 ∷ 115 ∷ 58 ∷ 58 ∷ 83 ∷ 101 ∷ 114 ∷ 105 ∷ 97 ∷ 108 ∷ [])
-          (Syntax.tcons (Syntax.tyInt Syntax.w32) Syntax.tnil)) Syntax.tnil))) Syntax.tnil))) Syntax.tnil))) Syntax.tnil))),
+          (Syntax.tcons (Syntax.tyInt Syntax.w32) Syntax.tnil)) Syntax.tnil))) Syntax.tnil))) (Syntax.tcons (Syntax.tyStruct (116 ∷ 114 ∷ 97 ∷ 105 ∷ 108 ∷ 58 ∷ 58 ∷
+          87 ∷ 97 ∷ 116 ∷ 99 ∷ 104 ∷ []) (Syntax.tcons (Syntax.tyInt Syntax.w64) (Syntax.tcons (Syntax.tyInt Syntax.w64) (Syntax.tcons (Syntax.tyInt Syntax.w64)
+          (Syntax.tcons (Syntax.tyInt Syntax.w64) (Syntax.tcons (Syntax.tyInt Syntax.w64) (Syntax.tcons (Syntax.tyInt Syntax.w64) (Syntax.tcons (Syntax.tyStruct (97
+          ∷ 104 ∷ 101 ∷ 97 ∷ 100 ∷ 58 ∷ 58 ∷ 65 ∷ 104 ∷ 101 ∷ 97 ∷ 100 ∷ []) (Syntax.tcons (Syntax.tyInt Syntax.w64) (Syntax.tcons (Syntax.tyInt Syntax.w64)
+          (Syntax.tcons (Syntax.tyInt Syntax.w64) Syntax.tnil)))) Syntax.tnil)))))))) Syntax.tnil)))) Syntax.tnil))),
     ) ∷ (
       11,
-      Rows'.any-gone (Syntax.tyStruct
-          (103 ∷ 97 ∷ 116 ∷ 101 ∷ 58 ∷ 58 ∷ 67 ∷ 111 ∷ 117 ∷ 114 ∷ 115 ∷ 101 ∷ []) (Syntax.tcons (Syntax.tyStruct (114 ∷ 117 ∷ 108 ∷ 101 ∷ 115 ∷ 58 ∷ 58 ∷ 83 ∷ 116 ∷
-          97 ∷ 116 ∷ 101 ∷ []) (Syntax.tcons (Syntax.tyInt Syntax.w8) (Syntax.tcons (Syntax.tyStruct (102 ∷ 105 ∷ 101 ∷ 108 ∷ 100 ∷ 115 ∷ 58 ∷ 58 ∷ 83 ∷ 101 ∷ 114 ∷
-          105 ∷ 97 ∷ 108 ∷ []) (Syntax.tcons (Syntax.tyInt Syntax.w32) Syntax.tnil)) (Syntax.tcons (Syntax.tyStruct (114 ∷ 117 ∷ 108 ∷ 101 ∷ 115 ∷ 58 ∷ 58 ∷ 82 ∷ 117
-          ∷ 110 ∷ []) (Syntax.tcons Syntax.tyBool (Syntax.tcons Syntax.tyBool (Syntax.tcons Syntax.tyBool (Syntax.tcons (Syntax.tyStruct (114 ∷ 101 ∷ 115 ∷ 105 ∷ 100
-          ∷ 117 ∷ 101 ∷ 58 ∷ 58 ∷ 82 ∷ 101 ∷ 115 ∷ 105 ∷ 100 ∷ 117 ∷ 101 ∷ []) (Syntax.tcons (Syntax.tyStruct (110 ∷ 97 ∷ 109 ∷ 101 ∷ 115 ∷ 58 ∷ 58 ∷ 84 ∷ 104 ∷ 114
-          ∷ 101 ∷ 101 ∷ []) (Syntax.tcons (Syntax.tyInt Syntax.w8) (Syntax.tcons (Syntax.tyInt Syntax.w8) (Syntax.tcons (Syntax.tyInt Syntax.w8) Syntax.tnil))))
+      Rows'.any-gone (Syntax.tyStruct (103 ∷
+          97 ∷ 116 ∷ 101 ∷ 58 ∷ 58 ∷ 67 ∷ 111 ∷ 117 ∷ 114 ∷ 115 ∷ 101 ∷ []) (Syntax.tcons (Syntax.tyStruct (114 ∷ 117 ∷ 108 ∷ 101 ∷ 115 ∷ 58 ∷ 58 ∷ 83 ∷ 116 ∷ 97 ∷
+          116 ∷ 101 ∷ []) (Syntax.tcons (Syntax.tyInt Syntax.w8) (Syntax.tcons (Syntax.tyStruct (102 ∷ 105 ∷ 101 ∷ 108 ∷ 100 ∷ 115 ∷ 58 ∷ 58 ∷ 83 ∷ 101 ∷ 114 ∷ 105 ∷
+          97 ∷ 108 ∷ []) (Syntax.tcons (Syntax.tyInt Syntax.w32) Syntax.tnil)) (Syntax.tcons (Syntax.tyStruct (114 ∷ 117 ∷ 108 ∷ 101 ∷ 115 ∷ 58 ∷ 58 ∷ 82 ∷ 117 ∷ 110
+          ∷ []) (Syntax.tcons Syntax.tyBool (Syntax.tcons Syntax.tyBool (Syntax.tcons Syntax.tyBool (Syntax.tcons (Syntax.tyStruct (114 ∷ 101 ∷ 115 ∷ 105 ∷ 100 ∷ 117
+          ∷ 101 ∷ 58 ∷ 58 ∷ 82 ∷ 101 ∷ 115 ∷ 105 ∷ 100 ∷ 117 ∷ 101 ∷ []) (Syntax.tcons (Syntax.tyStruct (110 ∷ 97 ∷ 109 ∷ 101 ∷ 115 ∷ 58 ∷ 58 ∷ 84 ∷ 104 ∷ 114 ∷ 101
+          ∷ 101 ∷ []) (Syntax.tcons (Syntax.tyInt Syntax.w8) (Syntax.tcons (Syntax.tyInt Syntax.w8) (Syntax.tcons (Syntax.tyInt Syntax.w8) Syntax.tnil))))
           (Syntax.tcons (Syntax.tyInt Syntax.w8) (Syntax.tcons (Syntax.tyStruct (102 ∷ 105 ∷ 101 ∷ 108 ∷ 100 ∷ 115 ∷ 58 ∷ 58 ∷ 82 ∷ 101 ∷ 115 ∷ 105 ∷ 100 ∷ 117 ∷ 101
           ∷ 78 ∷ 117 ∷ 109 ∷ 98 ∷ 101 ∷ 114 ∷ []) (Syntax.tcons (Syntax.tyInt Syntax.w32) Syntax.tnil)) (Syntax.tcons (Syntax.tyInt Syntax.w8) Syntax.tnil)))))
           Syntax.tnil))))) (Syntax.tcons (Syntax.tyStruct (102 ∷ 105 ∷ 101 ∷ 108 ∷ 100 ∷ 115 ∷ 58 ∷ 58 ∷ 83 ∷ 101 ∷ 114 ∷ 105 ∷ 97 ∷ 108 ∷ []) (Syntax.tcons
@@ -4193,13 +3948,16 @@ t26 = (0, Rows'.whole (Declared'.row (Apart.apartT Findings.the-type))) ∷ (
           (Syntax.tyStruct (115 ∷ 101 ∷ 97 ∷ 114 ∷ 99 ∷ 104 ∷ 58 ∷ 58 ∷ 83 ∷ 112 ∷ 97 ∷ 110 ∷ []) (Syntax.tcons (Syntax.tyInt Syntax.w64) (Syntax.tcons (Syntax.tyInt
           Syntax.w64) Syntax.tnil))) (Syntax.tcons (Syntax.tyStruct (115 ∷ 101 ∷ 97 ∷ 114 ∷ 99 ∷ 104 ∷ 58 ∷ 58 ∷ 78 ∷ 101 ∷ 97 ∷ 114 ∷ []) (Syntax.tcons
           (Syntax.tyInt Syntax.w64) (Syntax.tcons (Syntax.tyStruct (102 ∷ 105 ∷ 101 ∷ 108 ∷ 100 ∷ 115 ∷ 58 ∷ 58 ∷ 83 ∷ 101 ∷ 114 ∷ 105 ∷ 97 ∷ 108 ∷ []) (Syntax.tcons
-          (Syntax.tyInt Syntax.w32) Syntax.tnil)) Syntax.tnil))) Syntax.tnil))) Syntax.tnil))),
-    ) ∷ (12, Rows'.any-gone SlotAs.ty) ∷ (13, Rows'.any-gone Syntax.tyBool)
-    ∷ (
+          (Syntax.tyInt Syntax.w32) Syntax.tnil)) Syntax.tnil))) Syntax.tnil))) (Syntax.tcons (Syntax.tyStruct (116 ∷ 114 ∷ 97 ∷ 105 ∷ 108 ∷ 58 ∷ 58 ∷ 87 ∷ 97 ∷ 116
+          ∷ 99 ∷ 104 ∷ []) (Syntax.tcons (Syntax.tyInt Syntax.w64) (Syntax.tcons (Syntax.tyInt Syntax.w64) (Syntax.tcons (Syntax.tyInt Syntax.w64) (Syntax.tcons
+          (Syntax.tyInt Syntax.w64) (Syntax.tcons (Syntax.tyInt Syntax.w64) (Syntax.tcons (Syntax.tyInt Syntax.w64) (Syntax.tcons (Syntax.tyStruct (97 ∷ 104 ∷ 101 ∷
+          97 ∷ 100 ∷ 58 ∷ 58 ∷ 65 ∷ 104 ∷ 101 ∷ 97 ∷ 100 ∷ []) (Syntax.tcons (Syntax.tyInt Syntax.w64) (Syntax.tcons (Syntax.tyInt Syntax.w64) (Syntax.tcons
+          (Syntax.tyInt Syntax.w64) Syntax.tnil)))) Syntax.tnil)))))))) Syntax.tnil)))),
+    ) ∷ (12, Rows'.any-gone SlotAs.ty) ∷ (13, Rows'.any-gone Syntax.tyBool) ∷ (
       14,
-      Rows'.any-gone (Syntax.tyStruct (115 ∷ 101 ∷ 97 ∷ 114 ∷ 99 ∷ 104 ∷ 58 ∷ 58 ∷ 83 ∷ 111 ∷ 117 ∷ 103 ∷ 104 ∷ 116 ∷ []) (Syntax.tcons (Syntax.tyStruct
-          (115 ∷ 101 ∷ 97 ∷ 114 ∷ 99 ∷ 104 ∷ 58 ∷ 58 ∷ 78 ∷ 101 ∷ 97 ∷ 114 ∷ []) (Syntax.tcons (Syntax.tyInt Syntax.w64) (Syntax.tcons (Syntax.tyStruct (102 ∷ 105 ∷
-          101 ∷ 108 ∷ 100 ∷ 115 ∷ 58 ∷ 58 ∷ 83 ∷ 101 ∷ 114 ∷ 105 ∷ 97 ∷ 108 ∷ []) (Syntax.tcons (Syntax.tyInt Syntax.w32) Syntax.tnil)) Syntax.tnil))) (Syntax.tcons
+      Rows'.any-gone (Syntax.tyStruct (115 ∷ 101 ∷ 97 ∷ 114 ∷ 99 ∷ 104 ∷ 58 ∷ 58 ∷ 83 ∷ 111 ∷ 117 ∷ 103 ∷ 104 ∷ 116 ∷ []) (Syntax.tcons (Syntax.tyStruct (115 ∷
+          101 ∷ 97 ∷ 114 ∷ 99 ∷ 104 ∷ 58 ∷ 58 ∷ 78 ∷ 101 ∷ 97 ∷ 114 ∷ []) (Syntax.tcons (Syntax.tyInt Syntax.w64) (Syntax.tcons (Syntax.tyStruct (102 ∷ 105 ∷ 101 ∷
+          108 ∷ 100 ∷ 115 ∷ 58 ∷ 58 ∷ 83 ∷ 101 ∷ 114 ∷ 105 ∷ 97 ∷ 108 ∷ []) (Syntax.tcons (Syntax.tyInt Syntax.w32) Syntax.tnil)) Syntax.tnil))) (Syntax.tcons
           Syntax.tyBool Syntax.tnil))),
     ) ∷ (
       15,
@@ -4208,8 +3966,8 @@ t26 = (0, Rows'.whole (Declared'.row (Apart.apartT Findings.the-type))) ∷ (
           (Syntax.tyInt Syntax.w32) Syntax.tnil)) Syntax.tnil))),
     ) ∷ []
 
-abbrev pub t27 : List.List Row.Entry
-t27 = (0, Rows'.whole (Declared'.row (Apart.apartT Findings.the-type))) ∷ (
+abbrev pub t25 : List.List Row.Entry
+t25 = (0, Rows'.whole (Declared'.row (Apart.apartT Findings.the-type))) ∷ (
   1,
   Rows'.sslice (Referent.rtF (Referent.fInt Syntax.w8)) (Syntax.tyRef (Syntax.named
       0) Syntax.imm (Syntax.tyInt Syntax.w8)) 0,
@@ -4240,11 +3998,15 @@ t27 = (0, Rows'.whole (Declared'.row (Apart.apartT Findings.the-type))) ∷ (
       ∷ 114 ∷ 99 ∷ 104 ∷ 58 ∷ 58 ∷ 83 ∷ 112 ∷ 97 ∷ 110 ∷ []) (Syntax.tcons (Syntax.tyInt Syntax.w64) (Syntax.tcons (Syntax.tyInt Syntax.w64) Syntax.tnil)))
       (Syntax.tcons (Syntax.tyStruct (115 ∷ 101 ∷ 97 ∷ 114 ∷ 99 ∷ 104 ∷ 58 ∷ 58 ∷ 78 ∷ 101 ∷ 97 ∷ 114 ∷ []) (Syntax.tcons (Syntax.tyInt Syntax.w64) (Syntax.tcons
       (Syntax.tyStruct (102 ∷ 105 ∷ 101 ∷ 108 ∷ 100 ∷ 115 ∷ 58 ∷ 58 ∷ 83 ∷ 101 ∷ 114 ∷ 105 ∷ 97 ∷ 108 ∷ []) (Syntax.tcons (Syntax.tyInt Syntax.w32) Syntax.tnil))
-      Syntax.tnil))) Syntax.tnil))) Syntax.tnil))),
-) ∷ (5, Rows'.any-gone (Syntax.tyInt Syntax.w64)) ∷ (6, Rows'.any-gone Syntax.tyBool) ∷ (
+      Syntax.tnil))) Syntax.tnil))) (Syntax.tcons (Syntax.tyStruct (116 ∷ 114 ∷ 97 ∷ 105 ∷ 108 ∷ 58 ∷ 58 ∷ 87 ∷ 97 ∷ 116 ∷ 99 ∷ 104 ∷ []) (Syntax.tcons
+      (Syntax.tyInt Syntax.w64) (Syntax.tcons (Syntax.tyInt Syntax.w64) (Syntax.tcons (Syntax.tyInt Syntax.w64) (Syntax.tcons (Syntax.tyInt Syntax.w64)
+      (Syntax.tcons (Syntax.tyInt Syntax.w64) (Syntax.tcons (Syntax.tyInt Syntax.w64) (Syntax.tcons (Syntax.tyStruct (97 ∷ 104 ∷ 101 ∷ 97 ∷ 100 ∷ 58 ∷ 58 ∷ 65 ∷
+      104 ∷ 101 ∷ 97 ∷ 100 ∷ []) (Syntax.tcons (Syntax.tyInt Syntax.w64) (Syntax.tcons (Syntax.tyInt Syntax.w64) (Syntax.tcons (Syntax.tyInt Syntax.w64)
+      Syntax.tnil)))) Syntax.tnil)))))))) Syntax.tnil)))),
+) ∷ (5, Rows'.any-gone (Syntax.tyInt Syntax.w64)) ∷ (6, Rows'.sc-here Row.sBool) ∷ (
   7,
-  Rows'.any-gone
-      (Syntax.tyInt Syntax.w64),
+  Rows'.sc-here
+      (Row.sInt Syntax.w64),
 ) ∷ (
   8,
   Rows'.any-gone (Syntax.tyStruct (115 ∷ 101 ∷ 97 ∷ 114 ∷ 99 ∷ 104 ∷ 58 ∷ 58 ∷ 78 ∷ 101 ∷ 97 ∷ 114 ∷ []) (Syntax.tcons
@@ -4368,16 +4130,20 @@ t27 = (0, Rows'.whole (Declared'.row (Apart.apartT Findings.the-type))) ∷ (
           (Syntax.tcons (Syntax.tyStruct (115 ∷ 101 ∷ 97 ∷ 114 ∷ 99 ∷ 104 ∷ 58 ∷ 58 ∷ 83 ∷ 112 ∷ 97 ∷ 110 ∷ []) (Syntax.tcons (Syntax.tyInt Syntax.w64) (Syntax.tcons
           (Syntax.tyInt Syntax.w64) Syntax.tnil))) (Syntax.tcons (Syntax.tyStruct (115 ∷ 101 ∷ 97 ∷ 114 ∷ 99 ∷ 104 ∷ 58 ∷ 58 ∷ 78 ∷ 101 ∷ 97 ∷ 114 ∷ [])
           (Syntax.tcons (Syntax.tyInt Syntax.w64) (Syntax.tcons (Syntax.tyStruct (102 ∷ 105 ∷ 101 ∷ 108 ∷ 100 ∷ 115 ∷ 58 ∷ 58 ∷ 83 ∷ 101 ∷ 114 ∷ 105 ∷ 97 ∷ 108 ∷ [])
-          (Syntax.tcons (Syntax.tyInt Syntax.w32) Syntax.tnil)) Syntax.tnil))) Syntax.tnil))) Syntax.tnil))) Syntax.tnil))),
+          (Syntax.tcons (Syntax.tyInt Syntax.w32) Syntax.tnil)) Syntax.tnil))) Syntax.tnil))) (Syntax.tcons (Syntax.tyStruct (116 ∷ 114 ∷ 97 ∷ 105 ∷ 108 ∷ 58 ∷ 58 ∷
+          87 ∷ 97 ∷ 116 ∷ 99 ∷ 104 ∷ []) (Syntax.tcons (Syntax.tyInt Syntax.w64) (Syntax.tcons (Syntax.tyInt Syntax.w64) (Syntax.tcons (Syntax.tyInt Syntax.w64)
+          (Syntax.tcons (Syntax.tyInt Syntax.w64) (Syntax.tcons (Syntax.tyInt Syntax.w64) (Syntax.tcons (Syntax.tyInt Syntax.w64) (Syntax.tcons (Syntax.tyStruct (97
+          ∷ 104 ∷ 101 ∷ 97 ∷ 100 ∷ 58 ∷ 58 ∷ 65 ∷ 104 ∷ 101 ∷ 97 ∷ 100 ∷ []) (Syntax.tcons (Syntax.tyInt Syntax.w64) (Syntax.tcons (Syntax.tyInt Syntax.w64)
+          (Syntax.tcons (Syntax.tyInt Syntax.w64) Syntax.tnil)))) Syntax.tnil)))))))) Syntax.tnil)))) Syntax.tnil))),
     ) ∷ (
       11,
-      Rows'.any-gone (Syntax.tyStruct
-          (103 ∷ 97 ∷ 116 ∷ 101 ∷ 58 ∷ 58 ∷ 67 ∷ 111 ∷ 117 ∷ 114 ∷ 115 ∷ 101 ∷ []) (Syntax.tcons (Syntax.tyStruct (114 ∷ 117 ∷ 108 ∷ 101 ∷ 115 ∷ 58 ∷ 58 ∷ 83 ∷ 116 ∷
-          97 ∷ 116 ∷ 101 ∷ []) (Syntax.tcons (Syntax.tyInt Syntax.w8) (Syntax.tcons (Syntax.tyStruct (102 ∷ 105 ∷ 101 ∷ 108 ∷ 100 ∷ 115 ∷ 58 ∷ 58 ∷ 83 ∷ 101 ∷ 114 ∷
-          105 ∷ 97 ∷ 108 ∷ []) (Syntax.tcons (Syntax.tyInt Syntax.w32) Syntax.tnil)) (Syntax.tcons (Syntax.tyStruct (114 ∷ 117 ∷ 108 ∷ 101 ∷ 115 ∷ 58 ∷ 58 ∷ 82 ∷ 117
-          ∷ 110 ∷ []) (Syntax.tcons Syntax.tyBool (Syntax.tcons Syntax.tyBool (Syntax.tcons Syntax.tyBool (Syntax.tcons (Syntax.tyStruct (114 ∷ 101 ∷ 115 ∷ 105 ∷ 100
-          ∷ 117 ∷ 101 ∷ 58 ∷ 58 ∷ 82 ∷ 101 ∷ 115 ∷ 105 ∷ 100 ∷ 117 ∷ 101 ∷ []) (Syntax.tcons (Syntax.tyStruct (110 ∷ 97 ∷ 109 ∷ 101 ∷ 115 ∷ 58 ∷ 58 ∷ 84 ∷ 104 ∷ 114
-          ∷ 101 ∷ 101 ∷ []) (Syntax.tcons (Syntax.tyInt Syntax.w8) (Syntax.tcons (Syntax.tyInt Syntax.w8) (Syntax.tcons (Syntax.tyInt Syntax.w8) Syntax.tnil))))
+      Rows'.any-gone (Syntax.tyStruct (103 ∷
+          97 ∷ 116 ∷ 101 ∷ 58 ∷ 58 ∷ 67 ∷ 111 ∷ 117 ∷ 114 ∷ 115 ∷ 101 ∷ []) (Syntax.tcons (Syntax.tyStruct (114 ∷ 117 ∷ 108 ∷ 101 ∷ 115 ∷ 58 ∷ 58 ∷ 83 ∷ 116 ∷ 97 ∷
+          116 ∷ 101 ∷ []) (Syntax.tcons (Syntax.tyInt Syntax.w8) (Syntax.tcons (Syntax.tyStruct (102 ∷ 105 ∷ 101 ∷ 108 ∷ 100 ∷ 115 ∷ 58 ∷ 58 ∷ 83 ∷ 101 ∷ 114 ∷ 105 ∷
+          97 ∷ 108 ∷ []) (Syntax.tcons (Syntax.tyInt Syntax.w32) Syntax.tnil)) (Syntax.tcons (Syntax.tyStruct (114 ∷ 117 ∷ 108 ∷ 101 ∷ 115 ∷ 58 ∷ 58 ∷ 82 ∷ 117 ∷ 110
+          ∷ []) (Syntax.tcons Syntax.tyBool (Syntax.tcons Syntax.tyBool (Syntax.tcons Syntax.tyBool (Syntax.tcons (Syntax.tyStruct (114 ∷ 101 ∷ 115 ∷ 105 ∷ 100 ∷ 117
+          ∷ 101 ∷ 58 ∷ 58 ∷ 82 ∷ 101 ∷ 115 ∷ 105 ∷ 100 ∷ 117 ∷ 101 ∷ []) (Syntax.tcons (Syntax.tyStruct (110 ∷ 97 ∷ 109 ∷ 101 ∷ 115 ∷ 58 ∷ 58 ∷ 84 ∷ 104 ∷ 114 ∷ 101
+          ∷ 101 ∷ []) (Syntax.tcons (Syntax.tyInt Syntax.w8) (Syntax.tcons (Syntax.tyInt Syntax.w8) (Syntax.tcons (Syntax.tyInt Syntax.w8) Syntax.tnil))))
           (Syntax.tcons (Syntax.tyInt Syntax.w8) (Syntax.tcons (Syntax.tyStruct (102 ∷ 105 ∷ 101 ∷ 108 ∷ 100 ∷ 115 ∷ 58 ∷ 58 ∷ 82 ∷ 101 ∷ 115 ∷ 105 ∷ 100 ∷ 117 ∷ 101
           ∷ 78 ∷ 117 ∷ 109 ∷ 98 ∷ 101 ∷ 114 ∷ []) (Syntax.tcons (Syntax.tyInt Syntax.w32) Syntax.tnil)) (Syntax.tcons (Syntax.tyInt Syntax.w8) Syntax.tnil)))))
           Syntax.tnil))))) (Syntax.tcons (Syntax.tyStruct (102 ∷ 105 ∷ 101 ∷ 108 ∷ 100 ∷ 115 ∷ 58 ∷ 58 ∷ 83 ∷ 101 ∷ 114 ∷ 105 ∷ 97 ∷ 108 ∷ []) (Syntax.tcons
@@ -4392,13 +4158,434 @@ t27 = (0, Rows'.whole (Declared'.row (Apart.apartT Findings.the-type))) ∷ (
           (Syntax.tyStruct (115 ∷ 101 ∷ 97 ∷ 114 ∷ 99 ∷ 104 ∷ 58 ∷ 58 ∷ 83 ∷ 112 ∷ 97 ∷ 110 ∷ []) (Syntax.tcons (Syntax.tyInt Syntax.w64) (Syntax.tcons (Syntax.tyInt
           Syntax.w64) Syntax.tnil))) (Syntax.tcons (Syntax.tyStruct (115 ∷ 101 ∷ 97 ∷ 114 ∷ 99 ∷ 104 ∷ 58 ∷ 58 ∷ 78 ∷ 101 ∷ 97 ∷ 114 ∷ []) (Syntax.tcons
           (Syntax.tyInt Syntax.w64) (Syntax.tcons (Syntax.tyStruct (102 ∷ 105 ∷ 101 ∷ 108 ∷ 100 ∷ 115 ∷ 58 ∷ 58 ∷ 83 ∷ 101 ∷ 114 ∷ 105 ∷ 97 ∷ 108 ∷ []) (Syntax.tcons
-          (Syntax.tyInt Syntax.w32) Syntax.tnil)) Syntax.tnil))) Syntax.tnil))) Syntax.tnil))),
-    ) ∷ (12, Rows'.any-gone SlotAs.ty) ∷ (13, Rows'.any-gone Syntax.tyBool)
-    ∷ (
+          (Syntax.tyInt Syntax.w32) Syntax.tnil)) Syntax.tnil))) Syntax.tnil))) (Syntax.tcons (Syntax.tyStruct (116 ∷ 114 ∷ 97 ∷ 105 ∷ 108 ∷ 58 ∷ 58 ∷ 87 ∷ 97 ∷ 116
+          ∷ 99 ∷ 104 ∷ []) (Syntax.tcons (Syntax.tyInt Syntax.w64) (Syntax.tcons (Syntax.tyInt Syntax.w64) (Syntax.tcons (Syntax.tyInt Syntax.w64) (Syntax.tcons
+          (Syntax.tyInt Syntax.w64) (Syntax.tcons (Syntax.tyInt Syntax.w64) (Syntax.tcons (Syntax.tyInt Syntax.w64) (Syntax.tcons (Syntax.tyStruct (97 ∷ 104 ∷ 101 ∷
+          97 ∷ 100 ∷ 58 ∷ 58 ∷ 65 ∷ 104 ∷ 101 ∷ 97 ∷ 100 ∷ []) (Syntax.tcons (Syntax.tyInt Syntax.w64) (Syntax.tcons (Syntax.tyInt Syntax.w64) (Syntax.tcons
+          (Syntax.tyInt Syntax.w64) Syntax.tnil)))) Syntax.tnil)))))))) Syntax.tnil)))),
+    ) ∷ (12, Rows'.any-gone SlotAs.ty) ∷ (13, Rows'.any-gone Syntax.tyBool) ∷ (
       14,
-      Rows'.any-gone (Syntax.tyStruct (115 ∷ 101 ∷ 97 ∷ 114 ∷ 99 ∷ 104 ∷ 58 ∷ 58 ∷ 83 ∷ 111 ∷ 117 ∷ 103 ∷ 104 ∷ 116 ∷ []) (Syntax.tcons (Syntax.tyStruct
-          (115 ∷ 101 ∷ 97 ∷ 114 ∷ 99 ∷ 104 ∷ 58 ∷ 58 ∷ 78 ∷ 101 ∷ 97 ∷ 114 ∷ []) (Syntax.tcons (Syntax.tyInt Syntax.w64) (Syntax.tcons (Syntax.tyStruct (102 ∷ 105 ∷
-          101 ∷ 108 ∷ 100 ∷ 115 ∷ 58 ∷ 58 ∷ 83 ∷ 101 ∷ 114 ∷ 105 ∷ 97 ∷ 108 ∷ []) (Syntax.tcons (Syntax.tyInt Syntax.w32) Syntax.tnil)) Syntax.tnil))) (Syntax.tcons
+      Rows'.any-gone (Syntax.tyStruct (115 ∷ 101 ∷ 97 ∷ 114 ∷ 99 ∷ 104 ∷ 58 ∷ 58 ∷ 83 ∷ 111 ∷ 117 ∷ 103 ∷ 104 ∷ 116 ∷ []) (Syntax.tcons (Syntax.tyStruct (115 ∷
+          101 ∷ 97 ∷ 114 ∷ 99 ∷ 104 ∷ 58 ∷ 58 ∷ 78 ∷ 101 ∷ 97 ∷ 114 ∷ []) (Syntax.tcons (Syntax.tyInt Syntax.w64) (Syntax.tcons (Syntax.tyStruct (102 ∷ 105 ∷ 101 ∷
+          108 ∷ 100 ∷ 115 ∷ 58 ∷ 58 ∷ 83 ∷ 101 ∷ 114 ∷ 105 ∷ 97 ∷ 108 ∷ []) (Syntax.tcons (Syntax.tyInt Syntax.w32) Syntax.tnil)) Syntax.tnil))) (Syntax.tcons
+          Syntax.tyBool Syntax.tnil))),
+    ) ∷ (
+      15,
+      Rows'.any-gone (Syntax.tyStruct (115 ∷ 101 ∷ 97 ∷ 114 ∷ 99 ∷ 104 ∷ 58 ∷ 58 ∷ 78 ∷ 101 ∷ 97 ∷ 114 ∷ []) (Syntax.tcons
+          (Syntax.tyInt Syntax.w64) (Syntax.tcons (Syntax.tyStruct (102 ∷ 105 ∷ 101 ∷ 108 ∷ 100 ∷ 115 ∷ 58 ∷ 58 ∷ 83 ∷ 101 ∷ 114 ∷ 105 ∷ 97 ∷ 108 ∷ []) (Syntax.tcons
+          (Syntax.tyInt Syntax.w32) Syntax.tnil)) Syntax.tnil))),
+    ) ∷ []
+
+abbrev pub t26 : List.List Row.Entry
+t26 = (0, Rows'.whole (Declared'.row (Apart.apartT Findings.the-type))) ∷ (
+  1,
+  Rows'.sslice (Referent.rtF (Referent.fInt Syntax.w8)) (Syntax.tyRef (Syntax.named
+      0) Syntax.imm (Syntax.tyInt Syntax.w8)) 0,
+) ∷ (2, Rows'.sslice SlotAs.row (Syntax.tyRef (Syntax.named 1) Syntax.imm SlotAs.pointee) 1) ∷ (
+  3,
+  Rows'.any-gone
+      (Syntax.tyInt Syntax.w64),
+) ∷ (
+  4,
+  Rows'.any-gone (Syntax.tyStruct (103 ∷ 97 ∷ 116 ∷ 101 ∷ 58 ∷ 58 ∷ 67 ∷ 111 ∷ 117 ∷ 114 ∷ 115 ∷ 101 ∷ []) (Syntax.tcons
+      (Syntax.tyStruct (114 ∷ 117 ∷ 108 ∷ 101 ∷ 115 ∷ 58 ∷ 58 ∷ 83 ∷ 116 ∷ 97 ∷ 116 ∷ 101 ∷ []) (Syntax.tcons (Syntax.tyInt Syntax.w8) (Syntax.tcons
+      (Syntax.tyStruct (102 ∷ 105 ∷ 101 ∷ 108 ∷ 100 ∷ 115 ∷ 58 ∷ 58 ∷ 83 ∷ 101 ∷ 114 ∷ 105 ∷ 97 ∷ 108 ∷ []) (Syntax.tcons (Syntax.tyInt Syntax.w32) Syntax.tnil))
+      (Syntax.tcons (Syntax.tyStruct (114 ∷ 117 ∷ 108 ∷ 101 ∷ 115 ∷ 58 ∷ 58 ∷ 82 ∷ 117 ∷ 110 ∷ []) (Syntax.tcons Syntax.tyBool (Syntax.tcons Syntax.tyBool
+      (Syntax.tcons Syntax.tyBool (Syntax.tcons (Syntax.tyStruct (114 ∷ 101 ∷ 115 ∷ 105 ∷ 100 ∷ 117 ∷ 101 ∷ 58 ∷ 58 ∷ 82 ∷ 101 ∷ 115 ∷ 105 ∷ 100 ∷ 117 ∷ 101 ∷
+      []) (Syntax.tcons (Syntax.tyStruct (110 ∷ 97 ∷ 109 ∷ 101 ∷ 115 ∷ 58 ∷ 58 ∷ 84 ∷ 104 ∷ 114 ∷ 101 ∷ 101 ∷ []) (Syntax.tcons (Syntax.tyInt Syntax.w8)
+      (Syntax.tcons (Syntax.tyInt Syntax.w8) (Syntax.tcons (Syntax.tyInt Syntax.w8) Syntax.tnil)))) (Syntax.tcons (Syntax.tyInt Syntax.w8) (Syntax.tcons
+      (Syntax.tyStruct (102 ∷ 105 ∷ 101 ∷ 108 ∷ 100 ∷ 115 ∷ 58 ∷ 58 ∷ 82 ∷ 101 ∷ 115 ∷ 105 ∷ 100 ∷ 117 ∷ 101 ∷ 78 ∷ 117 ∷ 109 ∷ 98 ∷ 101 ∷ 114 ∷ [])
+      (Syntax.tcons (Syntax.tyInt Syntax.w32) Syntax.tnil)) (Syntax.tcons (Syntax.tyInt Syntax.w8) Syntax.tnil))))) Syntax.tnil))))) (Syntax.tcons
+      (Syntax.tyStruct (102 ∷ 105 ∷ 101 ∷ 108 ∷ 100 ∷ 115 ∷ 58 ∷ 58 ∷ 83 ∷ 101 ∷ 114 ∷ 105 ∷ 97 ∷ 108 ∷ []) (Syntax.tcons (Syntax.tyInt Syntax.w32) Syntax.tnil))
+      (Syntax.tcons (Syntax.tyInt Syntax.w32) (Syntax.tcons (Syntax.tyStruct (114 ∷ 117 ∷ 108 ∷ 101 ∷ 115 ∷ 58 ∷ 58 ∷ 76 ∷ 97 ∷ 100 ∷ 100 ∷ 101 ∷ 114 ∷ [])
+      (Syntax.tcons (Syntax.tyStruct (110 ∷ 97 ∷ 109 ∷ 101 ∷ 115 ∷ 58 ∷ 58 ∷ 84 ∷ 104 ∷ 114 ∷ 101 ∷ 101 ∷ []) (Syntax.tcons (Syntax.tyInt Syntax.w8)
+      (Syntax.tcons (Syntax.tyInt Syntax.w8) (Syntax.tcons (Syntax.tyInt Syntax.w8) Syntax.tnil)))) (Syntax.tcons (Syntax.tyInt Syntax.w32) (Syntax.tcons
+      (Syntax.tyInt Syntax.w32) Syntax.tnil)))) (Syntax.tcons (Syntax.tyStruct (112 ∷ 108 ∷ 97 ∷ 99 ∷ 101 ∷ 115 ∷ 58 ∷ 58 ∷ 67 ∷ 111 ∷ 117 ∷ 110 ∷ 116 ∷ 115 ∷
+      []) (Syntax.tcons (Syntax.tyInt Syntax.w64) (Syntax.tcons (Syntax.tyInt Syntax.w64) (Syntax.tcons (Syntax.tyInt Syntax.w64) (Syntax.tcons (Syntax.tyInt
+      Syntax.w64) (Syntax.tcons (Syntax.tyInt Syntax.w64) (Syntax.tcons (Syntax.tyInt Syntax.w64) (Syntax.tcons (Syntax.tyInt Syntax.w64) (Syntax.tcons
+      (Syntax.tyInt Syntax.w64) (Syntax.tcons (Syntax.tyInt Syntax.w64) Syntax.tnil)))))))))) (Syntax.tcons (Syntax.tyInt Syntax.w64) Syntax.tnil)))))))))
+      (Syntax.tcons (Syntax.tyStruct (115 ∷ 101 ∷ 114 ∷ 105 ∷ 97 ∷ 108 ∷ 115 ∷ 58 ∷ 58 ∷ 80 ∷ 97 ∷ 115 ∷ 116 ∷ []) (Syntax.tcons (Syntax.tyStruct (115 ∷ 101 ∷ 97
+      ∷ 114 ∷ 99 ∷ 104 ∷ 58 ∷ 58 ∷ 83 ∷ 112 ∷ 97 ∷ 110 ∷ []) (Syntax.tcons (Syntax.tyInt Syntax.w64) (Syntax.tcons (Syntax.tyInt Syntax.w64) Syntax.tnil)))
+      (Syntax.tcons (Syntax.tyStruct (115 ∷ 101 ∷ 97 ∷ 114 ∷ 99 ∷ 104 ∷ 58 ∷ 58 ∷ 78 ∷ 101 ∷ 97 ∷ 114 ∷ []) (Syntax.tcons (Syntax.tyInt Syntax.w64) (Syntax.tcons
+      (Syntax.tyStruct (102 ∷ 105 ∷ 101 ∷ 108 ∷ 100 ∷ 115 ∷ 58 ∷ 58 ∷ 83 ∷ 101 ∷ 114 ∷ 105 ∷ 97 ∷ 108 ∷ []) (Syntax.tcons (Syntax.tyInt Syntax.w32) Syntax.tnil))
+      Syntax.tnil))) Syntax.tnil))) (Syntax.tcons (Syntax.tyStruct (116 ∷ 114 ∷ 97 ∷ 105 ∷ 108 ∷ 58 ∷ 58 ∷ 87 ∷ 97 ∷ 116 ∷ 99 ∷ 104 ∷ []) (Syntax.tcons
+      (Syntax.tyInt Syntax.w64) (Syntax.tcons (Syntax.tyInt Syntax.w64) (Syntax.tcons (Syntax.tyInt Syntax.w64) (Syntax.tcons (Syntax.tyInt Syntax.w64)
+      (Syntax.tcons (Syntax.tyInt Syntax.w64) (Syntax.tcons (Syntax.tyInt Syntax.w64) (Syntax.tcons (Syntax.tyStruct (97 ∷ 104 ∷ 101 ∷ 97 ∷ 100 ∷ 58 ∷ 58 ∷ 65 ∷
+      104 ∷ 101 ∷ 97 ∷ 100 ∷ []) (Syntax.tcons (Syntax.tyInt Syntax.w64) (Syntax.tcons (Syntax.tyInt Syntax.w64) (Syntax.tcons (Syntax.tyInt Syntax.w64)
+      Syntax.tnil)))) Syntax.tnil)))))))) Syntax.tnil)))),
+) ∷ (5, Rows'.any-gone (Syntax.tyInt Syntax.w64)) ∷ (6, Rows'.any-gone Syntax.tyBool) ∷ (
+  7,
+  Rows'.sc-here (Row.sInt Syntax.w64),
+) ∷ (
+  8,
+  Rows'.any-gone (Syntax.tyStruct (115 ∷ 101 ∷ 97 ∷ 114 ∷ 99 ∷ 104 ∷ 58 ∷ 58 ∷ 78 ∷ 101 ∷ 97 ∷ 114 ∷ [])
+      (Syntax.tcons (Syntax.tyInt Syntax.w64) (Syntax.tcons (Syntax.tyStruct (102 ∷ 105 ∷ 101 ∷ 108 ∷ 100 ∷ 115 ∷ 58 ∷ 58 ∷ 83 ∷ 101 ∷ 114 ∷ 105 ∷ 97 ∷ 108 ∷ [])
+      (Syntax.tcons (Syntax.tyInt Syntax.w32) Syntax.tnil)) Syntax.tnil))),
+) ∷ (
+  9,
+  Rows'.any-gone (Syntax.tyEnum (112 ∷ 105 ∷ 101 ∷ 99 ∷ 101 ∷ 115 ∷ 58 ∷ 58 ∷ 76
+      ∷ 105 ∷ 110 ∷ 101 ∷ []) (Syntax.ttcons (Syntax.tcons (Syntax.tyInt Syntax.w8) Syntax.tnil) (Syntax.ttcons (Syntax.tcons (Syntax.tyEnum (107 ∷ 105 ∷ 110 ∷
+      100 ∷ 115 ∷ 58 ∷ 58 ∷ 75 ∷ 105 ∷ 110 ∷ 100 ∷ []) (Syntax.ttcons Syntax.tnil (Syntax.ttcons Syntax.tnil (Syntax.ttcons Syntax.tnil (Syntax.ttcons
+      Syntax.tnil (Syntax.ttcons Syntax.tnil (Syntax.ttcons Syntax.tnil (Syntax.ttcons Syntax.tnil (Syntax.ttcons Syntax.tnil (Syntax.ttcons Syntax.tnil
+      (Syntax.ttcons Syntax.tnil (Syntax.ttcons Syntax.tnil (Syntax.ttcons Syntax.tnil (Syntax.ttcons Syntax.tnil (Syntax.ttcons Syntax.tnil (Syntax.ttcons
+      Syntax.tnil (Syntax.ttcons Syntax.tnil (Syntax.ttcons Syntax.tnil (Syntax.ttcons Syntax.tnil (Syntax.ttcons Syntax.tnil (Syntax.ttcons Syntax.tnil
+      (Syntax.ttcons Syntax.tnil (Syntax.ttcons Syntax.tnil (Syntax.ttcons Syntax.tnil (Syntax.ttcons Syntax.tnil (Syntax.ttcons Syntax.tnil (Syntax.ttcons
+      Syntax.tnil (Syntax.ttcons Syntax.tnil (Syntax.ttcons Syntax.tnil Syntax.ttnil))))))))))))))))))))))))))))) (Syntax.tcons (Syntax.tyInt Syntax.w32)
+      Syntax.tnil)) (Syntax.ttcons (Syntax.tcons (Syntax.tyEnum (107 ∷ 105 ∷ 110 ∷ 100 ∷ 115 ∷ 58 ∷ 58 ∷ 75 ∷ 105 ∷ 110 ∷ 100 ∷ []) (Syntax.ttcons Syntax.tnil
+      (Syntax.ttcons Syntax.tnil (Syntax.ttcons Syntax.tnil (Syntax.ttcons Syntax.tnil (Syntax.ttcons Syntax.tnil (Syntax.ttcons Syntax.tnil (Syntax.ttcons
+      Syntax.tnil (Syntax.ttcons Syntax.tnil (Syntax.ttcons Syntax.tnil (Syntax.ttcons Syntax.tnil (Syntax.ttcons Syntax.tnil (Syntax.ttcons Syntax.tnil
+      (Syntax.ttcons Syntax.tnil (Syntax.ttcons Syntax.tnil (Syntax.ttcons Syntax.tnil (Syntax.ttcons Syntax.tnil (Syntax.ttcons Syntax.tnil (Syntax.ttcons
+      Syntax.tnil (Syntax.ttcons Syntax.tnil (Syntax.ttcons Syntax.tnil (Syntax.ttcons Syntax.tnil (Syntax.ttcons Syntax.tnil (Syntax.ttcons Syntax.tnil
+      (Syntax.ttcons Syntax.tnil (Syntax.ttcons Syntax.tnil (Syntax.ttcons Syntax.tnil (Syntax.ttcons Syntax.tnil (Syntax.ttcons Syntax.tnil
+      Syntax.ttnil))))))))))))))))))))))))))))) Syntax.tnil) (Syntax.ttcons (Syntax.tcons (Syntax.tyEnum (108 ∷ 105 ∷ 110 ∷ 101 ∷ 58 ∷ 58 ∷ 82 ∷ 101 ∷ 99 ∷ 111 ∷
+      114 ∷ 100 ∷ []) (Syntax.ttcons (Syntax.tcons Syntax.tyBool (Syntax.tcons (Syntax.tyStruct (99 ∷ 111 ∷ 111 ∷ 114 ∷ 100 ∷ 105 ∷ 110 ∷ 97 ∷ 116 ∷ 101 ∷ 58 ∷
+      58 ∷ 65 ∷ 116 ∷ 111 ∷ 109 ∷ []) (Syntax.tcons (Syntax.tyStruct (99 ∷ 111 ∷ 111 ∷ 114 ∷ 100 ∷ 105 ∷ 110 ∷ 97 ∷ 116 ∷ 101 ∷ 58 ∷ 58 ∷ 73 ∷ 100 ∷ 101 ∷ 110 ∷
+      116 ∷ 105 ∷ 116 ∷ 121 ∷ []) (Syntax.tcons (Syntax.tyStruct (102 ∷ 105 ∷ 101 ∷ 108 ∷ 100 ∷ 115 ∷ 58 ∷ 58 ∷ 83 ∷ 101 ∷ 114 ∷ 105 ∷ 97 ∷ 108 ∷ [])
+      (Syntax.tcons (Syntax.tyInt Syntax.w32) Syntax.tnil)) (Syntax.tcons (Syntax.tyStruct (110 ∷ 97 ∷ 109 ∷ 101 ∷ 115 ∷ 58 ∷ 58 ∷ 70 ∷ 111 ∷ 117 ∷ 114 ∷ [])
+      (Syntax.tcons (Syntax.tyInt Syntax.w8) (Syntax.tcons (Syntax.tyInt Syntax.w8) (Syntax.tcons (Syntax.tyInt Syntax.w8) (Syntax.tcons (Syntax.tyInt Syntax.w8)
+      Syntax.tnil))))) (Syntax.tcons (Syntax.tyInt Syntax.w8) (Syntax.tcons (Syntax.tyStruct (114 ∷ 101 ∷ 115 ∷ 105 ∷ 100 ∷ 117 ∷ 101 ∷ 58 ∷ 58 ∷ 82 ∷ 101 ∷ 115
+      ∷ 105 ∷ 100 ∷ 117 ∷ 101 ∷ []) (Syntax.tcons (Syntax.tyStruct (110 ∷ 97 ∷ 109 ∷ 101 ∷ 115 ∷ 58 ∷ 58 ∷ 84 ∷ 104 ∷ 114 ∷ 101 ∷ 101 ∷ []) (Syntax.tcons
+      (Syntax.tyInt Syntax.w8) (Syntax.tcons (Syntax.tyInt Syntax.w8) (Syntax.tcons (Syntax.tyInt Syntax.w8) Syntax.tnil)))) (Syntax.tcons (Syntax.tyInt
+      Syntax.w8) (Syntax.tcons (Syntax.tyStruct (102 ∷ 105 ∷ 101 ∷ 108 ∷ 100 ∷ 115 ∷ 58 ∷ 58 ∷ 82 ∷ 101 ∷ 115 ∷ 105 ∷ 100 ∷ 117 ∷ 101 ∷ 78 ∷ 117 ∷ 109 ∷ 98 ∷ 101
+      ∷ 114 ∷ []) (Syntax.tcons (Syntax.tyInt Syntax.w32) Syntax.tnil)) (Syntax.tcons (Syntax.tyInt Syntax.w8) Syntax.tnil))))) Syntax.tnil))))) (Syntax.tcons
+      (Syntax.tyStruct (99 ∷ 111 ∷ 111 ∷ 114 ∷ 100 ∷ 105 ∷ 110 ∷ 97 ∷ 116 ∷ 101 ∷ 58 ∷ 58 ∷ 77 ∷ 101 ∷ 97 ∷ 115 ∷ 117 ∷ 114 ∷ 101 ∷ []) (Syntax.tcons
+      (Syntax.tyStruct (99 ∷ 111 ∷ 111 ∷ 114 ∷ 100 ∷ 105 ∷ 110 ∷ 97 ∷ 116 ∷ 101 ∷ 58 ∷ 58 ∷ 80 ∷ 111 ∷ 115 ∷ 105 ∷ 116 ∷ 105 ∷ 111 ∷ 110 ∷ []) (Syntax.tcons
+      (Syntax.tyInt Syntax.w32) (Syntax.tcons (Syntax.tyInt Syntax.w32) (Syntax.tcons (Syntax.tyInt Syntax.w32) Syntax.tnil)))) (Syntax.tcons (Syntax.tyInt
+      Syntax.w32) (Syntax.tcons (Syntax.tyInt Syntax.w32) Syntax.tnil)))) (Syntax.tcons (Syntax.tyStruct (99 ∷ 111 ∷ 111 ∷ 114 ∷ 100 ∷ 105 ∷ 110 ∷ 97 ∷ 116 ∷ 101
+      ∷ 58 ∷ 58 ∷ 83 ∷ 112 ∷ 101 ∷ 99 ∷ 105 ∷ 101 ∷ 115 ∷ []) (Syntax.tcons (Syntax.tyStruct (110 ∷ 97 ∷ 109 ∷ 101 ∷ 115 ∷ 58 ∷ 58 ∷ 80 ∷ 97 ∷ 105 ∷ 114 ∷ [])
+      (Syntax.tcons (Syntax.tyInt Syntax.w8) (Syntax.tcons (Syntax.tyInt Syntax.w8) Syntax.tnil))) (Syntax.tcons (Syntax.tyStruct (110 ∷ 97 ∷ 109 ∷ 101 ∷ 115 ∷
+      58 ∷ 58 ∷ 80 ∷ 97 ∷ 105 ∷ 114 ∷ []) (Syntax.tcons (Syntax.tyInt Syntax.w8) (Syntax.tcons (Syntax.tyInt Syntax.w8) Syntax.tnil))) Syntax.tnil)))
+      Syntax.tnil)))) Syntax.tnil)) (Syntax.ttcons (Syntax.tcons (Syntax.tyStruct (116 ∷ 101 ∷ 114 ∷ 58 ∷ 58 ∷ 84 ∷ 101 ∷ 114 ∷ []) (Syntax.tcons
+      (Syntax.tyStruct (102 ∷ 105 ∷ 101 ∷ 108 ∷ 100 ∷ 115 ∷ 58 ∷ 58 ∷ 83 ∷ 101 ∷ 114 ∷ 105 ∷ 97 ∷ 108 ∷ []) (Syntax.tcons (Syntax.tyInt Syntax.w32) Syntax.tnil))
+      (Syntax.tcons (Syntax.tyStruct (114 ∷ 101 ∷ 115 ∷ 105 ∷ 100 ∷ 117 ∷ 101 ∷ 58 ∷ 58 ∷ 82 ∷ 101 ∷ 115 ∷ 105 ∷ 100 ∷ 117 ∷ 101 ∷ []) (Syntax.tcons
+      (Syntax.tyStruct (110 ∷ 97 ∷ 109 ∷ 101 ∷ 115 ∷ 58 ∷ 58 ∷ 84 ∷ 104 ∷ 114 ∷ 101 ∷ 101 ∷ []) (Syntax.tcons (Syntax.tyInt Syntax.w8) (Syntax.tcons
+      (Syntax.tyInt Syntax.w8) (Syntax.tcons (Syntax.tyInt Syntax.w8) Syntax.tnil)))) (Syntax.tcons (Syntax.tyInt Syntax.w8) (Syntax.tcons (Syntax.tyStruct (102
+      ∷ 105 ∷ 101 ∷ 108 ∷ 100 ∷ 115 ∷ 58 ∷ 58 ∷ 82 ∷ 101 ∷ 115 ∷ 105 ∷ 100 ∷ 117 ∷ 101 ∷ 78 ∷ 117 ∷ 109 ∷ 98 ∷ 101 ∷ 114 ∷ []) (Syntax.tcons (Syntax.tyInt
+      Syntax.w32) Syntax.tnil)) (Syntax.tcons (Syntax.tyInt Syntax.w8) Syntax.tnil))))) Syntax.tnil))) Syntax.tnil) (Syntax.ttcons (Syntax.tcons (Syntax.tyStruct
+      (104 ∷ 101 ∷ 108 ∷ 105 ∷ 120 ∷ 58 ∷ 58 ∷ 72 ∷ 101 ∷ 108 ∷ 105 ∷ 120 ∷ []) (Syntax.tcons (Syntax.tyStruct (104 ∷ 101 ∷ 108 ∷ 105 ∷ 120 ∷ 58 ∷ 58 ∷ 69 ∷ 120
+      ∷ 116 ∷ 101 ∷ 110 ∷ 116 ∷ []) (Syntax.tcons (Syntax.tyInt Syntax.w32) (Syntax.tcons (Syntax.tyStruct (110 ∷ 97 ∷ 109 ∷ 101 ∷ 115 ∷ 58 ∷ 58 ∷ 84 ∷ 104 ∷ 114
+      ∷ 101 ∷ 101 ∷ []) (Syntax.tcons (Syntax.tyInt Syntax.w8) (Syntax.tcons (Syntax.tyInt Syntax.w8) (Syntax.tcons (Syntax.tyInt Syntax.w8) Syntax.tnil))))
+      (Syntax.tcons (Syntax.tyStruct (114 ∷ 101 ∷ 115 ∷ 105 ∷ 100 ∷ 117 ∷ 101 ∷ 58 ∷ 58 ∷ 82 ∷ 101 ∷ 115 ∷ 105 ∷ 100 ∷ 117 ∷ 101 ∷ []) (Syntax.tcons
+      (Syntax.tyStruct (110 ∷ 97 ∷ 109 ∷ 101 ∷ 115 ∷ 58 ∷ 58 ∷ 84 ∷ 104 ∷ 114 ∷ 101 ∷ 101 ∷ []) (Syntax.tcons (Syntax.tyInt Syntax.w8) (Syntax.tcons
+      (Syntax.tyInt Syntax.w8) (Syntax.tcons (Syntax.tyInt Syntax.w8) Syntax.tnil)))) (Syntax.tcons (Syntax.tyInt Syntax.w8) (Syntax.tcons (Syntax.tyStruct (102
+      ∷ 105 ∷ 101 ∷ 108 ∷ 100 ∷ 115 ∷ 58 ∷ 58 ∷ 82 ∷ 101 ∷ 115 ∷ 105 ∷ 100 ∷ 117 ∷ 101 ∷ 78 ∷ 117 ∷ 109 ∷ 98 ∷ 101 ∷ 114 ∷ []) (Syntax.tcons (Syntax.tyInt
+      Syntax.w32) Syntax.tnil)) (Syntax.tcons (Syntax.tyInt Syntax.w8) Syntax.tnil))))) (Syntax.tcons (Syntax.tyStruct (114 ∷ 101 ∷ 115 ∷ 105 ∷ 100 ∷ 117 ∷ 101 ∷
+      58 ∷ 58 ∷ 82 ∷ 101 ∷ 115 ∷ 105 ∷ 100 ∷ 117 ∷ 101 ∷ []) (Syntax.tcons (Syntax.tyStruct (110 ∷ 97 ∷ 109 ∷ 101 ∷ 115 ∷ 58 ∷ 58 ∷ 84 ∷ 104 ∷ 114 ∷ 101 ∷ 101 ∷
+      []) (Syntax.tcons (Syntax.tyInt Syntax.w8) (Syntax.tcons (Syntax.tyInt Syntax.w8) (Syntax.tcons (Syntax.tyInt Syntax.w8) Syntax.tnil)))) (Syntax.tcons
+      (Syntax.tyInt Syntax.w8) (Syntax.tcons (Syntax.tyStruct (102 ∷ 105 ∷ 101 ∷ 108 ∷ 100 ∷ 115 ∷ 58 ∷ 58 ∷ 82 ∷ 101 ∷ 115 ∷ 105 ∷ 100 ∷ 117 ∷ 101 ∷ 78 ∷ 117 ∷
+      109 ∷ 98 ∷ 101 ∷ 114 ∷ []) (Syntax.tcons (Syntax.tyInt Syntax.w32) Syntax.tnil)) (Syntax.tcons (Syntax.tyInt Syntax.w8) Syntax.tnil))))) Syntax.tnil)))))
+      (Syntax.tcons (Syntax.tyInt Syntax.w32) (Syntax.tcons (Syntax.tyStruct (104 ∷ 101 ∷ 108 ∷ 105 ∷ 120 ∷ 58 ∷ 58 ∷ 67 ∷ 111 ∷ 109 ∷ 109 ∷ 101 ∷ 110 ∷ 116 ∷
+      []) (Syntax.tcons (Syntax.tyInt Syntax.w64) (Syntax.tcons (Syntax.tyInt Syntax.w64) (Syntax.tcons (Syntax.tyInt Syntax.w64) (Syntax.tcons (Syntax.tyInt
+      Syntax.w64) Syntax.tnil))))) (Syntax.tcons (Syntax.tyInt Syntax.w32) Syntax.tnil))))) Syntax.tnil) (Syntax.ttcons (Syntax.tcons (Syntax.tyStruct (115 ∷ 104
+      ∷ 101 ∷ 101 ∷ 116 ∷ 58 ∷ 58 ∷ 83 ∷ 104 ∷ 101 ∷ 101 ∷ 116 ∷ []) (Syntax.tcons (Syntax.tyStruct (115 ∷ 104 ∷ 101 ∷ 101 ∷ 116 ∷ 58 ∷ 58 ∷ 83 ∷ 116 ∷ 114 ∷ 97
+      ∷ 110 ∷ 100 ∷ []) (Syntax.tcons (Syntax.tyInt Syntax.w32) (Syntax.tcons (Syntax.tyStruct (110 ∷ 97 ∷ 109 ∷ 101 ∷ 115 ∷ 58 ∷ 58 ∷ 84 ∷ 104 ∷ 114 ∷ 101 ∷ 101
+      ∷ []) (Syntax.tcons (Syntax.tyInt Syntax.w8) (Syntax.tcons (Syntax.tyInt Syntax.w8) (Syntax.tcons (Syntax.tyInt Syntax.w8) Syntax.tnil)))) (Syntax.tcons
+      (Syntax.tyInt Syntax.w32) (Syntax.tcons (Syntax.tyStruct (114 ∷ 101 ∷ 115 ∷ 105 ∷ 100 ∷ 117 ∷ 101 ∷ 58 ∷ 58 ∷ 82 ∷ 101 ∷ 115 ∷ 105 ∷ 100 ∷ 117 ∷ 101 ∷ [])
+      (Syntax.tcons (Syntax.tyStruct (110 ∷ 97 ∷ 109 ∷ 101 ∷ 115 ∷ 58 ∷ 58 ∷ 84 ∷ 104 ∷ 114 ∷ 101 ∷ 101 ∷ []) (Syntax.tcons (Syntax.tyInt Syntax.w8)
+      (Syntax.tcons (Syntax.tyInt Syntax.w8) (Syntax.tcons (Syntax.tyInt Syntax.w8) Syntax.tnil)))) (Syntax.tcons (Syntax.tyInt Syntax.w8) (Syntax.tcons
+      (Syntax.tyStruct (102 ∷ 105 ∷ 101 ∷ 108 ∷ 100 ∷ 115 ∷ 58 ∷ 58 ∷ 82 ∷ 101 ∷ 115 ∷ 105 ∷ 100 ∷ 117 ∷ 101 ∷ 78 ∷ 117 ∷ 109 ∷ 98 ∷ 101 ∷ 114 ∷ [])
+      (Syntax.tcons (Syntax.tyInt Syntax.w32) Syntax.tnil)) (Syntax.tcons (Syntax.tyInt Syntax.w8) Syntax.tnil))))) (Syntax.tcons (Syntax.tyStruct (114 ∷ 101 ∷
+      115 ∷ 105 ∷ 100 ∷ 117 ∷ 101 ∷ 58 ∷ 58 ∷ 82 ∷ 101 ∷ 115 ∷ 105 ∷ 100 ∷ 117 ∷ 101 ∷ []) (Syntax.tcons (Syntax.tyStruct (110 ∷ 97 ∷ 109 ∷ 101 ∷ 115 ∷ 58 ∷ 58 ∷
+      84 ∷ 104 ∷ 114 ∷ 101 ∷ 101 ∷ []) (Syntax.tcons (Syntax.tyInt Syntax.w8) (Syntax.tcons (Syntax.tyInt Syntax.w8) (Syntax.tcons (Syntax.tyInt Syntax.w8)
+      Syntax.tnil)))) (Syntax.tcons (Syntax.tyInt Syntax.w8) (Syntax.tcons (Syntax.tyStruct (102 ∷ 105 ∷ 101 ∷ 108 ∷ 100 ∷ 115 ∷ 58 ∷ 58 ∷ 82 ∷ 101 ∷ 115 ∷ 105 ∷
+      100 ∷ 117 ∷ 101 ∷ 78 ∷ 117 ∷ 109 ∷ 98 ∷ 101 ∷ 114 ∷ []) (Syntax.tcons (Syntax.tyInt Syntax.w32) Syntax.tnil)) (Syntax.tcons (Syntax.tyInt Syntax.w8)
+      Syntax.tnil))))) (Syntax.tcons (Syntax.tyInt Syntax.w32) Syntax.tnil))))))) (Syntax.tcons (Syntax.tyEnum (115 ∷ 104 ∷ 101 ∷ 101 ∷ 116 ∷ 58 ∷ 58 ∷ 82 ∷ 101
+      ∷ 103 ∷ 105 ∷ 115 ∷ 116 ∷ 114 ∷ 97 ∷ 116 ∷ 105 ∷ 111 ∷ 110 ∷ []) (Syntax.ttcons Syntax.tnil (Syntax.ttcons (Syntax.tcons (Syntax.tyStruct (115 ∷ 104 ∷ 101
+      ∷ 101 ∷ 116 ∷ 58 ∷ 58 ∷ 66 ∷ 111 ∷ 110 ∷ 100 ∷ []) (Syntax.tcons (Syntax.tyStruct (110 ∷ 97 ∷ 109 ∷ 101 ∷ 115 ∷ 58 ∷ 58 ∷ 70 ∷ 111 ∷ 117 ∷ 114 ∷ [])
+      (Syntax.tcons (Syntax.tyInt Syntax.w8) (Syntax.tcons (Syntax.tyInt Syntax.w8) (Syntax.tcons (Syntax.tyInt Syntax.w8) (Syntax.tcons (Syntax.tyInt Syntax.w8)
+      Syntax.tnil))))) (Syntax.tcons (Syntax.tyStruct (114 ∷ 101 ∷ 115 ∷ 105 ∷ 100 ∷ 117 ∷ 101 ∷ 58 ∷ 58 ∷ 82 ∷ 101 ∷ 115 ∷ 105 ∷ 100 ∷ 117 ∷ 101 ∷ [])
+      (Syntax.tcons (Syntax.tyStruct (110 ∷ 97 ∷ 109 ∷ 101 ∷ 115 ∷ 58 ∷ 58 ∷ 84 ∷ 104 ∷ 114 ∷ 101 ∷ 101 ∷ []) (Syntax.tcons (Syntax.tyInt Syntax.w8)
+      (Syntax.tcons (Syntax.tyInt Syntax.w8) (Syntax.tcons (Syntax.tyInt Syntax.w8) Syntax.tnil)))) (Syntax.tcons (Syntax.tyInt Syntax.w8) (Syntax.tcons
+      (Syntax.tyStruct (102 ∷ 105 ∷ 101 ∷ 108 ∷ 100 ∷ 115 ∷ 58 ∷ 58 ∷ 82 ∷ 101 ∷ 115 ∷ 105 ∷ 100 ∷ 117 ∷ 101 ∷ 78 ∷ 117 ∷ 109 ∷ 98 ∷ 101 ∷ 114 ∷ [])
+      (Syntax.tcons (Syntax.tyInt Syntax.w32) Syntax.tnil)) (Syntax.tcons (Syntax.tyInt Syntax.w8) Syntax.tnil))))) (Syntax.tcons (Syntax.tyStruct (110 ∷ 97 ∷
+      109 ∷ 101 ∷ 115 ∷ 58 ∷ 58 ∷ 70 ∷ 111 ∷ 117 ∷ 114 ∷ []) (Syntax.tcons (Syntax.tyInt Syntax.w8) (Syntax.tcons (Syntax.tyInt Syntax.w8) (Syntax.tcons
+      (Syntax.tyInt Syntax.w8) (Syntax.tcons (Syntax.tyInt Syntax.w8) Syntax.tnil))))) (Syntax.tcons (Syntax.tyStruct (114 ∷ 101 ∷ 115 ∷ 105 ∷ 100 ∷ 117 ∷ 101 ∷
+      58 ∷ 58 ∷ 82 ∷ 101 ∷ 115 ∷ 105 ∷ 100 ∷ 117 ∷ 101 ∷ []) (Syntax.tcons (Syntax.tyStruct (110 ∷ 97 ∷ 109 ∷ 101 ∷ 115 ∷ 58 ∷ 58 ∷ 84 ∷ 104 ∷ 114 ∷ 101 ∷ 101 ∷
+      []) (Syntax.tcons (Syntax.tyInt Syntax.w8) (Syntax.tcons (Syntax.tyInt Syntax.w8) (Syntax.tcons (Syntax.tyInt Syntax.w8) Syntax.tnil)))) (Syntax.tcons
+      (Syntax.tyInt Syntax.w8) (Syntax.tcons (Syntax.tyStruct (102 ∷ 105 ∷ 101 ∷ 108 ∷ 100 ∷ 115 ∷ 58 ∷ 58 ∷ 82 ∷ 101 ∷ 115 ∷ 105 ∷ 100 ∷ 117 ∷ 101 ∷ 78 ∷ 117 ∷
+      109 ∷ 98 ∷ 101 ∷ 114 ∷ []) (Syntax.tcons (Syntax.tyInt Syntax.w32) Syntax.tnil)) (Syntax.tcons (Syntax.tyInt Syntax.w8) Syntax.tnil))))) Syntax.tnil)))))
+      Syntax.tnil) Syntax.ttnil))) Syntax.tnil))) Syntax.tnil) (Syntax.ttcons (Syntax.tcons (Syntax.tyStruct (99 ∷ 111 ∷ 110 ∷ 101 ∷ 99 ∷ 116 ∷ 58 ∷ 58 ∷ 67 ∷
+      111 ∷ 110 ∷ 101 ∷ 99 ∷ 116 ∷ []) (Syntax.tcons (Syntax.tyStruct (102 ∷ 105 ∷ 101 ∷ 108 ∷ 100 ∷ 115 ∷ 58 ∷ 58 ∷ 83 ∷ 101 ∷ 114 ∷ 105 ∷ 97 ∷ 108 ∷ [])
+      (Syntax.tcons (Syntax.tyInt Syntax.w32) Syntax.tnil)) (Syntax.tcons (Syntax.tyStruct (102 ∷ 105 ∷ 101 ∷ 108 ∷ 100 ∷ 115 ∷ 58 ∷ 58 ∷ 83 ∷ 101 ∷ 114 ∷ 105 ∷
+      97 ∷ 108 ∷ []) (Syntax.tcons (Syntax.tyInt Syntax.w32) Syntax.tnil)) (Syntax.tcons (Syntax.tyStruct (102 ∷ 105 ∷ 101 ∷ 108 ∷ 100 ∷ 115 ∷ 58 ∷ 58 ∷ 83 ∷ 101
+      ∷ 114 ∷ 105 ∷ 97 ∷ 108 ∷ []) (Syntax.tcons (Syntax.tyInt Syntax.w32) Syntax.tnil)) (Syntax.tcons (Syntax.tyStruct (102 ∷ 105 ∷ 101 ∷ 108 ∷ 100 ∷ 115 ∷ 58 ∷
+      58 ∷ 83 ∷ 101 ∷ 114 ∷ 105 ∷ 97 ∷ 108 ∷ []) (Syntax.tcons (Syntax.tyInt Syntax.w32) Syntax.tnil)) (Syntax.tcons (Syntax.tyStruct (102 ∷ 105 ∷ 101 ∷ 108 ∷
+      100 ∷ 115 ∷ 58 ∷ 58 ∷ 83 ∷ 101 ∷ 114 ∷ 105 ∷ 97 ∷ 108 ∷ []) (Syntax.tcons (Syntax.tyInt Syntax.w32) Syntax.tnil)) Syntax.tnil)))))) Syntax.tnil)
+      (Syntax.ttcons (Syntax.tcons (Syntax.tyStruct (109 ∷ 97 ∷ 115 ∷ 116 ∷ 101 ∷ 114 ∷ 58 ∷ 58 ∷ 84 ∷ 97 ∷ 108 ∷ 108 ∷ 121 ∷ []) (Syntax.tcons (Syntax.tyInt
+      Syntax.w32) (Syntax.tcons (Syntax.tyInt Syntax.w32) (Syntax.tcons (Syntax.tyInt Syntax.w32) (Syntax.tcons (Syntax.tyInt Syntax.w32) (Syntax.tcons
+      (Syntax.tyInt Syntax.w32) (Syntax.tcons (Syntax.tyInt Syntax.w32) (Syntax.tcons (Syntax.tyInt Syntax.w32) (Syntax.tcons (Syntax.tyInt Syntax.w32)
+      (Syntax.tcons (Syntax.tyInt Syntax.w32) Syntax.tnil)))))))))) Syntax.tnil) (Syntax.ttcons Syntax.tnil Syntax.ttnil)))))))) Syntax.tnil) Syntax.ttnil))))),
+)
+    ∷ (
+      10,
+      Rows'.any-gone (Syntax.tyStruct (103 ∷ 97 ∷ 116 ∷ 101 ∷ 58 ∷ 58 ∷ 79 ∷ 110 ∷ 119 ∷ 97 ∷ 114 ∷ 100 ∷ []) (Syntax.tcons (Syntax.tyInt Syntax.w8)
+          (Syntax.tcons (Syntax.tyStruct (103 ∷ 97 ∷ 116 ∷ 101 ∷ 58 ∷ 58 ∷ 67 ∷ 111 ∷ 117 ∷ 114 ∷ 115 ∷ 101 ∷ []) (Syntax.tcons (Syntax.tyStruct (114 ∷ 117 ∷ 108 ∷
+          101 ∷ 115 ∷ 58 ∷ 58 ∷ 83 ∷ 116 ∷ 97 ∷ 116 ∷ 101 ∷ []) (Syntax.tcons (Syntax.tyInt Syntax.w8) (Syntax.tcons (Syntax.tyStruct (102 ∷ 105 ∷ 101 ∷ 108 ∷ 100 ∷
+          115 ∷ 58 ∷ 58 ∷ 83 ∷ 101 ∷ 114 ∷ 105 ∷ 97 ∷ 108 ∷ []) (Syntax.tcons (Syntax.tyInt Syntax.w32) Syntax.tnil)) (Syntax.tcons (Syntax.tyStruct (114 ∷ 117 ∷ 108
+          ∷ 101 ∷ 115 ∷ 58 ∷ 58 ∷ 82 ∷ 117 ∷ 110 ∷ []) (Syntax.tcons Syntax.tyBool (Syntax.tcons Syntax.tyBool (Syntax.tcons Syntax.tyBool (Syntax.tcons
+          (Syntax.tyStruct (114 ∷ 101 ∷ 115 ∷ 105 ∷ 100 ∷ 117 ∷ 101 ∷ 58 ∷ 58 ∷ 82 ∷ 101 ∷ 115 ∷ 105 ∷ 100 ∷ 117 ∷ 101 ∷ []) (Syntax.tcons (Syntax.tyStruct (110 ∷ 97
+          ∷ 109 ∷ 101 ∷ 115 ∷ 58 ∷ 58 ∷ 84 ∷ 104 ∷ 114 ∷ 101 ∷ 101 ∷ []) (Syntax.tcons (Syntax.tyInt Syntax.w8) (Syntax.tcons (Syntax.tyInt Syntax.w8) (Syntax.tcons
+          (Syntax.tyInt Syntax.w8) Syntax.tnil)))) (Syntax.tcons (Syntax.tyInt Syntax.w8) (Syntax.tcons (Syntax.tyStruct (102 ∷ 105 ∷ 101 ∷ 108 ∷ 100 ∷ 115 ∷ 58 ∷ 58
+          ∷ 82 ∷ 101 ∷ 115 ∷ 105 ∷ 100 ∷ 117 ∷ 101 ∷ 78 ∷ 117 ∷ 109 ∷ 98 ∷ 101 ∷ 114 ∷ []) (Syntax.tcons (Syntax.tyInt Syntax.w32) Syntax.tnil)) (Syntax.tcons
+          (Syntax.tyInt Syntax.w8) Syntax.tnil))))) Syntax.tnil))))) (Syntax.tcons (Syntax.tyStruct (102 ∷ 105 ∷ 101 ∷ 108 ∷ 100 ∷ 115 ∷ 58 ∷ 58 ∷ 83 ∷ 101 ∷ 114 ∷
+          105 ∷ 97 ∷ 108 ∷ []) (Syntax.tcons (Syntax.tyInt Syntax.w32) Syntax.tnil)) (Syntax.tcons (Syntax.tyInt Syntax.w32) (Syntax.tcons (Syntax.tyStruct (114 ∷
+          117 ∷ 108 ∷ 101 ∷ 115 ∷ 58 ∷ 58 ∷ 76 ∷ 97 ∷ 100 ∷ 100 ∷ 101 ∷ 114 ∷ []) (Syntax.tcons (Syntax.tyStruct (110 ∷ 97 ∷ 109 ∷ 101 ∷ 115 ∷ 58 ∷ 58 ∷ 84 ∷ 104 ∷
+          114 ∷ 101 ∷ 101 ∷ []) (Syntax.tcons (Syntax.tyInt Syntax.w8) (Syntax.tcons (Syntax.tyInt Syntax.w8) (Syntax.tcons (Syntax.tyInt Syntax.w8) Syntax.tnil))))
+          (Syntax.tcons (Syntax.tyInt Syntax.w32) (Syntax.tcons (Syntax.tyInt Syntax.w32) Syntax.tnil)))) (Syntax.tcons (Syntax.tyStruct (112 ∷ 108 ∷ 97 ∷ 99 ∷ 101 ∷
+          115 ∷ 58 ∷ 58 ∷ 67 ∷ 111 ∷ 117 ∷ 110 ∷ 116 ∷ 115 ∷ []) (Syntax.tcons (Syntax.tyInt Syntax.w64) (Syntax.tcons (Syntax.tyInt Syntax.w64) (Syntax.tcons
+          (Syntax.tyInt Syntax.w64) (Syntax.tcons (Syntax.tyInt Syntax.w64) (Syntax.tcons (Syntax.tyInt Syntax.w64) (Syntax.tcons (Syntax.tyInt Syntax.w64)
+          (Syntax.tcons (Syntax.tyInt Syntax.w64) (Syntax.tcons (Syntax.tyInt Syntax.w64) (Syntax.tcons (Syntax.tyInt Syntax.w64) Syntax.tnil)))))))))) (Syntax.tcons
+          (Syntax.tyInt Syntax.w64) Syntax.tnil))))))))) (Syntax.tcons (Syntax.tyStruct (115 ∷ 101 ∷ 114 ∷ 105 ∷ 97 ∷ 108 ∷ 115 ∷ 58 ∷ 58 ∷ 80 ∷ 97 ∷ 115 ∷ 116 ∷ [])
+          (Syntax.tcons (Syntax.tyStruct (115 ∷ 101 ∷ 97 ∷ 114 ∷ 99 ∷ 104 ∷ 58 ∷ 58 ∷ 83 ∷ 112 ∷ 97 ∷ 110 ∷ []) (Syntax.tcons (Syntax.tyInt Syntax.w64) (Syntax.tcons
+          (Syntax.tyInt Syntax.w64) Syntax.tnil))) (Syntax.tcons (Syntax.tyStruct (115 ∷ 101 ∷ 97 ∷ 114 ∷ 99 ∷ 104 ∷ 58 ∷ 58 ∷ 78 ∷ 101 ∷ 97 ∷ 114 ∷ [])
+          (Syntax.tcons (Syntax.tyInt Syntax.w64) (Syntax.tcons (Syntax.tyStruct (102 ∷ 105 ∷ 101 ∷ 108 ∷ 100 ∷ 115 ∷ 58 ∷ 58 ∷ 83 ∷ 101 ∷ 114 ∷ 105 ∷ 97 ∷ 108 ∷ [])
+          (Syntax.tcons (Syntax.tyInt Syntax.w32) Syntax.tnil)) Syntax.tnil))) Syntax.tnil))) (Syntax.tcons (Syntax.tyStruct (116 ∷ 114 ∷ 97 ∷ 105 ∷ 108 ∷ 58 ∷ 58 ∷
+          87 ∷ 97 ∷ 116 ∷ 99 ∷ 104 ∷ []) (Syntax.tcons (Syntax.tyInt Syntax.w64) (Syntax.tcons (Syntax.tyInt Syntax.w64) (Syntax.tcons (Syntax.tyInt Syntax.w64)
+          (Syntax.tcons (Syntax.tyInt Syntax.w64) (Syntax.tcons (Syntax.tyInt Syntax.w64) (Syntax.tcons (Syntax.tyInt Syntax.w64) (Syntax.tcons (Syntax.tyStruct (97
+          ∷ 104 ∷ 101 ∷ 97 ∷ 100 ∷ 58 ∷ 58 ∷ 65 ∷ 104 ∷ 101 ∷ 97 ∷ 100 ∷ []) (Syntax.tcons (Syntax.tyInt Syntax.w64) (Syntax.tcons (Syntax.tyInt Syntax.w64)
+          (Syntax.tcons (Syntax.tyInt Syntax.w64) Syntax.tnil)))) Syntax.tnil)))))))) Syntax.tnil)))) Syntax.tnil))),
+    ) ∷ (
+      11,
+      Rows'.any-gone (Syntax.tyStruct (103 ∷
+          97 ∷ 116 ∷ 101 ∷ 58 ∷ 58 ∷ 67 ∷ 111 ∷ 117 ∷ 114 ∷ 115 ∷ 101 ∷ []) (Syntax.tcons (Syntax.tyStruct (114 ∷ 117 ∷ 108 ∷ 101 ∷ 115 ∷ 58 ∷ 58 ∷ 83 ∷ 116 ∷ 97 ∷
+          116 ∷ 101 ∷ []) (Syntax.tcons (Syntax.tyInt Syntax.w8) (Syntax.tcons (Syntax.tyStruct (102 ∷ 105 ∷ 101 ∷ 108 ∷ 100 ∷ 115 ∷ 58 ∷ 58 ∷ 83 ∷ 101 ∷ 114 ∷ 105 ∷
+          97 ∷ 108 ∷ []) (Syntax.tcons (Syntax.tyInt Syntax.w32) Syntax.tnil)) (Syntax.tcons (Syntax.tyStruct (114 ∷ 117 ∷ 108 ∷ 101 ∷ 115 ∷ 58 ∷ 58 ∷ 82 ∷ 117 ∷ 110
+          ∷ []) (Syntax.tcons Syntax.tyBool (Syntax.tcons Syntax.tyBool (Syntax.tcons Syntax.tyBool (Syntax.tcons (Syntax.tyStruct (114 ∷ 101 ∷ 115 ∷ 105 ∷ 100 ∷ 117
+          ∷ 101 ∷ 58 ∷ 58 ∷ 82 ∷ 101 ∷ 115 ∷ 105 ∷ 100 ∷ 117 ∷ 101 ∷ []) (Syntax.tcons (Syntax.tyStruct (110 ∷ 97 ∷ 109 ∷ 101 ∷ 115 ∷ 58 ∷ 58 ∷ 84 ∷ 104 ∷ 114 ∷ 101
+          ∷ 101 ∷ []) (Syntax.tcons (Syntax.tyInt Syntax.w8) (Syntax.tcons (Syntax.tyInt Syntax.w8) (Syntax.tcons (Syntax.tyInt Syntax.w8) Syntax.tnil))))
+          (Syntax.tcons (Syntax.tyInt Syntax.w8) (Syntax.tcons (Syntax.tyStruct (102 ∷ 105 ∷ 101 ∷ 108 ∷ 100 ∷ 115 ∷ 58 ∷ 58 ∷ 82 ∷ 101 ∷ 115 ∷ 105 ∷ 100 ∷ 117 ∷ 101
+          ∷ 78 ∷ 117 ∷ 109 ∷ 98 ∷ 101 ∷ 114 ∷ []) (Syntax.tcons (Syntax.tyInt Syntax.w32) Syntax.tnil)) (Syntax.tcons (Syntax.tyInt Syntax.w8) Syntax.tnil)))))
+          Syntax.tnil))))) (Syntax.tcons (Syntax.tyStruct (102 ∷ 105 ∷ 101 ∷ 108 ∷ 100 ∷ 115 ∷ 58 ∷ 58 ∷ 83 ∷ 101 ∷ 114 ∷ 105 ∷ 97 ∷ 108 ∷ []) (Syntax.tcons
+          (Syntax.tyInt Syntax.w32) Syntax.tnil)) (Syntax.tcons (Syntax.tyInt Syntax.w32) (Syntax.tcons (Syntax.tyStruct (114 ∷ 117 ∷ 108 ∷ 101 ∷ 115 ∷ 58 ∷ 58 ∷ 76
+          ∷ 97 ∷ 100 ∷ 100 ∷ 101 ∷ 114 ∷ []) (Syntax.tcons (Syntax.tyStruct (110 ∷ 97 ∷ 109 ∷ 101 ∷ 115 ∷ 58 ∷ 58 ∷ 84 ∷ 104 ∷ 114 ∷ 101 ∷ 101 ∷ []) (Syntax.tcons
+          (Syntax.tyInt Syntax.w8) (Syntax.tcons (Syntax.tyInt Syntax.w8) (Syntax.tcons (Syntax.tyInt Syntax.w8) Syntax.tnil)))) (Syntax.tcons (Syntax.tyInt
+          Syntax.w32) (Syntax.tcons (Syntax.tyInt Syntax.w32) Syntax.tnil)))) (Syntax.tcons (Syntax.tyStruct (112 ∷ 108 ∷ 97 ∷ 99 ∷ 101 ∷ 115 ∷ 58 ∷ 58 ∷ 67 ∷ 111 ∷
+          117 ∷ 110 ∷ 116 ∷ 115 ∷ []) (Syntax.tcons (Syntax.tyInt Syntax.w64) (Syntax.tcons (Syntax.tyInt Syntax.w64) (Syntax.tcons (Syntax.tyInt Syntax.w64)
+          (Syntax.tcons (Syntax.tyInt Syntax.w64) (Syntax.tcons (Syntax.tyInt Syntax.w64) (Syntax.tcons (Syntax.tyInt Syntax.w64) (Syntax.tcons (Syntax.tyInt
+          Syntax.w64) (Syntax.tcons (Syntax.tyInt Syntax.w64) (Syntax.tcons (Syntax.tyInt Syntax.w64) Syntax.tnil)))))))))) (Syntax.tcons (Syntax.tyInt Syntax.w64)
+          Syntax.tnil))))))))) (Syntax.tcons (Syntax.tyStruct (115 ∷ 101 ∷ 114 ∷ 105 ∷ 97 ∷ 108 ∷ 115 ∷ 58 ∷ 58 ∷ 80 ∷ 97 ∷ 115 ∷ 116 ∷ []) (Syntax.tcons
+          (Syntax.tyStruct (115 ∷ 101 ∷ 97 ∷ 114 ∷ 99 ∷ 104 ∷ 58 ∷ 58 ∷ 83 ∷ 112 ∷ 97 ∷ 110 ∷ []) (Syntax.tcons (Syntax.tyInt Syntax.w64) (Syntax.tcons (Syntax.tyInt
+          Syntax.w64) Syntax.tnil))) (Syntax.tcons (Syntax.tyStruct (115 ∷ 101 ∷ 97 ∷ 114 ∷ 99 ∷ 104 ∷ 58 ∷ 58 ∷ 78 ∷ 101 ∷ 97 ∷ 114 ∷ []) (Syntax.tcons
+          (Syntax.tyInt Syntax.w64) (Syntax.tcons (Syntax.tyStruct (102 ∷ 105 ∷ 101 ∷ 108 ∷ 100 ∷ 115 ∷ 58 ∷ 58 ∷ 83 ∷ 101 ∷ 114 ∷ 105 ∷ 97 ∷ 108 ∷ []) (Syntax.tcons
+          (Syntax.tyInt Syntax.w32) Syntax.tnil)) Syntax.tnil))) Syntax.tnil))) (Syntax.tcons (Syntax.tyStruct (116 ∷ 114 ∷ 97 ∷ 105 ∷ 108 ∷ 58 ∷ 58 ∷ 87 ∷ 97 ∷ 116
+          ∷ 99 ∷ 104 ∷ []) (Syntax.tcons (Syntax.tyInt Syntax.w64) (Syntax.tcons (Syntax.tyInt Syntax.w64) (Syntax.tcons (Syntax.tyInt Syntax.w64) (Syntax.tcons
+          (Syntax.tyInt Syntax.w64) (Syntax.tcons (Syntax.tyInt Syntax.w64) (Syntax.tcons (Syntax.tyInt Syntax.w64) (Syntax.tcons (Syntax.tyStruct (97 ∷ 104 ∷ 101 ∷
+          97 ∷ 100 ∷ 58 ∷ 58 ∷ 65 ∷ 104 ∷ 101 ∷ 97 ∷ 100 ∷ []) (Syntax.tcons (Syntax.tyInt Syntax.w64) (Syntax.tcons (Syntax.tyInt Syntax.w64) (Syntax.tcons
+          (Syntax.tyInt Syntax.w64) Syntax.tnil)))) Syntax.tnil)))))))) Syntax.tnil)))),
+    ) ∷ (12, Rows'.any-gone SlotAs.ty) ∷ (13, Rows'.any-gone Syntax.tyBool) ∷ (
+      14,
+      Rows'.any-gone (Syntax.tyStruct (115 ∷ 101 ∷ 97 ∷ 114 ∷ 99 ∷ 104 ∷ 58 ∷ 58 ∷ 83 ∷ 111 ∷ 117 ∷ 103 ∷ 104 ∷ 116 ∷ []) (Syntax.tcons (Syntax.tyStruct (115 ∷
+          101 ∷ 97 ∷ 114 ∷ 99 ∷ 104 ∷ 58 ∷ 58 ∷ 78 ∷ 101 ∷ 97 ∷ 114 ∷ []) (Syntax.tcons (Syntax.tyInt Syntax.w64) (Syntax.tcons (Syntax.tyStruct (102 ∷ 105 ∷ 101 ∷
+          108 ∷ 100 ∷ 115 ∷ 58 ∷ 58 ∷ 83 ∷ 101 ∷ 114 ∷ 105 ∷ 97 ∷ 108 ∷ []) (Syntax.tcons (Syntax.tyInt Syntax.w32) Syntax.tnil)) Syntax.tnil))) (Syntax.tcons
+          Syntax.tyBool Syntax.tnil))),
+    ) ∷ (
+      15,
+      Rows'.any-gone (Syntax.tyStruct (115 ∷ 101 ∷ 97 ∷ 114 ∷ 99 ∷ 104 ∷ 58 ∷ 58 ∷ 78 ∷ 101 ∷ 97 ∷ 114 ∷ []) (Syntax.tcons
+          (Syntax.tyInt Syntax.w64) (Syntax.tcons (Syntax.tyStruct (102 ∷ 105 ∷ 101 ∷ 108 ∷ 100 ∷ 115 ∷ 58 ∷ 58 ∷ 83 ∷ 101 ∷ 114 ∷ 105 ∷ 97 ∷ 108 ∷ []) (Syntax.tcons
+          (Syntax.tyInt Syntax.w32) Syntax.tnil)) Syntax.tnil))),
+    ) ∷ []
+
+abbrev pub t27 : List.List Row.Entry
+t27 = (0, Rows'.whole (Declared'.row (Apart.apartT Findings.the-type))) ∷ (
+  1,
+  Rows'.sslice (Referent.rtF (Referent.fInt Syntax.w8)) (Syntax.tyRef (Syntax.named
+      0) Syntax.imm (Syntax.tyInt Syntax.w8)) 0,
+) ∷ (2, Rows'.sslice SlotAs.row (Syntax.tyRef (Syntax.named 1) Syntax.imm SlotAs.pointee) 1) ∷ (
+  3,
+  Rows'.any-gone
+      (Syntax.tyInt Syntax.w64),
+) ∷ (
+  4,
+  Rows'.any-gone (Syntax.tyStruct (103 ∷ 97 ∷ 116 ∷ 101 ∷ 58 ∷ 58 ∷ 67 ∷ 111 ∷ 117 ∷ 114 ∷ 115 ∷ 101 ∷ []) (Syntax.tcons
+      (Syntax.tyStruct (114 ∷ 117 ∷ 108 ∷ 101 ∷ 115 ∷ 58 ∷ 58 ∷ 83 ∷ 116 ∷ 97 ∷ 116 ∷ 101 ∷ []) (Syntax.tcons (Syntax.tyInt Syntax.w8) (Syntax.tcons
+      (Syntax.tyStruct (102 ∷ 105 ∷ 101 ∷ 108 ∷ 100 ∷ 115 ∷ 58 ∷ 58 ∷ 83 ∷ 101 ∷ 114 ∷ 105 ∷ 97 ∷ 108 ∷ []) (Syntax.tcons (Syntax.tyInt Syntax.w32) Syntax.tnil))
+      (Syntax.tcons (Syntax.tyStruct (114 ∷ 117 ∷ 108 ∷ 101 ∷ 115 ∷ 58 ∷ 58 ∷ 82 ∷ 117 ∷ 110 ∷ []) (Syntax.tcons Syntax.tyBool (Syntax.tcons Syntax.tyBool
+      (Syntax.tcons Syntax.tyBool (Syntax.tcons (Syntax.tyStruct (114 ∷ 101 ∷ 115 ∷ 105 ∷ 100 ∷ 117 ∷ 101 ∷ 58 ∷ 58 ∷ 82 ∷ 101 ∷ 115 ∷ 105 ∷ 100 ∷ 117 ∷ 101 ∷
+      []) (Syntax.tcons (Syntax.tyStruct (110 ∷ 97 ∷ 109 ∷ 101 ∷ 115 ∷ 58 ∷ 58 ∷ 84 ∷ 104 ∷ 114 ∷ 101 ∷ 101 ∷ []) (Syntax.tcons (Syntax.tyInt Syntax.w8)
+      (Syntax.tcons (Syntax.tyInt Syntax.w8) (Syntax.tcons (Syntax.tyInt Syntax.w8) Syntax.tnil)))) (Syntax.tcons (Syntax.tyInt Syntax.w8) (Syntax.tcons
+      (Syntax.tyStruct (102 ∷ 105 ∷ 101 ∷ 108 ∷ 100 ∷ 115 ∷ 58 ∷ 58 ∷ 82 ∷ 101 ∷ 115 ∷ 105 ∷ 100 ∷ 117 ∷ 101 ∷ 78 ∷ 117 ∷ 109 ∷ 98 ∷ 101 ∷ 114 ∷ [])
+      (Syntax.tcons (Syntax.tyInt Syntax.w32) Syntax.tnil)) (Syntax.tcons (Syntax.tyInt Syntax.w8) Syntax.tnil))))) Syntax.tnil))))) (Syntax.tcons
+      (Syntax.tyStruct (102 ∷ 105 ∷ 101 ∷ 108 ∷ 100 ∷ 115 ∷ 58 ∷ 58 ∷ 83 ∷ 101 ∷ 114 ∷ 105 ∷ 97 ∷ 108 ∷ []) (Syntax.tcons (Syntax.tyInt Syntax.w32) Syntax.tnil))
+      (Syntax.tcons (Syntax.tyInt Syntax.w32) (Syntax.tcons (Syntax.tyStruct (114 ∷ 117 ∷ 108 ∷ 101 ∷ 115 ∷ 58 ∷ 58 ∷ 76 ∷ 97 ∷ 100 ∷ 100 ∷ 101 ∷ 114 ∷ [])
+      (Syntax.tcons (Syntax.tyStruct (110 ∷ 97 ∷ 109 ∷ 101 ∷ 115 ∷ 58 ∷ 58 ∷ 84 ∷ 104 ∷ 114 ∷ 101 ∷ 101 ∷ []) (Syntax.tcons (Syntax.tyInt Syntax.w8)
+      (Syntax.tcons (Syntax.tyInt Syntax.w8) (Syntax.tcons (Syntax.tyInt Syntax.w8) Syntax.tnil)))) (Syntax.tcons (Syntax.tyInt Syntax.w32) (Syntax.tcons
+      (Syntax.tyInt Syntax.w32) Syntax.tnil)))) (Syntax.tcons (Syntax.tyStruct (112 ∷ 108 ∷ 97 ∷ 99 ∷ 101 ∷ 115 ∷ 58 ∷ 58 ∷ 67 ∷ 111 ∷ 117 ∷ 110 ∷ 116 ∷ 115 ∷
+      []) (Syntax.tcons (Syntax.tyInt Syntax.w64) (Syntax.tcons (Syntax.tyInt Syntax.w64) (Syntax.tcons (Syntax.tyInt Syntax.w64) (Syntax.tcons (Syntax.tyInt
+      Syntax.w64) (Syntax.tcons (Syntax.tyInt Syntax.w64) (Syntax.tcons (Syntax.tyInt Syntax.w64) (Syntax.tcons (Syntax.tyInt Syntax.w64) (Syntax.tcons
+      (Syntax.tyInt Syntax.w64) (Syntax.tcons (Syntax.tyInt Syntax.w64) Syntax.tnil)))))))))) (Syntax.tcons (Syntax.tyInt Syntax.w64) Syntax.tnil)))))))))
+      (Syntax.tcons (Syntax.tyStruct (115 ∷ 101 ∷ 114 ∷ 105 ∷ 97 ∷ 108 ∷ 115 ∷ 58 ∷ 58 ∷ 80 ∷ 97 ∷ 115 ∷ 116 ∷ []) (Syntax.tcons (Syntax.tyStruct (115 ∷ 101 ∷ 97
+      ∷ 114 ∷ 99 ∷ 104 ∷ 58 ∷ 58 ∷ 83 ∷ 112 ∷ 97 ∷ 110 ∷ []) (Syntax.tcons (Syntax.tyInt Syntax.w64) (Syntax.tcons (Syntax.tyInt Syntax.w64) Syntax.tnil)))
+      (Syntax.tcons (Syntax.tyStruct (115 ∷ 101 ∷ 97 ∷ 114 ∷ 99 ∷ 104 ∷ 58 ∷ 58 ∷ 78 ∷ 101 ∷ 97 ∷ 114 ∷ []) (Syntax.tcons (Syntax.tyInt Syntax.w64) (Syntax.tcons
+      (Syntax.tyStruct (102 ∷ 105 ∷ 101 ∷ 108 ∷ 100 ∷ 115 ∷ 58 ∷ 58 ∷ 83 ∷ 101 ∷ 114 ∷ 105 ∷ 97 ∷ 108 ∷ []) (Syntax.tcons (Syntax.tyInt Syntax.w32) Syntax.tnil))
+      Syntax.tnil))) Syntax.tnil))) (Syntax.tcons (Syntax.tyStruct (116 ∷ 114 ∷ 97 ∷ 105 ∷ 108 ∷ 58 ∷ 58 ∷ 87 ∷ 97 ∷ 116 ∷ 99 ∷ 104 ∷ []) (Syntax.tcons
+      (Syntax.tyInt Syntax.w64) (Syntax.tcons (Syntax.tyInt Syntax.w64) (Syntax.tcons (Syntax.tyInt Syntax.w64) (Syntax.tcons (Syntax.tyInt Syntax.w64)
+      (Syntax.tcons (Syntax.tyInt Syntax.w64) (Syntax.tcons (Syntax.tyInt Syntax.w64) (Syntax.tcons (Syntax.tyStruct (97 ∷ 104 ∷ 101 ∷ 97 ∷ 100 ∷ 58 ∷ 58 ∷ 65 ∷
+      104 ∷ 101 ∷ 97 ∷ 100 ∷ []) (Syntax.tcons (Syntax.tyInt Syntax.w64) (Syntax.tcons (Syntax.tyInt Syntax.w64) (Syntax.tcons (Syntax.tyInt Syntax.w64)
+      Syntax.tnil)))) Syntax.tnil)))))))) Syntax.tnil)))),
+) ∷ (5, Rows'.any-gone (Syntax.tyInt Syntax.w64)) ∷ (6, Rows'.any-gone Syntax.tyBool) ∷ (
+  7,
+  Rows'.any-gone (Syntax.tyInt Syntax.w64),
+) ∷ (
+  8,
+  Rows'.any-gone (Syntax.tyStruct (115 ∷ 101 ∷ 97 ∷ 114 ∷ 99 ∷ 104 ∷ 58 ∷ 58 ∷ 78 ∷ 101 ∷ 97 ∷ 114 ∷ [])
+      (Syntax.tcons (Syntax.tyInt Syntax.w64) (Syntax.tcons (Syntax.tyStruct (102 ∷ 105 ∷ 101 ∷ 108 ∷ 100 ∷ 115 ∷ 58 ∷ 58 ∷ 83 ∷ 101 ∷ 114 ∷ 105 ∷ 97 ∷ 108 ∷ [])
+      (Syntax.tcons (Syntax.tyInt Syntax.w32) Syntax.tnil)) Syntax.tnil))),
+) ∷ (
+  9,
+  Rows'.any-gone (Syntax.tyEnum (112 ∷ 105 ∷ 101 ∷ 99 ∷ 101 ∷ 115 ∷ 58 ∷ 58 ∷ 76
+      ∷ 105 ∷ 110 ∷ 101 ∷ []) (Syntax.ttcons (Syntax.tcons (Syntax.tyInt Syntax.w8) Syntax.tnil) (Syntax.ttcons (Syntax.tcons (Syntax.tyEnum (107 ∷ 105 ∷ 110 ∷
+      100 ∷ 115 ∷ 58 ∷ 58 ∷ 75 ∷ 105 ∷ 110 ∷ 100 ∷ []) (Syntax.ttcons Syntax.tnil (Syntax.ttcons Syntax.tnil (Syntax.ttcons Syntax.tnil (Syntax.ttcons
+      Syntax.tnil (Syntax.ttcons Syntax.tnil (Syntax.ttcons Syntax.tnil (Syntax.ttcons Syntax.tnil (Syntax.ttcons Syntax.tnil (Syntax.ttcons Syntax.tnil
+      (Syntax.ttcons Syntax.tnil (Syntax.ttcons Syntax.tnil (Syntax.ttcons Syntax.tnil (Syntax.ttcons Syntax.tnil (Syntax.ttcons Syntax.tnil (Syntax.ttcons
+      Syntax.tnil (Syntax.ttcons Syntax.tnil (Syntax.ttcons Syntax.tnil (Syntax.ttcons Syntax.tnil (Syntax.ttcons Syntax.tnil (Syntax.ttcons Syntax.tnil
+      (Syntax.ttcons Syntax.tnil (Syntax.ttcons Syntax.tnil (Syntax.ttcons Syntax.tnil (Syntax.ttcons Syntax.tnil (Syntax.ttcons Syntax.tnil (Syntax.ttcons
+      Syntax.tnil (Syntax.ttcons Syntax.tnil (Syntax.ttcons Syntax.tnil Syntax.ttnil))))))))))))))))))))))))))))) (Syntax.tcons (Syntax.tyInt Syntax.w32)
+      Syntax.tnil)) (Syntax.ttcons (Syntax.tcons (Syntax.tyEnum (107 ∷ 105 ∷ 110 ∷ 100 ∷ 115 ∷ 58 ∷ 58 ∷ 75 ∷ 105 ∷ 110 ∷ 100 ∷ []) (Syntax.ttcons Syntax.tnil
+      (Syntax.ttcons Syntax.tnil (Syntax.ttcons Syntax.tnil (Syntax.ttcons Syntax.tnil (Syntax.ttcons Syntax.tnil (Syntax.ttcons Syntax.tnil (Syntax.ttcons
+      Syntax.tnil (Syntax.ttcons Syntax.tnil (Syntax.ttcons Syntax.tnil (Syntax.ttcons Syntax.tnil (Syntax.ttcons Syntax.tnil (Syntax.ttcons Syntax.tnil
+      (Syntax.ttcons Syntax.tnil (Syntax.ttcons Syntax.tnil (Syntax.ttcons Syntax.tnil (Syntax.ttcons Syntax.tnil (Syntax.ttcons Syntax.tnil (Syntax.ttcons
+      Syntax.tnil (Syntax.ttcons Syntax.tnil (Syntax.ttcons Syntax.tnil (Syntax.ttcons Syntax.tnil (Syntax.ttcons Syntax.tnil (Syntax.ttcons Syntax.tnil
+      (Syntax.ttcons Syntax.tnil (Syntax.ttcons Syntax.tnil (Syntax.ttcons Syntax.tnil (Syntax.ttcons Syntax.tnil (Syntax.ttcons Syntax.tnil
+      Syntax.ttnil))))))))))))))))))))))))))))) Syntax.tnil) (Syntax.ttcons (Syntax.tcons (Syntax.tyEnum (108 ∷ 105 ∷ 110 ∷ 101 ∷ 58 ∷ 58 ∷ 82 ∷ 101 ∷ 99 ∷ 111 ∷
+      114 ∷ 100 ∷ []) (Syntax.ttcons (Syntax.tcons Syntax.tyBool (Syntax.tcons (Syntax.tyStruct (99 ∷ 111 ∷ 111 ∷ 114 ∷ 100 ∷ 105 ∷ 110 ∷ 97 ∷ 116 ∷ 101 ∷ 58 ∷
+      58 ∷ 65 ∷ 116 ∷ 111 ∷ 109 ∷ []) (Syntax.tcons (Syntax.tyStruct (99 ∷ 111 ∷ 111 ∷ 114 ∷ 100 ∷ 105 ∷ 110 ∷ 97 ∷ 116 ∷ 101 ∷ 58 ∷ 58 ∷ 73 ∷ 100 ∷ 101 ∷ 110 ∷
+      116 ∷ 105 ∷ 116 ∷ 121 ∷ []) (Syntax.tcons (Syntax.tyStruct (102 ∷ 105 ∷ 101 ∷ 108 ∷ 100 ∷ 115 ∷ 58 ∷ 58 ∷ 83 ∷ 101 ∷ 114 ∷ 105 ∷ 97 ∷ 108 ∷ [])
+      (Syntax.tcons (Syntax.tyInt Syntax.w32) Syntax.tnil)) (Syntax.tcons (Syntax.tyStruct (110 ∷ 97 ∷ 109 ∷ 101 ∷ 115 ∷ 58 ∷ 58 ∷ 70 ∷ 111 ∷ 117 ∷ 114 ∷ [])
+      (Syntax.tcons (Syntax.tyInt Syntax.w8) (Syntax.tcons (Syntax.tyInt Syntax.w8) (Syntax.tcons (Syntax.tyInt Syntax.w8) (Syntax.tcons (Syntax.tyInt Syntax.w8)
+      Syntax.tnil))))) (Syntax.tcons (Syntax.tyInt Syntax.w8) (Syntax.tcons (Syntax.tyStruct (114 ∷ 101 ∷ 115 ∷ 105 ∷ 100 ∷ 117 ∷ 101 ∷ 58 ∷ 58 ∷ 82 ∷ 101 ∷ 115
+      ∷ 105 ∷ 100 ∷ 117 ∷ 101 ∷ []) (Syntax.tcons (Syntax.tyStruct (110 ∷ 97 ∷ 109 ∷ 101 ∷ 115 ∷ 58 ∷ 58 ∷ 84 ∷ 104 ∷ 114 ∷ 101 ∷ 101 ∷ []) (Syntax.tcons
+      (Syntax.tyInt Syntax.w8) (Syntax.tcons (Syntax.tyInt Syntax.w8) (Syntax.tcons (Syntax.tyInt Syntax.w8) Syntax.tnil)))) (Syntax.tcons (Syntax.tyInt
+      Syntax.w8) (Syntax.tcons (Syntax.tyStruct (102 ∷ 105 ∷ 101 ∷ 108 ∷ 100 ∷ 115 ∷ 58 ∷ 58 ∷ 82 ∷ 101 ∷ 115 ∷ 105 ∷ 100 ∷ 117 ∷ 101 ∷ 78 ∷ 117 ∷ 109 ∷ 98 ∷ 101
+      ∷ 114 ∷ []) (Syntax.tcons (Syntax.tyInt Syntax.w32) Syntax.tnil)) (Syntax.tcons (Syntax.tyInt Syntax.w8) Syntax.tnil))))) Syntax.tnil))))) (Syntax.tcons
+      (Syntax.tyStruct (99 ∷ 111 ∷ 111 ∷ 114 ∷ 100 ∷ 105 ∷ 110 ∷ 97 ∷ 116 ∷ 101 ∷ 58 ∷ 58 ∷ 77 ∷ 101 ∷ 97 ∷ 115 ∷ 117 ∷ 114 ∷ 101 ∷ []) (Syntax.tcons
+      (Syntax.tyStruct (99 ∷ 111 ∷ 111 ∷ 114 ∷ 100 ∷ 105 ∷ 110 ∷ 97 ∷ 116 ∷ 101 ∷ 58 ∷ 58 ∷ 80 ∷ 111 ∷ 115 ∷ 105 ∷ 116 ∷ 105 ∷ 111 ∷ 110 ∷ []) (Syntax.tcons
+      (Syntax.tyInt Syntax.w32) (Syntax.tcons (Syntax.tyInt Syntax.w32) (Syntax.tcons (Syntax.tyInt Syntax.w32) Syntax.tnil)))) (Syntax.tcons (Syntax.tyInt
+      Syntax.w32) (Syntax.tcons (Syntax.tyInt Syntax.w32) Syntax.tnil)))) (Syntax.tcons (Syntax.tyStruct (99 ∷ 111 ∷ 111 ∷ 114 ∷ 100 ∷ 105 ∷ 110 ∷ 97 ∷ 116 ∷ 101
+      ∷ 58 ∷ 58 ∷ 83 ∷ 112 ∷ 101 ∷ 99 ∷ 105 ∷ 101 ∷ 115 ∷ []) (Syntax.tcons (Syntax.tyStruct (110 ∷ 97 ∷ 109 ∷ 101 ∷ 115 ∷ 58 ∷ 58 ∷ 80 ∷ 97 ∷ 105 ∷ 114 ∷ [])
+      (Syntax.tcons (Syntax.tyInt Syntax.w8) (Syntax.tcons (Syntax.tyInt Syntax.w8) Syntax.tnil))) (Syntax.tcons (Syntax.tyStruct (110 ∷ 97 ∷ 109 ∷ 101 ∷ 115 ∷
+      58 ∷ 58 ∷ 80 ∷ 97 ∷ 105 ∷ 114 ∷ []) (Syntax.tcons (Syntax.tyInt Syntax.w8) (Syntax.tcons (Syntax.tyInt Syntax.w8) Syntax.tnil))) Syntax.tnil)))
+      Syntax.tnil)))) Syntax.tnil)) (Syntax.ttcons (Syntax.tcons (Syntax.tyStruct (116 ∷ 101 ∷ 114 ∷ 58 ∷ 58 ∷ 84 ∷ 101 ∷ 114 ∷ []) (Syntax.tcons
+      (Syntax.tyStruct (102 ∷ 105 ∷ 101 ∷ 108 ∷ 100 ∷ 115 ∷ 58 ∷ 58 ∷ 83 ∷ 101 ∷ 114 ∷ 105 ∷ 97 ∷ 108 ∷ []) (Syntax.tcons (Syntax.tyInt Syntax.w32) Syntax.tnil))
+      (Syntax.tcons (Syntax.tyStruct (114 ∷ 101 ∷ 115 ∷ 105 ∷ 100 ∷ 117 ∷ 101 ∷ 58 ∷ 58 ∷ 82 ∷ 101 ∷ 115 ∷ 105 ∷ 100 ∷ 117 ∷ 101 ∷ []) (Syntax.tcons
+      (Syntax.tyStruct (110 ∷ 97 ∷ 109 ∷ 101 ∷ 115 ∷ 58 ∷ 58 ∷ 84 ∷ 104 ∷ 114 ∷ 101 ∷ 101 ∷ []) (Syntax.tcons (Syntax.tyInt Syntax.w8) (Syntax.tcons
+      (Syntax.tyInt Syntax.w8) (Syntax.tcons (Syntax.tyInt Syntax.w8) Syntax.tnil)))) (Syntax.tcons (Syntax.tyInt Syntax.w8) (Syntax.tcons (Syntax.tyStruct (102
+      ∷ 105 ∷ 101 ∷ 108 ∷ 100 ∷ 115 ∷ 58 ∷ 58 ∷ 82 ∷ 101 ∷ 115 ∷ 105 ∷ 100 ∷ 117 ∷ 101 ∷ 78 ∷ 117 ∷ 109 ∷ 98 ∷ 101 ∷ 114 ∷ []) (Syntax.tcons (Syntax.tyInt
+      Syntax.w32) Syntax.tnil)) (Syntax.tcons (Syntax.tyInt Syntax.w8) Syntax.tnil))))) Syntax.tnil))) Syntax.tnil) (Syntax.ttcons (Syntax.tcons (Syntax.tyStruct
+      (104 ∷ 101 ∷ 108 ∷ 105 ∷ 120 ∷ 58 ∷ 58 ∷ 72 ∷ 101 ∷ 108 ∷ 105 ∷ 120 ∷ []) (Syntax.tcons (Syntax.tyStruct (104 ∷ 101 ∷ 108 ∷ 105 ∷ 120 ∷ 58 ∷ 58 ∷ 69 ∷ 120
+      ∷ 116 ∷ 101 ∷ 110 ∷ 116 ∷ []) (Syntax.tcons (Syntax.tyInt Syntax.w32) (Syntax.tcons (Syntax.tyStruct (110 ∷ 97 ∷ 109 ∷ 101 ∷ 115 ∷ 58 ∷ 58 ∷ 84 ∷ 104 ∷ 114
+      ∷ 101 ∷ 101 ∷ []) (Syntax.tcons (Syntax.tyInt Syntax.w8) (Syntax.tcons (Syntax.tyInt Syntax.w8) (Syntax.tcons (Syntax.tyInt Syntax.w8) Syntax.tnil))))
+      (Syntax.tcons (Syntax.tyStruct (114 ∷ 101 ∷ 115 ∷ 105 ∷ 100 ∷ 117 ∷ 101 ∷ 58 ∷ 58 ∷ 82 ∷ 101 ∷ 115 ∷ 105 ∷ 100 ∷ 117 ∷ 101 ∷ []) (Syntax.tcons
+      (Syntax.tyStruct (110 ∷ 97 ∷ 109 ∷ 101 ∷ 115 ∷ 58 ∷ 58 ∷ 84 ∷ 104 ∷ 114 ∷ 101 ∷ 101 ∷ []) (Syntax.tcons (Syntax.tyInt Syntax.w8) (Syntax.tcons
+      (Syntax.tyInt Syntax.w8) (Syntax.tcons (Syntax.tyInt Syntax.w8) Syntax.tnil)))) (Syntax.tcons (Syntax.tyInt Syntax.w8) (Syntax.tcons (Syntax.tyStruct (102
+      ∷ 105 ∷ 101 ∷ 108 ∷ 100 ∷ 115 ∷ 58 ∷ 58 ∷ 82 ∷ 101 ∷ 115 ∷ 105 ∷ 100 ∷ 117 ∷ 101 ∷ 78 ∷ 117 ∷ 109 ∷ 98 ∷ 101 ∷ 114 ∷ []) (Syntax.tcons (Syntax.tyInt
+      Syntax.w32) Syntax.tnil)) (Syntax.tcons (Syntax.tyInt Syntax.w8) Syntax.tnil))))) (Syntax.tcons (Syntax.tyStruct (114 ∷ 101 ∷ 115 ∷ 105 ∷ 100 ∷ 117 ∷ 101 ∷
+      58 ∷ 58 ∷ 82 ∷ 101 ∷ 115 ∷ 105 ∷ 100 ∷ 117 ∷ 101 ∷ []) (Syntax.tcons (Syntax.tyStruct (110 ∷ 97 ∷ 109 ∷ 101 ∷ 115 ∷ 58 ∷ 58 ∷ 84 ∷ 104 ∷ 114 ∷ 101 ∷ 101 ∷
+      []) (Syntax.tcons (Syntax.tyInt Syntax.w8) (Syntax.tcons (Syntax.tyInt Syntax.w8) (Syntax.tcons (Syntax.tyInt Syntax.w8) Syntax.tnil)))) (Syntax.tcons
+      (Syntax.tyInt Syntax.w8) (Syntax.tcons (Syntax.tyStruct (102 ∷ 105 ∷ 101 ∷ 108 ∷ 100 ∷ 115 ∷ 58 ∷ 58 ∷ 82 ∷ 101 ∷ 115 ∷ 105 ∷ 100 ∷ 117 ∷ 101 ∷ 78 ∷ 117 ∷
+      109 ∷ 98 ∷ 101 ∷ 114 ∷ []) (Syntax.tcons (Syntax.tyInt Syntax.w32) Syntax.tnil)) (Syntax.tcons (Syntax.tyInt Syntax.w8) Syntax.tnil))))) Syntax.tnil)))))
+      (Syntax.tcons (Syntax.tyInt Syntax.w32) (Syntax.tcons (Syntax.tyStruct (104 ∷ 101 ∷ 108 ∷ 105 ∷ 120 ∷ 58 ∷ 58 ∷ 67 ∷ 111 ∷ 109 ∷ 109 ∷ 101 ∷ 110 ∷ 116 ∷
+      []) (Syntax.tcons (Syntax.tyInt Syntax.w64) (Syntax.tcons (Syntax.tyInt Syntax.w64) (Syntax.tcons (Syntax.tyInt Syntax.w64) (Syntax.tcons (Syntax.tyInt
+      Syntax.w64) Syntax.tnil))))) (Syntax.tcons (Syntax.tyInt Syntax.w32) Syntax.tnil))))) Syntax.tnil) (Syntax.ttcons (Syntax.tcons (Syntax.tyStruct (115 ∷ 104
+      ∷ 101 ∷ 101 ∷ 116 ∷ 58 ∷ 58 ∷ 83 ∷ 104 ∷ 101 ∷ 101 ∷ 116 ∷ []) (Syntax.tcons (Syntax.tyStruct (115 ∷ 104 ∷ 101 ∷ 101 ∷ 116 ∷ 58 ∷ 58 ∷ 83 ∷ 116 ∷ 114 ∷ 97
+      ∷ 110 ∷ 100 ∷ []) (Syntax.tcons (Syntax.tyInt Syntax.w32) (Syntax.tcons (Syntax.tyStruct (110 ∷ 97 ∷ 109 ∷ 101 ∷ 115 ∷ 58 ∷ 58 ∷ 84 ∷ 104 ∷ 114 ∷ 101 ∷ 101
+      ∷ []) (Syntax.tcons (Syntax.tyInt Syntax.w8) (Syntax.tcons (Syntax.tyInt Syntax.w8) (Syntax.tcons (Syntax.tyInt Syntax.w8) Syntax.tnil)))) (Syntax.tcons
+      (Syntax.tyInt Syntax.w32) (Syntax.tcons (Syntax.tyStruct (114 ∷ 101 ∷ 115 ∷ 105 ∷ 100 ∷ 117 ∷ 101 ∷ 58 ∷ 58 ∷ 82 ∷ 101 ∷ 115 ∷ 105 ∷ 100 ∷ 117 ∷ 101 ∷ [])
+      (Syntax.tcons (Syntax.tyStruct (110 ∷ 97 ∷ 109 ∷ 101 ∷ 115 ∷ 58 ∷ 58 ∷ 84 ∷ 104 ∷ 114 ∷ 101 ∷ 101 ∷ []) (Syntax.tcons (Syntax.tyInt Syntax.w8)
+      (Syntax.tcons (Syntax.tyInt Syntax.w8) (Syntax.tcons (Syntax.tyInt Syntax.w8) Syntax.tnil)))) (Syntax.tcons (Syntax.tyInt Syntax.w8) (Syntax.tcons
+      (Syntax.tyStruct (102 ∷ 105 ∷ 101 ∷ 108 ∷ 100 ∷ 115 ∷ 58 ∷ 58 ∷ 82 ∷ 101 ∷ 115 ∷ 105 ∷ 100 ∷ 117 ∷ 101 ∷ 78 ∷ 117 ∷ 109 ∷ 98 ∷ 101 ∷ 114 ∷ [])
+      (Syntax.tcons (Syntax.tyInt Syntax.w32) Syntax.tnil)) (Syntax.tcons (Syntax.tyInt Syntax.w8) Syntax.tnil))))) (Syntax.tcons (Syntax.tyStruct (114 ∷ 101 ∷
+      115 ∷ 105 ∷ 100 ∷ 117 ∷ 101 ∷ 58 ∷ 58 ∷ 82 ∷ 101 ∷ 115 ∷ 105 ∷ 100 ∷ 117 ∷ 101 ∷ []) (Syntax.tcons (Syntax.tyStruct (110 ∷ 97 ∷ 109 ∷ 101 ∷ 115 ∷ 58 ∷ 58 ∷
+      84 ∷ 104 ∷ 114 ∷ 101 ∷ 101 ∷ []) (Syntax.tcons (Syntax.tyInt Syntax.w8) (Syntax.tcons (Syntax.tyInt Syntax.w8) (Syntax.tcons (Syntax.tyInt Syntax.w8)
+      Syntax.tnil)))) (Syntax.tcons (Syntax.tyInt Syntax.w8) (Syntax.tcons (Syntax.tyStruct (102 ∷ 105 ∷ 101 ∷ 108 ∷ 100 ∷ 115 ∷ 58 ∷ 58 ∷ 82 ∷ 101 ∷ 115 ∷ 105 ∷
+      100 ∷ 117 ∷ 101 ∷ 78 ∷ 117 ∷ 109 ∷ 98 ∷ 101 ∷ 114 ∷ []) (Syntax.tcons (Syntax.tyInt Syntax.w32) Syntax.tnil)) (Syntax.tcons (Syntax.tyInt Syntax.w8)
+      Syntax.tnil))))) (Syntax.tcons (Syntax.tyInt Syntax.w32) Syntax.tnil))))))) (Syntax.tcons (Syntax.tyEnum (115 ∷ 104 ∷ 101 ∷ 101 ∷ 116 ∷ 58 ∷ 58 ∷ 82 ∷ 101
+      ∷ 103 ∷ 105 ∷ 115 ∷ 116 ∷ 114 ∷ 97 ∷ 116 ∷ 105 ∷ 111 ∷ 110 ∷ []) (Syntax.ttcons Syntax.tnil (Syntax.ttcons (Syntax.tcons (Syntax.tyStruct (115 ∷ 104 ∷ 101
+      ∷ 101 ∷ 116 ∷ 58 ∷ 58 ∷ 66 ∷ 111 ∷ 110 ∷ 100 ∷ []) (Syntax.tcons (Syntax.tyStruct (110 ∷ 97 ∷ 109 ∷ 101 ∷ 115 ∷ 58 ∷ 58 ∷ 70 ∷ 111 ∷ 117 ∷ 114 ∷ [])
+      (Syntax.tcons (Syntax.tyInt Syntax.w8) (Syntax.tcons (Syntax.tyInt Syntax.w8) (Syntax.tcons (Syntax.tyInt Syntax.w8) (Syntax.tcons (Syntax.tyInt Syntax.w8)
+      Syntax.tnil))))) (Syntax.tcons (Syntax.tyStruct (114 ∷ 101 ∷ 115 ∷ 105 ∷ 100 ∷ 117 ∷ 101 ∷ 58 ∷ 58 ∷ 82 ∷ 101 ∷ 115 ∷ 105 ∷ 100 ∷ 117 ∷ 101 ∷ [])
+      (Syntax.tcons (Syntax.tyStruct (110 ∷ 97 ∷ 109 ∷ 101 ∷ 115 ∷ 58 ∷ 58 ∷ 84 ∷ 104 ∷ 114 ∷ 101 ∷ 101 ∷ []) (Syntax.tcons (Syntax.tyInt Syntax.w8)
+      (Syntax.tcons (Syntax.tyInt Syntax.w8) (Syntax.tcons (Syntax.tyInt Syntax.w8) Syntax.tnil)))) (Syntax.tcons (Syntax.tyInt Syntax.w8) (Syntax.tcons
+      (Syntax.tyStruct (102 ∷ 105 ∷ 101 ∷ 108 ∷ 100 ∷ 115 ∷ 58 ∷ 58 ∷ 82 ∷ 101 ∷ 115 ∷ 105 ∷ 100 ∷ 117 ∷ 101 ∷ 78 ∷ 117 ∷ 109 ∷ 98 ∷ 101 ∷ 114 ∷ [])
+      (Syntax.tcons (Syntax.tyInt Syntax.w32) Syntax.tnil)) (Syntax.tcons (Syntax.tyInt Syntax.w8) Syntax.tnil))))) (Syntax.tcons (Syntax.tyStruct (110 ∷ 97 ∷
+      109 ∷ 101 ∷ 115 ∷ 58 ∷ 58 ∷ 70 ∷ 111 ∷ 117 ∷ 114 ∷ []) (Syntax.tcons (Syntax.tyInt Syntax.w8) (Syntax.tcons (Syntax.tyInt Syntax.w8) (Syntax.tcons
+      (Syntax.tyInt Syntax.w8) (Syntax.tcons (Syntax.tyInt Syntax.w8) Syntax.tnil))))) (Syntax.tcons (Syntax.tyStruct (114 ∷ 101 ∷ 115 ∷ 105 ∷ 100 ∷ 117 ∷ 101 ∷
+      58 ∷ 58 ∷ 82 ∷ 101 ∷ 115 ∷ 105 ∷ 100 ∷ 117 ∷ 101 ∷ []) (Syntax.tcons (Syntax.tyStruct (110 ∷ 97 ∷ 109 ∷ 101 ∷ 115 ∷ 58 ∷ 58 ∷ 84 ∷ 104 ∷ 114 ∷ 101 ∷ 101 ∷
+      []) (Syntax.tcons (Syntax.tyInt Syntax.w8) (Syntax.tcons (Syntax.tyInt Syntax.w8) (Syntax.tcons (Syntax.tyInt Syntax.w8) Syntax.tnil)))) (Syntax.tcons
+      (Syntax.tyInt Syntax.w8) (Syntax.tcons (Syntax.tyStruct (102 ∷ 105 ∷ 101 ∷ 108 ∷ 100 ∷ 115 ∷ 58 ∷ 58 ∷ 82 ∷ 101 ∷ 115 ∷ 105 ∷ 100 ∷ 117 ∷ 101 ∷ 78 ∷ 117 ∷
+      109 ∷ 98 ∷ 101 ∷ 114 ∷ []) (Syntax.tcons (Syntax.tyInt Syntax.w32) Syntax.tnil)) (Syntax.tcons (Syntax.tyInt Syntax.w8) Syntax.tnil))))) Syntax.tnil)))))
+      Syntax.tnil) Syntax.ttnil))) Syntax.tnil))) Syntax.tnil) (Syntax.ttcons (Syntax.tcons (Syntax.tyStruct (99 ∷ 111 ∷ 110 ∷ 101 ∷ 99 ∷ 116 ∷ 58 ∷ 58 ∷ 67 ∷
+      111 ∷ 110 ∷ 101 ∷ 99 ∷ 116 ∷ []) (Syntax.tcons (Syntax.tyStruct (102 ∷ 105 ∷ 101 ∷ 108 ∷ 100 ∷ 115 ∷ 58 ∷ 58 ∷ 83 ∷ 101 ∷ 114 ∷ 105 ∷ 97 ∷ 108 ∷ [])
+      (Syntax.tcons (Syntax.tyInt Syntax.w32) Syntax.tnil)) (Syntax.tcons (Syntax.tyStruct (102 ∷ 105 ∷ 101 ∷ 108 ∷ 100 ∷ 115 ∷ 58 ∷ 58 ∷ 83 ∷ 101 ∷ 114 ∷ 105 ∷
+      97 ∷ 108 ∷ []) (Syntax.tcons (Syntax.tyInt Syntax.w32) Syntax.tnil)) (Syntax.tcons (Syntax.tyStruct (102 ∷ 105 ∷ 101 ∷ 108 ∷ 100 ∷ 115 ∷ 58 ∷ 58 ∷ 83 ∷ 101
+      ∷ 114 ∷ 105 ∷ 97 ∷ 108 ∷ []) (Syntax.tcons (Syntax.tyInt Syntax.w32) Syntax.tnil)) (Syntax.tcons (Syntax.tyStruct (102 ∷ 105 ∷ 101 ∷ 108 ∷ 100 ∷ 115 ∷ 58 ∷
+      58 ∷ 83 ∷ 101 ∷ 114 ∷ 105 ∷ 97 ∷ 108 ∷ []) (Syntax.tcons (Syntax.tyInt Syntax.w32) Syntax.tnil)) (Syntax.tcons (Syntax.tyStruct (102 ∷ 105 ∷ 101 ∷ 108 ∷
+      100 ∷ 115 ∷ 58 ∷ 58 ∷ 83 ∷ 101 ∷ 114 ∷ 105 ∷ 97 ∷ 108 ∷ []) (Syntax.tcons (Syntax.tyInt Syntax.w32) Syntax.tnil)) Syntax.tnil)))))) Syntax.tnil)
+      (Syntax.ttcons (Syntax.tcons (Syntax.tyStruct (109 ∷ 97 ∷ 115 ∷ 116 ∷ 101 ∷ 114 ∷ 58 ∷ 58 ∷ 84 ∷ 97 ∷ 108 ∷ 108 ∷ 121 ∷ []) (Syntax.tcons (Syntax.tyInt
+      Syntax.w32) (Syntax.tcons (Syntax.tyInt Syntax.w32) (Syntax.tcons (Syntax.tyInt Syntax.w32) (Syntax.tcons (Syntax.tyInt Syntax.w32) (Syntax.tcons
+      (Syntax.tyInt Syntax.w32) (Syntax.tcons (Syntax.tyInt Syntax.w32) (Syntax.tcons (Syntax.tyInt Syntax.w32) (Syntax.tcons (Syntax.tyInt Syntax.w32)
+      (Syntax.tcons (Syntax.tyInt Syntax.w32) Syntax.tnil)))))))))) Syntax.tnil) (Syntax.ttcons Syntax.tnil Syntax.ttnil)))))))) Syntax.tnil) Syntax.ttnil))))),
+)
+    ∷ (
+      10,
+      Rows'.any-gone (Syntax.tyStruct (103 ∷ 97 ∷ 116 ∷ 101 ∷ 58 ∷ 58 ∷ 79 ∷ 110 ∷ 119 ∷ 97 ∷ 114 ∷ 100 ∷ []) (Syntax.tcons (Syntax.tyInt Syntax.w8)
+          (Syntax.tcons (Syntax.tyStruct (103 ∷ 97 ∷ 116 ∷ 101 ∷ 58 ∷ 58 ∷ 67 ∷ 111 ∷ 117 ∷ 114 ∷ 115 ∷ 101 ∷ []) (Syntax.tcons (Syntax.tyStruct (114 ∷ 117 ∷ 108 ∷
+          101 ∷ 115 ∷ 58 ∷ 58 ∷ 83 ∷ 116 ∷ 97 ∷ 116 ∷ 101 ∷ []) (Syntax.tcons (Syntax.tyInt Syntax.w8) (Syntax.tcons (Syntax.tyStruct (102 ∷ 105 ∷ 101 ∷ 108 ∷ 100 ∷
+          115 ∷ 58 ∷ 58 ∷ 83 ∷ 101 ∷ 114 ∷ 105 ∷ 97 ∷ 108 ∷ []) (Syntax.tcons (Syntax.tyInt Syntax.w32) Syntax.tnil)) (Syntax.tcons (Syntax.tyStruct (114 ∷ 117 ∷ 108
+          ∷ 101 ∷ 115 ∷ 58 ∷ 58 ∷ 82 ∷ 117 ∷ 110 ∷ []) (Syntax.tcons Syntax.tyBool (Syntax.tcons Syntax.tyBool (Syntax.tcons Syntax.tyBool (Syntax.tcons
+          (Syntax.tyStruct (114 ∷ 101 ∷ 115 ∷ 105 ∷ 100 ∷ 117 ∷ 101 ∷ 58 ∷ 58 ∷ 82 ∷ 101 ∷ 115 ∷ 105 ∷ 100 ∷ 117 ∷ 101 ∷ []) (Syntax.tcons (Syntax.tyStruct (110 ∷ 97
+          ∷ 109 ∷ 101 ∷ 115 ∷ 58 ∷ 58 ∷ 84 ∷ 104 ∷ 114 ∷ 101 ∷ 101 ∷ []) (Syntax.tcons (Syntax.tyInt Syntax.w8) (Syntax.tcons (Syntax.tyInt Syntax.w8) (Syntax.tcons
+          (Syntax.tyInt Syntax.w8) Syntax.tnil)))) (Syntax.tcons (Syntax.tyInt Syntax.w8) (Syntax.tcons (Syntax.tyStruct (102 ∷ 105 ∷ 101 ∷ 108 ∷ 100 ∷ 115 ∷ 58 ∷ 58
+          ∷ 82 ∷ 101 ∷ 115 ∷ 105 ∷ 100 ∷ 117 ∷ 101 ∷ 78 ∷ 117 ∷ 109 ∷ 98 ∷ 101 ∷ 114 ∷ []) (Syntax.tcons (Syntax.tyInt Syntax.w32) Syntax.tnil)) (Syntax.tcons
+          (Syntax.tyInt Syntax.w8) Syntax.tnil))))) Syntax.tnil))))) (Syntax.tcons (Syntax.tyStruct (102 ∷ 105 ∷ 101 ∷ 108 ∷ 100 ∷ 115 ∷ 58 ∷ 58 ∷ 83 ∷ 101 ∷ 114 ∷
+          105 ∷ 97 ∷ 108 ∷ []) (Syntax.tcons (Syntax.tyInt Syntax.w32) Syntax.tnil)) (Syntax.tcons (Syntax.tyInt Syntax.w32) (Syntax.tcons (Syntax.tyStruct (114 ∷
+          117 ∷ 108 ∷ 101 ∷ 115 ∷ 58 ∷ 58 ∷ 76 ∷ 97 ∷ 100 ∷ 100 ∷ 101 ∷ 114 ∷ []) (Syntax.tcons (Syntax.tyStruct (110 ∷ 97 ∷ 109 ∷ 101 ∷ 115 ∷ 58 ∷ 58 ∷ 84 ∷ 104 ∷
+          114 ∷ 101 ∷ 101 ∷ []) (Syntax.tcons (Syntax.tyInt Syntax.w8) (Syntax.tcons (Syntax.tyInt Syntax.w8) (Syntax.tcons (Syntax.tyInt Syntax.w8) Syntax.tnil))))
+          (Syntax.tcons (Syntax.tyInt Syntax.w32) (Syntax.tcons (Syntax.tyInt Syntax.w32) Syntax.tnil)))) (Syntax.tcons (Syntax.tyStruct (112 ∷ 108 ∷ 97 ∷ 99 ∷ 101 ∷
+          115 ∷ 58 ∷ 58 ∷ 67 ∷ 111 ∷ 117 ∷ 110 ∷ 116 ∷ 115 ∷ []) (Syntax.tcons (Syntax.tyInt Syntax.w64) (Syntax.tcons (Syntax.tyInt Syntax.w64) (Syntax.tcons
+          (Syntax.tyInt Syntax.w64) (Syntax.tcons (Syntax.tyInt Syntax.w64) (Syntax.tcons (Syntax.tyInt Syntax.w64) (Syntax.tcons (Syntax.tyInt Syntax.w64)
+          (Syntax.tcons (Syntax.tyInt Syntax.w64) (Syntax.tcons (Syntax.tyInt Syntax.w64) (Syntax.tcons (Syntax.tyInt Syntax.w64) Syntax.tnil)))))))))) (Syntax.tcons
+          (Syntax.tyInt Syntax.w64) Syntax.tnil))))))))) (Syntax.tcons (Syntax.tyStruct (115 ∷ 101 ∷ 114 ∷ 105 ∷ 97 ∷ 108 ∷ 115 ∷ 58 ∷ 58 ∷ 80 ∷ 97 ∷ 115 ∷ 116 ∷ [])
+          (Syntax.tcons (Syntax.tyStruct (115 ∷ 101 ∷ 97 ∷ 114 ∷ 99 ∷ 104 ∷ 58 ∷ 58 ∷ 83 ∷ 112 ∷ 97 ∷ 110 ∷ []) (Syntax.tcons (Syntax.tyInt Syntax.w64) (Syntax.tcons
+          (Syntax.tyInt Syntax.w64) Syntax.tnil))) (Syntax.tcons (Syntax.tyStruct (115 ∷ 101 ∷ 97 ∷ 114 ∷ 99 ∷ 104 ∷ 58 ∷ 58 ∷ 78 ∷ 101 ∷ 97 ∷ 114 ∷ [])
+          (Syntax.tcons (Syntax.tyInt Syntax.w64) (Syntax.tcons (Syntax.tyStruct (102 ∷ 105 ∷ 101 ∷ 108 ∷ 100 ∷ 115 ∷ 58 ∷ 58 ∷ 83 ∷ 101 ∷ 114 ∷ 105 ∷ 97 ∷ 108 ∷ [])
+          (Syntax.tcons (Syntax.tyInt Syntax.w32) Syntax.tnil)) Syntax.tnil))) Syntax.tnil))) (Syntax.tcons (Syntax.tyStruct (116 ∷ 114 ∷ 97 ∷ 105 ∷ 108 ∷ 58 ∷ 58 ∷
+          87 ∷ 97 ∷ 116 ∷ 99 ∷ 104 ∷ []) (Syntax.tcons (Syntax.tyInt Syntax.w64) (Syntax.tcons (Syntax.tyInt Syntax.w64) (Syntax.tcons (Syntax.tyInt Syntax.w64)
+          (Syntax.tcons (Syntax.tyInt Syntax.w64) (Syntax.tcons (Syntax.tyInt Syntax.w64) (Syntax.tcons (Syntax.tyInt Syntax.w64) (Syntax.tcons (Syntax.tyStruct (97
+          ∷ 104 ∷ 101 ∷ 97 ∷ 100 ∷ 58 ∷ 58 ∷ 65 ∷ 104 ∷ 101 ∷ 97 ∷ 100 ∷ []) (Syntax.tcons (Syntax.tyInt Syntax.w64) (Syntax.tcons (Syntax.tyInt Syntax.w64)
+          (Syntax.tcons (Syntax.tyInt Syntax.w64) Syntax.tnil)))) Syntax.tnil)))))))) Syntax.tnil)))) Syntax.tnil))),
+    ) ∷ (
+      11,
+      Rows'.any-gone (Syntax.tyStruct (103 ∷
+          97 ∷ 116 ∷ 101 ∷ 58 ∷ 58 ∷ 67 ∷ 111 ∷ 117 ∷ 114 ∷ 115 ∷ 101 ∷ []) (Syntax.tcons (Syntax.tyStruct (114 ∷ 117 ∷ 108 ∷ 101 ∷ 115 ∷ 58 ∷ 58 ∷ 83 ∷ 116 ∷ 97 ∷
+          116 ∷ 101 ∷ []) (Syntax.tcons (Syntax.tyInt Syntax.w8) (Syntax.tcons (Syntax.tyStruct (102 ∷ 105 ∷ 101 ∷ 108 ∷ 100 ∷ 115 ∷ 58 ∷ 58 ∷ 83 ∷ 101 ∷ 114 ∷ 105 ∷
+          97 ∷ 108 ∷ []) (Syntax.tcons (Syntax.tyInt Syntax.w32) Syntax.tnil)) (Syntax.tcons (Syntax.tyStruct (114 ∷ 117 ∷ 108 ∷ 101 ∷ 115 ∷ 58 ∷ 58 ∷ 82 ∷ 117 ∷ 110
+          ∷ []) (Syntax.tcons Syntax.tyBool (Syntax.tcons Syntax.tyBool (Syntax.tcons Syntax.tyBool (Syntax.tcons (Syntax.tyStruct (114 ∷ 101 ∷ 115 ∷ 105 ∷ 100 ∷ 117
+          ∷ 101 ∷ 58 ∷ 58 ∷ 82 ∷ 101 ∷ 115 ∷ 105 ∷ 100 ∷ 117 ∷ 101 ∷ []) (Syntax.tcons (Syntax.tyStruct (110 ∷ 97 ∷ 109 ∷ 101 ∷ 115 ∷ 58 ∷ 58 ∷ 84 ∷ 104 ∷ 114 ∷ 101
+          ∷ 101 ∷ []) (Syntax.tcons (Syntax.tyInt Syntax.w8) (Syntax.tcons (Syntax.tyInt Syntax.w8) (Syntax.tcons (Syntax.tyInt Syntax.w8) Syntax.tnil))))
+          (Syntax.tcons (Syntax.tyInt Syntax.w8) (Syntax.tcons (Syntax.tyStruct (102 ∷ 105 ∷ 101 ∷ 108 ∷ 100 ∷ 115 ∷ 58 ∷ 58 ∷ 82 ∷ 101 ∷ 115 ∷ 105 ∷ 100 ∷ 117 ∷ 101
+          ∷ 78 ∷ 117 ∷ 109 ∷ 98 ∷ 101 ∷ 114 ∷ []) (Syntax.tcons (Syntax.tyInt Syntax.w32) Syntax.tnil)) (Syntax.tcons (Syntax.tyInt Syntax.w8) Syntax.tnil)))))
+          Syntax.tnil))))) (Syntax.tcons (Syntax.tyStruct (102 ∷ 105 ∷ 101 ∷ 108 ∷ 100 ∷ 115 ∷ 58 ∷ 58 ∷ 83 ∷ 101 ∷ 114 ∷ 105 ∷ 97 ∷ 108 ∷ []) (Syntax.tcons
+          (Syntax.tyInt Syntax.w32) Syntax.tnil)) (Syntax.tcons (Syntax.tyInt Syntax.w32) (Syntax.tcons (Syntax.tyStruct (114 ∷ 117 ∷ 108 ∷ 101 ∷ 115 ∷ 58 ∷ 58 ∷ 76
+          ∷ 97 ∷ 100 ∷ 100 ∷ 101 ∷ 114 ∷ []) (Syntax.tcons (Syntax.tyStruct (110 ∷ 97 ∷ 109 ∷ 101 ∷ 115 ∷ 58 ∷ 58 ∷ 84 ∷ 104 ∷ 114 ∷ 101 ∷ 101 ∷ []) (Syntax.tcons
+          (Syntax.tyInt Syntax.w8) (Syntax.tcons (Syntax.tyInt Syntax.w8) (Syntax.tcons (Syntax.tyInt Syntax.w8) Syntax.tnil)))) (Syntax.tcons (Syntax.tyInt
+          Syntax.w32) (Syntax.tcons (Syntax.tyInt Syntax.w32) Syntax.tnil)))) (Syntax.tcons (Syntax.tyStruct (112 ∷ 108 ∷ 97 ∷ 99 ∷ 101 ∷ 115 ∷ 58 ∷ 58 ∷ 67 ∷ 111 ∷
+          117 ∷ 110 ∷ 116 ∷ 115 ∷ []) (Syntax.tcons (Syntax.tyInt Syntax.w64) (Syntax.tcons (Syntax.tyInt Syntax.w64) (Syntax.tcons (Syntax.tyInt Syntax.w64)
+          (Syntax.tcons (Syntax.tyInt Syntax.w64) (Syntax.tcons (Syntax.tyInt Syntax.w64) (Syntax.tcons (Syntax.tyInt Syntax.w64) (Syntax.tcons (Syntax.tyInt
+          Syntax.w64) (Syntax.tcons (Syntax.tyInt Syntax.w64) (Syntax.tcons (Syntax.tyInt Syntax.w64) Syntax.tnil)))))))))) (Syntax.tcons (Syntax.tyInt Syntax.w64)
+          Syntax.tnil))))))))) (Syntax.tcons (Syntax.tyStruct (115 ∷ 101 ∷ 114 ∷ 105 ∷ 97 ∷ 108 ∷ 115 ∷ 58 ∷ 58 ∷ 80 ∷ 97 ∷ 115 ∷ 116 ∷ []) (Syntax.tcons
+          (Syntax.tyStruct (115 ∷ 101 ∷ 97 ∷ 114 ∷ 99 ∷ 104 ∷ 58 ∷ 58 ∷ 83 ∷ 112 ∷ 97 ∷ 110 ∷ []) (Syntax.tcons (Syntax.tyInt Syntax.w64) (Syntax.tcons (Syntax.tyInt
+          Syntax.w64) Syntax.tnil))) (Syntax.tcons (Syntax.tyStruct (115 ∷ 101 ∷ 97 ∷ 114 ∷ 99 ∷ 104 ∷ 58 ∷ 58 ∷ 78 ∷ 101 ∷ 97 ∷ 114 ∷ []) (Syntax.tcons
+          (Syntax.tyInt Syntax.w64) (Syntax.tcons (Syntax.tyStruct (102 ∷ 105 ∷ 101 ∷ 108 ∷ 100 ∷ 115 ∷ 58 ∷ 58 ∷ 83 ∷ 101 ∷ 114 ∷ 105 ∷ 97 ∷ 108 ∷ []) (Syntax.tcons
+          (Syntax.tyInt Syntax.w32) Syntax.tnil)) Syntax.tnil))) Syntax.tnil))) (Syntax.tcons (Syntax.tyStruct (116 ∷ 114 ∷ 97 ∷ 105 ∷ 108 ∷ 58 ∷ 58 ∷ 87 ∷ 97 ∷ 116
+          ∷ 99 ∷ 104 ∷ []) (Syntax.tcons (Syntax.tyInt Syntax.w64) (Syntax.tcons (Syntax.tyInt Syntax.w64) (Syntax.tcons (Syntax.tyInt Syntax.w64) (Syntax.tcons
+          (Syntax.tyInt Syntax.w64) (Syntax.tcons (Syntax.tyInt Syntax.w64) (Syntax.tcons (Syntax.tyInt Syntax.w64) (Syntax.tcons (Syntax.tyStruct (97 ∷ 104 ∷ 101 ∷
+          97 ∷ 100 ∷ 58 ∷ 58 ∷ 65 ∷ 104 ∷ 101 ∷ 97 ∷ 100 ∷ []) (Syntax.tcons (Syntax.tyInt Syntax.w64) (Syntax.tcons (Syntax.tyInt Syntax.w64) (Syntax.tcons
+          (Syntax.tyInt Syntax.w64) Syntax.tnil)))) Syntax.tnil)))))))) Syntax.tnil)))),
+    ) ∷ (12, Rows'.any-gone SlotAs.ty) ∷ (13, Rows'.any-gone Syntax.tyBool) ∷ (
+      14,
+      Rows'.any-gone (Syntax.tyStruct (115 ∷ 101 ∷ 97 ∷ 114 ∷ 99 ∷ 104 ∷ 58 ∷ 58 ∷ 83 ∷ 111 ∷ 117 ∷ 103 ∷ 104 ∷ 116 ∷ []) (Syntax.tcons (Syntax.tyStruct (115 ∷
+          101 ∷ 97 ∷ 114 ∷ 99 ∷ 104 ∷ 58 ∷ 58 ∷ 78 ∷ 101 ∷ 97 ∷ 114 ∷ []) (Syntax.tcons (Syntax.tyInt Syntax.w64) (Syntax.tcons (Syntax.tyStruct (102 ∷ 105 ∷ 101 ∷
+          108 ∷ 100 ∷ 115 ∷ 58 ∷ 58 ∷ 83 ∷ 101 ∷ 114 ∷ 105 ∷ 97 ∷ 108 ∷ []) (Syntax.tcons (Syntax.tyInt Syntax.w32) Syntax.tnil)) Syntax.tnil))) (Syntax.tcons
           Syntax.tyBool Syntax.tnil))),
     ) ∷ (
       15,
@@ -4444,11 +4631,15 @@ t28 = (
       ∷ 114 ∷ 99 ∷ 104 ∷ 58 ∷ 58 ∷ 83 ∷ 112 ∷ 97 ∷ 110 ∷ []) (Syntax.tcons (Syntax.tyInt Syntax.w64) (Syntax.tcons (Syntax.tyInt Syntax.w64) Syntax.tnil)))
       (Syntax.tcons (Syntax.tyStruct (115 ∷ 101 ∷ 97 ∷ 114 ∷ 99 ∷ 104 ∷ 58 ∷ 58 ∷ 78 ∷ 101 ∷ 97 ∷ 114 ∷ []) (Syntax.tcons (Syntax.tyInt Syntax.w64) (Syntax.tcons
       (Syntax.tyStruct (102 ∷ 105 ∷ 101 ∷ 108 ∷ 100 ∷ 115 ∷ 58 ∷ 58 ∷ 83 ∷ 101 ∷ 114 ∷ 105 ∷ 97 ∷ 108 ∷ []) (Syntax.tcons (Syntax.tyInt Syntax.w32) Syntax.tnil))
-      Syntax.tnil))) Syntax.tnil))) Syntax.tnil))),
+      Syntax.tnil))) Syntax.tnil))) (Syntax.tcons (Syntax.tyStruct (116 ∷ 114 ∷ 97 ∷ 105 ∷ 108 ∷ 58 ∷ 58 ∷ 87 ∷ 97 ∷ 116 ∷ 99 ∷ 104 ∷ []) (Syntax.tcons
+      (Syntax.tyInt Syntax.w64) (Syntax.tcons (Syntax.tyInt Syntax.w64) (Syntax.tcons (Syntax.tyInt Syntax.w64) (Syntax.tcons (Syntax.tyInt Syntax.w64)
+      (Syntax.tcons (Syntax.tyInt Syntax.w64) (Syntax.tcons (Syntax.tyInt Syntax.w64) (Syntax.tcons (Syntax.tyStruct (97 ∷ 104 ∷ 101 ∷ 97 ∷ 100 ∷ 58 ∷ 58 ∷ 65 ∷
+      104 ∷ 101 ∷ 97 ∷ 100 ∷ []) (Syntax.tcons (Syntax.tyInt Syntax.w64) (Syntax.tcons (Syntax.tyInt Syntax.w64) (Syntax.tcons (Syntax.tyInt Syntax.w64)
+      Syntax.tnil)))) Syntax.tnil)))))))) Syntax.tnil)))),
 ) ∷ (5, Rows'.sc-here (Row.sInt Syntax.w64)) ∷ (6, Rows'.sc-here Row.sBool) ∷ (
   7,
-  Rows'.sc-here (Row.sInt
-      Syntax.w64),
+  Rows'.sc-here
+      (Row.sInt Syntax.w64),
 ) ∷ (8, Rows'.whole (Declared'.row Near.the-type)) ∷ (9, Rows'.whole (Declared.row Line.the-type)) ∷ (
   10,
   Rows'.whole (Declared'.row
@@ -4503,50 +4694,58 @@ t29 = (
       ∷ 114 ∷ 99 ∷ 104 ∷ 58 ∷ 58 ∷ 83 ∷ 112 ∷ 97 ∷ 110 ∷ []) (Syntax.tcons (Syntax.tyInt Syntax.w64) (Syntax.tcons (Syntax.tyInt Syntax.w64) Syntax.tnil)))
       (Syntax.tcons (Syntax.tyStruct (115 ∷ 101 ∷ 97 ∷ 114 ∷ 99 ∷ 104 ∷ 58 ∷ 58 ∷ 78 ∷ 101 ∷ 97 ∷ 114 ∷ []) (Syntax.tcons (Syntax.tyInt Syntax.w64) (Syntax.tcons
       (Syntax.tyStruct (102 ∷ 105 ∷ 101 ∷ 108 ∷ 100 ∷ 115 ∷ 58 ∷ 58 ∷ 83 ∷ 101 ∷ 114 ∷ 105 ∷ 97 ∷ 108 ∷ []) (Syntax.tcons (Syntax.tyInt Syntax.w32) Syntax.tnil))
-      Syntax.tnil))) Syntax.tnil))) Syntax.tnil))),
+      Syntax.tnil))) Syntax.tnil))) (Syntax.tcons (Syntax.tyStruct (116 ∷ 114 ∷ 97 ∷ 105 ∷ 108 ∷ 58 ∷ 58 ∷ 87 ∷ 97 ∷ 116 ∷ 99 ∷ 104 ∷ []) (Syntax.tcons
+      (Syntax.tyInt Syntax.w64) (Syntax.tcons (Syntax.tyInt Syntax.w64) (Syntax.tcons (Syntax.tyInt Syntax.w64) (Syntax.tcons (Syntax.tyInt Syntax.w64)
+      (Syntax.tcons (Syntax.tyInt Syntax.w64) (Syntax.tcons (Syntax.tyInt Syntax.w64) (Syntax.tcons (Syntax.tyStruct (97 ∷ 104 ∷ 101 ∷ 97 ∷ 100 ∷ 58 ∷ 58 ∷ 65 ∷
+      104 ∷ 101 ∷ 97 ∷ 100 ∷ []) (Syntax.tcons (Syntax.tyInt Syntax.w64) (Syntax.tcons (Syntax.tyInt Syntax.w64) (Syntax.tcons (Syntax.tyInt Syntax.w64)
+      Syntax.tnil)))) Syntax.tnil)))))))) Syntax.tnil)))),
 ) ∷ (5, Rows'.sc-here (Row.sInt Syntax.w64)) ∷ (6, Rows'.sc-here Row.sBool) ∷ (
   7,
-  Rows'.sc-here (Row.sInt
-      Syntax.w64),
+  Rows'.sc-here
+      (Row.sInt Syntax.w64),
 ) ∷ (8, Rows'.whole (Declared'.row Near.the-type)) ∷ (9, Rows'.whole (Declared.row Line.the-type)) ∷ (
   10,
-  Rows'.any-gone (Syntax.tyStruct (103 ∷
-      97 ∷ 116 ∷ 101 ∷ 58 ∷ 58 ∷ 79 ∷ 110 ∷ 119 ∷ 97 ∷ 114 ∷ 100 ∷ []) (Syntax.tcons (Syntax.tyInt Syntax.w8) (Syntax.tcons (Syntax.tyStruct (103 ∷ 97 ∷ 116 ∷
-      101 ∷ 58 ∷ 58 ∷ 67 ∷ 111 ∷ 117 ∷ 114 ∷ 115 ∷ 101 ∷ []) (Syntax.tcons (Syntax.tyStruct (114 ∷ 117 ∷ 108 ∷ 101 ∷ 115 ∷ 58 ∷ 58 ∷ 83 ∷ 116 ∷ 97 ∷ 116 ∷ 101 ∷
-      []) (Syntax.tcons (Syntax.tyInt Syntax.w8) (Syntax.tcons (Syntax.tyStruct (102 ∷ 105 ∷ 101 ∷ 108 ∷ 100 ∷ 115 ∷ 58 ∷ 58 ∷ 83 ∷ 101 ∷ 114 ∷ 105 ∷ 97 ∷ 108 ∷
-      []) (Syntax.tcons (Syntax.tyInt Syntax.w32) Syntax.tnil)) (Syntax.tcons (Syntax.tyStruct (114 ∷ 117 ∷ 108 ∷ 101 ∷ 115 ∷ 58 ∷ 58 ∷ 82 ∷ 117 ∷ 110 ∷ [])
-      (Syntax.tcons Syntax.tyBool (Syntax.tcons Syntax.tyBool (Syntax.tcons Syntax.tyBool (Syntax.tcons (Syntax.tyStruct (114 ∷ 101 ∷ 115 ∷ 105 ∷ 100 ∷ 117 ∷ 101
-      ∷ 58 ∷ 58 ∷ 82 ∷ 101 ∷ 115 ∷ 105 ∷ 100 ∷ 117 ∷ 101 ∷ []) (Syntax.tcons (Syntax.tyStruct (110 ∷ 97 ∷ 109 ∷ 101 ∷ 115 ∷ 58 ∷ 58 ∷ 84 ∷ 104 ∷ 114 ∷ 101 ∷ 101
-      ∷ []) (Syntax.tcons (Syntax.tyInt Syntax.w8) (Syntax.tcons (Syntax.tyInt Syntax.w8) (Syntax.tcons (Syntax.tyInt Syntax.w8) Syntax.tnil)))) (Syntax.tcons
-      (Syntax.tyInt Syntax.w8) (Syntax.tcons (Syntax.tyStruct (102 ∷ 105 ∷ 101 ∷ 108 ∷ 100 ∷ 115 ∷ 58 ∷ 58 ∷ 82 ∷ 101 ∷ 115 ∷ 105 ∷ 100 ∷ 117 ∷ 101 ∷ 78 ∷ 117 ∷
-      109 ∷ 98 ∷ 101 ∷ 114 ∷ []) (Syntax.tcons (Syntax.tyInt Syntax.w32) Syntax.tnil)) (Syntax.tcons (Syntax.tyInt Syntax.w8) Syntax.tnil))))) Syntax.tnil)))))
-      (Syntax.tcons (Syntax.tyStruct (102 ∷ 105 ∷ 101 ∷ 108 ∷ 100 ∷ 115 ∷ 58 ∷ 58 ∷ 83 ∷ 101 ∷ 114 ∷ 105 ∷ 97 ∷ 108 ∷ []) (Syntax.tcons (Syntax.tyInt Syntax.w32)
-      Syntax.tnil)) (Syntax.tcons (Syntax.tyInt Syntax.w32) (Syntax.tcons (Syntax.tyStruct (114 ∷ 117 ∷ 108 ∷ 101 ∷ 115 ∷ 58 ∷ 58 ∷ 76 ∷ 97 ∷ 100 ∷ 100 ∷ 101 ∷
-      114 ∷ []) (Syntax.tcons (Syntax.tyStruct (110 ∷ 97 ∷ 109 ∷ 101 ∷ 115 ∷ 58 ∷ 58 ∷ 84 ∷ 104 ∷ 114 ∷ 101 ∷ 101 ∷ []) (Syntax.tcons (Syntax.tyInt Syntax.w8)
-      (Syntax.tcons (Syntax.tyInt Syntax.w8) (Syntax.tcons (Syntax.tyInt Syntax.w8) Syntax.tnil)))) (Syntax.tcons (Syntax.tyInt Syntax.w32) (Syntax.tcons
-      (Syntax.tyInt Syntax.w32) Syntax.tnil)))) (Syntax.tcons (Syntax.tyStruct (112 ∷ 108 ∷ 97 ∷ 99 ∷ 101 ∷ 115 ∷ 58 ∷ 58 ∷ 67 ∷ 111 ∷ 117 ∷ 110 ∷ 116 ∷ 115 ∷
-      []) (Syntax.tcons (Syntax.tyInt Syntax.w64) (Syntax.tcons (Syntax.tyInt Syntax.w64) (Syntax.tcons (Syntax.tyInt Syntax.w64) (Syntax.tcons (Syntax.tyInt
+  Rows'.any-gone
+      (Syntax.tyStruct (103 ∷ 97 ∷ 116 ∷ 101 ∷ 58 ∷ 58 ∷ 79 ∷ 110 ∷ 119 ∷ 97 ∷ 114 ∷ 100 ∷ []) (Syntax.tcons (Syntax.tyInt Syntax.w8) (Syntax.tcons
+      (Syntax.tyStruct (103 ∷ 97 ∷ 116 ∷ 101 ∷ 58 ∷ 58 ∷ 67 ∷ 111 ∷ 117 ∷ 114 ∷ 115 ∷ 101 ∷ []) (Syntax.tcons (Syntax.tyStruct (114 ∷ 117 ∷ 108 ∷ 101 ∷ 115 ∷ 58
+      ∷ 58 ∷ 83 ∷ 116 ∷ 97 ∷ 116 ∷ 101 ∷ []) (Syntax.tcons (Syntax.tyInt Syntax.w8) (Syntax.tcons (Syntax.tyStruct (102 ∷ 105 ∷ 101 ∷ 108 ∷ 100 ∷ 115 ∷ 58 ∷ 58 ∷
+      83 ∷ 101 ∷ 114 ∷ 105 ∷ 97 ∷ 108 ∷ []) (Syntax.tcons (Syntax.tyInt Syntax.w32) Syntax.tnil)) (Syntax.tcons (Syntax.tyStruct (114 ∷ 117 ∷ 108 ∷ 101 ∷ 115 ∷
+      58 ∷ 58 ∷ 82 ∷ 117 ∷ 110 ∷ []) (Syntax.tcons Syntax.tyBool (Syntax.tcons Syntax.tyBool (Syntax.tcons Syntax.tyBool (Syntax.tcons (Syntax.tyStruct (114 ∷
+      101 ∷ 115 ∷ 105 ∷ 100 ∷ 117 ∷ 101 ∷ 58 ∷ 58 ∷ 82 ∷ 101 ∷ 115 ∷ 105 ∷ 100 ∷ 117 ∷ 101 ∷ []) (Syntax.tcons (Syntax.tyStruct (110 ∷ 97 ∷ 109 ∷ 101 ∷ 115 ∷ 58
+      ∷ 58 ∷ 84 ∷ 104 ∷ 114 ∷ 101 ∷ 101 ∷ []) (Syntax.tcons (Syntax.tyInt Syntax.w8) (Syntax.tcons (Syntax.tyInt Syntax.w8) (Syntax.tcons (Syntax.tyInt
+      Syntax.w8) Syntax.tnil)))) (Syntax.tcons (Syntax.tyInt Syntax.w8) (Syntax.tcons (Syntax.tyStruct (102 ∷ 105 ∷ 101 ∷ 108 ∷ 100 ∷ 115 ∷ 58 ∷ 58 ∷ 82 ∷ 101 ∷
+      115 ∷ 105 ∷ 100 ∷ 117 ∷ 101 ∷ 78 ∷ 117 ∷ 109 ∷ 98 ∷ 101 ∷ 114 ∷ []) (Syntax.tcons (Syntax.tyInt Syntax.w32) Syntax.tnil)) (Syntax.tcons (Syntax.tyInt
+      Syntax.w8) Syntax.tnil))))) Syntax.tnil))))) (Syntax.tcons (Syntax.tyStruct (102 ∷ 105 ∷ 101 ∷ 108 ∷ 100 ∷ 115 ∷ 58 ∷ 58 ∷ 83 ∷ 101 ∷ 114 ∷ 105 ∷ 97 ∷ 108
+      ∷ []) (Syntax.tcons (Syntax.tyInt Syntax.w32) Syntax.tnil)) (Syntax.tcons (Syntax.tyInt Syntax.w32) (Syntax.tcons (Syntax.tyStruct (114 ∷ 117 ∷ 108 ∷ 101 ∷
+      115 ∷ 58 ∷ 58 ∷ 76 ∷ 97 ∷ 100 ∷ 100 ∷ 101 ∷ 114 ∷ []) (Syntax.tcons (Syntax.tyStruct (110 ∷ 97 ∷ 109 ∷ 101 ∷ 115 ∷ 58 ∷ 58 ∷ 84 ∷ 104 ∷ 114 ∷ 101 ∷ 101 ∷
+      []) (Syntax.tcons (Syntax.tyInt Syntax.w8) (Syntax.tcons (Syntax.tyInt Syntax.w8) (Syntax.tcons (Syntax.tyInt Syntax.w8) Syntax.tnil)))) (Syntax.tcons
+      (Syntax.tyInt Syntax.w32) (Syntax.tcons (Syntax.tyInt Syntax.w32) Syntax.tnil)))) (Syntax.tcons (Syntax.tyStruct (112 ∷ 108 ∷ 97 ∷ 99 ∷ 101 ∷ 115 ∷ 58 ∷ 58
+      ∷ 67 ∷ 111 ∷ 117 ∷ 110 ∷ 116 ∷ 115 ∷ []) (Syntax.tcons (Syntax.tyInt Syntax.w64) (Syntax.tcons (Syntax.tyInt Syntax.w64) (Syntax.tcons (Syntax.tyInt
       Syntax.w64) (Syntax.tcons (Syntax.tyInt Syntax.w64) (Syntax.tcons (Syntax.tyInt Syntax.w64) (Syntax.tcons (Syntax.tyInt Syntax.w64) (Syntax.tcons
-      (Syntax.tyInt Syntax.w64) (Syntax.tcons (Syntax.tyInt Syntax.w64) Syntax.tnil)))))))))) (Syntax.tcons (Syntax.tyInt Syntax.w64) Syntax.tnil)))))))))
-      (Syntax.tcons (Syntax.tyStruct (115 ∷ 101 ∷ 114 ∷ 105 ∷ 97 ∷ 108 ∷ 115 ∷ 58 ∷ 58 ∷ 80 ∷ 97 ∷ 115 ∷ 116 ∷ []) (Syntax.tcons (Syntax.tyStruct (115 ∷ 101 ∷ 97
-      ∷ 114 ∷ 99 ∷ 104 ∷ 58 ∷ 58 ∷ 83 ∷ 112 ∷ 97 ∷ 110 ∷ []) (Syntax.tcons (Syntax.tyInt Syntax.w64) (Syntax.tcons (Syntax.tyInt Syntax.w64) Syntax.tnil)))
-      (Syntax.tcons (Syntax.tyStruct (115 ∷ 101 ∷ 97 ∷ 114 ∷ 99 ∷ 104 ∷ 58 ∷ 58 ∷ 78 ∷ 101 ∷ 97 ∷ 114 ∷ []) (Syntax.tcons (Syntax.tyInt Syntax.w64) (Syntax.tcons
-      (Syntax.tyStruct (102 ∷ 105 ∷ 101 ∷ 108 ∷ 100 ∷ 115 ∷ 58 ∷ 58 ∷ 83 ∷ 101 ∷ 114 ∷ 105 ∷ 97 ∷ 108 ∷ []) (Syntax.tcons (Syntax.tyInt Syntax.w32) Syntax.tnil))
-      Syntax.tnil))) Syntax.tnil))) Syntax.tnil))) Syntax.tnil))),
-) ∷ (11, Rows'.whole (Declared'.row Course.the-type)) ∷ (12, Rows'.any-gone SlotAs.ty) ∷ (
-  13,
-  Rows'.any-gone Syntax.tyBool,
-) ∷ (
+      (Syntax.tyInt Syntax.w64) (Syntax.tcons (Syntax.tyInt Syntax.w64) (Syntax.tcons (Syntax.tyInt Syntax.w64) Syntax.tnil)))))))))) (Syntax.tcons (Syntax.tyInt
+      Syntax.w64) Syntax.tnil))))))))) (Syntax.tcons (Syntax.tyStruct (115 ∷ 101 ∷ 114 ∷ 105 ∷ 97 ∷ 108 ∷ 115 ∷ 58 ∷ 58 ∷ 80 ∷ 97 ∷ 115 ∷ 116 ∷ []) (Syntax.tcons
+      (Syntax.tyStruct (115 ∷ 101 ∷ 97 ∷ 114 ∷ 99 ∷ 104 ∷ 58 ∷ 58 ∷ 83 ∷ 112 ∷ 97 ∷ 110 ∷ []) (Syntax.tcons (Syntax.tyInt Syntax.w64) (Syntax.tcons (Syntax.tyInt
+      Syntax.w64) Syntax.tnil))) (Syntax.tcons (Syntax.tyStruct (115 ∷ 101 ∷ 97 ∷ 114 ∷ 99 ∷ 104 ∷ 58 ∷ 58 ∷ 78 ∷ 101 ∷ 97 ∷ 114 ∷ []) (Syntax.tcons
+      (Syntax.tyInt Syntax.w64) (Syntax.tcons (Syntax.tyStruct (102 ∷ 105 ∷ 101 ∷ 108 ∷ 100 ∷ 115 ∷ 58 ∷ 58 ∷ 83 ∷ 101 ∷ 114 ∷ 105 ∷ 97 ∷ 108 ∷ []) (Syntax.tcons
+      (Syntax.tyInt Syntax.w32) Syntax.tnil)) Syntax.tnil))) Syntax.tnil))) (Syntax.tcons (Syntax.tyStruct (116 ∷ 114 ∷ 97 ∷ 105 ∷ 108 ∷ 58 ∷ 58 ∷ 87 ∷ 97 ∷ 116
+      ∷ 99 ∷ 104 ∷ []) (Syntax.tcons (Syntax.tyInt Syntax.w64) (Syntax.tcons (Syntax.tyInt Syntax.w64) (Syntax.tcons (Syntax.tyInt Syntax.w64) (Syntax.tcons
+      (Syntax.tyInt Syntax.w64) (Syntax.tcons (Syntax.tyInt Syntax.w64) (Syntax.tcons (Syntax.tyInt Syntax.w64) (Syntax.tcons (Syntax.tyStruct (97 ∷ 104 ∷ 101 ∷
+      97 ∷ 100 ∷ 58 ∷ 58 ∷ 65 ∷ 104 ∷ 101 ∷ 97 ∷ 100 ∷ []) (Syntax.tcons (Syntax.tyInt Syntax.w64) (Syntax.tcons (Syntax.tyInt Syntax.w64) (Syntax.tcons
+      (Syntax.tyInt Syntax.w64) Syntax.tnil)))) Syntax.tnil)))))))) Syntax.tnil)))) Syntax.tnil))),
+) ∷ (11, Rows'.whole (Declared'.row Course.the-type)) ∷ (
+  12,
+  Rows'.any-gone SlotAs.ty,
+) ∷ (13, Rows'.any-gone Syntax.tyBool) ∷ (
   14,
-  Rows'.any-gone (Syntax.tyStruct (115 ∷ 101 ∷ 97 ∷ 114 ∷ 99 ∷ 104 ∷ 58 ∷ 58 ∷ 83 ∷ 111 ∷ 117 ∷ 103 ∷ 104 ∷ 116 ∷ [])
-      (Syntax.tcons (Syntax.tyStruct (115 ∷ 101 ∷ 97 ∷ 114 ∷ 99 ∷ 104 ∷ 58 ∷ 58 ∷ 78 ∷ 101 ∷ 97 ∷ 114 ∷ []) (Syntax.tcons (Syntax.tyInt Syntax.w64) (Syntax.tcons
-      (Syntax.tyStruct (102 ∷ 105 ∷ 101 ∷ 108 ∷ 100 ∷ 115 ∷ 58 ∷ 58 ∷ 83 ∷ 101 ∷ 114 ∷ 105 ∷ 97 ∷ 108 ∷ []) (Syntax.tcons (Syntax.tyInt Syntax.w32) Syntax.tnil))
-      Syntax.tnil))) (Syntax.tcons Syntax.tyBool Syntax.tnil))),
+  Rows'.any-gone (Syntax.tyStruct (115 ∷ 101 ∷ 97 ∷ 114 ∷ 99 ∷ 104 ∷ 58 ∷ 58 ∷ 83 ∷ 111
+      ∷ 117 ∷ 103 ∷ 104 ∷ 116 ∷ []) (Syntax.tcons (Syntax.tyStruct (115 ∷ 101 ∷ 97 ∷ 114 ∷ 99 ∷ 104 ∷ 58 ∷ 58 ∷ 78 ∷ 101 ∷ 97 ∷ 114 ∷ []) (Syntax.tcons
+      (Syntax.tyInt Syntax.w64) (Syntax.tcons (Syntax.tyStruct (102 ∷ 105 ∷ 101 ∷ 108 ∷ 100 ∷ 115 ∷ 58 ∷ 58 ∷ 83 ∷ 101 ∷ 114 ∷ 105 ∷ 97 ∷ 108 ∷ []) (Syntax.tcons
+      (Syntax.tyInt Syntax.w32) Syntax.tnil)) Syntax.tnil))) (Syntax.tcons Syntax.tyBool Syntax.tnil))),
 ) ∷ (
   15,
-  Rows'.any-gone (Syntax.tyStruct (115 ∷ 101 ∷ 97 ∷ 114 ∷ 99 ∷ 104 ∷ 58 ∷ 58 ∷ 78 ∷ 101 ∷
-      97 ∷ 114 ∷ []) (Syntax.tcons (Syntax.tyInt Syntax.w64) (Syntax.tcons (Syntax.tyStruct (102 ∷ 105 ∷ 101 ∷ 108 ∷ 100 ∷ 115 ∷ 58 ∷ 58 ∷ 83 ∷ 101 ∷ 114 ∷ 105 ∷
-      97 ∷ 108 ∷ []) (Syntax.tcons (Syntax.tyInt Syntax.w32) Syntax.tnil)) Syntax.tnil))),
+  Rows'.any-gone (Syntax.tyStruct (115 ∷ 101 ∷ 97 ∷
+      114 ∷ 99 ∷ 104 ∷ 58 ∷ 58 ∷ 78 ∷ 101 ∷ 97 ∷ 114 ∷ []) (Syntax.tcons (Syntax.tyInt Syntax.w64) (Syntax.tcons (Syntax.tyStruct (102 ∷ 105 ∷ 101 ∷ 108 ∷ 100 ∷
+      115 ∷ 58 ∷ 58 ∷ 83 ∷ 101 ∷ 114 ∷ 105 ∷ 97 ∷ 108 ∷ []) (Syntax.tcons (Syntax.tyInt Syntax.w32) Syntax.tnil)) Syntax.tnil))),
 ) ∷ []
 
 abbrev pub t30 : List.List Row.Entry
@@ -4590,20 +4789,26 @@ t30 = (
       (Syntax.tyStruct (115 ∷ 101 ∷ 97 ∷ 114 ∷ 99 ∷ 104 ∷ 58 ∷ 58 ∷ 83 ∷ 112 ∷ 97 ∷ 110 ∷ []) (Syntax.tcons (Syntax.tyInt Syntax.w64) (Syntax.tcons (Syntax.tyInt
       Syntax.w64) Syntax.tnil))) (Syntax.tcons (Syntax.tyStruct (115 ∷ 101 ∷ 97 ∷ 114 ∷ 99 ∷ 104 ∷ 58 ∷ 58 ∷ 78 ∷ 101 ∷ 97 ∷ 114 ∷ []) (Syntax.tcons
       (Syntax.tyInt Syntax.w64) (Syntax.tcons (Syntax.tyStruct (102 ∷ 105 ∷ 101 ∷ 108 ∷ 100 ∷ 115 ∷ 58 ∷ 58 ∷ 83 ∷ 101 ∷ 114 ∷ 105 ∷ 97 ∷ 108 ∷ []) (Syntax.tcons
-      (Syntax.tyInt Syntax.w32) Syntax.tnil)) Syntax.tnil))) Syntax.tnil))) Syntax.tnil))) Syntax.tnil))),
-) ∷ (11, Rows'.whole (Declared'.row Course.the-type)) ∷
-    (12, Rows'.any-gone SlotAs.ty) ∷ (13, Rows'.any-gone Syntax.tyBool) ∷ (
-      14,
-      Rows'.any-gone (Syntax.tyStruct (115 ∷ 101 ∷ 97 ∷ 114 ∷ 99 ∷ 104 ∷ 58 ∷ 58 ∷ 83
-          ∷ 111 ∷ 117 ∷ 103 ∷ 104 ∷ 116 ∷ []) (Syntax.tcons (Syntax.tyStruct (115 ∷ 101 ∷ 97 ∷ 114 ∷ 99 ∷ 104 ∷ 58 ∷ 58 ∷ 78 ∷ 101 ∷ 97 ∷ 114 ∷ []) (Syntax.tcons
-          (Syntax.tyInt Syntax.w64) (Syntax.tcons (Syntax.tyStruct (102 ∷ 105 ∷ 101 ∷ 108 ∷ 100 ∷ 115 ∷ 58 ∷ 58 ∷ 83 ∷ 101 ∷ 114 ∷ 105 ∷ 97 ∷ 108 ∷ []) (Syntax.tcons
-          (Syntax.tyInt Syntax.w32) Syntax.tnil)) Syntax.tnil))) (Syntax.tcons Syntax.tyBool Syntax.tnil))),
-    ) ∷ (
-      15,
-      Rows'.any-gone (Syntax.tyStruct (115 ∷ 101 ∷ 97 ∷
-          114 ∷ 99 ∷ 104 ∷ 58 ∷ 58 ∷ 78 ∷ 101 ∷ 97 ∷ 114 ∷ []) (Syntax.tcons (Syntax.tyInt Syntax.w64) (Syntax.tcons (Syntax.tyStruct (102 ∷ 105 ∷ 101 ∷ 108 ∷ 100 ∷
-          115 ∷ 58 ∷ 58 ∷ 83 ∷ 101 ∷ 114 ∷ 105 ∷ 97 ∷ 108 ∷ []) (Syntax.tcons (Syntax.tyInt Syntax.w32) Syntax.tnil)) Syntax.tnil))),
-    ) ∷ []
+      (Syntax.tyInt Syntax.w32) Syntax.tnil)) Syntax.tnil))) Syntax.tnil))) (Syntax.tcons (Syntax.tyStruct (116 ∷ 114 ∷ 97 ∷ 105 ∷ 108 ∷ 58 ∷ 58 ∷ 87 ∷ 97 ∷ 116
+      ∷ 99 ∷ 104 ∷ []) (Syntax.tcons (Syntax.tyInt Syntax.w64) (Syntax.tcons (Syntax.tyInt Syntax.w64) (Syntax.tcons (Syntax.tyInt Syntax.w64) (Syntax.tcons
+      (Syntax.tyInt Syntax.w64) (Syntax.tcons (Syntax.tyInt Syntax.w64) (Syntax.tcons (Syntax.tyInt Syntax.w64) (Syntax.tcons (Syntax.tyStruct (97 ∷ 104 ∷ 101 ∷
+      97 ∷ 100 ∷ 58 ∷ 58 ∷ 65 ∷ 104 ∷ 101 ∷ 97 ∷ 100 ∷ []) (Syntax.tcons (Syntax.tyInt Syntax.w64) (Syntax.tcons (Syntax.tyInt Syntax.w64) (Syntax.tcons
+      (Syntax.tyInt Syntax.w64) Syntax.tnil)))) Syntax.tnil)))))))) Syntax.tnil)))) Syntax.tnil))),
+) ∷ (11, Rows'.whole (Declared'.row Course.the-type)) ∷ (
+  12,
+  Rows'.any-gone SlotAs.ty,
+) ∷ (13, Rows'.any-gone Syntax.tyBool) ∷ (
+  14,
+  Rows'.any-gone (Syntax.tyStruct (115 ∷ 101 ∷ 97 ∷ 114 ∷ 99 ∷ 104 ∷ 58 ∷ 58 ∷ 83 ∷ 111
+      ∷ 117 ∷ 103 ∷ 104 ∷ 116 ∷ []) (Syntax.tcons (Syntax.tyStruct (115 ∷ 101 ∷ 97 ∷ 114 ∷ 99 ∷ 104 ∷ 58 ∷ 58 ∷ 78 ∷ 101 ∷ 97 ∷ 114 ∷ []) (Syntax.tcons
+      (Syntax.tyInt Syntax.w64) (Syntax.tcons (Syntax.tyStruct (102 ∷ 105 ∷ 101 ∷ 108 ∷ 100 ∷ 115 ∷ 58 ∷ 58 ∷ 83 ∷ 101 ∷ 114 ∷ 105 ∷ 97 ∷ 108 ∷ []) (Syntax.tcons
+      (Syntax.tyInt Syntax.w32) Syntax.tnil)) Syntax.tnil))) (Syntax.tcons Syntax.tyBool Syntax.tnil))),
+) ∷ (
+  15,
+  Rows'.any-gone (Syntax.tyStruct (115 ∷ 101 ∷ 97 ∷
+      114 ∷ 99 ∷ 104 ∷ 58 ∷ 58 ∷ 78 ∷ 101 ∷ 97 ∷ 114 ∷ []) (Syntax.tcons (Syntax.tyInt Syntax.w64) (Syntax.tcons (Syntax.tyStruct (102 ∷ 105 ∷ 101 ∷ 108 ∷ 100 ∷
+      115 ∷ 58 ∷ 58 ∷ 83 ∷ 101 ∷ 114 ∷ 105 ∷ 97 ∷ 108 ∷ []) (Syntax.tcons (Syntax.tyInt Syntax.w32) Syntax.tnil)) Syntax.tnil))),
+) ∷ []
 
 abbrev pub t31 : List.List Row.Entry
 t31 = (
@@ -4646,13 +4851,17 @@ t31 = (
       (Syntax.tyStruct (115 ∷ 101 ∷ 97 ∷ 114 ∷ 99 ∷ 104 ∷ 58 ∷ 58 ∷ 83 ∷ 112 ∷ 97 ∷ 110 ∷ []) (Syntax.tcons (Syntax.tyInt Syntax.w64) (Syntax.tcons (Syntax.tyInt
       Syntax.w64) Syntax.tnil))) (Syntax.tcons (Syntax.tyStruct (115 ∷ 101 ∷ 97 ∷ 114 ∷ 99 ∷ 104 ∷ 58 ∷ 58 ∷ 78 ∷ 101 ∷ 97 ∷ 114 ∷ []) (Syntax.tcons
       (Syntax.tyInt Syntax.w64) (Syntax.tcons (Syntax.tyStruct (102 ∷ 105 ∷ 101 ∷ 108 ∷ 100 ∷ 115 ∷ 58 ∷ 58 ∷ 83 ∷ 101 ∷ 114 ∷ 105 ∷ 97 ∷ 108 ∷ []) (Syntax.tcons
-      (Syntax.tyInt Syntax.w32) Syntax.tnil)) Syntax.tnil))) Syntax.tnil))) Syntax.tnil))) Syntax.tnil))),
+      (Syntax.tyInt Syntax.w32) Syntax.tnil)) Syntax.tnil))) Syntax.tnil))) (Syntax.tcons (Syntax.tyStruct (116 ∷ 114 ∷ 97 ∷ 105 ∷ 108 ∷ 58 ∷ 58 ∷ 87 ∷ 97 ∷ 116
+      ∷ 99 ∷ 104 ∷ []) (Syntax.tcons (Syntax.tyInt Syntax.w64) (Syntax.tcons (Syntax.tyInt Syntax.w64) (Syntax.tcons (Syntax.tyInt Syntax.w64) (Syntax.tcons
+      (Syntax.tyInt Syntax.w64) (Syntax.tcons (Syntax.tyInt Syntax.w64) (Syntax.tcons (Syntax.tyInt Syntax.w64) (Syntax.tcons (Syntax.tyStruct (97 ∷ 104 ∷ 101 ∷
+      97 ∷ 100 ∷ 58 ∷ 58 ∷ 65 ∷ 104 ∷ 101 ∷ 97 ∷ 100 ∷ []) (Syntax.tcons (Syntax.tyInt Syntax.w64) (Syntax.tcons (Syntax.tyInt Syntax.w64) (Syntax.tcons
+      (Syntax.tyInt Syntax.w64) Syntax.tnil)))) Syntax.tnil)))))))) Syntax.tnil)))) Syntax.tnil))),
 ) ∷ (
   11,
-  Rows'.any-gone (Syntax.tyStruct (103 ∷ 97 ∷ 116
-      ∷ 101 ∷ 58 ∷ 58 ∷ 67 ∷ 111 ∷ 117 ∷ 114 ∷ 115 ∷ 101 ∷ []) (Syntax.tcons (Syntax.tyStruct (114 ∷ 117 ∷ 108 ∷ 101 ∷ 115 ∷ 58 ∷ 58 ∷ 83 ∷ 116 ∷ 97 ∷ 116 ∷ 101
-      ∷ []) (Syntax.tcons (Syntax.tyInt Syntax.w8) (Syntax.tcons (Syntax.tyStruct (102 ∷ 105 ∷ 101 ∷ 108 ∷ 100 ∷ 115 ∷ 58 ∷ 58 ∷ 83 ∷ 101 ∷ 114 ∷ 105 ∷ 97 ∷ 108
-      ∷ []) (Syntax.tcons (Syntax.tyInt Syntax.w32) Syntax.tnil)) (Syntax.tcons (Syntax.tyStruct (114 ∷ 117 ∷ 108 ∷ 101 ∷ 115 ∷ 58 ∷ 58 ∷ 82 ∷ 117 ∷ 110 ∷ [])
+  Rows'.any-gone (Syntax.tyStruct (103 ∷ 97 ∷ 116 ∷ 101
+      ∷ 58 ∷ 58 ∷ 67 ∷ 111 ∷ 117 ∷ 114 ∷ 115 ∷ 101 ∷ []) (Syntax.tcons (Syntax.tyStruct (114 ∷ 117 ∷ 108 ∷ 101 ∷ 115 ∷ 58 ∷ 58 ∷ 83 ∷ 116 ∷ 97 ∷ 116 ∷ 101 ∷ [])
+      (Syntax.tcons (Syntax.tyInt Syntax.w8) (Syntax.tcons (Syntax.tyStruct (102 ∷ 105 ∷ 101 ∷ 108 ∷ 100 ∷ 115 ∷ 58 ∷ 58 ∷ 83 ∷ 101 ∷ 114 ∷ 105 ∷ 97 ∷ 108 ∷ [])
+      (Syntax.tcons (Syntax.tyInt Syntax.w32) Syntax.tnil)) (Syntax.tcons (Syntax.tyStruct (114 ∷ 117 ∷ 108 ∷ 101 ∷ 115 ∷ 58 ∷ 58 ∷ 82 ∷ 117 ∷ 110 ∷ [])
       (Syntax.tcons Syntax.tyBool (Syntax.tcons Syntax.tyBool (Syntax.tcons Syntax.tyBool (Syntax.tcons (Syntax.tyStruct (114 ∷ 101 ∷ 115 ∷ 105 ∷ 100 ∷ 117 ∷ 101
       ∷ 58 ∷ 58 ∷ 82 ∷ 101 ∷ 115 ∷ 105 ∷ 100 ∷ 117 ∷ 101 ∷ []) (Syntax.tcons (Syntax.tyStruct (110 ∷ 97 ∷ 109 ∷ 101 ∷ 115 ∷ 58 ∷ 58 ∷ 84 ∷ 104 ∷ 114 ∷ 101 ∷ 101
       ∷ []) (Syntax.tcons (Syntax.tyInt Syntax.w8) (Syntax.tcons (Syntax.tyInt Syntax.w8) (Syntax.tcons (Syntax.tyInt Syntax.w8) Syntax.tnil)))) (Syntax.tcons
@@ -4670,19 +4879,22 @@ t31 = (
       ∷ 114 ∷ 99 ∷ 104 ∷ 58 ∷ 58 ∷ 83 ∷ 112 ∷ 97 ∷ 110 ∷ []) (Syntax.tcons (Syntax.tyInt Syntax.w64) (Syntax.tcons (Syntax.tyInt Syntax.w64) Syntax.tnil)))
       (Syntax.tcons (Syntax.tyStruct (115 ∷ 101 ∷ 97 ∷ 114 ∷ 99 ∷ 104 ∷ 58 ∷ 58 ∷ 78 ∷ 101 ∷ 97 ∷ 114 ∷ []) (Syntax.tcons (Syntax.tyInt Syntax.w64) (Syntax.tcons
       (Syntax.tyStruct (102 ∷ 105 ∷ 101 ∷ 108 ∷ 100 ∷ 115 ∷ 58 ∷ 58 ∷ 83 ∷ 101 ∷ 114 ∷ 105 ∷ 97 ∷ 108 ∷ []) (Syntax.tcons (Syntax.tyInt Syntax.w32) Syntax.tnil))
-      Syntax.tnil))) Syntax.tnil))) Syntax.tnil))),
+      Syntax.tnil))) Syntax.tnil))) (Syntax.tcons (Syntax.tyStruct (116 ∷ 114 ∷ 97 ∷ 105 ∷ 108 ∷ 58 ∷ 58 ∷ 87 ∷ 97 ∷ 116 ∷ 99 ∷ 104 ∷ []) (Syntax.tcons
+      (Syntax.tyInt Syntax.w64) (Syntax.tcons (Syntax.tyInt Syntax.w64) (Syntax.tcons (Syntax.tyInt Syntax.w64) (Syntax.tcons (Syntax.tyInt Syntax.w64)
+      (Syntax.tcons (Syntax.tyInt Syntax.w64) (Syntax.tcons (Syntax.tyInt Syntax.w64) (Syntax.tcons (Syntax.tyStruct (97 ∷ 104 ∷ 101 ∷ 97 ∷ 100 ∷ 58 ∷ 58 ∷ 65 ∷
+      104 ∷ 101 ∷ 97 ∷ 100 ∷ []) (Syntax.tcons (Syntax.tyInt Syntax.w64) (Syntax.tcons (Syntax.tyInt Syntax.w64) (Syntax.tcons (Syntax.tyInt Syntax.w64)
+      Syntax.tnil)))) Syntax.tnil)))))))) Syntax.tnil)))),
 ) ∷ (12, SlotAs.whole) ∷ (13, Rows'.any-gone Syntax.tyBool) ∷ (
   14,
-  Rows'.any-gone (Syntax.tyStruct (115 ∷ 101 ∷
-      97 ∷ 114 ∷ 99 ∷ 104 ∷ 58 ∷ 58 ∷ 83 ∷ 111 ∷ 117 ∷ 103 ∷ 104 ∷ 116 ∷ []) (Syntax.tcons (Syntax.tyStruct (115 ∷ 101 ∷ 97 ∷ 114 ∷ 99 ∷ 104 ∷ 58 ∷ 58 ∷ 78 ∷ 101
-      ∷ 97 ∷ 114 ∷ []) (Syntax.tcons (Syntax.tyInt Syntax.w64) (Syntax.tcons (Syntax.tyStruct (102 ∷ 105 ∷ 101 ∷ 108 ∷ 100 ∷ 115 ∷ 58 ∷ 58 ∷ 83 ∷ 101 ∷ 114 ∷ 105
-      ∷ 97 ∷ 108 ∷ []) (Syntax.tcons (Syntax.tyInt Syntax.w32) Syntax.tnil)) Syntax.tnil))) (Syntax.tcons Syntax.tyBool Syntax.tnil))),
+  Rows'.any-gone (Syntax.tyStruct (115
+      ∷ 101 ∷ 97 ∷ 114 ∷ 99 ∷ 104 ∷ 58 ∷ 58 ∷ 83 ∷ 111 ∷ 117 ∷ 103 ∷ 104 ∷ 116 ∷ []) (Syntax.tcons (Syntax.tyStruct (115 ∷ 101 ∷ 97 ∷ 114 ∷ 99 ∷ 104 ∷ 58 ∷ 58 ∷
+      78 ∷ 101 ∷ 97 ∷ 114 ∷ []) (Syntax.tcons (Syntax.tyInt Syntax.w64) (Syntax.tcons (Syntax.tyStruct (102 ∷ 105 ∷ 101 ∷ 108 ∷ 100 ∷ 115 ∷ 58 ∷ 58 ∷ 83 ∷ 101 ∷
+      114 ∷ 105 ∷ 97 ∷ 108 ∷ []) (Syntax.tcons (Syntax.tyInt Syntax.w32) Syntax.tnil)) Syntax.tnil))) (Syntax.tcons Syntax.tyBool Syntax.tnil))),
 ) ∷ (
   15,
-  Rows'.any-gone
-      (Syntax.tyStruct (115 ∷ 101 ∷ 97 ∷ 114 ∷ 99 ∷ 104 ∷ 58 ∷ 58 ∷ 78 ∷ 101 ∷ 97 ∷ 114 ∷ []) (Syntax.tcons (Syntax.tyInt Syntax.w64) (Syntax.tcons
-      (Syntax.tyStruct (102 ∷ 105 ∷ 101 ∷ 108 ∷ 100 ∷ 115 ∷ 58 ∷ 58 ∷ 83 ∷ 101 ∷ 114 ∷ 105 ∷ 97 ∷ 108 ∷ []) (Syntax.tcons (Syntax.tyInt Syntax.w32) Syntax.tnil))
-      Syntax.tnil))),
+  Rows'.any-gone (Syntax.tyStruct (115 ∷ 101 ∷ 97 ∷ 114 ∷ 99 ∷ 104 ∷ 58 ∷ 58 ∷ 78 ∷ 101 ∷ 97 ∷ 114 ∷ []) (Syntax.tcons (Syntax.tyInt Syntax.w64)
+      (Syntax.tcons (Syntax.tyStruct (102 ∷ 105 ∷ 101 ∷ 108 ∷ 100 ∷ 115 ∷ 58 ∷ 58 ∷ 83 ∷ 101 ∷ 114 ∷ 105 ∷ 97 ∷ 108 ∷ []) (Syntax.tcons (Syntax.tyInt Syntax.w32)
+      Syntax.tnil)) Syntax.tnil))),
 ) ∷ []
 
 abbrev pub t32 : List.List Row.Entry
@@ -4726,13 +4938,17 @@ t32 = (
       (Syntax.tyStruct (115 ∷ 101 ∷ 97 ∷ 114 ∷ 99 ∷ 104 ∷ 58 ∷ 58 ∷ 83 ∷ 112 ∷ 97 ∷ 110 ∷ []) (Syntax.tcons (Syntax.tyInt Syntax.w64) (Syntax.tcons (Syntax.tyInt
       Syntax.w64) Syntax.tnil))) (Syntax.tcons (Syntax.tyStruct (115 ∷ 101 ∷ 97 ∷ 114 ∷ 99 ∷ 104 ∷ 58 ∷ 58 ∷ 78 ∷ 101 ∷ 97 ∷ 114 ∷ []) (Syntax.tcons
       (Syntax.tyInt Syntax.w64) (Syntax.tcons (Syntax.tyStruct (102 ∷ 105 ∷ 101 ∷ 108 ∷ 100 ∷ 115 ∷ 58 ∷ 58 ∷ 83 ∷ 101 ∷ 114 ∷ 105 ∷ 97 ∷ 108 ∷ []) (Syntax.tcons
-      (Syntax.tyInt Syntax.w32) Syntax.tnil)) Syntax.tnil))) Syntax.tnil))) Syntax.tnil))) Syntax.tnil))),
+      (Syntax.tyInt Syntax.w32) Syntax.tnil)) Syntax.tnil))) Syntax.tnil))) (Syntax.tcons (Syntax.tyStruct (116 ∷ 114 ∷ 97 ∷ 105 ∷ 108 ∷ 58 ∷ 58 ∷ 87 ∷ 97 ∷ 116
+      ∷ 99 ∷ 104 ∷ []) (Syntax.tcons (Syntax.tyInt Syntax.w64) (Syntax.tcons (Syntax.tyInt Syntax.w64) (Syntax.tcons (Syntax.tyInt Syntax.w64) (Syntax.tcons
+      (Syntax.tyInt Syntax.w64) (Syntax.tcons (Syntax.tyInt Syntax.w64) (Syntax.tcons (Syntax.tyInt Syntax.w64) (Syntax.tcons (Syntax.tyStruct (97 ∷ 104 ∷ 101 ∷
+      97 ∷ 100 ∷ 58 ∷ 58 ∷ 65 ∷ 104 ∷ 101 ∷ 97 ∷ 100 ∷ []) (Syntax.tcons (Syntax.tyInt Syntax.w64) (Syntax.tcons (Syntax.tyInt Syntax.w64) (Syntax.tcons
+      (Syntax.tyInt Syntax.w64) Syntax.tnil)))) Syntax.tnil)))))))) Syntax.tnil)))) Syntax.tnil))),
 ) ∷ (
   11,
-  Rows'.any-gone (Syntax.tyStruct (103 ∷ 97 ∷ 116
-      ∷ 101 ∷ 58 ∷ 58 ∷ 67 ∷ 111 ∷ 117 ∷ 114 ∷ 115 ∷ 101 ∷ []) (Syntax.tcons (Syntax.tyStruct (114 ∷ 117 ∷ 108 ∷ 101 ∷ 115 ∷ 58 ∷ 58 ∷ 83 ∷ 116 ∷ 97 ∷ 116 ∷ 101
-      ∷ []) (Syntax.tcons (Syntax.tyInt Syntax.w8) (Syntax.tcons (Syntax.tyStruct (102 ∷ 105 ∷ 101 ∷ 108 ∷ 100 ∷ 115 ∷ 58 ∷ 58 ∷ 83 ∷ 101 ∷ 114 ∷ 105 ∷ 97 ∷ 108
-      ∷ []) (Syntax.tcons (Syntax.tyInt Syntax.w32) Syntax.tnil)) (Syntax.tcons (Syntax.tyStruct (114 ∷ 117 ∷ 108 ∷ 101 ∷ 115 ∷ 58 ∷ 58 ∷ 82 ∷ 117 ∷ 110 ∷ [])
+  Rows'.any-gone (Syntax.tyStruct (103 ∷ 97 ∷ 116 ∷ 101
+      ∷ 58 ∷ 58 ∷ 67 ∷ 111 ∷ 117 ∷ 114 ∷ 115 ∷ 101 ∷ []) (Syntax.tcons (Syntax.tyStruct (114 ∷ 117 ∷ 108 ∷ 101 ∷ 115 ∷ 58 ∷ 58 ∷ 83 ∷ 116 ∷ 97 ∷ 116 ∷ 101 ∷ [])
+      (Syntax.tcons (Syntax.tyInt Syntax.w8) (Syntax.tcons (Syntax.tyStruct (102 ∷ 105 ∷ 101 ∷ 108 ∷ 100 ∷ 115 ∷ 58 ∷ 58 ∷ 83 ∷ 101 ∷ 114 ∷ 105 ∷ 97 ∷ 108 ∷ [])
+      (Syntax.tcons (Syntax.tyInt Syntax.w32) Syntax.tnil)) (Syntax.tcons (Syntax.tyStruct (114 ∷ 117 ∷ 108 ∷ 101 ∷ 115 ∷ 58 ∷ 58 ∷ 82 ∷ 117 ∷ 110 ∷ [])
       (Syntax.tcons Syntax.tyBool (Syntax.tcons Syntax.tyBool (Syntax.tcons Syntax.tyBool (Syntax.tcons (Syntax.tyStruct (114 ∷ 101 ∷ 115 ∷ 105 ∷ 100 ∷ 117 ∷ 101
       ∷ 58 ∷ 58 ∷ 82 ∷ 101 ∷ 115 ∷ 105 ∷ 100 ∷ 117 ∷ 101 ∷ []) (Syntax.tcons (Syntax.tyStruct (110 ∷ 97 ∷ 109 ∷ 101 ∷ 115 ∷ 58 ∷ 58 ∷ 84 ∷ 104 ∷ 114 ∷ 101 ∷ 101
       ∷ []) (Syntax.tcons (Syntax.tyInt Syntax.w8) (Syntax.tcons (Syntax.tyInt Syntax.w8) (Syntax.tcons (Syntax.tyInt Syntax.w8) Syntax.tnil)))) (Syntax.tcons
@@ -4750,13 +4966,17 @@ t32 = (
       ∷ 114 ∷ 99 ∷ 104 ∷ 58 ∷ 58 ∷ 83 ∷ 112 ∷ 97 ∷ 110 ∷ []) (Syntax.tcons (Syntax.tyInt Syntax.w64) (Syntax.tcons (Syntax.tyInt Syntax.w64) Syntax.tnil)))
       (Syntax.tcons (Syntax.tyStruct (115 ∷ 101 ∷ 97 ∷ 114 ∷ 99 ∷ 104 ∷ 58 ∷ 58 ∷ 78 ∷ 101 ∷ 97 ∷ 114 ∷ []) (Syntax.tcons (Syntax.tyInt Syntax.w64) (Syntax.tcons
       (Syntax.tyStruct (102 ∷ 105 ∷ 101 ∷ 108 ∷ 100 ∷ 115 ∷ 58 ∷ 58 ∷ 83 ∷ 101 ∷ 114 ∷ 105 ∷ 97 ∷ 108 ∷ []) (Syntax.tcons (Syntax.tyInt Syntax.w32) Syntax.tnil))
-      Syntax.tnil))) Syntax.tnil))) Syntax.tnil))),
+      Syntax.tnil))) Syntax.tnil))) (Syntax.tcons (Syntax.tyStruct (116 ∷ 114 ∷ 97 ∷ 105 ∷ 108 ∷ 58 ∷ 58 ∷ 87 ∷ 97 ∷ 116 ∷ 99 ∷ 104 ∷ []) (Syntax.tcons
+      (Syntax.tyInt Syntax.w64) (Syntax.tcons (Syntax.tyInt Syntax.w64) (Syntax.tcons (Syntax.tyInt Syntax.w64) (Syntax.tcons (Syntax.tyInt Syntax.w64)
+      (Syntax.tcons (Syntax.tyInt Syntax.w64) (Syntax.tcons (Syntax.tyInt Syntax.w64) (Syntax.tcons (Syntax.tyStruct (97 ∷ 104 ∷ 101 ∷ 97 ∷ 100 ∷ 58 ∷ 58 ∷ 65 ∷
+      104 ∷ 101 ∷ 97 ∷ 100 ∷ []) (Syntax.tcons (Syntax.tyInt Syntax.w64) (Syntax.tcons (Syntax.tyInt Syntax.w64) (Syntax.tcons (Syntax.tyInt Syntax.w64)
+      Syntax.tnil)))) Syntax.tnil)))))))) Syntax.tnil)))),
 ) ∷ (12, SlotAs.whole) ∷ (13, Rows'.sc-here Row.sBool) ∷ (
   14,
-  Rows'.any-gone (Syntax.tyStruct (115 ∷ 101 ∷ 97 ∷
-      114 ∷ 99 ∷ 104 ∷ 58 ∷ 58 ∷ 83 ∷ 111 ∷ 117 ∷ 103 ∷ 104 ∷ 116 ∷ []) (Syntax.tcons (Syntax.tyStruct (115 ∷ 101 ∷ 97 ∷ 114 ∷ 99 ∷ 104 ∷ 58 ∷ 58 ∷ 78 ∷ 101 ∷ 97
-      ∷ 114 ∷ []) (Syntax.tcons (Syntax.tyInt Syntax.w64) (Syntax.tcons (Syntax.tyStruct (102 ∷ 105 ∷ 101 ∷ 108 ∷ 100 ∷ 115 ∷ 58 ∷ 58 ∷ 83 ∷ 101 ∷ 114 ∷ 105 ∷ 97
-      ∷ 108 ∷ []) (Syntax.tcons (Syntax.tyInt Syntax.w32) Syntax.tnil)) Syntax.tnil))) (Syntax.tcons Syntax.tyBool Syntax.tnil))),
+  Rows'.any-gone (Syntax.tyStruct (115 ∷ 101
+      ∷ 97 ∷ 114 ∷ 99 ∷ 104 ∷ 58 ∷ 58 ∷ 83 ∷ 111 ∷ 117 ∷ 103 ∷ 104 ∷ 116 ∷ []) (Syntax.tcons (Syntax.tyStruct (115 ∷ 101 ∷ 97 ∷ 114 ∷ 99 ∷ 104 ∷ 58 ∷ 58 ∷ 78 ∷
+      101 ∷ 97 ∷ 114 ∷ []) (Syntax.tcons (Syntax.tyInt Syntax.w64) (Syntax.tcons (Syntax.tyStruct (102 ∷ 105 ∷ 101 ∷ 108 ∷ 100 ∷ 115 ∷ 58 ∷ 58 ∷ 83 ∷ 101 ∷ 114 ∷
+      105 ∷ 97 ∷ 108 ∷ []) (Syntax.tcons (Syntax.tyInt Syntax.w32) Syntax.tnil)) Syntax.tnil))) (Syntax.tcons Syntax.tyBool Syntax.tnil))),
 ) ∷ (
   15,
   Rows'.any-gone
@@ -4806,13 +5026,17 @@ t33 = (
       (Syntax.tyStruct (115 ∷ 101 ∷ 97 ∷ 114 ∷ 99 ∷ 104 ∷ 58 ∷ 58 ∷ 83 ∷ 112 ∷ 97 ∷ 110 ∷ []) (Syntax.tcons (Syntax.tyInt Syntax.w64) (Syntax.tcons (Syntax.tyInt
       Syntax.w64) Syntax.tnil))) (Syntax.tcons (Syntax.tyStruct (115 ∷ 101 ∷ 97 ∷ 114 ∷ 99 ∷ 104 ∷ 58 ∷ 58 ∷ 78 ∷ 101 ∷ 97 ∷ 114 ∷ []) (Syntax.tcons
       (Syntax.tyInt Syntax.w64) (Syntax.tcons (Syntax.tyStruct (102 ∷ 105 ∷ 101 ∷ 108 ∷ 100 ∷ 115 ∷ 58 ∷ 58 ∷ 83 ∷ 101 ∷ 114 ∷ 105 ∷ 97 ∷ 108 ∷ []) (Syntax.tcons
-      (Syntax.tyInt Syntax.w32) Syntax.tnil)) Syntax.tnil))) Syntax.tnil))) Syntax.tnil))) Syntax.tnil))),
+      (Syntax.tyInt Syntax.w32) Syntax.tnil)) Syntax.tnil))) Syntax.tnil))) (Syntax.tcons (Syntax.tyStruct (116 ∷ 114 ∷ 97 ∷ 105 ∷ 108 ∷ 58 ∷ 58 ∷ 87 ∷ 97 ∷ 116
+      ∷ 99 ∷ 104 ∷ []) (Syntax.tcons (Syntax.tyInt Syntax.w64) (Syntax.tcons (Syntax.tyInt Syntax.w64) (Syntax.tcons (Syntax.tyInt Syntax.w64) (Syntax.tcons
+      (Syntax.tyInt Syntax.w64) (Syntax.tcons (Syntax.tyInt Syntax.w64) (Syntax.tcons (Syntax.tyInt Syntax.w64) (Syntax.tcons (Syntax.tyStruct (97 ∷ 104 ∷ 101 ∷
+      97 ∷ 100 ∷ 58 ∷ 58 ∷ 65 ∷ 104 ∷ 101 ∷ 97 ∷ 100 ∷ []) (Syntax.tcons (Syntax.tyInt Syntax.w64) (Syntax.tcons (Syntax.tyInt Syntax.w64) (Syntax.tcons
+      (Syntax.tyInt Syntax.w64) Syntax.tnil)))) Syntax.tnil)))))))) Syntax.tnil)))) Syntax.tnil))),
 ) ∷ (
   11,
-  Rows'.any-gone (Syntax.tyStruct (103 ∷ 97 ∷ 116
-      ∷ 101 ∷ 58 ∷ 58 ∷ 67 ∷ 111 ∷ 117 ∷ 114 ∷ 115 ∷ 101 ∷ []) (Syntax.tcons (Syntax.tyStruct (114 ∷ 117 ∷ 108 ∷ 101 ∷ 115 ∷ 58 ∷ 58 ∷ 83 ∷ 116 ∷ 97 ∷ 116 ∷ 101
-      ∷ []) (Syntax.tcons (Syntax.tyInt Syntax.w8) (Syntax.tcons (Syntax.tyStruct (102 ∷ 105 ∷ 101 ∷ 108 ∷ 100 ∷ 115 ∷ 58 ∷ 58 ∷ 83 ∷ 101 ∷ 114 ∷ 105 ∷ 97 ∷ 108
-      ∷ []) (Syntax.tcons (Syntax.tyInt Syntax.w32) Syntax.tnil)) (Syntax.tcons (Syntax.tyStruct (114 ∷ 117 ∷ 108 ∷ 101 ∷ 115 ∷ 58 ∷ 58 ∷ 82 ∷ 117 ∷ 110 ∷ [])
+  Rows'.any-gone (Syntax.tyStruct (103 ∷ 97 ∷ 116 ∷ 101
+      ∷ 58 ∷ 58 ∷ 67 ∷ 111 ∷ 117 ∷ 114 ∷ 115 ∷ 101 ∷ []) (Syntax.tcons (Syntax.tyStruct (114 ∷ 117 ∷ 108 ∷ 101 ∷ 115 ∷ 58 ∷ 58 ∷ 83 ∷ 116 ∷ 97 ∷ 116 ∷ 101 ∷ [])
+      (Syntax.tcons (Syntax.tyInt Syntax.w8) (Syntax.tcons (Syntax.tyStruct (102 ∷ 105 ∷ 101 ∷ 108 ∷ 100 ∷ 115 ∷ 58 ∷ 58 ∷ 83 ∷ 101 ∷ 114 ∷ 105 ∷ 97 ∷ 108 ∷ [])
+      (Syntax.tcons (Syntax.tyInt Syntax.w32) Syntax.tnil)) (Syntax.tcons (Syntax.tyStruct (114 ∷ 117 ∷ 108 ∷ 101 ∷ 115 ∷ 58 ∷ 58 ∷ 82 ∷ 117 ∷ 110 ∷ [])
       (Syntax.tcons Syntax.tyBool (Syntax.tcons Syntax.tyBool (Syntax.tcons Syntax.tyBool (Syntax.tcons (Syntax.tyStruct (114 ∷ 101 ∷ 115 ∷ 105 ∷ 100 ∷ 117 ∷ 101
       ∷ 58 ∷ 58 ∷ 82 ∷ 101 ∷ 115 ∷ 105 ∷ 100 ∷ 117 ∷ 101 ∷ []) (Syntax.tcons (Syntax.tyStruct (110 ∷ 97 ∷ 109 ∷ 101 ∷ 115 ∷ 58 ∷ 58 ∷ 84 ∷ 104 ∷ 114 ∷ 101 ∷ 101
       ∷ []) (Syntax.tcons (Syntax.tyInt Syntax.w8) (Syntax.tcons (Syntax.tyInt Syntax.w8) (Syntax.tcons (Syntax.tyInt Syntax.w8) Syntax.tnil)))) (Syntax.tcons
@@ -4830,12 +5054,20 @@ t33 = (
       ∷ 114 ∷ 99 ∷ 104 ∷ 58 ∷ 58 ∷ 83 ∷ 112 ∷ 97 ∷ 110 ∷ []) (Syntax.tcons (Syntax.tyInt Syntax.w64) (Syntax.tcons (Syntax.tyInt Syntax.w64) Syntax.tnil)))
       (Syntax.tcons (Syntax.tyStruct (115 ∷ 101 ∷ 97 ∷ 114 ∷ 99 ∷ 104 ∷ 58 ∷ 58 ∷ 78 ∷ 101 ∷ 97 ∷ 114 ∷ []) (Syntax.tcons (Syntax.tyInt Syntax.w64) (Syntax.tcons
       (Syntax.tyStruct (102 ∷ 105 ∷ 101 ∷ 108 ∷ 100 ∷ 115 ∷ 58 ∷ 58 ∷ 83 ∷ 101 ∷ 114 ∷ 105 ∷ 97 ∷ 108 ∷ []) (Syntax.tcons (Syntax.tyInt Syntax.w32) Syntax.tnil))
-      Syntax.tnil))) Syntax.tnil))) Syntax.tnil))),
-) ∷ (12, SlotAs.whole) ∷ (13, Rows'.sc-here Row.sBool) ∷ (14, Rows'.whole (Declared'.row Sought.the-type)) ∷ (
+      Syntax.tnil))) Syntax.tnil))) (Syntax.tcons (Syntax.tyStruct (116 ∷ 114 ∷ 97 ∷ 105 ∷ 108 ∷ 58 ∷ 58 ∷ 87 ∷ 97 ∷ 116 ∷ 99 ∷ 104 ∷ []) (Syntax.tcons
+      (Syntax.tyInt Syntax.w64) (Syntax.tcons (Syntax.tyInt Syntax.w64) (Syntax.tcons (Syntax.tyInt Syntax.w64) (Syntax.tcons (Syntax.tyInt Syntax.w64)
+      (Syntax.tcons (Syntax.tyInt Syntax.w64) (Syntax.tcons (Syntax.tyInt Syntax.w64) (Syntax.tcons (Syntax.tyStruct (97 ∷ 104 ∷ 101 ∷ 97 ∷ 100 ∷ 58 ∷ 58 ∷ 65 ∷
+      104 ∷ 101 ∷ 97 ∷ 100 ∷ []) (Syntax.tcons (Syntax.tyInt Syntax.w64) (Syntax.tcons (Syntax.tyInt Syntax.w64) (Syntax.tcons (Syntax.tyInt Syntax.w64)
+      Syntax.tnil)))) Syntax.tnil)))))))) Syntax.tnil)))),
+) ∷ (12, SlotAs.whole) ∷ (13, Rows'.sc-here Row.sBool) ∷ (
+  14,
+  Rows'.whole (Declared'.row
+      Sought.the-type),
+) ∷ (
   15,
-  Rows'.any-gone (Syntax.tyStruct (115 ∷ 101 ∷ 97 ∷ 114 ∷ 99 ∷ 104 ∷ 58 ∷ 58 ∷ 78 ∷ 101 ∷ 97 ∷ 114 ∷ []) (Syntax.tcons (Syntax.tyInt Syntax.w64)
-      (Syntax.tcons (Syntax.tyStruct (102 ∷ 105 ∷ 101 ∷ 108 ∷ 100 ∷ 115 ∷ 58 ∷ 58 ∷ 83 ∷ 101 ∷ 114 ∷ 105 ∷ 97 ∷ 108 ∷ []) (Syntax.tcons (Syntax.tyInt Syntax.w32)
-      Syntax.tnil)) Syntax.tnil))),
+  Rows'.any-gone (Syntax.tyStruct (115 ∷ 101 ∷ 97 ∷ 114 ∷ 99 ∷ 104 ∷ 58 ∷ 58 ∷ 78 ∷ 101 ∷ 97 ∷ 114 ∷ []) (Syntax.tcons (Syntax.tyInt
+      Syntax.w64) (Syntax.tcons (Syntax.tyStruct (102 ∷ 105 ∷ 101 ∷ 108 ∷ 100 ∷ 115 ∷ 58 ∷ 58 ∷ 83 ∷ 101 ∷ 114 ∷ 105 ∷ 97 ∷ 108 ∷ []) (Syntax.tcons (Syntax.tyInt
+      Syntax.w32) Syntax.tnil)) Syntax.tnil))),
 ) ∷ []
 
 abbrev pub t34 : List.List Row.Entry
@@ -4884,13 +5116,17 @@ t34 = (
       (Syntax.tyStruct (115 ∷ 101 ∷ 97 ∷ 114 ∷ 99 ∷ 104 ∷ 58 ∷ 58 ∷ 83 ∷ 112 ∷ 97 ∷ 110 ∷ []) (Syntax.tcons (Syntax.tyInt Syntax.w64) (Syntax.tcons (Syntax.tyInt
       Syntax.w64) Syntax.tnil))) (Syntax.tcons (Syntax.tyStruct (115 ∷ 101 ∷ 97 ∷ 114 ∷ 99 ∷ 104 ∷ 58 ∷ 58 ∷ 78 ∷ 101 ∷ 97 ∷ 114 ∷ []) (Syntax.tcons
       (Syntax.tyInt Syntax.w64) (Syntax.tcons (Syntax.tyStruct (102 ∷ 105 ∷ 101 ∷ 108 ∷ 100 ∷ 115 ∷ 58 ∷ 58 ∷ 83 ∷ 101 ∷ 114 ∷ 105 ∷ 97 ∷ 108 ∷ []) (Syntax.tcons
-      (Syntax.tyInt Syntax.w32) Syntax.tnil)) Syntax.tnil))) Syntax.tnil))) Syntax.tnil))) Syntax.tnil))),
+      (Syntax.tyInt Syntax.w32) Syntax.tnil)) Syntax.tnil))) Syntax.tnil))) (Syntax.tcons (Syntax.tyStruct (116 ∷ 114 ∷ 97 ∷ 105 ∷ 108 ∷ 58 ∷ 58 ∷ 87 ∷ 97 ∷ 116
+      ∷ 99 ∷ 104 ∷ []) (Syntax.tcons (Syntax.tyInt Syntax.w64) (Syntax.tcons (Syntax.tyInt Syntax.w64) (Syntax.tcons (Syntax.tyInt Syntax.w64) (Syntax.tcons
+      (Syntax.tyInt Syntax.w64) (Syntax.tcons (Syntax.tyInt Syntax.w64) (Syntax.tcons (Syntax.tyInt Syntax.w64) (Syntax.tcons (Syntax.tyStruct (97 ∷ 104 ∷ 101 ∷
+      97 ∷ 100 ∷ 58 ∷ 58 ∷ 65 ∷ 104 ∷ 101 ∷ 97 ∷ 100 ∷ []) (Syntax.tcons (Syntax.tyInt Syntax.w64) (Syntax.tcons (Syntax.tyInt Syntax.w64) (Syntax.tcons
+      (Syntax.tyInt Syntax.w64) Syntax.tnil)))) Syntax.tnil)))))))) Syntax.tnil)))) Syntax.tnil))),
 ) ∷ (
   11,
-  Rows'.any-gone (Syntax.tyStruct (103 ∷ 97 ∷ 116
-      ∷ 101 ∷ 58 ∷ 58 ∷ 67 ∷ 111 ∷ 117 ∷ 114 ∷ 115 ∷ 101 ∷ []) (Syntax.tcons (Syntax.tyStruct (114 ∷ 117 ∷ 108 ∷ 101 ∷ 115 ∷ 58 ∷ 58 ∷ 83 ∷ 116 ∷ 97 ∷ 116 ∷ 101
-      ∷ []) (Syntax.tcons (Syntax.tyInt Syntax.w8) (Syntax.tcons (Syntax.tyStruct (102 ∷ 105 ∷ 101 ∷ 108 ∷ 100 ∷ 115 ∷ 58 ∷ 58 ∷ 83 ∷ 101 ∷ 114 ∷ 105 ∷ 97 ∷ 108
-      ∷ []) (Syntax.tcons (Syntax.tyInt Syntax.w32) Syntax.tnil)) (Syntax.tcons (Syntax.tyStruct (114 ∷ 117 ∷ 108 ∷ 101 ∷ 115 ∷ 58 ∷ 58 ∷ 82 ∷ 117 ∷ 110 ∷ [])
+  Rows'.any-gone (Syntax.tyStruct (103 ∷ 97 ∷ 116 ∷ 101
+      ∷ 58 ∷ 58 ∷ 67 ∷ 111 ∷ 117 ∷ 114 ∷ 115 ∷ 101 ∷ []) (Syntax.tcons (Syntax.tyStruct (114 ∷ 117 ∷ 108 ∷ 101 ∷ 115 ∷ 58 ∷ 58 ∷ 83 ∷ 116 ∷ 97 ∷ 116 ∷ 101 ∷ [])
+      (Syntax.tcons (Syntax.tyInt Syntax.w8) (Syntax.tcons (Syntax.tyStruct (102 ∷ 105 ∷ 101 ∷ 108 ∷ 100 ∷ 115 ∷ 58 ∷ 58 ∷ 83 ∷ 101 ∷ 114 ∷ 105 ∷ 97 ∷ 108 ∷ [])
+      (Syntax.tcons (Syntax.tyInt Syntax.w32) Syntax.tnil)) (Syntax.tcons (Syntax.tyStruct (114 ∷ 117 ∷ 108 ∷ 101 ∷ 115 ∷ 58 ∷ 58 ∷ 82 ∷ 117 ∷ 110 ∷ [])
       (Syntax.tcons Syntax.tyBool (Syntax.tcons Syntax.tyBool (Syntax.tcons Syntax.tyBool (Syntax.tcons (Syntax.tyStruct (114 ∷ 101 ∷ 115 ∷ 105 ∷ 100 ∷ 117 ∷ 101
       ∷ 58 ∷ 58 ∷ 82 ∷ 101 ∷ 115 ∷ 105 ∷ 100 ∷ 117 ∷ 101 ∷ []) (Syntax.tcons (Syntax.tyStruct (110 ∷ 97 ∷ 109 ∷ 101 ∷ 115 ∷ 58 ∷ 58 ∷ 84 ∷ 104 ∷ 114 ∷ 101 ∷ 101
       ∷ []) (Syntax.tcons (Syntax.tyInt Syntax.w8) (Syntax.tcons (Syntax.tyInt Syntax.w8) (Syntax.tcons (Syntax.tyInt Syntax.w8) Syntax.tnil)))) (Syntax.tcons
@@ -4908,12 +5144,20 @@ t34 = (
       ∷ 114 ∷ 99 ∷ 104 ∷ 58 ∷ 58 ∷ 83 ∷ 112 ∷ 97 ∷ 110 ∷ []) (Syntax.tcons (Syntax.tyInt Syntax.w64) (Syntax.tcons (Syntax.tyInt Syntax.w64) Syntax.tnil)))
       (Syntax.tcons (Syntax.tyStruct (115 ∷ 101 ∷ 97 ∷ 114 ∷ 99 ∷ 104 ∷ 58 ∷ 58 ∷ 78 ∷ 101 ∷ 97 ∷ 114 ∷ []) (Syntax.tcons (Syntax.tyInt Syntax.w64) (Syntax.tcons
       (Syntax.tyStruct (102 ∷ 105 ∷ 101 ∷ 108 ∷ 100 ∷ 115 ∷ 58 ∷ 58 ∷ 83 ∷ 101 ∷ 114 ∷ 105 ∷ 97 ∷ 108 ∷ []) (Syntax.tcons (Syntax.tyInt Syntax.w32) Syntax.tnil))
-      Syntax.tnil))) Syntax.tnil))) Syntax.tnil))),
-) ∷ (12, SlotAs.whole) ∷ (13, Rows'.sc-here Row.sBool) ∷ (14, Rows'.whole (Declared'.row Sought.the-type)) ∷ (
+      Syntax.tnil))) Syntax.tnil))) (Syntax.tcons (Syntax.tyStruct (116 ∷ 114 ∷ 97 ∷ 105 ∷ 108 ∷ 58 ∷ 58 ∷ 87 ∷ 97 ∷ 116 ∷ 99 ∷ 104 ∷ []) (Syntax.tcons
+      (Syntax.tyInt Syntax.w64) (Syntax.tcons (Syntax.tyInt Syntax.w64) (Syntax.tcons (Syntax.tyInt Syntax.w64) (Syntax.tcons (Syntax.tyInt Syntax.w64)
+      (Syntax.tcons (Syntax.tyInt Syntax.w64) (Syntax.tcons (Syntax.tyInt Syntax.w64) (Syntax.tcons (Syntax.tyStruct (97 ∷ 104 ∷ 101 ∷ 97 ∷ 100 ∷ 58 ∷ 58 ∷ 65 ∷
+      104 ∷ 101 ∷ 97 ∷ 100 ∷ []) (Syntax.tcons (Syntax.tyInt Syntax.w64) (Syntax.tcons (Syntax.tyInt Syntax.w64) (Syntax.tcons (Syntax.tyInt Syntax.w64)
+      Syntax.tnil)))) Syntax.tnil)))))))) Syntax.tnil)))),
+) ∷ (12, SlotAs.whole) ∷ (13, Rows'.sc-here Row.sBool) ∷ (
+  14,
+  Rows'.whole (Declared'.row
+      Sought.the-type),
+) ∷ (
   15,
-  Rows'.any-gone (Syntax.tyStruct (115 ∷ 101 ∷ 97 ∷ 114 ∷ 99 ∷ 104 ∷ 58 ∷ 58 ∷ 78 ∷ 101 ∷ 97 ∷ 114 ∷ []) (Syntax.tcons (Syntax.tyInt Syntax.w64)
-      (Syntax.tcons (Syntax.tyStruct (102 ∷ 105 ∷ 101 ∷ 108 ∷ 100 ∷ 115 ∷ 58 ∷ 58 ∷ 83 ∷ 101 ∷ 114 ∷ 105 ∷ 97 ∷ 108 ∷ []) (Syntax.tcons (Syntax.tyInt Syntax.w32)
-      Syntax.tnil)) Syntax.tnil))),
+  Rows'.any-gone (Syntax.tyStruct (115 ∷ 101 ∷ 97 ∷ 114 ∷ 99 ∷ 104 ∷ 58 ∷ 58 ∷ 78 ∷ 101 ∷ 97 ∷ 114 ∷ []) (Syntax.tcons (Syntax.tyInt
+      Syntax.w64) (Syntax.tcons (Syntax.tyStruct (102 ∷ 105 ∷ 101 ∷ 108 ∷ 100 ∷ 115 ∷ 58 ∷ 58 ∷ 83 ∷ 101 ∷ 114 ∷ 105 ∷ 97 ∷ 108 ∷ []) (Syntax.tcons (Syntax.tyInt
+      Syntax.w32) Syntax.tnil)) Syntax.tnil))),
 ) ∷ []
 
 abbrev pub t35 : List.List Row.Entry
@@ -4962,13 +5206,17 @@ t35 = (
       (Syntax.tyStruct (115 ∷ 101 ∷ 97 ∷ 114 ∷ 99 ∷ 104 ∷ 58 ∷ 58 ∷ 83 ∷ 112 ∷ 97 ∷ 110 ∷ []) (Syntax.tcons (Syntax.tyInt Syntax.w64) (Syntax.tcons (Syntax.tyInt
       Syntax.w64) Syntax.tnil))) (Syntax.tcons (Syntax.tyStruct (115 ∷ 101 ∷ 97 ∷ 114 ∷ 99 ∷ 104 ∷ 58 ∷ 58 ∷ 78 ∷ 101 ∷ 97 ∷ 114 ∷ []) (Syntax.tcons
       (Syntax.tyInt Syntax.w64) (Syntax.tcons (Syntax.tyStruct (102 ∷ 105 ∷ 101 ∷ 108 ∷ 100 ∷ 115 ∷ 58 ∷ 58 ∷ 83 ∷ 101 ∷ 114 ∷ 105 ∷ 97 ∷ 108 ∷ []) (Syntax.tcons
-      (Syntax.tyInt Syntax.w32) Syntax.tnil)) Syntax.tnil))) Syntax.tnil))) Syntax.tnil))) Syntax.tnil))),
+      (Syntax.tyInt Syntax.w32) Syntax.tnil)) Syntax.tnil))) Syntax.tnil))) (Syntax.tcons (Syntax.tyStruct (116 ∷ 114 ∷ 97 ∷ 105 ∷ 108 ∷ 58 ∷ 58 ∷ 87 ∷ 97 ∷ 116
+      ∷ 99 ∷ 104 ∷ []) (Syntax.tcons (Syntax.tyInt Syntax.w64) (Syntax.tcons (Syntax.tyInt Syntax.w64) (Syntax.tcons (Syntax.tyInt Syntax.w64) (Syntax.tcons
+      (Syntax.tyInt Syntax.w64) (Syntax.tcons (Syntax.tyInt Syntax.w64) (Syntax.tcons (Syntax.tyInt Syntax.w64) (Syntax.tcons (Syntax.tyStruct (97 ∷ 104 ∷ 101 ∷
+      97 ∷ 100 ∷ 58 ∷ 58 ∷ 65 ∷ 104 ∷ 101 ∷ 97 ∷ 100 ∷ []) (Syntax.tcons (Syntax.tyInt Syntax.w64) (Syntax.tcons (Syntax.tyInt Syntax.w64) (Syntax.tcons
+      (Syntax.tyInt Syntax.w64) Syntax.tnil)))) Syntax.tnil)))))))) Syntax.tnil)))) Syntax.tnil))),
 ) ∷ (
   11,
-  Rows'.any-gone (Syntax.tyStruct (103 ∷ 97 ∷ 116
-      ∷ 101 ∷ 58 ∷ 58 ∷ 67 ∷ 111 ∷ 117 ∷ 114 ∷ 115 ∷ 101 ∷ []) (Syntax.tcons (Syntax.tyStruct (114 ∷ 117 ∷ 108 ∷ 101 ∷ 115 ∷ 58 ∷ 58 ∷ 83 ∷ 116 ∷ 97 ∷ 116 ∷ 101
-      ∷ []) (Syntax.tcons (Syntax.tyInt Syntax.w8) (Syntax.tcons (Syntax.tyStruct (102 ∷ 105 ∷ 101 ∷ 108 ∷ 100 ∷ 115 ∷ 58 ∷ 58 ∷ 83 ∷ 101 ∷ 114 ∷ 105 ∷ 97 ∷ 108
-      ∷ []) (Syntax.tcons (Syntax.tyInt Syntax.w32) Syntax.tnil)) (Syntax.tcons (Syntax.tyStruct (114 ∷ 117 ∷ 108 ∷ 101 ∷ 115 ∷ 58 ∷ 58 ∷ 82 ∷ 117 ∷ 110 ∷ [])
+  Rows'.any-gone (Syntax.tyStruct (103 ∷ 97 ∷ 116 ∷ 101
+      ∷ 58 ∷ 58 ∷ 67 ∷ 111 ∷ 117 ∷ 114 ∷ 115 ∷ 101 ∷ []) (Syntax.tcons (Syntax.tyStruct (114 ∷ 117 ∷ 108 ∷ 101 ∷ 115 ∷ 58 ∷ 58 ∷ 83 ∷ 116 ∷ 97 ∷ 116 ∷ 101 ∷ [])
+      (Syntax.tcons (Syntax.tyInt Syntax.w8) (Syntax.tcons (Syntax.tyStruct (102 ∷ 105 ∷ 101 ∷ 108 ∷ 100 ∷ 115 ∷ 58 ∷ 58 ∷ 83 ∷ 101 ∷ 114 ∷ 105 ∷ 97 ∷ 108 ∷ [])
+      (Syntax.tcons (Syntax.tyInt Syntax.w32) Syntax.tnil)) (Syntax.tcons (Syntax.tyStruct (114 ∷ 117 ∷ 108 ∷ 101 ∷ 115 ∷ 58 ∷ 58 ∷ 82 ∷ 117 ∷ 110 ∷ [])
       (Syntax.tcons Syntax.tyBool (Syntax.tcons Syntax.tyBool (Syntax.tcons Syntax.tyBool (Syntax.tcons (Syntax.tyStruct (114 ∷ 101 ∷ 115 ∷ 105 ∷ 100 ∷ 117 ∷ 101
       ∷ 58 ∷ 58 ∷ 82 ∷ 101 ∷ 115 ∷ 105 ∷ 100 ∷ 117 ∷ 101 ∷ []) (Syntax.tcons (Syntax.tyStruct (110 ∷ 97 ∷ 109 ∷ 101 ∷ 115 ∷ 58 ∷ 58 ∷ 84 ∷ 104 ∷ 114 ∷ 101 ∷ 101
       ∷ []) (Syntax.tcons (Syntax.tyInt Syntax.w8) (Syntax.tcons (Syntax.tyInt Syntax.w8) (Syntax.tcons (Syntax.tyInt Syntax.w8) Syntax.tnil)))) (Syntax.tcons
@@ -4986,7 +5234,11 @@ t35 = (
       ∷ 114 ∷ 99 ∷ 104 ∷ 58 ∷ 58 ∷ 83 ∷ 112 ∷ 97 ∷ 110 ∷ []) (Syntax.tcons (Syntax.tyInt Syntax.w64) (Syntax.tcons (Syntax.tyInt Syntax.w64) Syntax.tnil)))
       (Syntax.tcons (Syntax.tyStruct (115 ∷ 101 ∷ 97 ∷ 114 ∷ 99 ∷ 104 ∷ 58 ∷ 58 ∷ 78 ∷ 101 ∷ 97 ∷ 114 ∷ []) (Syntax.tcons (Syntax.tyInt Syntax.w64) (Syntax.tcons
       (Syntax.tyStruct (102 ∷ 105 ∷ 101 ∷ 108 ∷ 100 ∷ 115 ∷ 58 ∷ 58 ∷ 83 ∷ 101 ∷ 114 ∷ 105 ∷ 97 ∷ 108 ∷ []) (Syntax.tcons (Syntax.tyInt Syntax.w32) Syntax.tnil))
-      Syntax.tnil))) Syntax.tnil))) Syntax.tnil))),
+      Syntax.tnil))) Syntax.tnil))) (Syntax.tcons (Syntax.tyStruct (116 ∷ 114 ∷ 97 ∷ 105 ∷ 108 ∷ 58 ∷ 58 ∷ 87 ∷ 97 ∷ 116 ∷ 99 ∷ 104 ∷ []) (Syntax.tcons
+      (Syntax.tyInt Syntax.w64) (Syntax.tcons (Syntax.tyInt Syntax.w64) (Syntax.tcons (Syntax.tyInt Syntax.w64) (Syntax.tcons (Syntax.tyInt Syntax.w64)
+      (Syntax.tcons (Syntax.tyInt Syntax.w64) (Syntax.tcons (Syntax.tyInt Syntax.w64) (Syntax.tcons (Syntax.tyStruct (97 ∷ 104 ∷ 101 ∷ 97 ∷ 100 ∷ 58 ∷ 58 ∷ 65 ∷
+      104 ∷ 101 ∷ 97 ∷ 100 ∷ []) (Syntax.tcons (Syntax.tyInt Syntax.w64) (Syntax.tcons (Syntax.tyInt Syntax.w64) (Syntax.tcons (Syntax.tyInt Syntax.w64)
+      Syntax.tnil)))) Syntax.tnil)))))))) Syntax.tnil)))),
 ) ∷ (12, Rows'.any-gone SlotAs.ty) ∷ (13, Rows'.sc-here Row.sBool) ∷ (
   14,
   Rows'.whole (Declared'.row
@@ -5044,13 +5296,17 @@ t36 = (
       (Syntax.tyStruct (115 ∷ 101 ∷ 97 ∷ 114 ∷ 99 ∷ 104 ∷ 58 ∷ 58 ∷ 83 ∷ 112 ∷ 97 ∷ 110 ∷ []) (Syntax.tcons (Syntax.tyInt Syntax.w64) (Syntax.tcons (Syntax.tyInt
       Syntax.w64) Syntax.tnil))) (Syntax.tcons (Syntax.tyStruct (115 ∷ 101 ∷ 97 ∷ 114 ∷ 99 ∷ 104 ∷ 58 ∷ 58 ∷ 78 ∷ 101 ∷ 97 ∷ 114 ∷ []) (Syntax.tcons
       (Syntax.tyInt Syntax.w64) (Syntax.tcons (Syntax.tyStruct (102 ∷ 105 ∷ 101 ∷ 108 ∷ 100 ∷ 115 ∷ 58 ∷ 58 ∷ 83 ∷ 101 ∷ 114 ∷ 105 ∷ 97 ∷ 108 ∷ []) (Syntax.tcons
-      (Syntax.tyInt Syntax.w32) Syntax.tnil)) Syntax.tnil))) Syntax.tnil))) Syntax.tnil))) Syntax.tnil))),
+      (Syntax.tyInt Syntax.w32) Syntax.tnil)) Syntax.tnil))) Syntax.tnil))) (Syntax.tcons (Syntax.tyStruct (116 ∷ 114 ∷ 97 ∷ 105 ∷ 108 ∷ 58 ∷ 58 ∷ 87 ∷ 97 ∷ 116
+      ∷ 99 ∷ 104 ∷ []) (Syntax.tcons (Syntax.tyInt Syntax.w64) (Syntax.tcons (Syntax.tyInt Syntax.w64) (Syntax.tcons (Syntax.tyInt Syntax.w64) (Syntax.tcons
+      (Syntax.tyInt Syntax.w64) (Syntax.tcons (Syntax.tyInt Syntax.w64) (Syntax.tcons (Syntax.tyInt Syntax.w64) (Syntax.tcons (Syntax.tyStruct (97 ∷ 104 ∷ 101 ∷
+      97 ∷ 100 ∷ 58 ∷ 58 ∷ 65 ∷ 104 ∷ 101 ∷ 97 ∷ 100 ∷ []) (Syntax.tcons (Syntax.tyInt Syntax.w64) (Syntax.tcons (Syntax.tyInt Syntax.w64) (Syntax.tcons
+      (Syntax.tyInt Syntax.w64) Syntax.tnil)))) Syntax.tnil)))))))) Syntax.tnil)))) Syntax.tnil))),
 ) ∷ (
   11,
-  Rows'.any-gone (Syntax.tyStruct (103 ∷ 97 ∷ 116
-      ∷ 101 ∷ 58 ∷ 58 ∷ 67 ∷ 111 ∷ 117 ∷ 114 ∷ 115 ∷ 101 ∷ []) (Syntax.tcons (Syntax.tyStruct (114 ∷ 117 ∷ 108 ∷ 101 ∷ 115 ∷ 58 ∷ 58 ∷ 83 ∷ 116 ∷ 97 ∷ 116 ∷ 101
-      ∷ []) (Syntax.tcons (Syntax.tyInt Syntax.w8) (Syntax.tcons (Syntax.tyStruct (102 ∷ 105 ∷ 101 ∷ 108 ∷ 100 ∷ 115 ∷ 58 ∷ 58 ∷ 83 ∷ 101 ∷ 114 ∷ 105 ∷ 97 ∷ 108
-      ∷ []) (Syntax.tcons (Syntax.tyInt Syntax.w32) Syntax.tnil)) (Syntax.tcons (Syntax.tyStruct (114 ∷ 117 ∷ 108 ∷ 101 ∷ 115 ∷ 58 ∷ 58 ∷ 82 ∷ 117 ∷ 110 ∷ [])
+  Rows'.any-gone (Syntax.tyStruct (103 ∷ 97 ∷ 116 ∷ 101
+      ∷ 58 ∷ 58 ∷ 67 ∷ 111 ∷ 117 ∷ 114 ∷ 115 ∷ 101 ∷ []) (Syntax.tcons (Syntax.tyStruct (114 ∷ 117 ∷ 108 ∷ 101 ∷ 115 ∷ 58 ∷ 58 ∷ 83 ∷ 116 ∷ 97 ∷ 116 ∷ 101 ∷ [])
+      (Syntax.tcons (Syntax.tyInt Syntax.w8) (Syntax.tcons (Syntax.tyStruct (102 ∷ 105 ∷ 101 ∷ 108 ∷ 100 ∷ 115 ∷ 58 ∷ 58 ∷ 83 ∷ 101 ∷ 114 ∷ 105 ∷ 97 ∷ 108 ∷ [])
+      (Syntax.tcons (Syntax.tyInt Syntax.w32) Syntax.tnil)) (Syntax.tcons (Syntax.tyStruct (114 ∷ 117 ∷ 108 ∷ 101 ∷ 115 ∷ 58 ∷ 58 ∷ 82 ∷ 117 ∷ 110 ∷ [])
       (Syntax.tcons Syntax.tyBool (Syntax.tcons Syntax.tyBool (Syntax.tcons Syntax.tyBool (Syntax.tcons (Syntax.tyStruct (114 ∷ 101 ∷ 115 ∷ 105 ∷ 100 ∷ 117 ∷ 101
       ∷ 58 ∷ 58 ∷ 82 ∷ 101 ∷ 115 ∷ 105 ∷ 100 ∷ 117 ∷ 101 ∷ []) (Syntax.tcons (Syntax.tyStruct (110 ∷ 97 ∷ 109 ∷ 101 ∷ 115 ∷ 58 ∷ 58 ∷ 84 ∷ 104 ∷ 114 ∷ 101 ∷ 101
       ∷ []) (Syntax.tcons (Syntax.tyInt Syntax.w8) (Syntax.tcons (Syntax.tyInt Syntax.w8) (Syntax.tcons (Syntax.tyInt Syntax.w8) Syntax.tnil)))) (Syntax.tcons
@@ -5068,7 +5324,11 @@ t36 = (
       ∷ 114 ∷ 99 ∷ 104 ∷ 58 ∷ 58 ∷ 83 ∷ 112 ∷ 97 ∷ 110 ∷ []) (Syntax.tcons (Syntax.tyInt Syntax.w64) (Syntax.tcons (Syntax.tyInt Syntax.w64) Syntax.tnil)))
       (Syntax.tcons (Syntax.tyStruct (115 ∷ 101 ∷ 97 ∷ 114 ∷ 99 ∷ 104 ∷ 58 ∷ 58 ∷ 78 ∷ 101 ∷ 97 ∷ 114 ∷ []) (Syntax.tcons (Syntax.tyInt Syntax.w64) (Syntax.tcons
       (Syntax.tyStruct (102 ∷ 105 ∷ 101 ∷ 108 ∷ 100 ∷ 115 ∷ 58 ∷ 58 ∷ 83 ∷ 101 ∷ 114 ∷ 105 ∷ 97 ∷ 108 ∷ []) (Syntax.tcons (Syntax.tyInt Syntax.w32) Syntax.tnil))
-      Syntax.tnil))) Syntax.tnil))) Syntax.tnil))),
+      Syntax.tnil))) Syntax.tnil))) (Syntax.tcons (Syntax.tyStruct (116 ∷ 114 ∷ 97 ∷ 105 ∷ 108 ∷ 58 ∷ 58 ∷ 87 ∷ 97 ∷ 116 ∷ 99 ∷ 104 ∷ []) (Syntax.tcons
+      (Syntax.tyInt Syntax.w64) (Syntax.tcons (Syntax.tyInt Syntax.w64) (Syntax.tcons (Syntax.tyInt Syntax.w64) (Syntax.tcons (Syntax.tyInt Syntax.w64)
+      (Syntax.tcons (Syntax.tyInt Syntax.w64) (Syntax.tcons (Syntax.tyInt Syntax.w64) (Syntax.tcons (Syntax.tyStruct (97 ∷ 104 ∷ 101 ∷ 97 ∷ 100 ∷ 58 ∷ 58 ∷ 65 ∷
+      104 ∷ 101 ∷ 97 ∷ 100 ∷ []) (Syntax.tcons (Syntax.tyInt Syntax.w64) (Syntax.tcons (Syntax.tyInt Syntax.w64) (Syntax.tcons (Syntax.tyInt Syntax.w64)
+      Syntax.tnil)))) Syntax.tnil)))))))) Syntax.tnil)))),
 ) ∷ (12, Rows'.any-gone SlotAs.ty) ∷ (13, Rows'.sc-here Row.sBool) ∷ (
   14,
   Rows'.whole (Declared'.row
@@ -5116,13 +5376,17 @@ t37 = (
       (Syntax.tyStruct (115 ∷ 101 ∷ 97 ∷ 114 ∷ 99 ∷ 104 ∷ 58 ∷ 58 ∷ 83 ∷ 112 ∷ 97 ∷ 110 ∷ []) (Syntax.tcons (Syntax.tyInt Syntax.w64) (Syntax.tcons (Syntax.tyInt
       Syntax.w64) Syntax.tnil))) (Syntax.tcons (Syntax.tyStruct (115 ∷ 101 ∷ 97 ∷ 114 ∷ 99 ∷ 104 ∷ 58 ∷ 58 ∷ 78 ∷ 101 ∷ 97 ∷ 114 ∷ []) (Syntax.tcons
       (Syntax.tyInt Syntax.w64) (Syntax.tcons (Syntax.tyStruct (102 ∷ 105 ∷ 101 ∷ 108 ∷ 100 ∷ 115 ∷ 58 ∷ 58 ∷ 83 ∷ 101 ∷ 114 ∷ 105 ∷ 97 ∷ 108 ∷ []) (Syntax.tcons
-      (Syntax.tyInt Syntax.w32) Syntax.tnil)) Syntax.tnil))) Syntax.tnil))) Syntax.tnil))) Syntax.tnil))),
+      (Syntax.tyInt Syntax.w32) Syntax.tnil)) Syntax.tnil))) Syntax.tnil))) (Syntax.tcons (Syntax.tyStruct (116 ∷ 114 ∷ 97 ∷ 105 ∷ 108 ∷ 58 ∷ 58 ∷ 87 ∷ 97 ∷ 116
+      ∷ 99 ∷ 104 ∷ []) (Syntax.tcons (Syntax.tyInt Syntax.w64) (Syntax.tcons (Syntax.tyInt Syntax.w64) (Syntax.tcons (Syntax.tyInt Syntax.w64) (Syntax.tcons
+      (Syntax.tyInt Syntax.w64) (Syntax.tcons (Syntax.tyInt Syntax.w64) (Syntax.tcons (Syntax.tyInt Syntax.w64) (Syntax.tcons (Syntax.tyStruct (97 ∷ 104 ∷ 101 ∷
+      97 ∷ 100 ∷ 58 ∷ 58 ∷ 65 ∷ 104 ∷ 101 ∷ 97 ∷ 100 ∷ []) (Syntax.tcons (Syntax.tyInt Syntax.w64) (Syntax.tcons (Syntax.tyInt Syntax.w64) (Syntax.tcons
+      (Syntax.tyInt Syntax.w64) Syntax.tnil)))) Syntax.tnil)))))))) Syntax.tnil)))) Syntax.tnil))),
 ) ∷ (
   11,
-  Rows'.any-gone (Syntax.tyStruct (103 ∷ 97 ∷ 116
-      ∷ 101 ∷ 58 ∷ 58 ∷ 67 ∷ 111 ∷ 117 ∷ 114 ∷ 115 ∷ 101 ∷ []) (Syntax.tcons (Syntax.tyStruct (114 ∷ 117 ∷ 108 ∷ 101 ∷ 115 ∷ 58 ∷ 58 ∷ 83 ∷ 116 ∷ 97 ∷ 116 ∷ 101
-      ∷ []) (Syntax.tcons (Syntax.tyInt Syntax.w8) (Syntax.tcons (Syntax.tyStruct (102 ∷ 105 ∷ 101 ∷ 108 ∷ 100 ∷ 115 ∷ 58 ∷ 58 ∷ 83 ∷ 101 ∷ 114 ∷ 105 ∷ 97 ∷ 108
-      ∷ []) (Syntax.tcons (Syntax.tyInt Syntax.w32) Syntax.tnil)) (Syntax.tcons (Syntax.tyStruct (114 ∷ 117 ∷ 108 ∷ 101 ∷ 115 ∷ 58 ∷ 58 ∷ 82 ∷ 117 ∷ 110 ∷ [])
+  Rows'.any-gone (Syntax.tyStruct (103 ∷ 97 ∷ 116 ∷ 101
+      ∷ 58 ∷ 58 ∷ 67 ∷ 111 ∷ 117 ∷ 114 ∷ 115 ∷ 101 ∷ []) (Syntax.tcons (Syntax.tyStruct (114 ∷ 117 ∷ 108 ∷ 101 ∷ 115 ∷ 58 ∷ 58 ∷ 83 ∷ 116 ∷ 97 ∷ 116 ∷ 101 ∷ [])
+      (Syntax.tcons (Syntax.tyInt Syntax.w8) (Syntax.tcons (Syntax.tyStruct (102 ∷ 105 ∷ 101 ∷ 108 ∷ 100 ∷ 115 ∷ 58 ∷ 58 ∷ 83 ∷ 101 ∷ 114 ∷ 105 ∷ 97 ∷ 108 ∷ [])
+      (Syntax.tcons (Syntax.tyInt Syntax.w32) Syntax.tnil)) (Syntax.tcons (Syntax.tyStruct (114 ∷ 117 ∷ 108 ∷ 101 ∷ 115 ∷ 58 ∷ 58 ∷ 82 ∷ 117 ∷ 110 ∷ [])
       (Syntax.tcons Syntax.tyBool (Syntax.tcons Syntax.tyBool (Syntax.tcons Syntax.tyBool (Syntax.tcons (Syntax.tyStruct (114 ∷ 101 ∷ 115 ∷ 105 ∷ 100 ∷ 117 ∷ 101
       ∷ 58 ∷ 58 ∷ 82 ∷ 101 ∷ 115 ∷ 105 ∷ 100 ∷ 117 ∷ 101 ∷ []) (Syntax.tcons (Syntax.tyStruct (110 ∷ 97 ∷ 109 ∷ 101 ∷ 115 ∷ 58 ∷ 58 ∷ 84 ∷ 104 ∷ 114 ∷ 101 ∷ 101
       ∷ []) (Syntax.tcons (Syntax.tyInt Syntax.w8) (Syntax.tcons (Syntax.tyInt Syntax.w8) (Syntax.tcons (Syntax.tyInt Syntax.w8) Syntax.tnil)))) (Syntax.tcons
@@ -5140,7 +5404,11 @@ t37 = (
       ∷ 114 ∷ 99 ∷ 104 ∷ 58 ∷ 58 ∷ 83 ∷ 112 ∷ 97 ∷ 110 ∷ []) (Syntax.tcons (Syntax.tyInt Syntax.w64) (Syntax.tcons (Syntax.tyInt Syntax.w64) Syntax.tnil)))
       (Syntax.tcons (Syntax.tyStruct (115 ∷ 101 ∷ 97 ∷ 114 ∷ 99 ∷ 104 ∷ 58 ∷ 58 ∷ 78 ∷ 101 ∷ 97 ∷ 114 ∷ []) (Syntax.tcons (Syntax.tyInt Syntax.w64) (Syntax.tcons
       (Syntax.tyStruct (102 ∷ 105 ∷ 101 ∷ 108 ∷ 100 ∷ 115 ∷ 58 ∷ 58 ∷ 83 ∷ 101 ∷ 114 ∷ 105 ∷ 97 ∷ 108 ∷ []) (Syntax.tcons (Syntax.tyInt Syntax.w32) Syntax.tnil))
-      Syntax.tnil))) Syntax.tnil))) Syntax.tnil))),
+      Syntax.tnil))) Syntax.tnil))) (Syntax.tcons (Syntax.tyStruct (116 ∷ 114 ∷ 97 ∷ 105 ∷ 108 ∷ 58 ∷ 58 ∷ 87 ∷ 97 ∷ 116 ∷ 99 ∷ 104 ∷ []) (Syntax.tcons
+      (Syntax.tyInt Syntax.w64) (Syntax.tcons (Syntax.tyInt Syntax.w64) (Syntax.tcons (Syntax.tyInt Syntax.w64) (Syntax.tcons (Syntax.tyInt Syntax.w64)
+      (Syntax.tcons (Syntax.tyInt Syntax.w64) (Syntax.tcons (Syntax.tyInt Syntax.w64) (Syntax.tcons (Syntax.tyStruct (97 ∷ 104 ∷ 101 ∷ 97 ∷ 100 ∷ 58 ∷ 58 ∷ 65 ∷
+      104 ∷ 101 ∷ 97 ∷ 100 ∷ []) (Syntax.tcons (Syntax.tyInt Syntax.w64) (Syntax.tcons (Syntax.tyInt Syntax.w64) (Syntax.tcons (Syntax.tyInt Syntax.w64)
+      Syntax.tnil)))) Syntax.tnil)))))))) Syntax.tnil)))),
 ) ∷ (12, Rows'.any-gone SlotAs.ty) ∷ (13, Rows'.sc-here Row.sBool) ∷ (
   14,
   Rows'.whole (Declared'.row
@@ -5188,13 +5456,17 @@ t38 = (
       (Syntax.tyStruct (115 ∷ 101 ∷ 97 ∷ 114 ∷ 99 ∷ 104 ∷ 58 ∷ 58 ∷ 83 ∷ 112 ∷ 97 ∷ 110 ∷ []) (Syntax.tcons (Syntax.tyInt Syntax.w64) (Syntax.tcons (Syntax.tyInt
       Syntax.w64) Syntax.tnil))) (Syntax.tcons (Syntax.tyStruct (115 ∷ 101 ∷ 97 ∷ 114 ∷ 99 ∷ 104 ∷ 58 ∷ 58 ∷ 78 ∷ 101 ∷ 97 ∷ 114 ∷ []) (Syntax.tcons
       (Syntax.tyInt Syntax.w64) (Syntax.tcons (Syntax.tyStruct (102 ∷ 105 ∷ 101 ∷ 108 ∷ 100 ∷ 115 ∷ 58 ∷ 58 ∷ 83 ∷ 101 ∷ 114 ∷ 105 ∷ 97 ∷ 108 ∷ []) (Syntax.tcons
-      (Syntax.tyInt Syntax.w32) Syntax.tnil)) Syntax.tnil))) Syntax.tnil))) Syntax.tnil))) Syntax.tnil))),
+      (Syntax.tyInt Syntax.w32) Syntax.tnil)) Syntax.tnil))) Syntax.tnil))) (Syntax.tcons (Syntax.tyStruct (116 ∷ 114 ∷ 97 ∷ 105 ∷ 108 ∷ 58 ∷ 58 ∷ 87 ∷ 97 ∷ 116
+      ∷ 99 ∷ 104 ∷ []) (Syntax.tcons (Syntax.tyInt Syntax.w64) (Syntax.tcons (Syntax.tyInt Syntax.w64) (Syntax.tcons (Syntax.tyInt Syntax.w64) (Syntax.tcons
+      (Syntax.tyInt Syntax.w64) (Syntax.tcons (Syntax.tyInt Syntax.w64) (Syntax.tcons (Syntax.tyInt Syntax.w64) (Syntax.tcons (Syntax.tyStruct (97 ∷ 104 ∷ 101 ∷
+      97 ∷ 100 ∷ 58 ∷ 58 ∷ 65 ∷ 104 ∷ 101 ∷ 97 ∷ 100 ∷ []) (Syntax.tcons (Syntax.tyInt Syntax.w64) (Syntax.tcons (Syntax.tyInt Syntax.w64) (Syntax.tcons
+      (Syntax.tyInt Syntax.w64) Syntax.tnil)))) Syntax.tnil)))))))) Syntax.tnil)))) Syntax.tnil))),
 ) ∷ (
   11,
-  Rows'.any-gone (Syntax.tyStruct (103 ∷ 97 ∷ 116
-      ∷ 101 ∷ 58 ∷ 58 ∷ 67 ∷ 111 ∷ 117 ∷ 114 ∷ 115 ∷ 101 ∷ []) (Syntax.tcons (Syntax.tyStruct (114 ∷ 117 ∷ 108 ∷ 101 ∷ 115 ∷ 58 ∷ 58 ∷ 83 ∷ 116 ∷ 97 ∷ 116 ∷ 101
-      ∷ []) (Syntax.tcons (Syntax.tyInt Syntax.w8) (Syntax.tcons (Syntax.tyStruct (102 ∷ 105 ∷ 101 ∷ 108 ∷ 100 ∷ 115 ∷ 58 ∷ 58 ∷ 83 ∷ 101 ∷ 114 ∷ 105 ∷ 97 ∷ 108
-      ∷ []) (Syntax.tcons (Syntax.tyInt Syntax.w32) Syntax.tnil)) (Syntax.tcons (Syntax.tyStruct (114 ∷ 117 ∷ 108 ∷ 101 ∷ 115 ∷ 58 ∷ 58 ∷ 82 ∷ 117 ∷ 110 ∷ [])
+  Rows'.any-gone (Syntax.tyStruct (103 ∷ 97 ∷ 116 ∷ 101
+      ∷ 58 ∷ 58 ∷ 67 ∷ 111 ∷ 117 ∷ 114 ∷ 115 ∷ 101 ∷ []) (Syntax.tcons (Syntax.tyStruct (114 ∷ 117 ∷ 108 ∷ 101 ∷ 115 ∷ 58 ∷ 58 ∷ 83 ∷ 116 ∷ 97 ∷ 116 ∷ 101 ∷ [])
+      (Syntax.tcons (Syntax.tyInt Syntax.w8) (Syntax.tcons (Syntax.tyStruct (102 ∷ 105 ∷ 101 ∷ 108 ∷ 100 ∷ 115 ∷ 58 ∷ 58 ∷ 83 ∷ 101 ∷ 114 ∷ 105 ∷ 97 ∷ 108 ∷ [])
+      (Syntax.tcons (Syntax.tyInt Syntax.w32) Syntax.tnil)) (Syntax.tcons (Syntax.tyStruct (114 ∷ 117 ∷ 108 ∷ 101 ∷ 115 ∷ 58 ∷ 58 ∷ 82 ∷ 117 ∷ 110 ∷ [])
       (Syntax.tcons Syntax.tyBool (Syntax.tcons Syntax.tyBool (Syntax.tcons Syntax.tyBool (Syntax.tcons (Syntax.tyStruct (114 ∷ 101 ∷ 115 ∷ 105 ∷ 100 ∷ 117 ∷ 101
       ∷ 58 ∷ 58 ∷ 82 ∷ 101 ∷ 115 ∷ 105 ∷ 100 ∷ 117 ∷ 101 ∷ []) (Syntax.tcons (Syntax.tyStruct (110 ∷ 97 ∷ 109 ∷ 101 ∷ 115 ∷ 58 ∷ 58 ∷ 84 ∷ 104 ∷ 114 ∷ 101 ∷ 101
       ∷ []) (Syntax.tcons (Syntax.tyInt Syntax.w8) (Syntax.tcons (Syntax.tyInt Syntax.w8) (Syntax.tcons (Syntax.tyInt Syntax.w8) Syntax.tnil)))) (Syntax.tcons
@@ -5212,7 +5484,11 @@ t38 = (
       ∷ 114 ∷ 99 ∷ 104 ∷ 58 ∷ 58 ∷ 83 ∷ 112 ∷ 97 ∷ 110 ∷ []) (Syntax.tcons (Syntax.tyInt Syntax.w64) (Syntax.tcons (Syntax.tyInt Syntax.w64) Syntax.tnil)))
       (Syntax.tcons (Syntax.tyStruct (115 ∷ 101 ∷ 97 ∷ 114 ∷ 99 ∷ 104 ∷ 58 ∷ 58 ∷ 78 ∷ 101 ∷ 97 ∷ 114 ∷ []) (Syntax.tcons (Syntax.tyInt Syntax.w64) (Syntax.tcons
       (Syntax.tyStruct (102 ∷ 105 ∷ 101 ∷ 108 ∷ 100 ∷ 115 ∷ 58 ∷ 58 ∷ 83 ∷ 101 ∷ 114 ∷ 105 ∷ 97 ∷ 108 ∷ []) (Syntax.tcons (Syntax.tyInt Syntax.w32) Syntax.tnil))
-      Syntax.tnil))) Syntax.tnil))) Syntax.tnil))),
+      Syntax.tnil))) Syntax.tnil))) (Syntax.tcons (Syntax.tyStruct (116 ∷ 114 ∷ 97 ∷ 105 ∷ 108 ∷ 58 ∷ 58 ∷ 87 ∷ 97 ∷ 116 ∷ 99 ∷ 104 ∷ []) (Syntax.tcons
+      (Syntax.tyInt Syntax.w64) (Syntax.tcons (Syntax.tyInt Syntax.w64) (Syntax.tcons (Syntax.tyInt Syntax.w64) (Syntax.tcons (Syntax.tyInt Syntax.w64)
+      (Syntax.tcons (Syntax.tyInt Syntax.w64) (Syntax.tcons (Syntax.tyInt Syntax.w64) (Syntax.tcons (Syntax.tyStruct (97 ∷ 104 ∷ 101 ∷ 97 ∷ 100 ∷ 58 ∷ 58 ∷ 65 ∷
+      104 ∷ 101 ∷ 97 ∷ 100 ∷ []) (Syntax.tcons (Syntax.tyInt Syntax.w64) (Syntax.tcons (Syntax.tyInt Syntax.w64) (Syntax.tcons (Syntax.tyInt Syntax.w64)
+      Syntax.tnil)))) Syntax.tnil)))))))) Syntax.tnil)))),
 ) ∷ (12, Rows'.any-gone SlotAs.ty) ∷ (13, Rows'.sc-here Row.sBool) ∷ (
   14,
   Rows'.whole (Declared'.row
@@ -5265,13 +5541,17 @@ t39 = (
       (Syntax.tyStruct (115 ∷ 101 ∷ 97 ∷ 114 ∷ 99 ∷ 104 ∷ 58 ∷ 58 ∷ 83 ∷ 112 ∷ 97 ∷ 110 ∷ []) (Syntax.tcons (Syntax.tyInt Syntax.w64) (Syntax.tcons (Syntax.tyInt
       Syntax.w64) Syntax.tnil))) (Syntax.tcons (Syntax.tyStruct (115 ∷ 101 ∷ 97 ∷ 114 ∷ 99 ∷ 104 ∷ 58 ∷ 58 ∷ 78 ∷ 101 ∷ 97 ∷ 114 ∷ []) (Syntax.tcons
       (Syntax.tyInt Syntax.w64) (Syntax.tcons (Syntax.tyStruct (102 ∷ 105 ∷ 101 ∷ 108 ∷ 100 ∷ 115 ∷ 58 ∷ 58 ∷ 83 ∷ 101 ∷ 114 ∷ 105 ∷ 97 ∷ 108 ∷ []) (Syntax.tcons
-      (Syntax.tyInt Syntax.w32) Syntax.tnil)) Syntax.tnil))) Syntax.tnil))) Syntax.tnil))) Syntax.tnil))),
+      (Syntax.tyInt Syntax.w32) Syntax.tnil)) Syntax.tnil))) Syntax.tnil))) (Syntax.tcons (Syntax.tyStruct (116 ∷ 114 ∷ 97 ∷ 105 ∷ 108 ∷ 58 ∷ 58 ∷ 87 ∷ 97 ∷ 116
+      ∷ 99 ∷ 104 ∷ []) (Syntax.tcons (Syntax.tyInt Syntax.w64) (Syntax.tcons (Syntax.tyInt Syntax.w64) (Syntax.tcons (Syntax.tyInt Syntax.w64) (Syntax.tcons
+      (Syntax.tyInt Syntax.w64) (Syntax.tcons (Syntax.tyInt Syntax.w64) (Syntax.tcons (Syntax.tyInt Syntax.w64) (Syntax.tcons (Syntax.tyStruct (97 ∷ 104 ∷ 101 ∷
+      97 ∷ 100 ∷ 58 ∷ 58 ∷ 65 ∷ 104 ∷ 101 ∷ 97 ∷ 100 ∷ []) (Syntax.tcons (Syntax.tyInt Syntax.w64) (Syntax.tcons (Syntax.tyInt Syntax.w64) (Syntax.tcons
+      (Syntax.tyInt Syntax.w64) Syntax.tnil)))) Syntax.tnil)))))))) Syntax.tnil)))) Syntax.tnil))),
 ) ∷ (
   11,
-  Rows'.any-gone (Syntax.tyStruct (103 ∷ 97 ∷ 116
-      ∷ 101 ∷ 58 ∷ 58 ∷ 67 ∷ 111 ∷ 117 ∷ 114 ∷ 115 ∷ 101 ∷ []) (Syntax.tcons (Syntax.tyStruct (114 ∷ 117 ∷ 108 ∷ 101 ∷ 115 ∷ 58 ∷ 58 ∷ 83 ∷ 116 ∷ 97 ∷ 116 ∷ 101
-      ∷ []) (Syntax.tcons (Syntax.tyInt Syntax.w8) (Syntax.tcons (Syntax.tyStruct (102 ∷ 105 ∷ 101 ∷ 108 ∷ 100 ∷ 115 ∷ 58 ∷ 58 ∷ 83 ∷ 101 ∷ 114 ∷ 105 ∷ 97 ∷ 108
-      ∷ []) (Syntax.tcons (Syntax.tyInt Syntax.w32) Syntax.tnil)) (Syntax.tcons (Syntax.tyStruct (114 ∷ 117 ∷ 108 ∷ 101 ∷ 115 ∷ 58 ∷ 58 ∷ 82 ∷ 117 ∷ 110 ∷ [])
+  Rows'.any-gone (Syntax.tyStruct (103 ∷ 97 ∷ 116 ∷ 101
+      ∷ 58 ∷ 58 ∷ 67 ∷ 111 ∷ 117 ∷ 114 ∷ 115 ∷ 101 ∷ []) (Syntax.tcons (Syntax.tyStruct (114 ∷ 117 ∷ 108 ∷ 101 ∷ 115 ∷ 58 ∷ 58 ∷ 83 ∷ 116 ∷ 97 ∷ 116 ∷ 101 ∷ [])
+      (Syntax.tcons (Syntax.tyInt Syntax.w8) (Syntax.tcons (Syntax.tyStruct (102 ∷ 105 ∷ 101 ∷ 108 ∷ 100 ∷ 115 ∷ 58 ∷ 58 ∷ 83 ∷ 101 ∷ 114 ∷ 105 ∷ 97 ∷ 108 ∷ [])
+      (Syntax.tcons (Syntax.tyInt Syntax.w32) Syntax.tnil)) (Syntax.tcons (Syntax.tyStruct (114 ∷ 117 ∷ 108 ∷ 101 ∷ 115 ∷ 58 ∷ 58 ∷ 82 ∷ 117 ∷ 110 ∷ [])
       (Syntax.tcons Syntax.tyBool (Syntax.tcons Syntax.tyBool (Syntax.tcons Syntax.tyBool (Syntax.tcons (Syntax.tyStruct (114 ∷ 101 ∷ 115 ∷ 105 ∷ 100 ∷ 117 ∷ 101
       ∷ 58 ∷ 58 ∷ 82 ∷ 101 ∷ 115 ∷ 105 ∷ 100 ∷ 117 ∷ 101 ∷ []) (Syntax.tcons (Syntax.tyStruct (110 ∷ 97 ∷ 109 ∷ 101 ∷ 115 ∷ 58 ∷ 58 ∷ 84 ∷ 104 ∷ 114 ∷ 101 ∷ 101
       ∷ []) (Syntax.tcons (Syntax.tyInt Syntax.w8) (Syntax.tcons (Syntax.tyInt Syntax.w8) (Syntax.tcons (Syntax.tyInt Syntax.w8) Syntax.tnil)))) (Syntax.tcons
@@ -5289,18 +5569,23 @@ t39 = (
       ∷ 114 ∷ 99 ∷ 104 ∷ 58 ∷ 58 ∷ 83 ∷ 112 ∷ 97 ∷ 110 ∷ []) (Syntax.tcons (Syntax.tyInt Syntax.w64) (Syntax.tcons (Syntax.tyInt Syntax.w64) Syntax.tnil)))
       (Syntax.tcons (Syntax.tyStruct (115 ∷ 101 ∷ 97 ∷ 114 ∷ 99 ∷ 104 ∷ 58 ∷ 58 ∷ 78 ∷ 101 ∷ 97 ∷ 114 ∷ []) (Syntax.tcons (Syntax.tyInt Syntax.w64) (Syntax.tcons
       (Syntax.tyStruct (102 ∷ 105 ∷ 101 ∷ 108 ∷ 100 ∷ 115 ∷ 58 ∷ 58 ∷ 83 ∷ 101 ∷ 114 ∷ 105 ∷ 97 ∷ 108 ∷ []) (Syntax.tcons (Syntax.tyInt Syntax.w32) Syntax.tnil))
-      Syntax.tnil))) Syntax.tnil))) Syntax.tnil))),
+      Syntax.tnil))) Syntax.tnil))) (Syntax.tcons (Syntax.tyStruct (116 ∷ 114 ∷ 97 ∷ 105 ∷ 108 ∷ 58 ∷ 58 ∷ 87 ∷ 97 ∷ 116 ∷ 99 ∷ 104 ∷ []) (Syntax.tcons
+      (Syntax.tyInt Syntax.w64) (Syntax.tcons (Syntax.tyInt Syntax.w64) (Syntax.tcons (Syntax.tyInt Syntax.w64) (Syntax.tcons (Syntax.tyInt Syntax.w64)
+      (Syntax.tcons (Syntax.tyInt Syntax.w64) (Syntax.tcons (Syntax.tyInt Syntax.w64) (Syntax.tcons (Syntax.tyStruct (97 ∷ 104 ∷ 101 ∷ 97 ∷ 100 ∷ 58 ∷ 58 ∷ 65 ∷
+      104 ∷ 101 ∷ 97 ∷ 100 ∷ []) (Syntax.tcons (Syntax.tyInt Syntax.w64) (Syntax.tcons (Syntax.tyInt Syntax.w64) (Syntax.tcons (Syntax.tyInt Syntax.w64)
+      Syntax.tnil)))) Syntax.tnil)))))))) Syntax.tnil)))),
 ) ∷ (12, Rows'.any-gone SlotAs.ty) ∷ (13, Rows'.sc-here Row.sBool) ∷ (
   14,
-  Rows'.any-gone (Syntax.tyStruct (115
-      ∷ 101 ∷ 97 ∷ 114 ∷ 99 ∷ 104 ∷ 58 ∷ 58 ∷ 83 ∷ 111 ∷ 117 ∷ 103 ∷ 104 ∷ 116 ∷ []) (Syntax.tcons (Syntax.tyStruct (115 ∷ 101 ∷ 97 ∷ 114 ∷ 99 ∷ 104 ∷ 58 ∷ 58 ∷
-      78 ∷ 101 ∷ 97 ∷ 114 ∷ []) (Syntax.tcons (Syntax.tyInt Syntax.w64) (Syntax.tcons (Syntax.tyStruct (102 ∷ 105 ∷ 101 ∷ 108 ∷ 100 ∷ 115 ∷ 58 ∷ 58 ∷ 83 ∷ 101 ∷
-      114 ∷ 105 ∷ 97 ∷ 108 ∷ []) (Syntax.tcons (Syntax.tyInt Syntax.w32) Syntax.tnil)) Syntax.tnil))) (Syntax.tcons Syntax.tyBool Syntax.tnil))),
+  Rows'.any-gone
+      (Syntax.tyStruct (115 ∷ 101 ∷ 97 ∷ 114 ∷ 99 ∷ 104 ∷ 58 ∷ 58 ∷ 83 ∷ 111 ∷ 117 ∷ 103 ∷ 104 ∷ 116 ∷ []) (Syntax.tcons (Syntax.tyStruct (115 ∷ 101 ∷ 97 ∷ 114 ∷
+      99 ∷ 104 ∷ 58 ∷ 58 ∷ 78 ∷ 101 ∷ 97 ∷ 114 ∷ []) (Syntax.tcons (Syntax.tyInt Syntax.w64) (Syntax.tcons (Syntax.tyStruct (102 ∷ 105 ∷ 101 ∷ 108 ∷ 100 ∷ 115 ∷
+      58 ∷ 58 ∷ 83 ∷ 101 ∷ 114 ∷ 105 ∷ 97 ∷ 108 ∷ []) (Syntax.tcons (Syntax.tyInt Syntax.w32) Syntax.tnil)) Syntax.tnil))) (Syntax.tcons Syntax.tyBool
+      Syntax.tnil))),
 ) ∷ (
   15,
-  Rows'.any-gone (Syntax.tyStruct (115 ∷ 101 ∷ 97 ∷ 114 ∷ 99 ∷ 104 ∷ 58 ∷ 58 ∷ 78 ∷ 101 ∷ 97 ∷ 114 ∷ []) (Syntax.tcons (Syntax.tyInt Syntax.w64)
-      (Syntax.tcons (Syntax.tyStruct (102 ∷ 105 ∷ 101 ∷ 108 ∷ 100 ∷ 115 ∷ 58 ∷ 58 ∷ 83 ∷ 101 ∷ 114 ∷ 105 ∷ 97 ∷ 108 ∷ []) (Syntax.tcons (Syntax.tyInt Syntax.w32)
-      Syntax.tnil)) Syntax.tnil))),
+  Rows'.any-gone (Syntax.tyStruct (115 ∷ 101 ∷ 97 ∷ 114 ∷ 99 ∷ 104 ∷ 58 ∷ 58 ∷ 78 ∷ 101 ∷ 97 ∷ 114 ∷ []) (Syntax.tcons (Syntax.tyInt
+      Syntax.w64) (Syntax.tcons (Syntax.tyStruct (102 ∷ 105 ∷ 101 ∷ 108 ∷ 100 ∷ 115 ∷ 58 ∷ 58 ∷ 83 ∷ 101 ∷ 114 ∷ 105 ∷ 97 ∷ 108 ∷ []) (Syntax.tcons (Syntax.tyInt
+      Syntax.w32) Syntax.tnil)) Syntax.tnil))),
 ) ∷ []
 
 abbrev pub t40 : List.List Row.Entry
@@ -5474,16 +5759,20 @@ t41 = (
           (Syntax.tcons (Syntax.tyStruct (115 ∷ 101 ∷ 97 ∷ 114 ∷ 99 ∷ 104 ∷ 58 ∷ 58 ∷ 83 ∷ 112 ∷ 97 ∷ 110 ∷ []) (Syntax.tcons (Syntax.tyInt Syntax.w64) (Syntax.tcons
           (Syntax.tyInt Syntax.w64) Syntax.tnil))) (Syntax.tcons (Syntax.tyStruct (115 ∷ 101 ∷ 97 ∷ 114 ∷ 99 ∷ 104 ∷ 58 ∷ 58 ∷ 78 ∷ 101 ∷ 97 ∷ 114 ∷ [])
           (Syntax.tcons (Syntax.tyInt Syntax.w64) (Syntax.tcons (Syntax.tyStruct (102 ∷ 105 ∷ 101 ∷ 108 ∷ 100 ∷ 115 ∷ 58 ∷ 58 ∷ 83 ∷ 101 ∷ 114 ∷ 105 ∷ 97 ∷ 108 ∷ [])
-          (Syntax.tcons (Syntax.tyInt Syntax.w32) Syntax.tnil)) Syntax.tnil))) Syntax.tnil))) Syntax.tnil))) Syntax.tnil))),
+          (Syntax.tcons (Syntax.tyInt Syntax.w32) Syntax.tnil)) Syntax.tnil))) Syntax.tnil))) (Syntax.tcons (Syntax.tyStruct (116 ∷ 114 ∷ 97 ∷ 105 ∷ 108 ∷ 58 ∷ 58 ∷
+          87 ∷ 97 ∷ 116 ∷ 99 ∷ 104 ∷ []) (Syntax.tcons (Syntax.tyInt Syntax.w64) (Syntax.tcons (Syntax.tyInt Syntax.w64) (Syntax.tcons (Syntax.tyInt Syntax.w64)
+          (Syntax.tcons (Syntax.tyInt Syntax.w64) (Syntax.tcons (Syntax.tyInt Syntax.w64) (Syntax.tcons (Syntax.tyInt Syntax.w64) (Syntax.tcons (Syntax.tyStruct (97
+          ∷ 104 ∷ 101 ∷ 97 ∷ 100 ∷ 58 ∷ 58 ∷ 65 ∷ 104 ∷ 101 ∷ 97 ∷ 100 ∷ []) (Syntax.tcons (Syntax.tyInt Syntax.w64) (Syntax.tcons (Syntax.tyInt Syntax.w64)
+          (Syntax.tcons (Syntax.tyInt Syntax.w64) Syntax.tnil)))) Syntax.tnil)))))))) Syntax.tnil)))) Syntax.tnil))),
     ) ∷ (
       11,
-      Rows'.any-gone (Syntax.tyStruct
-          (103 ∷ 97 ∷ 116 ∷ 101 ∷ 58 ∷ 58 ∷ 67 ∷ 111 ∷ 117 ∷ 114 ∷ 115 ∷ 101 ∷ []) (Syntax.tcons (Syntax.tyStruct (114 ∷ 117 ∷ 108 ∷ 101 ∷ 115 ∷ 58 ∷ 58 ∷ 83 ∷ 116 ∷
-          97 ∷ 116 ∷ 101 ∷ []) (Syntax.tcons (Syntax.tyInt Syntax.w8) (Syntax.tcons (Syntax.tyStruct (102 ∷ 105 ∷ 101 ∷ 108 ∷ 100 ∷ 115 ∷ 58 ∷ 58 ∷ 83 ∷ 101 ∷ 114 ∷
-          105 ∷ 97 ∷ 108 ∷ []) (Syntax.tcons (Syntax.tyInt Syntax.w32) Syntax.tnil)) (Syntax.tcons (Syntax.tyStruct (114 ∷ 117 ∷ 108 ∷ 101 ∷ 115 ∷ 58 ∷ 58 ∷ 82 ∷ 117
-          ∷ 110 ∷ []) (Syntax.tcons Syntax.tyBool (Syntax.tcons Syntax.tyBool (Syntax.tcons Syntax.tyBool (Syntax.tcons (Syntax.tyStruct (114 ∷ 101 ∷ 115 ∷ 105 ∷ 100
-          ∷ 117 ∷ 101 ∷ 58 ∷ 58 ∷ 82 ∷ 101 ∷ 115 ∷ 105 ∷ 100 ∷ 117 ∷ 101 ∷ []) (Syntax.tcons (Syntax.tyStruct (110 ∷ 97 ∷ 109 ∷ 101 ∷ 115 ∷ 58 ∷ 58 ∷ 84 ∷ 104 ∷ 114
-          ∷ 101 ∷ 101 ∷ []) (Syntax.tcons (Syntax.tyInt Syntax.w8) (Syntax.tcons (Syntax.tyInt Syntax.w8) (Syntax.tcons (Syntax.tyInt Syntax.w8) Syntax.tnil))))
+      Rows'.any-gone (Syntax.tyStruct (103 ∷
+          97 ∷ 116 ∷ 101 ∷ 58 ∷ 58 ∷ 67 ∷ 111 ∷ 117 ∷ 114 ∷ 115 ∷ 101 ∷ []) (Syntax.tcons (Syntax.tyStruct (114 ∷ 117 ∷ 108 ∷ 101 ∷ 115 ∷ 58 ∷ 58 ∷ 83 ∷ 116 ∷ 97 ∷
+          116 ∷ 101 ∷ []) (Syntax.tcons (Syntax.tyInt Syntax.w8) (Syntax.tcons (Syntax.tyStruct (102 ∷ 105 ∷ 101 ∷ 108 ∷ 100 ∷ 115 ∷ 58 ∷ 58 ∷ 83 ∷ 101 ∷ 114 ∷ 105 ∷
+          97 ∷ 108 ∷ []) (Syntax.tcons (Syntax.tyInt Syntax.w32) Syntax.tnil)) (Syntax.tcons (Syntax.tyStruct (114 ∷ 117 ∷ 108 ∷ 101 ∷ 115 ∷ 58 ∷ 58 ∷ 82 ∷ 117 ∷ 110
+          ∷ []) (Syntax.tcons Syntax.tyBool (Syntax.tcons Syntax.tyBool (Syntax.tcons Syntax.tyBool (Syntax.tcons (Syntax.tyStruct (114 ∷ 101 ∷ 115 ∷ 105 ∷ 100 ∷ 117
+          ∷ 101 ∷ 58 ∷ 58 ∷ 82 ∷ 101 ∷ 115 ∷ 105 ∷ 100 ∷ 117 ∷ 101 ∷ []) (Syntax.tcons (Syntax.tyStruct (110 ∷ 97 ∷ 109 ∷ 101 ∷ 115 ∷ 58 ∷ 58 ∷ 84 ∷ 104 ∷ 114 ∷ 101
+          ∷ 101 ∷ []) (Syntax.tcons (Syntax.tyInt Syntax.w8) (Syntax.tcons (Syntax.tyInt Syntax.w8) (Syntax.tcons (Syntax.tyInt Syntax.w8) Syntax.tnil))))
           (Syntax.tcons (Syntax.tyInt Syntax.w8) (Syntax.tcons (Syntax.tyStruct (102 ∷ 105 ∷ 101 ∷ 108 ∷ 100 ∷ 115 ∷ 58 ∷ 58 ∷ 82 ∷ 101 ∷ 115 ∷ 105 ∷ 100 ∷ 117 ∷ 101
           ∷ 78 ∷ 117 ∷ 109 ∷ 98 ∷ 101 ∷ 114 ∷ []) (Syntax.tcons (Syntax.tyInt Syntax.w32) Syntax.tnil)) (Syntax.tcons (Syntax.tyInt Syntax.w8) Syntax.tnil)))))
           Syntax.tnil))))) (Syntax.tcons (Syntax.tyStruct (102 ∷ 105 ∷ 101 ∷ 108 ∷ 100 ∷ 115 ∷ 58 ∷ 58 ∷ 83 ∷ 101 ∷ 114 ∷ 105 ∷ 97 ∷ 108 ∷ []) (Syntax.tcons
@@ -5498,12 +5787,16 @@ t41 = (
           (Syntax.tyStruct (115 ∷ 101 ∷ 97 ∷ 114 ∷ 99 ∷ 104 ∷ 58 ∷ 58 ∷ 83 ∷ 112 ∷ 97 ∷ 110 ∷ []) (Syntax.tcons (Syntax.tyInt Syntax.w64) (Syntax.tcons (Syntax.tyInt
           Syntax.w64) Syntax.tnil))) (Syntax.tcons (Syntax.tyStruct (115 ∷ 101 ∷ 97 ∷ 114 ∷ 99 ∷ 104 ∷ 58 ∷ 58 ∷ 78 ∷ 101 ∷ 97 ∷ 114 ∷ []) (Syntax.tcons
           (Syntax.tyInt Syntax.w64) (Syntax.tcons (Syntax.tyStruct (102 ∷ 105 ∷ 101 ∷ 108 ∷ 100 ∷ 115 ∷ 58 ∷ 58 ∷ 83 ∷ 101 ∷ 114 ∷ 105 ∷ 97 ∷ 108 ∷ []) (Syntax.tcons
-          (Syntax.tyInt Syntax.w32) Syntax.tnil)) Syntax.tnil))) Syntax.tnil))) Syntax.tnil))),
+          (Syntax.tyInt Syntax.w32) Syntax.tnil)) Syntax.tnil))) Syntax.tnil))) (Syntax.tcons (Syntax.tyStruct (116 ∷ 114 ∷ 97 ∷ 105 ∷ 108 ∷ 58 ∷ 58 ∷ 87 ∷ 97 ∷ 116
+          ∷ 99 ∷ 104 ∷ []) (Syntax.tcons (Syntax.tyInt Syntax.w64) (Syntax.tcons (Syntax.tyInt Syntax.w64) (Syntax.tcons (Syntax.tyInt Syntax.w64) (Syntax.tcons
+          (Syntax.tyInt Syntax.w64) (Syntax.tcons (Syntax.tyInt Syntax.w64) (Syntax.tcons (Syntax.tyInt Syntax.w64) (Syntax.tcons (Syntax.tyStruct (97 ∷ 104 ∷ 101 ∷
+          97 ∷ 100 ∷ 58 ∷ 58 ∷ 65 ∷ 104 ∷ 101 ∷ 97 ∷ 100 ∷ []) (Syntax.tcons (Syntax.tyInt Syntax.w64) (Syntax.tcons (Syntax.tyInt Syntax.w64) (Syntax.tcons
+          (Syntax.tyInt Syntax.w64) Syntax.tnil)))) Syntax.tnil)))))))) Syntax.tnil)))),
     ) ∷ (12, Rows'.any-gone SlotAs.ty) ∷ (13, Rows'.sc-here Row.sBool) ∷ (
       14,
-      Rows'.any-gone (Syntax.tyStruct (115 ∷ 101 ∷ 97 ∷ 114 ∷ 99 ∷ 104 ∷ 58 ∷ 58 ∷ 83 ∷ 111 ∷ 117 ∷ 103 ∷ 104 ∷ 116 ∷ []) (Syntax.tcons (Syntax.tyStruct
-          (115 ∷ 101 ∷ 97 ∷ 114 ∷ 99 ∷ 104 ∷ 58 ∷ 58 ∷ 78 ∷ 101 ∷ 97 ∷ 114 ∷ []) (Syntax.tcons (Syntax.tyInt Syntax.w64) (Syntax.tcons (Syntax.tyStruct (102 ∷ 105 ∷
-          101 ∷ 108 ∷ 100 ∷ 115 ∷ 58 ∷ 58 ∷ 83 ∷ 101 ∷ 114 ∷ 105 ∷ 97 ∷ 108 ∷ []) (Syntax.tcons (Syntax.tyInt Syntax.w32) Syntax.tnil)) Syntax.tnil))) (Syntax.tcons
+      Rows'.any-gone (Syntax.tyStruct (115 ∷ 101 ∷ 97 ∷ 114 ∷ 99 ∷ 104 ∷ 58 ∷ 58 ∷ 83 ∷ 111 ∷ 117 ∷ 103 ∷ 104 ∷ 116 ∷ []) (Syntax.tcons (Syntax.tyStruct (115 ∷
+          101 ∷ 97 ∷ 114 ∷ 99 ∷ 104 ∷ 58 ∷ 58 ∷ 78 ∷ 101 ∷ 97 ∷ 114 ∷ []) (Syntax.tcons (Syntax.tyInt Syntax.w64) (Syntax.tcons (Syntax.tyStruct (102 ∷ 105 ∷ 101 ∷
+          108 ∷ 100 ∷ 115 ∷ 58 ∷ 58 ∷ 83 ∷ 101 ∷ 114 ∷ 105 ∷ 97 ∷ 108 ∷ []) (Syntax.tcons (Syntax.tyInt Syntax.w32) Syntax.tnil)) Syntax.tnil))) (Syntax.tcons
           Syntax.tyBool Syntax.tnil))),
     ) ∷ (
       15,
@@ -5568,43 +5861,47 @@ t43 = (
       ∷ 114 ∷ 99 ∷ 104 ∷ 58 ∷ 58 ∷ 83 ∷ 112 ∷ 97 ∷ 110 ∷ []) (Syntax.tcons (Syntax.tyInt Syntax.w64) (Syntax.tcons (Syntax.tyInt Syntax.w64) Syntax.tnil)))
       (Syntax.tcons (Syntax.tyStruct (115 ∷ 101 ∷ 97 ∷ 114 ∷ 99 ∷ 104 ∷ 58 ∷ 58 ∷ 78 ∷ 101 ∷ 97 ∷ 114 ∷ []) (Syntax.tcons (Syntax.tyInt Syntax.w64) (Syntax.tcons
       (Syntax.tyStruct (102 ∷ 105 ∷ 101 ∷ 108 ∷ 100 ∷ 115 ∷ 58 ∷ 58 ∷ 83 ∷ 101 ∷ 114 ∷ 105 ∷ 97 ∷ 108 ∷ []) (Syntax.tcons (Syntax.tyInt Syntax.w32) Syntax.tnil))
-      Syntax.tnil))) Syntax.tnil))) Syntax.tnil))),
+      Syntax.tnil))) Syntax.tnil))) (Syntax.tcons (Syntax.tyStruct (116 ∷ 114 ∷ 97 ∷ 105 ∷ 108 ∷ 58 ∷ 58 ∷ 87 ∷ 97 ∷ 116 ∷ 99 ∷ 104 ∷ []) (Syntax.tcons
+      (Syntax.tyInt Syntax.w64) (Syntax.tcons (Syntax.tyInt Syntax.w64) (Syntax.tcons (Syntax.tyInt Syntax.w64) (Syntax.tcons (Syntax.tyInt Syntax.w64)
+      (Syntax.tcons (Syntax.tyInt Syntax.w64) (Syntax.tcons (Syntax.tyInt Syntax.w64) (Syntax.tcons (Syntax.tyStruct (97 ∷ 104 ∷ 101 ∷ 97 ∷ 100 ∷ 58 ∷ 58 ∷ 65 ∷
+      104 ∷ 101 ∷ 97 ∷ 100 ∷ []) (Syntax.tcons (Syntax.tyInt Syntax.w64) (Syntax.tcons (Syntax.tyInt Syntax.w64) (Syntax.tcons (Syntax.tyInt Syntax.w64)
+      Syntax.tnil)))) Syntax.tnil)))))))) Syntax.tnil)))),
 ) ∷ (5, Rows'.sc-here (Row.sInt Syntax.w64)) ∷ (6, Rows'.sc-here Row.sBool) ∷ (
   7,
-  Rows'.sc-here (Row.sInt
-      Syntax.w64),
+  Rows'.sc-here
+      (Row.sInt Syntax.w64),
 ) ∷ (
   8,
-  Rows'.any-gone (Syntax.tyStruct (115 ∷ 101 ∷ 97 ∷ 114 ∷ 99 ∷ 104 ∷ 58 ∷ 58 ∷ 78 ∷ 101 ∷ 97 ∷ 114 ∷ []) (Syntax.tcons (Syntax.tyInt
-      Syntax.w64) (Syntax.tcons (Syntax.tyStruct (102 ∷ 105 ∷ 101 ∷ 108 ∷ 100 ∷ 115 ∷ 58 ∷ 58 ∷ 83 ∷ 101 ∷ 114 ∷ 105 ∷ 97 ∷ 108 ∷ []) (Syntax.tcons (Syntax.tyInt
-      Syntax.w32) Syntax.tnil)) Syntax.tnil))),
+  Rows'.any-gone (Syntax.tyStruct (115 ∷ 101 ∷ 97 ∷ 114 ∷ 99 ∷ 104 ∷ 58 ∷ 58 ∷ 78 ∷ 101 ∷ 97 ∷ 114 ∷ []) (Syntax.tcons
+      (Syntax.tyInt Syntax.w64) (Syntax.tcons (Syntax.tyStruct (102 ∷ 105 ∷ 101 ∷ 108 ∷ 100 ∷ 115 ∷ 58 ∷ 58 ∷ 83 ∷ 101 ∷ 114 ∷ 105 ∷ 97 ∷ 108 ∷ []) (Syntax.tcons
+      (Syntax.tyInt Syntax.w32) Syntax.tnil)) Syntax.tnil))),
 ) ∷ (
   9,
-  Rows'.any-gone (Syntax.tyEnum (112 ∷ 105 ∷ 101 ∷ 99 ∷ 101 ∷ 115 ∷ 58 ∷ 58 ∷ 76 ∷ 105 ∷ 110 ∷ 101 ∷ [])
-      (Syntax.ttcons (Syntax.tcons (Syntax.tyInt Syntax.w8) Syntax.tnil) (Syntax.ttcons (Syntax.tcons (Syntax.tyEnum (107 ∷ 105 ∷ 110 ∷ 100 ∷ 115 ∷ 58 ∷ 58 ∷ 75
-      ∷ 105 ∷ 110 ∷ 100 ∷ []) (Syntax.ttcons Syntax.tnil (Syntax.ttcons Syntax.tnil (Syntax.ttcons Syntax.tnil (Syntax.ttcons Syntax.tnil (Syntax.ttcons
-      Syntax.tnil (Syntax.ttcons Syntax.tnil (Syntax.ttcons Syntax.tnil (Syntax.ttcons Syntax.tnil (Syntax.ttcons Syntax.tnil (Syntax.ttcons Syntax.tnil
-      (Syntax.ttcons Syntax.tnil (Syntax.ttcons Syntax.tnil (Syntax.ttcons Syntax.tnil (Syntax.ttcons Syntax.tnil (Syntax.ttcons Syntax.tnil (Syntax.ttcons
-      Syntax.tnil (Syntax.ttcons Syntax.tnil (Syntax.ttcons Syntax.tnil (Syntax.ttcons Syntax.tnil (Syntax.ttcons Syntax.tnil (Syntax.ttcons Syntax.tnil
-      (Syntax.ttcons Syntax.tnil (Syntax.ttcons Syntax.tnil (Syntax.ttcons Syntax.tnil (Syntax.ttcons Syntax.tnil (Syntax.ttcons Syntax.tnil (Syntax.ttcons
-      Syntax.tnil (Syntax.ttcons Syntax.tnil Syntax.ttnil))))))))))))))))))))))))))))) (Syntax.tcons (Syntax.tyInt Syntax.w32) Syntax.tnil)) (Syntax.ttcons
-      (Syntax.tcons (Syntax.tyEnum (107 ∷ 105 ∷ 110 ∷ 100 ∷ 115 ∷ 58 ∷ 58 ∷ 75 ∷ 105 ∷ 110 ∷ 100 ∷ []) (Syntax.ttcons Syntax.tnil (Syntax.ttcons Syntax.tnil
+  Rows'.any-gone (Syntax.tyEnum (112 ∷ 105 ∷ 101 ∷ 99 ∷ 101 ∷ 115 ∷ 58 ∷ 58 ∷ 76 ∷ 105 ∷ 110 ∷
+      101 ∷ []) (Syntax.ttcons (Syntax.tcons (Syntax.tyInt Syntax.w8) Syntax.tnil) (Syntax.ttcons (Syntax.tcons (Syntax.tyEnum (107 ∷ 105 ∷ 110 ∷ 100 ∷ 115 ∷ 58
+      ∷ 58 ∷ 75 ∷ 105 ∷ 110 ∷ 100 ∷ []) (Syntax.ttcons Syntax.tnil (Syntax.ttcons Syntax.tnil (Syntax.ttcons Syntax.tnil (Syntax.ttcons Syntax.tnil
       (Syntax.ttcons Syntax.tnil (Syntax.ttcons Syntax.tnil (Syntax.ttcons Syntax.tnil (Syntax.ttcons Syntax.tnil (Syntax.ttcons Syntax.tnil (Syntax.ttcons
       Syntax.tnil (Syntax.ttcons Syntax.tnil (Syntax.ttcons Syntax.tnil (Syntax.ttcons Syntax.tnil (Syntax.ttcons Syntax.tnil (Syntax.ttcons Syntax.tnil
       (Syntax.ttcons Syntax.tnil (Syntax.ttcons Syntax.tnil (Syntax.ttcons Syntax.tnil (Syntax.ttcons Syntax.tnil (Syntax.ttcons Syntax.tnil (Syntax.ttcons
       Syntax.tnil (Syntax.ttcons Syntax.tnil (Syntax.ttcons Syntax.tnil (Syntax.ttcons Syntax.tnil (Syntax.ttcons Syntax.tnil (Syntax.ttcons Syntax.tnil
-      (Syntax.ttcons Syntax.tnil (Syntax.ttcons Syntax.tnil (Syntax.ttcons Syntax.tnil (Syntax.ttcons Syntax.tnil Syntax.ttnil)))))))))))))))))))))))))))))
-      Syntax.tnil) (Syntax.ttcons (Syntax.tcons (Syntax.tyEnum (108 ∷ 105 ∷ 110 ∷ 101 ∷ 58 ∷ 58 ∷ 82 ∷ 101 ∷ 99 ∷ 111 ∷ 114 ∷ 100 ∷ []) (Syntax.ttcons
-      (Syntax.tcons Syntax.tyBool (Syntax.tcons (Syntax.tyStruct (99 ∷ 111 ∷ 111 ∷ 114 ∷ 100 ∷ 105 ∷ 110 ∷ 97 ∷ 116 ∷ 101 ∷ 58 ∷ 58 ∷ 65 ∷ 116 ∷ 111 ∷ 109 ∷ [])
-      (Syntax.tcons (Syntax.tyStruct (99 ∷ 111 ∷ 111 ∷ 114 ∷ 100 ∷ 105 ∷ 110 ∷ 97 ∷ 116 ∷ 101 ∷ 58 ∷ 58 ∷ 73 ∷ 100 ∷ 101 ∷ 110 ∷ 116 ∷ 105 ∷ 116 ∷ 121 ∷ [])
-      (Syntax.tcons (Syntax.tyStruct (102 ∷ 105 ∷ 101 ∷ 108 ∷ 100 ∷ 115 ∷ 58 ∷ 58 ∷ 83 ∷ 101 ∷ 114 ∷ 105 ∷ 97 ∷ 108 ∷ []) (Syntax.tcons (Syntax.tyInt Syntax.w32)
-      Syntax.tnil)) (Syntax.tcons (Syntax.tyStruct (110 ∷ 97 ∷ 109 ∷ 101 ∷ 115 ∷ 58 ∷ 58 ∷ 70 ∷ 111 ∷ 117 ∷ 114 ∷ []) (Syntax.tcons (Syntax.tyInt Syntax.w8)
-      (Syntax.tcons (Syntax.tyInt Syntax.w8) (Syntax.tcons (Syntax.tyInt Syntax.w8) (Syntax.tcons (Syntax.tyInt Syntax.w8) Syntax.tnil))))) (Syntax.tcons
-      (Syntax.tyInt Syntax.w8) (Syntax.tcons (Syntax.tyStruct (114 ∷ 101 ∷ 115 ∷ 105 ∷ 100 ∷ 117 ∷ 101 ∷ 58 ∷ 58 ∷ 82 ∷ 101 ∷ 115 ∷ 105 ∷ 100 ∷ 117 ∷ 101 ∷ [])
-      (Syntax.tcons (Syntax.tyStruct (110 ∷ 97 ∷ 109 ∷ 101 ∷ 115 ∷ 58 ∷ 58 ∷ 84 ∷ 104 ∷ 114 ∷ 101 ∷ 101 ∷ []) (Syntax.tcons (Syntax.tyInt Syntax.w8)
-      (Syntax.tcons (Syntax.tyInt Syntax.w8) (Syntax.tcons (Syntax.tyInt Syntax.w8) Syntax.tnil)))) (Syntax.tcons (Syntax.tyInt Syntax.w8) (Syntax.tcons
-      (Syntax.tyStruct (102 ∷ 105 ∷ 101 ∷ 108 ∷ 100 ∷ 115 ∷ 58 ∷ 58 ∷ 82 ∷ 101 ∷ 115 ∷ 105 ∷ 100 ∷ 117 ∷ 101 ∷ 78 ∷ 117 ∷ 109 ∷ 98 ∷ 101 ∷ 114 ∷ [])
-      (Syntax.tcons (Syntax.tyInt Syntax.w32) Syntax.tnil)) (Syntax.tcons (Syntax.tyInt Syntax.w8) Syntax.tnil))))) Syntax.tnil))))) (Syntax.tcons
+      (Syntax.ttcons Syntax.tnil (Syntax.ttcons Syntax.tnil Syntax.ttnil))))))))))))))))))))))))))))) (Syntax.tcons (Syntax.tyInt Syntax.w32) Syntax.tnil))
+      (Syntax.ttcons (Syntax.tcons (Syntax.tyEnum (107 ∷ 105 ∷ 110 ∷ 100 ∷ 115 ∷ 58 ∷ 58 ∷ 75 ∷ 105 ∷ 110 ∷ 100 ∷ []) (Syntax.ttcons Syntax.tnil (Syntax.ttcons
+      Syntax.tnil (Syntax.ttcons Syntax.tnil (Syntax.ttcons Syntax.tnil (Syntax.ttcons Syntax.tnil (Syntax.ttcons Syntax.tnil (Syntax.ttcons Syntax.tnil
+      (Syntax.ttcons Syntax.tnil (Syntax.ttcons Syntax.tnil (Syntax.ttcons Syntax.tnil (Syntax.ttcons Syntax.tnil (Syntax.ttcons Syntax.tnil (Syntax.ttcons
+      Syntax.tnil (Syntax.ttcons Syntax.tnil (Syntax.ttcons Syntax.tnil (Syntax.ttcons Syntax.tnil (Syntax.ttcons Syntax.tnil (Syntax.ttcons Syntax.tnil
+      (Syntax.ttcons Syntax.tnil (Syntax.ttcons Syntax.tnil (Syntax.ttcons Syntax.tnil (Syntax.ttcons Syntax.tnil (Syntax.ttcons Syntax.tnil (Syntax.ttcons
+      Syntax.tnil (Syntax.ttcons Syntax.tnil (Syntax.ttcons Syntax.tnil (Syntax.ttcons Syntax.tnil (Syntax.ttcons Syntax.tnil
+      Syntax.ttnil))))))))))))))))))))))))))))) Syntax.tnil) (Syntax.ttcons (Syntax.tcons (Syntax.tyEnum (108 ∷ 105 ∷ 110 ∷ 101 ∷ 58 ∷ 58 ∷ 82 ∷ 101 ∷ 99 ∷ 111 ∷
+      114 ∷ 100 ∷ []) (Syntax.ttcons (Syntax.tcons Syntax.tyBool (Syntax.tcons (Syntax.tyStruct (99 ∷ 111 ∷ 111 ∷ 114 ∷ 100 ∷ 105 ∷ 110 ∷ 97 ∷ 116 ∷ 101 ∷ 58 ∷
+      58 ∷ 65 ∷ 116 ∷ 111 ∷ 109 ∷ []) (Syntax.tcons (Syntax.tyStruct (99 ∷ 111 ∷ 111 ∷ 114 ∷ 100 ∷ 105 ∷ 110 ∷ 97 ∷ 116 ∷ 101 ∷ 58 ∷ 58 ∷ 73 ∷ 100 ∷ 101 ∷ 110 ∷
+      116 ∷ 105 ∷ 116 ∷ 121 ∷ []) (Syntax.tcons (Syntax.tyStruct (102 ∷ 105 ∷ 101 ∷ 108 ∷ 100 ∷ 115 ∷ 58 ∷ 58 ∷ 83 ∷ 101 ∷ 114 ∷ 105 ∷ 97 ∷ 108 ∷ [])
+      (Syntax.tcons (Syntax.tyInt Syntax.w32) Syntax.tnil)) (Syntax.tcons (Syntax.tyStruct (110 ∷ 97 ∷ 109 ∷ 101 ∷ 115 ∷ 58 ∷ 58 ∷ 70 ∷ 111 ∷ 117 ∷ 114 ∷ [])
+      (Syntax.tcons (Syntax.tyInt Syntax.w8) (Syntax.tcons (Syntax.tyInt Syntax.w8) (Syntax.tcons (Syntax.tyInt Syntax.w8) (Syntax.tcons (Syntax.tyInt Syntax.w8)
+      Syntax.tnil))))) (Syntax.tcons (Syntax.tyInt Syntax.w8) (Syntax.tcons (Syntax.tyStruct (114 ∷ 101 ∷ 115 ∷ 105 ∷ 100 ∷ 117 ∷ 101 ∷ 58 ∷ 58 ∷ 82 ∷ 101 ∷ 115
+      ∷ 105 ∷ 100 ∷ 117 ∷ 101 ∷ []) (Syntax.tcons (Syntax.tyStruct (110 ∷ 97 ∷ 109 ∷ 101 ∷ 115 ∷ 58 ∷ 58 ∷ 84 ∷ 104 ∷ 114 ∷ 101 ∷ 101 ∷ []) (Syntax.tcons
+      (Syntax.tyInt Syntax.w8) (Syntax.tcons (Syntax.tyInt Syntax.w8) (Syntax.tcons (Syntax.tyInt Syntax.w8) Syntax.tnil)))) (Syntax.tcons (Syntax.tyInt
+      Syntax.w8) (Syntax.tcons (Syntax.tyStruct (102 ∷ 105 ∷ 101 ∷ 108 ∷ 100 ∷ 115 ∷ 58 ∷ 58 ∷ 82 ∷ 101 ∷ 115 ∷ 105 ∷ 100 ∷ 117 ∷ 101 ∷ 78 ∷ 117 ∷ 109 ∷ 98 ∷ 101
+      ∷ 114 ∷ []) (Syntax.tcons (Syntax.tyInt Syntax.w32) Syntax.tnil)) (Syntax.tcons (Syntax.tyInt Syntax.w8) Syntax.tnil))))) Syntax.tnil))))) (Syntax.tcons
       (Syntax.tyStruct (99 ∷ 111 ∷ 111 ∷ 114 ∷ 100 ∷ 105 ∷ 110 ∷ 97 ∷ 116 ∷ 101 ∷ 58 ∷ 58 ∷ 77 ∷ 101 ∷ 97 ∷ 115 ∷ 117 ∷ 114 ∷ 101 ∷ []) (Syntax.tcons
       (Syntax.tyStruct (99 ∷ 111 ∷ 111 ∷ 114 ∷ 100 ∷ 105 ∷ 110 ∷ 97 ∷ 116 ∷ 101 ∷ 58 ∷ 58 ∷ 80 ∷ 111 ∷ 115 ∷ 105 ∷ 116 ∷ 105 ∷ 111 ∷ 110 ∷ []) (Syntax.tcons
       (Syntax.tyInt Syntax.w32) (Syntax.tcons (Syntax.tyInt Syntax.w32) (Syntax.tcons (Syntax.tyInt Syntax.w32) Syntax.tnil)))) (Syntax.tcons (Syntax.tyInt
@@ -5696,16 +5993,20 @@ t43 = (
           (Syntax.tcons (Syntax.tyStruct (115 ∷ 101 ∷ 97 ∷ 114 ∷ 99 ∷ 104 ∷ 58 ∷ 58 ∷ 83 ∷ 112 ∷ 97 ∷ 110 ∷ []) (Syntax.tcons (Syntax.tyInt Syntax.w64) (Syntax.tcons
           (Syntax.tyInt Syntax.w64) Syntax.tnil))) (Syntax.tcons (Syntax.tyStruct (115 ∷ 101 ∷ 97 ∷ 114 ∷ 99 ∷ 104 ∷ 58 ∷ 58 ∷ 78 ∷ 101 ∷ 97 ∷ 114 ∷ [])
           (Syntax.tcons (Syntax.tyInt Syntax.w64) (Syntax.tcons (Syntax.tyStruct (102 ∷ 105 ∷ 101 ∷ 108 ∷ 100 ∷ 115 ∷ 58 ∷ 58 ∷ 83 ∷ 101 ∷ 114 ∷ 105 ∷ 97 ∷ 108 ∷ [])
-          (Syntax.tcons (Syntax.tyInt Syntax.w32) Syntax.tnil)) Syntax.tnil))) Syntax.tnil))) Syntax.tnil))) Syntax.tnil))),
+          (Syntax.tcons (Syntax.tyInt Syntax.w32) Syntax.tnil)) Syntax.tnil))) Syntax.tnil))) (Syntax.tcons (Syntax.tyStruct (116 ∷ 114 ∷ 97 ∷ 105 ∷ 108 ∷ 58 ∷ 58 ∷
+          87 ∷ 97 ∷ 116 ∷ 99 ∷ 104 ∷ []) (Syntax.tcons (Syntax.tyInt Syntax.w64) (Syntax.tcons (Syntax.tyInt Syntax.w64) (Syntax.tcons (Syntax.tyInt Syntax.w64)
+          (Syntax.tcons (Syntax.tyInt Syntax.w64) (Syntax.tcons (Syntax.tyInt Syntax.w64) (Syntax.tcons (Syntax.tyInt Syntax.w64) (Syntax.tcons (Syntax.tyStruct (97
+          ∷ 104 ∷ 101 ∷ 97 ∷ 100 ∷ 58 ∷ 58 ∷ 65 ∷ 104 ∷ 101 ∷ 97 ∷ 100 ∷ []) (Syntax.tcons (Syntax.tyInt Syntax.w64) (Syntax.tcons (Syntax.tyInt Syntax.w64)
+          (Syntax.tcons (Syntax.tyInt Syntax.w64) Syntax.tnil)))) Syntax.tnil)))))))) Syntax.tnil)))) Syntax.tnil))),
     ) ∷ (
       11,
-      Rows'.any-gone (Syntax.tyStruct
-          (103 ∷ 97 ∷ 116 ∷ 101 ∷ 58 ∷ 58 ∷ 67 ∷ 111 ∷ 117 ∷ 114 ∷ 115 ∷ 101 ∷ []) (Syntax.tcons (Syntax.tyStruct (114 ∷ 117 ∷ 108 ∷ 101 ∷ 115 ∷ 58 ∷ 58 ∷ 83 ∷ 116 ∷
-          97 ∷ 116 ∷ 101 ∷ []) (Syntax.tcons (Syntax.tyInt Syntax.w8) (Syntax.tcons (Syntax.tyStruct (102 ∷ 105 ∷ 101 ∷ 108 ∷ 100 ∷ 115 ∷ 58 ∷ 58 ∷ 83 ∷ 101 ∷ 114 ∷
-          105 ∷ 97 ∷ 108 ∷ []) (Syntax.tcons (Syntax.tyInt Syntax.w32) Syntax.tnil)) (Syntax.tcons (Syntax.tyStruct (114 ∷ 117 ∷ 108 ∷ 101 ∷ 115 ∷ 58 ∷ 58 ∷ 82 ∷ 117
-          ∷ 110 ∷ []) (Syntax.tcons Syntax.tyBool (Syntax.tcons Syntax.tyBool (Syntax.tcons Syntax.tyBool (Syntax.tcons (Syntax.tyStruct (114 ∷ 101 ∷ 115 ∷ 105 ∷ 100
-          ∷ 117 ∷ 101 ∷ 58 ∷ 58 ∷ 82 ∷ 101 ∷ 115 ∷ 105 ∷ 100 ∷ 117 ∷ 101 ∷ []) (Syntax.tcons (Syntax.tyStruct (110 ∷ 97 ∷ 109 ∷ 101 ∷ 115 ∷ 58 ∷ 58 ∷ 84 ∷ 104 ∷ 114
-          ∷ 101 ∷ 101 ∷ []) (Syntax.tcons (Syntax.tyInt Syntax.w8) (Syntax.tcons (Syntax.tyInt Syntax.w8) (Syntax.tcons (Syntax.tyInt Syntax.w8) Syntax.tnil))))
+      Rows'.any-gone (Syntax.tyStruct (103 ∷
+          97 ∷ 116 ∷ 101 ∷ 58 ∷ 58 ∷ 67 ∷ 111 ∷ 117 ∷ 114 ∷ 115 ∷ 101 ∷ []) (Syntax.tcons (Syntax.tyStruct (114 ∷ 117 ∷ 108 ∷ 101 ∷ 115 ∷ 58 ∷ 58 ∷ 83 ∷ 116 ∷ 97 ∷
+          116 ∷ 101 ∷ []) (Syntax.tcons (Syntax.tyInt Syntax.w8) (Syntax.tcons (Syntax.tyStruct (102 ∷ 105 ∷ 101 ∷ 108 ∷ 100 ∷ 115 ∷ 58 ∷ 58 ∷ 83 ∷ 101 ∷ 114 ∷ 105 ∷
+          97 ∷ 108 ∷ []) (Syntax.tcons (Syntax.tyInt Syntax.w32) Syntax.tnil)) (Syntax.tcons (Syntax.tyStruct (114 ∷ 117 ∷ 108 ∷ 101 ∷ 115 ∷ 58 ∷ 58 ∷ 82 ∷ 117 ∷ 110
+          ∷ []) (Syntax.tcons Syntax.tyBool (Syntax.tcons Syntax.tyBool (Syntax.tcons Syntax.tyBool (Syntax.tcons (Syntax.tyStruct (114 ∷ 101 ∷ 115 ∷ 105 ∷ 100 ∷ 117
+          ∷ 101 ∷ 58 ∷ 58 ∷ 82 ∷ 101 ∷ 115 ∷ 105 ∷ 100 ∷ 117 ∷ 101 ∷ []) (Syntax.tcons (Syntax.tyStruct (110 ∷ 97 ∷ 109 ∷ 101 ∷ 115 ∷ 58 ∷ 58 ∷ 84 ∷ 104 ∷ 114 ∷ 101
+          ∷ 101 ∷ []) (Syntax.tcons (Syntax.tyInt Syntax.w8) (Syntax.tcons (Syntax.tyInt Syntax.w8) (Syntax.tcons (Syntax.tyInt Syntax.w8) Syntax.tnil))))
           (Syntax.tcons (Syntax.tyInt Syntax.w8) (Syntax.tcons (Syntax.tyStruct (102 ∷ 105 ∷ 101 ∷ 108 ∷ 100 ∷ 115 ∷ 58 ∷ 58 ∷ 82 ∷ 101 ∷ 115 ∷ 105 ∷ 100 ∷ 117 ∷ 101
           ∷ 78 ∷ 117 ∷ 109 ∷ 98 ∷ 101 ∷ 114 ∷ []) (Syntax.tcons (Syntax.tyInt Syntax.w32) Syntax.tnil)) (Syntax.tcons (Syntax.tyInt Syntax.w8) Syntax.tnil)))))
           Syntax.tnil))))) (Syntax.tcons (Syntax.tyStruct (102 ∷ 105 ∷ 101 ∷ 108 ∷ 100 ∷ 115 ∷ 58 ∷ 58 ∷ 83 ∷ 101 ∷ 114 ∷ 105 ∷ 97 ∷ 108 ∷ []) (Syntax.tcons
@@ -5720,13 +6021,16 @@ t43 = (
           (Syntax.tyStruct (115 ∷ 101 ∷ 97 ∷ 114 ∷ 99 ∷ 104 ∷ 58 ∷ 58 ∷ 83 ∷ 112 ∷ 97 ∷ 110 ∷ []) (Syntax.tcons (Syntax.tyInt Syntax.w64) (Syntax.tcons (Syntax.tyInt
           Syntax.w64) Syntax.tnil))) (Syntax.tcons (Syntax.tyStruct (115 ∷ 101 ∷ 97 ∷ 114 ∷ 99 ∷ 104 ∷ 58 ∷ 58 ∷ 78 ∷ 101 ∷ 97 ∷ 114 ∷ []) (Syntax.tcons
           (Syntax.tyInt Syntax.w64) (Syntax.tcons (Syntax.tyStruct (102 ∷ 105 ∷ 101 ∷ 108 ∷ 100 ∷ 115 ∷ 58 ∷ 58 ∷ 83 ∷ 101 ∷ 114 ∷ 105 ∷ 97 ∷ 108 ∷ []) (Syntax.tcons
-          (Syntax.tyInt Syntax.w32) Syntax.tnil)) Syntax.tnil))) Syntax.tnil))) Syntax.tnil))),
-    ) ∷ (12, Rows'.any-gone SlotAs.ty) ∷ (13, Rows'.any-gone Syntax.tyBool)
-    ∷ (
+          (Syntax.tyInt Syntax.w32) Syntax.tnil)) Syntax.tnil))) Syntax.tnil))) (Syntax.tcons (Syntax.tyStruct (116 ∷ 114 ∷ 97 ∷ 105 ∷ 108 ∷ 58 ∷ 58 ∷ 87 ∷ 97 ∷ 116
+          ∷ 99 ∷ 104 ∷ []) (Syntax.tcons (Syntax.tyInt Syntax.w64) (Syntax.tcons (Syntax.tyInt Syntax.w64) (Syntax.tcons (Syntax.tyInt Syntax.w64) (Syntax.tcons
+          (Syntax.tyInt Syntax.w64) (Syntax.tcons (Syntax.tyInt Syntax.w64) (Syntax.tcons (Syntax.tyInt Syntax.w64) (Syntax.tcons (Syntax.tyStruct (97 ∷ 104 ∷ 101 ∷
+          97 ∷ 100 ∷ 58 ∷ 58 ∷ 65 ∷ 104 ∷ 101 ∷ 97 ∷ 100 ∷ []) (Syntax.tcons (Syntax.tyInt Syntax.w64) (Syntax.tcons (Syntax.tyInt Syntax.w64) (Syntax.tcons
+          (Syntax.tyInt Syntax.w64) Syntax.tnil)))) Syntax.tnil)))))))) Syntax.tnil)))),
+    ) ∷ (12, Rows'.any-gone SlotAs.ty) ∷ (13, Rows'.any-gone Syntax.tyBool) ∷ (
       14,
-      Rows'.any-gone (Syntax.tyStruct (115 ∷ 101 ∷ 97 ∷ 114 ∷ 99 ∷ 104 ∷ 58 ∷ 58 ∷ 83 ∷ 111 ∷ 117 ∷ 103 ∷ 104 ∷ 116 ∷ []) (Syntax.tcons (Syntax.tyStruct
-          (115 ∷ 101 ∷ 97 ∷ 114 ∷ 99 ∷ 104 ∷ 58 ∷ 58 ∷ 78 ∷ 101 ∷ 97 ∷ 114 ∷ []) (Syntax.tcons (Syntax.tyInt Syntax.w64) (Syntax.tcons (Syntax.tyStruct (102 ∷ 105 ∷
-          101 ∷ 108 ∷ 100 ∷ 115 ∷ 58 ∷ 58 ∷ 83 ∷ 101 ∷ 114 ∷ 105 ∷ 97 ∷ 108 ∷ []) (Syntax.tcons (Syntax.tyInt Syntax.w32) Syntax.tnil)) Syntax.tnil))) (Syntax.tcons
+      Rows'.any-gone (Syntax.tyStruct (115 ∷ 101 ∷ 97 ∷ 114 ∷ 99 ∷ 104 ∷ 58 ∷ 58 ∷ 83 ∷ 111 ∷ 117 ∷ 103 ∷ 104 ∷ 116 ∷ []) (Syntax.tcons (Syntax.tyStruct (115 ∷
+          101 ∷ 97 ∷ 114 ∷ 99 ∷ 104 ∷ 58 ∷ 58 ∷ 78 ∷ 101 ∷ 97 ∷ 114 ∷ []) (Syntax.tcons (Syntax.tyInt Syntax.w64) (Syntax.tcons (Syntax.tyStruct (102 ∷ 105 ∷ 101 ∷
+          108 ∷ 100 ∷ 115 ∷ 58 ∷ 58 ∷ 83 ∷ 101 ∷ 114 ∷ 105 ∷ 97 ∷ 108 ∷ []) (Syntax.tcons (Syntax.tyInt Syntax.w32) Syntax.tnil)) Syntax.tnil))) (Syntax.tcons
           Syntax.tyBool Syntax.tnil))),
     ) ∷ (
       15,
@@ -6059,7 +6363,11 @@ module _ (claims· : Claims) where
       (Syntax.tyStruct (115 ∷ 101 ∷ 97 ∷ 114 ∷ 99 ∷ 104 ∷ 58 ∷ 58 ∷ 83 ∷ 112 ∷ 97 ∷ 110 ∷ []) (Syntax.tcons (Syntax.tyInt Syntax.w64) (Syntax.tcons
       (Syntax.tyInt Syntax.w64) Syntax.tnil))) (Syntax.tcons (Syntax.tyStruct (115 ∷ 101 ∷ 97 ∷ 114 ∷ 99 ∷ 104 ∷ 58 ∷ 58 ∷ 78 ∷ 101 ∷ 97 ∷ 114 ∷ [])
       (Syntax.tcons (Syntax.tyInt Syntax.w64) (Syntax.tcons (Syntax.tyStruct (102 ∷ 105 ∷ 101 ∷ 108 ∷ 100 ∷ 115 ∷ 58 ∷ 58 ∷ 83 ∷ 101 ∷ 114 ∷ 105 ∷ 97 ∷ 108 ∷
-      []) (Syntax.tcons (Syntax.tyInt Syntax.w32) Syntax.tnil)) Syntax.tnil))) Syntax.tnil))) Syntax.tnil)))
+      []) (Syntax.tcons (Syntax.tyInt Syntax.w32) Syntax.tnil)) Syntax.tnil))) Syntax.tnil))) (Syntax.tcons (Syntax.tyStruct (116 ∷ 114 ∷ 97 ∷ 105 ∷ 108 ∷ 58 ∷
+      58 ∷ 87 ∷ 97 ∷ 116 ∷ 99 ∷ 104 ∷ []) (Syntax.tcons (Syntax.tyInt Syntax.w64) (Syntax.tcons (Syntax.tyInt Syntax.w64) (Syntax.tcons (Syntax.tyInt
+      Syntax.w64) (Syntax.tcons (Syntax.tyInt Syntax.w64) (Syntax.tcons (Syntax.tyInt Syntax.w64) (Syntax.tcons (Syntax.tyInt Syntax.w64) (Syntax.tcons
+      (Syntax.tyStruct (97 ∷ 104 ∷ 101 ∷ 97 ∷ 100 ∷ 58 ∷ 58 ∷ 65 ∷ 104 ∷ 101 ∷ 97 ∷ 100 ∷ []) (Syntax.tcons (Syntax.tyInt Syntax.w64) (Syntax.tcons
+      (Syntax.tyInt Syntax.w64) (Syntax.tcons (Syntax.tyInt Syntax.w64) Syntax.tnil)))) Syntax.tnil)))))))) Syntax.tnil))))
 
   abbrev s3 : (bs : List.List Nat.ℕ) → Typed.Mo T4 → Typed.Mo T5
   s3 = λ bs. Scalar.n-use T4 (Scalar.oInt Syntax.w64 0) 5 (Rows'.sc-here (Row.sInt Syntax.w64)) (Row.sInt Syntax.w64 .of)
@@ -6249,7 +6557,11 @@ module _ (claims· : Claims) where
       115 ∷ 116 ∷ []) (Syntax.tcons (Syntax.tyStruct (115 ∷ 101 ∷ 97 ∷ 114 ∷ 99 ∷ 104 ∷ 58 ∷ 58 ∷ 83 ∷ 112 ∷ 97 ∷ 110 ∷ []) (Syntax.tcons (Syntax.tyInt
       Syntax.w64) (Syntax.tcons (Syntax.tyInt Syntax.w64) Syntax.tnil))) (Syntax.tcons (Syntax.tyStruct (115 ∷ 101 ∷ 97 ∷ 114 ∷ 99 ∷ 104 ∷ 58 ∷ 58 ∷ 78 ∷ 101 ∷
       97 ∷ 114 ∷ []) (Syntax.tcons (Syntax.tyInt Syntax.w64) (Syntax.tcons (Syntax.tyStruct (102 ∷ 105 ∷ 101 ∷ 108 ∷ 100 ∷ 115 ∷ 58 ∷ 58 ∷ 83 ∷ 101 ∷ 114 ∷ 105
-      ∷ 97 ∷ 108 ∷ []) (Syntax.tcons (Syntax.tyInt Syntax.w32) Syntax.tnil)) Syntax.tnil))) Syntax.tnil))) Syntax.tnil))) Syntax.tnil)))
+      ∷ 97 ∷ 108 ∷ []) (Syntax.tcons (Syntax.tyInt Syntax.w32) Syntax.tnil)) Syntax.tnil))) Syntax.tnil))) (Syntax.tcons (Syntax.tyStruct (116 ∷ 114 ∷ 97 ∷ 105
+      ∷ 108 ∷ 58 ∷ 58 ∷ 87 ∷ 97 ∷ 116 ∷ 99 ∷ 104 ∷ []) (Syntax.tcons (Syntax.tyInt Syntax.w64) (Syntax.tcons (Syntax.tyInt Syntax.w64) (Syntax.tcons
+      (Syntax.tyInt Syntax.w64) (Syntax.tcons (Syntax.tyInt Syntax.w64) (Syntax.tcons (Syntax.tyInt Syntax.w64) (Syntax.tcons (Syntax.tyInt Syntax.w64)
+      (Syntax.tcons (Syntax.tyStruct (97 ∷ 104 ∷ 101 ∷ 97 ∷ 100 ∷ 58 ∷ 58 ∷ 65 ∷ 104 ∷ 101 ∷ 97 ∷ 100 ∷ []) (Syntax.tcons (Syntax.tyInt Syntax.w64)
+      (Syntax.tcons (Syntax.tyInt Syntax.w64) (Syntax.tcons (Syntax.tyInt Syntax.w64) Syntax.tnil)))) Syntax.tnil)))))))) Syntax.tnil)))) Syntax.tnil)))
 
   abbrev s21 : (bs : List.List Nat.ℕ) → Typed.Mo T24 → Typed.Mo T25
   s21 = λ bs. Scalar.n-room T24 4 (Syntax.tyStruct (103 ∷ 97 ∷ 116 ∷ 101 ∷ 58 ∷ 58 ∷ 67 ∷ 111 ∷ 117 ∷ 114 ∷ 115 ∷ 101 ∷ []) (Syntax.tcons (Syntax.tyStruct (114
@@ -6273,7 +6585,11 @@ module _ (claims· : Claims) where
       97 ∷ 114 ∷ 99 ∷ 104 ∷ 58 ∷ 58 ∷ 83 ∷ 112 ∷ 97 ∷ 110 ∷ []) (Syntax.tcons (Syntax.tyInt Syntax.w64) (Syntax.tcons (Syntax.tyInt Syntax.w64) Syntax.tnil)))
       (Syntax.tcons (Syntax.tyStruct (115 ∷ 101 ∷ 97 ∷ 114 ∷ 99 ∷ 104 ∷ 58 ∷ 58 ∷ 78 ∷ 101 ∷ 97 ∷ 114 ∷ []) (Syntax.tcons (Syntax.tyInt Syntax.w64)
       (Syntax.tcons (Syntax.tyStruct (102 ∷ 105 ∷ 101 ∷ 108 ∷ 100 ∷ 115 ∷ 58 ∷ 58 ∷ 83 ∷ 101 ∷ 114 ∷ 105 ∷ 97 ∷ 108 ∷ []) (Syntax.tcons (Syntax.tyInt
-      Syntax.w32) Syntax.tnil)) Syntax.tnil))) Syntax.tnil))) Syntax.tnil)))
+      Syntax.w32) Syntax.tnil)) Syntax.tnil))) Syntax.tnil))) (Syntax.tcons (Syntax.tyStruct (116 ∷ 114 ∷ 97 ∷ 105 ∷ 108 ∷ 58 ∷ 58 ∷ 87 ∷ 97 ∷ 116 ∷ 99 ∷ 104 ∷
+      []) (Syntax.tcons (Syntax.tyInt Syntax.w64) (Syntax.tcons (Syntax.tyInt Syntax.w64) (Syntax.tcons (Syntax.tyInt Syntax.w64) (Syntax.tcons (Syntax.tyInt
+      Syntax.w64) (Syntax.tcons (Syntax.tyInt Syntax.w64) (Syntax.tcons (Syntax.tyInt Syntax.w64) (Syntax.tcons (Syntax.tyStruct (97 ∷ 104 ∷ 101 ∷ 97 ∷ 100 ∷
+      58 ∷ 58 ∷ 65 ∷ 104 ∷ 101 ∷ 97 ∷ 100 ∷ []) (Syntax.tcons (Syntax.tyInt Syntax.w64) (Syntax.tcons (Syntax.tyInt Syntax.w64) (Syntax.tcons (Syntax.tyInt
+      Syntax.w64) Syntax.tnil)))) Syntax.tnil)))))))) Syntax.tnil))))
 
   abbrev s22 : (bs : List.List Nat.ℕ) → Typed.Gives T25 T26
   s22 = λ bs. Know'.k-struct-known Onward.the-type Laws''.the-laws T25 10 λ x. x
@@ -6417,7 +6733,11 @@ module _ (claims· : Claims) where
       83 ∷ 112 ∷ 97 ∷ 110 ∷ []) (Syntax.tcons (Syntax.tyInt Syntax.w64) (Syntax.tcons (Syntax.tyInt Syntax.w64) Syntax.tnil))) (Syntax.tcons (Syntax.tyStruct
       (115 ∷ 101 ∷ 97 ∷ 114 ∷ 99 ∷ 104 ∷ 58 ∷ 58 ∷ 78 ∷ 101 ∷ 97 ∷ 114 ∷ []) (Syntax.tcons (Syntax.tyInt Syntax.w64) (Syntax.tcons (Syntax.tyStruct (102 ∷ 105
       ∷ 101 ∷ 108 ∷ 100 ∷ 115 ∷ 58 ∷ 58 ∷ 83 ∷ 101 ∷ 114 ∷ 105 ∷ 97 ∷ 108 ∷ []) (Syntax.tcons (Syntax.tyInt Syntax.w32) Syntax.tnil)) Syntax.tnil)))
-      Syntax.tnil))) Syntax.tnil))) Syntax.tnil)))
+      Syntax.tnil))) (Syntax.tcons (Syntax.tyStruct (116 ∷ 114 ∷ 97 ∷ 105 ∷ 108 ∷ 58 ∷ 58 ∷ 87 ∷ 97 ∷ 116 ∷ 99 ∷ 104 ∷ []) (Syntax.tcons (Syntax.tyInt
+      Syntax.w64) (Syntax.tcons (Syntax.tyInt Syntax.w64) (Syntax.tcons (Syntax.tyInt Syntax.w64) (Syntax.tcons (Syntax.tyInt Syntax.w64) (Syntax.tcons
+      (Syntax.tyInt Syntax.w64) (Syntax.tcons (Syntax.tyInt Syntax.w64) (Syntax.tcons (Syntax.tyStruct (97 ∷ 104 ∷ 101 ∷ 97 ∷ 100 ∷ 58 ∷ 58 ∷ 65 ∷ 104 ∷ 101 ∷
+      97 ∷ 100 ∷ []) (Syntax.tcons (Syntax.tyInt Syntax.w64) (Syntax.tcons (Syntax.tyInt Syntax.w64) (Syntax.tcons (Syntax.tyInt Syntax.w64) Syntax.tnil))))
+      Syntax.tnil)))))))) Syntax.tnil)))) Syntax.tnil)))
 
   abbrev s29 : (bs : List.List Nat.ℕ) → Typed.Mo T33 → Typed.Mo T34
   s29 = λ bs. Scalar.n-room T33 3 (Syntax.tyInt Syntax.w64)
@@ -6471,7 +6791,11 @@ module _ (claims· : Claims) where
       83 ∷ 112 ∷ 97 ∷ 110 ∷ []) (Syntax.tcons (Syntax.tyInt Syntax.w64) (Syntax.tcons (Syntax.tyInt Syntax.w64) Syntax.tnil))) (Syntax.tcons (Syntax.tyStruct
       (115 ∷ 101 ∷ 97 ∷ 114 ∷ 99 ∷ 104 ∷ 58 ∷ 58 ∷ 78 ∷ 101 ∷ 97 ∷ 114 ∷ []) (Syntax.tcons (Syntax.tyInt Syntax.w64) (Syntax.tcons (Syntax.tyStruct (102 ∷ 105
       ∷ 101 ∷ 108 ∷ 100 ∷ 115 ∷ 58 ∷ 58 ∷ 83 ∷ 101 ∷ 114 ∷ 105 ∷ 97 ∷ 108 ∷ []) (Syntax.tcons (Syntax.tyInt Syntax.w32) Syntax.tnil)) Syntax.tnil)))
-      Syntax.tnil))) Syntax.tnil))) Syntax.tnil)))
+      Syntax.tnil))) (Syntax.tcons (Syntax.tyStruct (116 ∷ 114 ∷ 97 ∷ 105 ∷ 108 ∷ 58 ∷ 58 ∷ 87 ∷ 97 ∷ 116 ∷ 99 ∷ 104 ∷ []) (Syntax.tcons (Syntax.tyInt
+      Syntax.w64) (Syntax.tcons (Syntax.tyInt Syntax.w64) (Syntax.tcons (Syntax.tyInt Syntax.w64) (Syntax.tcons (Syntax.tyInt Syntax.w64) (Syntax.tcons
+      (Syntax.tyInt Syntax.w64) (Syntax.tcons (Syntax.tyInt Syntax.w64) (Syntax.tcons (Syntax.tyStruct (97 ∷ 104 ∷ 101 ∷ 97 ∷ 100 ∷ 58 ∷ 58 ∷ 65 ∷ 104 ∷ 101 ∷
+      97 ∷ 100 ∷ []) (Syntax.tcons (Syntax.tyInt Syntax.w64) (Syntax.tcons (Syntax.tyInt Syntax.w64) (Syntax.tcons (Syntax.tyInt Syntax.w64) Syntax.tnil))))
+      Syntax.tnil)))))))) Syntax.tnil)))) Syntax.tnil)))
 
   abbrev s37 : (bs : List.List Nat.ℕ) → Typed.Mo T41 → Typed.Mo T42
   s37 = λ bs. LocalCopy.n-val-copy T41 11 4 (Declared'.row Course.the-type) (Rows'.whole (Declared'.row Course.the-type)) (Rows'.whole (Declared'.row
@@ -6499,7 +6823,11 @@ module _ (claims· : Claims) where
       97 ∷ 114 ∷ 99 ∷ 104 ∷ 58 ∷ 58 ∷ 83 ∷ 112 ∷ 97 ∷ 110 ∷ []) (Syntax.tcons (Syntax.tyInt Syntax.w64) (Syntax.tcons (Syntax.tyInt Syntax.w64) Syntax.tnil)))
       (Syntax.tcons (Syntax.tyStruct (115 ∷ 101 ∷ 97 ∷ 114 ∷ 99 ∷ 104 ∷ 58 ∷ 58 ∷ 78 ∷ 101 ∷ 97 ∷ 114 ∷ []) (Syntax.tcons (Syntax.tyInt Syntax.w64)
       (Syntax.tcons (Syntax.tyStruct (102 ∷ 105 ∷ 101 ∷ 108 ∷ 100 ∷ 115 ∷ 58 ∷ 58 ∷ 83 ∷ 101 ∷ 114 ∷ 105 ∷ 97 ∷ 108 ∷ []) (Syntax.tcons (Syntax.tyInt
-      Syntax.w32) Syntax.tnil)) Syntax.tnil))) Syntax.tnil))) Syntax.tnil)))
+      Syntax.w32) Syntax.tnil)) Syntax.tnil))) Syntax.tnil))) (Syntax.tcons (Syntax.tyStruct (116 ∷ 114 ∷ 97 ∷ 105 ∷ 108 ∷ 58 ∷ 58 ∷ 87 ∷ 97 ∷ 116 ∷ 99 ∷ 104 ∷
+      []) (Syntax.tcons (Syntax.tyInt Syntax.w64) (Syntax.tcons (Syntax.tyInt Syntax.w64) (Syntax.tcons (Syntax.tyInt Syntax.w64) (Syntax.tcons (Syntax.tyInt
+      Syntax.w64) (Syntax.tcons (Syntax.tyInt Syntax.w64) (Syntax.tcons (Syntax.tyInt Syntax.w64) (Syntax.tcons (Syntax.tyStruct (97 ∷ 104 ∷ 101 ∷ 97 ∷ 100 ∷
+      58 ∷ 58 ∷ 65 ∷ 104 ∷ 101 ∷ 97 ∷ 100 ∷ []) (Syntax.tcons (Syntax.tyInt Syntax.w64) (Syntax.tcons (Syntax.tyInt Syntax.w64) (Syntax.tcons (Syntax.tyInt
+      Syntax.w64) Syntax.tnil)))) Syntax.tnil)))))))) Syntax.tnil))))
 
   abbrev s39 : (bs : List.List Nat.ℕ) → Typed.Both T43 T44
   s39 = λ bs. Call.callB ps·3 r·3 (claims· .6) (claims· .7) T43 (
@@ -6750,7 +7078,11 @@ module _ (claims· : Claims) where
       97 ∷ 114 ∷ 99 ∷ 104 ∷ 58 ∷ 58 ∷ 83 ∷ 112 ∷ 97 ∷ 110 ∷ []) (Syntax.tcons (Syntax.tyInt Syntax.w64) (Syntax.tcons (Syntax.tyInt Syntax.w64) Syntax.tnil)))
       (Syntax.tcons (Syntax.tyStruct (115 ∷ 101 ∷ 97 ∷ 114 ∷ 99 ∷ 104 ∷ 58 ∷ 58 ∷ 78 ∷ 101 ∷ 97 ∷ 114 ∷ []) (Syntax.tcons (Syntax.tyInt Syntax.w64)
       (Syntax.tcons (Syntax.tyStruct (102 ∷ 105 ∷ 101 ∷ 108 ∷ 100 ∷ 115 ∷ 58 ∷ 58 ∷ 83 ∷ 101 ∷ 114 ∷ 105 ∷ 97 ∷ 108 ∷ []) (Syntax.tcons (Syntax.tyInt
-      Syntax.w32) Syntax.tnil)) Syntax.tnil))) Syntax.tnil))) Syntax.tnil)))
+      Syntax.w32) Syntax.tnil)) Syntax.tnil))) Syntax.tnil))) (Syntax.tcons (Syntax.tyStruct (116 ∷ 114 ∷ 97 ∷ 105 ∷ 108 ∷ 58 ∷ 58 ∷ 87 ∷ 97 ∷ 116 ∷ 99 ∷ 104 ∷
+      []) (Syntax.tcons (Syntax.tyInt Syntax.w64) (Syntax.tcons (Syntax.tyInt Syntax.w64) (Syntax.tcons (Syntax.tyInt Syntax.w64) (Syntax.tcons (Syntax.tyInt
+      Syntax.w64) (Syntax.tcons (Syntax.tyInt Syntax.w64) (Syntax.tcons (Syntax.tyInt Syntax.w64) (Syntax.tcons (Syntax.tyStruct (97 ∷ 104 ∷ 101 ∷ 97 ∷ 100 ∷
+      58 ∷ 58 ∷ 65 ∷ 104 ∷ 101 ∷ 97 ∷ 100 ∷ []) (Syntax.tcons (Syntax.tyInt Syntax.w64) (Syntax.tcons (Syntax.tyInt Syntax.w64) (Syntax.tcons (Syntax.tyInt
+      Syntax.w64) Syntax.tnil)))) Syntax.tnil)))))))) Syntax.tnil))))
 
   abbrev s60 : (bs : List.List Nat.ℕ) → Typed.Both T64 T65
   s60 = λ bs. Call.callB ps·9 r·9 (claims· .18) (claims· .19) T64 (record { pos = 16; st = []; d = 0; at = λ x. x }, tt) 17 [] (Syntax.tyStruct (103
@@ -7413,17 +7745,21 @@ module _ (claims· : Claims) where
                 116 ∷ []) (Syntax.tcons (Syntax.tyStruct (115 ∷ 101 ∷ 97 ∷ 114 ∷ 99 ∷ 104 ∷ 58 ∷ 58 ∷ 83 ∷ 112 ∷ 97 ∷ 110 ∷ []) (Syntax.tcons (Syntax.tyInt
                 Syntax.w64) (Syntax.tcons (Syntax.tyInt Syntax.w64) Syntax.tnil))) (Syntax.tcons (Syntax.tyStruct (115 ∷ 101 ∷ 97 ∷ 114 ∷ 99 ∷ 104 ∷ 58 ∷ 58 ∷ 78
                 ∷ 101 ∷ 97 ∷ 114 ∷ []) (Syntax.tcons (Syntax.tyInt Syntax.w64) (Syntax.tcons (Syntax.tyStruct (102 ∷ 105 ∷ 101 ∷ 108 ∷ 100 ∷ 115 ∷ 58 ∷ 58 ∷ 83 ∷
-                101 ∷ 114 ∷ 105 ∷ 97 ∷ 108 ∷ []) (Syntax.tcons (Syntax.tyInt Syntax.w32) Syntax.tnil)) Syntax.tnil))) Syntax.tnil))) Syntax.tnil)))
-                Syntax.tnil))) (Local.room-whole 𝓤 H A W (Declared'.row Onward.the-type) (Syntax.tyStruct (103 ∷ 97 ∷ 116 ∷ 101 ∷ 58 ∷ 58 ∷ 79 ∷ 110 ∷ 119 ∷ 97 ∷
-                114 ∷ 100 ∷ []) (Syntax.tcons (Syntax.tyInt Syntax.w8) (Syntax.tcons (Syntax.tyStruct (103 ∷ 97 ∷ 116 ∷ 101 ∷ 58 ∷ 58 ∷ 67 ∷ 111 ∷ 117 ∷ 114 ∷
-                115 ∷ 101 ∷ []) (Syntax.tcons (Syntax.tyStruct (114 ∷ 117 ∷ 108 ∷ 101 ∷ 115 ∷ 58 ∷ 58 ∷ 83 ∷ 116 ∷ 97 ∷ 116 ∷ 101 ∷ []) (Syntax.tcons
-                (Syntax.tyInt Syntax.w8) (Syntax.tcons (Syntax.tyStruct (102 ∷ 105 ∷ 101 ∷ 108 ∷ 100 ∷ 115 ∷ 58 ∷ 58 ∷ 83 ∷ 101 ∷ 114 ∷ 105 ∷ 97 ∷ 108 ∷ [])
-                (Syntax.tcons (Syntax.tyInt Syntax.w32) Syntax.tnil)) (Syntax.tcons (Syntax.tyStruct (114 ∷ 117 ∷ 108 ∷ 101 ∷ 115 ∷ 58 ∷ 58 ∷ 82 ∷ 117 ∷ 110 ∷
-                []) (Syntax.tcons Syntax.tyBool (Syntax.tcons Syntax.tyBool (Syntax.tcons Syntax.tyBool (Syntax.tcons (Syntax.tyStruct (114 ∷ 101 ∷ 115 ∷ 105 ∷
-                100 ∷ 117 ∷ 101 ∷ 58 ∷ 58 ∷ 82 ∷ 101 ∷ 115 ∷ 105 ∷ 100 ∷ 117 ∷ 101 ∷ []) (Syntax.tcons (Syntax.tyStruct (110 ∷ 97 ∷ 109 ∷ 101 ∷ 115 ∷ 58 ∷ 58 ∷
-                84 ∷ 104 ∷ 114 ∷ 101 ∷ 101 ∷ []) (Syntax.tcons (Syntax.tyInt Syntax.w8) (Syntax.tcons (Syntax.tyInt Syntax.w8) (Syntax.tcons (Syntax.tyInt
-                Syntax.w8) Syntax.tnil)))) (Syntax.tcons (Syntax.tyInt Syntax.w8) (Syntax.tcons (Syntax.tyStruct (102 ∷ 105 ∷ 101 ∷ 108 ∷ 100 ∷ 115 ∷ 58 ∷ 58 ∷
-                82 ∷ 101 ∷ 115 ∷ 105 ∷ 100 ∷ 117 ∷ 101 ∷ 78 ∷ 117 ∷ 109 ∷ 98 ∷ 101 ∷ 114 ∷ []) (Syntax.tcons (Syntax.tyInt Syntax.w32) Syntax.tnil))
+                101 ∷ 114 ∷ 105 ∷ 97 ∷ 108 ∷ []) (Syntax.tcons (Syntax.tyInt Syntax.w32) Syntax.tnil)) Syntax.tnil))) Syntax.tnil))) (Syntax.tcons
+                (Syntax.tyStruct (116 ∷ 114 ∷ 97 ∷ 105 ∷ 108 ∷ 58 ∷ 58 ∷ 87 ∷ 97 ∷ 116 ∷ 99 ∷ 104 ∷ []) (Syntax.tcons (Syntax.tyInt Syntax.w64) (Syntax.tcons
+                (Syntax.tyInt Syntax.w64) (Syntax.tcons (Syntax.tyInt Syntax.w64) (Syntax.tcons (Syntax.tyInt Syntax.w64) (Syntax.tcons (Syntax.tyInt Syntax.w64)
+                (Syntax.tcons (Syntax.tyInt Syntax.w64) (Syntax.tcons (Syntax.tyStruct (97 ∷ 104 ∷ 101 ∷ 97 ∷ 100 ∷ 58 ∷ 58 ∷ 65 ∷ 104 ∷ 101 ∷ 97 ∷ 100 ∷ [])
+                (Syntax.tcons (Syntax.tyInt Syntax.w64) (Syntax.tcons (Syntax.tyInt Syntax.w64) (Syntax.tcons (Syntax.tyInt Syntax.w64) Syntax.tnil))))
+                Syntax.tnil)))))))) Syntax.tnil)))) Syntax.tnil))) (Local.room-whole 𝓤 H A W (Declared'.row Onward.the-type) (Syntax.tyStruct (103 ∷ 97 ∷ 116 ∷
+                101 ∷ 58 ∷ 58 ∷ 79 ∷ 110 ∷ 119 ∷ 97 ∷ 114 ∷ 100 ∷ []) (Syntax.tcons (Syntax.tyInt Syntax.w8) (Syntax.tcons (Syntax.tyStruct (103 ∷ 97 ∷ 116 ∷ 101
+                ∷ 58 ∷ 58 ∷ 67 ∷ 111 ∷ 117 ∷ 114 ∷ 115 ∷ 101 ∷ []) (Syntax.tcons (Syntax.tyStruct (114 ∷ 117 ∷ 108 ∷ 101 ∷ 115 ∷ 58 ∷ 58 ∷ 83 ∷ 116 ∷ 97 ∷ 116 ∷
+                101 ∷ []) (Syntax.tcons (Syntax.tyInt Syntax.w8) (Syntax.tcons (Syntax.tyStruct (102 ∷ 105 ∷ 101 ∷ 108 ∷ 100 ∷ 115 ∷ 58 ∷ 58 ∷ 83 ∷ 101 ∷ 114 ∷
+                105 ∷ 97 ∷ 108 ∷ []) (Syntax.tcons (Syntax.tyInt Syntax.w32) Syntax.tnil)) (Syntax.tcons (Syntax.tyStruct (114 ∷ 117 ∷ 108 ∷ 101 ∷ 115 ∷ 58 ∷ 58
+                ∷ 82 ∷ 117 ∷ 110 ∷ []) (Syntax.tcons Syntax.tyBool (Syntax.tcons Syntax.tyBool (Syntax.tcons Syntax.tyBool (Syntax.tcons (Syntax.tyStruct (114 ∷
+                101 ∷ 115 ∷ 105 ∷ 100 ∷ 117 ∷ 101 ∷ 58 ∷ 58 ∷ 82 ∷ 101 ∷ 115 ∷ 105 ∷ 100 ∷ 117 ∷ 101 ∷ []) (Syntax.tcons (Syntax.tyStruct (110 ∷ 97 ∷ 109 ∷ 101 ∷
+                115 ∷ 58 ∷ 58 ∷ 84 ∷ 104 ∷ 114 ∷ 101 ∷ 101 ∷ []) (Syntax.tcons (Syntax.tyInt Syntax.w8) (Syntax.tcons (Syntax.tyInt Syntax.w8) (Syntax.tcons
+                (Syntax.tyInt Syntax.w8) Syntax.tnil)))) (Syntax.tcons (Syntax.tyInt Syntax.w8) (Syntax.tcons (Syntax.tyStruct (102 ∷ 105 ∷ 101 ∷ 108 ∷ 100 ∷ 115
+                ∷ 58 ∷ 58 ∷ 82 ∷ 101 ∷ 115 ∷ 105 ∷ 100 ∷ 117 ∷ 101 ∷ 78 ∷ 117 ∷ 109 ∷ 98 ∷ 101 ∷ 114 ∷ []) (Syntax.tcons (Syntax.tyInt Syntax.w32) Syntax.tnil))
                 (Syntax.tcons (Syntax.tyInt Syntax.w8) Syntax.tnil))))) Syntax.tnil))))) (Syntax.tcons (Syntax.tyStruct (102 ∷ 105 ∷ 101 ∷ 108 ∷ 100 ∷ 115 ∷ 58 ∷
                 58 ∷ 83 ∷ 101 ∷ 114 ∷ 105 ∷ 97 ∷ 108 ∷ []) (Syntax.tcons (Syntax.tyInt Syntax.w32) Syntax.tnil)) (Syntax.tcons (Syntax.tyInt Syntax.w32)
                 (Syntax.tcons (Syntax.tyStruct (114 ∷ 117 ∷ 108 ∷ 101 ∷ 115 ∷ 58 ∷ 58 ∷ 76 ∷ 97 ∷ 100 ∷ 100 ∷ 101 ∷ 114 ∷ []) (Syntax.tcons (Syntax.tyStruct (110
@@ -7437,7 +7773,12 @@ module _ (claims· : Claims) where
                 (Syntax.tyStruct (115 ∷ 101 ∷ 97 ∷ 114 ∷ 99 ∷ 104 ∷ 58 ∷ 58 ∷ 83 ∷ 112 ∷ 97 ∷ 110 ∷ []) (Syntax.tcons (Syntax.tyInt Syntax.w64) (Syntax.tcons
                 (Syntax.tyInt Syntax.w64) Syntax.tnil))) (Syntax.tcons (Syntax.tyStruct (115 ∷ 101 ∷ 97 ∷ 114 ∷ 99 ∷ 104 ∷ 58 ∷ 58 ∷ 78 ∷ 101 ∷ 97 ∷ 114 ∷ [])
                 (Syntax.tcons (Syntax.tyInt Syntax.w64) (Syntax.tcons (Syntax.tyStruct (102 ∷ 105 ∷ 101 ∷ 108 ∷ 100 ∷ 115 ∷ 58 ∷ 58 ∷ 83 ∷ 101 ∷ 114 ∷ 105 ∷ 97 ∷
-                108 ∷ []) (Syntax.tcons (Syntax.tyInt Syntax.w32) Syntax.tnil)) Syntax.tnil))) Syntax.tnil))) Syntax.tnil))) Syntax.tnil))) Path'.refl)) d13
+                108 ∷ []) (Syntax.tcons (Syntax.tyInt Syntax.w32) Syntax.tnil)) Syntax.tnil))) Syntax.tnil))) (Syntax.tcons (Syntax.tyStruct (116 ∷ 114 ∷ 97 ∷
+                105 ∷ 108 ∷ 58 ∷ 58 ∷ 87 ∷ 97 ∷ 116 ∷ 99 ∷ 104 ∷ []) (Syntax.tcons (Syntax.tyInt Syntax.w64) (Syntax.tcons (Syntax.tyInt Syntax.w64)
+                (Syntax.tcons (Syntax.tyInt Syntax.w64) (Syntax.tcons (Syntax.tyInt Syntax.w64) (Syntax.tcons (Syntax.tyInt Syntax.w64) (Syntax.tcons
+                (Syntax.tyInt Syntax.w64) (Syntax.tcons (Syntax.tyStruct (97 ∷ 104 ∷ 101 ∷ 97 ∷ 100 ∷ 58 ∷ 58 ∷ 65 ∷ 104 ∷ 101 ∷ 97 ∷ 100 ∷ []) (Syntax.tcons
+                (Syntax.tyInt Syntax.w64) (Syntax.tcons (Syntax.tyInt Syntax.w64) (Syntax.tcons (Syntax.tyInt Syntax.w64) Syntax.tnil)))) Syntax.tnil))))))))
+                Syntax.tnil)))) Syntax.tnil))) Path'.refl)) d13
 
             d15 : Typed.Typed 𝓤 H A 𝓣 E G31 b18 Δ5 (at15 bs)
             d15 = Typed.s-seq 𝓤 H A W 𝓣 E G31 G32 b16 b17 Δ5 (Typed.pass T31 T32 (s27 bs)) (at14 bs) (Make.t-struct-make 𝓤 H A W E 𝓣 (Apart.apartT
@@ -8167,20 +8508,24 @@ module _ (claims· : Claims) where
                 116 ∷ []) (Syntax.tcons (Syntax.tyStruct (115 ∷ 101 ∷ 97 ∷ 114 ∷ 99 ∷ 104 ∷ 58 ∷ 58 ∷ 83 ∷ 112 ∷ 97 ∷ 110 ∷ []) (Syntax.tcons (Syntax.tyInt
                 Syntax.w64) (Syntax.tcons (Syntax.tyInt Syntax.w64) Syntax.tnil))) (Syntax.tcons (Syntax.tyStruct (115 ∷ 101 ∷ 97 ∷ 114 ∷ 99 ∷ 104 ∷ 58 ∷ 58 ∷ 78
                 ∷ 101 ∷ 97 ∷ 114 ∷ []) (Syntax.tcons (Syntax.tyInt Syntax.w64) (Syntax.tcons (Syntax.tyStruct (102 ∷ 105 ∷ 101 ∷ 108 ∷ 100 ∷ 115 ∷ 58 ∷ 58 ∷ 83 ∷
-                101 ∷ 114 ∷ 105 ∷ 97 ∷ 108 ∷ []) (Syntax.tcons (Syntax.tyInt Syntax.w32) Syntax.tnil)) Syntax.tnil))) Syntax.tnil))) Syntax.tnil)))
-                (Local.room-whole 𝓤 H A W (Declared'.row Course.the-type) (Syntax.tyStruct (103 ∷ 97 ∷ 116 ∷ 101 ∷ 58 ∷ 58 ∷ 67 ∷ 111 ∷ 117 ∷ 114 ∷ 115 ∷ 101 ∷
-                []) (Syntax.tcons (Syntax.tyStruct (114 ∷ 117 ∷ 108 ∷ 101 ∷ 115 ∷ 58 ∷ 58 ∷ 83 ∷ 116 ∷ 97 ∷ 116 ∷ 101 ∷ []) (Syntax.tcons (Syntax.tyInt
-                Syntax.w8) (Syntax.tcons (Syntax.tyStruct (102 ∷ 105 ∷ 101 ∷ 108 ∷ 100 ∷ 115 ∷ 58 ∷ 58 ∷ 83 ∷ 101 ∷ 114 ∷ 105 ∷ 97 ∷ 108 ∷ []) (Syntax.tcons
-                (Syntax.tyInt Syntax.w32) Syntax.tnil)) (Syntax.tcons (Syntax.tyStruct (114 ∷ 117 ∷ 108 ∷ 101 ∷ 115 ∷ 58 ∷ 58 ∷ 82 ∷ 117 ∷ 110 ∷ [])
-                (Syntax.tcons Syntax.tyBool (Syntax.tcons Syntax.tyBool (Syntax.tcons Syntax.tyBool (Syntax.tcons (Syntax.tyStruct (114 ∷ 101 ∷ 115 ∷ 105 ∷ 100 ∷
-                117 ∷ 101 ∷ 58 ∷ 58 ∷ 82 ∷ 101 ∷ 115 ∷ 105 ∷ 100 ∷ 117 ∷ 101 ∷ []) (Syntax.tcons (Syntax.tyStruct (110 ∷ 97 ∷ 109 ∷ 101 ∷ 115 ∷ 58 ∷ 58 ∷ 84 ∷
-                104 ∷ 114 ∷ 101 ∷ 101 ∷ []) (Syntax.tcons (Syntax.tyInt Syntax.w8) (Syntax.tcons (Syntax.tyInt Syntax.w8) (Syntax.tcons (Syntax.tyInt Syntax.w8)
-                Syntax.tnil)))) (Syntax.tcons (Syntax.tyInt Syntax.w8) (Syntax.tcons (Syntax.tyStruct (102 ∷ 105 ∷ 101 ∷ 108 ∷ 100 ∷ 115 ∷ 58 ∷ 58 ∷ 82 ∷ 101 ∷
-                115 ∷ 105 ∷ 100 ∷ 117 ∷ 101 ∷ 78 ∷ 117 ∷ 109 ∷ 98 ∷ 101 ∷ 114 ∷ []) (Syntax.tcons (Syntax.tyInt Syntax.w32) Syntax.tnil)) (Syntax.tcons
-                (Syntax.tyInt Syntax.w8) Syntax.tnil))))) Syntax.tnil))))) (Syntax.tcons (Syntax.tyStruct (102 ∷ 105 ∷ 101 ∷ 108 ∷ 100 ∷ 115 ∷ 58 ∷ 58 ∷ 83 ∷ 101
-                ∷ 114 ∷ 105 ∷ 97 ∷ 108 ∷ []) (Syntax.tcons (Syntax.tyInt Syntax.w32) Syntax.tnil)) (Syntax.tcons (Syntax.tyInt Syntax.w32) (Syntax.tcons
-                (Syntax.tyStruct (114 ∷ 117 ∷ 108 ∷ 101 ∷ 115 ∷ 58 ∷ 58 ∷ 76 ∷ 97 ∷ 100 ∷ 100 ∷ 101 ∷ 114 ∷ []) (Syntax.tcons (Syntax.tyStruct (110 ∷ 97 ∷ 109 ∷
-                101 ∷ 115 ∷ 58 ∷ 58 ∷ 84 ∷ 104 ∷ 114 ∷ 101 ∷ 101 ∷ []) (Syntax.tcons (Syntax.tyInt Syntax.w8) (Syntax.tcons (Syntax.tyInt Syntax.w8)
+                101 ∷ 114 ∷ 105 ∷ 97 ∷ 108 ∷ []) (Syntax.tcons (Syntax.tyInt Syntax.w32) Syntax.tnil)) Syntax.tnil))) Syntax.tnil))) (Syntax.tcons
+                (Syntax.tyStruct (116 ∷ 114 ∷ 97 ∷ 105 ∷ 108 ∷ 58 ∷ 58 ∷ 87 ∷ 97 ∷ 116 ∷ 99 ∷ 104 ∷ []) (Syntax.tcons (Syntax.tyInt Syntax.w64) (Syntax.tcons
+                (Syntax.tyInt Syntax.w64) (Syntax.tcons (Syntax.tyInt Syntax.w64) (Syntax.tcons (Syntax.tyInt Syntax.w64) (Syntax.tcons (Syntax.tyInt Syntax.w64)
+                (Syntax.tcons (Syntax.tyInt Syntax.w64) (Syntax.tcons (Syntax.tyStruct (97 ∷ 104 ∷ 101 ∷ 97 ∷ 100 ∷ 58 ∷ 58 ∷ 65 ∷ 104 ∷ 101 ∷ 97 ∷ 100 ∷ [])
+                (Syntax.tcons (Syntax.tyInt Syntax.w64) (Syntax.tcons (Syntax.tyInt Syntax.w64) (Syntax.tcons (Syntax.tyInt Syntax.w64) Syntax.tnil))))
+                Syntax.tnil)))))))) Syntax.tnil)))) (Local.room-whole 𝓤 H A W (Declared'.row Course.the-type) (Syntax.tyStruct (103 ∷ 97 ∷ 116 ∷ 101 ∷ 58 ∷ 58 ∷
+                67 ∷ 111 ∷ 117 ∷ 114 ∷ 115 ∷ 101 ∷ []) (Syntax.tcons (Syntax.tyStruct (114 ∷ 117 ∷ 108 ∷ 101 ∷ 115 ∷ 58 ∷ 58 ∷ 83 ∷ 116 ∷ 97 ∷ 116 ∷ 101 ∷ [])
+                (Syntax.tcons (Syntax.tyInt Syntax.w8) (Syntax.tcons (Syntax.tyStruct (102 ∷ 105 ∷ 101 ∷ 108 ∷ 100 ∷ 115 ∷ 58 ∷ 58 ∷ 83 ∷ 101 ∷ 114 ∷ 105 ∷ 97 ∷
+                108 ∷ []) (Syntax.tcons (Syntax.tyInt Syntax.w32) Syntax.tnil)) (Syntax.tcons (Syntax.tyStruct (114 ∷ 117 ∷ 108 ∷ 101 ∷ 115 ∷ 58 ∷ 58 ∷ 82 ∷ 117
+                ∷ 110 ∷ []) (Syntax.tcons Syntax.tyBool (Syntax.tcons Syntax.tyBool (Syntax.tcons Syntax.tyBool (Syntax.tcons (Syntax.tyStruct (114 ∷ 101 ∷ 115 ∷
+                105 ∷ 100 ∷ 117 ∷ 101 ∷ 58 ∷ 58 ∷ 82 ∷ 101 ∷ 115 ∷ 105 ∷ 100 ∷ 117 ∷ 101 ∷ []) (Syntax.tcons (Syntax.tyStruct (110 ∷ 97 ∷ 109 ∷ 101 ∷ 115 ∷ 58 ∷
+                58 ∷ 84 ∷ 104 ∷ 114 ∷ 101 ∷ 101 ∷ []) (Syntax.tcons (Syntax.tyInt Syntax.w8) (Syntax.tcons (Syntax.tyInt Syntax.w8) (Syntax.tcons (Syntax.tyInt
+                Syntax.w8) Syntax.tnil)))) (Syntax.tcons (Syntax.tyInt Syntax.w8) (Syntax.tcons (Syntax.tyStruct (102 ∷ 105 ∷ 101 ∷ 108 ∷ 100 ∷ 115 ∷ 58 ∷ 58 ∷
+                82 ∷ 101 ∷ 115 ∷ 105 ∷ 100 ∷ 117 ∷ 101 ∷ 78 ∷ 117 ∷ 109 ∷ 98 ∷ 101 ∷ 114 ∷ []) (Syntax.tcons (Syntax.tyInt Syntax.w32) Syntax.tnil))
+                (Syntax.tcons (Syntax.tyInt Syntax.w8) Syntax.tnil))))) Syntax.tnil))))) (Syntax.tcons (Syntax.tyStruct (102 ∷ 105 ∷ 101 ∷ 108 ∷ 100 ∷ 115 ∷ 58 ∷
+                58 ∷ 83 ∷ 101 ∷ 114 ∷ 105 ∷ 97 ∷ 108 ∷ []) (Syntax.tcons (Syntax.tyInt Syntax.w32) Syntax.tnil)) (Syntax.tcons (Syntax.tyInt Syntax.w32)
+                (Syntax.tcons (Syntax.tyStruct (114 ∷ 117 ∷ 108 ∷ 101 ∷ 115 ∷ 58 ∷ 58 ∷ 76 ∷ 97 ∷ 100 ∷ 100 ∷ 101 ∷ 114 ∷ []) (Syntax.tcons (Syntax.tyStruct (110
+                ∷ 97 ∷ 109 ∷ 101 ∷ 115 ∷ 58 ∷ 58 ∷ 84 ∷ 104 ∷ 114 ∷ 101 ∷ 101 ∷ []) (Syntax.tcons (Syntax.tyInt Syntax.w8) (Syntax.tcons (Syntax.tyInt Syntax.w8)
                 (Syntax.tcons (Syntax.tyInt Syntax.w8) Syntax.tnil)))) (Syntax.tcons (Syntax.tyInt Syntax.w32) (Syntax.tcons (Syntax.tyInt Syntax.w32)
                 Syntax.tnil)))) (Syntax.tcons (Syntax.tyStruct (112 ∷ 108 ∷ 97 ∷ 99 ∷ 101 ∷ 115 ∷ 58 ∷ 58 ∷ 67 ∷ 111 ∷ 117 ∷ 110 ∷ 116 ∷ 115 ∷ []) (Syntax.tcons
                 (Syntax.tyInt Syntax.w64) (Syntax.tcons (Syntax.tyInt Syntax.w64) (Syntax.tcons (Syntax.tyInt Syntax.w64) (Syntax.tcons (Syntax.tyInt Syntax.w64)
@@ -8190,7 +8535,12 @@ module _ (claims· : Claims) where
                 (Syntax.tyStruct (115 ∷ 101 ∷ 97 ∷ 114 ∷ 99 ∷ 104 ∷ 58 ∷ 58 ∷ 83 ∷ 112 ∷ 97 ∷ 110 ∷ []) (Syntax.tcons (Syntax.tyInt Syntax.w64) (Syntax.tcons
                 (Syntax.tyInt Syntax.w64) Syntax.tnil))) (Syntax.tcons (Syntax.tyStruct (115 ∷ 101 ∷ 97 ∷ 114 ∷ 99 ∷ 104 ∷ 58 ∷ 58 ∷ 78 ∷ 101 ∷ 97 ∷ 114 ∷ [])
                 (Syntax.tcons (Syntax.tyInt Syntax.w64) (Syntax.tcons (Syntax.tyStruct (102 ∷ 105 ∷ 101 ∷ 108 ∷ 100 ∷ 115 ∷ 58 ∷ 58 ∷ 83 ∷ 101 ∷ 114 ∷ 105 ∷ 97 ∷
-                108 ∷ []) (Syntax.tcons (Syntax.tyInt Syntax.w32) Syntax.tnil)) Syntax.tnil))) Syntax.tnil))) Syntax.tnil))) Path'.refl)) d39
+                108 ∷ []) (Syntax.tcons (Syntax.tyInt Syntax.w32) Syntax.tnil)) Syntax.tnil))) Syntax.tnil))) (Syntax.tcons (Syntax.tyStruct (116 ∷ 114 ∷ 97 ∷
+                105 ∷ 108 ∷ 58 ∷ 58 ∷ 87 ∷ 97 ∷ 116 ∷ 99 ∷ 104 ∷ []) (Syntax.tcons (Syntax.tyInt Syntax.w64) (Syntax.tcons (Syntax.tyInt Syntax.w64)
+                (Syntax.tcons (Syntax.tyInt Syntax.w64) (Syntax.tcons (Syntax.tyInt Syntax.w64) (Syntax.tcons (Syntax.tyInt Syntax.w64) (Syntax.tcons
+                (Syntax.tyInt Syntax.w64) (Syntax.tcons (Syntax.tyStruct (97 ∷ 104 ∷ 101 ∷ 97 ∷ 100 ∷ 58 ∷ 58 ∷ 65 ∷ 104 ∷ 101 ∷ 97 ∷ 100 ∷ []) (Syntax.tcons
+                (Syntax.tyInt Syntax.w64) (Syntax.tcons (Syntax.tyInt Syntax.w64) (Syntax.tcons (Syntax.tyInt Syntax.w64) Syntax.tnil)))) Syntax.tnil))))))))
+                Syntax.tnil)))) Path'.refl)) d39
 
             d41 : Typed.Typed 𝓤 H A 𝓣 E G41 b44 Δ3 (at41 bs)
             d41 = Typed.s-seq 𝓤 H A W 𝓣 E G41 G42 b22 b43 Δ3 (Typed.pass T41 T42 (s37 bs)) (at40 bs) (LocalCopy.t-val-copy 𝓤 H A W E 𝓣 (λ ρ. Unit) G41 11 4
@@ -8216,34 +8566,12 @@ module _ (claims· : Claims) where
                 58 ∷ 83 ∷ 112 ∷ 97 ∷ 110 ∷ []) (Syntax.tcons (Syntax.tyInt Syntax.w64) (Syntax.tcons (Syntax.tyInt Syntax.w64) Syntax.tnil))) (Syntax.tcons
                 (Syntax.tyStruct (115 ∷ 101 ∷ 97 ∷ 114 ∷ 99 ∷ 104 ∷ 58 ∷ 58 ∷ 78 ∷ 101 ∷ 97 ∷ 114 ∷ []) (Syntax.tcons (Syntax.tyInt Syntax.w64) (Syntax.tcons
                 (Syntax.tyStruct (102 ∷ 105 ∷ 101 ∷ 108 ∷ 100 ∷ 115 ∷ 58 ∷ 58 ∷ 83 ∷ 101 ∷ 114 ∷ 105 ∷ 97 ∷ 108 ∷ []) (Syntax.tcons (Syntax.tyInt Syntax.w32)
-                Syntax.tnil)) Syntax.tnil))) Syntax.tnil))) Syntax.tnil))) (Syntax.tyStruct (103 ∷ 97 ∷ 116 ∷ 101 ∷ 58 ∷ 58 ∷ 67 ∷ 111 ∷ 117 ∷ 114 ∷ 115 ∷ 101 ∷
-                []) (Syntax.tcons (Syntax.tyStruct (114 ∷ 117 ∷ 108 ∷ 101 ∷ 115 ∷ 58 ∷ 58 ∷ 83 ∷ 116 ∷ 97 ∷ 116 ∷ 101 ∷ []) (Syntax.tcons (Syntax.tyInt
-                Syntax.w8) (Syntax.tcons (Syntax.tyStruct (102 ∷ 105 ∷ 101 ∷ 108 ∷ 100 ∷ 115 ∷ 58 ∷ 58 ∷ 83 ∷ 101 ∷ 114 ∷ 105 ∷ 97 ∷ 108 ∷ []) (Syntax.tcons
-                (Syntax.tyInt Syntax.w32) Syntax.tnil)) (Syntax.tcons (Syntax.tyStruct (114 ∷ 117 ∷ 108 ∷ 101 ∷ 115 ∷ 58 ∷ 58 ∷ 82 ∷ 117 ∷ 110 ∷ [])
-                (Syntax.tcons Syntax.tyBool (Syntax.tcons Syntax.tyBool (Syntax.tcons Syntax.tyBool (Syntax.tcons (Syntax.tyStruct (114 ∷ 101 ∷ 115 ∷ 105 ∷ 100 ∷
-                117 ∷ 101 ∷ 58 ∷ 58 ∷ 82 ∷ 101 ∷ 115 ∷ 105 ∷ 100 ∷ 117 ∷ 101 ∷ []) (Syntax.tcons (Syntax.tyStruct (110 ∷ 97 ∷ 109 ∷ 101 ∷ 115 ∷ 58 ∷ 58 ∷ 84 ∷
-                104 ∷ 114 ∷ 101 ∷ 101 ∷ []) (Syntax.tcons (Syntax.tyInt Syntax.w8) (Syntax.tcons (Syntax.tyInt Syntax.w8) (Syntax.tcons (Syntax.tyInt Syntax.w8)
-                Syntax.tnil)))) (Syntax.tcons (Syntax.tyInt Syntax.w8) (Syntax.tcons (Syntax.tyStruct (102 ∷ 105 ∷ 101 ∷ 108 ∷ 100 ∷ 115 ∷ 58 ∷ 58 ∷ 82 ∷ 101 ∷
-                115 ∷ 105 ∷ 100 ∷ 117 ∷ 101 ∷ 78 ∷ 117 ∷ 109 ∷ 98 ∷ 101 ∷ 114 ∷ []) (Syntax.tcons (Syntax.tyInt Syntax.w32) Syntax.tnil)) (Syntax.tcons
-                (Syntax.tyInt Syntax.w8) Syntax.tnil))))) Syntax.tnil))))) (Syntax.tcons (Syntax.tyStruct (102 ∷ 105 ∷ 101 ∷ 108 ∷ 100 ∷ 115 ∷ 58 ∷ 58 ∷ 83 ∷ 101
-                ∷ 114 ∷ 105 ∷ 97 ∷ 108 ∷ []) (Syntax.tcons (Syntax.tyInt Syntax.w32) Syntax.tnil)) (Syntax.tcons (Syntax.tyInt Syntax.w32) (Syntax.tcons
-                (Syntax.tyStruct (114 ∷ 117 ∷ 108 ∷ 101 ∷ 115 ∷ 58 ∷ 58 ∷ 76 ∷ 97 ∷ 100 ∷ 100 ∷ 101 ∷ 114 ∷ []) (Syntax.tcons (Syntax.tyStruct (110 ∷ 97 ∷ 109 ∷
-                101 ∷ 115 ∷ 58 ∷ 58 ∷ 84 ∷ 104 ∷ 114 ∷ 101 ∷ 101 ∷ []) (Syntax.tcons (Syntax.tyInt Syntax.w8) (Syntax.tcons (Syntax.tyInt Syntax.w8)
-                (Syntax.tcons (Syntax.tyInt Syntax.w8) Syntax.tnil)))) (Syntax.tcons (Syntax.tyInt Syntax.w32) (Syntax.tcons (Syntax.tyInt Syntax.w32)
-                Syntax.tnil)))) (Syntax.tcons (Syntax.tyStruct (112 ∷ 108 ∷ 97 ∷ 99 ∷ 101 ∷ 115 ∷ 58 ∷ 58 ∷ 67 ∷ 111 ∷ 117 ∷ 110 ∷ 116 ∷ 115 ∷ []) (Syntax.tcons
-                (Syntax.tyInt Syntax.w64) (Syntax.tcons (Syntax.tyInt Syntax.w64) (Syntax.tcons (Syntax.tyInt Syntax.w64) (Syntax.tcons (Syntax.tyInt Syntax.w64)
+                Syntax.tnil)) Syntax.tnil))) Syntax.tnil))) (Syntax.tcons (Syntax.tyStruct (116 ∷ 114 ∷ 97 ∷ 105 ∷ 108 ∷ 58 ∷ 58 ∷ 87 ∷ 97 ∷ 116 ∷ 99 ∷ 104 ∷ [])
                 (Syntax.tcons (Syntax.tyInt Syntax.w64) (Syntax.tcons (Syntax.tyInt Syntax.w64) (Syntax.tcons (Syntax.tyInt Syntax.w64) (Syntax.tcons
-                (Syntax.tyInt Syntax.w64) (Syntax.tcons (Syntax.tyInt Syntax.w64) Syntax.tnil)))))))))) (Syntax.tcons (Syntax.tyInt Syntax.w64)
-                Syntax.tnil))))))))) (Syntax.tcons (Syntax.tyStruct (115 ∷ 101 ∷ 114 ∷ 105 ∷ 97 ∷ 108 ∷ 115 ∷ 58 ∷ 58 ∷ 80 ∷ 97 ∷ 115 ∷ 116 ∷ []) (Syntax.tcons
-                (Syntax.tyStruct (115 ∷ 101 ∷ 97 ∷ 114 ∷ 99 ∷ 104 ∷ 58 ∷ 58 ∷ 83 ∷ 112 ∷ 97 ∷ 110 ∷ []) (Syntax.tcons (Syntax.tyInt Syntax.w64) (Syntax.tcons
-                (Syntax.tyInt Syntax.w64) Syntax.tnil))) (Syntax.tcons (Syntax.tyStruct (115 ∷ 101 ∷ 97 ∷ 114 ∷ 99 ∷ 104 ∷ 58 ∷ 58 ∷ 78 ∷ 101 ∷ 97 ∷ 114 ∷ [])
-                (Syntax.tcons (Syntax.tyInt Syntax.w64) (Syntax.tcons (Syntax.tyStruct (102 ∷ 105 ∷ 101 ∷ 108 ∷ 100 ∷ 115 ∷ 58 ∷ 58 ∷ 83 ∷ 101 ∷ 114 ∷ 105 ∷ 97 ∷
-                108 ∷ []) (Syntax.tcons (Syntax.tyInt Syntax.w32) Syntax.tnil)) Syntax.tnil))) Syntax.tnil))) Syntax.tnil))) (Rows'.whole (Declared'.row
-                Course.the-type)) (Rows'.whole (Declared'.row Course.the-type)) (λ x. x) (λ x. x) (λ x. x) Path'.refl (Own.told-none 𝓤 H A (G41 .slots))
-                (Yields.yields-copy 𝓤 H A W (λ ρ. Unit) (Declared'.row Course.the-type) Path'.refl (Copies.cStruct Course.the-type Laws'.the-laws Laws'.the-copy
-                .copy 𝓤 H A W) (Rows'.whole (Declared'.row Course.the-type)) (λ x. x) (λ x. x) (λ ρ told. Local.mem-whole 𝓤 H A W (Declared'.row Course.the-type)
-                ρ) λ ρ told. Local.whole-mem 𝓤 H A W (Declared'.row Course.the-type) ρ) (Reads'.room-gone 𝓤 H A (Syntax.tyStruct (103 ∷ 97 ∷ 116 ∷ 101 ∷ 58 ∷ 58
-                ∷ 67 ∷ 111 ∷ 117 ∷ 114 ∷ 115 ∷ 101 ∷ []) (Syntax.tcons (Syntax.tyStruct (114 ∷ 117 ∷ 108 ∷ 101 ∷ 115 ∷ 58 ∷ 58 ∷ 83 ∷ 116 ∷ 97 ∷ 116 ∷ 101 ∷ [])
+                (Syntax.tyInt Syntax.w64) (Syntax.tcons (Syntax.tyInt Syntax.w64) (Syntax.tcons (Syntax.tyInt Syntax.w64) (Syntax.tcons (Syntax.tyStruct (97 ∷
+                104 ∷ 101 ∷ 97 ∷ 100 ∷ 58 ∷ 58 ∷ 65 ∷ 104 ∷ 101 ∷ 97 ∷ 100 ∷ []) (Syntax.tcons (Syntax.tyInt Syntax.w64) (Syntax.tcons (Syntax.tyInt Syntax.w64)
+                (Syntax.tcons (Syntax.tyInt Syntax.w64) Syntax.tnil)))) Syntax.tnil)))))))) Syntax.tnil)))) (Syntax.tyStruct (103 ∷ 97 ∷ 116 ∷ 101 ∷ 58 ∷ 58 ∷ 67
+                ∷ 111 ∷ 117 ∷ 114 ∷ 115 ∷ 101 ∷ []) (Syntax.tcons (Syntax.tyStruct (114 ∷ 117 ∷ 108 ∷ 101 ∷ 115 ∷ 58 ∷ 58 ∷ 83 ∷ 116 ∷ 97 ∷ 116 ∷ 101 ∷ [])
                 (Syntax.tcons (Syntax.tyInt Syntax.w8) (Syntax.tcons (Syntax.tyStruct (102 ∷ 105 ∷ 101 ∷ 108 ∷ 100 ∷ 115 ∷ 58 ∷ 58 ∷ 83 ∷ 101 ∷ 114 ∷ 105 ∷ 97 ∷
                 108 ∷ []) (Syntax.tcons (Syntax.tyInt Syntax.w32) Syntax.tnil)) (Syntax.tcons (Syntax.tyStruct (114 ∷ 117 ∷ 108 ∷ 101 ∷ 115 ∷ 58 ∷ 58 ∷ 82 ∷ 117
                 ∷ 110 ∷ []) (Syntax.tcons Syntax.tyBool (Syntax.tcons Syntax.tyBool (Syntax.tcons Syntax.tyBool (Syntax.tcons (Syntax.tyStruct (114 ∷ 101 ∷ 115 ∷
@@ -8264,9 +8592,44 @@ module _ (claims· : Claims) where
                 (Syntax.tyStruct (115 ∷ 101 ∷ 97 ∷ 114 ∷ 99 ∷ 104 ∷ 58 ∷ 58 ∷ 83 ∷ 112 ∷ 97 ∷ 110 ∷ []) (Syntax.tcons (Syntax.tyInt Syntax.w64) (Syntax.tcons
                 (Syntax.tyInt Syntax.w64) Syntax.tnil))) (Syntax.tcons (Syntax.tyStruct (115 ∷ 101 ∷ 97 ∷ 114 ∷ 99 ∷ 104 ∷ 58 ∷ 58 ∷ 78 ∷ 101 ∷ 97 ∷ 114 ∷ [])
                 (Syntax.tcons (Syntax.tyInt Syntax.w64) (Syntax.tcons (Syntax.tyStruct (102 ∷ 105 ∷ 101 ∷ 108 ∷ 100 ∷ 115 ∷ 58 ∷ 58 ∷ 83 ∷ 101 ∷ 114 ∷ 105 ∷ 97 ∷
-                108 ∷ []) (Syntax.tcons (Syntax.tyInt Syntax.w32) Syntax.tnil)) Syntax.tnil))) Syntax.tnil))) Syntax.tnil)))) (Yields.makes-mem 𝓤 H A W (λ ρ.
-                Unit) (Declared'.row Course.the-type) Path'.refl (Rows'.whole (Declared'.row Course.the-type)) (λ x. x) λ ρ told. Local.whole-mem 𝓤 H A W
-                (Declared'.row Course.the-type) ρ) Path'.refl Path'.refl) d40
+                108 ∷ []) (Syntax.tcons (Syntax.tyInt Syntax.w32) Syntax.tnil)) Syntax.tnil))) Syntax.tnil))) (Syntax.tcons (Syntax.tyStruct (116 ∷ 114 ∷ 97 ∷
+                105 ∷ 108 ∷ 58 ∷ 58 ∷ 87 ∷ 97 ∷ 116 ∷ 99 ∷ 104 ∷ []) (Syntax.tcons (Syntax.tyInt Syntax.w64) (Syntax.tcons (Syntax.tyInt Syntax.w64)
+                (Syntax.tcons (Syntax.tyInt Syntax.w64) (Syntax.tcons (Syntax.tyInt Syntax.w64) (Syntax.tcons (Syntax.tyInt Syntax.w64) (Syntax.tcons
+                (Syntax.tyInt Syntax.w64) (Syntax.tcons (Syntax.tyStruct (97 ∷ 104 ∷ 101 ∷ 97 ∷ 100 ∷ 58 ∷ 58 ∷ 65 ∷ 104 ∷ 101 ∷ 97 ∷ 100 ∷ []) (Syntax.tcons
+                (Syntax.tyInt Syntax.w64) (Syntax.tcons (Syntax.tyInt Syntax.w64) (Syntax.tcons (Syntax.tyInt Syntax.w64) Syntax.tnil)))) Syntax.tnil))))))))
+                Syntax.tnil)))) (Rows'.whole (Declared'.row Course.the-type)) (Rows'.whole (Declared'.row Course.the-type)) (λ x. x) (λ x. x) (λ x. x) Path'.refl
+                (Own.told-none 𝓤 H A (G41 .slots)) (Yields.yields-copy 𝓤 H A W (λ ρ. Unit) (Declared'.row Course.the-type) Path'.refl (Copies.cStruct
+                Course.the-type Laws'.the-laws Laws'.the-copy .copy 𝓤 H A W) (Rows'.whole (Declared'.row Course.the-type)) (λ x. x) (λ x. x) (λ ρ told.
+                Local.mem-whole 𝓤 H A W (Declared'.row Course.the-type) ρ) λ ρ told. Local.whole-mem 𝓤 H A W (Declared'.row Course.the-type) ρ) (Reads'.room-gone
+                𝓤 H A (Syntax.tyStruct (103 ∷ 97 ∷ 116 ∷ 101 ∷ 58 ∷ 58 ∷ 67 ∷ 111 ∷ 117 ∷ 114 ∷ 115 ∷ 101 ∷ []) (Syntax.tcons (Syntax.tyStruct (114 ∷ 117 ∷ 108 ∷
+                101 ∷ 115 ∷ 58 ∷ 58 ∷ 83 ∷ 116 ∷ 97 ∷ 116 ∷ 101 ∷ []) (Syntax.tcons (Syntax.tyInt Syntax.w8) (Syntax.tcons (Syntax.tyStruct (102 ∷ 105 ∷ 101 ∷
+                108 ∷ 100 ∷ 115 ∷ 58 ∷ 58 ∷ 83 ∷ 101 ∷ 114 ∷ 105 ∷ 97 ∷ 108 ∷ []) (Syntax.tcons (Syntax.tyInt Syntax.w32) Syntax.tnil)) (Syntax.tcons
+                (Syntax.tyStruct (114 ∷ 117 ∷ 108 ∷ 101 ∷ 115 ∷ 58 ∷ 58 ∷ 82 ∷ 117 ∷ 110 ∷ []) (Syntax.tcons Syntax.tyBool (Syntax.tcons Syntax.tyBool
+                (Syntax.tcons Syntax.tyBool (Syntax.tcons (Syntax.tyStruct (114 ∷ 101 ∷ 115 ∷ 105 ∷ 100 ∷ 117 ∷ 101 ∷ 58 ∷ 58 ∷ 82 ∷ 101 ∷ 115 ∷ 105 ∷ 100 ∷ 117
+                ∷ 101 ∷ []) (Syntax.tcons (Syntax.tyStruct (110 ∷ 97 ∷ 109 ∷ 101 ∷ 115 ∷ 58 ∷ 58 ∷ 84 ∷ 104 ∷ 114 ∷ 101 ∷ 101 ∷ []) (Syntax.tcons (Syntax.tyInt
+                Syntax.w8) (Syntax.tcons (Syntax.tyInt Syntax.w8) (Syntax.tcons (Syntax.tyInt Syntax.w8) Syntax.tnil)))) (Syntax.tcons (Syntax.tyInt Syntax.w8)
+                (Syntax.tcons (Syntax.tyStruct (102 ∷ 105 ∷ 101 ∷ 108 ∷ 100 ∷ 115 ∷ 58 ∷ 58 ∷ 82 ∷ 101 ∷ 115 ∷ 105 ∷ 100 ∷ 117 ∷ 101 ∷ 78 ∷ 117 ∷ 109 ∷ 98 ∷ 101
+                ∷ 114 ∷ []) (Syntax.tcons (Syntax.tyInt Syntax.w32) Syntax.tnil)) (Syntax.tcons (Syntax.tyInt Syntax.w8) Syntax.tnil))))) Syntax.tnil)))))
+                (Syntax.tcons (Syntax.tyStruct (102 ∷ 105 ∷ 101 ∷ 108 ∷ 100 ∷ 115 ∷ 58 ∷ 58 ∷ 83 ∷ 101 ∷ 114 ∷ 105 ∷ 97 ∷ 108 ∷ []) (Syntax.tcons (Syntax.tyInt
+                Syntax.w32) Syntax.tnil)) (Syntax.tcons (Syntax.tyInt Syntax.w32) (Syntax.tcons (Syntax.tyStruct (114 ∷ 117 ∷ 108 ∷ 101 ∷ 115 ∷ 58 ∷ 58 ∷ 76 ∷ 97
+                ∷ 100 ∷ 100 ∷ 101 ∷ 114 ∷ []) (Syntax.tcons (Syntax.tyStruct (110 ∷ 97 ∷ 109 ∷ 101 ∷ 115 ∷ 58 ∷ 58 ∷ 84 ∷ 104 ∷ 114 ∷ 101 ∷ 101 ∷ [])
+                (Syntax.tcons (Syntax.tyInt Syntax.w8) (Syntax.tcons (Syntax.tyInt Syntax.w8) (Syntax.tcons (Syntax.tyInt Syntax.w8) Syntax.tnil))))
+                (Syntax.tcons (Syntax.tyInt Syntax.w32) (Syntax.tcons (Syntax.tyInt Syntax.w32) Syntax.tnil)))) (Syntax.tcons (Syntax.tyStruct (112 ∷ 108 ∷ 97 ∷
+                99 ∷ 101 ∷ 115 ∷ 58 ∷ 58 ∷ 67 ∷ 111 ∷ 117 ∷ 110 ∷ 116 ∷ 115 ∷ []) (Syntax.tcons (Syntax.tyInt Syntax.w64) (Syntax.tcons (Syntax.tyInt Syntax.w64)
+                (Syntax.tcons (Syntax.tyInt Syntax.w64) (Syntax.tcons (Syntax.tyInt Syntax.w64) (Syntax.tcons (Syntax.tyInt Syntax.w64) (Syntax.tcons
+                (Syntax.tyInt Syntax.w64) (Syntax.tcons (Syntax.tyInt Syntax.w64) (Syntax.tcons (Syntax.tyInt Syntax.w64) (Syntax.tcons (Syntax.tyInt Syntax.w64)
+                Syntax.tnil)))))))))) (Syntax.tcons (Syntax.tyInt Syntax.w64) Syntax.tnil))))))))) (Syntax.tcons (Syntax.tyStruct (115 ∷ 101 ∷ 114 ∷ 105 ∷ 97 ∷
+                108 ∷ 115 ∷ 58 ∷ 58 ∷ 80 ∷ 97 ∷ 115 ∷ 116 ∷ []) (Syntax.tcons (Syntax.tyStruct (115 ∷ 101 ∷ 97 ∷ 114 ∷ 99 ∷ 104 ∷ 58 ∷ 58 ∷ 83 ∷ 112 ∷ 97 ∷ 110 ∷
+                []) (Syntax.tcons (Syntax.tyInt Syntax.w64) (Syntax.tcons (Syntax.tyInt Syntax.w64) Syntax.tnil))) (Syntax.tcons (Syntax.tyStruct (115 ∷ 101 ∷ 97
+                ∷ 114 ∷ 99 ∷ 104 ∷ 58 ∷ 58 ∷ 78 ∷ 101 ∷ 97 ∷ 114 ∷ []) (Syntax.tcons (Syntax.tyInt Syntax.w64) (Syntax.tcons (Syntax.tyStruct (102 ∷ 105 ∷ 101 ∷
+                108 ∷ 100 ∷ 115 ∷ 58 ∷ 58 ∷ 83 ∷ 101 ∷ 114 ∷ 105 ∷ 97 ∷ 108 ∷ []) (Syntax.tcons (Syntax.tyInt Syntax.w32) Syntax.tnil)) Syntax.tnil)))
+                Syntax.tnil))) (Syntax.tcons (Syntax.tyStruct (116 ∷ 114 ∷ 97 ∷ 105 ∷ 108 ∷ 58 ∷ 58 ∷ 87 ∷ 97 ∷ 116 ∷ 99 ∷ 104 ∷ []) (Syntax.tcons (Syntax.tyInt
+                Syntax.w64) (Syntax.tcons (Syntax.tyInt Syntax.w64) (Syntax.tcons (Syntax.tyInt Syntax.w64) (Syntax.tcons (Syntax.tyInt Syntax.w64) (Syntax.tcons
+                (Syntax.tyInt Syntax.w64) (Syntax.tcons (Syntax.tyInt Syntax.w64) (Syntax.tcons (Syntax.tyStruct (97 ∷ 104 ∷ 101 ∷ 97 ∷ 100 ∷ 58 ∷ 58 ∷ 65 ∷ 104
+                ∷ 101 ∷ 97 ∷ 100 ∷ []) (Syntax.tcons (Syntax.tyInt Syntax.w64) (Syntax.tcons (Syntax.tyInt Syntax.w64) (Syntax.tcons (Syntax.tyInt Syntax.w64)
+                Syntax.tnil)))) Syntax.tnil)))))))) Syntax.tnil))))) (Yields.makes-mem 𝓤 H A W (λ ρ. Unit) (Declared'.row Course.the-type) Path'.refl
+                (Rows'.whole (Declared'.row Course.the-type)) (λ x. x) λ ρ told. Local.whole-mem 𝓤 H A W (Declared'.row Course.the-type) ρ) Path'.refl
+                Path'.refl) d40
 
             d42 : Typed.Typed 𝓤 H A 𝓣 E G40 b44 Δ3 (at42 bs)
             d42 = Typed.g-pre 𝓤 H A W 𝓣 E G40 G41 b44 Δ3 (Typed.pass T40 T41 (s36 bs)) (at41 bs) (Scalar.g-room 𝓤 H A W E G40 10 (Syntax.tyStruct (103 ∷ 97 ∷ 116
@@ -8292,17 +8655,21 @@ module _ (claims· : Claims) where
                 116 ∷ []) (Syntax.tcons (Syntax.tyStruct (115 ∷ 101 ∷ 97 ∷ 114 ∷ 99 ∷ 104 ∷ 58 ∷ 58 ∷ 83 ∷ 112 ∷ 97 ∷ 110 ∷ []) (Syntax.tcons (Syntax.tyInt
                 Syntax.w64) (Syntax.tcons (Syntax.tyInt Syntax.w64) Syntax.tnil))) (Syntax.tcons (Syntax.tyStruct (115 ∷ 101 ∷ 97 ∷ 114 ∷ 99 ∷ 104 ∷ 58 ∷ 58 ∷ 78
                 ∷ 101 ∷ 97 ∷ 114 ∷ []) (Syntax.tcons (Syntax.tyInt Syntax.w64) (Syntax.tcons (Syntax.tyStruct (102 ∷ 105 ∷ 101 ∷ 108 ∷ 100 ∷ 115 ∷ 58 ∷ 58 ∷ 83 ∷
-                101 ∷ 114 ∷ 105 ∷ 97 ∷ 108 ∷ []) (Syntax.tcons (Syntax.tyInt Syntax.w32) Syntax.tnil)) Syntax.tnil))) Syntax.tnil))) Syntax.tnil)))
-                Syntax.tnil))) (Local.room-whole 𝓤 H A W (Declared'.row Onward.the-type) (Syntax.tyStruct (103 ∷ 97 ∷ 116 ∷ 101 ∷ 58 ∷ 58 ∷ 79 ∷ 110 ∷ 119 ∷ 97 ∷
-                114 ∷ 100 ∷ []) (Syntax.tcons (Syntax.tyInt Syntax.w8) (Syntax.tcons (Syntax.tyStruct (103 ∷ 97 ∷ 116 ∷ 101 ∷ 58 ∷ 58 ∷ 67 ∷ 111 ∷ 117 ∷ 114 ∷
-                115 ∷ 101 ∷ []) (Syntax.tcons (Syntax.tyStruct (114 ∷ 117 ∷ 108 ∷ 101 ∷ 115 ∷ 58 ∷ 58 ∷ 83 ∷ 116 ∷ 97 ∷ 116 ∷ 101 ∷ []) (Syntax.tcons
-                (Syntax.tyInt Syntax.w8) (Syntax.tcons (Syntax.tyStruct (102 ∷ 105 ∷ 101 ∷ 108 ∷ 100 ∷ 115 ∷ 58 ∷ 58 ∷ 83 ∷ 101 ∷ 114 ∷ 105 ∷ 97 ∷ 108 ∷ [])
-                (Syntax.tcons (Syntax.tyInt Syntax.w32) Syntax.tnil)) (Syntax.tcons (Syntax.tyStruct (114 ∷ 117 ∷ 108 ∷ 101 ∷ 115 ∷ 58 ∷ 58 ∷ 82 ∷ 117 ∷ 110 ∷
-                []) (Syntax.tcons Syntax.tyBool (Syntax.tcons Syntax.tyBool (Syntax.tcons Syntax.tyBool (Syntax.tcons (Syntax.tyStruct (114 ∷ 101 ∷ 115 ∷ 105 ∷
-                100 ∷ 117 ∷ 101 ∷ 58 ∷ 58 ∷ 82 ∷ 101 ∷ 115 ∷ 105 ∷ 100 ∷ 117 ∷ 101 ∷ []) (Syntax.tcons (Syntax.tyStruct (110 ∷ 97 ∷ 109 ∷ 101 ∷ 115 ∷ 58 ∷ 58 ∷
-                84 ∷ 104 ∷ 114 ∷ 101 ∷ 101 ∷ []) (Syntax.tcons (Syntax.tyInt Syntax.w8) (Syntax.tcons (Syntax.tyInt Syntax.w8) (Syntax.tcons (Syntax.tyInt
-                Syntax.w8) Syntax.tnil)))) (Syntax.tcons (Syntax.tyInt Syntax.w8) (Syntax.tcons (Syntax.tyStruct (102 ∷ 105 ∷ 101 ∷ 108 ∷ 100 ∷ 115 ∷ 58 ∷ 58 ∷
-                82 ∷ 101 ∷ 115 ∷ 105 ∷ 100 ∷ 117 ∷ 101 ∷ 78 ∷ 117 ∷ 109 ∷ 98 ∷ 101 ∷ 114 ∷ []) (Syntax.tcons (Syntax.tyInt Syntax.w32) Syntax.tnil))
+                101 ∷ 114 ∷ 105 ∷ 97 ∷ 108 ∷ []) (Syntax.tcons (Syntax.tyInt Syntax.w32) Syntax.tnil)) Syntax.tnil))) Syntax.tnil))) (Syntax.tcons
+                (Syntax.tyStruct (116 ∷ 114 ∷ 97 ∷ 105 ∷ 108 ∷ 58 ∷ 58 ∷ 87 ∷ 97 ∷ 116 ∷ 99 ∷ 104 ∷ []) (Syntax.tcons (Syntax.tyInt Syntax.w64) (Syntax.tcons
+                (Syntax.tyInt Syntax.w64) (Syntax.tcons (Syntax.tyInt Syntax.w64) (Syntax.tcons (Syntax.tyInt Syntax.w64) (Syntax.tcons (Syntax.tyInt Syntax.w64)
+                (Syntax.tcons (Syntax.tyInt Syntax.w64) (Syntax.tcons (Syntax.tyStruct (97 ∷ 104 ∷ 101 ∷ 97 ∷ 100 ∷ 58 ∷ 58 ∷ 65 ∷ 104 ∷ 101 ∷ 97 ∷ 100 ∷ [])
+                (Syntax.tcons (Syntax.tyInt Syntax.w64) (Syntax.tcons (Syntax.tyInt Syntax.w64) (Syntax.tcons (Syntax.tyInt Syntax.w64) Syntax.tnil))))
+                Syntax.tnil)))))))) Syntax.tnil)))) Syntax.tnil))) (Local.room-whole 𝓤 H A W (Declared'.row Onward.the-type) (Syntax.tyStruct (103 ∷ 97 ∷ 116 ∷
+                101 ∷ 58 ∷ 58 ∷ 79 ∷ 110 ∷ 119 ∷ 97 ∷ 114 ∷ 100 ∷ []) (Syntax.tcons (Syntax.tyInt Syntax.w8) (Syntax.tcons (Syntax.tyStruct (103 ∷ 97 ∷ 116 ∷ 101
+                ∷ 58 ∷ 58 ∷ 67 ∷ 111 ∷ 117 ∷ 114 ∷ 115 ∷ 101 ∷ []) (Syntax.tcons (Syntax.tyStruct (114 ∷ 117 ∷ 108 ∷ 101 ∷ 115 ∷ 58 ∷ 58 ∷ 83 ∷ 116 ∷ 97 ∷ 116 ∷
+                101 ∷ []) (Syntax.tcons (Syntax.tyInt Syntax.w8) (Syntax.tcons (Syntax.tyStruct (102 ∷ 105 ∷ 101 ∷ 108 ∷ 100 ∷ 115 ∷ 58 ∷ 58 ∷ 83 ∷ 101 ∷ 114 ∷
+                105 ∷ 97 ∷ 108 ∷ []) (Syntax.tcons (Syntax.tyInt Syntax.w32) Syntax.tnil)) (Syntax.tcons (Syntax.tyStruct (114 ∷ 117 ∷ 108 ∷ 101 ∷ 115 ∷ 58 ∷ 58
+                ∷ 82 ∷ 117 ∷ 110 ∷ []) (Syntax.tcons Syntax.tyBool (Syntax.tcons Syntax.tyBool (Syntax.tcons Syntax.tyBool (Syntax.tcons (Syntax.tyStruct (114 ∷
+                101 ∷ 115 ∷ 105 ∷ 100 ∷ 117 ∷ 101 ∷ 58 ∷ 58 ∷ 82 ∷ 101 ∷ 115 ∷ 105 ∷ 100 ∷ 117 ∷ 101 ∷ []) (Syntax.tcons (Syntax.tyStruct (110 ∷ 97 ∷ 109 ∷ 101 ∷
+                115 ∷ 58 ∷ 58 ∷ 84 ∷ 104 ∷ 114 ∷ 101 ∷ 101 ∷ []) (Syntax.tcons (Syntax.tyInt Syntax.w8) (Syntax.tcons (Syntax.tyInt Syntax.w8) (Syntax.tcons
+                (Syntax.tyInt Syntax.w8) Syntax.tnil)))) (Syntax.tcons (Syntax.tyInt Syntax.w8) (Syntax.tcons (Syntax.tyStruct (102 ∷ 105 ∷ 101 ∷ 108 ∷ 100 ∷ 115
+                ∷ 58 ∷ 58 ∷ 82 ∷ 101 ∷ 115 ∷ 105 ∷ 100 ∷ 117 ∷ 101 ∷ 78 ∷ 117 ∷ 109 ∷ 98 ∷ 101 ∷ 114 ∷ []) (Syntax.tcons (Syntax.tyInt Syntax.w32) Syntax.tnil))
                 (Syntax.tcons (Syntax.tyInt Syntax.w8) Syntax.tnil))))) Syntax.tnil))))) (Syntax.tcons (Syntax.tyStruct (102 ∷ 105 ∷ 101 ∷ 108 ∷ 100 ∷ 115 ∷ 58 ∷
                 58 ∷ 83 ∷ 101 ∷ 114 ∷ 105 ∷ 97 ∷ 108 ∷ []) (Syntax.tcons (Syntax.tyInt Syntax.w32) Syntax.tnil)) (Syntax.tcons (Syntax.tyInt Syntax.w32)
                 (Syntax.tcons (Syntax.tyStruct (114 ∷ 117 ∷ 108 ∷ 101 ∷ 115 ∷ 58 ∷ 58 ∷ 76 ∷ 97 ∷ 100 ∷ 100 ∷ 101 ∷ 114 ∷ []) (Syntax.tcons (Syntax.tyStruct (110
@@ -8316,7 +8683,12 @@ module _ (claims· : Claims) where
                 (Syntax.tyStruct (115 ∷ 101 ∷ 97 ∷ 114 ∷ 99 ∷ 104 ∷ 58 ∷ 58 ∷ 83 ∷ 112 ∷ 97 ∷ 110 ∷ []) (Syntax.tcons (Syntax.tyInt Syntax.w64) (Syntax.tcons
                 (Syntax.tyInt Syntax.w64) Syntax.tnil))) (Syntax.tcons (Syntax.tyStruct (115 ∷ 101 ∷ 97 ∷ 114 ∷ 99 ∷ 104 ∷ 58 ∷ 58 ∷ 78 ∷ 101 ∷ 97 ∷ 114 ∷ [])
                 (Syntax.tcons (Syntax.tyInt Syntax.w64) (Syntax.tcons (Syntax.tyStruct (102 ∷ 105 ∷ 101 ∷ 108 ∷ 100 ∷ 115 ∷ 58 ∷ 58 ∷ 83 ∷ 101 ∷ 114 ∷ 105 ∷ 97 ∷
-                108 ∷ []) (Syntax.tcons (Syntax.tyInt Syntax.w32) Syntax.tnil)) Syntax.tnil))) Syntax.tnil))) Syntax.tnil))) Syntax.tnil))) Path'.refl)) d41
+                108 ∷ []) (Syntax.tcons (Syntax.tyInt Syntax.w32) Syntax.tnil)) Syntax.tnil))) Syntax.tnil))) (Syntax.tcons (Syntax.tyStruct (116 ∷ 114 ∷ 97 ∷
+                105 ∷ 108 ∷ 58 ∷ 58 ∷ 87 ∷ 97 ∷ 116 ∷ 99 ∷ 104 ∷ []) (Syntax.tcons (Syntax.tyInt Syntax.w64) (Syntax.tcons (Syntax.tyInt Syntax.w64)
+                (Syntax.tcons (Syntax.tyInt Syntax.w64) (Syntax.tcons (Syntax.tyInt Syntax.w64) (Syntax.tcons (Syntax.tyInt Syntax.w64) (Syntax.tcons
+                (Syntax.tyInt Syntax.w64) (Syntax.tcons (Syntax.tyStruct (97 ∷ 104 ∷ 101 ∷ 97 ∷ 100 ∷ 58 ∷ 58 ∷ 65 ∷ 104 ∷ 101 ∷ 97 ∷ 100 ∷ []) (Syntax.tcons
+                (Syntax.tyInt Syntax.w64) (Syntax.tcons (Syntax.tyInt Syntax.w64) (Syntax.tcons (Syntax.tyInt Syntax.w64) Syntax.tnil)))) Syntax.tnil))))))))
+                Syntax.tnil)))) Syntax.tnil))) Path'.refl)) d41
 
             d43 : Typed.Typed 𝓤 H A 𝓣 E G28 b45 Δ3 (at43 bs)
             d43 = Typed.s-seq 𝓤 H A W 𝓣 E G28 G40 b21 b44 Δ3 (Typed.both (s35 bs)) (at42 bs) (WayStmt.t-way-copy-out 𝓤 H A W E 𝓣 (Declared'.row Course.the-type)
@@ -8343,111 +8715,61 @@ module _ (claims· : Claims) where
                 (Syntax.tyStruct (115 ∷ 101 ∷ 97 ∷ 114 ∷ 99 ∷ 104 ∷ 58 ∷ 58 ∷ 83 ∷ 112 ∷ 97 ∷ 110 ∷ []) (Syntax.tcons (Syntax.tyInt Syntax.w64) (Syntax.tcons
                 (Syntax.tyInt Syntax.w64) Syntax.tnil))) (Syntax.tcons (Syntax.tyStruct (115 ∷ 101 ∷ 97 ∷ 114 ∷ 99 ∷ 104 ∷ 58 ∷ 58 ∷ 78 ∷ 101 ∷ 97 ∷ 114 ∷ [])
                 (Syntax.tcons (Syntax.tyInt Syntax.w64) (Syntax.tcons (Syntax.tyStruct (102 ∷ 105 ∷ 101 ∷ 108 ∷ 100 ∷ 115 ∷ 58 ∷ 58 ∷ 83 ∷ 101 ∷ 114 ∷ 105 ∷ 97 ∷
-                108 ∷ []) (Syntax.tcons (Syntax.tyInt Syntax.w32) Syntax.tnil)) Syntax.tnil))) Syntax.tnil))) Syntax.tnil))) (Syntax.tyStruct (103 ∷ 97 ∷ 116 ∷
-                101 ∷ 58 ∷ 58 ∷ 67 ∷ 111 ∷ 117 ∷ 114 ∷ 115 ∷ 101 ∷ []) (Syntax.tcons (Syntax.tyStruct (114 ∷ 117 ∷ 108 ∷ 101 ∷ 115 ∷ 58 ∷ 58 ∷ 83 ∷ 116 ∷ 97 ∷
-                116 ∷ 101 ∷ []) (Syntax.tcons (Syntax.tyInt Syntax.w8) (Syntax.tcons (Syntax.tyStruct (102 ∷ 105 ∷ 101 ∷ 108 ∷ 100 ∷ 115 ∷ 58 ∷ 58 ∷ 83 ∷ 101 ∷
-                114 ∷ 105 ∷ 97 ∷ 108 ∷ []) (Syntax.tcons (Syntax.tyInt Syntax.w32) Syntax.tnil)) (Syntax.tcons (Syntax.tyStruct (114 ∷ 117 ∷ 108 ∷ 101 ∷ 115 ∷ 58
-                ∷ 58 ∷ 82 ∷ 117 ∷ 110 ∷ []) (Syntax.tcons Syntax.tyBool (Syntax.tcons Syntax.tyBool (Syntax.tcons Syntax.tyBool (Syntax.tcons (Syntax.tyStruct
-                (114 ∷ 101 ∷ 115 ∷ 105 ∷ 100 ∷ 117 ∷ 101 ∷ 58 ∷ 58 ∷ 82 ∷ 101 ∷ 115 ∷ 105 ∷ 100 ∷ 117 ∷ 101 ∷ []) (Syntax.tcons (Syntax.tyStruct (110 ∷ 97 ∷ 109
-                ∷ 101 ∷ 115 ∷ 58 ∷ 58 ∷ 84 ∷ 104 ∷ 114 ∷ 101 ∷ 101 ∷ []) (Syntax.tcons (Syntax.tyInt Syntax.w8) (Syntax.tcons (Syntax.tyInt Syntax.w8)
-                (Syntax.tcons (Syntax.tyInt Syntax.w8) Syntax.tnil)))) (Syntax.tcons (Syntax.tyInt Syntax.w8) (Syntax.tcons (Syntax.tyStruct (102 ∷ 105 ∷ 101 ∷
-                108 ∷ 100 ∷ 115 ∷ 58 ∷ 58 ∷ 82 ∷ 101 ∷ 115 ∷ 105 ∷ 100 ∷ 117 ∷ 101 ∷ 78 ∷ 117 ∷ 109 ∷ 98 ∷ 101 ∷ 114 ∷ []) (Syntax.tcons (Syntax.tyInt
-                Syntax.w32) Syntax.tnil)) (Syntax.tcons (Syntax.tyInt Syntax.w8) Syntax.tnil))))) Syntax.tnil))))) (Syntax.tcons (Syntax.tyStruct (102 ∷ 105 ∷
-                101 ∷ 108 ∷ 100 ∷ 115 ∷ 58 ∷ 58 ∷ 83 ∷ 101 ∷ 114 ∷ 105 ∷ 97 ∷ 108 ∷ []) (Syntax.tcons (Syntax.tyInt Syntax.w32) Syntax.tnil)) (Syntax.tcons
-                (Syntax.tyInt Syntax.w32) (Syntax.tcons (Syntax.tyStruct (114 ∷ 117 ∷ 108 ∷ 101 ∷ 115 ∷ 58 ∷ 58 ∷ 76 ∷ 97 ∷ 100 ∷ 100 ∷ 101 ∷ 114 ∷ [])
-                (Syntax.tcons (Syntax.tyStruct (110 ∷ 97 ∷ 109 ∷ 101 ∷ 115 ∷ 58 ∷ 58 ∷ 84 ∷ 104 ∷ 114 ∷ 101 ∷ 101 ∷ []) (Syntax.tcons (Syntax.tyInt Syntax.w8)
-                (Syntax.tcons (Syntax.tyInt Syntax.w8) (Syntax.tcons (Syntax.tyInt Syntax.w8) Syntax.tnil)))) (Syntax.tcons (Syntax.tyInt Syntax.w32)
-                (Syntax.tcons (Syntax.tyInt Syntax.w32) Syntax.tnil)))) (Syntax.tcons (Syntax.tyStruct (112 ∷ 108 ∷ 97 ∷ 99 ∷ 101 ∷ 115 ∷ 58 ∷ 58 ∷ 67 ∷ 111 ∷
-                117 ∷ 110 ∷ 116 ∷ 115 ∷ []) (Syntax.tcons (Syntax.tyInt Syntax.w64) (Syntax.tcons (Syntax.tyInt Syntax.w64) (Syntax.tcons (Syntax.tyInt
-                Syntax.w64) (Syntax.tcons (Syntax.tyInt Syntax.w64) (Syntax.tcons (Syntax.tyInt Syntax.w64) (Syntax.tcons (Syntax.tyInt Syntax.w64) (Syntax.tcons
-                (Syntax.tyInt Syntax.w64) (Syntax.tcons (Syntax.tyInt Syntax.w64) (Syntax.tcons (Syntax.tyInt Syntax.w64) Syntax.tnil)))))))))) (Syntax.tcons
-                (Syntax.tyInt Syntax.w64) Syntax.tnil))))))))) (Syntax.tcons (Syntax.tyStruct (115 ∷ 101 ∷ 114 ∷ 105 ∷ 97 ∷ 108 ∷ 115 ∷ 58 ∷ 58 ∷ 80 ∷ 97 ∷ 115 ∷
-                116 ∷ []) (Syntax.tcons (Syntax.tyStruct (115 ∷ 101 ∷ 97 ∷ 114 ∷ 99 ∷ 104 ∷ 58 ∷ 58 ∷ 83 ∷ 112 ∷ 97 ∷ 110 ∷ []) (Syntax.tcons (Syntax.tyInt
-                Syntax.w64) (Syntax.tcons (Syntax.tyInt Syntax.w64) Syntax.tnil))) (Syntax.tcons (Syntax.tyStruct (115 ∷ 101 ∷ 97 ∷ 114 ∷ 99 ∷ 104 ∷ 58 ∷ 58 ∷ 78
-                ∷ 101 ∷ 97 ∷ 114 ∷ []) (Syntax.tcons (Syntax.tyInt Syntax.w64) (Syntax.tcons (Syntax.tyStruct (102 ∷ 105 ∷ 101 ∷ 108 ∷ 100 ∷ 115 ∷ 58 ∷ 58 ∷ 83 ∷
-                101 ∷ 114 ∷ 105 ∷ 97 ∷ 108 ∷ []) (Syntax.tcons (Syntax.tyInt Syntax.w32) Syntax.tnil)) Syntax.tnil))) Syntax.tnil))) Syntax.tnil))) 11
-                (Rows'.whole (Declared'.row Course.the-type)) (λ x. x) (λ u. At.getAt (Onward.the-type .parts) 1 (Onward.struct .as-values (u .1 .1 .1 .1 .1 .1
-                .1 .1 .1 .1 .0))) (λ u. (Row.hd 0 (Row.tl (Row.tl (Row.tl (Row.tl (Row.tl (Row.tl (Row.tl (Row.tl (Row.tl (Row.tl bs)))))))))), Nat._+_ 0 8)) (λ
-                T′. record { locals = Row.setRow 10 (10, Rows'.whole (Declared'.row Onward.the-type)) T′; slots = G28 .slots }) (λ u T′ m′. Row.set 10 (
-                  10,
-                  Rows'.whole (Declared'.row Onward.the-type),
-                ) (u .1 .1 .1 .1 .1 .1 .1 .1 .1 .1 .0) T′ m′) (λ u. Unit) (λ x. Unit) (Own.told-none 𝓤 H A (G28
-                .slots)) (DerefMove.learns-nothing 𝓤 H A (Declared'.row Course.the-type)) (λ ρ told u asked. Way'.w-partˢ 𝓤 H A W E (Declared'.row
-                Onward.the-type) (Declared'.row Course.the-type) (Syntax.tyStruct (103 ∷ 97 ∷ 116 ∷ 101 ∷ 58 ∷ 58 ∷ 79 ∷ 110 ∷ 119 ∷ 97 ∷ 114 ∷ 100 ∷ [])
-                (Syntax.tcons (Syntax.tyInt Syntax.w8) (Syntax.tcons (Syntax.tyStruct (103 ∷ 97 ∷ 116 ∷ 101 ∷ 58 ∷ 58 ∷ 67 ∷ 111 ∷ 117 ∷ 114 ∷ 115 ∷ 101 ∷ [])
-                (Syntax.tcons (Syntax.tyStruct (114 ∷ 117 ∷ 108 ∷ 101 ∷ 115 ∷ 58 ∷ 58 ∷ 83 ∷ 116 ∷ 97 ∷ 116 ∷ 101 ∷ []) (Syntax.tcons (Syntax.tyInt Syntax.w8)
-                (Syntax.tcons (Syntax.tyStruct (102 ∷ 105 ∷ 101 ∷ 108 ∷ 100 ∷ 115 ∷ 58 ∷ 58 ∷ 83 ∷ 101 ∷ 114 ∷ 105 ∷ 97 ∷ 108 ∷ []) (Syntax.tcons (Syntax.tyInt
-                Syntax.w32) Syntax.tnil)) (Syntax.tcons (Syntax.tyStruct (114 ∷ 117 ∷ 108 ∷ 101 ∷ 115 ∷ 58 ∷ 58 ∷ 82 ∷ 117 ∷ 110 ∷ []) (Syntax.tcons
-                Syntax.tyBool (Syntax.tcons Syntax.tyBool (Syntax.tcons Syntax.tyBool (Syntax.tcons (Syntax.tyStruct (114 ∷ 101 ∷ 115 ∷ 105 ∷ 100 ∷ 117 ∷ 101 ∷
-                58 ∷ 58 ∷ 82 ∷ 101 ∷ 115 ∷ 105 ∷ 100 ∷ 117 ∷ 101 ∷ []) (Syntax.tcons (Syntax.tyStruct (110 ∷ 97 ∷ 109 ∷ 101 ∷ 115 ∷ 58 ∷ 58 ∷ 84 ∷ 104 ∷ 114 ∷
-                101 ∷ 101 ∷ []) (Syntax.tcons (Syntax.tyInt Syntax.w8) (Syntax.tcons (Syntax.tyInt Syntax.w8) (Syntax.tcons (Syntax.tyInt Syntax.w8)
-                Syntax.tnil)))) (Syntax.tcons (Syntax.tyInt Syntax.w8) (Syntax.tcons (Syntax.tyStruct (102 ∷ 105 ∷ 101 ∷ 108 ∷ 100 ∷ 115 ∷ 58 ∷ 58 ∷ 82 ∷ 101 ∷
-                115 ∷ 105 ∷ 100 ∷ 117 ∷ 101 ∷ 78 ∷ 117 ∷ 109 ∷ 98 ∷ 101 ∷ 114 ∷ []) (Syntax.tcons (Syntax.tyInt Syntax.w32) Syntax.tnil)) (Syntax.tcons
-                (Syntax.tyInt Syntax.w8) Syntax.tnil))))) Syntax.tnil))))) (Syntax.tcons (Syntax.tyStruct (102 ∷ 105 ∷ 101 ∷ 108 ∷ 100 ∷ 115 ∷ 58 ∷ 58 ∷ 83 ∷ 101
-                ∷ 114 ∷ 105 ∷ 97 ∷ 108 ∷ []) (Syntax.tcons (Syntax.tyInt Syntax.w32) Syntax.tnil)) (Syntax.tcons (Syntax.tyInt Syntax.w32) (Syntax.tcons
-                (Syntax.tyStruct (114 ∷ 117 ∷ 108 ∷ 101 ∷ 115 ∷ 58 ∷ 58 ∷ 76 ∷ 97 ∷ 100 ∷ 100 ∷ 101 ∷ 114 ∷ []) (Syntax.tcons (Syntax.tyStruct (110 ∷ 97 ∷ 109 ∷
-                101 ∷ 115 ∷ 58 ∷ 58 ∷ 84 ∷ 104 ∷ 114 ∷ 101 ∷ 101 ∷ []) (Syntax.tcons (Syntax.tyInt Syntax.w8) (Syntax.tcons (Syntax.tyInt Syntax.w8)
-                (Syntax.tcons (Syntax.tyInt Syntax.w8) Syntax.tnil)))) (Syntax.tcons (Syntax.tyInt Syntax.w32) (Syntax.tcons (Syntax.tyInt Syntax.w32)
-                Syntax.tnil)))) (Syntax.tcons (Syntax.tyStruct (112 ∷ 108 ∷ 97 ∷ 99 ∷ 101 ∷ 115 ∷ 58 ∷ 58 ∷ 67 ∷ 111 ∷ 117 ∷ 110 ∷ 116 ∷ 115 ∷ []) (Syntax.tcons
-                (Syntax.tyInt Syntax.w64) (Syntax.tcons (Syntax.tyInt Syntax.w64) (Syntax.tcons (Syntax.tyInt Syntax.w64) (Syntax.tcons (Syntax.tyInt Syntax.w64)
+                108 ∷ []) (Syntax.tcons (Syntax.tyInt Syntax.w32) Syntax.tnil)) Syntax.tnil))) Syntax.tnil))) (Syntax.tcons (Syntax.tyStruct (116 ∷ 114 ∷ 97 ∷
+                105 ∷ 108 ∷ 58 ∷ 58 ∷ 87 ∷ 97 ∷ 116 ∷ 99 ∷ 104 ∷ []) (Syntax.tcons (Syntax.tyInt Syntax.w64) (Syntax.tcons (Syntax.tyInt Syntax.w64)
                 (Syntax.tcons (Syntax.tyInt Syntax.w64) (Syntax.tcons (Syntax.tyInt Syntax.w64) (Syntax.tcons (Syntax.tyInt Syntax.w64) (Syntax.tcons
-                (Syntax.tyInt Syntax.w64) (Syntax.tcons (Syntax.tyInt Syntax.w64) Syntax.tnil)))))))))) (Syntax.tcons (Syntax.tyInt Syntax.w64)
-                Syntax.tnil))))))))) (Syntax.tcons (Syntax.tyStruct (115 ∷ 101 ∷ 114 ∷ 105 ∷ 97 ∷ 108 ∷ 115 ∷ 58 ∷ 58 ∷ 80 ∷ 97 ∷ 115 ∷ 116 ∷ []) (Syntax.tcons
-                (Syntax.tyStruct (115 ∷ 101 ∷ 97 ∷ 114 ∷ 99 ∷ 104 ∷ 58 ∷ 58 ∷ 83 ∷ 112 ∷ 97 ∷ 110 ∷ []) (Syntax.tcons (Syntax.tyInt Syntax.w64) (Syntax.tcons
-                (Syntax.tyInt Syntax.w64) Syntax.tnil))) (Syntax.tcons (Syntax.tyStruct (115 ∷ 101 ∷ 97 ∷ 114 ∷ 99 ∷ 104 ∷ 58 ∷ 58 ∷ 78 ∷ 101 ∷ 97 ∷ 114 ∷ [])
-                (Syntax.tcons (Syntax.tyInt Syntax.w64) (Syntax.tcons (Syntax.tyStruct (102 ∷ 105 ∷ 101 ∷ 108 ∷ 100 ∷ 115 ∷ 58 ∷ 58 ∷ 83 ∷ 101 ∷ 114 ∷ 105 ∷ 97 ∷
-                108 ∷ []) (Syntax.tcons (Syntax.tyInt Syntax.w32) Syntax.tnil)) Syntax.tnil))) Syntax.tnil))) Syntax.tnil))) Syntax.tnil))) (Syntax.tyStruct (103
-                ∷ 97 ∷ 116 ∷ 101 ∷ 58 ∷ 58 ∷ 67 ∷ 111 ∷ 117 ∷ 114 ∷ 115 ∷ 101 ∷ []) (Syntax.tcons (Syntax.tyStruct (114 ∷ 117 ∷ 108 ∷ 101 ∷ 115 ∷ 58 ∷ 58 ∷ 83 ∷
-                116 ∷ 97 ∷ 116 ∷ 101 ∷ []) (Syntax.tcons (Syntax.tyInt Syntax.w8) (Syntax.tcons (Syntax.tyStruct (102 ∷ 105 ∷ 101 ∷ 108 ∷ 100 ∷ 115 ∷ 58 ∷ 58 ∷
-                83 ∷ 101 ∷ 114 ∷ 105 ∷ 97 ∷ 108 ∷ []) (Syntax.tcons (Syntax.tyInt Syntax.w32) Syntax.tnil)) (Syntax.tcons (Syntax.tyStruct (114 ∷ 117 ∷ 108 ∷ 101
-                ∷ 115 ∷ 58 ∷ 58 ∷ 82 ∷ 117 ∷ 110 ∷ []) (Syntax.tcons Syntax.tyBool (Syntax.tcons Syntax.tyBool (Syntax.tcons Syntax.tyBool (Syntax.tcons
-                (Syntax.tyStruct (114 ∷ 101 ∷ 115 ∷ 105 ∷ 100 ∷ 117 ∷ 101 ∷ 58 ∷ 58 ∷ 82 ∷ 101 ∷ 115 ∷ 105 ∷ 100 ∷ 117 ∷ 101 ∷ []) (Syntax.tcons (Syntax.tyStruct
-                (110 ∷ 97 ∷ 109 ∷ 101 ∷ 115 ∷ 58 ∷ 58 ∷ 84 ∷ 104 ∷ 114 ∷ 101 ∷ 101 ∷ []) (Syntax.tcons (Syntax.tyInt Syntax.w8) (Syntax.tcons (Syntax.tyInt
-                Syntax.w8) (Syntax.tcons (Syntax.tyInt Syntax.w8) Syntax.tnil)))) (Syntax.tcons (Syntax.tyInt Syntax.w8) (Syntax.tcons (Syntax.tyStruct (102 ∷
-                105 ∷ 101 ∷ 108 ∷ 100 ∷ 115 ∷ 58 ∷ 58 ∷ 82 ∷ 101 ∷ 115 ∷ 105 ∷ 100 ∷ 117 ∷ 101 ∷ 78 ∷ 117 ∷ 109 ∷ 98 ∷ 101 ∷ 114 ∷ []) (Syntax.tcons
-                (Syntax.tyInt Syntax.w32) Syntax.tnil)) (Syntax.tcons (Syntax.tyInt Syntax.w8) Syntax.tnil))))) Syntax.tnil))))) (Syntax.tcons (Syntax.tyStruct
-                (102 ∷ 105 ∷ 101 ∷ 108 ∷ 100 ∷ 115 ∷ 58 ∷ 58 ∷ 83 ∷ 101 ∷ 114 ∷ 105 ∷ 97 ∷ 108 ∷ []) (Syntax.tcons (Syntax.tyInt Syntax.w32) Syntax.tnil))
-                (Syntax.tcons (Syntax.tyInt Syntax.w32) (Syntax.tcons (Syntax.tyStruct (114 ∷ 117 ∷ 108 ∷ 101 ∷ 115 ∷ 58 ∷ 58 ∷ 76 ∷ 97 ∷ 100 ∷ 100 ∷ 101 ∷ 114 ∷
-                []) (Syntax.tcons (Syntax.tyStruct (110 ∷ 97 ∷ 109 ∷ 101 ∷ 115 ∷ 58 ∷ 58 ∷ 84 ∷ 104 ∷ 114 ∷ 101 ∷ 101 ∷ []) (Syntax.tcons (Syntax.tyInt
-                Syntax.w8) (Syntax.tcons (Syntax.tyInt Syntax.w8) (Syntax.tcons (Syntax.tyInt Syntax.w8) Syntax.tnil)))) (Syntax.tcons (Syntax.tyInt Syntax.w32)
-                (Syntax.tcons (Syntax.tyInt Syntax.w32) Syntax.tnil)))) (Syntax.tcons (Syntax.tyStruct (112 ∷ 108 ∷ 97 ∷ 99 ∷ 101 ∷ 115 ∷ 58 ∷ 58 ∷ 67 ∷ 111 ∷
-                117 ∷ 110 ∷ 116 ∷ 115 ∷ []) (Syntax.tcons (Syntax.tyInt Syntax.w64) (Syntax.tcons (Syntax.tyInt Syntax.w64) (Syntax.tcons (Syntax.tyInt
+                (Syntax.tyInt Syntax.w64) (Syntax.tcons (Syntax.tyStruct (97 ∷ 104 ∷ 101 ∷ 97 ∷ 100 ∷ 58 ∷ 58 ∷ 65 ∷ 104 ∷ 101 ∷ 97 ∷ 100 ∷ []) (Syntax.tcons
+                (Syntax.tyInt Syntax.w64) (Syntax.tcons (Syntax.tyInt Syntax.w64) (Syntax.tcons (Syntax.tyInt Syntax.w64) Syntax.tnil)))) Syntax.tnil))))))))
+                Syntax.tnil)))) (Syntax.tyStruct (103 ∷ 97 ∷ 116 ∷ 101 ∷ 58 ∷ 58 ∷ 67 ∷ 111 ∷ 117 ∷ 114 ∷ 115 ∷ 101 ∷ []) (Syntax.tcons (Syntax.tyStruct (114 ∷
+                117 ∷ 108 ∷ 101 ∷ 115 ∷ 58 ∷ 58 ∷ 83 ∷ 116 ∷ 97 ∷ 116 ∷ 101 ∷ []) (Syntax.tcons (Syntax.tyInt Syntax.w8) (Syntax.tcons (Syntax.tyStruct (102 ∷
+                105 ∷ 101 ∷ 108 ∷ 100 ∷ 115 ∷ 58 ∷ 58 ∷ 83 ∷ 101 ∷ 114 ∷ 105 ∷ 97 ∷ 108 ∷ []) (Syntax.tcons (Syntax.tyInt Syntax.w32) Syntax.tnil)) (Syntax.tcons
+                (Syntax.tyStruct (114 ∷ 117 ∷ 108 ∷ 101 ∷ 115 ∷ 58 ∷ 58 ∷ 82 ∷ 117 ∷ 110 ∷ []) (Syntax.tcons Syntax.tyBool (Syntax.tcons Syntax.tyBool
+                (Syntax.tcons Syntax.tyBool (Syntax.tcons (Syntax.tyStruct (114 ∷ 101 ∷ 115 ∷ 105 ∷ 100 ∷ 117 ∷ 101 ∷ 58 ∷ 58 ∷ 82 ∷ 101 ∷ 115 ∷ 105 ∷ 100 ∷ 117
+                ∷ 101 ∷ []) (Syntax.tcons (Syntax.tyStruct (110 ∷ 97 ∷ 109 ∷ 101 ∷ 115 ∷ 58 ∷ 58 ∷ 84 ∷ 104 ∷ 114 ∷ 101 ∷ 101 ∷ []) (Syntax.tcons (Syntax.tyInt
+                Syntax.w8) (Syntax.tcons (Syntax.tyInt Syntax.w8) (Syntax.tcons (Syntax.tyInt Syntax.w8) Syntax.tnil)))) (Syntax.tcons (Syntax.tyInt Syntax.w8)
+                (Syntax.tcons (Syntax.tyStruct (102 ∷ 105 ∷ 101 ∷ 108 ∷ 100 ∷ 115 ∷ 58 ∷ 58 ∷ 82 ∷ 101 ∷ 115 ∷ 105 ∷ 100 ∷ 117 ∷ 101 ∷ 78 ∷ 117 ∷ 109 ∷ 98 ∷ 101
+                ∷ 114 ∷ []) (Syntax.tcons (Syntax.tyInt Syntax.w32) Syntax.tnil)) (Syntax.tcons (Syntax.tyInt Syntax.w8) Syntax.tnil))))) Syntax.tnil)))))
+                (Syntax.tcons (Syntax.tyStruct (102 ∷ 105 ∷ 101 ∷ 108 ∷ 100 ∷ 115 ∷ 58 ∷ 58 ∷ 83 ∷ 101 ∷ 114 ∷ 105 ∷ 97 ∷ 108 ∷ []) (Syntax.tcons (Syntax.tyInt
+                Syntax.w32) Syntax.tnil)) (Syntax.tcons (Syntax.tyInt Syntax.w32) (Syntax.tcons (Syntax.tyStruct (114 ∷ 117 ∷ 108 ∷ 101 ∷ 115 ∷ 58 ∷ 58 ∷ 76 ∷ 97
+                ∷ 100 ∷ 100 ∷ 101 ∷ 114 ∷ []) (Syntax.tcons (Syntax.tyStruct (110 ∷ 97 ∷ 109 ∷ 101 ∷ 115 ∷ 58 ∷ 58 ∷ 84 ∷ 104 ∷ 114 ∷ 101 ∷ 101 ∷ [])
+                (Syntax.tcons (Syntax.tyInt Syntax.w8) (Syntax.tcons (Syntax.tyInt Syntax.w8) (Syntax.tcons (Syntax.tyInt Syntax.w8) Syntax.tnil))))
+                (Syntax.tcons (Syntax.tyInt Syntax.w32) (Syntax.tcons (Syntax.tyInt Syntax.w32) Syntax.tnil)))) (Syntax.tcons (Syntax.tyStruct (112 ∷ 108 ∷ 97 ∷
+                99 ∷ 101 ∷ 115 ∷ 58 ∷ 58 ∷ 67 ∷ 111 ∷ 117 ∷ 110 ∷ 116 ∷ 115 ∷ []) (Syntax.tcons (Syntax.tyInt Syntax.w64) (Syntax.tcons (Syntax.tyInt Syntax.w64)
+                (Syntax.tcons (Syntax.tyInt Syntax.w64) (Syntax.tcons (Syntax.tyInt Syntax.w64) (Syntax.tcons (Syntax.tyInt Syntax.w64) (Syntax.tcons
+                (Syntax.tyInt Syntax.w64) (Syntax.tcons (Syntax.tyInt Syntax.w64) (Syntax.tcons (Syntax.tyInt Syntax.w64) (Syntax.tcons (Syntax.tyInt Syntax.w64)
+                Syntax.tnil)))))))))) (Syntax.tcons (Syntax.tyInt Syntax.w64) Syntax.tnil))))))))) (Syntax.tcons (Syntax.tyStruct (115 ∷ 101 ∷ 114 ∷ 105 ∷ 97 ∷
+                108 ∷ 115 ∷ 58 ∷ 58 ∷ 80 ∷ 97 ∷ 115 ∷ 116 ∷ []) (Syntax.tcons (Syntax.tyStruct (115 ∷ 101 ∷ 97 ∷ 114 ∷ 99 ∷ 104 ∷ 58 ∷ 58 ∷ 83 ∷ 112 ∷ 97 ∷ 110 ∷
+                []) (Syntax.tcons (Syntax.tyInt Syntax.w64) (Syntax.tcons (Syntax.tyInt Syntax.w64) Syntax.tnil))) (Syntax.tcons (Syntax.tyStruct (115 ∷ 101 ∷ 97
+                ∷ 114 ∷ 99 ∷ 104 ∷ 58 ∷ 58 ∷ 78 ∷ 101 ∷ 97 ∷ 114 ∷ []) (Syntax.tcons (Syntax.tyInt Syntax.w64) (Syntax.tcons (Syntax.tyStruct (102 ∷ 105 ∷ 101 ∷
+                108 ∷ 100 ∷ 115 ∷ 58 ∷ 58 ∷ 83 ∷ 101 ∷ 114 ∷ 105 ∷ 97 ∷ 108 ∷ []) (Syntax.tcons (Syntax.tyInt Syntax.w32) Syntax.tnil)) Syntax.tnil)))
+                Syntax.tnil))) (Syntax.tcons (Syntax.tyStruct (116 ∷ 114 ∷ 97 ∷ 105 ∷ 108 ∷ 58 ∷ 58 ∷ 87 ∷ 97 ∷ 116 ∷ 99 ∷ 104 ∷ []) (Syntax.tcons (Syntax.tyInt
                 Syntax.w64) (Syntax.tcons (Syntax.tyInt Syntax.w64) (Syntax.tcons (Syntax.tyInt Syntax.w64) (Syntax.tcons (Syntax.tyInt Syntax.w64) (Syntax.tcons
-                (Syntax.tyInt Syntax.w64) (Syntax.tcons (Syntax.tyInt Syntax.w64) (Syntax.tcons (Syntax.tyInt Syntax.w64) Syntax.tnil)))))))))) (Syntax.tcons
-                (Syntax.tyInt Syntax.w64) Syntax.tnil))))))))) (Syntax.tcons (Syntax.tyStruct (115 ∷ 101 ∷ 114 ∷ 105 ∷ 97 ∷ 108 ∷ 115 ∷ 58 ∷ 58 ∷ 80 ∷ 97 ∷ 115 ∷
-                116 ∷ []) (Syntax.tcons (Syntax.tyStruct (115 ∷ 101 ∷ 97 ∷ 114 ∷ 99 ∷ 104 ∷ 58 ∷ 58 ∷ 83 ∷ 112 ∷ 97 ∷ 110 ∷ []) (Syntax.tcons (Syntax.tyInt
-                Syntax.w64) (Syntax.tcons (Syntax.tyInt Syntax.w64) Syntax.tnil))) (Syntax.tcons (Syntax.tyStruct (115 ∷ 101 ∷ 97 ∷ 114 ∷ 99 ∷ 104 ∷ 58 ∷ 58 ∷ 78
-                ∷ 101 ∷ 97 ∷ 114 ∷ []) (Syntax.tcons (Syntax.tyInt Syntax.w64) (Syntax.tcons (Syntax.tyStruct (102 ∷ 105 ∷ 101 ∷ 108 ∷ 100 ∷ 115 ∷ 58 ∷ 58 ∷ 83 ∷
-                101 ∷ 114 ∷ 105 ∷ 97 ∷ 108 ∷ []) (Syntax.tcons (Syntax.tyInt Syntax.w32) Syntax.tnil)) Syntax.tnil))) Syntax.tnil))) Syntax.tnil))) 1 8 (u .1 .1
-                .1 .1 .1 .1 .1 .1 .1 .1 .0) (At.getAt (Onward.the-type .parts) 1 (Onward.struct .as-values (u .1 .1 .1 .1 .1 .1 .1 .1 .1 .1 .0))) (
-                  Row.hd 0
-                      (Row.tl (Row.tl (Row.tl (Row.tl (Row.tl (Row.tl (Row.tl (Row.tl (Row.tl (Row.tl bs)))))))))),
-                  0,
-                ) (Way.w-look 𝓤 H A W E (Way.w-local 𝓤 H A W E G28
-                ρ u (G28 .slots) 10 (Declared'.row Onward.the-type) (Rows'.whole (Declared'.row Onward.the-type)) (λ x. x) (λ x. x) (u .1 .1 .1 .1 .1 .1 .1 .1 .1
-                .1 .0) (Local.mem-whole 𝓤 H A W (Declared'.row Onward.the-type) ρ (u .1 .1 .1 .1 .1 .1 .1 .1 .1 .1 .0) (Row.hd 0 (Row.tl (Row.tl (Row.tl (Row.tl
-                (Row.tl (Row.tl (Row.tl (Row.tl (Row.tl (Row.tl bs)))))))))))) (Local.whole-mem 𝓤 H A W (Declared'.row Onward.the-type) ρ (u .1 .1 .1 .1 .1 .1 .1
-                .1 .1 .1 .0) (Row.hd 0 (Row.tl (Row.tl (Row.tl (Row.tl (Row.tl (Row.tl (Row.tl (Row.tl (Row.tl (Row.tl bs)))))))))))))) Path'.refl λ q.
-                Inner.cut-record 𝓤 H A q (Declared'.row Onward.the-type) Course.the-type 8 (u .1 .1 .1 .1 .1 .1 .1 .1 .1 .1 .0) (u .1 .1 .1 .1 .1 .1 .1 .1 .1 .1
-                .0) (At.getAt (Onward.the-type .parts) 1 (Onward.struct .as-values (u .1 .1 .1 .1 .1 .1 .1 .1 .1 .1 .0))) (At.getAt (Onward.the-type .parts) 1
-                (Onward.struct .as-values (u .1 .1 .1 .1 .1 .1 .1 .1 .1 .1 .0))) (
-                  Row.hd 0 (Row.tl (Row.tl (Row.tl (Row.tl (Row.tl (Row.tl (Row.tl (Row.tl
-                      (Row.tl (Row.tl bs)))))))))),
-                  0,
-                ) (Behind.look-at 𝓤 H A W q Onward.the-type Laws''.the-laws 1 8 Path'.refl Path'.refl (
-                  Row.hd 0 (Row.tl (Row.tl
-                      (Row.tl (Row.tl (Row.tl (Row.tl (Row.tl (Row.tl (Row.tl (Row.tl bs)))))))))),
-                  0,
-                ) (u .1 .1 .1 .1 .1 .1 .1 .1 .1 .1 .0) (Onward.struct .as-values
-                (u .1 .1 .1 .1 .1 .1 .1 .1 .1 .1 .0)) Path'.refl)) (Reads'.room-gone 𝓤 H A (Syntax.tyStruct (103 ∷ 97 ∷ 116 ∷ 101 ∷ 58 ∷ 58 ∷ 67 ∷ 111 ∷ 117 ∷
-                114 ∷ 115 ∷ 101 ∷ []) (Syntax.tcons (Syntax.tyStruct (114 ∷ 117 ∷ 108 ∷ 101 ∷ 115 ∷ 58 ∷ 58 ∷ 83 ∷ 116 ∷ 97 ∷ 116 ∷ 101 ∷ []) (Syntax.tcons
-                (Syntax.tyInt Syntax.w8) (Syntax.tcons (Syntax.tyStruct (102 ∷ 105 ∷ 101 ∷ 108 ∷ 100 ∷ 115 ∷ 58 ∷ 58 ∷ 83 ∷ 101 ∷ 114 ∷ 105 ∷ 97 ∷ 108 ∷ [])
-                (Syntax.tcons (Syntax.tyInt Syntax.w32) Syntax.tnil)) (Syntax.tcons (Syntax.tyStruct (114 ∷ 117 ∷ 108 ∷ 101 ∷ 115 ∷ 58 ∷ 58 ∷ 82 ∷ 117 ∷ 110 ∷
-                []) (Syntax.tcons Syntax.tyBool (Syntax.tcons Syntax.tyBool (Syntax.tcons Syntax.tyBool (Syntax.tcons (Syntax.tyStruct (114 ∷ 101 ∷ 115 ∷ 105 ∷
-                100 ∷ 117 ∷ 101 ∷ 58 ∷ 58 ∷ 82 ∷ 101 ∷ 115 ∷ 105 ∷ 100 ∷ 117 ∷ 101 ∷ []) (Syntax.tcons (Syntax.tyStruct (110 ∷ 97 ∷ 109 ∷ 101 ∷ 115 ∷ 58 ∷ 58 ∷
-                84 ∷ 104 ∷ 114 ∷ 101 ∷ 101 ∷ []) (Syntax.tcons (Syntax.tyInt Syntax.w8) (Syntax.tcons (Syntax.tyInt Syntax.w8) (Syntax.tcons (Syntax.tyInt
-                Syntax.w8) Syntax.tnil)))) (Syntax.tcons (Syntax.tyInt Syntax.w8) (Syntax.tcons (Syntax.tyStruct (102 ∷ 105 ∷ 101 ∷ 108 ∷ 100 ∷ 115 ∷ 58 ∷ 58 ∷
-                82 ∷ 101 ∷ 115 ∷ 105 ∷ 100 ∷ 117 ∷ 101 ∷ 78 ∷ 117 ∷ 109 ∷ 98 ∷ 101 ∷ 114 ∷ []) (Syntax.tcons (Syntax.tyInt Syntax.w32) Syntax.tnil))
+                (Syntax.tyInt Syntax.w64) (Syntax.tcons (Syntax.tyInt Syntax.w64) (Syntax.tcons (Syntax.tyStruct (97 ∷ 104 ∷ 101 ∷ 97 ∷ 100 ∷ 58 ∷ 58 ∷ 65 ∷ 104
+                ∷ 101 ∷ 97 ∷ 100 ∷ []) (Syntax.tcons (Syntax.tyInt Syntax.w64) (Syntax.tcons (Syntax.tyInt Syntax.w64) (Syntax.tcons (Syntax.tyInt Syntax.w64)
+                Syntax.tnil)))) Syntax.tnil)))))))) Syntax.tnil)))) 11 (Rows'.whole (Declared'.row Course.the-type)) (λ x. x) (λ u. At.getAt (Onward.the-type
+                .parts) 1 (Onward.struct .as-values (u .1 .1 .1 .1 .1 .1 .1 .1 .1 .1 .0))) (λ u. (
+                  Row.hd 0 (Row.tl (Row.tl (Row.tl (Row.tl (Row.tl (Row.tl
+                      (Row.tl (Row.tl (Row.tl (Row.tl bs)))))))))),
+                  Nat._+_ 0 8,
+                )) (λ T′. record {
+                  locals = Row.setRow 10 (
+                    10,
+                    Rows'.whole (Declared'.row
+                        Onward.the-type),
+                  ) T′;
+                  slots = G28 .slots;
+                }) (λ u T′ m′. Row.set 10 (10, Rows'.whole (Declared'.row Onward.the-type)) (u .1 .1 .1 .1 .1 .1 .1 .1
+                .1 .1 .0) T′ m′) (λ u. Unit) (λ x. Unit) (Own.told-none 𝓤 H A (G28 .slots)) (DerefMove.learns-nothing 𝓤 H A (Declared'.row Course.the-type)) (λ ρ
+                told u asked. Way'.w-partˢ 𝓤 H A W E (Declared'.row Onward.the-type) (Declared'.row Course.the-type) (Syntax.tyStruct (103 ∷ 97 ∷ 116 ∷ 101 ∷ 58
+                ∷ 58 ∷ 79 ∷ 110 ∷ 119 ∷ 97 ∷ 114 ∷ 100 ∷ []) (Syntax.tcons (Syntax.tyInt Syntax.w8) (Syntax.tcons (Syntax.tyStruct (103 ∷ 97 ∷ 116 ∷ 101 ∷ 58 ∷
+                58 ∷ 67 ∷ 111 ∷ 117 ∷ 114 ∷ 115 ∷ 101 ∷ []) (Syntax.tcons (Syntax.tyStruct (114 ∷ 117 ∷ 108 ∷ 101 ∷ 115 ∷ 58 ∷ 58 ∷ 83 ∷ 116 ∷ 97 ∷ 116 ∷ 101 ∷
+                []) (Syntax.tcons (Syntax.tyInt Syntax.w8) (Syntax.tcons (Syntax.tyStruct (102 ∷ 105 ∷ 101 ∷ 108 ∷ 100 ∷ 115 ∷ 58 ∷ 58 ∷ 83 ∷ 101 ∷ 114 ∷ 105 ∷
+                97 ∷ 108 ∷ []) (Syntax.tcons (Syntax.tyInt Syntax.w32) Syntax.tnil)) (Syntax.tcons (Syntax.tyStruct (114 ∷ 117 ∷ 108 ∷ 101 ∷ 115 ∷ 58 ∷ 58 ∷ 82 ∷
+                117 ∷ 110 ∷ []) (Syntax.tcons Syntax.tyBool (Syntax.tcons Syntax.tyBool (Syntax.tcons Syntax.tyBool (Syntax.tcons (Syntax.tyStruct (114 ∷ 101 ∷
+                115 ∷ 105 ∷ 100 ∷ 117 ∷ 101 ∷ 58 ∷ 58 ∷ 82 ∷ 101 ∷ 115 ∷ 105 ∷ 100 ∷ 117 ∷ 101 ∷ []) (Syntax.tcons (Syntax.tyStruct (110 ∷ 97 ∷ 109 ∷ 101 ∷ 115 ∷
+                58 ∷ 58 ∷ 84 ∷ 104 ∷ 114 ∷ 101 ∷ 101 ∷ []) (Syntax.tcons (Syntax.tyInt Syntax.w8) (Syntax.tcons (Syntax.tyInt Syntax.w8) (Syntax.tcons
+                (Syntax.tyInt Syntax.w8) Syntax.tnil)))) (Syntax.tcons (Syntax.tyInt Syntax.w8) (Syntax.tcons (Syntax.tyStruct (102 ∷ 105 ∷ 101 ∷ 108 ∷ 100 ∷ 115
+                ∷ 58 ∷ 58 ∷ 82 ∷ 101 ∷ 115 ∷ 105 ∷ 100 ∷ 117 ∷ 101 ∷ 78 ∷ 117 ∷ 109 ∷ 98 ∷ 101 ∷ 114 ∷ []) (Syntax.tcons (Syntax.tyInt Syntax.w32) Syntax.tnil))
                 (Syntax.tcons (Syntax.tyInt Syntax.w8) Syntax.tnil))))) Syntax.tnil))))) (Syntax.tcons (Syntax.tyStruct (102 ∷ 105 ∷ 101 ∷ 108 ∷ 100 ∷ 115 ∷ 58 ∷
                 58 ∷ 83 ∷ 101 ∷ 114 ∷ 105 ∷ 97 ∷ 108 ∷ []) (Syntax.tcons (Syntax.tyInt Syntax.w32) Syntax.tnil)) (Syntax.tcons (Syntax.tyInt Syntax.w32)
                 (Syntax.tcons (Syntax.tyStruct (114 ∷ 117 ∷ 108 ∷ 101 ∷ 115 ∷ 58 ∷ 58 ∷ 76 ∷ 97 ∷ 100 ∷ 100 ∷ 101 ∷ 114 ∷ []) (Syntax.tcons (Syntax.tyStruct (110
@@ -8461,9 +8783,84 @@ module _ (claims· : Claims) where
                 (Syntax.tyStruct (115 ∷ 101 ∷ 97 ∷ 114 ∷ 99 ∷ 104 ∷ 58 ∷ 58 ∷ 83 ∷ 112 ∷ 97 ∷ 110 ∷ []) (Syntax.tcons (Syntax.tyInt Syntax.w64) (Syntax.tcons
                 (Syntax.tyInt Syntax.w64) Syntax.tnil))) (Syntax.tcons (Syntax.tyStruct (115 ∷ 101 ∷ 97 ∷ 114 ∷ 99 ∷ 104 ∷ 58 ∷ 58 ∷ 78 ∷ 101 ∷ 97 ∷ 114 ∷ [])
                 (Syntax.tcons (Syntax.tyInt Syntax.w64) (Syntax.tcons (Syntax.tyStruct (102 ∷ 105 ∷ 101 ∷ 108 ∷ 100 ∷ 115 ∷ 58 ∷ 58 ∷ 83 ∷ 101 ∷ 114 ∷ 105 ∷ 97 ∷
-                108 ∷ []) (Syntax.tcons (Syntax.tyInt Syntax.w32) Syntax.tnil)) Syntax.tnil))) Syntax.tnil))) Syntax.tnil)))) (Yields.makes-mem 𝓤 H A W (λ ρ.
-                Unit) (Declared'.row Course.the-type) Path'.refl (Rows'.whole (Declared'.row Course.the-type)) (λ x. x) λ ρ told. Local.whole-mem 𝓤 H A W
-                (Declared'.row Course.the-type) ρ) Path'.refl Path'.refl Path'.refl) d42
+                108 ∷ []) (Syntax.tcons (Syntax.tyInt Syntax.w32) Syntax.tnil)) Syntax.tnil))) Syntax.tnil))) (Syntax.tcons (Syntax.tyStruct (116 ∷ 114 ∷ 97 ∷
+                105 ∷ 108 ∷ 58 ∷ 58 ∷ 87 ∷ 97 ∷ 116 ∷ 99 ∷ 104 ∷ []) (Syntax.tcons (Syntax.tyInt Syntax.w64) (Syntax.tcons (Syntax.tyInt Syntax.w64)
+                (Syntax.tcons (Syntax.tyInt Syntax.w64) (Syntax.tcons (Syntax.tyInt Syntax.w64) (Syntax.tcons (Syntax.tyInt Syntax.w64) (Syntax.tcons
+                (Syntax.tyInt Syntax.w64) (Syntax.tcons (Syntax.tyStruct (97 ∷ 104 ∷ 101 ∷ 97 ∷ 100 ∷ 58 ∷ 58 ∷ 65 ∷ 104 ∷ 101 ∷ 97 ∷ 100 ∷ []) (Syntax.tcons
+                (Syntax.tyInt Syntax.w64) (Syntax.tcons (Syntax.tyInt Syntax.w64) (Syntax.tcons (Syntax.tyInt Syntax.w64) Syntax.tnil)))) Syntax.tnil))))))))
+                Syntax.tnil)))) Syntax.tnil))) (Syntax.tyStruct (103 ∷ 97 ∷ 116 ∷ 101 ∷ 58 ∷ 58 ∷ 67 ∷ 111 ∷ 117 ∷ 114 ∷ 115 ∷ 101 ∷ []) (Syntax.tcons
+                (Syntax.tyStruct (114 ∷ 117 ∷ 108 ∷ 101 ∷ 115 ∷ 58 ∷ 58 ∷ 83 ∷ 116 ∷ 97 ∷ 116 ∷ 101 ∷ []) (Syntax.tcons (Syntax.tyInt Syntax.w8) (Syntax.tcons
+                (Syntax.tyStruct (102 ∷ 105 ∷ 101 ∷ 108 ∷ 100 ∷ 115 ∷ 58 ∷ 58 ∷ 83 ∷ 101 ∷ 114 ∷ 105 ∷ 97 ∷ 108 ∷ []) (Syntax.tcons (Syntax.tyInt Syntax.w32)
+                Syntax.tnil)) (Syntax.tcons (Syntax.tyStruct (114 ∷ 117 ∷ 108 ∷ 101 ∷ 115 ∷ 58 ∷ 58 ∷ 82 ∷ 117 ∷ 110 ∷ []) (Syntax.tcons Syntax.tyBool
+                (Syntax.tcons Syntax.tyBool (Syntax.tcons Syntax.tyBool (Syntax.tcons (Syntax.tyStruct (114 ∷ 101 ∷ 115 ∷ 105 ∷ 100 ∷ 117 ∷ 101 ∷ 58 ∷ 58 ∷ 82 ∷
+                101 ∷ 115 ∷ 105 ∷ 100 ∷ 117 ∷ 101 ∷ []) (Syntax.tcons (Syntax.tyStruct (110 ∷ 97 ∷ 109 ∷ 101 ∷ 115 ∷ 58 ∷ 58 ∷ 84 ∷ 104 ∷ 114 ∷ 101 ∷ 101 ∷ [])
+                (Syntax.tcons (Syntax.tyInt Syntax.w8) (Syntax.tcons (Syntax.tyInt Syntax.w8) (Syntax.tcons (Syntax.tyInt Syntax.w8) Syntax.tnil))))
+                (Syntax.tcons (Syntax.tyInt Syntax.w8) (Syntax.tcons (Syntax.tyStruct (102 ∷ 105 ∷ 101 ∷ 108 ∷ 100 ∷ 115 ∷ 58 ∷ 58 ∷ 82 ∷ 101 ∷ 115 ∷ 105 ∷ 100 ∷
+                117 ∷ 101 ∷ 78 ∷ 117 ∷ 109 ∷ 98 ∷ 101 ∷ 114 ∷ []) (Syntax.tcons (Syntax.tyInt Syntax.w32) Syntax.tnil)) (Syntax.tcons (Syntax.tyInt Syntax.w8)
+                Syntax.tnil))))) Syntax.tnil))))) (Syntax.tcons (Syntax.tyStruct (102 ∷ 105 ∷ 101 ∷ 108 ∷ 100 ∷ 115 ∷ 58 ∷ 58 ∷ 83 ∷ 101 ∷ 114 ∷ 105 ∷ 97 ∷ 108 ∷
+                []) (Syntax.tcons (Syntax.tyInt Syntax.w32) Syntax.tnil)) (Syntax.tcons (Syntax.tyInt Syntax.w32) (Syntax.tcons (Syntax.tyStruct (114 ∷ 117 ∷ 108
+                ∷ 101 ∷ 115 ∷ 58 ∷ 58 ∷ 76 ∷ 97 ∷ 100 ∷ 100 ∷ 101 ∷ 114 ∷ []) (Syntax.tcons (Syntax.tyStruct (110 ∷ 97 ∷ 109 ∷ 101 ∷ 115 ∷ 58 ∷ 58 ∷ 84 ∷ 104 ∷
+                114 ∷ 101 ∷ 101 ∷ []) (Syntax.tcons (Syntax.tyInt Syntax.w8) (Syntax.tcons (Syntax.tyInt Syntax.w8) (Syntax.tcons (Syntax.tyInt Syntax.w8)
+                Syntax.tnil)))) (Syntax.tcons (Syntax.tyInt Syntax.w32) (Syntax.tcons (Syntax.tyInt Syntax.w32) Syntax.tnil)))) (Syntax.tcons (Syntax.tyStruct
+                (112 ∷ 108 ∷ 97 ∷ 99 ∷ 101 ∷ 115 ∷ 58 ∷ 58 ∷ 67 ∷ 111 ∷ 117 ∷ 110 ∷ 116 ∷ 115 ∷ []) (Syntax.tcons (Syntax.tyInt Syntax.w64) (Syntax.tcons
+                (Syntax.tyInt Syntax.w64) (Syntax.tcons (Syntax.tyInt Syntax.w64) (Syntax.tcons (Syntax.tyInt Syntax.w64) (Syntax.tcons (Syntax.tyInt Syntax.w64)
+                (Syntax.tcons (Syntax.tyInt Syntax.w64) (Syntax.tcons (Syntax.tyInt Syntax.w64) (Syntax.tcons (Syntax.tyInt Syntax.w64) (Syntax.tcons
+                (Syntax.tyInt Syntax.w64) Syntax.tnil)))))))))) (Syntax.tcons (Syntax.tyInt Syntax.w64) Syntax.tnil))))))))) (Syntax.tcons (Syntax.tyStruct (115
+                ∷ 101 ∷ 114 ∷ 105 ∷ 97 ∷ 108 ∷ 115 ∷ 58 ∷ 58 ∷ 80 ∷ 97 ∷ 115 ∷ 116 ∷ []) (Syntax.tcons (Syntax.tyStruct (115 ∷ 101 ∷ 97 ∷ 114 ∷ 99 ∷ 104 ∷ 58 ∷
+                58 ∷ 83 ∷ 112 ∷ 97 ∷ 110 ∷ []) (Syntax.tcons (Syntax.tyInt Syntax.w64) (Syntax.tcons (Syntax.tyInt Syntax.w64) Syntax.tnil))) (Syntax.tcons
+                (Syntax.tyStruct (115 ∷ 101 ∷ 97 ∷ 114 ∷ 99 ∷ 104 ∷ 58 ∷ 58 ∷ 78 ∷ 101 ∷ 97 ∷ 114 ∷ []) (Syntax.tcons (Syntax.tyInt Syntax.w64) (Syntax.tcons
+                (Syntax.tyStruct (102 ∷ 105 ∷ 101 ∷ 108 ∷ 100 ∷ 115 ∷ 58 ∷ 58 ∷ 83 ∷ 101 ∷ 114 ∷ 105 ∷ 97 ∷ 108 ∷ []) (Syntax.tcons (Syntax.tyInt Syntax.w32)
+                Syntax.tnil)) Syntax.tnil))) Syntax.tnil))) (Syntax.tcons (Syntax.tyStruct (116 ∷ 114 ∷ 97 ∷ 105 ∷ 108 ∷ 58 ∷ 58 ∷ 87 ∷ 97 ∷ 116 ∷ 99 ∷ 104 ∷ [])
+                (Syntax.tcons (Syntax.tyInt Syntax.w64) (Syntax.tcons (Syntax.tyInt Syntax.w64) (Syntax.tcons (Syntax.tyInt Syntax.w64) (Syntax.tcons
+                (Syntax.tyInt Syntax.w64) (Syntax.tcons (Syntax.tyInt Syntax.w64) (Syntax.tcons (Syntax.tyInt Syntax.w64) (Syntax.tcons (Syntax.tyStruct (97 ∷
+                104 ∷ 101 ∷ 97 ∷ 100 ∷ 58 ∷ 58 ∷ 65 ∷ 104 ∷ 101 ∷ 97 ∷ 100 ∷ []) (Syntax.tcons (Syntax.tyInt Syntax.w64) (Syntax.tcons (Syntax.tyInt Syntax.w64)
+                (Syntax.tcons (Syntax.tyInt Syntax.w64) Syntax.tnil)))) Syntax.tnil)))))))) Syntax.tnil)))) 1 8 (u .1 .1 .1 .1 .1 .1 .1 .1 .1 .1 .0) (At.getAt
+                (Onward.the-type .parts) 1 (Onward.struct .as-values (u .1 .1 .1 .1 .1 .1 .1 .1 .1 .1 .0))) (
+                  Row.hd 0 (Row.tl (Row.tl (Row.tl (Row.tl (Row.tl
+                      (Row.tl (Row.tl (Row.tl (Row.tl (Row.tl bs)))))))))),
+                  0,
+                ) (Way.w-look 𝓤 H A W E (Way.w-local 𝓤 H A W E G28 ρ u (G28 .slots) 10 (Declared'.row
+                Onward.the-type) (Rows'.whole (Declared'.row Onward.the-type)) (λ x. x) (λ x. x) (u .1 .1 .1 .1 .1 .1 .1 .1 .1 .1 .0) (Local.mem-whole 𝓤 H A W
+                (Declared'.row Onward.the-type) ρ (u .1 .1 .1 .1 .1 .1 .1 .1 .1 .1 .0) (Row.hd 0 (Row.tl (Row.tl (Row.tl (Row.tl (Row.tl (Row.tl (Row.tl (Row.tl
+                (Row.tl (Row.tl bs)))))))))))) (Local.whole-mem 𝓤 H A W (Declared'.row Onward.the-type) ρ (u .1 .1 .1 .1 .1 .1 .1 .1 .1 .1 .0) (Row.hd 0 (Row.tl
+                (Row.tl (Row.tl (Row.tl (Row.tl (Row.tl (Row.tl (Row.tl (Row.tl (Row.tl bs)))))))))))))) Path'.refl λ q. Inner.cut-record 𝓤 H A q (Declared'.row
+                Onward.the-type) Course.the-type 8 (u .1 .1 .1 .1 .1 .1 .1 .1 .1 .1 .0) (u .1 .1 .1 .1 .1 .1 .1 .1 .1 .1 .0) (At.getAt (Onward.the-type .parts) 1
+                (Onward.struct .as-values (u .1 .1 .1 .1 .1 .1 .1 .1 .1 .1 .0))) (At.getAt (Onward.the-type .parts) 1 (Onward.struct .as-values (u .1 .1 .1 .1 .1
+                .1 .1 .1 .1 .1 .0))) (Row.hd 0 (Row.tl (Row.tl (Row.tl (Row.tl (Row.tl (Row.tl (Row.tl (Row.tl (Row.tl (Row.tl bs)))))))))), 0) (Behind.look-at 𝓤
+                H A W q Onward.the-type Laws''.the-laws 1 8 Path'.refl Path'.refl (
+                  Row.hd 0 (Row.tl (Row.tl (Row.tl (Row.tl (Row.tl (Row.tl (Row.tl (Row.tl
+                      (Row.tl (Row.tl bs)))))))))),
+                  0,
+                ) (u .1 .1 .1 .1 .1 .1 .1 .1 .1 .1 .0) (Onward.struct .as-values (u .1 .1 .1 .1 .1 .1 .1 .1 .1 .1 .0))
+                Path'.refl)) (Reads'.room-gone 𝓤 H A (Syntax.tyStruct (103 ∷ 97 ∷ 116 ∷ 101 ∷ 58 ∷ 58 ∷ 67 ∷ 111 ∷ 117 ∷ 114 ∷ 115 ∷ 101 ∷ []) (Syntax.tcons
+                (Syntax.tyStruct (114 ∷ 117 ∷ 108 ∷ 101 ∷ 115 ∷ 58 ∷ 58 ∷ 83 ∷ 116 ∷ 97 ∷ 116 ∷ 101 ∷ []) (Syntax.tcons (Syntax.tyInt Syntax.w8) (Syntax.tcons
+                (Syntax.tyStruct (102 ∷ 105 ∷ 101 ∷ 108 ∷ 100 ∷ 115 ∷ 58 ∷ 58 ∷ 83 ∷ 101 ∷ 114 ∷ 105 ∷ 97 ∷ 108 ∷ []) (Syntax.tcons (Syntax.tyInt Syntax.w32)
+                Syntax.tnil)) (Syntax.tcons (Syntax.tyStruct (114 ∷ 117 ∷ 108 ∷ 101 ∷ 115 ∷ 58 ∷ 58 ∷ 82 ∷ 117 ∷ 110 ∷ []) (Syntax.tcons Syntax.tyBool
+                (Syntax.tcons Syntax.tyBool (Syntax.tcons Syntax.tyBool (Syntax.tcons (Syntax.tyStruct (114 ∷ 101 ∷ 115 ∷ 105 ∷ 100 ∷ 117 ∷ 101 ∷ 58 ∷ 58 ∷ 82 ∷
+                101 ∷ 115 ∷ 105 ∷ 100 ∷ 117 ∷ 101 ∷ []) (Syntax.tcons (Syntax.tyStruct (110 ∷ 97 ∷ 109 ∷ 101 ∷ 115 ∷ 58 ∷ 58 ∷ 84 ∷ 104 ∷ 114 ∷ 101 ∷ 101 ∷ [])
+                (Syntax.tcons (Syntax.tyInt Syntax.w8) (Syntax.tcons (Syntax.tyInt Syntax.w8) (Syntax.tcons (Syntax.tyInt Syntax.w8) Syntax.tnil))))
+                (Syntax.tcons (Syntax.tyInt Syntax.w8) (Syntax.tcons (Syntax.tyStruct (102 ∷ 105 ∷ 101 ∷ 108 ∷ 100 ∷ 115 ∷ 58 ∷ 58 ∷ 82 ∷ 101 ∷ 115 ∷ 105 ∷ 100 ∷
+                117 ∷ 101 ∷ 78 ∷ 117 ∷ 109 ∷ 98 ∷ 101 ∷ 114 ∷ []) (Syntax.tcons (Syntax.tyInt Syntax.w32) Syntax.tnil)) (Syntax.tcons (Syntax.tyInt Syntax.w8)
+                Syntax.tnil))))) Syntax.tnil))))) (Syntax.tcons (Syntax.tyStruct (102 ∷ 105 ∷ 101 ∷ 108 ∷ 100 ∷ 115 ∷ 58 ∷ 58 ∷ 83 ∷ 101 ∷ 114 ∷ 105 ∷ 97 ∷ 108 ∷
+                []) (Syntax.tcons (Syntax.tyInt Syntax.w32) Syntax.tnil)) (Syntax.tcons (Syntax.tyInt Syntax.w32) (Syntax.tcons (Syntax.tyStruct (114 ∷ 117 ∷ 108
+                ∷ 101 ∷ 115 ∷ 58 ∷ 58 ∷ 76 ∷ 97 ∷ 100 ∷ 100 ∷ 101 ∷ 114 ∷ []) (Syntax.tcons (Syntax.tyStruct (110 ∷ 97 ∷ 109 ∷ 101 ∷ 115 ∷ 58 ∷ 58 ∷ 84 ∷ 104 ∷
+                114 ∷ 101 ∷ 101 ∷ []) (Syntax.tcons (Syntax.tyInt Syntax.w8) (Syntax.tcons (Syntax.tyInt Syntax.w8) (Syntax.tcons (Syntax.tyInt Syntax.w8)
+                Syntax.tnil)))) (Syntax.tcons (Syntax.tyInt Syntax.w32) (Syntax.tcons (Syntax.tyInt Syntax.w32) Syntax.tnil)))) (Syntax.tcons (Syntax.tyStruct
+                (112 ∷ 108 ∷ 97 ∷ 99 ∷ 101 ∷ 115 ∷ 58 ∷ 58 ∷ 67 ∷ 111 ∷ 117 ∷ 110 ∷ 116 ∷ 115 ∷ []) (Syntax.tcons (Syntax.tyInt Syntax.w64) (Syntax.tcons
+                (Syntax.tyInt Syntax.w64) (Syntax.tcons (Syntax.tyInt Syntax.w64) (Syntax.tcons (Syntax.tyInt Syntax.w64) (Syntax.tcons (Syntax.tyInt Syntax.w64)
+                (Syntax.tcons (Syntax.tyInt Syntax.w64) (Syntax.tcons (Syntax.tyInt Syntax.w64) (Syntax.tcons (Syntax.tyInt Syntax.w64) (Syntax.tcons
+                (Syntax.tyInt Syntax.w64) Syntax.tnil)))))))))) (Syntax.tcons (Syntax.tyInt Syntax.w64) Syntax.tnil))))))))) (Syntax.tcons (Syntax.tyStruct (115
+                ∷ 101 ∷ 114 ∷ 105 ∷ 97 ∷ 108 ∷ 115 ∷ 58 ∷ 58 ∷ 80 ∷ 97 ∷ 115 ∷ 116 ∷ []) (Syntax.tcons (Syntax.tyStruct (115 ∷ 101 ∷ 97 ∷ 114 ∷ 99 ∷ 104 ∷ 58 ∷
+                58 ∷ 83 ∷ 112 ∷ 97 ∷ 110 ∷ []) (Syntax.tcons (Syntax.tyInt Syntax.w64) (Syntax.tcons (Syntax.tyInt Syntax.w64) Syntax.tnil))) (Syntax.tcons
+                (Syntax.tyStruct (115 ∷ 101 ∷ 97 ∷ 114 ∷ 99 ∷ 104 ∷ 58 ∷ 58 ∷ 78 ∷ 101 ∷ 97 ∷ 114 ∷ []) (Syntax.tcons (Syntax.tyInt Syntax.w64) (Syntax.tcons
+                (Syntax.tyStruct (102 ∷ 105 ∷ 101 ∷ 108 ∷ 100 ∷ 115 ∷ 58 ∷ 58 ∷ 83 ∷ 101 ∷ 114 ∷ 105 ∷ 97 ∷ 108 ∷ []) (Syntax.tcons (Syntax.tyInt Syntax.w32)
+                Syntax.tnil)) Syntax.tnil))) Syntax.tnil))) (Syntax.tcons (Syntax.tyStruct (116 ∷ 114 ∷ 97 ∷ 105 ∷ 108 ∷ 58 ∷ 58 ∷ 87 ∷ 97 ∷ 116 ∷ 99 ∷ 104 ∷ [])
+                (Syntax.tcons (Syntax.tyInt Syntax.w64) (Syntax.tcons (Syntax.tyInt Syntax.w64) (Syntax.tcons (Syntax.tyInt Syntax.w64) (Syntax.tcons
+                (Syntax.tyInt Syntax.w64) (Syntax.tcons (Syntax.tyInt Syntax.w64) (Syntax.tcons (Syntax.tyInt Syntax.w64) (Syntax.tcons (Syntax.tyStruct (97 ∷
+                104 ∷ 101 ∷ 97 ∷ 100 ∷ 58 ∷ 58 ∷ 65 ∷ 104 ∷ 101 ∷ 97 ∷ 100 ∷ []) (Syntax.tcons (Syntax.tyInt Syntax.w64) (Syntax.tcons (Syntax.tyInt Syntax.w64)
+                (Syntax.tcons (Syntax.tyInt Syntax.w64) Syntax.tnil)))) Syntax.tnil)))))))) Syntax.tnil))))) (Yields.makes-mem 𝓤 H A W (λ ρ. Unit) (Declared'.row
+                Course.the-type) Path'.refl (Rows'.whole (Declared'.row Course.the-type)) (λ x. x) λ ρ told. Local.whole-mem 𝓤 H A W (Declared'.row
+                Course.the-type) ρ) Path'.refl Path'.refl Path'.refl) d42
 
             d44 : Typed.Typed 𝓤 H A 𝓣 E G27 b46 Δ3 (at44 bs)
             d44 = Typed.t-seq 𝓤 H A W 𝓣 E G27 G28 b20 b45 Δ3 (at21 bs) (at43 bs) d21 d43
@@ -8504,20 +8901,24 @@ module _ (claims· : Claims) where
                 116 ∷ []) (Syntax.tcons (Syntax.tyStruct (115 ∷ 101 ∷ 97 ∷ 114 ∷ 99 ∷ 104 ∷ 58 ∷ 58 ∷ 83 ∷ 112 ∷ 97 ∷ 110 ∷ []) (Syntax.tcons (Syntax.tyInt
                 Syntax.w64) (Syntax.tcons (Syntax.tyInt Syntax.w64) Syntax.tnil))) (Syntax.tcons (Syntax.tyStruct (115 ∷ 101 ∷ 97 ∷ 114 ∷ 99 ∷ 104 ∷ 58 ∷ 58 ∷ 78
                 ∷ 101 ∷ 97 ∷ 114 ∷ []) (Syntax.tcons (Syntax.tyInt Syntax.w64) (Syntax.tcons (Syntax.tyStruct (102 ∷ 105 ∷ 101 ∷ 108 ∷ 100 ∷ 115 ∷ 58 ∷ 58 ∷ 83 ∷
-                101 ∷ 114 ∷ 105 ∷ 97 ∷ 108 ∷ []) (Syntax.tcons (Syntax.tyInt Syntax.w32) Syntax.tnil)) Syntax.tnil))) Syntax.tnil))) Syntax.tnil)))
-                (Local.room-whole 𝓤 H A W (Declared'.row Course.the-type) (Syntax.tyStruct (103 ∷ 97 ∷ 116 ∷ 101 ∷ 58 ∷ 58 ∷ 67 ∷ 111 ∷ 117 ∷ 114 ∷ 115 ∷ 101 ∷
-                []) (Syntax.tcons (Syntax.tyStruct (114 ∷ 117 ∷ 108 ∷ 101 ∷ 115 ∷ 58 ∷ 58 ∷ 83 ∷ 116 ∷ 97 ∷ 116 ∷ 101 ∷ []) (Syntax.tcons (Syntax.tyInt
-                Syntax.w8) (Syntax.tcons (Syntax.tyStruct (102 ∷ 105 ∷ 101 ∷ 108 ∷ 100 ∷ 115 ∷ 58 ∷ 58 ∷ 83 ∷ 101 ∷ 114 ∷ 105 ∷ 97 ∷ 108 ∷ []) (Syntax.tcons
-                (Syntax.tyInt Syntax.w32) Syntax.tnil)) (Syntax.tcons (Syntax.tyStruct (114 ∷ 117 ∷ 108 ∷ 101 ∷ 115 ∷ 58 ∷ 58 ∷ 82 ∷ 117 ∷ 110 ∷ [])
-                (Syntax.tcons Syntax.tyBool (Syntax.tcons Syntax.tyBool (Syntax.tcons Syntax.tyBool (Syntax.tcons (Syntax.tyStruct (114 ∷ 101 ∷ 115 ∷ 105 ∷ 100 ∷
-                117 ∷ 101 ∷ 58 ∷ 58 ∷ 82 ∷ 101 ∷ 115 ∷ 105 ∷ 100 ∷ 117 ∷ 101 ∷ []) (Syntax.tcons (Syntax.tyStruct (110 ∷ 97 ∷ 109 ∷ 101 ∷ 115 ∷ 58 ∷ 58 ∷ 84 ∷
-                104 ∷ 114 ∷ 101 ∷ 101 ∷ []) (Syntax.tcons (Syntax.tyInt Syntax.w8) (Syntax.tcons (Syntax.tyInt Syntax.w8) (Syntax.tcons (Syntax.tyInt Syntax.w8)
-                Syntax.tnil)))) (Syntax.tcons (Syntax.tyInt Syntax.w8) (Syntax.tcons (Syntax.tyStruct (102 ∷ 105 ∷ 101 ∷ 108 ∷ 100 ∷ 115 ∷ 58 ∷ 58 ∷ 82 ∷ 101 ∷
-                115 ∷ 105 ∷ 100 ∷ 117 ∷ 101 ∷ 78 ∷ 117 ∷ 109 ∷ 98 ∷ 101 ∷ 114 ∷ []) (Syntax.tcons (Syntax.tyInt Syntax.w32) Syntax.tnil)) (Syntax.tcons
-                (Syntax.tyInt Syntax.w8) Syntax.tnil))))) Syntax.tnil))))) (Syntax.tcons (Syntax.tyStruct (102 ∷ 105 ∷ 101 ∷ 108 ∷ 100 ∷ 115 ∷ 58 ∷ 58 ∷ 83 ∷ 101
-                ∷ 114 ∷ 105 ∷ 97 ∷ 108 ∷ []) (Syntax.tcons (Syntax.tyInt Syntax.w32) Syntax.tnil)) (Syntax.tcons (Syntax.tyInt Syntax.w32) (Syntax.tcons
-                (Syntax.tyStruct (114 ∷ 117 ∷ 108 ∷ 101 ∷ 115 ∷ 58 ∷ 58 ∷ 76 ∷ 97 ∷ 100 ∷ 100 ∷ 101 ∷ 114 ∷ []) (Syntax.tcons (Syntax.tyStruct (110 ∷ 97 ∷ 109 ∷
-                101 ∷ 115 ∷ 58 ∷ 58 ∷ 84 ∷ 104 ∷ 114 ∷ 101 ∷ 101 ∷ []) (Syntax.tcons (Syntax.tyInt Syntax.w8) (Syntax.tcons (Syntax.tyInt Syntax.w8)
+                101 ∷ 114 ∷ 105 ∷ 97 ∷ 108 ∷ []) (Syntax.tcons (Syntax.tyInt Syntax.w32) Syntax.tnil)) Syntax.tnil))) Syntax.tnil))) (Syntax.tcons
+                (Syntax.tyStruct (116 ∷ 114 ∷ 97 ∷ 105 ∷ 108 ∷ 58 ∷ 58 ∷ 87 ∷ 97 ∷ 116 ∷ 99 ∷ 104 ∷ []) (Syntax.tcons (Syntax.tyInt Syntax.w64) (Syntax.tcons
+                (Syntax.tyInt Syntax.w64) (Syntax.tcons (Syntax.tyInt Syntax.w64) (Syntax.tcons (Syntax.tyInt Syntax.w64) (Syntax.tcons (Syntax.tyInt Syntax.w64)
+                (Syntax.tcons (Syntax.tyInt Syntax.w64) (Syntax.tcons (Syntax.tyStruct (97 ∷ 104 ∷ 101 ∷ 97 ∷ 100 ∷ 58 ∷ 58 ∷ 65 ∷ 104 ∷ 101 ∷ 97 ∷ 100 ∷ [])
+                (Syntax.tcons (Syntax.tyInt Syntax.w64) (Syntax.tcons (Syntax.tyInt Syntax.w64) (Syntax.tcons (Syntax.tyInt Syntax.w64) Syntax.tnil))))
+                Syntax.tnil)))))))) Syntax.tnil)))) (Local.room-whole 𝓤 H A W (Declared'.row Course.the-type) (Syntax.tyStruct (103 ∷ 97 ∷ 116 ∷ 101 ∷ 58 ∷ 58 ∷
+                67 ∷ 111 ∷ 117 ∷ 114 ∷ 115 ∷ 101 ∷ []) (Syntax.tcons (Syntax.tyStruct (114 ∷ 117 ∷ 108 ∷ 101 ∷ 115 ∷ 58 ∷ 58 ∷ 83 ∷ 116 ∷ 97 ∷ 116 ∷ 101 ∷ [])
+                (Syntax.tcons (Syntax.tyInt Syntax.w8) (Syntax.tcons (Syntax.tyStruct (102 ∷ 105 ∷ 101 ∷ 108 ∷ 100 ∷ 115 ∷ 58 ∷ 58 ∷ 83 ∷ 101 ∷ 114 ∷ 105 ∷ 97 ∷
+                108 ∷ []) (Syntax.tcons (Syntax.tyInt Syntax.w32) Syntax.tnil)) (Syntax.tcons (Syntax.tyStruct (114 ∷ 117 ∷ 108 ∷ 101 ∷ 115 ∷ 58 ∷ 58 ∷ 82 ∷ 117
+                ∷ 110 ∷ []) (Syntax.tcons Syntax.tyBool (Syntax.tcons Syntax.tyBool (Syntax.tcons Syntax.tyBool (Syntax.tcons (Syntax.tyStruct (114 ∷ 101 ∷ 115 ∷
+                105 ∷ 100 ∷ 117 ∷ 101 ∷ 58 ∷ 58 ∷ 82 ∷ 101 ∷ 115 ∷ 105 ∷ 100 ∷ 117 ∷ 101 ∷ []) (Syntax.tcons (Syntax.tyStruct (110 ∷ 97 ∷ 109 ∷ 101 ∷ 115 ∷ 58 ∷
+                58 ∷ 84 ∷ 104 ∷ 114 ∷ 101 ∷ 101 ∷ []) (Syntax.tcons (Syntax.tyInt Syntax.w8) (Syntax.tcons (Syntax.tyInt Syntax.w8) (Syntax.tcons (Syntax.tyInt
+                Syntax.w8) Syntax.tnil)))) (Syntax.tcons (Syntax.tyInt Syntax.w8) (Syntax.tcons (Syntax.tyStruct (102 ∷ 105 ∷ 101 ∷ 108 ∷ 100 ∷ 115 ∷ 58 ∷ 58 ∷
+                82 ∷ 101 ∷ 115 ∷ 105 ∷ 100 ∷ 117 ∷ 101 ∷ 78 ∷ 117 ∷ 109 ∷ 98 ∷ 101 ∷ 114 ∷ []) (Syntax.tcons (Syntax.tyInt Syntax.w32) Syntax.tnil))
+                (Syntax.tcons (Syntax.tyInt Syntax.w8) Syntax.tnil))))) Syntax.tnil))))) (Syntax.tcons (Syntax.tyStruct (102 ∷ 105 ∷ 101 ∷ 108 ∷ 100 ∷ 115 ∷ 58 ∷
+                58 ∷ 83 ∷ 101 ∷ 114 ∷ 105 ∷ 97 ∷ 108 ∷ []) (Syntax.tcons (Syntax.tyInt Syntax.w32) Syntax.tnil)) (Syntax.tcons (Syntax.tyInt Syntax.w32)
+                (Syntax.tcons (Syntax.tyStruct (114 ∷ 117 ∷ 108 ∷ 101 ∷ 115 ∷ 58 ∷ 58 ∷ 76 ∷ 97 ∷ 100 ∷ 100 ∷ 101 ∷ 114 ∷ []) (Syntax.tcons (Syntax.tyStruct (110
+                ∷ 97 ∷ 109 ∷ 101 ∷ 115 ∷ 58 ∷ 58 ∷ 84 ∷ 104 ∷ 114 ∷ 101 ∷ 101 ∷ []) (Syntax.tcons (Syntax.tyInt Syntax.w8) (Syntax.tcons (Syntax.tyInt Syntax.w8)
                 (Syntax.tcons (Syntax.tyInt Syntax.w8) Syntax.tnil)))) (Syntax.tcons (Syntax.tyInt Syntax.w32) (Syntax.tcons (Syntax.tyInt Syntax.w32)
                 Syntax.tnil)))) (Syntax.tcons (Syntax.tyStruct (112 ∷ 108 ∷ 97 ∷ 99 ∷ 101 ∷ 115 ∷ 58 ∷ 58 ∷ 67 ∷ 111 ∷ 117 ∷ 110 ∷ 116 ∷ 115 ∷ []) (Syntax.tcons
                 (Syntax.tyInt Syntax.w64) (Syntax.tcons (Syntax.tyInt Syntax.w64) (Syntax.tcons (Syntax.tyInt Syntax.w64) (Syntax.tcons (Syntax.tyInt Syntax.w64)
@@ -8527,7 +8928,12 @@ module _ (claims· : Claims) where
                 (Syntax.tyStruct (115 ∷ 101 ∷ 97 ∷ 114 ∷ 99 ∷ 104 ∷ 58 ∷ 58 ∷ 83 ∷ 112 ∷ 97 ∷ 110 ∷ []) (Syntax.tcons (Syntax.tyInt Syntax.w64) (Syntax.tcons
                 (Syntax.tyInt Syntax.w64) Syntax.tnil))) (Syntax.tcons (Syntax.tyStruct (115 ∷ 101 ∷ 97 ∷ 114 ∷ 99 ∷ 104 ∷ 58 ∷ 58 ∷ 78 ∷ 101 ∷ 97 ∷ 114 ∷ [])
                 (Syntax.tcons (Syntax.tyInt Syntax.w64) (Syntax.tcons (Syntax.tyStruct (102 ∷ 105 ∷ 101 ∷ 108 ∷ 100 ∷ 115 ∷ 58 ∷ 58 ∷ 83 ∷ 101 ∷ 114 ∷ 105 ∷ 97 ∷
-                108 ∷ []) (Syntax.tcons (Syntax.tyInt Syntax.w32) Syntax.tnil)) Syntax.tnil))) Syntax.tnil))) Syntax.tnil))) Path'.refl)) d46
+                108 ∷ []) (Syntax.tcons (Syntax.tyInt Syntax.w32) Syntax.tnil)) Syntax.tnil))) Syntax.tnil))) (Syntax.tcons (Syntax.tyStruct (116 ∷ 114 ∷ 97 ∷
+                105 ∷ 108 ∷ 58 ∷ 58 ∷ 87 ∷ 97 ∷ 116 ∷ 99 ∷ 104 ∷ []) (Syntax.tcons (Syntax.tyInt Syntax.w64) (Syntax.tcons (Syntax.tyInt Syntax.w64)
+                (Syntax.tcons (Syntax.tyInt Syntax.w64) (Syntax.tcons (Syntax.tyInt Syntax.w64) (Syntax.tcons (Syntax.tyInt Syntax.w64) (Syntax.tcons
+                (Syntax.tyInt Syntax.w64) (Syntax.tcons (Syntax.tyStruct (97 ∷ 104 ∷ 101 ∷ 97 ∷ 100 ∷ 58 ∷ 58 ∷ 65 ∷ 104 ∷ 101 ∷ 97 ∷ 100 ∷ []) (Syntax.tcons
+                (Syntax.tyInt Syntax.w64) (Syntax.tcons (Syntax.tyInt Syntax.w64) (Syntax.tcons (Syntax.tyInt Syntax.w64) Syntax.tnil)))) Syntax.tnil))))))))
+                Syntax.tnil)))) Path'.refl)) d46
 
             d48 : Typed.Typed 𝓤 H A 𝓣 E G23 b48 Δ3 (at48 bs)
             d48 = Typed.s-seq 𝓤 H A W 𝓣 E G23 G24 b14 b47 Δ3 (Typed.both (s20 bs)) (at47 bs) (Plain.t-call-plain 𝓤 H A W 𝓣 1 ps·2 r·2 (claims· .4) (claims· .5)
@@ -8590,8 +8996,12 @@ module _ (claims· : Claims) where
                 (Syntax.tyStruct (115 ∷ 101 ∷ 97 ∷ 114 ∷ 99 ∷ 104 ∷ 58 ∷ 58 ∷ 83 ∷ 112 ∷ 97 ∷ 110 ∷ []) (Syntax.tcons (Syntax.tyInt Syntax.w64) (Syntax.tcons
                 (Syntax.tyInt Syntax.w64) Syntax.tnil))) (Syntax.tcons (Syntax.tyStruct (115 ∷ 101 ∷ 97 ∷ 114 ∷ 99 ∷ 104 ∷ 58 ∷ 58 ∷ 78 ∷ 101 ∷ 97 ∷ 114 ∷ [])
                 (Syntax.tcons (Syntax.tyInt Syntax.w64) (Syntax.tcons (Syntax.tyStruct (102 ∷ 105 ∷ 101 ∷ 108 ∷ 100 ∷ 115 ∷ 58 ∷ 58 ∷ 83 ∷ 101 ∷ 114 ∷ 105 ∷ 97 ∷
-                108 ∷ []) (Syntax.tcons (Syntax.tyInt Syntax.w32) Syntax.tnil)) Syntax.tnil))) Syntax.tnil))) Syntax.tnil))) Syntax.tnil)))) (tt, tt) Path'.refl)
-                d47
+                108 ∷ []) (Syntax.tcons (Syntax.tyInt Syntax.w32) Syntax.tnil)) Syntax.tnil))) Syntax.tnil))) (Syntax.tcons (Syntax.tyStruct (116 ∷ 114 ∷ 97 ∷
+                105 ∷ 108 ∷ 58 ∷ 58 ∷ 87 ∷ 97 ∷ 116 ∷ 99 ∷ 104 ∷ []) (Syntax.tcons (Syntax.tyInt Syntax.w64) (Syntax.tcons (Syntax.tyInt Syntax.w64)
+                (Syntax.tcons (Syntax.tyInt Syntax.w64) (Syntax.tcons (Syntax.tyInt Syntax.w64) (Syntax.tcons (Syntax.tyInt Syntax.w64) (Syntax.tcons
+                (Syntax.tyInt Syntax.w64) (Syntax.tcons (Syntax.tyStruct (97 ∷ 104 ∷ 101 ∷ 97 ∷ 100 ∷ 58 ∷ 58 ∷ 65 ∷ 104 ∷ 101 ∷ 97 ∷ 100 ∷ []) (Syntax.tcons
+                (Syntax.tyInt Syntax.w64) (Syntax.tcons (Syntax.tyInt Syntax.w64) (Syntax.tcons (Syntax.tyInt Syntax.w64) Syntax.tnil)))) Syntax.tnil))))))))
+                Syntax.tnil)))) Syntax.tnil)))) (tt, tt) Path'.refl) d47
 
             d49 : Typed.Typed 𝓤 H A 𝓣 E G17 b49 Δ3 (at49 bs)
             d49 = Typed.s-seq 𝓤 H A W 𝓣 E G17 G23 b13 b48 Δ3 (Typed.both (s19 bs)) (at48 bs) (Plain.t-call-plain 𝓤 H A W 𝓣 1 ps·1 r·1 (claims· .2) (claims· .3)
@@ -8934,20 +9344,24 @@ module _ (claims· : Claims) where
                 116 ∷ []) (Syntax.tcons (Syntax.tyStruct (115 ∷ 101 ∷ 97 ∷ 114 ∷ 99 ∷ 104 ∷ 58 ∷ 58 ∷ 83 ∷ 112 ∷ 97 ∷ 110 ∷ []) (Syntax.tcons (Syntax.tyInt
                 Syntax.w64) (Syntax.tcons (Syntax.tyInt Syntax.w64) Syntax.tnil))) (Syntax.tcons (Syntax.tyStruct (115 ∷ 101 ∷ 97 ∷ 114 ∷ 99 ∷ 104 ∷ 58 ∷ 58 ∷ 78
                 ∷ 101 ∷ 97 ∷ 114 ∷ []) (Syntax.tcons (Syntax.tyInt Syntax.w64) (Syntax.tcons (Syntax.tyStruct (102 ∷ 105 ∷ 101 ∷ 108 ∷ 100 ∷ 115 ∷ 58 ∷ 58 ∷ 83 ∷
-                101 ∷ 114 ∷ 105 ∷ 97 ∷ 108 ∷ []) (Syntax.tcons (Syntax.tyInt Syntax.w32) Syntax.tnil)) Syntax.tnil))) Syntax.tnil))) Syntax.tnil)))
-                (Local.room-whole 𝓤 H A W (Declared'.row Course.the-type) (Syntax.tyStruct (103 ∷ 97 ∷ 116 ∷ 101 ∷ 58 ∷ 58 ∷ 67 ∷ 111 ∷ 117 ∷ 114 ∷ 115 ∷ 101 ∷
-                []) (Syntax.tcons (Syntax.tyStruct (114 ∷ 117 ∷ 108 ∷ 101 ∷ 115 ∷ 58 ∷ 58 ∷ 83 ∷ 116 ∷ 97 ∷ 116 ∷ 101 ∷ []) (Syntax.tcons (Syntax.tyInt
-                Syntax.w8) (Syntax.tcons (Syntax.tyStruct (102 ∷ 105 ∷ 101 ∷ 108 ∷ 100 ∷ 115 ∷ 58 ∷ 58 ∷ 83 ∷ 101 ∷ 114 ∷ 105 ∷ 97 ∷ 108 ∷ []) (Syntax.tcons
-                (Syntax.tyInt Syntax.w32) Syntax.tnil)) (Syntax.tcons (Syntax.tyStruct (114 ∷ 117 ∷ 108 ∷ 101 ∷ 115 ∷ 58 ∷ 58 ∷ 82 ∷ 117 ∷ 110 ∷ [])
-                (Syntax.tcons Syntax.tyBool (Syntax.tcons Syntax.tyBool (Syntax.tcons Syntax.tyBool (Syntax.tcons (Syntax.tyStruct (114 ∷ 101 ∷ 115 ∷ 105 ∷ 100 ∷
-                117 ∷ 101 ∷ 58 ∷ 58 ∷ 82 ∷ 101 ∷ 115 ∷ 105 ∷ 100 ∷ 117 ∷ 101 ∷ []) (Syntax.tcons (Syntax.tyStruct (110 ∷ 97 ∷ 109 ∷ 101 ∷ 115 ∷ 58 ∷ 58 ∷ 84 ∷
-                104 ∷ 114 ∷ 101 ∷ 101 ∷ []) (Syntax.tcons (Syntax.tyInt Syntax.w8) (Syntax.tcons (Syntax.tyInt Syntax.w8) (Syntax.tcons (Syntax.tyInt Syntax.w8)
-                Syntax.tnil)))) (Syntax.tcons (Syntax.tyInt Syntax.w8) (Syntax.tcons (Syntax.tyStruct (102 ∷ 105 ∷ 101 ∷ 108 ∷ 100 ∷ 115 ∷ 58 ∷ 58 ∷ 82 ∷ 101 ∷
-                115 ∷ 105 ∷ 100 ∷ 117 ∷ 101 ∷ 78 ∷ 117 ∷ 109 ∷ 98 ∷ 101 ∷ 114 ∷ []) (Syntax.tcons (Syntax.tyInt Syntax.w32) Syntax.tnil)) (Syntax.tcons
-                (Syntax.tyInt Syntax.w8) Syntax.tnil))))) Syntax.tnil))))) (Syntax.tcons (Syntax.tyStruct (102 ∷ 105 ∷ 101 ∷ 108 ∷ 100 ∷ 115 ∷ 58 ∷ 58 ∷ 83 ∷ 101
-                ∷ 114 ∷ 105 ∷ 97 ∷ 108 ∷ []) (Syntax.tcons (Syntax.tyInt Syntax.w32) Syntax.tnil)) (Syntax.tcons (Syntax.tyInt Syntax.w32) (Syntax.tcons
-                (Syntax.tyStruct (114 ∷ 117 ∷ 108 ∷ 101 ∷ 115 ∷ 58 ∷ 58 ∷ 76 ∷ 97 ∷ 100 ∷ 100 ∷ 101 ∷ 114 ∷ []) (Syntax.tcons (Syntax.tyStruct (110 ∷ 97 ∷ 109 ∷
-                101 ∷ 115 ∷ 58 ∷ 58 ∷ 84 ∷ 104 ∷ 114 ∷ 101 ∷ 101 ∷ []) (Syntax.tcons (Syntax.tyInt Syntax.w8) (Syntax.tcons (Syntax.tyInt Syntax.w8)
+                101 ∷ 114 ∷ 105 ∷ 97 ∷ 108 ∷ []) (Syntax.tcons (Syntax.tyInt Syntax.w32) Syntax.tnil)) Syntax.tnil))) Syntax.tnil))) (Syntax.tcons
+                (Syntax.tyStruct (116 ∷ 114 ∷ 97 ∷ 105 ∷ 108 ∷ 58 ∷ 58 ∷ 87 ∷ 97 ∷ 116 ∷ 99 ∷ 104 ∷ []) (Syntax.tcons (Syntax.tyInt Syntax.w64) (Syntax.tcons
+                (Syntax.tyInt Syntax.w64) (Syntax.tcons (Syntax.tyInt Syntax.w64) (Syntax.tcons (Syntax.tyInt Syntax.w64) (Syntax.tcons (Syntax.tyInt Syntax.w64)
+                (Syntax.tcons (Syntax.tyInt Syntax.w64) (Syntax.tcons (Syntax.tyStruct (97 ∷ 104 ∷ 101 ∷ 97 ∷ 100 ∷ 58 ∷ 58 ∷ 65 ∷ 104 ∷ 101 ∷ 97 ∷ 100 ∷ [])
+                (Syntax.tcons (Syntax.tyInt Syntax.w64) (Syntax.tcons (Syntax.tyInt Syntax.w64) (Syntax.tcons (Syntax.tyInt Syntax.w64) Syntax.tnil))))
+                Syntax.tnil)))))))) Syntax.tnil)))) (Local.room-whole 𝓤 H A W (Declared'.row Course.the-type) (Syntax.tyStruct (103 ∷ 97 ∷ 116 ∷ 101 ∷ 58 ∷ 58 ∷
+                67 ∷ 111 ∷ 117 ∷ 114 ∷ 115 ∷ 101 ∷ []) (Syntax.tcons (Syntax.tyStruct (114 ∷ 117 ∷ 108 ∷ 101 ∷ 115 ∷ 58 ∷ 58 ∷ 83 ∷ 116 ∷ 97 ∷ 116 ∷ 101 ∷ [])
+                (Syntax.tcons (Syntax.tyInt Syntax.w8) (Syntax.tcons (Syntax.tyStruct (102 ∷ 105 ∷ 101 ∷ 108 ∷ 100 ∷ 115 ∷ 58 ∷ 58 ∷ 83 ∷ 101 ∷ 114 ∷ 105 ∷ 97 ∷
+                108 ∷ []) (Syntax.tcons (Syntax.tyInt Syntax.w32) Syntax.tnil)) (Syntax.tcons (Syntax.tyStruct (114 ∷ 117 ∷ 108 ∷ 101 ∷ 115 ∷ 58 ∷ 58 ∷ 82 ∷ 117
+                ∷ 110 ∷ []) (Syntax.tcons Syntax.tyBool (Syntax.tcons Syntax.tyBool (Syntax.tcons Syntax.tyBool (Syntax.tcons (Syntax.tyStruct (114 ∷ 101 ∷ 115 ∷
+                105 ∷ 100 ∷ 117 ∷ 101 ∷ 58 ∷ 58 ∷ 82 ∷ 101 ∷ 115 ∷ 105 ∷ 100 ∷ 117 ∷ 101 ∷ []) (Syntax.tcons (Syntax.tyStruct (110 ∷ 97 ∷ 109 ∷ 101 ∷ 115 ∷ 58 ∷
+                58 ∷ 84 ∷ 104 ∷ 114 ∷ 101 ∷ 101 ∷ []) (Syntax.tcons (Syntax.tyInt Syntax.w8) (Syntax.tcons (Syntax.tyInt Syntax.w8) (Syntax.tcons (Syntax.tyInt
+                Syntax.w8) Syntax.tnil)))) (Syntax.tcons (Syntax.tyInt Syntax.w8) (Syntax.tcons (Syntax.tyStruct (102 ∷ 105 ∷ 101 ∷ 108 ∷ 100 ∷ 115 ∷ 58 ∷ 58 ∷
+                82 ∷ 101 ∷ 115 ∷ 105 ∷ 100 ∷ 117 ∷ 101 ∷ 78 ∷ 117 ∷ 109 ∷ 98 ∷ 101 ∷ 114 ∷ []) (Syntax.tcons (Syntax.tyInt Syntax.w32) Syntax.tnil))
+                (Syntax.tcons (Syntax.tyInt Syntax.w8) Syntax.tnil))))) Syntax.tnil))))) (Syntax.tcons (Syntax.tyStruct (102 ∷ 105 ∷ 101 ∷ 108 ∷ 100 ∷ 115 ∷ 58 ∷
+                58 ∷ 83 ∷ 101 ∷ 114 ∷ 105 ∷ 97 ∷ 108 ∷ []) (Syntax.tcons (Syntax.tyInt Syntax.w32) Syntax.tnil)) (Syntax.tcons (Syntax.tyInt Syntax.w32)
+                (Syntax.tcons (Syntax.tyStruct (114 ∷ 117 ∷ 108 ∷ 101 ∷ 115 ∷ 58 ∷ 58 ∷ 76 ∷ 97 ∷ 100 ∷ 100 ∷ 101 ∷ 114 ∷ []) (Syntax.tcons (Syntax.tyStruct (110
+                ∷ 97 ∷ 109 ∷ 101 ∷ 115 ∷ 58 ∷ 58 ∷ 84 ∷ 104 ∷ 114 ∷ 101 ∷ 101 ∷ []) (Syntax.tcons (Syntax.tyInt Syntax.w8) (Syntax.tcons (Syntax.tyInt Syntax.w8)
                 (Syntax.tcons (Syntax.tyInt Syntax.w8) Syntax.tnil)))) (Syntax.tcons (Syntax.tyInt Syntax.w32) (Syntax.tcons (Syntax.tyInt Syntax.w32)
                 Syntax.tnil)))) (Syntax.tcons (Syntax.tyStruct (112 ∷ 108 ∷ 97 ∷ 99 ∷ 101 ∷ 115 ∷ 58 ∷ 58 ∷ 67 ∷ 111 ∷ 117 ∷ 110 ∷ 116 ∷ 115 ∷ []) (Syntax.tcons
                 (Syntax.tyInt Syntax.w64) (Syntax.tcons (Syntax.tyInt Syntax.w64) (Syntax.tcons (Syntax.tyInt Syntax.w64) (Syntax.tcons (Syntax.tyInt Syntax.w64)
@@ -8957,7 +9371,12 @@ module _ (claims· : Claims) where
                 (Syntax.tyStruct (115 ∷ 101 ∷ 97 ∷ 114 ∷ 99 ∷ 104 ∷ 58 ∷ 58 ∷ 83 ∷ 112 ∷ 97 ∷ 110 ∷ []) (Syntax.tcons (Syntax.tyInt Syntax.w64) (Syntax.tcons
                 (Syntax.tyInt Syntax.w64) Syntax.tnil))) (Syntax.tcons (Syntax.tyStruct (115 ∷ 101 ∷ 97 ∷ 114 ∷ 99 ∷ 104 ∷ 58 ∷ 58 ∷ 78 ∷ 101 ∷ 97 ∷ 114 ∷ [])
                 (Syntax.tcons (Syntax.tyInt Syntax.w64) (Syntax.tcons (Syntax.tyStruct (102 ∷ 105 ∷ 101 ∷ 108 ∷ 100 ∷ 115 ∷ 58 ∷ 58 ∷ 83 ∷ 101 ∷ 114 ∷ 105 ∷ 97 ∷
-                108 ∷ []) (Syntax.tcons (Syntax.tyInt Syntax.w32) Syntax.tnil)) Syntax.tnil))) Syntax.tnil))) Syntax.tnil))) Path'.refl)) d67
+                108 ∷ []) (Syntax.tcons (Syntax.tyInt Syntax.w32) Syntax.tnil)) Syntax.tnil))) Syntax.tnil))) (Syntax.tcons (Syntax.tyStruct (116 ∷ 114 ∷ 97 ∷
+                105 ∷ 108 ∷ 58 ∷ 58 ∷ 87 ∷ 97 ∷ 116 ∷ 99 ∷ 104 ∷ []) (Syntax.tcons (Syntax.tyInt Syntax.w64) (Syntax.tcons (Syntax.tyInt Syntax.w64)
+                (Syntax.tcons (Syntax.tyInt Syntax.w64) (Syntax.tcons (Syntax.tyInt Syntax.w64) (Syntax.tcons (Syntax.tyInt Syntax.w64) (Syntax.tcons
+                (Syntax.tyInt Syntax.w64) (Syntax.tcons (Syntax.tyStruct (97 ∷ 104 ∷ 101 ∷ 97 ∷ 100 ∷ 58 ∷ 58 ∷ 65 ∷ 104 ∷ 101 ∷ 97 ∷ 100 ∷ []) (Syntax.tcons
+                (Syntax.tyInt Syntax.w64) (Syntax.tcons (Syntax.tyInt Syntax.w64) (Syntax.tcons (Syntax.tyInt Syntax.w64) Syntax.tnil)))) Syntax.tnil))))))))
+                Syntax.tnil)))) Path'.refl)) d67
 
             d69 : Typed.Typed 𝓤 H A 𝓣 E G11 b62 Δ0 (at69 bs)
             d69 = Typed.s-seq 𝓤 H A W 𝓣 E G11 G63 b56 b61 Δ0 (Typed.both (s58 bs)) (at68 bs) (WayStmt.t-way-copy-out 𝓤 H A W E 𝓣 (Declared'.row State.the-type)
@@ -9028,54 +9447,58 @@ module _ (claims· : Claims) where
                 (Syntax.tyStruct (115 ∷ 101 ∷ 97 ∷ 114 ∷ 99 ∷ 104 ∷ 58 ∷ 58 ∷ 83 ∷ 112 ∷ 97 ∷ 110 ∷ []) (Syntax.tcons (Syntax.tyInt Syntax.w64) (Syntax.tcons
                 (Syntax.tyInt Syntax.w64) Syntax.tnil))) (Syntax.tcons (Syntax.tyStruct (115 ∷ 101 ∷ 97 ∷ 114 ∷ 99 ∷ 104 ∷ 58 ∷ 58 ∷ 78 ∷ 101 ∷ 97 ∷ 114 ∷ [])
                 (Syntax.tcons (Syntax.tyInt Syntax.w64) (Syntax.tcons (Syntax.tyStruct (102 ∷ 105 ∷ 101 ∷ 108 ∷ 100 ∷ 115 ∷ 58 ∷ 58 ∷ 83 ∷ 101 ∷ 114 ∷ 105 ∷ 97 ∷
-                108 ∷ []) (Syntax.tcons (Syntax.tyInt Syntax.w32) Syntax.tnil)) Syntax.tnil))) Syntax.tnil))) Syntax.tnil))) (Syntax.tyStruct (114 ∷ 117 ∷ 108 ∷
-                101 ∷ 115 ∷ 58 ∷ 58 ∷ 83 ∷ 116 ∷ 97 ∷ 116 ∷ 101 ∷ []) (Syntax.tcons (Syntax.tyInt Syntax.w8) (Syntax.tcons (Syntax.tyStruct (102 ∷ 105 ∷ 101 ∷
-                108 ∷ 100 ∷ 115 ∷ 58 ∷ 58 ∷ 83 ∷ 101 ∷ 114 ∷ 105 ∷ 97 ∷ 108 ∷ []) (Syntax.tcons (Syntax.tyInt Syntax.w32) Syntax.tnil)) (Syntax.tcons
-                (Syntax.tyStruct (114 ∷ 117 ∷ 108 ∷ 101 ∷ 115 ∷ 58 ∷ 58 ∷ 82 ∷ 117 ∷ 110 ∷ []) (Syntax.tcons Syntax.tyBool (Syntax.tcons Syntax.tyBool
-                (Syntax.tcons Syntax.tyBool (Syntax.tcons (Syntax.tyStruct (114 ∷ 101 ∷ 115 ∷ 105 ∷ 100 ∷ 117 ∷ 101 ∷ 58 ∷ 58 ∷ 82 ∷ 101 ∷ 115 ∷ 105 ∷ 100 ∷ 117
-                ∷ 101 ∷ []) (Syntax.tcons (Syntax.tyStruct (110 ∷ 97 ∷ 109 ∷ 101 ∷ 115 ∷ 58 ∷ 58 ∷ 84 ∷ 104 ∷ 114 ∷ 101 ∷ 101 ∷ []) (Syntax.tcons (Syntax.tyInt
-                Syntax.w8) (Syntax.tcons (Syntax.tyInt Syntax.w8) (Syntax.tcons (Syntax.tyInt Syntax.w8) Syntax.tnil)))) (Syntax.tcons (Syntax.tyInt Syntax.w8)
-                (Syntax.tcons (Syntax.tyStruct (102 ∷ 105 ∷ 101 ∷ 108 ∷ 100 ∷ 115 ∷ 58 ∷ 58 ∷ 82 ∷ 101 ∷ 115 ∷ 105 ∷ 100 ∷ 117 ∷ 101 ∷ 78 ∷ 117 ∷ 109 ∷ 98 ∷ 101
-                ∷ 114 ∷ []) (Syntax.tcons (Syntax.tyInt Syntax.w32) Syntax.tnil)) (Syntax.tcons (Syntax.tyInt Syntax.w8) Syntax.tnil))))) Syntax.tnil)))))
+                108 ∷ []) (Syntax.tcons (Syntax.tyInt Syntax.w32) Syntax.tnil)) Syntax.tnil))) Syntax.tnil))) (Syntax.tcons (Syntax.tyStruct (116 ∷ 114 ∷ 97 ∷
+                105 ∷ 108 ∷ 58 ∷ 58 ∷ 87 ∷ 97 ∷ 116 ∷ 99 ∷ 104 ∷ []) (Syntax.tcons (Syntax.tyInt Syntax.w64) (Syntax.tcons (Syntax.tyInt Syntax.w64)
+                (Syntax.tcons (Syntax.tyInt Syntax.w64) (Syntax.tcons (Syntax.tyInt Syntax.w64) (Syntax.tcons (Syntax.tyInt Syntax.w64) (Syntax.tcons
+                (Syntax.tyInt Syntax.w64) (Syntax.tcons (Syntax.tyStruct (97 ∷ 104 ∷ 101 ∷ 97 ∷ 100 ∷ 58 ∷ 58 ∷ 65 ∷ 104 ∷ 101 ∷ 97 ∷ 100 ∷ []) (Syntax.tcons
+                (Syntax.tyInt Syntax.w64) (Syntax.tcons (Syntax.tyInt Syntax.w64) (Syntax.tcons (Syntax.tyInt Syntax.w64) Syntax.tnil)))) Syntax.tnil))))))))
+                Syntax.tnil)))) (Syntax.tyStruct (114 ∷ 117 ∷ 108 ∷ 101 ∷ 115 ∷ 58 ∷ 58 ∷ 83 ∷ 116 ∷ 97 ∷ 116 ∷ 101 ∷ []) (Syntax.tcons (Syntax.tyInt Syntax.w8)
                 (Syntax.tcons (Syntax.tyStruct (102 ∷ 105 ∷ 101 ∷ 108 ∷ 100 ∷ 115 ∷ 58 ∷ 58 ∷ 83 ∷ 101 ∷ 114 ∷ 105 ∷ 97 ∷ 108 ∷ []) (Syntax.tcons (Syntax.tyInt
-                Syntax.w32) Syntax.tnil)) (Syntax.tcons (Syntax.tyInt Syntax.w32) (Syntax.tcons (Syntax.tyStruct (114 ∷ 117 ∷ 108 ∷ 101 ∷ 115 ∷ 58 ∷ 58 ∷ 76 ∷ 97
-                ∷ 100 ∷ 100 ∷ 101 ∷ 114 ∷ []) (Syntax.tcons (Syntax.tyStruct (110 ∷ 97 ∷ 109 ∷ 101 ∷ 115 ∷ 58 ∷ 58 ∷ 84 ∷ 104 ∷ 114 ∷ 101 ∷ 101 ∷ [])
-                (Syntax.tcons (Syntax.tyInt Syntax.w8) (Syntax.tcons (Syntax.tyInt Syntax.w8) (Syntax.tcons (Syntax.tyInt Syntax.w8) Syntax.tnil))))
-                (Syntax.tcons (Syntax.tyInt Syntax.w32) (Syntax.tcons (Syntax.tyInt Syntax.w32) Syntax.tnil)))) (Syntax.tcons (Syntax.tyStruct (112 ∷ 108 ∷ 97 ∷
-                99 ∷ 101 ∷ 115 ∷ 58 ∷ 58 ∷ 67 ∷ 111 ∷ 117 ∷ 110 ∷ 116 ∷ 115 ∷ []) (Syntax.tcons (Syntax.tyInt Syntax.w64) (Syntax.tcons (Syntax.tyInt Syntax.w64)
-                (Syntax.tcons (Syntax.tyInt Syntax.w64) (Syntax.tcons (Syntax.tyInt Syntax.w64) (Syntax.tcons (Syntax.tyInt Syntax.w64) (Syntax.tcons
+                Syntax.w32) Syntax.tnil)) (Syntax.tcons (Syntax.tyStruct (114 ∷ 117 ∷ 108 ∷ 101 ∷ 115 ∷ 58 ∷ 58 ∷ 82 ∷ 117 ∷ 110 ∷ []) (Syntax.tcons
+                Syntax.tyBool (Syntax.tcons Syntax.tyBool (Syntax.tcons Syntax.tyBool (Syntax.tcons (Syntax.tyStruct (114 ∷ 101 ∷ 115 ∷ 105 ∷ 100 ∷ 117 ∷ 101 ∷
+                58 ∷ 58 ∷ 82 ∷ 101 ∷ 115 ∷ 105 ∷ 100 ∷ 117 ∷ 101 ∷ []) (Syntax.tcons (Syntax.tyStruct (110 ∷ 97 ∷ 109 ∷ 101 ∷ 115 ∷ 58 ∷ 58 ∷ 84 ∷ 104 ∷ 114 ∷
+                101 ∷ 101 ∷ []) (Syntax.tcons (Syntax.tyInt Syntax.w8) (Syntax.tcons (Syntax.tyInt Syntax.w8) (Syntax.tcons (Syntax.tyInt Syntax.w8)
+                Syntax.tnil)))) (Syntax.tcons (Syntax.tyInt Syntax.w8) (Syntax.tcons (Syntax.tyStruct (102 ∷ 105 ∷ 101 ∷ 108 ∷ 100 ∷ 115 ∷ 58 ∷ 58 ∷ 82 ∷ 101 ∷
+                115 ∷ 105 ∷ 100 ∷ 117 ∷ 101 ∷ 78 ∷ 117 ∷ 109 ∷ 98 ∷ 101 ∷ 114 ∷ []) (Syntax.tcons (Syntax.tyInt Syntax.w32) Syntax.tnil)) (Syntax.tcons
+                (Syntax.tyInt Syntax.w8) Syntax.tnil))))) Syntax.tnil))))) (Syntax.tcons (Syntax.tyStruct (102 ∷ 105 ∷ 101 ∷ 108 ∷ 100 ∷ 115 ∷ 58 ∷ 58 ∷ 83 ∷ 101
+                ∷ 114 ∷ 105 ∷ 97 ∷ 108 ∷ []) (Syntax.tcons (Syntax.tyInt Syntax.w32) Syntax.tnil)) (Syntax.tcons (Syntax.tyInt Syntax.w32) (Syntax.tcons
+                (Syntax.tyStruct (114 ∷ 117 ∷ 108 ∷ 101 ∷ 115 ∷ 58 ∷ 58 ∷ 76 ∷ 97 ∷ 100 ∷ 100 ∷ 101 ∷ 114 ∷ []) (Syntax.tcons (Syntax.tyStruct (110 ∷ 97 ∷ 109 ∷
+                101 ∷ 115 ∷ 58 ∷ 58 ∷ 84 ∷ 104 ∷ 114 ∷ 101 ∷ 101 ∷ []) (Syntax.tcons (Syntax.tyInt Syntax.w8) (Syntax.tcons (Syntax.tyInt Syntax.w8)
+                (Syntax.tcons (Syntax.tyInt Syntax.w8) Syntax.tnil)))) (Syntax.tcons (Syntax.tyInt Syntax.w32) (Syntax.tcons (Syntax.tyInt Syntax.w32)
+                Syntax.tnil)))) (Syntax.tcons (Syntax.tyStruct (112 ∷ 108 ∷ 97 ∷ 99 ∷ 101 ∷ 115 ∷ 58 ∷ 58 ∷ 67 ∷ 111 ∷ 117 ∷ 110 ∷ 116 ∷ 115 ∷ []) (Syntax.tcons
                 (Syntax.tyInt Syntax.w64) (Syntax.tcons (Syntax.tyInt Syntax.w64) (Syntax.tcons (Syntax.tyInt Syntax.w64) (Syntax.tcons (Syntax.tyInt Syntax.w64)
-                Syntax.tnil)))))))))) (Syntax.tcons (Syntax.tyInt Syntax.w64) Syntax.tnil))))))))) 0 0 (u .1 .1 .1 .1 .0) (At.getAt (Course.the-type .parts) 0
-                (Course.struct .as-values (u .1 .1 .1 .1 .0))) (Row.hd 0 (Row.tl (Row.tl (Row.tl (Row.tl bs)))), 0) (Way.w-look 𝓤 H A W E (Way.w-local 𝓤 H A W E
-                G11 ρ u (G11 .slots) 4 (Declared'.row Course.the-type) (Rows'.whole (Declared'.row Course.the-type)) (λ x. x) (λ x. x) (u .1 .1 .1 .1 .0)
-                (Local.mem-whole 𝓤 H A W (Declared'.row Course.the-type) ρ (u .1 .1 .1 .1 .0) (Row.hd 0 (Row.tl (Row.tl (Row.tl (Row.tl bs)))))) (Local.whole-mem
-                𝓤 H A W (Declared'.row Course.the-type) ρ (u .1 .1 .1 .1 .0) (Row.hd 0 (Row.tl (Row.tl (Row.tl (Row.tl bs)))))))) Path'.refl λ q.
-                Inner.cut-record 𝓤 H A q (Declared'.row Course.the-type) State.the-type 0 (u .1 .1 .1 .1 .0) (u .1 .1 .1 .1 .0) (At.getAt (Course.the-type
-                .parts) 0 (Course.struct .as-values (u .1 .1 .1 .1 .0))) (At.getAt (Course.the-type .parts) 0 (Course.struct .as-values (u .1 .1 .1 .1 .0)))
-                (Row.hd 0 (Row.tl (Row.tl (Row.tl (Row.tl bs)))), 0) (Behind.look-at 𝓤 H A W q Course.the-type Laws'.the-laws 0 0 Path'.refl Path'.refl (
-                  Row.hd 0
-                      (Row.tl (Row.tl (Row.tl (Row.tl bs)))),
+                (Syntax.tcons (Syntax.tyInt Syntax.w64) (Syntax.tcons (Syntax.tyInt Syntax.w64) (Syntax.tcons (Syntax.tyInt Syntax.w64) (Syntax.tcons
+                (Syntax.tyInt Syntax.w64) (Syntax.tcons (Syntax.tyInt Syntax.w64) Syntax.tnil)))))))))) (Syntax.tcons (Syntax.tyInt Syntax.w64)
+                Syntax.tnil))))))))) 0 0 (u .1 .1 .1 .1 .0) (At.getAt (Course.the-type .parts) 0 (Course.struct .as-values (u .1 .1 .1 .1 .0))) (
+                  Row.hd 0 (Row.tl
+                      (Row.tl (Row.tl (Row.tl bs)))),
                   0,
-                ) (u .1 .1 .1 .1 .0) (Course.struct .as-values (u .1 .1 .1 .1 .0)) Path'.refl)) (Reads'.room-gone 𝓤 H A
-                (Syntax.tyStruct (114 ∷ 117 ∷ 108 ∷ 101 ∷ 115 ∷ 58 ∷ 58 ∷ 83 ∷ 116 ∷ 97 ∷ 116 ∷ 101 ∷ []) (Syntax.tcons (Syntax.tyInt Syntax.w8) (Syntax.tcons
-                (Syntax.tyStruct (102 ∷ 105 ∷ 101 ∷ 108 ∷ 100 ∷ 115 ∷ 58 ∷ 58 ∷ 83 ∷ 101 ∷ 114 ∷ 105 ∷ 97 ∷ 108 ∷ []) (Syntax.tcons (Syntax.tyInt Syntax.w32)
-                Syntax.tnil)) (Syntax.tcons (Syntax.tyStruct (114 ∷ 117 ∷ 108 ∷ 101 ∷ 115 ∷ 58 ∷ 58 ∷ 82 ∷ 117 ∷ 110 ∷ []) (Syntax.tcons Syntax.tyBool
-                (Syntax.tcons Syntax.tyBool (Syntax.tcons Syntax.tyBool (Syntax.tcons (Syntax.tyStruct (114 ∷ 101 ∷ 115 ∷ 105 ∷ 100 ∷ 117 ∷ 101 ∷ 58 ∷ 58 ∷ 82 ∷
-                101 ∷ 115 ∷ 105 ∷ 100 ∷ 117 ∷ 101 ∷ []) (Syntax.tcons (Syntax.tyStruct (110 ∷ 97 ∷ 109 ∷ 101 ∷ 115 ∷ 58 ∷ 58 ∷ 84 ∷ 104 ∷ 114 ∷ 101 ∷ 101 ∷ [])
-                (Syntax.tcons (Syntax.tyInt Syntax.w8) (Syntax.tcons (Syntax.tyInt Syntax.w8) (Syntax.tcons (Syntax.tyInt Syntax.w8) Syntax.tnil))))
-                (Syntax.tcons (Syntax.tyInt Syntax.w8) (Syntax.tcons (Syntax.tyStruct (102 ∷ 105 ∷ 101 ∷ 108 ∷ 100 ∷ 115 ∷ 58 ∷ 58 ∷ 82 ∷ 101 ∷ 115 ∷ 105 ∷ 100 ∷
-                117 ∷ 101 ∷ 78 ∷ 117 ∷ 109 ∷ 98 ∷ 101 ∷ 114 ∷ []) (Syntax.tcons (Syntax.tyInt Syntax.w32) Syntax.tnil)) (Syntax.tcons (Syntax.tyInt Syntax.w8)
-                Syntax.tnil))))) Syntax.tnil))))) (Syntax.tcons (Syntax.tyStruct (102 ∷ 105 ∷ 101 ∷ 108 ∷ 100 ∷ 115 ∷ 58 ∷ 58 ∷ 83 ∷ 101 ∷ 114 ∷ 105 ∷ 97 ∷ 108 ∷
-                []) (Syntax.tcons (Syntax.tyInt Syntax.w32) Syntax.tnil)) (Syntax.tcons (Syntax.tyInt Syntax.w32) (Syntax.tcons (Syntax.tyStruct (114 ∷ 117 ∷ 108
-                ∷ 101 ∷ 115 ∷ 58 ∷ 58 ∷ 76 ∷ 97 ∷ 100 ∷ 100 ∷ 101 ∷ 114 ∷ []) (Syntax.tcons (Syntax.tyStruct (110 ∷ 97 ∷ 109 ∷ 101 ∷ 115 ∷ 58 ∷ 58 ∷ 84 ∷ 104 ∷
-                114 ∷ 101 ∷ 101 ∷ []) (Syntax.tcons (Syntax.tyInt Syntax.w8) (Syntax.tcons (Syntax.tyInt Syntax.w8) (Syntax.tcons (Syntax.tyInt Syntax.w8)
-                Syntax.tnil)))) (Syntax.tcons (Syntax.tyInt Syntax.w32) (Syntax.tcons (Syntax.tyInt Syntax.w32) Syntax.tnil)))) (Syntax.tcons (Syntax.tyStruct
-                (112 ∷ 108 ∷ 97 ∷ 99 ∷ 101 ∷ 115 ∷ 58 ∷ 58 ∷ 67 ∷ 111 ∷ 117 ∷ 110 ∷ 116 ∷ 115 ∷ []) (Syntax.tcons (Syntax.tyInt Syntax.w64) (Syntax.tcons
+                ) (Way.w-look 𝓤 H A W E (Way.w-local 𝓤 H A W E G11 ρ u (G11 .slots) 4 (Declared'.row Course.the-type)
+                (Rows'.whole (Declared'.row Course.the-type)) (λ x. x) (λ x. x) (u .1 .1 .1 .1 .0) (Local.mem-whole 𝓤 H A W (Declared'.row Course.the-type) ρ (u
+                .1 .1 .1 .1 .0) (Row.hd 0 (Row.tl (Row.tl (Row.tl (Row.tl bs)))))) (Local.whole-mem 𝓤 H A W (Declared'.row Course.the-type) ρ (u .1 .1 .1 .1 .0)
+                (Row.hd 0 (Row.tl (Row.tl (Row.tl (Row.tl bs)))))))) Path'.refl λ q. Inner.cut-record 𝓤 H A q (Declared'.row Course.the-type) State.the-type 0 (u
+                .1 .1 .1 .1 .0) (u .1 .1 .1 .1 .0) (At.getAt (Course.the-type .parts) 0 (Course.struct .as-values (u .1 .1 .1 .1 .0))) (At.getAt (Course.the-type
+                .parts) 0 (Course.struct .as-values (u .1 .1 .1 .1 .0))) (Row.hd 0 (Row.tl (Row.tl (Row.tl (Row.tl bs)))), 0) (Behind.look-at 𝓤 H A W q
+                Course.the-type Laws'.the-laws 0 0 Path'.refl Path'.refl (Row.hd 0 (Row.tl (Row.tl (Row.tl (Row.tl bs)))), 0) (u .1 .1 .1 .1 .0) (Course.struct
+                .as-values (u .1 .1 .1 .1 .0)) Path'.refl)) (Reads'.room-gone 𝓤 H A (Syntax.tyStruct (114 ∷ 117 ∷ 108 ∷ 101 ∷ 115 ∷ 58 ∷ 58 ∷ 83 ∷ 116 ∷ 97 ∷ 116
+                ∷ 101 ∷ []) (Syntax.tcons (Syntax.tyInt Syntax.w8) (Syntax.tcons (Syntax.tyStruct (102 ∷ 105 ∷ 101 ∷ 108 ∷ 100 ∷ 115 ∷ 58 ∷ 58 ∷ 83 ∷ 101 ∷ 114 ∷
+                105 ∷ 97 ∷ 108 ∷ []) (Syntax.tcons (Syntax.tyInt Syntax.w32) Syntax.tnil)) (Syntax.tcons (Syntax.tyStruct (114 ∷ 117 ∷ 108 ∷ 101 ∷ 115 ∷ 58 ∷ 58
+                ∷ 82 ∷ 117 ∷ 110 ∷ []) (Syntax.tcons Syntax.tyBool (Syntax.tcons Syntax.tyBool (Syntax.tcons Syntax.tyBool (Syntax.tcons (Syntax.tyStruct (114 ∷
+                101 ∷ 115 ∷ 105 ∷ 100 ∷ 117 ∷ 101 ∷ 58 ∷ 58 ∷ 82 ∷ 101 ∷ 115 ∷ 105 ∷ 100 ∷ 117 ∷ 101 ∷ []) (Syntax.tcons (Syntax.tyStruct (110 ∷ 97 ∷ 109 ∷ 101 ∷
+                115 ∷ 58 ∷ 58 ∷ 84 ∷ 104 ∷ 114 ∷ 101 ∷ 101 ∷ []) (Syntax.tcons (Syntax.tyInt Syntax.w8) (Syntax.tcons (Syntax.tyInt Syntax.w8) (Syntax.tcons
+                (Syntax.tyInt Syntax.w8) Syntax.tnil)))) (Syntax.tcons (Syntax.tyInt Syntax.w8) (Syntax.tcons (Syntax.tyStruct (102 ∷ 105 ∷ 101 ∷ 108 ∷ 100 ∷ 115
+                ∷ 58 ∷ 58 ∷ 82 ∷ 101 ∷ 115 ∷ 105 ∷ 100 ∷ 117 ∷ 101 ∷ 78 ∷ 117 ∷ 109 ∷ 98 ∷ 101 ∷ 114 ∷ []) (Syntax.tcons (Syntax.tyInt Syntax.w32) Syntax.tnil))
+                (Syntax.tcons (Syntax.tyInt Syntax.w8) Syntax.tnil))))) Syntax.tnil))))) (Syntax.tcons (Syntax.tyStruct (102 ∷ 105 ∷ 101 ∷ 108 ∷ 100 ∷ 115 ∷ 58 ∷
+                58 ∷ 83 ∷ 101 ∷ 114 ∷ 105 ∷ 97 ∷ 108 ∷ []) (Syntax.tcons (Syntax.tyInt Syntax.w32) Syntax.tnil)) (Syntax.tcons (Syntax.tyInt Syntax.w32)
+                (Syntax.tcons (Syntax.tyStruct (114 ∷ 117 ∷ 108 ∷ 101 ∷ 115 ∷ 58 ∷ 58 ∷ 76 ∷ 97 ∷ 100 ∷ 100 ∷ 101 ∷ 114 ∷ []) (Syntax.tcons (Syntax.tyStruct (110
+                ∷ 97 ∷ 109 ∷ 101 ∷ 115 ∷ 58 ∷ 58 ∷ 84 ∷ 104 ∷ 114 ∷ 101 ∷ 101 ∷ []) (Syntax.tcons (Syntax.tyInt Syntax.w8) (Syntax.tcons (Syntax.tyInt Syntax.w8)
+                (Syntax.tcons (Syntax.tyInt Syntax.w8) Syntax.tnil)))) (Syntax.tcons (Syntax.tyInt Syntax.w32) (Syntax.tcons (Syntax.tyInt Syntax.w32)
+                Syntax.tnil)))) (Syntax.tcons (Syntax.tyStruct (112 ∷ 108 ∷ 97 ∷ 99 ∷ 101 ∷ 115 ∷ 58 ∷ 58 ∷ 67 ∷ 111 ∷ 117 ∷ 110 ∷ 116 ∷ 115 ∷ []) (Syntax.tcons
                 (Syntax.tyInt Syntax.w64) (Syntax.tcons (Syntax.tyInt Syntax.w64) (Syntax.tcons (Syntax.tyInt Syntax.w64) (Syntax.tcons (Syntax.tyInt Syntax.w64)
                 (Syntax.tcons (Syntax.tyInt Syntax.w64) (Syntax.tcons (Syntax.tyInt Syntax.w64) (Syntax.tcons (Syntax.tyInt Syntax.w64) (Syntax.tcons
-                (Syntax.tyInt Syntax.w64) Syntax.tnil)))))))))) (Syntax.tcons (Syntax.tyInt Syntax.w64) Syntax.tnil)))))))))) (Yields.makes-mem 𝓤 H A W (λ ρ.
-                Unit) (Declared'.row State.the-type) Path'.refl (Rows'.whole (Declared'.row State.the-type)) (λ x. x) λ ρ told. Local.whole-mem 𝓤 H A W
-                (Declared'.row State.the-type) ρ) Path'.refl Path'.refl Path'.refl) d68
+                (Syntax.tyInt Syntax.w64) (Syntax.tcons (Syntax.tyInt Syntax.w64) Syntax.tnil)))))))))) (Syntax.tcons (Syntax.tyInt Syntax.w64)
+                Syntax.tnil)))))))))) (Yields.makes-mem 𝓤 H A W (λ ρ. Unit) (Declared'.row State.the-type) Path'.refl (Rows'.whole (Declared'.row
+                State.the-type)) (λ x. x) λ ρ told. Local.whole-mem 𝓤 H A W (Declared'.row State.the-type) ρ) Path'.refl Path'.refl Path'.refl) d68
 
             d70 : Typed.Typed 𝓤 H A 𝓣 E G10 b63 Δ0 (at70 bs)
             d70 = Typed.t-seq 𝓤 H A W 𝓣 E G10 G11 b55 b62 Δ0 (at57 bs) (at69 bs) d57 d69
@@ -9149,8 +9572,12 @@ module _ (claims· : Claims) where
                 116 ∷ []) (Syntax.tcons (Syntax.tyStruct (115 ∷ 101 ∷ 97 ∷ 114 ∷ 99 ∷ 104 ∷ 58 ∷ 58 ∷ 83 ∷ 112 ∷ 97 ∷ 110 ∷ []) (Syntax.tcons (Syntax.tyInt
                 Syntax.w64) (Syntax.tcons (Syntax.tyInt Syntax.w64) Syntax.tnil))) (Syntax.tcons (Syntax.tyStruct (115 ∷ 101 ∷ 97 ∷ 114 ∷ 99 ∷ 104 ∷ 58 ∷ 58 ∷ 78
                 ∷ 101 ∷ 97 ∷ 114 ∷ []) (Syntax.tcons (Syntax.tyInt Syntax.w64) (Syntax.tcons (Syntax.tyStruct (102 ∷ 105 ∷ 101 ∷ 108 ∷ 100 ∷ 115 ∷ 58 ∷ 58 ∷ 83 ∷
-                101 ∷ 114 ∷ 105 ∷ 97 ∷ 108 ∷ []) (Syntax.tcons (Syntax.tyInt Syntax.w32) Syntax.tnil)) Syntax.tnil))) Syntax.tnil))) Syntax.tnil)))) tt
-                Path'.refl) d76
+                101 ∷ 114 ∷ 105 ∷ 97 ∷ 108 ∷ []) (Syntax.tcons (Syntax.tyInt Syntax.w32) Syntax.tnil)) Syntax.tnil))) Syntax.tnil))) (Syntax.tcons
+                (Syntax.tyStruct (116 ∷ 114 ∷ 97 ∷ 105 ∷ 108 ∷ 58 ∷ 58 ∷ 87 ∷ 97 ∷ 116 ∷ 99 ∷ 104 ∷ []) (Syntax.tcons (Syntax.tyInt Syntax.w64) (Syntax.tcons
+                (Syntax.tyInt Syntax.w64) (Syntax.tcons (Syntax.tyInt Syntax.w64) (Syntax.tcons (Syntax.tyInt Syntax.w64) (Syntax.tcons (Syntax.tyInt Syntax.w64)
+                (Syntax.tcons (Syntax.tyInt Syntax.w64) (Syntax.tcons (Syntax.tyStruct (97 ∷ 104 ∷ 101 ∷ 97 ∷ 100 ∷ 58 ∷ 58 ∷ 65 ∷ 104 ∷ 101 ∷ 97 ∷ 100 ∷ [])
+                (Syntax.tcons (Syntax.tyInt Syntax.w64) (Syntax.tcons (Syntax.tyInt Syntax.w64) (Syntax.tcons (Syntax.tyInt Syntax.w64) Syntax.tnil))))
+                Syntax.tnil)))))))) Syntax.tnil))))) tt Path'.refl) d76
 
             d78 : Typed.Typed 𝓤 H A 𝓣 E G2 b70 Δ0 (at78 bs)
             d78 = Typed.s-seq 𝓤 H A W 𝓣 E G2 G3 b0 b69 Δ0 (Typed.pass T2 T3 (s1 bs)) (at77 bs) (Scalar.t-use 𝓤 H A W E 𝓣 G2 (Scalar.oInt Syntax.w64 0) 3

@@ -1,0 +1,5 @@
+pub mod Order
+pub mod Covers
+pub mod Halves
+pub mod Sights
+pub mod Watching

@@ -1,0 +1,4 @@
+pub mod Self
+pub mod Same
+pub mod Columns
+pub mod Standing
