@@ -35,7 +35,7 @@ for line in open("crates.txt"):
                  sum(declared(t) for t in laws),
                  sum(lines(t, "--") for p, t in texts.items() if p not in made),
                  sum(lines(texts[p], "--") for p in made),
-                 len(glob.glob(f"{here}/must-fail/*.edit"))))
+                 sum(len(glob.glob(f"{here}/{folder}/*.edit")) for folder in ("must-fail", "wrong"))))
 
 heads = ("Crate", "Functions", "Lines of code", "Definitions", "Lines", "Laws", "Lines of proof", "Machine-made", "Wrong programs")
 print("| " + " | ".join(heads) + " |")

@@ -1,8 +1,9 @@
-"""Wrong programs of functions that have walks: an edit of the code, and a patch of what its walk has otherwise."""
+"""Wrong programs: an edit of the code of functions, and of those that have walks a patch of what the walk has otherwise."""
 import difflib, os, re
 
 from .files import knot
-from .sources import body, bound
+from .outline import outline
+from .sources import around, bound, functions, meaning
 
 MADE = "# Machine-made by tools/wrong --make; do not edit."
 
@@ -61,26 +62,38 @@ def shape(texts):  # what a proof can name in walks: the needs, and what is know
     return [re.findall(r"^ *(?:pub (record \S+|before : \S+|\S+)|abbrev pub ((?:Need|InvT|MeasureT)-\S+))", texts[f], re.M) for f in sorted(texts)]
 
 
+def plain(texts):  # the code among some texts, with no comments
+    return {f: re.sub(r"//.*", "", t) for f, t in texts.items() if f.endswith(".rt")}
+
+
 class Edit:
     def __init__(self, crate, path, texts, walked):  # texts are those of the crate's code and walks, walked its functions that have one
         self.crate, self.belief, self.patch = crate, os.path.basename(path)[:-5], f"{path[:-5]}.patch"
         self.name, self.texts, self.fns = f"{crate}/{self.belief}", texts, []
         self.pairs = pairs(open(path, encoding="utf-8").read())
-        wrong, plain = replaced(texts, self.pairs), lambda ts: {f: re.sub(r"//.*", "", t) for f, t in ts.items() if f.endswith(".rt")}
-        self.fns = [fn for fn in walked if body(plain(texts), fn) != body(plain(wrong), fn)]
-        if not self.fns: raise Unfit("it changes no function that has a walk; if it changes another it is one for must-fail/")
+        right, wrong = plain(texts), plain(replaced(texts, self.pairs))
+        try: beside = around(wrong)
+        except IndexError: raise Unfit("it leaves a bracket open")
+        if around(right) != beside: raise Unfit("it changes more than the code of functions: it is one for must-fail/")
+        self.fns = [fn for fn in functions(right) if meaning(right, fn) != meaning(wrong, fn)]
+        if not self.fns: raise Unfit("it changes the code of no function")
+        self.walked = [fn for fn in self.fns if fn in walked]
+        for fn in self.fns:
+            if fn not in walked and outline(right, fn) != outline(wrong, fn):
+                raise Unfit(f"{fn} has another outline: its proof may be offered other needs, or other facts")
 
     def patch_text(self):
+        if not self.walked: return ""
         if not os.path.exists(self.patch): raise Unfit("it has no patch; make it: tools/wrong --make")
         return open(self.patch, encoding="utf-8").read()
 
     def walks(self, texts):  # those of its functions
-        tops = [t for fn in self.fns for t in (f"proofs/{fn.replace('::', '/')}/Proof/", f"proofs/{knot(fn)}/Proof/", f"proofs/Walked/{fn.replace('::', '/')}/")]
+        tops = [t for fn in self.walked for t in (f"proofs/{fn.replace('::', '/')}/Proof/", f"proofs/{knot(fn)}/Proof/", f"proofs/Walked/{fn.replace('::', '/')}/")]
         return {f: t for f, t in texts.items() if f.startswith(tuple(tops))}
 
-    def apart(self, other):  # whether the two can be tried at once: neither changes what the other does, or a function that it calls
-        code = {f: t for f, t in self.texts.items() if f.endswith(".rt")}
-        return not any(f == g or bound(code, f, g) for f in self.fns for g in other.fns)
+    def apart(self, other):  # whether the two can be tried at once: they change different functions, and where there are walks none that the other calls
+        code = plain(self.texts)
+        return not any(f == g or f in self.walked and g in other.walked and bound(code, f, g) for f in self.fns for g in other.fns)
 
 
 def together(edits):  # edits in batches that can be tried at once

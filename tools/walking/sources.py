@@ -41,15 +41,44 @@ def types_of(text):  # a file with its types and constants alone
     return text
 
 
-def body(files, fn):  # the body of a function of a crate with these files
+def code_of(files, fn):  # where the body of a function stands in a crate with these files: the file, and the body's start and end
     mods, name = fn.split("::")[:-1], fn.split("::")[-1]
-    text = next(t for f, t in files.items() if f in ([f"src/{'/'.join(mods)}.rt"] if mods else ["src/lib.rt", "src/main.rt"]))
-    m = re.search(rf"\bfn {name}\s*(?:<[^>]*>)?\s*(\()", text)
+    file = next(f for f in files if f in ([f"src/{'/'.join(mods)}.rt"] if mods else ["src/lib.rt", "src/main.rt"]))
+    m = re.search(rf"\bfn {name}\s*(?:<[^>]*>)?\s*(\()", text := files[file])
     j = close(text, m.start(1))
     while q := re.compile(r"[^{}]*?\b(?:requires|ensures)\b[^{]*").match(text, j):
         j = close(text, q.end())
     b = text.index("{", j)
-    return text[b:close(text, b)]
+    return file, b, close(text, b)
+
+
+def body(files, fn):  # the body of a function of a crate with these files
+    file, start, end = code_of(files, fn)
+    return files[file][start:end]
+
+
+def functions(files):  # the functions of a crate with these files, which have no comments
+    mods = lambda f: [] if f in ("src/lib.rt", "src/main.rt") else f[len("src/"):-len(".rt")].split("/")
+    return ["::".join([*mods(f), name]) for f, t in files.items() for name in re.findall(r"\bfn (\w+)", t)]
+
+
+CONSTANT = re.compile(r"\bconst (\w+): ([^=]*)=([^;]*);")
+
+
+def meaning(files, fn):  # what a function does: its body, and what the constants are that it names, and those that these name
+    told, todo, rest = [], [body(files, fn)], [c for t in files.values() for c in CONSTANT.findall(t)]
+    while todo:
+        told.append(todo.pop())
+        named = [c for c in rest if re.search(rf"\b{c[0]}\b", told[-1])]
+        todo, rest = todo + [value for _, _, value in named], [c for c in rest if c not in named]
+    return told
+
+
+def around(files):  # the files of a crate without what its functions do
+    files = dict(files)
+    for file, start, end in sorted((code_of(files, fn) for fn in functions(files)), reverse=True):
+        files[file] = files[file][:start] + files[file][end:]
+    return {f: CONSTANT.sub(r"\1: \2", t) for f, t in files.items()}
 
 
 def bound(files, f, g):  # whether one of two functions calls the other
