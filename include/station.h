@@ -95,6 +95,12 @@ uint32_t station_slot_of_line(const uint8_t *line, size_t n, station_slot *slot)
  * first 80 bytes of `out` are then the line. 1, 3, 4 (a carried kind too), 6, 17. */
 uint32_t station_rewrite_line(const uint8_t *line, size_t n, uint8_t *out, size_t room);
 
+/* Jumps to an atom: returns the number of the first line that ends in its newline and reads by itself as an ATOM or
+ * HETATM line with this serial, 0 if there is none. Lines are pieces of 81 bytes and count from 1; the text need not be
+ * accepted, a line that does not read is passed over and counted. `looked` receives the lines looked at, at every call:
+ * the line returned, or all whole lines if there is none. There is no refusal. */
+uint64_t station_find(const uint8_t *text, size_t n, uint32_t serial, uint64_t *looked);
+
 /* The dot of a slot: x, y, z in thousandths. Returns 1 if the slot is an atom marked in; 0 if there is nothing to draw,
  * and `out` is as it was. */
 uint32_t station_dot(const station_slot *slot, double out[3]);

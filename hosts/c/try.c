@@ -1,10 +1,11 @@
-/* Calls each of the thirteen names of include/station.h, and holds what comes against docs/FORMAT.md.
+/* Calls each of the fourteen names of include/station.h, and holds what comes against docs/FORMAT.md.
  *
  *     cc -std=c11 -I include hosts/c/try.c LIBRARY/libstation.a -o try && ./try <crates/report/stdin
  *
  * Standard input is the first worked example: HEADER, ATOM, TER, MASTER, END. All that is lent stands between guard
  * bytes, and texts begin at an odd address. A line is printed for each thing tried; the last one is 'N passed, M
  * failed', and the exit status is 0 exactly if M is 0. */
+#include "jumps.h"
 #include "lent.h"
 #include "station.h"
 
@@ -356,6 +357,7 @@ int main(void)
     orders(&wrong);
     at_once(&wrong);
     lines(entry, &wrong);
+    jumps();
     feeds();
     printf("%u passed, %u failed\n", passed, failed);
     return failed != 0;

@@ -28,7 +28,7 @@ pub struct Past {
 }
 
 // The serial in columns 7-11 of line i.
-fn serial_at(text: &[u8], i: usize) -> Serial
+pub fn serial_at(text: &[u8], i: usize) -> Serial
     requires { ⌜ 81 * i + 81 ≤ length (now text) ⌝ }
     ensures { λ r. ⌜ r .0 ≡ (rangedNumber 5 0 1 99999 (take 80 (pieceAt (now (text .entry)) i)) 6) .value ⌝ }
 {

@@ -1,6 +1,7 @@
 // The names that C calls. Each function is a thin cover over a proved one, and says the same.
 use answers::Filled;
 use fields::FragmentNumber;
+use fields::Serial;
 use line::Answer;
 use master::Tally;
 use slots::Slot;
@@ -14,6 +15,7 @@ ghost use Rattle.table.specs.Deal.{saveOf, trayOf};
 ghost use Rattle.tally.specs.Tally.{toldTally, tallyLine};
 ghost use Rattle.feed.specs.Feed.{dotOf, strokeOf};
 ghost use Rattle.feed.specs.Frame.{frameOf};
+ghost use Rattle.jump.specs.Jumping.{jumpOf};
 ghost use Rattle.answers.specs.Boundary.{answered, fragmentNumber, asideOf, slotAnswer, rewriteAnswer, dotAnswer, strokeAnswer, frameAnswer};
 
 // The check of a text: 0, 1-12.
@@ -25,6 +27,17 @@ pub extern "C" fn station_check(text: &[u8], answer: &mut [u64; 12]) -> u32
     let v = gate::check(text);
     *answer = reporting::numbers(v);
     v.number as u32
+}
+
+// The number of the first line with a serial, 0 if there is none; and how many lines were looked at.
+#[no_mangle]
+pub extern "C" fn station_find(text: &[u8], serial: u32, looked: &mut u64) -> u64
+    ensures { λ r. ⌜ r ≡ jumpOf serial (now (text .entry)) .line ⌝ }
+    ensures { λ r. ⌜ now (looked .exit) ≡ jumpOf serial (now (text .entry)) .looked ⌝ }
+{
+    let j = jump::find(text, Serial(serial));
+    *looked = j.looked;
+    j.line
 }
 
 // Fills the table from the text: 0, 1-12, 13; how many slots, 0 if refused.

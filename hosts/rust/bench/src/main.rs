@@ -27,7 +27,7 @@ fn all_calls() -> String {
     let lines = [1_000, 10_000, 100_000].map(Entry::of_lines);
     let bonds = Entry::with_bonds(60_000, 30_000);
     let mut times: Vec<_> = lines.iter().map(|entry| measure::times(entry, &Call::ALL)).collect();
-    let with_bonds = [Call::Check, Call::Order, Call::Arrange, Call::Fragments, Call::Save];
+    let with_bonds = [Call::Check, Call::Order, Call::Arrange, Call::Fragments, Call::Save, Call::Find];
     times.push(measure::times(&bonds, &with_bonds));
     let stacks = [&lines[0], &lines[1], &lines[2], &bonds].map(measure::stacks);
     [tables::calls(&times), tables::peers(&times), tables::bars(&times), tables::stacks(&stacks)].join("\n")

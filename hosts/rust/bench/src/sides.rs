@@ -3,8 +3,8 @@
 use std::hint::black_box;
 
 use station::raw::{
-    station_arrange, station_check, station_fragments, station_frame, station_load, station_order, station_save,
-    station_tray,
+    station_arrange, station_check, station_find, station_fragments, station_frame, station_load, station_order,
+    station_save, station_tray,
 };
 
 /// The fragment that is aside when saving, and the one that orders move.
@@ -22,13 +22,23 @@ pub enum Call {
     Fragments,
     Save,
     Tray,
+    Find,
     Frame,
 }
 
 impl Call {
     /// All of them, in the order of the tables.
-    pub const ALL: [Call; 8] =
-        [Call::Check, Call::Load, Call::Order, Call::Arrange, Call::Fragments, Call::Save, Call::Tray, Call::Frame];
+    pub const ALL: [Call; 9] = [
+        Call::Check,
+        Call::Load,
+        Call::Order,
+        Call::Arrange,
+        Call::Fragments,
+        Call::Save,
+        Call::Tray,
+        Call::Find,
+        Call::Frame,
+    ];
 
     /// Its name in the tables.
     pub fn name(self) -> String {
@@ -36,9 +46,18 @@ impl Call {
     }
 }
 
+/// The serial of the atom in the middle line of a text, or in the first one below it.
+fn middle(text: &[u8]) -> u32 {
+    let lines = station::pieces(text);
+    let half = lines.len() / 2;
+    let mut slots = lines.skip(half).filter_map(|piece| station::Line::slot_of(piece.get(..80)?).ok());
+    slots.find(station::Slot::is_coordinate).expect("an atom in the lower half").serial
+}
+
 /// Who answers the calls.
 pub trait Side {
-    /// Makes a call. It has to be granted; an order moves its fragment to where it is not, an arrangement all of them.
+    /// Makes a call. It has to be granted; an order moves its fragment to where it is not, an arrangement all of them. The
+    /// jump goes to the middle of the text, and has to find a line there.
     fn call(&mut self, call: Call);
 }
 
@@ -51,7 +70,7 @@ pub struct Library<'t> {
     pub loaded: Vec<station::Slot>,
     /// What was written last.
     pub out: Vec<u8>,
-    /// How many bytes or slots.
+    /// How many bytes, slots or lines.
     pub count: u64,
     /// The last frame.
     pub frame: [f64; 9],
@@ -64,6 +83,8 @@ pub struct Library<'t> {
     answer: [u64; 12],
     /// Whether the fragment that orders move is aside.
     moved: bool,
+    /// The atom that is jumped to.
+    serial: u32,
 }
 
 impl<'t> Library<'t> {
@@ -84,13 +105,14 @@ impl<'t> Library<'t> {
             list: vec![0; fragments],
             answer: [0; 12],
             moved: false,
+            serial: middle(text),
             table,
         }
     }
 
     /// The number that the library answers.
     fn number(&mut self, call: Call) -> u32 {
-        let Library { text, table, loaded, out, count, frame, arranged, numbers, list, answer, moved } = self;
+        let Library { text, table, loaded, out, count, frame, arranged, numbers, list, answer, moved, serial } = self;
         let (text, n) = (text.as_ptr(), text.len());
         let (slots, length) = (table.as_mut_ptr(), table.len());
         // SAFETY: all memory is as long as said, and no two pieces of it overlap.
@@ -111,6 +133,7 @@ impl<'t> Library<'t> {
                 }
                 Call::Save => station_save(text, n, slots, length, out.as_mut_ptr(), out.len(), count),
                 Call::Tray => station_tray(text, n, slots, length, out.as_mut_ptr(), out.len(), count),
+                Call::Find => u32::from(station_find(text, n, *serial, count) == 0),
                 Call::Frame => station_frame(slots, length, frame.as_mut_ptr()),
             }
         }
@@ -133,7 +156,7 @@ pub struct Reference<'t> {
     pub loaded: Vec<reference::Slot>,
     /// What was written last.
     pub out: Vec<u8>,
-    /// How many bytes or slots.
+    /// How many bytes, slots or lines.
     pub count: usize,
     /// The last frame.
     pub frame: [f64; 9],
@@ -145,6 +168,8 @@ pub struct Reference<'t> {
     list: Vec<reference::Mark>,
     /// Whether the fragment that orders move is aside.
     moved: bool,
+    /// The atom that is jumped to.
+    serial: reference::Serial,
 }
 
 impl<'t> Reference<'t> {
@@ -164,6 +189,7 @@ impl<'t> Reference<'t> {
             numbers: vec![0; table.len()],
             list: vec![reference::Mark::In; reference::fragments(&table).len()],
             moved: false,
+            serial: reference::Serial(middle(text)),
             table,
         }
     }
@@ -184,6 +210,7 @@ impl<'t> Reference<'t> {
             Call::Fragments => self.count = reference::fragment_numbers(self.text, &self.table, &mut self.numbers)?,
             Call::Save => self.count = reference::save(self.text, &self.table, &mut self.out)?,
             Call::Tray => self.count = reference::tray(self.text, &self.table, &mut self.out)?,
+            Call::Find => self.count = reference::find(self.text, self.serial).looked as usize,
             Call::Frame => {
                 let reference::Frame { lowest, highest, middle } = reference::frame(&self.table)?;
                 let axis = |index: usize| [lowest, highest, middle][index / 3][index % 3];
@@ -206,7 +233,7 @@ pub fn agree(library: &mut Library, reference: &mut Reference) {
     for call in Call::ALL {
         library.call(call);
         reference.call(call);
-        if matches!(call, Call::Load | Call::Fragments | Call::Save | Call::Tray) {
+        if matches!(call, Call::Load | Call::Fragments | Call::Save | Call::Tray | Call::Find) {
             assert_eq!(library.count, reference.count as u64, "{call:?}");
             assert!(library.out == reference.out, "{call:?} differs");
         }

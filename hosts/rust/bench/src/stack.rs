@@ -14,7 +14,7 @@ pub fn used(mut call: impl FnMut()) -> Option<usize> {
     Some(stack.iter().position(|&byte| byte != PAINT).map_or(0, |lowest| SIZE - lowest))
 }
 
-#[cfg(target_arch = "x86_64")]
+#[cfg(any(target_arch = "x86_64", target_arch = "aarch64"))]
 mod switch {
     use std::arch::asm;
 
@@ -32,6 +32,7 @@ mod switch {
         let entry: extern "C" fn(*mut F) = enter::<F>;
         // The calling convention asks for a multiple of 16.
         let top = (stack.as_mut_ptr_range().end as usize) & !15;
+        #[cfg(target_arch = "x86_64")]
         asm!(
             "mov r12, rsp",
             "mov rsp, {top}",
@@ -43,11 +44,23 @@ mod switch {
             out("r12") _,
             clobber_abi("C"),
         );
+        #[cfg(target_arch = "aarch64")]
+        asm!(
+            "mov x20, sp",
+            "mov sp, {top}",
+            "blr {entry}",
+            "mov sp, x20",
+            top = in(reg) top,
+            entry = in(reg) entry,
+            in("x0") call,
+            out("x20") _,
+            clobber_abi("C"),
+        );
         Some(())
     }
 }
 
-#[cfg(not(target_arch = "x86_64"))]
+#[cfg(not(any(target_arch = "x86_64", target_arch = "aarch64")))]
 mod switch {
     /// Nothing is run.
     pub unsafe fn run<F: FnMut()>(_stack: &mut [u8], _call: &mut F) -> Option<()> {
@@ -55,14 +68,14 @@ mod switch {
     }
 }
 
-#[cfg(all(test, target_arch = "x86_64"))]
+#[cfg(all(test, any(target_arch = "x86_64", target_arch = "aarch64")))]
 mod tests {
     use std::hint::black_box;
 
     #[test]
     fn a_large_array_is_seen() {
-        let empty = super::used(|| ()).expect("x86-64");
-        let large = super::used(|| assert!(black_box([1u8; 20_000]).len() > 1)).expect("x86-64");
+        let empty = super::used(|| ()).expect("a switch");
+        let large = super::used(|| assert!(black_box([1u8; 20_000]).len() > 1)).expect("a switch");
         assert!(empty < 1_000, "{empty}");
         assert!((20_000..70_000).contains(&large), "{large}");
     }

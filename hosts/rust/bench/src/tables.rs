@@ -14,6 +14,10 @@ const BAR: f64 = 2.0;
 const ARRANGE_BAR: f64 = 1.5;
 const FRAGMENTS_BAR: f64 = 1.3;
 
+/// A jump to the middle of a text may cost so much of a check of all of it, and has to do with less stack than this.
+const FIND_BAR: f64 = 0.25;
+const FIND_STACK_BAR: usize = 2_048;
+
 /// Each call against the check and the reference.
 pub fn calls(times: &[Times]) -> String {
     let mut rows = Vec::new();
@@ -74,20 +78,24 @@ pub fn bars(times: &[Times]) -> String {
         let fragments = ratio(entry.library(Call::Fragments), order);
         let plain = entry.plain_frame.0;
         let frame = ratio(entry.library(Call::Frame), Some(plain));
-        let order = ratio(order, entry.library(Call::Check));
-        vec![label(entry), order, arrange, fragments, number(plain / entry.lines as f64), frame]
+        let [order, find] = [order, entry.library(Call::Find)].map(|time| ratio(time, entry.library(Call::Check)));
+        vec![label(entry), order, arrange, fragments, find, number(plain / entry.lines as f64), frame]
     };
     let order = format!("order / check (at most {BAR})");
     let arrange = format!("arrange / order (at most {ARRANGE_BAR})");
     let fragments = format!("fragments / order (at most {FRAGMENTS_BAR})");
+    let find = format!("find / check (at most {FIND_BAR})");
     let frame = format!("frame / plain loop (at most {BAR})");
-    let head = ["Entry", &order, &arrange, &fragments, "plain loop, ns a line", &frame];
+    let head = ["Entry", &order, &arrange, &fragments, &find, "plain loop, ns a line", &frame];
     table(&head, &times.iter().map(row).collect::<Vec<_>>())
 }
 
 /// The stack of each call, entry by entry.
 pub fn stacks(stacks: &[Stacks]) -> String {
-    let names = Call::ALL.map(Call::name);
+    let names = Call::ALL.map(|call| match call {
+        Call::Find => format!("{} (below {})", call.name(), grouped(FIND_STACK_BAR)),
+        _ => call.name(),
+    });
     let head: Vec<&str> = ["Stack, bytes"].into_iter().chain(names.iter().map(String::as_str)).collect();
     let bytes = |used: Option<usize>| used.map_or("-".into(), grouped);
     let row = |entry: &Stacks| [entry.name.clone()].into_iter().chain(entry.used.map(bytes)).collect();

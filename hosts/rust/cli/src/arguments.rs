@@ -4,7 +4,9 @@ use std::ffi::{OsStr, OsString};
 use std::path::PathBuf;
 
 use crate::aside::Aside;
+use crate::find;
 use crate::problem::Problem;
+use crate::words::path_name;
 
 /// What is to be done.
 #[derive(Debug)]
@@ -13,6 +15,8 @@ pub enum Command {
     Help(&'static str),
     /// Check files and folders.
     Check { files: Vec<PathBuf>, report: bool },
+    /// Show the lines of some atoms.
+    Find { file: PathBuf, serials: Vec<u32> },
     /// List the fragments of an entry.
     Fragments { file: PathBuf, aside: Aside },
     /// Save an entry without some fragments.
@@ -22,10 +26,11 @@ pub enum Command {
 }
 
 const HELP: &str = "\
-The station checks, lists, saves and draws PDB coordinate entries.
+The station checks, lists, saves and draws PDB coordinate entries, and finds atoms in them.
 
 usage:
   station check FILE.. [--report]
+  station find FILE SERIAL..
   station fragments FILE [--aside LIST]
   station save FILE [--aside LIST] --out FILE [--tray FILE] [--force]
   station draw FILE --svg FILE [--aside LIST] [--force]
@@ -36,11 +41,12 @@ A FILE that is read may be - for standard input, one that is written - for stand
 examples:
   station check 1abc.pdb
   station check incoming/ archive/2024/
+  station find 1abc.pdb 1179
   station fragments 1abc.pdb
   station save 1abc.pdb --aside 2,5 --out bare.pdb --tray tray.pdb
   station draw 1abc.pdb --svg 1abc.svg
 
-Exit status: 0 granted and done, 1 refused, 2 could not be read or written, or not understood.
+Exit status: 0 granted and done, 1 refused or not found, 2 could not be read or written, or not understood.
 ";
 
 const CHECK_HELP: &str = "\
@@ -59,6 +65,21 @@ examples:
   zcat 1abc.pdb.gz | station check -
 
 Exit status: 0 all granted, 1 one or more refused, 2 one or more could not be read.
+";
+
+const FIND_HELP: &str = "\
+usage: station find FILE SERIAL..
+
+Shows the line of the atom with each SERIAL: its number, the line itself, and its fields by name. The file need not be an
+accepted entry: it is the first ATOM or HETATM line with the serial that reads by itself; lines that do not read are passed
+over.
+
+examples:
+  station find 1abc.pdb 1179
+  station find 1abc.pdb 1179 746 1184
+  zcat 1abc.pdb.gz | station find - 1179
+
+Exit status: 0 all found, 1 one or more stand on no line, 2 could not be read, or not understood.
 ";
 
 const FRAGMENTS_HELP: &str = "\
@@ -131,6 +152,7 @@ fn usage<T>(words: impl Into<String>) -> Result<T, Problem> {
 fn about(command: &OsStr) -> Option<(&'static str, &'static [&'static str])> {
     match command.to_str()? {
         "check" => Some((CHECK_HELP, &["--report"])),
+        "find" => Some((FIND_HELP, &[])),
         "fragments" => Some((FRAGMENTS_HELP, &["--aside"])),
         "save" => Some((SAVE_HELP, &["--aside", "--out", "--tray", "--force"])),
         "draw" => Some((DRAW_HELP, &["--aside", "--svg", "--force"])),
@@ -157,6 +179,10 @@ pub fn parse(mut arguments: impl Iterator<Item = OsString>) -> Result<Command, P
     match command.to_str() {
         Some("check") if given.files.is_empty() => usage("check needs one or more files, or - for standard input"),
         Some("check") => Ok(Command::Check { files: given.files, report: given.report }),
+        Some("find") => {
+            let (file, serials) = given.file_and_serials()?;
+            Ok(Command::Find { file, serials })
+        }
         Some("fragments") => {
             let (file, aside) = (given.one_file("fragments")?, given.aside()?);
             Ok(Command::Fragments { file, aside })
@@ -233,6 +259,16 @@ impl Given {
         match &self.files[..] {
             [file] => Ok(file.clone()),
             _ => usage(format!("{command} needs one file")),
+        }
+    }
+
+    fn file_and_serials(&self) -> Result<(PathBuf, Vec<u32>), Problem> {
+        match &self.files[..] {
+            [file, words @ ..] if !words.is_empty() => {
+                let serials = words.iter().map(|word| find::serial(&path_name(word))).collect::<Result<_, _>>();
+                Ok((file.clone(), serials.or_else(usage)?))
+            }
+            _ => usage("find needs a file and one or more serials"),
         }
     }
 

@@ -5,6 +5,7 @@ mod aside;
 mod check;
 mod counts;
 mod draw;
+mod find;
 mod fragments;
 mod input;
 mod output;
@@ -28,6 +29,7 @@ fn run() -> Result<Status, Problem> {
             Status::Done
         }
         Command::Check { files, report } => check::run(&files, report, &mut out)?,
+        Command::Find { file, serials } => find::run(&file, &serials, &mut out)?,
         Command::Fragments { file, aside } => fragments::run(&file, &aside, &mut out)?,
         Command::Save { file, aside, out: to, tray, force } => {
             save::run(&file, &aside, &to, tray.as_deref(), force, &mut out)?

@@ -12,7 +12,7 @@ use crate::words::path_name;
 pub enum Status {
     /// Granted and done.
     Done = 0,
-    /// Refused.
+    /// Refused, or not found.
     Refused = 1,
     /// Could not be read or written, or was not understood.
     Failed = 2,

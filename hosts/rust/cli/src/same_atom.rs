@@ -1,8 +1,8 @@
 //! Which line above has the same atom as one that is refused for it, in words.
 
-use station::pieces;
+use station::{piece, pieces};
 
-use crate::words::shown;
+use crate::words::{shown, trimmed};
 
 /// Where the six fields stand that two lines may not share: atom name, alternate location and residue name, then chain,
 /// residue number and insertion code.
@@ -19,7 +19,7 @@ fn label(piece: &[u8]) -> Option<(&[u8], &[u8])> {
 /// its own number is told already.
 pub fn above(text: &[u8], line: u64) -> Option<String> {
     let refused = usize::try_from(line.checked_sub(1)?).ok()?;
-    let label = pieces(text).nth(refused).and_then(label)?;
+    let label = piece(text, line).and_then(label)?;
     let (index, piece) = pieces(text).take(refused).enumerate().find(|(_, piece)| self::label(piece) == Some(label))?;
     Some(format!("line {} has the same atom, {}:\n  |{}|", index + 1, atom(label), shown(piece)))
 }
@@ -34,11 +34,6 @@ fn atom((names, place): (&[u8], &[u8])) -> String {
     } else {
         format!("{atom}, alternate location {alternate}")
     }
-}
-
-/// Some columns without the blanks at their sides.
-fn trimmed(columns: &[u8]) -> String {
-    shown(columns).trim().to_owned()
 }
 
 #[cfg(test)]

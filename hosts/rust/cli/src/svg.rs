@@ -4,6 +4,8 @@ use std::fmt::{self, Write};
 
 use station::{Dot, Frame, Slot, Stroke};
 
+use crate::words::angstroms;
+
 /// The room round the frame, in thousandths.
 const MARGIN: f64 = 2_000.0;
 
@@ -53,16 +55,6 @@ fn write_picture(svg: &mut String, title: &str, slots: &[Slot], strokes: &[Strok
         writeln!(svg, "<circle cx=\"{x}\" cy=\"{y}\" r=\"{radius}\" fill=\"{}\"/>", colour(slot.element))?;
     }
     writeln!(svg, "</g>\n</svg>")
-}
-
-/// Thousandths as a number of angstroms. Zero has no minus.
-fn angstroms(thousandths: f64) -> String {
-    let text = format!("{:.3}", thousandths / 1_000.0);
-    if text == "-0.000" {
-        "0.000".to_owned()
-    } else {
-        text
-    }
 }
 
 /// The usual colour of an element.

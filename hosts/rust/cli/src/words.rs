@@ -3,7 +3,7 @@
 use std::fmt::Write;
 use std::path::Path;
 
-use station::{pieces, Refusal, Verdict};
+use station::{piece, Refusal, Verdict};
 
 use crate::{counts, same_atom};
 
@@ -20,7 +20,8 @@ pub fn describe(name: &str, text: &[u8], verdict: &Verdict) -> String {
         );
     };
     let mut words = format!("{name}: line {}: {refusal}", verdict.line);
-    if let Some(piece) = refused_piece(text, verdict) {
+    // There is no such line if the text is over too soon.
+    if let Some(piece) = piece(text, verdict.line) {
         // Writing to a string does not fail.
         let _ = write!(words, "\n  |{}|", shown(piece));
     }
@@ -53,12 +54,6 @@ pub fn several(count: u64, thing: &str) -> String {
     }
 }
 
-/// The line that is refused; there is none if the text is over too soon.
-fn refused_piece<'t>(text: &'t [u8], verdict: &Verdict) -> Option<&'t [u8]> {
-    let index = usize::try_from(verdict.line.checked_sub(1)?).ok()?;
-    pieces(text).nth(index)
-}
-
 /// A line with its bytes made visible; its newline is left out.
 pub fn shown(piece: &[u8]) -> String {
     let columns = if piece.len() == 81 && piece[80] == b'\n' { &piece[..80] } else { piece };
@@ -75,6 +70,21 @@ pub fn shown(piece: &[u8]) -> String {
         }
     }
     shown
+}
+
+/// Some columns without the blanks at their sides.
+pub fn trimmed(columns: &[u8]) -> String {
+    shown(columns).trim().to_owned()
+}
+
+/// Thousandths as a number of angstroms. Zero has no minus.
+pub fn angstroms(thousandths: f64) -> String {
+    let text = format!("{:.3}", thousandths / 1_000.0);
+    if text == "-0.000" {
+        "0.000".to_owned()
+    } else {
+        text
+    }
 }
 
 /// Beginnings of files that are no PDB entries at all, and what they are.
@@ -96,7 +106,7 @@ fn cause(text: &[u8], verdict: &Verdict, refusal: Refusal) -> Option<String> {
     if let Some((_, words)) = FOREIGN.iter().find(|(start, _)| text.starts_with(start)) {
         return Some((*words).to_owned());
     }
-    let piece = refused_piece(text, verdict)?;
+    let piece = piece(text, verdict.line)?;
     match refusal {
         Refusal::LENGTH | Refusal::NEWLINE | Refusal::BYTE => form(text, verdict, piece),
         Refusal::NAME => piece.get(..6).map(unknown_name),

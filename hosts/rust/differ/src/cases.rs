@@ -8,6 +8,7 @@ use crate::entry::{entry, large_entry, named, text, typed_line, COORDINATES};
 use crate::fence;
 use crate::findings::Findings;
 use crate::harness::Harness;
+use crate::jumping::some_jumps;
 use crate::lent::Sides;
 use crate::slots::to_reference;
 use crate::twinning;
@@ -91,6 +92,7 @@ fn a_text(harness: &mut Harness, chance: &mut Chance) {
         let room = any_room(chance, coordinates);
         harness.fragments(&bytes, &table, room);
     }
+    some_jumps(harness, chance, &bytes);
 }
 
 /// A text with many atoms, mostly with one of them twice, and far apart.
@@ -105,6 +107,7 @@ fn a_large_text(harness: &mut Harness, chance: &mut Chance) {
     let mut table = vec![any_slot(chance); lines.len()];
     harness.load(&bytes, &mut table);
     harness.save(&bytes, &table, bytes.len());
+    some_jumps(harness, chance, &bytes);
 }
 
 /// An accepted entry and its table: orders, arrangements, damage, saving, drawing.
@@ -148,6 +151,7 @@ fn a_table(harness: &mut Harness, chance: &mut Chance) {
     if chance.once_in(3) {
         harness.frame(&table);
     }
+    some_jumps(harness, chance, &bytes);
 }
 
 /// An order and an arrangement, on a table that may be damaged or too short.
@@ -250,6 +254,7 @@ fn noise(harness: &mut Harness, chance: &mut Chance) {
     harness.fragments(&bytes, &table, length);
     harness.save(&bytes, &table, length);
     harness.tray(&bytes, &table, length);
+    some_jumps(harness, chance, &bytes);
 }
 
 /// A slot of any content; often an atom that is in.

@@ -8,6 +8,9 @@ use crate::twinning::nearly;
 /// A line of 80 columns.
 pub type Columns = [u8; 80];
 
+/// The bytes of a line with its newline.
+pub const PIECE: usize = 81;
+
 /// The names of lines.
 #[rustfmt::skip]
 pub const NAMES: [&str; 27] = [

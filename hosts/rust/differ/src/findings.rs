@@ -3,7 +3,7 @@
 use std::collections::BTreeMap;
 
 use crate::names::Form;
-use crate::twins::Kind;
+use crate::{jumps, twins};
 
 /// Which call was made.
 #[derive(Clone, Copy, Debug, PartialEq, Eq, PartialOrd, Ord)]
@@ -18,6 +18,7 @@ pub enum Call {
     Tray,
     SlotOfLine,
     RewriteLine,
+    Find,
     Dot,
     Stroke,
     Frame,
@@ -26,7 +27,7 @@ pub enum Call {
 
 impl Call {
     /// All calls.
-    pub const ALL: [Call; 13] = [
+    pub const ALL: [Call; 14] = [
         Call::Check,
         Call::Load,
         Call::Order,
@@ -36,6 +37,7 @@ impl Call {
         Call::Tray,
         Call::SlotOfLine,
         Call::RewriteLine,
+        Call::Find,
         Call::Dot,
         Call::Stroke,
         Call::Frame,
@@ -45,8 +47,8 @@ impl Call {
     /// The calls in which every form of an atom's name has to be met.
     pub const NAMED: [Call; 2] = [Call::Check, Call::SlotOfLine];
 
-    /// The numbers that the call can answer.
-    pub fn numbers(self) -> &'static [u32] {
+    /// The numbers that the call can answer. A jump can answer any line: 1 stands for them all.
+    pub fn numbers(self) -> &'static [u64] {
         match self {
             Call::Check => &[0, 1, 2, 3, 4, 5, 6, 7, 8, 9, 10, 11, 12, 21],
             Call::Load => &[0, 1, 2, 3, 4, 5, 6, 7, 8, 9, 10, 11, 12, 13, 21],
@@ -55,9 +57,18 @@ impl Call {
             Call::Fragments | Call::Save | Call::Tray => &[0, 1, 2, 3, 4, 5, 6, 7, 8, 9, 10, 11, 12, 13, 17, 18, 21],
             Call::SlotOfLine => &[0, 1, 3, 4, 6],
             Call::RewriteLine => &[0, 1, 3, 4, 6, 17],
-            Call::Dot | Call::Stroke => &[0, 1],
+            Call::Find | Call::Dot | Call::Stroke => &[0, 1],
             Call::Frame => &[0, 19],
             Call::CountLine => &[0, 4, 14],
+        }
+    }
+
+    /// The one of these numbers that an answer is counted as.
+    fn counted(self, answer: u64) -> u64 {
+        if self == Call::Find {
+            answer.min(1)
+        } else {
+            answer
         }
     }
 }
@@ -72,39 +83,46 @@ pub struct Findings {
     /// The first of them, in words.
     pub shown: Vec<String>,
     /// How often a call answered a number.
-    pub reached: BTreeMap<(Call, u32), u64>,
+    pub reached: Met<(Call, u64)>,
     /// How often a call met a form of an atom's name: a right one in what was granted, a wrong one that alone was the cause of
     /// a refusal.
-    pub forms: BTreeMap<(Call, Form), u64>,
+    pub forms: Met<(Call, Form)>,
     /// How often a check met a kind of pairs of atoms.
-    pub twins: BTreeMap<Kind, u64>,
+    pub twins: Met<twins::Kind>,
+    /// How often a jump was of a kind.
+    pub jumps: Met<jumps::Kind>,
+}
+
+/// How often each of some things was met.
+pub type Met<K> = BTreeMap<K, u64>;
+
+/// Those that were never met, each in words.
+fn unmet<K: Ord>(all: impl IntoIterator<Item = K>, met: &Met<K>, words: impl Fn(K) -> String) -> Vec<String> {
+    all.into_iter().filter(|one| !met.contains_key(one)).map(words).collect()
 }
 
 /// Differences that are kept in words.
 const SHOWN: usize = 20;
 
 impl Findings {
-    /// The numbers that a call can answer and never did.
-    pub fn unreached(&self) -> Vec<(Call, u32)> {
-        let possible = Call::ALL.iter().flat_map(|call| call.numbers().iter().map(|number| (*call, *number)));
-        possible.filter(|answer| !self.reached.contains_key(answer)).collect()
-    }
-
-    /// The forms of an atom's name that a call never met.
-    pub fn unmet(&self) -> Vec<(Call, Form)> {
-        let possible = Call::NAMED.iter().flat_map(|call| Form::ALL.map(|form| (*call, form)));
-        possible.filter(|met| !self.forms.contains_key(met)).collect()
-    }
-
-    /// The kinds of pairs of atoms that no check met.
-    pub fn unmet_twins(&self) -> Vec<Kind> {
-        Kind::ALL.into_iter().filter(|kind| !self.twins.contains_key(kind)).collect()
+    /// What a run has to come across and this one never did, in words: a number that a call can answer, a form of an atom's
+    /// name, a kind of pairs of atoms, a kind of jumps.
+    pub fn missing(&self) -> Vec<String> {
+        let numbers = Call::ALL.into_iter().flat_map(|call| call.numbers().iter().map(move |&number| (call, number)));
+        let forms = Call::NAMED.into_iter().flat_map(|call| Form::ALL.map(|form| (call, form)));
+        [
+            unmet(numbers, &self.reached, |(call, number)| format!("{call:?} never answered {number}")),
+            unmet(forms, &self.forms, |(call, form)| format!("{call:?} never met a name {form:?}")),
+            unmet(twins::Kind::ALL, &self.twins, |kind| format!("Check never met a pair of atoms {kind:?}")),
+            unmet(jumps::Kind::ALL, &self.jumps, |kind| format!("Find never met a jump {kind:?}")),
+        ]
+        .concat()
     }
 
     /// Takes down one call of a case: the number that is due, the number that came, and where memory is wrong.
-    pub fn note(&mut self, case: u64, call: Call, due: u32, came: u32, memory: &[(&str, Option<isize>)]) {
+    pub fn note(&mut self, case: u64, call: Call, due: u64, came: u64, memory: &[(&str, Option<isize>)]) {
         self.calls += 1;
-        *self.reached.entry((call, due)).or_insert(0) += 1;
+        *self.reached.entry((call, call.counted(due))).or_insert(0) += 1;
         let wrong: Vec<String> =
             memory.iter().filter_map(|(name, wrong)| wrong.map(|at| format!("{name} wrong from {at} on"))).collect();
         if due == came && wrong.is_empty() {
@@ -115,5 +133,27 @@ impl Findings {
             let words = format!("case {case}, {call:?}: reference {due}, library {came}; {}", wrong.join(", "));
             self.shown.push(words.trim_end_matches("; ").to_owned());
         }
+    }
+}
+
+#[cfg(test)]
+mod tests {
+    use super::*;
+
+    #[test]
+    fn what_was_met_is_not_missing() {
+        let mut findings = Findings::default();
+        let all = findings.missing();
+        for words in
+            ["Load never answered 13", "SlotOfLine never met a name Gap", "Check never met a pair of atoms Far"]
+        {
+            assert!(all.iter().any(|missing| missing == words), "{words}");
+        }
+        findings.jumps.insert(jumps::Kind::Again, 1);
+        findings.note(0, Call::Find, 77, 77, &[]);
+        let missing = findings.missing();
+        let met: Vec<&String> = all.iter().filter(|words| !missing.contains(words)).collect();
+        assert_eq!(met, ["Find never answered 1", "Find never met a jump Again"]);
+        assert_eq!((findings.differences, missing.len()), (0, all.len() - 2));
     }
 }

@@ -1,9 +1,10 @@
 //! One call through the C names and through the reference, and all that may differ.
 
-use reference::{FragmentNumber, Mark, Refusal};
+use reference::{FragmentNumber, Mark, Refusal, Serial};
 use station::raw::{Library, Slot, Tally};
 
 use crate::findings::{Call, Findings};
+use crate::jumps;
 use crate::lent::{Lent, Sides};
 use crate::names::{put_name, Form};
 use crate::slots::{to_library, to_reference};
@@ -25,6 +26,14 @@ pub struct Harness {
 
 fn number<T>(answer: &Result<T, Refusal>) -> u32 {
     answer.as_ref().map_or_else(|refusal| refusal.number(), |_| 0)
+}
+
+/// Makes a table, and what it has to be where it was lent, the reference's own.
+fn settle(table: &mut [Slot], own: &[reference::Slot], lent: &mut Lent<Slot>) {
+    for (slot, own) in table.iter_mut().zip(own) {
+        *slot = to_library(own);
+    }
+    lent.due().copy_from_slice(table);
 }
 
 /// Whether a line is refused for the name of its atom alone: with another name it reads.
@@ -71,8 +80,8 @@ impl Harness {
     }
 
     /// Takes down one call: the number that is due, the number that came, and where memory is wrong.
-    fn note(&mut self, call: Call, due: u32, came: u32, memory: &[(&str, Option<isize>)]) {
-        self.findings.note(self.case, call, due, came, memory);
+    fn note(&mut self, call: Call, due: impl Into<u64>, came: impl Into<u64>, memory: &[(&str, Option<isize>)]) {
+        self.findings.note(self.case, call, due.into(), came.into(), memory);
     }
 
     /// Takes down the form of the atom's name in a line that was granted, or refused with 6.
@@ -133,10 +142,7 @@ impl Harness {
         let came = unsafe { (self.library.load)(lent.start(), lent.len(), slots.start_mut(), room, count.start_mut()) };
         let mut own: Vec<reference::Slot> = table.iter().map(to_reference).collect();
         let answer = reference::load(text, &mut own);
-        for (slot, own) in table.iter_mut().zip(&own) {
-            *slot = to_library(own);
-        }
-        slots.due().copy_from_slice(table);
+        settle(table, &own, &mut slots);
         count.due()[0] = answer.map_or(0, |filled| filled as u64);
         let memory = [("text", lent.first_wrong()), ("table", slots.first_wrong()), ("count", count.first_wrong())];
         self.note(Call::Load, number(&answer), came, &memory);
@@ -152,10 +158,7 @@ impl Harness {
         let came = unsafe { (self.library.order)(lent.start(), lent.len(), slots.start_mut(), room, fragment, aside) };
         let mut own: Vec<reference::Slot> = table.iter().map(to_reference).collect();
         let answer = reference::order(text, &mut own, FragmentNumber(fragment), Mark::asked(aside));
-        for (slot, own) in table.iter_mut().zip(&own) {
-            *slot = to_library(own);
-        }
-        slots.due().copy_from_slice(table);
+        settle(table, &own, &mut slots);
         let memory = [("text", lent.first_wrong()), ("table", slots.first_wrong())];
         self.note(Call::Order, number(&answer), came, &memory);
         number(&answer)
@@ -174,10 +177,7 @@ impl Harness {
         let mut own: Vec<reference::Slot> = table.iter().map(to_reference).collect();
         let marks: Vec<Mark> = aside.iter().copied().map(Mark::asked).collect();
         let answer = reference::arrange(text, &mut own, &marks);
-        for (slot, own) in table.iter_mut().zip(&own) {
-            *slot = to_library(own);
-        }
-        slots.due().copy_from_slice(table);
+        settle(table, &own, &mut slots);
         if answer.is_ok() {
             for (&byte, fragment) in aside.iter().zip(1..) {
                 // A fragment that is already there is refused, and its slots stay as they are.
@@ -293,6 +293,21 @@ impl Harness {
             &[("line", lent.first_wrong()), ("output", out.first_wrong())],
         );
         number(&answer)
+    }
+
+    /// Jumps to the atom with a serial.
+    pub fn find(&mut self, text: &[u8], serial: u32) {
+        let lent = self.lend_text(text);
+        let mut looked = self.lend_count();
+        // SAFETY: all that is lent is as long as said.
+        let came = unsafe { (self.library.find)(lent.start(), lent.len(), serial, looked.start_mut()) };
+        let jump = reference::find(text, Serial(serial));
+        looked.due()[0] = jump.looked;
+        let memory = [("text", lent.first_wrong()), ("looked", looked.first_wrong())];
+        self.note(Call::Find, jump.line, came, &memory);
+        for kind in jumps::met(text, serial, jump.line) {
+            *self.findings.jumps.entry(kind).or_insert(0) += 1;
+        }
     }
 
     /// The dot of a slot.

@@ -1,8 +1,9 @@
 //! Holds the proved library against the reference, call by call, through the C names.
 //!
 //! A case is made up by a seeded source of chance: an entry that obeys the rules, damaged or not; a table, ordered about
-//! or damaged; a single line; a tally; slots to draw. Each call is made on both sides with the same input. Compared are
-//! the number, the counts and all memory lent to the call, with guards at its sides or fences that may not be touched.
+//! or damaged; a single line; a tally; slots to draw. Texts are jumped in. Each call is made on both sides with the same input.
+//! Compared are the number, the counts and all memory lent to the call, with guards at its sides or fences that may not be
+//! touched.
 
 #![warn(missing_docs)]
 
@@ -14,6 +15,8 @@ pub mod entry;
 pub mod fence;
 mod findings;
 pub mod harness;
+mod jumping;
+pub mod jumps;
 pub mod lent;
 pub mod names;
 pub mod slots;
@@ -22,5 +25,5 @@ mod twinning;
 pub mod twins;
 
 pub use cases::{run, run_fenced};
-pub use findings::{Call, Findings};
+pub use findings::{Call, Findings, Met};
 pub use sweep::sweep;

@@ -1,11 +1,11 @@
 //! The differential test: `differ --cases 200000 --seed 1`.
 
+use std::fmt::Debug;
 use std::process::ExitCode;
 use std::time::Instant;
 
 use differ::names::Form;
-use differ::twins::Kind;
-use differ::{Call, Findings};
+use differ::{jumps, twins, Call, Findings, Met};
 use station::raw::LINKED;
 
 const HELP: &str = "\
@@ -18,10 +18,10 @@ usage: differ [--cases N] [--seed S] [--only CASE]
   --only CASE  this one case of the seed, by its number
 
 The cases are followed by a sweep: every byte in every column of a line of each kind, every element, atoms' names over a few
-bytes, two atoms that differ in one column, every narrow number, every length, every name.
+bytes, two atoms that differ in one column, every narrow number, every length, every name, jumps to every serial.
 
-Exit status: 0 no difference, 1 a difference, or a number of refusal, a form of an atom's name or a kind of pairs of atoms that
-was not reached, 2 wrong arguments, 3 the library touched memory that was not lent to it.
+Exit status: 0 no difference, 1 a difference, or a number of refusal, a form of an atom's name, a kind of pairs of atoms or a
+kind of jumps that was not reached, 2 wrong arguments, 3 the library touched memory that was not lent to it.
 Runs of fewer than 5000 cases do not ask that every number, form and kind be reached.
 ";
 
@@ -54,19 +54,23 @@ fn options() -> Result<Option<Options>, String> {
     Ok(Some(options))
 }
 
+/// How often each of these was met.
+fn counts<T: Debug, K: Ord>(all: &[T], met: &Met<K>, key: impl Fn(&T) -> K) -> String {
+    let count = |one: &T| format!("{one:?}:{}", met.get(&key(one)).unwrap_or(&0));
+    all.iter().map(count).collect::<Vec<_>>().join(" ")
+}
+
 fn print(findings: &Findings) {
     for call in Call::ALL {
-        let reached = |number: &u32| format!("{number}:{}", findings.reached.get(&(call, *number)).unwrap_or(&0));
-        let numbers: Vec<String> = call.numbers().iter().map(reached).collect();
-        println!("{:12} {}", format!("{call:?}"), numbers.join(" "));
+        let numbers = counts(call.numbers(), &findings.reached, |number| (call, *number));
+        println!("{:12} {numbers}", format!("{call:?}"));
     }
     for call in Call::NAMED {
-        let met = |form: &Form| format!("{form:?}:{}", findings.forms.get(&(call, *form)).unwrap_or(&0));
-        let forms: Vec<String> = Form::ALL.iter().map(met).collect();
-        println!("{:12} names {}", format!("{call:?}"), forms.join(" "));
+        let forms = counts(&Form::ALL, &findings.forms, |form| (call, *form));
+        println!("{:12} names {forms}", format!("{call:?}"));
     }
-    let met = |kind: &Kind| format!("{kind:?}:{}", findings.twins.get(kind).unwrap_or(&0));
-    println!("{:12} pairs {}", "Check", Kind::ALL.iter().map(met).collect::<Vec<_>>().join(" "));
+    println!("{:12} pairs {}", "Check", counts(&twins::Kind::ALL, &findings.twins, |kind| *kind));
+    println!("{:12} jumps {}", "Find", counts(&jumps::Kind::ALL, &findings.jumps, |kind| *kind));
     for difference in &findings.shown {
         println!("{difference}");
     }
@@ -95,24 +99,15 @@ fn main() -> ExitCode {
     for difference in &swept.shown {
         println!("sweep: {difference}");
     }
-    let (unreached, unmet, unmet_twins) = (findings.unreached(), findings.unmet(), findings.unmet_twins());
-    let asked = count >= ENOUGH;
-    if asked {
-        for (call, number) in &unreached {
-            println!("{call:?} never answered {number}");
-        }
-        for (call, form) in &unmet {
-            println!("{call:?} never met a name {form:?}");
-        }
-        for kind in &unmet_twins {
-            println!("Check never met a pair of atoms {kind:?}");
-        }
+    let missing = if count >= ENOUGH { findings.missing() } else { Vec::new() };
+    for words in &missing {
+        println!("{words}");
     }
     let differences = findings.differences + swept.differences;
     println!("{} calls in {seconds:.1} s, {:.0} cases/s", findings.calls, count as f64 / seconds);
     println!("{} calls of the sweep, {} differences", swept.calls, swept.differences);
     println!("{count} cases, {differences} differences");
-    if differences > 0 || (asked && !(unreached.is_empty() && unmet.is_empty() && unmet_twins.is_empty())) {
+    if differences > 0 || !missing.is_empty() {
         ExitCode::FAILURE
     } else {
         ExitCode::SUCCESS

@@ -1,12 +1,13 @@
 //! What is few enough to be tried out in full: every byte in every column of a line of each kind, every element, every name
 //! of an atom over a few bytes, two atoms that differ in one column, every number of the narrow fields, every length, every
-//! name of a line.
+//! name of a line, jumps in lines with every byte in every column and to every serial.
 
 use station::raw::{Library, Slot, Tally};
 
-use crate::entry::{line, master, put, put_number, text, Columns, NAMES};
+use crate::entry::{line, master, put, put_number, text, Columns, NAMES, PIECE};
 use crate::findings::Findings;
 use crate::harness::Harness;
+use crate::jumps::serial_of;
 use crate::names::put_name;
 
 /// Good lines of the typed kinds.
@@ -49,6 +50,7 @@ pub fn sweep(library: Library) -> Findings {
     twins(&mut harness);
     numbers(&mut harness);
     names(&mut harness);
+    jumps(&mut harness);
     harness.findings
 }
 
@@ -163,6 +165,30 @@ fn names(harness: &mut Harness) {
             harness.count_line(&mut Tally::default(), &name.as_bytes()[..length]);
         }
         harness.check(&[line(name).as_slice(), b"\n"].concat());
+    }
+}
+
+/// Jumps to the serial of each line, with every byte in every column and at its end; in every length of three lines; and to
+/// every serial.
+fn jumps(harness: &mut Harness) {
+    for base in LINES.map(line) {
+        let serial = serial_of(&base).unwrap_or(1);
+        for at in 0..PIECE {
+            for byte in 0..=255 {
+                let mut bytes = text(&[base]);
+                bytes[at] = byte;
+                harness.find(&bytes, serial);
+            }
+        }
+        for length in 0..=3 * PIECE {
+            harness.find(&text(&[base; 3])[..length], serial);
+            harness.find(&text(&[base; 3])[..length], 0);
+        }
+    }
+    for serial in 0..=100_001 {
+        let mut line = line(LINES[0]);
+        put_number(&mut line, 7, 11, i64::from(serial));
+        harness.find(&text(&[line]), serial);
     }
 }
 

@@ -9,9 +9,7 @@ use station::raw::LINKED;
 fn no_difference_and_every_number_reached() {
     let findings = differ::run_fenced(LINKED, 7, 0..8_000);
     assert_eq!(findings.differences, 0, "{:#?}", findings.shown);
-    assert_eq!(findings.unreached(), []);
-    assert_eq!(findings.unmet(), []);
-    assert_eq!(findings.unmet_twins(), []);
+    assert_eq!(findings.missing(), Vec::<String>::new());
 }
 
 #[test]

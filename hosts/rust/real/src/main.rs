@@ -1,7 +1,8 @@
 //! The real entries of `hosts/rust/entries`, through the library and through the reference.
 //!
 //! Each has to be answered as `entries.txt` says, on both sides. An accepted one is loaded, some of its fragments are set
-//! aside, it is saved, and they are put back. Then each entry is damaged a few times: both sides have to answer alike.
+//! aside, it is saved, and they are put back. Some of the atoms of each are jumped to. Then each entry is damaged a few times:
+//! both sides have to answer alike.
 
 mod entries;
 mod trial;

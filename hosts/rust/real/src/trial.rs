@@ -5,9 +5,10 @@ use std::fmt::Display;
 
 use differ::chance::Chance;
 use differ::entry::{named, ATOMS, COORDINATES};
+use differ::jumps::serial_of;
 use differ::slots::to_reference;
-use reference::{Mark, Slot};
-use station::{pieces, Entry, FragmentNumber, Line, Refusal, Table};
+use reference::{Mark, Serial, Slot};
+use station::{pieces, Entry, FragmentNumber, Jump, Line, Refusal, Table};
 
 use crate::entries::Listed;
 
@@ -54,6 +55,12 @@ fn by_number<T>(result: Result<T, Refusal>) -> Result<T, u32> {
 
 fn own_by_number<T>(result: Result<T, reference::Refusal>) -> Result<T, u32> {
     result.map_err(reference::Refusal::number)
+}
+
+/// The lines of a text that have the name of an atom, from 1, each with its serial.
+fn atoms(text: &[u8]) -> Vec<(u64, u32)> {
+    let lines = pieces(text).zip(1..).filter(|(piece, _)| named(piece, ATOMS));
+    lines.filter_map(|(piece, line)| Some((line, serial_of(piece)?))).collect()
 }
 
 /// Save or tray of the reference.
@@ -155,6 +162,7 @@ impl<'e> Trial<'e> {
             self.fragments();
             self.twins();
         }
+        self.jumps();
         self.damage();
     }
 
@@ -343,10 +351,39 @@ impl<'e> Trial<'e> {
         }
     }
 
+    /// A jump, equal on both sides.
+    fn jump(&mut self, text: &[u8], serial: u32) -> Option<u64> {
+        let library = Jump::to(text, serial);
+        let own = reference::find(text, Serial(serial));
+        let alike = (library.line.unwrap_or(0), library.looked) == (own.line, own.looked);
+        self.hold(format_args!("jump to {serial}: library {library:?}, reference {own:?}"), alike);
+        library.line
+    }
+
+    /// The first atom, one in the middle and the last are where they stand, in an accepted entry; serials that no atom has
+    /// are nowhere.
+    fn jumps(&mut self) {
+        let atoms = atoms(self.text);
+        for at in [0, atoms.len() / 2, atoms.len().saturating_sub(1)] {
+            let Some(&(line, serial)) = atoms.get(at) else { continue };
+            let found = self.jump(self.text, serial);
+            let right = self.listed.accepted.is_none() || found == Some(line);
+            self.hold(format_args!("jump to {serial}: {found:?}, and it stands in line {line}"), right);
+        }
+        let free = (1..).find(|serial| !atoms.iter().any(|(_, other)| other == serial)).unwrap_or_default();
+        for serial in [0, free, 100_000, u32::MAX] {
+            let found = self.jump(self.text, serial);
+            self.hold(format_args!("jump to {serial}: {found:?}, and no atom has it"), found.is_none());
+        }
+    }
+
     /// Damaged texts are answered alike.
     fn damage(&mut self) {
         for index in 0..DAMAGES {
             let text = damaged(&mut self.chance, self.text);
+            if let Some(&(_, serial)) = atoms(self.text).get(index) {
+                self.jump(&text, serial);
+            }
             let (library, reference) = (of_library(&text), of_reference(&text));
             self.hold(
                 format_args!("damage {index}: library {library:?}, reference {reference:?}"),

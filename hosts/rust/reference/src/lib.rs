@@ -6,8 +6,8 @@
 //!
 //! One module for each part of the rules: [`columns`] (fields), [`element`], [`mod@line`] (names and places),
 //! [`record`] (what a line says), [`reading`] and [`writing`] (one line by itself), [`mod@check`] (a whole text),
-//! [`table`] (slots, fragments, orders, arrangements), [`saved`] (saving and tray), [`tally`] and [`feed`] (dots,
-//! strokes, frame).
+//! [`table`] (slots, fragments, orders, arrangements), [`saved`] (saving and tray), [`jump`] (the line of an atom),
+//! [`tally`] and [`feed`] (dots, strokes, frame).
 
 #![forbid(unsafe_code)]
 #![warn(missing_docs)]
@@ -16,6 +16,7 @@ pub mod check;
 pub mod columns;
 pub mod element;
 pub mod feed;
+pub mod jump;
 pub mod line;
 pub mod reading;
 pub mod record;
@@ -29,6 +30,7 @@ pub mod writing;
 
 pub use check::{check, Verdict};
 pub use feed::{dot, frame, stroke, Frame};
+pub use jump::{find, Jump};
 pub use line::LineName;
 pub use reading::read_line;
 pub use record::Record;

@@ -3,7 +3,7 @@
 use std::fmt;
 
 use crate::raw::station_check;
-use crate::{Refusal, Table};
+use crate::{Jump, Refusal, Table};
 
 /// The bytes of a line with its newline.
 const PIECE: usize = 81;
@@ -155,9 +155,19 @@ impl<'t> Entry<'t> {
     pub fn load(&self) -> Result<Table<'t>, Refusal> {
         Table::load(self.text)
     }
+
+    /// The line of the atom with a serial.
+    pub fn find(&self, serial: u32) -> Jump {
+        Jump::to(self.text, serial)
+    }
 }
 
 /// The lines of a text as the check cuts it: 81 bytes each, but for a shorter last one.
 pub fn pieces(text: &[u8]) -> impl DoubleEndedIterator<Item = &[u8]> + ExactSizeIterator {
     text.chunks(PIECE)
+}
+
+/// One of these lines by its number, from 1.
+pub fn piece(text: &[u8], line: u64) -> Option<&[u8]> {
+    pieces(text).nth(usize::try_from(line.checked_sub(1)?).ok()?)
 }

@@ -1,8 +1,8 @@
 //! The proved library of the station, in Rust's own manners.
 //!
 //! [`Entry::check`] judges a text; [`Table`] holds the coordinates of an accepted one, sets fragments aside, puts them
-//! back, one by one or all at once, and saves; [`Line`] is one line by itself; [`Tally`] counts lines; [`Dot`], [`Stroke`] and [`Frame`] are what a
-//! renderer draws. Everything that can be refused is a [`Result`] with a [`Refusal`].
+//! back, one by one or all at once, and saves; [`Line`] is one line by itself; [`Jump`] finds the line of an atom; [`Tally`] counts lines;
+//! [`Dot`], [`Stroke`] and [`Frame`] are what a renderer draws. Everything that can be refused is a [`Result`] with a [`Refusal`].
 //!
 //! ```
 //! let verdict = station::Entry::check(b"no entry at all");
@@ -17,14 +17,16 @@
 mod entry;
 mod feed;
 mod fragment;
+mod jump;
 mod line;
 pub mod raw;
 mod refusal;
 mod table;
 
-pub use entry::{pieces, Counts, Entry, Report, Verdict};
+pub use entry::{piece, pieces, Counts, Entry, Report, Verdict};
 pub use feed::{Dot, Frame, Stroke};
 pub use fragment::{Fragment, Fragments};
+pub use jump::Jump;
 pub use line::Line;
 pub use raw::{Slot, Tally};
 pub use refusal::Refusal;

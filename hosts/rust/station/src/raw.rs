@@ -64,15 +64,15 @@ pub struct Tally {
 
 /// Declares the functions, and with them a struct that holds one function for each name.
 macro_rules! names {
-    ($($(#[$doc:meta])* fn $name:ident as $field:ident ($($argument:ident: $kind:ty),* $(,)?);)*) => {
+    ($($(#[$doc:meta])* fn $name:ident as $field:ident ($($argument:ident: $kind:ty),* $(,)?) -> $answer:ty;)*) => {
         extern "C" {
-            $($(#[$doc])* pub fn $name($($argument: $kind),*) -> u32;)*
+            $($(#[$doc])* pub fn $name($($argument: $kind),*) -> $answer;)*
         }
 
         /// A library that offers the C names: the linked one, or another that a test puts in its place.
         #[derive(Clone, Copy)]
         pub struct Library {
-            $($(#[$doc])* pub $field: unsafe extern "C" fn($($argument: $kind),*) -> u32,)*
+            $($(#[$doc])* pub $field: unsafe extern "C" fn($($argument: $kind),*) -> $answer,)*
         }
 
         /// The library that this program is linked with.
@@ -82,37 +82,41 @@ macro_rules! names {
 
 names! {
     /// Checks a text; `answer` has room for twelve numbers.
-    fn station_check as check(text: *const u8, n: usize, answer: *mut u64);
+    fn station_check as check(text: *const u8, n: usize, answer: *mut u64) -> u32;
     /// Loads a text into a table.
-    fn station_load as load(text: *const u8, n: usize, table: *mut Slot, slots: usize, count: *mut u64);
+    fn station_load as load(text: *const u8, n: usize, table: *mut Slot, slots: usize, count: *mut u64) -> u32;
     /// Sets a fragment aside, or puts it back.
-    fn station_order as order(text: *const u8, n: usize, table: *mut Slot, slots: usize, fragment: u32, aside: u8);
+    fn station_order as order(
+        text: *const u8, n: usize, table: *mut Slot, slots: usize, fragment: u32, aside: u8,
+    ) -> u32;
     /// Sets every fragment aside or puts it back, by a byte for each.
     fn station_arrange as arrange(
         text: *const u8, n: usize, table: *mut Slot, slots: usize, aside: *const u8, fragments: usize,
-    );
+    ) -> u32;
     /// Tells the number of its fragment for each slot.
     fn station_fragments as fragments(
         text: *const u8, n: usize, table: *const Slot, slots: usize, out: *mut u32, room: usize, count: *mut u64,
-    );
+    ) -> u32;
     /// Writes the entry without what was set aside.
     fn station_save as save(
         text: *const u8, n: usize, table: *const Slot, slots: usize, out: *mut u8, room: usize, count: *mut u64,
-    );
+    ) -> u32;
     /// Writes what saving leaves out.
     fn station_tray as tray(
         text: *const u8, n: usize, table: *const Slot, slots: usize, out: *mut u8, room: usize, count: *mut u64,
-    );
+    ) -> u32;
     /// Fills a slot from one line.
-    fn station_slot_of_line as slot_of_line(line: *const u8, n: usize, slot: *mut Slot);
+    fn station_slot_of_line as slot_of_line(line: *const u8, n: usize, slot: *mut Slot) -> u32;
     /// Reads one line and writes its record.
-    fn station_rewrite_line as rewrite_line(line: *const u8, n: usize, out: *mut u8, room: usize);
+    fn station_rewrite_line as rewrite_line(line: *const u8, n: usize, out: *mut u8, room: usize) -> u32;
+    /// Jumps to an atom by its serial: its line, 0 if there is none. Tells how many lines were looked at.
+    fn station_find as find(text: *const u8, n: usize, serial: u32, looked: *mut u64) -> u64;
     /// The dot of a slot; `out` has room for three doubles. 1 if there is one.
-    fn station_dot as dot(slot: *const Slot, out: *mut f64);
+    fn station_dot as dot(slot: *const Slot, out: *mut f64) -> u32;
     /// The stroke of two slots; `out` has room for six doubles. 1 if there is one.
-    fn station_stroke as stroke(a: *const Slot, b: *const Slot, out: *mut f64);
+    fn station_stroke as stroke(a: *const Slot, b: *const Slot, out: *mut f64) -> u32;
     /// The frame of some slots; `out` has room for nine doubles.
-    fn station_frame as frame(table: *const Slot, slots: usize, out: *mut f64);
+    fn station_frame as frame(table: *const Slot, slots: usize, out: *mut f64) -> u32;
     /// Counts one line.
-    fn station_count_line as count_line(tally: *mut Tally, line: *const u8, n: usize);
+    fn station_count_line as count_line(tally: *mut Tally, line: *const u8, n: usize) -> u32;
 }

@@ -2,7 +2,7 @@
 
 use std::collections::BTreeSet;
 
-use station::{Dot, Entry, FragmentNumber, Frame, Kind, Line, Mark, Refusal, Slot, Stroke, Table, Tally};
+use station::{Dot, Entry, FragmentNumber, Frame, Jump, Kind, Line, Mark, Refusal, Slot, Stroke, Table, Tally};
 
 fn line(text: &str) -> String {
     format!("{text:80}\n")
@@ -142,6 +142,37 @@ fn lines_by_themselves() -> Result<(), Refusal> {
     let mut tally = Tally { ter: 99_999, ..Tally::default() };
     assert_eq!(tally.count(b"TER   "), Err(Refusal::FULL));
     Ok(())
+}
+
+#[test]
+fn jumps() -> Result<(), Refusal> {
+    let text = entry();
+    let entry = Entry::accept(text.as_bytes()).map_err(|verdict| verdict.refusal.expect("a refusal"))?;
+    for (serial, line) in [(1, 2), (3, 4), (5, 6), (9, 8)] {
+        let jump = entry.find(serial);
+        assert_eq!(jump, Jump { line: Some(line), looked: line });
+        let piece = jump.piece(text.as_bytes()).expect("the line");
+        assert_eq!(Line::slot_of(&piece[..80])?.serial, serial);
+    }
+    let none = Jump { line: None, looked: 11 };
+    for serial in [0, 4, 7, 99_999, 100_001, u32::MAX] {
+        assert_eq!(entry.find(serial), none);
+    }
+    assert_eq!(none.piece(text.as_bytes()), None);
+    assert_eq!(Jump::to(b"", 1), Jump { line: None, looked: 0 });
+    Ok(())
+}
+
+/// A refused text has atoms all the same.
+#[test]
+fn jumps_in_a_refused_text() {
+    let twice = entry().repeat(2);
+    let wrong = twice.replacen("  1.00  0.00", "  1.01  0.00", 2);
+    assert_eq!(Entry::check(wrong.as_bytes()).line, 2);
+    assert_eq!(Jump::to(wrong.as_bytes(), 2).line, Some(14));
+    assert_eq!(Jump::to(wrong.as_bytes(), 3).line, Some(4));
+    assert_eq!(Jump::to(wrong.replacen('\n', " ", 4).as_bytes(), 3), Jump { line: Some(15), looked: 15 });
+    assert_eq!(Jump::to(&wrong.as_bytes()[..4 * 81 - 1], 3), Jump { line: None, looked: 3 });
 }
 
 #[test]

@@ -2,6 +2,7 @@
 
 mod check;
 mod draw;
+mod find;
 mod folder;
 mod manners;
 mod save;

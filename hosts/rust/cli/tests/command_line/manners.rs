@@ -9,9 +9,14 @@ use crate::texts::{arginine, three};
 #[test]
 fn help_and_wrong_arguments() {
     let folder = Folder::new("help");
-    for command in
-        [&["--help"][..], &["check", "--help"], &["fragments", "-h"], &["save", "--help"], &["draw", "--help"]]
-    {
+    for command in [
+        &["--help"][..],
+        &["check", "--help"],
+        &["find", "-h"],
+        &["fragments", "-h"],
+        &["save", "--help"],
+        &["draw", "--help"],
+    ] {
         let answer = folder.station(command);
         answer.is(0, "example");
         assert_eq!(answer.err, "");
@@ -22,6 +27,10 @@ fn help_and_wrong_arguments() {
         &["check"],
         &["check", "--force", "a"],
         &["check", "--report=1", "a"],
+        &["find"],
+        &["find", "a"],
+        &["find", "a", "1", "b"],
+        &["find", "a", "--aside", "1", "1"],
         &["save", "a"],
         &["save", "a", "b", "--out", "c"],
         &["save", "a", "--out"],
@@ -45,7 +54,7 @@ fn help_of_a_command() {
     let answer = folder.station(&["help", "frobnicate"]);
     answer.is(0, "station COMMAND --help");
     // The list of commands and the help of each say the same.
-    for command in ["check", "fragments", "save", "draw"] {
+    for command in ["check", "find", "fragments", "save", "draw"] {
         let own = folder.station(&[command, "--help"]).out;
         let usage = own.lines().next().and_then(|line| line.strip_prefix("usage: ")).expect("a usage");
         assert!(answer.out.contains(&format!("\n  {usage}\n")), "{usage}");
@@ -94,6 +103,7 @@ fn noise_of_a_hundred_megabytes() {
         .collect();
     folder.file("noise", &noise);
     folder.station(&["check", "noise"]).is(1, "noise: line 1: refused with 2");
+    folder.station(&["find", "noise", "1"]).is(1, "serial 1: no ATOM or HETATM line has it; looked at 1234567 lines");
     folder.station(&["fragments", "noise"]).is(1, "refused with 2");
     folder.station(&["draw", "noise", "--svg", "noise.svg"]).is(1, "nothing is drawn");
     folder.station(&["save", "noise", "--out", "out"]).is(1, "refused with 2");
@@ -110,6 +120,7 @@ fn a_full_disk_leaves_nothing() {
     save(&["--out", "out", "--tray", "/dev/full"]).is(2, "No space left on device");
     folder.station(&["draw", "a.pdb", "--svg", "/dev/full"]).is(2, "No space left on device");
     folder.shell("$S check a.pdb > /dev/full").is(2, "standard output could not be written to");
+    folder.shell("$S find a.pdb 1 > /dev/full").is(2, "standard output could not be written to");
     folder.shell("$S fragments a.pdb > /dev/full").is(2, "standard output could not be written to");
     folder.shell("$S save a.pdb --aside 1 --out - --tray tray > /dev/full").is(2, "standard output could not be");
     folder.shell("$S --help > /dev/full").is(2, "standard output could not be written to");

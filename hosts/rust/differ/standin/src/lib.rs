@@ -147,6 +147,13 @@ pub unsafe extern "C" fn station_rewrite_line(line: *const u8, n: usize, out: *m
 }
 
 #[no_mangle]
+pub unsafe extern "C" fn station_find(text: *const u8, n: usize, serial: u32, looked: *mut u64) -> u64 {
+    let jump = reference::find(lent(text, n), reference::Serial(serial));
+    *looked = jump.looked;
+    jump.line
+}
+
+#[no_mangle]
 pub unsafe extern "C" fn station_dot(slot: *const Slot, out: *mut f64) -> u32 {
     drawn(reference::dot(&*slot), out)
 }

@@ -15,18 +15,30 @@ fn assert_found(wrong_belief: &str, library: Library) {
     assert!(findings.differences > 0, "{wrong_belief} was not found");
 }
 
+/// What a name answers: a number of refusal, unless something else is said.
+macro_rules! answer {
+    () => {
+        u32
+    };
+    ($kind:ty) => {
+        $kind
+    };
+}
+
 /// A test for each error: the name that is replaced, its arguments, and what is done instead.
 macro_rules! planted {
-    ($($belief:ident: $name:ident ($($argument:ident: $kind:ty),*) $body:block)*) => {
+    ($($belief:ident: $name:ident ($($argument:ident: $kind:ty),*) $(-> $answer:ty)? $body:block)*) => {
         $(#[test]
         fn $belief() {
-            unsafe extern "C" fn wrong($($argument: $kind),*) -> u32 $body
+            unsafe extern "C" fn wrong($($argument: $kind),*) -> answer!($($answer)?) $body
             assert_found(stringify!($belief), Library { $name: wrong, ..LINKED });
         })*
     };
 }
 
+mod fences;
 mod fragments;
+mod jumps;
 mod names;
 mod twins;
 
@@ -317,74 +329,4 @@ planted! {
         }
         (LINKED.count_line)(tally, line, n)
     }
-}
-
-/// Runs one of the ignored tests below in a program of its own, and asks that a fence end it.
-fn assert_touches_a_fence(test: &str) {
-    let program = std::env::current_exe().expect("this program");
-    let output = std::process::Command::new(program)
-        .args(["--ignored", "--exact", "--test-threads=1", "--nocapture", test])
-        .output()
-        .expect("this program runs");
-    let words = String::from_utf8_lossy(&output.stderr);
-    assert_eq!(output.status.code(), Some(differ::fence::TOUCHED), "{words}");
-    assert!(words.contains("touched memory that was not lent to it"), "{words}");
-}
-
-#[test]
-#[cfg(target_os = "linux")]
-fn text_read_past_its_end() {
-    assert_touches_a_fence("reads_past_the_end");
-}
-
-#[test]
-#[cfg(target_os = "linux")]
-fn table_read_before_its_start() {
-    assert_touches_a_fence("reads_before_the_start");
-}
-
-#[test]
-#[cfg(target_os = "linux")]
-fn list_read_past_its_end() {
-    assert_touches_a_fence("reads_past_the_list");
-}
-
-#[test]
-#[ignore = "ends the program; text_read_past_its_end runs it"]
-fn reads_past_the_end() {
-    unsafe extern "C" fn wrong(text: *const u8, n: usize, answer: *mut u64) -> u32 {
-        std::hint::black_box(text.add(n).read_volatile());
-        (LINKED.check)(text, n, answer)
-    }
-    differ::fence::watch();
-    differ::run_fenced(Library { check: wrong, ..LINKED }, 5, 0..CASES);
-}
-
-#[test]
-#[ignore = "ends the program; table_read_before_its_start runs it"]
-fn reads_before_the_start() {
-    unsafe extern "C" fn wrong(table: *const Slot, slots: usize, out: *mut f64) -> u32 {
-        std::hint::black_box(table.sub(1).read_volatile());
-        (LINKED.frame)(table, slots, out)
-    }
-    differ::fence::watch();
-    differ::run_fenced(Library { frame: wrong, ..LINKED }, 5, 0..CASES);
-}
-
-#[test]
-#[ignore = "ends the program; list_read_past_its_end runs it"]
-fn reads_past_the_list() {
-    unsafe extern "C" fn wrong(
-        text: *const u8,
-        n: usize,
-        table: *mut Slot,
-        slots: usize,
-        aside: *const u8,
-        fragments: usize,
-    ) -> u32 {
-        std::hint::black_box(aside.add(fragments).read_volatile());
-        (LINKED.arrange)(text, n, table, slots, aside, fragments)
-    }
-    differ::fence::watch();
-    differ::run_fenced(Library { arrange: wrong, ..LINKED }, 5, 0..CASES);
 }
