@@ -1,7 +1,7 @@
 /* The station: the C names of the proved library.
  *
  * A text is any bytes; an accepted text is one PDB coordinate entry that obeys docs/FORMAT.md, where the numbers of
- * refusal are listed; 1 to 12 and 21 are those of a text. Unless its comment says otherwise a function returns the
+ * refusal are listed; 1 to 12, 21 and 22 are those of a text. Unless its comment says otherwise a function returns the
  * number of refusal, 0 if it grants.
  * A refusal leaves every lent buffer, slot and tally as it was; a grant changes only the bytes or slots it needs.
  * Nothing is kept between calls and nothing is taken on trust: each call judges the text and the table anew. The
@@ -24,7 +24,7 @@ enum { STATION_ATOM = 1, STATION_HETATM = 2, STATION_TER = 3 };
 /* Marks of slots. A slot with any other mark is damaged likewise. */
 enum { STATION_IN = 0, STATION_ASIDE = 1 };
 
-/* One coordinate or TER line: 44 bytes without padding. Columns are kept as the bytes that stand in them; what a TER
+/* One coordinate or TER line: 48 bytes without padding. Columns are kept as the bytes that stand in them; what a TER
  * does not have is 0, or blank. */
 typedef struct {
     uint32_t serial;      /* 1 to 99,999 */
@@ -41,58 +41,63 @@ typedef struct {
     uint8_t insertion;
     uint8_t element[2];
     uint8_t charge[2];
+    uint32_t model;       /* the number of its model, 1 to 9,999; 0 without models, or filled from a single line */
 } station_slot;
 
 /* The nine counts of MASTER, in the order of the report. */
 typedef struct {
     uint32_t remark, het, helix, sheet;
     uint32_t xform;  /* ORIGX and SCALE */
-    uint32_t coord;  /* ATOM and HETATM */
+    uint32_t coord;  /* ATOM and HETATM, with models those of the first alone; so is ter */
     uint32_t ter, conect, seq;
 } station_tally;
 
 /* Checks a text. `answer` receives the number, the line refused (0 if none), the good lines, and the nine counts over
- * the good lines in the order of station_tally. Returns the number as well: 0, 1 to 12, or 21. */
+ * the good lines in the order of station_tally. Returns the number as well: 0, 1 to 12, 21 or 22. */
 uint32_t station_check(const uint8_t *text, size_t n, uint64_t answer[12]);
 
-/* Loads an accepted text: one slot for each ATOM, HETATM and TER line, in order, all marked in. `count` receives the
- * slots filled, 0 if refused. 1 to 12 and 21 for the text; 13 if `slots` is below what the text needs. */
+/* Loads an accepted text: one slot for each ATOM, HETATM and TER line of all models, in order, all marked in. `count`
+ * receives the slots filled, 0 if refused. 1 to 12, 21 and 22 for the text; 13 if `slots` is below what the text
+ * needs. */
 uint32_t station_load(const uint8_t *text, size_t n, station_slot *table, size_t slots, uint64_t *count);
 
-/* Sets one fragment aside (`aside` not 0) or puts it back (0) by marking its slots. Fragments count from 1. 1 to 12 and
- * 21 for the text; 13; 18 if the table is not this text's; 15 if there is no such fragment; 16 if it has that mark
- * already. */
+/* Sets one fragment aside (`aside` not 0) or puts it back (0) by marking its slots. Fragments count from 1,
+ * through all models; each is of one model. 1 to 12, 21 and 22 for the text; 13; 18 if the table is not this text's; 15
+ * if there is no such fragment; 16 if it has that mark already. */
 uint32_t station_order(const uint8_t *text, size_t n, station_slot *table, size_t slots, uint32_t fragment,
                        uint8_t aside);
 
 /* Sets aside or puts back every fragment at once: `aside` has a byte for each, from fragment 1 on, 0 for in, any other
  * for aside. The table is then as station_order would leave it, fragment by fragment; one that is already there changes
- * nothing. 1 to 12 and 21 for the text; 13; 18; 15 if `fragments` is not how many there are. */
+ * nothing. 1 to 12, 21 and 22 for the text; 13; 18; 15 if `fragments` is not how many there are. */
 uint32_t station_arrange(const uint8_t *text, size_t n, station_slot *table, size_t slots, const uint8_t *aside,
                          size_t fragments);
 
 /* Tells for each slot that the text needs, in order, the number of its fragment, aside or not; the last number is how
  * many fragments there are. `count` receives the numbers written, 0 if refused; room for `slots` numbers is always
- * enough. 1 to 12 and 21 for the text; 13; 18; 17 if `room` is below the slots that the text needs. */
+ * enough. 1 to 12, 21 and 22 for the text; 13; 18; 17 if `room` is below the slots that the text needs. */
 uint32_t station_fragments(const uint8_t *text, size_t n, const station_slot *table, size_t slots, uint32_t *out,
                            size_t room, uint64_t *count);
 
-/* Writes the entry without the fragments set aside, without the CONECT lines that name one of their atoms, and with
- * MASTER counted again. `count` receives the bytes written, 0 if refused; `n` bytes of room are always enough. 1 to 12
- * and 21 for the text; 13; 18; 17 if `room` is below the bytes to be written. */
+/* Writes the entry without the fragments set aside, without the CONECT lines that have a number which no atom marked in
+ * has, in whichever model, and with MASTER counted again. MODEL and ENDMDL lines stay. `count` receives the bytes
+ * written, 0 if refused; `n` bytes of room are always enough. 1 to 12, 21 and 22 for the text; 13; 18; 17 if `room` is
+ * below the bytes to be written. */
 uint32_t station_save(const uint8_t *text, size_t n, const station_slot *table, size_t slots, uint8_t *out,
                       size_t room, uint64_t *count);
 
-/* Writes the lines that station_save leaves out, in order. The rest is as for station_save. */
+/* Writes the lines that station_save leaves out, and a copy of every MODEL and ENDMDL line, in order. The rest is as
+ * for station_save. */
 uint32_t station_tray(const uint8_t *text, size_t n, const station_slot *table, size_t slots, uint8_t *out,
                       size_t room, uint64_t *count);
 
-/* Fills a slot from one ATOM, HETATM or TER line by itself (80 bytes, no newline), marked in. 1, 3, 4 (another kind of
- * line too), 6. */
+/* Fills a slot from one ATOM, HETATM or TER line by itself (80 bytes, no newline), marked in and of no model. 1, 3, 4
+ * (another kind of line too), 6. */
 uint32_t station_slot_of_line(const uint8_t *line, size_t n, station_slot *slot);
 
-/* Reads one line of the eight typed kinds by itself (80 bytes, no newline) to its record and writes the record: the
- * first 80 bytes of `out` are then the line. 1, 3, 4 (a carried kind too), 6, 17. */
+/* Reads one line of the ten typed kinds (HELIX, SHEET, MODEL, ATOM, HETATM, TER, ENDMDL, CONECT, MASTER, END) by itself
+ * (80 bytes, no newline) to its record and writes the record: the first 80 bytes of `out` are then the line. 1, 3, 4 (a
+ * carried kind too), 6, 17. */
 uint32_t station_rewrite_line(const uint8_t *line, size_t n, uint8_t *out, size_t room);
 
 /* Jumps to an atom: returns the number of the first line that ends in its newline and reads by itself as an ATOM or
@@ -113,9 +118,14 @@ uint32_t station_stroke(const station_slot *a, const station_slot *b, double out
  * the middle exact to half a thousandth. 19 if there is none. */
 uint32_t station_frame(const station_slot *table, size_t slots, double out[9]);
 
-/* Raises by 1 the count that the line's name has on MASTER, if it has one. Only the first six bytes are looked at. 4 if
- * there are fewer or they are no known name; 14 if the count to be raised is 99,999 or more. */
+/* Raises by 1 the count that the line's name has on MASTER, if it has one; MODEL and ENDMDL have none. Only the first
+ * six bytes are looked at. 4 if there are fewer or they are no known name; 14 if the count to be raised is 99,999 or
+ * more. */
 uint32_t station_count_line(station_tally *tally, const uint8_t *line, size_t n);
+
+/* The same for a line that may stand past the first model: `past` is not 0 once the first ENDMDL has gone by, and then
+ * ATOM, HETATM and TER have no count either. station_count_line is this with `past` 0. */
+uint32_t station_count_line_past(station_tally *tally, const uint8_t *line, size_t n, uint8_t past);
 
 #ifdef __cplusplus
 }

@@ -6,8 +6,8 @@ import os, re, sys
 TOKEN = re.compile(r"[^\s(){}.,;\"]+")
 
 def spelled(name):
-    """The tokens by which a name is used: an operator `_then_` is used as `then`, or by its whole name."""
-    name = name.split(" as ")[-1]
+    """The tokens by which a name is used: `Slot.Slot` as `Slot`, an operator `_then_` as `then` or by its whole name."""
+    name = name.split(" as ")[-1].split(".")[-1]
     return [name] + [p for p in name.split("_") if p]
 
 def tidy(path):

@@ -70,7 +70,7 @@ static void give_back(lent *l)
 
 /* ---- texts */
 
-typedef struct { char bytes[12 * LINE]; size_t size; } text;
+typedef struct { char bytes[16 * LINE]; size_t size; } text;
 
 /* Adds a line, filled up with blanks to 80 columns. */
 static void add(text *t, const char *columns)

@@ -1,12 +1,14 @@
-/* Calls each of the fourteen names of include/station.h, and holds what comes against docs/FORMAT.md.
+/* Calls each of the fifteen names of include/station.h, and holds what comes against docs/FORMAT.md.
  *
  *     cc -std=c11 -I include hosts/c/try.c LIBRARY/libstation.a -o try && ./try <crates/report/stdin
  *
  * Standard input is the first worked example: HEADER, ATOM, TER, MASTER, END. All that is lent stands between guard
  * bytes, and texts begin at an odd address. A line is printed for each thing tried; the last one is 'N passed, M
  * failed', and the exit status is 0 exactly if M is 0. */
+#include "calls.h"
 #include "jumps.h"
 #include "lent.h"
+#include "models.h"
 #include "station.h"
 
 /* ---- the layout */
@@ -18,11 +20,11 @@
 
 static void layout(void)
 {
-    told(sizeof(station_slot) == 44, "slot: %zu bytes", sizeof(station_slot));
+    told(sizeof(station_slot) == 48, "slot: %zu bytes", sizeof(station_slot));
     told(_Alignof(station_slot) == 4, "slot: at a multiple of %zu", _Alignof(station_slot));
     SLOT(serial, 0), SLOT(number, 4), SLOT(x, 8), SLOT(y, 12), SLOT(z, 16), SLOT(occupancy, 20), SLOT(temperature, 24);
     SLOT(kind, 28), SLOT(mark, 29), SLOT(name, 30), SLOT(alternate, 34), SLOT(residue, 35), SLOT(chain, 38);
-    SLOT(insertion, 39), SLOT(element, 40), SLOT(charge, 42);
+    SLOT(insertion, 39), SLOT(element, 40), SLOT(charge, 42), SLOT(model, 44);
     told(sizeof(station_tally) == 36, "tally: %zu bytes", sizeof(station_tally));
     told(_Alignof(station_tally) == 4, "tally: at a multiple of %zu", _Alignof(station_tally));
     TALLY(remark, 0), TALLY(het, 4), TALLY(helix, 8), TALLY(sheet, 12), TALLY(xform, 16), TALLY(coord, 20);
@@ -30,21 +32,6 @@ static void layout(void)
 }
 
 /* ---- the check */
-
-static void check(const char *what, const char *bytes, size_t n, uint64_t number, uint64_t line, uint64_t good,
-                  uint64_t coord, uint64_t ter, uint64_t conect)
-{
-    const uint64_t due[12] = {number, line, good, 0, 0, 0, 0, 0, coord, ter, conect, 0};
-    lent t = lend(bytes, n, 1), answer = lend(NULL, sizeof due, 0);
-    uint32_t came = station_check(at(&t), n, at(&answer));
-    uint64_t a[12];
-    memcpy(a, at(&answer), sizeof a);
-    told(came == number && memcmp(a, due, sizeof due) == 0 && as_lent(&t) && guarded(&answer),
-         "check: %s: %u, line %llu, %llu good, coord %llu, ter %llu, conect %llu", what, (unsigned)came,
-         (unsigned long long)a[1], (unsigned long long)a[2], (unsigned long long)a[8], (unsigned long long)a[9],
-         (unsigned long long)a[10]);
-    give_back(&t), give_back(&answer);
-}
 
 static void checks(const char *entry, const text *wrong)
 {
@@ -71,8 +58,8 @@ static void checks(const char *entry, const text *wrong)
 
 /* The two slots of the worked example. */
 static const station_slot ARGININE[2] = {
-    {32, -3, 11281, 86699, 94383, 50, 3588, STATION_ATOM, STATION_IN, " N  ", 'A', "ARG", 'A', ' ', " N", "  "},
-    {33, -3, 0, 0, 0, 0, 0, STATION_TER, STATION_IN, "    ", ' ', "ARG", 'A', ' ', "  ", "  "},
+    {32, -3, 11281, 86699, 94383, 50, 3588, STATION_ATOM, STATION_IN, " N  ", 'A', "ARG", 'A', ' ', " N", "  ", 0},
+    {33, -3, 0, 0, 0, 0, 0, STATION_TER, STATION_IN, "    ", ' ', "ARG", 'A', ' ', "  ", "  ", 0},
 };
 
 static void load(const char *what, const char *bytes, size_t n, size_t slots, uint32_t number)
@@ -86,37 +73,6 @@ static void load(const char *what, const char *bytes, size_t n, size_t slots, ui
              as_lent_from(&table, filled * sizeof(station_slot)) && as_lent(&t) && guarded(&count),
          "load: %s: %u, %llu slots", what, (unsigned)came, (unsigned long long)counted);
     give_back(&t), give_back(&table), give_back(&count);
-}
-
-/* An order over the table `is`, which then has these marks. */
-static void order(const char *what, const text *t, station_slot *is, size_t slots, uint32_t fragment, uint8_t aside,
-                  uint32_t number, const char *marks)
-{
-    lent b = lend(t->bytes, t->size, 1), table = lend(is, slots * sizeof *is, 0);
-    uint32_t came = station_order(at(&b), t->size, at(&table), slots, fragment, aside);
-    size_t i;
-    for (i = 0; number == 0 && i < slots; i++) is[i].mark = (uint8_t)(marks[i] - '0');
-    told(came == number && memcmp(at(&table), is, slots * sizeof *is) == 0 && guarded(&table) && as_lent(&b),
-         "order: %s: %u", what, (unsigned)came);
-    give_back(&b), give_back(&table);
-}
-
-typedef uint32_t writes(const uint8_t *, size_t, const station_slot *, size_t, uint8_t *, size_t, uint64_t *);
-
-/* What save or tray writes into `room` bytes, if it is granted: these bytes. */
-static void write(const char *what, writes *call, const text *t, const station_slot *is, size_t slots, size_t room,
-                  uint32_t number, const text *due)
-{
-    lent b = lend(t->bytes, t->size, 1), table = lend(is, slots * sizeof *is, 0), out = lend(NULL, room, 1);
-    lent count = lend(NULL, 8, 0);
-    uint32_t came = call(at(&b), t->size, at(&table), slots, at(&out), room, at(&count));
-    size_t size = number ? 0 : due->size;
-    uint64_t counted;
-    memcpy(&counted, at(&count), sizeof counted);
-    told(came == number && counted == size && memcmp(at(&out), due->bytes, size) == 0 && as_lent_from(&out, size) &&
-             as_lent(&b) && as_lent(&table) && guarded(&count),
-         "%s: %u, %llu bytes", what, (unsigned)came, (unsigned long long)counted);
-    give_back(&b), give_back(&table), give_back(&out), give_back(&count);
 }
 
 static void orders(const text *wrong)
@@ -243,26 +199,6 @@ static void slot(const char *what, const char *line, size_t n, uint32_t number)
     give_back(&l), give_back(&s);
 }
 
-static void rewrite(const char *what, const char *line, size_t n, size_t room, uint32_t number)
-{
-    lent l = lend(line, n, 1), out = lend(NULL, room, 1);
-    uint32_t came = station_rewrite_line(at(&l), n, at(&out), room);
-    size_t size = number ? 0 : 80;
-    told(came == number && memcmp(at(&out), line, size) == 0 && as_lent_from(&out, size) && as_lent(&l),
-         "rewrite_line: %s: %u", what, (unsigned)came);
-    give_back(&l), give_back(&out);
-}
-
-static void count(const char *what, const char *line, uint32_t before, uint32_t after, uint32_t number)
-{
-    const station_tally was = {1, 2, 3, 4, 5, before, 6, 7, 8}, due = {1, 2, 3, 4, 5, after, 6, 7, 8};
-    lent l = lend(line, strlen(line), 1), tally = lend(&was, sizeof was, 0);
-    uint32_t came = station_count_line(at(&tally), at(&l), strlen(line));
-    told(came == number && memcmp(at(&tally), &due, sizeof due) == 0 && guarded(&tally) && as_lent(&l),
-         "count_line: %s: %u, coord %u", what, (unsigned)came, (unsigned)((station_tally *)at(&tally))->coord);
-    give_back(&l), give_back(&tally);
-}
-
 static void lines(const char *entry, const text *wrong)
 {
     static const char *names[5] = {"HEADER", "ATOM", "TER", "MASTER", "END"};
@@ -288,12 +224,12 @@ static void lines(const char *entry, const text *wrong)
     rewrite("a name of four columns, HH11", hydrogen, 80, 80, 0);
     hydrogen[15] = ' ';
     rewrite("a name of three from column 13, HH1", hydrogen, 80, 80, 6);
-    count("HETATM", "HETATM", 9, 10, 0);
-    count("END", "END   ", 9, 9, 0);
-    count("three bytes", "END", 9, 9, 4);
-    count("no name", "ATOMS ", 9, 9, 4);
-    count("the last that fits", "ATOM  ", 99998, 99999, 0);
-    count("one too many", "ATOM  ", 99999, 99999, 14);
+    count("HETATM", "HETATM", -1, 9, 10, 0);
+    count("END", "END   ", -1, 9, 9, 0);
+    count("three bytes", "END", -1, 9, 9, 4);
+    count("no name", "ATOMS ", -1, 9, 9, 4);
+    count("the last that fits", "ATOM  ", -1, 99998, 99999, 0);
+    count("one too many", "ATOM  ", -1, 99999, 99999, 14);
 }
 
 /* ---- the feed */
@@ -358,6 +294,7 @@ int main(void)
     at_once(&wrong);
     lines(entry, &wrong);
     jumps();
+    models();
     feeds();
     printf("%u passed, %u failed\n", passed, failed);
     return failed != 0;

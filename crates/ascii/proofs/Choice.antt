@@ -25,6 +25,11 @@ pub both-join : (a b : Bool) → a ≡ true → b ≡ true → both a b ≡ true
 unfolding both
 both-join a b p q = rw (p, q)
 
+pub both-no : (a : Bool) → both a false ≡ false
+unfolding both
+both-no true = refl
+both-no false = refl
+
 pub not-false : (a : Bool) → not a ≡ false → a ≡ true
 not-false true e = refl
 not-false false e = sym e

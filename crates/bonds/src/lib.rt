@@ -5,7 +5,7 @@ use fields::Serial;
 use pieces::Line;
 use slots::Slot;
 ghost use mathlib.Core.Path.{_≡_};
-ghost use Rattle.table.specs.Deal.{isAside};
+ghost use Rattle.table.specs.Deal.{isIn};
 ghost use Rattle.bonds.specs.Bonds.{isBond, isConect, numbersOf, conectIn};
 
 fn is_bond(b: Bond) -> bool
@@ -53,12 +53,13 @@ pub fn serial_of(s: Slot) -> Serial
     s.serial
 }
 
-// Whether the slot is the atom with serial n, and set aside.
-pub fn is_aside(n: Serial, s: Slot) -> bool
-    ensures { λ r. ⌜ r ≡ isAside (n .0) s ⌝ }
+// Whether the slot is the atom with serial n, and not set aside.
+pub fn is_in(n: Serial, s: Slot) -> bool
+    ensures { λ r. ⌜ r ≡ isIn (n .0) s ⌝ }
 {
     let serial = s.serial;
     let e = fragments::is_ter(s);
     let a = ascii::both_of(!e, serial.0 == n.0);
-    ascii::both_of(s.mark == slots::MARK_ASIDE, a)
+    let aside = s.mark == slots::MARK_ASIDE;
+    ascii::both_of(!aside, a)
 }

@@ -3,30 +3,33 @@ use Rattle.ascii.specs.Library.{Bool, true, false}
 use Rattle.coordinate.specs.Atoms.{coordinateKind}
 use Rattle.kinds.specs.declared.{Kind.Kind}
 use Rattle.line.specs.declared.{Record.Record}
-use Rattle.line.specs.declared.Record.the-variants.{Coordinate, Ter, Helix, Sheet, Conect, Master, End}
+use Rattle.line.specs.declared.Record.the-variants.{Coordinate, Ter, Helix, Sheet, Conect, Master, End, Model, Endmdl}
 use Rattle.pieces.specs.declared.{Line.Line, Line.the-variants.Bad, Line.the-variants.Wrong, Line.the-variants.Carried, Line.the-variants.Typed}
-use Rattle.facets.specs.declared.{Spot.Spot, Spot.the-variants.Site, Spot.the-variants.Close, Spot.the-variants.Nowhere, Bond.Bond, Bond.the-variants.Bonds, Bond.the-variants.Loose, Fold.Fold, Fold.the-variants.Turn, Fold.the-variants.Rung, Fold.the-variants.Plain, Total.Total, Total.the-variants.Counted, Total.the-variants.Uncounted}
+use Rattle.facets.specs.declared.{Spot.Spot, Spot.the-variants.Site, Spot.the-variants.Close, Spot.the-variants.Nowhere, Bond.Bond, Bond.the-variants.Bonds, Bond.the-variants.Loose, Fold.Fold, Fold.the-variants.Turn, Fold.the-variants.Rung, Fold.the-variants.Plain, Total.Total, Total.the-variants.Counted, Total.the-variants.Uncounted, Fence.Fence, Fence.the-variants.Opens, Fence.the-variants.Shuts, Fence.the-variants.Unfenced}
 use Rattle.kinds.specs.declared.Kind.the-variants as kind
 
--- the facets of a record: its kind; ATOM, HETATM or TER; CONECT; HELIX or SHEET; MASTER
+-- the facets of a record: its kind; ATOM, HETATM or TER; CONECT; HELIX or SHEET; MASTER; MODEL or ENDMDL
 pub record Facets : Type 0 where
   pub kind : Kind
   pub spot : Spot
   pub bond : Bond
   pub fold : Fold
   pub total : Total
+  pub fence : Fence
 
-abbrev pub facets : Kind → Spot → Bond → Fold → Total → Facets
-facets k s b f t = record { kind = k; spot = s; bond = b; fold = f; total = t }
+abbrev pub facets : Kind → Spot → Bond → Fold → Total → Fence → Facets
+facets k s b f t e = record { kind = k; spot = s; bond = b; fold = f; total = t; fence = e }
 
 abbrev pub facetsOf : Record → Facets
-facetsOf (Coordinate het a) = facets (coordinateKind het) (Site het a) Loose Plain Uncounted
-facetsOf (Ter t) = facets kind.Ter (Close t) Loose Plain Uncounted
-facetsOf (Helix h) = facets kind.Helix Nowhere Loose (Turn (h .extent .serial)) Uncounted
-facetsOf (Sheet s) = facets kind.Sheet Nowhere Loose (Rung (s .strand)) Uncounted
-facetsOf (Conect c) = facets kind.Conect Nowhere (Bonds c) Plain Uncounted
-facetsOf (Master t) = facets kind.Master Nowhere Loose Plain (Counted t)
-facetsOf End = facets kind.End Nowhere Loose Plain Uncounted
+facetsOf (Coordinate het a) = facets (coordinateKind het) (Site het a) Loose Plain Uncounted Unfenced
+facetsOf (Ter t) = facets kind.Ter (Close t) Loose Plain Uncounted Unfenced
+facetsOf (Helix h) = facets kind.Helix Nowhere Loose (Turn (h .extent .serial)) Uncounted Unfenced
+facetsOf (Sheet s) = facets kind.Sheet Nowhere Loose (Rung (s .strand)) Uncounted Unfenced
+facetsOf (Conect c) = facets kind.Conect Nowhere (Bonds c) Plain Uncounted Unfenced
+facetsOf (Master t) = facets kind.Master Nowhere Loose Plain (Counted t) Unfenced
+facetsOf End = facets kind.End Nowhere Loose Plain Uncounted Unfenced
+facetsOf (Model m) = facets kind.Model Nowhere Loose Plain Uncounted (Opens (m .number))
+facetsOf Endmdl = facets kind.Endmdl Nowhere Loose Plain Uncounted Shuts
 
 -- one of them
 abbrev pub recordKind : Record → Kind
@@ -44,6 +47,9 @@ foldOf r = facetsOf r .fold
 abbrev pub totalOf : Record → Total
 totalOf r = facetsOf r .total
 
+abbrev pub fenceOf : Record → Fence
+fenceOf r = facetsOf r .fence
+
 -- ---- the same of a line: a line that is not typed has none
 abbrev pub ofLine : {A : Type 0} → A → (Record → A) → Line → A
 ofLine none f (Bad n) = none
@@ -60,6 +66,9 @@ bondIn l = ofLine Loose bondOf l
 abbrev pub totalIn : Line → Total
 totalIn l = ofLine Uncounted totalOf l
 
+abbrev pub fenceIn : Line → Fence
+fenceIn l = ofLine Unfenced fenceOf l
+
 -- the kind of a line; a piece that is refused by itself has none
 abbrev pub lineKind : Line → Kind
 lineKind (Bad n) = kind.Unknown
@@ -75,3 +84,12 @@ isSpot Nowhere = false
 
 abbrev pub isCoord : Line → Bool
 isCoord l = isSpot (spotIn l)
+
+-- a MODEL or ENDMDL line
+abbrev pub isBound : Fence → Bool
+isBound (Opens n) = true
+isBound Shuts = true
+isBound Unfenced = false
+
+abbrev pub isFence : Line → Bool
+isFence l = isBound (fenceIn l)

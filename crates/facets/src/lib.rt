@@ -1,4 +1,4 @@
-// What a line is to the rules between lines: its kind; as a coordinate or TER line; as a bond; as a fold; as a total.
+// What a line is to the rules between lines: its kind; as a coordinate or TER line; as a bond; as a fold; as a total; as a fence.
 use conect::Conect;
 use coordinate::Atom;
 use kinds::Kind;
@@ -8,7 +8,7 @@ use pieces::Line;
 use sheet::Strand;
 use ter::Ter;
 ghost use mathlib.Core.Path.{_≡_};
-ghost use Rattle.facets.specs.Facets.{recordKind, lineKind, spotOf, spotIn, bondOf, bondIn, foldOf, totalOf, totalIn, isSpot, isCoord};
+ghost use Rattle.facets.specs.Facets.{recordKind, lineKind, spotOf, spotIn, bondOf, bondIn, foldOf, totalOf, totalIn, fenceOf, fenceIn, isSpot, isCoord, isBound, isFence};
 
 // A line with a slot: ATOM or HETATM (true), or TER.
 pub enum Spot {
@@ -36,6 +36,13 @@ pub enum Total {
     Uncounted,
 }
 
+// What a model stands between: MODEL by its number, or ENDMDL.
+pub enum Fence {
+    Opens(u32),
+    Shuts,
+    Unfenced,
+}
+
 // The kind of a record's line.
 pub fn record_kind(r: Record) -> Kind
     ensures { λ k. ⌜ k ≡ recordKind r ⌝ }
@@ -53,6 +60,8 @@ pub fn record_kind(r: Record) -> Kind
         Record::Conect(_) => Kind::Conect,
         Record::Master(_) => Kind::Master,
         Record::End => Kind::End,
+        Record::Model(_) => Kind::Model,
+        Record::Endmdl => Kind::Endmdl,
     }
 }
 
@@ -138,6 +147,26 @@ pub fn total_in(l: Line) -> Total
     Total::Uncounted
 }
 
+pub fn fence_of(r: Record) -> Fence
+    ensures { λ e. ⌜ e ≡ fenceOf r ⌝ }
+{
+    match r {
+        Record::Model(m) => return Fence::Opens(m.number),
+        Record::Endmdl => return Fence::Shuts,
+        _ => (),
+    }
+    Fence::Unfenced
+}
+
+pub fn fence_in(l: Line) -> Fence
+    ensures { λ e. ⌜ e ≡ fenceIn l ⌝ }
+{
+    if let Line::Typed(r) = l {
+        return fence_of(r);
+    }
+    Fence::Unfenced
+}
+
 fn is_spot(p: Spot) -> bool
     ensures { λ b. ⌜ b ≡ isSpot p ⌝ }
 {
@@ -153,4 +182,21 @@ pub fn is_coord(l: Line) -> bool
     ensures { λ b. ⌜ b ≡ isCoord l ⌝ }
 {
     is_spot(spot_in(l))
+}
+
+fn is_bound(e: Fence) -> bool
+    ensures { λ b. ⌜ b ≡ isBound e ⌝ }
+{
+    match e {
+        Fence::Opens(_) => true,
+        Fence::Shuts => true,
+        Fence::Unfenced => false,
+    }
+}
+
+// Whether the line is a MODEL or ENDMDL line.
+pub fn is_fence(l: Line) -> bool
+    ensures { λ b. ⌜ b ≡ isFence l ⌝ }
+{
+    is_bound(fence_in(l))
 }

@@ -12,18 +12,24 @@ isTer s = eqb (s .kind) terKind
 
 -- no slot
 abbrev pub endTail : Tail
-endTail = record { some = false; closed = false; residue = noResidue; mark = markIn; count = 0; agree = true }
+endTail = record { some = false; closed = false; model = 0; residue = noResidue; mark = markIn; count = 0; agree = true }
 
--- the slot is of one fragment with the first of those after it: it does not close a run, and the run is closed or the residues are equal
+-- the slot is of the model of those after it
+abbrev pub seam : Slot → Tail → Bool
+seam s t = eqb (s .model) (t .model)
+
+-- the slot is of one fragment with the first of those after it: it is of the same model and does not close a run, and the run is closed or the
+-- residues are equal
 unfoldable pub joins : Slot → Tail → Bool
-joins s t = both (both (t .some) (not (isTer s))) (either (t .closed) (sameResidue (residueOf s) (t .residue)))
+joins s t = both (both (t .some) (both (seam s t) (not (isTer s)))) (either (t .closed) (sameResidue (residueOf s) (t .residue)))
 
--- the slots from s on: whether a TER is among them; residue and mark of the first; how many fragments; whether marks agree inside each
+-- the slots from s on: whether a TER is among those of its model; model, residue and mark of the first; how many fragments; whether marks agree inside each
 unfoldable pub stepTail : Slot → Tail → Tail
 stepTail s t =
     record {
       some = true;
-      closed = either (isTer s) (t .closed);
+      closed = either (isTer s) (both (seam s t) (t .closed));
+      model = s .model;
       residue = residueOf s;
       mark = s .mark;
       count = pick (joins s t) (t .count) (t .count + 1);

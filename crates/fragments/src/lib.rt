@@ -9,11 +9,12 @@ ghost use Rattle.ascii.specs.Tests.{pick, either};
 ghost use Rattle.slots.specs.Slots.{withMark};
 ghost use Rattle.fragments.specs.Fragments.{isTer, endTail, joins as joinsOf, stepTail, turned};
 
-// What a stretch of slots is to the slot before it: whether there is one, whether a TER is among them, the residue and mark of the first,
+// What a stretch of slots is to the slot before it: whether there is one, whether a TER is among those of the first one's model, the model, residue and mark of the first,
 // how many fragments they are, and whether marks agree inside each.
 pub struct Tail {
     pub some: bool,
     pub closed: bool,
+    pub model: u32,
     pub residue: Residue,
     pub mark: u8,
     pub count: u64,
@@ -38,6 +39,7 @@ pub fn end_tail() -> Tail
     Tail {
         some: false,
         closed: false,
+        model: 0,
         residue: residue,
         mark: slots::MARK_IN,
         count: 0,
@@ -52,7 +54,7 @@ fn joins(s: Slot, t: Tail) -> bool
     let last = t.residue;
     let e = is_ter(s);
     let q = residue::same_residue(slots::residue_of(s), last);
-    let open = ascii::both_of(t.some, !e);
+    let open = ascii::both_of(t.some, ascii::both_of(s.model == t.model, !e));
     ascii::both_of(open, ascii::either_of(t.closed, q))
 }
 
@@ -80,12 +82,14 @@ pub fn step_tail(s: Slot, t: Tail) -> Tail
     let j = joins(s, t);
     let e = is_ter(s);
     let residue = slots::residue_of(s);
-    let closed = ascii::either_of(e, t.closed);
+    let on = ascii::both_of(s.model == t.model, t.closed);
+    let closed = ascii::either_of(e, on);
     let count = one_more_unless(j, t.count);
     let agree = ascii::both_of(t.agree, agrees(j, s.mark, t.mark));
     Tail {
         some: true,
         closed: closed,
+        model: s.model,
         residue: residue,
         mark: s.mark,
         count: count,

@@ -6,11 +6,12 @@ use mathlib.Core.Bool.{Bool, true, false, not, false≢true}
 use mathlib.Core.Path.{_≡_, refl, sym, _∙_, ap, ap₂}
 use mathlib.Core.Logic.{_⊎_, inl, inr}
 use native.Mathlib.Omega.{arith}
+use native.Mathlib.Numerals.{add-one}
 use borrow.Author.Tests.{eqb-true, ltb-true, ltb-false}
 use lib.Dec.{eqb, ltb}
 use lib.ListN.{length, take, drop, length-take}
 use lib.Seq.{take-take}
-use Rattle.ascii.specs.Tests.{either}
+use Rattle.ascii.specs.Tests.{either, pick}
 use Rattle.ascii.proofs.Choice.{picks, not-false, both-split, either-split, either-none}
 use Rattle.coordinate.specs.declared.Identity.{Identity}
 use Rattle.coordinate.specs.declared.Atom.{Atom}
@@ -18,7 +19,7 @@ use Rattle.residue.specs.Residues.{sameResidue}
 use Rattle.master.specs.declared.Tally.{Tally}
 use Rattle.conect.specs.declared.Conect.{Conect as ConectOf}
 use Rattle.line.specs.declared.Record.{Record}
-use Rattle.line.specs.declared.Record.the-variants.{Coordinate, Ter, Helix, Sheet, Conect, Master, End}
+use Rattle.line.specs.declared.Record.the-variants.{Coordinate, Ter, Helix, Sheet, Conect, Master, End, Model, Endmdl}
 use Rattle.pieces.specs.declared.Line.{Line}
 use Rattle.pieces.specs.declared.Line.the-variants.{Bad, Wrong, Carried, Typed}
 use Rattle.pieces.specs.Pieces.{lineOf}
@@ -27,40 +28,62 @@ use Rattle.rules.specs.declared.Looked.{Looked}
 use Rattle.rules.specs.declared.State.{State}
 use Rattle.kinds.specs.Kinds.{rowOf}
 use Rattle.places.specs.Places.{endPlace}
-use Rattle.places.specs.Counts.{countOf, raised, sameCounts}
+use Rattle.places.specs.declared.Models.{Models}
+use Rattle.places.specs.Counts.{countAt, raised, sameCounts}
 use Rattle.facets.specs.declared.Bond.the-variants.{Bonds}
-use Rattle.facets.specs.Facets.{recordKind, lineKind, isCoord}
-use Rattle.rules.specs.Rules.{judgeOf, nextOf, carriedNext, typedNext, startOf}
+use Rattle.facets.specs.declared.Fence.{Fence}
+use Rattle.facets.specs.declared.Fence.the-variants.{Opens, Shuts, Unfenced}
+use Rattle.facets.specs.Facets.{recordKind, lineKind, fenceOf, fenceIn, isCoord, isFence}
+use Rattle.rules.specs.Rules.{modelsNext, judgeOf, nextOf, carriedNext, typedNext, startOf}
 use Rattle.rules.proofs.Laws.{judge-typed, judge-wrong}
 use Rattle.gate.specs.declared.Verdict.{Verdict}
 use Rattle.rows.specs.Text.{pieceAt, row, down}
-use Rattle.serials.specs.Known.{isSite, someOf, named, partnerKnown, bondKnown}
+use Rattle.serials.specs.Known.{isSite, someOf, front, named, partnerKnown, bondKnown}
 use Rattle.gate.specs.Gate.{lookOf, refusedOf, finishOf, checkLines, checkOf}
-use Rattle.gate.specs.Promise.{PartnerBefore, Names, SixFields, linesOf, countsTo, Consequences}
-use Rattle.serials.specs.Search.{serialOf}
+use Rattle.gate.specs.Promise.{PartnerBefore, Names, SixFields, OneModel, isShut, pastAt, linesOf, countsTo, Consequences}
+use Rattle.serials.specs.Search.{serialOf, baseOf}
 use Rattle.rows.proofs.Cut.{cut-done}
 use Rattle.serials.proofs.Rows.{carried-ends, bad-number}
-use Rattle.serials.proofs.Block.{some-at}
+use Rattle.serials.proofs.Block.{base-same, base-le, front-at}
+use Rattle.serials.proofs.Models.{coord-off}
 use Rattle.twins.specs.Twins.{sameAtom, isTwin}
 use Rattle.twins.proofs.Self.{atom-self}
+use Rattle.gate.proofs.Models.{numbered, held}
 use Rattle.gate.proofs.Runs.{stateAt, GoodTo, Reached, reached, unrolled, answered}
 
+-- ---- lines of one model
+-- line j stands after the last MODEL or ENDMDL before line k
+one-base : (t : List ℕ) (j k : ℕ) → j < k → OneModel t j k → isFence (row t j) ≡ false → baseOf (row t) k ≤ j
+unfolding baseOf
+one-base t j zero h m f = absurd (omega arith)
+one-base t j (suc k) h m f = go (λ g. one-base t j k g (λ i x y. m i x (omega arith)) f) (isFence (row t k)) refl (ltb j k) refl
+  where
+    go : (j < k → baseOf (row t) k ≤ j) → (x : Bool) → isFence (row t k) ≡ x → (y : Bool) → ltb j k ≡ y → pick x (suc k) (baseOf (row t) k) ≤ j
+    go r true u true v = absurd (false≢true (sym (m k (ltb-true _ _ v) (omega arith)) ∙ u))
+    go r true u false v = let q : j ≡ k = omega (arith, ltb-false j k v) in absurd (false≢true (sym f ∙ rw q u))
+    go r false u true v = r (ltb-true _ _ v)
+    go r false u false v = let q : j ≡ k = omega (arith, ltb-false j k v) in omega (arith, base-le (row t) k)
+
 -- ---- serials rise
-pub rising : (t : List ℕ) (n : ℕ) → GoodTo (row t) n → (j k : ℕ) → j < k → k < n → isCoord (row t j) ≡ true → isCoord (row t k) ≡ true
+-- the serial of a good coordinate line is above those before it in its model
+pub rising : (t : List ℕ) (n : ℕ) → GoodTo (row t) n → (j k : ℕ) → j < k → k < n → OneModel t j k → isCoord (row t j) ≡ true → isCoord (row t k) ≡ true
     → serialOf (row t j) < serialOf (row t k)
-rising t n g j k h l cj ck =
-    let R = reached t n g in
-    let lo : R .span .lo ≤ j = low R (ltb j (R .span .lo)) refl in
-    let hi : k < R .span .hi = high R (ltb k (R .span .hi)) refl in
+rising t n g j k h l m cj ck =
+    let R = reached t (suc k) (λ i x. g i (omega arith)) in
+    let f : isFence (row t k) ≡ false = coord-off (row t k) ck in
+    let base : baseOf (row t) (suc k) ≡ baseOf (row t) k = ap (baseOf (row t)) (sym (add-one k)) ∙ base-same (row t) k f in
+    let b : baseOf (row t) (suc k) ≤ j = omega (arith, base, one-base t j k h m (coord-off (row t j) cj)) in
+    let lo : R .span .lo ≤ j = low R b (ltb j (R .span .lo)) refl in
+    let hi : k < R .span .hi = high R b (ltb k (R .span .hi)) refl in
     R .block .rise j k lo h hi
   where
-    low : (R : Reached t n) → (b : Bool) → ltb j (R .span .lo) ≡ b → R .span .lo ≤ j
-    low R true u = absurd (false≢true (sym (R .block .low j (ltb-true _ _ u)) ∙ cj))
-    low R false u = ltb-false j (R .span .lo) u
+    low : (R : Reached t (suc k)) → baseOf (row t) (suc k) ≤ j → (b : Bool) → ltb j (R .span .lo) ≡ b → R .span .lo ≤ j
+    low R x true u = absurd (false≢true (sym (R .block .low j x (ltb-true _ _ u)) ∙ cj))
+    low R x false u = ltb-false j (R .span .lo) u
 
-    high : (R : Reached t n) → (b : Bool) → ltb k (R .span .hi) ≡ b → k < R .span .hi
-    high R true u = ltb-true k (R .span .hi) u
-    high R false u = absurd (false≢true (sym (R .block .high k (ltb-false _ _ u) l) ∙ ck))
+    high : (R : Reached t (suc k)) → baseOf (row t) (suc k) ≤ j → (b : Bool) → ltb k (R .span .hi) ≡ b → k < R .span .hi
+    high R x true u = ltb-true k (R .span .hi) u
+    high R x false u = absurd (false≢true (sym (R .block .high k (omega arith) (ltb-false _ _ u) (omega arith)) ∙ ck))
 
 -- ---- no two atoms share the six fields
 shared-same : (a b : Identity) → SixFields b a → sameAtom b a ≡ true
@@ -69,13 +92,13 @@ shared-same a b e =
     let s = atom-self a in
     rw (e .residue-name, e .chain, e .residue-number, e .insertion, e .name, e .alternate) s
 
-pub differ : (t : List ℕ) (n : ℕ) → GoodTo (row t) n → (j k : ℕ) (x y : Bool) (a b : Atom) → j < k → k < n → row t j ≡ Typed (Coordinate x a)
+pub differ : (t : List ℕ) (n : ℕ) → GoodTo (row t) n → (j k : ℕ) (x y : Bool) (a b : Atom) → j < k → k < n → OneModel t j k → row t j ≡ Typed (Coordinate x a)
     → row t k ≡ Typed (Coordinate y b) → SixFields (b .identity) (a .identity) → ⊥
-differ t n g j k x y a b h l ea eb e =
+differ t n g j k x y a b h l m ea eb e =
     let q : judgeOf (lookOf (down (row t) k) (Typed (Coordinate y b))) (stateAt (row t) k) (Typed (Coordinate y b)) ≡ 0 = rw eb at (g k l) in
-    let z : someOf (isTwin (b .identity)) (down (row t) k) ≡ false = judge-typed _ (stateAt (row t) k) (Coordinate y b) q .twin in
+    let z : someOf (isTwin (b .identity)) (front (down (row t) k)) ≡ false = judge-typed _ (stateAt (row t) k) (Coordinate y b) q .twin in
     let f : isTwin (b .identity) (row t j) ≡ true = rw ea (shared-same (a .identity) (b .identity) e) in
-    false≢true (sym z ∙ some-at (isTwin (b .identity)) (row t) k j h f)
+    false≢true (sym z ∙ front-at (isTwin (b .identity)) (row t) k j (one-base t j k h m (ap isFence ea)) h f)
 
 -- ---- every number on a CONECT line is the serial of an ATOM or HETATM line before it
 some-where : (f : Line → Bool) (L : ℕ → Line) (n : ℕ) → someOf f (down L n) ≡ true → (j : ℕ) × (j < n) × (f (L j) ≡ true)
@@ -110,19 +133,41 @@ conect-names t n i c g h e =
     names-of t i c (known-of _ _ (judge-typed _ (stateAt (row t) i) (Conect c) j .bond))
 
 -- ---- the counts are the numbers of such lines
-counts-next : (s : State) (look : Looked) (l : Line) → judgeOf look s l ≡ 0 → ((n : ℕ) → l ≡ Bad n → 0 < n) → (nextOf s l) .counts ≡ raised (s .counts) (countOf (lineKind l))
+counts-next : (s : State) (look : Looked) (l : Line) → judgeOf look s l ≡ 0 → ((n : ℕ) → l ≡ Bad n → 0 < n) → (nextOf s l) .counts ≡ raised (s .counts) (countAt (s .models .past) (lineKind l))
 unfolding nextOf carriedNext typedNext judgeOf
 counts-next s look (Bad n) j b = absurd (omega (arith, b n refl))
 counts-next s look (Wrong k c) j b = absurd (judge-wrong look s k c j)
 counts-next s look (Carried k) j b = refl
 counts-next s look (Typed r) j b = refl
 
+-- whether the first model is past
+fence-past : (m : Models) (e : Fence) → modelsNext m e .past ≡ either (isShut e) (m .past)
+unfolding either
+fence-past m (Opens n) = refl
+fence-past m Shuts = refl
+fence-past m Unfenced = refl
+
+past-next : (s : State) (look : Looked) (l : Line) → judgeOf look s l ≡ 0 → ((n : ℕ) → l ≡ Bad n → 0 < n) → (nextOf s l) .models .past ≡ either (isShut (fenceIn l)) (s .models .past)
+unfolding nextOf carriedNext typedNext judgeOf either
+past-next s look (Bad n) j b = absurd (omega (arith, b n refl))
+past-next s look (Wrong k c) j b = absurd (judge-wrong look s k c j)
+past-next s look (Carried k) j b = refl
+past-next s look (Typed r) j b = fence-past (s .models) (fenceOf r)
+
+pub past-so : (t : List ℕ) (n : ℕ) → GoodTo (row t) n → (stateAt (row t) n) .models .past ≡ pastAt t n
+unfolding stateAt pastAt startOf
+past-so t zero g = refl
+past-so t (suc n) g =
+    past-next (stateAt (row t) n) _ (row t n) (g n (omega arith)) (λ m e. bad-number t n m e)
+    ∙ ap (either (isShut (fenceIn (row t n)))) (past-so t n (λ j h. g j (omega arith)))
+
 pub counted : (t : List ℕ) (n : ℕ) → GoodTo (row t) n → (stateAt (row t) n) .counts ≡ countsTo t n
 unfolding stateAt linesOf startOf raised
 counted t zero g = refl
 counted t (suc n) g =
+    let h : GoodTo (row t) n = λ j k. g j (omega arith) in
     counts-next (stateAt (row t) n) _ (row t n) (g n (omega arith)) (λ m e. bad-number t n m e)
-    ∙ ap (λ (c : Counts). raised c (countOf (lineKind (row t n)))) (counted t n (λ j h. g j (omega arith)))
+    ∙ ap₂ (λ (c : Counts) (p : Bool). raised c (countAt p (lineKind (row t n)))) (counted t n h) (past-so t n h)
 
 -- MASTER's numbers are the numbers of such lines before it
 pub master-totals : (t : List ℕ) (n i : ℕ) (m : Tally) → GoodTo (row t) n → i < n → row t i ≡ Typed (Master m) → sameCounts m (countsTo t i) ≡ true
@@ -141,6 +186,8 @@ record-ends (Sheet s) e = absurd (omega arith)
 record-ends (Conect c) e = absurd (omega arith)
 record-ends (Master m) e = absurd (omega arith)
 record-ends End e = refl
+record-ends (Model m) e = absurd (omega arith)
+record-ends Endmdl e = absurd (omega arith)
 
 line-ends : (t : List ℕ) (i : ℕ) (s : State) (look : Looked) (l : Line) → row t i ≡ l → judgeOf look s l ≡ 0 → (nextOf s l) .place ≡ endPlace → l ≡ Typed End
 unfolding nextOf carriedNext typedNext judgeOf
@@ -210,6 +257,8 @@ consequences t =
     record {
       serials-rise = rising t ((checkOf t) .good) (A .good-to);
       atoms-differ = differ t ((checkOf t) .good) (A .good-to);
+      models-number = numbered t ((checkOf t) .good) (A .good-to);
+      models-hold = held t ((checkOf t) .good) (A .good-to);
       conects-name = λ i c. conect-names t ((checkOf t) .good) i c (A .good-to);
       masters-count = λ i m. master-totals t ((checkOf t) .good) i m (A .good-to);
       counts-true = A .counts ∙ counted t ((checkOf t) .good) (A .good-to);

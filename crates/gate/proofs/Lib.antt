@@ -1,3 +1,4 @@
 pub mod Sofar
 pub mod Runs
+pub mod Models
 pub mod Consequences

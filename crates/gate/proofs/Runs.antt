@@ -21,7 +21,8 @@ use Rattle.search.specs.Search.{span}
 use Rattle.gate.specs.declared.Verdict.{Verdict}
 use Rattle.rows.specs.Text.{cut, pieceAt, row, down}
 use Rattle.gate.specs.Gate.{numberIn, refusedOf, finishOf, checkLines, checkOf}
-use Rattle.serials.specs.Search.{growOf, Block}
+use Rattle.serials.specs.declared.Earlier.{Earlier}
+use Rattle.serials.specs.Search.{growOf, noEarlier, earlierOf, Block, Behind}
 use Rattle.rows.proofs.Cut.{cut-next, cut-done}
 use Rattle.gate.proofs.Sofar.{Few, Grown, grown, sofar-start}
 
@@ -44,13 +45,15 @@ pub record Reached (t : List ℕ) (n : ℕ) : Type 0 where
   pub lines : (stateAt (row t) n) .lines ≡ n
   pub few : Few ((stateAt (row t) n) .counts) n
   pub span : Span
+  pub earlier : Earlier
   pub block : Block (row t) n span (stateAt (row t) n)
+  pub behind : Behind (row t) n earlier
 
 long-within : (t : List ℕ) (n : ℕ) → 81 ≤ length (pieceAt t n) → 81 * suc n ≤ length t
 unfolding pieceAt
 long-within t n h = omega (arith, simp (length-take, length-drop) at h)
 
-reach-more : (t : List ℕ) (n : ℕ) → (R : Reached t n) → Grown t n (R .span) (stateAt (row t) n) (row t n) → Reached t (suc n)
+reach-more : (t : List ℕ) (n : ℕ) → (R : Reached t n) → Grown t n (R .span) (R .earlier) (stateAt (row t) n) (row t n) → Reached t (suc n)
 unfolding stateAt
 reach-more t n R G =
     record {
@@ -58,17 +61,19 @@ reach-more t n R G =
       lines = G .lines ∙ ap (λ (m : ℕ). m + 1) (R .lines) ∙ add-one n;
       few = rw (← add-one n) (G .few);
       span = growOf (R .span) n (row t n);
+      earlier = earlierOf (R .span) (R .earlier) (row t n);
       block = rw (← add-one n) (G .block);
+      behind = rw (← add-one n) (G .behind);
     }
 
 pub reached : (t : List ℕ) (n : ℕ) → GoodTo (row t) n → Reached t n
 unfolding stateAt
 reached t zero g =
-    let S = sofar-start t in
-    record { within = omega arith; lines = S .lines; few = S .few; span = span 0 0; block = S .block }
+    let S = sofar-start t (record { block = span 0 0; earlier = noEarlier; near = record { place = 0; serial = record { 0 = 0 } } }) startOf refl refl refl in
+    record { within = omega arith; lines = S .lines; few = S .few; span = span 0 0; earlier = noEarlier; block = S .block; behind = S .behind }
 reached t (suc n) g =
     let R = reached t n (λ j h. g j (omega arith)) in
-    reach-more t n R (grown t n (R .span) (stateAt (row t) n) _ (R .few) (R .block) (row t n) refl (g n (omega arith)))
+    reach-more t n R (grown t n (R .span) (R .earlier) (stateAt (row t) n) _ (R .few) (R .block) (R .behind) (row t n) refl (g n (omega arith)))
 
 -- a line more of the rest
 rest-next : (t : List ℕ) (n : ℕ) → 81 * n < length t → map lineOf (cut (drop (81 * n) t)) ≡ row t n ∷ map lineOf (cut (drop (81 * suc n) t))

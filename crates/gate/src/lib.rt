@@ -16,7 +16,7 @@ ghost use Rattle.rows.specs.Text.{row, down};
 ghost use Rattle.rules.specs.declared.State.{State as StateOf};
 ghost use Rattle.rules.specs.Rules.{startOf, nextOf};
 ghost use Rattle.search.specs.Search.{span};
-ghost use Rattle.serials.specs.Search.{growOf, Block, Rising};
+ghost use Rattle.serials.specs.Search.{growOf, noEarlier, earlierOf, Block, Behind, Rising, Reached};
 ghost use Rattle.trail.specs.Trail.{Watched};
 ghost use Rattle.gate.specs.Gate.{refusedOf, finishOf, numberIn, checkOf};
 
@@ -64,7 +64,7 @@ pub fn check(text: &[u8]) -> Verdict
 
 // Before the first line.
 pub fn start() -> Course
-    ensures { λ r. ⌜ (r .state ≡ startOf) × (r .past .block ≡ span 0 0) ⌝ }
+    ensures { λ r. ⌜ (r .state ≡ startOf) × (r .past .block ≡ span 0 0) × (r .past .earlier ≡ noEarlier) ⌝ }
     ensures { λ r. ⌜ ((t : List ℕ) → Watched t (span 0 0) (r .watch)) ⌝ }
 {
     let s = rules::start();
@@ -80,12 +80,12 @@ pub fn start() -> Course
 // What line i gives, which is l.
 pub fn turn(text: &[u8], i: usize, c: Course, l: Line) -> Onward
     requires { ⌜ (81 * i < length (now text)) × (l ≡ row (now text) i) ⌝ }
-    requires { ⌜ Rising (now text) (c .past .block .lo) (c .past .block .hi) ⌝ }
+    requires { ⌜ Rising (now text) (c .past .block .lo) (c .past .block .hi) × Reached (now text) (c .past .earlier) ⌝ }
     requires { ⌜ Watched (now text) (c .past .block) (c .watch) ⌝ }
     requires { ⌜ Room (c .state .counts) ⌝ }
     requires { ⌜ (c .state .lines < 9223372036854775808) × (i < 9223372036854775808) ⌝ }
-    ensures { λ r. ⌜ ((n : ℕ) (s : StateOf) → Block (row (now (text .entry))) n (c .past .block) s → r .number ≡ numberIn (down (row (now (text .entry))) n) (c .state) l) ⌝ }
-    ensures { λ r. ⌜ (r .number ≡ 0 → (r .course .state ≡ nextOf (c .state) l) × (r .course .past .block ≡ growOf (c .past .block) i l)) ⌝ }
+    ensures { λ r. ⌜ ((n : ℕ) (s : StateOf) → Block (row (now (text .entry))) n (c .past .block) s → Behind (row (now (text .entry))) n (c .past .earlier) → r .number ≡ numberIn (down (row (now (text .entry))) n) (c .state) l) ⌝ }
+    ensures { λ r. ⌜ (r .number ≡ 0 → (r .course .state ≡ nextOf (c .state) l) × (r .course .past .block ≡ growOf (c .past .block) i l) × (r .course .past .earlier ≡ earlierOf (c .past .block) (c .past .earlier) l)) ⌝ }
     ensures { λ r. ⌜ (r .number ≡ 0 → (isCoord l ≡ true → c .past .block .lo < c .past .block .hi → c .past .block .hi ≡ i) → Watched (now (text .entry)) (growOf (c .past .block) i l) (r .course .watch)) ⌝ }
 {
     let s = c.state;

@@ -11,7 +11,7 @@ use lib.Dec.{ltb}
 use lib.ListN.{length}
 use Rattle.facets.specs.declared.Spot.{Spot}
 use Rattle.facets.specs.declared.Spot.the-variants.{Site, Close, Nowhere}
-use Rattle.facets.specs.Facets.{spotIn, isSpot}
+use Rattle.facets.specs.Facets.{spotIn, isSpot, isFence}
 use Rattle.rows.specs.Text.{pieceAt, row}
 use Rattle.serials.specs.Known.{isAtom}
 use Rattle.serials.specs.Search.{spotSerial, serialOf}
@@ -56,7 +56,7 @@ search-on (suc m) x t i h L = go (search-on m x t (i + 1) (omega arith)) (ltb (8
 searched : (x : ℕ) (t : List ℕ) → At x t ⊎ Never x t
 searched x t = search-on (length t) x t 0 (omega arith) (looked-start x t)
 
--- ---- in an accepted text there is no second one
+-- ---- in an accepted text without models there is no second one
 atom-serial : (x : ℕ) (s : Spot) → isAtom x s ≡ true → (isSpot s ≡ true) × (spotSerial s ≡ x)
 atom-serial x (Site het a) e = (refl, eqb-true _ _ e)
 atom-serial x (Close t) e = absurd (false≢true e)
@@ -69,21 +69,23 @@ hit-whole x t i e = go (ltb (length t) (81 * i + 81)) refl
     go true u = absurd (false≢true (sym (past-misses x t i (ltb-true _ _ u)) ∙ e))
     go false u = ltb-false (length t) (81 * i + 81) u
 
-apart : (x : ℕ) (t : List ℕ) (j i : ℕ) → checkOf t .number ≡ 0 → j < i → isHit x (pieceAt t j) ≡ true → isHit x (pieceAt t i) ≡ true → ⊥
-apart x t j i g h ej ei =
+apart : (x : ℕ) (t : List ℕ) (j i : ℕ) → checkOf t .number ≡ 0 → ((k : ℕ) → isFence (row t k) ≡ false) → j < i
+    → isHit x (pieceAt t j) ≡ true → isHit x (pieceAt t i) ≡ true → ⊥
+apart x t j i g f h ej ei =
     let C = consequences t in
     let n = C .ends g .0 in
     let w = hit-whole x t i ei in
     let a = atom-serial x (spotIn (row t j)) (sym (hit-site x t j) ∙ ej) in
     let b = atom-serial x (spotIn (row t i)) (sym (hit-site x t i) ∙ ei) in
-    let r : serialOf (row t j) < serialOf (row t i) = C .serials-rise j i h (omega (arith, n, w)) (a .0) (b .0) in
+    let r : serialOf (row t j) < serialOf (row t i) = C .serials-rise j i h (omega (arith, n, w)) (λ k u v. f k) (a .0) (b .0) in
     omega (arith, a .1, b .1)
 
-only-at : (x : ℕ) (t : List ℕ) → checkOf t .number ≡ 0 → (i : ℕ) → isHit x (pieceAt t i) ≡ true → At x t → jumpOf x t .line ≡ i + 1
-only-at x t g i e A = ap (λ r. r .line) (A .answer) ∙ go (ltb (A .index) i) refl (ltb i (A .index)) refl
+only-at : (x : ℕ) (t : List ℕ) → checkOf t .number ≡ 0 → ((k : ℕ) → isFence (row t k) ≡ false) → (i : ℕ) → isHit x (pieceAt t i) ≡ true
+    → At x t → jumpOf x t .line ≡ i + 1
+only-at x t g f i e A = ap (λ r. r .line) (A .answer) ∙ go (ltb (A .index) i) refl (ltb i (A .index)) refl
   where
     go : (b : Bool) → ltb (A .index) i ≡ b → (c : Bool) → ltb i (A .index) ≡ c → A .index + 1 ≡ i + 1
-    go true u c v = absurd (apart x t (A .index) i g (ltb-true _ _ u) (A .hit) e)
+    go true u c v = absurd (apart x t (A .index) i g f (ltb-true _ _ u) (A .hit) e)
     go false u true v = absurd (false≢true (sym (A .above i (ltb-true _ _ v)) ∙ e))
     go false u false v = omega (arith, ltb-false (A .index) i u, ltb-false i (A .index) v)
 
@@ -105,7 +107,7 @@ jumps x t = ⊎-elim at never (searched x t)
           found = found-at x t A;
           nowhere = λ e. absurd (omega (arith, l, e));
           site = hit-site x t;
-          only = λ g i e. only-at x t g i e A;
+          only = λ g f i e. only-at x t g f i e A;
         }
 
     never : Never x t → Jumps x t
@@ -115,5 +117,5 @@ jumps x t = ⊎-elim at never (searched x t)
           found = λ i e. absurd (omega (arith, l, e));
           nowhere = λ e. (N .misses, rw (N .answer));
           site = hit-site x t;
-          only = λ g i e. absurd (false≢true (sym (N .misses i) ∙ e));
+          only = λ g f i e. absurd (false≢true (sym (N .misses i) ∙ e));
         }

@@ -2,8 +2,8 @@
 -- Assumes nothing.
 use Prim.Native.Nat.{ℕ, _≤_}
 use mathlib.Core.List.{List}
-use mathlib.Core.Bool.{Bool, true, false, true≢false}
-use mathlib.Core.Path.{_≡_, refl, _∙_}
+use mathlib.Core.Bool.{Bool, true, false}
+use mathlib.Core.Path.{_≡_, refl}
 use native.Mathlib.Omega.{arith}
 use borrow.Author.Tests.{ne-eqb, eq-eqb, ltb-true, ltb-false}
 use lib.Dec.{eqb, ltb}
@@ -20,14 +20,8 @@ use Rattle.line.specs.Lines.{readingOf, answerOf, readLine}
 use Rattle.pieces.specs.declared.Line.{Line}
 use Rattle.pieces.specs.declared.Line.the-variants.{Bad, Carried}
 use Rattle.pieces.specs.Pieces.{lineIn, columnsOf, lineOf}
-use Rattle.facets.specs.declared.Spot.{Spot}
-use Rattle.facets.specs.declared.Spot.the-variants.{Site, Close, Nowhere}
-use Rattle.facets.specs.Facets.{spotIn, isSpot, isCoord}
-use Rattle.fields.specs.Field.{rangedNumber}
-use Rattle.places.specs.Counts.{countOf}
 use Rattle.rows.specs.Text.{pieceAt, row}
-use Rattle.serials.specs.Known.{isAtom, isSite}
-use Rattle.serials.proofs.Rows.{coord-site}
+use Rattle.serials.specs.Known.{isSite}
 use Rattle.jump.specs.Jumping.{readAtom, isHit}
 
 -- ---- a piece by itself
@@ -66,21 +60,3 @@ hit-alike x p h = go (ltb (length p) 81) refl
 pub hit-site : (x : ℕ) (t : List ℕ) (i : ℕ) → isHit x (pieceAt t i) ≡ isSite x (row t i)
 unfolding row pieceAt
 hit-site x t i = hit-alike x (pieceAt t i) (simp length-take (omega arith))
-
--- columns 7-11 do not fit
-pub spot-misses : (x : ℕ) (s : Spot) → isSpot s ≡ false → isAtom x s ≡ false
-spot-misses x (Site het a) e = absurd (true≢false e)
-spot-misses x (Close t) e = refl
-spot-misses x Nowhere e = refl
-
-pub other-misses : (x : ℕ) (t : List ℕ) (i v : ℕ) → v ≡ (rangedNumber 5 0 1 99999 (take 80 (pieceAt t i)) 6) .value → (v ≡ x → ⊥) → isHit x (pieceAt t i) ≡ false
-unfolding both
-other-misses x t i v e n = hit-site x t i ∙ go (isCoord (row t i)) refl
-  where
-    never : (b : Bool) → both b false ≡ false
-    never true = refl
-    never false = refl
-
-    go : (b : Bool) → isCoord (row t i) ≡ b → isSite x (row t i) ≡ false
-    go true c = coord-site t i x c ∙ rw (← e, ne-eqb v x n) (never (eqb (countOf (kindOf (take 80 (pieceAt t i)))) 6))
-    go false c = spot-misses x (spotIn (row t i)) c

@@ -6,6 +6,7 @@ use mathlib.Core.Bool.{Bool, true, false}
 use mathlib.Core.Path.{_≡_, refl, _∙_, ap}
 use native.Mathlib.Omega.{arith}
 use borrow.Author.Tests.{ltb-true, ltb-false}
+use borrow.Author.Count.{below-more}
 use lib.Dec.{ltb}
 use lib.ListN.{length, drop, length-take, length-drop}
 use Rattle.ascii.specs.Tests.{pick}
@@ -36,12 +37,8 @@ pub looked-next : (x : ℕ) (t : List ℕ) (i : ℕ) → Looked x t i → 81 * i
 looked-next x t i L h m =
     record {
       rest = L .rest ∙ hits-next x t i h ∙ rw m;
-      above = λ j k. go j k (ltb j i) refl;
+      above = below-more (λ (j : ℕ). isHit x (pieceAt t j) ≡ false) i (L .above) m;
     }
-  where
-    go : (j : ℕ) → j < i + 1 → (b : Bool) → ltb j i ≡ b → isHit x (pieceAt t j) ≡ false
-    go j k true u = L .above j (ltb-true j i u)
-    go j k false u = let e : j ≡ i = omega (arith, ltb-false j i u) in rw e m
 
 -- at a hit the answer is its number
 pub looked-hit : (x : ℕ) (t : List ℕ) (i : ℕ) → Looked x t i → 81 * i < length t → isHit x (pieceAt t i) ≡ true

@@ -14,7 +14,7 @@ use Rattle.columns.specs.Columns.{cleanAt}
 use Rattle.words.specs.Words.{wordAt, bytesOf}
 use Rattle.words.proofs.Laws.{word-kept}
 use Rattle.kinds.specs.declared.Kind.{Kind}
-use Rattle.kinds.specs.declared.Kind.the-variants.{Header, Title, Compnd, Source, Keywds, Expdta, Author, Revdat, Jrnl, Remark, Seqres, Het, Helix, Sheet, Cryst1, Origx1, Origx2, Origx3, Scale1, Scale2, Scale3, Atom, Hetatm, Ter, Conect, Master, End, Unknown}
+use Rattle.kinds.specs.declared.Kind.the-variants.{Header, Title, Compnd, Source, Keywds, Expdta, Author, Revdat, Jrnl, Remark, Seqres, Het, Helix, Sheet, Cryst1, Origx1, Origx2, Origx3, Scale1, Scale2, Scale3, Atom, Hetatm, Ter, Conect, Master, End, Unknown, Model, Endmdl}
 use Rattle.kinds.specs.Kinds.{packed, unpacked, rowOf, nameText, isNamed, kinds, firstNamed, kindNamed, kindOf}
 
 -- ---- the name that a kind has
@@ -68,6 +68,8 @@ kind-back Conect = refl
 kind-back Master = refl
 kind-back End = refl
 kind-back Unknown = refl
+kind-back Model = refl
+kind-back Endmdl = refl
 
 pub kind-first : (x : List ℕ) (k : Kind) → kindOf (nameText k ++ x) ≡ k
 unfolding kindOf wordAt

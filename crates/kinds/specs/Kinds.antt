@@ -3,7 +3,7 @@ use Rattle.ascii.specs.Library.{ℕ, zero, suc, _+_, _*_, _/_, _%_, String, Lis
 use Rattle.fields.specs.Format.{Format}
 use Rattle.words.specs.Words.{wordAt}
 use Rattle.kinds.specs.declared.{Kind.Kind, Row.Row}
-use Rattle.kinds.specs.declared.Kind.the-variants.{Header, Title, Compnd, Source, Keywds, Expdta, Author, Revdat, Jrnl, Remark, Seqres, Het, Helix, Sheet, Cryst1, Origx1, Origx2, Origx3, Scale1, Scale2, Scale3, Atom, Hetatm, Ter, Conect, Master, End, Unknown}
+use Rattle.kinds.specs.declared.Kind.the-variants.{Header, Title, Compnd, Source, Keywds, Expdta, Author, Revdat, Jrnl, Remark, Seqres, Het, Helix, Sheet, Cryst1, Origx1, Origx2, Origx3, Scale1, Scale2, Scale3, Atom, Hetatm, Ter, Conect, Master, End, Unknown, Model, Endmdl}
 
 -- bytes as one number, to the base 256, after those that are packed already
 abbrev pub packed : ℕ → List ℕ → ℕ
@@ -41,6 +41,7 @@ slotted s = rowWith true true (nameOf s)
 -- which of the nine counts of MASTER it is counted in, 0 for none.
 -- Place 0 is before the first line, which is HEADER; HEADER, CRYST1, MASTER and END stand at most once; END directly follows MASTER.
 -- ORIGX and SCALE stand as trios: their first two lines are the places 22 to 25, which only the next line of the trio follows.
+-- MODEL and ENDMDL share the place of the coordinate lines that stand between them.
 -- An unknown name has no place, and follows none: none is from 1 to 0.
 abbrev pub rowOf : Kind → Row
 rowOf Header = carried "HEADER" 0 0 1 0
@@ -71,6 +72,8 @@ rowOf Conect = typed "CONECT" 1 19 19 8
 rowOf Master = typed "MASTER" 1 19 20 0
 rowOf End = typed "END   " 20 20 21 0
 rowOf Unknown = carried "" 1 0 0 0
+rowOf Model = typed "MODEL " 1 18 18 0
+rowOf Endmdl = typed "ENDMDL" 1 18 18 0
 
 -- ---- its columns
 -- the name of a kind
@@ -99,7 +102,7 @@ abbrev pub kinds : List Kind
 kinds =
     Header ∷ Title ∷ Compnd ∷ Source ∷ Keywds ∷ Expdta ∷ Author ∷ Revdat ∷ Jrnl ∷
     Remark ∷ Seqres ∷ Het ∷ Helix ∷ Sheet ∷ Cryst1 ∷ Origx1 ∷ Origx2 ∷ Origx3 ∷
-    Scale1 ∷ Scale2 ∷ Scale3 ∷ Atom ∷ Hetatm ∷ Ter ∷ Conect ∷ Master ∷ End ∷ []
+    Scale1 ∷ Scale2 ∷ Scale3 ∷ Atom ∷ Hetatm ∷ Ter ∷ Conect ∷ Master ∷ End ∷ Model ∷ Endmdl ∷ []
 
 -- the first of some kinds whose name is n
 abbrev pub firstNamed : ℕ → List Kind → Kind

@@ -32,6 +32,8 @@ pub enum Kind {
     Master,
     End,
     Unknown,
+    Model,
+    Endmdl,
 }
 
 // What the rules say of a kind.
@@ -104,6 +106,10 @@ pub const CONECT: u64 = 0x434f4e454354;
 pub const MASTER: u64 = 0x4d4153544552;
 
 pub const END: u64 = 0x454e44202020;
+
+pub const MODEL: u64 = 0x4d4f44454c20;
+
+pub const ENDMDL: u64 = 0x454e444d444c;
 
 // Columns 7-80 are free.
 fn carried(name: u64, low: u8, high: u8, here: u8, count: u8) -> Row
@@ -183,6 +189,8 @@ pub fn row_of(k: Kind) -> Row
         Kind::Master => typed(MASTER, 1, 19, 20, 0),
         Kind::End => typed(END, 20, 20, 21, 0),
         Kind::Unknown => carried(0, 1, 0, 0, 0),
+        Kind::Model => typed(MODEL, 1, 18, 18, 0),
+        Kind::Endmdl => typed(ENDMDL, 1, 18, 18, 0),
     }
 }
 
@@ -226,6 +234,8 @@ pub fn kind_named(n: u64) -> Kind
         CONECT => Kind::Conect,
         MASTER => Kind::Master,
         END => Kind::End,
+        MODEL => Kind::Model,
+        ENDMDL => Kind::Endmdl,
         _ => Kind::Unknown,
     }
 }

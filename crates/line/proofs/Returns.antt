@@ -19,7 +19,7 @@ use Rattle.line.specs.declared.Reading.{Reading}
 use Rattle.line.specs.declared.Reading.the-variants.{Typed, Wrong}
 use Rattle.line.specs.declared.Answer.{Answer}
 use Rattle.line.specs.declared.Answer.the-variants.{Refused}
-use Rattle.line.specs.Lines.{endF, judged, readingOf, answerOf, readLine, recordOk, recordLine}
+use Rattle.line.specs.Lines.{bareF, bareLine, judged, readingOf, answerOf, readLine, recordOk, recordLine}
 
 -- ---- a kind of line: the column and the record are those of its definition
 module _ (c fault : ℕ) (r s : Record) (e : c ≡ fault) (f : r ≡ s) where
@@ -31,8 +31,8 @@ module _ (c fault : ℕ) (r s : Record) (e : c ≡ fault) (f : r ≡ s) where
   unfolding judged
   judged-wrong z = rw (← e, ne-eqb c 0 z)
 
-pub end-column : (l : List ℕ) (g c : ℕ) → g ≡ gapOf l 6 74 → c ≡ firstOf g 0 → c ≡ endF .fault l 6
-end-column l g c e f = f ∙ ap (λ x. firstOf x 0) e
+pub bare-column : (l : List ℕ) (g c : ℕ) → g ≡ gapOf l 6 74 → c ≡ firstOf g 0 → c ≡ bareF .fault l 6
+bare-column l g c e f = f ∙ ap (λ x. firstOf x 0) e
 
 -- ---- reading
 module _ (l : List ℕ) where
@@ -56,9 +56,20 @@ Written r n l l' = (n ≡ writeNumber (recordOk r) l) × (l' ≡ writeLine (reco
 pub record-written : (x r : Record) (n : ℕ) (l l' : List ℕ) → x ≡ r → Written r n l l' → Written x n l l'
 record-written x r n l l' e p = rw e p
 
-pub end-short : (l : List ℕ) → length l < 80 → Written rec.End 17 l l
-end-short l h = write-short true true refl (recordLine rec.End) l refl h
+-- a line that is a name alone
+abbrev pub Bare : ℕ → ℕ → List ℕ → List ℕ → Type 0
+Bare name n l l' = (n ≡ writeNumber true l) × (l' ≡ writeLine true (bareLine name) l)
 
-pub end-done : (l l1 l2 : List ℕ) → 80 ≤ length l → Put l 0 6 (bytesOf 6 (packed 0 (nameText kind.End))) l1 → Put l1 6 74 (blanks 74) l2 → Written rec.End 0 l l2
+pub bare-short : (name : ℕ) (l : List ℕ) → length l < 80 → Bare name 17 l l
+bare-short name l h = write-short true true refl (bareLine name) l refl h
+
+pub bare-done : (name : ℕ) (l l1 l2 : List ℕ) → 80 ≤ length l → Put l 0 6 (bytesOf 6 name) l1 → Put l1 6 74 (blanks 74) l2 → Bare name 0 l l2
+bare-done name l l1 l2 h p q = write-done true true refl (bareLine name) l l2 refl h (put-then p (put-then q (none-put l2 80)))
+
+pub end-written : (n : ℕ) (l l' : List ℕ) → Bare (packed 0 (nameText kind.End)) n l l' → Written rec.End n l l'
 unfolding bytesOf
-end-done l l1 l2 h p q = write-done true true refl (recordLine rec.End) l l2 refl h (put-then p (put-then q (none-put l2 80)))
+end-written n l l' p = p
+
+pub endmdl-written : (n : ℕ) (l l' : List ℕ) → Bare (packed 0 (nameText kind.Endmdl)) n l l' → Written rec.Endmdl n l l'
+unfolding bytesOf
+endmdl-written n l l' p = p

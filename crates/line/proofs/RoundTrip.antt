@@ -1,4 +1,4 @@
--- The two round trips, over all eight typed kinds.
+-- The two round trips, over all ten typed kinds.
 -- Assumes nothing.
 use mathlib.Core.Path.{_≡_, refl, sym, _∙_}
 use mathlib.Core.List.{List, _++_}
@@ -15,7 +15,7 @@ use Rattle.columns.proofs.Spans.{clean-cols, clean-fewer}
 use Rattle.fields.specs.Format.{Format, writeNumber, writeLine}
 use Rattle.fields.proofs.Formats.{Lawful, none-lawful, after-lawful, line-kept, line-back, line-clean, line-long}
 use Rattle.kinds.specs.declared.Kind.{Kind}
-use Rattle.kinds.specs.declared.Kind.the-variants.{Atom, Hetatm, Ter, Helix, Sheet, Conect, Master, End}
+use Rattle.kinds.specs.declared.Kind.the-variants.{Atom, Hetatm, Ter, Helix, Sheet, Conect, Master, End, Model, Endmdl}
 use Rattle.kinds.specs.Kinds.{rowOf, nameText, is, isNamed, kindOf}
 use Rattle.kinds.proofs.First.{name-first, kind-first, same-name}
 use Rattle.coordinate.specs.Atoms.{atomF}
@@ -30,17 +30,19 @@ use Rattle.conect.specs.Conects.{conectF}
 use Rattle.conect.proofs.Laws.{conect-lawful}
 use Rattle.master.specs.Masters.{masterF}
 use Rattle.master.proofs.Laws.{master-lawful}
+use Rattle.model.specs.Models.{modelF}
+use Rattle.model.proofs.Laws.{model-lawful}
 use Rattle.line.specs.declared.Record.{Record}
 use Rattle.line.specs.declared.Record.the-variants as rec
 use Rattle.line.specs.declared.Reading.{Reading}
 use Rattle.line.specs.declared.Reading.the-variants.{Typed, Wrong, Untyped}
 use Rattle.line.specs.declared.Answer.{Answer}
 use Rattle.line.specs.declared.Answer.the-variants.{Read, Refused}
-use Rattle.line.specs.Lines.{endF, judged, readingOf, answerOf, readLine, answerNumber, recordOk, recordLine}
+use Rattle.line.specs.Lines.{bareF, judged, readingOf, answerOf, readLine, answerNumber, recordOk, recordLine}
 use Rattle.line.specs.Promise.{RoundTrips}
 
-end-lawful : Lawful endF
-end-lawful = after-lawful 74 none-lawful
+bare-lawful : Lawful bareF
+bare-lawful = after-lawful 74 none-lawful
 
 -- ---- what reads is what would be written
 abbrev Kept : List ℕ → Reading → Type 0
@@ -72,8 +74,10 @@ kept-reading l h c k e =
     (λ _. picks (Kept l) (is Sheet k) _ _ (λ t. kept-judged sheetF sheet-lawful refl Sheet refl rec.Sheet (λ a. refl) (λ a. refl) l h (first Sheet refl t))
     (λ _. picks (Kept l) (is Conect k) _ _ (λ t. kept-judged conectF conect-lawful refl Conect refl rec.Conect (λ a. refl) (λ a. refl) l h (first Conect refl t))
     (λ _. picks (Kept l) (is Master k) _ _ (λ t. kept-judged masterF master-lawful refl Master refl rec.Master (λ a. refl) (λ a. refl) l h (first Master refl t))
-    (λ _. picks (Kept l) (is End k) _ _ (λ t. kept-judged endF end-lawful refl End refl (λ a. rec.End) (λ a. refl) (λ a. refl) l h (first End refl t))
-    (λ _. kept-untyped l))))))))
+    (λ _. picks (Kept l) (is End k) _ _ (λ t. kept-judged bareF bare-lawful refl End refl (λ a. rec.End) (λ a. refl) (λ a. refl) l h (first End refl t))
+    (λ _. picks (Kept l) (is Model k) _ _ (λ t. kept-judged modelF model-lawful refl Model refl rec.Model (λ a. refl) (λ a. refl) l h (first Model refl t))
+    (λ _. picks (Kept l) (is Endmdl k) _ _ (λ t. kept-judged bareF bare-lawful refl Endmdl refl (λ a. rec.Endmdl) (λ a. refl) (λ a. refl) l h (first Endmdl refl t))
+    (λ _. kept-untyped l))))))))))
   where
     first : (a : Kind) → isNamed a ≡ true → is a k ≡ true → take 6 l ≡ nameText a
     first a known t =
@@ -138,7 +142,9 @@ back (rec.Helix h) ok = back-judged helixF helix-lawful refl Helix refl tt rec.H
 back (rec.Sheet s) ok = back-judged sheetF sheet-lawful refl Sheet refl tt rec.Sheet (λ l. refl) s ok
 back (rec.Conect c) ok = back-judged conectF conect-lawful refl Conect refl tt rec.Conect (λ l. refl) c ok
 back (rec.Master t) ok = back-judged masterF master-lawful refl Master refl tt rec.Master (λ l. refl) t ok
-back rec.End ok = back-judged endF end-lawful refl End refl tt (λ a. rec.End) (λ l. refl) tt ok
+back rec.End ok = back-judged bareF bare-lawful refl End refl tt (λ a. rec.End) (λ l. refl) tt ok
+back (rec.Model m) ok = back-judged modelF model-lawful refl Model refl tt rec.Model (λ l. refl) m ok
+back rec.Endmdl ok = back-judged bareF bare-lawful refl Endmdl refl tt (λ a. rec.Endmdl) (λ l. refl) tt ok
 
 -- ---- both, of what the functions promise
 -- a line that was read, written into a buffer with room, stands there byte for byte, and what lies behind it is as found

@@ -20,7 +20,7 @@ use Rattle.line.specs.Lines.{readingOf}
 
 not-typed : (k : Kind) (l : List ℕ) → isTyped k ≡ false → readingOf k l ≡ Untyped
 unfolding readingOf
-not-typed k l e = rw (no kind.Atom refl, no kind.Hetatm refl, no kind.Ter refl, no kind.Helix refl, no kind.Sheet refl, no kind.Conect refl, no kind.Master refl, no kind.End refl)
+not-typed k l e = rw (no kind.Atom refl, no kind.Hetatm refl, no kind.Ter refl, no kind.Helix refl, no kind.Sheet refl, no kind.Conect refl, no kind.Master refl, no kind.End refl, no kind.Model refl, no kind.Endmdl refl)
   where
     no : (a : Kind) → isTyped a ≡ true → is a k ≡ false
     no a t = ne-eqb (rowOf a .name) (rowOf k .name) (λ q. never (sym e ∙ sym (ap isTyped (same-name a k q)) ∙ t))

@@ -1,9 +1,9 @@
 -- A line by itself: the record that it reads to, and the line that a record is written as.
-use Rattle.ascii.specs.Library.{ℕ, List, Bool, true, false, length, eqb, pick}
+use Rattle.ascii.specs.Library.{ℕ, List, _++_, Bool, true, false, length, eqb, pick}
 use Rattle.columns.specs.Columns.{cleanAt}
 use Rattle.fields.specs.Format.{Format, noneF, after}
 use Rattle.kinds.specs.declared.{Kind.Kind}
-use Rattle.kinds.specs.declared.Kind.the-variants.{Atom, Hetatm, Ter, Helix, Sheet, Conect, Master, End}
+use Rattle.kinds.specs.declared.Kind.the-variants.{Atom, Hetatm, Ter, Helix, Sheet, Conect, Master, End, Model, Endmdl}
 use Rattle.kinds.specs.Kinds.{lineWith, is, kindOf}
 use Rattle.coordinate.specs.Atoms.{atomF, coordinateKind}
 use Rattle.ter.specs.Ters.{terF}
@@ -11,12 +11,18 @@ use Rattle.helix.specs.Helices.{helixF}
 use Rattle.sheet.specs.Sheets.{sheetF}
 use Rattle.conect.specs.Conects.{conectF}
 use Rattle.master.specs.Masters.{masterF}
+use Rattle.model.specs.Models.{modelF}
+use Rattle.words.specs.Words.{bytesOf}
 use Rattle.line.specs.declared.{Record.Record, Reading.Reading, Reading.the-variants.Typed, Reading.the-variants.Wrong, Reading.the-variants.Untyped, Answer.Answer, Answer.the-variants.Read, Answer.the-variants.Refused}
 use Rattle.line.specs.declared.Record.the-variants as rec
 
--- END: columns 7 to 80 are blank
-abbrev pub endF : Format (Unit {0})
-endF = after 74 noneF
+-- END and ENDMDL: columns 7 to 80 are blank
+abbrev pub bareF : Format (Unit {0})
+bareF = after 74 noneF
+
+-- a name, told as one number, with them
+abbrev pub bareLine : ℕ → List ℕ
+bareLine name = bytesOf 6 name ++ bareF .text tt
 
 -- the record of a line in which no field is wrong, or the first column of the leftmost wrong one
 unfoldable pub judged : ℕ → Record → Reading
@@ -32,8 +38,10 @@ readingOf k l =
     (pick (is Sheet k) (judged (sheetF .fault l 6) (rec.Sheet (sheetF .value l 6)))
     (pick (is Conect k) (judged (conectF .fault l 6) (rec.Conect (conectF .value l 6)))
     (pick (is Master k) (judged (masterF .fault l 6) (rec.Master (masterF .value l 6)))
-    (pick (is End k) (judged (endF .fault l 6) rec.End)
-    Untyped)))))))
+    (pick (is End k) (judged (bareF .fault l 6) rec.End)
+    (pick (is Model k) (judged (modelF .fault l 6) (rec.Model (modelF .value l 6)))
+    (pick (is Endmdl k) (judged (bareF .fault l 6) rec.Endmdl)
+    Untyped)))))))))
 
 -- 4: a name that is unknown or carried; 6: a field or blank column wrong
 abbrev pub answerOf : Reading → Answer
@@ -58,7 +66,9 @@ formOf (rec.Helix h) = (helixF .ok h, lineWith Helix helixF h)
 formOf (rec.Sheet s) = (sheetF .ok s, lineWith Sheet sheetF s)
 formOf (rec.Conect c) = (conectF .ok c, lineWith Conect conectF c)
 formOf (rec.Master t) = (masterF .ok t, lineWith Master masterF t)
-formOf rec.End = (endF .ok tt, lineWith End endF tt)
+formOf rec.End = (bareF .ok tt, lineWith End bareF tt)
+formOf (rec.Model m) = (modelF .ok m, lineWith Model modelF m)
+formOf rec.Endmdl = (bareF .ok tt, lineWith Endmdl bareF tt)
 
 abbrev pub recordOk : Record → Bool
 recordOk r = formOf r .0

@@ -1,4 +1,4 @@
--- The two round trips between lines and records, over all eight typed kinds: the statement. It is proved in proofs/.
+-- The two round trips between lines and records, over all ten typed kinds: the statement. It is proved in proofs/.
 use Rattle.ascii.specs.Library.{ℕ, _≤_, List, _++_, true, _≡_, length, drop}
 use Rattle.fields.specs.Format.{writeNumber, writeLine}
 use Rattle.line.specs.declared.{Record.Record, Answer.the-variants.Read}

@@ -4,9 +4,11 @@ use coordinate::Atom;
 use helix::Helix;
 use kinds::Kind;
 use master::Tally;
+use model::Model;
 use sheet::Sheet;
 use ter::Ter;
 ghost use mathlib.Core.Path.{_≡_};
+ghost use mathlib.Core.Bool.{true};
 ghost use lib.ListN.{length};
 ghost use Rattle.fields.specs.Format.{writeNumber, writeLine};
 ghost use Rattle.coordinate.specs.Atoms.{atomF};
@@ -15,8 +17,9 @@ ghost use Rattle.helix.specs.Helices.{helixF};
 ghost use Rattle.sheet.specs.Sheets.{sheetF};
 ghost use Rattle.conect.specs.Conects.{conectF};
 ghost use Rattle.master.specs.Masters.{masterF};
+ghost use Rattle.model.specs.Models.{modelF};
 ghost use Rattle.line.specs.declared.Record.the-variants as rec;
-ghost use Rattle.line.specs.Lines.{endF, judged, readingOf, answerOf, readLine, recordOk, recordLine};
+ghost use Rattle.line.specs.Lines.{bareF, bareLine, judged, readingOf, answerOf, readLine, recordOk, recordLine};
 
 // The record of a typed line.
 pub enum Record {
@@ -28,6 +31,8 @@ pub enum Record {
     Conect(Conect),
     Master(Tally),
     End,
+    Model(Model),
+    Endmdl,
 }
 
 // What a line of 80 columns reads to.
@@ -69,7 +74,9 @@ pub fn write_record(out: &mut [u8], r: Record) -> u8
         Record::Sheet(s) => sheet::write_sheet(out, s),
         Record::Conect(c) => conect::write_conect(out, c),
         Record::Master(t) => master::write_master(out, t),
-        Record::End => write_end(out),
+        Record::End => write_bare(out, kinds::END),
+        Record::Model(m) => model::write_model(out, m),
+        Record::Endmdl => write_bare(out, kinds::ENDMDL),
     }
 }
 
@@ -86,7 +93,9 @@ pub fn read_kind(line: &[u8], k: Kind) -> Reading
         Kind::Sheet => read_sheet(line),
         Kind::Conect => read_conect(line),
         Kind::Master => read_master(line),
-        Kind::End => read_end(line),
+        Kind::End => read_bare(line, Record::End),
+        Kind::Model => read_model(line),
+        Kind::Endmdl => read_bare(line, Record::Endmdl),
         _ => Reading::Untyped,
     }
 }
@@ -179,25 +188,39 @@ fn read_master(line: &[u8]) -> Reading
     Reading::Wrong(column)
 }
 
-fn read_end(line: &[u8]) -> Reading
+fn read_model(line: &[u8]) -> Reading
     requires { ⌜ length (now line) ≡ 80 ⌝ }
-    ensures { λ r. ⌜ r ≡ judged (endF .fault (now (line .entry)) 6) rec.End ⌝ }
+    ensures { λ r. ⌜ r ≡ judged (modelF .fault (now (line .entry)) 6) (rec.Model (modelF .value (now (line .entry)) 6)) ⌝ }
 {
-    let column = columns::first(columns::gap(line, 6, 74), 0);
+    let r = model::read_model(line);
+    let value = r.value;
+    let column = r.column;
     if column == 0 {
-        return Reading::Typed(Record::End);
+        return Reading::Typed(Record::Model(value));
     }
     Reading::Wrong(column)
 }
 
-// END has no field that could be out of its range.
-fn write_end(out: &mut [u8]) -> u8
-    ensures { λ n. ⌜ (n ≡ writeNumber (recordOk rec.End) (now (out .entry))) × (now (out .exit) ≡ writeLine (recordOk rec.End) (recordLine rec.End) (now (out .entry))) ⌝ }
+// A line that is a name alone, and the record that it is.
+fn read_bare(line: &[u8], whole: Record) -> Reading
+    requires { ⌜ length (now line) ≡ 80 ⌝ }
+    ensures { λ r. ⌜ r ≡ judged (bareF .fault (now (line .entry)) 6) whole ⌝ }
+{
+    let column = columns::first(columns::gap(line, 6, 74), 0);
+    if column == 0 {
+        return Reading::Typed(whole);
+    }
+    Reading::Wrong(column)
+}
+
+// Such a line has no field that could be out of its range.
+fn write_bare(out: &mut [u8], name: u64) -> u8
+    ensures { λ n. ⌜ (n ≡ writeNumber true (now (out .entry))) × (now (out .exit) ≡ writeLine true (bareLine name) (now (out .entry))) ⌝ }
 {
     if out.len() < 80 {
         return 17;
     }
-    words::put_word(out, 0, 6, kinds::END);
+    words::put_word(out, 0, 6, name);
     columns::put_blanks(out, 6, 74);
     0
 }

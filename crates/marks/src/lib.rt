@@ -1,8 +1,10 @@
 // What one slot and one line are to each other, by value.
 mod counting;
+mod models;
 
 pub use counting::one_if;
 pub use counting::one_of;
+pub use models::model_next;
 use pieces::Line;
 use slots::Slot;
 ghost use mathlib.Core.Path.{_≡_};
@@ -12,13 +14,13 @@ ghost use Rattle.facets.specs.Facets.{spotIn};
 ghost use Rattle.slots.specs.Slots.{SmallSpot, markAside, withMark};
 ghost use Rattle.table.specs.Table.{fits as fitsOf, markByte};
 
-// Whether a slot fits a line.
-pub fn fits(s: Slot, l: Line) -> bool
+// Whether a slot fits a line of a model.
+pub fn fits(s: Slot, model: u32, l: Line) -> bool
     requires { ⌜ SmallSpot (spotIn l) ⌝ }
-    ensures { λ r. ⌜ r ≡ fitsOf s l ⌝ }
+    ensures { λ r. ⌜ r ≡ fitsOf s model l ⌝ }
 {
     if facets::is_coord(l) {
-        let q = slots::same_slot(s, slots::line_slot(l));
+        let q = slots::same_slot(s, slots::line_slot(model, l));
         return ascii::both_of(s.mark <= slots::MARK_ASIDE, q);
     }
     true

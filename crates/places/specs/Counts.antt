@@ -9,6 +9,10 @@ use Rattle.places.specs.declared.{Counts.Counts}
 abbrev pub countOf : Kind → ℕ
 countOf k = rowOf k .count
 
+-- the same of a line once the first model is past (true): coordinates and TER are counted in the first model alone
+abbrev pub countAt : Bool → Kind → ℕ
+countAt past k = pick (both past (rowOf k .slot)) 0 (rowOf k .count)
+
 -- before the first line
 abbrev pub noCounts : Counts
 noCounts = record { remark = 0; het = 0; helix = 0; sheet = 0; xform = 0; coord = 0; ter = 0; conect = 0; seq = 0 }

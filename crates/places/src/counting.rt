@@ -5,7 +5,7 @@ use kinds::Kind;
 use master::Tally;
 ghost use mathlib.Core.Path.{_≡_};
 ghost use Prim.Native.Nat.{_<_};
-ghost use Rattle.places.specs.Counts.{countOf, noCounts, oneMore, raised, sameCounts};
+ghost use Rattle.places.specs.Counts.{countOf, countAt, noCounts, oneMore, raised, sameCounts};
 ghost use Rattle.places.specs.Room.{Room};
 
 // Which of the nine counts a kind is counted in, 0 for none.
@@ -13,6 +13,17 @@ pub fn count_of(k: Kind) -> u8
     ensures { λ r. ⌜ r ≡ countOf k ⌝ }
 {
     let r = kinds::row_of(k);
+    r.count
+}
+
+// The same once the first model is past: coordinates and TER are counted no more.
+pub fn count_at(past: bool, k: Kind) -> u8
+    ensures { λ r. ⌜ r ≡ countAt past k ⌝ }
+{
+    let r = kinds::row_of(k);
+    if both_of(past, r.slot) {
+        return 0;
+    }
     r.count
 }
 

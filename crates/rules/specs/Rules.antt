@@ -9,12 +9,30 @@ use Rattle.kinds.specs.declared.{Kind.Kind}
 use Rattle.kinds.specs.Kinds.{rowOf}
 use Rattle.line.specs.declared.{Record.Record}
 use Rattle.pieces.specs.declared.{Line.Line, Line.the-variants.Bad, Line.the-variants.Wrong, Line.the-variants.Carried, Line.the-variants.Typed}
-use Rattle.places.specs.declared.{Counts.Counts}
-use Rattle.places.specs.Places.{placeBad}
-use Rattle.places.specs.Counts.{countOf, noCounts, raised, sameCounts}
-use Rattle.facets.specs.declared.{Spot.Spot, Spot.the-variants.Site, Spot.the-variants.Close, Spot.the-variants.Nowhere, Bond.Bond, Bond.the-variants.Bonds, Bond.the-variants.Loose, Fold.Fold, Fold.the-variants.Turn, Fold.the-variants.Rung, Fold.the-variants.Plain, Total.Total, Total.the-variants.Counted, Total.the-variants.Uncounted}
-use Rattle.facets.specs.Facets.{recordKind, spotOf, bondOf, foldOf, totalOf}
+use Rattle.places.specs.declared.{Counts.Counts, Models.Models}
+use Rattle.places.specs.Places.{placeBad, fenceBad, noModels}
+use Rattle.places.specs.Counts.{countAt, noCounts, raised, sameCounts}
+use Rattle.facets.specs.declared.{Spot.Spot, Spot.the-variants.Site, Spot.the-variants.Close, Spot.the-variants.Nowhere, Bond.Bond, Bond.the-variants.Bonds, Bond.the-variants.Loose, Fold.Fold, Fold.the-variants.Turn, Fold.the-variants.Rung, Fold.the-variants.Plain, Total.Total, Total.the-variants.Counted, Total.the-variants.Uncounted, Fence.Fence, Fence.the-variants.Opens, Fence.the-variants.Shuts, Fence.the-variants.Unfenced}
+use Rattle.facets.specs.Facets.{recordKind, spotOf, bondOf, foldOf, totalOf, fenceOf}
 use Rattle.rules.specs.declared.{Looked.Looked, Run.Run, Ladder.Ladder, State.State}
+
+-- ---- 22: models are numbered 1, 2, 3, ..
+abbrev pub modelBad : Models → Fence → Bool
+modelBad m (Opens n) = not (eqb n (m .number + 1))
+modelBad m Shuts = false
+modelBad m Unfenced = false
+
+-- MODEL opens a model, ENDMDL shuts it
+abbrev pub modelsNext : Models → Fence → Models
+modelsNext m (Opens n) = record { inside = true; past = m .past; number = n }
+modelsNext m Shuts = record { inside = false; past = true; number = m .number }
+modelsNext m Unfenced = m
+
+-- what begins afresh at MODEL and at ENDMDL, and what it is after any other line
+abbrev pub afresh : {A : Type 0} → A → Fence → A → A
+afresh start (Opens n) x = start
+afresh start Shuts x = start
+afresh start Unfenced x = x
 
 -- ---- 7: serials rise strictly over ATOM, HETATM and TER together
 abbrev pub serialBad : Serial → Spot → Bool
@@ -116,22 +134,24 @@ abbrev pub countBad : Counts → Total → Bool
 countBad n (Counted t) = not (sameCounts t n)
 countBad n Uncounted = false
 
--- ---- the first number of a typed line, 0 where it is good; 21: its atom stands on a line before it (twin)
+-- ---- the first number of a typed line, 0 where it is good: 5, 22, 7, 8, 21, 9, 10, 11; 21: its atom stands on a line before it (twin)
 unfoldable pub typedBad : Looked → State → Record → ℕ
 typedBad look s r =
     pick (placeBad (s .place) (recordKind r)) 5
+    (pick (fenceBad (s .place) (s .models) (recordKind r)) 5
+    (pick (modelBad (s .models) (fenceOf r)) 22
     (pick (serialBad (s .last) (spotOf r)) 7
     (pick (runBad (s .run) (spotOf r)) 8
     (pick (look .twin) 21
     (pick (bondBad (look .known) (s .bond) (bondOf r)) 9
     (pick (foldBad (s .helix) (s .ladder) (foldOf r)) 10
-    (pick (countBad (s .counts) (totalOf r)) 11 0))))))
+    (pick (countBad (s .counts) (totalOf r)) 11 0))))))))
 
 -- the number of any line, and what a look back over the lines before it said
 unfoldable pub judgeOf : Looked → State → Line → ℕ
 judgeOf look s (Bad n) = n
-judgeOf look s (Wrong k column) = pick (placeBad (s .place) k) 5 6
-judgeOf look s (Carried k) = pick (placeBad (s .place) k) 5 (pick (unfinished (s .ladder)) 10 0)
+judgeOf look s (Wrong k column) = pick (placeBad (s .place) k) 5 (pick (fenceBad (s .place) (s .models) k) 5 6)
+judgeOf look s (Carried k) = pick (placeBad (s .place) k) 5 (pick (fenceBad (s .place) (s .models) k) 5 (pick (unfinished (s .ladder)) 10 0))
 judgeOf look s (Typed r) = typedBad look s r
 
 -- ---- what a good line leaves
@@ -141,27 +161,29 @@ noSerial = record { 0 = 0 }
 
 -- before the first line
 unfoldable pub startOf : State
-startOf = record { place = 0; last = noSerial; run = noRun; bond = noSerial; helix = 0; ladder = noLadder; counts = noCounts; lines = 0 }
+startOf =
+    record { place = 0; models = noModels; last = noSerial; run = noRun; bond = noSerial; helix = 0; ladder = noLadder; counts = noCounts; lines = 0 }
 
--- a line of a kind moves each part by its own step, and is counted
-abbrev pub moved : State → Kind → Spot → Bond → Fold → State
-moved s k spot bond fold =
+-- a line of a kind moves each part by its own step, and is counted; serials and runs begin afresh in each model
+abbrev pub moved : State → Kind → Spot → Bond → Fold → Fence → State
+moved s k spot bond fold fence =
     record {
       place = rowOf k .here;
-      last = lastNext (s .last) spot;
-      run = runNext (s .run) spot;
+      models = modelsNext (s .models) fence;
+      last = afresh noSerial fence (lastNext (s .last) spot);
+      run = afresh noRun fence (runNext (s .run) spot);
       bond = bondNext (s .bond) bond;
       helix = helixNext (s .helix) fold;
       ladder = ladderNext (s .ladder) fold;
-      counts = raised (s .counts) (countOf k);
+      counts = raised (s .counts) (countAt (s .models .past) k);
       lines = s .lines + 1;
     }
 
 unfoldable pub carriedNext : State → Kind → State
-carriedNext s k = moved s k Nowhere Loose Plain
+carriedNext s k = moved s k Nowhere Loose Plain Unfenced
 
 unfoldable pub typedNext : State → Record → State
-typedNext s r = moved s (recordKind r) (spotOf r) (bondOf r) (foldOf r)
+typedNext s r = moved s (recordKind r) (spotOf r) (bondOf r) (foldOf r) (fenceOf r)
 
 -- a line that is refused leaves nothing
 unfoldable pub nextOf : State → Line → State

@@ -5,14 +5,46 @@ use ascii::both_of;
 use ascii::either_of;
 use ascii::not_of;
 use facets::Bond;
+use facets::Fence;
 use facets::Fold;
 use facets::Spot;
 use fields::Serial;
+use places::Models;
 use residue::Residue;
 ghost use mathlib.Core.Path.{_≡_};
-ghost use Rattle.rules.specs.Rules.{lastNext, noRun, siteNext, runNext, bondNext, helixNext, ladderNext};
+ghost use Rattle.rules.specs.Rules.{modelsNext, afresh, lastNext, noSerial, noRun, siteNext, runNext, bondNext, helixNext, ladderNext};
 
-pub fn last_next(last: Serial, p: Spot) -> Serial
+pub fn models_next(m: Models, e: Fence) -> Models
+    ensures { λ n. ⌜ n ≡ modelsNext m e ⌝ }
+{
+    match e {
+        Fence::Opens(n) => Models {
+            inside: true,
+            past: m.past,
+            number: n,
+        },
+        Fence::Shuts => Models {
+            inside: false,
+            past: true,
+            number: m.number,
+        },
+        Fence::Unfenced => m,
+    }
+}
+
+// Serials begin afresh in each model.
+pub fn last_next(last: Serial, p: Spot, e: Fence) -> Serial
+    ensures { λ n. ⌜ n ≡ afresh noSerial e (lastNext last p) ⌝ }
+{
+    let next = last_of(last, p);
+    match e {
+        Fence::Opens(_) => Serial(0),
+        Fence::Shuts => Serial(0),
+        Fence::Unfenced => next,
+    }
+}
+
+fn last_of(last: Serial, p: Spot) -> Serial
     ensures { λ n. ⌜ n ≡ lastNext last p ⌝ }
 {
     match p {
@@ -48,7 +80,18 @@ fn site_next(r: Run, het: bool, residue: Residue) -> Run
     }
 }
 
-pub fn run_next(u: Run, p: Spot) -> Run
+// Runs begin afresh in each model.
+pub fn run_next(u: Run, p: Spot, e: Fence) -> Run
+    ensures { λ b. ⌜ b ≡ afresh noRun e (runNext u p) ⌝ }
+{
+    match e {
+        Fence::Opens(_) => no_run(),
+        Fence::Shuts => no_run(),
+        Fence::Unfenced => run_of(u, p),
+    }
+}
+
+fn run_of(u: Run, p: Spot) -> Run
     ensures { λ b. ⌜ b ≡ runNext u p ⌝ }
 {
     match p {

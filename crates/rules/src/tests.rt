@@ -5,11 +5,13 @@ use ascii::both_of;
 use ascii::either_of;
 use ascii::not_of;
 use facets::Bond;
+use facets::Fence;
 use facets::Fold;
 use facets::Spot;
 use facets::Total;
 use fields::Serial;
 use places::Counts;
+use places::Models;
 use residue::Residue;
 use sheet::Strand;
 ghost use mathlib.Core.Path.{_≡_};
@@ -17,7 +19,25 @@ ghost use mathlib.Core.Bool.{not};
 ghost use Prim.Native.Nat.{_+_};
 ghost use lib.Dec.{eqb};
 ghost use Rattle.ascii.specs.Tests.{either};
-ghost use Rattle.rules.specs.Rules.{serialBad, siteBad, closeBad, runBad, bondBad, unfinished as unfinishedOf, strandBad, foldBad, countBad};
+ghost use Rattle.rules.specs.Rules.{modelBad, serialBad, siteBad, closeBad, runBad, bondBad, unfinished as unfinishedOf, strandBad, foldBad, countBad};
+
+// ---- 22: models are numbered 1, 2, 3, ..
+fn number_bad(m: Models, n: u32) -> bool
+    ensures { λ b. ⌜ b ≡ not (eqb n (m .number + 1)) ⌝ }
+{
+    let e = n as u64 == m.number as u64 + 1;
+    not_of(e)
+}
+
+pub fn model_bad(m: Models, e: Fence) -> bool
+    ensures { λ b. ⌜ b ≡ modelBad m e ⌝ }
+{
+    match e {
+        Fence::Opens(n) => number_bad(m, n),
+        Fence::Shuts => false,
+        Fence::Unfenced => false,
+    }
+}
 
 // ---- 7: serials rise strictly over ATOM, HETATM and TER together
 pub fn serial_bad(last: Serial, p: Spot) -> bool

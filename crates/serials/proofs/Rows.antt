@@ -14,7 +14,7 @@ use Rattle.fields.specs.Field.{rangedNumber}
 use Rattle.coordinate.specs.Atoms.{atomF, atomColumns, identityColumns}
 use Rattle.ter.specs.Ters.{terF, terColumns}
 use Rattle.kinds.specs.declared.Kind.{Kind}
-use Rattle.kinds.specs.declared.Kind.the-variants.{Header, Title, Compnd, Source, Keywds, Expdta, Author, Revdat, Jrnl, Remark, Seqres, Het, Helix, Sheet, Cryst1, Origx1, Origx2, Origx3, Scale1, Scale2, Scale3, Atom, Hetatm, Ter, Conect, Master, End, Unknown}
+use Rattle.kinds.specs.declared.Kind.the-variants.{Header, Title, Compnd, Source, Keywds, Expdta, Author, Revdat, Jrnl, Remark, Seqres, Het, Helix, Sheet, Cryst1, Origx1, Origx2, Origx3, Scale1, Scale2, Scale3, Atom, Hetatm, Ter, Conect, Master, End, Unknown, Model, Endmdl}
 use Rattle.kinds.specs.Kinds.{rowOf, kindOf}
 use Rattle.line.specs.declared.Record.{Record}
 use Rattle.line.specs.declared.Record.the-variants as rec
@@ -106,6 +106,8 @@ by-kind l Conect = other l Conect _ _ refl
 by-kind l Master = other l Master _ _ refl
 by-kind l End = other l End _ _ refl
 by-kind l Unknown = bad l Unknown 4 (omega arith)
+by-kind l Model = other l Model _ _ refl
+by-kind l Endmdl = other l Endmdl _ _ refl
 
 of-piece : (p : List ℕ) → Reads (take 80 p) (kindOf (take 80 p)) (lineOf p)
 unfolding lineOf columnsOf

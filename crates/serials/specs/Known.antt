@@ -1,8 +1,8 @@
 -- What a look back over the lines seen says: whether the numbers on a CONECT line are the serials of atoms.
-use Rattle.ascii.specs.Library.{ℕ, List, [], _∷_, Bool, true, false, eqb, both, either}
+use Rattle.ascii.specs.Library.{ℕ, List, [], _∷_, Bool, true, false, eqb, pick, both, either}
 use Rattle.pieces.specs.declared.{Line.Line}
 use Rattle.facets.specs.declared.{Spot.Spot, Spot.the-variants.Site, Spot.the-variants.Close, Spot.the-variants.Nowhere, Bond.Bond, Bond.the-variants.Bonds, Bond.the-variants.Loose}
-use Rattle.facets.specs.Facets.{spotIn}
+use Rattle.facets.specs.Facets.{spotIn, isFence}
 
 -- the ATOM or HETATM line with serial n
 abbrev pub isAtom : ℕ → Spot → Bool
@@ -18,7 +18,12 @@ unfoldable pub someOf : (Line → Bool) → List Line → Bool
 someOf f [] = false
 someOf f (l ∷ ls) = either (f l) (someOf f ls)
 
--- n is the serial of an ATOM or HETATM line among those seen
+-- of the lines seen, those since the last MODEL or ENDMDL
+unfoldable pub front : List Line → List Line
+front [] = []
+front (l ∷ ls) = pick (isFence l) [] (l ∷ front ls)
+
+-- n is the serial of an ATOM or HETATM line among those seen, in whichever model
 abbrev pub named : List Line → ℕ → Bool
 named seen n = someOf (isSite n) seen
 

@@ -62,8 +62,8 @@ fn nearly_full() -> Tally {
     }
 }
 
-fn count(t: Tally, line: &[u8]) -> Tally {
-    let c = tally::tally_after(t, line);
+fn count(t: Tally, line: &[u8], past: bool) -> Tally {
+    let c = tally::tally_after(t, line, past);
     let u = c.tally;
     say(b"tally");
     put(c.number as u64);
@@ -73,13 +73,15 @@ fn count(t: Tally, line: &[u8]) -> Tally {
     u
 }
 
-// A line whose count is full, one that has no name, one that is counted, and one that MASTER does not count.
+// A line whose count is full, one that has no name, one that is counted, one that is not once the first model is past, and one that MASTER does
+// not count.
 fn count_lines() {
     let t = nearly_full();
-    let u = count(t, b"TER   ");
-    let v = count(u, b"TER");
-    let w = count(v, b"HETATM");
-    count(w, b"END   ");
+    let u = count(t, b"TER   ", false);
+    let v = count(u, b"TER", false);
+    let w = count(v, b"HETATM", false);
+    let x = count(w, b"HETATM", true);
+    count(x, b"ENDMDL", false);
 }
 
 // ---- a stage of the sitting

@@ -22,7 +22,7 @@ use Rattle.coordinate.specs.declared.Atom.{Atom}
 use Rattle.coordinate.specs.declared.Position.{Position}
 use Rattle.coordinate.specs.Atoms.{atomF, atomColumns, measureColumns}
 use Rattle.kinds.specs.declared.Kind.{Kind}
-use Rattle.kinds.specs.declared.Kind.the-variants.{Atom as AtomKind, Hetatm, Ter, Helix, Sheet, Conect, Master, End}
+use Rattle.kinds.specs.declared.Kind.the-variants.{Atom as AtomKind, Hetatm, Ter, Helix, Sheet, Conect, Master, End, Model, Endmdl}
 use Rattle.kinds.specs.Kinds.{is, isNamed, kindOf}
 use Rattle.line.specs.declared.Record.{Record}
 use Rattle.line.specs.declared.Record.the-variants as rec
@@ -96,7 +96,9 @@ by-kind k l =
     (λ _. picks Small (is Conect k) _ _ (λ _. judged-small _ _ tt)
     (λ _. picks Small (is Master k) _ _ (λ _. judged-small _ _ tt)
     (λ _. picks Small (is End k) _ _ (λ _. judged-small _ _ tt)
-    (λ _. tt))))))))
+    (λ _. picks Small (is Model k) _ _ (λ _. judged-small _ _ tt)
+    (λ _. picks Small (is Endmdl k) _ _ (λ _. judged-small _ _ tt)
+    (λ _. tt))))))))))
 
 pub reading-small : (k : Kind) (l : List ℕ) (x : Reading) → x ≡ readingOf k l → SmallSpot (spotRead x)
 reading-small k l x e = rw e (by-kind k l)
@@ -146,6 +148,7 @@ pub atom-slot : (het : Bool) (a : Atom) (k : ℕ) → a .measure .occupancy ≤ 
       insertion = a .identity .residue .insertion;
       element = a .species .element;
       charge = a .species .charge;
+      model = 0;
     }) (slotOfAtom het a)
 atom-slot het a k h ft e = rw (small-pos (a .measure .occupancy) h, toZ-ofZ w32 (a .measure .temperature) ft, e)
 

@@ -1,5 +1,5 @@
--- A slot of the table: the fields of an ATOM, HETATM or TER line, and a mark.
-use Rattle.ascii.specs.Library.{ℕ, _≤_, List, Bool, true, false, length, eqb, ℤ, pos, byte, pick, both}
+-- A slot of the table: the fields of an ATOM, HETATM or TER line, its model, and a mark.
+use Rattle.ascii.specs.Library.{ℕ, _≤_, List, Bool, length, eqb, ℤ, pos, byte, pick, both}
 use Rattle.columns.specs.Columns.{cleanAt}
 use Rattle.fields.specs.declared.{Serial.Serial}
 use Rattle.fields.specs.Field.{sameInteger}
@@ -34,10 +34,14 @@ markIn = 0
 abbrev pub markAside : ℕ
 markAside = 1
 
+-- the residue of a slot
+abbrev pub residueOf : Slot → Residue
+residueOf s = record { name = s .residue; chain = s .chain; number = s .number; insertion = s .insertion }
+
 -- ---- the slot of a record, marked in
--- a slot of a kind and a mark: serial, residue, name, alternate letter, coordinates, occupancy, temperature factor, element, charge
-abbrev pub slotWith : ℕ → ℕ → Serial → Residue → Four → ℕ → Position → ℤ → ℤ → Pair → Pair → Slot
-slotWith kind mark serial residue name alternate position occupancy temperature element charge =
+-- a slot of a model, a kind and a mark: serial, residue, name, alternate letter, coordinates, occupancy, temperature factor, element, charge
+abbrev pub slotWith : ℕ → ℕ → ℕ → Serial → Residue → Four → ℕ → Position → ℤ → ℤ → Pair → Pair → Slot
+slotWith model kind mark serial residue name alternate position occupancy temperature element charge =
     record {
       serial = serial;
       number = residue .number;
@@ -53,11 +57,16 @@ slotWith kind mark serial residue name alternate position occupancy temperature 
       insertion = residue .insertion;
       element = element;
       charge = charge;
+      model = model;
     }
+
+-- a line by itself is of no model
+abbrev pub noModel : ℕ
+noModel = 0
 
 abbrev pub slotOfAtom : Bool → Atom → Slot
 slotOfAtom het a =
-    slotWith (pick het hetatmKind atomKind) markIn (a .identity .serial) (a .identity .residue) (a .identity .name) (a .identity .alternate)
+    slotWith noModel (pick het hetatmKind atomKind) markIn (a .identity .serial) (a .identity .residue) (a .identity .name) (a .identity .alternate)
     (a .measure .position) (pos (a .measure .occupancy)) (a .measure .temperature) (a .species .element) (a .species .charge)
 
 -- two blank columns
@@ -67,7 +76,7 @@ blankPair = record { a = byte " "; b = byte " " }
 -- a slot of which only kind, serial and residue are told: the other fields are 0 or blank
 abbrev pub bareSlot : ℕ → Serial → Residue → Slot
 bareSlot k serial r =
-    slotWith k markIn serial r (record { a = byte " "; b = byte " "; c = byte " "; d = byte " " }) (byte " ")
+    slotWith noModel k markIn serial r (record { a = byte " "; b = byte " "; c = byte " "; d = byte " " }) (byte " ")
     (record { x = pos 0; y = pos 0; z = pos 0 }) (pos 0) (pos 0) blankPair blankPair
 
 abbrev pub slotOfTer : Ter → Slot
@@ -90,8 +99,15 @@ spotSlot (Site het a) = slotOfAtom het a
 spotSlot (Close t) = slotOfTer t
 spotSlot Nowhere = noSlot
 
-abbrev pub lineSlot : Line → Slot
-lineSlot l = spotSlot (spotIn l)
+-- the slot, of another model
+abbrev pub withModel : Slot → ℕ → Slot
+withModel s m =
+    slotWith m (s .kind) (s .mark) (s .serial) (residueOf s) (s .name) (s .alternate)
+    (s .position) (s .occupancy) (s .temperature) (s .element) (s .charge)
+
+-- the slot of a line of a model
+abbrev pub lineSlot : ℕ → Line → Slot
+lineSlot m l = withModel (spotSlot (spotIn l)) m
 
 -- ---- the slot of one line read by itself
 -- an occupancy that a slot can hold; every line read has one
@@ -140,10 +156,6 @@ sameMeasures s t =
     both (samePosition (s .position) (t .position))
     (both (sameInteger (s .occupancy) (t .occupancy)) (sameInteger (s .temperature) (t .temperature)))
 
--- the residue of a slot
-abbrev pub residueOf : Slot → Residue
-residueOf s = record { name = s .residue; chain = s .chain; number = s .number; insertion = s .insertion }
-
 -- equal names, alternate letters, elements and charges
 unfoldable pub sameNames : Slot → Slot → Bool
 sameNames s t =
@@ -154,10 +166,10 @@ sameNames s t =
 unfoldable pub sameSlot : Slot → Slot → Bool
 sameSlot s t =
     both (both (eqb (s .kind) (t .kind)) (eqb (s .serial .0) (t .serial .0)))
-    (both (sameResidue (residueOf s) (residueOf t)) (both (sameNames s t) (sameMeasures s t)))
+    (both (sameResidue (residueOf s) (residueOf t)) (both (sameNames s t) (both (sameMeasures s t) (eqb (s .model) (t .model)))))
 
 -- the slot with another mark
 unfoldable pub withMark : Slot → ℕ → Slot
 withMark s m =
-    slotWith (s .kind) m (s .serial) (residueOf s) (s .name) (s .alternate)
+    slotWith (s .model) (s .kind) m (s .serial) (residueOf s) (s .name) (s .alternate)
     (s .position) (s .occupancy) (s .temperature) (s .element) (s .charge)

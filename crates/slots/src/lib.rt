@@ -1,4 +1,4 @@
-// A slot of the table: the fields of an ATOM, HETATM or TER line, and a mark.
+// A slot of the table: the fields of an ATOM, HETATM or TER line, its model, and a mark.
 use coordinate::Atom;
 use coordinate::Position;
 use facets::Spot;
@@ -18,9 +18,9 @@ ghost use Prim.Native.Nat.{_≤_};
 ghost use lib.ListN.{length};
 ghost use Rattle.ascii.specs.Tests.{pick};
 ghost use Rattle.facets.specs.Facets.{spotIn};
-ghost use Rattle.slots.specs.Slots.{atomKind, hetatmKind, SmallSpot, slotOfAtom, bareSlot, slotOfTer, spotSlot, spotRead, fillingOf, hasSlot, fillIn, slotLine, samePosition, sameMeasures, sameNames, sameSlot, withMark, residueOf, noSlot, lineSlot};
+ghost use Rattle.slots.specs.Slots.{atomKind, hetatmKind, SmallSpot, slotOfAtom, bareSlot, slotOfTer, spotSlot, spotRead, fillingOf, hasSlot, fillIn, slotLine, samePosition, sameMeasures, sameNames, sameSlot, withMark, withModel, residueOf, noSlot, lineSlot};
 
-// 44 bytes, no padding. Kind 1 ATOM, 2 HETATM, 3 TER; mark 0 in, 1 aside; any other byte is damage.
+// 48 bytes, no padding. Model 0 is none. Kind 1 ATOM, 2 HETATM, 3 TER; mark 0 in, 1 aside; any other byte is damage.
 #[repr(C)]
 pub struct Slot {
     pub serial: Serial,
@@ -37,6 +37,7 @@ pub struct Slot {
     pub insertion: u8,
     pub element: Pair,
     pub charge: Pair,
+    pub model: u32,
 }
 
 // What filling a slot from one line answers.
@@ -132,6 +133,7 @@ fn slot_of_atom(het: bool, a: Atom) -> Slot
         insertion: r.insertion,
         element: element,
         charge: charge,
+        model: 0,
     }
 }
 
@@ -170,6 +172,7 @@ fn bare_slot(kind: u8, serial: Serial, r: Residue) -> Slot
         insertion: r.insertion,
         element: Pair { a: b' ', b: b' ' },
         charge: Pair { a: b' ', b: b' ' },
+        model: 0,
     }
 }
 
@@ -207,12 +210,21 @@ fn spot_slot(p: Spot) -> Slot
     }
 }
 
-// The slot of a line of a text.
-pub fn line_slot(l: Line) -> Slot
+// The slot of a line of a text, in a model; 0 where there are none.
+pub fn line_slot(model: u32, l: Line) -> Slot
     requires { ⌜ SmallSpot (spotIn l) ⌝ }
-    ensures { λ s. ⌜ s ≡ lineSlot l ⌝ }
+    ensures { λ s. ⌜ s ≡ lineSlot model l ⌝ }
 {
-    spot_slot(facets::spot_in(l))
+    with_model(spot_slot(facets::spot_in(l)), model)
+}
+
+// The slot, of another model.
+fn with_model(s: Slot, model: u32) -> Slot
+    ensures { λ r. ⌜ r ≡ withModel s model ⌝ }
+{
+    let mut t = s;
+    t.model = model;
+    t
 }
 
 fn same_position(p: Position, q: Position) -> bool
@@ -276,9 +288,10 @@ pub fn same_slot(s: Slot, t: Slot) -> bool
     let r = residue::same_residue(residue_of(s), residue_of(t));
     let n = same_names(s, t);
     let m = same_measures(s, t);
+    let o = ascii::both_of(m, s.model == t.model);
     ascii::both_of(
         ascii::both_of(s.kind == t.kind, a.0 == b.0),
-        ascii::both_of(r, ascii::both_of(n, m)),
+        ascii::both_of(r, ascii::both_of(n, o)),
     )
 }
 

@@ -2,6 +2,7 @@
 pub mod feed
 pub mod station_arrange
 pub mod station_count_line
+pub mod station_count_line_past
 pub mod station_dot
 pub mod station_fragments
 pub mod station_frame

@@ -6,6 +6,8 @@ use line::Answer;
 use master::Tally;
 use slots::Slot;
 ghost use mathlib.Core.Path.{_≡_};
+ghost use mathlib.Core.Bool.{false, not};
+ghost use lib.Dec.{eqb};
 ghost use Rattle.gate.specs.Gate.{checkOf};
 ghost use Rattle.reporting.specs.Report.{numbersOf};
 ghost use Rattle.line.specs.Lines.{readLine};
@@ -163,7 +165,16 @@ pub extern "C" fn station_frame(table: &[Slot], out: &mut [f64; 9]) -> u32
 // Counts a line in: 0; or 4, 14 and the tally as found.
 #[no_mangle]
 pub extern "C" fn station_count_line(tally: &mut Tally, line: &[u8]) -> u32
-    ensures { λ r. ⌜ toldTally r (now (tally .exit)) ≡ tallyLine (now (tally .entry)) (now (line .entry)) ⌝ }
+    ensures { λ r. ⌜ toldTally r (now (tally .exit)) ≡ tallyLine false (now (tally .entry)) (now (line .entry)) ⌝ }
 {
-    tally::count_line(tally, line) as u32
+    tally::count_line(tally, line, false) as u32
+}
+
+// The same for a line that may stand past the first model: past is not 0 once the first ENDMDL has gone by.
+#[no_mangle]
+pub extern "C" fn station_count_line_past(tally: &mut Tally, line: &[u8], past: u8) -> u32
+    ensures { λ r. ⌜ toldTally r (now (tally .exit)) ≡ tallyLine (not (eqb past 0)) (now (tally .entry)) (now (line .entry)) ⌝ }
+{
+    let within = past == 0;
+    tally::count_line(tally, line, !within) as u32
 }

@@ -2,33 +2,36 @@
 -- Assumes nothing.
 use Prim.Native.Nat.{ℕ, _+_, _*_, _-_, _≤_, _<_}
 use mathlib.Core.List.{List, [], _∷_, _++_, map}
-use mathlib.Core.Bool.{Bool, true, false}
+use mathlib.Core.Bool.{Bool, true, false, true≢false}
 use mathlib.Core.Path.{_≡_, refl, sym, _∙_, ap}
 use native.Mathlib.Omega.{arith}
 use borrow.Author.Tests.{eq-eqb, ne-eqb, lt-ltb, le-ltb}
-use lib.ListN.{length, take, drop, length-take}
+use lib.ListN.{length, take, drop, length-map, length-take}
 use Rattle.ascii.specs.Tests.{pick, both, either, alike}
 use Rattle.fields.specs.declared.FragmentNumber.{FragmentNumber}
+use Rattle.pieces.specs.declared.Line.{Line}
 use Rattle.pieces.specs.Pieces.{lineOf}
+use Rattle.facets.specs.Facets.{isFence}
 use Rattle.places.specs.declared.Counts.{Counts}
 use Rattle.places.specs.Counts.{noCounts}
 use Rattle.rows.specs.Text.{cut}
 use Rattle.gate.specs.Gate.{checkOf}
 use Rattle.slots.specs.declared.Slot.{Slot}
+use Rattle.slots.specs.Slots.{noModel}
 use Rattle.fragments.specs.declared.Tail.{Tail}
 use Rattle.fragments.specs.Fragments.{tailOf, markOf, marked, markedBy, numbered}
 use Rattle.table.specs.Table.{told, over, linesFrom, loadedOf, loadOf, fitsFrom, oneOf, belongs, tableOf, fragments, markByte, orderOf, fragmentsOf, markAt, arrangeOf}
-use Rattle.table.specs.Deal.{stays, counted, written, outputOf, putOf}
+use Rattle.table.specs.Deal.{stays, pastNext, counted, written, outputOf, putOf}
 use Rattle.table.proofs.Joined.{cut-size}
 use Rattle.table.proofs.Marks.{marked-size}
 use Rattle.table.proofs.Ready.{ready}
 use Rattle.table.proofs.AllMarks.{marked-by-size}
 use Rattle.table.proofs.Numbers.{numbered-size}
 use Rattle.table.proofs.Few.{few-fragments}
-use Rattle.table.proofs.Shares.{shares, shares-sum, bytes-size}
+use Rattle.table.proofs.Shares.{shares, fence-stays, boundsOf, shares-both, bytes-size}
 use Rattle.store.specs.declared.Findings.{Findings}
 use Rattle.store.specs.declared.Held.{Held}
-use Rattle.store.specs.Judged.{Surveyed, Belongs, keptFrom, shareOf}
+use Rattle.store.specs.Judged.{Surveyed, Belongs, keptFrom, fencesFrom, shareOf}
 
 pub take-size : (xs : List Slot) (n : ℕ) → n ≤ length xs → n ≡ length (take n xs)
 take-size xs n h = simp length-take (omega arith)
@@ -55,7 +58,7 @@ module _ (t : List ℕ) (xs : List Slot) (n : ℕ) (en : n ≡ checkOf t .number
     unfolding tableOf
     table-short h = rw (← en, eq-eqb n 0 z, ← em, lt-ltb (length xs) m h)
 
-    module _ (h : m ≤ length xs) (f : Bool) (ef : f ≡ fitsFrom xs 0 (linesFrom t 0)) where
+    module _ (h : m ≤ length xs) (f : Bool) (ef : f ≡ fitsFrom xs 0 noModel (linesFrom t 0)) where
       pub table-other : f ≡ false → 18 ≡ tableOf t xs
       unfolding tableOf belongs both
       table-other e = rw (← en, eq-eqb n 0 z, ← em, le-ltb (length xs) m h, ← ef, e)
@@ -70,7 +73,7 @@ module _ (t : List ℕ) (xs : List Slot) (n : ℕ) (en : n ≡ checkOf t .number
 
 -- what a table that belongs to a text is known to be
 pub held-good : (t : List ℕ) (xs : List Slot) (v : Findings) → Surveyed t xs v → v .fits ≡ true → v .need ≤ length xs → (u : Tail) → u ≡ tailOf (take (v .need) xs)
-    → u .count ≤ length (take (v .need) xs) → Belongs t xs (record { number = 0; need = v .need; fragments = u .count; kept = v .kept; lines = v .lines })
+    → u .count ≤ length (take (v .need) xs) → Belongs t xs (record { number = 0; need = v .need; fragments = u .count; kept = v .kept; fences = v .fences; lines = v .lines })
 held-good t xs v S f h u q c =
     let s : length (take (v .need) xs) ≡ v .need = sym (take-size xs (v .need) h) in
     record {
@@ -79,8 +82,9 @@ held-good t xs v S f h u q c =
       fragments = ap (λ (w : Tail). w .count) q ∙ ap (λ (m : ℕ). tailOf (take m xs) .count) (S .need);
       few = omega arith;
       lines = S .lines;
-      kept = S .kept f;
-      rises = S .rises f;
+      fences = S .fences;
+      kept = S .kept f h;
+      rises = S .rises f h;
     }
 
 module _ (t : List ℕ) (xs : List Slot) (f : FragmentNumber) (aside : Bool) (k : ℕ) (ek : k ≡ tableOf t xs) where
@@ -154,32 +158,66 @@ module _ (t : List ℕ) (xs : List Slot) (o : List ℕ) (k : ℕ) (ek : k ≡ ta
 
 -- ---- saving and the tray
 -- a line that stays is one more piece of the saved entry
-kept-shares : (xs : List Slot) (k : ℕ) (q : Counts) (ps : List (List ℕ)) → length (shares true xs k q ps) ≡ keptFrom xs k (map lineOf ps)
-unfolding shares keptFrom
-kept-shares xs k q [] = refl
-kept-shares xs k q (p ∷ ps) =
+kept-shares : (xs : List Slot) (k : ℕ) (past : Bool) (q : Counts) (ps : List (List ℕ)) → length (shares true xs k past q ps) ≡ keptFrom xs k (map lineOf ps)
+unfolding shares keptFrom either
+kept-shares xs k past q [] = refl
+kept-shares xs k past q (p ∷ ps) =
     let stay : Bool = stays xs k (lineOf p) in
-    go stay _ _ (kept-shares xs (k + oneOf (lineOf p)) (counted stay q (lineOf p)) ps)
+    go stay refl (isFence (lineOf p)) refl _ _ (kept-shares xs (k + oneOf (lineOf p)) (pastNext past (lineOf p)) (counted stay past q (lineOf p)) ps)
   where
-    go : (b : Bool) (us : List (List ℕ)) (n : ℕ) → length us ≡ n → length (pick (alike true b) (written q p ∷ us) us) ≡ pick b 1 0 + n
-    go true us n e = omega arith
-    go false us n e = omega arith
+    go : (b : Bool) → stays xs k (lineOf p) ≡ b → (f : Bool) → isFence (lineOf p) ≡ f → (us : List (List ℕ)) (n : ℕ) → length us ≡ n
+        → length (pick (either f (alike true b)) (written q p ∷ us) us) ≡ pick b 1 0 + n
+    go true e true f us n w = omega arith
+    go true e false f us n w = omega arith
+    go false e true f us n w = absurd (true≢false (sym (fence-stays xs k (lineOf p) f) ∙ e))
+    go false e false f us n w = omega arith
+
+-- a MODEL or ENDMDL line stays
+bounds-fences : (ps : List (List ℕ)) → boundsOf ps ≡ fencesFrom (map lineOf ps)
+unfolding boundsOf fencesFrom
+bounds-fences [] = refl
+bounds-fences (p ∷ ps) = ap (λ (n : ℕ). pick (isFence (lineOf p)) 1 0 + n) (bounds-fences ps)
+
+fences-stay : (xs : List Slot) (k : ℕ) (ls : List Line) → fencesFrom ls ≤ keptFrom xs k ls
+unfolding fencesFrom keptFrom
+fences-stay xs k [] = omega arith
+fences-stay xs k (l ∷ ls) = go (fences-stay xs (k + oneOf l) ls) (isFence l) refl (stays xs k l) refl
+  where
+    go : fencesFrom ls ≤ keptFrom xs (k + oneOf l) ls → (f : Bool) → isFence l ≡ f → (b : Bool) → stays xs k l ≡ b → pick f 1 0 + fencesFrom ls ≤ pick b 1 0 + keptFrom xs (k + oneOf l) ls
+    go rest true f true b = omega arith
+    go rest true f false b = absurd (true≢false (sym (fence-stays xs k l f) ∙ b))
+    go rest false f true b = omega arith
+    go rest false f false b = omega arith
+
+kept-most : (xs : List Slot) (k : ℕ) (ls : List Line) → keptFrom xs k ls ≤ length ls
+unfolding keptFrom
+kept-most xs k [] = omega arith
+kept-most xs k (l ∷ ls) = go (stays xs k l) (kept-most xs (k + oneOf l) ls)
+  where
+    go : (b : Bool) → keptFrom xs (k + oneOf l) ls ≤ length ls → pick b 1 0 + keptFrom xs (k + oneOf l) ls ≤ length (l ∷ ls)
+    go true e = omega arith
+    go false e = omega arith
 
 module _ (t : List ℕ) (xs : List Slot) (h : Held) (B : Belongs t xs h) (good : checkOf t .number ≡ 0) where
-  kept-lines : length (shares true xs 0 noCounts (cut t)) ≡ h .kept
+  kept-lines : length (shares true xs 0 false noCounts (cut t)) ≡ h .kept
   unfolding linesFrom
-  kept-lines = kept-shares xs 0 noCounts (cut t) ∙ sym (B .kept)
+  kept-lines = kept-shares xs 0 false noCounts (cut t) ∙ sym (B .kept)
 
-  all-lines : length (shares true xs 0 noCounts (cut t)) + length (shares false xs 0 noCounts (cut t)) ≡ h .lines
-  all-lines = shares-sum xs 0 noCounts (cut t) ∙ cut-size (h .lines) t (B .lines)
+  all-lines : length (shares true xs 0 false noCounts (cut t)) + length (shares false xs 0 false noCounts (cut t)) ≡ h .lines + h .fences
+  unfolding linesFrom
+  all-lines = shares-both xs 0 false noCounts (cut t) ∙ omega (arith, cut-size (h .lines) t (B .lines), bounds-fences (cut t), B .fences)
 
-  pub kept-few : h .kept ≤ h .lines
-  kept-few = omega (arith, kept-lines, all-lines)
+  fences-few : h .fences ≤ h .kept
+  fences-few = omega (arith, B .fences, B .kept, fences-stay xs 0 (linesFrom t 0))
+
+  pub kept-few : (h .kept ≤ h .lines) × (h .fences ≤ h .kept)
+  unfolding linesFrom
+  kept-few = (omega (arith, B .kept, kept-most xs 0 (linesFrom t 0), length-map (cut t) lineOf, cut-size (h .lines) t (B .lines)), fences-few)
 
   pub size-dealt : (saving : Bool) → 81 * shareOf h saving ≡ length (outputOf saving t xs)
   size-dealt true = sym (bytes-size true t xs good ∙ ap (λ (n : ℕ). 81 * n) kept-lines)
   size-dealt false =
-      let n : length (shares false xs 0 noCounts (cut t)) ≡ h .lines - h .kept = omega (arith, kept-lines, all-lines) in
+      let n : length (shares false xs 0 false noCounts (cut t)) ≡ h .lines - h .kept + h .fences = omega (arith, kept-lines, all-lines, kept-few .0) in
       sym (bytes-size false t xs good ∙ ap (λ (n : ℕ). 81 * n) n)
 
 module _ (saving : Bool) (t : List ℕ) (xs : List Slot) (o : List ℕ) (k : ℕ) (ek : k ≡ tableOf t xs) where

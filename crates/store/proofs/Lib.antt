@@ -1,7 +1,7 @@
 pub mod Lines
 pub mod Filling
 pub mod Tails
-pub mod Asides
+pub mod Standing
 pub mod Looking
 pub mod Answers
 pub mod Written

@@ -12,16 +12,16 @@ ghost use Rattle.table.specs.Table.{over};
 ghost use Rattle.table.specs.Deal.{outputOf};
 ghost use Rattle.store.specs.Judged.{Dealable, shareOf};
 
-// How many bytes the lines that stay have, or those that go.
+// How many bytes the lines that stay have, or those that go and what stands in both.
 pub fn size_of(h: Held, saving: bool) -> usize
-    requires { ⌜ h .kept ≤ h .lines ⌝ }
+    requires { ⌜ (h .kept ≤ h .lines) × (h .fences ≤ h .kept) ⌝ }
     requires { ⌜ 81 * h .lines ≤ 9223372036854775807 ⌝ }
     ensures { λ r. ⌜ r ≡ 81 * shareOf h saving ⌝ }
 {
     if saving {
         return 81 * h.kept;
     }
-    81 * (h.lines - h.kept)
+    81 * (h.lines - h.kept + h.fences)
 }
 
 // Writes the lines that stay, or those that go, one after the other.
@@ -33,6 +33,7 @@ pub fn write_all(text: &[u8], table: &[Slot], out: &mut [u8], saving: bool)
     let mut i: usize = 0;
     let mut k: usize = 0;
     let mut at: usize = 0;
+    let mut past = false;
     let mut q = places::no_counts();
     let mut near = Near {
         place: 0,
@@ -46,7 +47,8 @@ pub fn write_all(text: &[u8], table: &[Slot], out: &mut [u8], saving: bool)
         let ended = v.near;
         near = ended;
         at = writing::put_share(text, i, l, saving, stay, q, out, at);
-        q = writing::count_line(stay, q, l);
+        q = writing::count_line(stay, past, q, l);
+        past = writing::past_next(past, l);
         k += marks::one_of(l);
         i += 1;
     }

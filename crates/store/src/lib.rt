@@ -40,21 +40,24 @@ pub struct Needs {
 }
 
 // What one pass over the text says of text and table: the number of the text, and if that is 0 how many slots it needs, whether the slots
-// fit it, how many lines stay, and how many there are.
+// fit it, how many lines stay, how many are MODEL and ENDMDL, and how many there are.
 pub struct Findings {
     pub number: u8,
     pub need: usize,
     pub fits: bool,
     pub kept: usize,
+    pub fences: usize,
     pub lines: usize,
 }
 
-// What text and table get together: a number, and if that is 0 how many slots, fragments, lines that stay and lines there are.
+// What text and table get together: a number, and if that is 0 how many slots, fragments, lines that stay, MODEL and ENDMDL lines and lines
+// there are.
 pub struct Held {
     pub number: u8,
     pub need: usize,
     pub fragments: u64,
     pub kept: usize,
+    pub fences: usize,
     pub lines: usize,
 }
 
@@ -78,9 +81,11 @@ pub fn load(text: &[u8], table: &mut [Slot]) -> Outcome
     }
     let mut i: usize = 0;
     let mut k: usize = 0;
+    let mut model: u32 = 0;
     while 81 * i < text.len() {
         let l = rows::line_at(text, i);
-        k = put_slot(table, k, l);
+        k = put_slot(table, k, model, l);
+        model = marks::model_next(model, l);
         i += 1;
     }
     Outcome {
@@ -90,14 +95,14 @@ pub fn load(text: &[u8], table: &mut [Slot]) -> Outcome
 }
 
 // The slot of a line that has one is stored; where the next one goes.
-fn put_slot(table: &mut [Slot], k: usize, l: Line) -> usize
+fn put_slot(table: &mut [Slot], k: usize, model: u32, l: Line) -> usize
     requires { ⌜ k + oneOf l ≤ length (now table) ⌝ }
     requires { ⌜ SmallSpot (spotIn l) ⌝ }
     ensures { λ r. ⌜ r ≡ k + oneOf l ⌝ }
-    ensures { λ r. ⌜ now (table .exit) ≡ pick (isCoord l) (set (now (table .entry)) k (lineSlot l)) (now (table .entry)) ⌝ }
+    ensures { λ r. ⌜ now (table .exit) ≡ pick (isCoord l) (set (now (table .entry)) k (lineSlot model l)) (now (table .entry)) ⌝ }
 {
     if facets::is_coord(l) {
-        let s = slots::line_slot(l);
+        let s = slots::line_slot(model, l);
         table[k] = s;
         k + 1
     } else {
@@ -113,6 +118,7 @@ fn held_back(number: u8) -> Held
         need: 0,
         fragments: 0,
         kept: 0,
+        fences: 0,
         lines: 0,
     }
 }
@@ -142,6 +148,7 @@ fn judge(text: &[u8], table: &[Slot]) -> Held
         need: n,
         fragments: t.count,
         kept: v.kept,
+        fences: v.fences,
         lines: v.lines,
     }
 }

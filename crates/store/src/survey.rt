@@ -2,7 +2,7 @@
 use super::Findings;
 use super::Needs;
 use super::seeking::slot_at;
-use super::seeking::stays;
+use super::seeking::stays_if;
 use fields::Serial;
 use search::Near;
 use slots::Slot;
@@ -19,8 +19,10 @@ pub fn look_over(text: &[u8], table: &[Slot]) -> Findings
     let mut i: usize = 0;
     let mut c = gate::start();
     let mut k: usize = 0;
+    let mut model: u32 = 0;
     let mut fit = true;
     let mut kept: usize = 0;
+    let mut fences: usize = 0;
     let mut near = Near {
         place: 0,
         serial: Serial(0),
@@ -34,18 +36,21 @@ pub fn look_over(text: &[u8], table: &[Slot]) -> Findings
                 need: 0,
                 fits: false,
                 kept: 0,
+                fences: 0,
                 lines: 0,
             };
         }
         let d = t.course;
         c = d;
         let here = slot_at(table, k);
-        let good = marks::fits(here, l);
+        let good = marks::fits(here, model, l);
         fit = ascii::both_of(fit, good);
-        let stay = stays(table, k, near, here, l);
+        let stay = stays_if(fit, table, k, near, here, l);
         let at = stay.near;
         near = at;
         kept += marks::one_if(stay.yes);
+        fences += marks::one_if(facets::is_fence(l));
+        model = marks::model_next(model, l);
         k += marks::one_of(l);
         i += 1;
     }
@@ -56,6 +61,7 @@ pub fn look_over(text: &[u8], table: &[Slot]) -> Findings
         need: k,
         fits: fit,
         kept: kept,
+        fences: fences,
         lines: i,
     }
 }

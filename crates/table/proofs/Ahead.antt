@@ -13,7 +13,7 @@ use Rattle.ascii.proofs.Choice.{never, either-none}
 use Rattle.kinds.specs.declared.Kind.the-variants as kind
 use Rattle.kinds.specs.Kinds.{rowOf}
 use Rattle.line.specs.declared.Record.{Record}
-use Rattle.line.specs.declared.Record.the-variants.{Coordinate, Ter, Helix, Sheet, Conect, Master, End}
+use Rattle.line.specs.declared.Record.the-variants.{Coordinate, Ter, Helix, Sheet, Conect, Master, End, Model, Endmdl}
 use Rattle.pieces.specs.declared.Line.{Line}
 use Rattle.pieces.specs.declared.Line.the-variants.{Bad, Wrong, Carried, Typed}
 use Rattle.rules.specs.declared.Run.{Run}
@@ -64,6 +64,8 @@ sane-typed known s (Sheet h) S g = sane-before _ (S .early (inl (omega (arith, p
 sane-typed known s (Conect c) S g = sane-after _ (omega arith) (omega arith) (g .run)
 sane-typed known s (Master t) S g = sane-after _ (omega arith) (omega arith) (g .run)
 sane-typed known s End S g = sane-after _ (omega arith) (omega arith) (g .run)
+sane-typed known s (Model m) S g = sane-here _ refl
+sane-typed known s Endmdl S g = sane-here _ refl
 
 pub sane-next : (known : Looked) (s : State) (l : Line) → Sane s → Plain l → judgeOf known s l ≡ 0 → Sane (nextOf s l)
 unfolding nextOf carriedNext judgeOf
@@ -88,6 +90,8 @@ no-close seen s (Typed (Sheet x) ∷ ls) f h g = absurd (omega (arith, place-hig
 no-close seen s (Typed (Conect c) ∷ ls) f h g = no-close _ (nextOf s (Typed (Conect c))) ls (f .2) (omega arith) (omega arith)
 no-close seen s (Typed (Master t) ∷ ls) f h g = no-close _ (nextOf s (Typed (Master t))) ls (f .2) (omega arith) (omega arith)
 no-close seen s (Typed End ∷ ls) f h g = no-close _ (nextOf s (Typed End)) ls (f .2) (omega arith) (omega arith)
+no-close seen s (Typed (Model m) ∷ ls) f h g = refl
+no-close seen s (Typed Endmdl ∷ ls) f h g = refl
 
 -- ---- a run that is not closed holds no ATOM
 pub no-atom : (seen : List Line) (s : State) (ls : List Line) → Sane s → Fine seen s ls → closes ls ≡ false → s .run .atom ≡ false
@@ -104,6 +108,8 @@ no-atom seen s (Typed (Sheet x) ∷ ls) S f c = judge-typed _ s _ (f .1) .run
 no-atom seen s (Typed (Conect d) ∷ ls) S f c = judge-typed _ s _ (f .1) .run
 no-atom seen s (Typed (Master t) ∷ ls) S f c = judge-typed _ s _ (f .1) .run
 no-atom seen s (Typed End ∷ ls) S f c = judge-typed _ s _ (f .1) .run
+no-atom seen s (Typed (Model m) ∷ ls) S f c = judge-typed _ s _ (f .1) .run
+no-atom seen s (Typed Endmdl ∷ ls) S f c = judge-typed _ s _ (f .1) .run
 
 -- in the open tail every coordinate line is a HETATM
 pub tail-het : (seen : List Line) (s : State) (r : Run) (het : Bool) (ls : List Line) → Sane s → Fine seen s ls → s .run .atom ≡ either (r .atom) (not het) → closes ls ≡ false → not het ≡ false

@@ -35,6 +35,7 @@ marked-by-step m ss k j e h u q = rw (q, e, add-one j, drop-cons ss j noSlot h)
 pub record AfterAll (m : ℕ → ℕ) (before after : Tail) : Type 0 where
   pub some : after .some ≡ before .some
   pub closed : after .closed ≡ before .closed
+  pub model : after .model ≡ before .model
   pub residue : after .residue ≡ before .residue
   pub count : after .count ≡ before .count
   pub agree : after .agree ≡ true
@@ -44,7 +45,7 @@ module _ (m : ℕ → ℕ) (s : Slot) (before after : Tail) (A : AfterAll m befo
   -- whatever its mark is, the slot goes with the next as before
   same-joins : (x : ℕ) → joins (withMark s x) after ≡ joins s before
   unfolding joins withMark
-  same-joins x = rw (A .some, A .closed, A .residue)
+  same-joins x = rw (A .some, A .closed, A .model, A .residue)
 
   -- a slot that goes with the next has its count, and so its mark
   agreed : (j : Bool) → joins s before ≡ j → either (not j) (eqb (m (pick j (before .count) (before .count + 1))) (after .mark)) ≡ true
@@ -58,7 +59,8 @@ module _ (m : ℕ → ℕ) (s : Slot) (before after : Tail) (A : AfterAll m befo
   after-all-step =
       record {
         some = refl;
-        closed = rw (A .closed);
+        closed = rw (A .closed, A .model);
+        model = refl;
         residue = refl;
         count = rw (same-joins _, A .count);
         agree = both-join (after .agree) _ (A .agree) (rw (same-joins _) (agreed (joins s before) refl));
@@ -68,7 +70,7 @@ module _ (m : ℕ → ℕ) (s : Slot) (before after : Tail) (A : AfterAll m befo
 -- the account of slots that were all marked
 pub after-all : (m : ℕ → ℕ) (ss : List Slot) → AfterAll m (tailOf ss) (tailOf (markedBy m ss))
 unfolding tailOf markedBy
-after-all m [] = record { some = refl; closed = refl; residue = refl; count = refl; agree = refl; mark = λ h. absurd (false≢true h) }
+after-all m [] = record { some = refl; closed = refl; model = refl; residue = refl; count = refl; agree = refl; mark = λ h. absurd (false≢true h) }
 after-all m (s ∷ ss) = after-all-step m s (tailOf ss) (tailOf (markedBy m ss)) (after-all m ss)
 
 -- ---- only the marks told of fragments that there are count

@@ -14,7 +14,7 @@ use Rattle.ascii.specs.Tests.{pick, either}
 use Rattle.slots.specs.declared.Slot.{Slot}
 use Rattle.fragments.specs.Fragments.{markOf, marked, markedBy}
 use Rattle.table.specs.Table.{Told, told, over, loadedOf, mine, tableOf, fragments, backOf, markByte, markAt, orderOf, arrangeOf}
-use Rattle.table.specs.Orders.{order, ordersOf}
+use Rattle.table.specs.Orders.{ordersOf}
 use Rattle.table.specs.Arrange.{ordersFor, AsOrdered}
 use Rattle.table.proofs.Ready.{Ready, ready, ready-table, order-ready}
 use Rattle.table.proofs.Orders.{order-count}

@@ -17,7 +17,7 @@ use Rattle.rows.specs.Text.{row}
 use Rattle.facets.specs.Facets.{isCoord}
 use Rattle.gate.specs.Gate.{checkOf}
 use Rattle.slots.specs.declared.Slot.{Slot}
-use Rattle.slots.specs.Slots.{markAside, noSlot}
+use Rattle.slots.specs.Slots.{markAside, noModel, noSlot}
 use Rattle.fragments.specs.Fragments.{joins, stepTail, tailOf, markOf}
 use Rattle.table.specs.Table.{linesFrom, slotsOf, loadedOf, over, mine, fragments, markByte}
 use Rattle.table.specs.Orders.{Order, ordersOf, lastOf}
@@ -126,8 +126,8 @@ line-goes t xs os e i h c =
     let d : Line = Bad 0 in
     let r : isCoord (getD (linesFrom t 0) i d) ≡ true = ap isCoord (line-row t d i 0 h ∙ ap (row t) (zero-plus i)) ∙ c in
     stays-at (kept t xs os) d (linesFrom t 0) i 0 h r
-    ∙ ap (λ (n : ℕ). not (eqb (getD (kept t xs os) n noSlot .mark) markAside)) (zero-plus (length (slotsOf (take i (linesFrom t 0)))))
-    ∙ ap (λ (m : ℕ). not (eqb m markAside)) (kept-mark t xs os e (length (slotsOf (take i (linesFrom t 0)))) (slot-inside d (linesFrom t 0) i h r))
+    ∙ ap (λ (n : ℕ). not (eqb (getD (kept t xs os) n noSlot .mark) markAside)) (zero-plus (length (slotsOf noModel (take i (linesFrom t 0)))))
+    ∙ ap (λ (m : ℕ). not (eqb m markAside)) (kept-mark t xs os e (length (slotsOf noModel (take i (linesFrom t 0)))) (slot-inside d (linesFrom t 0) i h r))
     ∙ ap not (byte-aside (lastOf t (over (loadedOf t) xs) (fragmentOf t (over (loadedOf t) xs) (slotsTo t i)) false os))
   where
     zero-plus : (n : ℕ) → 0 + n ≡ n

@@ -27,7 +27,7 @@ use Rattle.rules.proofs.Laws.{Good, judge-typed}
 use Rattle.serials.specs.Search.{Before}
 use Rattle.slots.specs.declared.Slot.{Slot}
 use Rattle.table.proofs.Fine.{Fine}
-use Rattle.table.proofs.Paired.{closes, isIn, Beside}
+use Rattle.table.proofs.Paired.{closes, inSlot, Beside}
 use Rattle.table.proofs.Ahead.{site-here, site-place, not-before, Sane, sane-next, tail-het}
 use Rattle.table.proofs.Trails.{Trails, behind-le, behind-one, place-behind, good-trails}
 
@@ -39,7 +39,7 @@ RunOn r k false = k ≡ noRun
 -- s over all lines, k over the lines kept; ls come next, beside the slots from slot j on
 pub record Follows (xs : List Slot) (j : ℕ) (s k : State) (ls : List Line) : Type 0 where
   pub trails : Trails s k
-  pub closed : closes ls ≡ true → RunOn (s .run) (k .run) (isIn xs j)
+  pub closed : closes ls ≡ true → RunOn (s .run) (k .run) (inSlot xs j)
   pub tail : closes ls ≡ false → k .run .atom ≡ false
   pub early : Before (s .place) → k .run ≡ noRun
 
@@ -72,7 +72,17 @@ front-next xs j s k t u l ls S M b et eu T =
     let ru : u .run ≡ noRun = eu ∙ M .early b in
     record {
       trails = T;
-      closed = λ _. run-both (t .run) (u .run) (isIn xs j) rt ru;
+      closed = λ _. run-both (t .run) (u .run) (inSlot xs j) rt ru;
+      tail = λ _. ap (λ (r : Run). r .atom) ru;
+      early = λ _. ru;
+    }
+
+-- ---- MODEL and ENDMDL: both runs begin afresh
+pub fence-next : (xs : List Slot) (j : ℕ) (t u : State) (ls : List Line) → t .run ≡ noRun → u .run ≡ noRun → Trails t u → Follows xs j t u ls
+fence-next xs j t u ls rt ru T =
+    record {
+      trails = T;
+      closed = λ _. run-both (t .run) (u .run) (inSlot xs j) rt ru;
       tail = λ _. ap (λ (r : Run). r .atom) ru;
       early = λ _. ru;
     }
@@ -103,7 +113,7 @@ module _ (xs : List Slot) (j : ℕ) (seen : List Line) (s k : State) (het : Bool
   site-low : placeBad (s .place) kind.Atom ≡ false
   site-low = sym (site-place (s .place) het) ∙ site-good .place
 
-  site-closed : closes ls ≡ true → RunOn (s .run) (k .run) (isIn xs j)
+  site-closed : closes ls ≡ true → RunOn (s .run) (k .run) (inSlot xs j)
   unfolding closes either
   site-closed c = M .closed c
 
@@ -116,24 +126,24 @@ module _ (xs : List Slot) (j : ℕ) (seen : List Line) (s k : State) (het : Bool
   unfolding nextOf typedNext siteNext
   site-het c = tail-het _ (nextOf s (Typed (Coordinate het a))) (s .run) het ls (sane-next _ s (Typed (Coordinate het a)) S (f .0) (f .1)) (f .2) refl c
 
-  pub site-judged : (v : Looked) → v .twin ≡ false → isIn xs j ≡ true → judgeOf v k (Typed (Coordinate het a)) ≡ 0
+  pub site-judged : (v : Looked) → v .twin ≡ false → inSlot xs j ≡ true → judgeOf v k (Typed (Coordinate het a)) ≡ 0
   site-judged v w i =
       good-trails _ v s k (Coordinate het a) (M .trails) site-good
       (site-place (k .place) het ∙ place-behind (k .place) (s .place) kind.Atom refl (M .trails .place) site-low)
-      (site-run (s .run) (k .run) het (a .identity .residue .chain) (closes ls) (λ c. in-run _ _ (isIn xs j) i (site-closed c)) site-tail site-het (site-good .run))
+      (site-run (s .run) (k .run) het (a .identity .residue .chain) (closes ls) (λ c. in-run _ _ (inSlot xs j) i (site-closed c)) site-tail site-het (site-good .run))
       w refl refl
 
-  pub site-in : isIn xs j ≡ true → Follows xs (j + 1) (nextOf s (Typed (Coordinate het a))) (nextOf k (Typed (Coordinate het a))) ls
+  pub site-in : inSlot xs j ≡ true → Follows xs (j + 1) (nextOf s (Typed (Coordinate het a))) (nextOf k (Typed (Coordinate het a))) ls
   unfolding nextOf typedNext siteNext either
   site-in i =
       record {
-        trails = record { place = inl refl; last = le-refl _; bond = M .trails .bond; helix = M .trails .helix; ladder = M .trails .ladder };
-        closed = λ c. run-in _ _ (isIn xs (j + 1)) (sym (B .agree refl c) ∙ i) (ap (λ (r : Run). siteNext r het (a .identity .residue)) (in-run _ _ (isIn xs j) i (site-closed c)));
+        trails = record { place = inl refl; models = M .trails .models; last = le-refl _; bond = M .trails .bond; helix = M .trails .helix; ladder = M .trails .ladder };
+        closed = λ c. run-in _ _ (inSlot xs (j + 1)) (sym (B .agree refl c) ∙ i) (ap (λ (r : Run). siteNext r het (a .identity .residue)) (in-run _ _ (inSlot xs j) i (site-closed c)));
         tail = λ c. rw (site-tail c, site-het c);
         early = λ b. absurd (not-before _ (omega (arith, site-here het)) (omega (arith, site-here het)) b);
       }
 
-  pub site-out : isIn xs j ≡ false → Follows xs (j + 1) (nextOf s (Typed (Coordinate het a))) k ls
+  pub site-out : inSlot xs j ≡ false → Follows xs (j + 1) (nextOf s (Typed (Coordinate het a))) k ls
   unfolding nextOf typedNext
   site-out i =
       let low : 1 ≤ s .place = place-low (s .place) kind.Atom site-low in
@@ -143,54 +153,56 @@ module _ (xs : List Slot) (j : ℕ) (seen : List Line) (s k : State) (het : Bool
         trails =
             record {
               place = rw (site-here het) (inr (behind-one (k .place) (s .place) (M .trails .place) low, le-trans p high, omega arith, omega arith));
+              models = M .trails .models;
               last = le-trans (M .trails .last) (le-of-lt (leb-false _ _ (site-good .serial)));
               bond = M .trails .bond;
               helix = M .trails .helix;
               ladder = M .trails .ladder;
             };
-        closed = λ c. run-out _ _ (isIn xs (j + 1)) (sym (B .agree refl c) ∙ i) (out-run _ _ (isIn xs j) i (site-closed c));
+        closed = λ c. run-out _ _ (inSlot xs (j + 1)) (sym (B .agree refl c) ∙ i) (out-run _ _ (inSlot xs j) i (site-closed c));
         tail = site-tail;
         early = λ b. absurd (not-before _ (omega (arith, site-here het)) (omega (arith, site-here het)) b);
       }
 
 -- ---- TER lines
 module _ (xs : List Slot) (j : ℕ) (s k : State) (t : TerOf) (ls : List Line) (look : Looked) (g : Good look s (Ter t)) (M : Follows xs j s k (Typed (Ter t) ∷ ls)) where
-  ter-closed : RunOn (s .run) (k .run) (isIn xs j)
+  ter-closed : RunOn (s .run) (k .run) (inSlot xs j)
   unfolding closes either
   ter-closed = M .closed refl
 
-  pub ter-judged : (v : Looked) → v .twin ≡ false → isIn xs j ≡ true → judgeOf v k (Typed (Ter t)) ≡ 0
+  pub ter-judged : (v : Looked) → v .twin ≡ false → inSlot xs j ≡ true → judgeOf v k (Typed (Ter t)) ≡ 0
   ter-judged v w i =
       good-trails _ v s k (Ter t) (M .trails) g (place-behind (k .place) (s .place) kind.Ter refl (M .trails .place) (g .place))
-      (rw (in-run _ _ (isIn xs j) i ter-closed) (g .run)) w refl refl
+      (rw (in-run _ _ (inSlot xs j) i ter-closed) (g .run)) w refl refl
 
   pub ter-in : Follows xs (j + 1) (nextOf s (Typed (Ter t))) (nextOf k (Typed (Ter t))) ls
   unfolding nextOf typedNext
   ter-in =
       record {
-        trails = record { place = inl refl; last = le-refl _; bond = M .trails .bond; helix = M .trails .helix; ladder = M .trails .ladder };
-        closed = λ c. run-both noRun noRun (isIn xs (j + 1)) refl refl;
+        trails = record { place = inl refl; models = M .trails .models; last = le-refl _; bond = M .trails .bond; helix = M .trails .helix; ladder = M .trails .ladder };
+        closed = λ c. run-both noRun noRun (inSlot xs (j + 1)) refl refl;
         tail = λ c. refl;
         early = λ b. refl;
       }
 
-  pub ter-out : isIn xs j ≡ false → Follows xs (j + 1) (nextOf s (Typed (Ter t))) k ls
+  pub ter-out : inSlot xs j ≡ false → Follows xs (j + 1) (nextOf s (Typed (Ter t))) k ls
   unfolding nextOf typedNext
   ter-out i =
       let low : 1 ≤ s .place = place-low (s .place) kind.Ter (g .place) in
       let high : s .place ≤ 18 = place-high (s .place) kind.Ter (g .place) in
       let p : k .place ≤ s .place = behind-le (k .place) (s .place) (M .trails .place) in
-      let none : k .run ≡ noRun = out-run _ _ (isIn xs j) i ter-closed in
+      let none : k .run ≡ noRun = out-run _ _ (inSlot xs j) i ter-closed in
       record {
         trails =
             record {
               place = inr (behind-one (k .place) (s .place) (M .trails .place) low, le-trans p high, omega arith, omega arith);
+              models = M .trails .models;
               last = le-trans (M .trails .last) (le-of-lt (leb-false _ _ (g .serial)));
               bond = M .trails .bond;
               helix = M .trails .helix;
               ladder = M .trails .ladder;
             };
-        closed = λ c. run-both noRun (k .run) (isIn xs (j + 1)) refl none;
+        closed = λ c. run-both noRun (k .run) (inSlot xs (j + 1)) refl none;
         tail = λ c. ap (λ (r : Run). r .atom) none;
         early = λ b. none;
       }

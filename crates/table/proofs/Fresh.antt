@@ -21,9 +21,9 @@ use Rattle.facets.specs.declared.Spot.the-variants.{Site, Close, Nowhere}
 use Rattle.facets.specs.Facets.{spotIn, isCoord}
 use Rattle.slots.specs.declared.Slot.{Slot}
 use Rattle.names.specs.Names.{samePair}
-use Rattle.slots.specs.Slots.{markIn, markAside, noSlot, spotSlot, lineSlot, samePosition, sameMeasures, residueOf, sameNames, sameSlot}
+use Rattle.slots.specs.Slots.{markIn, markAside, noModel, noSlot, spotSlot, lineSlot, samePosition, sameMeasures, residueOf, sameNames, sameSlot}
 use Rattle.fragments.specs.Fragments.{joins, stepTail, tailOf, markOf}
-use Rattle.table.specs.Table.{over, linesFrom, slotsOf, loadedOf, fits, fitsFrom, mine}
+use Rattle.table.specs.Table.{over, linesFrom, modelNext, slotsOf, loadedOf, fits, fitsFrom, mine}
 use Rattle.table.proofs.Ready.{Ready}
 
 -- ---- a slot is the same as itself
@@ -42,7 +42,7 @@ slot-self s =
     (both-join _ _ (residue-self (residueOf s))
     (both-join _ _
     (both-join _ _ (both-join _ _ (four-self (s .name)) (equal (s .alternate))) (both-join _ _ (pair-self (s .element)) (pair-self (s .charge))))
-    (both-join _ _ (position-self (s .position)) (both-join _ _ (integer-self (s .occupancy)) (integer-self (s .temperature))))))
+    (both-join _ _ (both-join _ _ (position-self (s .position)) (both-join _ _ (integer-self (s .occupancy)) (integer-self (s .temperature)))) (equal (s .model)))))
 
 -- ---- no slot of a line is aside
 spot-in : (p : Spot) → spotSlot p .mark ≡ markIn
@@ -50,27 +50,27 @@ spot-in (Site het a) = refl
 spot-in (Close t) = refl
 spot-in Nowhere = refl
 
-pub line-in : (l : Line) → lineSlot l .mark ≡ markIn
-line-in l = spot-in (spotIn l)
+pub line-in : (m : ℕ) (l : Line) → lineSlot m l .mark ≡ markIn
+line-in m l = spot-in (spotIn l)
 
-own-fits : (l : Line) → both (leb (lineSlot l .mark) markAside) (sameSlot (lineSlot l) (lineSlot l)) ≡ true
-own-fits l = both-join _ _ (rw (line-in l)) (slot-self (lineSlot l))
+own-fits : (m : ℕ) (l : Line) → both (leb (lineSlot m l .mark) markAside) (sameSlot (lineSlot m l) (lineSlot m l)) ≡ true
+own-fits m l = both-join _ _ (rw (line-in m l)) (slot-self (lineSlot m l))
 
 -- ---- the slots of the lines fit the lines, whatever stands before and behind them
-fresh-fits : (p : List Slot) (ls : List Line) (r : List Slot) → fitsFrom (p ++ (slotsOf ls ++ r)) (length p) ls ≡ true
+fresh-fits : (p : List Slot) (m : ℕ) (ls : List Line) (r : List Slot) → fitsFrom (p ++ (slotsOf m ls ++ r)) (length p) m ls ≡ true
 unfolding fitsFrom fits slotsOf
-fresh-fits p [] r = refl
-fresh-fits p (l ∷ ls) r = go (isCoord l) (fresh-fits (p ++ (lineSlot l ∷ [])) ls r) (fresh-fits p ls r)
+fresh-fits p m [] r = refl
+fresh-fits p m (l ∷ ls) r = go (isCoord l) (fresh-fits (p ++ (lineSlot m l ∷ [])) (modelNext m l) ls r) (fresh-fits p (modelNext m l) ls r)
   where
-    go : (b : Bool) → fitsFrom ((p ++ (lineSlot l ∷ [])) ++ (slotsOf ls ++ r)) (length (p ++ (lineSlot l ∷ []))) ls ≡ true
-        → fitsFrom (p ++ (slotsOf ls ++ r)) (length p) ls ≡ true
+    go : (b : Bool) → fitsFrom ((p ++ (lineSlot m l ∷ [])) ++ (slotsOf (modelNext m l) ls ++ r)) (length (p ++ (lineSlot m l ∷ []))) (modelNext m l) ls ≡ true
+        → fitsFrom (p ++ (slotsOf (modelNext m l) ls ++ r)) (length p) (modelNext m l) ls ≡ true
         → both
-        (pick b (both (leb (getD (p ++ (pick b (lineSlot l ∷ slotsOf ls) (slotsOf ls) ++ r)) (length p) noSlot .mark) markAside)
-        (sameSlot (getD (p ++ (pick b (lineSlot l ∷ slotsOf ls) (slotsOf ls) ++ r)) (length p) noSlot) (lineSlot l))) true)
-        (fitsFrom (p ++ (pick b (lineSlot l ∷ slotsOf ls) (slotsOf ls) ++ r)) (length p + pick b 1 0) ls) ≡ true
+        (pick b (both (leb (getD (p ++ (pick b (lineSlot m l ∷ slotsOf (modelNext m l) ls) (slotsOf (modelNext m l) ls) ++ r)) (length p) noSlot .mark) markAside)
+        (sameSlot (getD (p ++ (pick b (lineSlot m l ∷ slotsOf (modelNext m l) ls) (slotsOf (modelNext m l) ls) ++ r)) (length p) noSlot) (lineSlot m l))) true)
+        (fitsFrom (p ++ (pick b (lineSlot m l ∷ slotsOf (modelNext m l) ls) (slotsOf (modelNext m l) ls) ++ r)) (length p + pick b 1 0) (modelNext m l) ls) ≡ true
     go true x y =
-        let e : length (p ++ (lineSlot l ∷ [])) ≡ length p + 1 = simp length-append (omega arith) in
-        both-join _ _ (rw (getD-append-seam p (lineSlot l) (slotsOf ls ++ r) noSlot) (own-fits l)) (rw (e, append-snoc) at x)
+        let e : length (p ++ (lineSlot m l ∷ [])) ≡ length p + 1 = simp length-append (omega arith) in
+        both-join _ _ (rw (getD-append-seam p (lineSlot m l) (slotsOf (modelNext m l) ls ++ r) noSlot) (own-fits m l)) (rw (e, append-snoc) at x)
     go false x y = let e : length p + 0 ≡ length p = omega arith in both-join _ _ refl (rw e y)
 
 -- ---- marks agree, and are in
@@ -79,28 +79,28 @@ unfolding either
 agrees true m n e = eq-eqb m n e
 agrees false m n e = refl
 
-fresh-agree : (ls : List Line) → (tailOf (slotsOf ls) .agree ≡ true) × (tailOf (slotsOf ls) .mark ≡ markIn)
+fresh-agree : (m : ℕ) (ls : List Line) → (tailOf (slotsOf m ls) .agree ≡ true) × (tailOf (slotsOf m ls) .mark ≡ markIn)
 unfolding tailOf stepTail slotsOf
-fresh-agree [] = (refl, refl)
-fresh-agree (l ∷ ls) = go (isCoord l) (fresh-agree ls)
+fresh-agree m [] = (refl, refl)
+fresh-agree m (l ∷ ls) = go (isCoord l) (slotsOf (modelNext m l) ls) (fresh-agree (modelNext m l) ls)
   where
-    go : (b : Bool) → (tailOf (slotsOf ls) .agree ≡ true) × (tailOf (slotsOf ls) .mark ≡ markIn)
-        → (tailOf (pick b (lineSlot l ∷ slotsOf ls) (slotsOf ls)) .agree ≡ true) × (tailOf (pick b (lineSlot l ∷ slotsOf ls) (slotsOf ls)) .mark ≡ markIn)
-    go true h = (both-join _ _ (h .0) (agrees (joins (lineSlot l) (tailOf (slotsOf ls))) _ _ (line-in l ∙ sym (h .1))), line-in l)
-    go false h = h
+    go : (b : Bool) (ss : List Slot) → (tailOf ss .agree ≡ true) × (tailOf ss .mark ≡ markIn)
+        → (tailOf (pick b (lineSlot m l ∷ ss) ss) .agree ≡ true) × (tailOf (pick b (lineSlot m l ∷ ss) ss) .mark ≡ markIn)
+    go true ss h = (both-join _ _ (h .0) (agrees (joins (lineSlot m l) (tailOf ss)) _ _ (line-in m l ∙ sym (h .1))), line-in m l)
+    go false ss h = h
 
-fresh-mark : (b : ℕ) (ls : List Line) → markOf b (slotsOf ls) ≡ markIn
+fresh-mark : (b m : ℕ) (ls : List Line) → markOf b (slotsOf m ls) ≡ markIn
 unfolding markOf slotsOf
-fresh-mark b [] = refl
-fresh-mark b (l ∷ ls) = go (isCoord l) (fresh-mark b ls)
+fresh-mark b m [] = refl
+fresh-mark b m (l ∷ ls) = go (isCoord l) (slotsOf (modelNext m l) ls) (fresh-mark b (modelNext m l) ls)
   where
-    two : (x : Bool) (m : ℕ) → m ≡ markIn → pick x (lineSlot l .mark) m ≡ markIn
-    two true m e = line-in l
-    two false m e = e
+    two : (x : Bool) (n : ℕ) → n ≡ markIn → pick x (lineSlot m l .mark) n ≡ markIn
+    two true n e = line-in m l
+    two false n e = e
 
-    go : (c : Bool) → markOf b (slotsOf ls) ≡ markIn → markOf b (pick c (lineSlot l ∷ slotsOf ls) (slotsOf ls)) ≡ markIn
-    go true h = two (eqb (tailOf (lineSlot l ∷ slotsOf ls) .count) b) (markOf b (slotsOf ls)) h
-    go false h = h
+    go : (c : Bool) (ss : List Slot) → markOf b ss ≡ markIn → markOf b (pick c (lineSlot m l ∷ ss) ss) ≡ markIn
+    go true ss h = two (eqb (tailOf (lineSlot m l ∷ ss) .count) b) (markOf b ss) h
+    go false ss h = h
 
 -- ---- a table just loaded
 module _ (t : List ℕ) (xs : List Slot) where
@@ -112,9 +112,9 @@ module _ (t : List ℕ) (xs : List Slot) where
       record {
         good = e;
         room = simp length-append (omega arith);
-        fit = fresh-fits [] (linesFrom t 0) (drop (length (loadedOf t)) xs);
-        agree = ap (λ (ys : List Slot). tailOf ys .agree) fresh-mine ∙ fresh-agree (linesFrom t 0) .0;
+        fit = fresh-fits [] noModel (linesFrom t 0) (drop (length (loadedOf t)) xs);
+        agree = ap (λ (ys : List Slot). tailOf ys .agree) fresh-mine ∙ fresh-agree noModel (linesFrom t 0) .0;
       }
 
   pub fresh-in : (b : ℕ) → markOf b (mine t (over (loadedOf t) xs)) ≡ markIn
-  fresh-in b = ap (λ (ys : List Slot). markOf b ys) fresh-mine ∙ fresh-mark b (linesFrom t 0)
+  fresh-in b = ap (λ (ys : List Slot). markOf b ys) fresh-mine ∙ fresh-mark b noModel (linesFrom t 0)

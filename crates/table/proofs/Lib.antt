@@ -12,6 +12,7 @@ pub mod Shares
 pub mod Recount
 pub mod Bare
 pub mod Paired
+pub mod Fences
 pub mod Named
 pub mod Ahead
 pub mod Saved

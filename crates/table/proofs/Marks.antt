@@ -13,7 +13,7 @@ use Rattle.ascii.proofs.Choice.{both-split, both-join}
 use Rattle.slots.specs.declared.Slot.{Slot}
 use Rattle.fragments.specs.declared.Tail.{Tail}
 use Rattle.slots.specs.Slots.{withMark}
-use Rattle.fragments.specs.Fragments.{isTer, joins, stepTail, tailOf, markOf, marked}
+use Rattle.fragments.specs.Fragments.{isTer, seam, joins, stepTail, tailOf, markOf, marked}
 
 pub marked-size : (b m : ℕ) (ss : List Slot) → length (marked b m ss) ≡ length ss
 unfolding marked
@@ -24,6 +24,7 @@ marked-size b m (s ∷ ss) = ap suc (marked-size b m ss)
 pub record After (b m : ℕ) (before after : Tail) : Type 0 where
   pub some : after .some ≡ before .some
   pub closed : after .closed ≡ before .closed
+  pub model : after .model ≡ before .model
   pub residue : after .residue ≡ before .residue
   pub count : after .count ≡ before .count
   pub agree : before .agree ≡ true → after .agree ≡ true
@@ -32,16 +33,16 @@ pub record After (b m : ℕ) (before after : Tail) : Type 0 where
 -- a slot that goes with the next has one after it
 pub joins-some : (s : Slot) (t : Tail) → joins s t ≡ true → t .some ≡ true
 unfolding joins
-joins-some s t e = both-split (t .some) (not (isTer s)) (both-split (both (t .some) (not (isTer s))) _ e .0) .0
+joins-some s t e = both-split (t .some) (both (seam s t) (not (isTer s))) (both-split (both (t .some) (both (seam s t) (not (isTer s)))) _ e .0) .0
 
 module _ (b m : ℕ) (s : Slot) (before after : Tail) (A : After b m before after) where
   same-joins : joins s after ≡ joins s before
   unfolding joins
-  same-joins = rw (A .some, A .closed, A .residue)
+  same-joins = rw (A .some, A .closed, A .model, A .residue)
 
   marked-joins : joins (withMark s m) after ≡ joins s before
   unfolding joins withMark
-  marked-joins = rw (A .some, A .closed, A .residue)
+  marked-joins = rw (A .some, A .closed, A .model, A .residue)
 
   -- the new marks agree: both are the mark asked for, or both are as they were
   agreed : (x : Bool) → x ≡ eqb (pick (joins s before) (before .count) (before .count + 1)) b
@@ -66,7 +67,8 @@ module _ (b m : ℕ) (s : Slot) (before after : Tail) (A : After b m before afte
   after-step true e =
       record {
         some = refl;
-        closed = rw (A .closed);
+        closed = rw (A .closed, A .model);
+        model = refl;
         residue = refl;
         count = rw (marked-joins, A .count);
         agree = λ h. rw marked-joins (agreed true e h);
@@ -75,7 +77,8 @@ module _ (b m : ℕ) (s : Slot) (before after : Tail) (A : After b m before afte
   after-step false e =
       record {
         some = refl;
-        closed = rw (A .closed);
+        closed = rw (A .closed, A .model);
+        model = refl;
         residue = refl;
         count = rw (same-joins, A .count);
         agree = λ h. rw same-joins (agreed false e h);
@@ -84,7 +87,7 @@ module _ (b m : ℕ) (s : Slot) (before after : Tail) (A : After b m before afte
 
 pub after : (b m : ℕ) (ss : List Slot) → After b m (tailOf ss) (tailOf (marked b m ss))
 unfolding tailOf marked
-after b m [] = record { some = refl; closed = refl; residue = refl; count = refl; agree = λ h. h; mark = λ h. absurd (false≢true h) }
+after b m [] = record { some = refl; closed = refl; model = refl; residue = refl; count = refl; agree = λ h. h; mark = λ h. absurd (false≢true h) }
 after b m (s ∷ ss) = after-step b m s (tailOf ss) (tailOf (marked b m ss)) (after b m ss) (eqb (stepTail s (tailOf ss) .count) b) refl
 
 -- no other fragment's mark changes

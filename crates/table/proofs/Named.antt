@@ -2,10 +2,11 @@
 -- Assumes nothing.
 use Prim.Native.Nat.{ℕ, _+_, _<_}
 use mathlib.Core.List.{List, [], _∷_, _++_}
-use mathlib.Core.Bool.{true, false}
+use mathlib.Core.Bool.{Bool, true, false, not}
+use mathlib.Core.Logic.{_⊎_, inl, inr, ⊎-elim}
 use mathlib.Core.Path.{_≡_, refl, sym, _∙_}
 use native.Mathlib.Numerals.{add-one}
-use borrow.Author.Tests.{eqb-true, eq-eqb, not-false}
+use borrow.Author.Tests.{eqb-true, eq-eqb}
 use lib.Dec.{eqb}
 use lib.ListN.{length, take, getD}
 use lib.Seq.{take-suc}
@@ -17,107 +18,113 @@ use Rattle.pieces.specs.declared.Line.{Line}
 use Rattle.facets.specs.declared.Spot.{Spot}
 use Rattle.facets.specs.declared.Spot.the-variants.{Site, Close, Nowhere}
 use Rattle.facets.specs.declared.Bond.the-variants.{Bonds}
-use Rattle.facets.specs.Facets.{spotIn}
-use Rattle.serials.specs.Known.{isAtom, isSite, someOf, named, partnerKnown, bondKnown}
+use Rattle.facets.specs.Facets.{spotIn, isSpot, isCoord, isFence}
+use Rattle.serials.specs.Known.{isAtom, isSite, someOf, front, named, partnerKnown, bondKnown}
 use Rattle.serials.specs.Search.{spotSerial}
 use Rattle.twins.specs.Twins.{isTwin}
 use Rattle.slots.specs.declared.Slot.{Slot}
 use Rattle.slots.specs.Slots.{markAside, noSlot}
-use Rattle.table.specs.Deal.{isAside, aside, namesAside}
-use Rattle.table.proofs.Paired.{spotCloses, isIn, Beside}
+use Rattle.fragments.specs.Fragments.{isTer}
+use Rattle.serials.proofs.Models.{coord-off}
+use Rattle.table.specs.Deal.{isIn, standsIn, partnerIn, bondIn}
+use Rattle.table.proofs.Paired.{spotCloses, inSlot, Beside}
+
+-- a test that fails where its opposite holds
+not-true : (b : Bool) → not b ≡ true → b ≡ false
+not-true true e = never e
+not-true false e = refl
 
 -- the lines kept of those seen; j slots stand before
 pub record Held (xs : List Slot) (j : ℕ) (seen kept : List Line) : Type 0 where
-  -- every atom among the lines seen whose slot is not set aside is among those kept
-  pub atoms : (n : ℕ) → named seen n ≡ true → aside (take j xs) n ≡ false → named kept n ≡ true
-  -- an atom that is not among the lines seen is not among those kept
-  pub twins : (a : Identity) → someOf (isTwin a) seen ≡ false → someOf (isTwin a) kept ≡ false
+  -- every atom that is in is among the lines kept
+  pub atoms : (n : ℕ) → standsIn (take j xs) n ≡ true → named kept n ≡ true
+  -- an atom that is not among the lines seen, in the same model, is not among those kept
+  pub twins : (a : Identity) → someOf (isTwin a) (front seen) ≡ false → someOf (isTwin a) (front kept) ≡ false
 
 -- ---- one slot more
-aside-last : (ys : List Slot) (y : Slot) (n : ℕ) → aside (ys ++ (y ∷ [])) n ≡ false → (aside ys n ≡ false) × (isAside n y ≡ false)
-unfolding aside either
-aside-last [] y n e = (refl, either-none (isAside n y) false e .0)
-aside-last (x ∷ ys) y n e =
-    let h = either-none (isAside n x) (aside (ys ++ (y ∷ [])) n) e in
-    let r = aside-last ys y n (h .1) in
-    (rw (h .0) (r .0), r .1)
+in-last : (ys : List Slot) (y : Slot) (n : ℕ) → standsIn (ys ++ (y ∷ [])) n ≡ true → (standsIn ys n ≡ true) ⊎ (isIn n y ≡ true)
+unfolding standsIn
+in-last [] y n e = either-split (isIn n y) false inr (λ f. never f) e
+in-last (x ∷ ys) y n e =
+    either-split (isIn n x) (standsIn (ys ++ (y ∷ [])) n) (λ h. inl (either-left (isIn n x) (standsIn ys n) h))
+    (λ h. ⊎-elim (λ r. inl (either-right (isIn n x) (standsIn ys n) r)) inr (in-last ys y n h)) e
 
-aside-more : (xs : List Slot) (j n : ℕ) → j < length xs → aside (take (j + 1) xs) n ≡ false → (aside (take j xs) n ≡ false) × (isAside n (getD xs j noSlot) ≡ false)
-aside-more xs j n h e = aside-last (take j xs) (getD xs j noSlot) n (rw (add-one j, take-suc xs j noSlot h) at e)
+in-more : (xs : List Slot) (j n : ℕ) → j < length xs → standsIn (take (j + 1) xs) n ≡ true → (standsIn (take j xs) n ≡ true) ⊎ (isIn n (getD xs j noSlot) ≡ true)
+in-more xs j n h e = in-last (take j xs) (getD xs j noSlot) n (rw (add-one j, take-suc xs j noSlot h) at e)
 
--- an atom's line has the serial of its slot, and is no TER
-site-serial : (n : ℕ) (p : Spot) → isAtom n p ≡ true → (spotSerial p ≡ n) × (spotCloses p ≡ false)
-site-serial n (Site het a) e = (eqb-true _ _ e, refl)
-site-serial n (Close t) e = never e
-site-serial n Nowhere e = never e
+-- the slot of an atom that is in is beside its line
+closes-site : (n : ℕ) (p : Spot) → isSpot p ≡ true → spotCloses p ≡ false → spotSerial p ≡ n → isAtom n p ≡ true
+closes-site n (Site het a) c o e = eq-eqb _ _ e
+closes-site n (Close t) c o e = never (sym o)
+closes-site n Nowhere c o e = never c
 
--- the slot of an atom that is not in is set aside
-site-aside : (xs : List Slot) (j n : ℕ) (l : Line) (ls : List Line) → Beside xs j l ls → isIn xs j ≡ false → isSite n l ≡ true → isAside n (getD xs j noSlot) ≡ true
-unfolding isAside both
-site-aside xs j n l ls B out site =
-    let h = site-serial n (spotIn l) site in
-    let m : eqb (getD xs j noSlot .mark) markAside ≡ true = not-false _ out in
-    rw (m, B .ter ∙ h .1, eq-eqb (getD xs j noSlot .serial .0) n (B .serial ∙ h .0))
+in-site : (xs : List Slot) (j n : ℕ) (l : Line) (ls : List Line) → isCoord l ≡ true → Beside xs j l ls → isIn n (getD xs j noSlot) ≡ true → isSite n l ≡ true
+unfolding isIn
+in-site xs j n l ls c B e =
+    let h = both-split (not (isTer (getD xs j noSlot))) _ (both-split (not (eqb (getD xs j noSlot .mark) markAside)) _ e .1) in
+    closes-site n (spotIn l) c (sym (B .ter) ∙ not-true _ (h .0)) (sym (B .serial) ∙ eqb-true _ _ (h .1))
+
+in-mark : (xs : List Slot) (j n : ℕ) → isIn n (getD xs j noSlot) ≡ true → inSlot xs j ≡ true
+unfolding isIn
+in-mark xs j n e = both-split (not (eqb (getD xs j noSlot .mark) markAside)) _ e .0
 
 module _ (xs : List Slot) (j : ℕ) (seen kept : List Line) (H : Held xs j seen kept) where
   -- a line more that is seen and not kept
-  twins-less : (l : Line) (a : Identity) → someOf (isTwin a) (l ∷ seen) ≡ false → someOf (isTwin a) kept ≡ false
-  unfolding someOf
-  twins-less l a e = H .twins a (either-none (isTwin a l) (someOf (isTwin a) seen) e .1)
+  twins-less : (l : Line) → isFence l ≡ false → (a : Identity) → someOf (isTwin a) (front (l ∷ seen)) ≡ false → someOf (isTwin a) (front kept) ≡ false
+  unfolding someOf front
+  twins-less l f a e = H .twins a (either-none (isTwin a l) (someOf (isTwin a) (front seen)) (rw f at e) .1)
+
+  -- a line more that is kept as m
+  twins-more : (l m : Line) → isFence l ≡ false → isFence m ≡ false → ((a : Identity) → isTwin a l ≡ false → isTwin a m ≡ false)
+      → (a : Identity) → someOf (isTwin a) (front (l ∷ seen)) ≡ false → someOf (isTwin a) (front (m ∷ kept)) ≡ false
+  unfolding someOf front either
+  twins-more l m f g t a e =
+      let h = either-none (isTwin a l) (someOf (isTwin a) (front seen)) (rw f at e) in
+      rw (g, t a (h .0)) (H .twins a (h .1))
 
   -- a coordinate line that is in
-  pub held-in : (l : Line) (ls : List Line) → Beside xs j l ls → Held xs (j + 1) (l ∷ seen) (l ∷ kept)
-  unfolding someOf either
-  held-in l ls B =
+  pub held-in : (l : Line) (ls : List Line) → isCoord l ≡ true → Beside xs j l ls → Held xs (j + 1) (l ∷ seen) (l ∷ kept)
+  unfolding someOf
+  held-in l ls c B =
       record {
-        atoms = λ n e a.
-            either-split (isSite n l) (named seen n) (λ s. either-left (isSite n l) (named kept n) s)
-            (λ s. either-right (isSite n l) (named kept n) (H .atoms n s (aside-more xs j n (B .within) a .0))) e;
-        twins = λ a e. let h = either-none (isTwin a l) (someOf (isTwin a) seen) e in rw (h .0) (H .twins a (h .1));
+        atoms = λ n e.
+            ⊎-elim (λ r. either-right (isSite n l) (named kept n) (H .atoms n r)) (λ i. either-left (isSite n l) (named kept n) (in-site xs j n l ls c B i))
+            (in-more xs j n (B .within) e);
+        twins = twins-more l l (coord-off l c) (coord-off l c) (λ a e. e);
       }
 
   -- one that is set aside
-  pub held-out : (l : Line) (ls : List Line) → Beside xs j l ls → isIn xs j ≡ false → Held xs (j + 1) (l ∷ seen) kept
+  pub held-out : (l : Line) (ls : List Line) → isCoord l ≡ true → Beside xs j l ls → inSlot xs j ≡ false → Held xs (j + 1) (l ∷ seen) kept
+  held-out l ls c B out =
+      record {
+        atoms = λ n e. ⊎-elim (H .atoms n) (λ i. never (sym out ∙ in-mark xs j n i)) (in-more xs j n (B .within) e);
+        twins = twins-less l (coord-off l c);
+      }
+
+  -- a line without a slot, dropped
+  pub held-skip : (l : Line) → isFence l ≡ false → Held xs j (l ∷ seen) kept
+  held-skip l f = record { atoms = H .atoms; twins = twins-less l f }
+
+  -- or kept as m, which is no atom
+  pub held-other : (l m : Line) → isFence l ≡ false → isFence m ≡ false → ((a : Identity) → isTwin a m ≡ false) → Held xs j (l ∷ seen) (m ∷ kept)
   unfolding someOf
-  held-out l ls B out =
-      record {
-        atoms = λ n e a.
-            let b = aside-more xs j n (B .within) a in
-            either-split (isSite n l) (named seen n) (λ s. never (sym (b .1) ∙ site-aside xs j n l ls B out s)) (λ s. H .atoms n s (b .0)) e;
-        twins = twins-less l;
-      }
+  held-other l m f g other =
+      record { atoms = λ n e. either-right (isSite n m) (named kept n) (H .atoms n e); twins = twins-more l m f g (λ a e. other a) }
 
-  -- a line that is no atom, dropped or kept as m
-  pub held-skip : (l : Line) → ((n : ℕ) → isSite n l ≡ false) → Held xs j (l ∷ seen) kept
-  unfolding someOf
-  held-skip l none =
-      record {
-        atoms = λ n e a. either-split (isSite n l) (named seen n) (λ s. never (sym (none n) ∙ s)) (λ s. H .atoms n s a) e;
-        twins = twins-less l;
-      }
+  -- MODEL and ENDMDL: atoms are looked for from there on
+  pub held-fence : (l : Line) → isFence l ≡ true → Held xs j (l ∷ seen) (l ∷ kept)
+  unfolding someOf front
+  held-fence l f = record { atoms = λ n e. either-right (isSite n l) (named kept n) (H .atoms n e); twins = λ a e. rw f }
 
-  pub held-other : (l m : Line) → ((n : ℕ) → isSite n l ≡ false) → ((a : Identity) → isTwin a m ≡ false) → Held xs j (l ∷ seen) (m ∷ kept)
-  unfolding someOf either
-  held-other l m none other =
-      record {
-        atoms = λ n e a. either-right (isSite n m) (named kept n) (held-skip l none .atoms n e a);
-        twins = λ a e. rw (other a) (twins-less l a e);
-      }
-
-  held-partner : (n : ℕ) → partnerKnown seen n ≡ true → aside (take j xs) n ≡ false → partnerKnown kept n ≡ true
-  held-partner n e a =
-      either-split (eqb n 0) (named seen n) (λ z. either-left (eqb n 0) (named kept n) z) (λ s. either-right (eqb n 0) (named kept n) (H .atoms n s a)) e
+  held-partner : (n : ℕ) → partnerIn (take j xs) n ≡ true → partnerKnown kept n ≡ true
+  held-partner n e = either-split (eqb n 0) (standsIn (take j xs) n) (λ z. either-left (eqb n 0) (named kept n) z) (λ s. either-right (eqb n 0) (named kept n) (H .atoms n s)) e
 
   -- the numbers on a CONECT line that stays are known among the lines kept
-  pub held-bond : (c : Conect) → bondKnown seen (Bonds c) ≡ true → namesAside (take j xs) c ≡ false → bondKnown kept (Bonds c) ≡ true
+  pub held-bond : (c : Conect) → bondIn (take j xs) c ≡ true → bondKnown kept (Bonds c) ≡ true
   unfolding both
-  held-bond c e a =
-      let k0 = both-split (named seen (c .serial .0)) _ e in
-      let k1 = both-split (partnerKnown seen (c .a .0)) _ (k0 .1) in
-      let k2 = both-split (partnerKnown seen (c .b .0)) _ (k1 .1) in
-      let k3 = both-split (partnerKnown seen (c .c .0)) _ (k2 .1) in
-      let a0 = either-none (aside (take j xs) (c .serial .0)) _ a in
-      let a1 = either-none (aside (take j xs) (c .a .0)) _ (a0 .1) in
-      let a2 = either-none (aside (take j xs) (c .b .0)) _ (a1 .1) in
-      let a3 = either-none (aside (take j xs) (c .c .0)) _ (a2 .1) in
-      rw (H .atoms (c .serial .0) (k0 .0) (a0 .0), held-partner (c .a .0) (k1 .0) (a1 .0), held-partner (c .b .0) (k2 .0) (a2 .0), held-partner (c .c .0) (k3 .0) (a3 .0), held-partner (c .d .0) (k3 .1) (a3 .1))
+  held-bond c e =
+      let k0 = both-split (standsIn (take j xs) (c .serial .0)) _ e in
+      let k1 = both-split (partnerIn (take j xs) (c .a .0)) _ (k0 .1) in
+      let k2 = both-split (partnerIn (take j xs) (c .b .0)) _ (k1 .1) in
+      let k3 = both-split (partnerIn (take j xs) (c .c .0)) _ (k2 .1) in
+      rw (H .atoms (c .serial .0) (k0 .0), held-partner (c .a .0) (k1 .0), held-partner (c .b .0) (k2 .0), held-partner (c .c .0) (k3 .0), held-partner (c .d .0) (k3 .1))

@@ -11,14 +11,19 @@ use lib.Dec.{eqb, ltb, leb}
 use lib.ListN.{length, getD, take, length-take}
 use Rattle.facets.specs.declared.Total.{Total}
 use Rattle.facets.specs.declared.Total.the-variants.{Counted, Uncounted}
-use Rattle.facets.specs.Facets.{totalOf}
+use Rattle.facets.specs.declared.Fence.{Fence}
+use Rattle.facets.specs.declared.Fence.the-variants.{Opens, Shuts, Unfenced}
+use Rattle.facets.specs.Facets.{totalOf, fenceOf, fenceIn}
+use Rattle.numbers.specs.Number.{numberOf}
+use Rattle.model.specs.Models.{modelF, modelColumns}
+use Rattle.slots.proofs.Returns.{whole-high}
 use Rattle.ascii.specs.Tests.{both}
 use Rattle.ascii.proofs.Choice.{picks, both-split, both-join}
 use Rattle.columns.specs.Columns.{cleanAt}
 use Rattle.fields.specs.Field.{rangedOf}
 use Rattle.kinds.specs.declared.Kind.{Kind}
-use Rattle.kinds.specs.declared.Kind.the-variants.{Header, Title, Compnd, Source, Keywds, Expdta, Author, Revdat, Jrnl, Remark, Seqres, Het, Helix, Sheet, Cryst1, Origx1, Origx2, Origx3, Scale1, Scale2, Scale3, Atom, Hetatm, Ter, Conect, Master, End, Unknown}
-use Rattle.kinds.specs.Kinds.{rowOf, kindOf}
+use Rattle.kinds.specs.declared.Kind.the-variants.{Header, Title, Compnd, Source, Keywds, Expdta, Author, Revdat, Jrnl, Remark, Seqres, Het, Helix, Sheet, Cryst1, Origx1, Origx2, Origx3, Scale1, Scale2, Scale3, Atom, Hetatm, Ter, Conect, Master, End, Unknown, Model, Endmdl}
+use Rattle.kinds.specs.Kinds.{rowOf, is, isNamed, kindOf}
 use Rattle.line.specs.declared.Record.{Record}
 use Rattle.line.specs.declared.Record.the-variants as rec
 use Rattle.line.specs.declared.Reading.{Reading}
@@ -130,6 +135,8 @@ by-kind l h Conect = judged-plain Conect _ _ (λ _. tt)
 by-kind l h Master = judged-plain Master (masterF .fault l 6) (rec.Master (masterF .value l 6)) (λ e. ok-small (masterF .value l 6) (master-lawful .kept l 6 (omega arith) e .1))
 by-kind l h End = judged-plain End _ _ (λ _. tt)
 by-kind l h Unknown = omega arith
+by-kind l h Model = judged-plain Model _ _ (λ _. tt)
+by-kind l h Endmdl = judged-plain Endmdl _ _ (λ _. tt)
 
 pub piece-plain : (p : List ℕ) → Plain (lineOf p)
 unfolding lineOf columnsOf
@@ -139,3 +146,45 @@ piece-plain p =
     let h : 80 ≤ length (take 80 p) = omega (arith, length-take 80 p, ltb-false (length p) 81 long) in
     picks Plain (eqb (getD p 80 0) 10) _ (Bad 2)
     (λ _. picks Plain (cleanAt (take 80 p) 0 80) _ (Bad 3) (λ _. by-kind (take 80 p) h (kindOf (take 80 p))) (λ _. omega arith)) (λ _. omega arith))
+
+-- ---- the number of a MODEL line is one that four columns hold
+abbrev SmallFence : Fence → Type 0
+SmallFence (Opens n) = n ≤ 9999
+SmallFence Shuts = Unit {0}
+SmallFence Unfenced = Unit {0}
+
+abbrev pub PlainFence : Line → Type 0
+PlainFence l = SmallFence (fenceIn l)
+
+judged-fence : (k : Kind) (c : ℕ) (r : Record) → SmallFence (fenceOf r) → PlainFence (lineIn k (judged c r))
+unfolding judged
+judged-fence k c r s = picks (λ (x : Reading). PlainFence (lineIn k x)) (eqb c 0) (reading.Typed r) (reading.Wrong c) (λ _. s) (λ _. tt)
+
+model-small : (l : List ℕ) → (modelF .value l 6) .number ≤ 9999
+unfolding modelColumns
+model-small l = whole-high 1 9999 (numberOf l 10 4 0) 10
+
+fence-kind : (l : List ℕ) (k : Kind) → PlainFence (lineIn k (readingOf k l))
+unfolding readingOf
+fence-kind l k =
+    picks P (is Atom k) _ _ (λ _. judged-fence k _ _ tt)
+    (λ _. picks P (is Hetatm k) _ _ (λ _. judged-fence k _ _ tt)
+    (λ _. picks P (is Ter k) _ _ (λ _. judged-fence k _ _ tt)
+    (λ _. picks P (is Helix k) _ _ (λ _. judged-fence k _ _ tt)
+    (λ _. picks P (is Sheet k) _ _ (λ _. judged-fence k _ _ tt)
+    (λ _. picks P (is Conect k) _ _ (λ _. judged-fence k _ _ tt)
+    (λ _. picks P (is Master k) _ _ (λ _. judged-fence k _ _ tt)
+    (λ _. picks P (is End k) _ _ (λ _. judged-fence k _ _ tt)
+    (λ _. picks P (is Model k) _ _ (λ _. judged-fence k (modelF .fault l 6) (rec.Model (modelF .value l 6)) (model-small l))
+    (λ _. picks P (is Endmdl k) _ _ (λ _. judged-fence k _ _ tt)
+    (λ _. picks PlainFence (isNamed k) (Carried k) (Bad 4) (λ _. tt) (λ _. tt)))))))))))
+  where
+    P : Reading → Type 0
+    P x = PlainFence (lineIn k x)
+
+pub piece-model : (p : List ℕ) → PlainFence (lineOf p)
+unfolding lineOf columnsOf
+piece-model p =
+    picks PlainFence (ltb (length p) 81) (Bad 1) _ (λ _. tt)
+    (λ _. picks PlainFence (eqb (getD p 80 0) 10) _ (Bad 2)
+    (λ _. picks PlainFence (cleanAt (take 80 p) 0 80) _ (Bad 3) (λ _. fence-kind (take 80 p) (kindOf (take 80 p))) (λ _. tt)) (λ _. tt))

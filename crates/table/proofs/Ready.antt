@@ -16,56 +16,56 @@ use Rattle.pieces.specs.declared.Line.{Line}
 use Rattle.gate.specs.Gate.{checkOf}
 use Rattle.facets.specs.Facets.{isCoord}
 use Rattle.slots.specs.declared.Slot.{Slot}
-use Rattle.slots.specs.Slots.{markAside, noSlot, lineSlot, sameMeasures, sameNames, sameSlot, withMark}
+use Rattle.slots.specs.Slots.{markAside, noModel, noSlot, lineSlot, sameMeasures, sameNames, sameSlot, withMark}
 use Rattle.fragments.specs.Fragments.{tailOf, markOf, marked}
-use Rattle.table.specs.Table.{Told, told, over, linesFrom, loadedOf, fits, oneOf, fitsFrom, mine, belongs, tableOf, fragments, backOf, markByte, orderOf}
+use Rattle.table.specs.Table.{Told, told, over, linesFrom, modelNext, loadedOf, fits, oneOf, fitsFrom, mine, belongs, tableOf, fragments, backOf, markByte, orderOf}
 use Rattle.table.proofs.Marks.{marked-size, after}
 
 -- ---- marks do not count when a slot is held against its line
 -- s fits every line that u fits
 abbrev Serves : Slot → Slot → Type 0
-Serves s u = (l : Line) → fits u l ≡ true → fits s l ≡ true
+Serves s u = (i : ℕ) (l : Line) → fits u i l ≡ true → fits s i l ≡ true
 
 serves-marked : (s : Slot) (m : ℕ) → m ≤ markAside → Serves (withMark s m) s
 unfolding fits withMark sameSlot sameNames sameMeasures
-serves-marked s m h l = go (isCoord l)
+serves-marked s m h i l = go (isCoord l)
   where
-    go : (b : Bool) → pick b (both (leb (s .mark) markAside) (sameSlot s (lineSlot l))) true ≡ true
-        → pick b (both (leb m markAside) (sameSlot (withMark s m) (lineSlot l))) true ≡ true
+    go : (b : Bool) → pick b (both (leb (s .mark) markAside) (sameSlot s (lineSlot i l))) true ≡ true
+        → pick b (both (leb m markAside) (sameSlot (withMark s m) (lineSlot i l))) true ≡ true
     go true e = both-join _ _ (le-leb m markAside h) (both-split (leb (s .mark) markAside) _ e .1)
     go false e = refl
 
 serves-pick : (x : Bool) (s : Slot) (m : ℕ) → m ≤ markAside → Serves (pick x (withMark s m) s) s
 serves-pick true s m h = serves-marked s m h
-serves-pick false s m h = λ l e. e
+serves-pick false s m h = λ i l e. e
 
 over-serves : (b m : ℕ) → m ≤ markAside → (xs : List Slot) (n k : ℕ) → Serves (getD (marked b m (take n xs) ++ drop n xs) k noSlot) (getD xs k noSlot)
 unfolding marked
-over-serves b m h [] zero k = λ l e. e
-over-serves b m h [] (suc n) k = λ l e. e
-over-serves b m h (x ∷ xs) zero k = λ l e. e
+over-serves b m h [] zero k = λ i l e. e
+over-serves b m h [] (suc n) k = λ i l e. e
+over-serves b m h (x ∷ xs) zero k = λ i l e. e
 over-serves b m h (x ∷ xs) (suc n) zero = serves-pick (eqb (tailOf (x ∷ take n xs) .count) b) x m h
 over-serves b m h (x ∷ xs) (suc n) (suc k) = over-serves b m h xs n k
 
-serves-all : (xs ys : List Slot) → ((k : ℕ) → Serves (getD xs k noSlot) (getD ys k noSlot)) → (k : ℕ) (ls : List Line) → fitsFrom ys k ls ≡ true → fitsFrom xs k ls ≡ true
+serves-all : (xs ys : List Slot) → ((k : ℕ) → Serves (getD xs k noSlot) (getD ys k noSlot)) → (k i : ℕ) (ls : List Line) → fitsFrom ys k i ls ≡ true → fitsFrom xs k i ls ≡ true
 unfolding fitsFrom
-serves-all xs ys h k [] e = refl
-serves-all xs ys h k (l ∷ ls) e =
-    let w = both-split (fits (getD ys k noSlot) l) _ e in
-    both-join _ _ (h k l (w .0)) (serves-all xs ys h (k + oneOf l) ls (w .1))
+serves-all xs ys h k i [] e = refl
+serves-all xs ys h k i (l ∷ ls) e =
+    let w = both-split (fits (getD ys k noSlot) i l) _ e in
+    both-join _ _ (h k i l (w .0)) (serves-all xs ys h (k + oneOf l) (modelNext i l) ls (w .1))
 
 -- ---- text and table get no number
 pub record Ready (t : List ℕ) (xs : List Slot) : Type 0 where
   pub good : checkOf t .number ≡ 0
   pub room : length (loadedOf t) ≤ length xs
-  pub fit : fitsFrom xs 0 (linesFrom t 0) ≡ true
+  pub fit : fitsFrom xs 0 noModel (linesFrom t 0) ≡ true
   pub agree : tailOf (mine t xs) .agree ≡ true
 
 pub ready : (t : List ℕ) (xs : List Slot) → tableOf t xs ≡ 0 → Ready t xs
 unfolding tableOf belongs both
-ready t xs = go (eqb (checkOf t .number) 0) refl (ltb (length xs) (length (loadedOf t))) refl (fitsFrom xs 0 (linesFrom t 0)) refl (tailOf (mine t xs) .agree) refl
+ready t xs = go (eqb (checkOf t .number) 0) refl (ltb (length xs) (length (loadedOf t))) refl (fitsFrom xs 0 noModel (linesFrom t 0)) refl (tailOf (mine t xs) .agree) refl
   where
-    go : (p : Bool) → eqb (checkOf t .number) 0 ≡ p → (q : Bool) → ltb (length xs) (length (loadedOf t)) ≡ q → (r : Bool) → fitsFrom xs 0 (linesFrom t 0) ≡ r
+    go : (p : Bool) → eqb (checkOf t .number) 0 ≡ p → (q : Bool) → ltb (length xs) (length (loadedOf t)) ≡ q → (r : Bool) → fitsFrom xs 0 noModel (linesFrom t 0) ≡ r
         → (u : Bool) → tailOf (mine t xs) .agree ≡ u → pick (not p) (checkOf t .number) (pick q 13 (pick (not (pick r u false)) 18 0)) ≡ 0 → Ready t xs
     go false e q f r g u h z = absurd (eqb-false _ _ e z)
     go true e true f r g u h z = absurd (omega arith)
@@ -90,7 +90,7 @@ module _ (t : List ℕ) (xs : List Slot) (R : Ready t xs) (b m : ℕ) where
       record {
         good = R .good;
         room = simp length-append (omega (arith, size));
-        fit = rw size (serves-all _ xs (over-serves b m h xs (length (loadedOf t))) 0 (linesFrom t 0) (R .fit));
+        fit = rw size (serves-all _ xs (over-serves b m h xs (length (loadedOf t))) 0 noModel (linesFrom t 0) (R .fit));
         agree = ap (λ (ys : List Slot). tailOf ys .agree) next-mine ∙ after b m (mine t xs) .agree (R .agree);
       }
 

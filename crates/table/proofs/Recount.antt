@@ -19,11 +19,14 @@ use Rattle.pieces.specs.declared.Line.the-variants.{Bad, Wrong, Carried, Typed}
 use Rattle.pieces.specs.Pieces.{lineOf}
 use Rattle.places.specs.declared.Counts.{Counts}
 use Rattle.rules.specs.declared.State.{State}
-use Rattle.places.specs.Counts.{countOf, noCounts, oneMore, raised, sameCounts}
-use Rattle.rules.specs.Rules.{countBad, judgeOf, carriedNext, typedNext, nextOf, startOf}
-use Rattle.facets.specs.Facets.{lineKind, totalOf}
+use Rattle.places.specs.declared.Models.{Models}
+use Rattle.places.specs.Counts.{countAt, noCounts, oneMore, raised, sameCounts}
+use Rattle.rules.specs.Rules.{modelsNext, countBad, judgeOf, carriedNext, typedNext, nextOf, startOf}
+use Rattle.facets.specs.declared.Fence.{Fence}
+use Rattle.facets.specs.declared.Fence.the-variants.{Opens, Shuts, Unfenced}
+use Rattle.facets.specs.Facets.{lineKind, totalOf, fenceOf}
 use Rattle.rules.proofs.Laws.{judge-typed, judge-wrong}
-use Rattle.table.specs.Deal.{counted, tallyOf, masterPiece, isTotal, isMaster}
+use Rattle.table.specs.Deal.{pastAfter, pastNext, counted, tallyOf, masterPiece, isTotal, isMaster}
 use Rattle.table.specs.FiveDigits.{FiveDigits}
 use Rattle.table.proofs.Plain.{PlainTotal, Plain}
 use Rattle.table.proofs.Master.{master-line}
@@ -86,17 +89,31 @@ under-skip a b w u =
     }
 
 -- a good line raises the counts of its kind
-counts-next : (known : Looked) (s : State) (l : Line) → Plain l → judgeOf known s l ≡ 0 → nextOf s l .counts ≡ raised (s .counts) (countOf (lineKind l))
+counts-next : (known : Looked) (s : State) (l : Line) → Plain l → judgeOf known s l ≡ 0 → nextOf s l .counts ≡ raised (s .counts) (countAt (s .models .past) (lineKind l))
 unfolding nextOf carriedNext typedNext judgeOf
 counts-next known s (Bad n) p e = absurd (omega arith)
 counts-next known s (Wrong k column) p e = absurd (judge-wrong known s k column e)
 counts-next known s (Carried k) p e = refl
 counts-next known s (Typed r) p e = refl
 
-pub under-next : (known : Looked) (stay : Bool) (q : Counts) (s : State) (l : Line) → Plain l → judgeOf known s l ≡ 0 → Under q (s .counts) → Under (counted stay q l) (nextOf s l .counts)
+pub under-next : (known : Looked) (stay : Bool) (q : Counts) (s : State) (l : Line) → Plain l → judgeOf known s l ≡ 0 → Under q (s .counts)
+    → Under (counted stay (s .models .past) q l) (nextOf s l .counts)
 unfolding counted
-under-next known true q s l p e u = rw (counts-next known s l p e) (under-both q (s .counts) (countOf (lineKind l)) u)
-under-next known false q s l p e u = rw (counts-next known s l p e) (under-skip q (s .counts) (countOf (lineKind l)) u)
+under-next known true q s l p e u = rw (counts-next known s l p e) (under-both q (s .counts) (countAt (s .models .past) (lineKind l)) u)
+under-next known false q s l p e u = rw (counts-next known s l p e) (under-skip q (s .counts) (countAt (s .models .past) (lineKind l)) u)
+
+-- whether the first model is past is told by the lines alone
+fence-past : (m : Models) (e : Fence) → modelsNext m e .past ≡ pastAfter (m .past) e
+fence-past m (Opens n) = refl
+fence-past m Shuts = refl
+fence-past m Unfenced = refl
+
+pub past-next : (known : Looked) (s : State) (l : Line) → Plain l → judgeOf known s l ≡ 0 → nextOf s l .models .past ≡ pastNext (s .models .past) l
+unfolding nextOf carriedNext typedNext judgeOf
+past-next known s (Bad n) p e = absurd (omega arith)
+past-next known s (Wrong k column) p e = absurd (judge-wrong known s k column e)
+past-next known s (Carried k) p e = refl
+past-next known s (Typed r) p e = fence-past (s .models) (fenceOf r)
 
 -- ---- counts under those of a MASTER line that holds the true ones are small
 small-under : (m : Tally) (c q : Counts) → FiveDigits m → sameCounts m c ≡ true → Under q c → FiveDigits (tallyOf q)

@@ -16,7 +16,7 @@ use Rattle.table.specs.Deal.{outputOf, putOf}
 use Rattle.table.specs.Promise.{wrote, Granted, HasRoom, RoomEnough}
 use Rattle.table.proofs.Joined.{accepted-size}
 use Rattle.table.proofs.Ready.{ready}
-use Rattle.table.proofs.Shares.{shares-sum, bytes-size}
+use Rattle.table.proofs.Shares.{shares-few, bytes-size}
 
 module _ (saving : Bool) (t : List ℕ) (xs : List Slot) (z : tableOf t xs ≡ 0) (o : List ℕ) (h : HasRoom saving t xs o) where
   put-told : putOf saving t xs o ≡ told 0 (length (outputOf saving t xs)) (over (outputOf saving t xs) o)
@@ -42,8 +42,8 @@ bytes-few saving t xs z = go saving
     all = accepted-size t (ready t xs z .good)
 
     go : (s : Bool) → length (outputOf s t xs) ≤ length t
-    go true = omega (arith, all, bytes-size true t xs (ready t xs z .good), shares-sum xs 0 noCounts (cut t))
-    go false = omega (arith, all, bytes-size false t xs (ready t xs z .good), shares-sum xs 0 noCounts (cut t))
+    go true = omega (arith, all, bytes-size true t xs (ready t xs z .good), shares-few true xs 0 false noCounts (cut t))
+    go false = omega (arith, all, bytes-size false t xs (ready t xs z .good), shares-few false xs 0 false noCounts (cut t))
 
 pub room-enough : (t : List ℕ) (xs : List Slot) → tableOf t xs ≡ 0 → RoomEnough t xs
 room-enough t xs z =

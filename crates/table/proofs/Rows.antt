@@ -3,7 +3,7 @@
 use Prim.Native.Nat.{ℕ, zero, suc, _+_, _*_, _≤_, _<_}
 use mathlib.Core.List.{List, [], _∷_, map}
 use mathlib.Core.Bool.{Bool, true, false, not}
-use mathlib.Core.Path.{_≡_, refl, _∙_, ap}
+use mathlib.Core.Path.{_≡_, refl, sym, _∙_, ap}
 use native.Mathlib.Omega.{arith}
 use borrow.Author.Tests.{ltb-true, ltb-false}
 use lib.Dec.{eqb, ltb}
@@ -16,8 +16,8 @@ use Rattle.rows.specs.Text.{row}
 use Rattle.facets.specs.Facets.{isCoord}
 use Rattle.rows.proofs.Cut.{cut-next, cut-done}
 use Rattle.slots.specs.declared.Slot.{Slot}
-use Rattle.slots.specs.Slots.{markAside, noSlot, lineSlot}
-use Rattle.table.specs.Table.{linesFrom, slotsOf, loadedOf, oneOf}
+use Rattle.slots.specs.Slots.{markAside, noModel, noSlot, lineSlot}
+use Rattle.table.specs.Table.{linesFrom, modelNext, slotsOf, loadedOf, oneOf}
 use Rattle.table.specs.Deal.{stays}
 use Rattle.table.specs.Promise.{staysFrom, slotsTo}
 
@@ -49,32 +49,40 @@ line-row t d (suc i) k h =
     rw (n, ← e) (line-row t d i (k + 1) (omega arith))
 
 -- a line with a slot gives one slot more
-pub slots-count : (l : Line) (ls : List Line) → length (slotsOf (l ∷ ls)) ≡ oneOf l + length (slotsOf ls)
+pub slots-count : (m : ℕ) (l : Line) (ls : List Line) → length (slotsOf m (l ∷ ls)) ≡ oneOf l + length (slotsOf (modelNext m l) ls)
 unfolding slotsOf
-slots-count l ls = go (isCoord l)
+slots-count m l ls = go (isCoord l) (slotsOf (modelNext m l) ls)
   where
-    go : (b : Bool) → length (pick b (lineSlot l ∷ slotsOf ls) (slotsOf ls)) ≡ pick b 1 0 + length (slotsOf ls)
-    go true = omega arith
-    go false = omega arith
+    go : (b : Bool) (ss : List Slot) → length (pick b (lineSlot m l ∷ ss) ss) ≡ pick b 1 0 + length ss
+    go true ss = omega arith
+    go false ss = omega arith
+
+-- how many slots lines have does not depend on their models
+pub slots-any : (m n : ℕ) (ls : List Line) → length (slotsOf m ls) ≡ length (slotsOf n ls)
+unfolding slotsOf
+slots-any m n [] = refl
+slots-any m n (l ∷ ls) = slots-count m l ls ∙ ap (λ (x : ℕ). oneOf l + x) (slots-any (modelNext m l) (modelNext n l) ls) ∙ sym (slots-count n l ls)
 
 -- a coordinate line stays unless the slot after those of the lines before it is aside
 pub stays-at : (xs : List Slot) (d : Line) (ls : List Line) (i k : ℕ) → i < length ls → isCoord (getD ls i d) ≡ true
-    → getD (staysFrom xs k ls) i true ≡ not (eqb (getD xs (k + length (slotsOf (take i ls))) noSlot .mark) markAside)
+    → getD (staysFrom xs k ls) i true ≡ not (eqb (getD xs (k + length (slotsOf noModel (take i ls))) noSlot .mark) markAside)
 unfolding staysFrom slotsOf stays
 stays-at xs d [] i k h c = absurd (omega arith)
 stays-at xs d (l ∷ ls) zero k h c = let e : k + 0 ≡ k = omega arith in rw (c, e)
 stays-at xs d (l ∷ ls) (suc i) k h c =
-    let e : k + oneOf l + length (slotsOf (take i ls)) ≡ k + length (slotsOf (l ∷ take i ls)) = omega (arith, slots-count l (take i ls)) in
+    let e : k + oneOf l + length (slotsOf noModel (take i ls)) ≡ k + length (slotsOf noModel (l ∷ take i ls)) =
+    omega (arith, slots-count noModel l (take i ls), slots-any noModel (modelNext noModel l) (take i ls)) in
     stays-at xs d ls i (k + oneOf l) (omega arith) c ∙ ap (λ (n : ℕ). not (eqb (getD xs n noSlot .mark) markAside)) e
 
 -- it has a slot of its own
-pub slot-inside : (d : Line) (ls : List Line) (i : ℕ) → i < length ls → isCoord (getD ls i d) ≡ true → length (slotsOf (take i ls)) < length (slotsOf ls)
+pub slot-inside : (d : Line) (ls : List Line) (i : ℕ) → i < length ls → isCoord (getD ls i d) ≡ true → length (slotsOf noModel (take i ls)) < length (slotsOf noModel ls)
 unfolding slotsOf
 slot-inside d [] i h c = absurd (omega arith)
 slot-inside d (l ∷ ls) zero h c = rw c (omega arith)
 slot-inside d (l ∷ ls) (suc i) h c =
-    let u : length (slotsOf (take i ls)) < length (slotsOf ls) = slot-inside d ls i (omega arith) c in
-    omega (arith, slots-count l (take i ls), slots-count l ls)
+    let u : length (slotsOf noModel (take i ls)) < length (slotsOf noModel ls) = slot-inside d ls i (omega arith) c in
+    let n : ℕ = modelNext noModel l in
+    omega (arith, slots-count noModel l (take i ls), slots-count noModel l ls, slots-any noModel n (take i ls), slots-any noModel n ls)
 
 -- ---- how many slots the first lines have
 pub slots-none : (t : List ℕ) → slotsTo t 0 ≡ 0
@@ -82,23 +90,24 @@ unfolding slotsTo slotsOf
 slots-none t = refl
 
 -- a line more, from line k on
-slots-from : (t : List ℕ) (i k : ℕ) → 81 * (k + i) < length t
-    → length (slotsOf (take (suc i) (linesFrom t k))) ≡ length (slotsOf (take i (linesFrom t k))) + oneOf (row t (k + i))
+slots-from : (t : List ℕ) (m i k : ℕ) → 81 * (k + i) < length t
+    → length (slotsOf m (take (suc i) (linesFrom t k))) ≡ length (slotsOf m (take i (linesFrom t k))) + oneOf (row t (k + i))
 unfolding slotsOf
-slots-from t zero k h =
+slots-from t m zero k h =
     let e : k + 0 ≡ k = omega arith in
-    rw (lines-next t k (omega arith), e) (omega (arith, slots-count (row t k) []))
-slots-from t (suc i) k h =
+    rw (lines-next t k (omega arith), e) (omega (arith, slots-count m (row t k) []))
+slots-from t m (suc i) k h =
     let e : k + 1 + i ≡ k + suc i = omega arith in
-    let r : length (slotsOf (take (suc i) (linesFrom t (k + 1)))) ≡ length (slotsOf (take i (linesFrom t (k + 1)))) + oneOf (row t (k + suc i)) =
-    rw (← e) (slots-from t i (k + 1) (omega arith)) in
+    let n : ℕ = modelNext m (row t k) in
+    let r : length (slotsOf n (take (suc i) (linesFrom t (k + 1)))) ≡ length (slotsOf n (take i (linesFrom t (k + 1)))) + oneOf (row t (k + suc i)) =
+    rw (← e) (slots-from t n i (k + 1) (omega arith)) in
     let u : List Line = linesFrom t (k + 1) in
-    rw (lines-next t k (omega arith)) (omega (arith, r, slots-count (row t k) (take (suc i) u), slots-count (row t k) (take i u)))
+    rw (lines-next t k (omega arith)) (omega (arith, r, slots-count m (row t k) (take (suc i) u), slots-count m (row t k) (take i u)))
 
 -- the same from the first line on
 pub slots-more : (t : List ℕ) (i : ℕ) → 81 * i < length t → slotsTo t (suc i) ≡ slotsTo t i + oneOf (row t i)
 unfolding slotsTo
-slots-more t i h = let e : 0 + i ≡ i = omega arith in rw e at (slots-from t i 0 (omega arith))
+slots-more t i h = let e : 0 + i ≡ i = omega arith in rw e at (slots-from t noModel i 0 (omega arith))
 
 -- no more lines than the bytes have
 lines-few : (t : List ℕ) (n k : ℕ) → length t ≤ 81 * (k + n) → length (linesFrom t k) ≤ n

@@ -2,47 +2,47 @@
 -- Assumes nothing.
 use Prim.Native.Nat.{ℕ, _+_}
 use mathlib.Core.List.{List, [], _∷_}
-use mathlib.Core.Bool.{true, false}
+use mathlib.Core.Bool.{Bool, true, false}
 use mathlib.Core.Path.{_≡_}
 use native.Mathlib.Nat.{add-zero}
 use Rattle.ascii.specs.Tests.{pick}
 use Rattle.pieces.specs.declared.Line.{Line}
 use Rattle.places.specs.declared.Counts.{Counts}
-use Rattle.places.specs.Counts.{countOf, raised}
+use Rattle.places.specs.Counts.{countAt, raised}
 use Rattle.facets.specs.Facets.{isCoord}
 use Rattle.slots.specs.declared.Slot.{Slot}
 use Rattle.table.specs.Table.{oneOf}
 use Rattle.facets.specs.Facets.{lineKind}
-use Rattle.table.specs.Deal.{stays, counted}
+use Rattle.table.specs.Deal.{stays, pastNext, counted}
 use Rattle.table.proofs.Recount.{recounted}
-use Rattle.table.proofs.Paired.{isIn, Paired}
+use Rattle.table.proofs.Paired.{inSlot, Paired}
 
 -- the lines that stay, after j slots, the lines kept before them counted q
-unfoldable pub savedLines : List Slot → ℕ → Counts → List Line → List Line
-savedLines xs j q [] = []
-savedLines xs j q (l ∷ ls) =
+unfoldable pub savedLines : List Slot → ℕ → Bool → Counts → List Line → List Line
+savedLines xs j past q [] = []
+savedLines xs j past q (l ∷ ls) =
     pick (stays xs j l)
-    (recounted q l ∷ savedLines xs (j + oneOf l) (counted (stays xs j l) q l) ls)
-    (savedLines xs (j + oneOf l) (counted (stays xs j l) q l) ls)
+    (recounted q l ∷ savedLines xs (j + oneOf l) (pastNext past l) (counted (stays xs j l) past q l) ls)
+    (savedLines xs (j + oneOf l) (pastNext past l) (counted (stays xs j l) past q l) ls)
 
-module _ (xs : List Slot) (j : ℕ) (q : Counts) (l : Line) (ls : List Line) where
+module _ (xs : List Slot) (j : ℕ) (past : Bool) (q : Counts) (l : Line) (ls : List Line) where
   -- a coordinate line that is in, and one that is set aside
-  pub saved-in : isCoord l ≡ true → isIn xs j ≡ true
-      → savedLines xs j q (l ∷ ls) ≡ recounted q l ∷ savedLines xs (j + 1) (raised q (countOf (lineKind l))) ls
+  pub saved-in : isCoord l ≡ true → inSlot xs j ≡ true
+      → savedLines xs j past q (l ∷ ls) ≡ recounted q l ∷ savedLines xs (j + 1) (pastNext past l) (raised q (countAt past (lineKind l))) ls
   unfolding savedLines stays counted
   saved-in c i = rw (c, i)
 
-  pub saved-out : isCoord l ≡ true → isIn xs j ≡ false → savedLines xs j q (l ∷ ls) ≡ savedLines xs (j + 1) q ls
+  pub saved-out : isCoord l ≡ true → inSlot xs j ≡ false → savedLines xs j past q (l ∷ ls) ≡ savedLines xs (j + 1) (pastNext past l) q ls
   unfolding savedLines stays counted
   saved-out c i = rw (c, i)
 
   -- any other line, where it stays and where it goes
   pub saved-stay : isCoord l ≡ false → stays xs j l ≡ true
-      → savedLines xs j q (l ∷ ls) ≡ recounted q l ∷ savedLines xs j (raised q (countOf (lineKind l))) ls
+      → savedLines xs j past q (l ∷ ls) ≡ recounted q l ∷ savedLines xs j (pastNext past l) (raised q (countAt past (lineKind l))) ls
   unfolding savedLines counted
   saved-stay c i = rw (i, c, add-zero j)
 
-  pub saved-skip : isCoord l ≡ false → stays xs j l ≡ false → savedLines xs j q (l ∷ ls) ≡ savedLines xs j q ls
+  pub saved-skip : isCoord l ≡ false → stays xs j l ≡ false → savedLines xs j past q (l ∷ ls) ≡ savedLines xs j (pastNext past l) q ls
   unfolding savedLines counted
   saved-skip c i = rw (i, c, add-zero j)
 

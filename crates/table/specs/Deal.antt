@@ -5,11 +5,12 @@ use Rattle.master.specs.declared.{Tally.Tally}
 use Rattle.master.specs.Masters.{masterF}
 use Rattle.kinds.specs.Kinds.{lineWith}
 use Rattle.pieces.specs.declared.{Line.Line}
-use Rattle.facets.specs.declared.{Bond.Bond, Bond.the-variants.Bonds, Bond.the-variants.Loose, Total.Total, Total.the-variants.Counted, Total.the-variants.Uncounted}
-use Rattle.facets.specs.Facets.{lineKind, bondIn, totalIn, isCoord}
+use Rattle.facets.specs.declared.{Fence.Fence, Fence.the-variants.Opens, Fence.the-variants.Shuts, Fence.the-variants.Unfenced, Bond.Bond, Bond.the-variants.Bonds, Bond.the-variants.Loose, Total.Total, Total.the-variants.Counted, Total.the-variants.Uncounted}
+use Rattle.facets.specs.Facets as facets
+use Rattle.facets.specs.Facets.{lineKind, totalIn, fenceIn, isCoord, isFence}
 use Rattle.pieces.specs.Pieces.{lineOf}
 use Rattle.places.specs.declared.{Counts.Counts}
-use Rattle.places.specs.Counts.{countOf, noCounts, raised}
+use Rattle.places.specs.Counts.{countAt, noCounts, raised}
 use Rattle.rows.specs.Text.{cut}
 use Rattle.slots.specs.declared.{Slot.Slot}
 use Rattle.slots.specs.Slots.{markAside, noSlot}
@@ -18,37 +19,47 @@ use Rattle.table.specs.Table.{Told, told, over, oneOf, tableOf}
 use Rattle.kinds.specs.declared.Kind.the-variants as kind
 
 -- ---- the atoms that a CONECT line names
--- the slot is the atom with serial n, and set aside
-unfoldable pub isAside : ℕ → Slot → Bool
-isAside n s = both (eqb (s .mark) markAside) (both (not (isTer s)) (eqb (s .serial .0) n))
+-- the slot is the atom with serial n, and not set aside
+unfoldable pub isIn : ℕ → Slot → Bool
+isIn n s = both (not (eqb (s .mark) markAside)) (both (not (isTer s)) (eqb (s .serial .0) n))
 
--- n is the serial of an atom set aside
-unfoldable pub aside : List Slot → ℕ → Bool
-aside [] n = false
-aside (s ∷ ss) n = either (isAside n s) (aside ss n)
+-- n is the serial of an atom that is in, in whichever model
+unfoldable pub standsIn : List Slot → ℕ → Bool
+standsIn [] n = false
+standsIn (s ∷ ss) n = either (isIn n s) (standsIn ss n)
 
--- a CONECT line names an atom set aside
-abbrev pub namesAside : List Slot → Conect → Bool
-namesAside xs c =
-    either (aside xs (c .serial .0))
-    (either (aside xs (c .a .0)) (either (aside xs (c .b .0)) (either (aside xs (c .c .0)) (aside xs (c .d .0)))))
+-- a partner is where it is there
+abbrev pub partnerIn : List Slot → ℕ → Bool
+partnerIn xs n = either (eqb n 0) (standsIn xs n)
 
--- the same of a line
-abbrev pub bondAside : List Slot → Bond → Bool
-bondAside xs (Bonds c) = namesAside xs c
-bondAside xs Loose = false
+-- each number on a CONECT line is the serial of such an atom
+abbrev pub bondIn : List Slot → Conect → Bool
+bondIn xs c =
+    both (standsIn xs (c .serial .0))
+    (both (partnerIn xs (c .a .0)) (both (partnerIn xs (c .b .0)) (both (partnerIn xs (c .c .0)) (partnerIn xs (c .d .0)))))
 
-abbrev pub lineAside : List Slot → Line → Bool
-lineAside xs l = bondAside xs (bondIn l)
+-- a line that is no CONECT line stays for its bonds
+abbrev pub bondStays : List Slot → Bond → Bool
+bondStays xs (Bonds c) = bondIn xs c
+bondStays xs Loose = true
 
 -- ---- each line stays or goes
--- k slots stand before the line: a line with a slot stays unless that is set aside, a CONECT line unless it names an atom set aside
+-- k slots stand before the line: a line with a slot stays unless that is set aside, a CONECT line while each number on it is in, in some model
 unfoldable pub stays : List Slot → ℕ → Line → Bool
-stays xs k l = pick (isCoord l) (not (eqb (getD xs k noSlot .mark) markAside)) (not (lineAside (take k xs) l))
+stays xs k l = pick (isCoord l) (not (eqb (getD xs k noSlot .mark) markAside)) (bondStays (take k xs) (facets.bondIn l))
 
--- the counts of the lines that stay, with this one
-unfoldable pub counted : Bool → Counts → Line → Counts
-counted stay q l = pick stay (raised q (countOf (lineKind l))) q
+-- whether the first model is past, once this line is
+abbrev pub pastAfter : Bool → Fence → Bool
+pastAfter past (Opens n) = past
+pastAfter past Shuts = true
+pastAfter past Unfenced = past
+
+abbrev pub pastNext : Bool → Line → Bool
+pastNext past l = pastAfter past (fenceIn l)
+
+-- the counts of the lines that stay, with this one: coordinates and TER of the first model alone
+unfoldable pub counted : Bool → Bool → Counts → Line → Counts
+counted stay past q l = pick stay (raised q (countAt past (lineKind l))) q
 
 -- ---- what is written
 -- MASTER's numbers, and MASTER with its newline
@@ -81,20 +92,20 @@ isMaster l = isTotal (totalIn l)
 unfoldable pub written : Counts → List ℕ → List ℕ
 written q p = pick (isMaster (lineOf p)) (masterPiece q) p
 
--- what a line gives to the saved entry (saving true) or to the tray (false)
+-- what a line gives to the saved entry (saving true) or to the tray (false); MODEL and ENDMDL are in both
 unfoldable pub share : Bool → Bool → Counts → List ℕ → List ℕ
-share saving stay q p = pick (alike saving stay) (written q p) []
+share saving stay q p = pick (either (isFence (lineOf p)) (alike saving stay)) (written q p) []
 
 -- the lines p.., after k slots, the lines kept before them counted q
-unfoldable pub dealt : Bool → List Slot → ℕ → Counts → List (List ℕ) → List ℕ
-dealt saving xs k q [] = []
-dealt saving xs k q (p ∷ ps) =
+unfoldable pub dealt : Bool → List Slot → ℕ → Bool → Counts → List (List ℕ) → List ℕ
+dealt saving xs k past q [] = []
+dealt saving xs k past q (p ∷ ps) =
     share saving (stays xs k (lineOf p)) q p
-    ++ dealt saving xs (k + oneOf (lineOf p)) (counted (stays xs k (lineOf p)) q (lineOf p)) ps
+    ++ dealt saving xs (k + oneOf (lineOf p)) (pastNext past (lineOf p)) (counted (stays xs k (lineOf p)) past q (lineOf p)) ps
 
 -- all the bytes of the saved entry, or of the tray
 unfoldable pub outputOf : Bool → List ℕ → List Slot → List ℕ
-outputOf saving t xs = dealt saving xs 0 noCounts (cut t)
+outputOf saving t xs = dealt saving xs 0 false noCounts (cut t)
 
 -- 1-12, 13, 18, then 17: the output is shorter than what would be written
 unfoldable pub putOf : Bool → List ℕ → List Slot → List ℕ → Told ℕ

@@ -1,12 +1,13 @@
 -- What is promised of loading, orders, saving and the tray beyond their definitions: the statements. They are proved in proofs/.
-use Rattle.ascii.specs.Library.{ℕ, _+_, _<_, _≤_, List, [], _∷_, map, Bool, true, false, not, _≡_, length, take, drop, getD, pick}
+use Rattle.ascii.specs.Library.{ℕ, _+_, _<_, _≤_, List, [], _∷_, map, Bool, true, false, not, _≡_, length, take, drop, getD, pick, either}
 use Rattle.fields.specs.declared.{FragmentNumber.FragmentNumber}
 use Rattle.pieces.specs.declared.{Line.Line}
 use Rattle.pieces.specs.Pieces.{lineOf}
 use Rattle.rows.specs.Text.{cut, row}
-use Rattle.facets.specs.Facets.{isCoord}
+use Rattle.facets.specs.Facets.{isCoord, isFence}
 use Rattle.gate.specs.Gate.{checkOf}
 use Rattle.slots.specs.declared.{Slot.Slot}
+use Rattle.slots.specs.Slots.{noModel}
 use Rattle.fragments.specs.Fragments.{tailOf, turned}
 use Rattle.table.specs.Table.{Told, linesFrom, slotsOf, oneOf, mine, loadOf, tableOf, fragments, orderOf, fragmentsOf, arrangeOf}
 use Rattle.table.specs.Deal.{stays, isMaster, outputOf, saveOf, trayOf}
@@ -18,12 +19,26 @@ unfoldable pub staysFrom : List Slot → ℕ → List Line → List Bool
 staysFrom xs k [] = []
 staysFrom xs k (l ∷ ls) = stays xs k l ∷ staysFrom xs (k + oneOf l) ls
 
--- those of the pieces that stay, and those that go, in order; each piece is among the one or the other, once
-unfoldable pub those : Bool → List Bool → List (List ℕ) → List (List ℕ)
-those stay [] ps = []
-those stay (b ∷ bs) [] = []
-those true (b ∷ bs) (p ∷ ps) = pick b (p ∷ those true bs ps) (those true bs ps)
-those false (b ∷ bs) (p ∷ ps) = pick b (those false bs ps) (p ∷ those false bs ps)
+-- those of the pieces that stay, in order
+unfoldable pub stayFrom : List Bool → List (List ℕ) → List (List ℕ)
+stayFrom [] ps = []
+stayFrom (b ∷ bs) [] = []
+stayFrom (b ∷ bs) (p ∷ ps) = pick b (p ∷ stayFrom bs ps) (stayFrom bs ps)
+
+-- a piece that is a MODEL or ENDMDL line
+abbrev pub isBound : List ℕ → Bool
+isBound p = isFence (lineOf p)
+
+-- whether each piece goes to the tray: it goes out of the saved entry, or is a MODEL or ENDMDL line, which is in both
+unfoldable pub trayFrom : List Bool → List (List ℕ) → List (List ℕ)
+trayFrom [] ps = []
+trayFrom (b ∷ bs) [] = []
+trayFrom (b ∷ bs) (p ∷ ps) = pick (either (isBound p) (not b)) (p ∷ trayFrom bs ps) (trayFrom bs ps)
+
+-- how many pieces are no MODEL or ENDMDL line
+unfoldable pub ownOf : List (List ℕ) → ℕ
+ownOf [] = 0
+ownOf (p ∷ ps) = pick (isBound p) (ownOf ps) (ownOf ps + 1)
 
 -- the line apart from a MASTER line's counts
 unfoldable pub bare : List ℕ → List ℕ
@@ -31,7 +46,7 @@ bare p = pick (isMaster (lineOf p)) [] p
 
 -- how many slots the lines before line i have; the number of the fragment that slot j belongs to
 unfoldable pub slotsTo : List ℕ → ℕ → ℕ
-slotsTo t i = length (slotsOf (take i (linesFrom t 0)))
+slotsTo t i = length (slotsOf noModel (take i (linesFrom t 0)))
 
 unfoldable pub fragmentOf : List ℕ → List Slot → ℕ → FragmentNumber
 fragmentOf t xs j = record { 0 = turned (fragments t xs) (tailOf (drop j (mine t xs)) .count) }
@@ -58,11 +73,13 @@ pub record Parted (t : List ℕ) (xs : List Slot) (o p : List ℕ) : Type 0 wher
   -- the saved entry is accepted again
   pub again : checkOf (wrote (saveOf t xs o)) .number ≡ 0
   -- the saved entry has the lines that stay, byte for byte and in order; of MASTER the counts alone are written anew
-  pub saved : map bare (cut (wrote (saveOf t xs o))) ≡ map bare (those true (staysFrom xs 0 (linesFrom t 0)) (cut t))
-  -- the tray has the lines that go, byte for byte and in order
-  pub tray : cut (wrote (trayOf t xs p)) ≡ those false (staysFrom xs 0 (linesFrom t 0)) (cut t)
-  -- the lines of the two add up to the lines read
-  pub sum : length (cut (wrote (saveOf t xs o))) + length (cut (wrote (trayOf t xs p))) ≡ length (cut t)
+  pub saved : map bare (cut (wrote (saveOf t xs o))) ≡ map bare (stayFrom (staysFrom xs 0 (linesFrom t 0)) (cut t))
+  -- MODEL and ENDMDL lines stay
+  pub bounds : (i : ℕ) → i < length (cut t) → isFence (row t i) ≡ true → getD (staysFrom xs 0 (linesFrom t 0)) i false ≡ true
+  -- the tray has the lines that go, byte for byte and in order, each between copies of the MODEL and ENDMDL lines of its model
+  pub tray : cut (wrote (trayOf t xs p)) ≡ trayFrom (staysFrom xs 0 (linesFrom t 0)) (cut t)
+  -- the lines of the two, these copies left out, add up to the lines read
+  pub sum : length (cut (wrote (saveOf t xs o))) + ownOf (cut (wrote (trayOf t xs p))) ≡ length (cut t)
 
 -- the text t with the slots xs that loading left, after the orders os
 pub record NothingLost (t : List ℕ) (xs : List Slot) (os : List Order) : Type 0 where

@@ -4,10 +4,11 @@ use Rattle.fields.specs.declared.{FragmentNumber.FragmentNumber}
 use Rattle.pieces.specs.declared.{Line.Line}
 use Rattle.pieces.specs.Pieces.{lineOf}
 use Rattle.rows.specs.Text.{cut}
-use Rattle.facets.specs.Facets.{isCoord}
+use Rattle.facets.specs.declared.{Fence.Fence, Fence.the-variants.Opens, Fence.the-variants.Shuts, Fence.the-variants.Unfenced}
+use Rattle.facets.specs.Facets.{fenceIn, isCoord}
 use Rattle.gate.specs.Gate.{checkOf}
 use Rattle.slots.specs.declared.{Slot.Slot}
-use Rattle.slots.specs.Slots.{markIn, markAside, noSlot, lineSlot, sameSlot}
+use Rattle.slots.specs.Slots.{markIn, markAside, noModel, noSlot, lineSlot, sameSlot}
 use Rattle.fragments.specs.Fragments.{tailOf, markOf, marked, markedBy, turned, numbered}
 
 -- what is answered, and what the lent memory then holds: 0 or the number of a refusal, how many slots or bytes were written, and all of it
@@ -28,13 +29,22 @@ over ys xs = ys ++ drop (length ys) xs
 unfoldable pub linesFrom : List ℕ → ℕ → List Line
 linesFrom t i = map lineOf (cut (drop (81 * i) t))
 
--- one slot for each ATOM, HETATM and TER line, in order
-unfoldable pub slotsOf : List Line → List Slot
-slotsOf [] = []
-slotsOf (l ∷ ls) = pick (isCoord l) (lineSlot l ∷ slotsOf ls) (slotsOf ls)
+-- the model that a line leaves, after one of model m: MODEL begins its own, and after ENDMDL there is none
+abbrev pub modelAfter : ℕ → Fence → ℕ
+modelAfter m (Opens n) = n
+modelAfter m Shuts = noModel
+modelAfter m Unfenced = m
+
+abbrev pub modelNext : ℕ → Line → ℕ
+modelNext m l = modelAfter m (fenceIn l)
+
+-- one slot for each ATOM, HETATM and TER line, in order, with the number of its model; the lines before them leave model m
+unfoldable pub slotsOf : ℕ → List Line → List Slot
+slotsOf m [] = []
+slotsOf m (l ∷ ls) = pick (isCoord l) (lineSlot m l ∷ slotsOf (modelNext m l) ls) (slotsOf (modelNext m l) ls)
 
 abbrev pub loadedOf : List ℕ → List Slot
-loadedOf t = slotsOf (linesFrom t 0)
+loadedOf t = slotsOf noModel (linesFrom t 0)
 
 -- 1-12, 13
 unfoldable pub loadOf : List ℕ → List Slot → Told Slot
@@ -44,18 +54,18 @@ loadOf t xs =
     (told 0 (length (loadedOf t)) (over (loadedOf t) xs)))
 
 -- ---- whether a table belongs to a text
--- a slot fits a line: it is the line's slot apart from the mark, and its mark is in or aside; a line without a slot asks nothing
-unfoldable pub fits : Slot → Line → Bool
-fits s l = pick (isCoord l) (both (leb (s .mark) markAside) (sameSlot s (lineSlot l))) true
+-- a slot fits a line of model m: it is the line's slot apart from the mark, and its mark is in or aside; a line without a slot asks nothing
+unfoldable pub fits : Slot → ℕ → Line → Bool
+fits s m l = pick (isCoord l) (both (leb (s .mark) markAside) (sameSlot s (lineSlot m l))) true
 
 -- how many slots a line has
 abbrev pub oneOf : Line → ℕ
 oneOf l = pick (isCoord l) 1 0
 
--- the slots from slot k on fit these lines
-unfoldable pub fitsFrom : List Slot → ℕ → List Line → Bool
-fitsFrom xs k [] = true
-fitsFrom xs k (l ∷ ls) = both (fits (getD xs k noSlot) l) (fitsFrom xs (k + oneOf l) ls)
+-- the slots from slot k on fit these lines, the lines before them leaving model m
+unfoldable pub fitsFrom : List Slot → ℕ → ℕ → List Line → Bool
+fitsFrom xs k m [] = true
+fitsFrom xs k m (l ∷ ls) = both (fits (getD xs k noSlot) m l) (fitsFrom xs (k + oneOf l) (modelNext m l) ls)
 
 -- the slots of the table that the text needs
 abbrev pub mine : List ℕ → List Slot → List Slot
@@ -63,7 +73,7 @@ mine t xs = take (length (loadedOf t)) xs
 
 -- the first slots fit the text, and marks agree inside each fragment
 unfoldable pub belongs : List ℕ → List Slot → Bool
-belongs t xs = both (fitsFrom xs 0 (linesFrom t 0)) (tailOf (mine t xs) .agree)
+belongs t xs = both (fitsFrom xs 0 noModel (linesFrom t 0)) (tailOf (mine t xs) .agree)
 
 -- 1-12, 13, 18
 unfoldable pub tableOf : List ℕ → List Slot → ℕ

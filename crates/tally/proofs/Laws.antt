@@ -8,7 +8,7 @@ use borrow.Author.Tests.{lt-ltb, le-ltb}
 use Rattle.kinds.specs.declared.Kind.{Kind}
 use Rattle.kinds.specs.Kinds.{isNamed, kindOf}
 use Rattle.master.specs.declared.Tally.{Tally}
-use Rattle.places.specs.Counts.{countOf}
+use Rattle.places.specs.Counts.{countAt}
 use Rattle.tally.specs.declared.Counted.{Counted}
 use Rattle.tally.specs.Tally.{most, countIn, raisedTally, toldTally, tallyStep, tallyLine}
 
@@ -26,15 +26,15 @@ unfolding tallyStep
 step-full t which n e h = rw (← e, le-ltb _ _ h)
 
 -- ---- a line
-module _ (t : Tally) (l : List ℕ) (k : Kind) (named : Bool) (ek : k ≡ kindOf l) (en : named ≡ isNamed k) where
-  pub line-named : (which : ℕ) (r : Counted) → named ≡ true → which ≡ countOf k → r ≡ tallyStep t which → r ≡ tallyLine t l
+module _ (past : Bool) (t : Tally) (l : List ℕ) (k : Kind) (named : Bool) (ek : k ≡ kindOf l) (en : named ≡ isNamed k) where
+  pub line-named : (which : ℕ) (r : Counted) → named ≡ true → which ≡ countAt past k → r ≡ tallyStep t which → r ≡ tallyLine past t l
   unfolding tallyLine
   line-named which r h e q = rw (← ek, sym en ∙ h) (q ∙ ap (tallyStep t) e)
 
-  pub line-unknown : named ≡ false → toldTally 4 t ≡ tallyLine t l
+  pub line-unknown : named ≡ false → toldTally 4 t ≡ tallyLine past t l
   unfolding tallyLine
   line-unknown h = rw (← ek, sym en ∙ h)
 
 -- ---- what is stored
-pub stored : (t u : Tally) (l : List ℕ) (c : Counted) (n : ℕ) → c ≡ tallyLine t l → u ≡ c .tally → n ≡ c .number → toldTally n u ≡ tallyLine t l
-stored t u l c n e p q = rw (p, q) e
+pub stored : (past : Bool) (t u : Tally) (l : List ℕ) (c : Counted) (n : ℕ) → c ≡ tallyLine past t l → u ≡ c .tally → n ≡ c .number → toldTally n u ≡ tallyLine past t l
+stored past t u l c n e p q = rw (p, q) e

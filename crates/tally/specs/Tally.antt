@@ -1,8 +1,8 @@
 -- The tally: nine counts, brought up to date one line at a time.
-use Rattle.ascii.specs.Library.{_≡_, ℕ, List, [], _∷_, eqb, ltb, pick}
+use Rattle.ascii.specs.Library.{_≡_, ℕ, List, [], _∷_, Bool, eqb, ltb, pick}
 use Rattle.kinds.specs.Kinds.{isNamed, kindOf}
 use Rattle.master.specs.declared.{Tally.Tally}
-use Rattle.places.specs.Counts.{countOf, oneMore}
+use Rattle.places.specs.Counts.{countAt, oneMore}
 use Rattle.tally.specs.declared.{Counted.Counted}
 
 -- no count goes above this
@@ -45,22 +45,22 @@ toldTally n t = record { number = n; tally = t }
 unfoldable pub tallyStep : Tally → ℕ → Counted
 tallyStep t which = pick (ltb (countIn t which) most) (toldTally 0 (raisedTally t which)) (toldTally 14 t)
 
--- 4: a line under six bytes or of unknown name
-unfoldable pub tallyLine : Tally → List ℕ → Counted
-tallyLine t l = pick (isNamed (kindOf l)) (tallyStep t (countOf (kindOf l))) (toldTally 4 t)
+-- 4: a line under six bytes or of unknown name; once the first ENDMDL has gone by (true) ATOM, HETATM and TER have no count
+unfoldable pub tallyLine : Bool → Tally → List ℕ → Counted
+tallyLine past t l = pick (isNamed (kindOf l)) (tallyStep t (countAt past (kindOf l))) (toldTally 4 t)
 
--- ---- lines one after another
+-- ---- lines one after another, all before the first ENDMDL has gone by or all after (true)
 -- the tally after some lines
-abbrev pub tallyAll : Tally → List (List ℕ) → Tally
-tallyAll t [] = t
-tallyAll t (l ∷ ls) = tallyAll (tallyLine t l .tally) ls
+abbrev pub tallyAll : Bool → Tally → List (List ℕ) → Tally
+tallyAll past t [] = t
+tallyAll past t (l ∷ ls) = tallyAll past (tallyLine past t l .tally) ls
 
 -- none of them is refused
-abbrev pub Granted : Tally → List (List ℕ) → Type 0
-Granted t [] = Unit {0}
-Granted t (l ∷ ls) = (tallyLine t l .number ≡ 0) × Granted (tallyLine t l .tally) ls
+abbrev pub Granted : Bool → Tally → List (List ℕ) → Type 0
+Granted past t [] = Unit {0}
+Granted past t (l ∷ ls) = (tallyLine past t l .number ≡ 0) × Granted past (tallyLine past t l .tally) ls
 
 -- how many of them are counted under a number
-abbrev pub linesOf : ℕ → List (List ℕ) → ℕ
-linesOf n [] = 0
-linesOf n (l ∷ ls) = oneMore (countOf (kindOf l)) n (linesOf n ls)
+abbrev pub linesOf : Bool → ℕ → List (List ℕ) → ℕ
+linesOf past n [] = 0
+linesOf past n (l ∷ ls) = oneMore (countAt past (kindOf l)) n (linesOf past n ls)

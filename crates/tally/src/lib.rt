@@ -14,22 +14,23 @@ pub struct Counted {
 // No count goes above this: MASTER has five columns for each.
 const MOST: u32 = 99999;
 
-// Counts the line in: 0, or leaves the tally as found: 4 where the line has no known name, 14 where its count is full.
-pub fn count_line(tally: &mut Tally, line: &[u8]) -> u8
-    ensures { λ r. ⌜ toldTally r (now (tally .exit)) ≡ tallyLine (now (tally .entry)) (now (line .entry)) ⌝ }
+// Counts the line in: 0, or leaves the tally as found: 4 where the line has no known name, 14 where its count is full. Once the first ENDMDL
+// has gone by (past) ATOM, HETATM and TER have no count.
+pub fn count_line(tally: &mut Tally, line: &[u8], past: bool) -> u8
+    ensures { λ r. ⌜ toldTally r (now (tally .exit)) ≡ tallyLine past (now (tally .entry)) (now (line .entry)) ⌝ }
 {
-    let c = tally_after(*tally, line);
+    let c = tally_after(*tally, line, past);
     *tally = tally_of(c);
     number_of(c)
 }
 
 // The same by value.
-pub fn tally_after(t: Tally, line: &[u8]) -> Counted
-    ensures { λ r. ⌜ r ≡ tallyLine t (now (line .entry)) ⌝ }
+pub fn tally_after(t: Tally, line: &[u8], past: bool) -> Counted
+    ensures { λ r. ⌜ r ≡ tallyLine past t (now (line .entry)) ⌝ }
 {
     let k = kinds::kind_of(line);
     if kinds::is_named(k) {
-        return tally_step(t, places::count_of(k));
+        return tally_step(t, places::count_at(past, k));
     }
     Counted {
         number: 4,

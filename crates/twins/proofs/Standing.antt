@@ -15,15 +15,16 @@ use Rattle.pieces.specs.declared.Line.{Line}
 use Rattle.pieces.specs.declared.Line.the-variants.{Bad}
 use Rattle.facets.specs.declared.Spot.{Spot}
 use Rattle.facets.specs.declared.Spot.the-variants.{Site, Close, Nowhere}
-use Rattle.facets.specs.Facets.{spotIn, isSpot, isCoord}
+use Rattle.facets.specs.Facets.{spotIn, isSpot, isCoord, isFence}
 use Rattle.rules.specs.declared.State.{State}
 use Rattle.search.specs.declared.Span.{Span}
-use Rattle.search.specs.Search.{including}
+use Rattle.search.specs.Search.{span, including}
 use Rattle.rows.specs.Text.{pieceAt, row, down}
-use Rattle.serials.specs.Known.{someOf}
+use Rattle.serials.specs.Known.{someOf, front}
 use Rattle.serials.specs.Search.{growOf, Block}
 use Rattle.serials.proofs.Rows.{piece-long}
-use Rattle.serials.proofs.Block.{some-at, block-none}
+use Rattle.serials.proofs.Block.{front-at, front-none, block-off}
+use Rattle.serials.proofs.Models.{coord-off}
 use Rattle.trail.specs.declared.Watch.{Watch}
 use Rattle.keys.specs.Keys.{homeAt, bodyAt}
 use Rattle.trail.specs.Trail.{Apart, Watched}
@@ -55,10 +56,12 @@ coord-long t i l h e c = long-within t i (omega arith) (piece-long (pieceAt t i)
 
 -- ---- what is known of the block that the line leaves
 pub watched-coord : (t : List ℕ) (b : Span) (i : ℕ) (l : Line) (w : Watch) → isCoord l ≡ true → Watched t (including b i) w → Watched t (growOf b i l) w
-watched-coord t b i l w e h = subst (λ (x : Bool). Watched t (pick x (including b i) b) w) (sym e) h
+watched-coord t b i l w e h =
+    subst (λ (y : Bool). Watched t (pick y (span 0 0) (pick (isCoord l) (including b i) b)) w) (sym (coord-off l e))
+    (subst (λ (x : Bool). Watched t (pick x (including b i) b) w) (sym e) h)
 
-pub watched-other : (t : List ℕ) (b : Span) (i : ℕ) (l : Line) (w : Watch) → isCoord l ≡ false → Watched t b w → Watched t (growOf b i l) w
-watched-other t b i l w e h = subst (λ (x : Bool). Watched t (pick x (including b i) b) w) (sym e) h
+pub watched-other : (t : List ℕ) (b : Span) (i : ℕ) (l : Line) (w : Watch) → isCoord l ≡ false → Watched t (pick (isFence l) (span 0 0) b) w → Watched t (growOf b i l) w
+watched-other t b i l w e h = subst (λ (x : Bool). Watched t (pick (isFence l) (span 0 0) (pick x (including b i) b)) w) (sym e) h
 
 -- ---- the line is the atom that is looked for
 pub twin-self : (t : List ℕ) (i : ℕ) (l : Line) (p : Spot) (het : Bool) (a : Atom) → l ≡ row t i → p ≡ spotIn l → p ≡ Site het a → isTwin (a .identity) (row t i) ≡ true
@@ -70,12 +73,13 @@ twin-off a (Site het b) e = absurd (true≢false e)
 twin-off a (Close t) e = refl
 twin-off a Nowhere e = refl
 
--- what stands from `start` on is what stands among all lines so far
+-- what stands from `start` on is what stands among the lines since the last MODEL or ENDMDL
 pub stands-told : (t : List ℕ) (n : ℕ) (b : Span) (s : State) → Block (row t) n b s → (a : Identity) (i : ℕ) → isTwin a (row t i) ≡ true
-    → (start : ℕ) → Apart t (b .lo) start i → (r : Bool) → Stands a (row t) start (b .hi) r → r ≡ someOf (isTwin a) (down (row t) n)
-stands-told t n b s B a i e start apart true f = sym (some-at (isTwin a) (row t) n (f .0) (omega (arith, B .hi-le, f .2)) (f .3))
-stands-told t n b s B a i e start apart false f =
-    sym (block-none (isTwin a) (λ l. twin-off a (spotIn l)) (row t) n b s B (λ j g h. go j g h (ltb j start) refl (isTwin a (row t j)) refl))
+    → (start : ℕ) → b .lo ≤ start → Apart t (b .lo) start i → (r : Bool) → Stands a (row t) start (b .hi) r → r ≡ someOf (isTwin a) (front (down (row t) n))
+stands-told t n b s B a i e start low apart true f =
+    sym (front-at (isTwin a) (row t) n (f .0) (omega (arith, B .based (omega (arith, f .1, f .2)), f .1)) (omega (arith, B .hi-le, f .2)) (f .3))
+stands-told t n b s B a i e start low apart false f =
+    sym (front-none (isTwin a) (row t) n (block-off (isTwin a) (λ l. twin-off a (spotIn l)) (row t) n b s B (λ j g h. go j g h (ltb j start) refl (isTwin a (row t j)) refl)))
   where
     go : (j : ℕ) → b .lo ≤ j → j < b .hi → (x : Bool) → ltb j start ≡ x → (y : Bool) → isTwin a (row t j) ≡ y → y ≡ false
     go j g h x u false v = refl

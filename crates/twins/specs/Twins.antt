@@ -1,4 +1,4 @@
--- 21: no two ATOM or HETATM lines of a text share residue name, chain, residue number, insertion code, atom name and alternate letter.
+-- 21: no two ATOM or HETATM lines of a text, or of one model, share residue name, chain, residue number, insertion code, atom name and alternate letter.
 use Rattle.ascii.specs.Library.{List, Bool, false, eqb, both}
 use Rattle.names.specs.Names.{sameFour}
 use Rattle.residue.specs.Residues.{sameResidue}
@@ -6,7 +6,7 @@ use Rattle.coordinate.specs.declared.{Identity.Identity}
 use Rattle.pieces.specs.declared.{Line.Line}
 use Rattle.facets.specs.declared.{Spot.Spot, Spot.the-variants.Site, Spot.the-variants.Close, Spot.the-variants.Nowhere}
 use Rattle.facets.specs.Facets.{spotIn}
-use Rattle.serials.specs.Known.{someOf}
+use Rattle.serials.specs.Known.{someOf, front}
 
 -- the same atom: atom name, alternate letter, and the residue, which is its name, chain, number and insertion code
 unfoldable pub sameAtom : Identity → Identity → Bool
@@ -21,8 +21,8 @@ isAtomOf a Nowhere = false
 abbrev pub isTwin : Identity → Line → Bool
 isTwin a l = isAtomOf a (spotIn l)
 
--- the atom of this line stands on one of those seen
+-- the atom of this line stands on one of those seen, in the same model
 abbrev pub twinOf : List Line → Spot → Bool
-twinOf seen (Site het a) = someOf (isTwin (a .identity)) seen
+twinOf seen (Site het a) = someOf (isTwin (a .identity)) (front seen)
 twinOf seen (Close t) = false
 twinOf seen Nowhere = false

@@ -11,7 +11,11 @@ ghost use Prim.Native.Nat.{ℕ, _+_, _*_, _≤_, _<_};
 ghost use lib.ListN.{length};
 ghost use Rattle.coordinate.specs.declared.Atom.{Atom as AtomOf};
 ghost use Rattle.facets.specs.declared.Spot.the-variants.{Site};
-ghost use Rattle.facets.specs.Facets.{spotIn, isCoord};
+ghost use mathlib.Core.List.{List};
+ghost use Rattle.ascii.specs.Tests.{pick};
+ghost use Rattle.facets.specs.Facets.{spotIn, isCoord, isFence};
+ghost use Rattle.search.specs.declared.Span.{Span as SpanOf};
+ghost use Rattle.search.specs.Search.{span};
 ghost use Rattle.keys.specs.Keys.{homeAt, bodyAt};
 ghost use Rattle.rows.specs.Text.{row, down};
 ghost use Rattle.rules.specs.declared.State.{State as StateOf};
@@ -100,7 +104,7 @@ fn stands(text: &[u8], from: usize, hi: usize, i: usize, a: Identity) -> bool
 // The first line from `from` up to hi that may have the columns of line i, or hi.
 fn suspect(text: &[u8], from: usize, hi: usize, i: usize) -> usize
     requires { ⌜ (81 * i + 81 ≤ length (now text)) × (81 * hi ≤ length (now text)) × (from ≤ hi) ⌝ }
-    ensures { λ r. ⌜ Apart (now (text .entry)) from r i ⌝ }
+    ensures { λ r. ⌜ (from ≤ r) × Apart (now (text .entry)) from r i ⌝ }
 {
     let body = keys::body(text, i);
     let mut k = from;
@@ -132,6 +136,16 @@ fn met(text: &[u8], from: usize, hi: usize, i: usize, l: Line) -> bool
     false
 }
 
+// What is known goes on over a line without an atom, but MODEL and ENDMDL begin afresh.
+fn carried_on(w: Watch, l: Line) -> Watch
+    ensures { λ r. ⌜ ((t : List ℕ) (b : SpanOf) → Watched t b w → Watched t (pick (isFence l) (span 0 0) b) r) ⌝ }
+{
+    if facets::is_fence(l) {
+        return trail::start();
+    }
+    w
+}
+
 // What a look back says of line i, which is l.
 pub fn look(text: &[u8], b: Span, w: Watch, i: usize, l: Line) -> Glance
     requires { ⌜ Rising (now text) (b .lo) (b .hi) ⌝ }
@@ -160,9 +174,12 @@ pub fn look(text: &[u8], b: Span, w: Watch, i: usize, l: Line) -> Glance
                 twin: false,
             }
         }
-        Spot::Nowhere => Glance {
-            watch: w,
-            twin: false,
-        },
+        Spot::Nowhere => {
+            let watch = carried_on(w, l);
+            Glance {
+                watch: watch,
+                twin: false,
+            }
+        }
     }
 }

@@ -19,11 +19,11 @@ use Rattle.conect.specs.Conects.{partnerColumns, differs, unbroken, conectColum
 use Rattle.master.specs.Masters.{notesColumns, shapeColumns, atomsColumns, masterColumns}
 use Rattle.line.specs.Lines.{judged, readingOf, readLine}
 use Rattle.pieces.specs.Pieces.{columnsOf, lineOf}
-use Rattle.places.specs.Places.{placeBad}
+use Rattle.places.specs.Places.{placeBad, fenceBad}
 use Rattle.places.specs.Counts.{raised, sameCounts}
 use Rattle.rules.specs.Rules.{siteBad, closeBad, siteNext, unfinished, typedBad, judgeOf, startOf, carriedNext, typedNext, nextOf}
 use Rattle.rows.specs.Text.{cutAtMost, cut}
-use Rattle.serials.specs.Known.{someOf}
+use Rattle.serials.specs.Known.{someOf, front}
 use Rattle.twins.specs.Twins.{sameAtom}
 use Rattle.gate.specs.Gate.{refusedOf, finishOf, checkLines, checkOf}
 use Rattle.names.specs.Names.{samePair, sameFour, sameThree}
@@ -31,7 +31,7 @@ use Rattle.slots.specs.Slots.{markAside, noSlot, samePosition, sameMeasures, sa
 use Rattle.fragments.specs.Fragments.{joins, stepTail, tailOf, markOf, marked}
 use Rattle.table.specs.Table.{loadedOf, linesFrom, slotsOf, fits, fitsFrom, belongs, tableOf, orderOf}
 use Rattle.table.specs.Orders.{order, ordersOf}
-use Rattle.table.specs.Deal.{isAside, aside, stays, counted, masterPiece, written, share, dealt, outputOf}
+use Rattle.table.specs.Deal.{isIn, standsIn, stays, counted, masterPiece, written, share, dealt, outputOf}
 use Rattle.feed.specs.Frame.{boundsFrom, framedOf, frameOf}
 use Rattle.slots.specs.declared.Slot.{Slot}
 use Rattle.worked.specs.Texts.{textOf, entry, rest, water7, bond, bonded, single}
@@ -57,7 +57,7 @@ pub record Further : Type 0 where
   pub no-atom : frameOf [] ≡ Refused 19
 
 pub further : Further
-unfolding parted bonded single entry rest loaded ordered both either between same firstOf blankAt gapOf cleanAt blame blamedOf leftmost blanks endsDigit leadOf furtherOf grownOf numberOf leader render signedOf isNeg wholeIn integerIn elements indexOf atomicOf wordAt kindNamed kindOf residueColumns positionColumns identityColumns measureColumns speciesColumns leadsElement atomColumns terColumns partnerColumns differs unbroken conectColumns serialsColumns partnersColumns notesColumns shapeColumns atomsColumns masterColumns judged readingOf readLine columnsOf lineOf placeBad raised sameCounts sameThree sameResidue siteBad closeBad siteNext unfinished typedBad judgeOf startOf carriedNext typedNext nextOf cutAtMost cut someOf sameAtom refusedOf finishOf checkLines checkOf samePair sameFour samePosition sameMeasures sameNames sameSlot withMark joins stepTail tailOf markOf marked linesFrom slotsOf fits fitsFrom belongs tableOf orderOf ordersOf isAside aside stays counted masterPiece written share dealt outputOf boundsFrom framedOf
+unfolding parted bonded single entry rest loaded ordered both either between same firstOf blankAt gapOf cleanAt blame blamedOf leftmost blanks endsDigit leadOf furtherOf grownOf numberOf leader render signedOf isNeg wholeIn integerIn elements indexOf atomicOf wordAt kindNamed kindOf residueColumns positionColumns identityColumns measureColumns speciesColumns leadsElement atomColumns terColumns partnerColumns differs unbroken conectColumns serialsColumns partnersColumns notesColumns shapeColumns atomsColumns masterColumns judged readingOf readLine columnsOf lineOf placeBad fenceBad raised sameCounts sameThree sameResidue siteBad closeBad siteNext unfinished typedBad judgeOf startOf carriedNext typedNext nextOf cutAtMost cut someOf front sameAtom refusedOf finishOf checkLines checkOf samePair sameFour samePosition sameMeasures sameNames sameSlot withMark joins stepTail tailOf markOf marked linesFrom slotsOf fits fitsFrom belongs tableOf orderOf ordersOf isIn standsIn stays counted masterPiece written share dealt outputOf boundsFrom framedOf
 further =
     record {
       back = refl;

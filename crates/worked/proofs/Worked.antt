@@ -13,13 +13,14 @@ use Rattle.coordinate.specs.Atoms.{positionColumns, identityColumns, measureCol
 use Rattle.ter.specs.Ters.{terColumns}
 use Rattle.conect.specs.Conects.{partnerColumns, differs, unbroken, conectColumns, serialsColumns, partnersColumns}
 use Rattle.master.specs.Masters.{notesColumns, shapeColumns, atomsColumns, masterColumns}
+use Rattle.model.specs.Models.{modelColumns}
 use Rattle.line.specs.Lines.{judged, readingOf, readLine}
 use Rattle.pieces.specs.Pieces.{columnsOf, lineOf}
-use Rattle.places.specs.Places.{placeBad}
+use Rattle.places.specs.Places.{placeBad, fenceBad}
 use Rattle.places.specs.Counts.{raised, sameCounts}
 use Rattle.rules.specs.Rules.{siteBad, closeBad, siteNext, unfinished, typedBad, judgeOf, startOf, carriedNext, typedNext, nextOf}
 use Rattle.rows.specs.Text.{cutAtMost, cut}
-use Rattle.serials.specs.Known.{someOf}
+use Rattle.serials.specs.Known.{someOf, front}
 use Rattle.twins.specs.Twins.{sameAtom}
 use Rattle.gate.specs.Gate.{refusedOf, finishOf, checkLines, checkOf}
 use Rattle.names.specs.Names.{samePair, sameFour, sameThree}
@@ -27,15 +28,15 @@ use Rattle.slots.specs.Slots.{samePosition, sameMeasures, sameNames, sameSlot, 
 use Rattle.fragments.specs.Fragments.{joins, stepTail, tailOf, markOf, marked}
 use Rattle.table.specs.Table.{linesFrom, slotsOf, fits, fitsFrom, belongs, tableOf, orderOf}
 use Rattle.table.specs.Orders.{ordersOf}
-use Rattle.table.specs.Deal.{isAside, aside, stays, counted, masterPiece, written, share, dealt, outputOf}
+use Rattle.table.specs.Deal.{isIn, standsIn, stays, counted, masterPiece, written, share, dealt, outputOf}
 use Rattle.feed.specs.Exact.{exactly}
 use Rattle.feed.specs.Feed.{isDrawn}
 use Rattle.feed.specs.Frame.{lower, higher, widened, takenIn, boundsFrom, framedOf}
-use Rattle.worked.specs.Texts.{nitrogenLine, nitrogenRecord, shortest, beyond, twice, again, alternates, entry, rest}
-use Rattle.worked.specs.Worked.{Worked, loaded, ordered}
+use Rattle.worked.specs.Texts.{nitrogenLine, nitrogenRecord, shortest, beyond, twice, again, alternates, entry, rest, modelLine, twofold, models, oneGone, bothGone}
+use Rattle.worked.specs.Worked.{Worked, loaded, ordered, first, firstAndThird}
 
 pub worked : Worked
-unfolding nitrogenLine nitrogenRecord shortest beyond twice again alternates entry rest loaded ordered both either between same firstOf blankAt gapOf cleanAt blame blamedOf leftmost blanks endsDigit leadOf furtherOf grownOf numberOf leader render signedOf isNeg wholeIn integerIn elements indexOf atomicOf wordAt kindNamed kindOf residueColumns positionColumns identityColumns measureColumns speciesColumns leadsElement atomColumns terColumns partnerColumns differs unbroken conectColumns serialsColumns partnersColumns notesColumns shapeColumns atomsColumns masterColumns judged readingOf readLine columnsOf lineOf placeBad raised sameCounts sameThree sameResidue siteBad closeBad siteNext unfinished typedBad judgeOf startOf carriedNext typedNext nextOf cutAtMost cut someOf sameAtom refusedOf finishOf checkLines checkOf samePair sameFour samePosition sameMeasures sameNames sameSlot withMark joins stepTail tailOf markOf marked linesFrom slotsOf fits fitsFrom belongs tableOf orderOf ordersOf isAside aside stays counted masterPiece written share dealt outputOf boundsFrom takenIn isDrawn widened lower higher framedOf exactly
+unfolding nitrogenLine nitrogenRecord shortest beyond twice again alternates entry rest modelLine twofold models oneGone bothGone loaded ordered first firstAndThird both either between same firstOf blankAt gapOf cleanAt blame blamedOf leftmost blanks endsDigit leadOf furtherOf grownOf numberOf leader render signedOf isNeg wholeIn integerIn elements indexOf atomicOf wordAt kindNamed kindOf residueColumns positionColumns identityColumns measureColumns speciesColumns leadsElement atomColumns terColumns partnerColumns differs unbroken conectColumns serialsColumns partnersColumns notesColumns shapeColumns atomsColumns masterColumns modelColumns judged readingOf readLine columnsOf lineOf placeBad fenceBad raised sameCounts sameThree sameResidue siteBad closeBad siteNext unfinished typedBad judgeOf startOf carriedNext typedNext nextOf cutAtMost cut someOf front sameAtom refusedOf finishOf checkLines checkOf samePair sameFour samePosition sameMeasures sameNames sameSlot withMark joins stepTail tailOf markOf marked linesFrom slotsOf fits fitsFrom belongs tableOf orderOf ordersOf isIn standsIn stays counted masterPiece written share dealt outputOf boundsFrom takenIn isDrawn widened lower higher framedOf exactly
 worked =
     record {
       atom = refl;
@@ -57,5 +58,20 @@ worked =
       granted = refl;
       saved = refl;
       tray = refl;
+      model = (refl, refl);
+      from-two = refl;
+      one-again = refl;
+      before-models = refl;
+      after-model = refl;
+      master-inside = refl;
+      no-model = refl;
+      open-run = refl;
+      in-both = refl;
+      slot-models = refl;
+      four = refl;
+      first-saved = refl;
+      first-tray = refl;
+      third-saved = refl;
+      third-tray = refl;
       framed = refl;
     }

@@ -5,7 +5,7 @@ use Rattle.fields.specs.declared.{Whole.Whole, Signed.Signed}
 use Rattle.fields.specs.Field.{rangedNumber, signedNumber}
 use Rattle.coordinate.specs.declared.{Atom.Atom}
 use Rattle.slots.specs.declared.{Slot.Slot}
-use Rattle.slots.specs.Slots.{atomKind, markIn, slotWith, residueOf, noSlot}
+use Rattle.slots.specs.Slots.{atomKind, markIn, slotWith, residueOf, noModel, noSlot}
 
 -- ---- fields by themselves
 -- Real(8.3), in thousandths
@@ -50,9 +50,13 @@ abbrev pub textOf : List String → List ℕ
 textOf [] = []
 textOf (s ∷ ss) = (bytes s ++ (blanks (80 - length (bytes s)) ++ (byte "\n" ∷ []))) ++ textOf ss
 
+-- MASTER with zeros
+abbrev pub zeros : String
+zeros = "MASTER        0    0    0    0    0    0    0    0    0    0    0    0"
+
 -- the shortest entry, and the same with one byte after END
 unfoldable pub shortest : List ℕ
-shortest = textOf ("HEADER" ∷ "MASTER        0    0    0    0    0    0    0    0    0    0    0    0" ∷ "END" ∷ [])
+shortest = textOf ("HEADER" ∷ zeros ∷ "END" ∷ [])
 
 unfoldable pub beyond : List ℕ
 beyond = shortest ++ (byte " " ∷ [])
@@ -115,9 +119,63 @@ bonded = textOf ("HEADER" ∷ water7 ∷ water8 ∷ bond ∷ "MASTER        0   
 unfoldable pub single : List ℕ
 single = textOf ("HEADER" ∷ water8 ∷ "MASTER        0    0    0    0    0    0    0    0    1    0    0    0" ∷ "END" ∷ [])
 
+-- ---- models
+-- MODEL 1, MODEL 2, and ENDMDL
+abbrev pub model1 : String
+model1 = "MODEL        1"
+
+abbrev pub model2 : String
+model2 = "MODEL        2"
+
+abbrev pub endmdl : String
+endmdl = "ENDMDL"
+
+-- the line of model 1 by itself
+unfoldable pub modelLine : List ℕ
+modelLine = bytes model1 ++ blanks 66
+
+-- HETATM 5 of one atom in two models; MASTER counts it once
+abbrev pub water5 : String
+water5 = "HETATM    5  O   HOH B   7      11.281  86.699  94.383  1.00 35.88           O"
+
+unfoldable pub twofold : List ℕ
+twofold =
+    textOf
+    ("HEADER" ∷ model1 ∷ water5 ∷ endmdl ∷ model2 ∷ water5 ∷ endmdl
+    ∷ "MASTER        0    0    0    0    0    0    0    0    1    0    0    0" ∷ "END" ∷ [])
+
+-- two waters in each of two models, with a bond between them
+abbrev pub inner7 : String
+inner7 = "HETATM    1  O   HOH A   7      11.281  86.699  94.383  1.00 35.88           O"
+
+abbrev pub inner8 : String
+inner8 = "HETATM    2  O   HOH A   8      12.281  86.699  94.383  1.00 35.88           O"
+
+abbrev pub innerBond : String
+innerBond = "CONECT    1    2"
+
+unfoldable pub models : List ℕ
+models =
+    textOf
+    ("HEADER" ∷ model1 ∷ inner7 ∷ inner8 ∷ endmdl ∷ model2 ∷ inner7 ∷ inner8 ∷ endmdl ∷ innerBond
+    ∷ "MASTER        0    0    0    0    0    0    0    0    2    0    1    0" ∷ "END" ∷ [])
+
+-- the same without the first water of model 1, and without that of either model: then the bond is gone too
+unfoldable pub oneGone : List ℕ
+oneGone =
+    textOf
+    ("HEADER" ∷ model1 ∷ inner8 ∷ endmdl ∷ model2 ∷ inner7 ∷ inner8 ∷ endmdl ∷ innerBond
+    ∷ "MASTER        0    0    0    0    0    0    0    0    1    0    1    0" ∷ "END" ∷ [])
+
+unfoldable pub bothGone : List ℕ
+bothGone =
+    textOf
+    ("HEADER" ∷ model1 ∷ inner8 ∷ endmdl ∷ model2 ∷ inner8 ∷ endmdl
+    ∷ "MASTER        0    0    0    0    0    0    0    0    1    0    0    0" ∷ "END" ∷ [])
+
 -- ---- slots
 -- an atom that is in, at some thousandths
 abbrev pub slotAt : ℤ → ℤ → ℤ → Slot
 slotAt x y z =
-    slotWith atomKind markIn (noSlot .serial) (residueOf noSlot) (noSlot .name) (noSlot .alternate)
+    slotWith noModel atomKind markIn (noSlot .serial) (residueOf noSlot) (noSlot .name) (noSlot .alternate)
     (record { x = x; y = y; z = z }) (noSlot .occupancy) (noSlot .temperature) (noSlot .element) (noSlot .charge)

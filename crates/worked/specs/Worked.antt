@@ -1,7 +1,7 @@
 -- The worked examples of the format: one list, one statement. It is proved in proofs/Worked.antt.
-use Rattle.ascii.specs.Library.{List, [], _∷_, true, false, _≡_, pos, negsuc}
-use Rattle.line.specs.declared.{Record.the-variants.Coordinate, Answer.the-variants.Read}
-use Rattle.line.specs.Lines.{readLine}
+use Rattle.ascii.specs.Library.{ℕ, String, List, [], _∷_, map, true, false, _≡_, pos, negsuc}
+use Rattle.line.specs.declared.{Record.the-variants.Coordinate, Record.the-variants.Model, Answer.the-variants.Read}
+use Rattle.line.specs.Lines.{readLine, recordLine}
 use Rattle.places.specs.Counts.{noCounts}
 use Rattle.gate.specs.Gate.{checkOf}
 use Rattle.slots.specs.declared.{Slot.Slot}
@@ -10,7 +10,7 @@ use Rattle.table.specs.Deal.{outputOf}
 use Rattle.feed.specs.declared.{Framed.the-variants.Around}
 use Rattle.feed.specs.Exact.{whole, half}
 use Rattle.feed.specs.Frame.{frameOf}
-use Rattle.worked.specs.Texts.{coordinate, occupancy, serial, nitrogenLine, nitrogenRecord, textOf, shortest, beyond, twice, again, alternates, water7, entry, rest, slotAt}
+use Rattle.worked.specs.Texts.{coordinate, occupancy, serial, nitrogenLine, nitrogenRecord, textOf, zeros, shortest, beyond, twice, again, alternates, chain, water7, entry, rest, model1, model2, endmdl, modelLine, twofold, inner7, innerBond, models, oneGone, bothGone, slotAt}
 
 -- the table of the entry just loaded, and with fragment 2 set aside
 unfoldable pub loaded : List Slot
@@ -18,6 +18,17 @@ loaded = loadedOf entry
 
 unfoldable pub ordered : List Slot
 ordered = orderOf entry loaded (record { 0 = 2 }) true .left
+
+-- the number and the line that the check answers for some lines
+abbrev pub answered : List String → (ℕ × ℕ)
+answered ss = (checkOf (textOf ss) .number, checkOf (textOf ss) .line)
+
+-- the table of the entry with two models, with fragment 1 set aside, and with fragment 3 as well
+unfoldable pub first : List Slot
+first = orderOf models (loadedOf models) (record { 0 = 1 }) true .left
+
+unfoldable pub firstAndThird : List Slot
+firstAndThird = orderOf models first (record { 0 = 3 }) true .left
 
 pub record Worked : Type 0 where
   -- the ATOM line: x 11281, occupancy 50, number -3
@@ -49,6 +60,29 @@ pub record Worked : Type 0 where
   pub granted : orderOf entry loaded (record { 0 = 2 }) true ≡ told 0 0 ordered
   pub saved : outputOf true entry ordered ≡ rest
   pub tray : outputOf false entry ordered ≡ textOf (water7 ∷ [])
+  -- MODEL reads and is written back
+  pub model : (readLine modelLine ≡ Read (Model (record { number = 1 }))) × (recordLine (Model (record { number = 1 })) ≡ modelLine)
+  -- model numbers are 1, 2, 3 and so on
+  pub from-two : answered ("HEADER" ∷ model2 ∷ []) ≡ (22, 2)
+  pub one-again : answered ("HEADER" ∷ model1 ∷ endmdl ∷ model1 ∷ []) ≡ (22, 4)
+  -- HETATM before the first MODEL, and after an ENDMDL; MASTER within a model; ENDMDL without its MODEL
+  pub before-models : answered ("HEADER" ∷ water7 ∷ model1 ∷ []) ≡ (5, 3)
+  pub after-model : answered ("HEADER" ∷ model1 ∷ endmdl ∷ water7 ∷ []) ≡ (5, 4)
+  pub master-inside : answered ("HEADER" ∷ model1 ∷ zeros ∷ []) ≡ (5, 3)
+  pub no-model : answered ("HEADER" ∷ endmdl ∷ []) ≡ (5, 2)
+  -- a run that is open at ENDMDL
+  pub open-run : answered ("HEADER" ∷ model1 ∷ chain ∷ endmdl ∷ []) ≡ (8, 4)
+  -- the same atom with the same serial in two models
+  pub in-both : checkOf twofold .number ≡ 0
+  -- two waters in each of two models: their slots' models, and four fragments
+  pub slot-models : map (λ (s : Slot). s .model) (loadedOf models) ≡ 1 ∷ 1 ∷ 2 ∷ 2 ∷ []
+  pub four : fragments models (loadedOf models) ≡ 4
+  -- fragment 1 set aside: CONECT stays, for serial 1 is "in" in model 2; MODEL and ENDMDL are in the tray as well
+  pub first-saved : outputOf true models first ≡ oneGone
+  pub first-tray : outputOf false models first ≡ textOf (model1 ∷ inner7 ∷ endmdl ∷ model2 ∷ endmdl ∷ [])
+  -- fragment 3 as well: CONECT goes to the tray
+  pub third-saved : outputOf true models firstAndThird ≡ bothGone
+  pub third-tray : outputOf false models firstAndThird ≡ textOf (model1 ∷ inner7 ∷ endmdl ∷ model2 ∷ inner7 ∷ endmdl ∷ innerBond ∷ [])
   -- the frame of (-1, 0, 5) and (2, 0, 5), in thousandths: its middle is (0.5, 0, 5)
   pub framed : frameOf (slotAt (negsuc 0) (pos 0) (pos 5) ∷ slotAt (pos 2) (pos 0) (pos 5) ∷ [])
       ≡ Around (record {

@@ -7,7 +7,8 @@ use mathlib.Core.Path.{_≡_, refl, sym, _∙_, ap, ap₂}
 use native.Mathlib.Nat.{add-zero}
 use native.Mathlib.Omega.{arith}
 use lib.ListN.{length, take, drop, length-take, length-drop, take-append-drop}
-use Rattle.ascii.specs.Tests.{pick, alike}
+use Rattle.ascii.specs.Tests.{pick, either, alike}
+use Rattle.facets.specs.Facets.{isFence}
 use Rattle.columns.specs.Columns.{Put}
 use Rattle.pieces.specs.declared.Line.{Line}
 use Rattle.places.specs.declared.Counts.{Counts}
@@ -18,10 +19,10 @@ pub piece-81 : (t : List ℕ) (i : ℕ) → 81 * i + 81 ≤ length t → length 
 unfolding pieceAt
 piece-81 t i h = omega (arith, length-take 81 (drop (81 * i) t), length-drop (81 * i) t)
 
-module _ (saving stay : Bool) (q : Counts) (t : List ℕ) (i : ℕ) (l : Line) (due master : Bool) (d : due ≡ alike saving stay) (m : master ≡ isMaster l) (r : l ≡ row t i) where
+module _ (saving stay : Bool) (q : Counts) (t : List ℕ) (i : ℕ) (l : Line) (due master : Bool) (d : due ≡ either (isFence l) (alike saving stay)) (m : master ≡ isMaster l) (r : l ≡ row t i) where
   is-written : due ≡ true → share saving stay q (pieceAt t i) ≡ written q (pieceAt t i)
-  unfolding share
-  is-written e = ap (λ (b : Bool). pick b (written q (pieceAt t i)) []) (sym d ∙ e)
+  unfolding share row
+  is-written e = ap (λ (b : Bool). pick b (written q (pieceAt t i)) []) (ap (λ (x : Line). either (isFence x) (alike saving stay)) (sym r) ∙ sym d ∙ e)
 
   pub gives-master : due ≡ true → master ≡ true → share saving stay q (pieceAt t i) ≡ masterPiece q
   unfolding written row
@@ -31,9 +32,10 @@ module _ (saving stay : Bool) (q : Counts) (t : List ℕ) (i : ℕ) (l : Line) (
   unfolding written row
   gives-line e f = is-written e ∙ ap (λ (b : Bool). pick b (masterPiece q) (pieceAt t i)) (ap isMaster (sym r) ∙ sym m ∙ f)
 
-pub gives-none : (saving stay : Bool) (q : Counts) (p : List ℕ) (due : Bool) → due ≡ alike saving stay → due ≡ false → share saving stay q p ≡ []
-unfolding share
-gives-none saving stay q p due d e = ap (λ (b : Bool). pick b (written q p) []) (sym d ∙ e)
+pub gives-none : (saving stay : Bool) (q : Counts) (t : List ℕ) (i : ℕ) (l : Line) (due : Bool) → due ≡ either (isFence l) (alike saving stay) → l ≡ row t i → due ≡ false
+    → share saving stay q (pieceAt t i) ≡ []
+unfolding share row
+gives-none saving stay q t i l due d r e = ap (λ (b : Bool). pick b (written q (pieceAt t i)) []) (ap (λ (x : Line). either (isFence x) (alike saving stay)) (sym r) ∙ sym d ∙ e)
 
 -- there is room for the 81 bytes that the line gives
 pub room : (s x : List ℕ) (at n : ℕ) → s ≡ x → length x ≡ 81 → at + length s ≤ n → at + 81 ≤ n

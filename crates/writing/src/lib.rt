@@ -1,4 +1,5 @@
 // What one line of an accepted text gives to the saved entry or to the tray, written where it is to stand.
+use facets::Fence;
 use facets::Total;
 use master::Tally;
 use pieces::Line;
@@ -10,18 +11,36 @@ ghost use Prim.Native.Nat.{_+_, _*_, _≤_};
 ghost use lib.ListN.{length, take, drop};
 ghost use Rattle.columns.specs.Columns.{Put};
 ghost use Rattle.places.specs.Room.{Room};
-ghost use Rattle.ascii.specs.Tests.{alike};
+ghost use Rattle.ascii.specs.Tests.{either, alike};
+ghost use Rattle.facets.specs.Facets.{isFence};
 ghost use Rattle.rows.specs.Text.{pieceAt, row};
-ghost use Rattle.table.specs.Deal.{counted, tallyOf, masterPiece, isTotal, isMaster, share};
+ghost use Rattle.table.specs.Deal.{pastAfter, pastNext, counted, tallyOf, masterPiece, isTotal, isMaster, share};
 ghost use Rattle.table.specs.FiveDigits.{FiveDigits};
 
+fn past_after(past: bool, e: Fence) -> bool
+    ensures { λ r. ⌜ r ≡ pastAfter past e ⌝ }
+{
+    match e {
+        Fence::Opens(_) => past,
+        Fence::Shuts => true,
+        Fence::Unfenced => past,
+    }
+}
+
+// Whether the first model is past, once this line is.
+pub fn past_next(past: bool, l: Line) -> bool
+    ensures { λ r. ⌜ r ≡ pastNext past l ⌝ }
+{
+    past_after(past, facets::fence_in(l))
+}
+
 // The counts of the lines that stay, with this one.
-pub fn count_line(stay: bool, q: Counts, l: Line) -> Counts
+pub fn count_line(stay: bool, past: bool, q: Counts, l: Line) -> Counts
     requires { ⌜ Room q ⌝ }
-    ensures { λ r. ⌜ r ≡ counted stay q l ⌝ }
+    ensures { λ r. ⌜ r ≡ counted stay past q l ⌝ }
 {
     if stay {
-        return places::raise(q, places::count_of(facets::line_kind(l)));
+        return places::raise(q, places::count_at(past, facets::line_kind(l)));
     }
     q
 }
@@ -41,11 +60,11 @@ fn is_master(l: Line) -> bool
     is_total(facets::total_in(l))
 }
 
-// Whether the line is one to be written: one that stays is saved, one that goes is laid on the tray.
-fn is_due(saving: bool, stay: bool) -> bool
-    ensures { λ b. ⌜ b ≡ alike saving stay ⌝ }
+// Whether the line is one to be written: one that stays is saved, one that goes is laid on the tray, and MODEL and ENDMDL are in both.
+fn is_due(saving: bool, stay: bool, l: Line) -> bool
+    ensures { λ b. ⌜ b ≡ either (isFence l) (alike saving stay) ⌝ }
 {
-    ascii::alike_of(saving, stay)
+    ascii::either_of(facets::is_fence(l), ascii::alike_of(saving, stay))
 }
 
 fn tally_of(q: Counts) -> Tally
@@ -110,7 +129,7 @@ pub fn put_share(
     requires { ⌜ (isMaster l ≡ true → FiveDigits (tallyOf q)) ⌝ }
     ensures { λ r. ⌜ (r ≡ at + length (share saving stay q (pieceAt (now (text .entry)) i))) × (now (out .exit) ≡ take at (now (out .entry)) ++ share saving stay q (pieceAt (now (text .entry)) i) ++ drop (at + length (share saving stay q (pieceAt (now (text .entry)) i))) (now (out .entry))) ⌝ }
 {
-    if is_due(saving, stay) {
+    if is_due(saving, stay, l) {
         if is_master(l) {
             put_master(q, out, at);
             return at + 81;

@@ -25,6 +25,12 @@ enum-told-5 c = c .match .keys6
 enum-told-6 : tie.Need-enum-told-6
 enum-told-6 c = c .match .keys7
 
+enum-told-7 : tie.Need-enum-told-7
+enum-told-7 c = c .match .keys8
+
+enum-told-8 : tie.Need-enum-told-8
+enum-told-8 c = c .match .keys9
+
 returns-2 : tie.Need-returns-2
 returns-2 c = rw (c .before .before .r .given .1, c .if1 .left)
 
@@ -46,6 +52,12 @@ returns-7 c = rw (c .enum-told5 .given .1)
 returns-8 : tie.Need-returns-8
 returns-8 c = rw (c .enum-told6 .given .1)
 
+returns-9 : tie.Need-returns-9
+returns-9 c = rw (c .enum-told7 .given .1)
+
+returns-10 : tie.Need-returns-10
+returns-10 c = rw (c .enum-told8 .given .1)
+
 pub record-kind-spec : {M : Type 1} → statement M
 record-kind-spec =
     tie.close
@@ -58,10 +70,14 @@ record-kind-spec =
     enum-told-4
     enum-told-5
     enum-told-6
+    enum-told-7
+    enum-told-8
     returns-2
     returns-3
     returns-4
     returns-5
     returns-6
     returns-7
-    returns-8)
+    returns-8
+    returns-9
+    returns-10)

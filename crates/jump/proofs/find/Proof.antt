@@ -1,6 +1,7 @@
 use Prim.Native.Nat.{_-_}
 use native.Mathlib.Omega.{arith}
 use mathlib.Core.Path.{sym, _∙_}
+use Rattle.jump.proofs.Hits.{hit-site}
 use Rattle.jump.proofs.Looking.{Looked, looked-start, looked-next, looked-hit, looked-over}
 use Rattle.jump.proofs.find.Statement.{statement}
 use Rattle.jump.proofs.find.Tie as tie
@@ -14,14 +15,14 @@ abbrev μ-loop : tie.MeasureT-loop
 loop-holds : tie.Need-loop-holds Inv-loop μ-loop
 loop-holds c = looked-start _ _
 
-is-hit-requires : tie.Need-is-hit-requires Inv-loop μ-loop
-is-hit-requires c κs = omega arith
+site-in-requires : tie.Need-site-in-requires Inv-loop μ-loop
+site-in-requires c κs = omega arith
 
 add-n : tie.Need-add-n Inv-loop μ-loop
 add-n c = omega arith
 
 returns : tie.Need-returns Inv-loop μ-loop
-returns c = sym (looked-hit _ _ _ (c .before .before .before .loop .inv) (omega arith) (sym (c .before .is-hit .ensures) ∙ c .if1 .taken))
+returns c = sym (looked-hit _ _ _ (c .before .before .before .loop .inv) (omega arith) (hit-site _ _ _ ∙ sym (c .before .site-in .ensures) ∙ c .if1 .taken))
 
 add-i : tie.Need-add-i Inv-loop μ-loop
 add-i c = omega arith
@@ -30,7 +31,7 @@ loop-less : tie.Need-loop-less Inv-loop μ-loop
 loop-less c = omega arith
 
 loop-again : tie.Need-loop-again Inv-loop μ-loop
-loop-again c = looked-next _ _ _ (c .before .before .before .loop .inv) (omega arith) (sym (c .before .is-hit .ensures) ∙ c .if1 .left)
+loop-again c = looked-next _ _ _ (c .before .before .before .loop .inv) (omega arith) (hit-site _ _ _ ∙ sym (c .before .site-in .ensures) ∙ c .if1 .left)
 
 returns-2 : tie.Need-returns-2 Inv-loop μ-loop
 returns-2 c = sym (looked-over _ _ _ (c .before .loop .inv) (omega arith))
@@ -42,7 +43,7 @@ find-spec =
     Inv-loop
     μ-loop
     loop-holds
-    is-hit-requires
+    site-in-requires
     add-n
     returns
     add-i

@@ -170,6 +170,18 @@ enum-told-28 c = search needs
 carried-requires-20 : tie.Need-carried-requires-20
 carried-requires-20 c κs = search needs
 
+enum-told-29 : tie.Need-enum-told-29
+enum-told-29 c = search needs
+
+typed-requires-6 : tie.Need-typed-requires-6
+typed-requires-6 c κs = search needs
+
+enum-told-30 : tie.Need-enum-told-30
+enum-told-30 c = search needs
+
+typed-requires-7 : tie.Need-typed-requires-7
+typed-requires-7 c κs = search needs
+
 returns : tie.Need-returns
 returns c = rw (c .before .enum-told .given .1, c .carried .ensures)
 
@@ -254,6 +266,12 @@ returns-27 c = rw (c .before .enum-told27 .given .1, c .typed5 .ensures)
 returns-28 : tie.Need-returns-28
 returns-28 c = rw (c .before .enum-told28 .given .1, c .carried20 .ensures)
 
+returns-29 : tie.Need-returns-29
+returns-29 c = rw (c .before .enum-told29 .given .1, c .typed6 .ensures)
+
+returns-30 : tie.Need-returns-30
+returns-30 c = rw (c .before .enum-told30 .given .1, c .typed7 .ensures)
+
 pub row-of-spec : {M : Type 1} → statement M
 row-of-spec =
     tie.close
@@ -314,6 +332,10 @@ row-of-spec =
     typed-requires-5
     enum-told-28
     carried-requires-20
+    enum-told-29
+    typed-requires-6
+    enum-told-30
+    typed-requires-7
     returns
     returns-2
     returns-3
@@ -341,4 +363,6 @@ row-of-spec =
     returns-25
     returns-26
     returns-27
-    returns-28)
+    returns-28
+    returns-29
+    returns-30)

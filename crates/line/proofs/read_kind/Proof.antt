@@ -48,8 +48,20 @@ read-master-requires c κs = c .before .before .before .pre
 enum-told-8 : tie.Need-enum-told-8
 enum-told-8 c = c .match .keys8
 
-read-end-requires : tie.Need-read-end-requires
-read-end-requires c κs = c .before .before .before .pre
+read-bare-requires : tie.Need-read-bare-requires
+read-bare-requires c κs = c .before .before .before .pre
+
+enum-told-9 : tie.Need-enum-told-9
+enum-told-9 c = c .match .keys9
+
+read-model-requires : tie.Need-read-model-requires
+read-model-requires c κs = c .before .before .before .pre
+
+enum-told-10 : tie.Need-enum-told-10
+enum-told-10 c = c .match .keys10
+
+read-bare-requires-2 : tie.Need-read-bare-requires-2
+read-bare-requires-2 c κs = c .before .before .before .pre
 
 returns : tie.Need-returns
 unfolding readingOf
@@ -81,10 +93,18 @@ returns-7 c = rw (c .before .enum-told7 .given .1) (c .read-master .ensures)
 
 returns-8 : tie.Need-returns-8
 unfolding readingOf
-returns-8 c = rw (c .before .enum-told8 .given .1) (c .read-end .ensures)
+returns-8 c = rw (c .before .enum-told8 .given .1) (c .read-bare .ensures)
 
 returns-9 : tie.Need-returns-9
-returns-9 c = rw (untyped (c .before .before .args .k) _ (c .match .keys9))
+unfolding readingOf
+returns-9 c = rw (c .before .enum-told9 .given .1) (c .read-model .ensures)
+
+returns-10 : tie.Need-returns-10
+unfolding readingOf
+returns-10 c = rw (c .before .enum-told10 .given .1) (c .read-bare2 .ensures)
+
+returns-11 : tie.Need-returns-11
+returns-11 c = rw (untyped (c .before .before .args .k) _ (c .match .keys11))
 
 pub read-kind-spec : {M : Type 1} → statement M
 read-kind-spec =
@@ -105,7 +125,11 @@ read-kind-spec =
     enum-told-7
     read-master-requires
     enum-told-8
-    read-end-requires
+    read-bare-requires
+    enum-told-9
+    read-model-requires
+    enum-told-10
+    read-bare-requires-2
     returns
     returns-2
     returns-3
@@ -114,4 +138,6 @@ read-kind-spec =
     returns-6
     returns-7
     returns-8
-    returns-9)
+    returns-9
+    returns-10
+    returns-11)

@@ -1,4 +1,4 @@
-use Rattle.line.proofs.Returns.{record-written}
+use Rattle.line.proofs.Returns.{record-written, end-written, endmdl-written}
 use borrow.Author.Needs.{needs}
 use Rattle.line.proofs.write_record.Statement.{statement}
 use Rattle.line.proofs.write_record.Tie as tie
@@ -42,8 +42,20 @@ write-master-requires c κs = tt
 enum-told : tie.Need-enum-told
 enum-told c = c .match .keys7
 
-write-end-requires : tie.Need-write-end-requires
-write-end-requires c κs = tt
+write-bare-requires : tie.Need-write-bare-requires
+write-bare-requires c κs = tt
+
+enum-known-r-7 : tie.Need-enum-known-r-7
+enum-known-r-7 c = c .match .keys8
+
+write-model-requires : tie.Need-write-model-requires
+write-model-requires c κs = tt
+
+enum-told-2 : tie.Need-enum-told-2
+enum-told-2 c = c .match .keys9
+
+write-bare-requires-2 : tie.Need-write-bare-requires-2
+write-bare-requires-2 c κs = tt
 
 same-length : tie.Need-same-length
 same-length c = search needs
@@ -85,7 +97,19 @@ same-length-7 : tie.Need-same-length-7
 same-length-7 c = search needs
 
 returns-7 : tie.Need-returns-7
-returns-7 c = record-written _ _ _ _ _ (c .before .before .before .before .enum-told .given .1) (c .before .before .write-end .ensures)
+returns-7 c = record-written _ _ _ _ _ (c .before .before .before .before .enum-told .given .1) (end-written _ _ _ (c .before .before .write-bare .ensures))
+
+same-length-8 : tie.Need-same-length-8
+same-length-8 c = search needs
+
+returns-8 : tie.Need-returns-8
+returns-8 c = record-written _ _ _ _ _ (c .before .before .before .before .before .r7 .given .1) (c .before .before .write-model .ensures)
+
+same-length-9 : tie.Need-same-length-9
+same-length-9 c = search needs
+
+returns-9 : tie.Need-returns-9
+returns-9 c = record-written _ _ _ _ _ (c .before .before .before .before .enum-told2 .given .1) (endmdl-written _ _ _ (c .before .before .write-bare2 .ensures))
 
 pub write-record-spec : {M : Type 1} → statement M
 write-record-spec =
@@ -104,7 +128,11 @@ write-record-spec =
     enum-known-r-6
     write-master-requires
     enum-told
-    write-end-requires
+    write-bare-requires
+    enum-known-r-7
+    write-model-requires
+    enum-told-2
+    write-bare-requires-2
     same-length
     returns
     same-length-2
@@ -118,4 +146,8 @@ write-record-spec =
     same-length-6
     returns-6
     same-length-7
-    returns-7)
+    returns-7
+    same-length-8
+    returns-8
+    same-length-9
+    returns-9)

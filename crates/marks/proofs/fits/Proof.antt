@@ -16,10 +16,10 @@ both-of-requires : tie.Need-both-of-requires
 both-of-requires c κs = search needs
 
 returns : tie.Need-returns
-returns c = fits-spot _ _ _ (c .before .before .before .before .before .is-coord .ensures) (c .before .before .before .before .if1 .taken) _ (c .before .before .before .line-slot .ensures) _ (c .before .before .same-slot .ensures) _ (c .both-of .ensures)
+returns c = fits-spot _ _ _ _ (c .before .before .before .before .before .is-coord .ensures) (c .before .before .before .before .if1 .taken) _ (c .before .before .before .line-slot .ensures) _ (c .before .before .same-slot .ensures) _ (c .both-of .ensures)
 
 returns-2 : tie.Need-returns-2
-returns-2 c = fits-any _ _ _ (c .before .is-coord .ensures) (c .if1 .left)
+returns-2 c = fits-any _ _ _ _ (c .before .is-coord .ensures) (c .if1 .left)
 
 pub fits-spec : {M : Type 1} → statement M
 fits-spec =

@@ -1,30 +1,32 @@
+use Rattle.rules.proofs.Laws.{pick-either}
 use Rattle.rules.specs.Rules.{judgeOf}
+use borrow.Author.Needs.{needs}
 use Rattle.rules.proofs.judge.Statement.{statement}
 use Rattle.rules.proofs.judge.Tie as tie
 
 enum-known-l : tie.Need-enum-known-l
-enum-known-l c = c .match .keys1
+enum-known-l c = search needs
 
 enum-known-l-2 : tie.Need-enum-known-l-2
-enum-known-l-2 c = c .match .keys2
+enum-known-l-2 c = search needs
 
-place-bad-requires : tie.Need-place-bad-requires
-place-bad-requires c κs = tt
+misplaced-requires : tie.Need-misplaced-requires
+misplaced-requires c κs = search needs
 
 choose-requires : tie.Need-choose-requires
-choose-requires c κs = tt
+choose-requires c κs = search needs
 
 enum-known-l-3 : tie.Need-enum-known-l-3
-enum-known-l-3 c = c .match .keys3
+enum-known-l-3 c = search needs
 
 carried-bad-requires : tie.Need-carried-bad-requires
-carried-bad-requires c κs = tt
+carried-bad-requires c κs = search needs
 
 enum-known-l-4 : tie.Need-enum-known-l-4
-enum-known-l-4 c = c .match .keys4
+enum-known-l-4 c = search needs
 
 typed-bad-requires : tie.Need-typed-bad-requires
-typed-bad-requires c κs = tt
+typed-bad-requires c κs = search needs
 
 returns : tie.Need-returns
 unfolding judgeOf
@@ -32,7 +34,7 @@ returns c = rw (c .before .l .given .1)
 
 returns-2 : tie.Need-returns-2
 unfolding judgeOf
-returns-2 c = rw (c .before .before .before .l2 .given .1, c .choose .ensures, c .before .place-bad .ensures)
+returns-2 c = rw (c .before .before .before .l2 .given .1, c .choose .ensures, c .before .misplaced .ensures) (pick-either _ _ _ _)
 
 returns-3 : tie.Need-returns-3
 unfolding judgeOf
@@ -48,7 +50,7 @@ judge-spec =
     (tie.spec
     enum-known-l
     enum-known-l-2
-    place-bad-requires
+    misplaced-requires
     choose-requires
     enum-known-l-3
     carried-bad-requires

@@ -16,8 +16,14 @@ bond-of-requires c κs = search needs
 fold-of-requires : tie.Need-fold-of-requires
 fold-of-requires c κs = search needs
 
+fence-of-requires : tie.Need-fence-of-requires
+fence-of-requires c κs = search needs
+
 row-of-requires : tie.Need-row-of-requires
 row-of-requires c κs = search needs
+
+models-next-requires : tie.Need-models-next-requires
+models-next-requires c κs = search needs
 
 last-next-requires : tie.Need-last-next-requires
 last-next-requires c κs = search needs
@@ -34,15 +40,18 @@ helix-next-requires c κs = search needs
 ladder-next-requires : tie.Need-ladder-next-requires
 ladder-next-requires c κs = search needs
 
-raise-requires : tie.Need-raise-requires
-raise-requires c κs = c .before .before .before .before .before .before .before .before .before .before .before .before .before .pre .0
+count-at-requires : tie.Need-count-at-requires
+count-at-requires c κs = search needs
 
-add-t17 : tie.Need-add-t17
-add-t17 c = omega (arith, c .before .before .before .before .before .before .before .before .before .before .before .before .before .before .before .pre)
+raise-requires : tie.Need-raise-requires
+raise-requires c κs = c .before .before .before .before .before .before .before .before .before .before .before .before .before .before .before .before .before .pre .0
+
+add-t21 : tie.Need-add-t21
+add-t21 c = omega (arith, c .before .before .before .before .before .before .before .before .before .before .before .before .before .before .before .before .before .before .before .pre)
 
 returns : tie.Need-returns
 unfolding typedNext
-returns c = rw (c .before .raise .ensures, c .before .before .ladder-next .ensures, c .before .before .before .helix-next .ensures, c .before .before .before .before .bond-next .ensures, c .before .before .before .before .before .run-next .ensures, c .before .before .before .before .before .before .last-next .ensures, c .before .before .before .before .before .before .before .row-of .ensures, c .before .before .before .before .before .before .before .before .fold-of .ensures, c .before .before .before .before .before .before .before .before .before .bond-of .ensures, c .before .before .before .before .before .before .before .before .before .before .spot-of .ensures, c .before .before .before .before .before .before .before .before .before .before .before .record-kind .ensures)
+returns c = rw (c .before .raise .ensures, c .before .before .count-at .ensures, c .before .before .before .ladder-next .ensures, c .before .before .before .before .helix-next .ensures, c .before .before .before .before .before .bond-next .ensures, c .before .before .before .before .before .before .run-next .ensures, c .before .before .before .before .before .before .before .last-next .ensures, c .before .before .before .before .before .before .before .before .models-next .ensures, c .before .before .before .before .before .before .before .before .before .row-of .ensures, c .before .before .before .before .before .before .before .before .before .before .fence-of .ensures, c .before .before .before .before .before .before .before .before .before .before .before .fold-of .ensures, c .before .before .before .before .before .before .before .before .before .before .before .before .bond-of .ensures, c .before .before .before .before .before .before .before .before .before .before .before .before .before .spot-of .ensures, c .before .before .before .before .before .before .before .before .before .before .before .before .before .before .record-kind .ensures)
 
 pub typed-next-spec : {M : Type 1} → statement M
 typed-next-spec =
@@ -52,12 +61,15 @@ typed-next-spec =
     spot-of-requires
     bond-of-requires
     fold-of-requires
+    fence-of-requires
     row-of-requires
+    models-next-requires
     last-next-requires
     run-next-requires
     bond-next-requires
     helix-next-requires
     ladder-next-requires
+    count-at-requires
     raise-requires
-    add-t17
+    add-t21
     returns)

@@ -15,10 +15,10 @@ enum-told : tie.Need-enum-told
 enum-told c = search needs
 
 returns : tie.Need-returns
-returns c n s B = rw (← c .before .before .before .before .before .bond-in .ensures, c .before .before .b .given .1) (c .conect-known .ensures n s B)
+returns c = λ n s B E. rw (← c .before .before .before .before .before .bond-in .ensures, c .before .before .b .given .1) (c .conect-known .ensures n s B E)
 
 returns-2 : tie.Need-returns-2
-returns-2 c n s B = rw (← c .before .before .before .bond-in .ensures, c .enum-told .given .1)
+returns-2 c = λ n s B E. rw (← c .before .before .before .bond-in .ensures, c .enum-told .given .1)
 
 pub known-spec : {M : Type 1} → statement M
 known-spec =

@@ -9,8 +9,8 @@ kind-of-requires c κs = search needs
 is-named-requires : tie.Need-is-named-requires
 is-named-requires c κs = search needs
 
-count-of-requires : tie.Need-count-of-requires
-count-of-requires c κs = search needs
+count-at-requires : tie.Need-count-at-requires
+count-at-requires c κs = search needs
 
 tally-step-requires : tie.Need-tally-step-requires
 tally-step-requires c κs = search needs
@@ -27,7 +27,7 @@ tally-after-spec =
     (tie.spec
     kind-of-requires
     is-named-requires
-    count-of-requires
+    count-at-requires
     tally-step-requires
     returns
     returns-2)

@@ -34,7 +34,7 @@ returns : tie.Need-returns
 returns c =
     let t = c .before .before .before .before .before .before .before .before .args .text .now in
     let e = sym (c .before .before .before .before .before .before .spot-in .ensures) ∙ c .before .before .before .before .enum-told .given .1 in (
-      λ n s B. rw (← c .before .before .before .before .before .before .spot-in .ensures, c .before .before .before .before .enum-told .given .1) (stands-told t n (c .before .before .before .before .before .before .before .before .args .b) s B _ _ (twin-self t _ _ _ _ _ (c .before .before .before .before .before .before .before .before .pre .1 .0 .1) (c .before .before .before .before .before .before .spot-in .ensures) (c .before .before .before .before .enum-told .given .1)) _ (apart-join t _ _ _ _ (c .before .before .before .follow .ensures .0 .2) (c .before .suspect .ensures)) _ (c .met .ensures _ _ e)),
+      λ n s B. rw (← c .before .before .before .before .before .before .spot-in .ensures, c .before .before .before .before .enum-told .given .1) (stands-told t n (c .before .before .before .before .before .before .before .before .args .b) s B _ _ (twin-self t _ _ _ _ _ (c .before .before .before .before .before .before .before .before .pre .1 .0 .1) (c .before .before .before .before .before .before .spot-in .ensures) (c .before .before .before .before .enum-told .given .1)) _ (omega (arith, c .before .before .before .follow .ensures .0 .0, c .before .suspect .ensures .0)) (apart-join t _ _ _ _ (c .before .before .before .follow .ensures .0 .2) (c .before .suspect .ensures .1)) _ (c .met .ensures _ _ e)),
       λ h. watched-coord t (c .before .before .before .before .before .before .before .before .args .b) (c .before .before .before .before .before .before .before .before .args .i) (c .before .before .before .before .before .before .before .before .args .l) _ (ap isSpot e) (c .before .before .before .follow .ensures .1 (h (ap isSpot e))),
     )
 
@@ -45,11 +45,11 @@ returns-2 c =
       λ h. watched-coord (c .before .before .before .before .before .before .args .text .now) (c .before .before .before .before .before .before .args .b) (c .before .before .before .before .before .before .args .i) (c .before .before .before .before .before .before .args .l) _ (ap isSpot e) (c .before .follow2 .ensures .1 (h (ap isSpot e))),
     )
 
+carried-on-requires : tie.Need-carried-on-requires
+carried-on-requires c κs = tt
+
 returns-3 : tie.Need-returns-3
-returns-3 c = (
-  λ n s B. rw (← c .before .before .spot-in .ensures, c .enum-told3 .given .1),
-  λ h. watched-other (c .before .before .before .before .args .text .now) (c .before .before .before .before .args .b) (c .before .before .before .before .args .i) (c .before .before .before .before .args .l) _ (ap isSpot (sym (c .before .before .spot-in .ensures) ∙ c .enum-told3 .given .1)) (c .before .before .before .before .pre .1 .1),
-)
+returns-3 c = (λ n s B. rw (← c .before .before .before .spot-in .ensures, c .before .enum-told3 .given .1), λ h. watched-other (c .before .before .before .before .before .args .text .now) (c .before .before .before .before .before .args .b) (c .before .before .before .before .before .args .i) (c .before .before .before .before .before .args .l) _ (ap isSpot (sym (c .before .before .before .spot-in .ensures) ∙ c .before .enum-told3 .given .1)) (c .carried-on .ensures _ _ (c .before .before .before .before .before .pre .1 .1)))
 
 pub look-spec : {M : Type 1} → statement M
 look-spec =
@@ -63,6 +63,7 @@ look-spec =
     enum-told-2
     follow-requires-2
     enum-told-3
+    carried-on-requires
     returns
     returns-2
     returns-3)

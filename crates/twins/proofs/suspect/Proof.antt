@@ -23,7 +23,7 @@ alike-requires : tie.Need-alike-requires Inv-loop μ-loop
 alike-requires c κs = (omega (arith, c .before .before .before .before .pre .1), c .before .before .before .before .pre .0)
 
 returns : tie.Need-returns Inv-loop μ-loop
-returns c = c .before .before .before .loop .inv .2
+returns c = (c .before .before .before .loop .inv .0, c .before .before .before .loop .inv .2)
 
 add-k : tie.Need-add-k Inv-loop μ-loop
 add-k c = omega arith
@@ -35,7 +35,7 @@ loop-again : tie.Need-loop-again Inv-loop μ-loop
 loop-again c = (omega arith, omega arith, apart-more (c .before .before .before .before .before .before .args .text .now) _ _ (c .before .before .before .before .before .before .args .i) (c .before .before .before .loop .inv .2) (λ h g. c .before .alike .ensures (c .if1 .left) h (g ∙ sym (c .before .before .before .before .body .ensures))))
 
 returns-2 : tie.Need-returns-2 Inv-loop μ-loop
-returns-2 c = λ j g h. c .before .loop .inv .2 j g (omega arith)
+returns-2 c = (omega (arith, c .before .loop .inv .0, c .before .loop .inv .1), λ j g h. c .before .loop .inv .2 j g (omega arith))
 
 pub suspect-spec : {M : Type 1} → statement M
 suspect-spec =

@@ -36,7 +36,7 @@ returns-2 : tie.Need-returns-2
 returns-2 c = placed _ _ _ _ _ (gives-line _ _ _ _ _ _ _ _ (c .before .before .before .before .before .before .before .is-due .ensures) (c .before .before .before .before .before .is-master .ensures) (c .before .before .before .before .before .before .before .before .before .before .pre .1 .0) (c .before .before .before .before .before .before .if1 .taken) (c .before .before .before .before .if2 .left)) (piece-81 _ _ (c .before .before .before .before .before .before .before .before .before .before .pre .0)) (c .before .before .put-line .ensures)
 
 returns-3 : tie.Need-returns-3
-returns-3 c = untouched _ _ _ (gives-none _ _ _ _ _ (c .before .is-due .ensures) (c .if1 .left))
+returns-3 c = untouched _ _ _ (gives-none _ _ _ _ _ _ _ (c .before .is-due .ensures) (c .before .before .before .before .pre .1 .0) (c .if1 .left))
 
 pub put-share-spec : {M : Type 1} → statement M
 put-share-spec =

@@ -51,6 +51,21 @@ impl Entry {
         writer.finish(format!("{} atoms, {} CONECT", grouped(atoms), grouped(bonds)))
     }
 
+    /// An entry of so many models with so many coordinate lines each, alike but for their places, and so many CONECT lines.
+    pub fn with_models(models: usize, lines: usize, bonds: usize) -> Entry {
+        let mut writer = Writer::default();
+        writer.head(0);
+        for number in 1..=models {
+            writer.model(number, lines);
+        }
+        writer.bonds(bonds);
+        let mut name = format!("{} models of {} lines", grouped(models), grouped(lines));
+        if bonds > 0 {
+            name += &format!(", {} CONECT", grouped(bonds));
+        }
+        writer.finish(name)
+    }
+
     /// Its lines.
     pub fn lines(&self) -> usize {
         self.text.len() / 81
@@ -76,6 +91,8 @@ pub struct Writer {
     /// The serials of the atoms.
     atoms: Vec<usize>,
     ters: usize,
+    /// The atoms and TER lines of the first model, where there are models.
+    first: Option<(usize, usize)>,
     bonds: usize,
 }
 
@@ -94,16 +111,31 @@ impl Writer {
         }
     }
 
-    /// So many ATOM, TER and HETATM lines.
+    /// So many ATOM, TER and HETATM lines. Few lines have fewer runs, since each run has an atom and its TER.
     pub fn coordinates(&mut self, lines: usize) {
         let tail = lines / 10;
         let closed = lines - tail;
-        for (run, chain) in (b'A'..).map(char::from).take(RUNS).enumerate() {
-            self.run(chain, closed * (run + 1) / RUNS - closed * run / RUNS);
+        let runs = RUNS.min(1 + lines / 100);
+        for (run, chain) in (b'A'..).map(char::from).take(runs).enumerate() {
+            self.run(chain, closed * (run + 1) / runs - closed * run / runs);
         }
         for water in 0..tail {
             self.atom("HETATM", " O  ", &format!("HOH W{:4}", 1 + water % 9_999), " O");
         }
+    }
+
+    /// A model of so many coordinate lines. Its serials begin afresh.
+    fn model(&mut self, number: usize, lines: usize) {
+        self.line(&format!("MODEL     {number:4}"));
+        self.serial = 0;
+        self.coordinates(lines);
+        self.line("ENDMDL");
+        self.first.get_or_insert((self.atoms.len(), self.ters));
+    }
+
+    /// The atoms and TER lines that MASTER counts.
+    fn counted(&self) -> (usize, usize) {
+        self.first.unwrap_or((self.atoms.len(), self.ters))
     }
 
     /// A run of ATOM lines, and its TER.
@@ -138,14 +170,15 @@ impl Writer {
         self.line(&format!("{kind:6}{:5} {name}{alternate}{residue:10}   {place}          {element}", self.serial));
     }
 
-    /// So many CONECT lines, each with up to four partners anywhere in the entry.
+    /// So many CONECT lines, each with up to four partners anywhere in the entry or in its first model.
     fn bonds(&mut self, bonds: usize) {
         self.bonds = bonds;
+        let (atoms, _) = self.counted();
         for bond in 0..bonds {
-            let atom = bond * self.atoms.len() / bonds;
+            let atom = bond * atoms / bonds;
             let mut line = format!("CONECT{:5}", self.atoms[atom]);
             for _ in 0..1 + self.chance.below(4) {
-                let partner = (atom + 1 + self.chance.below(self.atoms.len() - 1)) % self.atoms.len();
+                let partner = (atom + 1 + self.chance.below(atoms - 1)) % atoms;
                 let _ = write!(line, "{:5}", self.atoms[partner]);
             }
             self.line(&line);
@@ -155,10 +188,11 @@ impl Writer {
     /// What stands behind the coordinates and bonds.
     pub fn finish(mut self, name: String) -> Entry {
         let zeros = "    0".repeat(7);
-        let (remarks, atoms, ters, bonds) = (self.remarks, self.atoms.len(), self.ters, self.bonds);
+        let (remarks, bonds) = (self.remarks, self.bonds);
+        let (atoms, ters) = self.counted();
         self.line(&format!("MASTER    {remarks:5}{zeros}{atoms:5}{ters:5}{bonds:5}    0"));
         self.line("END");
-        Entry { name, text: self.text.into_bytes(), atoms }
+        Entry { name, text: self.text.into_bytes(), atoms: self.atoms.len() }
     }
 }
 
@@ -199,6 +233,24 @@ mod tests {
         let entry = Entry::with_bonds(60_000, 30_000);
         let verdict = reference::check(&entry.text);
         assert_eq!((verdict.refusal, verdict.tally.conect, entry.atoms), (None, 30_000, 60_000));
+    }
+
+    #[test]
+    fn models_are_accepted() {
+        for bonds in [0, 2_500] {
+            let entry = Entry::with_models(20, 5_000, bonds);
+            let verdict = reference::check(&entry.text);
+            let counts = (verdict.tally.coord, verdict.tally.ter, verdict.tally.conect);
+            assert_eq!((verdict.refusal, counts), (None, (4_992, 8, bonds as u64)));
+            assert_eq!((entry.lines(), entry.atoms), (100_000 + 40 + 3 + bonds, 20 * 4_992));
+        }
+    }
+
+    #[test]
+    fn many_models_are_accepted() {
+        let entry = Entry::with_models(9_999, 10, 0);
+        assert_eq!(reference::check(&entry.text).refusal, None);
+        assert_eq!((entry.lines(), entry.atoms), (12 * 9_999 + 3, 9 * 9_999));
     }
 
     #[test]

@@ -22,6 +22,16 @@ fn searches() -> String {
     tables::searches(&sizes)
 }
 
+/// Calls on entries with models, and on one of as many lines without.
+fn models() -> String {
+    let calls = [Call::Check, Call::Load, Call::Order, Call::Save];
+    let twenty = [0, 2_500].map(|bonds| Entry::with_models(20, 5_000, bonds));
+    let many = [1_000, 9_999].map(|models| Entry::with_models(models, 10, 0));
+    let entries = [Entry::of_lines(100_000)].into_iter().chain(twenty).chain(many);
+    let times: Vec<_> = entries.map(|entry| measure::times(&entry, &calls)).collect();
+    tables::models(&times)
+}
+
 /// All other tables.
 fn all_calls() -> String {
     let lines = [1_000, 10_000, 100_000].map(Entry::of_lines);
@@ -29,17 +39,27 @@ fn all_calls() -> String {
     let mut times: Vec<_> = lines.iter().map(|entry| measure::times(entry, &Call::ALL)).collect();
     let with_bonds = [Call::Check, Call::Order, Call::Arrange, Call::Fragments, Call::Save, Call::Find];
     times.push(measure::times(&bonds, &with_bonds));
-    let stacks = [&lines[0], &lines[1], &lines[2], &bonds].map(measure::stacks);
+    let models = Entry::with_models(20, 5_000, 2_500);
+    // One of those texts for which the check looks at lines to come.
+    let looked = search::falling(10_000);
+    let stacks = [&lines[0], &lines[1], &lines[2], &bonds, &models, &looked].map(measure::stacks);
     [tables::calls(&times), tables::peers(&times), tables::bars(&times), tables::stacks(&stacks)].join("\n")
 }
+
+const USAGE: &str = "\
+usage: bench [--models | --search]
+
+  --models  only the table of entries with models
+  --search  only the table of texts that differ in how far the check looks back";
 
 fn main() {
     let words: Vec<String> = std::env::args().skip(1).collect();
     match words.iter().map(String::as_str).collect::<Vec<_>>()[..] {
-        [] => print!("{}\n{}", all_calls(), searches()),
+        [] => print!("{}\n{}\n{}", all_calls(), models(), searches()),
+        ["--models"] => print!("{}", models()),
         ["--search"] => print!("{}", searches()),
         _ => {
-            eprintln!("usage: bench [--search]\n\n  --search  only the table of texts that differ in how far the check looks back");
+            eprintln!("{USAGE}");
             std::process::exit(2);
         }
     }

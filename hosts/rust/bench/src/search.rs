@@ -24,9 +24,7 @@ pub fn texts(lines: usize) -> Vec<Entry> {
         of("1 chain, its heterogen, a chain of waters", |writer, lines| Chains::alone().write(writer, lines)),
         of("12 chains, heterogens, waters", |writer, lines| Chains::rising(SOME).write(writer, lines)),
         of("62 chains, heterogens, waters", |writer, lines| Chains::rising(CHAINS.len()).write(writer, lines)),
-        of("12 chains, residues fall", |writer, lines| {
-            Chains { fall: true, ..Chains::rising(SOME) }.write(writer, lines)
-        }),
+        falling(lines),
         of("12 chains, waters in any order", |writer, lines| {
             Chains { any_waters: true, ..Chains::rising(SOME) }.write(writer, lines)
         }),
@@ -37,6 +35,13 @@ pub fn texts(lines: usize) -> Vec<Entry> {
         of("one residue", one_residue),
         of("one residue, TER after each atom", closed_each),
     ]
+}
+
+/// Chains whose residues fall.
+pub fn falling(lines: usize) -> Entry {
+    Entry::of_coordinates(lines, "12 chains, residues fall".to_owned(), |writer, lines| {
+        Chains { fall: true, ..Chains::rising(SOME) }.write(writer, lines);
+    })
 }
 
 /// A residue from its name to its insertion code, by its place in the chain. Numbers begin again with the next insertion code

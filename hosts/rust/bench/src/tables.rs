@@ -50,6 +50,24 @@ pub fn peers(times: &[Times]) -> String {
     table(&["Entry", "check, ns a line", "byte loop", "check / byte loop", "gemmi", "gemmi / check"], &rows)
 }
 
+/// Calls on entries with models: a row for each call and entry, held against the same call on the first entry, which has none.
+pub fn models(times: &[Times]) -> String {
+    let mut rows = Vec::new();
+    for entry in times {
+        for (call, library, _) in &entry.calls {
+            let per_line = |entry: &Times| Some(entry.library(*call)? / entry.lines as f64);
+            rows.push(vec![
+                label(entry),
+                call.name(),
+                number(library.0 / entry.lines as f64),
+                ratio(Some(library.0), entry.library(Call::Check)),
+                ratio(per_line(entry), times.first().and_then(per_line)),
+            ]);
+        }
+    }
+    table(&["Entry", "Call", "ns a line", "/ check", "a line / a line without models"], &rows)
+}
+
 /// The check of texts that differ in how far it has to look back: a row for each text, columns for each size. The first row
 /// is what the others are held against.
 pub fn searches(sizes: &[(Vec<Entry>, Vec<Best>)]) -> String {

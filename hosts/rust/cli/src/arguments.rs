@@ -3,6 +3,8 @@
 use std::ffi::{OsStr, OsString};
 use std::path::PathBuf;
 
+use station::ModelNumber;
+
 use crate::aside::Aside;
 use crate::find;
 use crate::problem::Problem;
@@ -22,7 +24,7 @@ pub enum Command {
     /// Save an entry without some fragments.
     Save { file: PathBuf, aside: Aside, out: PathBuf, tray: Option<PathBuf>, force: bool },
     /// Draw an entry.
-    Draw { file: PathBuf, aside: Aside, svg: PathBuf, force: bool },
+    Draw { file: PathBuf, aside: Aside, model: Option<ModelNumber>, svg: PathBuf, force: bool },
 }
 
 const HELP: &str = "\
@@ -33,7 +35,7 @@ usage:
   station find FILE SERIAL..
   station fragments FILE [--aside LIST]
   station save FILE [--aside LIST] --out FILE [--tray FILE] [--force]
-  station draw FILE --svg FILE [--aside LIST] [--force]
+  station draw FILE --svg FILE [--aside LIST] [--model N] [--force]
   station COMMAND --help
 
 A FILE that is read may be - for standard input, one that is written - for standard output.
@@ -71,8 +73,8 @@ const FIND_HELP: &str = "\
 usage: station find FILE SERIAL..
 
 Shows the line of the atom with each SERIAL: its number, the line itself, and its fields by name. The file need not be an
-accepted entry: it is the first ATOM or HETATM line with the serial that reads by itself; lines that do not read are passed
-over.
+accepted entry: it is the first ATOM or HETATM line with the serial that reads by itself, so it is that of the first model that
+has it; lines that do not read are passed over.
 
 examples:
   station find 1abc.pdb 1179
@@ -85,8 +87,8 @@ Exit status: 0 all found, 1 one or more stand on no line, 2 could not be read, o
 const FRAGMENTS_HELP: &str = "\
 usage: station fragments FILE [--aside LIST]
 
-Lists the fragments of an accepted entry: number, chain, residues, atoms, first and last residue, and whether it is in
-or set aside.
+Lists the fragments of an accepted entry: number, model if the entry has models, chain, residues, atoms, first and last
+residue, and whether it is in or set aside. The numbers go through all models.
 
   --aside LIST  set these fragments aside first: numbers and ranges, such as 2,5 or 2,7-9
 
@@ -100,7 +102,8 @@ const SAVE_HELP: &str = "\
 usage: station save FILE [--aside LIST] --out FILE [--tray FILE] [--force]
 
 Saves an accepted entry without the fragments set aside, and what is left out of it to the tray. Both files are
-written whole or not at all. The input is never written to.
+written whole or not at all. The input is never written to. Of an entry with models all MODEL and ENDMDL lines are saved, and
+copied to the tray; a CONECT line stays as long as each of its numbers has an atom in some model.
 
   --aside LIST  the fragments to set aside: numbers and ranges, such as 2,5 or 2,7-9
   --out FILE    where the entry goes; - is standard output
@@ -116,17 +119,19 @@ Exit status: 0 saved, 1 refused, 2 could not be read or written.
 ";
 
 const DRAW_HELP: &str = "\
-usage: station draw FILE --svg FILE [--aside LIST] [--force]
+usage: station draw FILE --svg FILE [--aside LIST] [--model N] [--force]
 
 Draws a dot for each atom and a stroke for each bond of a CONECT line, seen along z. Of a refused entry the good lines
-are drawn, and a note says so.
+are drawn, and a note says so. Of an entry with models one is drawn.
 
   --svg FILE    where the picture goes; a file is written whole or not at all, - is standard output
   --aside LIST  fragments to leave out (of an accepted entry): numbers and ranges, such as 2,5 or 2,7-9
+  --model N     the model to draw; without it the first that has an atom to draw
   --force       replace a file that exists
 
-example:
+examples:
   station draw 1abc.pdb --aside 2 --svg 1abc.svg
+  station draw 2def.pdb --model 20 --svg last.svg
 
 Exit status: 0 drawn, 1 refused or nothing to draw, 2 could not be read or written.
 ";
@@ -142,6 +147,7 @@ struct Given {
     out: Option<OsString>,
     tray: Option<OsString>,
     svg: Option<OsString>,
+    model: Option<OsString>,
 }
 
 fn usage<T>(words: impl Into<String>) -> Result<T, Problem> {
@@ -155,7 +161,7 @@ fn about(command: &OsStr) -> Option<(&'static str, &'static [&'static str])> {
         "find" => Some((FIND_HELP, &[])),
         "fragments" => Some((FRAGMENTS_HELP, &["--aside"])),
         "save" => Some((SAVE_HELP, &["--aside", "--out", "--tray", "--force"])),
-        "draw" => Some((DRAW_HELP, &["--aside", "--svg", "--force"])),
+        "draw" => Some((DRAW_HELP, &["--aside", "--model", "--svg", "--force"])),
         _ => None,
     }
 }
@@ -197,9 +203,9 @@ pub fn parse(mut arguments: impl Iterator<Item = OsString>) -> Result<Command, P
             Ok(Command::Save { file, aside, out, tray, force: given.force })
         }
         _ => {
-            let (file, aside) = (given.one_file("draw")?, given.aside()?);
+            let (file, aside, model) = (given.one_file("draw")?, given.aside()?, given.model()?);
             let svg = needed(given.svg, "draw needs --svg FILE")?;
-            Ok(Command::Draw { file, aside, svg, force: given.force })
+            Ok(Command::Draw { file, aside, model, svg, force: given.force })
         }
     }
 }
@@ -243,6 +249,7 @@ fn given(mut arguments: impl Iterator<Item = OsString>, allowed: &[&str]) -> Res
                     "--aside" => &mut given.aside,
                     "--out" => &mut given.out,
                     "--tray" => &mut given.tray,
+                    "--model" => &mut given.model,
                     _ => &mut given.svg,
                 };
                 if place.replace(value).is_some() {
@@ -269,6 +276,17 @@ impl Given {
                 Ok((file.clone(), serials.or_else(usage)?))
             }
             _ => usage("find needs a file and one or more serials"),
+        }
+    }
+
+    fn model(&self) -> Result<Option<ModelNumber>, Problem> {
+        let Some(word) = self.model.as_ref().map(|word| word.to_string_lossy()) else {
+            return Ok(None);
+        };
+        let digits = word.bytes().all(|byte| byte.is_ascii_digit());
+        match word.parse() {
+            Ok(number @ 1..=9_999) if digits => Ok(Some(ModelNumber(number))),
+            _ => usage(format!("--model {word}: models have numbers from 1 to 9999")),
         }
     }
 

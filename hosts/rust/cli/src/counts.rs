@@ -6,15 +6,19 @@ use station::Counts;
 const NAMES: [&str; 12] =
     ["REMARK", "", "HET", "HELIX", "SHEET", "", "", "ORIGX and SCALE", "ATOM and HETATM", "TER", "CONECT", "SEQRES"];
 
-/// Where the counts on a MASTER line that reads by itself are not these.
-pub fn wrong(line: &[u8; 80], counts: &Counts) -> Option<String> {
+/// Where the counts on a MASTER line that reads by itself are not these. In an entry with models the coordinates and TER lines
+/// are counted in the first alone.
+pub fn wrong(line: &[u8; 80], counts: &Counts, models: bool) -> Option<String> {
     let Counts { remark, het, helix, sheet, xform, coord, ter, conect, seq } = *counts;
     let due = [remark, 0, het, helix, sheet, 0, 0, xform, coord, ter, conect, seq];
     let columns = line[10..70].chunks(5).map(|columns| String::from_utf8_lossy(columns).trim_start().to_owned());
     let wrong: Vec<String> = columns
         .zip(NAMES.iter().zip(due))
         .filter(|(is, (_, due))| *is != due.to_string())
-        .map(|(is, (name, due))| format!("the count of {name} is {is}, and there are {due}"))
+        .map(|(is, (name, due))| {
+            let place = if models && matches!(*name, "ATOM and HETATM" | "TER") { " in the first model" } else { "" };
+            format!("the count of {name} is {is}, and there are {due}{place}")
+        })
         .collect();
     (!wrong.is_empty()).then(|| wrong.join("\n  "))
 }
@@ -29,12 +33,16 @@ mod tests {
         let line: &[u8; 80] = text.as_bytes().try_into().expect("80 columns");
         let counts =
             Counts { remark: 40, het: 1, helix: 2, sheet: 3, xform: 6, coord: 768, ter: 5, conect: 20, seq: 18 };
-        assert_eq!(wrong(line, &counts), None);
+        assert_eq!(wrong(line, &counts, false), None);
         assert_eq!(
-            wrong(line, &Counts { ter: 4, ..counts }).as_deref(),
+            wrong(line, &Counts { ter: 4, ..counts }, false).as_deref(),
             Some("the count of TER is 5, and there are 4")
         );
-        let two = wrong(line, &Counts { xform: 0, seq: 17, ..counts });
+        assert_eq!(
+            wrong(line, &Counts { coord: 9, ..counts }, true).as_deref(),
+            Some("the count of ATOM and HETATM is 768, and there are 9 in the first model")
+        );
+        let two = wrong(line, &Counts { xform: 0, seq: 17, ..counts }, true);
         assert_eq!(
             two.as_deref(),
             Some("the count of ORIGX and SCALE is 6, and there are 0\n  the count of SEQRES is 18, and there are 17")

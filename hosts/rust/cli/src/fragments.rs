@@ -47,7 +47,10 @@ pub fn run(file: &Path, aside: &Aside, out: &mut Console) -> Result<Status, Prob
     let input = input::read(file)?;
     let table = load(&input, aside)?;
     let fragments = table.fragments().map_err(|refusal| refused(&input, refusal))?;
-    out.say_line("fragment  chain  residues  atoms  first      last       where")?;
+    let modelled = table.slots().iter().any(|slot| slot.model().is_some());
+    let model = |words: String| if modelled { format!("{words:>5}  ") } else { String::new() };
+    let heading = model("model".to_owned());
+    out.say_line(format_args!("fragment  {heading}chain  residues  atoms  first      last       where"))?;
     for fragment in fragments {
         let place = match fragment.mark() {
             Some(Mark::In) => "in",
@@ -56,8 +59,9 @@ pub fn run(file: &Path, aside: &Aside, out: &mut Console) -> Result<Status, Prob
         };
         let (first, last) = (fragment.residues().next(), fragment.residues().last());
         out.say_line(format_args!(
-            "{:8}  {:5}  {:8}  {:5}  {:9}  {:9}  {place}",
+            "{:8}  {}{:5}  {:8}  {:5}  {:9}  {:9}  {place}",
             fragment.number.0,
+            model(fragment.model().map_or(String::new(), |model| model.0.to_string())),
             fragment.chain(),
             fragment.residues().count(),
             fragment.atoms(),

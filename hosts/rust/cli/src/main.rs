@@ -8,6 +8,7 @@ mod draw;
 mod find;
 mod fragments;
 mod input;
+mod models;
 mod output;
 mod problem;
 mod same_atom;
@@ -34,7 +35,7 @@ fn run() -> Result<Status, Problem> {
         Command::Save { file, aside, out: to, tray, force } => {
             save::run(&file, &aside, &to, tray.as_deref(), force, &mut out)?
         }
-        Command::Draw { file, aside, svg, force } => draw::run(&file, &aside, &svg, force, &mut out)?,
+        Command::Draw { file, aside, model, svg, force } => draw::run(&file, &aside, model, &svg, force, &mut out)?,
     };
     out.finish()?;
     Ok(status)

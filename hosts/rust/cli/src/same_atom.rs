@@ -2,6 +2,7 @@
 
 use station::{piece, pieces};
 
+use crate::models;
 use crate::words::{shown, trimmed};
 
 /// Where the six fields stand that two lines may not share: atom name, alternate location and residue name, then chain,
@@ -15,12 +16,14 @@ fn label(piece: &[u8]) -> Option<(&[u8], &[u8])> {
     has_atom.then_some((piece.get(NAMES)?, piece.get(PLACE)?))
 }
 
-/// The first line with the atom of a later one: its number, the atom, and the line itself. The later one is refused, so
+/// The first line of the same model with the atom of a later one: its number, the atom, and the line itself. The later one is refused, so
 /// its own number is told already.
 pub fn above(text: &[u8], line: u64) -> Option<String> {
     let refused = usize::try_from(line.checked_sub(1)?).ok()?;
     let label = piece(text, line).and_then(label)?;
-    let (index, piece) = pieces(text).take(refused).enumerate().find(|(_, piece)| self::label(piece) == Some(label))?;
+    let first = usize::try_from(models::first_line(text, line)).ok()? - 1;
+    let mut above = pieces(text).take(refused).enumerate().skip(first);
+    let (index, piece) = above.find(|(_, piece)| self::label(piece) == Some(label))?;
     Some(format!("line {} has the same atom, {}:\n  |{}|", index + 1, atom(label), shown(piece)))
 }
 
@@ -64,6 +67,14 @@ mod tests {
             assert!(words.starts_with(expected), "{other}: {words}");
             assert_eq!(above(&text(&["HEADER", other, refused, refused]), 3), None, "{other}");
         }
+    }
+
+    #[test]
+    fn models_begin_afresh() {
+        let twin = "HETATM    1  O   HOH A   7";
+        let lines = ["HEADER", "MODEL        1", twin, "ENDMDL", "MODEL        2", twin, twin];
+        assert!(above(&text(&lines), 7).is_some_and(|words| words.starts_with("line 6 has the same atom")));
+        assert_eq!(above(&text(&lines), 6), None);
     }
 
     #[test]

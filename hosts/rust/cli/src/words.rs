@@ -5,19 +5,19 @@ use std::path::Path;
 
 use station::{piece, Refusal, Verdict};
 
-use crate::{counts, same_atom};
+use crate::{counts, models, same_atom};
 
 /// What the check found, in words: one line, and for a refusal the line that is refused and a cause.
 pub fn describe(name: &str, text: &[u8], verdict: &Verdict) -> String {
     let Some(refusal) = verdict.refusal else {
         let counts = &verdict.counts;
-        return format!(
-            "{name}: granted: {}, {}, {}, {}",
-            several(verdict.good_lines, "line"),
-            several(counts.coord, "atom"),
-            several(counts.ter, "TER"),
-            several(counts.conect, "CONECT"),
-        );
+        let coordinates = [several(counts.coord, "atom"), several(counts.ter, "TER")].join(", ");
+        let coordinates = match models::count(text) {
+            0 => coordinates,
+            count => format!("{} (the first: {coordinates})", several(count, "model")),
+        };
+        let [lines, bonds] = [several(verdict.good_lines, "line"), several(counts.conect, "CONECT")];
+        return format!("{name}: granted: {lines}, {coordinates}, {bonds}");
     };
     let mut words = format!("{name}: line {}: {refusal}", verdict.line);
     // There is no such line if the text is over too soon.
@@ -109,9 +109,11 @@ fn cause(text: &[u8], verdict: &Verdict, refusal: Refusal) -> Option<String> {
     let piece = piece(text, verdict.line)?;
     match refusal {
         Refusal::LENGTH | Refusal::NEWLINE | Refusal::BYTE => form(text, verdict, piece),
-        Refusal::NAME => piece.get(..6).map(unknown_name),
+        Refusal::NAME => piece.get(..6).map(|name| format!("the name is \"{}\"", shown(name))),
+        Refusal::PLACE => models::place(text, verdict.line),
+        Refusal::MODEL => models::number(text, verdict.line),
         Refusal::SAME_ATOM => same_atom::above(text, verdict.line),
-        Refusal::COUNT => counts::wrong(piece.first_chunk()?, &verdict.counts),
+        Refusal::COUNT => counts::wrong(piece.first_chunk()?, &verdict.counts, models::count(text) > 0),
         _ => None,
     }
 }
@@ -154,13 +156,6 @@ fn form(text: &[u8], verdict: &Verdict, piece: &[u8]) -> Option<String> {
     }
 }
 
-fn unknown_name(name: &[u8]) -> String {
-    match name {
-        b"MODEL " | b"ENDMDL" => "entries with models are not handled".to_owned(),
-        _ => format!("the name is \"{}\"", shown(name)),
-    }
-}
-
 #[cfg(test)]
 mod tests {
     use super::*;
@@ -187,7 +182,8 @@ mod tests {
             (header.clone() + "\n", "a newline too many"),
             (padded("HEADER  \t", "\n"), "column 9 holds a tab"),
             (padded("HEADER  x", "x"), "goes on past column 80"),
-            (header.clone() + &padded("MODEL        1", "\n"), "models are not handled"),
+            (header.clone() + &padded("MODEL        2", "\n"), "the number is 2, and this is model 1"),
+            (header.clone() + &padded("ENDMDL", "\n"), "there is no MODEL that it ends"),
             (header + &padded("DBREF", "\n"), "the name is \"DBREF \""),
             ("data_1ABC\n".to_owned(), "mmCIF"),
         ] {

@@ -4,12 +4,13 @@ use station::raw::{Library, Slot, Tally};
 
 use crate::chance::Chance;
 use crate::damage::{damage_line, damage_lines, damage_table, damage_text, recount, rename};
-use crate::entry::{entry, large_entry, named, text, typed_line, COORDINATES};
+use crate::entry::{entry, large_entry, modelled_entry, named, text, typed_line, Columns, COORDINATES};
 use crate::fence;
 use crate::findings::Findings;
 use crate::harness::Harness;
 use crate::jumping::some_jumps;
 use crate::lent::Sides;
+use crate::modelling::{self, list_of_one_serial};
 use crate::slots::to_reference;
 use crate::twinning;
 
@@ -38,13 +39,14 @@ fn run_with(mut harness: Harness, seed: u64, cases: impl Iterator<Item = u64>, s
 /// One case.
 fn one(harness: &mut Harness, chance: &mut Chance) {
     harness.guard = chance.byte();
-    match chance.below(16) {
+    match chance.below(18) {
         0..=4 if chance.once_in(150) => a_large_text(harness, chance),
         0..=4 => a_text(harness, chance),
         5..=8 => a_table(harness, chance),
         9..=12 => some_lines(harness, chance),
         13 => a_tally(harness, chance),
         14 => a_feed(harness, chance),
+        15 | 16 => a_modelled_text(harness, chance),
         _ => noise(harness, chance),
     }
 }
@@ -52,7 +54,7 @@ fn one(harness: &mut Harness, chance: &mut Chance) {
 /// A text, mostly damaged, in every call that takes one.
 fn a_text(harness: &mut Harness, chance: &mut Chance) {
     let mut lines = entry(chance);
-    let coordinates = lines.iter().filter(|line| named(&line[..], COORDINATES)).count();
+    let coordinates = slotted(&lines);
     if !chance.once_in(8) {
         for _ in 0..1 + chance.below(2) {
             damage_lines(chance, &mut lines);
@@ -65,34 +67,55 @@ fn a_text(harness: &mut Harness, chance: &mut Chance) {
     if chance.once_in(4) {
         damage_text(chance, &mut bytes);
     }
-    harness.check(&bytes);
+    in_every_call(harness, chance, &bytes, coordinates);
+}
+
+/// A text with models, mostly damaged by them, in every call that takes a text.
+fn a_modelled_text(harness: &mut Harness, chance: &mut Chance) {
+    let mut lines = modelled_entry(chance);
+    let coordinates = slotted(&lines);
+    if !chance.once_in(8) {
+        // Where there is no line for it, the entry stays as it is.
+        let _ = modelling::damage(chance, &mut lines);
+    }
+    in_every_call(harness, chance, &text(&lines), coordinates);
+}
+
+/// How many lines a table has slots for.
+fn slotted(lines: &[Columns]) -> usize {
+    lines.iter().filter(|line| named(&line[..], COORDINATES)).count()
+}
+
+/// The calls that take a text, with a table of about so many slots.
+fn in_every_call(harness: &mut Harness, chance: &mut Chance, bytes: &[u8], coordinates: usize) {
+    harness.check(bytes);
     let slots = (coordinates + chance.below(4)).saturating_sub(chance.below(3));
     let mut table = vec![any_slot(chance); slots];
     if chance.once_in(2) {
-        harness.load(&bytes, &mut table);
+        harness.load(bytes, &mut table);
     }
     match chance.below(3) {
         0 => {
             let (fragment, aside) = any_order(chance, 4);
-            harness.order(&bytes, &mut table, fragment, aside);
+            harness.order(bytes, &mut table, fragment, aside);
         }
         1 => {
             let room = any_room(chance, bytes.len());
-            harness.save(&bytes, &table, room);
+            harness.save(bytes, &table, room);
         }
         _ => {
             let room = any_room(chance, bytes.len());
-            harness.tray(&bytes, &table, room);
+            harness.tray(bytes, &table, room);
         }
     }
     if chance.once_in(2) {
         let list = any_list(chance, 4);
-        harness.arrange(&bytes, &mut table, &list);
+        harness.arrange(bytes, &mut table, &list);
     } else {
         let room = any_room(chance, coordinates);
-        harness.fragments(&bytes, &table, room);
+        harness.fragments(bytes, &table, room);
     }
-    some_jumps(harness, chance, &bytes);
+    some_jumps(harness, chance, bytes);
 }
 
 /// A text with many atoms, mostly with one of them twice, and far apart.
@@ -112,7 +135,8 @@ fn a_large_text(harness: &mut Harness, chance: &mut Chance) {
 
 /// An accepted entry and its table: orders, arrangements, damage, saving, drawing.
 fn a_table(harness: &mut Harness, chance: &mut Chance) {
-    let bytes = text(&entry(chance));
+    let lines = if chance.once_in(3) { modelled_entry(chance) } else { entry(chance) };
+    let bytes = text(&lines);
     let needed = reference::table::loaded(&bytes).map_or(0, |slots| slots.len());
     if chance.once_in(4) {
         let mut table = vec![any_slot(chance); any_room(chance, needed)];
@@ -130,6 +154,9 @@ fn a_table(harness: &mut Harness, chance: &mut Chance) {
     for _ in 0..chance.below(3) {
         let list = any_list(chance, fragments);
         harness.arrange(&bytes, &mut table, &list);
+    }
+    if chance.once_in(2) {
+        one_serial_aside(harness, chance, &bytes, &mut table[..needed]);
     }
     if chance.once_in(3) {
         damage_table(chance, &mut table);
@@ -152,6 +179,16 @@ fn a_table(harness: &mut Harness, chance: &mut Chance) {
         harness.frame(&table);
     }
     some_jumps(harness, chance, &bytes);
+}
+
+/// Sets aside what has one serial, in all models or in all but one: a bond may stay or go by it.
+fn one_serial_aside(harness: &mut Harness, chance: &mut Chance, text: &[u8], table: &mut [Slot]) {
+    let own: Vec<reference::Slot> = table.iter().map(to_reference).collect();
+    let mut numbers = vec![0; own.len()];
+    if reference::fragment_numbers(text, &own, &mut numbers).is_ok() {
+        let list = list_of_one_serial(chance, text, table, &numbers);
+        harness.arrange(text, table, &list);
+    }
 }
 
 /// An order and an arrangement, on a table that may be damaged or too short.
@@ -207,7 +244,7 @@ fn a_tally(harness: &mut Harness, chance: &mut Chance) {
     let [remark, het, helix, sheet, xform, coord, ter, conect, seq] = counts;
     let mut tally = Tally { remark, het, helix, sheet, xform, coord, ter, conect, seq };
     let mut lines = entry(chance);
-    lines.truncate(30);
+    lines.truncate(40);
     for line in &mut lines {
         if chance.once_in(4) {
             damage_line(chance, line);
@@ -217,7 +254,10 @@ fn a_tally(harness: &mut Harness, chance: &mut Chance) {
             1 => 6,
             _ => 80,
         };
-        harness.count_line(&mut tally, &line[..length]);
+        match chance.below(3) {
+            0 => harness.count_line(&mut tally, &line[..length]),
+            _ => harness.count_line_past(&mut tally, &line[..length], *chance.pick(&[0, 0, 1, 2, 255])),
+        }
     }
 }
 
@@ -283,6 +323,7 @@ fn any_slot(chance: &mut Chance) -> Slot {
         insertion: chance.byte(),
         element: [chance.byte(); 2],
         charge: [chance.byte(); 2],
+        model: *chance.pick(&[0, 1, 1, 2, 9_999, u32::MAX]),
     }
 }
 

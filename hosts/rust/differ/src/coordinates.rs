@@ -16,9 +16,9 @@ fn new_atom(chance: &mut Chance, labels: &mut BTreeSet<Label>, name: &str, seria
     }
 }
 
-/// Coordinates of an entry: closed runs, then a tail of heterogens. Answers the serials of the atoms.
-pub fn coordinates(chance: &mut Chance, lines: &mut Vec<Columns>, most: usize) -> Vec<i64> {
-    let (mut atoms, mut labels) = (Vec::new(), BTreeSet::new());
+/// Coordinates of an entry without models, or of a model: closed runs, then a tail of heterogens.
+pub fn coordinates(chance: &mut Chance, lines: &mut Vec<Columns>, most: usize) {
+    let mut labels = BTreeSet::new();
     let mut serial = if chance.once_in(20) { 99_000 } else { chance.within(0, 40) };
     let mut next = |chance: &mut Chance| {
         serial += if chance.once_in(4) { chance.within(1, 9) } else { 1 };
@@ -36,7 +36,6 @@ pub fn coordinates(chance: &mut Chance, lines: &mut Vec<Columns>, most: usize) -
             let name =
                 if index == first_atom || (index > first_atom && !chance.once_in(4)) { "ATOM" } else { "HETATM" };
             let serial = next(chance);
-            atoms.push(serial);
             lines.push(new_atom(chance, &mut labels, name, serial, &place));
         }
         lines.push(ter(next(chance), &place));
@@ -52,8 +51,6 @@ pub fn coordinates(chance: &mut Chance, lines: &mut Vec<Columns>, most: usize) -
             _ => {}
         }
         let serial = next(chance);
-        atoms.push(serial);
         lines.push(new_atom(chance, &mut labels, "HETATM", serial, &place));
     }
-    atoms
 }

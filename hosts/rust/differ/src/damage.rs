@@ -4,12 +4,13 @@ use station::raw::Slot;
 
 use crate::chance::Chance;
 use crate::entry::{line, master, named, put, put_number, Columns, ATOMS, COORDINATES, NAMES};
+use crate::modelling;
 use crate::names::{nearly, put_name};
 use crate::twinning;
 
 /// Names that are nearly known.
 const NEARLY: [&str; 17] = [
-    "ENDMDL", "MODEL ", "ANISOU", "DBREF ", "atom  ", " ATOM ", "TER  x", "ORIGX4", "SCALE0", "ORIGX ", "HETATN",
+    "ENDMD ", "MODEL1", "ANISOU", "DBREF ", "atom  ", " ATOM ", "TER  x", "ORIGX4", "SCALE0", "ORIGX ", "HETATN",
     "SITE  ", "      ", "LINK  ", "HET  A", "END  1", "CONEC ",
 ];
 
@@ -61,6 +62,7 @@ fn fields(line: &Columns) -> &'static [(usize, usize, Sort)] {
             (39, 40, Integer(-1, 1)), (42, 45, Bytes), (46, 48, Bytes), (50, 50, Bytes), (51, 54, NUMBER), (55, 55, Bytes),
             (57, 60, Bytes), (61, 63, Bytes), (65, 65, Bytes), (66, 69, NUMBER), (70, 70, Bytes),
         ],
+        b"MODEL " => &[(11, 14, Integer(1, 9_999))],
         b"CONECT" => &[(7, 11, SERIAL), (12, 16, SERIAL), (17, 21, SERIAL), (22, 26, SERIAL), (27, 31, SERIAL)],
         b"MASTER" => &[
             (11, 15, COUNT), (16, 20, FIXED), (21, 25, COUNT), (26, 30, COUNT), (31, 35, COUNT), (36, 40, FIXED),
@@ -199,7 +201,7 @@ fn try_damage(chance: &mut Chance, lines: &mut Vec<Columns>) -> Option<()> {
     }
     let at = chance.below(lines.len());
     let other = chance.below(lines.len());
-    match chance.below(31) {
+    match chance.below(34) {
         0 => {
             lines.remove(at);
         }
@@ -268,13 +270,14 @@ fn try_damage(chance: &mut Chance, lines: &mut Vec<Columns>) -> Option<()> {
         }
         22 | 23 => put_name(named_line(chance, lines, ATOMS)?, nearly(chance)),
         24..=29 => twinning::damage(chance, lines)?,
+        30..=32 => modelling::damage(chance, lines)?,
         _ => damage_line(chance, &mut lines[at]),
     }
     Some(())
 }
 
 /// One of the lines with these names, if there is one.
-fn one_of(chance: &mut Chance, lines: &[Columns], names: &[&[u8; 6]]) -> Option<usize> {
+pub fn one_of(chance: &mut Chance, lines: &[Columns], names: &[&[u8; 6]]) -> Option<usize> {
     let found: Vec<usize> = (0..lines.len()).filter(|&index| named(&lines[index], names)).collect();
     if found.is_empty() {
         None
@@ -284,13 +287,13 @@ fn one_of(chance: &mut Chance, lines: &[Columns], names: &[&[u8; 6]]) -> Option<
 }
 
 /// One of the lines with these names, to be changed.
-fn named_line<'a>(chance: &mut Chance, lines: &'a mut [Columns], names: &[&[u8; 6]]) -> Option<&'a mut Columns> {
+pub fn named_line<'a>(chance: &mut Chance, lines: &'a mut [Columns], names: &[&[u8; 6]]) -> Option<&'a mut Columns> {
     let at = one_of(chance, lines, names)?;
     lines.get_mut(at)
 }
 
 /// Repeats some lines right behind themselves.
-fn repeat(lines: &mut Vec<Columns>, from: usize, count: usize) {
+pub fn repeat(lines: &mut Vec<Columns>, from: usize, count: usize) {
     let end = (from + count).min(lines.len());
     let block = lines[from..end].to_vec();
     lines.splice(end..end, block);
@@ -339,7 +342,7 @@ pub fn damage_table(chance: &mut Chance, table: &mut [Slot]) {
     let at = chance.below(table.len());
     let other = chance.below(table.len());
     let slot = &mut table[at];
-    match chance.below(20) {
+    match chance.below(24) {
         0 => slot.serial = slot.serial.wrapping_add(1),
         1 => slot.number ^= 1,
         2 => slot.x ^= 1,
@@ -357,7 +360,10 @@ pub fn damage_table(chance: &mut Chance, table: &mut [Slot]) {
         15 => slot.insertion ^= 1 << chance.below(8),
         16 => slot.element[chance.below(2)] ^= 1 << chance.below(8),
         17 => slot.charge[chance.below(2)] ^= 1 << chance.below(8),
-        18 => table.swap(at, other),
+        18 | 19 => {
+            slot.model = *chance.pick(&[0, 1, 2, slot.model ^ 1, slot.model.wrapping_add(1), slot.model | 1 << 16])
+        }
+        20 => table.swap(at, other),
         _ => table[at] = table[other],
     }
 }

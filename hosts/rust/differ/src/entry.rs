@@ -2,6 +2,7 @@
 
 use crate::chance::Chance;
 use crate::coordinates::coordinates;
+use crate::modelling::{in_models, model, serials};
 use crate::names::{put_name, right};
 use crate::twinning::nearly;
 
@@ -13,10 +14,10 @@ pub const PIECE: usize = 81;
 
 /// The names of lines.
 #[rustfmt::skip]
-pub const NAMES: [&str; 27] = [
+pub const NAMES: [&str; 29] = [
     "HEADER", "TITLE ", "COMPND", "SOURCE", "KEYWDS", "EXPDTA", "AUTHOR", "REVDAT", "JRNL  ", "REMARK", "SEQRES", "HET   ",
-    "HELIX ", "SHEET ", "CRYST1", "ORIGX1", "ORIGX2", "ORIGX3", "SCALE1", "SCALE2", "SCALE3", "ATOM  ", "HETATM", "TER   ",
-    "CONECT", "MASTER", "END   ",
+    "HELIX ", "SHEET ", "CRYST1", "ORIGX1", "ORIGX2", "ORIGX3", "SCALE1", "SCALE2", "SCALE3", "MODEL ", "ATOM  ", "HETATM",
+    "TER   ", "ENDMDL", "CONECT", "MASTER", "END   ",
 ];
 
 /// The names of lines that a table has slots for.
@@ -67,7 +68,8 @@ pub fn put_number(line: &mut Columns, from: usize, to: usize, number: i64) {
     put(line, from, format!("{number:width$}").as_bytes());
 }
 
-fn put_real(line: &mut Columns, from: usize, to: usize, decimals: usize, value: i64) {
+/// Puts a real right-justified, from the whole number of its last place.
+pub fn put_real(line: &mut Columns, from: usize, to: usize, decimals: usize, value: i64) {
     let width = to + 1 - from;
     let scale = 10i64.pow(decimals as u32);
     let (whole, rest) = (value.abs() / scale, value.abs() % scale);
@@ -201,8 +203,15 @@ pub fn conect(chance: &mut Chance, serial: i64, atoms: &[i64]) -> Option<Columns
     Some(line)
 }
 
-/// The MASTER line of these lines.
+/// The MASTER line of these lines: of the coordinates and TER lines those before the first ENDMDL are counted.
 pub fn master(lines: &[Columns]) -> Columns {
+    let end = lines.iter().position(|line| named(line, &[b"ENDMDL"])).unwrap_or(lines.len());
+    let past = |(at, line): (usize, &Columns)| (at < end || !named(line, COORDINATES)).then_some(*line);
+    master_of_all(&lines.iter().enumerate().filter_map(past).collect::<Vec<Columns>>())
+}
+
+/// The MASTER line of these lines, all of them counted.
+pub fn master_of_all(lines: &[Columns]) -> Columns {
     let count = |names: &[&str]| {
         lines.iter().filter(|line| names.iter().any(|name| line[..6].trim_ascii_end() == name.as_bytes())).count()
             as i64
@@ -276,22 +285,33 @@ fn head(chance: &mut Chance) -> Vec<Columns> {
 
 /// An accepted entry.
 pub fn entry(chance: &mut Chance) -> Vec<Columns> {
-    let most = if chance.once_in(50) { 60 } else { 6 };
-    entry_of_runs(chance, most)
+    let (most, modelled) = (if chance.once_in(50) { 60 } else { 6 }, chance.once_in(3));
+    entry_of_runs(chance, most, modelled)
+}
+
+/// An accepted entry with models.
+pub fn modelled_entry(chance: &mut Chance) -> Vec<Columns> {
+    entry_of_runs(chance, 6, true)
 }
 
 /// An accepted entry of some thousand lines: what it takes to look back over many.
 pub fn large_entry(chance: &mut Chance) -> Vec<Columns> {
-    entry_of_runs(chance, 1_500)
+    let modelled = chance.once_in(4);
+    entry_of_runs(chance, 1_500, modelled)
 }
 
-/// An accepted entry with at most so many atoms in a run.
-fn entry_of_runs(chance: &mut Chance, most: usize) -> Vec<Columns> {
+/// An accepted entry with at most so many atoms in a run, with models or without.
+fn entry_of_runs(chance: &mut Chance, most: usize, modelled: bool) -> Vec<Columns> {
     let mut lines = head(chance);
-    let atoms = coordinates(chance, &mut lines, most);
+    let head = lines.len();
+    coordinates(chance, &mut lines, most);
     for _ in 0..chance.below(4) {
         nearly(chance, &mut lines);
     }
+    if modelled {
+        in_models(chance, &mut lines, head, most);
+    }
+    let atoms = serials(&lines);
     if chance.once_in(2) {
         for &serial in &atoms {
             if chance.once_in(3) {
@@ -322,7 +342,7 @@ pub fn typed_line(chance: &mut Chance) -> Columns {
     let chain = chain(chance);
     let place = residue(chance, chain);
     let serial = number(chance, 1, 99_999);
-    match chance.below(10) {
+    match chance.below(12) {
         0..=2 => atom(chance, "ATOM", serial, &place),
         3 => atom(chance, "HETATM", serial, &place),
         4 => ter(serial, &place),
@@ -345,6 +365,8 @@ pub fn typed_line(chance: &mut Chance) -> Columns {
             }
             line
         }
+        9 => model(number(chance, 1, 9_999)),
+        10 => line("ENDMDL"),
         _ => line("END"),
     }
 }

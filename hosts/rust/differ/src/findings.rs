@@ -3,7 +3,7 @@
 use std::collections::BTreeMap;
 
 use crate::names::Form;
-use crate::{jumps, twins};
+use crate::{jumps, models, twins};
 
 /// Which call was made.
 #[derive(Clone, Copy, Debug, PartialEq, Eq, PartialOrd, Ord)]
@@ -23,11 +23,12 @@ pub enum Call {
     Stroke,
     Frame,
     CountLine,
+    CountLinePast,
 }
 
 impl Call {
     /// All calls.
-    pub const ALL: [Call; 14] = [
+    pub const ALL: [Call; 15] = [
         Call::Check,
         Call::Load,
         Call::Order,
@@ -42,6 +43,7 @@ impl Call {
         Call::Stroke,
         Call::Frame,
         Call::CountLine,
+        Call::CountLinePast,
     ];
 
     /// The calls in which every form of an atom's name has to be met.
@@ -50,16 +52,18 @@ impl Call {
     /// The numbers that the call can answer. A jump can answer any line: 1 stands for them all.
     pub fn numbers(self) -> &'static [u64] {
         match self {
-            Call::Check => &[0, 1, 2, 3, 4, 5, 6, 7, 8, 9, 10, 11, 12, 21],
-            Call::Load => &[0, 1, 2, 3, 4, 5, 6, 7, 8, 9, 10, 11, 12, 13, 21],
-            Call::Order => &[0, 1, 2, 3, 4, 5, 6, 7, 8, 9, 10, 11, 12, 13, 15, 16, 18, 21],
-            Call::Arrange => &[0, 1, 2, 3, 4, 5, 6, 7, 8, 9, 10, 11, 12, 13, 15, 18, 21],
-            Call::Fragments | Call::Save | Call::Tray => &[0, 1, 2, 3, 4, 5, 6, 7, 8, 9, 10, 11, 12, 13, 17, 18, 21],
+            Call::Check => &[0, 1, 2, 3, 4, 5, 6, 7, 8, 9, 10, 11, 12, 21, 22],
+            Call::Load => &[0, 1, 2, 3, 4, 5, 6, 7, 8, 9, 10, 11, 12, 13, 21, 22],
+            Call::Order => &[0, 1, 2, 3, 4, 5, 6, 7, 8, 9, 10, 11, 12, 13, 15, 16, 18, 21, 22],
+            Call::Arrange => &[0, 1, 2, 3, 4, 5, 6, 7, 8, 9, 10, 11, 12, 13, 15, 18, 21, 22],
+            Call::Fragments | Call::Save | Call::Tray => {
+                &[0, 1, 2, 3, 4, 5, 6, 7, 8, 9, 10, 11, 12, 13, 17, 18, 21, 22]
+            }
             Call::SlotOfLine => &[0, 1, 3, 4, 6],
             Call::RewriteLine => &[0, 1, 3, 4, 6, 17],
             Call::Find | Call::Dot | Call::Stroke => &[0, 1],
             Call::Frame => &[0, 19],
-            Call::CountLine => &[0, 4, 14],
+            Call::CountLine | Call::CountLinePast => &[0, 4, 14],
         }
     }
 
@@ -89,6 +93,8 @@ pub struct Findings {
     pub forms: Met<(Call, Form)>,
     /// How often a check met a kind of pairs of atoms.
     pub twins: Met<twins::Kind>,
+    /// How often a call met a kind of models.
+    pub models: Met<models::Kind>,
     /// How often a jump was of a kind.
     pub jumps: Met<jumps::Kind>,
 }
@@ -106,7 +112,7 @@ const SHOWN: usize = 20;
 
 impl Findings {
     /// What a run has to come across and this one never did, in words: a number that a call can answer, a form of an atom's
-    /// name, a kind of pairs of atoms, a kind of jumps.
+    /// name, a kind of pairs of atoms, of models or of jumps.
     pub fn missing(&self) -> Vec<String> {
         let numbers = Call::ALL.into_iter().flat_map(|call| call.numbers().iter().map(move |&number| (call, number)));
         let forms = Call::NAMED.into_iter().flat_map(|call| Form::ALL.map(|form| (call, form)));
@@ -114,9 +120,17 @@ impl Findings {
             unmet(numbers, &self.reached, |(call, number)| format!("{call:?} never answered {number}")),
             unmet(forms, &self.forms, |(call, form)| format!("{call:?} never met a name {form:?}")),
             unmet(twins::Kind::ALL, &self.twins, |kind| format!("Check never met a pair of atoms {kind:?}")),
+            unmet(models::Kind::ALL.iter().copied(), &self.models, |kind| format!("No call met models {kind:?}")),
             unmet(jumps::Kind::ALL, &self.jumps, |kind| format!("Find never met a jump {kind:?}")),
         ]
         .concat()
+    }
+
+    /// Takes down kinds of models.
+    pub fn note_models(&mut self, kinds: impl IntoIterator<Item = models::Kind>) {
+        for kind in kinds {
+            *self.models.entry(kind).or_insert(0) += 1;
+        }
     }
 
     /// Takes down one call of a case: the number that is due, the number that came, and where memory is wrong.

@@ -1,11 +1,13 @@
 //! One call through the C names and through the reference, and all that may differ.
 
 use reference::{FragmentNumber, Mark, Refusal, Serial};
-use station::raw::{Library, Slot, Tally};
+use station::raw::{Library, Slot};
 
 use crate::findings::{Call, Findings};
 use crate::jumps;
 use crate::lent::{Lent, Sides};
+use crate::modelled;
+use crate::models;
 use crate::names::{put_name, Form};
 use crate::slots::{to_library, to_reference};
 use crate::twins::{self, Kind};
@@ -24,7 +26,7 @@ pub struct Harness {
     pub sides: Sides,
 }
 
-fn number<T>(answer: &Result<T, Refusal>) -> u32 {
+pub(crate) fn number<T>(answer: &Result<T, Refusal>) -> u32 {
     answer.as_ref().map_or_else(|refusal| refusal.number(), |_| 0)
 }
 
@@ -56,11 +58,11 @@ impl Harness {
         Slot { serial, kind: self.guard, mark: self.guard, name: [self.guard; 4], ..Slot::default() }
     }
 
-    fn lend<T: Copy + PartialEq>(&self, content: &[T], guard: T) -> Lent<T> {
+    pub(crate) fn lend<T: Copy + PartialEq>(&self, content: &[T], guard: T) -> Lent<T> {
         Lent::new(content, guard, self.sides)
     }
 
-    fn lend_text(&self, text: &[u8]) -> Lent<u8> {
+    pub(crate) fn lend_text(&self, text: &[u8]) -> Lent<u8> {
         self.lend(text, self.guard)
     }
 
@@ -80,7 +82,13 @@ impl Harness {
     }
 
     /// Takes down one call: the number that is due, the number that came, and where memory is wrong.
-    fn note(&mut self, call: Call, due: impl Into<u64>, came: impl Into<u64>, memory: &[(&str, Option<isize>)]) {
+    pub(crate) fn note(
+        &mut self,
+        call: Call,
+        due: impl Into<u64>,
+        came: impl Into<u64>,
+        memory: &[(&str, Option<isize>)],
+    ) {
         self.findings.note(self.case, call, due.into(), came.into(), memory);
     }
 
@@ -129,6 +137,7 @@ impl Harness {
         self.note(Call::Check, due, came, &[("text", lent.first_wrong()), ("answer", answer.first_wrong())]);
         self.note_forms(text, due, verdict.line);
         self.note_twins(text, due, verdict.line);
+        self.findings.note_models(models::met(text, due, verdict.line));
         due
     }
 
@@ -161,6 +170,9 @@ impl Harness {
         settle(table, &own, &mut slots);
         let memory = [("text", lent.first_wrong()), ("table", slots.first_wrong())];
         self.note(Call::Order, number(&answer), came, &memory);
+        if answer == Err(Refusal::OtherTable) {
+            self.findings.note_models(modelled::of_other_table(text, &own));
+        }
         number(&answer)
     }
 
@@ -256,6 +268,13 @@ impl Harness {
             ("count", count.first_wrong()),
         ];
         self.note(call, number(&answer), came, &memory);
+        if let Ok(bytes) = answer {
+            let written = &out.due()[..bytes];
+            self.findings.note_models(match call {
+                Call::Save => modelled::of_saved(text, &own, written),
+                _ => modelled::of_tray(written),
+            });
+        }
         number(&answer)
     }
 
@@ -276,6 +295,7 @@ impl Harness {
             &[("line", lent.first_wrong()), ("slot", slot.first_wrong())],
         );
         self.note_form(Call::SlotOfLine, line, number(&answer));
+        self.findings.note_models(modelled::of_slot(line, number(&answer)));
         number(&answer)
     }
 
@@ -292,6 +312,7 @@ impl Harness {
             came,
             &[("line", lent.first_wrong()), ("output", out.first_wrong())],
         );
+        self.findings.note_models(modelled::of_line(line, number(&answer)));
         number(&answer)
     }
 
@@ -363,32 +384,5 @@ impl Harness {
             came,
             &[("table", slots.first_wrong()), ("doubles", out.first_wrong())],
         );
-    }
-
-    /// Counts a line in a tally, which then holds what is due.
-    pub fn count_line(&mut self, tally: &mut Tally, line: &[u8]) {
-        let lent = self.lend_text(line);
-        let guard = u32::from_ne_bytes([self.guard; 4]);
-        let guard = Tally { remark: guard, seq: guard, ..Tally::default() };
-        let mut counts = self.lend(&[*tally], guard);
-        // SAFETY: all that is lent is as long as said.
-        let came = unsafe { (self.library.count_line)(counts.start_mut(), lent.start(), lent.len()) };
-        let mut own = reference::Tally {
-            remark: tally.remark.into(),
-            het: tally.het.into(),
-            helix: tally.helix.into(),
-            sheet: tally.sheet.into(),
-            xform: tally.xform.into(),
-            coord: tally.coord.into(),
-            ter: tally.ter.into(),
-            conect: tally.conect.into(),
-            seq: tally.seq.into(),
-        };
-        let answer = reference::count_line(&mut own, line);
-        let [remark, het, helix, sheet, xform, coord, ter, conect, seq] = own.counts().map(|count| count as u32);
-        *tally = Tally { remark, het, helix, sheet, xform, coord, ter, conect, seq };
-        counts.due()[0] = *tally;
-        let memory = [("line", lent.first_wrong()), ("tally", counts.first_wrong())];
-        self.note(Call::CountLine, number(&answer), came, &memory);
     }
 }

@@ -6,6 +6,7 @@ use std::collections::BTreeSet;
 use reference::{Record, Refusal, Serial};
 
 use crate::entry::{named, ATOMS, PIECE};
+use crate::models::MODEL;
 
 /// Why a line is passed over that has the serial in columns 7-11.
 #[derive(Clone, Copy, Debug, PartialEq, Eq, PartialOrd, Ord)]
@@ -37,6 +38,10 @@ pub enum Kind {
     LastLine,
     /// To the first of several lines that would do.
     Again,
+    /// To the first of several models that have the serial, in a text that is granted.
+    OfSeveral,
+    /// To a later model, in a text that is granted: the first has not the serial.
+    OfLater,
     /// In a text that is granted.
     Granted,
     /// In a text that is refused, above the line that is.
@@ -74,8 +79,8 @@ use Kind::*;
 impl Kind {
     /// All kinds.
     #[rustfmt::skip]
-    pub const ALL: [Kind; 30] = [
-        Atom, Hetatm, FirstLine, LastLine, Again, Granted, Good, Refused, Behind,
+    pub const ALL: [Kind; 32] = [
+        Atom, Hetatm, FirstLine, LastLine, Again, OfSeveral, OfLater, Granted, Good, Refused, Behind,
         Above(Why::End), Above(Why::Byte), Above(Why::Field), Above(Why::Ter), Above(Why::Conect), Above(Why::Name),
         Alone(Why::End), Alone(Why::Byte), Alone(Why::Field), Alone(Why::Ter), Alone(Why::Conect), Alone(Why::Name),
         Zero, TooLarge, Largest, Nowhere, Rest, AtomInRest, OtherEnd, NoLine, Shifted,
@@ -128,10 +133,14 @@ fn to_line(text: &[u8], serial: u32, line: usize) -> Vec<Kind> {
     };
     let below = &text[PIECE * line..];
     let name = if text[PIECE * (line - 1)..].starts_with(b"ATOM") { Atom } else { Hetatm };
+    let again = reference::find(below, Serial(serial)).line > 0;
+    let models = text[..PIECE * line].chunks(PIECE).filter(|piece| named(piece, &[MODEL])).count();
     let others = [
         (FirstLine, line == 1),
         (LastLine, below.len() < PIECE),
-        (Again, reference::find(below, Serial(serial)).line > 0),
+        (Again, again),
+        (OfSeveral, place == Granted && again),
+        (OfLater, place == Granted && models > 1),
     ];
     [name, place].into_iter().chain(those_met(&others)).collect()
 }
@@ -186,6 +195,12 @@ mod tests {
         let hetatm = HIT.replace("ATOM  ", "HETATM");
         let master = "MASTER        0    0    0    0    0    0    0    0    1    0    0    0";
         assert_eq!(kinds(&["HEADER", &hetatm, master, "END"]), [Hetatm, Granted]);
+        let (one, two) = ("MODEL        1", "MODEL        2");
+        let both = ["HEADER", one, &hetatm, "ENDMDL", two, &hetatm, "ENDMDL", master, "END"];
+        assert_eq!(kinds(&both), [Hetatm, Again, OfSeveral, Granted]);
+        let empty = master.replace("    1    0    0    0", "    0    0    0    0");
+        let later = ["HEADER", one, "ENDMDL", two, &hetatm, "ENDMDL", &empty, "END"];
+        assert_eq!(kinds(&later), [Hetatm, OfLater, Granted]);
     }
 
     #[test]

@@ -1,9 +1,9 @@
 //! Holds the proved library against the reference, call by call, through the C names.
 //!
-//! A case is made up by a seeded source of chance: an entry that obeys the rules, damaged or not; a table, ordered about
-//! or damaged; a single line; a tally; slots to draw. Texts are jumped in. Each call is made on both sides with the same input.
-//! Compared are the number, the counts and all memory lent to the call, with guards at its sides or fences that may not be
-//! touched.
+//! A case is made up by a seeded source of chance: an entry that obeys the rules, with models or without, damaged or not; a
+//! table, ordered about or damaged; a single line; a tally; slots to draw. Texts are jumped in. Each call is made on both sides
+//! with the same input. Compared are the number, the counts and all memory lent to the call, with guards at its sides or fences
+//! that may not be touched.
 
 #![warn(missing_docs)]
 
@@ -18,9 +18,13 @@ pub mod harness;
 mod jumping;
 pub mod jumps;
 pub mod lent;
+mod modelled;
+mod modelling;
+pub mod models;
 pub mod names;
 pub mod slots;
 mod sweep;
+mod tallying;
 mod twinning;
 pub mod twins;
 

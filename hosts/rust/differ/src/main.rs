@@ -5,7 +5,7 @@ use std::process::ExitCode;
 use std::time::Instant;
 
 use differ::names::Form;
-use differ::{jumps, twins, Call, Findings, Met};
+use differ::{jumps, models, twins, Call, Findings, Met};
 use station::raw::LINKED;
 
 const HELP: &str = "\
@@ -18,10 +18,11 @@ usage: differ [--cases N] [--seed S] [--only CASE]
   --only CASE  this one case of the seed, by its number
 
 The cases are followed by a sweep: every byte in every column of a line of each kind, every element, atoms' names over a few
-bytes, two atoms that differ in one column, every narrow number, every length, every name, jumps to every serial.
+bytes, two atoms that differ in one column, MODEL and ENDMDL lines in a text, every narrow number, every length, every
+name, jumps to every serial.
 
-Exit status: 0 no difference, 1 a difference, or a number of refusal, a form of an atom's name, a kind of pairs of atoms or a
-kind of jumps that was not reached, 2 wrong arguments, 3 the library touched memory that was not lent to it.
+Exit status: 0 no difference, 1 a difference, or a number of refusal, a form of an atom's name, a kind of pairs of atoms, of
+models or of jumps that was not reached, 2 wrong arguments, 3 the library touched memory that was not lent to it.
 Runs of fewer than 5000 cases do not ask that every number, form and kind be reached.
 ";
 
@@ -70,6 +71,7 @@ fn print(findings: &Findings) {
         println!("{:12} names {forms}", format!("{call:?}"));
     }
     println!("{:12} pairs {}", "Check", counts(&twins::Kind::ALL, &findings.twins, |kind| *kind));
+    println!("{:12} models {}", "All", counts(models::Kind::ALL, &findings.models, |kind| *kind));
     println!("{:12} jumps {}", "Find", counts(&jumps::Kind::ALL, &findings.jumps, |kind| *kind));
     for difference in &findings.shown {
         println!("{difference}");

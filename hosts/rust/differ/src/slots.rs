@@ -22,6 +22,7 @@ macro_rules! with_fields_of {
             insertion: $slot.insertion,
             element: $slot.element,
             charge: $slot.charge,
+            model: $slot.model,
         }
     };
 }

@@ -1,6 +1,6 @@
 //! What is few enough to be tried out in full: every byte in every column of a line of each kind, every element, every name
-//! of an atom over a few bytes, two atoms that differ in one column, every number of the narrow fields, every length, every
-//! name of a line, jumps in lines with every byte in every column and to every serial.
+//! of an atom over a few bytes, two atoms that differ in one column, MODEL and ENDMDL lines in a text, every number of the
+//! narrow fields, every length, every name of a line, jumps in lines with every byte in every column and to every serial.
 
 use station::raw::{Library, Slot, Tally};
 
@@ -11,7 +11,7 @@ use crate::jumps::serial_of;
 use crate::names::put_name;
 
 /// Good lines of the typed kinds.
-const LINES: [&str; 13] = [
+const LINES: [&str; 16] = [
     "ATOM     32  N  AARG A  -3      11.281  86.699  94.383  0.50 35.88           N",
     "HETATM99999 CA    CA b9999Z   -999.9999999.999  -0.001  1.00-99.99          CA2+",
     "ATOM      1  D1*  DG 0   0       0.000   0.000   0.000  0.00  0.00           D1-",
@@ -25,6 +25,9 @@ const LINES: [&str; 13] = [
     "MASTER       40    0    1    2    3    0    0    6  768    2   20   18",
     "END",
     "ATOM    137 HH11 ARG A  12      -0.500   1.250  12.000  1.00 10.00           H",
+    "MODEL        1",
+    "MODEL     9999",
+    "ENDMDL",
 ];
 
 /// An atom as ATOM and as HETATM, its TER, and once more.
@@ -48,6 +51,7 @@ pub fn sweep(library: Library) -> Findings {
     elements(&mut harness);
     atoms(&mut harness);
     twins(&mut harness);
+    models(&mut harness);
     numbers(&mut harness);
     names(&mut harness);
     jumps(&mut harness);
@@ -121,6 +125,26 @@ fn twins(harness: &mut Harness) {
     }
 }
 
+/// A text of two models, every byte in every column of each of its MODEL and ENDMDL lines; and with every number on the
+/// second MODEL.
+fn models(harness: &mut Harness) {
+    let lines = ["HEADER", "MODEL        1", TWINS[1], "ENDMDL", "MODEL        2", TWINS[1], "ENDMDL"].map(line);
+    let mut lines = lines.to_vec();
+    lines.extend([master(&lines), line("END")]);
+    let base = text(&lines);
+    for at in [1, 3, 4, 6].into_iter().flat_map(|index| PIECE * index..PIECE * (index + 1)) {
+        for byte in 0..=255 {
+            let mut bytes = base.clone();
+            bytes[at] = byte;
+            harness.check(&bytes);
+        }
+    }
+    for number in -999..=9_999 {
+        put_number(&mut lines[4], 11, 14, number);
+        harness.check(&text(&lines));
+    }
+}
+
 /// Every number of the narrow fields, with one more on either side.
 fn numbers(harness: &mut Harness) {
     for (base, from, to, low, high) in [
@@ -137,6 +161,8 @@ fn numbers(harness: &mut Harness) {
         (9, 27, 31, -10, 2_000),
         (10, 16, 20, -10, 100),
         (10, 66, 70, -10, 2_000),
+        (13, 11, 14, -999, 9_999),
+        (13, 10, 14, 9_990, 10_010),
     ] {
         for number in low..=high {
             let mut line = line(LINES[base]);
@@ -159,10 +185,12 @@ fn names(harness: &mut Harness) {
                 let mut bytes = name.as_bytes().to_vec();
                 bytes[at] = byte;
                 harness.count_line(&mut Tally::default(), &bytes);
+                harness.count_line_past(&mut Tally::default(), &bytes, 1);
             }
         }
         for length in 0..=6 {
             harness.count_line(&mut Tally::default(), &name.as_bytes()[..length]);
+            harness.count_line_past(&mut Tally::default(), &name.as_bytes()[..length], 1);
         }
         harness.check(&[line(name).as_slice(), b"\n"].concat());
     }

@@ -4,6 +4,7 @@ use std::collections::BTreeSet;
 
 use crate::chance::Chance;
 use crate::entry::{named, put, put_number, Columns, ATOMS};
+use crate::models::ENDMDL;
 use crate::names::{put_name, right, Named};
 use crate::twins::{label, put_label, residue, Label, ALTERNATE, CHAIN, INSERTION, NUMBER, RESIDUE};
 
@@ -28,14 +29,30 @@ fn atoms(lines: &[Columns]) -> Vec<usize> {
     (0..lines.len()).filter(|&at| named(&lines[at], ATOMS)).collect()
 }
 
-/// Whether a TER comes further below: the chain of such a line is that of its run.
-fn closed(lines: &[Columns], at: usize) -> bool {
-    lines[at..].iter().any(|line| named(line, &[b"TER   "]))
+/// The atoms of one of the models, or of an entry without.
+fn atoms_of_one(chance: &mut Chance, lines: &[Columns]) -> Vec<usize> {
+    let mut from = 0;
+    let models = lines.split_inclusive(|line| named(line, &[ENDMDL])).map(|part| {
+        from += part.len();
+        atoms(part).into_iter().map(|at| at + from - part.len()).collect::<Vec<usize>>()
+    });
+    let filled: Vec<Vec<usize>> = models.filter(|atoms| !atoms.is_empty()).collect();
+    if filled.is_empty() {
+        Vec::new()
+    } else {
+        chance.pick(&filled).clone()
+    }
 }
 
-/// Two of the atoms, the upper one first: neighbours, the first and the last, or any.
+/// Whether a TER comes further below in the model: the chain of such a line is that of its run.
+fn closed(lines: &[Columns], at: usize) -> bool {
+    let mut below = lines[at..].iter().take_while(|line| !named(&line[..], &[ENDMDL]));
+    below.any(|line| named(line, &[b"TER   "]))
+}
+
+/// Two of the atoms of a model, the upper one first: neighbours, the first and the last, or any.
 fn two(chance: &mut Chance, lines: &[Columns]) -> Option<(usize, usize)> {
-    let atoms = atoms(lines);
+    let atoms = atoms_of_one(chance, lines);
     let (&first, &last) = (atoms.first()?, atoms.last()?);
     let (from, to) = match chance.below(4) {
         0 => {
@@ -79,7 +96,7 @@ fn right_run(lines: &[Columns], from: usize, to: usize) -> Option<()> {
 
 /// Damages an entry by twins that are as far apart as they can be, or nearly so.
 pub fn damage_far(chance: &mut Chance, lines: &mut [Columns]) -> Option<()> {
-    let atoms = atoms(lines);
+    let atoms = atoms_of_one(chance, lines);
     let near = 1 + atoms.len() / 10;
     let from = *atoms.get(chance.below(near))?;
     let to = *atoms.iter().rev().nth(chance.below(near)).filter(|&&to| from < to)?;
@@ -88,9 +105,9 @@ pub fn damage_far(chance: &mut Chance, lines: &mut [Columns]) -> Option<()> {
     Some(())
 }
 
-/// Two atoms, the lower one behind another in a run of another chain.
+/// Two atoms of a model, the lower one behind another in a run of another chain.
 fn in_the_wrong_run(chance: &mut Chance, lines: &[Columns]) -> Option<(usize, usize)> {
-    let atoms = atoms(lines);
+    let atoms = atoms_of_one(chance, lines);
     let behind = |to: &usize| *to > 0 && named(&lines[to - 1], ATOMS) && closed(lines, *to);
     let chain = |at: usize| lines[at][21];
     let pairs = atoms.iter().filter(|to| behind(to)).flat_map(|&to| {

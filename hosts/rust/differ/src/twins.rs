@@ -5,6 +5,7 @@ use std::collections::BTreeSet;
 use std::ops::Range;
 
 use crate::entry::{named, put, Columns, ATOMS};
+use crate::models::{model_start, models};
 
 /// The six fields of an atom, columns 13-20 and 22-27 of its line.
 pub type Label = [u8; 14];
@@ -116,12 +117,13 @@ fn is_ter(line: &Columns) -> bool {
     named(line, &[b"TER   "])
 }
 
-/// The first line above with the atom of this one.
+/// The first line above, in the same model, with the atom of this one.
 pub fn twin_above(lines: &[&Columns], at: usize) -> Option<usize> {
     let own = lines.get(at).filter(|line| has_atom(line))?;
     // As `label`, but quick: texts may be long.
     let same = |line: &&Columns| line[12..20] == own[12..20] && line[21..27] == own[21..27];
-    lines[..at].iter().position(|line| same(line) && has_atom(line))
+    let start = model_start(lines, at);
+    lines[start..at].iter().position(|line| same(line) && has_atom(line)).map(|above| start + above)
 }
 
 /// The kinds of pairs that a text shows when it is answered with this number and line. `BondBelow` is not among them: it
@@ -129,7 +131,9 @@ pub fn twin_above(lines: &[&Columns], at: usize) -> Option<usize> {
 pub fn met(text: &[u8], number: u32, line: u64) -> BTreeSet<Kind> {
     let lines = lines(text);
     if number == 0 {
-        return between_all(&lines);
+        let models = models(&lines);
+        let parts = if models.is_empty() { vec![&lines[..]] } else { models };
+        return parts.into_iter().flat_map(between_all).collect();
     }
     let at = (line as usize).saturating_sub(1);
     match (number, twin_above(&lines, at)) {
@@ -169,7 +173,7 @@ fn of_twins(lines: &[&Columns], first: usize, second: usize) -> BTreeSet<Kind> {
 /// Texts with more atoms are not looked through for all pairs: there are too many.
 const FEW: usize = 300;
 
-/// The kinds of all pairs of a text without twins.
+/// The kinds of all pairs of a text without models, or of a model, that has no twins.
 fn between_all(lines: &[&Columns]) -> BTreeSet<Kind> {
     let labels = |of: fn(&Columns) -> bool| -> Vec<Label> {
         lines.iter().filter(|line| of(line)).map(|line| label(line)).collect()

@@ -33,6 +33,15 @@ impl Listed {
         Some(Listed { file, number, line, good_lines, accepted })
     }
 
+    /// What is to be answered to the same coordinates as two models, if the entry is accepted: the first is counted, and each
+    /// has all fragments.
+    pub fn in_two_models(&self, coordinate_lines: usize) -> Option<Listed> {
+        let (coordinates, fragments) = self.accepted?;
+        let good_lines = self.good_lines + coordinate_lines as u64 + 4;
+        let accepted = Some((coordinates, 2 * fragments));
+        Some(Listed { file: format!("{} twice", self.file), number: 0, line: 0, good_lines, accepted })
+    }
+
     /// The text of the entry. There is no library for gzip here, so the command has to do.
     pub fn unpacked(&self) -> Result<Vec<u8>, String> {
         let output = Command::new("gzip").arg("-dc").arg(folder().join(&self.file)).output();

@@ -4,24 +4,23 @@ use std::collections::BTreeMap;
 use std::fmt::Display;
 
 use differ::chance::Chance;
-use differ::entry::{named, ATOMS, COORDINATES};
-use differ::jumps::serial_of;
+use differ::entry::{named, COORDINATES};
+use differ::models::ENDS;
 use differ::slots::to_reference;
 use reference::{Mark, Serial, Slot};
 use station::{pieces, Entry, FragmentNumber, Jump, Line, Refusal, Table};
 
 use crate::entries::Listed;
+use crate::texts::{atoms, choices, damaged, with_twins};
 
 const SEED: u64 = 1;
-/// How many sets of fragments are made up.
-const SETS: usize = 3;
 /// How many times an entry is damaged.
 const DAMAGES: usize = 60;
 /// How many times an accepted entry is given one of its atoms twice.
 const TWINS: usize = 20;
 
 /// The other lines with typed columns.
-const OTHER_TYPED: [&[u8; 6]; 5] = [b"HELIX ", b"SHEET ", b"CONECT", b"MASTER", b"END   "];
+const OTHER_TYPED: [&[u8; 6]; 7] = [b"HELIX ", b"SHEET ", b"MODEL ", b"ENDMDL", b"CONECT", b"MASTER", b"END   "];
 
 /// A line without its newline.
 fn columns(piece: &[u8]) -> &[u8] {
@@ -57,12 +56,6 @@ fn own_by_number<T>(result: Result<T, reference::Refusal>) -> Result<T, u32> {
     result.map_err(reference::Refusal::number)
 }
 
-/// The lines of a text that have the name of an atom, from 1, each with its serial.
-fn atoms(text: &[u8]) -> Vec<(u64, u32)> {
-    let lines = pieces(text).zip(1..).filter(|(piece, _)| named(piece, ATOMS));
-    lines.filter_map(|(piece, line)| Some((line, serial_of(piece)?))).collect()
-}
-
 /// Save or tray of the reference.
 type Write = fn(&[u8], &[Slot], &mut [u8]) -> Result<usize, reference::Refusal>;
 
@@ -72,55 +65,6 @@ fn written(text: &[u8], table: &[Slot], call: Write) -> Result<Vec<u8>, u32> {
     let count = own_by_number(call(text, table, &mut out))?;
     out.truncate(count);
     Ok(out)
-}
-
-/// Sets of fragments to set aside: the first, the last, one in the middle, some by chance, all.
-fn choices(chance: &mut Chance, count: usize) -> Vec<Vec<u32>> {
-    let all: Vec<u32> = (1..).take(count).collect();
-    let (Some(&first), Some(&last)) = (all.first(), all.last()) else {
-        return Vec::new();
-    };
-    let middle = all.get(1 + chance.below(count.saturating_sub(2))).copied().unwrap_or(first);
-    let mut choices = vec![vec![first], vec![last], vec![middle]];
-    choices.extend((0..SETS).map(|_| all.iter().copied().filter(|_| chance.once_in(2)).collect()));
-    choices.push(all);
-    choices
-}
-
-/// The text with one thing wrong, mostly: a byte, a line that is gone, there twice or too early, or the end missing.
-fn damaged(chance: &mut Chance, text: &[u8]) -> Vec<u8> {
-    let mut lines: Vec<Vec<u8>> = pieces(text).map(<[u8]>::to_vec).collect();
-    if lines.len() < 2 {
-        return Vec::new();
-    }
-    let at = chance.below(lines.len() - 1);
-    match chance.below(6) {
-        0 => drop(lines.remove(at)),
-        1 => lines.insert(at, lines[at].clone()),
-        2 => lines.swap(at, at + 1),
-        3 => lines.truncate(at),
-        kind => {
-            let column = chance.below(lines[at].len());
-            lines[at][column] = if kind == 4 { chance.printable() } else { chance.byte() };
-        }
-    }
-    lines.concat()
-}
-
-/// The text with one of its atoms twice, and the line that is refused for it, from 1.
-fn with_twins(chance: &mut Chance, text: &[u8]) -> Option<(Vec<u8>, u64)> {
-    let lines: Vec<&[u8]> = pieces(text).collect();
-    let atoms: Vec<usize> = (0..lines.len()).filter(|&at| named(lines[at], ATOMS)).collect();
-    let (a, b) = (*chance.pick(&atoms), *chance.pick(&atoms));
-    let (first, second) = (a.min(b), a.max(b));
-    // In a closed run another chain would be refused with 8.
-    let closed = lines[second..].iter().any(|line| line.starts_with(b"TER   "));
-    let fits = first < second && (!closed || lines[first][21] == lines[second][21]);
-    let mut twins = text.to_vec();
-    for columns in [12..27, 76..78] {
-        twins.copy_within(81 * first + columns.start..81 * first + columns.end, 81 * second + columns.start);
-    }
-    fits.then_some((twins, second as u64 + 1))
 }
 
 /// One entry under trial.
@@ -282,7 +226,8 @@ impl<'e> Trial<'e> {
             self.order(table, own, fragment, Mark::In, Ok(()));
         }
         if let Some((saved, tray)) = self.outputs(table, own) {
-            self.hold("put back, another entry is saved", saved == self.text && tray.is_empty());
+            let bare = pieces(&tray).all(|piece| named(piece, ENDS));
+            self.hold("put back, another entry is saved", saved == self.text && bare);
         }
     }
 
@@ -300,15 +245,19 @@ impl<'e> Trial<'e> {
         }
     }
 
-    /// Each line stands once, in the saved entry or in the tray, in order. Only MASTER may be another.
+    /// Each line stands once, in the saved entry or in the tray, in order; MODEL and ENDMDL lines stand in both. Only MASTER may
+    /// be another.
     fn parted(&mut self, saved: &[u8], tray: &[u8]) {
         let (mut kept, mut dropped) = (pieces(saved).peekable(), pieces(tray).peekable());
-        self.hold("the lines do not add up", kept.len() + dropped.len() == pieces(self.text).len());
+        let copies = pieces(self.text).filter(|piece| named(piece, ENDS)).count();
+        self.hold("the lines do not add up", kept.len() + dropped.len() == pieces(self.text).len() + copies);
         let (mut seen, mut coordinates) = (0, 0);
         for piece in pieces(self.text) {
             let master = piece.starts_with(b"MASTER");
             let taken = if master {
                 kept.next_if(|line| line.starts_with(b"MASTER"))
+            } else if named(piece, ENDS) {
+                kept.next_if_eq(&piece).and_then(|_| dropped.next_if_eq(&piece))
             } else {
                 kept.next_if_eq(&piece).or_else(|| dropped.next_if_eq(&piece))
             };
@@ -321,7 +270,7 @@ impl<'e> Trial<'e> {
         self.hold("lines that the entry does not have", kept.next().is_none() && dropped.next().is_none());
     }
 
-    /// The coordinate lines in the tray are those of the fragments, and its other lines are CONECT lines.
+    /// The coordinate lines in the tray are those of the fragments, and its other lines are CONECT, MODEL and ENDMDL lines.
     fn in_the_tray(&mut self, table: &Table<'_>, choice: &[u32], tray: &[u8]) {
         let mut coordinates = pieces(self.text).filter(|piece| named(piece, COORDINATES));
         let mut due = Vec::new();
@@ -335,7 +284,8 @@ impl<'e> Trial<'e> {
         }
         let (lines, others): (Vec<_>, Vec<_>) = pieces(tray).partition(|piece| named(piece, COORDINATES));
         self.hold("other coordinate lines in the tray", lines == due);
-        self.hold("the tray has more than CONECT lines", others.iter().all(|piece| piece.starts_with(b"CONECT")));
+        let right = |piece: &&[u8]| piece.starts_with(b"CONECT") || named(piece, ENDS);
+        self.hold("the tray has other lines", others.iter().all(right));
     }
 
     /// An atom that comes twice is found, wherever the two stand.
@@ -360,12 +310,13 @@ impl<'e> Trial<'e> {
         library.line
     }
 
-    /// The first atom, one in the middle and the last are where they stand, in an accepted entry; serials that no atom has
-    /// are nowhere.
+    /// The first atom, one in the middle and the last are where they stand, in an accepted entry, in the first model that has
+    /// their serial; serials that no atom has are nowhere.
     fn jumps(&mut self) {
         let atoms = atoms(self.text);
         for at in [0, atoms.len() / 2, atoms.len().saturating_sub(1)] {
-            let Some(&(line, serial)) = atoms.get(at) else { continue };
+            let Some(&(_, serial)) = atoms.get(at) else { continue };
+            let line = atoms.iter().find(|(_, other)| *other == serial).map_or(0, |(line, _)| *line);
             let found = self.jump(self.text, serial);
             let right = self.listed.accepted.is_none() || found == Some(line);
             self.hold(format_args!("jump to {serial}: {found:?}, and it stands in line {line}"), right);

@@ -1,13 +1,14 @@
 //! The check of a whole text.
 
-use std::collections::HashSet;
+use std::collections::{BTreeSet, HashSet};
 
 use crate::columns::Columns;
 use crate::line::LineName;
+use crate::models::Models;
 use crate::reading::read_fields;
-use crate::record::{Conect, Label, Record, Residue, Sheet};
-use crate::tally::Tally;
-use crate::{Refusal, Serial};
+use crate::record::{Label, Record, Residue, Sheet};
+use crate::tally::{Counting, Tally};
+use crate::{ModelNumber, Refusal, Serial};
 
 /// What the check answers.
 #[derive(Clone, Copy, Debug, PartialEq, Eq)]
@@ -18,7 +19,7 @@ pub struct Verdict {
     pub line: u64,
     /// The good lines.
     pub good_lines: u64,
-    /// The counts over the good lines.
+    /// The counts over the good lines, of the coordinates and TER lines those of the first model alone.
     pub tally: Tally,
 }
 
@@ -34,13 +35,15 @@ pub fn pieces(text: &[u8]) -> impl Iterator<Item = &[u8]> {
     text.chunks(81)
 }
 
-/// A good line: its name, its record if it is typed, and its 81 bytes.
+/// A good line: its name, its record if it is typed, its model, and its 81 bytes.
 #[derive(Clone, Copy, Debug)]
 pub struct GoodLine<'t> {
     /// The name.
     pub name: LineName,
     /// The record of a typed line.
     pub record: Option<Record>,
+    /// The number of the model that it stands in, 0 if it stands in none.
+    pub model: ModelNumber,
     /// The line with its newline.
     pub bytes: &'t [u8],
 }
@@ -72,7 +75,7 @@ pub fn walk(text: &[u8]) -> (Verdict, Vec<GoodLine<'_>>) {
     }
     let good_lines = good.len() as u64;
     let line = refusal.map_or(0, |_| good_lines + 1);
-    (Verdict { refusal, line, good_lines, tally: above.tally }, good)
+    (Verdict { refusal, line, good_lines, tally: above.counting.tally }, good)
 }
 
 /// What a line has to know of the lines above it.
@@ -80,18 +83,26 @@ pub fn walk(text: &[u8]) -> (Verdict, Vec<GoodLine<'_>>) {
 struct Above {
     /// The name of the line before.
     name: Option<LineName>,
-    tally: Tally,
-    /// The last serial of an ATOM, HETATM or TER.
-    serial: Option<Serial>,
-    /// The serials of all ATOM and HETATM lines; they rise.
-    atoms: Vec<Serial>,
-    /// The labels of all ATOM and HETATM lines.
-    labels: HashSet<Label>,
-    run: Run,
+    counting: Counting,
+    models: Models,
+    /// What begins afresh in each model.
+    stretch: Stretch,
+    /// The serials of all ATOM and HETATM lines, in whichever model.
+    atoms: BTreeSet<Serial>,
     /// The serial of the last CONECT.
     conect: Option<Serial>,
     /// The last strand.
     strand: Option<Sheet>,
+}
+
+/// What is remembered of the coordinate lines since the start of the text, or since the MODEL.
+#[derive(Default)]
+struct Stretch {
+    /// The last serial of an ATOM, HETATM or TER.
+    serial: Option<Serial>,
+    /// The labels of all ATOM and HETATM lines.
+    labels: HashSet<Label>,
+    run: Run,
 }
 
 /// The coordinate lines since the last TER.
@@ -106,7 +117,7 @@ struct Run {
 }
 
 impl Above {
-    /// Judges one line: the first number that applies, 21 being looked for between 8 and 9.
+    /// Judges one line: the first number that applies, 22 being looked for between 6 and 7, and 21 between 8 and 9.
     fn judge<'t>(&self, piece: &'t [u8]) -> Result<GoodLine<'t>, Refusal> {
         if piece.len() < 81 {
             return Err(Refusal::Length);
@@ -119,11 +130,12 @@ impl Above {
             return Err(Refusal::Byte);
         }
         let name = LineName::of(columns).ok_or(Refusal::Name)?;
-        if !name.may_follow(self.name) {
+        if !name.may_follow(self.name) || !self.models.allow(name) {
             return Err(Refusal::Place);
         }
         let record = if name.carried() { None } else { Some(read_fields(name, columns).ok_or(Refusal::Field)?) };
         let rules = [
+            (self.models.count_on(record), Refusal::Model),
             (self.serial_rises(record), Refusal::Serial),
             (self.run_allows(record), Refusal::Run),
             (self.atom_is_new(record), Refusal::SameAtom),
@@ -133,7 +145,7 @@ impl Above {
         ];
         match rules.iter().find(|(obeyed, _)| !obeyed) {
             Some((_, number)) => Err(*number),
-            None => Ok(GoodLine { name, record, bytes: piece }),
+            None => Ok(GoodLine { name, record, model: self.models.number(), bytes: piece }),
         }
     }
 
@@ -144,25 +156,25 @@ impl Above {
             Some(Record::Ter(ter)) => ter.serial,
             _ => return true,
         };
-        self.serial.is_none_or(|last| serial > last)
+        self.stretch.serial.is_none_or(|last| serial > last)
     }
 
     /// 8: runs and TER.
     fn run_allows(&self, record: Option<Record>) -> bool {
-        let run = &self.run;
+        let run = &self.stretch.run;
         match record {
             Some(Record::Atom(atom)) => run.chain.is_none_or(|chain| run.one_chain && chain == atom.residue.chain),
             Some(Record::Hetatm(atom)) => !run.holds_atom || run.chain == Some(atom.residue.chain),
             Some(Record::Ter(ter)) => run.holds_atom && run.last == Some(ter.residue),
-            Some(Record::Conect(_) | Record::Master(_) | Record::End) => !run.holds_atom,
+            Some(Record::Endmdl | Record::Conect(_) | Record::Master(_) | Record::End) => !run.holds_atom,
             _ => true,
         }
     }
 
-    /// 21: no line above has the same atom.
+    /// 21: no line above, in the same model, has the same atom.
     fn atom_is_new(&self, record: Option<Record>) -> bool {
         match record {
-            Some(Record::Atom(atom) | Record::Hetatm(atom)) => !self.labels.contains(&atom.label()),
+            Some(Record::Atom(atom) | Record::Hetatm(atom)) => !self.stretch.labels.contains(&atom.label()),
             _ => true,
         }
     }
@@ -173,11 +185,7 @@ impl Above {
             return true;
         };
         let falls = self.conect.is_some_and(|last| conect.serial < last);
-        !falls && self.all_atoms(&conect)
-    }
-
-    fn all_atoms(&self, conect: &Conect) -> bool {
-        conect.serials().all(|serial| self.atoms.binary_search(&serial).is_ok())
+        !falls && conect.serials().all(|serial| self.atoms.contains(&serial))
     }
 
     /// 10: helices count up, sheets are whole.
@@ -191,7 +199,7 @@ impl Above {
                 next.strand == 1 && self.strand.is_none_or(|last| next.identifier != last.identifier)
             }
             (_, Some(_)) => false,
-            (Some(Record::Helix(helix)), None) => u64::try_from(helix.serial) == Ok(self.tally.helix + 1),
+            (Some(Record::Helix(helix)), None) => u64::try_from(helix.serial) == Ok(self.counting.tally.helix + 1),
             _ => true,
         }
     }
@@ -199,7 +207,7 @@ impl Above {
     /// 11: MASTER holds the counts of the lines above it.
     fn counts_true(&self, record: Option<Record>) -> bool {
         match record {
-            Some(Record::Master(counts)) => counts == self.tally,
+            Some(Record::Master(counts)) => counts == self.counting.tally,
             _ => true,
         }
     }
@@ -207,19 +215,19 @@ impl Above {
     /// Takes a good line in.
     fn add(&mut self, line: &GoodLine) {
         self.name = Some(line.name);
-        if let Some(count) = line.name.count(&mut self.tally) {
-            *count += 1;
-        }
+        self.counting.add(line.name);
+        self.models.add(line.name);
         match line.record {
+            Some(Record::Model(_)) => self.stretch = Stretch::default(),
             Some(Record::Atom(atom) | Record::Hetatm(atom)) => {
-                self.serial = Some(atom.serial);
-                self.atoms.push(atom.serial);
-                self.labels.insert(atom.label());
-                self.run.add(line.name == LineName::Atom, atom.residue);
+                self.stretch.serial = Some(atom.serial);
+                self.atoms.insert(atom.serial);
+                self.stretch.labels.insert(atom.label());
+                self.stretch.run.add(line.name == LineName::Atom, atom.residue);
             }
             Some(Record::Ter(ter)) => {
-                self.serial = Some(ter.serial);
-                self.run = Run::default();
+                self.stretch.serial = Some(ter.serial);
+                self.stretch.run = Run::default();
             }
             Some(Record::Conect(conect)) => self.conect = Some(conect.serial),
             Some(Record::Sheet(strand)) => self.strand = Some(strand),
@@ -371,6 +379,6 @@ mod tests {
     #[test]
     fn counts() {
         assert_eq!(answer_of(&[line("HEADER"), line("REMARK"), master([0; 9])]), (11, 3));
-        assert_eq!(answer_of(&[line("HEADER"), line("MODEL")]), (4, 2));
+        assert_eq!(answer_of(&[line("HEADER"), line("ANISOU")]), (4, 2));
     }
 }

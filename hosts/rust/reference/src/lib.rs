@@ -5,7 +5,8 @@
 //! differential test holds the two against each other.
 //!
 //! One module for each part of the rules: [`columns`] (fields), [`element`], [`mod@line`] (names and places),
-//! [`record`] (what a line says), [`reading`] and [`writing`] (one line by itself), [`mod@check`] (a whole text),
+//! [`record`] (what a line says), [`reading`] and [`writing`] (one line by itself), [`mod@check`] (a whole text, with
+//! `models` for where it stands among its models),
 //! [`table`] (slots, fragments, orders, arrangements), [`saved`] (saving and tray), [`jump`] (the line of an atom),
 //! [`tally`] and [`feed`] (dots, strokes, frame).
 
@@ -18,6 +19,7 @@ pub mod element;
 pub mod feed;
 pub mod jump;
 pub mod line;
+mod models;
 pub mod reading;
 pub mod record;
 mod refusal;
@@ -37,7 +39,7 @@ pub use record::Record;
 pub use refusal::Refusal;
 pub use saved::{save, tray};
 pub use table::{arrange, fragment_numbers, fragments, load, order, slot_of_line, Mark, Slot};
-pub use tally::{count_line, Tally};
+pub use tally::{count_line, count_line_past, Tally};
 pub use writing::{rewrite_line, write_record};
 
 /// The number of an atom, a TER or an end of a bond: 1 to 99,999.
@@ -47,6 +49,10 @@ pub struct Serial(pub u32);
 /// The number of a residue in its chain: -999 to 9999.
 #[derive(Clone, Copy, Debug, Default, PartialEq, Eq, Hash)]
 pub struct ResidueNumber(pub i32);
+
+/// The number of a model of an entry, from 1.
+#[derive(Clone, Copy, Debug, Default, PartialEq, Eq)]
+pub struct ModelNumber(pub u32);
 
 /// The number of a fragment of an entry, from 1.
 #[derive(Clone, Copy, Debug, Default, PartialEq, Eq)]

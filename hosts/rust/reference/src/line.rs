@@ -27,9 +27,11 @@ pub enum LineName {
     Scale1,
     Scale2,
     Scale3,
+    Model,
     Atom,
     Hetatm,
     Ter,
+    Endmdl,
     Conect,
     Master,
     End,
@@ -38,7 +40,7 @@ pub enum LineName {
 use LineName::*;
 
 /// All names with their six bytes, by place.
-pub const NAMES: [(&[u8; 6], LineName); 27] = [
+pub const NAMES: [(&[u8; 6], LineName); 29] = [
     (b"HEADER", Header),
     (b"TITLE ", Title),
     (b"COMPND", Compnd),
@@ -60,9 +62,11 @@ pub const NAMES: [(&[u8; 6], LineName); 27] = [
     (b"SCALE1", Scale1),
     (b"SCALE2", Scale2),
     (b"SCALE3", Scale3),
+    (b"MODEL ", Model),
     (b"ATOM  ", Atom),
     (b"HETATM", Hetatm),
     (b"TER   ", Ter),
+    (b"ENDMDL", Endmdl),
     (b"CONECT", Conect),
     (b"MASTER", Master),
     (b"END   ", End),
@@ -84,12 +88,13 @@ impl LineName {
         match self {
             Origx1 | Origx2 | Origx3 => Origx1 as u8,
             Scale1 | Scale2 | Scale3 => Scale1 as u8,
-            Atom | Hetatm | Ter => Atom as u8,
+            Model | Atom | Hetatm | Ter | Endmdl => Model as u8,
             other => other as u8,
         }
     }
 
-    /// Whether a line of this name may follow the line before it; `None` is the start of the text.
+    /// Whether a line of this name may follow the line before it; `None` is the start of the text. Where it stands among
+    /// the models is not looked at here.
     pub fn may_follow(self, before: Option<LineName>) -> bool {
         let Some(before) = before else {
             return self == Header;
@@ -104,12 +109,18 @@ impl LineName {
 
     /// Whether the line is carried: its columns from 7 on are free.
     pub fn carried(self) -> bool {
-        !matches!(self, Helix | Sheet | Atom | Hetatm | Ter | Conect | Master | End)
+        !matches!(self, Helix | Sheet | Model | Atom | Hetatm | Ter | Endmdl | Conect | Master | End)
     }
 
-    /// The count of MASTER that a line of this name raises, if any.
-    pub fn count(self, tally: &mut Tally) -> Option<&mut u64> {
+    /// Whether a table has a slot for the line.
+    pub fn slotted(self) -> bool {
+        matches!(self, Atom | Hetatm | Ter)
+    }
+
+    /// The count of MASTER that a line of this name raises, if any. Past the first ENDMDL a line with a slot raises none.
+    pub fn count(self, tally: &mut Tally, past: bool) -> Option<&mut u64> {
         match self {
+            _ if past && self.slotted() => None,
             Remark => Some(&mut tally.remark),
             Het => Some(&mut tally.het),
             Helix => Some(&mut tally.helix),
@@ -132,13 +143,17 @@ mod tests {
     fn names_are_six_bytes() {
         assert_eq!(LineName::of(b"TER   "), Some(Ter));
         assert_eq!(LineName::of(b"END   and more"), Some(End));
-        for unknown in [&b"TER"[..], b"ENDMDL", b" ATOM ", b"atom  ", b"TER\n  ", b"MODEL ", b""] {
+        assert_eq!((LineName::of(b"MODEL "), LineName::of(b"ENDMDL")), (Some(Model), Some(Endmdl)));
+        for unknown in [&b"TER"[..], b"ENDMD ", b" ATOM ", b"atom  ", b"TER\n  ", b"MODEL", b"MODEL1", b"ANISOU", b""] {
             assert_eq!(LineName::of(unknown), None);
         }
         for (index, (_, name)) in NAMES.iter().enumerate() {
             assert_eq!(*name as usize, index);
         }
     }
+
+    /// What may follow the last place before the coordinates, and a coordinate.
+    const COORDINATES_AND_ON: [LineName; 7] = [Model, Atom, Hetatm, Ter, Endmdl, Conect, Master];
 
     /// The lines that may follow a line, by the list of places written out.
     #[test]
@@ -148,15 +163,16 @@ mod tests {
         };
         assert_eq!(follows(Origx1), [Origx2]);
         assert_eq!(follows(Origx2), [Origx3]);
-        assert_eq!(follows(Origx3), [Scale1, Atom, Hetatm, Ter, Conect, Master]);
+        assert_eq!(follows(Origx3), [Scale1, Model, Atom, Hetatm, Ter, Endmdl, Conect, Master]);
         assert_eq!(follows(Scale2), [Scale3]);
-        assert_eq!(follows(Scale3), [Atom, Hetatm, Ter, Conect, Master]);
-        assert_eq!(follows(Cryst1), [Origx1, Scale1, Atom, Hetatm, Ter, Conect, Master]);
-        assert_eq!(follows(Ter), [Atom, Hetatm, Ter, Conect, Master]);
+        assert_eq!(follows(Scale3), COORDINATES_AND_ON);
+        assert_eq!(follows(Cryst1), [Origx1, Scale1, Model, Atom, Hetatm, Ter, Endmdl, Conect, Master]);
+        assert_eq!(follows(Ter), COORDINATES_AND_ON);
+        assert_eq!((follows(Model), follows(Endmdl)), (COORDINATES_AND_ON.to_vec(), COORDINATES_AND_ON.to_vec()));
         assert_eq!(follows(Conect), [Conect, Master]);
         assert_eq!(follows(Master), [End]);
         assert_eq!(follows(End), []);
-        assert_eq!(follows(Header).len(), 27 - 1 - 4 - 1);
+        assert_eq!(follows(Header).len(), 29 - 1 - 4 - 1);
         assert!(Remark.may_follow(Some(Remark)) && !Jrnl.may_follow(Some(Remark)));
         assert!(Header.may_follow(None) && !Title.may_follow(None) && !End.may_follow(None));
     }

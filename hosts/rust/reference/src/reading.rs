@@ -5,7 +5,7 @@ use crate::element::atomic_number;
 use crate::line::LineName;
 use crate::record::{Atom, Conect, Helix, Record, Register, Residue, Sheet, Ter};
 use crate::tally::Tally;
-use crate::{Refusal, ResidueNumber, Serial};
+use crate::{ModelNumber, Refusal, ResidueNumber, Serial};
 
 /// Reads one line by itself: 80 bytes, no newline.
 pub fn read_line(line: &[u8]) -> Result<Record, Refusal> {
@@ -28,6 +28,8 @@ pub fn read_fields(name: LineName, line: &Columns) -> Option<Record> {
         LineName::Conect => read_conect(line).map(Record::Conect),
         LineName::Master => read_master(line).map(Record::Master),
         LineName::End => blank(field(line, 7, 80)).then_some(Record::End),
+        LineName::Model => read_model(line).map(Record::Model),
+        LineName::Endmdl => blank(field(line, 7, 80)).then_some(Record::Endmdl),
         _ => None,
     }
 }
@@ -151,6 +153,12 @@ fn read_master(line: &Columns) -> Option<Tally> {
     })
 }
 
+fn read_model(line: &Columns) -> Option<ModelNumber> {
+    blanks(line, &[(7, 10), (15, 80)])?;
+    let number = integer_in(field(line, 11, 14), 1, 9_999)?;
+    u32::try_from(number).ok().map(ModelNumber)
+}
+
 /// Whether these columns, from and to, are blank.
 fn blanks(line: &Columns, ranges: &[(usize, usize)]) -> Option<()> {
     ranges.iter().all(|&(from, to)| blank(field(line, from, to))).then_some(())
@@ -265,6 +273,21 @@ mod tests {
         assert!(read_line(&changed(STRAND_2, 42, &[b' '; 29])).is_ok());
         assert!(read_line(&changed(STRAND_2, 8, b"  9")).is_ok());
         assert!(refused(STRAND_2, 49, b"x"));
+    }
+
+    #[test]
+    fn models() {
+        for (number, text) in [(1, "MODEL        1"), (10, "MODEL       10"), (9_999, "MODEL     9999")] {
+            assert_eq!(read_line(&line(text)), Ok(Record::Model(ModelNumber(number))));
+        }
+        for wrong in
+            ["MODEL", "MODEL        0", "MODEL     0001", "MODEL       -1", "MODEL    10000", "MODEL        1 1"]
+        {
+            assert_eq!(read_line(&line(wrong)), Err(Refusal::Field), "{wrong}");
+        }
+        assert!(refused(&line("MODEL        1"), 11, b"1   ") && refused(&line("MODEL        1"), 10, b"1"));
+        assert_eq!(read_line(&line("ENDMDL")), Ok(Record::Endmdl));
+        assert!((7..=80).all(|at| refused(&line("ENDMDL"), at, b"1") && refused(&line("END"), at, b"1")));
     }
 
     #[test]

@@ -1,7 +1,7 @@
 //! What a typed line says: a record.
 
 use crate::tally::Tally;
-use crate::{ResidueNumber, Serial};
+use crate::{ModelNumber, ResidueNumber, Serial};
 
 /// A residue: what ATOM, TER, HELIX and SHEET lines name.
 #[derive(Clone, Copy, Debug, PartialEq, Eq, Hash)]
@@ -39,7 +39,7 @@ pub struct Atom {
     pub charge: [u8; 2],
 }
 
-/// What no two atoms of a text share: residue, name and alternate location.
+/// What no two atoms of a text, or of one of its models, share: residue, name and alternate location.
 #[derive(Clone, Copy, Debug, PartialEq, Eq, Hash)]
 pub struct Label {
     residue: Residue,
@@ -48,7 +48,7 @@ pub struct Label {
 }
 
 impl Atom {
-    /// What tells it from all other atoms of its text.
+    /// What tells it from all other atoms of its text or model.
     pub fn label(&self) -> Label {
         Label { residue: self.residue, name: self.name, alternate: self.alternate }
     }
@@ -122,7 +122,7 @@ impl Conect {
     }
 }
 
-/// A line of one of the eight typed kinds.
+/// A line of one of the ten typed kinds.
 #[derive(Clone, Copy, Debug, PartialEq, Eq)]
 #[allow(missing_docs)]
 pub enum Record {
@@ -134,4 +134,6 @@ pub enum Record {
     Conect(Conect),
     Master(Tally),
     End,
+    Model(ModelNumber),
+    Endmdl,
 }

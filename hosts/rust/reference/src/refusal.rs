@@ -42,8 +42,10 @@ pub enum Refusal {
     OtherTable = 18,
     /// There is no atom to frame.
     NothingToFrame = 19,
-    /// A line above has the same atom.
+    /// A line above, in the same model, has the same atom.
     SameAtom = 21,
+    /// The number of a model is not one more than that of the model before.
+    Model = 22,
 }
 
 impl Refusal {

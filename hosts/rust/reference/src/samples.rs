@@ -1,4 +1,7 @@
-//! Lines and entries for the tests.
+//! Lines and entries for the tests, and what becomes of them.
+
+use crate::table::loaded;
+use crate::{order, save, tray, FragmentNumber, Mark, Refusal};
 
 /// A line of 80 columns.
 pub fn line(text: &str) -> [u8; 80] {
@@ -66,4 +69,19 @@ pub fn three_fragments(bonds: &[&str]) -> Vec<u8> {
     lines.push(master([0, 0, 0, 0, 0, 3, 1, bonds.len() as u32, 0]));
     lines.push(line("END"));
     text(&lines)
+}
+
+/// The saved text and the tray after setting fragments aside.
+pub fn saved(text: &[u8], aside: &[u32]) -> (Vec<u8>, Vec<u8>) {
+    let mut slots = loaded(text).expect("an accepted entry");
+    for &fragment in aside {
+        order(text, &mut slots, FragmentNumber(fragment), Mark::Aside).expect("a fragment");
+    }
+    let mut out = vec![b'?'; 2 * text.len()];
+    let length = save(text, &slots, &mut out).expect("room");
+    assert!(out[length..].iter().all(|&byte| byte == b'?'));
+    assert_eq!(save(text, &slots, &mut out[..length - 1]), Err(Refusal::ShortOutput));
+    let kept = out[..length].to_vec();
+    let length = tray(text, &slots, &mut out).expect("room");
+    (kept, out[..length].to_vec())
 }

@@ -1,24 +1,24 @@
 //! Saving an entry without what was set aside, and the tray with what was.
 
+use std::collections::BTreeSet;
+
 use crate::check::{walk, GoodLine};
 use crate::line::LineName;
 use crate::record::Record;
 use crate::table::{belonging, Mark, Slot};
-use crate::tally::Tally;
+use crate::tally::Counting;
 use crate::writing::line_of;
 use crate::{Refusal, Serial};
 
 /// Writes the entry without what was set aside, MASTER counted again, and tells how many bytes.
 pub fn save(text: &[u8], table: &[Slot], out: &mut [u8]) -> Result<usize, Refusal> {
     let (kept, _) = parted(text, table)?;
-    let mut tally = Tally::default();
+    let mut counting = Counting::default();
     let mut saved = Vec::new();
     for line in kept {
-        if let Some(count) = line.name.count(&mut tally) {
-            *count += 1;
-        }
+        counting.add(line.name);
         if line.name == LineName::Master {
-            let master = line_of(&Record::Master(tally)).ok_or(Refusal::Field)?;
+            let master = line_of(&Record::Master(counting.tally)).ok_or(Refusal::Field)?;
             saved.extend(master);
             saved.push(b'\n');
         } else {
@@ -28,10 +28,10 @@ pub fn save(text: &[u8], table: &[Slot], out: &mut [u8]) -> Result<usize, Refusa
     give(&saved, out)
 }
 
-/// Writes the lines that saving leaves out, and tells how many bytes.
+/// Writes the lines that saving leaves out, with a copy of the MODEL and ENDMDL lines, and tells how many bytes.
 pub fn tray(text: &[u8], table: &[Slot], out: &mut [u8]) -> Result<usize, Refusal> {
-    let (_, dropped) = parted(text, table)?;
-    let tray: Vec<u8> = dropped.iter().flat_map(|line| line.bytes).copied().collect();
+    let (_, tray) = parted(text, table)?;
+    let tray: Vec<u8> = tray.iter().flat_map(|line| line.bytes).copied().collect();
     give(&tray, out)
 }
 
@@ -41,23 +41,29 @@ fn give(bytes: &[u8], out: &mut [u8]) -> Result<usize, Refusal> {
     Ok(bytes.len())
 }
 
-/// The lines that are kept and the lines that are dropped.
+/// The lines that are kept and the lines that go to the tray. MODEL and ENDMDL lines are both.
 fn parted<'t>(text: &'t [u8], table: &[Slot]) -> Result<(Vec<GoodLine<'t>>, Vec<GoodLine<'t>>), Refusal> {
     let own = belonging(text, table)?;
     let (_, lines) = walk(text);
-    let aside: Vec<Serial> = own
-        .iter()
-        .filter(|slot| slot.is_coordinate() && slot.mark() == Some(Mark::Aside))
-        .map(|slot| Serial(slot.serial))
-        .collect();
+    let is_in = |slot: &Slot| slot.mark() == Some(Mark::In);
+    let atoms = own.iter().filter(|slot| slot.is_coordinate() && is_in(slot));
+    let atoms: BTreeSet<Serial> = atoms.map(|slot| Serial(slot.serial)).collect();
     let mut slots = own.iter();
-    Ok(lines.into_iter().partition(|line| match line.record {
-        Some(Record::Atom(_) | Record::Hetatm(_) | Record::Ter(_)) => {
-            slots.next().and_then(Slot::mark) == Some(Mark::In)
+    let (mut kept, mut tray) = (Vec::new(), Vec::new());
+    for line in lines {
+        let stays = match line.record {
+            Some(Record::Atom(_) | Record::Hetatm(_) | Record::Ter(_)) => slots.next().is_some_and(is_in),
+            Some(Record::Conect(conect)) => conect.serials().all(|serial| atoms.contains(&serial)),
+            _ => true,
+        };
+        if stays {
+            kept.push(line);
         }
-        Some(Record::Conect(conect)) => !conect.serials().any(|serial| aside.contains(&serial)),
-        _ => true,
-    }))
+        if !stays || matches!(line.record, Some(Record::Model(_) | Record::Endmdl)) {
+            tray.push(line);
+        }
+    }
+    Ok((kept, tray))
 }
 
 #[cfg(test)]
@@ -66,21 +72,6 @@ mod tests {
     use crate::samples::*;
     use crate::table::loaded;
     use crate::{arrange, check, fragment_numbers, load, order, FragmentNumber};
-
-    /// The saved text and the tray after setting fragments aside.
-    fn saved(text: &[u8], aside: &[u32]) -> (Vec<u8>, Vec<u8>) {
-        let mut slots = loaded(text).expect("an accepted entry");
-        for &fragment in aside {
-            order(text, &mut slots, FragmentNumber(fragment), Mark::Aside).expect("a fragment");
-        }
-        let mut out = vec![b'?'; 2 * text.len()];
-        let length = save(text, &slots, &mut out).expect("room");
-        assert!(out[length..].iter().all(|&byte| byte == b'?'));
-        assert_eq!(save(text, &slots, &mut out[..length - 1]), Err(Refusal::ShortOutput));
-        let kept = out[..length].to_vec();
-        let length = tray(text, &slots, &mut out).expect("room");
-        (kept, out[..length].to_vec())
-    }
 
     #[test]
     fn second_of_three() {

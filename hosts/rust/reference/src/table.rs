@@ -2,7 +2,7 @@
 
 use std::ops::Range;
 
-use crate::check::walk;
+use crate::check::{walk, GoodLine};
 use crate::line::LineName;
 use crate::reading::read_line;
 use crate::record::{Atom, Record, Residue, Ter};
@@ -36,6 +36,7 @@ pub struct Slot {
     pub insertion: u8,
     pub element: [u8; 2],
     pub charge: [u8; 2],
+    pub model: u32,
 }
 
 /// Where a fragment is.
@@ -67,6 +68,7 @@ impl Slot {
             insertion: atom.residue.insertion,
             element: atom.element,
             charge: atom.charge,
+            model: 0,
         }
     }
 
@@ -87,7 +89,7 @@ impl Slot {
         }
     }
 
-    /// The slot of a record, if it is one of the three kinds.
+    /// The slot of a record, if it is one of the three kinds. By itself it stands in no model.
     pub fn of_record(record: &Record) -> Option<Slot> {
         match record {
             Record::Atom(atom) => Some(Slot::of_atom(ATOM, atom)),
@@ -137,7 +139,7 @@ impl Mark {
 
 /// The slot of one line read by itself, marked "in".
 pub fn slot_of_line(line: &[u8]) -> Result<Slot, Refusal> {
-    let taken = matches!(LineName::of(line), Some(LineName::Atom | LineName::Hetatm | LineName::Ter));
+    let taken = LineName::of(line).is_some_and(LineName::slotted);
     match read_line(line) {
         Err(Refusal::Field) if !taken => Err(Refusal::Name),
         Err(number) => Err(number),
@@ -149,7 +151,8 @@ pub fn slot_of_line(line: &[u8]) -> Result<Slot, Refusal> {
 pub fn loaded(text: &[u8]) -> Result<Vec<Slot>, Refusal> {
     let (verdict, lines) = walk(text);
     verdict.accepted()?;
-    Ok(lines.iter().filter_map(|line| Slot::of_record(line.record.as_ref()?)).collect())
+    let slot = |line: &GoodLine| Some(Slot { model: line.model.0, ..Slot::of_record(line.record.as_ref()?)? });
+    Ok(lines.iter().filter_map(slot).collect())
 }
 
 /// Fills the table from the text and tells how many slots were filled.
@@ -160,8 +163,20 @@ pub fn load(text: &[u8], table: &mut [Slot]) -> Result<usize, Refusal> {
     Ok(slots.len())
 }
 
-/// The fragments of a table, as ranges of slots.
+/// The fragments of a table, as ranges of slots. None goes over from one model to the next.
 pub fn fragments(slots: &[Slot]) -> Vec<Range<usize>> {
+    let mut found = Vec::new();
+    let mut above = 0;
+    for model in slots.chunk_by(|a, b| a.model == b.model) {
+        let of_model = fragments_of_model(model);
+        found.extend(of_model.into_iter().map(|fragment| above + fragment.start..above + fragment.end));
+        above += model.len();
+    }
+    found
+}
+
+/// The fragments of one model, or of an entry without models.
+fn fragments_of_model(slots: &[Slot]) -> Vec<Range<usize>> {
     let mut found = Vec::new();
     let mut start = 0;
     for (index, slot) in slots.iter().enumerate() {
@@ -244,8 +259,8 @@ mod tests {
     }
 
     #[test]
-    fn a_slot_has_44_bytes() {
-        assert_eq!(std::mem::size_of::<Slot>(), 44);
+    fn a_slot_has_48_bytes() {
+        assert_eq!(std::mem::size_of::<Slot>(), 48);
     }
 
     #[test]

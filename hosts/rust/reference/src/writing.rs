@@ -26,6 +26,11 @@ pub fn line_of(record: &Record) -> Option<Columns> {
         Record::Conect(conect) => sheet.conect(conect),
         Record::Master(tally) => sheet.master(tally),
         Record::End => sheet.put(1, b"END"),
+        Record::Model(number) => {
+            sheet.put(1, b"MODEL");
+            sheet.integer(11, 14, number.0);
+        }
+        Record::Endmdl => sheet.put(1, b"ENDMDL"),
     }
     (sheet.fits && read_line(&sheet.line) == Ok(*record)).then_some(sheet.line)
 }
@@ -146,7 +151,7 @@ pub fn rewrite_line(line: &[u8], out: &mut [u8]) -> Result<(), Refusal> {
 mod tests {
     use super::*;
     use crate::samples::*;
-    use crate::{ResidueNumber, Serial};
+    use crate::{ModelNumber, ResidueNumber, Serial};
 
     fn atom() -> Atom {
         match read_line(ARGININE) {
@@ -157,7 +162,8 @@ mod tests {
 
     #[test]
     fn what_reads_writes_back() {
-        for line in [*ARGININE, *HELIX, *STRAND_1, *STRAND_2, line("CONECT    5    6"), line("END"), master([7; 9])] {
+        let others = ["CONECT    5    6", "END", "MODEL        1", "MODEL     9999", "ENDMDL"].map(line);
+        for line in [*ARGININE, *HELIX, *STRAND_1, *STRAND_2, master([7; 9])].into_iter().chain(others) {
             let mut out = [b'?'; 90];
             assert_eq!(rewrite_line(&line, &mut out), Ok(()));
             assert_eq!(out[..80], line);
@@ -192,6 +198,10 @@ mod tests {
         assert_eq!(write_record(&Record::Hetatm(Atom { serial: Serial(0), ..atom() }), &mut []), Err(Refusal::Field));
         let gap = Conect { serial: Serial(1), partners: [None, Some(Serial(2)), None, None] };
         assert_eq!(write_record(&Record::Conect(gap), &mut [0; 80]), Err(Refusal::Field));
+        for number in [0, 10_000, u32::MAX] {
+            let model = Record::Model(ModelNumber(number));
+            assert_eq!(write_record(&model, &mut [0; 80]), Err(Refusal::Field), "{number}");
+        }
         let many = Tally { seq: 100_000, ..Tally::default() };
         assert_eq!(write_record(&Record::Master(many), &mut [0; 80]), Err(Refusal::Field));
     }

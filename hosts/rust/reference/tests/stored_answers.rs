@@ -9,8 +9,9 @@ use reference::{check, read_line, rewrite_line, Refusal};
 /// The report takes no more than this.
 const REPORT_LIMIT: usize = 65_529;
 
-fn crates() -> PathBuf {
-    Path::new(env!("CARGO_MANIFEST_DIR")).join("../../../crates")
+/// A folder of cases beside the library.
+fn stored(folder: &str) -> PathBuf {
+    Path::new(env!("CARGO_MANIFEST_DIR")).join("../../../crates").join(folder)
 }
 
 /// The cases of a file whose lengths have so many bytes.
@@ -57,8 +58,7 @@ fn reading(line: &[u8]) -> String {
     }
 }
 
-fn compare(folder: &str, data: &str, width: usize, answer: fn(&[u8]) -> String) {
-    let folder = crates().join(folder);
+fn compare(folder: &Path, data: &str, width: usize, answer: fn(&[u8]) -> String) {
     let cases = cases(&folder.join("data").join(data), width);
     let labels = lines(&folder.join("labels"));
     let stored = lines(&folder.join("stdout"));
@@ -77,10 +77,10 @@ fn compare(folder: &str, data: &str, width: usize, answer: fn(&[u8]) -> String) 
 
 #[test]
 fn verdicts() {
-    compare("verdicts", "texts", 3, report);
+    compare(&stored("verdicts"), "texts", 3, report);
 }
 
 #[test]
 fn examples() {
-    compare("examples", "lines", 2, reading);
+    compare(&stored("examples"), "lines", 2, reading);
 }

@@ -21,9 +21,9 @@ pub struct Counts {
     pub sheet: u64,
     /// ORIGX and SCALE lines.
     pub xform: u64,
-    /// ATOM and HETATM lines.
+    /// ATOM and HETATM lines, with models those of the first alone.
     pub coord: u64,
-    /// TER lines.
+    /// TER lines, likewise.
     pub ter: u64,
     /// CONECT lines.
     pub conect: u64,

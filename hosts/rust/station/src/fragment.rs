@@ -1,7 +1,7 @@
 //! The fragments of a table, as the library numbers them.
 
 use crate::raw::Slot;
-use crate::{FragmentNumber, Mark};
+use crate::{FragmentNumber, Mark, ModelNumber};
 
 /// The fragments of a table, one after the other.
 #[derive(Clone, Debug)]
@@ -44,6 +44,11 @@ impl Fragment<'_> {
     /// Where the fragment is.
     pub fn mark(&self) -> Option<Mark> {
         self.slots.first().and_then(Slot::mark)
+    }
+
+    /// Its model, if the entry has models. All lines of a fragment are of the same.
+    pub fn model(&self) -> Option<ModelNumber> {
+        self.slots.first().and_then(Slot::model)
     }
 
     /// Its chain. All lines of a fragment have the same.

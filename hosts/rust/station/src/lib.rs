@@ -1,6 +1,6 @@
 //! The proved library of the station, in Rust's own manners.
 //!
-//! [`Entry::check`] judges a text; [`Table`] holds the coordinates of an accepted one, sets fragments aside, puts them
+//! [`Entry::check`] judges a text; [`Table`] holds the coordinates of an accepted one, of all its models, sets fragments aside, puts them
 //! back, one by one or all at once, and saves; [`Line`] is one line by itself; [`Jump`] finds the line of an atom; [`Tally`] counts lines;
 //! [`Dot`], [`Stroke`] and [`Frame`] are what a renderer draws. Everything that can be refused is a [`Result`] with a [`Refusal`].
 //!
@@ -30,4 +30,4 @@ pub use jump::Jump;
 pub use line::Line;
 pub use raw::{Slot, Tally};
 pub use refusal::Refusal;
-pub use table::{FragmentNumber, Kind, Mark, Table};
+pub use table::{FragmentNumber, Kind, Mark, ModelNumber, Table};

@@ -1,9 +1,11 @@
 //! Single lines.
 
-use crate::raw::{station_count_line, station_rewrite_line, station_slot_of_line, Slot, Tally};
-use crate::Refusal;
+use crate::raw::{
+    station_count_line, station_count_line_past, station_rewrite_line, station_slot_of_line, Slot, Tally,
+};
+use crate::{ModelNumber, Refusal};
 
-/// A line of one of the eight typed kinds, read by itself: 80 columns, all of them right.
+/// A line of one of the ten typed kinds, read by itself: 80 columns, all of them right.
 ///
 /// ```
 /// # fn main() -> Result<(), station::Refusal> {
@@ -61,9 +63,27 @@ impl Line {
         if self.name() != "CONECT" {
             return Vec::new();
         }
-        let number = |field: &[u8]| std::str::from_utf8(field).ok()?.trim_start().parse().ok();
         self.columns[6..31].chunks(5).map_while(number).collect()
     }
+
+    /// The number on a MODEL line. Other kinds have none.
+    ///
+    /// ```
+    /// # fn main() -> Result<(), station::Refusal> {
+    /// use station::{Line, ModelNumber};
+    ///
+    /// let line = Line::read(format!("{:80}", "MODEL        2").as_bytes())?;
+    /// assert_eq!(line.model(), Some(ModelNumber(2)));
+    /// # Ok(()) }
+    /// ```
+    pub fn model(&self) -> Option<ModelNumber> {
+        (self.name() == "MODEL").then(|| number(&self.columns[10..14])).flatten().map(ModelNumber)
+    }
+}
+
+/// The number in some columns of a line that reads.
+fn number(columns: &[u8]) -> Option<u32> {
+    std::str::from_utf8(columns).ok()?.trim_start().parse().ok()
 }
 
 impl Tally {
@@ -83,5 +103,25 @@ impl Tally {
     pub fn count(&mut self, line: &[u8]) -> Result<(), Refusal> {
         // SAFETY: the line is as long as said and does not overlap the tally.
         Refusal::of(unsafe { station_count_line(self, line.as_ptr(), line.len()) })
+    }
+
+    /// Counts one more line by its first six bytes, and by whether the first ENDMDL has gone by: the coordinates and TER
+    /// lines of further models are not counted.
+    ///
+    /// ```
+    /// # fn main() -> Result<(), station::Refusal> {
+    /// use station::Tally;
+    ///
+    /// let (mut tally, mut past) = (Tally::default(), false);
+    /// for name in [b"MODEL ", b"HETATM", b"ENDMDL", b"MODEL ", b"HETATM", b"ENDMDL", b"CONECT"] {
+    ///     tally.count_past(name, past)?;
+    ///     past |= name == b"ENDMDL";
+    /// }
+    /// assert_eq!(tally, Tally { coord: 1, conect: 1, ..Tally::default() });
+    /// # Ok(()) }
+    /// ```
+    pub fn count_past(&mut self, line: &[u8], past: bool) -> Result<(), Refusal> {
+        // SAFETY: the line is as long as said and does not overlap the tally.
+        Refusal::of(unsafe { station_count_line_past(self, line.as_ptr(), line.len(), u8::from(past)) })
     }
 }

@@ -1,6 +1,6 @@
 //! The C names, as `include/station.h` declares them. The rest of the crate is the safe way to them.
 
-/// One slot of the table: 44 bytes without padding. A foreign table may hold any bytes at all.
+/// One slot of the table: 48 bytes without padding. A foreign table may hold any bytes at all.
 #[derive(Clone, Copy, Debug, Default, PartialEq, Eq)]
 #[repr(C)]
 pub struct Slot {
@@ -36,6 +36,8 @@ pub struct Slot {
     pub element: [u8; 2],
     /// The charge.
     pub charge: [u8; 2],
+    /// The number of its model; 0 without models, or filled from a single line.
+    pub model: u32,
 }
 
 /// The nine counts of MASTER.
@@ -52,9 +54,9 @@ pub struct Tally {
     pub sheet: u32,
     /// ORIGX and SCALE lines.
     pub xform: u32,
-    /// ATOM and HETATM lines.
+    /// ATOM and HETATM lines, with models those of the first alone.
     pub coord: u32,
-    /// TER lines.
+    /// TER lines, likewise.
     pub ter: u32,
     /// CONECT lines.
     pub conect: u32,
@@ -119,4 +121,6 @@ names! {
     fn station_frame as frame(table: *const Slot, slots: usize, out: *mut f64) -> u32;
     /// Counts one line.
     fn station_count_line as count_line(tally: *mut Tally, line: *const u8, n: usize) -> u32;
+    /// Counts one line, by whether the first ENDMDL has gone by (`past` not 0).
+    fn station_count_line_past as count_line_past(tally: *mut Tally, line: *const u8, n: usize, past: u8) -> u32;
 }

@@ -54,8 +54,10 @@ impl Refusal {
     pub const NOTHING_TO_FRAME: Refusal = Refusal(19);
     /// The input is too long for the report.
     pub const LONG_INPUT: Refusal = Refusal(20);
-    /// An atom that a line above has already.
+    /// An atom that a line above, in the same model, has already.
     pub const SAME_ATOM: Refusal = Refusal(21);
+    /// The number of a model.
+    pub const MODEL: Refusal = Refusal(22);
 
     /// The number.
     pub fn number(self) -> u32 {
@@ -86,6 +88,7 @@ impl Refusal {
             19 => "there is no atom to frame",
             20 => "the input is longer than the report takes",
             21 => "a line above has the same atom: name, alternate location and residue",
+            22 => "the models are not numbered 1, 2, 3 and so on",
             _ => "for a reason that this program does not know",
         }
     }

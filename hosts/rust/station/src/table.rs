@@ -8,6 +8,10 @@ use crate::{pieces, Dot, Fragments, Refusal};
 #[derive(Clone, Copy, Debug, PartialEq, Eq, PartialOrd, Ord, Hash)]
 pub struct FragmentNumber(pub u32);
 
+/// The number of a model, from 1.
+#[derive(Clone, Copy, Debug, PartialEq, Eq, PartialOrd, Ord, Hash)]
+pub struct ModelNumber(pub u32);
+
 /// The kind of line a slot was filled from.
 #[derive(Clone, Copy, Debug, PartialEq, Eq)]
 #[allow(missing_docs)]
@@ -44,6 +48,11 @@ impl Slot {
             1 => Some(Mark::Aside),
             _ => None,
         }
+    }
+
+    /// The model of the slot, if the entry has models.
+    pub fn model(&self) -> Option<ModelNumber> {
+        (self.model > 0).then_some(ModelNumber(self.model))
     }
 
     /// Whether the slot is an ATOM or HETATM.
@@ -126,6 +135,12 @@ impl<'t> Table<'t> {
         &self.slots
     }
 
+    /// The slots of each model that has some, in order; without models, of the whole entry. An empty model is not among
+    /// them.
+    pub fn models(&self) -> impl Iterator<Item = &[Slot]> {
+        self.slots.chunk_by(|a, b| a.model == b.model)
+    }
+
     /// Marks one whole fragment.
     pub fn order(&mut self, fragment: FragmentNumber, mark: Mark) -> Result<(), Refusal> {
         let (text, slots) = (self.text, &mut self.slots);
@@ -178,12 +193,13 @@ impl<'t> Table<'t> {
         Ok(Fragments::of(&self.slots, self.fragment_numbers()?))
     }
 
-    /// The entry without what is set aside.
+    /// The entry without what is set aside. A CONECT line goes if one of its numbers is no longer that of an atom that is in, in
+    /// whichever model.
     pub fn save(&self) -> Result<Vec<u8>, Refusal> {
         self.written(station_save)
     }
 
-    /// The lines that saving leaves out.
+    /// The lines that saving leaves out, and a copy of every MODEL and ENDMDL line.
     pub fn tray(&self) -> Result<Vec<u8>, Refusal> {
         self.written(station_tray)
     }

@@ -4,7 +4,7 @@
 #define SLOT(field, offset) _Static_assert(offsetof(station_slot, field) == (offset), "offset of " #field)
 #define TALLY(field, offset) _Static_assert(offsetof(station_tally, field) == (offset), "offset of " #field)
 
-_Static_assert(sizeof(station_slot) == SLOT_SIZE && SLOT_SIZE == 44, "size of station_slot");
+_Static_assert(sizeof(station_slot) == SLOT_SIZE && SLOT_SIZE == 48, "size of station_slot");
 _Static_assert(_Alignof(station_slot) == SLOT_ALIGN, "alignment of station_slot");
 _Static_assert(sizeof(station_tally) == TALLY_SIZE && TALLY_SIZE == 36, "size of station_tally");
 _Static_assert(_Alignof(station_tally) == TALLY_ALIGN, "alignment of station_tally");
@@ -25,6 +25,7 @@ SLOT(chain, SLOT_chain);
 SLOT(insertion, SLOT_insertion);
 SLOT(element, SLOT_element);
 SLOT(charge, SLOT_charge);
+SLOT(model, SLOT_model);
 
 TALLY(remark, TALLY_remark);
 TALLY(het, TALLY_het);

@@ -11,8 +11,8 @@ macro_rules! offsets {
     ($of:ty: $($field:ident)*) => { [$((stringify!($field), offset_of!($of, $field))),*] };
 }
 
-fn slot() -> [(&'static str, usize); 16] {
-    offsets!(Slot: serial number x y z occupancy temperature kind mark name alternate residue chain insertion element charge)
+fn slot() -> [(&'static str, usize); 17] {
+    offsets!(Slot: serial number x y z occupancy temperature kind mark name alternate residue chain insertion element charge model)
 }
 
 fn tally() -> [(&'static str, usize); 9] {
@@ -21,9 +21,9 @@ fn tally() -> [(&'static str, usize); 9] {
 
 #[test]
 fn as_written_down() {
-    assert_eq!((size_of::<Slot>(), align_of::<Slot>()), (44, 4));
+    assert_eq!((size_of::<Slot>(), align_of::<Slot>()), (48, 4));
     assert_eq!((size_of::<Tally>(), align_of::<Tally>()), (36, 4));
-    assert_eq!(slot().map(|(_, at)| at), [0, 4, 8, 12, 16, 20, 24, 28, 29, 30, 34, 35, 38, 39, 40, 42]);
+    assert_eq!(slot().map(|(_, at)| at), [0, 4, 8, 12, 16, 20, 24, 28, 29, 30, 34, 35, 38, 39, 40, 42, 44]);
     assert_eq!(tally().map(|(_, at)| at), [0, 4, 8, 12, 16, 20, 24, 28, 32]);
 }
 

@@ -199,9 +199,10 @@ fn refusals_in_words() {
         Refusal::NOTHING_TO_FRAME,
         Refusal::LONG_INPUT,
         Refusal::SAME_ATOM,
+        Refusal::MODEL,
     ];
-    assert!(all.iter().map(|refusal| refusal.number()).eq(1..=21));
-    assert_eq!(all.iter().map(|refusal| refusal.meaning()).collect::<BTreeSet<_>>().len(), 21);
+    assert!(all.iter().map(|refusal| refusal.number()).eq(1..=22));
+    assert_eq!(all.iter().map(|refusal| refusal.meaning()).collect::<BTreeSet<_>>().len(), 22);
     let error: Box<dyn std::error::Error> = Box::new(Refusal::OVER);
     assert_eq!(error.to_string(), "refused with 12: the text is over before END");
     assert_eq!(format!("{:?}", Refusal::OVER), "Refusal(12: the text is over before END)");

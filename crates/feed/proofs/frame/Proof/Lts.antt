@@ -220,7 +220,7 @@ abbrev b6 : Syntax.Body
 b6 = Syntax.cond (Syntax.copy (Syntax.place 5 [])) b4 b5
 
 abbrev b7 : Syntax.Body
-b7 = Syntax.assign (Syntax.place 4 []) (Syntax.op2 (Syntax.mul Syntax.unsigned) (Syntax.copy (Syntax.place 3 [])) (Syntax.int Syntax.w64 44))
+b7 = Syntax.assign (Syntax.place 4 []) (Syntax.op2 (Syntax.mul Syntax.unsigned) (Syntax.copy (Syntax.place 3 [])) (Syntax.int Syntax.w64 48))
 
 abbrev b8 : Syntax.Body
 b8 = Syntax.assign (Syntax.place 6 []) (Syntax.op2 Syntax.offset (Syntax.copy (Syntax.place 1 (Syntax.field 0 ∷ []))) (Syntax.copy (Syntax.place 4
@@ -653,7 +653,7 @@ module _ (claims· : Claims) where
   s6 = Scalar.n-room T8 5 Syntax.tyBool
 
   abbrev s7 : Typed.Asks T7 T11
-  s7 = Scalar.k-op2 T7 (Syntax.mul Syntax.unsigned) (Scalar.oAt 3 (Syntax.tyInt Syntax.w64) (Row.valS (Row.sInt Syntax.w64))) (Scalar.oInt Syntax.w64 44) 4
+  s7 = Scalar.k-op2 T7 (Syntax.mul Syntax.unsigned) (Scalar.oAt 3 (Syntax.tyInt Syntax.w64) (Row.valS (Row.sInt Syntax.w64))) (Scalar.oInt Syntax.w64 48) 4
       (Rows'.sc-here (Row.sInt Syntax.w64)) (Row.sInt Syntax.w64 .of)
 
   abbrev s8 : Typed.Asks T11 T12
@@ -661,7 +661,7 @@ module _ (claims· : Claims) where
       (Scalar.oAt 4 (Syntax.tyInt Syntax.w64) (Row.valS (Row.sInt Syntax.w64))) 6 (Rows'.sc-here Row.sPtr) (Row.sPtr .of)
 
   abbrev s9 : Typed.Both T12 T13
-  s9 = Move.k-shs-copy-out SlotAs.row T12 1 6 7 0 (Syntax.tyRef (Syntax.named 0) Syntax.imm SlotAs.pointee) Row.off SlotAs.whole (Shared.bySize 44) (λ u. u .1
+  s9 = Move.k-shs-copy-out SlotAs.row T12 1 6 7 0 (Syntax.tyRef (Syntax.named 0) Syntax.imm SlotAs.pointee) Row.off SlotAs.whole (Shared.bySize 48) (λ u. u .1
       .1 .1 .0) (λ x. x) SlotAs.none (λ x. Unit) (λ x. x) λ x. x
 
   abbrev s10 : Typed.Mo T13 → Typed.Mo T14
@@ -971,8 +971,8 @@ module _ (claims· : Claims) where
             d11 : Typed.Typed 𝓤 H A 𝓣 E G12 b13 Δ3 at11
             d11 = Typed.s-seq 𝓤 H A W 𝓣 E G12 G13 b9 b12 Δ3 (Typed.both s9) at10 (Move.t-shs-copy-out 𝓤 H A W E SlotAs.row 𝓣 Path'.refl (SlotAs.copies .copy 𝓤 H
                 A W) (Copies.halved 𝓤 H A W SlotAs.copies) (λ ρ. Unit) G12 1 6 7 0 (Syntax.tyRef (Syntax.named 0) Syntax.imm SlotAs.pointee) (Row.lease (κs .0)
-                (qs .0)) SlotAs.ty SlotAs.ty SlotAs.whole (Shared.bySize 44) (λ u. u .1 .1 .1 .0) (λ x. x) SlotAs.none (λ x. Unit) (λ x. x) (λ x. x) (λ i o.
-                Elements.at-mul o 44 i) Path'.refl Path'.refl (Own.told-none 𝓤 H A (G12 .slots)) (DerefMove.learns-nothing 𝓤 H A SlotAs.row) (Reads.as-is 𝓤 H A
+                (qs .0)) SlotAs.ty SlotAs.ty SlotAs.whole (Shared.bySize 48) (λ u. u .1 .1 .1 .0) (λ x. x) SlotAs.none (λ x. Unit) (λ x. x) (λ x. x) (λ i o.
+                Elements.at-mul o 48 i) Path'.refl Path'.refl (Own.told-none 𝓤 H A (G12 .slots)) (DerefMove.learns-nothing 𝓤 H A SlotAs.row) (Reads.as-is 𝓤 H A
                 (Rows'.sslice SlotAs.row (Syntax.tyRef (Syntax.named 0) Syntax.imm SlotAs.pointee) 0)) (Reads.as-is 𝓤 H A (Rows'.sc-here Row.sPtr))
                 (Reads.room-gone 𝓤 H A SlotAs.ty) (Yields.makes-mem 𝓤 H A W (λ ρ. Unit) SlotAs.row Path'.refl SlotAs.whole (λ x. x) λ ρ told. SlotAs.of-mem 𝓤 H A
                 W ρ) Path'.refl tt Path'.refl Path'.refl) d10
@@ -989,7 +989,7 @@ module _ (claims· : Claims) where
 
             d13 : Typed.Typed 𝓤 H A 𝓣 E G7 b15 Δ3 at13
             d13 = Typed.s-seq 𝓤 H A W 𝓣 E G7 G11 b7 b14 Δ3 (Typed.ask s7) at12 (Scalar.t-op2 𝓤 H A W E 𝓣 G7 (Syntax.mul Syntax.unsigned) (Scalar.oAt 3
-                (Syntax.tyInt Syntax.w64) (Row.valS (Row.sInt Syntax.w64))) (Scalar.oInt Syntax.w64 44) 4 (Rows'.sc-here (Row.sInt Syntax.w64)) (Syntax.tyInt
+                (Syntax.tyInt Syntax.w64) (Row.valS (Row.sInt Syntax.w64))) (Scalar.oInt Syntax.w64 48) 4 (Rows'.sc-here (Row.sInt Syntax.w64)) (Syntax.tyInt
                 Syntax.w64) (Row.valS (Row.sInt Syntax.w64)) (Row.sInt Syntax.w64 .of) (Scalar.reads-sc 𝓤 H A W (Row.sInt Syntax.w64), Path'.refl) tt
                 (Reads.room-gone 𝓤 H A (Syntax.tyInt Syntax.w64)) (Scalar.holds-sc 𝓤 H A W (Row.sInt Syntax.w64)) Path'.refl (λ u. Path'.refl) λ u. tt) d12
 

@@ -2,24 +2,28 @@ use borrow.Author.Needs.{needs}
 use Rattle.rules.proofs.steps.last_next.Statement.{statement}
 use Rattle.rules.proofs.steps.last_next.Tie as tie
 
-enum-known-p : tie.Need-enum-known-p
-enum-known-p c = search needs
-
-enum-known-p-2 : tie.Need-enum-known-p-2
-enum-known-p-2 c = search needs
+last-of-requires : tie.Need-last-of-requires
+last-of-requires c κs = search needs
 
 enum-told : tie.Need-enum-told
 enum-told c = search needs
 
+enum-told-2 : tie.Need-enum-told-2
+enum-told-2 c = search needs
+
+enum-told-3 : tie.Need-enum-told-3
+enum-told-3 c = search needs
+
 returns : tie.Need-returns
-returns c = rw (c .before .before .p .given .1)
+returns c = rw (c .enum-told .given .1)
 
 returns-2 : tie.Need-returns-2
-returns-2 c = rw (c .before .before .p2 .given .1)
+returns-2 c = rw (c .enum-told2 .given .1)
 
 returns-3 : tie.Need-returns-3
-returns-3 c = rw (c .enum-told .given .1)
+returns-3 c = rw (c .enum-told3 .given .1, c .before .before .last-of .ensures)
 
 pub last-next-spec : {M : Type 1} → statement M
 last-next-spec =
-    tie.close (tie.spec enum-known-p enum-known-p-2 enum-told returns returns-2 returns-3)
+    tie.close
+    (tie.spec last-of-requires enum-told enum-told-2 enum-told-3 returns returns-2 returns-3)

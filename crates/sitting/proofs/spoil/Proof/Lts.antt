@@ -71,7 +71,7 @@ abbrev b2 : Syntax.Body
 b2 = Syntax.call "slots::no_slot" [] (Syntax.place 5 [])
 
 abbrev b3 : Syntax.Body
-b3 = Syntax.assign (Syntax.place 6 []) (Syntax.op2 (Syntax.mul Syntax.unsigned) (Syntax.copy (Syntax.place 2 [])) (Syntax.int Syntax.w64 44))
+b3 = Syntax.assign (Syntax.place 6 []) (Syntax.op2 (Syntax.mul Syntax.unsigned) (Syntax.copy (Syntax.place 2 [])) (Syntax.int Syntax.w64 48))
 
 abbrev b4 : Syntax.Body
 b4 = Syntax.assign (Syntax.place 7 []) (Syntax.op2 Syntax.offset (Syntax.copy (Syntax.place 1 (Syntax.field 0 ∷ []))) (Syntax.copy (Syntax.place 6
@@ -316,7 +316,7 @@ module _ (claims· : Claims) where
   s4 = Call.callB ps·0 r·0 (claims· .0) (claims· .1) T6 tt 5 [] SlotAs.ty
 
   abbrev s5 : Typed.Asks T7 T8
-  s5 = Scalar.k-op2 T7 (Syntax.mul Syntax.unsigned) (Scalar.oAt 2 (Syntax.tyInt Syntax.w64) (Row.valS (Row.sInt Syntax.w64))) (Scalar.oInt Syntax.w64 44) 6
+  s5 = Scalar.k-op2 T7 (Syntax.mul Syntax.unsigned) (Scalar.oAt 2 (Syntax.tyInt Syntax.w64) (Row.valS (Row.sInt Syntax.w64))) (Scalar.oInt Syntax.w64 48) 6
       (Rows'.sc-here (Row.sInt Syntax.w64)) (Row.sInt Syntax.w64 .of)
 
   abbrev s6 : Typed.Asks T8 T9
@@ -324,7 +324,7 @@ module _ (claims· : Claims) where
       6 (Syntax.tyInt Syntax.w64) (Row.valS (Row.sInt Syntax.w64))) 7 (Rows'.sc-here Row.sPtr) (Row.sPtr .of)
 
   abbrev s7 : Typed.Asks T9 T10
-  s7 = Move.k-sl-set-from SlotAs.row T9 1 7 5 0 (Syntax.tyRef (Syntax.named 0) Syntax.mut SlotAs.pointee) Row.off SlotAs.whole (Shared.bySize 44) (λ u. u .1 .1
+  s7 = Move.k-sl-set-from SlotAs.row T9 1 7 5 0 (Syntax.tyRef (Syntax.named 0) Syntax.mut SlotAs.pointee) Row.off SlotAs.whole (Shared.bySize 48) (λ u. u .1 .1
       .0) (λ x. x) (λ x. x) (λ x. x) λ x. x
 
   abbrev s8 : Typed.Mo T10 → Typed.Mo T11
@@ -474,8 +474,8 @@ module _ (claims· : Claims) where
                 (Typed.g-post 𝓤 H A W 𝓣 E G9 G12 G13 b5 (λ Ψ. Typed.ask s7 (Typed.pass T10 T11 s8 (Typed.pass T11 T12 s9 Ψ))) (Typed.pass T12 T13 s10)
                 (Typed.g-post 𝓤 H A W 𝓣 E G9 G11 G12 b5 (λ Ψ. Typed.ask s7 (Typed.pass T10 T11 s8 Ψ)) (Typed.pass T11 T12 s9) (Typed.g-post 𝓤 H A W 𝓣 E G9 G10
                 G11 b5 (Typed.ask s7) (Typed.pass T10 T11 s8) (Move.t-sl-set-from 𝓤 H A W E SlotAs.row 𝓣 Path'.refl (λ ρ. Unit) G9 1 7 5 0 (Syntax.tyRef
-                (Syntax.named 0) Syntax.mut SlotAs.pointee) (Row.lease (κs .0) (qs .0)) SlotAs.ty SlotAs.ty SlotAs.whole (Shared.bySize 44) (λ u. u .1 .1 .0) (λ
-                x. x) (λ x. x) (λ x. x) (λ x. x) (λ i o. Elements.at-mul o 44 i) Path'.refl Path'.refl (Own.told-none 𝓤 H A (G9 .slots)) (Reads.as-is 𝓤 H A
+                (Syntax.named 0) Syntax.mut SlotAs.pointee) (Row.lease (κs .0) (qs .0)) SlotAs.ty SlotAs.ty SlotAs.whole (Shared.bySize 48) (λ u. u .1 .1 .0) (λ
+                x. x) (λ x. x) (λ x. x) (λ x. x) (λ i o. Elements.at-mul o 48 i) Path'.refl Path'.refl (Own.told-none 𝓤 H A (G9 .slots)) (Reads.as-is 𝓤 H A
                 (Mut.mslice SlotAs.row (Syntax.tyRef (Syntax.named 0) Syntax.mut SlotAs.pointee) 0)) (Reads.as-is 𝓤 H A (Rows'.sc-here Row.sPtr))
                 (Yields.yields-copy 𝓤 H A W (λ ρ. Unit) SlotAs.row Path'.refl (SlotAs.copies .copy 𝓤 H A W) SlotAs.whole (λ x. x) (λ x. x) (λ ρ told. SlotAs.mem
                 𝓤 H A W ρ) λ ρ told. SlotAs.of-mem 𝓤 H A W ρ) Path'.refl tt Path'.refl Path'.refl) (Scalar.g-room 𝓤 H A W E G10 5 SlotAs.ty (SlotAs.room 𝓤 H A
@@ -494,7 +494,7 @@ module _ (claims· : Claims) where
 
             d2 : Typed.Typed 𝓤 H A 𝓣 E G7 b7 Δ1 at2
             d2 = Typed.s-seq 𝓤 H A W 𝓣 E G7 G8 b3 b6 Δ1 (Typed.ask s5) at1 (Scalar.t-op2 𝓤 H A W E 𝓣 G7 (Syntax.mul Syntax.unsigned) (Scalar.oAt 2 (Syntax.tyInt
-                Syntax.w64) (Row.valS (Row.sInt Syntax.w64))) (Scalar.oInt Syntax.w64 44) 6 (Rows'.sc-here (Row.sInt Syntax.w64)) (Syntax.tyInt Syntax.w64)
+                Syntax.w64) (Row.valS (Row.sInt Syntax.w64))) (Scalar.oInt Syntax.w64 48) 6 (Rows'.sc-here (Row.sInt Syntax.w64)) (Syntax.tyInt Syntax.w64)
                 (Row.valS (Row.sInt Syntax.w64)) (Row.sInt Syntax.w64 .of) (Scalar.reads-sc 𝓤 H A W (Row.sInt Syntax.w64), Path'.refl) tt (Reads.room-gone 𝓤 H A
                 (Syntax.tyInt Syntax.w64)) (Scalar.holds-sc 𝓤 H A W (Row.sInt Syntax.w64)) Path'.refl (λ u. Path'.refl) λ u. tt) d1
 

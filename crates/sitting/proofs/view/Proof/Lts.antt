@@ -181,13 +181,13 @@ abbrev b7 : Syntax.Body
 b7 = Syntax.call "feed::frame" (Syntax.copy (Syntax.place 1 []) ∷ []) (Syntax.place 4 [])
 
 abbrev b8 : Syntax.Body
-b8 = Syntax.assign (Syntax.place 5 []) (Syntax.op2 Syntax.offset (Syntax.copy (Syntax.place 1 (Syntax.field 0 ∷ []))) (Syntax.int Syntax.w64 88))
+b8 = Syntax.assign (Syntax.place 5 []) (Syntax.op2 Syntax.offset (Syntax.copy (Syntax.place 1 (Syntax.field 0 ∷ []))) (Syntax.int Syntax.w64 96))
 
 abbrev b9 : Syntax.Body
 b9 = Syntax.assign (Syntax.place 6 []) (Syntax.rvOpd (Syntax.copy (Syntax.place 5 (Syntax.deref SlotAs.ty ∷ []))))
 
 abbrev b10 : Syntax.Body
-b10 = Syntax.assign (Syntax.place 7 []) (Syntax.op2 Syntax.offset (Syntax.copy (Syntax.place 1 (Syntax.field 0 ∷ []))) (Syntax.int Syntax.w64 132))
+b10 = Syntax.assign (Syntax.place 7 []) (Syntax.op2 Syntax.offset (Syntax.copy (Syntax.place 1 (Syntax.field 0 ∷ []))) (Syntax.int Syntax.w64 144))
 
 abbrev b11 : Syntax.Body
 b11 = Syntax.assign (Syntax.place 8 []) (Syntax.rvOpd (Syntax.copy (Syntax.place 7 (Syntax.deref SlotAs.ty ∷ []))))
@@ -618,10 +618,10 @@ module _ (claims· : Claims) where
 
   abbrev s8 : Typed.Asks T10 T11
   s8 = Scalar.k-op2 T10 Syntax.offset (Scalar.oFld 1 (Syntax.field 0 ∷ []) (Syntax.tyRef (Syntax.named 0) Syntax.imm SlotAs.pointee) 0 Reads.ptrVal)
-      (Scalar.oInt Syntax.w64 88) 5 (Rows'.sc-here Row.sPtr) (Row.sPtr .of)
+      (Scalar.oInt Syntax.w64 96) 5 (Rows'.sc-here Row.sPtr) (Row.sPtr .of)
 
   abbrev s9 : Typed.Both T11 T12
-  s9 = Move.k-shs-copy-out SlotAs.row T11 1 5 6 0 (Syntax.tyRef (Syntax.named 0) Syntax.imm SlotAs.pointee) Row.off SlotAs.whole (Shared.bySize 44) (λ u. 2) (λ
+  s9 = Move.k-shs-copy-out SlotAs.row T11 1 5 6 0 (Syntax.tyRef (Syntax.named 0) Syntax.imm SlotAs.pointee) Row.off SlotAs.whole (Shared.bySize 48) (λ u. 2) (λ
       x. x) SlotAs.none (λ x. Unit) (λ x. x) λ x. x
 
   abbrev s10 : Typed.Mo T12 → Typed.Mo T13
@@ -629,10 +629,10 @@ module _ (claims· : Claims) where
 
   abbrev s11 : Typed.Asks T13 T14
   s11 = Scalar.k-op2 T13 Syntax.offset (Scalar.oFld 1 (Syntax.field 0 ∷ []) (Syntax.tyRef (Syntax.named 0) Syntax.imm SlotAs.pointee) 0 Reads.ptrVal)
-      (Scalar.oInt Syntax.w64 132) 7 (Rows'.sc-here Row.sPtr) (Row.sPtr .of)
+      (Scalar.oInt Syntax.w64 144) 7 (Rows'.sc-here Row.sPtr) (Row.sPtr .of)
 
   abbrev s12 : Typed.Both T14 T15
-  s12 = Move.k-shs-copy-out SlotAs.row T14 1 7 8 0 (Syntax.tyRef (Syntax.named 0) Syntax.imm SlotAs.pointee) Row.off SlotAs.whole (Shared.bySize 44) (λ u. 3)
+  s12 = Move.k-shs-copy-out SlotAs.row T14 1 7 8 0 (Syntax.tyRef (Syntax.named 0) Syntax.imm SlotAs.pointee) Row.off SlotAs.whole (Shared.bySize 48) (λ u. 3)
       (λ x. x) SlotAs.none (λ x. Unit) (λ x. x) λ x. x
 
   abbrev s13 : Typed.Mo T15 → Typed.Mo T16
@@ -918,15 +918,15 @@ module _ (claims· : Claims) where
             d14 : Typed.Typed 𝓤 H A 𝓣 E G14 b15 Δ0 at14
             d14 = Typed.s-seq 𝓤 H A W 𝓣 E G14 G15 b11 b14 Δ0 (Typed.both s12) at13 (Move.t-shs-copy-out 𝓤 H A W E SlotAs.row 𝓣 Path'.refl (SlotAs.copies .copy 𝓤
                 H A W) (Copies.halved 𝓤 H A W SlotAs.copies) (λ ρ. Unit) G14 1 7 8 0 (Syntax.tyRef (Syntax.named 0) Syntax.imm SlotAs.pointee) (Row.lease (κs .0)
-                (qs .0)) SlotAs.ty SlotAs.ty SlotAs.whole (Shared.bySize 44) (λ u. 3) (λ x. x) SlotAs.none (λ x. Unit) (λ x. x) (λ x. x) (λ i o. Elements.at-mul
-                o 44 i) Path'.refl Path'.refl (Own.told-none 𝓤 H A (G14 .slots)) (DerefMove.learns-nothing 𝓤 H A SlotAs.row) (Reads.as-is 𝓤 H A (Rows'.sslice
+                (qs .0)) SlotAs.ty SlotAs.ty SlotAs.whole (Shared.bySize 48) (λ u. 3) (λ x. x) SlotAs.none (λ x. Unit) (λ x. x) (λ x. x) (λ i o. Elements.at-mul
+                o 48 i) Path'.refl Path'.refl (Own.told-none 𝓤 H A (G14 .slots)) (DerefMove.learns-nothing 𝓤 H A SlotAs.row) (Reads.as-is 𝓤 H A (Rows'.sslice
                 SlotAs.row (Syntax.tyRef (Syntax.named 0) Syntax.imm SlotAs.pointee) 0)) (Reads.as-is 𝓤 H A (Rows'.sc-here Row.sPtr)) (Reads.room-gone 𝓤 H A
                 SlotAs.ty) (Yields.makes-mem 𝓤 H A W (λ ρ. Unit) SlotAs.row Path'.refl SlotAs.whole (λ x. x) λ ρ told. SlotAs.of-mem 𝓤 H A W ρ) Path'.refl tt
                 Path'.refl Path'.refl) d13
 
             d15 : Typed.Typed 𝓤 H A 𝓣 E G13 b16 Δ0 at15
             d15 = Typed.s-seq 𝓤 H A W 𝓣 E G13 G14 b10 b15 Δ0 (Typed.ask s11) at14 (Scalar.t-op2 𝓤 H A W E 𝓣 G13 Syntax.offset (Scalar.oFld 1 (Syntax.field 0 ∷
-                []) (Syntax.tyRef (Syntax.named 0) Syntax.imm SlotAs.pointee) 0 Reads.ptrVal) (Scalar.oInt Syntax.w64 132) 7 (Rows'.sc-here Row.sPtr)
+                []) (Syntax.tyRef (Syntax.named 0) Syntax.imm SlotAs.pointee) 0 Reads.ptrVal) (Scalar.oInt Syntax.w64 144) 7 (Rows'.sc-here Row.sPtr)
                 Syntax.tyPtr (Row.valS Row.sPtr) (Row.sPtr .of) (
                   Shared.reads-sslice-ptr 𝓤 H A W SlotAs.row (Syntax.tyRef (Syntax.named 0) Syntax.imm
                       SlotAs.pointee) 0 0 Path'.refl,
@@ -941,15 +941,15 @@ module _ (claims· : Claims) where
             d17 : Typed.Typed 𝓤 H A 𝓣 E G11 b17 Δ0 at17
             d17 = Typed.s-seq 𝓤 H A W 𝓣 E G11 G12 b9 b16 Δ0 (Typed.both s9) at16 (Move.t-shs-copy-out 𝓤 H A W E SlotAs.row 𝓣 Path'.refl (SlotAs.copies .copy 𝓤 H
                 A W) (Copies.halved 𝓤 H A W SlotAs.copies) (λ ρ. Unit) G11 1 5 6 0 (Syntax.tyRef (Syntax.named 0) Syntax.imm SlotAs.pointee) (Row.lease (κs .0)
-                (qs .0)) SlotAs.ty SlotAs.ty SlotAs.whole (Shared.bySize 44) (λ u. 2) (λ x. x) SlotAs.none (λ x. Unit) (λ x. x) (λ x. x) (λ i o. Elements.at-mul
-                o 44 i) Path'.refl Path'.refl (Own.told-none 𝓤 H A (G11 .slots)) (DerefMove.learns-nothing 𝓤 H A SlotAs.row) (Reads.as-is 𝓤 H A (Rows'.sslice
+                (qs .0)) SlotAs.ty SlotAs.ty SlotAs.whole (Shared.bySize 48) (λ u. 2) (λ x. x) SlotAs.none (λ x. Unit) (λ x. x) (λ x. x) (λ i o. Elements.at-mul
+                o 48 i) Path'.refl Path'.refl (Own.told-none 𝓤 H A (G11 .slots)) (DerefMove.learns-nothing 𝓤 H A SlotAs.row) (Reads.as-is 𝓤 H A (Rows'.sslice
                 SlotAs.row (Syntax.tyRef (Syntax.named 0) Syntax.imm SlotAs.pointee) 0)) (Reads.as-is 𝓤 H A (Rows'.sc-here Row.sPtr)) (Reads.room-gone 𝓤 H A
                 SlotAs.ty) (Yields.makes-mem 𝓤 H A W (λ ρ. Unit) SlotAs.row Path'.refl SlotAs.whole (λ x. x) λ ρ told. SlotAs.of-mem 𝓤 H A W ρ) Path'.refl tt
                 Path'.refl Path'.refl) d16
 
             d18 : Typed.Typed 𝓤 H A 𝓣 E G10 b18 Δ0 at18
             d18 = Typed.s-seq 𝓤 H A W 𝓣 E G10 G11 b8 b17 Δ0 (Typed.ask s8) at17 (Scalar.t-op2 𝓤 H A W E 𝓣 G10 Syntax.offset (Scalar.oFld 1 (Syntax.field 0 ∷ [])
-                (Syntax.tyRef (Syntax.named 0) Syntax.imm SlotAs.pointee) 0 Reads.ptrVal) (Scalar.oInt Syntax.w64 88) 5 (Rows'.sc-here Row.sPtr) Syntax.tyPtr
+                (Syntax.tyRef (Syntax.named 0) Syntax.imm SlotAs.pointee) 0 Reads.ptrVal) (Scalar.oInt Syntax.w64 96) 5 (Rows'.sc-here Row.sPtr) Syntax.tyPtr
                 (Row.valS Row.sPtr) (Row.sPtr .of) (
                   Shared.reads-sslice-ptr 𝓤 H A W SlotAs.row (Syntax.tyRef (Syntax.named 0) Syntax.imm SlotAs.pointee) 0 0
                       Path'.refl,

@@ -16,24 +16,22 @@ use mathlib.Core.Path as Path'
 use mir.Syntax
 
 abbrev pub ps : List.List (Kinds.PK 1)
-ps = MutSlice.pMutS SlotAs.row 0 tt ∷ Kinds.pNum Syntax.w64 ∷ (Value.pVal record {
+ps = MutSlice.pMutS SlotAs.row 0 tt ∷ Kinds.pNum Syntax.w64 ∷ Kinds.pNum Syntax.w32 ∷ (Value.pVal record {
   ty = Declared.row Line.the-type;
   one = Path'.refl;
-  val = Laws'.val
-      Line.the-type Laws.the-laws;
+  val = Laws'.val Line.the-type Laws.the-laws;
   tells = Laws'.tells Line.the-type Laws.the-laws;
   still = Laws'.still Line.the-type Laws.the-copy Exit.yes;
-  row = Rows.whole
-      (Declared.row Line.the-type);
+  row
+      = Rows.whole (Declared.row Line.the-type);
   rd = λ x. x;
   mk = λ x. x;
 } λ M 𝓤 H A W. record {
   copies = Laws'.copy Line.the-type Laws.the-copy 𝓤 H A W;
-  lawful =
-      Laws'.lawful Line.the-type Laws.the-laws 𝓤 H A W tt;
+  lawful = Laws'.lawful Line.the-type Laws.the-laws 𝓤 H A W tt;
   makes = Laws'.makes Line.the-type Laws.the-plain 𝓤 H A;
-  in-mem = Local.mem-whole 𝓤 H A W (Declared.row
-      Line.the-type);
+  in-mem = Local.mem-whole 𝓤 H A W
+      (Declared.row Line.the-type);
   of-mem = Local.whole-mem 𝓤 H A W (Declared.row Line.the-type);
 }) ∷ []
 

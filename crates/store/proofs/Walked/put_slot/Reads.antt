@@ -40,50 +40,59 @@ module _ (κs : Lifetimes.Lfts 1) where
   ensures = λ a g r s w. put_slot.clauses (w .𝓤) (w .H) (w .𝓖 .A) (w .𝓜 .mem) (w .𝓡 .run) κs a .ensures g r s
 
   abbrev pub requires-1·read : (a : World.ArgsD put_slot.signature κs) → (g : Ghost) → Read.Read (World.In put_slot.signature κs a) Read.no-know λ w.
-      put_slot.requires-1 (w .𝓤) (w .H) κs (w .𝓖 .A) (w .𝓜 .mem) (w .𝓡 .run) (a .0) (a .1 .0) (a .1 .1 .0)
-  requires-1·read = λ a g. Read.all-models (λ w. put_slot.requires-1 (w .𝓤) (w .H) κs (w .𝓖 .A) (w .𝓜 .mem) (w .𝓡 .run) (a .0) (a .1 .0) (a .1 .1 .0)) (λ w.
-      search Read.reads) (λ w. Path'.refl) (λ w. Path'.refl) λ w. Path'.refl
+      put_slot.requires-1 (w .𝓤) (w .H) κs (w .𝓖 .A) (w .𝓜 .mem) (w .𝓡 .run) (a .0) (a .1 .0) (a .1 .1 .0) (a .1 .1 .1 .0)
+  requires-1·read = λ a g. Read.all-models (λ w. put_slot.requires-1 (w .𝓤) (w .H) κs (w .𝓖 .A) (w .𝓜 .mem) (w .𝓡 .run) (a .0) (a .1 .0) (a .1 .1 .0) (a .1 .1
+      .1 .0)) (λ w. search Read.reads) (λ w. Path'.refl) (λ w. Path'.refl) λ w. Path'.refl
 
   abbrev pub requires-2·read : (a : World.ArgsD put_slot.signature κs) → (g : Ghost) → Read.Read (World.In put_slot.signature κs a) Read.no-know λ w.
-      put_slot.requires-2 (w .𝓤) (w .H) κs (w .𝓖 .A) (w .𝓜 .mem) (w .𝓡 .run) (a .0) (a .1 .0) (a .1 .1 .0)
-  requires-2·read = λ a g. Read.all-models (λ w. put_slot.requires-2 (w .𝓤) (w .H) κs (w .𝓖 .A) (w .𝓜 .mem) (w .𝓡 .run) (a .0) (a .1 .0) (a .1 .1 .0)) (λ w.
-      search Read.reads) (λ w. Path'.refl) (λ w. Path'.refl) λ w. Path'.refl
+      put_slot.requires-2 (w .𝓤) (w .H) κs (w .𝓖 .A) (w .𝓜 .mem) (w .𝓡 .run) (a .0) (a .1 .0) (a .1 .1 .0) (a .1 .1 .1 .0)
+  requires-2·read = λ a g. Read.all-models (λ w. put_slot.requires-2 (w .𝓤) (w .H) κs (w .𝓖 .A) (w .𝓜 .mem) (w .𝓡 .run) (a .0) (a .1 .0) (a .1 .1 .0) (a .1 .1
+      .1 .0)) (λ w. search Read.reads) (λ w. Path'.refl) (λ w. Path'.refl) λ w. Path'.refl
 
   abbrev pub pre-read : (a : World.ArgsD put_slot.signature κs) → (g : Ghost) → Read.Read (World.In put_slot.signature κs a) Read.no-know (requires a g)
-  pre-read = λ a g. Read.read-join (λ w. put_slot.requires-1 (w .𝓤) (w .H) κs (w .𝓖 .A) (w .𝓜 .mem) (w .𝓡 .run) (a .0) (a .1 .0) (a .1 .1 .0)) (λ w.
-      put_slot.requires-2 (w .𝓤) (w .H) κs (w .𝓖 .A) (w .𝓜 .mem) (w .𝓡 .run) (a .0) (a .1 .0) (a .1 .1 .0)) (requires-1·read a g) (requires-2·read a g)
+  pre-read = λ a g. Read.read-join (λ w. put_slot.requires-1 (w .𝓤) (w .H) κs (w .𝓖 .A) (w .𝓜 .mem) (w .𝓡 .run) (a .0) (a .1 .0) (a .1 .1 .0) (a .1 .1 .1 .0))
+      (λ w. put_slot.requires-2 (w .𝓤) (w .H) κs (w .𝓖 .A) (w .𝓜 .mem) (w .𝓡 .run) (a .0) (a .1 .0) (a .1 .1 .0) (a .1 .1 .1 .0)) (requires-1·read a g)
+      (requires-2·read a g)
 
   abbrev pub ensures-1·read : (a : World.ArgsD put_slot.signature κs) → (g : Ghost) → (r : World.ResD put_slot.signature κs) → (s : Clauses.AtExit
       (Kinds'.endedOf 1 Kinds.ps Kinds.r) κs) → Read.Read (Base a) (Owned r s) λ w. put_slot.ensures-1 (w .𝓤) (w .H) κs (w .𝓖 .A) (w .𝓜 .mem) (w .𝓡 .run) (a
-      .0) (a .1 .0) (a .1 .1 .0) record { entry = a .0; exit = s .0 } record { entry = a .1 .0; exit = s .1 .0 } record {
+      .0) (a .1 .0) (a .1 .1 .0) (a .1 .1 .1 .0) record { entry = a .0; exit = s .0 } record { entry = a .1 .0; exit = s .1 .0 } record {
         entry = a .1 .1 .0;
         exit = s .1 .1 .0;
-      } r
-  ensures-1·read = λ a g r s. Read.all-models (λ w. put_slot.ensures-1 (w .𝓤) (w .H) κs (w .𝓖 .A) (w .𝓜 .mem) (w .𝓡 .run) (a .0) (a .1 .0) (a .1 .1 .0) record
-      { entry = a .0; exit = s .0 } record { entry = a .1 .0; exit = s .1 .0 } record { entry = a .1 .1 .0; exit = s .1 .1 .0 } r) (λ w. search Read.reads) (λ
-      w. Path'.refl) (λ w. Path'.refl) λ w. Path'.refl
+      } record { entry = a .1 .1 .1 .0; exit = s .1 .1 .1 .0 } r
+  ensures-1·read = λ a g r s. Read.all-models (λ w. put_slot.ensures-1 (w .𝓤) (w .H) κs (w .𝓖 .A) (w .𝓜 .mem) (w .𝓡 .run) (a .0) (a .1 .0) (a .1 .1 .0) (a .1
+      .1 .1 .0) record { entry = a .0; exit = s .0 } record { entry = a .1 .0; exit = s .1 .0 } record { entry = a .1 .1 .0; exit = s .1 .1 .0 } record {
+        entry
+            = a .1 .1 .1 .0;
+        exit = s .1 .1 .1 .0;
+      } r) (λ w. search Read.reads) (λ w. Path'.refl) (λ w. Path'.refl) λ w. Path'.refl
 
   abbrev pub ensures-2·read : (a : World.ArgsD put_slot.signature κs) → (g : Ghost) → (r : World.ResD put_slot.signature κs) → (s : Clauses.AtExit
       (Kinds'.endedOf 1 Kinds.ps Kinds.r) κs) → Read.Read (Base a) (Owned r s) λ w. put_slot.ensures-2 (w .𝓤) (w .H) κs (w .𝓖 .A) (w .𝓜 .mem) (w .𝓡 .run) (a
-      .0) (a .1 .0) (a .1 .1 .0) record { entry = a .0; exit = s .0 } record { entry = a .1 .0; exit = s .1 .0 } record {
+      .0) (a .1 .0) (a .1 .1 .0) (a .1 .1 .1 .0) record { entry = a .0; exit = s .0 } record { entry = a .1 .0; exit = s .1 .0 } record {
         entry = a .1 .1 .0;
         exit = s .1 .1 .0;
-      } r
-  ensures-2·read = λ a g r s. Read.all-models (λ w. put_slot.ensures-2 (w .𝓤) (w .H) κs (w .𝓖 .A) (w .𝓜 .mem) (w .𝓡 .run) (a .0) (a .1 .0) (a .1 .1 .0) record
-      { entry = a .0; exit = s .0 } record { entry = a .1 .0; exit = s .1 .0 } record { entry = a .1 .1 .0; exit = s .1 .1 .0 } r) (λ w. search Read.reads) (λ
-      w. Path'.refl) (λ w. Path'.refl) λ w. Path'.refl
+      } record { entry = a .1 .1 .1 .0; exit = s .1 .1 .1 .0 } r
+  ensures-2·read = λ a g r s. Read.all-models (λ w. put_slot.ensures-2 (w .𝓤) (w .H) κs (w .𝓖 .A) (w .𝓜 .mem) (w .𝓡 .run) (a .0) (a .1 .0) (a .1 .1 .0) (a .1
+      .1 .1 .0) record { entry = a .0; exit = s .0 } record { entry = a .1 .0; exit = s .1 .0 } record { entry = a .1 .1 .0; exit = s .1 .1 .0 } record {
+        entry
+            = a .1 .1 .1 .0;
+        exit = s .1 .1 .1 .0;
+      } r) (λ w. search Read.reads) (λ w. Path'.refl) (λ w. Path'.refl) λ w. Path'.refl
 
   abbrev pub post-read : (a : World.ArgsD put_slot.signature κs) → (g : Ghost) → (r : World.ResD put_slot.signature κs) → (s : Clauses.AtExit (Kinds'.endedOf 1
       Kinds.ps Kinds.r) κs) → Read.Read (Base a) (Owned r s) (ensures a g r s)
-  post-read = λ a g r s. Read.read-join (λ w. put_slot.ensures-1 (w .𝓤) (w .H) κs (w .𝓖 .A) (w .𝓜 .mem) (w .𝓡 .run) (a .0) (a .1 .0) (a .1 .1 .0) record {
-    entry = a .0;
-    exit = s .0;
-  } record { entry = a .1 .0; exit = s .1 .0 } record { entry = a .1 .1 .0; exit = s .1 .1 .0 } r) (λ w. put_slot.ensures-2 (w
-      .𝓤) (w .H) κs (w .𝓖 .A) (w .𝓜 .mem) (w .𝓡 .run) (a .0) (a .1 .0) (a .1 .1 .0) record { entry = a .0; exit = s .0 } record {
-        entry = a .1 .0;
-        exit = s .1
-            .0;
-      } record { entry = a .1 .1 .0; exit = s .1 .1 .0 } r) (ensures-1·read a g r s) (ensures-2·read a g r s)
+  post-read = λ a g r s. Read.read-join (λ w. put_slot.ensures-1 (w .𝓤) (w .H) κs (w .𝓖 .A) (w .𝓜 .mem) (w .𝓡 .run) (a .0) (a .1 .0) (a .1 .1 .0) (a .1 .1 .1
+      .0) record { entry = a .0; exit = s .0 } record { entry = a .1 .0; exit = s .1 .0 } record { entry = a .1 .1 .0; exit = s .1 .1 .0 } record {
+        entry = a
+            .1 .1 .1 .0;
+        exit = s .1 .1 .1 .0;
+      } r) (λ w. put_slot.ensures-2 (w .𝓤) (w .H) κs (w .𝓖 .A) (w .𝓜 .mem) (w .𝓡 .run) (a .0) (a .1 .0) (a .1 .1 .0) (a .1 .1
+      .1 .0) record { entry = a .0; exit = s .0 } record { entry = a .1 .0; exit = s .1 .0 } record { entry = a .1 .1 .0; exit = s .1 .1 .0 } record {
+        entry =
+            a .1 .1 .1 .0;
+        exit = s .1 .1 .1 .0;
+      } r) (ensures-1·read a g r s) (ensures-2·read a g r s)
 
 abbrev pub Pre : Kinds'.In 1 Kinds.ps
 Pre = Written.Pre 1 Kinds.ps Kinds.r Ghost requires ensures pre-read Pinned Owned post-read tt

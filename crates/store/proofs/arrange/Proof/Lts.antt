@@ -59,11 +59,11 @@ r = Num.rNum Syntax.w8
 
 abbrev pub xs : List.List Syntax.Ty
 xs = (Syntax.tyStruct (115 ∷ 116 ∷ 111 ∷ 114 ∷ 101 ∷ 58 ∷ 58 ∷ 72 ∷ 101 ∷ 108 ∷ 100 ∷ []) (Syntax.tcons (Syntax.tyInt Syntax.w8) (Syntax.tcons (Syntax.tyInt
-    Syntax.w64) (Syntax.tcons (Syntax.tyInt Syntax.w64) (Syntax.tcons (Syntax.tyInt Syntax.w64) (Syntax.tcons (Syntax.tyInt Syntax.w64) Syntax.tnil)))))) ∷
-    Syntax.tyInt Syntax.w64 ∷ Syntax.tyRef Syntax.erased Syntax.imm SlotAs.pointee ∷ (Syntax.tyStruct (38 ∷ 91 ∷ 93 ∷ []) (Syntax.tcons (Syntax.tyRef
-    Syntax.erased Syntax.imm SlotAs.pointee) (Syntax.tcons (Syntax.tyInt Syntax.w64) Syntax.tnil))) ∷ Syntax.tyBool ∷ Syntax.tyInt Syntax.w64 ∷ Syntax.tyInt
-    Syntax.w64 ∷ Syntax.tyUnit ∷ Syntax.tyRef Syntax.erased Syntax.mut SlotAs.pointee ∷ (Syntax.tyStruct (38 ∷ 91 ∷ 93 ∷ []) (Syntax.tcons (Syntax.tyRef
-    Syntax.erased Syntax.mut SlotAs.pointee) (Syntax.tcons (Syntax.tyInt Syntax.w64) Syntax.tnil))) ∷ []
+    Syntax.w64) (Syntax.tcons (Syntax.tyInt Syntax.w64) (Syntax.tcons (Syntax.tyInt Syntax.w64) (Syntax.tcons (Syntax.tyInt Syntax.w64) (Syntax.tcons
+    (Syntax.tyInt Syntax.w64) Syntax.tnil))))))) ∷ Syntax.tyInt Syntax.w64 ∷ Syntax.tyRef Syntax.erased Syntax.imm SlotAs.pointee ∷ (Syntax.tyStruct (38 ∷ 91 ∷
+    93 ∷ []) (Syntax.tcons (Syntax.tyRef Syntax.erased Syntax.imm SlotAs.pointee) (Syntax.tcons (Syntax.tyInt Syntax.w64) Syntax.tnil))) ∷ Syntax.tyBool ∷
+    Syntax.tyInt Syntax.w64 ∷ Syntax.tyInt Syntax.w64 ∷ Syntax.tyUnit ∷ Syntax.tyRef Syntax.erased Syntax.mut SlotAs.pointee ∷ (Syntax.tyStruct (38 ∷ 91 ∷ 93 ∷
+    []) (Syntax.tcons (Syntax.tyRef Syntax.erased Syntax.mut SlotAs.pointee) (Syntax.tcons (Syntax.tyInt Syntax.w64) Syntax.tnil))) ∷ []
 
 abbrev pub m : Nat.ℕ
 m = 2
@@ -234,27 +234,21 @@ t0 = (0, Rows.any-gone (Syntax.tyInt Syntax.w8)) ∷ (
   4,
   Rows.any-gone (Syntax.tyStruct (115 ∷ 116 ∷ 111 ∷
       114 ∷ 101 ∷ 58 ∷ 58 ∷ 72 ∷ 101 ∷ 108 ∷ 100 ∷ []) (Syntax.tcons (Syntax.tyInt Syntax.w8) (Syntax.tcons (Syntax.tyInt Syntax.w64) (Syntax.tcons (Syntax.tyInt
-      Syntax.w64) (Syntax.tcons (Syntax.tyInt Syntax.w64) (Syntax.tcons (Syntax.tyInt Syntax.w64) Syntax.tnil)))))),
-) ∷ (
-  5,
-  Rows.any-gone (Syntax.tyInt
-      Syntax.w64),
-) ∷ (6, Rows.any-gone (Syntax.tyRef Syntax.erased Syntax.imm SlotAs.pointee)) ∷ (
-  7,
-  Rows.any-gone (Syntax.tyStruct (38 ∷ 91 ∷ 93 ∷ [])
-      (Syntax.tcons (Syntax.tyRef Syntax.erased Syntax.imm SlotAs.pointee) (Syntax.tcons (Syntax.tyInt Syntax.w64) Syntax.tnil))),
-) ∷ (
-  8,
-  Rows.any-gone
-      Syntax.tyBool,
-) ∷ (9, Rows.any-gone (Syntax.tyInt Syntax.w64)) ∷ (10, Rows.any-gone (Syntax.tyInt Syntax.w64)) ∷ (11, Rows.any-gone Syntax.tyUnit) ∷ (
-  12,
-  Rows.any-gone (Syntax.tyRef Syntax.erased Syntax.mut SlotAs.pointee),
-) ∷ (
-  13,
-  Rows.any-gone (Syntax.tyStruct (38 ∷ 91 ∷ 93 ∷ []) (Syntax.tcons (Syntax.tyRef
-      Syntax.erased Syntax.mut SlotAs.pointee) (Syntax.tcons (Syntax.tyInt Syntax.w64) Syntax.tnil))),
-) ∷ []
+      Syntax.w64) (Syntax.tcons (Syntax.tyInt Syntax.w64) (Syntax.tcons (Syntax.tyInt Syntax.w64) (Syntax.tcons (Syntax.tyInt Syntax.w64) Syntax.tnil))))))),
+) ∷
+    (5, Rows.any-gone (Syntax.tyInt Syntax.w64)) ∷ (6, Rows.any-gone (Syntax.tyRef Syntax.erased Syntax.imm SlotAs.pointee)) ∷ (
+      7,
+      Rows.any-gone
+          (Syntax.tyStruct (38 ∷ 91 ∷ 93 ∷ []) (Syntax.tcons (Syntax.tyRef Syntax.erased Syntax.imm SlotAs.pointee) (Syntax.tcons (Syntax.tyInt Syntax.w64)
+          Syntax.tnil))),
+    ) ∷ (8, Rows.any-gone Syntax.tyBool) ∷ (9, Rows.any-gone (Syntax.tyInt Syntax.w64)) ∷ (10, Rows.any-gone (Syntax.tyInt Syntax.w64)) ∷ (
+      11,
+      Rows.any-gone Syntax.tyUnit,
+    ) ∷ (12, Rows.any-gone (Syntax.tyRef Syntax.erased Syntax.mut SlotAs.pointee)) ∷ (
+      13,
+      Rows.any-gone (Syntax.tyStruct (38 ∷ 91 ∷
+          93 ∷ []) (Syntax.tcons (Syntax.tyRef Syntax.erased Syntax.mut SlotAs.pointee) (Syntax.tcons (Syntax.tyInt Syntax.w64) Syntax.tnil))),
+    ) ∷ []
 
 abbrev pub t1 : List.List Row.Entry
 t1 = (0, Rows.sc-here (Row.sInt Syntax.w8)) ∷ (
@@ -269,26 +263,25 @@ t1 = (0, Rows.sc-here (Row.sInt Syntax.w8)) ∷ (
   4,
   Rows.any-gone (Syntax.tyStruct (115 ∷ 116 ∷ 111 ∷ 114 ∷ 101 ∷ 58 ∷
       58 ∷ 72 ∷ 101 ∷ 108 ∷ 100 ∷ []) (Syntax.tcons (Syntax.tyInt Syntax.w8) (Syntax.tcons (Syntax.tyInt Syntax.w64) (Syntax.tcons (Syntax.tyInt Syntax.w64)
-      (Syntax.tcons (Syntax.tyInt Syntax.w64) (Syntax.tcons (Syntax.tyInt Syntax.w64) Syntax.tnil)))))),
-) ∷ (5, Rows.any-gone (Syntax.tyInt Syntax.w64)) ∷ (
-  6,
-  Rows.any-gone (Syntax.tyRef Syntax.erased Syntax.imm SlotAs.pointee),
+      (Syntax.tcons (Syntax.tyInt Syntax.w64) (Syntax.tcons (Syntax.tyInt Syntax.w64) (Syntax.tcons (Syntax.tyInt Syntax.w64) Syntax.tnil))))))),
 ) ∷ (
+  5,
+  Rows.any-gone (Syntax.tyInt Syntax.w64),
+) ∷ (6, Rows.any-gone (Syntax.tyRef Syntax.erased Syntax.imm SlotAs.pointee)) ∷ (
   7,
-  Rows.any-gone (Syntax.tyStruct (38 ∷ 91 ∷ 93 ∷ []) (Syntax.tcons (Syntax.tyRef
-      Syntax.erased Syntax.imm SlotAs.pointee) (Syntax.tcons (Syntax.tyInt Syntax.w64) Syntax.tnil))),
-) ∷ (8, Rows.any-gone Syntax.tyBool) ∷ (
-  9,
-  Rows.any-gone
-      (Syntax.tyInt Syntax.w64),
-) ∷ (10, Rows.any-gone (Syntax.tyInt Syntax.w64)) ∷ (11, Rows.any-gone Syntax.tyUnit) ∷ (
-  12,
-  Rows.any-gone (Syntax.tyRef
-      Syntax.erased Syntax.mut SlotAs.pointee),
+  Rows.any-gone (Syntax.tyStruct
+      (38 ∷ 91 ∷ 93 ∷ []) (Syntax.tcons (Syntax.tyRef Syntax.erased Syntax.imm SlotAs.pointee) (Syntax.tcons (Syntax.tyInt Syntax.w64) Syntax.tnil))),
 ) ∷ (
+  8,
+  Rows.any-gone Syntax.tyBool,
+) ∷ (9, Rows.any-gone (Syntax.tyInt Syntax.w64)) ∷ (10, Rows.any-gone (Syntax.tyInt Syntax.w64)) ∷ (
+  11,
+  Rows.any-gone
+      Syntax.tyUnit,
+) ∷ (12, Rows.any-gone (Syntax.tyRef Syntax.erased Syntax.mut SlotAs.pointee)) ∷ (
   13,
-  Rows.any-gone (Syntax.tyStruct (38 ∷ 91 ∷ 93 ∷ []) (Syntax.tcons (Syntax.tyRef Syntax.erased Syntax.mut
-      SlotAs.pointee) (Syntax.tcons (Syntax.tyInt Syntax.w64) Syntax.tnil))),
+  Rows.any-gone (Syntax.tyStruct (38 ∷ 91 ∷ 93 ∷ [])
+      (Syntax.tcons (Syntax.tyRef Syntax.erased Syntax.mut SlotAs.pointee) (Syntax.tcons (Syntax.tyInt Syntax.w64) Syntax.tnil))),
 ) ∷ []
 
 abbrev pub t2 : List.List Row.Entry
@@ -304,27 +297,23 @@ t2 = (0, Rows.any-gone (Syntax.tyInt Syntax.w8)) ∷ (
   4,
   Rows.any-gone (Syntax.tyStruct (115 ∷
       116 ∷ 111 ∷ 114 ∷ 101 ∷ 58 ∷ 58 ∷ 72 ∷ 101 ∷ 108 ∷ 100 ∷ []) (Syntax.tcons (Syntax.tyInt Syntax.w8) (Syntax.tcons (Syntax.tyInt Syntax.w64) (Syntax.tcons
-      (Syntax.tyInt Syntax.w64) (Syntax.tcons (Syntax.tyInt Syntax.w64) (Syntax.tcons (Syntax.tyInt Syntax.w64) Syntax.tnil)))))),
-) ∷ (
-  5,
-  Rows.any-gone
-      (Syntax.tyInt Syntax.w64),
-) ∷ (6, Relend.ssptr SlotAs.row (Syntax.tyRef Syntax.erased Syntax.imm SlotAs.pointee) 3) ∷ (
-  7,
-  Rows.any-gone (Syntax.tyStruct (38
-      ∷ 91 ∷ 93 ∷ []) (Syntax.tcons (Syntax.tyRef Syntax.erased Syntax.imm SlotAs.pointee) (Syntax.tcons (Syntax.tyInt Syntax.w64) Syntax.tnil))),
-) ∷ (
-  8,
-  Rows.any-gone Syntax.tyBool,
-) ∷ (9, Rows.any-gone (Syntax.tyInt Syntax.w64)) ∷ (10, Rows.any-gone (Syntax.tyInt Syntax.w64)) ∷ (
-  11,
-  Rows.any-gone
-      Syntax.tyUnit,
-) ∷ (12, Rows.any-gone (Syntax.tyRef Syntax.erased Syntax.mut SlotAs.pointee)) ∷ (
-  13,
-  Rows.any-gone (Syntax.tyStruct (38 ∷ 91 ∷ 93 ∷ [])
-      (Syntax.tcons (Syntax.tyRef Syntax.erased Syntax.mut SlotAs.pointee) (Syntax.tcons (Syntax.tyInt Syntax.w64) Syntax.tnil))),
-) ∷ []
+      (Syntax.tyInt Syntax.w64) (Syntax.tcons (Syntax.tyInt Syntax.w64) (Syntax.tcons (Syntax.tyInt Syntax.w64) (Syntax.tcons (Syntax.tyInt Syntax.w64)
+      Syntax.tnil))))))),
+) ∷ (5, Rows.any-gone (Syntax.tyInt Syntax.w64)) ∷ (6, Relend.ssptr SlotAs.row (Syntax.tyRef Syntax.erased Syntax.imm SlotAs.pointee) 3)
+    ∷ (
+      7,
+      Rows.any-gone (Syntax.tyStruct (38 ∷ 91 ∷ 93 ∷ []) (Syntax.tcons (Syntax.tyRef Syntax.erased Syntax.imm SlotAs.pointee) (Syntax.tcons (Syntax.tyInt
+          Syntax.w64) Syntax.tnil))),
+    ) ∷ (8, Rows.any-gone Syntax.tyBool) ∷ (9, Rows.any-gone (Syntax.tyInt Syntax.w64)) ∷ (
+      10,
+      Rows.any-gone (Syntax.tyInt
+          Syntax.w64),
+    ) ∷ (11, Rows.any-gone Syntax.tyUnit) ∷ (12, Rows.any-gone (Syntax.tyRef Syntax.erased Syntax.mut SlotAs.pointee)) ∷ (
+      13,
+      Rows.any-gone
+          (Syntax.tyStruct (38 ∷ 91 ∷ 93 ∷ []) (Syntax.tcons (Syntax.tyRef Syntax.erased Syntax.mut SlotAs.pointee) (Syntax.tcons (Syntax.tyInt Syntax.w64)
+          Syntax.tnil))),
+    ) ∷ []
 
 abbrev pub t3 : List.List Row.Entry
 t3 = (0, Rows.any-gone (Syntax.tyInt Syntax.w8)) ∷ (
@@ -339,23 +328,23 @@ t3 = (0, Rows.any-gone (Syntax.tyInt Syntax.w8)) ∷ (
   4,
   Rows.any-gone (Syntax.tyStruct (115 ∷
       116 ∷ 111 ∷ 114 ∷ 101 ∷ 58 ∷ 58 ∷ 72 ∷ 101 ∷ 108 ∷ 100 ∷ []) (Syntax.tcons (Syntax.tyInt Syntax.w8) (Syntax.tcons (Syntax.tyInt Syntax.w64) (Syntax.tcons
-      (Syntax.tyInt Syntax.w64) (Syntax.tcons (Syntax.tyInt Syntax.w64) (Syntax.tcons (Syntax.tyInt Syntax.w64) Syntax.tnil)))))),
-) ∷ (
-  5,
-  Rows.any-gone
-      (Syntax.tyInt Syntax.w64),
-) ∷ (6, Rows.any-gone (Syntax.tyRef Syntax.erased Syntax.imm SlotAs.pointee)) ∷ (
+      (Syntax.tyInt Syntax.w64) (Syntax.tcons (Syntax.tyInt Syntax.w64) (Syntax.tcons (Syntax.tyInt Syntax.w64) (Syntax.tcons (Syntax.tyInt Syntax.w64)
+      Syntax.tnil))))))),
+) ∷ (5, Rows.any-gone (Syntax.tyInt Syntax.w64)) ∷ (6, Rows.any-gone (Syntax.tyRef Syntax.erased Syntax.imm SlotAs.pointee)) ∷ (
   7,
-  Rows.sslice SlotAs.row (Syntax.tyRef
-      Syntax.erased Syntax.imm SlotAs.pointee) 3,
-) ∷ (8, Rows.any-gone Syntax.tyBool) ∷ (9, Rows.any-gone (Syntax.tyInt Syntax.w64)) ∷ (
-  10,
-  Rows.any-gone
-      (Syntax.tyInt Syntax.w64),
-) ∷ (11, Rows.any-gone Syntax.tyUnit) ∷ (12, Rows.any-gone (Syntax.tyRef Syntax.erased Syntax.mut SlotAs.pointee)) ∷ (
+  Rows.sslice SlotAs.row (Syntax.tyRef Syntax.erased Syntax.imm SlotAs.pointee) 3,
+) ∷ (8, Rows.any-gone Syntax.tyBool) ∷ (
+  9,
+  Rows.any-gone (Syntax.tyInt
+      Syntax.w64),
+) ∷ (10, Rows.any-gone (Syntax.tyInt Syntax.w64)) ∷ (11, Rows.any-gone Syntax.tyUnit) ∷ (
+  12,
+  Rows.any-gone (Syntax.tyRef Syntax.erased
+      Syntax.mut SlotAs.pointee),
+) ∷ (
   13,
-  Rows.any-gone (Syntax.tyStruct (38 ∷ 91 ∷ 93 ∷ []) (Syntax.tcons (Syntax.tyRef Syntax.erased Syntax.mut SlotAs.pointee) (Syntax.tcons (Syntax.tyInt
-      Syntax.w64) Syntax.tnil))),
+  Rows.any-gone (Syntax.tyStruct (38 ∷ 91 ∷ 93 ∷ []) (Syntax.tcons (Syntax.tyRef Syntax.erased Syntax.mut SlotAs.pointee)
+      (Syntax.tcons (Syntax.tyInt Syntax.w64) Syntax.tnil))),
 ) ∷ []
 
 abbrev pub t4 : List.List Row.Entry
@@ -647,23 +636,23 @@ t14 = (0, Rows.any-gone (Syntax.tyInt Syntax.w8)) ∷ (
   4,
   Rows.any-gone (Syntax.tyStruct (115 ∷ 116 ∷ 111 ∷
       114 ∷ 101 ∷ 58 ∷ 58 ∷ 72 ∷ 101 ∷ 108 ∷ 100 ∷ []) (Syntax.tcons (Syntax.tyInt Syntax.w8) (Syntax.tcons (Syntax.tyInt Syntax.w64) (Syntax.tcons (Syntax.tyInt
-      Syntax.w64) (Syntax.tcons (Syntax.tyInt Syntax.w64) (Syntax.tcons (Syntax.tyInt Syntax.w64) Syntax.tnil)))))),
-) ∷ (5, Rows.sc-here (Row.sInt Syntax.w64)) ∷
-    (6, Rows.any-gone (Syntax.tyRef Syntax.erased Syntax.imm SlotAs.pointee)) ∷ (
+      Syntax.w64) (Syntax.tcons (Syntax.tyInt Syntax.w64) (Syntax.tcons (Syntax.tyInt Syntax.w64) (Syntax.tcons (Syntax.tyInt Syntax.w64) Syntax.tnil))))))),
+) ∷
+    (5, Rows.sc-here (Row.sInt Syntax.w64)) ∷ (6, Rows.any-gone (Syntax.tyRef Syntax.erased Syntax.imm SlotAs.pointee)) ∷ (
       7,
-      Rows.any-gone (Syntax.tyStruct (38 ∷ 91 ∷ 93 ∷ []) (Syntax.tcons
-          (Syntax.tyRef Syntax.erased Syntax.imm SlotAs.pointee) (Syntax.tcons (Syntax.tyInt Syntax.w64) Syntax.tnil))),
-    ) ∷ (8, Rows.any-gone Syntax.tyBool) ∷ (
-      9,
-      Rows.any-gone (Syntax.tyInt Syntax.w64),
-    ) ∷ (10, Rows.any-gone (Syntax.tyInt Syntax.w64)) ∷ (11, Rows.any-gone Syntax.tyUnit) ∷ (
-      12,
-      Rows.any-gone
-          (Syntax.tyRef Syntax.erased Syntax.mut SlotAs.pointee),
+      Rows.any-gone (Syntax.tyStruct
+          (38 ∷ 91 ∷ 93 ∷ []) (Syntax.tcons (Syntax.tyRef Syntax.erased Syntax.imm SlotAs.pointee) (Syntax.tcons (Syntax.tyInt Syntax.w64) Syntax.tnil))),
     ) ∷ (
+      8,
+      Rows.any-gone Syntax.tyBool,
+    ) ∷ (9, Rows.any-gone (Syntax.tyInt Syntax.w64)) ∷ (10, Rows.any-gone (Syntax.tyInt Syntax.w64)) ∷ (
+      11,
+      Rows.any-gone
+          Syntax.tyUnit,
+    ) ∷ (12, Rows.any-gone (Syntax.tyRef Syntax.erased Syntax.mut SlotAs.pointee)) ∷ (
       13,
-      Rows.any-gone (Syntax.tyStruct (38 ∷ 91 ∷ 93 ∷ []) (Syntax.tcons (Syntax.tyRef Syntax.erased
-          Syntax.mut SlotAs.pointee) (Syntax.tcons (Syntax.tyInt Syntax.w64) Syntax.tnil))),
+      Rows.any-gone (Syntax.tyStruct (38 ∷ 91 ∷ 93 ∷ [])
+          (Syntax.tcons (Syntax.tyRef Syntax.erased Syntax.mut SlotAs.pointee) (Syntax.tcons (Syntax.tyInt Syntax.w64) Syntax.tnil))),
     ) ∷ []
 
 abbrev pub t15 : List.List Row.Entry
@@ -679,23 +668,20 @@ t15 = (0, Rows.any-gone (Syntax.tyInt Syntax.w8)) ∷ (
   4,
   Rows.any-gone (Syntax.tyStruct (115 ∷ 116 ∷ 111 ∷
       114 ∷ 101 ∷ 58 ∷ 58 ∷ 72 ∷ 101 ∷ 108 ∷ 100 ∷ []) (Syntax.tcons (Syntax.tyInt Syntax.w8) (Syntax.tcons (Syntax.tyInt Syntax.w64) (Syntax.tcons (Syntax.tyInt
-      Syntax.w64) (Syntax.tcons (Syntax.tyInt Syntax.w64) (Syntax.tcons (Syntax.tyInt Syntax.w64) Syntax.tnil)))))),
-) ∷ (5, Rows.sc-here (Row.sInt Syntax.w64)) ∷
-    (6, Rows.any-gone (Syntax.tyRef Syntax.erased Syntax.imm SlotAs.pointee)) ∷ (
+      Syntax.w64) (Syntax.tcons (Syntax.tyInt Syntax.w64) (Syntax.tcons (Syntax.tyInt Syntax.w64) (Syntax.tcons (Syntax.tyInt Syntax.w64) Syntax.tnil))))))),
+) ∷
+    (5, Rows.sc-here (Row.sInt Syntax.w64)) ∷ (6, Rows.any-gone (Syntax.tyRef Syntax.erased Syntax.imm SlotAs.pointee)) ∷ (
       7,
-      Rows.any-gone (Syntax.tyStruct (38 ∷ 91 ∷ 93 ∷ []) (Syntax.tcons
-          (Syntax.tyRef Syntax.erased Syntax.imm SlotAs.pointee) (Syntax.tcons (Syntax.tyInt Syntax.w64) Syntax.tnil))),
-    ) ∷ (8, Rows.sc-here Row.sBool) ∷ (
-      9,
-      Rows.any-gone (Syntax.tyInt Syntax.w64),
-    ) ∷ (10, Rows.sc-here (Row.sInt Syntax.w64)) ∷ (11, Rows.any-gone Syntax.tyUnit) ∷ (
-      12,
-      Rows.any-gone (Syntax.tyRef
-          Syntax.erased Syntax.mut SlotAs.pointee),
+      Rows.any-gone (Syntax.tyStruct
+          (38 ∷ 91 ∷ 93 ∷ []) (Syntax.tcons (Syntax.tyRef Syntax.erased Syntax.imm SlotAs.pointee) (Syntax.tcons (Syntax.tyInt Syntax.w64) Syntax.tnil))),
     ) ∷ (
+      8,
+      Rows.sc-here Row.sBool,
+    ) ∷ (9, Rows.any-gone (Syntax.tyInt Syntax.w64)) ∷ (10, Rows.sc-here (Row.sInt Syntax.w64)) ∷ (11, Rows.any-gone Syntax.tyUnit) ∷
+    (12, Rows.any-gone (Syntax.tyRef Syntax.erased Syntax.mut SlotAs.pointee)) ∷ (
       13,
-      Rows.any-gone (Syntax.tyStruct (38 ∷ 91 ∷ 93 ∷ []) (Syntax.tcons (Syntax.tyRef Syntax.erased Syntax.mut
-          SlotAs.pointee) (Syntax.tcons (Syntax.tyInt Syntax.w64) Syntax.tnil))),
+      Rows.any-gone (Syntax.tyStruct (38 ∷ 91 ∷ 93 ∷ []) (Syntax.tcons
+          (Syntax.tyRef Syntax.erased Syntax.mut SlotAs.pointee) (Syntax.tcons (Syntax.tyInt Syntax.w64) Syntax.tnil))),
     ) ∷ []
 
 abbrev pub t16 : List.List Row.Entry
@@ -711,23 +697,20 @@ t16 = (0, Rows.any-gone (Syntax.tyInt Syntax.w8)) ∷ (
   4,
   Rows.any-gone (Syntax.tyStruct (115 ∷ 116 ∷ 111 ∷
       114 ∷ 101 ∷ 58 ∷ 58 ∷ 72 ∷ 101 ∷ 108 ∷ 100 ∷ []) (Syntax.tcons (Syntax.tyInt Syntax.w8) (Syntax.tcons (Syntax.tyInt Syntax.w64) (Syntax.tcons (Syntax.tyInt
-      Syntax.w64) (Syntax.tcons (Syntax.tyInt Syntax.w64) (Syntax.tcons (Syntax.tyInt Syntax.w64) Syntax.tnil)))))),
-) ∷ (5, Rows.sc-here (Row.sInt Syntax.w64)) ∷
-    (6, Rows.any-gone (Syntax.tyRef Syntax.erased Syntax.imm SlotAs.pointee)) ∷ (
+      Syntax.w64) (Syntax.tcons (Syntax.tyInt Syntax.w64) (Syntax.tcons (Syntax.tyInt Syntax.w64) (Syntax.tcons (Syntax.tyInt Syntax.w64) Syntax.tnil))))))),
+) ∷
+    (5, Rows.sc-here (Row.sInt Syntax.w64)) ∷ (6, Rows.any-gone (Syntax.tyRef Syntax.erased Syntax.imm SlotAs.pointee)) ∷ (
       7,
-      Rows.any-gone (Syntax.tyStruct (38 ∷ 91 ∷ 93 ∷ []) (Syntax.tcons
-          (Syntax.tyRef Syntax.erased Syntax.imm SlotAs.pointee) (Syntax.tcons (Syntax.tyInt Syntax.w64) Syntax.tnil))),
-    ) ∷ (8, Rows.sc-here Row.sBool) ∷ (
-      9,
-      Rows.any-gone (Syntax.tyInt Syntax.w64),
-    ) ∷ (10, Rows.any-gone (Syntax.tyInt Syntax.w64)) ∷ (11, Rows.any-gone Syntax.tyUnit) ∷ (
-      12,
-      Rows.any-gone
-          (Syntax.tyRef Syntax.erased Syntax.mut SlotAs.pointee),
+      Rows.any-gone (Syntax.tyStruct
+          (38 ∷ 91 ∷ 93 ∷ []) (Syntax.tcons (Syntax.tyRef Syntax.erased Syntax.imm SlotAs.pointee) (Syntax.tcons (Syntax.tyInt Syntax.w64) Syntax.tnil))),
     ) ∷ (
+      8,
+      Rows.sc-here Row.sBool,
+    ) ∷ (9, Rows.any-gone (Syntax.tyInt Syntax.w64)) ∷ (10, Rows.any-gone (Syntax.tyInt Syntax.w64)) ∷ (11, Rows.any-gone Syntax.tyUnit)
+    ∷ (12, Rows.any-gone (Syntax.tyRef Syntax.erased Syntax.mut SlotAs.pointee)) ∷ (
       13,
-      Rows.any-gone (Syntax.tyStruct (38 ∷ 91 ∷ 93 ∷ []) (Syntax.tcons (Syntax.tyRef Syntax.erased
-          Syntax.mut SlotAs.pointee) (Syntax.tcons (Syntax.tyInt Syntax.w64) Syntax.tnil))),
+      Rows.any-gone (Syntax.tyStruct (38 ∷ 91 ∷ 93 ∷ []) (Syntax.tcons
+          (Syntax.tyRef Syntax.erased Syntax.mut SlotAs.pointee) (Syntax.tcons (Syntax.tyInt Syntax.w64) Syntax.tnil))),
     ) ∷ []
 
 abbrev pub t17 : List.List Row.Entry
@@ -743,26 +726,25 @@ t17 = (0, Rows.sc-here (Row.sInt Syntax.w8)) ∷ (
   4,
   Rows.any-gone (Syntax.tyStruct (115 ∷ 116 ∷ 111 ∷ 114 ∷ 101 ∷ 58 ∷
       58 ∷ 72 ∷ 101 ∷ 108 ∷ 100 ∷ []) (Syntax.tcons (Syntax.tyInt Syntax.w8) (Syntax.tcons (Syntax.tyInt Syntax.w64) (Syntax.tcons (Syntax.tyInt Syntax.w64)
-      (Syntax.tcons (Syntax.tyInt Syntax.w64) (Syntax.tcons (Syntax.tyInt Syntax.w64) Syntax.tnil)))))),
-) ∷ (5, Rows.sc-here (Row.sInt Syntax.w64)) ∷ (
-  6,
-  Rows.any-gone (Syntax.tyRef Syntax.erased Syntax.imm SlotAs.pointee),
+      (Syntax.tcons (Syntax.tyInt Syntax.w64) (Syntax.tcons (Syntax.tyInt Syntax.w64) (Syntax.tcons (Syntax.tyInt Syntax.w64) Syntax.tnil))))))),
 ) ∷ (
+  5,
+  Rows.sc-here (Row.sInt Syntax.w64),
+) ∷ (6, Rows.any-gone (Syntax.tyRef Syntax.erased Syntax.imm SlotAs.pointee)) ∷ (
   7,
-  Rows.any-gone (Syntax.tyStruct (38 ∷ 91 ∷ 93 ∷ []) (Syntax.tcons (Syntax.tyRef
-      Syntax.erased Syntax.imm SlotAs.pointee) (Syntax.tcons (Syntax.tyInt Syntax.w64) Syntax.tnil))),
-) ∷ (8, Rows.any-gone Syntax.tyBool) ∷ (
-  9,
-  Rows.any-gone
-      (Syntax.tyInt Syntax.w64),
-) ∷ (10, Rows.any-gone (Syntax.tyInt Syntax.w64)) ∷ (11, Rows.any-gone Syntax.tyUnit) ∷ (
-  12,
-  Rows.any-gone (Syntax.tyRef
-      Syntax.erased Syntax.mut SlotAs.pointee),
+  Rows.any-gone (Syntax.tyStruct (38 ∷
+      91 ∷ 93 ∷ []) (Syntax.tcons (Syntax.tyRef Syntax.erased Syntax.imm SlotAs.pointee) (Syntax.tcons (Syntax.tyInt Syntax.w64) Syntax.tnil))),
 ) ∷ (
+  8,
+  Rows.any-gone Syntax.tyBool,
+) ∷ (9, Rows.any-gone (Syntax.tyInt Syntax.w64)) ∷ (10, Rows.any-gone (Syntax.tyInt Syntax.w64)) ∷ (
+  11,
+  Rows.any-gone
+      Syntax.tyUnit,
+) ∷ (12, Rows.any-gone (Syntax.tyRef Syntax.erased Syntax.mut SlotAs.pointee)) ∷ (
   13,
-  Rows.any-gone (Syntax.tyStruct (38 ∷ 91 ∷ 93 ∷ []) (Syntax.tcons (Syntax.tyRef Syntax.erased Syntax.mut
-      SlotAs.pointee) (Syntax.tcons (Syntax.tyInt Syntax.w64) Syntax.tnil))),
+  Rows.any-gone (Syntax.tyStruct (38 ∷ 91 ∷ 93 ∷ [])
+      (Syntax.tcons (Syntax.tyRef Syntax.erased Syntax.mut SlotAs.pointee) (Syntax.tcons (Syntax.tyInt Syntax.w64) Syntax.tnil))),
 ) ∷ []
 
 abbrev pub t18 : List.List Row.Entry
@@ -778,26 +760,20 @@ t18 = (0, Rows.any-gone (Syntax.tyInt Syntax.w8)) ∷ (
   4,
   Rows.any-gone (Syntax.tyStruct (115 ∷
       116 ∷ 111 ∷ 114 ∷ 101 ∷ 58 ∷ 58 ∷ 72 ∷ 101 ∷ 108 ∷ 100 ∷ []) (Syntax.tcons (Syntax.tyInt Syntax.w8) (Syntax.tcons (Syntax.tyInt Syntax.w64) (Syntax.tcons
-      (Syntax.tyInt Syntax.w64) (Syntax.tcons (Syntax.tyInt Syntax.w64) (Syntax.tcons (Syntax.tyInt Syntax.w64) Syntax.tnil)))))),
-) ∷ (
-  5,
-  Rows.sc-here (Row.sInt
-      Syntax.w64),
-) ∷ (6, Rows.any-gone (Syntax.tyRef Syntax.erased Syntax.imm SlotAs.pointee)) ∷ (
+      (Syntax.tyInt Syntax.w64) (Syntax.tcons (Syntax.tyInt Syntax.w64) (Syntax.tcons (Syntax.tyInt Syntax.w64) (Syntax.tcons (Syntax.tyInt Syntax.w64)
+      Syntax.tnil))))))),
+) ∷ (5, Rows.sc-here (Row.sInt Syntax.w64)) ∷ (6, Rows.any-gone (Syntax.tyRef Syntax.erased Syntax.imm SlotAs.pointee)) ∷ (
   7,
-  Rows.any-gone (Syntax.tyStruct (38 ∷ 91 ∷ 93 ∷ [])
-      (Syntax.tcons (Syntax.tyRef Syntax.erased Syntax.imm SlotAs.pointee) (Syntax.tcons (Syntax.tyInt Syntax.w64) Syntax.tnil))),
-) ∷ (
-  8,
-  Rows.any-gone
-      Syntax.tyBool,
-) ∷ (9, Rows.any-gone (Syntax.tyInt Syntax.w64)) ∷ (10, Rows.any-gone (Syntax.tyInt Syntax.w64)) ∷ (11, Rows.any-gone Syntax.tyUnit) ∷ (
-  12,
-  Relend.msptr SlotAs.row (Syntax.tyRef Syntax.erased Syntax.mut SlotAs.pointee) 4,
-) ∷ (
+  Rows.any-gone (Syntax.tyStruct (38 ∷ 91 ∷ 93 ∷ []) (Syntax.tcons (Syntax.tyRef Syntax.erased Syntax.imm SlotAs.pointee) (Syntax.tcons (Syntax.tyInt
+      Syntax.w64) Syntax.tnil))),
+) ∷ (8, Rows.any-gone Syntax.tyBool) ∷ (9, Rows.any-gone (Syntax.tyInt Syntax.w64)) ∷ (
+  10,
+  Rows.any-gone (Syntax.tyInt
+      Syntax.w64),
+) ∷ (11, Rows.any-gone Syntax.tyUnit) ∷ (12, Relend.msptr SlotAs.row (Syntax.tyRef Syntax.erased Syntax.mut SlotAs.pointee) 4) ∷ (
   13,
-  Rows.any-gone (Syntax.tyStruct (38 ∷ 91 ∷ 93 ∷ []) (Syntax.tcons
-      (Syntax.tyRef Syntax.erased Syntax.mut SlotAs.pointee) (Syntax.tcons (Syntax.tyInt Syntax.w64) Syntax.tnil))),
+  Rows.any-gone (Syntax.tyStruct (38 ∷ 91 ∷ 93 ∷ []) (Syntax.tcons (Syntax.tyRef Syntax.erased Syntax.mut SlotAs.pointee) (Syntax.tcons (Syntax.tyInt
+      Syntax.w64) Syntax.tnil))),
 ) ∷ []
 
 abbrev pub t19 : List.List Row.Entry
@@ -813,26 +789,20 @@ t19 = (0, Rows.any-gone (Syntax.tyInt Syntax.w8)) ∷ (
   4,
   Rows.any-gone (Syntax.tyStruct (115 ∷
       116 ∷ 111 ∷ 114 ∷ 101 ∷ 58 ∷ 58 ∷ 72 ∷ 101 ∷ 108 ∷ 100 ∷ []) (Syntax.tcons (Syntax.tyInt Syntax.w8) (Syntax.tcons (Syntax.tyInt Syntax.w64) (Syntax.tcons
-      (Syntax.tyInt Syntax.w64) (Syntax.tcons (Syntax.tyInt Syntax.w64) (Syntax.tcons (Syntax.tyInt Syntax.w64) Syntax.tnil)))))),
-) ∷ (
-  5,
-  Rows.sc-here (Row.sInt
-      Syntax.w64),
-) ∷ (6, Rows.any-gone (Syntax.tyRef Syntax.erased Syntax.imm SlotAs.pointee)) ∷ (
+      (Syntax.tyInt Syntax.w64) (Syntax.tcons (Syntax.tyInt Syntax.w64) (Syntax.tcons (Syntax.tyInt Syntax.w64) (Syntax.tcons (Syntax.tyInt Syntax.w64)
+      Syntax.tnil))))))),
+) ∷ (5, Rows.sc-here (Row.sInt Syntax.w64)) ∷ (6, Rows.any-gone (Syntax.tyRef Syntax.erased Syntax.imm SlotAs.pointee)) ∷ (
   7,
-  Rows.any-gone (Syntax.tyStruct (38 ∷ 91 ∷ 93 ∷ [])
-      (Syntax.tcons (Syntax.tyRef Syntax.erased Syntax.imm SlotAs.pointee) (Syntax.tcons (Syntax.tyInt Syntax.w64) Syntax.tnil))),
-) ∷ (
-  8,
-  Rows.any-gone
-      Syntax.tyBool,
-) ∷ (9, Rows.any-gone (Syntax.tyInt Syntax.w64)) ∷ (10, Rows.any-gone (Syntax.tyInt Syntax.w64)) ∷ (11, Rows.any-gone Syntax.tyUnit) ∷ (
-  12,
-  Rows.any-gone (Syntax.tyRef Syntax.erased Syntax.mut SlotAs.pointee),
-) ∷ (
+  Rows.any-gone (Syntax.tyStruct (38 ∷ 91 ∷ 93 ∷ []) (Syntax.tcons (Syntax.tyRef Syntax.erased Syntax.imm SlotAs.pointee) (Syntax.tcons (Syntax.tyInt
+      Syntax.w64) Syntax.tnil))),
+) ∷ (8, Rows.any-gone Syntax.tyBool) ∷ (9, Rows.any-gone (Syntax.tyInt Syntax.w64)) ∷ (
+  10,
+  Rows.any-gone (Syntax.tyInt
+      Syntax.w64),
+) ∷ (11, Rows.any-gone Syntax.tyUnit) ∷ (12, Rows.any-gone (Syntax.tyRef Syntax.erased Syntax.mut SlotAs.pointee)) ∷ (
   13,
-  Mut.mslice SlotAs.row (Syntax.tyRef Syntax.erased Syntax.mut SlotAs.pointee)
-      4,
+  Mut.mslice SlotAs.row
+      (Syntax.tyRef Syntax.erased Syntax.mut SlotAs.pointee) 4,
 ) ∷ []
 
 abbrev pub t20 : List.List Row.Entry
@@ -848,24 +818,21 @@ t20 = (0, Rows.any-gone (Syntax.tyInt Syntax.w8)) ∷ (
   4,
   Rows.any-gone (Syntax.tyStruct (115 ∷
       116 ∷ 111 ∷ 114 ∷ 101 ∷ 58 ∷ 58 ∷ 72 ∷ 101 ∷ 108 ∷ 100 ∷ []) (Syntax.tcons (Syntax.tyInt Syntax.w8) (Syntax.tcons (Syntax.tyInt Syntax.w64) (Syntax.tcons
-      (Syntax.tyInt Syntax.w64) (Syntax.tcons (Syntax.tyInt Syntax.w64) (Syntax.tcons (Syntax.tyInt Syntax.w64) Syntax.tnil)))))),
-) ∷ (
-  5,
-  Rows.sc-here (Row.sInt
-      Syntax.w64),
-) ∷ (6, Rows.any-gone (Syntax.tyRef Syntax.erased Syntax.imm SlotAs.pointee)) ∷ (
+      (Syntax.tyInt Syntax.w64) (Syntax.tcons (Syntax.tyInt Syntax.w64) (Syntax.tcons (Syntax.tyInt Syntax.w64) (Syntax.tcons (Syntax.tyInt Syntax.w64)
+      Syntax.tnil))))))),
+) ∷ (5, Rows.sc-here (Row.sInt Syntax.w64)) ∷ (6, Rows.any-gone (Syntax.tyRef Syntax.erased Syntax.imm SlotAs.pointee)) ∷ (
   7,
-  Rows.any-gone (Syntax.tyStruct (38 ∷ 91 ∷ 93 ∷ [])
-      (Syntax.tcons (Syntax.tyRef Syntax.erased Syntax.imm SlotAs.pointee) (Syntax.tcons (Syntax.tyInt Syntax.w64) Syntax.tnil))),
-) ∷ (
-  8,
-  Rows.any-gone
-      Syntax.tyBool,
-) ∷ (9, Rows.any-gone (Syntax.tyInt Syntax.w64)) ∷ (10, Rows.any-gone (Syntax.tyInt Syntax.w64)) ∷ (11, Rows.sc-here Row.sUnit) ∷ (
-  12,
-  Rows.any-gone (Syntax.tyRef Syntax.erased Syntax.mut SlotAs.pointee),
-) ∷ (13, Mut.msleft SlotAs.row (Syntax.tyRef Syntax.erased Syntax.mut SlotAs.pointee))
-    ∷ []
+  Rows.any-gone (Syntax.tyStruct (38 ∷ 91 ∷ 93 ∷ []) (Syntax.tcons (Syntax.tyRef Syntax.erased Syntax.imm SlotAs.pointee) (Syntax.tcons (Syntax.tyInt
+      Syntax.w64) Syntax.tnil))),
+) ∷ (8, Rows.any-gone Syntax.tyBool) ∷ (9, Rows.any-gone (Syntax.tyInt Syntax.w64)) ∷ (
+  10,
+  Rows.any-gone (Syntax.tyInt
+      Syntax.w64),
+) ∷ (11, Rows.sc-here Row.sUnit) ∷ (12, Rows.any-gone (Syntax.tyRef Syntax.erased Syntax.mut SlotAs.pointee)) ∷ (
+  13,
+  Mut.msleft SlotAs.row
+      (Syntax.tyRef Syntax.erased Syntax.mut SlotAs.pointee),
+) ∷ []
 
 abbrev pub t21 : List.List Row.Entry
 t21 = (0, Rows.any-gone (Syntax.tyInt Syntax.w8)) ∷ (
@@ -880,24 +847,21 @@ t21 = (0, Rows.any-gone (Syntax.tyInt Syntax.w8)) ∷ (
   4,
   Rows.any-gone (Syntax.tyStruct (115 ∷
       116 ∷ 111 ∷ 114 ∷ 101 ∷ 58 ∷ 58 ∷ 72 ∷ 101 ∷ 108 ∷ 100 ∷ []) (Syntax.tcons (Syntax.tyInt Syntax.w8) (Syntax.tcons (Syntax.tyInt Syntax.w64) (Syntax.tcons
-      (Syntax.tyInt Syntax.w64) (Syntax.tcons (Syntax.tyInt Syntax.w64) (Syntax.tcons (Syntax.tyInt Syntax.w64) Syntax.tnil)))))),
-) ∷ (
-  5,
-  Rows.sc-here (Row.sInt
-      Syntax.w64),
-) ∷ (6, Rows.any-gone (Syntax.tyRef Syntax.erased Syntax.imm SlotAs.pointee)) ∷ (
+      (Syntax.tyInt Syntax.w64) (Syntax.tcons (Syntax.tyInt Syntax.w64) (Syntax.tcons (Syntax.tyInt Syntax.w64) (Syntax.tcons (Syntax.tyInt Syntax.w64)
+      Syntax.tnil))))))),
+) ∷ (5, Rows.sc-here (Row.sInt Syntax.w64)) ∷ (6, Rows.any-gone (Syntax.tyRef Syntax.erased Syntax.imm SlotAs.pointee)) ∷ (
   7,
-  Rows.any-gone (Syntax.tyStruct (38 ∷ 91 ∷ 93 ∷ [])
-      (Syntax.tcons (Syntax.tyRef Syntax.erased Syntax.imm SlotAs.pointee) (Syntax.tcons (Syntax.tyInt Syntax.w64) Syntax.tnil))),
-) ∷ (
-  8,
-  Rows.any-gone
-      Syntax.tyBool,
-) ∷ (9, Rows.any-gone (Syntax.tyInt Syntax.w64)) ∷ (10, Rows.any-gone (Syntax.tyInt Syntax.w64)) ∷ (11, Rows.any-gone Syntax.tyUnit) ∷ (
-  12,
-  Rows.any-gone (Syntax.tyRef Syntax.erased Syntax.mut SlotAs.pointee),
-) ∷ (13, Mut.msleft SlotAs.row (Syntax.tyRef Syntax.erased Syntax.mut SlotAs.pointee))
-    ∷ []
+  Rows.any-gone (Syntax.tyStruct (38 ∷ 91 ∷ 93 ∷ []) (Syntax.tcons (Syntax.tyRef Syntax.erased Syntax.imm SlotAs.pointee) (Syntax.tcons (Syntax.tyInt
+      Syntax.w64) Syntax.tnil))),
+) ∷ (8, Rows.any-gone Syntax.tyBool) ∷ (9, Rows.any-gone (Syntax.tyInt Syntax.w64)) ∷ (
+  10,
+  Rows.any-gone (Syntax.tyInt
+      Syntax.w64),
+) ∷ (11, Rows.any-gone Syntax.tyUnit) ∷ (12, Rows.any-gone (Syntax.tyRef Syntax.erased Syntax.mut SlotAs.pointee)) ∷ (
+  13,
+  Mut.msleft SlotAs.row
+      (Syntax.tyRef Syntax.erased Syntax.mut SlotAs.pointee),
+) ∷ []
 
 abbrev pub T0 : Row.Cx
 T0 = record { locals = t0; slots = [] }
@@ -1042,7 +1006,8 @@ module _ (claims· : Claims) where
     (record { pos = 7; ty = Syntax.tyRef Syntax.erased Syntax.imm SlotAs.pointee; ref = λ x. x }, tt),
   ) 4 (0 ∷ 3 ∷ []) (Syntax.tyStruct (115 ∷ 116 ∷
       111 ∷ 114 ∷ 101 ∷ 58 ∷ 58 ∷ 72 ∷ 101 ∷ 108 ∷ 100 ∷ []) (Syntax.tcons (Syntax.tyInt Syntax.w8) (Syntax.tcons (Syntax.tyInt Syntax.w64) (Syntax.tcons
-      (Syntax.tyInt Syntax.w64) (Syntax.tcons (Syntax.tyInt Syntax.w64) (Syntax.tcons (Syntax.tyInt Syntax.w64) Syntax.tnil))))))
+      (Syntax.tyInt Syntax.w64) (Syntax.tcons (Syntax.tyInt Syntax.w64) (Syntax.tcons (Syntax.tyInt Syntax.w64) (Syntax.tcons (Syntax.tyInt Syntax.w64)
+      Syntax.tnil)))))))
 
   abbrev s6 : Typed.Mo T7 → Typed.Mo T8
   s6 = Scalar.n-room T7 7 (Syntax.tyStruct (38 ∷ 91 ∷ 93 ∷ []) (Syntax.tcons (Syntax.tyRef Syntax.erased Syntax.imm SlotAs.pointee) (Syntax.tcons (Syntax.tyInt
@@ -1068,7 +1033,7 @@ module _ (claims· : Claims) where
   abbrev s14 : Typed.Mo T16 → Typed.Mo T17
   s14 = Scalar.n-room T16 4 (Syntax.tyStruct (115 ∷ 116 ∷ 111 ∷ 114 ∷ 101 ∷ 58 ∷ 58 ∷ 72 ∷ 101 ∷ 108 ∷ 100 ∷ []) (Syntax.tcons (Syntax.tyInt Syntax.w8)
       (Syntax.tcons (Syntax.tyInt Syntax.w64) (Syntax.tcons (Syntax.tyInt Syntax.w64) (Syntax.tcons (Syntax.tyInt Syntax.w64) (Syntax.tcons (Syntax.tyInt
-      Syntax.w64) Syntax.tnil))))))
+      Syntax.w64) (Syntax.tcons (Syntax.tyInt Syntax.w64) Syntax.tnil)))))))
 
   abbrev s15 : Typed.Mo T13 → Typed.Mo T18
   s15 = Scalar.n-room T13 8 Syntax.tyBool
@@ -1098,7 +1063,7 @@ module _ (claims· : Claims) where
   abbrev s22 : Typed.Mo T24 → Typed.Mo T26
   s22 = Scalar.n-room T24 4 (Syntax.tyStruct (115 ∷ 116 ∷ 111 ∷ 114 ∷ 101 ∷ 58 ∷ 58 ∷ 72 ∷ 101 ∷ 108 ∷ 100 ∷ []) (Syntax.tcons (Syntax.tyInt Syntax.w8)
       (Syntax.tcons (Syntax.tyInt Syntax.w64) (Syntax.tcons (Syntax.tyInt Syntax.w64) (Syntax.tcons (Syntax.tyInt Syntax.w64) (Syntax.tcons (Syntax.tyInt
-      Syntax.w64) Syntax.tnil))))))
+      Syntax.w64) (Syntax.tcons (Syntax.tyInt Syntax.w64) Syntax.tnil)))))))
 
   abbrev s23 : Typed.Mo T26 → Typed.Mo T27
   s23 = Scalar.n-room T26 10 (Syntax.tyInt Syntax.w64)
@@ -1315,26 +1280,23 @@ module _ (claims· : Claims) where
                 4,
                 Rows.any-gone (Syntax.tyStruct (115 ∷ 116 ∷ 111 ∷ 114 ∷ 101 ∷ 58 ∷ 58 ∷ 72 ∷ 101 ∷ 108 ∷ 100 ∷ []) (Syntax.tcons (Syntax.tyInt Syntax.w8)
                     (Syntax.tcons (Syntax.tyInt Syntax.w64) (Syntax.tcons (Syntax.tyInt Syntax.w64) (Syntax.tcons (Syntax.tyInt Syntax.w64) (Syntax.tcons (Syntax.tyInt
-                    Syntax.w64) Syntax.tnil)))))),
+                    Syntax.w64) (Syntax.tcons (Syntax.tyInt Syntax.w64) Syntax.tnil))))))),
               ) ∷ (5, Rows.any-gone (Syntax.tyInt Syntax.w64)) ∷ (
                 6,
-                Relend.ssptr SlotAs.row (Syntax.tyRef Syntax.erased Syntax.imm
-                    SlotAs.pointee) 3,
+                Relend.ssptr
+                    SlotAs.row (Syntax.tyRef Syntax.erased Syntax.imm SlotAs.pointee) 3,
               ) ∷ (
                 7,
-                Rows.any-gone (Syntax.tyStruct (38 ∷ 91 ∷ 93 ∷ []) (Syntax.tcons (Syntax.tyRef Syntax.erased Syntax.imm SlotAs.pointee)
-                    (Syntax.tcons (Syntax.tyInt Syntax.w64) Syntax.tnil))),
-              ) ∷ (8, Rows.any-gone Syntax.tyBool) ∷ (9, Rows.any-gone (Syntax.tyInt Syntax.w64)) ∷ (
-                10,
-                Rows.any-gone (Syntax.tyInt Syntax.w64),
-              ) ∷ (11, Rows.any-gone Syntax.tyUnit) ∷ (
+                Rows.any-gone (Syntax.tyStruct (38 ∷ 91 ∷ 93 ∷ []) (Syntax.tcons
+                    (Syntax.tyRef Syntax.erased Syntax.imm SlotAs.pointee) (Syntax.tcons (Syntax.tyInt Syntax.w64) Syntax.tnil))),
+              ) ∷ (8, Rows.any-gone Syntax.tyBool) ∷
+              (9, Rows.any-gone (Syntax.tyInt Syntax.w64)) ∷ (10, Rows.any-gone (Syntax.tyInt Syntax.w64)) ∷ (11, Rows.any-gone Syntax.tyUnit) ∷ (
                 12,
-                Rows.any-gone (Syntax.tyRef Syntax.erased Syntax.mut
-                    SlotAs.pointee),
+                Rows.any-gone (Syntax.tyRef Syntax.erased Syntax.mut SlotAs.pointee),
               ) ∷ (
                 13,
-                Rows.any-gone (Syntax.tyStruct (38 ∷ 91 ∷ 93 ∷ []) (Syntax.tcons (Syntax.tyRef Syntax.erased Syntax.mut SlotAs.pointee)
-                    (Syntax.tcons (Syntax.tyInt Syntax.w64) Syntax.tnil))),
+                Rows.any-gone (Syntax.tyStruct (38 ∷ 91 ∷ 93 ∷ []) (Syntax.tcons
+                    (Syntax.tyRef Syntax.erased Syntax.mut SlotAs.pointee) (Syntax.tcons (Syntax.tyInt Syntax.w64) Syntax.tnil))),
               ) ∷ []
 
           abbrev g3 : List.List Row.Entry
@@ -1351,22 +1313,19 @@ module _ (claims· : Claims) where
                 4,
                 Rows.any-gone (Syntax.tyStruct (115 ∷ 116 ∷ 111 ∷ 114 ∷ 101 ∷ 58 ∷ 58 ∷ 72 ∷ 101 ∷ 108 ∷ 100 ∷ []) (Syntax.tcons (Syntax.tyInt Syntax.w8)
                     (Syntax.tcons (Syntax.tyInt Syntax.w64) (Syntax.tcons (Syntax.tyInt Syntax.w64) (Syntax.tcons (Syntax.tyInt Syntax.w64) (Syntax.tcons (Syntax.tyInt
-                    Syntax.w64) Syntax.tnil)))))),
+                    Syntax.w64) (Syntax.tcons (Syntax.tyInt Syntax.w64) Syntax.tnil))))))),
               ) ∷ (5, Rows.any-gone (Syntax.tyInt Syntax.w64)) ∷ (
                 6,
-                Rows.any-gone (Syntax.tyRef Syntax.erased Syntax.imm
-                    SlotAs.pointee),
-              ) ∷ (7, Rows.sslice SlotAs.row (Syntax.tyRef Syntax.erased Syntax.imm SlotAs.pointee) 3) ∷ (8, Rows.any-gone Syntax.tyBool) ∷ (
-                9,
-                Rows.any-gone (Syntax.tyInt Syntax.w64),
-              ) ∷ (10, Rows.any-gone (Syntax.tyInt Syntax.w64)) ∷ (11, Rows.any-gone Syntax.tyUnit) ∷ (
-                12,
                 Rows.any-gone
-                    (Syntax.tyRef Syntax.erased Syntax.mut SlotAs.pointee),
-              ) ∷ (
+                    (Syntax.tyRef Syntax.erased Syntax.imm SlotAs.pointee),
+              ) ∷ (7, Rows.sslice SlotAs.row (Syntax.tyRef Syntax.erased Syntax.imm SlotAs.pointee) 3) ∷
+              (8, Rows.any-gone Syntax.tyBool) ∷ (9, Rows.any-gone (Syntax.tyInt Syntax.w64)) ∷ (10, Rows.any-gone (Syntax.tyInt Syntax.w64)) ∷ (
+                11,
+                Rows.any-gone Syntax.tyUnit,
+              ) ∷ (12, Rows.any-gone (Syntax.tyRef Syntax.erased Syntax.mut SlotAs.pointee)) ∷ (
                 13,
-                Rows.any-gone (Syntax.tyStruct (38 ∷ 91 ∷ 93 ∷ []) (Syntax.tcons (Syntax.tyRef
-                    Syntax.erased Syntax.mut SlotAs.pointee) (Syntax.tcons (Syntax.tyInt Syntax.w64) Syntax.tnil))),
+                Rows.any-gone (Syntax.tyStruct (38
+                    ∷ 91 ∷ 93 ∷ []) (Syntax.tcons (Syntax.tyRef Syntax.erased Syntax.mut SlotAs.pointee) (Syntax.tcons (Syntax.tyInt Syntax.w64) Syntax.tnil))),
               ) ∷ []
 
           abbrev g4 : List.List Row.Entry
@@ -1439,26 +1398,27 @@ module _ (claims· : Claims) where
             4,
             Rows.any-gone (Syntax.tyStruct (115 ∷ 116 ∷ 111 ∷ 114 ∷ 101 ∷ 58 ∷ 58 ∷ 72 ∷ 101 ∷ 108 ∷ 100 ∷ []) (Syntax.tcons (Syntax.tyInt Syntax.w8)
                 (Syntax.tcons (Syntax.tyInt Syntax.w64) (Syntax.tcons (Syntax.tyInt Syntax.w64) (Syntax.tcons (Syntax.tyInt Syntax.w64) (Syntax.tcons (Syntax.tyInt
-                Syntax.w64) Syntax.tnil)))))),
+                Syntax.w64) (Syntax.tcons (Syntax.tyInt Syntax.w64) Syntax.tnil))))))),
           ) ∷ (5, Rows.sc-here (Row.sInt Syntax.w64)) ∷ (
             6,
-            Rows.any-gone (Syntax.tyRef Syntax.erased Syntax.imm
-                SlotAs.pointee),
+            Rows.any-gone (Syntax.tyRef
+                Syntax.erased Syntax.imm SlotAs.pointee),
           ) ∷ (
             7,
-            Rows.any-gone (Syntax.tyStruct (38 ∷ 91 ∷ 93 ∷ []) (Syntax.tcons (Syntax.tyRef Syntax.erased Syntax.imm SlotAs.pointee)
-                (Syntax.tcons (Syntax.tyInt Syntax.w64) Syntax.tnil))),
-          ) ∷ (8, Rows.any-gone Syntax.tyBool) ∷ (9, Rows.any-gone (Syntax.tyInt Syntax.w64)) ∷ (
-            10,
-            Rows.any-gone (Syntax.tyInt Syntax.w64),
-          ) ∷ (11, Rows.any-gone Syntax.tyUnit) ∷ (
+            Rows.any-gone (Syntax.tyStruct (38 ∷ 91 ∷ 93 ∷ []) (Syntax.tcons (Syntax.tyRef Syntax.erased
+                Syntax.imm SlotAs.pointee) (Syntax.tcons (Syntax.tyInt Syntax.w64) Syntax.tnil))),
+          ) ∷ (8, Rows.any-gone Syntax.tyBool) ∷ (
+            9,
+            Rows.any-gone
+                (Syntax.tyInt Syntax.w64),
+          ) ∷ (10, Rows.any-gone (Syntax.tyInt Syntax.w64)) ∷ (11, Rows.any-gone Syntax.tyUnit) ∷ (
             12,
-            Relend.msptr SlotAs.row (Syntax.tyRef Syntax.erased Syntax.mut
-                SlotAs.pointee) 4,
+            Relend.msptr SlotAs.row
+                (Syntax.tyRef Syntax.erased Syntax.mut SlotAs.pointee) 4,
           ) ∷ (
             13,
-            Rows.any-gone (Syntax.tyStruct (38 ∷ 91 ∷ 93 ∷ []) (Syntax.tcons (Syntax.tyRef Syntax.erased Syntax.mut SlotAs.pointee)
-                (Syntax.tcons (Syntax.tyInt Syntax.w64) Syntax.tnil))),
+            Rows.any-gone (Syntax.tyStruct (38 ∷ 91 ∷ 93 ∷ []) (Syntax.tcons (Syntax.tyRef
+                Syntax.erased Syntax.mut SlotAs.pointee) (Syntax.tcons (Syntax.tyInt Syntax.w64) Syntax.tnil))),
           ) ∷ []
 
           abbrev g19 : List.List Row.Entry
@@ -1474,22 +1434,23 @@ module _ (claims· : Claims) where
             4,
             Rows.any-gone (Syntax.tyStruct (115 ∷ 116 ∷ 111 ∷ 114 ∷ 101 ∷ 58 ∷ 58 ∷ 72 ∷ 101 ∷ 108 ∷ 100 ∷ []) (Syntax.tcons (Syntax.tyInt Syntax.w8)
                 (Syntax.tcons (Syntax.tyInt Syntax.w64) (Syntax.tcons (Syntax.tyInt Syntax.w64) (Syntax.tcons (Syntax.tyInt Syntax.w64) (Syntax.tcons (Syntax.tyInt
-                Syntax.w64) Syntax.tnil)))))),
+                Syntax.w64) (Syntax.tcons (Syntax.tyInt Syntax.w64) Syntax.tnil))))))),
           ) ∷ (5, Rows.sc-here (Row.sInt Syntax.w64)) ∷ (
             6,
-            Rows.any-gone (Syntax.tyRef Syntax.erased Syntax.imm
-                SlotAs.pointee),
+            Rows.any-gone (Syntax.tyRef
+                Syntax.erased Syntax.imm SlotAs.pointee),
           ) ∷ (
             7,
-            Rows.any-gone (Syntax.tyStruct (38 ∷ 91 ∷ 93 ∷ []) (Syntax.tcons (Syntax.tyRef Syntax.erased Syntax.imm SlotAs.pointee)
-                (Syntax.tcons (Syntax.tyInt Syntax.w64) Syntax.tnil))),
-          ) ∷ (8, Rows.any-gone Syntax.tyBool) ∷ (9, Rows.any-gone (Syntax.tyInt Syntax.w64)) ∷ (
-            10,
-            Rows.any-gone (Syntax.tyInt Syntax.w64),
-          ) ∷ (11, Rows.any-gone Syntax.tyUnit) ∷ (
+            Rows.any-gone (Syntax.tyStruct (38 ∷ 91 ∷ 93 ∷ []) (Syntax.tcons (Syntax.tyRef Syntax.erased
+                Syntax.imm SlotAs.pointee) (Syntax.tcons (Syntax.tyInt Syntax.w64) Syntax.tnil))),
+          ) ∷ (8, Rows.any-gone Syntax.tyBool) ∷ (
+            9,
+            Rows.any-gone
+                (Syntax.tyInt Syntax.w64),
+          ) ∷ (10, Rows.any-gone (Syntax.tyInt Syntax.w64)) ∷ (11, Rows.any-gone Syntax.tyUnit) ∷ (
             12,
-            Rows.any-gone (Syntax.tyRef Syntax.erased Syntax.mut
-                SlotAs.pointee),
+            Rows.any-gone (Syntax.tyRef
+                Syntax.erased Syntax.mut SlotAs.pointee),
           ) ∷ (13, Mut.mslice SlotAs.row (Syntax.tyRef Syntax.erased Syntax.mut SlotAs.pointee) 4) ∷ []
 
           abbrev g20 : List.List Row.Entry
@@ -1505,22 +1466,23 @@ module _ (claims· : Claims) where
             4,
             Rows.any-gone (Syntax.tyStruct (115 ∷ 116 ∷ 111 ∷ 114 ∷ 101 ∷ 58 ∷ 58 ∷ 72 ∷ 101 ∷ 108 ∷ 100 ∷ []) (Syntax.tcons (Syntax.tyInt Syntax.w8)
                 (Syntax.tcons (Syntax.tyInt Syntax.w64) (Syntax.tcons (Syntax.tyInt Syntax.w64) (Syntax.tcons (Syntax.tyInt Syntax.w64) (Syntax.tcons (Syntax.tyInt
-                Syntax.w64) Syntax.tnil)))))),
+                Syntax.w64) (Syntax.tcons (Syntax.tyInt Syntax.w64) Syntax.tnil))))))),
           ) ∷ (5, Rows.sc-here (Row.sInt Syntax.w64)) ∷ (
             6,
-            Rows.any-gone (Syntax.tyRef Syntax.erased Syntax.imm
-                SlotAs.pointee),
+            Rows.any-gone (Syntax.tyRef
+                Syntax.erased Syntax.imm SlotAs.pointee),
           ) ∷ (
             7,
-            Rows.any-gone (Syntax.tyStruct (38 ∷ 91 ∷ 93 ∷ []) (Syntax.tcons (Syntax.tyRef Syntax.erased Syntax.imm SlotAs.pointee)
-                (Syntax.tcons (Syntax.tyInt Syntax.w64) Syntax.tnil))),
-          ) ∷ (8, Rows.any-gone Syntax.tyBool) ∷ (9, Rows.any-gone (Syntax.tyInt Syntax.w64)) ∷ (
-            10,
-            Rows.any-gone (Syntax.tyInt Syntax.w64),
-          ) ∷ (11, Rows.sc-here Row.sUnit) ∷ (
+            Rows.any-gone (Syntax.tyStruct (38 ∷ 91 ∷ 93 ∷ []) (Syntax.tcons (Syntax.tyRef Syntax.erased
+                Syntax.imm SlotAs.pointee) (Syntax.tcons (Syntax.tyInt Syntax.w64) Syntax.tnil))),
+          ) ∷ (8, Rows.any-gone Syntax.tyBool) ∷ (
+            9,
+            Rows.any-gone
+                (Syntax.tyInt Syntax.w64),
+          ) ∷ (10, Rows.any-gone (Syntax.tyInt Syntax.w64)) ∷ (11, Rows.sc-here Row.sUnit) ∷ (
             12,
-            Rows.any-gone (Syntax.tyRef Syntax.erased Syntax.mut
-                SlotAs.pointee),
+            Rows.any-gone (Syntax.tyRef
+                Syntax.erased Syntax.mut SlotAs.pointee),
           ) ∷ (13, Mut.msleft SlotAs.row (Syntax.tyRef Syntax.erased Syntax.mut SlotAs.pointee)) ∷ []
 
           abbrev g21 : List.List Row.Entry
@@ -1536,22 +1498,23 @@ module _ (claims· : Claims) where
             4,
             Rows.any-gone (Syntax.tyStruct (115 ∷ 116 ∷ 111 ∷ 114 ∷ 101 ∷ 58 ∷ 58 ∷ 72 ∷ 101 ∷ 108 ∷ 100 ∷ []) (Syntax.tcons (Syntax.tyInt Syntax.w8)
                 (Syntax.tcons (Syntax.tyInt Syntax.w64) (Syntax.tcons (Syntax.tyInt Syntax.w64) (Syntax.tcons (Syntax.tyInt Syntax.w64) (Syntax.tcons (Syntax.tyInt
-                Syntax.w64) Syntax.tnil)))))),
+                Syntax.w64) (Syntax.tcons (Syntax.tyInt Syntax.w64) Syntax.tnil))))))),
           ) ∷ (5, Rows.sc-here (Row.sInt Syntax.w64)) ∷ (
             6,
-            Rows.any-gone (Syntax.tyRef Syntax.erased Syntax.imm
-                SlotAs.pointee),
+            Rows.any-gone (Syntax.tyRef
+                Syntax.erased Syntax.imm SlotAs.pointee),
           ) ∷ (
             7,
-            Rows.any-gone (Syntax.tyStruct (38 ∷ 91 ∷ 93 ∷ []) (Syntax.tcons (Syntax.tyRef Syntax.erased Syntax.imm SlotAs.pointee)
-                (Syntax.tcons (Syntax.tyInt Syntax.w64) Syntax.tnil))),
-          ) ∷ (8, Rows.any-gone Syntax.tyBool) ∷ (9, Rows.any-gone (Syntax.tyInt Syntax.w64)) ∷ (
-            10,
-            Rows.any-gone (Syntax.tyInt Syntax.w64),
-          ) ∷ (11, Rows.any-gone Syntax.tyUnit) ∷ (
+            Rows.any-gone (Syntax.tyStruct (38 ∷ 91 ∷ 93 ∷ []) (Syntax.tcons (Syntax.tyRef Syntax.erased
+                Syntax.imm SlotAs.pointee) (Syntax.tcons (Syntax.tyInt Syntax.w64) Syntax.tnil))),
+          ) ∷ (8, Rows.any-gone Syntax.tyBool) ∷ (
+            9,
+            Rows.any-gone
+                (Syntax.tyInt Syntax.w64),
+          ) ∷ (10, Rows.any-gone (Syntax.tyInt Syntax.w64)) ∷ (11, Rows.any-gone Syntax.tyUnit) ∷ (
             12,
-            Rows.any-gone (Syntax.tyRef Syntax.erased Syntax.mut
-                SlotAs.pointee),
+            Rows.any-gone (Syntax.tyRef
+                Syntax.erased Syntax.mut SlotAs.pointee),
           ) ∷ (13, Mut.msleft SlotAs.row (Syntax.tyRef Syntax.erased Syntax.mut SlotAs.pointee)) ∷ []
 
           abbrev G0 : Row.Cx
@@ -1828,10 +1791,11 @@ module _ (claims· : Claims) where
             d1 : Typed.Typed 𝓤 H A 𝓣 E G16 b5 Δ1 at1
             d1 = Typed.g-pre 𝓤 H A W 𝓣 E G16 G17 b5 Δ1 (Typed.pass T16 T17 s14) at0 (Scalar.g-room 𝓤 H A W E G16 4 (Syntax.tyStruct (115 ∷ 116 ∷ 111 ∷ 114 ∷ 101
                 ∷ 58 ∷ 58 ∷ 72 ∷ 101 ∷ 108 ∷ 100 ∷ []) (Syntax.tcons (Syntax.tyInt Syntax.w8) (Syntax.tcons (Syntax.tyInt Syntax.w64) (Syntax.tcons (Syntax.tyInt
-                Syntax.w64) (Syntax.tcons (Syntax.tyInt Syntax.w64) (Syntax.tcons (Syntax.tyInt Syntax.w64) Syntax.tnil)))))) (Local.room-whole 𝓤 H A W
-                (Declared.row Held.the-type) (Syntax.tyStruct (115 ∷ 116 ∷ 111 ∷ 114 ∷ 101 ∷ 58 ∷ 58 ∷ 72 ∷ 101 ∷ 108 ∷ 100 ∷ []) (Syntax.tcons (Syntax.tyInt
-                Syntax.w8) (Syntax.tcons (Syntax.tyInt Syntax.w64) (Syntax.tcons (Syntax.tyInt Syntax.w64) (Syntax.tcons (Syntax.tyInt Syntax.w64) (Syntax.tcons
-                (Syntax.tyInt Syntax.w64) Syntax.tnil)))))) Path'.refl)) d0
+                Syntax.w64) (Syntax.tcons (Syntax.tyInt Syntax.w64) (Syntax.tcons (Syntax.tyInt Syntax.w64) (Syntax.tcons (Syntax.tyInt Syntax.w64)
+                Syntax.tnil))))))) (Local.room-whole 𝓤 H A W (Declared.row Held.the-type) (Syntax.tyStruct (115 ∷ 116 ∷ 111 ∷ 114 ∷ 101 ∷ 58 ∷ 58 ∷ 72 ∷ 101 ∷
+                108 ∷ 100 ∷ []) (Syntax.tcons (Syntax.tyInt Syntax.w8) (Syntax.tcons (Syntax.tyInt Syntax.w64) (Syntax.tcons (Syntax.tyInt Syntax.w64)
+                (Syntax.tcons (Syntax.tyInt Syntax.w64) (Syntax.tcons (Syntax.tyInt Syntax.w64) (Syntax.tcons (Syntax.tyInt Syntax.w64) Syntax.tnil)))))))
+                Path'.refl)) d0
 
             d2 : Typed.Typed 𝓤 H A 𝓣 E G15 b6 Δ1 at2
             d2 = Typed.s-seq 𝓤 H A W 𝓣 E G15 G16 b4 b5 Δ1 (Typed.pass T15 T16 s13) at1 (Scalar.t-use 𝓤 H A W E 𝓣 G15 (Scalar.oFld 4 (Syntax.field 0 ∷ [])
@@ -1889,10 +1853,11 @@ module _ (claims· : Claims) where
             d15 : Typed.Typed 𝓤 H A 𝓣 E G24 b17 Δ2 at15
             d15 = Typed.g-pre 𝓤 H A W 𝓣 E G24 G26 b17 Δ2 (Typed.pass T24 T26 s22) at14 (Scalar.g-room 𝓤 H A W E G24 4 (Syntax.tyStruct (115 ∷ 116 ∷ 111 ∷ 114 ∷
                 101 ∷ 58 ∷ 58 ∷ 72 ∷ 101 ∷ 108 ∷ 100 ∷ []) (Syntax.tcons (Syntax.tyInt Syntax.w8) (Syntax.tcons (Syntax.tyInt Syntax.w64) (Syntax.tcons
-                (Syntax.tyInt Syntax.w64) (Syntax.tcons (Syntax.tyInt Syntax.w64) (Syntax.tcons (Syntax.tyInt Syntax.w64) Syntax.tnil)))))) (Local.room-whole 𝓤 H
-                A W (Declared.row Held.the-type) (Syntax.tyStruct (115 ∷ 116 ∷ 111 ∷ 114 ∷ 101 ∷ 58 ∷ 58 ∷ 72 ∷ 101 ∷ 108 ∷ 100 ∷ []) (Syntax.tcons (Syntax.tyInt
-                Syntax.w8) (Syntax.tcons (Syntax.tyInt Syntax.w64) (Syntax.tcons (Syntax.tyInt Syntax.w64) (Syntax.tcons (Syntax.tyInt Syntax.w64) (Syntax.tcons
-                (Syntax.tyInt Syntax.w64) Syntax.tnil)))))) Path'.refl)) d14
+                (Syntax.tyInt Syntax.w64) (Syntax.tcons (Syntax.tyInt Syntax.w64) (Syntax.tcons (Syntax.tyInt Syntax.w64) (Syntax.tcons (Syntax.tyInt Syntax.w64)
+                Syntax.tnil))))))) (Local.room-whole 𝓤 H A W (Declared.row Held.the-type) (Syntax.tyStruct (115 ∷ 116 ∷ 111 ∷ 114 ∷ 101 ∷ 58 ∷ 58 ∷ 72 ∷ 101 ∷
+                108 ∷ 100 ∷ []) (Syntax.tcons (Syntax.tyInt Syntax.w8) (Syntax.tcons (Syntax.tyInt Syntax.w64) (Syntax.tcons (Syntax.tyInt Syntax.w64)
+                (Syntax.tcons (Syntax.tyInt Syntax.w64) (Syntax.tcons (Syntax.tyInt Syntax.w64) (Syntax.tcons (Syntax.tyInt Syntax.w64) Syntax.tnil)))))))
+                Path'.refl)) d14
 
             d16 : Typed.Typed 𝓤 H A 𝓣 E G41 b22 Δ0 at16
             d16 = Typed.t-return 𝓤 H A W 𝓣 E Δ0 tt
@@ -2095,8 +2060,8 @@ module _ (claims· : Claims) where
                   ),
                 ) (Reads'.room-gone 𝓤 H A (Syntax.tyStruct (115 ∷ 116 ∷ 111 ∷
                 114 ∷ 101 ∷ 58 ∷ 58 ∷ 72 ∷ 101 ∷ 108 ∷ 100 ∷ []) (Syntax.tcons (Syntax.tyInt Syntax.w8) (Syntax.tcons (Syntax.tyInt Syntax.w64) (Syntax.tcons
-                (Syntax.tyInt Syntax.w64) (Syntax.tcons (Syntax.tyInt Syntax.w64) (Syntax.tcons (Syntax.tyInt Syntax.w64) Syntax.tnil))))))) (tt, (tt, tt))
-                Path'.refl) d40
+                (Syntax.tyInt Syntax.w64) (Syntax.tcons (Syntax.tyInt Syntax.w64) (Syntax.tcons (Syntax.tyInt Syntax.w64) (Syntax.tcons (Syntax.tyInt Syntax.w64)
+                Syntax.tnil)))))))) (tt, (tt, tt)) Path'.refl) d40
 
             d42 : Typed.Typed 𝓤 H A 𝓣 E G5 b35 Δ0 at42
             d42 = Typed.s-seq 𝓤 H A W 𝓣 E G5 G6 b1 b34 Δ0 (Typed.ask s4) at41 (Relend.t-sl-aggregate 𝓤 H A W E SlotAs.row 𝓣 (Relend.asShr SlotAs.row) G5 6 7 3

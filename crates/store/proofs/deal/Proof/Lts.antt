@@ -84,10 +84,10 @@ r = Value.rVal record {
 
 abbrev pub xs : List.List Syntax.Ty
 xs = (Syntax.tyStruct (115 ∷ 116 ∷ 111 ∷ 114 ∷ 101 ∷ 58 ∷ 58 ∷ 72 ∷ 101 ∷ 108 ∷ 100 ∷ []) (Syntax.tcons (Syntax.tyInt Syntax.w8) (Syntax.tcons (Syntax.tyInt
-    Syntax.w64) (Syntax.tcons (Syntax.tyInt Syntax.w64) (Syntax.tcons (Syntax.tyInt Syntax.w64) (Syntax.tcons (Syntax.tyInt Syntax.w64) Syntax.tnil)))))) ∷
-    Syntax.tyInt Syntax.w64 ∷ Syntax.tyBool ∷ Syntax.tyInt Syntax.w64 ∷ Syntax.tyUnit ∷ Syntax.tyRef Syntax.erased Syntax.mut (Syntax.tyInt Syntax.w8) ∷
-    (Syntax.tyStruct (38 ∷ 91 ∷ 93 ∷ []) (Syntax.tcons (Syntax.tyRef Syntax.erased Syntax.mut (Syntax.tyInt Syntax.w8)) (Syntax.tcons (Syntax.tyInt Syntax.w64)
-    Syntax.tnil))) ∷ []
+    Syntax.w64) (Syntax.tcons (Syntax.tyInt Syntax.w64) (Syntax.tcons (Syntax.tyInt Syntax.w64) (Syntax.tcons (Syntax.tyInt Syntax.w64) (Syntax.tcons
+    (Syntax.tyInt Syntax.w64) Syntax.tnil))))))) ∷ Syntax.tyInt Syntax.w64 ∷ Syntax.tyBool ∷ Syntax.tyInt Syntax.w64 ∷ Syntax.tyUnit ∷ Syntax.tyRef
+    Syntax.erased Syntax.mut (Syntax.tyInt Syntax.w8) ∷ (Syntax.tyStruct (38 ∷ 91 ∷ 93 ∷ []) (Syntax.tcons (Syntax.tyRef Syntax.erased Syntax.mut (Syntax.tyInt
+    Syntax.w8)) (Syntax.tcons (Syntax.tyInt Syntax.w64) Syntax.tnil))) ∷ []
 
 abbrev pub m : Nat.ℕ
 m = 1
@@ -272,16 +272,19 @@ t0 = (
   5,
   Rows.any-gone (Syntax.tyStruct (115 ∷ 116 ∷ 111 ∷ 114 ∷ 101 ∷ 58 ∷ 58 ∷ 72 ∷ 101 ∷ 108 ∷ 100 ∷ []) (Syntax.tcons (Syntax.tyInt Syntax.w8) (Syntax.tcons
       (Syntax.tyInt Syntax.w64) (Syntax.tcons (Syntax.tyInt Syntax.w64) (Syntax.tcons (Syntax.tyInt Syntax.w64) (Syntax.tcons (Syntax.tyInt Syntax.w64)
-      Syntax.tnil)))))),
-) ∷ (6, Rows.any-gone (Syntax.tyInt Syntax.w64)) ∷ (7, Rows.any-gone Syntax.tyBool) ∷ (8, Rows.any-gone (Syntax.tyInt Syntax.w64)) ∷ (
-  9,
-  Rows.any-gone Syntax.tyUnit,
-) ∷ (10, Rows.any-gone (Syntax.tyRef Syntax.erased Syntax.mut (Syntax.tyInt Syntax.w8))) ∷ (
+      (Syntax.tcons (Syntax.tyInt Syntax.w64) Syntax.tnil))))))),
+) ∷ (6, Rows.any-gone (Syntax.tyInt Syntax.w64)) ∷ (7, Rows.any-gone Syntax.tyBool) ∷ (
+  8,
+  Rows.any-gone (Syntax.tyInt Syntax.w64),
+) ∷ (9, Rows.any-gone Syntax.tyUnit) ∷ (
+  10,
+  Rows.any-gone (Syntax.tyRef Syntax.erased Syntax.mut (Syntax.tyInt
+      Syntax.w8)),
+) ∷ (
   11,
-  Rows.any-gone (Syntax.tyStruct
-      (38 ∷ 91 ∷ 93 ∷ []) (Syntax.tcons (Syntax.tyRef Syntax.erased Syntax.mut (Syntax.tyInt Syntax.w8)) (Syntax.tcons (Syntax.tyInt Syntax.w64) Syntax.tnil))),
-)
-    ∷ []
+  Rows.any-gone (Syntax.tyStruct (38 ∷ 91 ∷ 93 ∷ []) (Syntax.tcons (Syntax.tyRef Syntax.erased Syntax.mut (Syntax.tyInt Syntax.w8))
+      (Syntax.tcons (Syntax.tyInt Syntax.w64) Syntax.tnil))),
+) ∷ []
 
 abbrev pub t1 : List.List Row.Entry
 t1 = (0, Rows.whole (Declared.row Outcome.the-type)) ∷ (
@@ -296,17 +299,17 @@ t1 = (0, Rows.whole (Declared.row Outcome.the-type)) ∷ (
   5,
   Rows.any-gone
       (Syntax.tyStruct (115 ∷ 116 ∷ 111 ∷ 114 ∷ 101 ∷ 58 ∷ 58 ∷ 72 ∷ 101 ∷ 108 ∷ 100 ∷ []) (Syntax.tcons (Syntax.tyInt Syntax.w8) (Syntax.tcons (Syntax.tyInt
-      Syntax.w64) (Syntax.tcons (Syntax.tyInt Syntax.w64) (Syntax.tcons (Syntax.tyInt Syntax.w64) (Syntax.tcons (Syntax.tyInt Syntax.w64) Syntax.tnil)))))),
-) ∷
-    (6, Rows.any-gone (Syntax.tyInt Syntax.w64)) ∷ (7, Rows.any-gone Syntax.tyBool) ∷ (8, Rows.any-gone (Syntax.tyInt Syntax.w64)) ∷ (
-      9,
-      Rows.any-gone
-          Syntax.tyUnit,
-    ) ∷ (10, Rows.any-gone (Syntax.tyRef Syntax.erased Syntax.mut (Syntax.tyInt Syntax.w8))) ∷ (
-      11,
-      Rows.any-gone (Syntax.tyStruct (38 ∷ 91 ∷ 93 ∷
-          []) (Syntax.tcons (Syntax.tyRef Syntax.erased Syntax.mut (Syntax.tyInt Syntax.w8)) (Syntax.tcons (Syntax.tyInt Syntax.w64) Syntax.tnil))),
-    ) ∷ []
+      Syntax.w64) (Syntax.tcons (Syntax.tyInt Syntax.w64) (Syntax.tcons (Syntax.tyInt Syntax.w64) (Syntax.tcons (Syntax.tyInt Syntax.w64) (Syntax.tcons
+      (Syntax.tyInt Syntax.w64) Syntax.tnil))))))),
+) ∷ (6, Rows.any-gone (Syntax.tyInt Syntax.w64)) ∷ (7, Rows.any-gone Syntax.tyBool) ∷ (
+  8,
+  Rows.any-gone
+      (Syntax.tyInt Syntax.w64),
+) ∷ (9, Rows.any-gone Syntax.tyUnit) ∷ (10, Rows.any-gone (Syntax.tyRef Syntax.erased Syntax.mut (Syntax.tyInt Syntax.w8))) ∷ (
+  11,
+  Rows.any-gone (Syntax.tyStruct (38 ∷ 91 ∷ 93 ∷ []) (Syntax.tcons (Syntax.tyRef Syntax.erased Syntax.mut (Syntax.tyInt Syntax.w8)) (Syntax.tcons
+      (Syntax.tyInt Syntax.w64) Syntax.tnil))),
+) ∷ []
 
 abbrev pub t2 : List.List Row.Entry
 t2 = (
@@ -396,16 +399,19 @@ t5 = (0, Rows.whole (Declared.row (Apart.apartT Outcome.the-type))) ∷ (
   5,
   Rows.any-gone (Syntax.tyStruct (115 ∷ 116 ∷ 111 ∷ 114 ∷ 101 ∷ 58 ∷ 58 ∷ 72 ∷ 101 ∷ 108 ∷ 100 ∷ []) (Syntax.tcons (Syntax.tyInt Syntax.w8) (Syntax.tcons
       (Syntax.tyInt Syntax.w64) (Syntax.tcons (Syntax.tyInt Syntax.w64) (Syntax.tcons (Syntax.tyInt Syntax.w64) (Syntax.tcons (Syntax.tyInt Syntax.w64)
-      Syntax.tnil)))))),
-) ∷ (6, Rows.any-gone (Syntax.tyInt Syntax.w64)) ∷ (7, Rows.any-gone Syntax.tyBool) ∷ (8, Rows.any-gone (Syntax.tyInt Syntax.w64)) ∷ (
-  9,
-  Rows.any-gone Syntax.tyUnit,
-) ∷ (10, Rows.any-gone (Syntax.tyRef Syntax.erased Syntax.mut (Syntax.tyInt Syntax.w8))) ∷ (
+      (Syntax.tcons (Syntax.tyInt Syntax.w64) Syntax.tnil))))))),
+) ∷ (6, Rows.any-gone (Syntax.tyInt Syntax.w64)) ∷ (7, Rows.any-gone Syntax.tyBool) ∷ (
+  8,
+  Rows.any-gone (Syntax.tyInt Syntax.w64),
+) ∷ (9, Rows.any-gone Syntax.tyUnit) ∷ (
+  10,
+  Rows.any-gone (Syntax.tyRef Syntax.erased Syntax.mut (Syntax.tyInt
+      Syntax.w8)),
+) ∷ (
   11,
-  Rows.any-gone (Syntax.tyStruct
-      (38 ∷ 91 ∷ 93 ∷ []) (Syntax.tcons (Syntax.tyRef Syntax.erased Syntax.mut (Syntax.tyInt Syntax.w8)) (Syntax.tcons (Syntax.tyInt Syntax.w64) Syntax.tnil))),
-)
-    ∷ []
+  Rows.any-gone (Syntax.tyStruct (38 ∷ 91 ∷ 93 ∷ []) (Syntax.tcons (Syntax.tyRef Syntax.erased Syntax.mut (Syntax.tyInt Syntax.w8))
+      (Syntax.tcons (Syntax.tyInt Syntax.w64) Syntax.tnil))),
+) ∷ []
 
 abbrev pub t6 : List.List Row.Entry
 t6 = (0, Rows.whole (Declared.row (Apart.apartT Outcome.the-type))) ∷ (
@@ -420,16 +426,19 @@ t6 = (0, Rows.whole (Declared.row (Apart.apartT Outcome.the-type))) ∷ (
   5,
   Rows.any-gone (Syntax.tyStruct (115 ∷ 116 ∷ 111 ∷ 114 ∷ 101 ∷ 58 ∷ 58 ∷ 72 ∷ 101 ∷ 108 ∷ 100 ∷ []) (Syntax.tcons (Syntax.tyInt Syntax.w8) (Syntax.tcons
       (Syntax.tyInt Syntax.w64) (Syntax.tcons (Syntax.tyInt Syntax.w64) (Syntax.tcons (Syntax.tyInt Syntax.w64) (Syntax.tcons (Syntax.tyInt Syntax.w64)
-      Syntax.tnil)))))),
-) ∷ (6, Rows.any-gone (Syntax.tyInt Syntax.w64)) ∷ (7, Rows.any-gone Syntax.tyBool) ∷ (8, Rows.any-gone (Syntax.tyInt Syntax.w64)) ∷ (
-  9,
-  Rows.any-gone Syntax.tyUnit,
-) ∷ (10, Rows.any-gone (Syntax.tyRef Syntax.erased Syntax.mut (Syntax.tyInt Syntax.w8))) ∷ (
+      (Syntax.tcons (Syntax.tyInt Syntax.w64) Syntax.tnil))))))),
+) ∷ (6, Rows.any-gone (Syntax.tyInt Syntax.w64)) ∷ (7, Rows.any-gone Syntax.tyBool) ∷ (
+  8,
+  Rows.any-gone (Syntax.tyInt Syntax.w64),
+) ∷ (9, Rows.any-gone Syntax.tyUnit) ∷ (
+  10,
+  Rows.any-gone (Syntax.tyRef Syntax.erased Syntax.mut (Syntax.tyInt
+      Syntax.w8)),
+) ∷ (
   11,
-  Rows.any-gone (Syntax.tyStruct
-      (38 ∷ 91 ∷ 93 ∷ []) (Syntax.tcons (Syntax.tyRef Syntax.erased Syntax.mut (Syntax.tyInt Syntax.w8)) (Syntax.tcons (Syntax.tyInt Syntax.w64) Syntax.tnil))),
-)
-    ∷ []
+  Rows.any-gone (Syntax.tyStruct (38 ∷ 91 ∷ 93 ∷ []) (Syntax.tcons (Syntax.tyRef Syntax.erased Syntax.mut (Syntax.tyInt Syntax.w8))
+      (Syntax.tcons (Syntax.tyInt Syntax.w64) Syntax.tnil))),
+) ∷ []
 
 abbrev pub t7 : List.List Row.Entry
 t7 = (
@@ -475,16 +484,19 @@ t8 = (
   5,
   Rows.any-gone (Syntax.tyStruct (115 ∷ 116 ∷ 111 ∷ 114 ∷ 101 ∷ 58 ∷ 58 ∷ 72 ∷ 101 ∷ 108 ∷ 100 ∷ []) (Syntax.tcons (Syntax.tyInt Syntax.w8) (Syntax.tcons
       (Syntax.tyInt Syntax.w64) (Syntax.tcons (Syntax.tyInt Syntax.w64) (Syntax.tcons (Syntax.tyInt Syntax.w64) (Syntax.tcons (Syntax.tyInt Syntax.w64)
-      Syntax.tnil)))))),
-) ∷ (6, Rows.sc-here (Row.sInt Syntax.w64)) ∷ (7, Rows.any-gone Syntax.tyBool) ∷ (8, Rows.any-gone (Syntax.tyInt Syntax.w64)) ∷ (
-  9,
-  Rows.any-gone Syntax.tyUnit,
-) ∷ (10, Rows.any-gone (Syntax.tyRef Syntax.erased Syntax.mut (Syntax.tyInt Syntax.w8))) ∷ (
+      (Syntax.tcons (Syntax.tyInt Syntax.w64) Syntax.tnil))))))),
+) ∷ (6, Rows.sc-here (Row.sInt Syntax.w64)) ∷ (7, Rows.any-gone Syntax.tyBool) ∷ (
+  8,
+  Rows.any-gone (Syntax.tyInt Syntax.w64),
+) ∷ (9, Rows.any-gone Syntax.tyUnit) ∷ (
+  10,
+  Rows.any-gone (Syntax.tyRef Syntax.erased Syntax.mut (Syntax.tyInt
+      Syntax.w8)),
+) ∷ (
   11,
-  Rows.any-gone (Syntax.tyStruct
-      (38 ∷ 91 ∷ 93 ∷ []) (Syntax.tcons (Syntax.tyRef Syntax.erased Syntax.mut (Syntax.tyInt Syntax.w8)) (Syntax.tcons (Syntax.tyInt Syntax.w64) Syntax.tnil))),
-)
-    ∷ []
+  Rows.any-gone (Syntax.tyStruct (38 ∷ 91 ∷ 93 ∷ []) (Syntax.tcons (Syntax.tyRef Syntax.erased Syntax.mut (Syntax.tyInt Syntax.w8))
+      (Syntax.tcons (Syntax.tyInt Syntax.w64) Syntax.tnil))),
+) ∷ []
 
 abbrev pub t9 : List.List Row.Entry
 t9 = (
@@ -503,16 +515,16 @@ t9 = (
   5,
   Rows.any-gone (Syntax.tyStruct (115 ∷ 116 ∷ 111 ∷ 114 ∷ 101 ∷ 58 ∷ 58 ∷ 72 ∷ 101 ∷ 108 ∷ 100 ∷ []) (Syntax.tcons (Syntax.tyInt Syntax.w8) (Syntax.tcons
       (Syntax.tyInt Syntax.w64) (Syntax.tcons (Syntax.tyInt Syntax.w64) (Syntax.tcons (Syntax.tyInt Syntax.w64) (Syntax.tcons (Syntax.tyInt Syntax.w64)
-      Syntax.tnil)))))),
-) ∷ (6, Rows.sc-here (Row.sInt Syntax.w64)) ∷ (7, Rows.any-gone Syntax.tyBool) ∷ (8, Rows.sc-here (Row.sInt Syntax.w64)) ∷ (
-  9,
-  Rows.any-gone Syntax.tyUnit,
-) ∷ (10, Rows.any-gone (Syntax.tyRef Syntax.erased Syntax.mut (Syntax.tyInt Syntax.w8))) ∷ (
+      (Syntax.tcons (Syntax.tyInt Syntax.w64) Syntax.tnil))))))),
+) ∷ (6, Rows.sc-here (Row.sInt Syntax.w64)) ∷ (7, Rows.any-gone Syntax.tyBool) ∷ (
+  8,
+  Rows.sc-here
+      (Row.sInt Syntax.w64),
+) ∷ (9, Rows.any-gone Syntax.tyUnit) ∷ (10, Rows.any-gone (Syntax.tyRef Syntax.erased Syntax.mut (Syntax.tyInt Syntax.w8))) ∷ (
   11,
-  Rows.any-gone (Syntax.tyStruct
-      (38 ∷ 91 ∷ 93 ∷ []) (Syntax.tcons (Syntax.tyRef Syntax.erased Syntax.mut (Syntax.tyInt Syntax.w8)) (Syntax.tcons (Syntax.tyInt Syntax.w64) Syntax.tnil))),
-)
-    ∷ []
+  Rows.any-gone (Syntax.tyStruct (38 ∷ 91 ∷ 93 ∷ []) (Syntax.tcons (Syntax.tyRef Syntax.erased Syntax.mut (Syntax.tyInt Syntax.w8)) (Syntax.tcons
+      (Syntax.tyInt Syntax.w64) Syntax.tnil))),
+) ∷ []
 
 abbrev pub t10 : List.List Row.Entry
 t10 = (
@@ -531,15 +543,15 @@ t10 = (
   5,
   Rows.any-gone (Syntax.tyStruct (115 ∷ 116 ∷ 111 ∷ 114 ∷ 101 ∷ 58 ∷ 58 ∷ 72 ∷ 101 ∷ 108 ∷ 100 ∷ []) (Syntax.tcons (Syntax.tyInt Syntax.w8) (Syntax.tcons
       (Syntax.tyInt Syntax.w64) (Syntax.tcons (Syntax.tyInt Syntax.w64) (Syntax.tcons (Syntax.tyInt Syntax.w64) (Syntax.tcons (Syntax.tyInt Syntax.w64)
-      Syntax.tnil)))))),
-) ∷ (6, Rows.sc-here (Row.sInt Syntax.w64)) ∷ (7, Rows.sc-here Row.sBool) ∷ (8, Rows.sc-here (Row.sInt Syntax.w64)) ∷ (
-  9,
-  Rows.any-gone
-      Syntax.tyUnit,
-) ∷ (10, Rows.any-gone (Syntax.tyRef Syntax.erased Syntax.mut (Syntax.tyInt Syntax.w8))) ∷ (
+      (Syntax.tcons (Syntax.tyInt Syntax.w64) Syntax.tnil))))))),
+) ∷ (6, Rows.sc-here (Row.sInt Syntax.w64)) ∷ (7, Rows.sc-here Row.sBool) ∷ (
+  8,
+  Rows.sc-here
+      (Row.sInt Syntax.w64),
+) ∷ (9, Rows.any-gone Syntax.tyUnit) ∷ (10, Rows.any-gone (Syntax.tyRef Syntax.erased Syntax.mut (Syntax.tyInt Syntax.w8))) ∷ (
   11,
-  Rows.any-gone (Syntax.tyStruct (38 ∷ 91 ∷ 93 ∷
-      []) (Syntax.tcons (Syntax.tyRef Syntax.erased Syntax.mut (Syntax.tyInt Syntax.w8)) (Syntax.tcons (Syntax.tyInt Syntax.w64) Syntax.tnil))),
+  Rows.any-gone (Syntax.tyStruct (38 ∷ 91 ∷ 93 ∷ []) (Syntax.tcons (Syntax.tyRef Syntax.erased Syntax.mut (Syntax.tyInt Syntax.w8)) (Syntax.tcons
+      (Syntax.tyInt Syntax.w64) Syntax.tnil))),
 ) ∷ []
 
 abbrev pub t11 : List.List Row.Entry
@@ -559,16 +571,16 @@ t11 = (
   5,
   Rows.any-gone (Syntax.tyStruct (115 ∷ 116 ∷ 111 ∷ 114 ∷ 101 ∷ 58 ∷ 58 ∷ 72 ∷ 101 ∷ 108 ∷ 100 ∷ []) (Syntax.tcons (Syntax.tyInt Syntax.w8) (Syntax.tcons
       (Syntax.tyInt Syntax.w64) (Syntax.tcons (Syntax.tyInt Syntax.w64) (Syntax.tcons (Syntax.tyInt Syntax.w64) (Syntax.tcons (Syntax.tyInt Syntax.w64)
-      Syntax.tnil)))))),
-) ∷ (6, Rows.sc-here (Row.sInt Syntax.w64)) ∷ (7, Rows.sc-here Row.sBool) ∷ (8, Rows.any-gone (Syntax.tyInt Syntax.w64)) ∷ (
-  9,
-  Rows.any-gone Syntax.tyUnit,
-) ∷ (10, Rows.any-gone (Syntax.tyRef Syntax.erased Syntax.mut (Syntax.tyInt Syntax.w8))) ∷ (
+      (Syntax.tcons (Syntax.tyInt Syntax.w64) Syntax.tnil))))))),
+) ∷ (6, Rows.sc-here (Row.sInt Syntax.w64)) ∷ (7, Rows.sc-here Row.sBool) ∷ (
+  8,
+  Rows.any-gone
+      (Syntax.tyInt Syntax.w64),
+) ∷ (9, Rows.any-gone Syntax.tyUnit) ∷ (10, Rows.any-gone (Syntax.tyRef Syntax.erased Syntax.mut (Syntax.tyInt Syntax.w8))) ∷ (
   11,
-  Rows.any-gone (Syntax.tyStruct
-      (38 ∷ 91 ∷ 93 ∷ []) (Syntax.tcons (Syntax.tyRef Syntax.erased Syntax.mut (Syntax.tyInt Syntax.w8)) (Syntax.tcons (Syntax.tyInt Syntax.w64) Syntax.tnil))),
-)
-    ∷ []
+  Rows.any-gone (Syntax.tyStruct (38 ∷ 91 ∷ 93 ∷ []) (Syntax.tcons (Syntax.tyRef Syntax.erased Syntax.mut (Syntax.tyInt Syntax.w8)) (Syntax.tcons
+      (Syntax.tyInt Syntax.w64) Syntax.tnil))),
+) ∷ []
 
 abbrev pub t12 : List.List Row.Entry
 t12 = (0, Rows.whole (Declared.row (Apart.apartT Outcome.the-type))) ∷ (
@@ -583,16 +595,19 @@ t12 = (0, Rows.whole (Declared.row (Apart.apartT Outcome.the-type))) ∷ (
   5,
   Rows.any-gone (Syntax.tyStruct (115 ∷ 116 ∷ 111 ∷ 114 ∷ 101 ∷ 58 ∷ 58 ∷ 72 ∷ 101 ∷ 108 ∷ 100 ∷ []) (Syntax.tcons (Syntax.tyInt Syntax.w8) (Syntax.tcons
       (Syntax.tyInt Syntax.w64) (Syntax.tcons (Syntax.tyInt Syntax.w64) (Syntax.tcons (Syntax.tyInt Syntax.w64) (Syntax.tcons (Syntax.tyInt Syntax.w64)
-      Syntax.tnil)))))),
-) ∷ (6, Rows.sc-here (Row.sInt Syntax.w64)) ∷ (7, Rows.any-gone Syntax.tyBool) ∷ (8, Rows.any-gone (Syntax.tyInt Syntax.w64)) ∷ (
-  9,
-  Rows.any-gone Syntax.tyUnit,
-) ∷ (10, Rows.any-gone (Syntax.tyRef Syntax.erased Syntax.mut (Syntax.tyInt Syntax.w8))) ∷ (
+      (Syntax.tcons (Syntax.tyInt Syntax.w64) Syntax.tnil))))))),
+) ∷ (6, Rows.sc-here (Row.sInt Syntax.w64)) ∷ (7, Rows.any-gone Syntax.tyBool) ∷ (
+  8,
+  Rows.any-gone (Syntax.tyInt Syntax.w64),
+) ∷ (9, Rows.any-gone Syntax.tyUnit) ∷ (
+  10,
+  Rows.any-gone (Syntax.tyRef Syntax.erased Syntax.mut (Syntax.tyInt
+      Syntax.w8)),
+) ∷ (
   11,
-  Rows.any-gone (Syntax.tyStruct
-      (38 ∷ 91 ∷ 93 ∷ []) (Syntax.tcons (Syntax.tyRef Syntax.erased Syntax.mut (Syntax.tyInt Syntax.w8)) (Syntax.tcons (Syntax.tyInt Syntax.w64) Syntax.tnil))),
-)
-    ∷ []
+  Rows.any-gone (Syntax.tyStruct (38 ∷ 91 ∷ 93 ∷ []) (Syntax.tcons (Syntax.tyRef Syntax.erased Syntax.mut (Syntax.tyInt Syntax.w8))
+      (Syntax.tcons (Syntax.tyInt Syntax.w64) Syntax.tnil))),
+) ∷ []
 
 abbrev pub t13 : List.List Row.Entry
 t13 = (0, Rows.whole (Declared.row (Apart.apartT Outcome.the-type))) ∷ (
@@ -607,16 +622,19 @@ t13 = (0, Rows.whole (Declared.row (Apart.apartT Outcome.the-type))) ∷ (
   5,
   Rows.any-gone (Syntax.tyStruct (115 ∷ 116 ∷ 111 ∷ 114 ∷ 101 ∷ 58 ∷ 58 ∷ 72 ∷ 101 ∷ 108 ∷ 100 ∷ []) (Syntax.tcons (Syntax.tyInt Syntax.w8) (Syntax.tcons
       (Syntax.tyInt Syntax.w64) (Syntax.tcons (Syntax.tyInt Syntax.w64) (Syntax.tcons (Syntax.tyInt Syntax.w64) (Syntax.tcons (Syntax.tyInt Syntax.w64)
-      Syntax.tnil)))))),
-) ∷ (6, Rows.sc-here (Row.sInt Syntax.w64)) ∷ (7, Rows.any-gone Syntax.tyBool) ∷ (8, Rows.any-gone (Syntax.tyInt Syntax.w64)) ∷ (
-  9,
-  Rows.any-gone Syntax.tyUnit,
-) ∷ (10, Rows.any-gone (Syntax.tyRef Syntax.erased Syntax.mut (Syntax.tyInt Syntax.w8))) ∷ (
+      (Syntax.tcons (Syntax.tyInt Syntax.w64) Syntax.tnil))))))),
+) ∷ (6, Rows.sc-here (Row.sInt Syntax.w64)) ∷ (7, Rows.any-gone Syntax.tyBool) ∷ (
+  8,
+  Rows.any-gone (Syntax.tyInt Syntax.w64),
+) ∷ (9, Rows.any-gone Syntax.tyUnit) ∷ (
+  10,
+  Rows.any-gone (Syntax.tyRef Syntax.erased Syntax.mut (Syntax.tyInt
+      Syntax.w8)),
+) ∷ (
   11,
-  Rows.any-gone (Syntax.tyStruct
-      (38 ∷ 91 ∷ 93 ∷ []) (Syntax.tcons (Syntax.tyRef Syntax.erased Syntax.mut (Syntax.tyInt Syntax.w8)) (Syntax.tcons (Syntax.tyInt Syntax.w64) Syntax.tnil))),
-)
-    ∷ []
+  Rows.any-gone (Syntax.tyStruct (38 ∷ 91 ∷ 93 ∷ []) (Syntax.tcons (Syntax.tyRef Syntax.erased Syntax.mut (Syntax.tyInt Syntax.w8))
+      (Syntax.tcons (Syntax.tyInt Syntax.w64) Syntax.tnil))),
+) ∷ []
 
 abbrev pub t14 : List.List Row.Entry
 t14 = (
@@ -637,19 +655,18 @@ t14 = (
   5,
   Rows.any-gone (Syntax.tyStruct (115 ∷ 116 ∷ 111 ∷ 114 ∷ 101 ∷ 58 ∷ 58 ∷ 72 ∷ 101 ∷ 108 ∷ 100 ∷ []) (Syntax.tcons
       (Syntax.tyInt Syntax.w8) (Syntax.tcons (Syntax.tyInt Syntax.w64) (Syntax.tcons (Syntax.tyInt Syntax.w64) (Syntax.tcons (Syntax.tyInt Syntax.w64)
-      (Syntax.tcons (Syntax.tyInt Syntax.w64) Syntax.tnil)))))),
-) ∷ (6, Rows.sc-here (Row.sInt Syntax.w64)) ∷ (7, Rows.any-gone Syntax.tyBool) ∷ (
-  8,
-  Rows.any-gone
-      (Syntax.tyInt Syntax.w64),
-) ∷ (9, Rows.any-gone Syntax.tyUnit) ∷ (
+      (Syntax.tcons (Syntax.tyInt Syntax.w64) (Syntax.tcons (Syntax.tyInt Syntax.w64) Syntax.tnil))))))),
+) ∷ (6, Rows.sc-here (Row.sInt Syntax.w64)) ∷ (
+  7,
+  Rows.any-gone Syntax.tyBool,
+) ∷ (8, Rows.any-gone (Syntax.tyInt Syntax.w64)) ∷ (9, Rows.any-gone Syntax.tyUnit) ∷ (
   10,
-  Relend.msptr (Referent.rtF (Referent.fInt Syntax.w8)) (Syntax.tyRef Syntax.erased
-      Syntax.mut (Syntax.tyInt Syntax.w8)) 3,
+  Relend.msptr (Referent.rtF
+      (Referent.fInt Syntax.w8)) (Syntax.tyRef Syntax.erased Syntax.mut (Syntax.tyInt Syntax.w8)) 3,
 ) ∷ (
   11,
-  Rows.any-gone (Syntax.tyStruct (38 ∷ 91 ∷ 93 ∷ []) (Syntax.tcons (Syntax.tyRef Syntax.erased Syntax.mut
-      (Syntax.tyInt Syntax.w8)) (Syntax.tcons (Syntax.tyInt Syntax.w64) Syntax.tnil))),
+  Rows.any-gone (Syntax.tyStruct (38 ∷ 91 ∷ 93 ∷ [])
+      (Syntax.tcons (Syntax.tyRef Syntax.erased Syntax.mut (Syntax.tyInt Syntax.w8)) (Syntax.tcons (Syntax.tyInt Syntax.w64) Syntax.tnil))),
 ) ∷ []
 
 abbrev pub t15 : List.List Row.Entry
@@ -671,14 +688,18 @@ t15 = (
   5,
   Rows.any-gone (Syntax.tyStruct (115 ∷ 116 ∷ 111 ∷ 114 ∷ 101 ∷ 58 ∷ 58 ∷ 72 ∷ 101 ∷ 108 ∷ 100 ∷ []) (Syntax.tcons
       (Syntax.tyInt Syntax.w8) (Syntax.tcons (Syntax.tyInt Syntax.w64) (Syntax.tcons (Syntax.tyInt Syntax.w64) (Syntax.tcons (Syntax.tyInt Syntax.w64)
-      (Syntax.tcons (Syntax.tyInt Syntax.w64) Syntax.tnil)))))),
-) ∷ (6, Rows.sc-here (Row.sInt Syntax.w64)) ∷ (7, Rows.any-gone Syntax.tyBool) ∷ (
-  8,
-  Rows.any-gone
-      (Syntax.tyInt Syntax.w64),
-) ∷ (9, Rows.any-gone Syntax.tyUnit) ∷ (10, Rows.any-gone (Syntax.tyRef Syntax.erased Syntax.mut (Syntax.tyInt Syntax.w8))) ∷ (
+      (Syntax.tcons (Syntax.tyInt Syntax.w64) (Syntax.tcons (Syntax.tyInt Syntax.w64) Syntax.tnil))))))),
+) ∷ (6, Rows.sc-here (Row.sInt Syntax.w64)) ∷ (
+  7,
+  Rows.any-gone Syntax.tyBool,
+) ∷ (8, Rows.any-gone (Syntax.tyInt Syntax.w64)) ∷ (9, Rows.any-gone Syntax.tyUnit) ∷ (
+  10,
+  Rows.any-gone (Syntax.tyRef
+      Syntax.erased Syntax.mut (Syntax.tyInt Syntax.w8)),
+) ∷ (
   11,
-  Mut.mslice (Referent.rtF (Referent.fInt Syntax.w8)) (Syntax.tyRef Syntax.erased Syntax.mut (Syntax.tyInt Syntax.w8)) 3,
+  Mut.mslice (Referent.rtF (Referent.fInt Syntax.w8)) (Syntax.tyRef Syntax.erased Syntax.mut
+      (Syntax.tyInt Syntax.w8)) 3,
 ) ∷ []
 
 abbrev pub t16 : List.List Row.Entry
@@ -700,14 +721,18 @@ t16 = (
   5,
   Rows.any-gone (Syntax.tyStruct (115 ∷ 116 ∷ 111 ∷ 114 ∷ 101 ∷ 58 ∷ 58 ∷ 72 ∷ 101 ∷ 108 ∷ 100 ∷ []) (Syntax.tcons
       (Syntax.tyInt Syntax.w8) (Syntax.tcons (Syntax.tyInt Syntax.w64) (Syntax.tcons (Syntax.tyInt Syntax.w64) (Syntax.tcons (Syntax.tyInt Syntax.w64)
-      (Syntax.tcons (Syntax.tyInt Syntax.w64) Syntax.tnil)))))),
-) ∷ (6, Rows.sc-here (Row.sInt Syntax.w64)) ∷ (7, Rows.any-gone Syntax.tyBool) ∷ (
-  8,
-  Rows.any-gone
-      (Syntax.tyInt Syntax.w64),
-) ∷ (9, Rows.sc-here Row.sUnit) ∷ (10, Rows.any-gone (Syntax.tyRef Syntax.erased Syntax.mut (Syntax.tyInt Syntax.w8))) ∷ (
+      (Syntax.tcons (Syntax.tyInt Syntax.w64) (Syntax.tcons (Syntax.tyInt Syntax.w64) Syntax.tnil))))))),
+) ∷ (6, Rows.sc-here (Row.sInt Syntax.w64)) ∷ (
+  7,
+  Rows.any-gone Syntax.tyBool,
+) ∷ (8, Rows.any-gone (Syntax.tyInt Syntax.w64)) ∷ (9, Rows.sc-here Row.sUnit) ∷ (
+  10,
+  Rows.any-gone (Syntax.tyRef Syntax.erased
+      Syntax.mut (Syntax.tyInt Syntax.w8)),
+) ∷ (
   11,
-  Mut.msleft (Referent.rtF (Referent.fInt Syntax.w8)) (Syntax.tyRef Syntax.erased Syntax.mut (Syntax.tyInt Syntax.w8)),
+  Mut.msleft (Referent.rtF (Referent.fInt Syntax.w8)) (Syntax.tyRef Syntax.erased Syntax.mut (Syntax.tyInt
+      Syntax.w8)),
 ) ∷ []
 
 abbrev pub t17 : List.List Row.Entry
@@ -729,14 +754,18 @@ t17 = (
   5,
   Rows.any-gone (Syntax.tyStruct (115 ∷ 116 ∷ 111 ∷ 114 ∷ 101 ∷ 58 ∷ 58 ∷ 72 ∷ 101 ∷ 108 ∷ 100 ∷ []) (Syntax.tcons
       (Syntax.tyInt Syntax.w8) (Syntax.tcons (Syntax.tyInt Syntax.w64) (Syntax.tcons (Syntax.tyInt Syntax.w64) (Syntax.tcons (Syntax.tyInt Syntax.w64)
-      (Syntax.tcons (Syntax.tyInt Syntax.w64) Syntax.tnil)))))),
-) ∷ (6, Rows.sc-here (Row.sInt Syntax.w64)) ∷ (7, Rows.any-gone Syntax.tyBool) ∷ (
-  8,
-  Rows.any-gone
-      (Syntax.tyInt Syntax.w64),
-) ∷ (9, Rows.any-gone Syntax.tyUnit) ∷ (10, Rows.any-gone (Syntax.tyRef Syntax.erased Syntax.mut (Syntax.tyInt Syntax.w8))) ∷ (
+      (Syntax.tcons (Syntax.tyInt Syntax.w64) (Syntax.tcons (Syntax.tyInt Syntax.w64) Syntax.tnil))))))),
+) ∷ (6, Rows.sc-here (Row.sInt Syntax.w64)) ∷ (
+  7,
+  Rows.any-gone Syntax.tyBool,
+) ∷ (8, Rows.any-gone (Syntax.tyInt Syntax.w64)) ∷ (9, Rows.any-gone Syntax.tyUnit) ∷ (
+  10,
+  Rows.any-gone (Syntax.tyRef
+      Syntax.erased Syntax.mut (Syntax.tyInt Syntax.w8)),
+) ∷ (
   11,
-  Mut.msleft (Referent.rtF (Referent.fInt Syntax.w8)) (Syntax.tyRef Syntax.erased Syntax.mut (Syntax.tyInt Syntax.w8)),
+  Mut.msleft (Referent.rtF (Referent.fInt Syntax.w8)) (Syntax.tyRef Syntax.erased Syntax.mut
+      (Syntax.tyInt Syntax.w8)),
 ) ∷ []
 
 abbrev pub T0 : Row.Cx
@@ -874,7 +903,8 @@ module _ (claims· : Claims) where
     (record { pos = 2; ty = Syntax.tyRef (Syntax.named 1) Syntax.imm SlotAs.pointee; ref = λ x. x }, tt),
   ) 5 (0 ∷ 1 ∷ []) (Syntax.tyStruct (115 ∷ 116 ∷
       111 ∷ 114 ∷ 101 ∷ 58 ∷ 58 ∷ 72 ∷ 101 ∷ 108 ∷ 100 ∷ []) (Syntax.tcons (Syntax.tyInt Syntax.w8) (Syntax.tcons (Syntax.tyInt Syntax.w64) (Syntax.tcons
-      (Syntax.tyInt Syntax.w64) (Syntax.tcons (Syntax.tyInt Syntax.w64) (Syntax.tcons (Syntax.tyInt Syntax.w64) Syntax.tnil))))))
+      (Syntax.tyInt Syntax.w64) (Syntax.tcons (Syntax.tyInt Syntax.w64) (Syntax.tcons (Syntax.tyInt Syntax.w64) (Syntax.tcons (Syntax.tyInt Syntax.w64)
+      Syntax.tnil)))))))
 
   abbrev s3 : Typed.Gives T4 T5
   s3 = Know'.k-struct-known Held.the-type Laws.the-laws T4 5 λ x. x
@@ -892,7 +922,7 @@ module _ (claims· : Claims) where
   abbrev s7 : Typed.Mo T9 → Typed.Mo T10
   s7 = Scalar.n-room T9 5 (Syntax.tyStruct (115 ∷ 116 ∷ 111 ∷ 114 ∷ 101 ∷ 58 ∷ 58 ∷ 72 ∷ 101 ∷ 108 ∷ 100 ∷ []) (Syntax.tcons (Syntax.tyInt Syntax.w8)
       (Syntax.tcons (Syntax.tyInt Syntax.w64) (Syntax.tcons (Syntax.tyInt Syntax.w64) (Syntax.tcons (Syntax.tyInt Syntax.w64) (Syntax.tcons (Syntax.tyInt
-      Syntax.w64) Syntax.tnil))))))
+      Syntax.w64) (Syntax.tcons (Syntax.tyInt Syntax.w64) Syntax.tnil)))))))
 
   abbrev s8 : Typed.Mo T10 → Typed.Mo T11
   s8 = Scalar.n-room T10 4 Syntax.tyBool
@@ -910,7 +940,7 @@ module _ (claims· : Claims) where
   abbrev s12 : Typed.Mo T14 → Typed.Mo T15
   s12 = Scalar.n-room T14 5 (Syntax.tyStruct (115 ∷ 116 ∷ 111 ∷ 114 ∷ 101 ∷ 58 ∷ 58 ∷ 72 ∷ 101 ∷ 108 ∷ 100 ∷ []) (Syntax.tcons (Syntax.tyInt Syntax.w8)
       (Syntax.tcons (Syntax.tyInt Syntax.w64) (Syntax.tcons (Syntax.tyInt Syntax.w64) (Syntax.tcons (Syntax.tyInt Syntax.w64) (Syntax.tcons (Syntax.tyInt
-      Syntax.w64) Syntax.tnil))))))
+      Syntax.w64) (Syntax.tcons (Syntax.tyInt Syntax.w64) Syntax.tnil)))))))
 
   abbrev s13 : Typed.Mo T15 → Typed.Mo T16
   s13 = Scalar.n-use T15 (Scalar.oFld 3 (Syntax.field 1 ∷ []) (Syntax.tyInt Syntax.w64) 8 Shared.lenV) 8 (Rows.sc-here (Row.sInt Syntax.w64)) (Row.sInt
@@ -1166,20 +1196,18 @@ module _ (claims· : Claims) where
             5,
             Rows.any-gone (Syntax.tyStruct (115 ∷ 116 ∷ 111 ∷ 114
                 ∷ 101 ∷ 58 ∷ 58 ∷ 72 ∷ 101 ∷ 108 ∷ 100 ∷ []) (Syntax.tcons (Syntax.tyInt Syntax.w8) (Syntax.tcons (Syntax.tyInt Syntax.w64) (Syntax.tcons
-                (Syntax.tyInt Syntax.w64) (Syntax.tcons (Syntax.tyInt Syntax.w64) (Syntax.tcons (Syntax.tyInt Syntax.w64) Syntax.tnil)))))),
-          ) ∷ (
-            6,
-            Rows.sc-here
-                (Row.sInt Syntax.w64),
-          ) ∷ (7, Rows.any-gone Syntax.tyBool) ∷ (8, Rows.any-gone (Syntax.tyInt Syntax.w64)) ∷ (9, Rows.any-gone Syntax.tyUnit) ∷ (
-            10,
-            Relend.msptr (Referent.rtF (Referent.fInt Syntax.w8)) (Syntax.tyRef Syntax.erased Syntax.mut (Syntax.tyInt Syntax.w8)) 3,
-          ) ∷ (
-            11,
-            Rows.any-gone
-                (Syntax.tyStruct (38 ∷ 91 ∷ 93 ∷ []) (Syntax.tcons (Syntax.tyRef Syntax.erased Syntax.mut (Syntax.tyInt Syntax.w8)) (Syntax.tcons (Syntax.tyInt
-                Syntax.w64) Syntax.tnil))),
-          ) ∷ []
+                (Syntax.tyInt Syntax.w64) (Syntax.tcons (Syntax.tyInt Syntax.w64) (Syntax.tcons (Syntax.tyInt Syntax.w64) (Syntax.tcons (Syntax.tyInt Syntax.w64)
+                Syntax.tnil))))))),
+          ) ∷ (6, Rows.sc-here (Row.sInt Syntax.w64)) ∷ (7, Rows.any-gone Syntax.tyBool) ∷ (8, Rows.any-gone (Syntax.tyInt Syntax.w64)) ∷
+              (9, Rows.any-gone Syntax.tyUnit) ∷ (
+                10,
+                Relend.msptr (Referent.rtF (Referent.fInt Syntax.w8)) (Syntax.tyRef Syntax.erased Syntax.mut (Syntax.tyInt
+                    Syntax.w8)) 3,
+              ) ∷ (
+                11,
+                Rows.any-gone (Syntax.tyStruct (38 ∷ 91 ∷ 93 ∷ []) (Syntax.tcons (Syntax.tyRef Syntax.erased Syntax.mut (Syntax.tyInt
+                    Syntax.w8)) (Syntax.tcons (Syntax.tyInt Syntax.w64) Syntax.tnil))),
+              ) ∷ []
 
           abbrev g15 : List.List Row.Entry
           g15 = (
@@ -1202,19 +1230,14 @@ module _ (claims· : Claims) where
             5,
             Rows.any-gone (Syntax.tyStruct (115 ∷ 116 ∷ 111 ∷ 114
                 ∷ 101 ∷ 58 ∷ 58 ∷ 72 ∷ 101 ∷ 108 ∷ 100 ∷ []) (Syntax.tcons (Syntax.tyInt Syntax.w8) (Syntax.tcons (Syntax.tyInt Syntax.w64) (Syntax.tcons
-                (Syntax.tyInt Syntax.w64) (Syntax.tcons (Syntax.tyInt Syntax.w64) (Syntax.tcons (Syntax.tyInt Syntax.w64) Syntax.tnil)))))),
-          ) ∷ (
-            6,
-            Rows.sc-here
-                (Row.sInt Syntax.w64),
-          ) ∷ (7, Rows.any-gone Syntax.tyBool) ∷ (8, Rows.any-gone (Syntax.tyInt Syntax.w64)) ∷ (9, Rows.any-gone Syntax.tyUnit) ∷ (
-            10,
-            Rows.any-gone (Syntax.tyRef Syntax.erased Syntax.mut (Syntax.tyInt Syntax.w8)),
-          ) ∷ (
-            11,
-            Mut.mslice (Referent.rtF (Referent.fInt Syntax.w8))
-                (Syntax.tyRef Syntax.erased Syntax.mut (Syntax.tyInt Syntax.w8)) 3,
-          ) ∷ []
+                (Syntax.tyInt Syntax.w64) (Syntax.tcons (Syntax.tyInt Syntax.w64) (Syntax.tcons (Syntax.tyInt Syntax.w64) (Syntax.tcons (Syntax.tyInt Syntax.w64)
+                Syntax.tnil))))))),
+          ) ∷ (6, Rows.sc-here (Row.sInt Syntax.w64)) ∷ (7, Rows.any-gone Syntax.tyBool) ∷ (8, Rows.any-gone (Syntax.tyInt Syntax.w64)) ∷
+              (9, Rows.any-gone Syntax.tyUnit) ∷ (10, Rows.any-gone (Syntax.tyRef Syntax.erased Syntax.mut (Syntax.tyInt Syntax.w8))) ∷ (
+                11,
+                Mut.mslice
+                    (Referent.rtF (Referent.fInt Syntax.w8)) (Syntax.tyRef Syntax.erased Syntax.mut (Syntax.tyInt Syntax.w8)) 3,
+              ) ∷ []
 
           abbrev g16 : List.List Row.Entry
           g16 = (
@@ -1237,19 +1260,14 @@ module _ (claims· : Claims) where
             5,
             Rows.any-gone (Syntax.tyStruct (115 ∷ 116 ∷ 111 ∷ 114
                 ∷ 101 ∷ 58 ∷ 58 ∷ 72 ∷ 101 ∷ 108 ∷ 100 ∷ []) (Syntax.tcons (Syntax.tyInt Syntax.w8) (Syntax.tcons (Syntax.tyInt Syntax.w64) (Syntax.tcons
-                (Syntax.tyInt Syntax.w64) (Syntax.tcons (Syntax.tyInt Syntax.w64) (Syntax.tcons (Syntax.tyInt Syntax.w64) Syntax.tnil)))))),
-          ) ∷ (
-            6,
-            Rows.sc-here
-                (Row.sInt Syntax.w64),
-          ) ∷ (7, Rows.any-gone Syntax.tyBool) ∷ (8, Rows.any-gone (Syntax.tyInt Syntax.w64)) ∷ (9, Rows.sc-here Row.sUnit) ∷ (
-            10,
-            Rows.any-gone (Syntax.tyRef Syntax.erased Syntax.mut (Syntax.tyInt Syntax.w8)),
-          ) ∷ (
-            11,
-            Mut.msleft (Referent.rtF (Referent.fInt Syntax.w8))
-                (Syntax.tyRef Syntax.erased Syntax.mut (Syntax.tyInt Syntax.w8)),
-          ) ∷ []
+                (Syntax.tyInt Syntax.w64) (Syntax.tcons (Syntax.tyInt Syntax.w64) (Syntax.tcons (Syntax.tyInt Syntax.w64) (Syntax.tcons (Syntax.tyInt Syntax.w64)
+                Syntax.tnil))))))),
+          ) ∷ (6, Rows.sc-here (Row.sInt Syntax.w64)) ∷ (7, Rows.any-gone Syntax.tyBool) ∷ (8, Rows.any-gone (Syntax.tyInt Syntax.w64)) ∷
+              (9, Rows.sc-here Row.sUnit) ∷ (10, Rows.any-gone (Syntax.tyRef Syntax.erased Syntax.mut (Syntax.tyInt Syntax.w8))) ∷ (
+                11,
+                Mut.msleft (Referent.rtF
+                    (Referent.fInt Syntax.w8)) (Syntax.tyRef Syntax.erased Syntax.mut (Syntax.tyInt Syntax.w8)),
+              ) ∷ []
 
           abbrev g17 : List.List Row.Entry
           g17 = (
@@ -1272,19 +1290,14 @@ module _ (claims· : Claims) where
             5,
             Rows.any-gone (Syntax.tyStruct (115 ∷ 116 ∷ 111 ∷ 114
                 ∷ 101 ∷ 58 ∷ 58 ∷ 72 ∷ 101 ∷ 108 ∷ 100 ∷ []) (Syntax.tcons (Syntax.tyInt Syntax.w8) (Syntax.tcons (Syntax.tyInt Syntax.w64) (Syntax.tcons
-                (Syntax.tyInt Syntax.w64) (Syntax.tcons (Syntax.tyInt Syntax.w64) (Syntax.tcons (Syntax.tyInt Syntax.w64) Syntax.tnil)))))),
-          ) ∷ (
-            6,
-            Rows.sc-here
-                (Row.sInt Syntax.w64),
-          ) ∷ (7, Rows.any-gone Syntax.tyBool) ∷ (8, Rows.any-gone (Syntax.tyInt Syntax.w64)) ∷ (9, Rows.any-gone Syntax.tyUnit) ∷ (
-            10,
-            Rows.any-gone (Syntax.tyRef Syntax.erased Syntax.mut (Syntax.tyInt Syntax.w8)),
-          ) ∷ (
-            11,
-            Mut.msleft (Referent.rtF (Referent.fInt Syntax.w8))
-                (Syntax.tyRef Syntax.erased Syntax.mut (Syntax.tyInt Syntax.w8)),
-          ) ∷ []
+                (Syntax.tyInt Syntax.w64) (Syntax.tcons (Syntax.tyInt Syntax.w64) (Syntax.tcons (Syntax.tyInt Syntax.w64) (Syntax.tcons (Syntax.tyInt Syntax.w64)
+                Syntax.tnil))))))),
+          ) ∷ (6, Rows.sc-here (Row.sInt Syntax.w64)) ∷ (7, Rows.any-gone Syntax.tyBool) ∷ (8, Rows.any-gone (Syntax.tyInt Syntax.w64)) ∷
+              (9, Rows.any-gone Syntax.tyUnit) ∷ (10, Rows.any-gone (Syntax.tyRef Syntax.erased Syntax.mut (Syntax.tyInt Syntax.w8))) ∷ (
+                11,
+                Mut.msleft
+                    (Referent.rtF (Referent.fInt Syntax.w8)) (Syntax.tyRef Syntax.erased Syntax.mut (Syntax.tyInt Syntax.w8)),
+              ) ∷ []
 
           abbrev G0 : Row.Cx
           G0 = record {
@@ -1542,10 +1555,11 @@ module _ (claims· : Claims) where
             d3 : Typed.Typed 𝓤 H A 𝓣 E G9 b3 Δ1 at3
             d3 = Typed.g-pre 𝓤 H A W 𝓣 E G9 G10 b3 Δ1 (Typed.pass T9 T10 s7) at2 (Scalar.g-room 𝓤 H A W E G9 5 (Syntax.tyStruct (115 ∷ 116 ∷ 111 ∷ 114 ∷ 101 ∷ 58
                 ∷ 58 ∷ 72 ∷ 101 ∷ 108 ∷ 100 ∷ []) (Syntax.tcons (Syntax.tyInt Syntax.w8) (Syntax.tcons (Syntax.tyInt Syntax.w64) (Syntax.tcons (Syntax.tyInt
-                Syntax.w64) (Syntax.tcons (Syntax.tyInt Syntax.w64) (Syntax.tcons (Syntax.tyInt Syntax.w64) Syntax.tnil)))))) (Local.room-whole 𝓤 H A W
-                (Declared.row Held.the-type) (Syntax.tyStruct (115 ∷ 116 ∷ 111 ∷ 114 ∷ 101 ∷ 58 ∷ 58 ∷ 72 ∷ 101 ∷ 108 ∷ 100 ∷ []) (Syntax.tcons (Syntax.tyInt
-                Syntax.w8) (Syntax.tcons (Syntax.tyInt Syntax.w64) (Syntax.tcons (Syntax.tyInt Syntax.w64) (Syntax.tcons (Syntax.tyInt Syntax.w64) (Syntax.tcons
-                (Syntax.tyInt Syntax.w64) Syntax.tnil)))))) Path'.refl)) d2
+                Syntax.w64) (Syntax.tcons (Syntax.tyInt Syntax.w64) (Syntax.tcons (Syntax.tyInt Syntax.w64) (Syntax.tcons (Syntax.tyInt Syntax.w64)
+                Syntax.tnil))))))) (Local.room-whole 𝓤 H A W (Declared.row Held.the-type) (Syntax.tyStruct (115 ∷ 116 ∷ 111 ∷ 114 ∷ 101 ∷ 58 ∷ 58 ∷ 72 ∷ 101 ∷
+                108 ∷ 100 ∷ []) (Syntax.tcons (Syntax.tyInt Syntax.w8) (Syntax.tcons (Syntax.tyInt Syntax.w64) (Syntax.tcons (Syntax.tyInt Syntax.w64)
+                (Syntax.tcons (Syntax.tyInt Syntax.w64) (Syntax.tcons (Syntax.tyInt Syntax.w64) (Syntax.tcons (Syntax.tyInt Syntax.w64) Syntax.tnil)))))))
+                Path'.refl)) d2
 
             d4 : Typed.Typed 𝓤 H A 𝓣 E G8 b4 Δ1 at4
             d4 = Typed.s-seq 𝓤 H A W 𝓣 E G8 G9 b2 b3 Δ1 (Typed.pass T8 T9 s6) at3 (Make.t-struct-make 𝓤 H A W E 𝓣 (Apart.apartT Outcome.the-type) Laws'.the-laws
@@ -1793,10 +1807,11 @@ module _ (claims· : Claims) where
             d36 : Typed.Typed 𝓤 H A 𝓣 E G14 b26 Δ0 at36
             d36 = Typed.g-pre 𝓤 H A W 𝓣 E G14 G15 b26 Δ0 (Typed.pass T14 T15 s12) at35 (Scalar.g-room 𝓤 H A W E G14 5 (Syntax.tyStruct (115 ∷ 116 ∷ 111 ∷ 114 ∷
                 101 ∷ 58 ∷ 58 ∷ 72 ∷ 101 ∷ 108 ∷ 100 ∷ []) (Syntax.tcons (Syntax.tyInt Syntax.w8) (Syntax.tcons (Syntax.tyInt Syntax.w64) (Syntax.tcons
-                (Syntax.tyInt Syntax.w64) (Syntax.tcons (Syntax.tyInt Syntax.w64) (Syntax.tcons (Syntax.tyInt Syntax.w64) Syntax.tnil)))))) (Local.room-whole 𝓤 H
-                A W (Declared.row Held.the-type) (Syntax.tyStruct (115 ∷ 116 ∷ 111 ∷ 114 ∷ 101 ∷ 58 ∷ 58 ∷ 72 ∷ 101 ∷ 108 ∷ 100 ∷ []) (Syntax.tcons (Syntax.tyInt
-                Syntax.w8) (Syntax.tcons (Syntax.tyInt Syntax.w64) (Syntax.tcons (Syntax.tyInt Syntax.w64) (Syntax.tcons (Syntax.tyInt Syntax.w64) (Syntax.tcons
-                (Syntax.tyInt Syntax.w64) Syntax.tnil)))))) Path'.refl)) d35
+                (Syntax.tyInt Syntax.w64) (Syntax.tcons (Syntax.tyInt Syntax.w64) (Syntax.tcons (Syntax.tyInt Syntax.w64) (Syntax.tcons (Syntax.tyInt Syntax.w64)
+                Syntax.tnil))))))) (Local.room-whole 𝓤 H A W (Declared.row Held.the-type) (Syntax.tyStruct (115 ∷ 116 ∷ 111 ∷ 114 ∷ 101 ∷ 58 ∷ 58 ∷ 72 ∷ 101 ∷
+                108 ∷ 100 ∷ []) (Syntax.tcons (Syntax.tyInt Syntax.w8) (Syntax.tcons (Syntax.tyInt Syntax.w64) (Syntax.tcons (Syntax.tyInt Syntax.w64)
+                (Syntax.tcons (Syntax.tyInt Syntax.w64) (Syntax.tcons (Syntax.tyInt Syntax.w64) (Syntax.tcons (Syntax.tyInt Syntax.w64) Syntax.tnil)))))))
+                Path'.refl)) d35
 
             d37 : Typed.Typed 𝓤 H A 𝓣 E G7 b27 Δ0 at37
             d37 = Typed.s-seq 𝓤 H A W 𝓣 E G7 G14 b7 b26 Δ0 (Typed.both s11) at36 (Plain.t-call-plain 𝓤 H A W 𝓣 0 ps·1 r·1 (claims· .2) (claims· .3)
@@ -1853,10 +1868,8 @@ module _ (claims· : Claims) where
                   ),
                 ) (Reads'.room-gone 𝓤 H A (Syntax.tyStruct (115 ∷ 116 ∷
                 111 ∷ 114 ∷ 101 ∷ 58 ∷ 58 ∷ 72 ∷ 101 ∷ 108 ∷ 100 ∷ []) (Syntax.tcons (Syntax.tyInt Syntax.w8) (Syntax.tcons (Syntax.tyInt Syntax.w64)
-                (Syntax.tcons (Syntax.tyInt Syntax.w64) (Syntax.tcons (Syntax.tyInt Syntax.w64) (Syntax.tcons (Syntax.tyInt Syntax.w64) Syntax.tnil))))))) (
-                  tt,
-                  (tt, tt),
-                ) Path'.refl) d40
+                (Syntax.tcons (Syntax.tyInt Syntax.w64) (Syntax.tcons (Syntax.tyInt Syntax.w64) (Syntax.tcons (Syntax.tyInt Syntax.w64) (Syntax.tcons
+                (Syntax.tyInt Syntax.w64) Syntax.tnil)))))))) (tt, (tt, tt)) Path'.refl) d40
 
             d42 : Typed.Typed 𝓤 H A 𝓣 E G2 b30 Δ0 at42
             d42 = Typed.g-pre 𝓤 H A W 𝓣 E G2 G3 b30 Δ0 (Typed.give s1) at41 (Know.g-sl-known 𝓤 H A W (Referent.fInt Syntax.w8) E G2 3 2 (Syntax.tyRef

@@ -8,14 +8,12 @@ mod Tie
 use borrow.Author.Needs.{needs}
 use Rattle.store.proofs.dealing.write_all.Statement.{statement}
 use Rattle.store.proofs.dealing.write_all.Proof.Tie as tie
-use Rattle.store.proofs.Walked.dealing.write_all.Reads as reads
-use Rattle.store.proofs.dealing.write_all.Proof.Lts as lts
 
 abbrev Inv-loop : tie.InvT-loop
-Inv-loop text table out₀ saving i₀ k₀ at₀ q₀ near₀ out i k at q near = Written text table saving out₀ i k q at out
+Inv-loop text table out₀ saving i₀ k₀ at₀ past₀ q₀ near₀ out i k at past q near = Written text table saving out₀ i k past q at out
 
 abbrev μ-loop : tie.MeasureT-loop
-μ-loop text table out₀ saving i₀ k₀ at₀ q₀ near₀ out i k at q near = length text + 81 - 81 * i
+μ-loop text table out₀ saving i₀ k₀ at₀ past₀ q₀ near₀ out i k at past q near = length text + 81 - 81 * i
 
 no-counts-requires : tie.Need-no-counts-requires Inv-loop μ-loop
 no-counts-requires c = search needs
@@ -36,31 +34,34 @@ stays-requires : tie.Need-stays-requires Inv-loop μ-loop
 stays-requires c = λ κs. (omega (arith, c .before .before .before .loop .inv .few, c .before .before .before .loop .inv .within, c .before .before), c .slot-at .ensures)
 
 put-share-requires : tie.Need-put-share-requires Inv-loop μ-loop
-put-share-requires c = λ κs. let W = c .before .before .before .before .before .before .loop .inv in let h = c .before .before .before .before .before .loop-test .taken in let s = c .before .before .stays .ensures (rises-here _ _ _ _ _ _ _ _ _ W h) in (whole-line _ _ _ _ _ _ _ _ _ W h, (c .before .before .before .before .line-at .ensures, (room-left _ _ _ _ _ _ _ _ _ W h _ (c .before .before .before .before .line-at .ensures) _ s, small-here _ _ _ _ _ _ _ _ _ W h _ (c .before .before .before .before .line-at .ensures) _ s)))
+put-share-requires c = λ κs. let W = c .before .before .before .before .before .before .loop .inv in let h = c .before .before .before .before .before .loop-test .taken in let s = c .before .before .stays .ensures (rises-here _ _ _ _ _ _ _ _ _ _ W h) in (whole-line _ _ _ _ _ _ _ _ _ _ W h, (c .before .before .before .before .line-at .ensures, (room-left _ _ _ _ _ _ _ _ _ _ W h _ (c .before .before .before .before .line-at .ensures) _ s, small-here _ _ _ _ _ _ _ _ _ _ W h _ (c .before .before .before .before .line-at .ensures) _ s)))
 
 count-line-requires : tie.Need-count-line-requires Inv-loop μ-loop
-count-line-requires c = λ κs. room-here _ _ _ _ _ _ _ _ _ (c .before .before .before .before .before .before .before .before .before .loop .inv) (c .before .before .before .before .before .before .before .before .loop-test .taken) (omega (arith, c .before .before .before .before .before .before .before .before .before .loop .inv .within, c .before .before .before .before .before .before .before .before))
+count-line-requires c = λ κs. room-here _ _ _ _ _ _ _ _ _ _ (c .before .before .before .before .before .before .before .before .before .loop .inv) (c .before .before .before .before .before .before .before .before .loop-test .taken) (omega (arith, c .before .before .before .before .before .before .before .before .before .loop .inv .within, c .before .before .before .before .before .before .before .before))
+
+past-next-requires : tie.Need-past-next-requires Inv-loop μ-loop
+past-next-requires c = search needs
 
 one-of-requires : tie.Need-one-of-requires Inv-loop μ-loop
 one-of-requires c = search needs
 
 add-k : tie.Need-add-k Inv-loop μ-loop
-add-k c = omega (arith, c .before .before .before .before .before .before .before .before .before .before .before .loop .inv .few, c .one-of .ensures .1, c .before .before .before .before .before .before .before .before .before .before .before .loop .inv .within, c .before .before .before .before .before .before .before .before .before .before)
+add-k c = omega (arith, c .before .before .before .before .before .before .before .before .before .before .before .before .loop .inv .few, c .one-of .ensures .1, c .before .before .before .before .before .before .before .before .before .before .before .before .loop .inv .within, c .before .before .before .before .before .before .before .before .before .before .before)
 
 add-i : tie.Need-add-i Inv-loop μ-loop
-add-i c = omega (arith, c .before .before .before .before .before .before .before .before .before .before .before .loop .inv .within, c .before .before .before .before .before .before .before .before .before .before)
+add-i c = omega (arith, c .before .before .before .before .before .before .before .before .before .before .before .before .loop .inv .within, c .before .before .before .before .before .before .before .before .before .before .before)
 
 loop-less : tie.Need-loop-less Inv-loop μ-loop
 loop-less c = search needs
 
 loop-again : tie.Need-loop-again Inv-loop μ-loop
-loop-again c = let W = c .before .before .before .before .before .before .before .before .before .before .before .loop .inv in let h = c .before .before .before .before .before .before .before .before .before .before .loop-test .taken in let s = c .before .before .before .before .before .before .before .stays .ensures (rises-here _ _ _ _ _ _ _ _ _ W h) in rw (c .one-of .ensures .0) (written-next _ _ _ _ _ _ _ _ _ W h _ (c .before .before .before .before .before .before .before .before .before .line-at .ensures) _ s _ (c .before .count-line .ensures) _ (c .before .before .before .before .put-share .ensures .0) _ (c .before .before .before .before .put-share .ensures .1))
+loop-again c = let W = c .before .before .before .before .before .before .before .before .before .before .before .before .loop .inv in let h = c .before .before .before .before .before .before .before .before .before .before .before .loop-test .taken in let s = c .before .before .before .before .before .before .before .before .stays .ensures (rises-here _ _ _ _ _ _ _ _ _ _ W h) in rw (c .one-of .ensures .0, c .before .past-next .ensures) (written-next _ _ _ _ _ _ _ _ _ _ W h _ (c .before .before .before .before .before .before .before .before .before .before .line-at .ensures) _ s _ (c .before .before .count-line .ensures) _ (c .before .before .before .before .before .put-share .ensures .0) _ (c .before .before .before .before .before .put-share .ensures .1))
 
 same-length : tie.Need-same-length Inv-loop μ-loop
 same-length c = c .before .loop .inv .size
 
 returns : tie.Need-returns Inv-loop μ-loop
-returns c = written-done _ _ _ _ _ _ _ _ _ (c .before .loop .inv) (c .loop-test .left)
+returns c = written-done _ _ _ _ _ _ _ _ _ _ (c .before .loop .inv) (c .loop-test .left)
 
 pub write-all-spec : {M : Type 1} → statement M
 write-all-spec =
@@ -76,6 +77,7 @@ write-all-spec =
     stays-requires
     put-share-requires
     count-line-requires
+    past-next-requires
     one-of-requires
     add-k
     add-i

@@ -83,11 +83,11 @@ r = Value.rVal record {
 
 abbrev pub xs : List.List Syntax.Ty
 xs = (Syntax.tyStruct (115 ∷ 116 ∷ 111 ∷ 114 ∷ 101 ∷ 58 ∷ 58 ∷ 72 ∷ 101 ∷ 108 ∷ 100 ∷ []) (Syntax.tcons (Syntax.tyInt Syntax.w8) (Syntax.tcons (Syntax.tyInt
-    Syntax.w64) (Syntax.tcons (Syntax.tyInt Syntax.w64) (Syntax.tcons (Syntax.tyInt Syntax.w64) (Syntax.tcons (Syntax.tyInt Syntax.w64) Syntax.tnil)))))) ∷
-    Syntax.tyInt Syntax.w64 ∷ Syntax.tyBool ∷ Syntax.tyInt Syntax.w64 ∷ Syntax.tyUnit ∷ Syntax.tyRef Syntax.erased Syntax.imm SlotAs.pointee ∷ (Syntax.tyStruct
-    (38 ∷ 91 ∷ 93 ∷ []) (Syntax.tcons (Syntax.tyRef Syntax.erased Syntax.imm SlotAs.pointee) (Syntax.tcons (Syntax.tyInt Syntax.w64) Syntax.tnil))) ∷
-    Syntax.tyRef Syntax.erased Syntax.mut (Syntax.tyInt Syntax.w32) ∷ (Syntax.tyStruct (38 ∷ 91 ∷ 93 ∷ []) (Syntax.tcons (Syntax.tyRef Syntax.erased Syntax.mut
-    (Syntax.tyInt Syntax.w32)) (Syntax.tcons (Syntax.tyInt Syntax.w64) Syntax.tnil))) ∷ []
+    Syntax.w64) (Syntax.tcons (Syntax.tyInt Syntax.w64) (Syntax.tcons (Syntax.tyInt Syntax.w64) (Syntax.tcons (Syntax.tyInt Syntax.w64) (Syntax.tcons
+    (Syntax.tyInt Syntax.w64) Syntax.tnil))))))) ∷ Syntax.tyInt Syntax.w64 ∷ Syntax.tyBool ∷ Syntax.tyInt Syntax.w64 ∷ Syntax.tyUnit ∷ Syntax.tyRef
+    Syntax.erased Syntax.imm SlotAs.pointee ∷ (Syntax.tyStruct (38 ∷ 91 ∷ 93 ∷ []) (Syntax.tcons (Syntax.tyRef Syntax.erased Syntax.imm SlotAs.pointee)
+    (Syntax.tcons (Syntax.tyInt Syntax.w64) Syntax.tnil))) ∷ Syntax.tyRef Syntax.erased Syntax.mut (Syntax.tyInt Syntax.w32) ∷ (Syntax.tyStruct (38 ∷ 91 ∷ 93 ∷
+    []) (Syntax.tcons (Syntax.tyRef Syntax.erased Syntax.mut (Syntax.tyInt Syntax.w32)) (Syntax.tcons (Syntax.tyInt Syntax.w64) Syntax.tnil))) ∷ []
 
 abbrev pub m : Nat.ℕ
 m = 1
@@ -258,26 +258,23 @@ t0 = (
   4,
   Rows.any-gone (Syntax.tyStruct (115
       ∷ 116 ∷ 111 ∷ 114 ∷ 101 ∷ 58 ∷ 58 ∷ 72 ∷ 101 ∷ 108 ∷ 100 ∷ []) (Syntax.tcons (Syntax.tyInt Syntax.w8) (Syntax.tcons (Syntax.tyInt Syntax.w64) (Syntax.tcons
-      (Syntax.tyInt Syntax.w64) (Syntax.tcons (Syntax.tyInt Syntax.w64) (Syntax.tcons (Syntax.tyInt Syntax.w64) Syntax.tnil)))))),
-) ∷ (
-  5,
-  Rows.any-gone
-      (Syntax.tyInt Syntax.w64),
-) ∷ (6, Rows.any-gone Syntax.tyBool) ∷ (7, Rows.any-gone (Syntax.tyInt Syntax.w64)) ∷ (8, Rows.any-gone Syntax.tyUnit) ∷ (
-  9,
-  Rows.any-gone (Syntax.tyRef Syntax.erased Syntax.imm SlotAs.pointee),
-) ∷ (
+      (Syntax.tyInt Syntax.w64) (Syntax.tcons (Syntax.tyInt Syntax.w64) (Syntax.tcons (Syntax.tyInt Syntax.w64) (Syntax.tcons (Syntax.tyInt Syntax.w64)
+      Syntax.tnil))))))),
+) ∷ (5, Rows.any-gone (Syntax.tyInt Syntax.w64)) ∷ (6, Rows.any-gone Syntax.tyBool) ∷ (7, Rows.any-gone (Syntax.tyInt Syntax.w64)) ∷ (
+  8,
+  Rows.any-gone Syntax.tyUnit,
+) ∷ (9, Rows.any-gone (Syntax.tyRef Syntax.erased Syntax.imm SlotAs.pointee)) ∷ (
   10,
-  Rows.any-gone (Syntax.tyStruct (38 ∷ 91 ∷ 93 ∷ []) (Syntax.tcons (Syntax.tyRef
-      Syntax.erased Syntax.imm SlotAs.pointee) (Syntax.tcons (Syntax.tyInt Syntax.w64) Syntax.tnil))),
+  Rows.any-gone (Syntax.tyStruct (38 ∷ 91 ∷
+      93 ∷ []) (Syntax.tcons (Syntax.tyRef Syntax.erased Syntax.imm SlotAs.pointee) (Syntax.tcons (Syntax.tyInt Syntax.w64) Syntax.tnil))),
 ) ∷ (
   11,
-  Rows.any-gone (Syntax.tyRef Syntax.erased
-      Syntax.mut (Syntax.tyInt Syntax.w32)),
+  Rows.any-gone
+      (Syntax.tyRef Syntax.erased Syntax.mut (Syntax.tyInt Syntax.w32)),
 ) ∷ (
   12,
-  Rows.any-gone (Syntax.tyStruct (38 ∷ 91 ∷ 93 ∷ []) (Syntax.tcons (Syntax.tyRef Syntax.erased Syntax.mut
-      (Syntax.tyInt Syntax.w32)) (Syntax.tcons (Syntax.tyInt Syntax.w64) Syntax.tnil))),
+  Rows.any-gone (Syntax.tyStruct (38 ∷ 91 ∷ 93 ∷ []) (Syntax.tcons (Syntax.tyRef
+      Syntax.erased Syntax.mut (Syntax.tyInt Syntax.w32)) (Syntax.tcons (Syntax.tyInt Syntax.w64) Syntax.tnil))),
 ) ∷ []
 
 abbrev pub t1 : List.List Row.Entry
@@ -293,28 +290,25 @@ t1 = (0, Rows.whole (Declared.row Outcome.the-type)) ∷ (
   4,
   Rows.any-gone (Syntax.tyStruct (115 ∷ 116 ∷ 111 ∷
       114 ∷ 101 ∷ 58 ∷ 58 ∷ 72 ∷ 101 ∷ 108 ∷ 100 ∷ []) (Syntax.tcons (Syntax.tyInt Syntax.w8) (Syntax.tcons (Syntax.tyInt Syntax.w64) (Syntax.tcons (Syntax.tyInt
-      Syntax.w64) (Syntax.tcons (Syntax.tyInt Syntax.w64) (Syntax.tcons (Syntax.tyInt Syntax.w64) Syntax.tnil)))))),
-) ∷ (
-  5,
-  Rows.any-gone (Syntax.tyInt
-      Syntax.w64),
-) ∷ (6, Rows.any-gone Syntax.tyBool) ∷ (7, Rows.any-gone (Syntax.tyInt Syntax.w64)) ∷ (8, Rows.any-gone Syntax.tyUnit) ∷ (
-  9,
-  Rows.any-gone
-      (Syntax.tyRef Syntax.erased Syntax.imm SlotAs.pointee),
-) ∷ (
-  10,
-  Rows.any-gone (Syntax.tyStruct (38 ∷ 91 ∷ 93 ∷ []) (Syntax.tcons (Syntax.tyRef Syntax.erased
-      Syntax.imm SlotAs.pointee) (Syntax.tcons (Syntax.tyInt Syntax.w64) Syntax.tnil))),
-) ∷ (
-  11,
-  Rows.any-gone (Syntax.tyRef Syntax.erased Syntax.mut
-      (Syntax.tyInt Syntax.w32)),
-) ∷ (
-  12,
-  Rows.any-gone (Syntax.tyStruct (38 ∷ 91 ∷ 93 ∷ []) (Syntax.tcons (Syntax.tyRef Syntax.erased Syntax.mut (Syntax.tyInt
-      Syntax.w32)) (Syntax.tcons (Syntax.tyInt Syntax.w64) Syntax.tnil))),
-) ∷ []
+      Syntax.w64) (Syntax.tcons (Syntax.tyInt Syntax.w64) (Syntax.tcons (Syntax.tyInt Syntax.w64) (Syntax.tcons (Syntax.tyInt Syntax.w64) Syntax.tnil))))))),
+) ∷
+    (5, Rows.any-gone (Syntax.tyInt Syntax.w64)) ∷ (6, Rows.any-gone Syntax.tyBool) ∷ (7, Rows.any-gone (Syntax.tyInt Syntax.w64)) ∷ (
+      8,
+      Rows.any-gone
+          Syntax.tyUnit,
+    ) ∷ (9, Rows.any-gone (Syntax.tyRef Syntax.erased Syntax.imm SlotAs.pointee)) ∷ (
+      10,
+      Rows.any-gone (Syntax.tyStruct (38 ∷ 91 ∷ 93 ∷ [])
+          (Syntax.tcons (Syntax.tyRef Syntax.erased Syntax.imm SlotAs.pointee) (Syntax.tcons (Syntax.tyInt Syntax.w64) Syntax.tnil))),
+    ) ∷ (
+      11,
+      Rows.any-gone
+          (Syntax.tyRef Syntax.erased Syntax.mut (Syntax.tyInt Syntax.w32)),
+    ) ∷ (
+      12,
+      Rows.any-gone (Syntax.tyStruct (38 ∷ 91 ∷ 93 ∷ []) (Syntax.tcons (Syntax.tyRef
+          Syntax.erased Syntax.mut (Syntax.tyInt Syntax.w32)) (Syntax.tcons (Syntax.tyInt Syntax.w64) Syntax.tnil))),
+    ) ∷ []
 
 abbrev pub t2 : List.List Row.Entry
 t2 = (
@@ -427,26 +421,23 @@ t5 = (0, Rows.whole (Declared.row (Apart.apartT Outcome.the-type))) ∷ (
   4,
   Rows.any-gone (Syntax.tyStruct (115
       ∷ 116 ∷ 111 ∷ 114 ∷ 101 ∷ 58 ∷ 58 ∷ 72 ∷ 101 ∷ 108 ∷ 100 ∷ []) (Syntax.tcons (Syntax.tyInt Syntax.w8) (Syntax.tcons (Syntax.tyInt Syntax.w64) (Syntax.tcons
-      (Syntax.tyInt Syntax.w64) (Syntax.tcons (Syntax.tyInt Syntax.w64) (Syntax.tcons (Syntax.tyInt Syntax.w64) Syntax.tnil)))))),
-) ∷ (
-  5,
-  Rows.any-gone
-      (Syntax.tyInt Syntax.w64),
-) ∷ (6, Rows.any-gone Syntax.tyBool) ∷ (7, Rows.any-gone (Syntax.tyInt Syntax.w64)) ∷ (8, Rows.any-gone Syntax.tyUnit) ∷ (
-  9,
-  Rows.any-gone (Syntax.tyRef Syntax.erased Syntax.imm SlotAs.pointee),
-) ∷ (
+      (Syntax.tyInt Syntax.w64) (Syntax.tcons (Syntax.tyInt Syntax.w64) (Syntax.tcons (Syntax.tyInt Syntax.w64) (Syntax.tcons (Syntax.tyInt Syntax.w64)
+      Syntax.tnil))))))),
+) ∷ (5, Rows.any-gone (Syntax.tyInt Syntax.w64)) ∷ (6, Rows.any-gone Syntax.tyBool) ∷ (7, Rows.any-gone (Syntax.tyInt Syntax.w64)) ∷ (
+  8,
+  Rows.any-gone Syntax.tyUnit,
+) ∷ (9, Rows.any-gone (Syntax.tyRef Syntax.erased Syntax.imm SlotAs.pointee)) ∷ (
   10,
-  Rows.any-gone (Syntax.tyStruct (38 ∷ 91 ∷ 93 ∷ []) (Syntax.tcons (Syntax.tyRef
-      Syntax.erased Syntax.imm SlotAs.pointee) (Syntax.tcons (Syntax.tyInt Syntax.w64) Syntax.tnil))),
+  Rows.any-gone (Syntax.tyStruct (38 ∷ 91 ∷
+      93 ∷ []) (Syntax.tcons (Syntax.tyRef Syntax.erased Syntax.imm SlotAs.pointee) (Syntax.tcons (Syntax.tyInt Syntax.w64) Syntax.tnil))),
 ) ∷ (
   11,
-  Rows.any-gone (Syntax.tyRef Syntax.erased
-      Syntax.mut (Syntax.tyInt Syntax.w32)),
+  Rows.any-gone
+      (Syntax.tyRef Syntax.erased Syntax.mut (Syntax.tyInt Syntax.w32)),
 ) ∷ (
   12,
-  Rows.any-gone (Syntax.tyStruct (38 ∷ 91 ∷ 93 ∷ []) (Syntax.tcons (Syntax.tyRef Syntax.erased Syntax.mut
-      (Syntax.tyInt Syntax.w32)) (Syntax.tcons (Syntax.tyInt Syntax.w64) Syntax.tnil))),
+  Rows.any-gone (Syntax.tyStruct (38 ∷ 91 ∷ 93 ∷ []) (Syntax.tcons (Syntax.tyRef
+      Syntax.erased Syntax.mut (Syntax.tyInt Syntax.w32)) (Syntax.tcons (Syntax.tyInt Syntax.w64) Syntax.tnil))),
 ) ∷ []
 
 abbrev pub t6 : List.List Row.Entry
@@ -605,27 +596,23 @@ t10 = (
   4,
   Rows.any-gone (Syntax.tyStruct (115
       ∷ 116 ∷ 111 ∷ 114 ∷ 101 ∷ 58 ∷ 58 ∷ 72 ∷ 101 ∷ 108 ∷ 100 ∷ []) (Syntax.tcons (Syntax.tyInt Syntax.w8) (Syntax.tcons (Syntax.tyInt Syntax.w64) (Syntax.tcons
-      (Syntax.tyInt Syntax.w64) (Syntax.tcons (Syntax.tyInt Syntax.w64) (Syntax.tcons (Syntax.tyInt Syntax.w64) Syntax.tnil)))))),
-) ∷ (
-  5,
-  Rows.sc-here (Row.sInt
-      Syntax.w64),
-) ∷ (6, Rows.sc-here Row.sBool) ∷ (7, Rows.any-gone (Syntax.tyInt Syntax.w64)) ∷ (8, Rows.any-gone Syntax.tyUnit) ∷ (
-  9,
-  Rows.any-gone
-      (Syntax.tyRef Syntax.erased Syntax.imm SlotAs.pointee),
-) ∷ (
+      (Syntax.tyInt Syntax.w64) (Syntax.tcons (Syntax.tyInt Syntax.w64) (Syntax.tcons (Syntax.tyInt Syntax.w64) (Syntax.tcons (Syntax.tyInt Syntax.w64)
+      Syntax.tnil))))))),
+) ∷ (5, Rows.sc-here (Row.sInt Syntax.w64)) ∷ (6, Rows.sc-here Row.sBool) ∷ (7, Rows.any-gone (Syntax.tyInt Syntax.w64)) ∷ (
+  8,
+  Rows.any-gone Syntax.tyUnit,
+) ∷ (9, Rows.any-gone (Syntax.tyRef Syntax.erased Syntax.imm SlotAs.pointee)) ∷ (
   10,
-  Rows.any-gone (Syntax.tyStruct (38 ∷ 91 ∷ 93 ∷ []) (Syntax.tcons (Syntax.tyRef Syntax.erased
-      Syntax.imm SlotAs.pointee) (Syntax.tcons (Syntax.tyInt Syntax.w64) Syntax.tnil))),
+  Rows.any-gone (Syntax.tyStruct (38 ∷ 91 ∷
+      93 ∷ []) (Syntax.tcons (Syntax.tyRef Syntax.erased Syntax.imm SlotAs.pointee) (Syntax.tcons (Syntax.tyInt Syntax.w64) Syntax.tnil))),
 ) ∷ (
   11,
-  Rows.any-gone (Syntax.tyRef Syntax.erased Syntax.mut
-      (Syntax.tyInt Syntax.w32)),
+  Rows.any-gone
+      (Syntax.tyRef Syntax.erased Syntax.mut (Syntax.tyInt Syntax.w32)),
 ) ∷ (
   12,
-  Rows.any-gone (Syntax.tyStruct (38 ∷ 91 ∷ 93 ∷ []) (Syntax.tcons (Syntax.tyRef Syntax.erased Syntax.mut (Syntax.tyInt
-      Syntax.w32)) (Syntax.tcons (Syntax.tyInt Syntax.w64) Syntax.tnil))),
+  Rows.any-gone (Syntax.tyStruct (38 ∷ 91 ∷ 93 ∷ []) (Syntax.tcons (Syntax.tyRef
+      Syntax.erased Syntax.mut (Syntax.tyInt Syntax.w32)) (Syntax.tcons (Syntax.tyInt Syntax.w64) Syntax.tnil))),
 ) ∷ []
 
 abbrev pub t11 : List.List Row.Entry
@@ -645,27 +632,23 @@ t11 = (
   4,
   Rows.any-gone (Syntax.tyStruct (115
       ∷ 116 ∷ 111 ∷ 114 ∷ 101 ∷ 58 ∷ 58 ∷ 72 ∷ 101 ∷ 108 ∷ 100 ∷ []) (Syntax.tcons (Syntax.tyInt Syntax.w8) (Syntax.tcons (Syntax.tyInt Syntax.w64) (Syntax.tcons
-      (Syntax.tyInt Syntax.w64) (Syntax.tcons (Syntax.tyInt Syntax.w64) (Syntax.tcons (Syntax.tyInt Syntax.w64) Syntax.tnil)))))),
-) ∷ (
-  5,
-  Rows.sc-here (Row.sInt
-      Syntax.w64),
-) ∷ (6, Rows.any-gone Syntax.tyBool) ∷ (7, Rows.any-gone (Syntax.tyInt Syntax.w64)) ∷ (8, Rows.any-gone Syntax.tyUnit) ∷ (
-  9,
-  Rows.any-gone
-      (Syntax.tyRef Syntax.erased Syntax.imm SlotAs.pointee),
-) ∷ (
+      (Syntax.tyInt Syntax.w64) (Syntax.tcons (Syntax.tyInt Syntax.w64) (Syntax.tcons (Syntax.tyInt Syntax.w64) (Syntax.tcons (Syntax.tyInt Syntax.w64)
+      Syntax.tnil))))))),
+) ∷ (5, Rows.sc-here (Row.sInt Syntax.w64)) ∷ (6, Rows.any-gone Syntax.tyBool) ∷ (7, Rows.any-gone (Syntax.tyInt Syntax.w64)) ∷ (
+  8,
+  Rows.any-gone Syntax.tyUnit,
+) ∷ (9, Rows.any-gone (Syntax.tyRef Syntax.erased Syntax.imm SlotAs.pointee)) ∷ (
   10,
-  Rows.any-gone (Syntax.tyStruct (38 ∷ 91 ∷ 93 ∷ []) (Syntax.tcons (Syntax.tyRef Syntax.erased
-      Syntax.imm SlotAs.pointee) (Syntax.tcons (Syntax.tyInt Syntax.w64) Syntax.tnil))),
+  Rows.any-gone (Syntax.tyStruct (38 ∷ 91 ∷
+      93 ∷ []) (Syntax.tcons (Syntax.tyRef Syntax.erased Syntax.imm SlotAs.pointee) (Syntax.tcons (Syntax.tyInt Syntax.w64) Syntax.tnil))),
 ) ∷ (
   11,
-  Rows.any-gone (Syntax.tyRef Syntax.erased Syntax.mut
-      (Syntax.tyInt Syntax.w32)),
+  Rows.any-gone
+      (Syntax.tyRef Syntax.erased Syntax.mut (Syntax.tyInt Syntax.w32)),
 ) ∷ (
   12,
-  Rows.any-gone (Syntax.tyStruct (38 ∷ 91 ∷ 93 ∷ []) (Syntax.tcons (Syntax.tyRef Syntax.erased Syntax.mut (Syntax.tyInt
-      Syntax.w32)) (Syntax.tcons (Syntax.tyInt Syntax.w64) Syntax.tnil))),
+  Rows.any-gone (Syntax.tyStruct (38 ∷ 91 ∷ 93 ∷ []) (Syntax.tcons (Syntax.tyRef
+      Syntax.erased Syntax.mut (Syntax.tyInt Syntax.w32)) (Syntax.tcons (Syntax.tyInt Syntax.w64) Syntax.tnil))),
 ) ∷ []
 
 abbrev pub t12 : List.List Row.Entry
@@ -681,27 +664,23 @@ t12 = (0, Rows.whole (Declared.row (Apart.apartT Outcome.the-type))) ∷ (
   4,
   Rows.any-gone (Syntax.tyStruct (115
       ∷ 116 ∷ 111 ∷ 114 ∷ 101 ∷ 58 ∷ 58 ∷ 72 ∷ 101 ∷ 108 ∷ 100 ∷ []) (Syntax.tcons (Syntax.tyInt Syntax.w8) (Syntax.tcons (Syntax.tyInt Syntax.w64) (Syntax.tcons
-      (Syntax.tyInt Syntax.w64) (Syntax.tcons (Syntax.tyInt Syntax.w64) (Syntax.tcons (Syntax.tyInt Syntax.w64) Syntax.tnil)))))),
-) ∷ (
-  5,
-  Rows.sc-here (Row.sInt
-      Syntax.w64),
-) ∷ (6, Rows.any-gone Syntax.tyBool) ∷ (7, Rows.any-gone (Syntax.tyInt Syntax.w64)) ∷ (8, Rows.any-gone Syntax.tyUnit) ∷ (
-  9,
-  Rows.any-gone
-      (Syntax.tyRef Syntax.erased Syntax.imm SlotAs.pointee),
-) ∷ (
+      (Syntax.tyInt Syntax.w64) (Syntax.tcons (Syntax.tyInt Syntax.w64) (Syntax.tcons (Syntax.tyInt Syntax.w64) (Syntax.tcons (Syntax.tyInt Syntax.w64)
+      Syntax.tnil))))))),
+) ∷ (5, Rows.sc-here (Row.sInt Syntax.w64)) ∷ (6, Rows.any-gone Syntax.tyBool) ∷ (7, Rows.any-gone (Syntax.tyInt Syntax.w64)) ∷ (
+  8,
+  Rows.any-gone Syntax.tyUnit,
+) ∷ (9, Rows.any-gone (Syntax.tyRef Syntax.erased Syntax.imm SlotAs.pointee)) ∷ (
   10,
-  Rows.any-gone (Syntax.tyStruct (38 ∷ 91 ∷ 93 ∷ []) (Syntax.tcons (Syntax.tyRef Syntax.erased
-      Syntax.imm SlotAs.pointee) (Syntax.tcons (Syntax.tyInt Syntax.w64) Syntax.tnil))),
+  Rows.any-gone (Syntax.tyStruct (38 ∷ 91 ∷
+      93 ∷ []) (Syntax.tcons (Syntax.tyRef Syntax.erased Syntax.imm SlotAs.pointee) (Syntax.tcons (Syntax.tyInt Syntax.w64) Syntax.tnil))),
 ) ∷ (
   11,
-  Rows.any-gone (Syntax.tyRef Syntax.erased Syntax.mut
-      (Syntax.tyInt Syntax.w32)),
+  Rows.any-gone
+      (Syntax.tyRef Syntax.erased Syntax.mut (Syntax.tyInt Syntax.w32)),
 ) ∷ (
   12,
-  Rows.any-gone (Syntax.tyStruct (38 ∷ 91 ∷ 93 ∷ []) (Syntax.tcons (Syntax.tyRef Syntax.erased Syntax.mut (Syntax.tyInt
-      Syntax.w32)) (Syntax.tcons (Syntax.tyInt Syntax.w64) Syntax.tnil))),
+  Rows.any-gone (Syntax.tyStruct (38 ∷ 91 ∷ 93 ∷ []) (Syntax.tcons (Syntax.tyRef
+      Syntax.erased Syntax.mut (Syntax.tyInt Syntax.w32)) (Syntax.tcons (Syntax.tyInt Syntax.w64) Syntax.tnil))),
 ) ∷ []
 
 abbrev pub t13 : List.List Row.Entry
@@ -903,22 +882,18 @@ t19 = (
   4,
   Rows.any-gone (Syntax.tyStruct (115 ∷ 116 ∷ 111 ∷ 114 ∷ 101 ∷ 58 ∷ 58 ∷ 72 ∷ 101 ∷ 108 ∷ 100 ∷ []) (Syntax.tcons (Syntax.tyInt Syntax.w8) (Syntax.tcons
       (Syntax.tyInt Syntax.w64) (Syntax.tcons (Syntax.tyInt Syntax.w64) (Syntax.tcons (Syntax.tyInt Syntax.w64) (Syntax.tcons (Syntax.tyInt Syntax.w64)
-      Syntax.tnil)))))),
-) ∷ (5, Rows.sc-here (Row.sInt Syntax.w64)) ∷ (6, Rows.any-gone Syntax.tyBool) ∷ (7, Rows.any-gone (Syntax.tyInt Syntax.w64)) ∷ (
-  8,
-  Rows.sc-here Row.sUnit,
-) ∷ (9, Rows.any-gone (Syntax.tyRef Syntax.erased Syntax.imm SlotAs.pointee)) ∷ (
+      (Syntax.tcons (Syntax.tyInt Syntax.w64) Syntax.tnil))))))),
+) ∷ (5, Rows.sc-here (Row.sInt Syntax.w64)) ∷ (6, Rows.any-gone Syntax.tyBool) ∷ (
+  7,
+  Rows.any-gone (Syntax.tyInt Syntax.w64),
+) ∷ (8, Rows.sc-here Row.sUnit) ∷ (9, Rows.any-gone (Syntax.tyRef Syntax.erased Syntax.imm SlotAs.pointee)) ∷ (
   10,
-  Rows.any-gone (Syntax.tyStruct (38 ∷ 91 ∷ 93 ∷
-      []) (Syntax.tcons (Syntax.tyRef Syntax.erased Syntax.imm SlotAs.pointee) (Syntax.tcons (Syntax.tyInt Syntax.w64) Syntax.tnil))),
-) ∷ (
-  11,
-  Rows.any-gone
-      (Syntax.tyRef Syntax.erased Syntax.mut (Syntax.tyInt Syntax.w32)),
-) ∷ (
+  Rows.any-gone (Syntax.tyStruct (38 ∷ 91 ∷ 93 ∷ []) (Syntax.tcons (Syntax.tyRef Syntax.erased Syntax.imm SlotAs.pointee) (Syntax.tcons (Syntax.tyInt
+      Syntax.w64) Syntax.tnil))),
+) ∷ (11, Rows.any-gone (Syntax.tyRef Syntax.erased Syntax.mut (Syntax.tyInt Syntax.w32))) ∷ (
   12,
-  Mut.msleft (Referent.rtF (Referent.fInt Syntax.w32)) (Syntax.tyRef Syntax.erased
-      Syntax.mut (Syntax.tyInt Syntax.w32)),
+  Mut.msleft (Referent.rtF
+      (Referent.fInt Syntax.w32)) (Syntax.tyRef Syntax.erased Syntax.mut (Syntax.tyInt Syntax.w32)),
 ) ∷ []
 
 abbrev pub t20 : List.List Row.Entry
@@ -937,22 +912,18 @@ t20 = (
   4,
   Rows.any-gone (Syntax.tyStruct (115 ∷ 116 ∷ 111 ∷ 114 ∷ 101 ∷ 58 ∷ 58 ∷ 72 ∷ 101 ∷ 108 ∷ 100 ∷ []) (Syntax.tcons (Syntax.tyInt Syntax.w8) (Syntax.tcons
       (Syntax.tyInt Syntax.w64) (Syntax.tcons (Syntax.tyInt Syntax.w64) (Syntax.tcons (Syntax.tyInt Syntax.w64) (Syntax.tcons (Syntax.tyInt Syntax.w64)
-      Syntax.tnil)))))),
-) ∷ (5, Rows.sc-here (Row.sInt Syntax.w64)) ∷ (6, Rows.any-gone Syntax.tyBool) ∷ (7, Rows.any-gone (Syntax.tyInt Syntax.w64)) ∷ (
-  8,
-  Rows.any-gone Syntax.tyUnit,
-) ∷ (9, Rows.any-gone (Syntax.tyRef Syntax.erased Syntax.imm SlotAs.pointee)) ∷ (
+      (Syntax.tcons (Syntax.tyInt Syntax.w64) Syntax.tnil))))))),
+) ∷ (5, Rows.sc-here (Row.sInt Syntax.w64)) ∷ (6, Rows.any-gone Syntax.tyBool) ∷ (
+  7,
+  Rows.any-gone (Syntax.tyInt Syntax.w64),
+) ∷ (8, Rows.any-gone Syntax.tyUnit) ∷ (9, Rows.any-gone (Syntax.tyRef Syntax.erased Syntax.imm SlotAs.pointee)) ∷ (
   10,
-  Rows.any-gone (Syntax.tyStruct (38 ∷ 91 ∷
-      93 ∷ []) (Syntax.tcons (Syntax.tyRef Syntax.erased Syntax.imm SlotAs.pointee) (Syntax.tcons (Syntax.tyInt Syntax.w64) Syntax.tnil))),
-) ∷ (
-  11,
-  Rows.any-gone
-      (Syntax.tyRef Syntax.erased Syntax.mut (Syntax.tyInt Syntax.w32)),
-) ∷ (
+  Rows.any-gone (Syntax.tyStruct (38 ∷ 91 ∷ 93 ∷ []) (Syntax.tcons (Syntax.tyRef Syntax.erased Syntax.imm SlotAs.pointee) (Syntax.tcons (Syntax.tyInt
+      Syntax.w64) Syntax.tnil))),
+) ∷ (11, Rows.any-gone (Syntax.tyRef Syntax.erased Syntax.mut (Syntax.tyInt Syntax.w32))) ∷ (
   12,
-  Mut.msleft (Referent.rtF (Referent.fInt Syntax.w32)) (Syntax.tyRef Syntax.erased
-      Syntax.mut (Syntax.tyInt Syntax.w32)),
+  Mut.msleft (Referent.rtF
+      (Referent.fInt Syntax.w32)) (Syntax.tyRef Syntax.erased Syntax.mut (Syntax.tyInt Syntax.w32)),
 ) ∷ []
 
 abbrev pub T0 : Row.Cx
@@ -1093,7 +1064,8 @@ module _ (claims· : Claims) where
     (record { pos = 2; ty = Syntax.tyRef (Syntax.named 1) Syntax.imm SlotAs.pointee; ref = λ x. x }, tt),
   ) 4 (0 ∷ 1 ∷ []) (Syntax.tyStruct (115 ∷ 116 ∷
       111 ∷ 114 ∷ 101 ∷ 58 ∷ 58 ∷ 72 ∷ 101 ∷ 108 ∷ 100 ∷ []) (Syntax.tcons (Syntax.tyInt Syntax.w8) (Syntax.tcons (Syntax.tyInt Syntax.w64) (Syntax.tcons
-      (Syntax.tyInt Syntax.w64) (Syntax.tcons (Syntax.tyInt Syntax.w64) (Syntax.tcons (Syntax.tyInt Syntax.w64) Syntax.tnil))))))
+      (Syntax.tyInt Syntax.w64) (Syntax.tcons (Syntax.tyInt Syntax.w64) (Syntax.tcons (Syntax.tyInt Syntax.w64) (Syntax.tcons (Syntax.tyInt Syntax.w64)
+      Syntax.tnil)))))))
 
   abbrev s3 : Typed.Gives T4 T5
   s3 = Know'.k-struct-known Held.the-type Laws.the-laws T4 4 λ x. x
@@ -1111,7 +1083,7 @@ module _ (claims· : Claims) where
   abbrev s7 : Typed.Mo T9 → Typed.Mo T10
   s7 = Scalar.n-room T9 4 (Syntax.tyStruct (115 ∷ 116 ∷ 111 ∷ 114 ∷ 101 ∷ 58 ∷ 58 ∷ 72 ∷ 101 ∷ 108 ∷ 100 ∷ []) (Syntax.tcons (Syntax.tyInt Syntax.w8)
       (Syntax.tcons (Syntax.tyInt Syntax.w64) (Syntax.tcons (Syntax.tyInt Syntax.w64) (Syntax.tcons (Syntax.tyInt Syntax.w64) (Syntax.tcons (Syntax.tyInt
-      Syntax.w64) Syntax.tnil))))))
+      Syntax.w64) (Syntax.tcons (Syntax.tyInt Syntax.w64) Syntax.tnil)))))))
 
   abbrev s8 : Typed.Mo T10 → Typed.Mo T11
   s8 = AtSlots.n-as-by T10 0 (Rows.whole (Declared.row Outcome.the-type)) λ v. Outcome.struct .make v tt
@@ -1137,7 +1109,7 @@ module _ (claims· : Claims) where
   abbrev s14 : Typed.Mo T17 → Typed.Mo T18
   s14 = Scalar.n-room T17 4 (Syntax.tyStruct (115 ∷ 116 ∷ 111 ∷ 114 ∷ 101 ∷ 58 ∷ 58 ∷ 72 ∷ 101 ∷ 108 ∷ 100 ∷ []) (Syntax.tcons (Syntax.tyInt Syntax.w8)
       (Syntax.tcons (Syntax.tyInt Syntax.w64) (Syntax.tcons (Syntax.tyInt Syntax.w64) (Syntax.tcons (Syntax.tyInt Syntax.w64) (Syntax.tcons (Syntax.tyInt
-      Syntax.w64) Syntax.tnil))))))
+      Syntax.w64) (Syntax.tcons (Syntax.tyInt Syntax.w64) Syntax.tnil)))))))
 
   abbrev s15 : Typed.Mo T18 → Typed.Mo T19
   s15 = Scalar.n-room T18 6 Syntax.tyBool
@@ -1195,7 +1167,7 @@ module _ (claims· : Claims) where
   abbrev s27 : Typed.Mo T30 → Typed.Mo T31
   s27 = Scalar.n-room T30 4 (Syntax.tyStruct (115 ∷ 116 ∷ 111 ∷ 114 ∷ 101 ∷ 58 ∷ 58 ∷ 72 ∷ 101 ∷ 108 ∷ 100 ∷ []) (Syntax.tcons (Syntax.tyInt Syntax.w8)
       (Syntax.tcons (Syntax.tyInt Syntax.w64) (Syntax.tcons (Syntax.tyInt Syntax.w64) (Syntax.tcons (Syntax.tyInt Syntax.w64) (Syntax.tcons (Syntax.tyInt
-      Syntax.w64) Syntax.tnil))))))
+      Syntax.w64) (Syntax.tcons (Syntax.tyInt Syntax.w64) Syntax.tnil)))))))
 
   abbrev s28 : Typed.Mo T31 → Typed.Mo T32
   s28 = Scalar.n-room T31 8 Syntax.tyUnit
@@ -1515,27 +1487,24 @@ module _ (claims· : Claims) where
             4,
             Rows.any-gone (Syntax.tyStruct (115 ∷ 116 ∷ 111 ∷ 114 ∷ 101 ∷ 58 ∷ 58 ∷ 72 ∷ 101 ∷
                 108 ∷ 100 ∷ []) (Syntax.tcons (Syntax.tyInt Syntax.w8) (Syntax.tcons (Syntax.tyInt Syntax.w64) (Syntax.tcons (Syntax.tyInt Syntax.w64)
-                (Syntax.tcons (Syntax.tyInt Syntax.w64) (Syntax.tcons (Syntax.tyInt Syntax.w64) Syntax.tnil)))))),
-          ) ∷ (5, Rows.sc-here (Row.sInt Syntax.w64)) ∷ (
-            6,
-            Rows.any-gone Syntax.tyBool,
-          ) ∷ (7, Rows.any-gone (Syntax.tyInt Syntax.w64)) ∷ (8, Rows.sc-here Row.sUnit) ∷ (
-            9,
-            Rows.any-gone (Syntax.tyRef
-                Syntax.erased Syntax.imm SlotAs.pointee),
+                (Syntax.tcons (Syntax.tyInt Syntax.w64) (Syntax.tcons (Syntax.tyInt Syntax.w64) (Syntax.tcons (Syntax.tyInt Syntax.w64) Syntax.tnil))))))),
           ) ∷ (
-            10,
-            Rows.any-gone (Syntax.tyStruct (38 ∷ 91 ∷ 93 ∷ []) (Syntax.tcons (Syntax.tyRef Syntax.erased
-                Syntax.imm SlotAs.pointee) (Syntax.tcons (Syntax.tyInt Syntax.w64) Syntax.tnil))),
-          ) ∷ (
-            11,
-            Rows.any-gone (Syntax.tyRef Syntax.erased Syntax.mut
-                (Syntax.tyInt Syntax.w32)),
-          ) ∷ (
-            12,
-            Mut.msleft (Referent.rtF (Referent.fInt Syntax.w32)) (Syntax.tyRef Syntax.erased Syntax.mut (Syntax.tyInt
-                Syntax.w32)),
-          ) ∷ []
+            5,
+            Rows.sc-here (Row.sInt Syntax.w64),
+          ) ∷ (6, Rows.any-gone Syntax.tyBool) ∷ (7, Rows.any-gone (Syntax.tyInt Syntax.w64)) ∷ (8, Rows.sc-here Row.sUnit)
+              ∷ (9, Rows.any-gone (Syntax.tyRef Syntax.erased Syntax.imm SlotAs.pointee)) ∷ (
+                10,
+                Rows.any-gone (Syntax.tyStruct (38 ∷ 91 ∷ 93 ∷ []) (Syntax.tcons
+                    (Syntax.tyRef Syntax.erased Syntax.imm SlotAs.pointee) (Syntax.tcons (Syntax.tyInt Syntax.w64) Syntax.tnil))),
+              ) ∷ (
+                11,
+                Rows.any-gone (Syntax.tyRef
+                    Syntax.erased Syntax.mut (Syntax.tyInt Syntax.w32)),
+              ) ∷ (
+                12,
+                Mut.msleft (Referent.rtF (Referent.fInt Syntax.w32)) (Syntax.tyRef Syntax.erased
+                    Syntax.mut (Syntax.tyInt Syntax.w32)),
+              ) ∷ []
 
           abbrev g20 : List.List Row.Entry
           g20 = (
@@ -1558,26 +1527,25 @@ module _ (claims· : Claims) where
             4,
             Rows.any-gone (Syntax.tyStruct (115 ∷ 116 ∷ 111 ∷ 114 ∷ 101 ∷ 58 ∷ 58 ∷ 72 ∷ 101 ∷
                 108 ∷ 100 ∷ []) (Syntax.tcons (Syntax.tyInt Syntax.w8) (Syntax.tcons (Syntax.tyInt Syntax.w64) (Syntax.tcons (Syntax.tyInt Syntax.w64)
-                (Syntax.tcons (Syntax.tyInt Syntax.w64) (Syntax.tcons (Syntax.tyInt Syntax.w64) Syntax.tnil)))))),
-          ) ∷ (5, Rows.sc-here (Row.sInt Syntax.w64)) ∷ (
-            6,
-            Rows.any-gone Syntax.tyBool,
-          ) ∷ (7, Rows.any-gone (Syntax.tyInt Syntax.w64)) ∷ (8, Rows.any-gone Syntax.tyUnit) ∷ (
-            9,
-            Rows.any-gone (Syntax.tyRef
-                Syntax.erased Syntax.imm SlotAs.pointee),
+                (Syntax.tcons (Syntax.tyInt Syntax.w64) (Syntax.tcons (Syntax.tyInt Syntax.w64) (Syntax.tcons (Syntax.tyInt Syntax.w64) Syntax.tnil))))))),
           ) ∷ (
+            5,
+            Rows.sc-here (Row.sInt Syntax.w64),
+          ) ∷ (6, Rows.any-gone Syntax.tyBool) ∷ (7, Rows.any-gone (Syntax.tyInt Syntax.w64)) ∷ (
+            8,
+            Rows.any-gone
+                Syntax.tyUnit,
+          ) ∷ (9, Rows.any-gone (Syntax.tyRef Syntax.erased Syntax.imm SlotAs.pointee)) ∷ (
             10,
-            Rows.any-gone (Syntax.tyStruct (38 ∷ 91 ∷ 93 ∷ []) (Syntax.tcons (Syntax.tyRef Syntax.erased
-                Syntax.imm SlotAs.pointee) (Syntax.tcons (Syntax.tyInt Syntax.w64) Syntax.tnil))),
+            Rows.any-gone (Syntax.tyStruct (38 ∷ 91 ∷ 93 ∷
+                []) (Syntax.tcons (Syntax.tyRef Syntax.erased Syntax.imm SlotAs.pointee) (Syntax.tcons (Syntax.tyInt Syntax.w64) Syntax.tnil))),
           ) ∷ (
             11,
-            Rows.any-gone (Syntax.tyRef Syntax.erased Syntax.mut
-                (Syntax.tyInt Syntax.w32)),
+            Rows.any-gone (Syntax.tyRef Syntax.erased Syntax.mut (Syntax.tyInt Syntax.w32)),
           ) ∷ (
             12,
-            Mut.msleft (Referent.rtF (Referent.fInt Syntax.w32)) (Syntax.tyRef Syntax.erased Syntax.mut (Syntax.tyInt
-                Syntax.w32)),
+            Mut.msleft (Referent.rtF (Referent.fInt Syntax.w32))
+                (Syntax.tyRef Syntax.erased Syntax.mut (Syntax.tyInt Syntax.w32)),
           ) ∷ []
 
           abbrev G0 : Row.Cx
@@ -1834,10 +1802,11 @@ module _ (claims· : Claims) where
             d2 : Typed.Typed 𝓤 H A 𝓣 E G9 b3 Δ1 at2
             d2 = Typed.g-pre 𝓤 H A W 𝓣 E G9 G10 b3 Δ1 (Typed.pass T9 T10 s7) at1 (Scalar.g-room 𝓤 H A W E G9 4 (Syntax.tyStruct (115 ∷ 116 ∷ 111 ∷ 114 ∷ 101 ∷ 58
                 ∷ 58 ∷ 72 ∷ 101 ∷ 108 ∷ 100 ∷ []) (Syntax.tcons (Syntax.tyInt Syntax.w8) (Syntax.tcons (Syntax.tyInt Syntax.w64) (Syntax.tcons (Syntax.tyInt
-                Syntax.w64) (Syntax.tcons (Syntax.tyInt Syntax.w64) (Syntax.tcons (Syntax.tyInt Syntax.w64) Syntax.tnil)))))) (Local.room-whole 𝓤 H A W
-                (Declared.row Held.the-type) (Syntax.tyStruct (115 ∷ 116 ∷ 111 ∷ 114 ∷ 101 ∷ 58 ∷ 58 ∷ 72 ∷ 101 ∷ 108 ∷ 100 ∷ []) (Syntax.tcons (Syntax.tyInt
-                Syntax.w8) (Syntax.tcons (Syntax.tyInt Syntax.w64) (Syntax.tcons (Syntax.tyInt Syntax.w64) (Syntax.tcons (Syntax.tyInt Syntax.w64) (Syntax.tcons
-                (Syntax.tyInt Syntax.w64) Syntax.tnil)))))) Path'.refl)) d1
+                Syntax.w64) (Syntax.tcons (Syntax.tyInt Syntax.w64) (Syntax.tcons (Syntax.tyInt Syntax.w64) (Syntax.tcons (Syntax.tyInt Syntax.w64)
+                Syntax.tnil))))))) (Local.room-whole 𝓤 H A W (Declared.row Held.the-type) (Syntax.tyStruct (115 ∷ 116 ∷ 111 ∷ 114 ∷ 101 ∷ 58 ∷ 58 ∷ 72 ∷ 101 ∷
+                108 ∷ 100 ∷ []) (Syntax.tcons (Syntax.tyInt Syntax.w8) (Syntax.tcons (Syntax.tyInt Syntax.w64) (Syntax.tcons (Syntax.tyInt Syntax.w64)
+                (Syntax.tcons (Syntax.tyInt Syntax.w64) (Syntax.tcons (Syntax.tyInt Syntax.w64) (Syntax.tcons (Syntax.tyInt Syntax.w64) Syntax.tnil)))))))
+                Path'.refl)) d1
 
             d3 : Typed.Typed 𝓤 H A 𝓣 E G8 b4 Δ1 at3
             d3 = Typed.s-seq 𝓤 H A W 𝓣 E G8 G9 b2 b3 Δ1 (Typed.pass T8 T9 s6) at2 (Make.t-struct-make 𝓤 H A W E 𝓣 (Apart.apartT Outcome.the-type) Laws'.the-laws
@@ -1890,10 +1859,11 @@ module _ (claims· : Claims) where
             d13 : Typed.Typed 𝓤 H A 𝓣 E G17 b12 Δ2 at13
             d13 = Typed.g-pre 𝓤 H A W 𝓣 E G17 G18 b12 Δ2 (Typed.pass T17 T18 s14) at12 (Scalar.g-room 𝓤 H A W E G17 4 (Syntax.tyStruct (115 ∷ 116 ∷ 111 ∷ 114 ∷
                 101 ∷ 58 ∷ 58 ∷ 72 ∷ 101 ∷ 108 ∷ 100 ∷ []) (Syntax.tcons (Syntax.tyInt Syntax.w8) (Syntax.tcons (Syntax.tyInt Syntax.w64) (Syntax.tcons
-                (Syntax.tyInt Syntax.w64) (Syntax.tcons (Syntax.tyInt Syntax.w64) (Syntax.tcons (Syntax.tyInt Syntax.w64) Syntax.tnil)))))) (Local.room-whole 𝓤 H
-                A W (Declared.row Held.the-type) (Syntax.tyStruct (115 ∷ 116 ∷ 111 ∷ 114 ∷ 101 ∷ 58 ∷ 58 ∷ 72 ∷ 101 ∷ 108 ∷ 100 ∷ []) (Syntax.tcons (Syntax.tyInt
-                Syntax.w8) (Syntax.tcons (Syntax.tyInt Syntax.w64) (Syntax.tcons (Syntax.tyInt Syntax.w64) (Syntax.tcons (Syntax.tyInt Syntax.w64) (Syntax.tcons
-                (Syntax.tyInt Syntax.w64) Syntax.tnil)))))) Path'.refl)) d12
+                (Syntax.tyInt Syntax.w64) (Syntax.tcons (Syntax.tyInt Syntax.w64) (Syntax.tcons (Syntax.tyInt Syntax.w64) (Syntax.tcons (Syntax.tyInt Syntax.w64)
+                Syntax.tnil))))))) (Local.room-whole 𝓤 H A W (Declared.row Held.the-type) (Syntax.tyStruct (115 ∷ 116 ∷ 111 ∷ 114 ∷ 101 ∷ 58 ∷ 58 ∷ 72 ∷ 101 ∷
+                108 ∷ 100 ∷ []) (Syntax.tcons (Syntax.tyInt Syntax.w8) (Syntax.tcons (Syntax.tyInt Syntax.w64) (Syntax.tcons (Syntax.tyInt Syntax.w64)
+                (Syntax.tcons (Syntax.tyInt Syntax.w64) (Syntax.tcons (Syntax.tyInt Syntax.w64) (Syntax.tcons (Syntax.tyInt Syntax.w64) Syntax.tnil)))))))
+                Path'.refl)) d12
 
             d14 : Typed.Typed 𝓤 H A 𝓣 E G23 b13 Δ2 at14
             d14 = Typed.t-skip 𝓤 H A W 𝓣 E Δ2 tt
@@ -1966,10 +1936,11 @@ module _ (claims· : Claims) where
             d27 : Typed.Typed 𝓤 H A 𝓣 E G30 b22 Δ0 at27
             d27 = Typed.g-pre 𝓤 H A W 𝓣 E G30 G31 b22 Δ0 (Typed.pass T30 T31 s27) at26 (Scalar.g-room 𝓤 H A W E G30 4 (Syntax.tyStruct (115 ∷ 116 ∷ 111 ∷ 114 ∷
                 101 ∷ 58 ∷ 58 ∷ 72 ∷ 101 ∷ 108 ∷ 100 ∷ []) (Syntax.tcons (Syntax.tyInt Syntax.w8) (Syntax.tcons (Syntax.tyInt Syntax.w64) (Syntax.tcons
-                (Syntax.tyInt Syntax.w64) (Syntax.tcons (Syntax.tyInt Syntax.w64) (Syntax.tcons (Syntax.tyInt Syntax.w64) Syntax.tnil)))))) (Local.room-whole 𝓤 H
-                A W (Declared.row Held.the-type) (Syntax.tyStruct (115 ∷ 116 ∷ 111 ∷ 114 ∷ 101 ∷ 58 ∷ 58 ∷ 72 ∷ 101 ∷ 108 ∷ 100 ∷ []) (Syntax.tcons (Syntax.tyInt
-                Syntax.w8) (Syntax.tcons (Syntax.tyInt Syntax.w64) (Syntax.tcons (Syntax.tyInt Syntax.w64) (Syntax.tcons (Syntax.tyInt Syntax.w64) (Syntax.tcons
-                (Syntax.tyInt Syntax.w64) Syntax.tnil)))))) Path'.refl)) d26
+                (Syntax.tyInt Syntax.w64) (Syntax.tcons (Syntax.tyInt Syntax.w64) (Syntax.tcons (Syntax.tyInt Syntax.w64) (Syntax.tcons (Syntax.tyInt Syntax.w64)
+                Syntax.tnil))))))) (Local.room-whole 𝓤 H A W (Declared.row Held.the-type) (Syntax.tyStruct (115 ∷ 116 ∷ 111 ∷ 114 ∷ 101 ∷ 58 ∷ 58 ∷ 72 ∷ 101 ∷
+                108 ∷ 100 ∷ []) (Syntax.tcons (Syntax.tyInt Syntax.w8) (Syntax.tcons (Syntax.tyInt Syntax.w64) (Syntax.tcons (Syntax.tyInt Syntax.w64)
+                (Syntax.tcons (Syntax.tyInt Syntax.w64) (Syntax.tcons (Syntax.tyInt Syntax.w64) (Syntax.tcons (Syntax.tyInt Syntax.w64) Syntax.tnil)))))))
+                Path'.refl)) d26
 
             d28 : Typed.Typed 𝓤 H A 𝓣 E G29 b22 Δ0 at28
             d28 = Typed.g-pre 𝓤 H A W 𝓣 E G29 G30 b22 Δ0 (Typed.pass T29 T30 s26) at27 (Scalar.g-room 𝓤 H A W E G29 10 (Syntax.tyStruct (38 ∷ 91 ∷ 93 ∷ [])
@@ -2154,10 +2125,8 @@ module _ (claims· : Claims) where
                   ),
                 ) (Reads'.room-gone 𝓤 H A (Syntax.tyStruct (115 ∷ 116 ∷
                 111 ∷ 114 ∷ 101 ∷ 58 ∷ 58 ∷ 72 ∷ 101 ∷ 108 ∷ 100 ∷ []) (Syntax.tcons (Syntax.tyInt Syntax.w8) (Syntax.tcons (Syntax.tyInt Syntax.w64)
-                (Syntax.tcons (Syntax.tyInt Syntax.w64) (Syntax.tcons (Syntax.tyInt Syntax.w64) (Syntax.tcons (Syntax.tyInt Syntax.w64) Syntax.tnil))))))) (
-                  tt,
-                  (tt, tt),
-                ) Path'.refl) d41
+                (Syntax.tcons (Syntax.tyInt Syntax.w64) (Syntax.tcons (Syntax.tyInt Syntax.w64) (Syntax.tcons (Syntax.tyInt Syntax.w64) (Syntax.tcons
+                (Syntax.tyInt Syntax.w64) Syntax.tnil)))))))) (tt, (tt, tt)) Path'.refl) d41
 
             d43 : Typed.Typed 𝓤 H A 𝓣 E G2 b34 Δ0 at43
             d43 = Typed.g-pre 𝓤 H A W 𝓣 E G2 G3 b34 Δ0 (Typed.give s1) at42 (Know.g-sl-known 𝓤 H A W (Referent.fInt Syntax.w32) E G2 3 2 (Syntax.tyRef

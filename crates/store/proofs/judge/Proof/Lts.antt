@@ -83,15 +83,15 @@ r = Value.rVal record {
 abbrev pub xs : List.List Syntax.Ty
 xs = (Syntax.tyStruct (115 ∷ 116 ∷ 111 ∷ 114 ∷ 101 ∷ 58 ∷ 58 ∷ 70 ∷ 105 ∷ 110 ∷ 100 ∷ 105 ∷ 110 ∷ 103 ∷ 115 ∷ []) (Syntax.tcons (Syntax.tyInt Syntax.w8)
     (Syntax.tcons (Syntax.tyInt Syntax.w64) (Syntax.tcons Syntax.tyBool (Syntax.tcons (Syntax.tyInt Syntax.w64) (Syntax.tcons (Syntax.tyInt Syntax.w64)
-    Syntax.tnil)))))) ∷ Syntax.tyInt Syntax.w64 ∷ (Syntax.tyStruct (102 ∷ 114 ∷ 97 ∷ 103 ∷ 109 ∷ 101 ∷ 110 ∷ 116 ∷ 115 ∷ 58 ∷ 58 ∷ 84 ∷ 97 ∷ 105 ∷ 108 ∷ [])
-    (Syntax.tcons Syntax.tyBool (Syntax.tcons Syntax.tyBool (Syntax.tcons (Syntax.tyStruct (114 ∷ 101 ∷ 115 ∷ 105 ∷ 100 ∷ 117 ∷ 101 ∷ 58 ∷ 58 ∷ 82 ∷ 101 ∷ 115
-    ∷ 105 ∷ 100 ∷ 117 ∷ 101 ∷ []) (Syntax.tcons (Syntax.tyStruct (110 ∷ 97 ∷ 109 ∷ 101 ∷ 115 ∷ 58 ∷ 58 ∷ 84 ∷ 104 ∷ 114 ∷ 101 ∷ 101 ∷ []) (Syntax.tcons
-    (Syntax.tyInt Syntax.w8) (Syntax.tcons (Syntax.tyInt Syntax.w8) (Syntax.tcons (Syntax.tyInt Syntax.w8) Syntax.tnil)))) (Syntax.tcons (Syntax.tyInt
-    Syntax.w8) (Syntax.tcons (Syntax.tyStruct (102 ∷ 105 ∷ 101 ∷ 108 ∷ 100 ∷ 115 ∷ 58 ∷ 58 ∷ 82 ∷ 101 ∷ 115 ∷ 105 ∷ 100 ∷ 117 ∷ 101 ∷ 78 ∷ 117 ∷ 109 ∷ 98 ∷ 101
-    ∷ 114 ∷ []) (Syntax.tcons (Syntax.tyInt Syntax.w32) Syntax.tnil)) (Syntax.tcons (Syntax.tyInt Syntax.w8) Syntax.tnil))))) (Syntax.tcons (Syntax.tyInt
-    Syntax.w8) (Syntax.tcons (Syntax.tyInt Syntax.w64) (Syntax.tcons Syntax.tyBool Syntax.tnil))))))) ∷ Syntax.tyBool ∷ Syntax.tyInt Syntax.w64 ∷ Syntax.tyRef
-    Syntax.erased Syntax.imm SlotAs.pointee ∷ (Syntax.tyStruct (38 ∷ 91 ∷ 93 ∷ []) (Syntax.tcons (Syntax.tyRef Syntax.erased Syntax.imm SlotAs.pointee)
-    (Syntax.tcons (Syntax.tyInt Syntax.w64) Syntax.tnil))) ∷ []
+    (Syntax.tcons (Syntax.tyInt Syntax.w64) Syntax.tnil))))))) ∷ Syntax.tyInt Syntax.w64 ∷ (Syntax.tyStruct (102 ∷ 114 ∷ 97 ∷ 103 ∷ 109 ∷ 101 ∷ 110 ∷ 116 ∷ 115
+    ∷ 58 ∷ 58 ∷ 84 ∷ 97 ∷ 105 ∷ 108 ∷ []) (Syntax.tcons Syntax.tyBool (Syntax.tcons Syntax.tyBool (Syntax.tcons (Syntax.tyInt Syntax.w32) (Syntax.tcons
+    (Syntax.tyStruct (114 ∷ 101 ∷ 115 ∷ 105 ∷ 100 ∷ 117 ∷ 101 ∷ 58 ∷ 58 ∷ 82 ∷ 101 ∷ 115 ∷ 105 ∷ 100 ∷ 117 ∷ 101 ∷ []) (Syntax.tcons (Syntax.tyStruct (110 ∷ 97
+    ∷ 109 ∷ 101 ∷ 115 ∷ 58 ∷ 58 ∷ 84 ∷ 104 ∷ 114 ∷ 101 ∷ 101 ∷ []) (Syntax.tcons (Syntax.tyInt Syntax.w8) (Syntax.tcons (Syntax.tyInt Syntax.w8) (Syntax.tcons
+    (Syntax.tyInt Syntax.w8) Syntax.tnil)))) (Syntax.tcons (Syntax.tyInt Syntax.w8) (Syntax.tcons (Syntax.tyStruct (102 ∷ 105 ∷ 101 ∷ 108 ∷ 100 ∷ 115 ∷ 58 ∷ 58
+    ∷ 82 ∷ 101 ∷ 115 ∷ 105 ∷ 100 ∷ 117 ∷ 101 ∷ 78 ∷ 117 ∷ 109 ∷ 98 ∷ 101 ∷ 114 ∷ []) (Syntax.tcons (Syntax.tyInt Syntax.w32) Syntax.tnil)) (Syntax.tcons
+    (Syntax.tyInt Syntax.w8) Syntax.tnil))))) (Syntax.tcons (Syntax.tyInt Syntax.w8) (Syntax.tcons (Syntax.tyInt Syntax.w64) (Syntax.tcons Syntax.tyBool
+    Syntax.tnil)))))))) ∷ Syntax.tyBool ∷ Syntax.tyInt Syntax.w64 ∷ Syntax.tyRef Syntax.erased Syntax.imm SlotAs.pointee ∷ (Syntax.tyStruct (38 ∷ 91 ∷ 93 ∷ [])
+    (Syntax.tcons (Syntax.tyRef Syntax.erased Syntax.imm SlotAs.pointee) (Syntax.tcons (Syntax.tyInt Syntax.w64) Syntax.tnil))) ∷ []
 
 abbrev pub m : Nat.ℕ
 m = 0
@@ -248,7 +248,7 @@ abbrev b23 : Syntax.Body
 b23 = Syntax.call "store::marking::tail_of" (Syntax.copy (Syntax.place 9 []) ∷ []) (Syntax.place 5 [])
 
 abbrev b24 : Syntax.Body
-b24 = Syntax.assign (Syntax.place 6 []) (Syntax.op1 Syntax.bitNot (Syntax.copy (Syntax.place 5 (Syntax.field 5 ∷ []))))
+b24 = Syntax.assign (Syntax.place 6 []) (Syntax.op1 Syntax.bitNot (Syntax.copy (Syntax.place 5 (Syntax.field 6 ∷ []))))
 
 abbrev b25 : Syntax.Body
 b25 = Syntax.call "store::held_back" (Syntax.int Syntax.w8 18 ∷ []) (Syntax.place 0 [])
@@ -267,7 +267,8 @@ b29 = Syntax.cond (Syntax.copy (Syntax.place 6 [])) b27 b28
 
 abbrev b30 : Syntax.Body
 b30 = Syntax.assign (Syntax.place 0 []) (Syntax.aggregate (Syntax.int Syntax.w8 0 ∷ Syntax.copy (Syntax.place 4 []) ∷ Syntax.copy (Syntax.place 5
-    (Syntax.field 4 ∷ [])) ∷ Syntax.copy (Syntax.place 3 (Syntax.field 3 ∷ [])) ∷ Syntax.copy (Syntax.place 3 (Syntax.field 4 ∷ [])) ∷ []))
+    (Syntax.field 5 ∷ [])) ∷ Syntax.copy (Syntax.place 3 (Syntax.field 3 ∷ [])) ∷ Syntax.copy (Syntax.place 3 (Syntax.field 4 ∷ [])) ∷ Syntax.copy
+    (Syntax.place 3 (Syntax.field 5 ∷ [])) ∷ []))
 
 abbrev b31 : Syntax.Body
 b31 = Syntax.return
@@ -328,35 +329,34 @@ t0 = (
   0,
   Rows.any-gone (Syntax.tyStruct (115 ∷ 116 ∷ 111 ∷ 114 ∷ 101 ∷ 58 ∷ 58 ∷ 72 ∷ 101 ∷ 108 ∷ 100 ∷ []) (Syntax.tcons (Syntax.tyInt Syntax.w8)
       (Syntax.tcons (Syntax.tyInt Syntax.w64) (Syntax.tcons (Syntax.tyInt Syntax.w64) (Syntax.tcons (Syntax.tyInt Syntax.w64) (Syntax.tcons (Syntax.tyInt
-      Syntax.w64) Syntax.tnil)))))),
+      Syntax.w64) (Syntax.tcons (Syntax.tyInt Syntax.w64) Syntax.tnil))))))),
 ) ∷ (
   1,
-  Rows.sslice (Referent.rtF (Referent.fInt Syntax.w8)) (Syntax.tyRef (Syntax.named 0) Syntax.imm (Syntax.tyInt
-      Syntax.w8)) 0,
+  Rows.sslice (Referent.rtF (Referent.fInt Syntax.w8)) (Syntax.tyRef
+      (Syntax.named 0) Syntax.imm (Syntax.tyInt Syntax.w8)) 0,
 ) ∷ (2, Rows.sslice SlotAs.row (Syntax.tyRef (Syntax.named 1) Syntax.imm SlotAs.pointee) 1) ∷ (
   3,
-  Rows.any-gone (Syntax.tyStruct (115 ∷ 116 ∷
-      111 ∷ 114 ∷ 101 ∷ 58 ∷ 58 ∷ 70 ∷ 105 ∷ 110 ∷ 100 ∷ 105 ∷ 110 ∷ 103 ∷ 115 ∷ []) (Syntax.tcons (Syntax.tyInt Syntax.w8) (Syntax.tcons (Syntax.tyInt
-      Syntax.w64) (Syntax.tcons Syntax.tyBool (Syntax.tcons (Syntax.tyInt Syntax.w64) (Syntax.tcons (Syntax.tyInt Syntax.w64) Syntax.tnil)))))),
-) ∷ (
-  4,
-  Rows.any-gone (Syntax.tyInt Syntax.w64),
-) ∷ (
+  Rows.any-gone (Syntax.tyStruct (115 ∷ 116 ∷ 111 ∷ 114 ∷ 101 ∷ 58 ∷ 58 ∷ 70 ∷ 105 ∷ 110 ∷ 100 ∷ 105 ∷ 110 ∷ 103 ∷ 115 ∷ []) (Syntax.tcons (Syntax.tyInt
+      Syntax.w8) (Syntax.tcons (Syntax.tyInt Syntax.w64) (Syntax.tcons Syntax.tyBool (Syntax.tcons (Syntax.tyInt Syntax.w64) (Syntax.tcons (Syntax.tyInt
+      Syntax.w64) (Syntax.tcons (Syntax.tyInt Syntax.w64) Syntax.tnil))))))),
+) ∷ (4, Rows.any-gone (Syntax.tyInt Syntax.w64)) ∷ (
   5,
-  Rows.any-gone (Syntax.tyStruct (102 ∷ 114 ∷ 97 ∷ 103 ∷ 109 ∷ 101 ∷ 110 ∷ 116 ∷ 115 ∷ 58 ∷ 58 ∷ 84 ∷ 97 ∷ 105
-      ∷ 108 ∷ []) (Syntax.tcons Syntax.tyBool (Syntax.tcons Syntax.tyBool (Syntax.tcons (Syntax.tyStruct (114 ∷ 101 ∷ 115 ∷ 105 ∷ 100 ∷ 117 ∷ 101 ∷ 58 ∷ 58 ∷ 82
-      ∷ 101 ∷ 115 ∷ 105 ∷ 100 ∷ 117 ∷ 101 ∷ []) (Syntax.tcons (Syntax.tyStruct (110 ∷ 97 ∷ 109 ∷ 101 ∷ 115 ∷ 58 ∷ 58 ∷ 84 ∷ 104 ∷ 114 ∷ 101 ∷ 101 ∷ [])
-      (Syntax.tcons (Syntax.tyInt Syntax.w8) (Syntax.tcons (Syntax.tyInt Syntax.w8) (Syntax.tcons (Syntax.tyInt Syntax.w8) Syntax.tnil)))) (Syntax.tcons
-      (Syntax.tyInt Syntax.w8) (Syntax.tcons (Syntax.tyStruct (102 ∷ 105 ∷ 101 ∷ 108 ∷ 100 ∷ 115 ∷ 58 ∷ 58 ∷ 82 ∷ 101 ∷ 115 ∷ 105 ∷ 100 ∷ 117 ∷ 101 ∷ 78 ∷ 117 ∷
-      109 ∷ 98 ∷ 101 ∷ 114 ∷ []) (Syntax.tcons (Syntax.tyInt Syntax.w32) Syntax.tnil)) (Syntax.tcons (Syntax.tyInt Syntax.w8) Syntax.tnil))))) (Syntax.tcons
-      (Syntax.tyInt Syntax.w8) (Syntax.tcons (Syntax.tyInt Syntax.w64) (Syntax.tcons Syntax.tyBool Syntax.tnil))))))),
+  Rows.any-gone (Syntax.tyStruct
+      (102 ∷ 114 ∷ 97 ∷ 103 ∷ 109 ∷ 101 ∷ 110 ∷ 116 ∷ 115 ∷ 58 ∷ 58 ∷ 84 ∷ 97 ∷ 105 ∷ 108 ∷ []) (Syntax.tcons Syntax.tyBool (Syntax.tcons Syntax.tyBool
+      (Syntax.tcons (Syntax.tyInt Syntax.w32) (Syntax.tcons (Syntax.tyStruct (114 ∷ 101 ∷ 115 ∷ 105 ∷ 100 ∷ 117 ∷ 101 ∷ 58 ∷ 58 ∷ 82 ∷ 101 ∷ 115 ∷ 105 ∷ 100 ∷
+      117 ∷ 101 ∷ []) (Syntax.tcons (Syntax.tyStruct (110 ∷ 97 ∷ 109 ∷ 101 ∷ 115 ∷ 58 ∷ 58 ∷ 84 ∷ 104 ∷ 114 ∷ 101 ∷ 101 ∷ []) (Syntax.tcons (Syntax.tyInt
+      Syntax.w8) (Syntax.tcons (Syntax.tyInt Syntax.w8) (Syntax.tcons (Syntax.tyInt Syntax.w8) Syntax.tnil)))) (Syntax.tcons (Syntax.tyInt Syntax.w8)
+      (Syntax.tcons (Syntax.tyStruct (102 ∷ 105 ∷ 101 ∷ 108 ∷ 100 ∷ 115 ∷ 58 ∷ 58 ∷ 82 ∷ 101 ∷ 115 ∷ 105 ∷ 100 ∷ 117 ∷ 101 ∷ 78 ∷ 117 ∷ 109 ∷ 98 ∷ 101 ∷ 114 ∷
+      []) (Syntax.tcons (Syntax.tyInt Syntax.w32) Syntax.tnil)) (Syntax.tcons (Syntax.tyInt Syntax.w8) Syntax.tnil))))) (Syntax.tcons (Syntax.tyInt Syntax.w8)
+      (Syntax.tcons (Syntax.tyInt Syntax.w64) (Syntax.tcons Syntax.tyBool Syntax.tnil)))))))),
 ) ∷ (6, Rows.any-gone Syntax.tyBool) ∷ (
   7,
-  Rows.any-gone (Syntax.tyInt Syntax.w64),
+  Rows.any-gone
+      (Syntax.tyInt Syntax.w64),
 ) ∷ (8, Rows.any-gone (Syntax.tyRef Syntax.erased Syntax.imm SlotAs.pointee)) ∷ (
   9,
-  Rows.any-gone (Syntax.tyStruct
-      (38 ∷ 91 ∷ 93 ∷ []) (Syntax.tcons (Syntax.tyRef Syntax.erased Syntax.imm SlotAs.pointee) (Syntax.tcons (Syntax.tyInt Syntax.w64) Syntax.tnil))),
+  Rows.any-gone (Syntax.tyStruct (38 ∷ 91 ∷ 93 ∷
+      []) (Syntax.tcons (Syntax.tyRef Syntax.erased Syntax.imm SlotAs.pointee) (Syntax.tcons (Syntax.tyInt Syntax.w64) Syntax.tnil))),
 ) ∷ []
 
 abbrev pub t1 : List.List Row.Entry
@@ -368,83 +368,90 @@ t1 = (0, Rows.whole (Declared.row Held.the-type)) ∷ (
   3,
   Rows.any-gone (Syntax.tyStruct
       (115 ∷ 116 ∷ 111 ∷ 114 ∷ 101 ∷ 58 ∷ 58 ∷ 70 ∷ 105 ∷ 110 ∷ 100 ∷ 105 ∷ 110 ∷ 103 ∷ 115 ∷ []) (Syntax.tcons (Syntax.tyInt Syntax.w8) (Syntax.tcons
-      (Syntax.tyInt Syntax.w64) (Syntax.tcons Syntax.tyBool (Syntax.tcons (Syntax.tyInt Syntax.w64) (Syntax.tcons (Syntax.tyInt Syntax.w64) Syntax.tnil)))))),
-) ∷
-    (4, Rows.any-gone (Syntax.tyInt Syntax.w64)) ∷ (
-      5,
-      Rows.any-gone (Syntax.tyStruct (102 ∷ 114 ∷ 97 ∷ 103 ∷ 109 ∷ 101 ∷ 110 ∷ 116 ∷ 115 ∷ 58 ∷ 58 ∷ 84 ∷ 97 ∷
-          105 ∷ 108 ∷ []) (Syntax.tcons Syntax.tyBool (Syntax.tcons Syntax.tyBool (Syntax.tcons (Syntax.tyStruct (114 ∷ 101 ∷ 115 ∷ 105 ∷ 100 ∷ 117 ∷ 101 ∷ 58 ∷ 58 ∷
-          82 ∷ 101 ∷ 115 ∷ 105 ∷ 100 ∷ 117 ∷ 101 ∷ []) (Syntax.tcons (Syntax.tyStruct (110 ∷ 97 ∷ 109 ∷ 101 ∷ 115 ∷ 58 ∷ 58 ∷ 84 ∷ 104 ∷ 114 ∷ 101 ∷ 101 ∷ [])
-          (Syntax.tcons (Syntax.tyInt Syntax.w8) (Syntax.tcons (Syntax.tyInt Syntax.w8) (Syntax.tcons (Syntax.tyInt Syntax.w8) Syntax.tnil)))) (Syntax.tcons
-          (Syntax.tyInt Syntax.w8) (Syntax.tcons (Syntax.tyStruct (102 ∷ 105 ∷ 101 ∷ 108 ∷ 100 ∷ 115 ∷ 58 ∷ 58 ∷ 82 ∷ 101 ∷ 115 ∷ 105 ∷ 100 ∷ 117 ∷ 101 ∷ 78 ∷ 117 ∷
-          109 ∷ 98 ∷ 101 ∷ 114 ∷ []) (Syntax.tcons (Syntax.tyInt Syntax.w32) Syntax.tnil)) (Syntax.tcons (Syntax.tyInt Syntax.w8) Syntax.tnil))))) (Syntax.tcons
-          (Syntax.tyInt Syntax.w8) (Syntax.tcons (Syntax.tyInt Syntax.w64) (Syntax.tcons Syntax.tyBool Syntax.tnil))))))),
-    ) ∷ (6, Rows.any-gone Syntax.tyBool) ∷ (
-      7,
-      Rows.any-gone (Syntax.tyInt Syntax.w64),
-    ) ∷ (8, Rows.any-gone (Syntax.tyRef Syntax.erased Syntax.imm SlotAs.pointee)) ∷ (
-      9,
-      Rows.any-gone (Syntax.tyStruct
-          (38 ∷ 91 ∷ 93 ∷ []) (Syntax.tcons (Syntax.tyRef Syntax.erased Syntax.imm SlotAs.pointee) (Syntax.tcons (Syntax.tyInt Syntax.w64) Syntax.tnil))),
-    ) ∷ []
+      (Syntax.tyInt Syntax.w64) (Syntax.tcons Syntax.tyBool (Syntax.tcons (Syntax.tyInt Syntax.w64) (Syntax.tcons (Syntax.tyInt Syntax.w64) (Syntax.tcons
+      (Syntax.tyInt Syntax.w64) Syntax.tnil))))))),
+) ∷ (4, Rows.any-gone (Syntax.tyInt Syntax.w64)) ∷ (
+  5,
+  Rows.any-gone (Syntax.tyStruct (102 ∷ 114 ∷ 97 ∷ 103 ∷
+      109 ∷ 101 ∷ 110 ∷ 116 ∷ 115 ∷ 58 ∷ 58 ∷ 84 ∷ 97 ∷ 105 ∷ 108 ∷ []) (Syntax.tcons Syntax.tyBool (Syntax.tcons Syntax.tyBool (Syntax.tcons (Syntax.tyInt
+      Syntax.w32) (Syntax.tcons (Syntax.tyStruct (114 ∷ 101 ∷ 115 ∷ 105 ∷ 100 ∷ 117 ∷ 101 ∷ 58 ∷ 58 ∷ 82 ∷ 101 ∷ 115 ∷ 105 ∷ 100 ∷ 117 ∷ 101 ∷ []) (Syntax.tcons
+      (Syntax.tyStruct (110 ∷ 97 ∷ 109 ∷ 101 ∷ 115 ∷ 58 ∷ 58 ∷ 84 ∷ 104 ∷ 114 ∷ 101 ∷ 101 ∷ []) (Syntax.tcons (Syntax.tyInt Syntax.w8) (Syntax.tcons
+      (Syntax.tyInt Syntax.w8) (Syntax.tcons (Syntax.tyInt Syntax.w8) Syntax.tnil)))) (Syntax.tcons (Syntax.tyInt Syntax.w8) (Syntax.tcons (Syntax.tyStruct (102
+      ∷ 105 ∷ 101 ∷ 108 ∷ 100 ∷ 115 ∷ 58 ∷ 58 ∷ 82 ∷ 101 ∷ 115 ∷ 105 ∷ 100 ∷ 117 ∷ 101 ∷ 78 ∷ 117 ∷ 109 ∷ 98 ∷ 101 ∷ 114 ∷ []) (Syntax.tcons (Syntax.tyInt
+      Syntax.w32) Syntax.tnil)) (Syntax.tcons (Syntax.tyInt Syntax.w8) Syntax.tnil))))) (Syntax.tcons (Syntax.tyInt Syntax.w8) (Syntax.tcons (Syntax.tyInt
+      Syntax.w64) (Syntax.tcons Syntax.tyBool Syntax.tnil)))))))),
+) ∷ (6, Rows.any-gone Syntax.tyBool) ∷ (7, Rows.any-gone (Syntax.tyInt Syntax.w64)) ∷ (
+  8,
+  Rows.any-gone (Syntax.tyRef Syntax.erased Syntax.imm SlotAs.pointee),
+) ∷ (
+  9,
+  Rows.any-gone (Syntax.tyStruct (38 ∷ 91 ∷ 93 ∷ []) (Syntax.tcons (Syntax.tyRef
+      Syntax.erased Syntax.imm SlotAs.pointee) (Syntax.tcons (Syntax.tyInt Syntax.w64) Syntax.tnil))),
+) ∷ []
 
 abbrev pub t2 : List.List Row.Entry
 t2 = (
   0,
   Rows.any-gone (Syntax.tyStruct (115 ∷ 116 ∷ 111 ∷ 114 ∷ 101 ∷ 58 ∷ 58 ∷ 72 ∷ 101 ∷ 108 ∷ 100 ∷ []) (Syntax.tcons (Syntax.tyInt Syntax.w8)
       (Syntax.tcons (Syntax.tyInt Syntax.w64) (Syntax.tcons (Syntax.tyInt Syntax.w64) (Syntax.tcons (Syntax.tyInt Syntax.w64) (Syntax.tcons (Syntax.tyInt
-      Syntax.w64) Syntax.tnil)))))),
+      Syntax.w64) (Syntax.tcons (Syntax.tyInt Syntax.w64) Syntax.tnil))))))),
 ) ∷ (
   1,
-  Rows.sslice (Referent.rtF (Referent.fInt Syntax.w8)) (Syntax.tyRef (Syntax.named 0) Syntax.imm (Syntax.tyInt
-      Syntax.w8)) 0,
-) ∷ (2, Rows.sslice SlotAs.row (Syntax.tyRef (Syntax.named 1) Syntax.imm SlotAs.pointee) 1) ∷ (3, Rows.whole (Declared.row Findings.the-type))
-    ∷ (4, Rows.any-gone (Syntax.tyInt Syntax.w64)) ∷ (
-      5,
-      Rows.any-gone (Syntax.tyStruct (102 ∷ 114 ∷ 97 ∷ 103 ∷ 109 ∷ 101 ∷ 110 ∷ 116 ∷ 115 ∷ 58 ∷ 58 ∷ 84 ∷ 97
-          ∷ 105 ∷ 108 ∷ []) (Syntax.tcons Syntax.tyBool (Syntax.tcons Syntax.tyBool (Syntax.tcons (Syntax.tyStruct (114 ∷ 101 ∷ 115 ∷ 105 ∷ 100 ∷ 117 ∷ 101 ∷ 58 ∷ 58
-          ∷ 82 ∷ 101 ∷ 115 ∷ 105 ∷ 100 ∷ 117 ∷ 101 ∷ []) (Syntax.tcons (Syntax.tyStruct (110 ∷ 97 ∷ 109 ∷ 101 ∷ 115 ∷ 58 ∷ 58 ∷ 84 ∷ 104 ∷ 114 ∷ 101 ∷ 101 ∷ [])
-          (Syntax.tcons (Syntax.tyInt Syntax.w8) (Syntax.tcons (Syntax.tyInt Syntax.w8) (Syntax.tcons (Syntax.tyInt Syntax.w8) Syntax.tnil)))) (Syntax.tcons
-          (Syntax.tyInt Syntax.w8) (Syntax.tcons (Syntax.tyStruct (102 ∷ 105 ∷ 101 ∷ 108 ∷ 100 ∷ 115 ∷ 58 ∷ 58 ∷ 82 ∷ 101 ∷ 115 ∷ 105 ∷ 100 ∷ 117 ∷ 101 ∷ 78 ∷ 117 ∷
-          109 ∷ 98 ∷ 101 ∷ 114 ∷ []) (Syntax.tcons (Syntax.tyInt Syntax.w32) Syntax.tnil)) (Syntax.tcons (Syntax.tyInt Syntax.w8) Syntax.tnil))))) (Syntax.tcons
-          (Syntax.tyInt Syntax.w8) (Syntax.tcons (Syntax.tyInt Syntax.w64) (Syntax.tcons Syntax.tyBool Syntax.tnil))))))),
-    ) ∷ (6, Rows.any-gone Syntax.tyBool) ∷ (
-      7,
-      Rows.any-gone (Syntax.tyInt Syntax.w64),
-    ) ∷ (8, Rows.any-gone (Syntax.tyRef Syntax.erased Syntax.imm SlotAs.pointee)) ∷ (
-      9,
-      Rows.any-gone (Syntax.tyStruct
-          (38 ∷ 91 ∷ 93 ∷ []) (Syntax.tcons (Syntax.tyRef Syntax.erased Syntax.imm SlotAs.pointee) (Syntax.tcons (Syntax.tyInt Syntax.w64) Syntax.tnil))),
-    ) ∷ []
+  Rows.sslice (Referent.rtF (Referent.fInt Syntax.w8)) (Syntax.tyRef
+      (Syntax.named 0) Syntax.imm (Syntax.tyInt Syntax.w8)) 0,
+) ∷ (2, Rows.sslice SlotAs.row (Syntax.tyRef (Syntax.named 1) Syntax.imm SlotAs.pointee) 1) ∷ (
+  3,
+  Rows.whole (Declared.row Findings.the-type),
+) ∷ (4, Rows.any-gone (Syntax.tyInt Syntax.w64)) ∷ (
+  5,
+  Rows.any-gone (Syntax.tyStruct (102 ∷ 114 ∷ 97 ∷ 103 ∷
+      109 ∷ 101 ∷ 110 ∷ 116 ∷ 115 ∷ 58 ∷ 58 ∷ 84 ∷ 97 ∷ 105 ∷ 108 ∷ []) (Syntax.tcons Syntax.tyBool (Syntax.tcons Syntax.tyBool (Syntax.tcons (Syntax.tyInt
+      Syntax.w32) (Syntax.tcons (Syntax.tyStruct (114 ∷ 101 ∷ 115 ∷ 105 ∷ 100 ∷ 117 ∷ 101 ∷ 58 ∷ 58 ∷ 82 ∷ 101 ∷ 115 ∷ 105 ∷ 100 ∷ 117 ∷ 101 ∷ []) (Syntax.tcons
+      (Syntax.tyStruct (110 ∷ 97 ∷ 109 ∷ 101 ∷ 115 ∷ 58 ∷ 58 ∷ 84 ∷ 104 ∷ 114 ∷ 101 ∷ 101 ∷ []) (Syntax.tcons (Syntax.tyInt Syntax.w8) (Syntax.tcons
+      (Syntax.tyInt Syntax.w8) (Syntax.tcons (Syntax.tyInt Syntax.w8) Syntax.tnil)))) (Syntax.tcons (Syntax.tyInt Syntax.w8) (Syntax.tcons (Syntax.tyStruct (102
+      ∷ 105 ∷ 101 ∷ 108 ∷ 100 ∷ 115 ∷ 58 ∷ 58 ∷ 82 ∷ 101 ∷ 115 ∷ 105 ∷ 100 ∷ 117 ∷ 101 ∷ 78 ∷ 117 ∷ 109 ∷ 98 ∷ 101 ∷ 114 ∷ []) (Syntax.tcons (Syntax.tyInt
+      Syntax.w32) Syntax.tnil)) (Syntax.tcons (Syntax.tyInt Syntax.w8) Syntax.tnil))))) (Syntax.tcons (Syntax.tyInt Syntax.w8) (Syntax.tcons (Syntax.tyInt
+      Syntax.w64) (Syntax.tcons Syntax.tyBool Syntax.tnil)))))))),
+) ∷ (6, Rows.any-gone Syntax.tyBool) ∷ (7, Rows.any-gone (Syntax.tyInt Syntax.w64)) ∷ (
+  8,
+  Rows.any-gone (Syntax.tyRef Syntax.erased Syntax.imm SlotAs.pointee),
+) ∷ (
+  9,
+  Rows.any-gone (Syntax.tyStruct (38 ∷ 91 ∷ 93 ∷ []) (Syntax.tcons (Syntax.tyRef
+      Syntax.erased Syntax.imm SlotAs.pointee) (Syntax.tcons (Syntax.tyInt Syntax.w64) Syntax.tnil))),
+) ∷ []
 
 abbrev pub t3 : List.List Row.Entry
 t3 = (
   0,
   Rows.any-gone (Syntax.tyStruct (115 ∷ 116 ∷ 111 ∷ 114 ∷ 101 ∷ 58 ∷ 58 ∷ 72 ∷ 101 ∷ 108 ∷ 100 ∷ []) (Syntax.tcons (Syntax.tyInt Syntax.w8)
       (Syntax.tcons (Syntax.tyInt Syntax.w64) (Syntax.tcons (Syntax.tyInt Syntax.w64) (Syntax.tcons (Syntax.tyInt Syntax.w64) (Syntax.tcons (Syntax.tyInt
-      Syntax.w64) Syntax.tnil)))))),
+      Syntax.w64) (Syntax.tcons (Syntax.tyInt Syntax.w64) Syntax.tnil))))))),
 ) ∷ (
   1,
-  Rows.sslice (Referent.rtF (Referent.fInt Syntax.w8)) (Syntax.tyRef (Syntax.named 0) Syntax.imm (Syntax.tyInt
-      Syntax.w8)) 0,
-) ∷ (2, Rows.sslice SlotAs.row (Syntax.tyRef (Syntax.named 1) Syntax.imm SlotAs.pointee) 1) ∷ (3, Rows.whole (Declared.row Findings.the-type))
-    ∷ (4, Rows.any-gone (Syntax.tyInt Syntax.w64)) ∷ (
-      5,
-      Rows.any-gone (Syntax.tyStruct (102 ∷ 114 ∷ 97 ∷ 103 ∷ 109 ∷ 101 ∷ 110 ∷ 116 ∷ 115 ∷ 58 ∷ 58 ∷ 84 ∷ 97
-          ∷ 105 ∷ 108 ∷ []) (Syntax.tcons Syntax.tyBool (Syntax.tcons Syntax.tyBool (Syntax.tcons (Syntax.tyStruct (114 ∷ 101 ∷ 115 ∷ 105 ∷ 100 ∷ 117 ∷ 101 ∷ 58 ∷ 58
-          ∷ 82 ∷ 101 ∷ 115 ∷ 105 ∷ 100 ∷ 117 ∷ 101 ∷ []) (Syntax.tcons (Syntax.tyStruct (110 ∷ 97 ∷ 109 ∷ 101 ∷ 115 ∷ 58 ∷ 58 ∷ 84 ∷ 104 ∷ 114 ∷ 101 ∷ 101 ∷ [])
-          (Syntax.tcons (Syntax.tyInt Syntax.w8) (Syntax.tcons (Syntax.tyInt Syntax.w8) (Syntax.tcons (Syntax.tyInt Syntax.w8) Syntax.tnil)))) (Syntax.tcons
-          (Syntax.tyInt Syntax.w8) (Syntax.tcons (Syntax.tyStruct (102 ∷ 105 ∷ 101 ∷ 108 ∷ 100 ∷ 115 ∷ 58 ∷ 58 ∷ 82 ∷ 101 ∷ 115 ∷ 105 ∷ 100 ∷ 117 ∷ 101 ∷ 78 ∷ 117 ∷
-          109 ∷ 98 ∷ 101 ∷ 114 ∷ []) (Syntax.tcons (Syntax.tyInt Syntax.w32) Syntax.tnil)) (Syntax.tcons (Syntax.tyInt Syntax.w8) Syntax.tnil))))) (Syntax.tcons
-          (Syntax.tyInt Syntax.w8) (Syntax.tcons (Syntax.tyInt Syntax.w64) (Syntax.tcons Syntax.tyBool Syntax.tnil))))))),
-    ) ∷ (6, Rows.sc-here Row.sBool) ∷ (
-      7,
-      Rows.any-gone (Syntax.tyInt Syntax.w64),
-    ) ∷ (8, Rows.any-gone (Syntax.tyRef Syntax.erased Syntax.imm SlotAs.pointee)) ∷ (
-      9,
-      Rows.any-gone (Syntax.tyStruct
-          (38 ∷ 91 ∷ 93 ∷ []) (Syntax.tcons (Syntax.tyRef Syntax.erased Syntax.imm SlotAs.pointee) (Syntax.tcons (Syntax.tyInt Syntax.w64) Syntax.tnil))),
-    ) ∷ []
+  Rows.sslice (Referent.rtF (Referent.fInt Syntax.w8)) (Syntax.tyRef
+      (Syntax.named 0) Syntax.imm (Syntax.tyInt Syntax.w8)) 0,
+) ∷ (2, Rows.sslice SlotAs.row (Syntax.tyRef (Syntax.named 1) Syntax.imm SlotAs.pointee) 1) ∷ (
+  3,
+  Rows.whole (Declared.row Findings.the-type),
+) ∷ (4, Rows.any-gone (Syntax.tyInt Syntax.w64)) ∷ (
+  5,
+  Rows.any-gone (Syntax.tyStruct (102 ∷ 114 ∷ 97 ∷ 103 ∷
+      109 ∷ 101 ∷ 110 ∷ 116 ∷ 115 ∷ 58 ∷ 58 ∷ 84 ∷ 97 ∷ 105 ∷ 108 ∷ []) (Syntax.tcons Syntax.tyBool (Syntax.tcons Syntax.tyBool (Syntax.tcons (Syntax.tyInt
+      Syntax.w32) (Syntax.tcons (Syntax.tyStruct (114 ∷ 101 ∷ 115 ∷ 105 ∷ 100 ∷ 117 ∷ 101 ∷ 58 ∷ 58 ∷ 82 ∷ 101 ∷ 115 ∷ 105 ∷ 100 ∷ 117 ∷ 101 ∷ []) (Syntax.tcons
+      (Syntax.tyStruct (110 ∷ 97 ∷ 109 ∷ 101 ∷ 115 ∷ 58 ∷ 58 ∷ 84 ∷ 104 ∷ 114 ∷ 101 ∷ 101 ∷ []) (Syntax.tcons (Syntax.tyInt Syntax.w8) (Syntax.tcons
+      (Syntax.tyInt Syntax.w8) (Syntax.tcons (Syntax.tyInt Syntax.w8) Syntax.tnil)))) (Syntax.tcons (Syntax.tyInt Syntax.w8) (Syntax.tcons (Syntax.tyStruct (102
+      ∷ 105 ∷ 101 ∷ 108 ∷ 100 ∷ 115 ∷ 58 ∷ 58 ∷ 82 ∷ 101 ∷ 115 ∷ 105 ∷ 100 ∷ 117 ∷ 101 ∷ 78 ∷ 117 ∷ 109 ∷ 98 ∷ 101 ∷ 114 ∷ []) (Syntax.tcons (Syntax.tyInt
+      Syntax.w32) Syntax.tnil)) (Syntax.tcons (Syntax.tyInt Syntax.w8) Syntax.tnil))))) (Syntax.tcons (Syntax.tyInt Syntax.w8) (Syntax.tcons (Syntax.tyInt
+      Syntax.w64) (Syntax.tcons Syntax.tyBool Syntax.tnil)))))))),
+) ∷ (6, Rows.sc-here Row.sBool) ∷ (7, Rows.any-gone (Syntax.tyInt Syntax.w64)) ∷ (
+  8,
+  Rows.any-gone (Syntax.tyRef Syntax.erased Syntax.imm SlotAs.pointee),
+) ∷ (
+  9,
+  Rows.any-gone (Syntax.tyStruct (38 ∷ 91 ∷ 93 ∷ []) (Syntax.tcons (Syntax.tyRef
+      Syntax.erased Syntax.imm SlotAs.pointee) (Syntax.tcons (Syntax.tyInt Syntax.w64) Syntax.tnil))),
+) ∷ []
 
 abbrev pub t4 : List.List Row.Entry
 t4 = (0, Rows.whole (Declared.row Held.the-type)) ∷ (
@@ -458,20 +465,21 @@ t4 = (0, Rows.whole (Declared.row Held.the-type)) ∷ (
 ) ∷ (4, Rows.any-gone (Syntax.tyInt Syntax.w64)) ∷ (
   5,
   Rows.any-gone (Syntax.tyStruct (102 ∷ 114 ∷ 97 ∷ 103 ∷ 109 ∷ 101 ∷ 110 ∷ 116 ∷ 115
-      ∷ 58 ∷ 58 ∷ 84 ∷ 97 ∷ 105 ∷ 108 ∷ []) (Syntax.tcons Syntax.tyBool (Syntax.tcons Syntax.tyBool (Syntax.tcons (Syntax.tyStruct (114 ∷ 101 ∷ 115 ∷ 105 ∷ 100 ∷
-      117 ∷ 101 ∷ 58 ∷ 58 ∷ 82 ∷ 101 ∷ 115 ∷ 105 ∷ 100 ∷ 117 ∷ 101 ∷ []) (Syntax.tcons (Syntax.tyStruct (110 ∷ 97 ∷ 109 ∷ 101 ∷ 115 ∷ 58 ∷ 58 ∷ 84 ∷ 104 ∷ 114 ∷
-      101 ∷ 101 ∷ []) (Syntax.tcons (Syntax.tyInt Syntax.w8) (Syntax.tcons (Syntax.tyInt Syntax.w8) (Syntax.tcons (Syntax.tyInt Syntax.w8) Syntax.tnil))))
-      (Syntax.tcons (Syntax.tyInt Syntax.w8) (Syntax.tcons (Syntax.tyStruct (102 ∷ 105 ∷ 101 ∷ 108 ∷ 100 ∷ 115 ∷ 58 ∷ 58 ∷ 82 ∷ 101 ∷ 115 ∷ 105 ∷ 100 ∷ 117 ∷ 101
-      ∷ 78 ∷ 117 ∷ 109 ∷ 98 ∷ 101 ∷ 114 ∷ []) (Syntax.tcons (Syntax.tyInt Syntax.w32) Syntax.tnil)) (Syntax.tcons (Syntax.tyInt Syntax.w8) Syntax.tnil)))))
-      (Syntax.tcons (Syntax.tyInt Syntax.w8) (Syntax.tcons (Syntax.tyInt Syntax.w64) (Syntax.tcons Syntax.tyBool Syntax.tnil))))))),
+      ∷ 58 ∷ 58 ∷ 84 ∷ 97 ∷ 105 ∷ 108 ∷ []) (Syntax.tcons Syntax.tyBool (Syntax.tcons Syntax.tyBool (Syntax.tcons (Syntax.tyInt Syntax.w32) (Syntax.tcons
+      (Syntax.tyStruct (114 ∷ 101 ∷ 115 ∷ 105 ∷ 100 ∷ 117 ∷ 101 ∷ 58 ∷ 58 ∷ 82 ∷ 101 ∷ 115 ∷ 105 ∷ 100 ∷ 117 ∷ 101 ∷ []) (Syntax.tcons (Syntax.tyStruct (110 ∷ 97
+      ∷ 109 ∷ 101 ∷ 115 ∷ 58 ∷ 58 ∷ 84 ∷ 104 ∷ 114 ∷ 101 ∷ 101 ∷ []) (Syntax.tcons (Syntax.tyInt Syntax.w8) (Syntax.tcons (Syntax.tyInt Syntax.w8) (Syntax.tcons
+      (Syntax.tyInt Syntax.w8) Syntax.tnil)))) (Syntax.tcons (Syntax.tyInt Syntax.w8) (Syntax.tcons (Syntax.tyStruct (102 ∷ 105 ∷ 101 ∷ 108 ∷ 100 ∷ 115 ∷ 58 ∷ 58
+      ∷ 82 ∷ 101 ∷ 115 ∷ 105 ∷ 100 ∷ 117 ∷ 101 ∷ 78 ∷ 117 ∷ 109 ∷ 98 ∷ 101 ∷ 114 ∷ []) (Syntax.tcons (Syntax.tyInt Syntax.w32) Syntax.tnil)) (Syntax.tcons
+      (Syntax.tyInt Syntax.w8) Syntax.tnil))))) (Syntax.tcons (Syntax.tyInt Syntax.w8) (Syntax.tcons (Syntax.tyInt Syntax.w64) (Syntax.tcons Syntax.tyBool
+      Syntax.tnil)))))))),
+) ∷ (6, Rows.any-gone Syntax.tyBool) ∷ (7, Rows.any-gone (Syntax.tyInt Syntax.w64)) ∷ (
+  8,
+  Rows.any-gone (Syntax.tyRef Syntax.erased
+      Syntax.imm SlotAs.pointee),
 ) ∷ (
-  6,
-  Rows.any-gone
-      Syntax.tyBool,
-) ∷ (7, Rows.any-gone (Syntax.tyInt Syntax.w64)) ∷ (8, Rows.any-gone (Syntax.tyRef Syntax.erased Syntax.imm SlotAs.pointee)) ∷ (
   9,
-  Rows.any-gone (Syntax.tyStruct (38 ∷ 91 ∷ 93 ∷ []) (Syntax.tcons (Syntax.tyRef Syntax.erased Syntax.imm SlotAs.pointee) (Syntax.tcons (Syntax.tyInt
-      Syntax.w64) Syntax.tnil))),
+  Rows.any-gone (Syntax.tyStruct (38 ∷ 91 ∷ 93 ∷ []) (Syntax.tcons (Syntax.tyRef Syntax.erased Syntax.imm SlotAs.pointee)
+      (Syntax.tcons (Syntax.tyInt Syntax.w64) Syntax.tnil))),
 ) ∷ []
 
 abbrev pub t5 : List.List Row.Entry
@@ -479,151 +487,163 @@ t5 = (
   0,
   Rows.any-gone (Syntax.tyStruct (115 ∷ 116 ∷ 111 ∷ 114 ∷ 101 ∷ 58 ∷ 58 ∷ 72 ∷ 101 ∷ 108 ∷ 100 ∷ []) (Syntax.tcons (Syntax.tyInt Syntax.w8)
       (Syntax.tcons (Syntax.tyInt Syntax.w64) (Syntax.tcons (Syntax.tyInt Syntax.w64) (Syntax.tcons (Syntax.tyInt Syntax.w64) (Syntax.tcons (Syntax.tyInt
-      Syntax.w64) Syntax.tnil)))))),
+      Syntax.w64) (Syntax.tcons (Syntax.tyInt Syntax.w64) Syntax.tnil))))))),
 ) ∷ (
   1,
-  Rows.sslice (Referent.rtF (Referent.fInt Syntax.w8)) (Syntax.tyRef (Syntax.named 0) Syntax.imm (Syntax.tyInt
-      Syntax.w8)) 0,
-) ∷ (2, Rows.sslice SlotAs.row (Syntax.tyRef (Syntax.named 1) Syntax.imm SlotAs.pointee) 1) ∷ (3, Rows.whole (Declared.row Findings.the-type))
-    ∷ (4, Rows.sc-here (Row.sInt Syntax.w64)) ∷ (
-      5,
-      Rows.any-gone (Syntax.tyStruct (102 ∷ 114 ∷ 97 ∷ 103 ∷ 109 ∷ 101 ∷ 110 ∷ 116 ∷ 115 ∷ 58 ∷ 58 ∷ 84 ∷ 97 ∷
-          105 ∷ 108 ∷ []) (Syntax.tcons Syntax.tyBool (Syntax.tcons Syntax.tyBool (Syntax.tcons (Syntax.tyStruct (114 ∷ 101 ∷ 115 ∷ 105 ∷ 100 ∷ 117 ∷ 101 ∷ 58 ∷ 58 ∷
-          82 ∷ 101 ∷ 115 ∷ 105 ∷ 100 ∷ 117 ∷ 101 ∷ []) (Syntax.tcons (Syntax.tyStruct (110 ∷ 97 ∷ 109 ∷ 101 ∷ 115 ∷ 58 ∷ 58 ∷ 84 ∷ 104 ∷ 114 ∷ 101 ∷ 101 ∷ [])
-          (Syntax.tcons (Syntax.tyInt Syntax.w8) (Syntax.tcons (Syntax.tyInt Syntax.w8) (Syntax.tcons (Syntax.tyInt Syntax.w8) Syntax.tnil)))) (Syntax.tcons
-          (Syntax.tyInt Syntax.w8) (Syntax.tcons (Syntax.tyStruct (102 ∷ 105 ∷ 101 ∷ 108 ∷ 100 ∷ 115 ∷ 58 ∷ 58 ∷ 82 ∷ 101 ∷ 115 ∷ 105 ∷ 100 ∷ 117 ∷ 101 ∷ 78 ∷ 117 ∷
-          109 ∷ 98 ∷ 101 ∷ 114 ∷ []) (Syntax.tcons (Syntax.tyInt Syntax.w32) Syntax.tnil)) (Syntax.tcons (Syntax.tyInt Syntax.w8) Syntax.tnil))))) (Syntax.tcons
-          (Syntax.tyInt Syntax.w8) (Syntax.tcons (Syntax.tyInt Syntax.w64) (Syntax.tcons Syntax.tyBool Syntax.tnil))))))),
-    ) ∷ (6, Rows.any-gone Syntax.tyBool) ∷ (
-      7,
-      Rows.any-gone (Syntax.tyInt Syntax.w64),
-    ) ∷ (8, Rows.any-gone (Syntax.tyRef Syntax.erased Syntax.imm SlotAs.pointee)) ∷ (
-      9,
-      Rows.any-gone (Syntax.tyStruct
-          (38 ∷ 91 ∷ 93 ∷ []) (Syntax.tcons (Syntax.tyRef Syntax.erased Syntax.imm SlotAs.pointee) (Syntax.tcons (Syntax.tyInt Syntax.w64) Syntax.tnil))),
-    ) ∷ []
+  Rows.sslice (Referent.rtF (Referent.fInt Syntax.w8)) (Syntax.tyRef
+      (Syntax.named 0) Syntax.imm (Syntax.tyInt Syntax.w8)) 0,
+) ∷ (2, Rows.sslice SlotAs.row (Syntax.tyRef (Syntax.named 1) Syntax.imm SlotAs.pointee) 1) ∷ (
+  3,
+  Rows.whole (Declared.row Findings.the-type),
+) ∷ (4, Rows.sc-here (Row.sInt Syntax.w64)) ∷ (
+  5,
+  Rows.any-gone (Syntax.tyStruct (102 ∷ 114 ∷ 97 ∷ 103 ∷ 109 ∷
+      101 ∷ 110 ∷ 116 ∷ 115 ∷ 58 ∷ 58 ∷ 84 ∷ 97 ∷ 105 ∷ 108 ∷ []) (Syntax.tcons Syntax.tyBool (Syntax.tcons Syntax.tyBool (Syntax.tcons (Syntax.tyInt Syntax.w32)
+      (Syntax.tcons (Syntax.tyStruct (114 ∷ 101 ∷ 115 ∷ 105 ∷ 100 ∷ 117 ∷ 101 ∷ 58 ∷ 58 ∷ 82 ∷ 101 ∷ 115 ∷ 105 ∷ 100 ∷ 117 ∷ 101 ∷ []) (Syntax.tcons
+      (Syntax.tyStruct (110 ∷ 97 ∷ 109 ∷ 101 ∷ 115 ∷ 58 ∷ 58 ∷ 84 ∷ 104 ∷ 114 ∷ 101 ∷ 101 ∷ []) (Syntax.tcons (Syntax.tyInt Syntax.w8) (Syntax.tcons
+      (Syntax.tyInt Syntax.w8) (Syntax.tcons (Syntax.tyInt Syntax.w8) Syntax.tnil)))) (Syntax.tcons (Syntax.tyInt Syntax.w8) (Syntax.tcons (Syntax.tyStruct (102
+      ∷ 105 ∷ 101 ∷ 108 ∷ 100 ∷ 115 ∷ 58 ∷ 58 ∷ 82 ∷ 101 ∷ 115 ∷ 105 ∷ 100 ∷ 117 ∷ 101 ∷ 78 ∷ 117 ∷ 109 ∷ 98 ∷ 101 ∷ 114 ∷ []) (Syntax.tcons (Syntax.tyInt
+      Syntax.w32) Syntax.tnil)) (Syntax.tcons (Syntax.tyInt Syntax.w8) Syntax.tnil))))) (Syntax.tcons (Syntax.tyInt Syntax.w8) (Syntax.tcons (Syntax.tyInt
+      Syntax.w64) (Syntax.tcons Syntax.tyBool Syntax.tnil)))))))),
+) ∷ (6, Rows.any-gone Syntax.tyBool) ∷ (7, Rows.any-gone (Syntax.tyInt Syntax.w64)) ∷ (
+  8,
+  Rows.any-gone (Syntax.tyRef Syntax.erased Syntax.imm SlotAs.pointee),
+) ∷ (
+  9,
+  Rows.any-gone (Syntax.tyStruct (38 ∷ 91 ∷ 93 ∷ []) (Syntax.tcons (Syntax.tyRef
+      Syntax.erased Syntax.imm SlotAs.pointee) (Syntax.tcons (Syntax.tyInt Syntax.w64) Syntax.tnil))),
+) ∷ []
 
 abbrev pub t6 : List.List Row.Entry
 t6 = (
   0,
   Rows.any-gone (Syntax.tyStruct (115 ∷ 116 ∷ 111 ∷ 114 ∷ 101 ∷ 58 ∷ 58 ∷ 72 ∷ 101 ∷ 108 ∷ 100 ∷ []) (Syntax.tcons (Syntax.tyInt Syntax.w8)
       (Syntax.tcons (Syntax.tyInt Syntax.w64) (Syntax.tcons (Syntax.tyInt Syntax.w64) (Syntax.tcons (Syntax.tyInt Syntax.w64) (Syntax.tcons (Syntax.tyInt
-      Syntax.w64) Syntax.tnil)))))),
+      Syntax.w64) (Syntax.tcons (Syntax.tyInt Syntax.w64) Syntax.tnil))))))),
 ) ∷ (
   1,
-  Rows.sslice (Referent.rtF (Referent.fInt Syntax.w8)) (Syntax.tyRef (Syntax.named 0) Syntax.imm (Syntax.tyInt
-      Syntax.w8)) 0,
-) ∷ (2, Rows.sslice SlotAs.row (Syntax.tyRef (Syntax.named 1) Syntax.imm SlotAs.pointee) 1) ∷ (3, Rows.whole (Declared.row Findings.the-type))
-    ∷ (4, Rows.sc-here (Row.sInt Syntax.w64)) ∷ (
-      5,
-      Rows.any-gone (Syntax.tyStruct (102 ∷ 114 ∷ 97 ∷ 103 ∷ 109 ∷ 101 ∷ 110 ∷ 116 ∷ 115 ∷ 58 ∷ 58 ∷ 84 ∷ 97 ∷
-          105 ∷ 108 ∷ []) (Syntax.tcons Syntax.tyBool (Syntax.tcons Syntax.tyBool (Syntax.tcons (Syntax.tyStruct (114 ∷ 101 ∷ 115 ∷ 105 ∷ 100 ∷ 117 ∷ 101 ∷ 58 ∷ 58 ∷
-          82 ∷ 101 ∷ 115 ∷ 105 ∷ 100 ∷ 117 ∷ 101 ∷ []) (Syntax.tcons (Syntax.tyStruct (110 ∷ 97 ∷ 109 ∷ 101 ∷ 115 ∷ 58 ∷ 58 ∷ 84 ∷ 104 ∷ 114 ∷ 101 ∷ 101 ∷ [])
-          (Syntax.tcons (Syntax.tyInt Syntax.w8) (Syntax.tcons (Syntax.tyInt Syntax.w8) (Syntax.tcons (Syntax.tyInt Syntax.w8) Syntax.tnil)))) (Syntax.tcons
-          (Syntax.tyInt Syntax.w8) (Syntax.tcons (Syntax.tyStruct (102 ∷ 105 ∷ 101 ∷ 108 ∷ 100 ∷ 115 ∷ 58 ∷ 58 ∷ 82 ∷ 101 ∷ 115 ∷ 105 ∷ 100 ∷ 117 ∷ 101 ∷ 78 ∷ 117 ∷
-          109 ∷ 98 ∷ 101 ∷ 114 ∷ []) (Syntax.tcons (Syntax.tyInt Syntax.w32) Syntax.tnil)) (Syntax.tcons (Syntax.tyInt Syntax.w8) Syntax.tnil))))) (Syntax.tcons
-          (Syntax.tyInt Syntax.w8) (Syntax.tcons (Syntax.tyInt Syntax.w64) (Syntax.tcons Syntax.tyBool Syntax.tnil))))))),
-    ) ∷ (6, Rows.any-gone Syntax.tyBool) ∷ (
-      7,
-      Rows.sc-here (Row.sInt Syntax.w64),
-    ) ∷ (8, Rows.any-gone (Syntax.tyRef Syntax.erased Syntax.imm SlotAs.pointee)) ∷ (
-      9,
-      Rows.any-gone (Syntax.tyStruct (38 ∷
-          91 ∷ 93 ∷ []) (Syntax.tcons (Syntax.tyRef Syntax.erased Syntax.imm SlotAs.pointee) (Syntax.tcons (Syntax.tyInt Syntax.w64) Syntax.tnil))),
-    ) ∷ []
+  Rows.sslice (Referent.rtF (Referent.fInt Syntax.w8)) (Syntax.tyRef
+      (Syntax.named 0) Syntax.imm (Syntax.tyInt Syntax.w8)) 0,
+) ∷ (2, Rows.sslice SlotAs.row (Syntax.tyRef (Syntax.named 1) Syntax.imm SlotAs.pointee) 1) ∷ (
+  3,
+  Rows.whole (Declared.row Findings.the-type),
+) ∷ (4, Rows.sc-here (Row.sInt Syntax.w64)) ∷ (
+  5,
+  Rows.any-gone (Syntax.tyStruct (102 ∷ 114 ∷ 97 ∷ 103 ∷ 109 ∷
+      101 ∷ 110 ∷ 116 ∷ 115 ∷ 58 ∷ 58 ∷ 84 ∷ 97 ∷ 105 ∷ 108 ∷ []) (Syntax.tcons Syntax.tyBool (Syntax.tcons Syntax.tyBool (Syntax.tcons (Syntax.tyInt Syntax.w32)
+      (Syntax.tcons (Syntax.tyStruct (114 ∷ 101 ∷ 115 ∷ 105 ∷ 100 ∷ 117 ∷ 101 ∷ 58 ∷ 58 ∷ 82 ∷ 101 ∷ 115 ∷ 105 ∷ 100 ∷ 117 ∷ 101 ∷ []) (Syntax.tcons
+      (Syntax.tyStruct (110 ∷ 97 ∷ 109 ∷ 101 ∷ 115 ∷ 58 ∷ 58 ∷ 84 ∷ 104 ∷ 114 ∷ 101 ∷ 101 ∷ []) (Syntax.tcons (Syntax.tyInt Syntax.w8) (Syntax.tcons
+      (Syntax.tyInt Syntax.w8) (Syntax.tcons (Syntax.tyInt Syntax.w8) Syntax.tnil)))) (Syntax.tcons (Syntax.tyInt Syntax.w8) (Syntax.tcons (Syntax.tyStruct (102
+      ∷ 105 ∷ 101 ∷ 108 ∷ 100 ∷ 115 ∷ 58 ∷ 58 ∷ 82 ∷ 101 ∷ 115 ∷ 105 ∷ 100 ∷ 117 ∷ 101 ∷ 78 ∷ 117 ∷ 109 ∷ 98 ∷ 101 ∷ 114 ∷ []) (Syntax.tcons (Syntax.tyInt
+      Syntax.w32) Syntax.tnil)) (Syntax.tcons (Syntax.tyInt Syntax.w8) Syntax.tnil))))) (Syntax.tcons (Syntax.tyInt Syntax.w8) (Syntax.tcons (Syntax.tyInt
+      Syntax.w64) (Syntax.tcons Syntax.tyBool Syntax.tnil)))))))),
+) ∷ (6, Rows.any-gone Syntax.tyBool) ∷ (7, Rows.sc-here (Row.sInt Syntax.w64)) ∷ (
+  8,
+  Rows.any-gone (Syntax.tyRef Syntax.erased Syntax.imm SlotAs.pointee),
+) ∷ (
+  9,
+  Rows.any-gone (Syntax.tyStruct (38 ∷ 91 ∷ 93 ∷ []) (Syntax.tcons (Syntax.tyRef
+      Syntax.erased Syntax.imm SlotAs.pointee) (Syntax.tcons (Syntax.tyInt Syntax.w64) Syntax.tnil))),
+) ∷ []
 
 abbrev pub t7 : List.List Row.Entry
 t7 = (
   0,
   Rows.any-gone (Syntax.tyStruct (115 ∷ 116 ∷ 111 ∷ 114 ∷ 101 ∷ 58 ∷ 58 ∷ 72 ∷ 101 ∷ 108 ∷ 100 ∷ []) (Syntax.tcons (Syntax.tyInt Syntax.w8)
       (Syntax.tcons (Syntax.tyInt Syntax.w64) (Syntax.tcons (Syntax.tyInt Syntax.w64) (Syntax.tcons (Syntax.tyInt Syntax.w64) (Syntax.tcons (Syntax.tyInt
-      Syntax.w64) Syntax.tnil)))))),
+      Syntax.w64) (Syntax.tcons (Syntax.tyInt Syntax.w64) Syntax.tnil))))))),
 ) ∷ (
   1,
-  Rows.sslice (Referent.rtF (Referent.fInt Syntax.w8)) (Syntax.tyRef (Syntax.named 0) Syntax.imm (Syntax.tyInt
-      Syntax.w8)) 0,
-) ∷ (2, Rows.sslice SlotAs.row (Syntax.tyRef (Syntax.named 1) Syntax.imm SlotAs.pointee) 1) ∷ (3, Rows.whole (Declared.row Findings.the-type))
-    ∷ (4, Rows.sc-here (Row.sInt Syntax.w64)) ∷ (
-      5,
-      Rows.any-gone (Syntax.tyStruct (102 ∷ 114 ∷ 97 ∷ 103 ∷ 109 ∷ 101 ∷ 110 ∷ 116 ∷ 115 ∷ 58 ∷ 58 ∷ 84 ∷ 97 ∷
-          105 ∷ 108 ∷ []) (Syntax.tcons Syntax.tyBool (Syntax.tcons Syntax.tyBool (Syntax.tcons (Syntax.tyStruct (114 ∷ 101 ∷ 115 ∷ 105 ∷ 100 ∷ 117 ∷ 101 ∷ 58 ∷ 58 ∷
-          82 ∷ 101 ∷ 115 ∷ 105 ∷ 100 ∷ 117 ∷ 101 ∷ []) (Syntax.tcons (Syntax.tyStruct (110 ∷ 97 ∷ 109 ∷ 101 ∷ 115 ∷ 58 ∷ 58 ∷ 84 ∷ 104 ∷ 114 ∷ 101 ∷ 101 ∷ [])
-          (Syntax.tcons (Syntax.tyInt Syntax.w8) (Syntax.tcons (Syntax.tyInt Syntax.w8) (Syntax.tcons (Syntax.tyInt Syntax.w8) Syntax.tnil)))) (Syntax.tcons
-          (Syntax.tyInt Syntax.w8) (Syntax.tcons (Syntax.tyStruct (102 ∷ 105 ∷ 101 ∷ 108 ∷ 100 ∷ 115 ∷ 58 ∷ 58 ∷ 82 ∷ 101 ∷ 115 ∷ 105 ∷ 100 ∷ 117 ∷ 101 ∷ 78 ∷ 117 ∷
-          109 ∷ 98 ∷ 101 ∷ 114 ∷ []) (Syntax.tcons (Syntax.tyInt Syntax.w32) Syntax.tnil)) (Syntax.tcons (Syntax.tyInt Syntax.w8) Syntax.tnil))))) (Syntax.tcons
-          (Syntax.tyInt Syntax.w8) (Syntax.tcons (Syntax.tyInt Syntax.w64) (Syntax.tcons Syntax.tyBool Syntax.tnil))))))),
-    ) ∷ (6, Rows.sc-here Row.sBool) ∷ (
-      7,
-      Rows.sc-here (Row.sInt Syntax.w64),
-    ) ∷ (8, Rows.any-gone (Syntax.tyRef Syntax.erased Syntax.imm SlotAs.pointee)) ∷ (
-      9,
-      Rows.any-gone (Syntax.tyStruct (38 ∷
-          91 ∷ 93 ∷ []) (Syntax.tcons (Syntax.tyRef Syntax.erased Syntax.imm SlotAs.pointee) (Syntax.tcons (Syntax.tyInt Syntax.w64) Syntax.tnil))),
-    ) ∷ []
+  Rows.sslice (Referent.rtF (Referent.fInt Syntax.w8)) (Syntax.tyRef
+      (Syntax.named 0) Syntax.imm (Syntax.tyInt Syntax.w8)) 0,
+) ∷ (2, Rows.sslice SlotAs.row (Syntax.tyRef (Syntax.named 1) Syntax.imm SlotAs.pointee) 1) ∷ (
+  3,
+  Rows.whole (Declared.row Findings.the-type),
+) ∷ (4, Rows.sc-here (Row.sInt Syntax.w64)) ∷ (
+  5,
+  Rows.any-gone (Syntax.tyStruct (102 ∷ 114 ∷ 97 ∷ 103 ∷ 109 ∷
+      101 ∷ 110 ∷ 116 ∷ 115 ∷ 58 ∷ 58 ∷ 84 ∷ 97 ∷ 105 ∷ 108 ∷ []) (Syntax.tcons Syntax.tyBool (Syntax.tcons Syntax.tyBool (Syntax.tcons (Syntax.tyInt Syntax.w32)
+      (Syntax.tcons (Syntax.tyStruct (114 ∷ 101 ∷ 115 ∷ 105 ∷ 100 ∷ 117 ∷ 101 ∷ 58 ∷ 58 ∷ 82 ∷ 101 ∷ 115 ∷ 105 ∷ 100 ∷ 117 ∷ 101 ∷ []) (Syntax.tcons
+      (Syntax.tyStruct (110 ∷ 97 ∷ 109 ∷ 101 ∷ 115 ∷ 58 ∷ 58 ∷ 84 ∷ 104 ∷ 114 ∷ 101 ∷ 101 ∷ []) (Syntax.tcons (Syntax.tyInt Syntax.w8) (Syntax.tcons
+      (Syntax.tyInt Syntax.w8) (Syntax.tcons (Syntax.tyInt Syntax.w8) Syntax.tnil)))) (Syntax.tcons (Syntax.tyInt Syntax.w8) (Syntax.tcons (Syntax.tyStruct (102
+      ∷ 105 ∷ 101 ∷ 108 ∷ 100 ∷ 115 ∷ 58 ∷ 58 ∷ 82 ∷ 101 ∷ 115 ∷ 105 ∷ 100 ∷ 117 ∷ 101 ∷ 78 ∷ 117 ∷ 109 ∷ 98 ∷ 101 ∷ 114 ∷ []) (Syntax.tcons (Syntax.tyInt
+      Syntax.w32) Syntax.tnil)) (Syntax.tcons (Syntax.tyInt Syntax.w8) Syntax.tnil))))) (Syntax.tcons (Syntax.tyInt Syntax.w8) (Syntax.tcons (Syntax.tyInt
+      Syntax.w64) (Syntax.tcons Syntax.tyBool Syntax.tnil)))))))),
+) ∷ (6, Rows.sc-here Row.sBool) ∷ (7, Rows.sc-here (Row.sInt Syntax.w64)) ∷ (
+  8,
+  Rows.any-gone
+      (Syntax.tyRef Syntax.erased Syntax.imm SlotAs.pointee),
+) ∷ (
+  9,
+  Rows.any-gone (Syntax.tyStruct (38 ∷ 91 ∷ 93 ∷ []) (Syntax.tcons (Syntax.tyRef Syntax.erased
+      Syntax.imm SlotAs.pointee) (Syntax.tcons (Syntax.tyInt Syntax.w64) Syntax.tnil))),
+) ∷ []
 
 abbrev pub t8 : List.List Row.Entry
 t8 = (
   0,
   Rows.any-gone (Syntax.tyStruct (115 ∷ 116 ∷ 111 ∷ 114 ∷ 101 ∷ 58 ∷ 58 ∷ 72 ∷ 101 ∷ 108 ∷ 100 ∷ []) (Syntax.tcons (Syntax.tyInt Syntax.w8)
       (Syntax.tcons (Syntax.tyInt Syntax.w64) (Syntax.tcons (Syntax.tyInt Syntax.w64) (Syntax.tcons (Syntax.tyInt Syntax.w64) (Syntax.tcons (Syntax.tyInt
-      Syntax.w64) Syntax.tnil)))))),
+      Syntax.w64) (Syntax.tcons (Syntax.tyInt Syntax.w64) Syntax.tnil))))))),
 ) ∷ (
   1,
-  Rows.sslice (Referent.rtF (Referent.fInt Syntax.w8)) (Syntax.tyRef (Syntax.named 0) Syntax.imm (Syntax.tyInt
-      Syntax.w8)) 0,
-) ∷ (2, Rows.sslice SlotAs.row (Syntax.tyRef (Syntax.named 1) Syntax.imm SlotAs.pointee) 1) ∷ (3, Rows.whole (Declared.row Findings.the-type))
-    ∷ (4, Rows.sc-here (Row.sInt Syntax.w64)) ∷ (
-      5,
-      Rows.any-gone (Syntax.tyStruct (102 ∷ 114 ∷ 97 ∷ 103 ∷ 109 ∷ 101 ∷ 110 ∷ 116 ∷ 115 ∷ 58 ∷ 58 ∷ 84 ∷ 97 ∷
-          105 ∷ 108 ∷ []) (Syntax.tcons Syntax.tyBool (Syntax.tcons Syntax.tyBool (Syntax.tcons (Syntax.tyStruct (114 ∷ 101 ∷ 115 ∷ 105 ∷ 100 ∷ 117 ∷ 101 ∷ 58 ∷ 58 ∷
-          82 ∷ 101 ∷ 115 ∷ 105 ∷ 100 ∷ 117 ∷ 101 ∷ []) (Syntax.tcons (Syntax.tyStruct (110 ∷ 97 ∷ 109 ∷ 101 ∷ 115 ∷ 58 ∷ 58 ∷ 84 ∷ 104 ∷ 114 ∷ 101 ∷ 101 ∷ [])
-          (Syntax.tcons (Syntax.tyInt Syntax.w8) (Syntax.tcons (Syntax.tyInt Syntax.w8) (Syntax.tcons (Syntax.tyInt Syntax.w8) Syntax.tnil)))) (Syntax.tcons
-          (Syntax.tyInt Syntax.w8) (Syntax.tcons (Syntax.tyStruct (102 ∷ 105 ∷ 101 ∷ 108 ∷ 100 ∷ 115 ∷ 58 ∷ 58 ∷ 82 ∷ 101 ∷ 115 ∷ 105 ∷ 100 ∷ 117 ∷ 101 ∷ 78 ∷ 117 ∷
-          109 ∷ 98 ∷ 101 ∷ 114 ∷ []) (Syntax.tcons (Syntax.tyInt Syntax.w32) Syntax.tnil)) (Syntax.tcons (Syntax.tyInt Syntax.w8) Syntax.tnil))))) (Syntax.tcons
-          (Syntax.tyInt Syntax.w8) (Syntax.tcons (Syntax.tyInt Syntax.w64) (Syntax.tcons Syntax.tyBool Syntax.tnil))))))),
-    ) ∷ (6, Rows.sc-here Row.sBool) ∷ (
-      7,
-      Rows.any-gone (Syntax.tyInt Syntax.w64),
-    ) ∷ (8, Rows.any-gone (Syntax.tyRef Syntax.erased Syntax.imm SlotAs.pointee)) ∷ (
-      9,
-      Rows.any-gone (Syntax.tyStruct
-          (38 ∷ 91 ∷ 93 ∷ []) (Syntax.tcons (Syntax.tyRef Syntax.erased Syntax.imm SlotAs.pointee) (Syntax.tcons (Syntax.tyInt Syntax.w64) Syntax.tnil))),
-    ) ∷ []
+  Rows.sslice (Referent.rtF (Referent.fInt Syntax.w8)) (Syntax.tyRef
+      (Syntax.named 0) Syntax.imm (Syntax.tyInt Syntax.w8)) 0,
+) ∷ (2, Rows.sslice SlotAs.row (Syntax.tyRef (Syntax.named 1) Syntax.imm SlotAs.pointee) 1) ∷ (
+  3,
+  Rows.whole (Declared.row Findings.the-type),
+) ∷ (4, Rows.sc-here (Row.sInt Syntax.w64)) ∷ (
+  5,
+  Rows.any-gone (Syntax.tyStruct (102 ∷ 114 ∷ 97 ∷ 103 ∷ 109 ∷
+      101 ∷ 110 ∷ 116 ∷ 115 ∷ 58 ∷ 58 ∷ 84 ∷ 97 ∷ 105 ∷ 108 ∷ []) (Syntax.tcons Syntax.tyBool (Syntax.tcons Syntax.tyBool (Syntax.tcons (Syntax.tyInt Syntax.w32)
+      (Syntax.tcons (Syntax.tyStruct (114 ∷ 101 ∷ 115 ∷ 105 ∷ 100 ∷ 117 ∷ 101 ∷ 58 ∷ 58 ∷ 82 ∷ 101 ∷ 115 ∷ 105 ∷ 100 ∷ 117 ∷ 101 ∷ []) (Syntax.tcons
+      (Syntax.tyStruct (110 ∷ 97 ∷ 109 ∷ 101 ∷ 115 ∷ 58 ∷ 58 ∷ 84 ∷ 104 ∷ 114 ∷ 101 ∷ 101 ∷ []) (Syntax.tcons (Syntax.tyInt Syntax.w8) (Syntax.tcons
+      (Syntax.tyInt Syntax.w8) (Syntax.tcons (Syntax.tyInt Syntax.w8) Syntax.tnil)))) (Syntax.tcons (Syntax.tyInt Syntax.w8) (Syntax.tcons (Syntax.tyStruct (102
+      ∷ 105 ∷ 101 ∷ 108 ∷ 100 ∷ 115 ∷ 58 ∷ 58 ∷ 82 ∷ 101 ∷ 115 ∷ 105 ∷ 100 ∷ 117 ∷ 101 ∷ 78 ∷ 117 ∷ 109 ∷ 98 ∷ 101 ∷ 114 ∷ []) (Syntax.tcons (Syntax.tyInt
+      Syntax.w32) Syntax.tnil)) (Syntax.tcons (Syntax.tyInt Syntax.w8) Syntax.tnil))))) (Syntax.tcons (Syntax.tyInt Syntax.w8) (Syntax.tcons (Syntax.tyInt
+      Syntax.w64) (Syntax.tcons Syntax.tyBool Syntax.tnil)))))))),
+) ∷ (6, Rows.sc-here Row.sBool) ∷ (7, Rows.any-gone (Syntax.tyInt Syntax.w64)) ∷ (
+  8,
+  Rows.any-gone (Syntax.tyRef Syntax.erased Syntax.imm SlotAs.pointee),
+) ∷ (
+  9,
+  Rows.any-gone (Syntax.tyStruct (38 ∷ 91 ∷ 93 ∷ []) (Syntax.tcons (Syntax.tyRef
+      Syntax.erased Syntax.imm SlotAs.pointee) (Syntax.tcons (Syntax.tyInt Syntax.w64) Syntax.tnil))),
+) ∷ []
 
 abbrev pub t9 : List.List Row.Entry
 t9 = (
   0,
   Rows.any-gone (Syntax.tyStruct (115 ∷ 116 ∷ 111 ∷ 114 ∷ 101 ∷ 58 ∷ 58 ∷ 72 ∷ 101 ∷ 108 ∷ 100 ∷ []) (Syntax.tcons (Syntax.tyInt Syntax.w8)
       (Syntax.tcons (Syntax.tyInt Syntax.w64) (Syntax.tcons (Syntax.tyInt Syntax.w64) (Syntax.tcons (Syntax.tyInt Syntax.w64) (Syntax.tcons (Syntax.tyInt
-      Syntax.w64) Syntax.tnil)))))),
+      Syntax.w64) (Syntax.tcons (Syntax.tyInt Syntax.w64) Syntax.tnil))))))),
 ) ∷ (
   1,
-  Rows.sslice (Referent.rtF (Referent.fInt Syntax.w8)) (Syntax.tyRef (Syntax.named 0) Syntax.imm (Syntax.tyInt
-      Syntax.w8)) 0,
+  Rows.sslice (Referent.rtF (Referent.fInt Syntax.w8)) (Syntax.tyRef
+      (Syntax.named 0) Syntax.imm (Syntax.tyInt Syntax.w8)) 0,
 ) ∷ (2, Rows.sslice SlotAs.row (Syntax.tyRef (Syntax.named 1) Syntax.imm SlotAs.pointee) 1) ∷ (
   3,
-  Rows.any-gone (Syntax.tyStruct (115 ∷ 116 ∷
-      111 ∷ 114 ∷ 101 ∷ 58 ∷ 58 ∷ 70 ∷ 105 ∷ 110 ∷ 100 ∷ 105 ∷ 110 ∷ 103 ∷ 115 ∷ []) (Syntax.tcons (Syntax.tyInt Syntax.w8) (Syntax.tcons (Syntax.tyInt
-      Syntax.w64) (Syntax.tcons Syntax.tyBool (Syntax.tcons (Syntax.tyInt Syntax.w64) (Syntax.tcons (Syntax.tyInt Syntax.w64) Syntax.tnil)))))),
-) ∷ (
-  4,
-  Rows.sc-here (Row.sInt Syntax.w64),
-) ∷ (
+  Rows.any-gone (Syntax.tyStruct (115 ∷ 116 ∷ 111 ∷ 114 ∷ 101 ∷ 58 ∷ 58 ∷ 70 ∷ 105 ∷ 110 ∷ 100 ∷ 105 ∷ 110 ∷ 103 ∷ 115 ∷ []) (Syntax.tcons (Syntax.tyInt
+      Syntax.w8) (Syntax.tcons (Syntax.tyInt Syntax.w64) (Syntax.tcons Syntax.tyBool (Syntax.tcons (Syntax.tyInt Syntax.w64) (Syntax.tcons (Syntax.tyInt
+      Syntax.w64) (Syntax.tcons (Syntax.tyInt Syntax.w64) Syntax.tnil))))))),
+) ∷ (4, Rows.sc-here (Row.sInt Syntax.w64)) ∷ (
   5,
-  Rows.any-gone (Syntax.tyStruct (102 ∷ 114 ∷ 97 ∷ 103 ∷ 109 ∷ 101 ∷ 110 ∷ 116 ∷ 115 ∷ 58 ∷ 58 ∷ 84 ∷ 97 ∷ 105 ∷
-      108 ∷ []) (Syntax.tcons Syntax.tyBool (Syntax.tcons Syntax.tyBool (Syntax.tcons (Syntax.tyStruct (114 ∷ 101 ∷ 115 ∷ 105 ∷ 100 ∷ 117 ∷ 101 ∷ 58 ∷ 58 ∷ 82 ∷
-      101 ∷ 115 ∷ 105 ∷ 100 ∷ 117 ∷ 101 ∷ []) (Syntax.tcons (Syntax.tyStruct (110 ∷ 97 ∷ 109 ∷ 101 ∷ 115 ∷ 58 ∷ 58 ∷ 84 ∷ 104 ∷ 114 ∷ 101 ∷ 101 ∷ [])
-      (Syntax.tcons (Syntax.tyInt Syntax.w8) (Syntax.tcons (Syntax.tyInt Syntax.w8) (Syntax.tcons (Syntax.tyInt Syntax.w8) Syntax.tnil)))) (Syntax.tcons
-      (Syntax.tyInt Syntax.w8) (Syntax.tcons (Syntax.tyStruct (102 ∷ 105 ∷ 101 ∷ 108 ∷ 100 ∷ 115 ∷ 58 ∷ 58 ∷ 82 ∷ 101 ∷ 115 ∷ 105 ∷ 100 ∷ 117 ∷ 101 ∷ 78 ∷ 117 ∷
-      109 ∷ 98 ∷ 101 ∷ 114 ∷ []) (Syntax.tcons (Syntax.tyInt Syntax.w32) Syntax.tnil)) (Syntax.tcons (Syntax.tyInt Syntax.w8) Syntax.tnil))))) (Syntax.tcons
-      (Syntax.tyInt Syntax.w8) (Syntax.tcons (Syntax.tyInt Syntax.w64) (Syntax.tcons Syntax.tyBool Syntax.tnil))))))),
+  Rows.any-gone (Syntax.tyStruct (102
+      ∷ 114 ∷ 97 ∷ 103 ∷ 109 ∷ 101 ∷ 110 ∷ 116 ∷ 115 ∷ 58 ∷ 58 ∷ 84 ∷ 97 ∷ 105 ∷ 108 ∷ []) (Syntax.tcons Syntax.tyBool (Syntax.tcons Syntax.tyBool (Syntax.tcons
+      (Syntax.tyInt Syntax.w32) (Syntax.tcons (Syntax.tyStruct (114 ∷ 101 ∷ 115 ∷ 105 ∷ 100 ∷ 117 ∷ 101 ∷ 58 ∷ 58 ∷ 82 ∷ 101 ∷ 115 ∷ 105 ∷ 100 ∷ 117 ∷ 101 ∷ [])
+      (Syntax.tcons (Syntax.tyStruct (110 ∷ 97 ∷ 109 ∷ 101 ∷ 115 ∷ 58 ∷ 58 ∷ 84 ∷ 104 ∷ 114 ∷ 101 ∷ 101 ∷ []) (Syntax.tcons (Syntax.tyInt Syntax.w8)
+      (Syntax.tcons (Syntax.tyInt Syntax.w8) (Syntax.tcons (Syntax.tyInt Syntax.w8) Syntax.tnil)))) (Syntax.tcons (Syntax.tyInt Syntax.w8) (Syntax.tcons
+      (Syntax.tyStruct (102 ∷ 105 ∷ 101 ∷ 108 ∷ 100 ∷ 115 ∷ 58 ∷ 58 ∷ 82 ∷ 101 ∷ 115 ∷ 105 ∷ 100 ∷ 117 ∷ 101 ∷ 78 ∷ 117 ∷ 109 ∷ 98 ∷ 101 ∷ 114 ∷ [])
+      (Syntax.tcons (Syntax.tyInt Syntax.w32) Syntax.tnil)) (Syntax.tcons (Syntax.tyInt Syntax.w8) Syntax.tnil))))) (Syntax.tcons (Syntax.tyInt Syntax.w8)
+      (Syntax.tcons (Syntax.tyInt Syntax.w64) (Syntax.tcons Syntax.tyBool Syntax.tnil)))))))),
 ) ∷ (6, Rows.sc-here Row.sBool) ∷ (
   7,
-  Rows.any-gone (Syntax.tyInt Syntax.w64),
+  Rows.any-gone (Syntax.tyInt
+      Syntax.w64),
 ) ∷ (8, Rows.any-gone (Syntax.tyRef Syntax.erased Syntax.imm SlotAs.pointee)) ∷ (
   9,
-  Rows.any-gone (Syntax.tyStruct
-      (38 ∷ 91 ∷ 93 ∷ []) (Syntax.tcons (Syntax.tyRef Syntax.erased Syntax.imm SlotAs.pointee) (Syntax.tcons (Syntax.tyInt Syntax.w64) Syntax.tnil))),
+  Rows.any-gone (Syntax.tyStruct (38 ∷ 91 ∷ 93 ∷ [])
+      (Syntax.tcons (Syntax.tyRef Syntax.erased Syntax.imm SlotAs.pointee) (Syntax.tcons (Syntax.tyInt Syntax.w64) Syntax.tnil))),
 ) ∷ []
 
 abbrev pub t10 : List.List Row.Entry
@@ -631,35 +651,34 @@ t10 = (
   0,
   Rows.any-gone (Syntax.tyStruct (115 ∷ 116 ∷ 111 ∷ 114 ∷ 101 ∷ 58 ∷ 58 ∷ 72 ∷ 101 ∷ 108 ∷ 100 ∷ []) (Syntax.tcons (Syntax.tyInt Syntax.w8)
       (Syntax.tcons (Syntax.tyInt Syntax.w64) (Syntax.tcons (Syntax.tyInt Syntax.w64) (Syntax.tcons (Syntax.tyInt Syntax.w64) (Syntax.tcons (Syntax.tyInt
-      Syntax.w64) Syntax.tnil)))))),
+      Syntax.w64) (Syntax.tcons (Syntax.tyInt Syntax.w64) Syntax.tnil))))))),
 ) ∷ (
   1,
-  Rows.sslice (Referent.rtF (Referent.fInt Syntax.w8)) (Syntax.tyRef (Syntax.named 0) Syntax.imm (Syntax.tyInt
-      Syntax.w8)) 0,
+  Rows.sslice (Referent.rtF (Referent.fInt Syntax.w8)) (Syntax.tyRef
+      (Syntax.named 0) Syntax.imm (Syntax.tyInt Syntax.w8)) 0,
 ) ∷ (2, Rows.sslice SlotAs.row (Syntax.tyRef (Syntax.named 1) Syntax.imm SlotAs.pointee) 1) ∷ (
   3,
-  Rows.any-gone (Syntax.tyStruct (115 ∷ 116 ∷
-      111 ∷ 114 ∷ 101 ∷ 58 ∷ 58 ∷ 70 ∷ 105 ∷ 110 ∷ 100 ∷ 105 ∷ 110 ∷ 103 ∷ 115 ∷ []) (Syntax.tcons (Syntax.tyInt Syntax.w8) (Syntax.tcons (Syntax.tyInt
-      Syntax.w64) (Syntax.tcons Syntax.tyBool (Syntax.tcons (Syntax.tyInt Syntax.w64) (Syntax.tcons (Syntax.tyInt Syntax.w64) Syntax.tnil)))))),
-) ∷ (
-  4,
-  Rows.sc-here (Row.sInt Syntax.w64),
-) ∷ (
+  Rows.any-gone (Syntax.tyStruct (115 ∷ 116 ∷ 111 ∷ 114 ∷ 101 ∷ 58 ∷ 58 ∷ 70 ∷ 105 ∷ 110 ∷ 100 ∷ 105 ∷ 110 ∷ 103 ∷ 115 ∷ []) (Syntax.tcons (Syntax.tyInt
+      Syntax.w8) (Syntax.tcons (Syntax.tyInt Syntax.w64) (Syntax.tcons Syntax.tyBool (Syntax.tcons (Syntax.tyInt Syntax.w64) (Syntax.tcons (Syntax.tyInt
+      Syntax.w64) (Syntax.tcons (Syntax.tyInt Syntax.w64) Syntax.tnil))))))),
+) ∷ (4, Rows.sc-here (Row.sInt Syntax.w64)) ∷ (
   5,
-  Rows.any-gone (Syntax.tyStruct (102 ∷ 114 ∷ 97 ∷ 103 ∷ 109 ∷ 101 ∷ 110 ∷ 116 ∷ 115 ∷ 58 ∷ 58 ∷ 84 ∷ 97 ∷ 105 ∷
-      108 ∷ []) (Syntax.tcons Syntax.tyBool (Syntax.tcons Syntax.tyBool (Syntax.tcons (Syntax.tyStruct (114 ∷ 101 ∷ 115 ∷ 105 ∷ 100 ∷ 117 ∷ 101 ∷ 58 ∷ 58 ∷ 82 ∷
-      101 ∷ 115 ∷ 105 ∷ 100 ∷ 117 ∷ 101 ∷ []) (Syntax.tcons (Syntax.tyStruct (110 ∷ 97 ∷ 109 ∷ 101 ∷ 115 ∷ 58 ∷ 58 ∷ 84 ∷ 104 ∷ 114 ∷ 101 ∷ 101 ∷ [])
-      (Syntax.tcons (Syntax.tyInt Syntax.w8) (Syntax.tcons (Syntax.tyInt Syntax.w8) (Syntax.tcons (Syntax.tyInt Syntax.w8) Syntax.tnil)))) (Syntax.tcons
-      (Syntax.tyInt Syntax.w8) (Syntax.tcons (Syntax.tyStruct (102 ∷ 105 ∷ 101 ∷ 108 ∷ 100 ∷ 115 ∷ 58 ∷ 58 ∷ 82 ∷ 101 ∷ 115 ∷ 105 ∷ 100 ∷ 117 ∷ 101 ∷ 78 ∷ 117 ∷
-      109 ∷ 98 ∷ 101 ∷ 114 ∷ []) (Syntax.tcons (Syntax.tyInt Syntax.w32) Syntax.tnil)) (Syntax.tcons (Syntax.tyInt Syntax.w8) Syntax.tnil))))) (Syntax.tcons
-      (Syntax.tyInt Syntax.w8) (Syntax.tcons (Syntax.tyInt Syntax.w64) (Syntax.tcons Syntax.tyBool Syntax.tnil))))))),
+  Rows.any-gone (Syntax.tyStruct (102
+      ∷ 114 ∷ 97 ∷ 103 ∷ 109 ∷ 101 ∷ 110 ∷ 116 ∷ 115 ∷ 58 ∷ 58 ∷ 84 ∷ 97 ∷ 105 ∷ 108 ∷ []) (Syntax.tcons Syntax.tyBool (Syntax.tcons Syntax.tyBool (Syntax.tcons
+      (Syntax.tyInt Syntax.w32) (Syntax.tcons (Syntax.tyStruct (114 ∷ 101 ∷ 115 ∷ 105 ∷ 100 ∷ 117 ∷ 101 ∷ 58 ∷ 58 ∷ 82 ∷ 101 ∷ 115 ∷ 105 ∷ 100 ∷ 117 ∷ 101 ∷ [])
+      (Syntax.tcons (Syntax.tyStruct (110 ∷ 97 ∷ 109 ∷ 101 ∷ 115 ∷ 58 ∷ 58 ∷ 84 ∷ 104 ∷ 114 ∷ 101 ∷ 101 ∷ []) (Syntax.tcons (Syntax.tyInt Syntax.w8)
+      (Syntax.tcons (Syntax.tyInt Syntax.w8) (Syntax.tcons (Syntax.tyInt Syntax.w8) Syntax.tnil)))) (Syntax.tcons (Syntax.tyInt Syntax.w8) (Syntax.tcons
+      (Syntax.tyStruct (102 ∷ 105 ∷ 101 ∷ 108 ∷ 100 ∷ 115 ∷ 58 ∷ 58 ∷ 82 ∷ 101 ∷ 115 ∷ 105 ∷ 100 ∷ 117 ∷ 101 ∷ 78 ∷ 117 ∷ 109 ∷ 98 ∷ 101 ∷ 114 ∷ [])
+      (Syntax.tcons (Syntax.tyInt Syntax.w32) Syntax.tnil)) (Syntax.tcons (Syntax.tyInt Syntax.w8) Syntax.tnil))))) (Syntax.tcons (Syntax.tyInt Syntax.w8)
+      (Syntax.tcons (Syntax.tyInt Syntax.w64) (Syntax.tcons Syntax.tyBool Syntax.tnil)))))))),
 ) ∷ (6, Rows.any-gone Syntax.tyBool) ∷ (
   7,
-  Rows.any-gone (Syntax.tyInt Syntax.w64),
+  Rows.any-gone
+      (Syntax.tyInt Syntax.w64),
 ) ∷ (8, Rows.any-gone (Syntax.tyRef Syntax.erased Syntax.imm SlotAs.pointee)) ∷ (
   9,
-  Rows.any-gone (Syntax.tyStruct
-      (38 ∷ 91 ∷ 93 ∷ []) (Syntax.tcons (Syntax.tyRef Syntax.erased Syntax.imm SlotAs.pointee) (Syntax.tcons (Syntax.tyInt Syntax.w64) Syntax.tnil))),
+  Rows.any-gone (Syntax.tyStruct (38 ∷ 91 ∷ 93 ∷
+      []) (Syntax.tcons (Syntax.tyRef Syntax.erased Syntax.imm SlotAs.pointee) (Syntax.tcons (Syntax.tyInt Syntax.w64) Syntax.tnil))),
 ) ∷ []
 
 abbrev pub t11 : List.List Row.Entry
@@ -671,174 +690,188 @@ t11 = (0, Rows.whole (Declared.row Held.the-type)) ∷ (
   3,
   Rows.any-gone (Syntax.tyStruct
       (115 ∷ 116 ∷ 111 ∷ 114 ∷ 101 ∷ 58 ∷ 58 ∷ 70 ∷ 105 ∷ 110 ∷ 100 ∷ 105 ∷ 110 ∷ 103 ∷ 115 ∷ []) (Syntax.tcons (Syntax.tyInt Syntax.w8) (Syntax.tcons
-      (Syntax.tyInt Syntax.w64) (Syntax.tcons Syntax.tyBool (Syntax.tcons (Syntax.tyInt Syntax.w64) (Syntax.tcons (Syntax.tyInt Syntax.w64) Syntax.tnil)))))),
-) ∷
-    (4, Rows.sc-here (Row.sInt Syntax.w64)) ∷ (
-      5,
-      Rows.any-gone (Syntax.tyStruct (102 ∷ 114 ∷ 97 ∷ 103 ∷ 109 ∷ 101 ∷ 110 ∷ 116 ∷ 115 ∷ 58 ∷ 58 ∷ 84 ∷ 97 ∷ 105
-          ∷ 108 ∷ []) (Syntax.tcons Syntax.tyBool (Syntax.tcons Syntax.tyBool (Syntax.tcons (Syntax.tyStruct (114 ∷ 101 ∷ 115 ∷ 105 ∷ 100 ∷ 117 ∷ 101 ∷ 58 ∷ 58 ∷ 82
-          ∷ 101 ∷ 115 ∷ 105 ∷ 100 ∷ 117 ∷ 101 ∷ []) (Syntax.tcons (Syntax.tyStruct (110 ∷ 97 ∷ 109 ∷ 101 ∷ 115 ∷ 58 ∷ 58 ∷ 84 ∷ 104 ∷ 114 ∷ 101 ∷ 101 ∷ [])
-          (Syntax.tcons (Syntax.tyInt Syntax.w8) (Syntax.tcons (Syntax.tyInt Syntax.w8) (Syntax.tcons (Syntax.tyInt Syntax.w8) Syntax.tnil)))) (Syntax.tcons
-          (Syntax.tyInt Syntax.w8) (Syntax.tcons (Syntax.tyStruct (102 ∷ 105 ∷ 101 ∷ 108 ∷ 100 ∷ 115 ∷ 58 ∷ 58 ∷ 82 ∷ 101 ∷ 115 ∷ 105 ∷ 100 ∷ 117 ∷ 101 ∷ 78 ∷ 117 ∷
-          109 ∷ 98 ∷ 101 ∷ 114 ∷ []) (Syntax.tcons (Syntax.tyInt Syntax.w32) Syntax.tnil)) (Syntax.tcons (Syntax.tyInt Syntax.w8) Syntax.tnil))))) (Syntax.tcons
-          (Syntax.tyInt Syntax.w8) (Syntax.tcons (Syntax.tyInt Syntax.w64) (Syntax.tcons Syntax.tyBool Syntax.tnil))))))),
-    ) ∷ (6, Rows.any-gone Syntax.tyBool) ∷ (
-      7,
-      Rows.any-gone (Syntax.tyInt Syntax.w64),
-    ) ∷ (8, Rows.any-gone (Syntax.tyRef Syntax.erased Syntax.imm SlotAs.pointee)) ∷ (
-      9,
-      Rows.any-gone (Syntax.tyStruct
-          (38 ∷ 91 ∷ 93 ∷ []) (Syntax.tcons (Syntax.tyRef Syntax.erased Syntax.imm SlotAs.pointee) (Syntax.tcons (Syntax.tyInt Syntax.w64) Syntax.tnil))),
-    ) ∷ []
+      (Syntax.tyInt Syntax.w64) (Syntax.tcons Syntax.tyBool (Syntax.tcons (Syntax.tyInt Syntax.w64) (Syntax.tcons (Syntax.tyInt Syntax.w64) (Syntax.tcons
+      (Syntax.tyInt Syntax.w64) Syntax.tnil))))))),
+) ∷ (4, Rows.sc-here (Row.sInt Syntax.w64)) ∷ (
+  5,
+  Rows.any-gone (Syntax.tyStruct (102 ∷ 114 ∷ 97 ∷ 103 ∷ 109 ∷
+      101 ∷ 110 ∷ 116 ∷ 115 ∷ 58 ∷ 58 ∷ 84 ∷ 97 ∷ 105 ∷ 108 ∷ []) (Syntax.tcons Syntax.tyBool (Syntax.tcons Syntax.tyBool (Syntax.tcons (Syntax.tyInt Syntax.w32)
+      (Syntax.tcons (Syntax.tyStruct (114 ∷ 101 ∷ 115 ∷ 105 ∷ 100 ∷ 117 ∷ 101 ∷ 58 ∷ 58 ∷ 82 ∷ 101 ∷ 115 ∷ 105 ∷ 100 ∷ 117 ∷ 101 ∷ []) (Syntax.tcons
+      (Syntax.tyStruct (110 ∷ 97 ∷ 109 ∷ 101 ∷ 115 ∷ 58 ∷ 58 ∷ 84 ∷ 104 ∷ 114 ∷ 101 ∷ 101 ∷ []) (Syntax.tcons (Syntax.tyInt Syntax.w8) (Syntax.tcons
+      (Syntax.tyInt Syntax.w8) (Syntax.tcons (Syntax.tyInt Syntax.w8) Syntax.tnil)))) (Syntax.tcons (Syntax.tyInt Syntax.w8) (Syntax.tcons (Syntax.tyStruct (102
+      ∷ 105 ∷ 101 ∷ 108 ∷ 100 ∷ 115 ∷ 58 ∷ 58 ∷ 82 ∷ 101 ∷ 115 ∷ 105 ∷ 100 ∷ 117 ∷ 101 ∷ 78 ∷ 117 ∷ 109 ∷ 98 ∷ 101 ∷ 114 ∷ []) (Syntax.tcons (Syntax.tyInt
+      Syntax.w32) Syntax.tnil)) (Syntax.tcons (Syntax.tyInt Syntax.w8) Syntax.tnil))))) (Syntax.tcons (Syntax.tyInt Syntax.w8) (Syntax.tcons (Syntax.tyInt
+      Syntax.w64) (Syntax.tcons Syntax.tyBool Syntax.tnil)))))))),
+) ∷ (6, Rows.any-gone Syntax.tyBool) ∷ (7, Rows.any-gone (Syntax.tyInt Syntax.w64)) ∷ (
+  8,
+  Rows.any-gone (Syntax.tyRef Syntax.erased Syntax.imm SlotAs.pointee),
+) ∷ (
+  9,
+  Rows.any-gone (Syntax.tyStruct (38 ∷ 91 ∷ 93 ∷ []) (Syntax.tcons (Syntax.tyRef
+      Syntax.erased Syntax.imm SlotAs.pointee) (Syntax.tcons (Syntax.tyInt Syntax.w64) Syntax.tnil))),
+) ∷ []
 
 abbrev pub t12 : List.List Row.Entry
 t12 = (
   0,
   Rows.any-gone (Syntax.tyStruct (115 ∷ 116 ∷ 111 ∷ 114 ∷ 101 ∷ 58 ∷ 58 ∷ 72 ∷ 101 ∷ 108 ∷ 100 ∷ []) (Syntax.tcons (Syntax.tyInt Syntax.w8)
       (Syntax.tcons (Syntax.tyInt Syntax.w64) (Syntax.tcons (Syntax.tyInt Syntax.w64) (Syntax.tcons (Syntax.tyInt Syntax.w64) (Syntax.tcons (Syntax.tyInt
-      Syntax.w64) Syntax.tnil)))))),
+      Syntax.w64) (Syntax.tcons (Syntax.tyInt Syntax.w64) Syntax.tnil))))))),
 ) ∷ (
   1,
-  Rows.sslice (Referent.rtF (Referent.fInt Syntax.w8)) (Syntax.tyRef (Syntax.named 0) Syntax.imm (Syntax.tyInt
-      Syntax.w8)) 0,
-) ∷ (2, Rows.sslice SlotAs.row (Syntax.tyRef (Syntax.named 1) Syntax.imm SlotAs.pointee) 1) ∷ (3, Rows.whole (Declared.row Findings.the-type))
-    ∷ (4, Rows.sc-here (Row.sInt Syntax.w64)) ∷ (
-      5,
-      Rows.any-gone (Syntax.tyStruct (102 ∷ 114 ∷ 97 ∷ 103 ∷ 109 ∷ 101 ∷ 110 ∷ 116 ∷ 115 ∷ 58 ∷ 58 ∷ 84 ∷ 97 ∷
-          105 ∷ 108 ∷ []) (Syntax.tcons Syntax.tyBool (Syntax.tcons Syntax.tyBool (Syntax.tcons (Syntax.tyStruct (114 ∷ 101 ∷ 115 ∷ 105 ∷ 100 ∷ 117 ∷ 101 ∷ 58 ∷ 58 ∷
-          82 ∷ 101 ∷ 115 ∷ 105 ∷ 100 ∷ 117 ∷ 101 ∷ []) (Syntax.tcons (Syntax.tyStruct (110 ∷ 97 ∷ 109 ∷ 101 ∷ 115 ∷ 58 ∷ 58 ∷ 84 ∷ 104 ∷ 114 ∷ 101 ∷ 101 ∷ [])
-          (Syntax.tcons (Syntax.tyInt Syntax.w8) (Syntax.tcons (Syntax.tyInt Syntax.w8) (Syntax.tcons (Syntax.tyInt Syntax.w8) Syntax.tnil)))) (Syntax.tcons
-          (Syntax.tyInt Syntax.w8) (Syntax.tcons (Syntax.tyStruct (102 ∷ 105 ∷ 101 ∷ 108 ∷ 100 ∷ 115 ∷ 58 ∷ 58 ∷ 82 ∷ 101 ∷ 115 ∷ 105 ∷ 100 ∷ 117 ∷ 101 ∷ 78 ∷ 117 ∷
-          109 ∷ 98 ∷ 101 ∷ 114 ∷ []) (Syntax.tcons (Syntax.tyInt Syntax.w32) Syntax.tnil)) (Syntax.tcons (Syntax.tyInt Syntax.w8) Syntax.tnil))))) (Syntax.tcons
-          (Syntax.tyInt Syntax.w8) (Syntax.tcons (Syntax.tyInt Syntax.w64) (Syntax.tcons Syntax.tyBool Syntax.tnil))))))),
-    ) ∷ (6, Rows.any-gone Syntax.tyBool) ∷ (
-      7,
-      Rows.any-gone (Syntax.tyInt Syntax.w64),
-    ) ∷ (8, Relend.ssptr SlotAs.row (Syntax.tyRef Syntax.erased Syntax.imm SlotAs.pointee) 1) ∷ (
-      9,
-      Rows.any-gone
-          (Syntax.tyStruct (38 ∷ 91 ∷ 93 ∷ []) (Syntax.tcons (Syntax.tyRef Syntax.erased Syntax.imm SlotAs.pointee) (Syntax.tcons (Syntax.tyInt Syntax.w64)
-          Syntax.tnil))),
-    ) ∷ []
+  Rows.sslice (Referent.rtF (Referent.fInt Syntax.w8)) (Syntax.tyRef
+      (Syntax.named 0) Syntax.imm (Syntax.tyInt Syntax.w8)) 0,
+) ∷ (2, Rows.sslice SlotAs.row (Syntax.tyRef (Syntax.named 1) Syntax.imm SlotAs.pointee) 1) ∷ (
+  3,
+  Rows.whole (Declared.row Findings.the-type),
+) ∷ (4, Rows.sc-here (Row.sInt Syntax.w64)) ∷ (
+  5,
+  Rows.any-gone (Syntax.tyStruct (102 ∷ 114 ∷ 97 ∷ 103 ∷ 109 ∷
+      101 ∷ 110 ∷ 116 ∷ 115 ∷ 58 ∷ 58 ∷ 84 ∷ 97 ∷ 105 ∷ 108 ∷ []) (Syntax.tcons Syntax.tyBool (Syntax.tcons Syntax.tyBool (Syntax.tcons (Syntax.tyInt Syntax.w32)
+      (Syntax.tcons (Syntax.tyStruct (114 ∷ 101 ∷ 115 ∷ 105 ∷ 100 ∷ 117 ∷ 101 ∷ 58 ∷ 58 ∷ 82 ∷ 101 ∷ 115 ∷ 105 ∷ 100 ∷ 117 ∷ 101 ∷ []) (Syntax.tcons
+      (Syntax.tyStruct (110 ∷ 97 ∷ 109 ∷ 101 ∷ 115 ∷ 58 ∷ 58 ∷ 84 ∷ 104 ∷ 114 ∷ 101 ∷ 101 ∷ []) (Syntax.tcons (Syntax.tyInt Syntax.w8) (Syntax.tcons
+      (Syntax.tyInt Syntax.w8) (Syntax.tcons (Syntax.tyInt Syntax.w8) Syntax.tnil)))) (Syntax.tcons (Syntax.tyInt Syntax.w8) (Syntax.tcons (Syntax.tyStruct (102
+      ∷ 105 ∷ 101 ∷ 108 ∷ 100 ∷ 115 ∷ 58 ∷ 58 ∷ 82 ∷ 101 ∷ 115 ∷ 105 ∷ 100 ∷ 117 ∷ 101 ∷ 78 ∷ 117 ∷ 109 ∷ 98 ∷ 101 ∷ 114 ∷ []) (Syntax.tcons (Syntax.tyInt
+      Syntax.w32) Syntax.tnil)) (Syntax.tcons (Syntax.tyInt Syntax.w8) Syntax.tnil))))) (Syntax.tcons (Syntax.tyInt Syntax.w8) (Syntax.tcons (Syntax.tyInt
+      Syntax.w64) (Syntax.tcons Syntax.tyBool Syntax.tnil)))))))),
+) ∷ (6, Rows.any-gone Syntax.tyBool) ∷ (7, Rows.any-gone (Syntax.tyInt Syntax.w64)) ∷ (
+  8,
+  Relend.ssptr SlotAs.row (Syntax.tyRef Syntax.erased Syntax.imm SlotAs.pointee) 1,
+) ∷ (
+  9,
+  Rows.any-gone (Syntax.tyStruct (38 ∷ 91 ∷ 93 ∷ []) (Syntax.tcons
+      (Syntax.tyRef Syntax.erased Syntax.imm SlotAs.pointee) (Syntax.tcons (Syntax.tyInt Syntax.w64) Syntax.tnil))),
+) ∷ []
 
 abbrev pub t13 : List.List Row.Entry
 t13 = (
   0,
   Rows.any-gone (Syntax.tyStruct (115 ∷ 116 ∷ 111 ∷ 114 ∷ 101 ∷ 58 ∷ 58 ∷ 72 ∷ 101 ∷ 108 ∷ 100 ∷ []) (Syntax.tcons (Syntax.tyInt Syntax.w8)
       (Syntax.tcons (Syntax.tyInt Syntax.w64) (Syntax.tcons (Syntax.tyInt Syntax.w64) (Syntax.tcons (Syntax.tyInt Syntax.w64) (Syntax.tcons (Syntax.tyInt
-      Syntax.w64) Syntax.tnil)))))),
+      Syntax.w64) (Syntax.tcons (Syntax.tyInt Syntax.w64) Syntax.tnil))))))),
 ) ∷ (
   1,
-  Rows.sslice (Referent.rtF (Referent.fInt Syntax.w8)) (Syntax.tyRef (Syntax.named 0) Syntax.imm (Syntax.tyInt
-      Syntax.w8)) 0,
-) ∷ (2, Rows.sslice SlotAs.row (Syntax.tyRef (Syntax.named 1) Syntax.imm SlotAs.pointee) 1) ∷ (3, Rows.whole (Declared.row Findings.the-type))
-    ∷ (4, Rows.sc-here (Row.sInt Syntax.w64)) ∷ (
-      5,
-      Rows.any-gone (Syntax.tyStruct (102 ∷ 114 ∷ 97 ∷ 103 ∷ 109 ∷ 101 ∷ 110 ∷ 116 ∷ 115 ∷ 58 ∷ 58 ∷ 84 ∷ 97 ∷
-          105 ∷ 108 ∷ []) (Syntax.tcons Syntax.tyBool (Syntax.tcons Syntax.tyBool (Syntax.tcons (Syntax.tyStruct (114 ∷ 101 ∷ 115 ∷ 105 ∷ 100 ∷ 117 ∷ 101 ∷ 58 ∷ 58 ∷
-          82 ∷ 101 ∷ 115 ∷ 105 ∷ 100 ∷ 117 ∷ 101 ∷ []) (Syntax.tcons (Syntax.tyStruct (110 ∷ 97 ∷ 109 ∷ 101 ∷ 115 ∷ 58 ∷ 58 ∷ 84 ∷ 104 ∷ 114 ∷ 101 ∷ 101 ∷ [])
-          (Syntax.tcons (Syntax.tyInt Syntax.w8) (Syntax.tcons (Syntax.tyInt Syntax.w8) (Syntax.tcons (Syntax.tyInt Syntax.w8) Syntax.tnil)))) (Syntax.tcons
-          (Syntax.tyInt Syntax.w8) (Syntax.tcons (Syntax.tyStruct (102 ∷ 105 ∷ 101 ∷ 108 ∷ 100 ∷ 115 ∷ 58 ∷ 58 ∷ 82 ∷ 101 ∷ 115 ∷ 105 ∷ 100 ∷ 117 ∷ 101 ∷ 78 ∷ 117 ∷
-          109 ∷ 98 ∷ 101 ∷ 114 ∷ []) (Syntax.tcons (Syntax.tyInt Syntax.w32) Syntax.tnil)) (Syntax.tcons (Syntax.tyInt Syntax.w8) Syntax.tnil))))) (Syntax.tcons
-          (Syntax.tyInt Syntax.w8) (Syntax.tcons (Syntax.tyInt Syntax.w64) (Syntax.tcons Syntax.tyBool Syntax.tnil))))))),
-    ) ∷ (6, Rows.any-gone Syntax.tyBool) ∷ (
-      7,
-      Rows.any-gone (Syntax.tyInt Syntax.w64),
-    ) ∷ (8, Rows.any-gone (Syntax.tyRef Syntax.erased Syntax.imm SlotAs.pointee)) ∷ (
-      9,
-      Rows.sslice SlotAs.row
-          (Syntax.tyRef Syntax.erased Syntax.imm SlotAs.pointee) 1,
-    ) ∷ []
+  Rows.sslice (Referent.rtF (Referent.fInt Syntax.w8)) (Syntax.tyRef
+      (Syntax.named 0) Syntax.imm (Syntax.tyInt Syntax.w8)) 0,
+) ∷ (2, Rows.sslice SlotAs.row (Syntax.tyRef (Syntax.named 1) Syntax.imm SlotAs.pointee) 1) ∷ (
+  3,
+  Rows.whole (Declared.row Findings.the-type),
+) ∷ (4, Rows.sc-here (Row.sInt Syntax.w64)) ∷ (
+  5,
+  Rows.any-gone (Syntax.tyStruct (102 ∷ 114 ∷ 97 ∷ 103 ∷ 109 ∷
+      101 ∷ 110 ∷ 116 ∷ 115 ∷ 58 ∷ 58 ∷ 84 ∷ 97 ∷ 105 ∷ 108 ∷ []) (Syntax.tcons Syntax.tyBool (Syntax.tcons Syntax.tyBool (Syntax.tcons (Syntax.tyInt Syntax.w32)
+      (Syntax.tcons (Syntax.tyStruct (114 ∷ 101 ∷ 115 ∷ 105 ∷ 100 ∷ 117 ∷ 101 ∷ 58 ∷ 58 ∷ 82 ∷ 101 ∷ 115 ∷ 105 ∷ 100 ∷ 117 ∷ 101 ∷ []) (Syntax.tcons
+      (Syntax.tyStruct (110 ∷ 97 ∷ 109 ∷ 101 ∷ 115 ∷ 58 ∷ 58 ∷ 84 ∷ 104 ∷ 114 ∷ 101 ∷ 101 ∷ []) (Syntax.tcons (Syntax.tyInt Syntax.w8) (Syntax.tcons
+      (Syntax.tyInt Syntax.w8) (Syntax.tcons (Syntax.tyInt Syntax.w8) Syntax.tnil)))) (Syntax.tcons (Syntax.tyInt Syntax.w8) (Syntax.tcons (Syntax.tyStruct (102
+      ∷ 105 ∷ 101 ∷ 108 ∷ 100 ∷ 115 ∷ 58 ∷ 58 ∷ 82 ∷ 101 ∷ 115 ∷ 105 ∷ 100 ∷ 117 ∷ 101 ∷ 78 ∷ 117 ∷ 109 ∷ 98 ∷ 101 ∷ 114 ∷ []) (Syntax.tcons (Syntax.tyInt
+      Syntax.w32) Syntax.tnil)) (Syntax.tcons (Syntax.tyInt Syntax.w8) Syntax.tnil))))) (Syntax.tcons (Syntax.tyInt Syntax.w8) (Syntax.tcons (Syntax.tyInt
+      Syntax.w64) (Syntax.tcons Syntax.tyBool Syntax.tnil)))))))),
+) ∷ (6, Rows.any-gone Syntax.tyBool) ∷ (7, Rows.any-gone (Syntax.tyInt Syntax.w64)) ∷ (
+  8,
+  Rows.any-gone (Syntax.tyRef Syntax.erased Syntax.imm SlotAs.pointee),
+) ∷ (
+  9,
+  Rows.sslice SlotAs.row (Syntax.tyRef Syntax.erased Syntax.imm SlotAs.pointee)
+      1,
+) ∷ []
 
 abbrev pub t14 : List.List Row.Entry
 t14 = (
   0,
   Rows.any-gone (Syntax.tyStruct (115 ∷ 116 ∷ 111 ∷ 114 ∷ 101 ∷ 58 ∷ 58 ∷ 72 ∷ 101 ∷ 108 ∷ 100 ∷ []) (Syntax.tcons (Syntax.tyInt Syntax.w8)
       (Syntax.tcons (Syntax.tyInt Syntax.w64) (Syntax.tcons (Syntax.tyInt Syntax.w64) (Syntax.tcons (Syntax.tyInt Syntax.w64) (Syntax.tcons (Syntax.tyInt
-      Syntax.w64) Syntax.tnil)))))),
+      Syntax.w64) (Syntax.tcons (Syntax.tyInt Syntax.w64) Syntax.tnil))))))),
 ) ∷ (
   1,
-  Rows.sslice (Referent.rtF (Referent.fInt Syntax.w8)) (Syntax.tyRef (Syntax.named 0) Syntax.imm (Syntax.tyInt
-      Syntax.w8)) 0,
-) ∷ (2, Rows.sslice SlotAs.row (Syntax.tyRef (Syntax.named 1) Syntax.imm SlotAs.pointee) 1) ∷ (3, Rows.whole (Declared.row Findings.the-type))
-    ∷ (4, Rows.sc-here (Row.sInt Syntax.w64)) ∷ (5, Rows.whole (Declared.row Tail.the-type)) ∷ (6, Rows.any-gone Syntax.tyBool) ∷ (
-      7,
-      Rows.any-gone
-          (Syntax.tyInt Syntax.w64),
-    ) ∷ (8, Rows.any-gone (Syntax.tyRef Syntax.erased Syntax.imm SlotAs.pointee)) ∷ (
-      9,
-      Rows.sslice SlotAs.row (Syntax.tyRef
-          Syntax.erased Syntax.imm SlotAs.pointee) 1,
-    ) ∷ []
+  Rows.sslice (Referent.rtF (Referent.fInt Syntax.w8)) (Syntax.tyRef
+      (Syntax.named 0) Syntax.imm (Syntax.tyInt Syntax.w8)) 0,
+) ∷ (2, Rows.sslice SlotAs.row (Syntax.tyRef (Syntax.named 1) Syntax.imm SlotAs.pointee) 1) ∷ (
+  3,
+  Rows.whole (Declared.row Findings.the-type),
+) ∷ (4, Rows.sc-here (Row.sInt Syntax.w64)) ∷ (5, Rows.whole (Declared.row Tail.the-type)) ∷ (
+  6,
+  Rows.any-gone
+      Syntax.tyBool,
+) ∷ (7, Rows.any-gone (Syntax.tyInt Syntax.w64)) ∷ (8, Rows.any-gone (Syntax.tyRef Syntax.erased Syntax.imm SlotAs.pointee)) ∷ (
+  9,
+  Rows.sslice
+      SlotAs.row (Syntax.tyRef Syntax.erased Syntax.imm SlotAs.pointee) 1,
+) ∷ []
 
 abbrev pub t15 : List.List Row.Entry
 t15 = (
   0,
   Rows.any-gone (Syntax.tyStruct (115 ∷ 116 ∷ 111 ∷ 114 ∷ 101 ∷ 58 ∷ 58 ∷ 72 ∷ 101 ∷ 108 ∷ 100 ∷ []) (Syntax.tcons (Syntax.tyInt Syntax.w8)
       (Syntax.tcons (Syntax.tyInt Syntax.w64) (Syntax.tcons (Syntax.tyInt Syntax.w64) (Syntax.tcons (Syntax.tyInt Syntax.w64) (Syntax.tcons (Syntax.tyInt
-      Syntax.w64) Syntax.tnil)))))),
+      Syntax.w64) (Syntax.tcons (Syntax.tyInt Syntax.w64) Syntax.tnil))))))),
 ) ∷ (
   1,
-  Rows.sslice (Referent.rtF (Referent.fInt Syntax.w8)) (Syntax.tyRef (Syntax.named 0) Syntax.imm (Syntax.tyInt
-      Syntax.w8)) 0,
-) ∷ (2, Rows.sslice SlotAs.row (Syntax.tyRef (Syntax.named 1) Syntax.imm SlotAs.pointee) 1) ∷ (3, Rows.whole (Declared.row Findings.the-type))
-    ∷ (4, Rows.sc-here (Row.sInt Syntax.w64)) ∷ (5, Rows.whole (Declared.row Tail.the-type)) ∷ (6, Rows.any-gone Syntax.tyBool) ∷ (
-      7,
-      Rows.any-gone
-          (Syntax.tyInt Syntax.w64),
-    ) ∷ (8, Rows.any-gone (Syntax.tyRef Syntax.erased Syntax.imm SlotAs.pointee)) ∷ (
-      9,
-      Rows.any-gone (Syntax.tyStruct (38 ∷ 91 ∷ 93 ∷
-          []) (Syntax.tcons (Syntax.tyRef Syntax.erased Syntax.imm SlotAs.pointee) (Syntax.tcons (Syntax.tyInt Syntax.w64) Syntax.tnil))),
-    ) ∷ []
+  Rows.sslice (Referent.rtF (Referent.fInt Syntax.w8)) (Syntax.tyRef
+      (Syntax.named 0) Syntax.imm (Syntax.tyInt Syntax.w8)) 0,
+) ∷ (2, Rows.sslice SlotAs.row (Syntax.tyRef (Syntax.named 1) Syntax.imm SlotAs.pointee) 1) ∷ (
+  3,
+  Rows.whole (Declared.row Findings.the-type),
+) ∷ (4, Rows.sc-here (Row.sInt Syntax.w64)) ∷ (5, Rows.whole (Declared.row Tail.the-type)) ∷ (
+  6,
+  Rows.any-gone
+      Syntax.tyBool,
+) ∷ (7, Rows.any-gone (Syntax.tyInt Syntax.w64)) ∷ (8, Rows.any-gone (Syntax.tyRef Syntax.erased Syntax.imm SlotAs.pointee)) ∷ (
+  9,
+  Rows.any-gone (Syntax.tyStruct (38 ∷ 91 ∷ 93 ∷ []) (Syntax.tcons (Syntax.tyRef Syntax.erased Syntax.imm SlotAs.pointee) (Syntax.tcons (Syntax.tyInt
+      Syntax.w64) Syntax.tnil))),
+) ∷ []
 
 abbrev pub t16 : List.List Row.Entry
 t16 = (
   0,
   Rows.any-gone (Syntax.tyStruct (115 ∷ 116 ∷ 111 ∷ 114 ∷ 101 ∷ 58 ∷ 58 ∷ 72 ∷ 101 ∷ 108 ∷ 100 ∷ []) (Syntax.tcons (Syntax.tyInt Syntax.w8)
       (Syntax.tcons (Syntax.tyInt Syntax.w64) (Syntax.tcons (Syntax.tyInt Syntax.w64) (Syntax.tcons (Syntax.tyInt Syntax.w64) (Syntax.tcons (Syntax.tyInt
-      Syntax.w64) Syntax.tnil)))))),
+      Syntax.w64) (Syntax.tcons (Syntax.tyInt Syntax.w64) Syntax.tnil))))))),
 ) ∷ (
   1,
-  Rows.sslice (Referent.rtF (Referent.fInt Syntax.w8)) (Syntax.tyRef (Syntax.named 0) Syntax.imm (Syntax.tyInt
-      Syntax.w8)) 0,
-) ∷ (2, Rows.sslice SlotAs.row (Syntax.tyRef (Syntax.named 1) Syntax.imm SlotAs.pointee) 1) ∷ (3, Rows.whole (Declared.row Findings.the-type))
-    ∷ (4, Rows.sc-here (Row.sInt Syntax.w64)) ∷ (5, Rows.whole (Declared.row Tail.the-type)) ∷ (6, Rows.sc-here Row.sBool) ∷ (
-      7,
-      Rows.any-gone (Syntax.tyInt
-          Syntax.w64),
-    ) ∷ (8, Rows.any-gone (Syntax.tyRef Syntax.erased Syntax.imm SlotAs.pointee)) ∷ (
-      9,
-      Rows.any-gone (Syntax.tyStruct (38 ∷ 91 ∷ 93 ∷ [])
-          (Syntax.tcons (Syntax.tyRef Syntax.erased Syntax.imm SlotAs.pointee) (Syntax.tcons (Syntax.tyInt Syntax.w64) Syntax.tnil))),
-    ) ∷ []
+  Rows.sslice (Referent.rtF (Referent.fInt Syntax.w8)) (Syntax.tyRef
+      (Syntax.named 0) Syntax.imm (Syntax.tyInt Syntax.w8)) 0,
+) ∷ (2, Rows.sslice SlotAs.row (Syntax.tyRef (Syntax.named 1) Syntax.imm SlotAs.pointee) 1) ∷ (
+  3,
+  Rows.whole (Declared.row Findings.the-type),
+) ∷ (4, Rows.sc-here (Row.sInt Syntax.w64)) ∷ (5, Rows.whole (Declared.row Tail.the-type)) ∷ (
+  6,
+  Rows.sc-here
+      Row.sBool,
+) ∷ (7, Rows.any-gone (Syntax.tyInt Syntax.w64)) ∷ (8, Rows.any-gone (Syntax.tyRef Syntax.erased Syntax.imm SlotAs.pointee)) ∷ (
+  9,
+  Rows.any-gone
+      (Syntax.tyStruct (38 ∷ 91 ∷ 93 ∷ []) (Syntax.tcons (Syntax.tyRef Syntax.erased Syntax.imm SlotAs.pointee) (Syntax.tcons (Syntax.tyInt Syntax.w64)
+      Syntax.tnil))),
+) ∷ []
 
 abbrev pub t17 : List.List Row.Entry
 t17 = (
   0,
   Rows.any-gone (Syntax.tyStruct (115 ∷ 116 ∷ 111 ∷ 114 ∷ 101 ∷ 58 ∷ 58 ∷ 72 ∷ 101 ∷ 108 ∷ 100 ∷ []) (Syntax.tcons (Syntax.tyInt Syntax.w8)
       (Syntax.tcons (Syntax.tyInt Syntax.w64) (Syntax.tcons (Syntax.tyInt Syntax.w64) (Syntax.tcons (Syntax.tyInt Syntax.w64) (Syntax.tcons (Syntax.tyInt
-      Syntax.w64) Syntax.tnil)))))),
+      Syntax.w64) (Syntax.tcons (Syntax.tyInt Syntax.w64) Syntax.tnil))))))),
 ) ∷ (
   1,
-  Rows.sslice (Referent.rtF (Referent.fInt Syntax.w8)) (Syntax.tyRef (Syntax.named 0) Syntax.imm (Syntax.tyInt
-      Syntax.w8)) 0,
+  Rows.sslice (Referent.rtF (Referent.fInt Syntax.w8)) (Syntax.tyRef
+      (Syntax.named 0) Syntax.imm (Syntax.tyInt Syntax.w8)) 0,
 ) ∷ (2, Rows.sslice SlotAs.row (Syntax.tyRef (Syntax.named 1) Syntax.imm SlotAs.pointee) 1) ∷ (
   3,
-  Rows.any-gone (Syntax.tyStruct (115 ∷ 116 ∷
-      111 ∷ 114 ∷ 101 ∷ 58 ∷ 58 ∷ 70 ∷ 105 ∷ 110 ∷ 100 ∷ 105 ∷ 110 ∷ 103 ∷ 115 ∷ []) (Syntax.tcons (Syntax.tyInt Syntax.w8) (Syntax.tcons (Syntax.tyInt
-      Syntax.w64) (Syntax.tcons Syntax.tyBool (Syntax.tcons (Syntax.tyInt Syntax.w64) (Syntax.tcons (Syntax.tyInt Syntax.w64) Syntax.tnil)))))),
+  Rows.any-gone (Syntax.tyStruct (115 ∷ 116 ∷ 111 ∷ 114 ∷ 101 ∷ 58 ∷ 58 ∷ 70 ∷ 105 ∷ 110 ∷ 100 ∷ 105 ∷ 110 ∷ 103 ∷ 115 ∷ []) (Syntax.tcons (Syntax.tyInt
+      Syntax.w8) (Syntax.tcons (Syntax.tyInt Syntax.w64) (Syntax.tcons Syntax.tyBool (Syntax.tcons (Syntax.tyInt Syntax.w64) (Syntax.tcons (Syntax.tyInt
+      Syntax.w64) (Syntax.tcons (Syntax.tyInt Syntax.w64) Syntax.tnil))))))),
+) ∷ (4, Rows.sc-here (Row.sInt Syntax.w64)) ∷ (
+  5,
+  Rows.whole (Declared.row
+      Tail.the-type),
+) ∷ (6, Rows.sc-here Row.sBool) ∷ (7, Rows.any-gone (Syntax.tyInt Syntax.w64)) ∷ (
+  8,
+  Rows.any-gone (Syntax.tyRef Syntax.erased Syntax.imm
+      SlotAs.pointee),
 ) ∷ (
-  4,
-  Rows.sc-here (Row.sInt Syntax.w64),
-) ∷ (5, Rows.whole (Declared.row Tail.the-type)) ∷ (6, Rows.sc-here Row.sBool) ∷ (
-  7,
-  Rows.any-gone (Syntax.tyInt
-      Syntax.w64),
-) ∷ (8, Rows.any-gone (Syntax.tyRef Syntax.erased Syntax.imm SlotAs.pointee)) ∷ (
   9,
-  Rows.any-gone (Syntax.tyStruct (38 ∷ 91 ∷ 93 ∷ [])
-      (Syntax.tcons (Syntax.tyRef Syntax.erased Syntax.imm SlotAs.pointee) (Syntax.tcons (Syntax.tyInt Syntax.w64) Syntax.tnil))),
+  Rows.any-gone (Syntax.tyStruct (38 ∷ 91 ∷ 93 ∷ []) (Syntax.tcons (Syntax.tyRef Syntax.erased Syntax.imm SlotAs.pointee)
+      (Syntax.tcons (Syntax.tyInt Syntax.w64) Syntax.tnil))),
 ) ∷ []
 
 abbrev pub t18 : List.List Row.Entry
@@ -870,14 +903,14 @@ t19 = (0, Rows.whole (Declared.row (Apart.apartT Held.the-type))) ∷ (
   Rows.any-gone
       (Syntax.tyStruct (115 ∷ 116 ∷ 111 ∷ 114 ∷ 101 ∷ 58 ∷ 58 ∷ 70 ∷ 105 ∷ 110 ∷ 100 ∷ 105 ∷ 110 ∷ 103 ∷ 115 ∷ []) (Syntax.tcons (Syntax.tyInt Syntax.w8)
       (Syntax.tcons (Syntax.tyInt Syntax.w64) (Syntax.tcons Syntax.tyBool (Syntax.tcons (Syntax.tyInt Syntax.w64) (Syntax.tcons (Syntax.tyInt Syntax.w64)
-      Syntax.tnil)))))),
-) ∷ (4, Rows.sc-here (Row.sInt Syntax.w64)) ∷ (5, Rows.whole (Declared.row Tail.the-type)) ∷ (6, Rows.any-gone Syntax.tyBool) ∷ (
-  7,
-  Rows.any-gone (Syntax.tyInt Syntax.w64),
-) ∷ (8, Rows.any-gone (Syntax.tyRef Syntax.erased Syntax.imm SlotAs.pointee)) ∷ (
+      (Syntax.tcons (Syntax.tyInt Syntax.w64) Syntax.tnil))))))),
+) ∷ (4, Rows.sc-here (Row.sInt Syntax.w64)) ∷ (5, Rows.whole (Declared.row Tail.the-type)) ∷ (
+  6,
+  Rows.any-gone Syntax.tyBool,
+) ∷ (7, Rows.any-gone (Syntax.tyInt Syntax.w64)) ∷ (8, Rows.any-gone (Syntax.tyRef Syntax.erased Syntax.imm SlotAs.pointee)) ∷ (
   9,
-  Rows.any-gone (Syntax.tyStruct
-      (38 ∷ 91 ∷ 93 ∷ []) (Syntax.tcons (Syntax.tyRef Syntax.erased Syntax.imm SlotAs.pointee) (Syntax.tcons (Syntax.tyInt Syntax.w64) Syntax.tnil))),
+  Rows.any-gone (Syntax.tyStruct (38 ∷ 91 ∷ 93 ∷ []) (Syntax.tcons (Syntax.tyRef Syntax.erased Syntax.imm SlotAs.pointee) (Syntax.tcons (Syntax.tyInt
+      Syntax.w64) Syntax.tnil))),
 ) ∷ []
 
 abbrev pub t20 : List.List Row.Entry
@@ -890,15 +923,14 @@ t20 = (0, Rows.whole (Declared.row (Apart.apartT Held.the-type))) ∷ (
   Rows.any-gone
       (Syntax.tyStruct (115 ∷ 116 ∷ 111 ∷ 114 ∷ 101 ∷ 58 ∷ 58 ∷ 70 ∷ 105 ∷ 110 ∷ 100 ∷ 105 ∷ 110 ∷ 103 ∷ 115 ∷ []) (Syntax.tcons (Syntax.tyInt Syntax.w8)
       (Syntax.tcons (Syntax.tyInt Syntax.w64) (Syntax.tcons Syntax.tyBool (Syntax.tcons (Syntax.tyInt Syntax.w64) (Syntax.tcons (Syntax.tyInt Syntax.w64)
-      Syntax.tnil)))))),
-) ∷ (4, Rows.any-gone (Syntax.tyInt Syntax.w64)) ∷ (5, Rows.whole (Declared.row Tail.the-type)) ∷ (6, Rows.any-gone Syntax.tyBool) ∷ (
-  7,
-  Rows.any-gone (Syntax.tyInt Syntax.w64),
-) ∷ (8, Rows.any-gone (Syntax.tyRef Syntax.erased Syntax.imm SlotAs.pointee)) ∷ (
-  9,
-  Rows.any-gone (Syntax.tyStruct
-      (38 ∷ 91 ∷ 93 ∷ []) (Syntax.tcons (Syntax.tyRef Syntax.erased Syntax.imm SlotAs.pointee) (Syntax.tcons (Syntax.tyInt Syntax.w64) Syntax.tnil))),
-) ∷ []
+      (Syntax.tcons (Syntax.tyInt Syntax.w64) Syntax.tnil))))))),
+) ∷ (4, Rows.any-gone (Syntax.tyInt Syntax.w64)) ∷ (5, Rows.whole (Declared.row Tail.the-type)) ∷
+    (6, Rows.any-gone Syntax.tyBool) ∷ (7, Rows.any-gone (Syntax.tyInt Syntax.w64)) ∷ (8, Rows.any-gone (Syntax.tyRef Syntax.erased Syntax.imm SlotAs.pointee))
+    ∷ (
+      9,
+      Rows.any-gone (Syntax.tyStruct (38 ∷ 91 ∷ 93 ∷ []) (Syntax.tcons (Syntax.tyRef Syntax.erased Syntax.imm SlotAs.pointee) (Syntax.tcons (Syntax.tyInt
+          Syntax.w64) Syntax.tnil))),
+    ) ∷ []
 
 abbrev pub t21 : List.List Row.Entry
 t21 = (0, Rows.whole (Declared.row (Apart.apartT Held.the-type))) ∷ (
@@ -910,24 +942,25 @@ t21 = (0, Rows.whole (Declared.row (Apart.apartT Held.the-type))) ∷ (
   Rows.any-gone
       (Syntax.tyStruct (115 ∷ 116 ∷ 111 ∷ 114 ∷ 101 ∷ 58 ∷ 58 ∷ 70 ∷ 105 ∷ 110 ∷ 100 ∷ 105 ∷ 110 ∷ 103 ∷ 115 ∷ []) (Syntax.tcons (Syntax.tyInt Syntax.w8)
       (Syntax.tcons (Syntax.tyInt Syntax.w64) (Syntax.tcons Syntax.tyBool (Syntax.tcons (Syntax.tyInt Syntax.w64) (Syntax.tcons (Syntax.tyInt Syntax.w64)
-      Syntax.tnil)))))),
+      (Syntax.tcons (Syntax.tyInt Syntax.w64) Syntax.tnil))))))),
 ) ∷ (4, Rows.any-gone (Syntax.tyInt Syntax.w64)) ∷ (
   5,
-  Rows.any-gone (Syntax.tyStruct (102 ∷ 114 ∷ 97 ∷ 103 ∷ 109 ∷ 101 ∷ 110 ∷ 116 ∷ 115
-      ∷ 58 ∷ 58 ∷ 84 ∷ 97 ∷ 105 ∷ 108 ∷ []) (Syntax.tcons Syntax.tyBool (Syntax.tcons Syntax.tyBool (Syntax.tcons (Syntax.tyStruct (114 ∷ 101 ∷ 115 ∷ 105 ∷ 100 ∷
-      117 ∷ 101 ∷ 58 ∷ 58 ∷ 82 ∷ 101 ∷ 115 ∷ 105 ∷ 100 ∷ 117 ∷ 101 ∷ []) (Syntax.tcons (Syntax.tyStruct (110 ∷ 97 ∷ 109 ∷ 101 ∷ 115 ∷ 58 ∷ 58 ∷ 84 ∷ 104 ∷ 114 ∷
-      101 ∷ 101 ∷ []) (Syntax.tcons (Syntax.tyInt Syntax.w8) (Syntax.tcons (Syntax.tyInt Syntax.w8) (Syntax.tcons (Syntax.tyInt Syntax.w8) Syntax.tnil))))
-      (Syntax.tcons (Syntax.tyInt Syntax.w8) (Syntax.tcons (Syntax.tyStruct (102 ∷ 105 ∷ 101 ∷ 108 ∷ 100 ∷ 115 ∷ 58 ∷ 58 ∷ 82 ∷ 101 ∷ 115 ∷ 105 ∷ 100 ∷ 117 ∷ 101
-      ∷ 78 ∷ 117 ∷ 109 ∷ 98 ∷ 101 ∷ 114 ∷ []) (Syntax.tcons (Syntax.tyInt Syntax.w32) Syntax.tnil)) (Syntax.tcons (Syntax.tyInt Syntax.w8) Syntax.tnil)))))
-      (Syntax.tcons (Syntax.tyInt Syntax.w8) (Syntax.tcons (Syntax.tyInt Syntax.w64) (Syntax.tcons Syntax.tyBool Syntax.tnil))))))),
-) ∷ (
-  6,
+  Rows.any-gone (Syntax.tyStruct (102 ∷ 114
+      ∷ 97 ∷ 103 ∷ 109 ∷ 101 ∷ 110 ∷ 116 ∷ 115 ∷ 58 ∷ 58 ∷ 84 ∷ 97 ∷ 105 ∷ 108 ∷ []) (Syntax.tcons Syntax.tyBool (Syntax.tcons Syntax.tyBool (Syntax.tcons
+      (Syntax.tyInt Syntax.w32) (Syntax.tcons (Syntax.tyStruct (114 ∷ 101 ∷ 115 ∷ 105 ∷ 100 ∷ 117 ∷ 101 ∷ 58 ∷ 58 ∷ 82 ∷ 101 ∷ 115 ∷ 105 ∷ 100 ∷ 117 ∷ 101 ∷ [])
+      (Syntax.tcons (Syntax.tyStruct (110 ∷ 97 ∷ 109 ∷ 101 ∷ 115 ∷ 58 ∷ 58 ∷ 84 ∷ 104 ∷ 114 ∷ 101 ∷ 101 ∷ []) (Syntax.tcons (Syntax.tyInt Syntax.w8)
+      (Syntax.tcons (Syntax.tyInt Syntax.w8) (Syntax.tcons (Syntax.tyInt Syntax.w8) Syntax.tnil)))) (Syntax.tcons (Syntax.tyInt Syntax.w8) (Syntax.tcons
+      (Syntax.tyStruct (102 ∷ 105 ∷ 101 ∷ 108 ∷ 100 ∷ 115 ∷ 58 ∷ 58 ∷ 82 ∷ 101 ∷ 115 ∷ 105 ∷ 100 ∷ 117 ∷ 101 ∷ 78 ∷ 117 ∷ 109 ∷ 98 ∷ 101 ∷ 114 ∷ [])
+      (Syntax.tcons (Syntax.tyInt Syntax.w32) Syntax.tnil)) (Syntax.tcons (Syntax.tyInt Syntax.w8) Syntax.tnil))))) (Syntax.tcons (Syntax.tyInt Syntax.w8)
+      (Syntax.tcons (Syntax.tyInt Syntax.w64) (Syntax.tcons Syntax.tyBool Syntax.tnil)))))))),
+) ∷ (6, Rows.any-gone Syntax.tyBool) ∷ (
+  7,
   Rows.any-gone
-      Syntax.tyBool,
-) ∷ (7, Rows.any-gone (Syntax.tyInt Syntax.w64)) ∷ (8, Rows.any-gone (Syntax.tyRef Syntax.erased Syntax.imm SlotAs.pointee)) ∷ (
+      (Syntax.tyInt Syntax.w64),
+) ∷ (8, Rows.any-gone (Syntax.tyRef Syntax.erased Syntax.imm SlotAs.pointee)) ∷ (
   9,
-  Rows.any-gone (Syntax.tyStruct (38 ∷ 91 ∷ 93 ∷ []) (Syntax.tcons (Syntax.tyRef Syntax.erased Syntax.imm SlotAs.pointee) (Syntax.tcons (Syntax.tyInt
-      Syntax.w64) Syntax.tnil))),
+  Rows.any-gone (Syntax.tyStruct (38 ∷ 91 ∷ 93 ∷
+      []) (Syntax.tcons (Syntax.tyRef Syntax.erased Syntax.imm SlotAs.pointee) (Syntax.tcons (Syntax.tyInt Syntax.w64) Syntax.tnil))),
 ) ∷ []
 
 abbrev pub T0 : Row.Cx
@@ -1101,7 +1134,8 @@ module _ (claims· : Claims) where
     (record { pos = 2; ty = Syntax.tyRef (Syntax.named 1) Syntax.imm SlotAs.pointee; ref = λ x. x }, tt),
   ) 3 (0 ∷ 1 ∷ []) (Syntax.tyStruct (115 ∷ 116 ∷
       111 ∷ 114 ∷ 101 ∷ 58 ∷ 58 ∷ 70 ∷ 105 ∷ 110 ∷ 100 ∷ 105 ∷ 110 ∷ 103 ∷ 115 ∷ []) (Syntax.tcons (Syntax.tyInt Syntax.w8) (Syntax.tcons (Syntax.tyInt
-      Syntax.w64) (Syntax.tcons Syntax.tyBool (Syntax.tcons (Syntax.tyInt Syntax.w64) (Syntax.tcons (Syntax.tyInt Syntax.w64) Syntax.tnil))))))
+      Syntax.w64) (Syntax.tcons Syntax.tyBool (Syntax.tcons (Syntax.tyInt Syntax.w64) (Syntax.tcons (Syntax.tyInt Syntax.w64) (Syntax.tcons (Syntax.tyInt
+      Syntax.w64) Syntax.tnil)))))))
 
   abbrev s2 : Typed.Gives T3 T4
   s2 = Know'.k-struct-known Findings.the-type Laws'.the-laws T3 3 λ x. x
@@ -1116,12 +1150,13 @@ module _ (claims· : Claims) where
   abbrev s5 : Typed.Both T7 T8
   s5 = Call.callB ps·1 r·1 (claims· .2) (claims· .3) T7 (Num.vFld 3 (Syntax.field 0 ∷ []) 0 λ x. Findings.struct .as-values x .0, tt) 0 []
       (Syntax.tyStruct (115 ∷ 116 ∷ 111 ∷ 114 ∷ 101 ∷ 58 ∷ 58 ∷ 72 ∷ 101 ∷ 108 ∷ 100 ∷ []) (Syntax.tcons (Syntax.tyInt Syntax.w8) (Syntax.tcons (Syntax.tyInt
-      Syntax.w64) (Syntax.tcons (Syntax.tyInt Syntax.w64) (Syntax.tcons (Syntax.tyInt Syntax.w64) (Syntax.tcons (Syntax.tyInt Syntax.w64) Syntax.tnil))))))
+      Syntax.w64) (Syntax.tcons (Syntax.tyInt Syntax.w64) (Syntax.tcons (Syntax.tyInt Syntax.w64) (Syntax.tcons (Syntax.tyInt Syntax.w64) (Syntax.tcons
+      (Syntax.tyInt Syntax.w64) Syntax.tnil)))))))
 
   abbrev s6 : Typed.Mo T8 → Typed.Mo T9
   s6 = Scalar.n-room T8 3 (Syntax.tyStruct (115 ∷ 116 ∷ 111 ∷ 114 ∷ 101 ∷ 58 ∷ 58 ∷ 70 ∷ 105 ∷ 110 ∷ 100 ∷ 105 ∷ 110 ∷ 103 ∷ 115 ∷ []) (Syntax.tcons
       (Syntax.tyInt Syntax.w8) (Syntax.tcons (Syntax.tyInt Syntax.w64) (Syntax.tcons Syntax.tyBool (Syntax.tcons (Syntax.tyInt Syntax.w64) (Syntax.tcons
-      (Syntax.tyInt Syntax.w64) Syntax.tnil))))))
+      (Syntax.tyInt Syntax.w64) (Syntax.tcons (Syntax.tyInt Syntax.w64) Syntax.tnil)))))))
 
   abbrev s7 : Typed.Mo T5 → Typed.Mo T10
   s7 = Scalar.n-room T5 6 Syntax.tyBool
@@ -1144,7 +1179,7 @@ module _ (claims· : Claims) where
   abbrev s12 : Typed.Mo T15 → Typed.Mo T16
   s12 = Scalar.n-room T15 3 (Syntax.tyStruct (115 ∷ 116 ∷ 111 ∷ 114 ∷ 101 ∷ 58 ∷ 58 ∷ 70 ∷ 105 ∷ 110 ∷ 100 ∷ 105 ∷ 110 ∷ 103 ∷ 115 ∷ []) (Syntax.tcons
       (Syntax.tyInt Syntax.w8) (Syntax.tcons (Syntax.tyInt Syntax.w64) (Syntax.tcons Syntax.tyBool (Syntax.tcons (Syntax.tyInt Syntax.w64) (Syntax.tcons
-      (Syntax.tyInt Syntax.w64) Syntax.tnil))))))
+      (Syntax.tyInt Syntax.w64) (Syntax.tcons (Syntax.tyInt Syntax.w64) Syntax.tnil)))))))
 
   abbrev s13 : Typed.Mo T16 → Typed.Mo T17
   s13 = Scalar.n-room T16 6 Syntax.tyBool
@@ -1152,7 +1187,7 @@ module _ (claims· : Claims) where
   abbrev s14 : Typed.Both T17 T18
   s14 = Call.callB ps·1 r·1 (claims· .2) (claims· .3) T17 (Num.vLit 13, tt) 0 [] (Syntax.tyStruct (115 ∷ 116 ∷ 111 ∷ 114 ∷ 101 ∷ 58 ∷ 58 ∷ 72 ∷ 101 ∷ 108
       ∷ 100 ∷ []) (Syntax.tcons (Syntax.tyInt Syntax.w8) (Syntax.tcons (Syntax.tyInt Syntax.w64) (Syntax.tcons (Syntax.tyInt Syntax.w64) (Syntax.tcons
-      (Syntax.tyInt Syntax.w64) (Syntax.tcons (Syntax.tyInt Syntax.w64) Syntax.tnil))))))
+      (Syntax.tyInt Syntax.w64) (Syntax.tcons (Syntax.tyInt Syntax.w64) (Syntax.tcons (Syntax.tyInt Syntax.w64) Syntax.tnil)))))))
 
   abbrev s15 : Typed.Mo T18 → Typed.Mo T19
   s15 = Scalar.n-room T18 4 (Syntax.tyInt Syntax.w64)
@@ -1170,7 +1205,7 @@ module _ (claims· : Claims) where
   abbrev s19 : Typed.Mo T22 → Typed.Mo T24
   s19 = Scalar.n-room T22 3 (Syntax.tyStruct (115 ∷ 116 ∷ 111 ∷ 114 ∷ 101 ∷ 58 ∷ 58 ∷ 70 ∷ 105 ∷ 110 ∷ 100 ∷ 105 ∷ 110 ∷ 103 ∷ 115 ∷ []) (Syntax.tcons
       (Syntax.tyInt Syntax.w8) (Syntax.tcons (Syntax.tyInt Syntax.w64) (Syntax.tcons Syntax.tyBool (Syntax.tcons (Syntax.tyInt Syntax.w64) (Syntax.tcons
-      (Syntax.tyInt Syntax.w64) Syntax.tnil))))))
+      (Syntax.tyInt Syntax.w64) (Syntax.tcons (Syntax.tyInt Syntax.w64) Syntax.tnil)))))))
 
   abbrev s20 : Typed.Mo T24 → Typed.Mo T25
   s20 = Scalar.n-room T24 6 Syntax.tyBool
@@ -1178,7 +1213,7 @@ module _ (claims· : Claims) where
   abbrev s21 : Typed.Both T25 T26
   s21 = Call.callB ps·1 r·1 (claims· .2) (claims· .3) T25 (Num.vLit 18, tt) 0 [] (Syntax.tyStruct (115 ∷ 116 ∷ 111 ∷ 114 ∷ 101 ∷ 58 ∷ 58 ∷ 72 ∷ 101 ∷ 108
       ∷ 100 ∷ []) (Syntax.tcons (Syntax.tyInt Syntax.w8) (Syntax.tcons (Syntax.tyInt Syntax.w64) (Syntax.tcons (Syntax.tyInt Syntax.w64) (Syntax.tcons
-      (Syntax.tyInt Syntax.w64) (Syntax.tcons (Syntax.tyInt Syntax.w64) Syntax.tnil))))))
+      (Syntax.tyInt Syntax.w64) (Syntax.tcons (Syntax.tyInt Syntax.w64) (Syntax.tcons (Syntax.tyInt Syntax.w64) Syntax.tnil)))))))
 
   abbrev s22 : Typed.Mo T26 → Typed.Mo T27
   s22 = Scalar.n-room T26 4 (Syntax.tyInt Syntax.w64)
@@ -1197,12 +1232,12 @@ module _ (claims· : Claims) where
   abbrev s26 : Typed.Both T30 T31
   s26 = Call.callB ps·2 r·2 (claims· .4) (claims· .5) T30 (record { pos = 9; ty = Syntax.tyRef Syntax.erased Syntax.imm SlotAs.pointee; ref = λ x. x }, tt) 5
       (1 ∷ []) (Syntax.tyStruct (102 ∷ 114 ∷ 97 ∷ 103 ∷ 109 ∷ 101 ∷ 110 ∷ 116 ∷ 115 ∷ 58 ∷ 58 ∷ 84 ∷ 97 ∷ 105 ∷ 108 ∷ []) (Syntax.tcons Syntax.tyBool
-      (Syntax.tcons Syntax.tyBool (Syntax.tcons (Syntax.tyStruct (114 ∷ 101 ∷ 115 ∷ 105 ∷ 100 ∷ 117 ∷ 101 ∷ 58 ∷ 58 ∷ 82 ∷ 101 ∷ 115 ∷ 105 ∷ 100 ∷ 117 ∷ 101 ∷
-      []) (Syntax.tcons (Syntax.tyStruct (110 ∷ 97 ∷ 109 ∷ 101 ∷ 115 ∷ 58 ∷ 58 ∷ 84 ∷ 104 ∷ 114 ∷ 101 ∷ 101 ∷ []) (Syntax.tcons (Syntax.tyInt Syntax.w8)
-      (Syntax.tcons (Syntax.tyInt Syntax.w8) (Syntax.tcons (Syntax.tyInt Syntax.w8) Syntax.tnil)))) (Syntax.tcons (Syntax.tyInt Syntax.w8) (Syntax.tcons
-      (Syntax.tyStruct (102 ∷ 105 ∷ 101 ∷ 108 ∷ 100 ∷ 115 ∷ 58 ∷ 58 ∷ 82 ∷ 101 ∷ 115 ∷ 105 ∷ 100 ∷ 117 ∷ 101 ∷ 78 ∷ 117 ∷ 109 ∷ 98 ∷ 101 ∷ 114 ∷ [])
-      (Syntax.tcons (Syntax.tyInt Syntax.w32) Syntax.tnil)) (Syntax.tcons (Syntax.tyInt Syntax.w8) Syntax.tnil))))) (Syntax.tcons (Syntax.tyInt Syntax.w8)
-      (Syntax.tcons (Syntax.tyInt Syntax.w64) (Syntax.tcons Syntax.tyBool Syntax.tnil)))))))
+      (Syntax.tcons Syntax.tyBool (Syntax.tcons (Syntax.tyInt Syntax.w32) (Syntax.tcons (Syntax.tyStruct (114 ∷ 101 ∷ 115 ∷ 105 ∷ 100 ∷ 117 ∷ 101 ∷ 58 ∷ 58 ∷
+      82 ∷ 101 ∷ 115 ∷ 105 ∷ 100 ∷ 117 ∷ 101 ∷ []) (Syntax.tcons (Syntax.tyStruct (110 ∷ 97 ∷ 109 ∷ 101 ∷ 115 ∷ 58 ∷ 58 ∷ 84 ∷ 104 ∷ 114 ∷ 101 ∷ 101 ∷ [])
+      (Syntax.tcons (Syntax.tyInt Syntax.w8) (Syntax.tcons (Syntax.tyInt Syntax.w8) (Syntax.tcons (Syntax.tyInt Syntax.w8) Syntax.tnil)))) (Syntax.tcons
+      (Syntax.tyInt Syntax.w8) (Syntax.tcons (Syntax.tyStruct (102 ∷ 105 ∷ 101 ∷ 108 ∷ 100 ∷ 115 ∷ 58 ∷ 58 ∷ 82 ∷ 101 ∷ 115 ∷ 105 ∷ 100 ∷ 117 ∷ 101 ∷ 78 ∷ 117
+      ∷ 109 ∷ 98 ∷ 101 ∷ 114 ∷ []) (Syntax.tcons (Syntax.tyInt Syntax.w32) Syntax.tnil)) (Syntax.tcons (Syntax.tyInt Syntax.w8) Syntax.tnil))))) (Syntax.tcons
+      (Syntax.tyInt Syntax.w8) (Syntax.tcons (Syntax.tyInt Syntax.w64) (Syntax.tcons Syntax.tyBool Syntax.tnil))))))))
 
   abbrev s27 : Typed.Mo T31 → Typed.Mo T32
   s27 = Scalar.n-room T31 9 (Syntax.tyStruct (38 ∷ 91 ∷ 93 ∷ []) (Syntax.tcons (Syntax.tyRef Syntax.erased Syntax.imm SlotAs.pointee) (Syntax.tcons
@@ -1212,22 +1247,22 @@ module _ (claims· : Claims) where
   s28 = Know'.k-struct-known Tail.the-type Laws.the-laws T32 5 λ x. x
 
   abbrev s29 : Typed.Asks T33 T34
-  s29 = Scalar.k-op1 T33 Syntax.bitNot (Scalar.oFld 5 (Syntax.field 5 ∷ []) Syntax.tyBool 32 (Reads.fieldV Tail.the-type Laws.the-laws 5)) 6 (Rows.sc-here
+  s29 = Scalar.k-op1 T33 Syntax.bitNot (Scalar.oFld 5 (Syntax.field 6 ∷ []) Syntax.tyBool 32 (Reads.fieldV Tail.the-type Laws.the-laws 6)) 6 (Rows.sc-here
       Row.sBool) (Row.sBool .of)
 
   abbrev s30 : Typed.Mo T34 → Typed.Mo T36
   s30 = Scalar.n-room T34 3 (Syntax.tyStruct (115 ∷ 116 ∷ 111 ∷ 114 ∷ 101 ∷ 58 ∷ 58 ∷ 70 ∷ 105 ∷ 110 ∷ 100 ∷ 105 ∷ 110 ∷ 103 ∷ 115 ∷ []) (Syntax.tcons
       (Syntax.tyInt Syntax.w8) (Syntax.tcons (Syntax.tyInt Syntax.w64) (Syntax.tcons Syntax.tyBool (Syntax.tcons (Syntax.tyInt Syntax.w64) (Syntax.tcons
-      (Syntax.tyInt Syntax.w64) Syntax.tnil))))))
+      (Syntax.tyInt Syntax.w64) (Syntax.tcons (Syntax.tyInt Syntax.w64) Syntax.tnil)))))))
 
   abbrev s31 : Typed.Mo T36 → Typed.Mo T37
   s31 = Scalar.n-room T36 5 (Syntax.tyStruct (102 ∷ 114 ∷ 97 ∷ 103 ∷ 109 ∷ 101 ∷ 110 ∷ 116 ∷ 115 ∷ 58 ∷ 58 ∷ 84 ∷ 97 ∷ 105 ∷ 108 ∷ []) (Syntax.tcons
-      Syntax.tyBool (Syntax.tcons Syntax.tyBool (Syntax.tcons (Syntax.tyStruct (114 ∷ 101 ∷ 115 ∷ 105 ∷ 100 ∷ 117 ∷ 101 ∷ 58 ∷ 58 ∷ 82 ∷ 101 ∷ 115 ∷ 105 ∷ 100
-      ∷ 117 ∷ 101 ∷ []) (Syntax.tcons (Syntax.tyStruct (110 ∷ 97 ∷ 109 ∷ 101 ∷ 115 ∷ 58 ∷ 58 ∷ 84 ∷ 104 ∷ 114 ∷ 101 ∷ 101 ∷ []) (Syntax.tcons (Syntax.tyInt
-      Syntax.w8) (Syntax.tcons (Syntax.tyInt Syntax.w8) (Syntax.tcons (Syntax.tyInt Syntax.w8) Syntax.tnil)))) (Syntax.tcons (Syntax.tyInt Syntax.w8)
-      (Syntax.tcons (Syntax.tyStruct (102 ∷ 105 ∷ 101 ∷ 108 ∷ 100 ∷ 115 ∷ 58 ∷ 58 ∷ 82 ∷ 101 ∷ 115 ∷ 105 ∷ 100 ∷ 117 ∷ 101 ∷ 78 ∷ 117 ∷ 109 ∷ 98 ∷ 101 ∷ 114 ∷
-      []) (Syntax.tcons (Syntax.tyInt Syntax.w32) Syntax.tnil)) (Syntax.tcons (Syntax.tyInt Syntax.w8) Syntax.tnil))))) (Syntax.tcons (Syntax.tyInt Syntax.w8)
-      (Syntax.tcons (Syntax.tyInt Syntax.w64) (Syntax.tcons Syntax.tyBool Syntax.tnil)))))))
+      Syntax.tyBool (Syntax.tcons Syntax.tyBool (Syntax.tcons (Syntax.tyInt Syntax.w32) (Syntax.tcons (Syntax.tyStruct (114 ∷ 101 ∷ 115 ∷ 105 ∷ 100 ∷ 117 ∷ 101
+      ∷ 58 ∷ 58 ∷ 82 ∷ 101 ∷ 115 ∷ 105 ∷ 100 ∷ 117 ∷ 101 ∷ []) (Syntax.tcons (Syntax.tyStruct (110 ∷ 97 ∷ 109 ∷ 101 ∷ 115 ∷ 58 ∷ 58 ∷ 84 ∷ 104 ∷ 114 ∷ 101 ∷
+      101 ∷ []) (Syntax.tcons (Syntax.tyInt Syntax.w8) (Syntax.tcons (Syntax.tyInt Syntax.w8) (Syntax.tcons (Syntax.tyInt Syntax.w8) Syntax.tnil))))
+      (Syntax.tcons (Syntax.tyInt Syntax.w8) (Syntax.tcons (Syntax.tyStruct (102 ∷ 105 ∷ 101 ∷ 108 ∷ 100 ∷ 115 ∷ 58 ∷ 58 ∷ 82 ∷ 101 ∷ 115 ∷ 105 ∷ 100 ∷ 117 ∷
+      101 ∷ 78 ∷ 117 ∷ 109 ∷ 98 ∷ 101 ∷ 114 ∷ []) (Syntax.tcons (Syntax.tyInt Syntax.w32) Syntax.tnil)) (Syntax.tcons (Syntax.tyInt Syntax.w8) Syntax.tnil)))))
+      (Syntax.tcons (Syntax.tyInt Syntax.w8) (Syntax.tcons (Syntax.tyInt Syntax.w64) (Syntax.tcons Syntax.tyBool Syntax.tnil))))))))
 
   abbrev s32 : Typed.Mo T37 → Typed.Mo T38
   s32 = Scalar.n-room T37 6 Syntax.tyBool
@@ -1235,7 +1270,7 @@ module _ (claims· : Claims) where
   abbrev s33 : Typed.Both T38 T39
   s33 = Call.callB ps·1 r·1 (claims· .2) (claims· .3) T38 (Num.vLit 18, tt) 0 [] (Syntax.tyStruct (115 ∷ 116 ∷ 111 ∷ 114 ∷ 101 ∷ 58 ∷ 58 ∷ 72 ∷ 101 ∷ 108
       ∷ 100 ∷ []) (Syntax.tcons (Syntax.tyInt Syntax.w8) (Syntax.tcons (Syntax.tyInt Syntax.w64) (Syntax.tcons (Syntax.tyInt Syntax.w64) (Syntax.tcons
-      (Syntax.tyInt Syntax.w64) (Syntax.tcons (Syntax.tyInt Syntax.w64) Syntax.tnil))))))
+      (Syntax.tyInt Syntax.w64) (Syntax.tcons (Syntax.tyInt Syntax.w64) (Syntax.tcons (Syntax.tyInt Syntax.w64) Syntax.tnil)))))))
 
   abbrev s34 : Typed.Mo T39 → Typed.Mo T40
   s34 = Scalar.n-room T39 4 (Syntax.tyInt Syntax.w64)
@@ -1249,8 +1284,18 @@ module _ (claims· : Claims) where
     (
       m .1 .1 .1 .1 .0,
       (
-        Tail.struct .as-values (m .1 .1 .1 .1 .1 .0) .1 .1 .1 .1 .0,
-        (Findings.struct .as-values (m .1 .1 .1 .0) .1 .1 .1 .0, (Findings.struct .as-values (m .1 .1 .1 .0) .1 .1 .1 .1 .0, tt)),
+        Tail.struct .as-values (m .1 .1 .1 .1 .1 .0) .1 .1 .1 .1 .1 .0,
+        (
+          Findings.struct .as-values (m .1 .1 .1 .0) .1 .1 .1 .0,
+          (
+            Findings.struct .as-values (m .1 .1 .1 .0) .1 .1 .1 .1 .0,
+            (
+              Findings.struct .as-values (m .1 .1
+                  .1 .0) .1 .1 .1 .1 .1 .0,
+              tt,
+            ),
+          ),
+        ),
       ),
     ),
   )
@@ -1258,19 +1303,19 @@ module _ (claims· : Claims) where
   abbrev s37 : Typed.Mo T42 → Typed.Mo T43
   s37 = Scalar.n-room T42 3 (Syntax.tyStruct (115 ∷ 116 ∷ 111 ∷ 114 ∷ 101 ∷ 58 ∷ 58 ∷ 70 ∷ 105 ∷ 110 ∷ 100 ∷ 105 ∷ 110 ∷ 103 ∷ 115 ∷ []) (Syntax.tcons
       (Syntax.tyInt Syntax.w8) (Syntax.tcons (Syntax.tyInt Syntax.w64) (Syntax.tcons Syntax.tyBool (Syntax.tcons (Syntax.tyInt Syntax.w64) (Syntax.tcons
-      (Syntax.tyInt Syntax.w64) Syntax.tnil))))))
+      (Syntax.tyInt Syntax.w64) (Syntax.tcons (Syntax.tyInt Syntax.w64) Syntax.tnil)))))))
 
   abbrev s38 : Typed.Mo T43 → Typed.Mo T44
   s38 = Scalar.n-room T43 4 (Syntax.tyInt Syntax.w64)
 
   abbrev s39 : Typed.Mo T44 → Typed.Mo T45
   s39 = Scalar.n-room T44 5 (Syntax.tyStruct (102 ∷ 114 ∷ 97 ∷ 103 ∷ 109 ∷ 101 ∷ 110 ∷ 116 ∷ 115 ∷ 58 ∷ 58 ∷ 84 ∷ 97 ∷ 105 ∷ 108 ∷ []) (Syntax.tcons
-      Syntax.tyBool (Syntax.tcons Syntax.tyBool (Syntax.tcons (Syntax.tyStruct (114 ∷ 101 ∷ 115 ∷ 105 ∷ 100 ∷ 117 ∷ 101 ∷ 58 ∷ 58 ∷ 82 ∷ 101 ∷ 115 ∷ 105 ∷ 100
-      ∷ 117 ∷ 101 ∷ []) (Syntax.tcons (Syntax.tyStruct (110 ∷ 97 ∷ 109 ∷ 101 ∷ 115 ∷ 58 ∷ 58 ∷ 84 ∷ 104 ∷ 114 ∷ 101 ∷ 101 ∷ []) (Syntax.tcons (Syntax.tyInt
-      Syntax.w8) (Syntax.tcons (Syntax.tyInt Syntax.w8) (Syntax.tcons (Syntax.tyInt Syntax.w8) Syntax.tnil)))) (Syntax.tcons (Syntax.tyInt Syntax.w8)
-      (Syntax.tcons (Syntax.tyStruct (102 ∷ 105 ∷ 101 ∷ 108 ∷ 100 ∷ 115 ∷ 58 ∷ 58 ∷ 82 ∷ 101 ∷ 115 ∷ 105 ∷ 100 ∷ 117 ∷ 101 ∷ 78 ∷ 117 ∷ 109 ∷ 98 ∷ 101 ∷ 114 ∷
-      []) (Syntax.tcons (Syntax.tyInt Syntax.w32) Syntax.tnil)) (Syntax.tcons (Syntax.tyInt Syntax.w8) Syntax.tnil))))) (Syntax.tcons (Syntax.tyInt Syntax.w8)
-      (Syntax.tcons (Syntax.tyInt Syntax.w64) (Syntax.tcons Syntax.tyBool Syntax.tnil)))))))
+      Syntax.tyBool (Syntax.tcons Syntax.tyBool (Syntax.tcons (Syntax.tyInt Syntax.w32) (Syntax.tcons (Syntax.tyStruct (114 ∷ 101 ∷ 115 ∷ 105 ∷ 100 ∷ 117 ∷ 101
+      ∷ 58 ∷ 58 ∷ 82 ∷ 101 ∷ 115 ∷ 105 ∷ 100 ∷ 117 ∷ 101 ∷ []) (Syntax.tcons (Syntax.tyStruct (110 ∷ 97 ∷ 109 ∷ 101 ∷ 115 ∷ 58 ∷ 58 ∷ 84 ∷ 104 ∷ 114 ∷ 101 ∷
+      101 ∷ []) (Syntax.tcons (Syntax.tyInt Syntax.w8) (Syntax.tcons (Syntax.tyInt Syntax.w8) (Syntax.tcons (Syntax.tyInt Syntax.w8) Syntax.tnil))))
+      (Syntax.tcons (Syntax.tyInt Syntax.w8) (Syntax.tcons (Syntax.tyStruct (102 ∷ 105 ∷ 101 ∷ 108 ∷ 100 ∷ 115 ∷ 58 ∷ 58 ∷ 82 ∷ 101 ∷ 115 ∷ 105 ∷ 100 ∷ 117 ∷
+      101 ∷ 78 ∷ 117 ∷ 109 ∷ 98 ∷ 101 ∷ 114 ∷ []) (Syntax.tcons (Syntax.tyInt Syntax.w32) Syntax.tnil)) (Syntax.tcons (Syntax.tyInt Syntax.w8) Syntax.tnil)))))
+      (Syntax.tcons (Syntax.tyInt Syntax.w8) (Syntax.tcons (Syntax.tyInt Syntax.w64) (Syntax.tcons Syntax.tyBool Syntax.tnil))))))))
 
   abbrev s40 : Typed.Mo T45 → Typed.Mo T46
   s40 = AtSlots.n-as-by T45 0 (Rows.whole (Declared.row Held.the-type)) λ v. Held.struct .make v tt
@@ -1635,10 +1680,11 @@ module _ (claims· : Claims) where
             d1 : Typed.Typed 𝓤 H A 𝓣 E G8 b3 Δ1 at1
             d1 = Typed.g-pre 𝓤 H A W 𝓣 E G8 G9 b3 Δ1 (Typed.pass T8 T9 s6) at0 (Scalar.g-room 𝓤 H A W E G8 3 (Syntax.tyStruct (115 ∷ 116 ∷ 111 ∷ 114 ∷ 101 ∷ 58 ∷
                 58 ∷ 70 ∷ 105 ∷ 110 ∷ 100 ∷ 105 ∷ 110 ∷ 103 ∷ 115 ∷ []) (Syntax.tcons (Syntax.tyInt Syntax.w8) (Syntax.tcons (Syntax.tyInt Syntax.w64)
-                (Syntax.tcons Syntax.tyBool (Syntax.tcons (Syntax.tyInt Syntax.w64) (Syntax.tcons (Syntax.tyInt Syntax.w64) Syntax.tnil)))))) (Local.room-whole 𝓤
-                H A W (Declared.row Findings.the-type) (Syntax.tyStruct (115 ∷ 116 ∷ 111 ∷ 114 ∷ 101 ∷ 58 ∷ 58 ∷ 70 ∷ 105 ∷ 110 ∷ 100 ∷ 105 ∷ 110 ∷ 103 ∷ 115 ∷
-                []) (Syntax.tcons (Syntax.tyInt Syntax.w8) (Syntax.tcons (Syntax.tyInt Syntax.w64) (Syntax.tcons Syntax.tyBool (Syntax.tcons (Syntax.tyInt
-                Syntax.w64) (Syntax.tcons (Syntax.tyInt Syntax.w64) Syntax.tnil)))))) Path'.refl)) d0
+                (Syntax.tcons Syntax.tyBool (Syntax.tcons (Syntax.tyInt Syntax.w64) (Syntax.tcons (Syntax.tyInt Syntax.w64) (Syntax.tcons (Syntax.tyInt
+                Syntax.w64) Syntax.tnil))))))) (Local.room-whole 𝓤 H A W (Declared.row Findings.the-type) (Syntax.tyStruct (115 ∷ 116 ∷ 111 ∷ 114 ∷ 101 ∷ 58 ∷ 58
+                ∷ 70 ∷ 105 ∷ 110 ∷ 100 ∷ 105 ∷ 110 ∷ 103 ∷ 115 ∷ []) (Syntax.tcons (Syntax.tyInt Syntax.w8) (Syntax.tcons (Syntax.tyInt Syntax.w64) (Syntax.tcons
+                Syntax.tyBool (Syntax.tcons (Syntax.tyInt Syntax.w64) (Syntax.tcons (Syntax.tyInt Syntax.w64) (Syntax.tcons (Syntax.tyInt Syntax.w64)
+                Syntax.tnil))))))) Path'.refl)) d0
 
             d2 : Typed.Typed 𝓤 H A 𝓣 E G7 b4 Δ1 at2
             d2 = Typed.s-seq 𝓤 H A W 𝓣 E G7 G8 b2 b3 Δ1 (Typed.both s5) at1 (Plain.t-call-plain 𝓤 H A W 𝓣 0 ps·1 r·1 (claims· .2) (claims· .3) "store::held_back"
@@ -1646,7 +1692,7 @@ module _ (claims· : Claims) where
                 .slots)) ((Reads.reads-field 𝓤 H A W Findings.the-type Laws'.the-laws 0 (Syntax.tyInt Syntax.w8) 0 Path'.refl, Path'.refl), tt) (Reads'.room-gone
                 𝓤 H A (Syntax.tyStruct (115 ∷ 116 ∷ 111 ∷ 114 ∷ 101 ∷ 58 ∷ 58 ∷ 72 ∷ 101 ∷ 108 ∷ 100 ∷ []) (Syntax.tcons (Syntax.tyInt Syntax.w8) (Syntax.tcons
                 (Syntax.tyInt Syntax.w64) (Syntax.tcons (Syntax.tyInt Syntax.w64) (Syntax.tcons (Syntax.tyInt Syntax.w64) (Syntax.tcons (Syntax.tyInt Syntax.w64)
-                Syntax.tnil))))))) tt Path'.refl) d1
+                (Syntax.tcons (Syntax.tyInt Syntax.w64) Syntax.tnil)))))))) tt Path'.refl) d1
 
             d3 : Typed.Typed 𝓤 H A 𝓣 E G5 b4 Δ1 at3
             d3 = Typed.g-pre 𝓤 H A W 𝓣 E G5 G7 b4 Δ1 (Typed.pass T5 T7 s4) at2 (Scalar.g-room 𝓤 H A W E G5 6 Syntax.tyBool (Scalar.room-sc 𝓤 H A W Row.sBool)) d2
@@ -1673,7 +1719,7 @@ module _ (claims· : Claims) where
                 "store::held_back" (known .1) E (λ pos β. β) G17 (Num.vLit 13, tt) 0 [] (Call.sub-id 𝓤 H A W (G17 .slots)) (tt, tt) (Reads'.room-gone 𝓤 H A
                 (Syntax.tyStruct (115 ∷ 116 ∷ 111 ∷ 114 ∷ 101 ∷ 58 ∷ 58 ∷ 72 ∷ 101 ∷ 108 ∷ 100 ∷ []) (Syntax.tcons (Syntax.tyInt Syntax.w8) (Syntax.tcons
                 (Syntax.tyInt Syntax.w64) (Syntax.tcons (Syntax.tyInt Syntax.w64) (Syntax.tcons (Syntax.tyInt Syntax.w64) (Syntax.tcons (Syntax.tyInt Syntax.w64)
-                Syntax.tnil))))))) tt Path'.refl) d8
+                (Syntax.tcons (Syntax.tyInt Syntax.w64) Syntax.tnil)))))))) tt Path'.refl) d8
 
             d10 : Typed.Typed 𝓤 H A 𝓣 E G16 b12 Δ2 at10
             d10 = Typed.g-pre 𝓤 H A W 𝓣 E G16 G17 b12 Δ2 (Typed.pass T16 T17 s13) at9 (Scalar.g-room 𝓤 H A W E G16 6 Syntax.tyBool (Scalar.room-sc 𝓤 H A W
@@ -1682,10 +1728,11 @@ module _ (claims· : Claims) where
             d11 : Typed.Typed 𝓤 H A 𝓣 E G15 b12 Δ2 at11
             d11 = Typed.g-pre 𝓤 H A W 𝓣 E G15 G16 b12 Δ2 (Typed.pass T15 T16 s12) at10 (Scalar.g-room 𝓤 H A W E G15 3 (Syntax.tyStruct (115 ∷ 116 ∷ 111 ∷ 114 ∷
                 101 ∷ 58 ∷ 58 ∷ 70 ∷ 105 ∷ 110 ∷ 100 ∷ 105 ∷ 110 ∷ 103 ∷ 115 ∷ []) (Syntax.tcons (Syntax.tyInt Syntax.w8) (Syntax.tcons (Syntax.tyInt Syntax.w64)
-                (Syntax.tcons Syntax.tyBool (Syntax.tcons (Syntax.tyInt Syntax.w64) (Syntax.tcons (Syntax.tyInt Syntax.w64) Syntax.tnil)))))) (Local.room-whole 𝓤
-                H A W (Declared.row Findings.the-type) (Syntax.tyStruct (115 ∷ 116 ∷ 111 ∷ 114 ∷ 101 ∷ 58 ∷ 58 ∷ 70 ∷ 105 ∷ 110 ∷ 100 ∷ 105 ∷ 110 ∷ 103 ∷ 115 ∷
-                []) (Syntax.tcons (Syntax.tyInt Syntax.w8) (Syntax.tcons (Syntax.tyInt Syntax.w64) (Syntax.tcons Syntax.tyBool (Syntax.tcons (Syntax.tyInt
-                Syntax.w64) (Syntax.tcons (Syntax.tyInt Syntax.w64) Syntax.tnil)))))) Path'.refl)) d10
+                (Syntax.tcons Syntax.tyBool (Syntax.tcons (Syntax.tyInt Syntax.w64) (Syntax.tcons (Syntax.tyInt Syntax.w64) (Syntax.tcons (Syntax.tyInt
+                Syntax.w64) Syntax.tnil))))))) (Local.room-whole 𝓤 H A W (Declared.row Findings.the-type) (Syntax.tyStruct (115 ∷ 116 ∷ 111 ∷ 114 ∷ 101 ∷ 58 ∷ 58
+                ∷ 70 ∷ 105 ∷ 110 ∷ 100 ∷ 105 ∷ 110 ∷ 103 ∷ 115 ∷ []) (Syntax.tcons (Syntax.tyInt Syntax.w8) (Syntax.tcons (Syntax.tyInt Syntax.w64) (Syntax.tcons
+                Syntax.tyBool (Syntax.tcons (Syntax.tyInt Syntax.w64) (Syntax.tcons (Syntax.tyInt Syntax.w64) (Syntax.tcons (Syntax.tyInt Syntax.w64)
+                Syntax.tnil))))))) Path'.refl)) d10
 
             d12 : Typed.Typed 𝓤 H A 𝓣 E G20 b13 Δ2 at12
             d12 = Typed.t-skip 𝓤 H A W 𝓣 E Δ2 tt
@@ -1713,7 +1760,7 @@ module _ (claims· : Claims) where
                 "store::held_back" (known .1) E (λ pos β. β) G25 (Num.vLit 18, tt) 0 [] (Call.sub-id 𝓤 H A W (G25 .slots)) (tt, tt) (Reads'.room-gone 𝓤 H A
                 (Syntax.tyStruct (115 ∷ 116 ∷ 111 ∷ 114 ∷ 101 ∷ 58 ∷ 58 ∷ 72 ∷ 101 ∷ 108 ∷ 100 ∷ []) (Syntax.tcons (Syntax.tyInt Syntax.w8) (Syntax.tcons
                 (Syntax.tyInt Syntax.w64) (Syntax.tcons (Syntax.tyInt Syntax.w64) (Syntax.tcons (Syntax.tyInt Syntax.w64) (Syntax.tcons (Syntax.tyInt Syntax.w64)
-                Syntax.tnil))))))) tt Path'.refl) d17
+                (Syntax.tcons (Syntax.tyInt Syntax.w64) Syntax.tnil)))))))) tt Path'.refl) d17
 
             d19 : Typed.Typed 𝓤 H A 𝓣 E G24 b18 Δ3 at19
             d19 = Typed.g-pre 𝓤 H A W 𝓣 E G24 G25 b18 Δ3 (Typed.pass T24 T25 s20) at18 (Scalar.g-room 𝓤 H A W E G24 6 Syntax.tyBool (Scalar.room-sc 𝓤 H A W
@@ -1722,10 +1769,11 @@ module _ (claims· : Claims) where
             d20 : Typed.Typed 𝓤 H A 𝓣 E G22 b18 Δ3 at20
             d20 = Typed.g-pre 𝓤 H A W 𝓣 E G22 G24 b18 Δ3 (Typed.pass T22 T24 s19) at19 (Scalar.g-room 𝓤 H A W E G22 3 (Syntax.tyStruct (115 ∷ 116 ∷ 111 ∷ 114 ∷
                 101 ∷ 58 ∷ 58 ∷ 70 ∷ 105 ∷ 110 ∷ 100 ∷ 105 ∷ 110 ∷ 103 ∷ 115 ∷ []) (Syntax.tcons (Syntax.tyInt Syntax.w8) (Syntax.tcons (Syntax.tyInt Syntax.w64)
-                (Syntax.tcons Syntax.tyBool (Syntax.tcons (Syntax.tyInt Syntax.w64) (Syntax.tcons (Syntax.tyInt Syntax.w64) Syntax.tnil)))))) (Local.room-whole 𝓤
-                H A W (Declared.row Findings.the-type) (Syntax.tyStruct (115 ∷ 116 ∷ 111 ∷ 114 ∷ 101 ∷ 58 ∷ 58 ∷ 70 ∷ 105 ∷ 110 ∷ 100 ∷ 105 ∷ 110 ∷ 103 ∷ 115 ∷
-                []) (Syntax.tcons (Syntax.tyInt Syntax.w8) (Syntax.tcons (Syntax.tyInt Syntax.w64) (Syntax.tcons Syntax.tyBool (Syntax.tcons (Syntax.tyInt
-                Syntax.w64) (Syntax.tcons (Syntax.tyInt Syntax.w64) Syntax.tnil)))))) Path'.refl)) d19
+                (Syntax.tcons Syntax.tyBool (Syntax.tcons (Syntax.tyInt Syntax.w64) (Syntax.tcons (Syntax.tyInt Syntax.w64) (Syntax.tcons (Syntax.tyInt
+                Syntax.w64) Syntax.tnil))))))) (Local.room-whole 𝓤 H A W (Declared.row Findings.the-type) (Syntax.tyStruct (115 ∷ 116 ∷ 111 ∷ 114 ∷ 101 ∷ 58 ∷ 58
+                ∷ 70 ∷ 105 ∷ 110 ∷ 100 ∷ 105 ∷ 110 ∷ 103 ∷ 115 ∷ []) (Syntax.tcons (Syntax.tyInt Syntax.w8) (Syntax.tcons (Syntax.tyInt Syntax.w64) (Syntax.tcons
+                Syntax.tyBool (Syntax.tcons (Syntax.tyInt Syntax.w64) (Syntax.tcons (Syntax.tyInt Syntax.w64) (Syntax.tcons (Syntax.tyInt Syntax.w64)
+                Syntax.tnil))))))) Path'.refl)) d19
 
             d21 : Typed.Typed 𝓤 H A 𝓣 E G28 b19 Δ3 at21
             d21 = Typed.t-skip 𝓤 H A W 𝓣 E Δ3 tt
@@ -1749,7 +1797,7 @@ module _ (claims· : Claims) where
                 "store::held_back" (known .1) E (λ pos β. β) G38 (Num.vLit 18, tt) 0 [] (Call.sub-id 𝓤 H A W (G38 .slots)) (tt, tt) (Reads'.room-gone 𝓤 H A
                 (Syntax.tyStruct (115 ∷ 116 ∷ 111 ∷ 114 ∷ 101 ∷ 58 ∷ 58 ∷ 72 ∷ 101 ∷ 108 ∷ 100 ∷ []) (Syntax.tcons (Syntax.tyInt Syntax.w8) (Syntax.tcons
                 (Syntax.tyInt Syntax.w64) (Syntax.tcons (Syntax.tyInt Syntax.w64) (Syntax.tcons (Syntax.tyInt Syntax.w64) (Syntax.tcons (Syntax.tyInt Syntax.w64)
-                Syntax.tnil))))))) tt Path'.refl) d25
+                (Syntax.tcons (Syntax.tyInt Syntax.w64) Syntax.tnil)))))))) tt Path'.refl) d25
 
             d27 : Typed.Typed 𝓤 H A 𝓣 E G37 b27 Δ4 at27
             d27 = Typed.g-pre 𝓤 H A W 𝓣 E G37 G38 b27 Δ4 (Typed.pass T37 T38 s32) at26 (Scalar.g-room 𝓤 H A W E G37 6 Syntax.tyBool (Scalar.room-sc 𝓤 H A W
@@ -1758,27 +1806,29 @@ module _ (claims· : Claims) where
             d28 : Typed.Typed 𝓤 H A 𝓣 E G36 b27 Δ4 at28
             d28 = Typed.g-pre 𝓤 H A W 𝓣 E G36 G37 b27 Δ4 (Typed.pass T36 T37 s31) at27 (Scalar.g-room 𝓤 H A W E G36 5 (Syntax.tyStruct (102 ∷ 114 ∷ 97 ∷ 103 ∷
                 109 ∷ 101 ∷ 110 ∷ 116 ∷ 115 ∷ 58 ∷ 58 ∷ 84 ∷ 97 ∷ 105 ∷ 108 ∷ []) (Syntax.tcons Syntax.tyBool (Syntax.tcons Syntax.tyBool (Syntax.tcons
-                (Syntax.tyStruct (114 ∷ 101 ∷ 115 ∷ 105 ∷ 100 ∷ 117 ∷ 101 ∷ 58 ∷ 58 ∷ 82 ∷ 101 ∷ 115 ∷ 105 ∷ 100 ∷ 117 ∷ 101 ∷ []) (Syntax.tcons (Syntax.tyStruct
-                (110 ∷ 97 ∷ 109 ∷ 101 ∷ 115 ∷ 58 ∷ 58 ∷ 84 ∷ 104 ∷ 114 ∷ 101 ∷ 101 ∷ []) (Syntax.tcons (Syntax.tyInt Syntax.w8) (Syntax.tcons (Syntax.tyInt
-                Syntax.w8) (Syntax.tcons (Syntax.tyInt Syntax.w8) Syntax.tnil)))) (Syntax.tcons (Syntax.tyInt Syntax.w8) (Syntax.tcons (Syntax.tyStruct (102 ∷
-                105 ∷ 101 ∷ 108 ∷ 100 ∷ 115 ∷ 58 ∷ 58 ∷ 82 ∷ 101 ∷ 115 ∷ 105 ∷ 100 ∷ 117 ∷ 101 ∷ 78 ∷ 117 ∷ 109 ∷ 98 ∷ 101 ∷ 114 ∷ []) (Syntax.tcons
-                (Syntax.tyInt Syntax.w32) Syntax.tnil)) (Syntax.tcons (Syntax.tyInt Syntax.w8) Syntax.tnil))))) (Syntax.tcons (Syntax.tyInt Syntax.w8)
-                (Syntax.tcons (Syntax.tyInt Syntax.w64) (Syntax.tcons Syntax.tyBool Syntax.tnil))))))) (Local.room-whole 𝓤 H A W (Declared.row Tail.the-type)
-                (Syntax.tyStruct (102 ∷ 114 ∷ 97 ∷ 103 ∷ 109 ∷ 101 ∷ 110 ∷ 116 ∷ 115 ∷ 58 ∷ 58 ∷ 84 ∷ 97 ∷ 105 ∷ 108 ∷ []) (Syntax.tcons Syntax.tyBool
-                (Syntax.tcons Syntax.tyBool (Syntax.tcons (Syntax.tyStruct (114 ∷ 101 ∷ 115 ∷ 105 ∷ 100 ∷ 117 ∷ 101 ∷ 58 ∷ 58 ∷ 82 ∷ 101 ∷ 115 ∷ 105 ∷ 100 ∷ 117
-                ∷ 101 ∷ []) (Syntax.tcons (Syntax.tyStruct (110 ∷ 97 ∷ 109 ∷ 101 ∷ 115 ∷ 58 ∷ 58 ∷ 84 ∷ 104 ∷ 114 ∷ 101 ∷ 101 ∷ []) (Syntax.tcons (Syntax.tyInt
+                (Syntax.tyInt Syntax.w32) (Syntax.tcons (Syntax.tyStruct (114 ∷ 101 ∷ 115 ∷ 105 ∷ 100 ∷ 117 ∷ 101 ∷ 58 ∷ 58 ∷ 82 ∷ 101 ∷ 115 ∷ 105 ∷ 100 ∷ 117 ∷
+                101 ∷ []) (Syntax.tcons (Syntax.tyStruct (110 ∷ 97 ∷ 109 ∷ 101 ∷ 115 ∷ 58 ∷ 58 ∷ 84 ∷ 104 ∷ 114 ∷ 101 ∷ 101 ∷ []) (Syntax.tcons (Syntax.tyInt
                 Syntax.w8) (Syntax.tcons (Syntax.tyInt Syntax.w8) (Syntax.tcons (Syntax.tyInt Syntax.w8) Syntax.tnil)))) (Syntax.tcons (Syntax.tyInt Syntax.w8)
                 (Syntax.tcons (Syntax.tyStruct (102 ∷ 105 ∷ 101 ∷ 108 ∷ 100 ∷ 115 ∷ 58 ∷ 58 ∷ 82 ∷ 101 ∷ 115 ∷ 105 ∷ 100 ∷ 117 ∷ 101 ∷ 78 ∷ 117 ∷ 109 ∷ 98 ∷ 101
                 ∷ 114 ∷ []) (Syntax.tcons (Syntax.tyInt Syntax.w32) Syntax.tnil)) (Syntax.tcons (Syntax.tyInt Syntax.w8) Syntax.tnil))))) (Syntax.tcons
-                (Syntax.tyInt Syntax.w8) (Syntax.tcons (Syntax.tyInt Syntax.w64) (Syntax.tcons Syntax.tyBool Syntax.tnil))))))) Path'.refl)) d27
+                (Syntax.tyInt Syntax.w8) (Syntax.tcons (Syntax.tyInt Syntax.w64) (Syntax.tcons Syntax.tyBool Syntax.tnil)))))))) (Local.room-whole 𝓤 H A W
+                (Declared.row Tail.the-type) (Syntax.tyStruct (102 ∷ 114 ∷ 97 ∷ 103 ∷ 109 ∷ 101 ∷ 110 ∷ 116 ∷ 115 ∷ 58 ∷ 58 ∷ 84 ∷ 97 ∷ 105 ∷ 108 ∷ [])
+                (Syntax.tcons Syntax.tyBool (Syntax.tcons Syntax.tyBool (Syntax.tcons (Syntax.tyInt Syntax.w32) (Syntax.tcons (Syntax.tyStruct (114 ∷ 101 ∷ 115 ∷
+                105 ∷ 100 ∷ 117 ∷ 101 ∷ 58 ∷ 58 ∷ 82 ∷ 101 ∷ 115 ∷ 105 ∷ 100 ∷ 117 ∷ 101 ∷ []) (Syntax.tcons (Syntax.tyStruct (110 ∷ 97 ∷ 109 ∷ 101 ∷ 115 ∷ 58 ∷
+                58 ∷ 84 ∷ 104 ∷ 114 ∷ 101 ∷ 101 ∷ []) (Syntax.tcons (Syntax.tyInt Syntax.w8) (Syntax.tcons (Syntax.tyInt Syntax.w8) (Syntax.tcons (Syntax.tyInt
+                Syntax.w8) Syntax.tnil)))) (Syntax.tcons (Syntax.tyInt Syntax.w8) (Syntax.tcons (Syntax.tyStruct (102 ∷ 105 ∷ 101 ∷ 108 ∷ 100 ∷ 115 ∷ 58 ∷ 58 ∷
+                82 ∷ 101 ∷ 115 ∷ 105 ∷ 100 ∷ 117 ∷ 101 ∷ 78 ∷ 117 ∷ 109 ∷ 98 ∷ 101 ∷ 114 ∷ []) (Syntax.tcons (Syntax.tyInt Syntax.w32) Syntax.tnil))
+                (Syntax.tcons (Syntax.tyInt Syntax.w8) Syntax.tnil))))) (Syntax.tcons (Syntax.tyInt Syntax.w8) (Syntax.tcons (Syntax.tyInt Syntax.w64)
+                (Syntax.tcons Syntax.tyBool Syntax.tnil)))))))) Path'.refl)) d27
 
             d29 : Typed.Typed 𝓤 H A 𝓣 E G34 b27 Δ4 at29
             d29 = Typed.g-pre 𝓤 H A W 𝓣 E G34 G36 b27 Δ4 (Typed.pass T34 T36 s30) at28 (Scalar.g-room 𝓤 H A W E G34 3 (Syntax.tyStruct (115 ∷ 116 ∷ 111 ∷ 114 ∷
                 101 ∷ 58 ∷ 58 ∷ 70 ∷ 105 ∷ 110 ∷ 100 ∷ 105 ∷ 110 ∷ 103 ∷ 115 ∷ []) (Syntax.tcons (Syntax.tyInt Syntax.w8) (Syntax.tcons (Syntax.tyInt Syntax.w64)
-                (Syntax.tcons Syntax.tyBool (Syntax.tcons (Syntax.tyInt Syntax.w64) (Syntax.tcons (Syntax.tyInt Syntax.w64) Syntax.tnil)))))) (Local.room-whole 𝓤
-                H A W (Declared.row Findings.the-type) (Syntax.tyStruct (115 ∷ 116 ∷ 111 ∷ 114 ∷ 101 ∷ 58 ∷ 58 ∷ 70 ∷ 105 ∷ 110 ∷ 100 ∷ 105 ∷ 110 ∷ 103 ∷ 115 ∷
-                []) (Syntax.tcons (Syntax.tyInt Syntax.w8) (Syntax.tcons (Syntax.tyInt Syntax.w64) (Syntax.tcons Syntax.tyBool (Syntax.tcons (Syntax.tyInt
-                Syntax.w64) (Syntax.tcons (Syntax.tyInt Syntax.w64) Syntax.tnil)))))) Path'.refl)) d28
+                (Syntax.tcons Syntax.tyBool (Syntax.tcons (Syntax.tyInt Syntax.w64) (Syntax.tcons (Syntax.tyInt Syntax.w64) (Syntax.tcons (Syntax.tyInt
+                Syntax.w64) Syntax.tnil))))))) (Local.room-whole 𝓤 H A W (Declared.row Findings.the-type) (Syntax.tyStruct (115 ∷ 116 ∷ 111 ∷ 114 ∷ 101 ∷ 58 ∷ 58
+                ∷ 70 ∷ 105 ∷ 110 ∷ 100 ∷ 105 ∷ 110 ∷ 103 ∷ 115 ∷ []) (Syntax.tcons (Syntax.tyInt Syntax.w8) (Syntax.tcons (Syntax.tyInt Syntax.w64) (Syntax.tcons
+                Syntax.tyBool (Syntax.tcons (Syntax.tyInt Syntax.w64) (Syntax.tcons (Syntax.tyInt Syntax.w64) (Syntax.tcons (Syntax.tyInt Syntax.w64)
+                Syntax.tnil))))))) Path'.refl)) d28
 
             d30 : Typed.Typed 𝓤 H A 𝓣 E G41 b28 Δ4 at30
             d30 = Typed.t-skip 𝓤 H A W 𝓣 E Δ4 tt
@@ -1801,19 +1851,20 @@ module _ (claims· : Claims) where
             d35 : Typed.Typed 𝓤 H A 𝓣 E G44 b31 Δ0 at35
             d35 = Typed.g-pre 𝓤 H A W 𝓣 E G44 G45 b31 Δ0 (Typed.pass T44 T45 s39) at34 (Scalar.g-room 𝓤 H A W E G44 5 (Syntax.tyStruct (102 ∷ 114 ∷ 97 ∷ 103 ∷
                 109 ∷ 101 ∷ 110 ∷ 116 ∷ 115 ∷ 58 ∷ 58 ∷ 84 ∷ 97 ∷ 105 ∷ 108 ∷ []) (Syntax.tcons Syntax.tyBool (Syntax.tcons Syntax.tyBool (Syntax.tcons
-                (Syntax.tyStruct (114 ∷ 101 ∷ 115 ∷ 105 ∷ 100 ∷ 117 ∷ 101 ∷ 58 ∷ 58 ∷ 82 ∷ 101 ∷ 115 ∷ 105 ∷ 100 ∷ 117 ∷ 101 ∷ []) (Syntax.tcons (Syntax.tyStruct
-                (110 ∷ 97 ∷ 109 ∷ 101 ∷ 115 ∷ 58 ∷ 58 ∷ 84 ∷ 104 ∷ 114 ∷ 101 ∷ 101 ∷ []) (Syntax.tcons (Syntax.tyInt Syntax.w8) (Syntax.tcons (Syntax.tyInt
-                Syntax.w8) (Syntax.tcons (Syntax.tyInt Syntax.w8) Syntax.tnil)))) (Syntax.tcons (Syntax.tyInt Syntax.w8) (Syntax.tcons (Syntax.tyStruct (102 ∷
-                105 ∷ 101 ∷ 108 ∷ 100 ∷ 115 ∷ 58 ∷ 58 ∷ 82 ∷ 101 ∷ 115 ∷ 105 ∷ 100 ∷ 117 ∷ 101 ∷ 78 ∷ 117 ∷ 109 ∷ 98 ∷ 101 ∷ 114 ∷ []) (Syntax.tcons
-                (Syntax.tyInt Syntax.w32) Syntax.tnil)) (Syntax.tcons (Syntax.tyInt Syntax.w8) Syntax.tnil))))) (Syntax.tcons (Syntax.tyInt Syntax.w8)
-                (Syntax.tcons (Syntax.tyInt Syntax.w64) (Syntax.tcons Syntax.tyBool Syntax.tnil))))))) (Local.room-whole 𝓤 H A W (Declared.row Tail.the-type)
-                (Syntax.tyStruct (102 ∷ 114 ∷ 97 ∷ 103 ∷ 109 ∷ 101 ∷ 110 ∷ 116 ∷ 115 ∷ 58 ∷ 58 ∷ 84 ∷ 97 ∷ 105 ∷ 108 ∷ []) (Syntax.tcons Syntax.tyBool
-                (Syntax.tcons Syntax.tyBool (Syntax.tcons (Syntax.tyStruct (114 ∷ 101 ∷ 115 ∷ 105 ∷ 100 ∷ 117 ∷ 101 ∷ 58 ∷ 58 ∷ 82 ∷ 101 ∷ 115 ∷ 105 ∷ 100 ∷ 117
-                ∷ 101 ∷ []) (Syntax.tcons (Syntax.tyStruct (110 ∷ 97 ∷ 109 ∷ 101 ∷ 115 ∷ 58 ∷ 58 ∷ 84 ∷ 104 ∷ 114 ∷ 101 ∷ 101 ∷ []) (Syntax.tcons (Syntax.tyInt
+                (Syntax.tyInt Syntax.w32) (Syntax.tcons (Syntax.tyStruct (114 ∷ 101 ∷ 115 ∷ 105 ∷ 100 ∷ 117 ∷ 101 ∷ 58 ∷ 58 ∷ 82 ∷ 101 ∷ 115 ∷ 105 ∷ 100 ∷ 117 ∷
+                101 ∷ []) (Syntax.tcons (Syntax.tyStruct (110 ∷ 97 ∷ 109 ∷ 101 ∷ 115 ∷ 58 ∷ 58 ∷ 84 ∷ 104 ∷ 114 ∷ 101 ∷ 101 ∷ []) (Syntax.tcons (Syntax.tyInt
                 Syntax.w8) (Syntax.tcons (Syntax.tyInt Syntax.w8) (Syntax.tcons (Syntax.tyInt Syntax.w8) Syntax.tnil)))) (Syntax.tcons (Syntax.tyInt Syntax.w8)
                 (Syntax.tcons (Syntax.tyStruct (102 ∷ 105 ∷ 101 ∷ 108 ∷ 100 ∷ 115 ∷ 58 ∷ 58 ∷ 82 ∷ 101 ∷ 115 ∷ 105 ∷ 100 ∷ 117 ∷ 101 ∷ 78 ∷ 117 ∷ 109 ∷ 98 ∷ 101
                 ∷ 114 ∷ []) (Syntax.tcons (Syntax.tyInt Syntax.w32) Syntax.tnil)) (Syntax.tcons (Syntax.tyInt Syntax.w8) Syntax.tnil))))) (Syntax.tcons
-                (Syntax.tyInt Syntax.w8) (Syntax.tcons (Syntax.tyInt Syntax.w64) (Syntax.tcons Syntax.tyBool Syntax.tnil))))))) Path'.refl)) d34
+                (Syntax.tyInt Syntax.w8) (Syntax.tcons (Syntax.tyInt Syntax.w64) (Syntax.tcons Syntax.tyBool Syntax.tnil)))))))) (Local.room-whole 𝓤 H A W
+                (Declared.row Tail.the-type) (Syntax.tyStruct (102 ∷ 114 ∷ 97 ∷ 103 ∷ 109 ∷ 101 ∷ 110 ∷ 116 ∷ 115 ∷ 58 ∷ 58 ∷ 84 ∷ 97 ∷ 105 ∷ 108 ∷ [])
+                (Syntax.tcons Syntax.tyBool (Syntax.tcons Syntax.tyBool (Syntax.tcons (Syntax.tyInt Syntax.w32) (Syntax.tcons (Syntax.tyStruct (114 ∷ 101 ∷ 115 ∷
+                105 ∷ 100 ∷ 117 ∷ 101 ∷ 58 ∷ 58 ∷ 82 ∷ 101 ∷ 115 ∷ 105 ∷ 100 ∷ 117 ∷ 101 ∷ []) (Syntax.tcons (Syntax.tyStruct (110 ∷ 97 ∷ 109 ∷ 101 ∷ 115 ∷ 58 ∷
+                58 ∷ 84 ∷ 104 ∷ 114 ∷ 101 ∷ 101 ∷ []) (Syntax.tcons (Syntax.tyInt Syntax.w8) (Syntax.tcons (Syntax.tyInt Syntax.w8) (Syntax.tcons (Syntax.tyInt
+                Syntax.w8) Syntax.tnil)))) (Syntax.tcons (Syntax.tyInt Syntax.w8) (Syntax.tcons (Syntax.tyStruct (102 ∷ 105 ∷ 101 ∷ 108 ∷ 100 ∷ 115 ∷ 58 ∷ 58 ∷
+                82 ∷ 101 ∷ 115 ∷ 105 ∷ 100 ∷ 117 ∷ 101 ∷ 78 ∷ 117 ∷ 109 ∷ 98 ∷ 101 ∷ 114 ∷ []) (Syntax.tcons (Syntax.tyInt Syntax.w32) Syntax.tnil))
+                (Syntax.tcons (Syntax.tyInt Syntax.w8) Syntax.tnil))))) (Syntax.tcons (Syntax.tyInt Syntax.w8) (Syntax.tcons (Syntax.tyInt Syntax.w64)
+                (Syntax.tcons Syntax.tyBool Syntax.tnil)))))))) Path'.refl)) d34
 
             d36 : Typed.Typed 𝓤 H A 𝓣 E G43 b31 Δ0 at36
             d36 = Typed.g-pre 𝓤 H A W 𝓣 E G43 G44 b31 Δ0 (Typed.pass T43 T44 s38) at35 (Scalar.g-room 𝓤 H A W E G43 4 (Syntax.tyInt Syntax.w64) (Scalar.room-sc 𝓤
@@ -1822,67 +1873,77 @@ module _ (claims· : Claims) where
             d37 : Typed.Typed 𝓤 H A 𝓣 E G42 b31 Δ0 at37
             d37 = Typed.g-pre 𝓤 H A W 𝓣 E G42 G43 b31 Δ0 (Typed.pass T42 T43 s37) at36 (Scalar.g-room 𝓤 H A W E G42 3 (Syntax.tyStruct (115 ∷ 116 ∷ 111 ∷ 114 ∷
                 101 ∷ 58 ∷ 58 ∷ 70 ∷ 105 ∷ 110 ∷ 100 ∷ 105 ∷ 110 ∷ 103 ∷ 115 ∷ []) (Syntax.tcons (Syntax.tyInt Syntax.w8) (Syntax.tcons (Syntax.tyInt Syntax.w64)
-                (Syntax.tcons Syntax.tyBool (Syntax.tcons (Syntax.tyInt Syntax.w64) (Syntax.tcons (Syntax.tyInt Syntax.w64) Syntax.tnil)))))) (Local.room-whole 𝓤
-                H A W (Declared.row Findings.the-type) (Syntax.tyStruct (115 ∷ 116 ∷ 111 ∷ 114 ∷ 101 ∷ 58 ∷ 58 ∷ 70 ∷ 105 ∷ 110 ∷ 100 ∷ 105 ∷ 110 ∷ 103 ∷ 115 ∷
-                []) (Syntax.tcons (Syntax.tyInt Syntax.w8) (Syntax.tcons (Syntax.tyInt Syntax.w64) (Syntax.tcons Syntax.tyBool (Syntax.tcons (Syntax.tyInt
-                Syntax.w64) (Syntax.tcons (Syntax.tyInt Syntax.w64) Syntax.tnil)))))) Path'.refl)) d36
+                (Syntax.tcons Syntax.tyBool (Syntax.tcons (Syntax.tyInt Syntax.w64) (Syntax.tcons (Syntax.tyInt Syntax.w64) (Syntax.tcons (Syntax.tyInt
+                Syntax.w64) Syntax.tnil))))))) (Local.room-whole 𝓤 H A W (Declared.row Findings.the-type) (Syntax.tyStruct (115 ∷ 116 ∷ 111 ∷ 114 ∷ 101 ∷ 58 ∷ 58
+                ∷ 70 ∷ 105 ∷ 110 ∷ 100 ∷ 105 ∷ 110 ∷ 103 ∷ 115 ∷ []) (Syntax.tcons (Syntax.tyInt Syntax.w8) (Syntax.tcons (Syntax.tyInt Syntax.w64) (Syntax.tcons
+                Syntax.tyBool (Syntax.tcons (Syntax.tyInt Syntax.w64) (Syntax.tcons (Syntax.tyInt Syntax.w64) (Syntax.tcons (Syntax.tyInt Syntax.w64)
+                Syntax.tnil))))))) Path'.refl)) d36
 
             d38 : Typed.Typed 𝓤 H A 𝓣 E G35 b32 Δ0 at38
             d38 = Typed.s-seq 𝓤 H A W 𝓣 E G35 G42 b30 b31 Δ0 (Typed.pass T35 T42 s36) at37 (Make.t-struct-make 𝓤 H A W E 𝓣 (Apart.apartT Held.the-type)
                 Laws''.the-laws Laws''.the-plain G35 0 (Scalar.oInt Syntax.w8 0 ∷ Scalar.oAt 4 (Syntax.tyInt Syntax.w64) (Row.valS (Row.sInt Syntax.w64)) ∷
-                Scalar.oFld 5 (Syntax.field 4 ∷ []) (Syntax.tyInt Syntax.w64) 24 (Reads.fieldV Tail.the-type Laws.the-laws 4) ∷ Scalar.oFld 3 (Syntax.field 3 ∷
+                Scalar.oFld 5 (Syntax.field 5 ∷ []) (Syntax.tyInt Syntax.w64) 24 (Reads.fieldV Tail.the-type Laws.the-laws 5) ∷ Scalar.oFld 3 (Syntax.field 3 ∷
                 []) (Syntax.tyInt Syntax.w64) 24 (Reads.fieldV Findings.the-type Laws'.the-laws 3) ∷ Scalar.oFld 3 (Syntax.field 4 ∷ []) (Syntax.tyInt
-                Syntax.w64) 32 (Reads.fieldV Findings.the-type Laws'.the-laws 4) ∷ []) (λ m. (
+                Syntax.w64) 32 (Reads.fieldV Findings.the-type Laws'.the-laws 4) ∷ Scalar.oFld 3 (Syntax.field 5 ∷ []) (Syntax.tyInt Syntax.w64) 40 (Reads.fieldV
+                Findings.the-type Laws'.the-laws 5) ∷ []) (λ m. (
                   0,
                   (
                     m .1 .1 .1 .1 .0,
                     (
-                      Tail.struct .as-values (m .1 .1 .1 .1 .1 .0)
-                          .1 .1 .1 .1 .0,
-                      (Findings.struct .as-values (m .1 .1 .1 .0) .1 .1 .1 .0, (Findings.struct .as-values (m .1 .1 .1 .0) .1 .1 .1 .1 .0, tt)),
+                      Tail.struct .as-values (m .1 .1 .1 .1 .1 .0) .1 .1 .1 .1 .1 .0,
+                      (
+                        Findings.struct .as-values (m .1 .1 .1 .0) .1 .1 .1 .0,
+                        (
+                          Findings.struct .as-values (m .1 .1 .1 .0) .1 .1 .1 .1 .0,
+                          (
+                            Findings.struct .as-values
+                                (m .1 .1 .1 .0) .1 .1 .1 .1 .1 .0,
+                            tt,
+                          ),
+                        ),
+                      ),
                     ),
                   ),
-                ))
-                (Reads'.room-gone 𝓤 H A (Syntax.tyStruct (115 ∷ 116 ∷ 111 ∷ 114 ∷ 101 ∷ 58 ∷ 58 ∷ 72 ∷ 101 ∷ 108 ∷ 100 ∷ []) (Syntax.tcons (Syntax.tyInt
-                Syntax.w8) (Syntax.tcons (Syntax.tyInt Syntax.w64) (Syntax.tcons (Syntax.tyInt Syntax.w64) (Syntax.tcons (Syntax.tyInt Syntax.w64) (Syntax.tcons
-                (Syntax.tyInt Syntax.w64) Syntax.tnil))))))) (
+                )) (Reads'.room-gone 𝓤 H A (Syntax.tyStruct (115 ∷ 116 ∷ 111 ∷ 114 ∷ 101 ∷ 58 ∷ 58 ∷ 72 ∷ 101 ∷ 108 ∷
+                100 ∷ []) (Syntax.tcons (Syntax.tyInt Syntax.w8) (Syntax.tcons (Syntax.tyInt Syntax.w64) (Syntax.tcons (Syntax.tyInt Syntax.w64) (Syntax.tcons
+                (Syntax.tyInt Syntax.w64) (Syntax.tcons (Syntax.tyInt Syntax.w64) (Syntax.tcons (Syntax.tyInt Syntax.w64) Syntax.tnil)))))))) (
                   tt,
                   (
                     (Scalar.reads-sc 𝓤 H A W (Row.sInt Syntax.w64), Path'.refl),
                     (
                       (
-                        Reads.reads-field 𝓤 H A W
-                            Tail.the-type Laws.the-laws 4 (Syntax.tyInt Syntax.w64) 24 Path'.refl,
+                        Reads.reads-field 𝓤 H A W Tail.the-type Laws.the-laws 5 (Syntax.tyInt Syntax.w64)
+                            24 Path'.refl,
                         Path'.refl,
                       ),
                       (
+                        (Reads.reads-field 𝓤 H A W Findings.the-type Laws'.the-laws 3 (Syntax.tyInt Syntax.w64) 24 Path'.refl, Path'.refl),
                         (
-                          Reads.reads-field 𝓤 H A W Findings.the-type Laws'.the-laws
-                              3 (Syntax.tyInt Syntax.w64) 24 Path'.refl,
-                          Path'.refl,
-                        ),
-                        (
+                          (Reads.reads-field 𝓤 H A W Findings.the-type Laws'.the-laws 4 (Syntax.tyInt Syntax.w64) 32 Path'.refl, Path'.refl),
                           (
-                            Reads.reads-field 𝓤 H A W Findings.the-type Laws'.the-laws 4 (Syntax.tyInt Syntax.w64)
-                                32 Path'.refl,
-                            Path'.refl,
+                            (
+                              Reads.reads-field 𝓤 H A W
+                                  Findings.the-type Laws'.the-laws 5 (Syntax.tyInt Syntax.w64) 40 Path'.refl,
+                              Path'.refl,
+                            ),
+                            tt,
                           ),
-                          tt,
                         ),
                       ),
                     ),
                   ),
-                ) Path'.refl (λ u. Path'.refl) λ m. Make.is-wt (Apart.apartT Held.the-type) Laws''.the-laws (
-                  Make.u8-wt,
-                  (Make.u64-wt, (Make.u64-wt, (Make.u64-wt, (Make.u64-wt, tt)))),
-                ) (
+                ) Path'.refl (λ u. Path'.refl) λ m. Make.is-wt
+                (Apart.apartT Held.the-type) Laws''.the-laws (Make.u8-wt, (Make.u64-wt, (Make.u64-wt, (Make.u64-wt, (Make.u64-wt, (Make.u64-wt, tt)))))) (
                   0,
                   (
-                    m .1 .1 .1 .1 .0,
+                    m
+                        .1 .1 .1 .1 .0,
                     (
-                      Tail.struct .as-values (m .1 .1 .1 .1 .1 .0) .1 .1 .1 .1
-                          .0,
-                      (Findings.struct .as-values (m .1 .1 .1 .0) .1 .1 .1 .0, (Findings.struct .as-values (m .1 .1 .1 .0) .1 .1 .1 .1 .0, tt)),
+                      Tail.struct .as-values (m .1 .1 .1 .1 .1 .0) .1 .1 .1 .1 .1 .0,
+                      (
+                        Findings.struct .as-values (m .1 .1 .1 .0) .1 .1 .1 .0,
+                        (Findings.struct .as-values (m .1 .1 .1 .0) .1 .1 .1 .1 .0, (Findings.struct .as-values (m .1 .1 .1 .0) .1 .1 .1 .1 .1 .0, tt)),
+                      ),
                     ),
                   ),
                 )) d37
@@ -1891,9 +1952,9 @@ module _ (claims· : Claims) where
             d39 = Typed.t-seq 𝓤 H A W 𝓣 E G34 G35 b29 b32 Δ0 at32 at38 d32 d38
 
             d40 : Typed.Typed 𝓤 H A 𝓣 E G33 b34 Δ0 at40
-            d40 = Typed.s-seq 𝓤 H A W 𝓣 E G33 G34 b24 b33 Δ0 (Typed.ask s29) at39 (Scalar.t-op1 𝓤 H A W E 𝓣 G33 Syntax.bitNot (Scalar.oFld 5 (Syntax.field 5 ∷
-                []) Syntax.tyBool 32 (Reads.fieldV Tail.the-type Laws.the-laws 5)) 6 (Rows.sc-here Row.sBool) Syntax.tyBool (Row.valS Row.sBool) (Row.sBool .of)
-                (Reads.reads-field 𝓤 H A W Tail.the-type Laws.the-laws 5 Syntax.tyBool 32 Path'.refl, Path'.refl) (Reads'.room-gone 𝓤 H A Syntax.tyBool)
+            d40 = Typed.s-seq 𝓤 H A W 𝓣 E G33 G34 b24 b33 Δ0 (Typed.ask s29) at39 (Scalar.t-op1 𝓤 H A W E 𝓣 G33 Syntax.bitNot (Scalar.oFld 5 (Syntax.field 6 ∷
+                []) Syntax.tyBool 32 (Reads.fieldV Tail.the-type Laws.the-laws 6)) 6 (Rows.sc-here Row.sBool) Syntax.tyBool (Row.valS Row.sBool) (Row.sBool .of)
+                (Reads.reads-field 𝓤 H A W Tail.the-type Laws.the-laws 6 Syntax.tyBool 32 Path'.refl, Path'.refl) (Reads'.room-gone 𝓤 H A Syntax.tyBool)
                 (Scalar.holds-sc 𝓤 H A W Row.sBool) Path'.refl (λ u. Path'.refl) λ u. tt) d39
 
             d41 : Typed.Typed 𝓤 H A 𝓣 E G32 b34 Δ0 at41
@@ -1923,13 +1984,13 @@ module _ (claims· : Claims) where
                   tt,
                 )
                 (Reads'.room-gone 𝓤 H A (Syntax.tyStruct (102 ∷ 114 ∷ 97 ∷ 103 ∷ 109 ∷ 101 ∷ 110 ∷ 116 ∷ 115 ∷ 58 ∷ 58 ∷ 84 ∷ 97 ∷ 105 ∷ 108 ∷ []) (Syntax.tcons
-                Syntax.tyBool (Syntax.tcons Syntax.tyBool (Syntax.tcons (Syntax.tyStruct (114 ∷ 101 ∷ 115 ∷ 105 ∷ 100 ∷ 117 ∷ 101 ∷ 58 ∷ 58 ∷ 82 ∷ 101 ∷ 115 ∷
-                105 ∷ 100 ∷ 117 ∷ 101 ∷ []) (Syntax.tcons (Syntax.tyStruct (110 ∷ 97 ∷ 109 ∷ 101 ∷ 115 ∷ 58 ∷ 58 ∷ 84 ∷ 104 ∷ 114 ∷ 101 ∷ 101 ∷ []) (Syntax.tcons
-                (Syntax.tyInt Syntax.w8) (Syntax.tcons (Syntax.tyInt Syntax.w8) (Syntax.tcons (Syntax.tyInt Syntax.w8) Syntax.tnil)))) (Syntax.tcons
-                (Syntax.tyInt Syntax.w8) (Syntax.tcons (Syntax.tyStruct (102 ∷ 105 ∷ 101 ∷ 108 ∷ 100 ∷ 115 ∷ 58 ∷ 58 ∷ 82 ∷ 101 ∷ 115 ∷ 105 ∷ 100 ∷ 117 ∷ 101 ∷
-                78 ∷ 117 ∷ 109 ∷ 98 ∷ 101 ∷ 114 ∷ []) (Syntax.tcons (Syntax.tyInt Syntax.w32) Syntax.tnil)) (Syntax.tcons (Syntax.tyInt Syntax.w8)
-                Syntax.tnil))))) (Syntax.tcons (Syntax.tyInt Syntax.w8) (Syntax.tcons (Syntax.tyInt Syntax.w64) (Syntax.tcons Syntax.tyBool Syntax.tnil))))))))
-                (tt, tt) Path'.refl) d42
+                Syntax.tyBool (Syntax.tcons Syntax.tyBool (Syntax.tcons (Syntax.tyInt Syntax.w32) (Syntax.tcons (Syntax.tyStruct (114 ∷ 101 ∷ 115 ∷ 105 ∷ 100 ∷
+                117 ∷ 101 ∷ 58 ∷ 58 ∷ 82 ∷ 101 ∷ 115 ∷ 105 ∷ 100 ∷ 117 ∷ 101 ∷ []) (Syntax.tcons (Syntax.tyStruct (110 ∷ 97 ∷ 109 ∷ 101 ∷ 115 ∷ 58 ∷ 58 ∷ 84 ∷
+                104 ∷ 114 ∷ 101 ∷ 101 ∷ []) (Syntax.tcons (Syntax.tyInt Syntax.w8) (Syntax.tcons (Syntax.tyInt Syntax.w8) (Syntax.tcons (Syntax.tyInt Syntax.w8)
+                Syntax.tnil)))) (Syntax.tcons (Syntax.tyInt Syntax.w8) (Syntax.tcons (Syntax.tyStruct (102 ∷ 105 ∷ 101 ∷ 108 ∷ 100 ∷ 115 ∷ 58 ∷ 58 ∷ 82 ∷ 101 ∷
+                115 ∷ 105 ∷ 100 ∷ 117 ∷ 101 ∷ 78 ∷ 117 ∷ 109 ∷ 98 ∷ 101 ∷ 114 ∷ []) (Syntax.tcons (Syntax.tyInt Syntax.w32) Syntax.tnil)) (Syntax.tcons
+                (Syntax.tyInt Syntax.w8) Syntax.tnil))))) (Syntax.tcons (Syntax.tyInt Syntax.w8) (Syntax.tcons (Syntax.tyInt Syntax.w64) (Syntax.tcons
+                Syntax.tyBool Syntax.tnil))))))))) (tt, tt) Path'.refl) d42
 
             d44 : Typed.Typed 𝓤 H A 𝓣 E G29 b36 Δ0 at44
             d44 = Typed.s-seq 𝓤 H A W 𝓣 E G29 G30 b22 b35 Δ0 (Typed.ask s25) at43 (Relend.t-sl-aggregate 𝓤 H A W E SlotAs.row 𝓣 (Relend.asShr SlotAs.row) G29 8 9
@@ -2030,7 +2091,7 @@ module _ (claims· : Claims) where
                 )
                 (Reads'.room-gone 𝓤 H A (Syntax.tyStruct (115 ∷ 116 ∷ 111 ∷ 114 ∷ 101 ∷ 58 ∷ 58 ∷ 70 ∷ 105 ∷ 110 ∷ 100 ∷ 105 ∷ 110 ∷ 103 ∷ 115 ∷ [])
                 (Syntax.tcons (Syntax.tyInt Syntax.w8) (Syntax.tcons (Syntax.tyInt Syntax.w64) (Syntax.tcons Syntax.tyBool (Syntax.tcons (Syntax.tyInt
-                Syntax.w64) (Syntax.tcons (Syntax.tyInt Syntax.w64) Syntax.tnil))))))) (tt, (tt, tt)) Path'.refl) d55
+                Syntax.w64) (Syntax.tcons (Syntax.tyInt Syntax.w64) (Syntax.tcons (Syntax.tyInt Syntax.w64) Syntax.tnil)))))))) (tt, (tt, tt)) Path'.refl) d55
 
             d57 : Typed.Typed 𝓤 H A 𝓣 E G0 b46 Δ0 at57
             d57 = Typed.g-pre 𝓤 H A W 𝓣 E G0 G2 b46 Δ0 (Typed.give s0) at56 (Know.g-shs-known 𝓤 H A W (Referent.fInt Syntax.w8) E G0 1 0 (Syntax.tyRef

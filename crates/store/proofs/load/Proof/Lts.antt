@@ -85,24 +85,25 @@ r = Value.rVal record {
 
 abbrev pub xs : List.List Syntax.Ty
 xs = (Syntax.tyStruct (115 ∷ 116 ∷ 111 ∷ 114 ∷ 101 ∷ 58 ∷ 58 ∷ 78 ∷ 101 ∷ 101 ∷ 100 ∷ 115 ∷ []) (Syntax.tcons (Syntax.tyInt Syntax.w8) (Syntax.tcons
-    (Syntax.tyInt Syntax.w64) Syntax.tnil))) ∷ Syntax.tyInt Syntax.w64 ∷ Syntax.tyInt Syntax.w64 ∷ Syntax.tyInt Syntax.w64 ∷ (Syntax.tyEnum (112 ∷ 105 ∷ 101 ∷
-    99 ∷ 101 ∷ 115 ∷ 58 ∷ 58 ∷ 76 ∷ 105 ∷ 110 ∷ 101 ∷ []) (Syntax.ttcons (Syntax.tcons (Syntax.tyInt Syntax.w8) Syntax.tnil) (Syntax.ttcons (Syntax.tcons
+    (Syntax.tyInt Syntax.w64) Syntax.tnil))) ∷ Syntax.tyInt Syntax.w64 ∷ Syntax.tyInt Syntax.w64 ∷ Syntax.tyInt Syntax.w64 ∷ Syntax.tyInt Syntax.w32 ∷
+    (Syntax.tyEnum (112 ∷ 105 ∷ 101 ∷ 99 ∷ 101 ∷ 115 ∷ 58 ∷ 58 ∷ 76 ∷ 105 ∷ 110 ∷ 101 ∷ []) (Syntax.ttcons (Syntax.tcons (Syntax.tyInt Syntax.w8) Syntax.tnil)
+    (Syntax.ttcons (Syntax.tcons (Syntax.tyEnum (107 ∷ 105 ∷ 110 ∷ 100 ∷ 115 ∷ 58 ∷ 58 ∷ 75 ∷ 105 ∷ 110 ∷ 100 ∷ []) (Syntax.ttcons Syntax.tnil (Syntax.ttcons
+    Syntax.tnil (Syntax.ttcons Syntax.tnil (Syntax.ttcons Syntax.tnil (Syntax.ttcons Syntax.tnil (Syntax.ttcons Syntax.tnil (Syntax.ttcons Syntax.tnil
+    (Syntax.ttcons Syntax.tnil (Syntax.ttcons Syntax.tnil (Syntax.ttcons Syntax.tnil (Syntax.ttcons Syntax.tnil (Syntax.ttcons Syntax.tnil (Syntax.ttcons
+    Syntax.tnil (Syntax.ttcons Syntax.tnil (Syntax.ttcons Syntax.tnil (Syntax.ttcons Syntax.tnil (Syntax.ttcons Syntax.tnil (Syntax.ttcons Syntax.tnil
+    (Syntax.ttcons Syntax.tnil (Syntax.ttcons Syntax.tnil (Syntax.ttcons Syntax.tnil (Syntax.ttcons Syntax.tnil (Syntax.ttcons Syntax.tnil (Syntax.ttcons
+    Syntax.tnil (Syntax.ttcons Syntax.tnil (Syntax.ttcons Syntax.tnil (Syntax.ttcons Syntax.tnil (Syntax.ttcons Syntax.tnil (Syntax.ttcons Syntax.tnil
+    (Syntax.ttcons Syntax.tnil Syntax.ttnil))))))))))))))))))))))))))))))) (Syntax.tcons (Syntax.tyInt Syntax.w32) Syntax.tnil)) (Syntax.ttcons (Syntax.tcons
     (Syntax.tyEnum (107 ∷ 105 ∷ 110 ∷ 100 ∷ 115 ∷ 58 ∷ 58 ∷ 75 ∷ 105 ∷ 110 ∷ 100 ∷ []) (Syntax.ttcons Syntax.tnil (Syntax.ttcons Syntax.tnil (Syntax.ttcons
     Syntax.tnil (Syntax.ttcons Syntax.tnil (Syntax.ttcons Syntax.tnil (Syntax.ttcons Syntax.tnil (Syntax.ttcons Syntax.tnil (Syntax.ttcons Syntax.tnil
     (Syntax.ttcons Syntax.tnil (Syntax.ttcons Syntax.tnil (Syntax.ttcons Syntax.tnil (Syntax.ttcons Syntax.tnil (Syntax.ttcons Syntax.tnil (Syntax.ttcons
     Syntax.tnil (Syntax.ttcons Syntax.tnil (Syntax.ttcons Syntax.tnil (Syntax.ttcons Syntax.tnil (Syntax.ttcons Syntax.tnil (Syntax.ttcons Syntax.tnil
     (Syntax.ttcons Syntax.tnil (Syntax.ttcons Syntax.tnil (Syntax.ttcons Syntax.tnil (Syntax.ttcons Syntax.tnil (Syntax.ttcons Syntax.tnil (Syntax.ttcons
-    Syntax.tnil (Syntax.ttcons Syntax.tnil (Syntax.ttcons Syntax.tnil (Syntax.ttcons Syntax.tnil Syntax.ttnil))))))))))))))))))))))))))))) (Syntax.tcons
-    (Syntax.tyInt Syntax.w32) Syntax.tnil)) (Syntax.ttcons (Syntax.tcons (Syntax.tyEnum (107 ∷ 105 ∷ 110 ∷ 100 ∷ 115 ∷ 58 ∷ 58 ∷ 75 ∷ 105 ∷ 110 ∷ 100 ∷ [])
-    (Syntax.ttcons Syntax.tnil (Syntax.ttcons Syntax.tnil (Syntax.ttcons Syntax.tnil (Syntax.ttcons Syntax.tnil (Syntax.ttcons Syntax.tnil (Syntax.ttcons
     Syntax.tnil (Syntax.ttcons Syntax.tnil (Syntax.ttcons Syntax.tnil (Syntax.ttcons Syntax.tnil (Syntax.ttcons Syntax.tnil (Syntax.ttcons Syntax.tnil
-    (Syntax.ttcons Syntax.tnil (Syntax.ttcons Syntax.tnil (Syntax.ttcons Syntax.tnil (Syntax.ttcons Syntax.tnil (Syntax.ttcons Syntax.tnil (Syntax.ttcons
-    Syntax.tnil (Syntax.ttcons Syntax.tnil (Syntax.ttcons Syntax.tnil (Syntax.ttcons Syntax.tnil (Syntax.ttcons Syntax.tnil (Syntax.ttcons Syntax.tnil
-    (Syntax.ttcons Syntax.tnil (Syntax.ttcons Syntax.tnil (Syntax.ttcons Syntax.tnil (Syntax.ttcons Syntax.tnil (Syntax.ttcons Syntax.tnil (Syntax.ttcons
-    Syntax.tnil Syntax.ttnil))))))))))))))))))))))))))))) Syntax.tnil) (Syntax.ttcons (Syntax.tcons (Syntax.tyEnum (108 ∷ 105 ∷ 110 ∷ 101 ∷ 58 ∷ 58 ∷ 82 ∷ 101
-    ∷ 99 ∷ 111 ∷ 114 ∷ 100 ∷ []) (Syntax.ttcons (Syntax.tcons Syntax.tyBool (Syntax.tcons (Syntax.tyStruct (99 ∷ 111 ∷ 111 ∷ 114 ∷ 100 ∷ 105 ∷ 110 ∷ 97 ∷ 116 ∷
-    101 ∷ 58 ∷ 58 ∷ 65 ∷ 116 ∷ 111 ∷ 109 ∷ []) (Syntax.tcons (Syntax.tyStruct (99 ∷ 111 ∷ 111 ∷ 114 ∷ 100 ∷ 105 ∷ 110 ∷ 97 ∷ 116 ∷ 101 ∷ 58 ∷ 58 ∷ 73 ∷ 100 ∷
-    101 ∷ 110 ∷ 116 ∷ 105 ∷ 116 ∷ 121 ∷ []) (Syntax.tcons (Syntax.tyStruct (102 ∷ 105 ∷ 101 ∷ 108 ∷ 100 ∷ 115 ∷ 58 ∷ 58 ∷ 83 ∷ 101 ∷ 114 ∷ 105 ∷ 97 ∷ 108 ∷ [])
+    Syntax.ttnil))))))))))))))))))))))))))))))) Syntax.tnil) (Syntax.ttcons (Syntax.tcons (Syntax.tyEnum (108 ∷ 105 ∷ 110 ∷ 101 ∷ 58 ∷ 58 ∷ 82 ∷ 101 ∷ 99 ∷ 111
+    ∷ 114 ∷ 100 ∷ []) (Syntax.ttcons (Syntax.tcons Syntax.tyBool (Syntax.tcons (Syntax.tyStruct (99 ∷ 111 ∷ 111 ∷ 114 ∷ 100 ∷ 105 ∷ 110 ∷ 97 ∷ 116 ∷ 101 ∷ 58 ∷
+    58 ∷ 65 ∷ 116 ∷ 111 ∷ 109 ∷ []) (Syntax.tcons (Syntax.tyStruct (99 ∷ 111 ∷ 111 ∷ 114 ∷ 100 ∷ 105 ∷ 110 ∷ 97 ∷ 116 ∷ 101 ∷ 58 ∷ 58 ∷ 73 ∷ 100 ∷ 101 ∷ 110 ∷
+    116 ∷ 105 ∷ 116 ∷ 121 ∷ []) (Syntax.tcons (Syntax.tyStruct (102 ∷ 105 ∷ 101 ∷ 108 ∷ 100 ∷ 115 ∷ 58 ∷ 58 ∷ 83 ∷ 101 ∷ 114 ∷ 105 ∷ 97 ∷ 108 ∷ [])
     (Syntax.tcons (Syntax.tyInt Syntax.w32) Syntax.tnil)) (Syntax.tcons (Syntax.tyStruct (110 ∷ 97 ∷ 109 ∷ 101 ∷ 115 ∷ 58 ∷ 58 ∷ 70 ∷ 111 ∷ 117 ∷ 114 ∷ [])
     (Syntax.tcons (Syntax.tyInt Syntax.w8) (Syntax.tcons (Syntax.tyInt Syntax.w8) (Syntax.tcons (Syntax.tyInt Syntax.w8) (Syntax.tcons (Syntax.tyInt Syntax.w8)
     Syntax.tnil))))) (Syntax.tcons (Syntax.tyInt Syntax.w8) (Syntax.tcons (Syntax.tyStruct (114 ∷ 101 ∷ 115 ∷ 105 ∷ 100 ∷ 117 ∷ 101 ∷ 58 ∷ 58 ∷ 82 ∷ 101 ∷ 115
@@ -176,10 +177,11 @@ xs = (Syntax.tyStruct (115 ∷ 116 ∷ 111 ∷ 114 ∷ 101 ∷ 58 ∷ 58 ∷ 78 
     (Syntax.ttcons (Syntax.tcons (Syntax.tyStruct (109 ∷ 97 ∷ 115 ∷ 116 ∷ 101 ∷ 114 ∷ 58 ∷ 58 ∷ 84 ∷ 97 ∷ 108 ∷ 108 ∷ 121 ∷ []) (Syntax.tcons (Syntax.tyInt
     Syntax.w32) (Syntax.tcons (Syntax.tyInt Syntax.w32) (Syntax.tcons (Syntax.tyInt Syntax.w32) (Syntax.tcons (Syntax.tyInt Syntax.w32) (Syntax.tcons
     (Syntax.tyInt Syntax.w32) (Syntax.tcons (Syntax.tyInt Syntax.w32) (Syntax.tcons (Syntax.tyInt Syntax.w32) (Syntax.tcons (Syntax.tyInt Syntax.w32)
-    (Syntax.tcons (Syntax.tyInt Syntax.w32) Syntax.tnil)))))))))) Syntax.tnil) (Syntax.ttcons Syntax.tnil Syntax.ttnil)))))))) Syntax.tnil) Syntax.ttnil))))) ∷
-    Syntax.tyBool ∷ Syntax.tyInt Syntax.w64 ∷ Syntax.tyInt Syntax.w64 ∷ Syntax.tyInt Syntax.w64 ∷ Syntax.tyBool ∷ Syntax.tyRef Syntax.erased Syntax.mut
-    SlotAs.pointee ∷ (Syntax.tyStruct (38 ∷ 91 ∷ 93 ∷ []) (Syntax.tcons (Syntax.tyRef Syntax.erased Syntax.mut SlotAs.pointee) (Syntax.tcons (Syntax.tyInt
-    Syntax.w64) Syntax.tnil))) ∷ []
+    (Syntax.tcons (Syntax.tyInt Syntax.w32) Syntax.tnil)))))))))) Syntax.tnil) (Syntax.ttcons Syntax.tnil (Syntax.ttcons (Syntax.tcons (Syntax.tyStruct (109 ∷
+    111 ∷ 100 ∷ 101 ∷ 108 ∷ 58 ∷ 58 ∷ 77 ∷ 111 ∷ 100 ∷ 101 ∷ 108 ∷ []) (Syntax.tcons (Syntax.tyInt Syntax.w32) Syntax.tnil)) Syntax.tnil) (Syntax.ttcons
+    Syntax.tnil Syntax.ttnil)))))))))) Syntax.tnil) Syntax.ttnil))))) ∷ Syntax.tyBool ∷ Syntax.tyInt Syntax.w64 ∷ Syntax.tyInt Syntax.w64 ∷ Syntax.tyInt
+    Syntax.w64 ∷ Syntax.tyBool ∷ Syntax.tyRef Syntax.erased Syntax.mut SlotAs.pointee ∷ (Syntax.tyStruct (38 ∷ 91 ∷ 93 ∷ []) (Syntax.tcons (Syntax.tyRef
+    Syntax.erased Syntax.mut SlotAs.pointee) (Syntax.tcons (Syntax.tyInt Syntax.w64) Syntax.tnil))) ∷ []
 
 abbrev pub m : Nat.ℕ
 m = 1
@@ -234,21 +236,20 @@ r·1 = Value.rVal record {
     }
 
 abbrev pub ps·2 : List.List (Kinds.PK 1)
-ps·2 = MutSlice.pMutS SlotAs.row 0 tt ∷ Num.pNum Syntax.w64 ∷ (Value.pVal record {
+ps·2 = MutSlice.pMutS SlotAs.row 0 tt ∷ Num.pNum Syntax.w64 ∷ Num.pNum Syntax.w32 ∷ (Value.pVal record {
   ty = Declared.row Line.the-type;
   one = Path'.refl;
-  val = Laws'3.val
-      Line.the-type Laws.the-laws;
+  val
+      = Laws'3.val Line.the-type Laws.the-laws;
   tells = Laws'3.tells Line.the-type Laws.the-laws;
   still = Laws'3.still Line.the-type Laws.the-copy Exit.yes;
-  row = Rows.whole
-      (Declared.row Line.the-type);
+  row
+      = Rows.whole (Declared.row Line.the-type);
   rd = λ x. x;
   mk = λ x. x;
 } λ M 𝓤 H A W. record {
   copies = Laws'3.copy Line.the-type Laws.the-copy 𝓤 H A W;
-  lawful =
-      Laws'3.lawful Line.the-type Laws.the-laws 𝓤 H A W tt;
+  lawful = Laws'3.lawful Line.the-type Laws.the-laws 𝓤 H A W tt;
   makes = Laws'3.makes Line.the-type Laws.the-plain 𝓤 H A;
   in-mem = Local.mem-whole 𝓤 H A W
       (Declared.row Line.the-type);
@@ -258,16 +259,41 @@ ps·2 = MutSlice.pMutS SlotAs.row 0 tt ∷ Num.pNum Syntax.w64 ∷ (Value.pVal r
 abbrev pub r·2 : Kinds.RK 1
 r·2 = Num.rNum Syntax.w64
 
+abbrev pub ps·3 : List.List (Kinds.PK 0)
+ps·3 = Num.pNum Syntax.w32 ∷ (Value.pVal record {
+  ty = Declared.row Line.the-type;
+  one = Path'.refl;
+  val = Laws'3.val Line.the-type Laws.the-laws;
+  tells =
+      Laws'3.tells Line.the-type Laws.the-laws;
+  still = Laws'3.still Line.the-type Laws.the-copy Exit.yes;
+  row = Rows.whole (Declared.row Line.the-type);
+  rd = λ
+      x. x;
+  mk = λ x. x;
+} λ M 𝓤 H A W. record {
+  copies = Laws'3.copy Line.the-type Laws.the-copy 𝓤 H A W;
+  lawful = Laws'3.lawful Line.the-type Laws.the-laws 𝓤 H
+      A W tt;
+  makes = Laws'3.makes Line.the-type Laws.the-plain 𝓤 H A;
+  in-mem = Local.mem-whole 𝓤 H A W (Declared.row Line.the-type);
+  of-mem = Local.whole-mem 𝓤
+      H A W (Declared.row Line.the-type);
+}) ∷ []
+
+abbrev pub r·3 : Kinds.RK 0
+r·3 = Num.rNum Syntax.w32
+
 abbrev pub hs : List.List Syntax.Home
 hs = Syntax.valueLocal ∷ Syntax.valueLocal ∷ Syntax.valueLocal ∷ Syntax.valueLocal ∷ Syntax.valueLocal ∷ Syntax.valueLocal ∷ Syntax.valueLocal ∷
     Syntax.valueLocal ∷ Syntax.valueLocal ∷ Syntax.valueLocal ∷ Syntax.valueLocal ∷ Syntax.valueLocal ∷ Syntax.valueLocal ∷ Syntax.valueLocal ∷
-    Syntax.valueLocal ∷ []
+    Syntax.valueLocal ∷ Syntax.valueLocal ∷ []
 
 abbrev b0 : Syntax.Body
 b0 = Syntax.call "store::survey::count_slots" (Syntax.copy (Syntax.place 1 []) ∷ []) (Syntax.place 3 [])
 
 abbrev b1 : Syntax.Body
-b1 = Syntax.assign (Syntax.place 8 []) (Syntax.op2 Syntax.ne (Syntax.copy (Syntax.place 3 (Syntax.field 0 ∷ []))) (Syntax.int Syntax.w8 0))
+b1 = Syntax.assign (Syntax.place 9 []) (Syntax.op2 Syntax.ne (Syntax.copy (Syntax.place 3 (Syntax.field 0 ∷ []))) (Syntax.int Syntax.w8 0))
 
 abbrev b2 : Syntax.Body
 b2 = Syntax.assign (Syntax.place 0 []) (Syntax.aggregate (Syntax.copy (Syntax.place 3 (Syntax.field 0 ∷ [])) ∷ Syntax.int Syntax.w64 0 ∷ []))
@@ -282,16 +308,16 @@ abbrev b5 : Syntax.Body
 b5 = Syntax.skip
 
 abbrev b6 : Syntax.Body
-b6 = Syntax.cond (Syntax.copy (Syntax.place 8 [])) b4 b5
+b6 = Syntax.cond (Syntax.copy (Syntax.place 9 [])) b4 b5
 
 abbrev b7 : Syntax.Body
 b7 = Syntax.assign (Syntax.place 4 []) (Syntax.rvOpd (Syntax.copy (Syntax.place 3 (Syntax.field 1 ∷ []))))
 
 abbrev b8 : Syntax.Body
-b8 = Syntax.assign (Syntax.place 9 []) (Syntax.rvOpd (Syntax.copy (Syntax.place 2 (Syntax.field 1 ∷ []))))
+b8 = Syntax.assign (Syntax.place 10 []) (Syntax.rvOpd (Syntax.copy (Syntax.place 2 (Syntax.field 1 ∷ []))))
 
 abbrev b9 : Syntax.Body
-b9 = Syntax.assign (Syntax.place 8 []) (Syntax.op2 (Syntax.lt Syntax.unsigned) (Syntax.copy (Syntax.place 9 [])) (Syntax.copy (Syntax.place 4
+b9 = Syntax.assign (Syntax.place 9 []) (Syntax.op2 (Syntax.lt Syntax.unsigned) (Syntax.copy (Syntax.place 10 [])) (Syntax.copy (Syntax.place 4
     [])))
 
 abbrev b10 : Syntax.Body
@@ -307,7 +333,7 @@ abbrev b13 : Syntax.Body
 b13 = Syntax.skip
 
 abbrev b14 : Syntax.Body
-b14 = Syntax.cond (Syntax.copy (Syntax.place 8 [])) b12 b13
+b14 = Syntax.cond (Syntax.copy (Syntax.place 9 [])) b12 b13
 
 abbrev b15 : Syntax.Body
 b15 = Syntax.assign (Syntax.place 5 []) (Syntax.rvOpd (Syntax.int Syntax.w64 0))
@@ -316,115 +342,128 @@ abbrev b16 : Syntax.Body
 b16 = Syntax.assign (Syntax.place 6 []) (Syntax.rvOpd (Syntax.int Syntax.w64 0))
 
 abbrev b17 : Syntax.Body
-b17 = Syntax.assign (Syntax.place 10 []) (Syntax.op2 (Syntax.mul Syntax.unsigned) (Syntax.int Syntax.w64 81) (Syntax.copy (Syntax.place 5 [])))
+b17 = Syntax.assign (Syntax.place 7 []) (Syntax.rvOpd (Syntax.int Syntax.w32 0))
 
 abbrev b18 : Syntax.Body
-b18 = Syntax.assign (Syntax.place 11 []) (Syntax.rvOpd (Syntax.copy (Syntax.place 1 (Syntax.field 1 ∷ []))))
+b18 = Syntax.assign (Syntax.place 11 []) (Syntax.op2 (Syntax.mul Syntax.unsigned) (Syntax.int Syntax.w64 81) (Syntax.copy (Syntax.place 5 [])))
 
 abbrev b19 : Syntax.Body
-b19 = Syntax.assign (Syntax.place 12 []) (Syntax.op2 (Syntax.lt Syntax.unsigned) (Syntax.copy (Syntax.place 10 [])) (Syntax.copy (Syntax.place 11
-    [])))
+b19 = Syntax.assign (Syntax.place 12 []) (Syntax.rvOpd (Syntax.copy (Syntax.place 1 (Syntax.field 1 ∷ []))))
 
 abbrev b20 : Syntax.Body
-b20 = Syntax.skip
+b20 = Syntax.assign (Syntax.place 13 []) (Syntax.op2 (Syntax.lt Syntax.unsigned) (Syntax.copy (Syntax.place 11 [])) (Syntax.copy (Syntax.place 12
+    [])))
 
 abbrev b21 : Syntax.Body
-b21 = Syntax.exit 1
+b21 = Syntax.skip
 
 abbrev b22 : Syntax.Body
-b22 = Syntax.cond (Syntax.copy (Syntax.place 12 [])) b20 b21
+b22 = Syntax.exit 1
 
 abbrev b23 : Syntax.Body
-b23 = Syntax.call "rows::line_at" (Syntax.copy (Syntax.place 1 []) ∷ Syntax.copy (Syntax.place 5 []) ∷ []) (Syntax.place 7 [])
+b23 = Syntax.cond (Syntax.copy (Syntax.place 13 [])) b21 b22
 
 abbrev b24 : Syntax.Body
-b24 = Syntax.assign (Syntax.place 13 []) (Syntax.addrOf (Syntax.place 2 (Syntax.field 0 ∷ Syntax.deref SlotAs.ty ∷ [])))
+b24 = Syntax.call "rows::line_at" (Syntax.copy (Syntax.place 1 []) ∷ Syntax.copy (Syntax.place 5 []) ∷ []) (Syntax.place 8 [])
 
 abbrev b25 : Syntax.Body
-b25 = Syntax.assign (Syntax.place 14 []) (Syntax.aggregate (Syntax.copy (Syntax.place 13 []) ∷ Syntax.copy (Syntax.place 2 (Syntax.field 1 ∷ [])) ∷
-    []))
+b25 = Syntax.assign (Syntax.place 14 []) (Syntax.addrOf (Syntax.place 2 (Syntax.field 0 ∷ Syntax.deref SlotAs.ty ∷ [])))
 
 abbrev b26 : Syntax.Body
-b26 = Syntax.call "store::put_slot" (Syntax.copy (Syntax.place 14 []) ∷ Syntax.copy (Syntax.place 6 []) ∷ Syntax.copy (Syntax.place 7 []) ∷ [])
-    (Syntax.place 6 [])
+b26 = Syntax.assign (Syntax.place 15 []) (Syntax.aggregate (Syntax.copy (Syntax.place 14 []) ∷ Syntax.copy (Syntax.place 2 (Syntax.field 1 ∷ [])) ∷
+    []))
 
 abbrev b27 : Syntax.Body
-b27 = Syntax.assign (Syntax.place 5 []) (Syntax.op2 (Syntax.add Syntax.unsigned) (Syntax.copy (Syntax.place 5 [])) (Syntax.int Syntax.w64 1))
+b27 = Syntax.call "store::put_slot" (Syntax.copy (Syntax.place 15 []) ∷ Syntax.copy (Syntax.place 6 []) ∷ Syntax.copy (Syntax.place 7 []) ∷
+    Syntax.copy (Syntax.place 8 []) ∷ []) (Syntax.place 6 [])
 
 abbrev b28 : Syntax.Body
-b28 = Syntax.seq b26 b27
+b28 = Syntax.call "marks::models::model_next" (Syntax.copy (Syntax.place 7 []) ∷ Syntax.copy (Syntax.place 8 []) ∷ []) (Syntax.place 7 [])
 
 abbrev b29 : Syntax.Body
-b29 = Syntax.seq b25 b28
+b29 = Syntax.assign (Syntax.place 5 []) (Syntax.op2 (Syntax.add Syntax.unsigned) (Syntax.copy (Syntax.place 5 [])) (Syntax.int Syntax.w64 1))
 
 abbrev b30 : Syntax.Body
-b30 = Syntax.seq b24 b29
+b30 = Syntax.seq b28 b29
 
 abbrev b31 : Syntax.Body
-b31 = Syntax.seq b23 b30
+b31 = Syntax.seq b27 b30
 
 abbrev b32 : Syntax.Body
-b32 = Syntax.seq b22 b31
+b32 = Syntax.seq b26 b31
 
 abbrev b33 : Syntax.Body
-b33 = Syntax.seq b19 b32
+b33 = Syntax.seq b25 b32
 
 abbrev b34 : Syntax.Body
-b34 = Syntax.seq b18 b33
+b34 = Syntax.seq b24 b33
 
 abbrev b35 : Syntax.Body
-b35 = Syntax.seq b17 b34
+b35 = Syntax.seq b23 b34
 
 abbrev b36 : Syntax.Body
-b36 = Syntax.loop b35
+b36 = Syntax.seq b20 b35
 
 abbrev b37 : Syntax.Body
-b37 = Syntax.block b36
+b37 = Syntax.seq b19 b36
 
 abbrev b38 : Syntax.Body
-b38 = Syntax.assign (Syntax.place 0 []) (Syntax.aggregate (Syntax.int Syntax.w8 0 ∷ Syntax.copy (Syntax.place 4 []) ∷ []))
+b38 = Syntax.seq b18 b37
 
 abbrev b39 : Syntax.Body
-b39 = Syntax.return
+b39 = Syntax.loop b38
 
 abbrev b40 : Syntax.Body
-b40 = Syntax.seq b38 b39
+b40 = Syntax.block b39
 
 abbrev b41 : Syntax.Body
-b41 = Syntax.seq b37 b40
+b41 = Syntax.assign (Syntax.place 0 []) (Syntax.aggregate (Syntax.int Syntax.w8 0 ∷ Syntax.copy (Syntax.place 4 []) ∷ []))
 
 abbrev b42 : Syntax.Body
-b42 = Syntax.seq b16 b41
+b42 = Syntax.return
 
 abbrev b43 : Syntax.Body
-b43 = Syntax.seq b15 b42
+b43 = Syntax.seq b41 b42
 
 abbrev b44 : Syntax.Body
-b44 = Syntax.seq b14 b43
+b44 = Syntax.seq b40 b43
 
 abbrev b45 : Syntax.Body
-b45 = Syntax.seq b9 b44
+b45 = Syntax.seq b17 b44
 
 abbrev b46 : Syntax.Body
-b46 = Syntax.seq b8 b45
+b46 = Syntax.seq b16 b45
 
 abbrev b47 : Syntax.Body
-b47 = Syntax.seq b7 b46
+b47 = Syntax.seq b15 b46
 
 abbrev b48 : Syntax.Body
-b48 = Syntax.seq b6 b47
+b48 = Syntax.seq b14 b47
 
 abbrev b49 : Syntax.Body
-b49 = Syntax.seq b1 b48
+b49 = Syntax.seq b9 b48
 
 abbrev b50 : Syntax.Body
-b50 = Syntax.seq b0 b49
+b50 = Syntax.seq b8 b49
+
+abbrev b51 : Syntax.Body
+b51 = Syntax.seq b7 b50
+
+abbrev b52 : Syntax.Body
+b52 = Syntax.seq b6 b51
+
+abbrev b53 : Syntax.Body
+b53 = Syntax.seq b1 b52
+
+abbrev b54 : Syntax.Body
+b54 = Syntax.seq b0 b53
 
 abbrev pub body : Syntax.Body
-body = b50
+body = b54
 
 abbrev pub Claims : Type 1
-Claims = Kinds.In 1 ps·0 × Kinds.Out 1 ps·0 r·0 × Kinds.In 1 ps·1 × Kinds.Out 1 ps·1 r·1 × Kinds.In 1 ps·2 × Kinds.Out 1 ps·2 r·2
+Claims = Kinds.In 1 ps·0 × Kinds.Out 1 ps·0 r·0 × Kinds.In 1 ps·1 × Kinds.Out 1 ps·1 r·1 × Kinds.In 1 ps·2 × Kinds.Out 1 ps·2 r·2 × Kinds.In 0 ps·3 × Kinds.Out
+    0 ps·3 r·3
 
 abbrev pub t0 : List.List Row.Entry
 t0 = (
@@ -444,2425 +483,34 @@ t0 = (
   6,
   Rows.any-gone
       (Syntax.tyInt Syntax.w64),
-) ∷ (
-  7,
-  Rows.any-gone (Syntax.tyEnum (112 ∷ 105 ∷ 101 ∷ 99 ∷ 101 ∷ 115 ∷ 58 ∷ 58 ∷ 76 ∷ 105 ∷ 110 ∷ 101 ∷ []) (Syntax.ttcons
-      (Syntax.tcons (Syntax.tyInt Syntax.w8) Syntax.tnil) (Syntax.ttcons (Syntax.tcons (Syntax.tyEnum (107 ∷ 105 ∷ 110 ∷ 100 ∷ 115 ∷ 58 ∷ 58 ∷ 75 ∷ 105 ∷ 110 ∷
-      100 ∷ []) (Syntax.ttcons Syntax.tnil (Syntax.ttcons Syntax.tnil (Syntax.ttcons Syntax.tnil (Syntax.ttcons Syntax.tnil (Syntax.ttcons Syntax.tnil
-      (Syntax.ttcons Syntax.tnil (Syntax.ttcons Syntax.tnil (Syntax.ttcons Syntax.tnil (Syntax.ttcons Syntax.tnil (Syntax.ttcons Syntax.tnil (Syntax.ttcons
-      Syntax.tnil (Syntax.ttcons Syntax.tnil (Syntax.ttcons Syntax.tnil (Syntax.ttcons Syntax.tnil (Syntax.ttcons Syntax.tnil (Syntax.ttcons Syntax.tnil
-      (Syntax.ttcons Syntax.tnil (Syntax.ttcons Syntax.tnil (Syntax.ttcons Syntax.tnil (Syntax.ttcons Syntax.tnil (Syntax.ttcons Syntax.tnil (Syntax.ttcons
-      Syntax.tnil (Syntax.ttcons Syntax.tnil (Syntax.ttcons Syntax.tnil (Syntax.ttcons Syntax.tnil (Syntax.ttcons Syntax.tnil (Syntax.ttcons Syntax.tnil
-      (Syntax.ttcons Syntax.tnil Syntax.ttnil))))))))))))))))))))))))))))) (Syntax.tcons (Syntax.tyInt Syntax.w32) Syntax.tnil)) (Syntax.ttcons (Syntax.tcons
-      (Syntax.tyEnum (107 ∷ 105 ∷ 110 ∷ 100 ∷ 115 ∷ 58 ∷ 58 ∷ 75 ∷ 105 ∷ 110 ∷ 100 ∷ []) (Syntax.ttcons Syntax.tnil (Syntax.ttcons Syntax.tnil (Syntax.ttcons
+) ∷ (7, Rows.any-gone (Syntax.tyInt Syntax.w32)) ∷ (
+  8,
+  Rows.any-gone (Syntax.tyEnum (112 ∷ 105 ∷ 101 ∷ 99 ∷ 101 ∷ 115 ∷ 58 ∷ 58 ∷
+      76 ∷ 105 ∷ 110 ∷ 101 ∷ []) (Syntax.ttcons (Syntax.tcons (Syntax.tyInt Syntax.w8) Syntax.tnil) (Syntax.ttcons (Syntax.tcons (Syntax.tyEnum (107 ∷ 105 ∷ 110
+      ∷ 100 ∷ 115 ∷ 58 ∷ 58 ∷ 75 ∷ 105 ∷ 110 ∷ 100 ∷ []) (Syntax.ttcons Syntax.tnil (Syntax.ttcons Syntax.tnil (Syntax.ttcons Syntax.tnil (Syntax.ttcons
       Syntax.tnil (Syntax.ttcons Syntax.tnil (Syntax.ttcons Syntax.tnil (Syntax.ttcons Syntax.tnil (Syntax.ttcons Syntax.tnil (Syntax.ttcons Syntax.tnil
       (Syntax.ttcons Syntax.tnil (Syntax.ttcons Syntax.tnil (Syntax.ttcons Syntax.tnil (Syntax.ttcons Syntax.tnil (Syntax.ttcons Syntax.tnil (Syntax.ttcons
       Syntax.tnil (Syntax.ttcons Syntax.tnil (Syntax.ttcons Syntax.tnil (Syntax.ttcons Syntax.tnil (Syntax.ttcons Syntax.tnil (Syntax.ttcons Syntax.tnil
       (Syntax.ttcons Syntax.tnil (Syntax.ttcons Syntax.tnil (Syntax.ttcons Syntax.tnil (Syntax.ttcons Syntax.tnil (Syntax.ttcons Syntax.tnil (Syntax.ttcons
-      Syntax.tnil (Syntax.ttcons Syntax.tnil (Syntax.ttcons Syntax.tnil (Syntax.ttcons Syntax.tnil Syntax.ttnil))))))))))))))))))))))))))))) Syntax.tnil)
-      (Syntax.ttcons (Syntax.tcons (Syntax.tyEnum (108 ∷ 105 ∷ 110 ∷ 101 ∷ 58 ∷ 58 ∷ 82 ∷ 101 ∷ 99 ∷ 111 ∷ 114 ∷ 100 ∷ []) (Syntax.ttcons (Syntax.tcons
-      Syntax.tyBool (Syntax.tcons (Syntax.tyStruct (99 ∷ 111 ∷ 111 ∷ 114 ∷ 100 ∷ 105 ∷ 110 ∷ 97 ∷ 116 ∷ 101 ∷ 58 ∷ 58 ∷ 65 ∷ 116 ∷ 111 ∷ 109 ∷ []) (Syntax.tcons
-      (Syntax.tyStruct (99 ∷ 111 ∷ 111 ∷ 114 ∷ 100 ∷ 105 ∷ 110 ∷ 97 ∷ 116 ∷ 101 ∷ 58 ∷ 58 ∷ 73 ∷ 100 ∷ 101 ∷ 110 ∷ 116 ∷ 105 ∷ 116 ∷ 121 ∷ []) (Syntax.tcons
-      (Syntax.tyStruct (102 ∷ 105 ∷ 101 ∷ 108 ∷ 100 ∷ 115 ∷ 58 ∷ 58 ∷ 83 ∷ 101 ∷ 114 ∷ 105 ∷ 97 ∷ 108 ∷ []) (Syntax.tcons (Syntax.tyInt Syntax.w32) Syntax.tnil))
-      (Syntax.tcons (Syntax.tyStruct (110 ∷ 97 ∷ 109 ∷ 101 ∷ 115 ∷ 58 ∷ 58 ∷ 70 ∷ 111 ∷ 117 ∷ 114 ∷ []) (Syntax.tcons (Syntax.tyInt Syntax.w8) (Syntax.tcons
-      (Syntax.tyInt Syntax.w8) (Syntax.tcons (Syntax.tyInt Syntax.w8) (Syntax.tcons (Syntax.tyInt Syntax.w8) Syntax.tnil))))) (Syntax.tcons (Syntax.tyInt
-      Syntax.w8) (Syntax.tcons (Syntax.tyStruct (114 ∷ 101 ∷ 115 ∷ 105 ∷ 100 ∷ 117 ∷ 101 ∷ 58 ∷ 58 ∷ 82 ∷ 101 ∷ 115 ∷ 105 ∷ 100 ∷ 117 ∷ 101 ∷ []) (Syntax.tcons
-      (Syntax.tyStruct (110 ∷ 97 ∷ 109 ∷ 101 ∷ 115 ∷ 58 ∷ 58 ∷ 84 ∷ 104 ∷ 114 ∷ 101 ∷ 101 ∷ []) (Syntax.tcons (Syntax.tyInt Syntax.w8) (Syntax.tcons
-      (Syntax.tyInt Syntax.w8) (Syntax.tcons (Syntax.tyInt Syntax.w8) Syntax.tnil)))) (Syntax.tcons (Syntax.tyInt Syntax.w8) (Syntax.tcons (Syntax.tyStruct (102
-      ∷ 105 ∷ 101 ∷ 108 ∷ 100 ∷ 115 ∷ 58 ∷ 58 ∷ 82 ∷ 101 ∷ 115 ∷ 105 ∷ 100 ∷ 117 ∷ 101 ∷ 78 ∷ 117 ∷ 109 ∷ 98 ∷ 101 ∷ 114 ∷ []) (Syntax.tcons (Syntax.tyInt
-      Syntax.w32) Syntax.tnil)) (Syntax.tcons (Syntax.tyInt Syntax.w8) Syntax.tnil))))) Syntax.tnil))))) (Syntax.tcons (Syntax.tyStruct (99 ∷ 111 ∷ 111 ∷ 114 ∷
-      100 ∷ 105 ∷ 110 ∷ 97 ∷ 116 ∷ 101 ∷ 58 ∷ 58 ∷ 77 ∷ 101 ∷ 97 ∷ 115 ∷ 117 ∷ 114 ∷ 101 ∷ []) (Syntax.tcons (Syntax.tyStruct (99 ∷ 111 ∷ 111 ∷ 114 ∷ 100 ∷ 105 ∷
-      110 ∷ 97 ∷ 116 ∷ 101 ∷ 58 ∷ 58 ∷ 80 ∷ 111 ∷ 115 ∷ 105 ∷ 116 ∷ 105 ∷ 111 ∷ 110 ∷ []) (Syntax.tcons (Syntax.tyInt Syntax.w32) (Syntax.tcons (Syntax.tyInt
-      Syntax.w32) (Syntax.tcons (Syntax.tyInt Syntax.w32) Syntax.tnil)))) (Syntax.tcons (Syntax.tyInt Syntax.w32) (Syntax.tcons (Syntax.tyInt Syntax.w32)
-      Syntax.tnil)))) (Syntax.tcons (Syntax.tyStruct (99 ∷ 111 ∷ 111 ∷ 114 ∷ 100 ∷ 105 ∷ 110 ∷ 97 ∷ 116 ∷ 101 ∷ 58 ∷ 58 ∷ 83 ∷ 112 ∷ 101 ∷ 99 ∷ 105 ∷ 101 ∷ 115 ∷
-      []) (Syntax.tcons (Syntax.tyStruct (110 ∷ 97 ∷ 109 ∷ 101 ∷ 115 ∷ 58 ∷ 58 ∷ 80 ∷ 97 ∷ 105 ∷ 114 ∷ []) (Syntax.tcons (Syntax.tyInt Syntax.w8) (Syntax.tcons
-      (Syntax.tyInt Syntax.w8) Syntax.tnil))) (Syntax.tcons (Syntax.tyStruct (110 ∷ 97 ∷ 109 ∷ 101 ∷ 115 ∷ 58 ∷ 58 ∷ 80 ∷ 97 ∷ 105 ∷ 114 ∷ []) (Syntax.tcons
-      (Syntax.tyInt Syntax.w8) (Syntax.tcons (Syntax.tyInt Syntax.w8) Syntax.tnil))) Syntax.tnil))) Syntax.tnil)))) Syntax.tnil)) (Syntax.ttcons (Syntax.tcons
-      (Syntax.tyStruct (116 ∷ 101 ∷ 114 ∷ 58 ∷ 58 ∷ 84 ∷ 101 ∷ 114 ∷ []) (Syntax.tcons (Syntax.tyStruct (102 ∷ 105 ∷ 101 ∷ 108 ∷ 100 ∷ 115 ∷ 58 ∷ 58 ∷ 83 ∷ 101 ∷
-      114 ∷ 105 ∷ 97 ∷ 108 ∷ []) (Syntax.tcons (Syntax.tyInt Syntax.w32) Syntax.tnil)) (Syntax.tcons (Syntax.tyStruct (114 ∷ 101 ∷ 115 ∷ 105 ∷ 100 ∷ 117 ∷ 101 ∷
-      58 ∷ 58 ∷ 82 ∷ 101 ∷ 115 ∷ 105 ∷ 100 ∷ 117 ∷ 101 ∷ []) (Syntax.tcons (Syntax.tyStruct (110 ∷ 97 ∷ 109 ∷ 101 ∷ 115 ∷ 58 ∷ 58 ∷ 84 ∷ 104 ∷ 114 ∷ 101 ∷ 101 ∷
-      []) (Syntax.tcons (Syntax.tyInt Syntax.w8) (Syntax.tcons (Syntax.tyInt Syntax.w8) (Syntax.tcons (Syntax.tyInt Syntax.w8) Syntax.tnil)))) (Syntax.tcons
-      (Syntax.tyInt Syntax.w8) (Syntax.tcons (Syntax.tyStruct (102 ∷ 105 ∷ 101 ∷ 108 ∷ 100 ∷ 115 ∷ 58 ∷ 58 ∷ 82 ∷ 101 ∷ 115 ∷ 105 ∷ 100 ∷ 117 ∷ 101 ∷ 78 ∷ 117 ∷
-      109 ∷ 98 ∷ 101 ∷ 114 ∷ []) (Syntax.tcons (Syntax.tyInt Syntax.w32) Syntax.tnil)) (Syntax.tcons (Syntax.tyInt Syntax.w8) Syntax.tnil))))) Syntax.tnil)))
-      Syntax.tnil) (Syntax.ttcons (Syntax.tcons (Syntax.tyStruct (104 ∷ 101 ∷ 108 ∷ 105 ∷ 120 ∷ 58 ∷ 58 ∷ 72 ∷ 101 ∷ 108 ∷ 105 ∷ 120 ∷ []) (Syntax.tcons
-      (Syntax.tyStruct (104 ∷ 101 ∷ 108 ∷ 105 ∷ 120 ∷ 58 ∷ 58 ∷ 69 ∷ 120 ∷ 116 ∷ 101 ∷ 110 ∷ 116 ∷ []) (Syntax.tcons (Syntax.tyInt Syntax.w32) (Syntax.tcons
-      (Syntax.tyStruct (110 ∷ 97 ∷ 109 ∷ 101 ∷ 115 ∷ 58 ∷ 58 ∷ 84 ∷ 104 ∷ 114 ∷ 101 ∷ 101 ∷ []) (Syntax.tcons (Syntax.tyInt Syntax.w8) (Syntax.tcons
-      (Syntax.tyInt Syntax.w8) (Syntax.tcons (Syntax.tyInt Syntax.w8) Syntax.tnil)))) (Syntax.tcons (Syntax.tyStruct (114 ∷ 101 ∷ 115 ∷ 105 ∷ 100 ∷ 117 ∷ 101 ∷
-      58 ∷ 58 ∷ 82 ∷ 101 ∷ 115 ∷ 105 ∷ 100 ∷ 117 ∷ 101 ∷ []) (Syntax.tcons (Syntax.tyStruct (110 ∷ 97 ∷ 109 ∷ 101 ∷ 115 ∷ 58 ∷ 58 ∷ 84 ∷ 104 ∷ 114 ∷ 101 ∷ 101 ∷
-      []) (Syntax.tcons (Syntax.tyInt Syntax.w8) (Syntax.tcons (Syntax.tyInt Syntax.w8) (Syntax.tcons (Syntax.tyInt Syntax.w8) Syntax.tnil)))) (Syntax.tcons
-      (Syntax.tyInt Syntax.w8) (Syntax.tcons (Syntax.tyStruct (102 ∷ 105 ∷ 101 ∷ 108 ∷ 100 ∷ 115 ∷ 58 ∷ 58 ∷ 82 ∷ 101 ∷ 115 ∷ 105 ∷ 100 ∷ 117 ∷ 101 ∷ 78 ∷ 117 ∷
-      109 ∷ 98 ∷ 101 ∷ 114 ∷ []) (Syntax.tcons (Syntax.tyInt Syntax.w32) Syntax.tnil)) (Syntax.tcons (Syntax.tyInt Syntax.w8) Syntax.tnil))))) (Syntax.tcons
-      (Syntax.tyStruct (114 ∷ 101 ∷ 115 ∷ 105 ∷ 100 ∷ 117 ∷ 101 ∷ 58 ∷ 58 ∷ 82 ∷ 101 ∷ 115 ∷ 105 ∷ 100 ∷ 117 ∷ 101 ∷ []) (Syntax.tcons (Syntax.tyStruct (110 ∷ 97
-      ∷ 109 ∷ 101 ∷ 115 ∷ 58 ∷ 58 ∷ 84 ∷ 104 ∷ 114 ∷ 101 ∷ 101 ∷ []) (Syntax.tcons (Syntax.tyInt Syntax.w8) (Syntax.tcons (Syntax.tyInt Syntax.w8) (Syntax.tcons
-      (Syntax.tyInt Syntax.w8) Syntax.tnil)))) (Syntax.tcons (Syntax.tyInt Syntax.w8) (Syntax.tcons (Syntax.tyStruct (102 ∷ 105 ∷ 101 ∷ 108 ∷ 100 ∷ 115 ∷ 58 ∷ 58
-      ∷ 82 ∷ 101 ∷ 115 ∷ 105 ∷ 100 ∷ 117 ∷ 101 ∷ 78 ∷ 117 ∷ 109 ∷ 98 ∷ 101 ∷ 114 ∷ []) (Syntax.tcons (Syntax.tyInt Syntax.w32) Syntax.tnil)) (Syntax.tcons
-      (Syntax.tyInt Syntax.w8) Syntax.tnil))))) Syntax.tnil))))) (Syntax.tcons (Syntax.tyInt Syntax.w32) (Syntax.tcons (Syntax.tyStruct (104 ∷ 101 ∷ 108 ∷ 105 ∷
-      120 ∷ 58 ∷ 58 ∷ 67 ∷ 111 ∷ 109 ∷ 109 ∷ 101 ∷ 110 ∷ 116 ∷ []) (Syntax.tcons (Syntax.tyInt Syntax.w64) (Syntax.tcons (Syntax.tyInt Syntax.w64) (Syntax.tcons
-      (Syntax.tyInt Syntax.w64) (Syntax.tcons (Syntax.tyInt Syntax.w64) Syntax.tnil))))) (Syntax.tcons (Syntax.tyInt Syntax.w32) Syntax.tnil))))) Syntax.tnil)
-      (Syntax.ttcons (Syntax.tcons (Syntax.tyStruct (115 ∷ 104 ∷ 101 ∷ 101 ∷ 116 ∷ 58 ∷ 58 ∷ 83 ∷ 104 ∷ 101 ∷ 101 ∷ 116 ∷ []) (Syntax.tcons (Syntax.tyStruct (115
-      ∷ 104 ∷ 101 ∷ 101 ∷ 116 ∷ 58 ∷ 58 ∷ 83 ∷ 116 ∷ 114 ∷ 97 ∷ 110 ∷ 100 ∷ []) (Syntax.tcons (Syntax.tyInt Syntax.w32) (Syntax.tcons (Syntax.tyStruct (110 ∷ 97
-      ∷ 109 ∷ 101 ∷ 115 ∷ 58 ∷ 58 ∷ 84 ∷ 104 ∷ 114 ∷ 101 ∷ 101 ∷ []) (Syntax.tcons (Syntax.tyInt Syntax.w8) (Syntax.tcons (Syntax.tyInt Syntax.w8) (Syntax.tcons
-      (Syntax.tyInt Syntax.w8) Syntax.tnil)))) (Syntax.tcons (Syntax.tyInt Syntax.w32) (Syntax.tcons (Syntax.tyStruct (114 ∷ 101 ∷ 115 ∷ 105 ∷ 100 ∷ 117 ∷ 101 ∷
-      58 ∷ 58 ∷ 82 ∷ 101 ∷ 115 ∷ 105 ∷ 100 ∷ 117 ∷ 101 ∷ []) (Syntax.tcons (Syntax.tyStruct (110 ∷ 97 ∷ 109 ∷ 101 ∷ 115 ∷ 58 ∷ 58 ∷ 84 ∷ 104 ∷ 114 ∷ 101 ∷ 101 ∷
-      []) (Syntax.tcons (Syntax.tyInt Syntax.w8) (Syntax.tcons (Syntax.tyInt Syntax.w8) (Syntax.tcons (Syntax.tyInt Syntax.w8) Syntax.tnil)))) (Syntax.tcons
-      (Syntax.tyInt Syntax.w8) (Syntax.tcons (Syntax.tyStruct (102 ∷ 105 ∷ 101 ∷ 108 ∷ 100 ∷ 115 ∷ 58 ∷ 58 ∷ 82 ∷ 101 ∷ 115 ∷ 105 ∷ 100 ∷ 117 ∷ 101 ∷ 78 ∷ 117 ∷
-      109 ∷ 98 ∷ 101 ∷ 114 ∷ []) (Syntax.tcons (Syntax.tyInt Syntax.w32) Syntax.tnil)) (Syntax.tcons (Syntax.tyInt Syntax.w8) Syntax.tnil))))) (Syntax.tcons
-      (Syntax.tyStruct (114 ∷ 101 ∷ 115 ∷ 105 ∷ 100 ∷ 117 ∷ 101 ∷ 58 ∷ 58 ∷ 82 ∷ 101 ∷ 115 ∷ 105 ∷ 100 ∷ 117 ∷ 101 ∷ []) (Syntax.tcons (Syntax.tyStruct (110 ∷ 97
-      ∷ 109 ∷ 101 ∷ 115 ∷ 58 ∷ 58 ∷ 84 ∷ 104 ∷ 114 ∷ 101 ∷ 101 ∷ []) (Syntax.tcons (Syntax.tyInt Syntax.w8) (Syntax.tcons (Syntax.tyInt Syntax.w8) (Syntax.tcons
-      (Syntax.tyInt Syntax.w8) Syntax.tnil)))) (Syntax.tcons (Syntax.tyInt Syntax.w8) (Syntax.tcons (Syntax.tyStruct (102 ∷ 105 ∷ 101 ∷ 108 ∷ 100 ∷ 115 ∷ 58 ∷ 58
-      ∷ 82 ∷ 101 ∷ 115 ∷ 105 ∷ 100 ∷ 117 ∷ 101 ∷ 78 ∷ 117 ∷ 109 ∷ 98 ∷ 101 ∷ 114 ∷ []) (Syntax.tcons (Syntax.tyInt Syntax.w32) Syntax.tnil)) (Syntax.tcons
-      (Syntax.tyInt Syntax.w8) Syntax.tnil))))) (Syntax.tcons (Syntax.tyInt Syntax.w32) Syntax.tnil))))))) (Syntax.tcons (Syntax.tyEnum (115 ∷ 104 ∷ 101 ∷ 101 ∷
-      116 ∷ 58 ∷ 58 ∷ 82 ∷ 101 ∷ 103 ∷ 105 ∷ 115 ∷ 116 ∷ 114 ∷ 97 ∷ 116 ∷ 105 ∷ 111 ∷ 110 ∷ []) (Syntax.ttcons Syntax.tnil (Syntax.ttcons (Syntax.tcons
-      (Syntax.tyStruct (115 ∷ 104 ∷ 101 ∷ 101 ∷ 116 ∷ 58 ∷ 58 ∷ 66 ∷ 111 ∷ 110 ∷ 100 ∷ []) (Syntax.tcons (Syntax.tyStruct (110 ∷ 97 ∷ 109 ∷ 101 ∷ 115 ∷ 58 ∷ 58 ∷
-      70 ∷ 111 ∷ 117 ∷ 114 ∷ []) (Syntax.tcons (Syntax.tyInt Syntax.w8) (Syntax.tcons (Syntax.tyInt Syntax.w8) (Syntax.tcons (Syntax.tyInt Syntax.w8)
-      (Syntax.tcons (Syntax.tyInt Syntax.w8) Syntax.tnil))))) (Syntax.tcons (Syntax.tyStruct (114 ∷ 101 ∷ 115 ∷ 105 ∷ 100 ∷ 117 ∷ 101 ∷ 58 ∷ 58 ∷ 82 ∷ 101 ∷ 115
+      Syntax.tnil (Syntax.ttcons Syntax.tnil (Syntax.ttcons Syntax.tnil (Syntax.ttcons Syntax.tnil (Syntax.ttcons Syntax.tnil
+      Syntax.ttnil))))))))))))))))))))))))))))))) (Syntax.tcons (Syntax.tyInt Syntax.w32) Syntax.tnil)) (Syntax.ttcons (Syntax.tcons (Syntax.tyEnum (107 ∷ 105 ∷
+      110 ∷ 100 ∷ 115 ∷ 58 ∷ 58 ∷ 75 ∷ 105 ∷ 110 ∷ 100 ∷ []) (Syntax.ttcons Syntax.tnil (Syntax.ttcons Syntax.tnil (Syntax.ttcons Syntax.tnil (Syntax.ttcons
+      Syntax.tnil (Syntax.ttcons Syntax.tnil (Syntax.ttcons Syntax.tnil (Syntax.ttcons Syntax.tnil (Syntax.ttcons Syntax.tnil (Syntax.ttcons Syntax.tnil
+      (Syntax.ttcons Syntax.tnil (Syntax.ttcons Syntax.tnil (Syntax.ttcons Syntax.tnil (Syntax.ttcons Syntax.tnil (Syntax.ttcons Syntax.tnil (Syntax.ttcons
+      Syntax.tnil (Syntax.ttcons Syntax.tnil (Syntax.ttcons Syntax.tnil (Syntax.ttcons Syntax.tnil (Syntax.ttcons Syntax.tnil (Syntax.ttcons Syntax.tnil
+      (Syntax.ttcons Syntax.tnil (Syntax.ttcons Syntax.tnil (Syntax.ttcons Syntax.tnil (Syntax.ttcons Syntax.tnil (Syntax.ttcons Syntax.tnil (Syntax.ttcons
+      Syntax.tnil (Syntax.ttcons Syntax.tnil (Syntax.ttcons Syntax.tnil (Syntax.ttcons Syntax.tnil (Syntax.ttcons Syntax.tnil
+      Syntax.ttnil))))))))))))))))))))))))))))))) Syntax.tnil) (Syntax.ttcons (Syntax.tcons (Syntax.tyEnum (108 ∷ 105 ∷ 110 ∷ 101 ∷ 58 ∷ 58 ∷ 82 ∷ 101 ∷ 99 ∷ 111
+      ∷ 114 ∷ 100 ∷ []) (Syntax.ttcons (Syntax.tcons Syntax.tyBool (Syntax.tcons (Syntax.tyStruct (99 ∷ 111 ∷ 111 ∷ 114 ∷ 100 ∷ 105 ∷ 110 ∷ 97 ∷ 116 ∷ 101 ∷ 58 ∷
+      58 ∷ 65 ∷ 116 ∷ 111 ∷ 109 ∷ []) (Syntax.tcons (Syntax.tyStruct (99 ∷ 111 ∷ 111 ∷ 114 ∷ 100 ∷ 105 ∷ 110 ∷ 97 ∷ 116 ∷ 101 ∷ 58 ∷ 58 ∷ 73 ∷ 100 ∷ 101 ∷ 110 ∷
+      116 ∷ 105 ∷ 116 ∷ 121 ∷ []) (Syntax.tcons (Syntax.tyStruct (102 ∷ 105 ∷ 101 ∷ 108 ∷ 100 ∷ 115 ∷ 58 ∷ 58 ∷ 83 ∷ 101 ∷ 114 ∷ 105 ∷ 97 ∷ 108 ∷ [])
+      (Syntax.tcons (Syntax.tyInt Syntax.w32) Syntax.tnil)) (Syntax.tcons (Syntax.tyStruct (110 ∷ 97 ∷ 109 ∷ 101 ∷ 115 ∷ 58 ∷ 58 ∷ 70 ∷ 111 ∷ 117 ∷ 114 ∷ [])
+      (Syntax.tcons (Syntax.tyInt Syntax.w8) (Syntax.tcons (Syntax.tyInt Syntax.w8) (Syntax.tcons (Syntax.tyInt Syntax.w8) (Syntax.tcons (Syntax.tyInt Syntax.w8)
+      Syntax.tnil))))) (Syntax.tcons (Syntax.tyInt Syntax.w8) (Syntax.tcons (Syntax.tyStruct (114 ∷ 101 ∷ 115 ∷ 105 ∷ 100 ∷ 117 ∷ 101 ∷ 58 ∷ 58 ∷ 82 ∷ 101 ∷ 115
       ∷ 105 ∷ 100 ∷ 117 ∷ 101 ∷ []) (Syntax.tcons (Syntax.tyStruct (110 ∷ 97 ∷ 109 ∷ 101 ∷ 115 ∷ 58 ∷ 58 ∷ 84 ∷ 104 ∷ 114 ∷ 101 ∷ 101 ∷ []) (Syntax.tcons
       (Syntax.tyInt Syntax.w8) (Syntax.tcons (Syntax.tyInt Syntax.w8) (Syntax.tcons (Syntax.tyInt Syntax.w8) Syntax.tnil)))) (Syntax.tcons (Syntax.tyInt
       Syntax.w8) (Syntax.tcons (Syntax.tyStruct (102 ∷ 105 ∷ 101 ∷ 108 ∷ 100 ∷ 115 ∷ 58 ∷ 58 ∷ 82 ∷ 101 ∷ 115 ∷ 105 ∷ 100 ∷ 117 ∷ 101 ∷ 78 ∷ 117 ∷ 109 ∷ 98 ∷ 101
-      ∷ 114 ∷ []) (Syntax.tcons (Syntax.tyInt Syntax.w32) Syntax.tnil)) (Syntax.tcons (Syntax.tyInt Syntax.w8) Syntax.tnil))))) (Syntax.tcons (Syntax.tyStruct
-      (110 ∷ 97 ∷ 109 ∷ 101 ∷ 115 ∷ 58 ∷ 58 ∷ 70 ∷ 111 ∷ 117 ∷ 114 ∷ []) (Syntax.tcons (Syntax.tyInt Syntax.w8) (Syntax.tcons (Syntax.tyInt Syntax.w8)
-      (Syntax.tcons (Syntax.tyInt Syntax.w8) (Syntax.tcons (Syntax.tyInt Syntax.w8) Syntax.tnil))))) (Syntax.tcons (Syntax.tyStruct (114 ∷ 101 ∷ 115 ∷ 105 ∷ 100
-      ∷ 117 ∷ 101 ∷ 58 ∷ 58 ∷ 82 ∷ 101 ∷ 115 ∷ 105 ∷ 100 ∷ 117 ∷ 101 ∷ []) (Syntax.tcons (Syntax.tyStruct (110 ∷ 97 ∷ 109 ∷ 101 ∷ 115 ∷ 58 ∷ 58 ∷ 84 ∷ 104 ∷ 114
-      ∷ 101 ∷ 101 ∷ []) (Syntax.tcons (Syntax.tyInt Syntax.w8) (Syntax.tcons (Syntax.tyInt Syntax.w8) (Syntax.tcons (Syntax.tyInt Syntax.w8) Syntax.tnil))))
-      (Syntax.tcons (Syntax.tyInt Syntax.w8) (Syntax.tcons (Syntax.tyStruct (102 ∷ 105 ∷ 101 ∷ 108 ∷ 100 ∷ 115 ∷ 58 ∷ 58 ∷ 82 ∷ 101 ∷ 115 ∷ 105 ∷ 100 ∷ 117 ∷ 101
-      ∷ 78 ∷ 117 ∷ 109 ∷ 98 ∷ 101 ∷ 114 ∷ []) (Syntax.tcons (Syntax.tyInt Syntax.w32) Syntax.tnil)) (Syntax.tcons (Syntax.tyInt Syntax.w8) Syntax.tnil)))))
-      Syntax.tnil))))) Syntax.tnil) Syntax.ttnil))) Syntax.tnil))) Syntax.tnil) (Syntax.ttcons (Syntax.tcons (Syntax.tyStruct (99 ∷ 111 ∷ 110 ∷ 101 ∷ 99 ∷ 116 ∷
-      58 ∷ 58 ∷ 67 ∷ 111 ∷ 110 ∷ 101 ∷ 99 ∷ 116 ∷ []) (Syntax.tcons (Syntax.tyStruct (102 ∷ 105 ∷ 101 ∷ 108 ∷ 100 ∷ 115 ∷ 58 ∷ 58 ∷ 83 ∷ 101 ∷ 114 ∷ 105 ∷ 97 ∷
-      108 ∷ []) (Syntax.tcons (Syntax.tyInt Syntax.w32) Syntax.tnil)) (Syntax.tcons (Syntax.tyStruct (102 ∷ 105 ∷ 101 ∷ 108 ∷ 100 ∷ 115 ∷ 58 ∷ 58 ∷ 83 ∷ 101 ∷
-      114 ∷ 105 ∷ 97 ∷ 108 ∷ []) (Syntax.tcons (Syntax.tyInt Syntax.w32) Syntax.tnil)) (Syntax.tcons (Syntax.tyStruct (102 ∷ 105 ∷ 101 ∷ 108 ∷ 100 ∷ 115 ∷ 58 ∷
-      58 ∷ 83 ∷ 101 ∷ 114 ∷ 105 ∷ 97 ∷ 108 ∷ []) (Syntax.tcons (Syntax.tyInt Syntax.w32) Syntax.tnil)) (Syntax.tcons (Syntax.tyStruct (102 ∷ 105 ∷ 101 ∷ 108 ∷
-      100 ∷ 115 ∷ 58 ∷ 58 ∷ 83 ∷ 101 ∷ 114 ∷ 105 ∷ 97 ∷ 108 ∷ []) (Syntax.tcons (Syntax.tyInt Syntax.w32) Syntax.tnil)) (Syntax.tcons (Syntax.tyStruct (102 ∷ 105
-      ∷ 101 ∷ 108 ∷ 100 ∷ 115 ∷ 58 ∷ 58 ∷ 83 ∷ 101 ∷ 114 ∷ 105 ∷ 97 ∷ 108 ∷ []) (Syntax.tcons (Syntax.tyInt Syntax.w32) Syntax.tnil)) Syntax.tnil))))))
-      Syntax.tnil) (Syntax.ttcons (Syntax.tcons (Syntax.tyStruct (109 ∷ 97 ∷ 115 ∷ 116 ∷ 101 ∷ 114 ∷ 58 ∷ 58 ∷ 84 ∷ 97 ∷ 108 ∷ 108 ∷ 121 ∷ []) (Syntax.tcons
-      (Syntax.tyInt Syntax.w32) (Syntax.tcons (Syntax.tyInt Syntax.w32) (Syntax.tcons (Syntax.tyInt Syntax.w32) (Syntax.tcons (Syntax.tyInt Syntax.w32)
-      (Syntax.tcons (Syntax.tyInt Syntax.w32) (Syntax.tcons (Syntax.tyInt Syntax.w32) (Syntax.tcons (Syntax.tyInt Syntax.w32) (Syntax.tcons (Syntax.tyInt
-      Syntax.w32) (Syntax.tcons (Syntax.tyInt Syntax.w32) Syntax.tnil)))))))))) Syntax.tnil) (Syntax.ttcons Syntax.tnil Syntax.ttnil)))))))) Syntax.tnil)
-      Syntax.ttnil))))),
-) ∷ (8, Rows.any-gone Syntax.tyBool) ∷ (9, Rows.any-gone (Syntax.tyInt Syntax.w64)) ∷ (10, Rows.any-gone (Syntax.tyInt Syntax.w64)) ∷ (
-  11,
-  Rows.any-gone (Syntax.tyInt Syntax.w64),
-) ∷ (12, Rows.any-gone Syntax.tyBool) ∷ (13, Rows.any-gone (Syntax.tyRef Syntax.erased Syntax.mut SlotAs.pointee)) ∷ (
-  14,
-  Rows.any-gone (Syntax.tyStruct (38 ∷ 91 ∷ 93 ∷ []) (Syntax.tcons (Syntax.tyRef Syntax.erased Syntax.mut SlotAs.pointee) (Syntax.tcons (Syntax.tyInt
-      Syntax.w64) Syntax.tnil))),
-) ∷ []
-
-abbrev pub t1 : List.List Row.Entry
-t1 = (0, Rows.whole (Declared'.row Outcome.the-type)) ∷ (
-  1,
-  Rows.sslice (Referent.rtF (Referent.fInt Syntax.w8)) (Syntax.tyRef (Syntax.named 0) Syntax.imm
-      (Syntax.tyInt Syntax.w8)) 0,
-) ∷ (2, Mut.mslice SlotAs.row (Syntax.tyRef (Syntax.named 1) Syntax.mut SlotAs.pointee) 1) ∷ (
-  3,
-  Rows.any-gone (Syntax.tyStruct
-      (115 ∷ 116 ∷ 111 ∷ 114 ∷ 101 ∷ 58 ∷ 58 ∷ 78 ∷ 101 ∷ 101 ∷ 100 ∷ 115 ∷ []) (Syntax.tcons (Syntax.tyInt Syntax.w8) (Syntax.tcons (Syntax.tyInt Syntax.w64)
-      Syntax.tnil))),
-) ∷ (4, Rows.any-gone (Syntax.tyInt Syntax.w64)) ∷ (5, Rows.any-gone (Syntax.tyInt Syntax.w64)) ∷ (
-  6,
-  Rows.any-gone (Syntax.tyInt
-      Syntax.w64),
-) ∷ (
-  7,
-  Rows.any-gone (Syntax.tyEnum (112 ∷ 105 ∷ 101 ∷ 99 ∷ 101 ∷ 115 ∷ 58 ∷ 58 ∷ 76 ∷ 105 ∷ 110 ∷ 101 ∷ []) (Syntax.ttcons (Syntax.tcons
-      (Syntax.tyInt Syntax.w8) Syntax.tnil) (Syntax.ttcons (Syntax.tcons (Syntax.tyEnum (107 ∷ 105 ∷ 110 ∷ 100 ∷ 115 ∷ 58 ∷ 58 ∷ 75 ∷ 105 ∷ 110 ∷ 100 ∷ [])
-      (Syntax.ttcons Syntax.tnil (Syntax.ttcons Syntax.tnil (Syntax.ttcons Syntax.tnil (Syntax.ttcons Syntax.tnil (Syntax.ttcons Syntax.tnil (Syntax.ttcons
-      Syntax.tnil (Syntax.ttcons Syntax.tnil (Syntax.ttcons Syntax.tnil (Syntax.ttcons Syntax.tnil (Syntax.ttcons Syntax.tnil (Syntax.ttcons Syntax.tnil
-      (Syntax.ttcons Syntax.tnil (Syntax.ttcons Syntax.tnil (Syntax.ttcons Syntax.tnil (Syntax.ttcons Syntax.tnil (Syntax.ttcons Syntax.tnil (Syntax.ttcons
-      Syntax.tnil (Syntax.ttcons Syntax.tnil (Syntax.ttcons Syntax.tnil (Syntax.ttcons Syntax.tnil (Syntax.ttcons Syntax.tnil (Syntax.ttcons Syntax.tnil
-      (Syntax.ttcons Syntax.tnil (Syntax.ttcons Syntax.tnil (Syntax.ttcons Syntax.tnil (Syntax.ttcons Syntax.tnil (Syntax.ttcons Syntax.tnil (Syntax.ttcons
-      Syntax.tnil Syntax.ttnil))))))))))))))))))))))))))))) (Syntax.tcons (Syntax.tyInt Syntax.w32) Syntax.tnil)) (Syntax.ttcons (Syntax.tcons (Syntax.tyEnum
-      (107 ∷ 105 ∷ 110 ∷ 100 ∷ 115 ∷ 58 ∷ 58 ∷ 75 ∷ 105 ∷ 110 ∷ 100 ∷ []) (Syntax.ttcons Syntax.tnil (Syntax.ttcons Syntax.tnil (Syntax.ttcons Syntax.tnil
-      (Syntax.ttcons Syntax.tnil (Syntax.ttcons Syntax.tnil (Syntax.ttcons Syntax.tnil (Syntax.ttcons Syntax.tnil (Syntax.ttcons Syntax.tnil (Syntax.ttcons
-      Syntax.tnil (Syntax.ttcons Syntax.tnil (Syntax.ttcons Syntax.tnil (Syntax.ttcons Syntax.tnil (Syntax.ttcons Syntax.tnil (Syntax.ttcons Syntax.tnil
-      (Syntax.ttcons Syntax.tnil (Syntax.ttcons Syntax.tnil (Syntax.ttcons Syntax.tnil (Syntax.ttcons Syntax.tnil (Syntax.ttcons Syntax.tnil (Syntax.ttcons
-      Syntax.tnil (Syntax.ttcons Syntax.tnil (Syntax.ttcons Syntax.tnil (Syntax.ttcons Syntax.tnil (Syntax.ttcons Syntax.tnil (Syntax.ttcons Syntax.tnil
-      (Syntax.ttcons Syntax.tnil (Syntax.ttcons Syntax.tnil (Syntax.ttcons Syntax.tnil Syntax.ttnil))))))))))))))))))))))))))))) Syntax.tnil) (Syntax.ttcons
-      (Syntax.tcons (Syntax.tyEnum (108 ∷ 105 ∷ 110 ∷ 101 ∷ 58 ∷ 58 ∷ 82 ∷ 101 ∷ 99 ∷ 111 ∷ 114 ∷ 100 ∷ []) (Syntax.ttcons (Syntax.tcons Syntax.tyBool
-      (Syntax.tcons (Syntax.tyStruct (99 ∷ 111 ∷ 111 ∷ 114 ∷ 100 ∷ 105 ∷ 110 ∷ 97 ∷ 116 ∷ 101 ∷ 58 ∷ 58 ∷ 65 ∷ 116 ∷ 111 ∷ 109 ∷ []) (Syntax.tcons
-      (Syntax.tyStruct (99 ∷ 111 ∷ 111 ∷ 114 ∷ 100 ∷ 105 ∷ 110 ∷ 97 ∷ 116 ∷ 101 ∷ 58 ∷ 58 ∷ 73 ∷ 100 ∷ 101 ∷ 110 ∷ 116 ∷ 105 ∷ 116 ∷ 121 ∷ []) (Syntax.tcons
-      (Syntax.tyStruct (102 ∷ 105 ∷ 101 ∷ 108 ∷ 100 ∷ 115 ∷ 58 ∷ 58 ∷ 83 ∷ 101 ∷ 114 ∷ 105 ∷ 97 ∷ 108 ∷ []) (Syntax.tcons (Syntax.tyInt Syntax.w32) Syntax.tnil))
-      (Syntax.tcons (Syntax.tyStruct (110 ∷ 97 ∷ 109 ∷ 101 ∷ 115 ∷ 58 ∷ 58 ∷ 70 ∷ 111 ∷ 117 ∷ 114 ∷ []) (Syntax.tcons (Syntax.tyInt Syntax.w8) (Syntax.tcons
-      (Syntax.tyInt Syntax.w8) (Syntax.tcons (Syntax.tyInt Syntax.w8) (Syntax.tcons (Syntax.tyInt Syntax.w8) Syntax.tnil))))) (Syntax.tcons (Syntax.tyInt
-      Syntax.w8) (Syntax.tcons (Syntax.tyStruct (114 ∷ 101 ∷ 115 ∷ 105 ∷ 100 ∷ 117 ∷ 101 ∷ 58 ∷ 58 ∷ 82 ∷ 101 ∷ 115 ∷ 105 ∷ 100 ∷ 117 ∷ 101 ∷ []) (Syntax.tcons
-      (Syntax.tyStruct (110 ∷ 97 ∷ 109 ∷ 101 ∷ 115 ∷ 58 ∷ 58 ∷ 84 ∷ 104 ∷ 114 ∷ 101 ∷ 101 ∷ []) (Syntax.tcons (Syntax.tyInt Syntax.w8) (Syntax.tcons
-      (Syntax.tyInt Syntax.w8) (Syntax.tcons (Syntax.tyInt Syntax.w8) Syntax.tnil)))) (Syntax.tcons (Syntax.tyInt Syntax.w8) (Syntax.tcons (Syntax.tyStruct (102
-      ∷ 105 ∷ 101 ∷ 108 ∷ 100 ∷ 115 ∷ 58 ∷ 58 ∷ 82 ∷ 101 ∷ 115 ∷ 105 ∷ 100 ∷ 117 ∷ 101 ∷ 78 ∷ 117 ∷ 109 ∷ 98 ∷ 101 ∷ 114 ∷ []) (Syntax.tcons (Syntax.tyInt
-      Syntax.w32) Syntax.tnil)) (Syntax.tcons (Syntax.tyInt Syntax.w8) Syntax.tnil))))) Syntax.tnil))))) (Syntax.tcons (Syntax.tyStruct (99 ∷ 111 ∷ 111 ∷ 114 ∷
-      100 ∷ 105 ∷ 110 ∷ 97 ∷ 116 ∷ 101 ∷ 58 ∷ 58 ∷ 77 ∷ 101 ∷ 97 ∷ 115 ∷ 117 ∷ 114 ∷ 101 ∷ []) (Syntax.tcons (Syntax.tyStruct (99 ∷ 111 ∷ 111 ∷ 114 ∷ 100 ∷ 105 ∷
-      110 ∷ 97 ∷ 116 ∷ 101 ∷ 58 ∷ 58 ∷ 80 ∷ 111 ∷ 115 ∷ 105 ∷ 116 ∷ 105 ∷ 111 ∷ 110 ∷ []) (Syntax.tcons (Syntax.tyInt Syntax.w32) (Syntax.tcons (Syntax.tyInt
-      Syntax.w32) (Syntax.tcons (Syntax.tyInt Syntax.w32) Syntax.tnil)))) (Syntax.tcons (Syntax.tyInt Syntax.w32) (Syntax.tcons (Syntax.tyInt Syntax.w32)
-      Syntax.tnil)))) (Syntax.tcons (Syntax.tyStruct (99 ∷ 111 ∷ 111 ∷ 114 ∷ 100 ∷ 105 ∷ 110 ∷ 97 ∷ 116 ∷ 101 ∷ 58 ∷ 58 ∷ 83 ∷ 112 ∷ 101 ∷ 99 ∷ 105 ∷ 101 ∷ 115 ∷
-      []) (Syntax.tcons (Syntax.tyStruct (110 ∷ 97 ∷ 109 ∷ 101 ∷ 115 ∷ 58 ∷ 58 ∷ 80 ∷ 97 ∷ 105 ∷ 114 ∷ []) (Syntax.tcons (Syntax.tyInt Syntax.w8) (Syntax.tcons
-      (Syntax.tyInt Syntax.w8) Syntax.tnil))) (Syntax.tcons (Syntax.tyStruct (110 ∷ 97 ∷ 109 ∷ 101 ∷ 115 ∷ 58 ∷ 58 ∷ 80 ∷ 97 ∷ 105 ∷ 114 ∷ []) (Syntax.tcons
-      (Syntax.tyInt Syntax.w8) (Syntax.tcons (Syntax.tyInt Syntax.w8) Syntax.tnil))) Syntax.tnil))) Syntax.tnil)))) Syntax.tnil)) (Syntax.ttcons (Syntax.tcons
-      (Syntax.tyStruct (116 ∷ 101 ∷ 114 ∷ 58 ∷ 58 ∷ 84 ∷ 101 ∷ 114 ∷ []) (Syntax.tcons (Syntax.tyStruct (102 ∷ 105 ∷ 101 ∷ 108 ∷ 100 ∷ 115 ∷ 58 ∷ 58 ∷ 83 ∷ 101 ∷
-      114 ∷ 105 ∷ 97 ∷ 108 ∷ []) (Syntax.tcons (Syntax.tyInt Syntax.w32) Syntax.tnil)) (Syntax.tcons (Syntax.tyStruct (114 ∷ 101 ∷ 115 ∷ 105 ∷ 100 ∷ 117 ∷ 101 ∷
-      58 ∷ 58 ∷ 82 ∷ 101 ∷ 115 ∷ 105 ∷ 100 ∷ 117 ∷ 101 ∷ []) (Syntax.tcons (Syntax.tyStruct (110 ∷ 97 ∷ 109 ∷ 101 ∷ 115 ∷ 58 ∷ 58 ∷ 84 ∷ 104 ∷ 114 ∷ 101 ∷ 101 ∷
-      []) (Syntax.tcons (Syntax.tyInt Syntax.w8) (Syntax.tcons (Syntax.tyInt Syntax.w8) (Syntax.tcons (Syntax.tyInt Syntax.w8) Syntax.tnil)))) (Syntax.tcons
-      (Syntax.tyInt Syntax.w8) (Syntax.tcons (Syntax.tyStruct (102 ∷ 105 ∷ 101 ∷ 108 ∷ 100 ∷ 115 ∷ 58 ∷ 58 ∷ 82 ∷ 101 ∷ 115 ∷ 105 ∷ 100 ∷ 117 ∷ 101 ∷ 78 ∷ 117 ∷
-      109 ∷ 98 ∷ 101 ∷ 114 ∷ []) (Syntax.tcons (Syntax.tyInt Syntax.w32) Syntax.tnil)) (Syntax.tcons (Syntax.tyInt Syntax.w8) Syntax.tnil))))) Syntax.tnil)))
-      Syntax.tnil) (Syntax.ttcons (Syntax.tcons (Syntax.tyStruct (104 ∷ 101 ∷ 108 ∷ 105 ∷ 120 ∷ 58 ∷ 58 ∷ 72 ∷ 101 ∷ 108 ∷ 105 ∷ 120 ∷ []) (Syntax.tcons
-      (Syntax.tyStruct (104 ∷ 101 ∷ 108 ∷ 105 ∷ 120 ∷ 58 ∷ 58 ∷ 69 ∷ 120 ∷ 116 ∷ 101 ∷ 110 ∷ 116 ∷ []) (Syntax.tcons (Syntax.tyInt Syntax.w32) (Syntax.tcons
-      (Syntax.tyStruct (110 ∷ 97 ∷ 109 ∷ 101 ∷ 115 ∷ 58 ∷ 58 ∷ 84 ∷ 104 ∷ 114 ∷ 101 ∷ 101 ∷ []) (Syntax.tcons (Syntax.tyInt Syntax.w8) (Syntax.tcons
-      (Syntax.tyInt Syntax.w8) (Syntax.tcons (Syntax.tyInt Syntax.w8) Syntax.tnil)))) (Syntax.tcons (Syntax.tyStruct (114 ∷ 101 ∷ 115 ∷ 105 ∷ 100 ∷ 117 ∷ 101 ∷
-      58 ∷ 58 ∷ 82 ∷ 101 ∷ 115 ∷ 105 ∷ 100 ∷ 117 ∷ 101 ∷ []) (Syntax.tcons (Syntax.tyStruct (110 ∷ 97 ∷ 109 ∷ 101 ∷ 115 ∷ 58 ∷ 58 ∷ 84 ∷ 104 ∷ 114 ∷ 101 ∷ 101 ∷
-      []) (Syntax.tcons (Syntax.tyInt Syntax.w8) (Syntax.tcons (Syntax.tyInt Syntax.w8) (Syntax.tcons (Syntax.tyInt Syntax.w8) Syntax.tnil)))) (Syntax.tcons
-      (Syntax.tyInt Syntax.w8) (Syntax.tcons (Syntax.tyStruct (102 ∷ 105 ∷ 101 ∷ 108 ∷ 100 ∷ 115 ∷ 58 ∷ 58 ∷ 82 ∷ 101 ∷ 115 ∷ 105 ∷ 100 ∷ 117 ∷ 101 ∷ 78 ∷ 117 ∷
-      109 ∷ 98 ∷ 101 ∷ 114 ∷ []) (Syntax.tcons (Syntax.tyInt Syntax.w32) Syntax.tnil)) (Syntax.tcons (Syntax.tyInt Syntax.w8) Syntax.tnil))))) (Syntax.tcons
-      (Syntax.tyStruct (114 ∷ 101 ∷ 115 ∷ 105 ∷ 100 ∷ 117 ∷ 101 ∷ 58 ∷ 58 ∷ 82 ∷ 101 ∷ 115 ∷ 105 ∷ 100 ∷ 117 ∷ 101 ∷ []) (Syntax.tcons (Syntax.tyStruct (110 ∷ 97
-      ∷ 109 ∷ 101 ∷ 115 ∷ 58 ∷ 58 ∷ 84 ∷ 104 ∷ 114 ∷ 101 ∷ 101 ∷ []) (Syntax.tcons (Syntax.tyInt Syntax.w8) (Syntax.tcons (Syntax.tyInt Syntax.w8) (Syntax.tcons
-      (Syntax.tyInt Syntax.w8) Syntax.tnil)))) (Syntax.tcons (Syntax.tyInt Syntax.w8) (Syntax.tcons (Syntax.tyStruct (102 ∷ 105 ∷ 101 ∷ 108 ∷ 100 ∷ 115 ∷ 58 ∷ 58
-      ∷ 82 ∷ 101 ∷ 115 ∷ 105 ∷ 100 ∷ 117 ∷ 101 ∷ 78 ∷ 117 ∷ 109 ∷ 98 ∷ 101 ∷ 114 ∷ []) (Syntax.tcons (Syntax.tyInt Syntax.w32) Syntax.tnil)) (Syntax.tcons
-      (Syntax.tyInt Syntax.w8) Syntax.tnil))))) Syntax.tnil))))) (Syntax.tcons (Syntax.tyInt Syntax.w32) (Syntax.tcons (Syntax.tyStruct (104 ∷ 101 ∷ 108 ∷ 105 ∷
-      120 ∷ 58 ∷ 58 ∷ 67 ∷ 111 ∷ 109 ∷ 109 ∷ 101 ∷ 110 ∷ 116 ∷ []) (Syntax.tcons (Syntax.tyInt Syntax.w64) (Syntax.tcons (Syntax.tyInt Syntax.w64) (Syntax.tcons
-      (Syntax.tyInt Syntax.w64) (Syntax.tcons (Syntax.tyInt Syntax.w64) Syntax.tnil))))) (Syntax.tcons (Syntax.tyInt Syntax.w32) Syntax.tnil))))) Syntax.tnil)
-      (Syntax.ttcons (Syntax.tcons (Syntax.tyStruct (115 ∷ 104 ∷ 101 ∷ 101 ∷ 116 ∷ 58 ∷ 58 ∷ 83 ∷ 104 ∷ 101 ∷ 101 ∷ 116 ∷ []) (Syntax.tcons (Syntax.tyStruct (115
-      ∷ 104 ∷ 101 ∷ 101 ∷ 116 ∷ 58 ∷ 58 ∷ 83 ∷ 116 ∷ 114 ∷ 97 ∷ 110 ∷ 100 ∷ []) (Syntax.tcons (Syntax.tyInt Syntax.w32) (Syntax.tcons (Syntax.tyStruct (110 ∷ 97
-      ∷ 109 ∷ 101 ∷ 115 ∷ 58 ∷ 58 ∷ 84 ∷ 104 ∷ 114 ∷ 101 ∷ 101 ∷ []) (Syntax.tcons (Syntax.tyInt Syntax.w8) (Syntax.tcons (Syntax.tyInt Syntax.w8) (Syntax.tcons
-      (Syntax.tyInt Syntax.w8) Syntax.tnil)))) (Syntax.tcons (Syntax.tyInt Syntax.w32) (Syntax.tcons (Syntax.tyStruct (114 ∷ 101 ∷ 115 ∷ 105 ∷ 100 ∷ 117 ∷ 101 ∷
-      58 ∷ 58 ∷ 82 ∷ 101 ∷ 115 ∷ 105 ∷ 100 ∷ 117 ∷ 101 ∷ []) (Syntax.tcons (Syntax.tyStruct (110 ∷ 97 ∷ 109 ∷ 101 ∷ 115 ∷ 58 ∷ 58 ∷ 84 ∷ 104 ∷ 114 ∷ 101 ∷ 101 ∷
-      []) (Syntax.tcons (Syntax.tyInt Syntax.w8) (Syntax.tcons (Syntax.tyInt Syntax.w8) (Syntax.tcons (Syntax.tyInt Syntax.w8) Syntax.tnil)))) (Syntax.tcons
-      (Syntax.tyInt Syntax.w8) (Syntax.tcons (Syntax.tyStruct (102 ∷ 105 ∷ 101 ∷ 108 ∷ 100 ∷ 115 ∷ 58 ∷ 58 ∷ 82 ∷ 101 ∷ 115 ∷ 105 ∷ 100 ∷ 117 ∷ 101 ∷ 78 ∷ 117 ∷
-      109 ∷ 98 ∷ 101 ∷ 114 ∷ []) (Syntax.tcons (Syntax.tyInt Syntax.w32) Syntax.tnil)) (Syntax.tcons (Syntax.tyInt Syntax.w8) Syntax.tnil))))) (Syntax.tcons
-      (Syntax.tyStruct (114 ∷ 101 ∷ 115 ∷ 105 ∷ 100 ∷ 117 ∷ 101 ∷ 58 ∷ 58 ∷ 82 ∷ 101 ∷ 115 ∷ 105 ∷ 100 ∷ 117 ∷ 101 ∷ []) (Syntax.tcons (Syntax.tyStruct (110 ∷ 97
-      ∷ 109 ∷ 101 ∷ 115 ∷ 58 ∷ 58 ∷ 84 ∷ 104 ∷ 114 ∷ 101 ∷ 101 ∷ []) (Syntax.tcons (Syntax.tyInt Syntax.w8) (Syntax.tcons (Syntax.tyInt Syntax.w8) (Syntax.tcons
-      (Syntax.tyInt Syntax.w8) Syntax.tnil)))) (Syntax.tcons (Syntax.tyInt Syntax.w8) (Syntax.tcons (Syntax.tyStruct (102 ∷ 105 ∷ 101 ∷ 108 ∷ 100 ∷ 115 ∷ 58 ∷ 58
-      ∷ 82 ∷ 101 ∷ 115 ∷ 105 ∷ 100 ∷ 117 ∷ 101 ∷ 78 ∷ 117 ∷ 109 ∷ 98 ∷ 101 ∷ 114 ∷ []) (Syntax.tcons (Syntax.tyInt Syntax.w32) Syntax.tnil)) (Syntax.tcons
-      (Syntax.tyInt Syntax.w8) Syntax.tnil))))) (Syntax.tcons (Syntax.tyInt Syntax.w32) Syntax.tnil))))))) (Syntax.tcons (Syntax.tyEnum (115 ∷ 104 ∷ 101 ∷ 101 ∷
-      116 ∷ 58 ∷ 58 ∷ 82 ∷ 101 ∷ 103 ∷ 105 ∷ 115 ∷ 116 ∷ 114 ∷ 97 ∷ 116 ∷ 105 ∷ 111 ∷ 110 ∷ []) (Syntax.ttcons Syntax.tnil (Syntax.ttcons (Syntax.tcons
-      (Syntax.tyStruct (115 ∷ 104 ∷ 101 ∷ 101 ∷ 116 ∷ 58 ∷ 58 ∷ 66 ∷ 111 ∷ 110 ∷ 100 ∷ []) (Syntax.tcons (Syntax.tyStruct (110 ∷ 97 ∷ 109 ∷ 101 ∷ 115 ∷ 58 ∷ 58 ∷
-      70 ∷ 111 ∷ 117 ∷ 114 ∷ []) (Syntax.tcons (Syntax.tyInt Syntax.w8) (Syntax.tcons (Syntax.tyInt Syntax.w8) (Syntax.tcons (Syntax.tyInt Syntax.w8)
-      (Syntax.tcons (Syntax.tyInt Syntax.w8) Syntax.tnil))))) (Syntax.tcons (Syntax.tyStruct (114 ∷ 101 ∷ 115 ∷ 105 ∷ 100 ∷ 117 ∷ 101 ∷ 58 ∷ 58 ∷ 82 ∷ 101 ∷ 115
-      ∷ 105 ∷ 100 ∷ 117 ∷ 101 ∷ []) (Syntax.tcons (Syntax.tyStruct (110 ∷ 97 ∷ 109 ∷ 101 ∷ 115 ∷ 58 ∷ 58 ∷ 84 ∷ 104 ∷ 114 ∷ 101 ∷ 101 ∷ []) (Syntax.tcons
-      (Syntax.tyInt Syntax.w8) (Syntax.tcons (Syntax.tyInt Syntax.w8) (Syntax.tcons (Syntax.tyInt Syntax.w8) Syntax.tnil)))) (Syntax.tcons (Syntax.tyInt
-      Syntax.w8) (Syntax.tcons (Syntax.tyStruct (102 ∷ 105 ∷ 101 ∷ 108 ∷ 100 ∷ 115 ∷ 58 ∷ 58 ∷ 82 ∷ 101 ∷ 115 ∷ 105 ∷ 100 ∷ 117 ∷ 101 ∷ 78 ∷ 117 ∷ 109 ∷ 98 ∷ 101
-      ∷ 114 ∷ []) (Syntax.tcons (Syntax.tyInt Syntax.w32) Syntax.tnil)) (Syntax.tcons (Syntax.tyInt Syntax.w8) Syntax.tnil))))) (Syntax.tcons (Syntax.tyStruct
-      (110 ∷ 97 ∷ 109 ∷ 101 ∷ 115 ∷ 58 ∷ 58 ∷ 70 ∷ 111 ∷ 117 ∷ 114 ∷ []) (Syntax.tcons (Syntax.tyInt Syntax.w8) (Syntax.tcons (Syntax.tyInt Syntax.w8)
-      (Syntax.tcons (Syntax.tyInt Syntax.w8) (Syntax.tcons (Syntax.tyInt Syntax.w8) Syntax.tnil))))) (Syntax.tcons (Syntax.tyStruct (114 ∷ 101 ∷ 115 ∷ 105 ∷ 100
-      ∷ 117 ∷ 101 ∷ 58 ∷ 58 ∷ 82 ∷ 101 ∷ 115 ∷ 105 ∷ 100 ∷ 117 ∷ 101 ∷ []) (Syntax.tcons (Syntax.tyStruct (110 ∷ 97 ∷ 109 ∷ 101 ∷ 115 ∷ 58 ∷ 58 ∷ 84 ∷ 104 ∷ 114
-      ∷ 101 ∷ 101 ∷ []) (Syntax.tcons (Syntax.tyInt Syntax.w8) (Syntax.tcons (Syntax.tyInt Syntax.w8) (Syntax.tcons (Syntax.tyInt Syntax.w8) Syntax.tnil))))
-      (Syntax.tcons (Syntax.tyInt Syntax.w8) (Syntax.tcons (Syntax.tyStruct (102 ∷ 105 ∷ 101 ∷ 108 ∷ 100 ∷ 115 ∷ 58 ∷ 58 ∷ 82 ∷ 101 ∷ 115 ∷ 105 ∷ 100 ∷ 117 ∷ 101
-      ∷ 78 ∷ 117 ∷ 109 ∷ 98 ∷ 101 ∷ 114 ∷ []) (Syntax.tcons (Syntax.tyInt Syntax.w32) Syntax.tnil)) (Syntax.tcons (Syntax.tyInt Syntax.w8) Syntax.tnil)))))
-      Syntax.tnil))))) Syntax.tnil) Syntax.ttnil))) Syntax.tnil))) Syntax.tnil) (Syntax.ttcons (Syntax.tcons (Syntax.tyStruct (99 ∷ 111 ∷ 110 ∷ 101 ∷ 99 ∷ 116 ∷
-      58 ∷ 58 ∷ 67 ∷ 111 ∷ 110 ∷ 101 ∷ 99 ∷ 116 ∷ []) (Syntax.tcons (Syntax.tyStruct (102 ∷ 105 ∷ 101 ∷ 108 ∷ 100 ∷ 115 ∷ 58 ∷ 58 ∷ 83 ∷ 101 ∷ 114 ∷ 105 ∷ 97 ∷
-      108 ∷ []) (Syntax.tcons (Syntax.tyInt Syntax.w32) Syntax.tnil)) (Syntax.tcons (Syntax.tyStruct (102 ∷ 105 ∷ 101 ∷ 108 ∷ 100 ∷ 115 ∷ 58 ∷ 58 ∷ 83 ∷ 101 ∷
-      114 ∷ 105 ∷ 97 ∷ 108 ∷ []) (Syntax.tcons (Syntax.tyInt Syntax.w32) Syntax.tnil)) (Syntax.tcons (Syntax.tyStruct (102 ∷ 105 ∷ 101 ∷ 108 ∷ 100 ∷ 115 ∷ 58 ∷
-      58 ∷ 83 ∷ 101 ∷ 114 ∷ 105 ∷ 97 ∷ 108 ∷ []) (Syntax.tcons (Syntax.tyInt Syntax.w32) Syntax.tnil)) (Syntax.tcons (Syntax.tyStruct (102 ∷ 105 ∷ 101 ∷ 108 ∷
-      100 ∷ 115 ∷ 58 ∷ 58 ∷ 83 ∷ 101 ∷ 114 ∷ 105 ∷ 97 ∷ 108 ∷ []) (Syntax.tcons (Syntax.tyInt Syntax.w32) Syntax.tnil)) (Syntax.tcons (Syntax.tyStruct (102 ∷ 105
-      ∷ 101 ∷ 108 ∷ 100 ∷ 115 ∷ 58 ∷ 58 ∷ 83 ∷ 101 ∷ 114 ∷ 105 ∷ 97 ∷ 108 ∷ []) (Syntax.tcons (Syntax.tyInt Syntax.w32) Syntax.tnil)) Syntax.tnil))))))
-      Syntax.tnil) (Syntax.ttcons (Syntax.tcons (Syntax.tyStruct (109 ∷ 97 ∷ 115 ∷ 116 ∷ 101 ∷ 114 ∷ 58 ∷ 58 ∷ 84 ∷ 97 ∷ 108 ∷ 108 ∷ 121 ∷ []) (Syntax.tcons
-      (Syntax.tyInt Syntax.w32) (Syntax.tcons (Syntax.tyInt Syntax.w32) (Syntax.tcons (Syntax.tyInt Syntax.w32) (Syntax.tcons (Syntax.tyInt Syntax.w32)
-      (Syntax.tcons (Syntax.tyInt Syntax.w32) (Syntax.tcons (Syntax.tyInt Syntax.w32) (Syntax.tcons (Syntax.tyInt Syntax.w32) (Syntax.tcons (Syntax.tyInt
-      Syntax.w32) (Syntax.tcons (Syntax.tyInt Syntax.w32) Syntax.tnil)))))))))) Syntax.tnil) (Syntax.ttcons Syntax.tnil Syntax.ttnil)))))))) Syntax.tnil)
-      Syntax.ttnil))))),
-) ∷ (8, Rows.any-gone Syntax.tyBool) ∷ (9, Rows.any-gone (Syntax.tyInt Syntax.w64)) ∷ (10, Rows.any-gone (Syntax.tyInt Syntax.w64)) ∷ (
-  11,
-  Rows.any-gone (Syntax.tyInt Syntax.w64),
-) ∷ (12, Rows.any-gone Syntax.tyBool) ∷ (13, Rows.any-gone (Syntax.tyRef Syntax.erased Syntax.mut SlotAs.pointee)) ∷ (
-  14,
-  Rows.any-gone (Syntax.tyStruct (38 ∷ 91 ∷ 93 ∷ []) (Syntax.tcons (Syntax.tyRef Syntax.erased Syntax.mut SlotAs.pointee) (Syntax.tcons (Syntax.tyInt
-      Syntax.w64) Syntax.tnil))),
-) ∷ []
-
-abbrev pub t2 : List.List Row.Entry
-t2 = (
-  0,
-  Rows.any-gone (Syntax.tyStruct (115 ∷ 116 ∷ 111 ∷ 114 ∷ 101 ∷ 58 ∷ 58 ∷ 79 ∷ 117 ∷ 116 ∷ 99 ∷ 111 ∷ 109 ∷ 101 ∷ []) (Syntax.tcons (Syntax.tyInt
-      Syntax.w8) (Syntax.tcons (Syntax.tyInt Syntax.w64) Syntax.tnil))),
-) ∷ (
-  1,
-  Rows.sslice (Referent.rtF (Referent.fInt Syntax.w8)) (Syntax.tyRef (Syntax.named
-      0) Syntax.imm (Syntax.tyInt Syntax.w8)) 0,
-) ∷ (2, Mut.mslice SlotAs.row (Syntax.tyRef (Syntax.named 1) Syntax.mut SlotAs.pointee) 1) ∷ (
-  3,
-  Rows.whole
-      (Declared'.row Needs.the-type),
-) ∷ (4, Rows.any-gone (Syntax.tyInt Syntax.w64)) ∷ (5, Rows.any-gone (Syntax.tyInt Syntax.w64)) ∷ (
-  6,
-  Rows.any-gone
-      (Syntax.tyInt Syntax.w64),
-) ∷ (
-  7,
-  Rows.any-gone (Syntax.tyEnum (112 ∷ 105 ∷ 101 ∷ 99 ∷ 101 ∷ 115 ∷ 58 ∷ 58 ∷ 76 ∷ 105 ∷ 110 ∷ 101 ∷ []) (Syntax.ttcons
-      (Syntax.tcons (Syntax.tyInt Syntax.w8) Syntax.tnil) (Syntax.ttcons (Syntax.tcons (Syntax.tyEnum (107 ∷ 105 ∷ 110 ∷ 100 ∷ 115 ∷ 58 ∷ 58 ∷ 75 ∷ 105 ∷ 110 ∷
-      100 ∷ []) (Syntax.ttcons Syntax.tnil (Syntax.ttcons Syntax.tnil (Syntax.ttcons Syntax.tnil (Syntax.ttcons Syntax.tnil (Syntax.ttcons Syntax.tnil
-      (Syntax.ttcons Syntax.tnil (Syntax.ttcons Syntax.tnil (Syntax.ttcons Syntax.tnil (Syntax.ttcons Syntax.tnil (Syntax.ttcons Syntax.tnil (Syntax.ttcons
-      Syntax.tnil (Syntax.ttcons Syntax.tnil (Syntax.ttcons Syntax.tnil (Syntax.ttcons Syntax.tnil (Syntax.ttcons Syntax.tnil (Syntax.ttcons Syntax.tnil
-      (Syntax.ttcons Syntax.tnil (Syntax.ttcons Syntax.tnil (Syntax.ttcons Syntax.tnil (Syntax.ttcons Syntax.tnil (Syntax.ttcons Syntax.tnil (Syntax.ttcons
-      Syntax.tnil (Syntax.ttcons Syntax.tnil (Syntax.ttcons Syntax.tnil (Syntax.ttcons Syntax.tnil (Syntax.ttcons Syntax.tnil (Syntax.ttcons Syntax.tnil
-      (Syntax.ttcons Syntax.tnil Syntax.ttnil))))))))))))))))))))))))))))) (Syntax.tcons (Syntax.tyInt Syntax.w32) Syntax.tnil)) (Syntax.ttcons (Syntax.tcons
-      (Syntax.tyEnum (107 ∷ 105 ∷ 110 ∷ 100 ∷ 115 ∷ 58 ∷ 58 ∷ 75 ∷ 105 ∷ 110 ∷ 100 ∷ []) (Syntax.ttcons Syntax.tnil (Syntax.ttcons Syntax.tnil (Syntax.ttcons
-      Syntax.tnil (Syntax.ttcons Syntax.tnil (Syntax.ttcons Syntax.tnil (Syntax.ttcons Syntax.tnil (Syntax.ttcons Syntax.tnil (Syntax.ttcons Syntax.tnil
-      (Syntax.ttcons Syntax.tnil (Syntax.ttcons Syntax.tnil (Syntax.ttcons Syntax.tnil (Syntax.ttcons Syntax.tnil (Syntax.ttcons Syntax.tnil (Syntax.ttcons
-      Syntax.tnil (Syntax.ttcons Syntax.tnil (Syntax.ttcons Syntax.tnil (Syntax.ttcons Syntax.tnil (Syntax.ttcons Syntax.tnil (Syntax.ttcons Syntax.tnil
-      (Syntax.ttcons Syntax.tnil (Syntax.ttcons Syntax.tnil (Syntax.ttcons Syntax.tnil (Syntax.ttcons Syntax.tnil (Syntax.ttcons Syntax.tnil (Syntax.ttcons
-      Syntax.tnil (Syntax.ttcons Syntax.tnil (Syntax.ttcons Syntax.tnil (Syntax.ttcons Syntax.tnil Syntax.ttnil))))))))))))))))))))))))))))) Syntax.tnil)
-      (Syntax.ttcons (Syntax.tcons (Syntax.tyEnum (108 ∷ 105 ∷ 110 ∷ 101 ∷ 58 ∷ 58 ∷ 82 ∷ 101 ∷ 99 ∷ 111 ∷ 114 ∷ 100 ∷ []) (Syntax.ttcons (Syntax.tcons
-      Syntax.tyBool (Syntax.tcons (Syntax.tyStruct (99 ∷ 111 ∷ 111 ∷ 114 ∷ 100 ∷ 105 ∷ 110 ∷ 97 ∷ 116 ∷ 101 ∷ 58 ∷ 58 ∷ 65 ∷ 116 ∷ 111 ∷ 109 ∷ []) (Syntax.tcons
-      (Syntax.tyStruct (99 ∷ 111 ∷ 111 ∷ 114 ∷ 100 ∷ 105 ∷ 110 ∷ 97 ∷ 116 ∷ 101 ∷ 58 ∷ 58 ∷ 73 ∷ 100 ∷ 101 ∷ 110 ∷ 116 ∷ 105 ∷ 116 ∷ 121 ∷ []) (Syntax.tcons
-      (Syntax.tyStruct (102 ∷ 105 ∷ 101 ∷ 108 ∷ 100 ∷ 115 ∷ 58 ∷ 58 ∷ 83 ∷ 101 ∷ 114 ∷ 105 ∷ 97 ∷ 108 ∷ []) (Syntax.tcons (Syntax.tyInt Syntax.w32) Syntax.tnil))
-      (Syntax.tcons (Syntax.tyStruct (110 ∷ 97 ∷ 109 ∷ 101 ∷ 115 ∷ 58 ∷ 58 ∷ 70 ∷ 111 ∷ 117 ∷ 114 ∷ []) (Syntax.tcons (Syntax.tyInt Syntax.w8) (Syntax.tcons
-      (Syntax.tyInt Syntax.w8) (Syntax.tcons (Syntax.tyInt Syntax.w8) (Syntax.tcons (Syntax.tyInt Syntax.w8) Syntax.tnil))))) (Syntax.tcons (Syntax.tyInt
-      Syntax.w8) (Syntax.tcons (Syntax.tyStruct (114 ∷ 101 ∷ 115 ∷ 105 ∷ 100 ∷ 117 ∷ 101 ∷ 58 ∷ 58 ∷ 82 ∷ 101 ∷ 115 ∷ 105 ∷ 100 ∷ 117 ∷ 101 ∷ []) (Syntax.tcons
-      (Syntax.tyStruct (110 ∷ 97 ∷ 109 ∷ 101 ∷ 115 ∷ 58 ∷ 58 ∷ 84 ∷ 104 ∷ 114 ∷ 101 ∷ 101 ∷ []) (Syntax.tcons (Syntax.tyInt Syntax.w8) (Syntax.tcons
-      (Syntax.tyInt Syntax.w8) (Syntax.tcons (Syntax.tyInt Syntax.w8) Syntax.tnil)))) (Syntax.tcons (Syntax.tyInt Syntax.w8) (Syntax.tcons (Syntax.tyStruct (102
-      ∷ 105 ∷ 101 ∷ 108 ∷ 100 ∷ 115 ∷ 58 ∷ 58 ∷ 82 ∷ 101 ∷ 115 ∷ 105 ∷ 100 ∷ 117 ∷ 101 ∷ 78 ∷ 117 ∷ 109 ∷ 98 ∷ 101 ∷ 114 ∷ []) (Syntax.tcons (Syntax.tyInt
-      Syntax.w32) Syntax.tnil)) (Syntax.tcons (Syntax.tyInt Syntax.w8) Syntax.tnil))))) Syntax.tnil))))) (Syntax.tcons (Syntax.tyStruct (99 ∷ 111 ∷ 111 ∷ 114 ∷
-      100 ∷ 105 ∷ 110 ∷ 97 ∷ 116 ∷ 101 ∷ 58 ∷ 58 ∷ 77 ∷ 101 ∷ 97 ∷ 115 ∷ 117 ∷ 114 ∷ 101 ∷ []) (Syntax.tcons (Syntax.tyStruct (99 ∷ 111 ∷ 111 ∷ 114 ∷ 100 ∷ 105 ∷
-      110 ∷ 97 ∷ 116 ∷ 101 ∷ 58 ∷ 58 ∷ 80 ∷ 111 ∷ 115 ∷ 105 ∷ 116 ∷ 105 ∷ 111 ∷ 110 ∷ []) (Syntax.tcons (Syntax.tyInt Syntax.w32) (Syntax.tcons (Syntax.tyInt
-      Syntax.w32) (Syntax.tcons (Syntax.tyInt Syntax.w32) Syntax.tnil)))) (Syntax.tcons (Syntax.tyInt Syntax.w32) (Syntax.tcons (Syntax.tyInt Syntax.w32)
-      Syntax.tnil)))) (Syntax.tcons (Syntax.tyStruct (99 ∷ 111 ∷ 111 ∷ 114 ∷ 100 ∷ 105 ∷ 110 ∷ 97 ∷ 116 ∷ 101 ∷ 58 ∷ 58 ∷ 83 ∷ 112 ∷ 101 ∷ 99 ∷ 105 ∷ 101 ∷ 115 ∷
-      []) (Syntax.tcons (Syntax.tyStruct (110 ∷ 97 ∷ 109 ∷ 101 ∷ 115 ∷ 58 ∷ 58 ∷ 80 ∷ 97 ∷ 105 ∷ 114 ∷ []) (Syntax.tcons (Syntax.tyInt Syntax.w8) (Syntax.tcons
-      (Syntax.tyInt Syntax.w8) Syntax.tnil))) (Syntax.tcons (Syntax.tyStruct (110 ∷ 97 ∷ 109 ∷ 101 ∷ 115 ∷ 58 ∷ 58 ∷ 80 ∷ 97 ∷ 105 ∷ 114 ∷ []) (Syntax.tcons
-      (Syntax.tyInt Syntax.w8) (Syntax.tcons (Syntax.tyInt Syntax.w8) Syntax.tnil))) Syntax.tnil))) Syntax.tnil)))) Syntax.tnil)) (Syntax.ttcons (Syntax.tcons
-      (Syntax.tyStruct (116 ∷ 101 ∷ 114 ∷ 58 ∷ 58 ∷ 84 ∷ 101 ∷ 114 ∷ []) (Syntax.tcons (Syntax.tyStruct (102 ∷ 105 ∷ 101 ∷ 108 ∷ 100 ∷ 115 ∷ 58 ∷ 58 ∷ 83 ∷ 101 ∷
-      114 ∷ 105 ∷ 97 ∷ 108 ∷ []) (Syntax.tcons (Syntax.tyInt Syntax.w32) Syntax.tnil)) (Syntax.tcons (Syntax.tyStruct (114 ∷ 101 ∷ 115 ∷ 105 ∷ 100 ∷ 117 ∷ 101 ∷
-      58 ∷ 58 ∷ 82 ∷ 101 ∷ 115 ∷ 105 ∷ 100 ∷ 117 ∷ 101 ∷ []) (Syntax.tcons (Syntax.tyStruct (110 ∷ 97 ∷ 109 ∷ 101 ∷ 115 ∷ 58 ∷ 58 ∷ 84 ∷ 104 ∷ 114 ∷ 101 ∷ 101 ∷
-      []) (Syntax.tcons (Syntax.tyInt Syntax.w8) (Syntax.tcons (Syntax.tyInt Syntax.w8) (Syntax.tcons (Syntax.tyInt Syntax.w8) Syntax.tnil)))) (Syntax.tcons
-      (Syntax.tyInt Syntax.w8) (Syntax.tcons (Syntax.tyStruct (102 ∷ 105 ∷ 101 ∷ 108 ∷ 100 ∷ 115 ∷ 58 ∷ 58 ∷ 82 ∷ 101 ∷ 115 ∷ 105 ∷ 100 ∷ 117 ∷ 101 ∷ 78 ∷ 117 ∷
-      109 ∷ 98 ∷ 101 ∷ 114 ∷ []) (Syntax.tcons (Syntax.tyInt Syntax.w32) Syntax.tnil)) (Syntax.tcons (Syntax.tyInt Syntax.w8) Syntax.tnil))))) Syntax.tnil)))
-      Syntax.tnil) (Syntax.ttcons (Syntax.tcons (Syntax.tyStruct (104 ∷ 101 ∷ 108 ∷ 105 ∷ 120 ∷ 58 ∷ 58 ∷ 72 ∷ 101 ∷ 108 ∷ 105 ∷ 120 ∷ []) (Syntax.tcons
-      (Syntax.tyStruct (104 ∷ 101 ∷ 108 ∷ 105 ∷ 120 ∷ 58 ∷ 58 ∷ 69 ∷ 120 ∷ 116 ∷ 101 ∷ 110 ∷ 116 ∷ []) (Syntax.tcons (Syntax.tyInt Syntax.w32) (Syntax.tcons
-      (Syntax.tyStruct (110 ∷ 97 ∷ 109 ∷ 101 ∷ 115 ∷ 58 ∷ 58 ∷ 84 ∷ 104 ∷ 114 ∷ 101 ∷ 101 ∷ []) (Syntax.tcons (Syntax.tyInt Syntax.w8) (Syntax.tcons
-      (Syntax.tyInt Syntax.w8) (Syntax.tcons (Syntax.tyInt Syntax.w8) Syntax.tnil)))) (Syntax.tcons (Syntax.tyStruct (114 ∷ 101 ∷ 115 ∷ 105 ∷ 100 ∷ 117 ∷ 101 ∷
-      58 ∷ 58 ∷ 82 ∷ 101 ∷ 115 ∷ 105 ∷ 100 ∷ 117 ∷ 101 ∷ []) (Syntax.tcons (Syntax.tyStruct (110 ∷ 97 ∷ 109 ∷ 101 ∷ 115 ∷ 58 ∷ 58 ∷ 84 ∷ 104 ∷ 114 ∷ 101 ∷ 101 ∷
-      []) (Syntax.tcons (Syntax.tyInt Syntax.w8) (Syntax.tcons (Syntax.tyInt Syntax.w8) (Syntax.tcons (Syntax.tyInt Syntax.w8) Syntax.tnil)))) (Syntax.tcons
-      (Syntax.tyInt Syntax.w8) (Syntax.tcons (Syntax.tyStruct (102 ∷ 105 ∷ 101 ∷ 108 ∷ 100 ∷ 115 ∷ 58 ∷ 58 ∷ 82 ∷ 101 ∷ 115 ∷ 105 ∷ 100 ∷ 117 ∷ 101 ∷ 78 ∷ 117 ∷
-      109 ∷ 98 ∷ 101 ∷ 114 ∷ []) (Syntax.tcons (Syntax.tyInt Syntax.w32) Syntax.tnil)) (Syntax.tcons (Syntax.tyInt Syntax.w8) Syntax.tnil))))) (Syntax.tcons
-      (Syntax.tyStruct (114 ∷ 101 ∷ 115 ∷ 105 ∷ 100 ∷ 117 ∷ 101 ∷ 58 ∷ 58 ∷ 82 ∷ 101 ∷ 115 ∷ 105 ∷ 100 ∷ 117 ∷ 101 ∷ []) (Syntax.tcons (Syntax.tyStruct (110 ∷ 97
-      ∷ 109 ∷ 101 ∷ 115 ∷ 58 ∷ 58 ∷ 84 ∷ 104 ∷ 114 ∷ 101 ∷ 101 ∷ []) (Syntax.tcons (Syntax.tyInt Syntax.w8) (Syntax.tcons (Syntax.tyInt Syntax.w8) (Syntax.tcons
-      (Syntax.tyInt Syntax.w8) Syntax.tnil)))) (Syntax.tcons (Syntax.tyInt Syntax.w8) (Syntax.tcons (Syntax.tyStruct (102 ∷ 105 ∷ 101 ∷ 108 ∷ 100 ∷ 115 ∷ 58 ∷ 58
-      ∷ 82 ∷ 101 ∷ 115 ∷ 105 ∷ 100 ∷ 117 ∷ 101 ∷ 78 ∷ 117 ∷ 109 ∷ 98 ∷ 101 ∷ 114 ∷ []) (Syntax.tcons (Syntax.tyInt Syntax.w32) Syntax.tnil)) (Syntax.tcons
-      (Syntax.tyInt Syntax.w8) Syntax.tnil))))) Syntax.tnil))))) (Syntax.tcons (Syntax.tyInt Syntax.w32) (Syntax.tcons (Syntax.tyStruct (104 ∷ 101 ∷ 108 ∷ 105 ∷
-      120 ∷ 58 ∷ 58 ∷ 67 ∷ 111 ∷ 109 ∷ 109 ∷ 101 ∷ 110 ∷ 116 ∷ []) (Syntax.tcons (Syntax.tyInt Syntax.w64) (Syntax.tcons (Syntax.tyInt Syntax.w64) (Syntax.tcons
-      (Syntax.tyInt Syntax.w64) (Syntax.tcons (Syntax.tyInt Syntax.w64) Syntax.tnil))))) (Syntax.tcons (Syntax.tyInt Syntax.w32) Syntax.tnil))))) Syntax.tnil)
-      (Syntax.ttcons (Syntax.tcons (Syntax.tyStruct (115 ∷ 104 ∷ 101 ∷ 101 ∷ 116 ∷ 58 ∷ 58 ∷ 83 ∷ 104 ∷ 101 ∷ 101 ∷ 116 ∷ []) (Syntax.tcons (Syntax.tyStruct (115
-      ∷ 104 ∷ 101 ∷ 101 ∷ 116 ∷ 58 ∷ 58 ∷ 83 ∷ 116 ∷ 114 ∷ 97 ∷ 110 ∷ 100 ∷ []) (Syntax.tcons (Syntax.tyInt Syntax.w32) (Syntax.tcons (Syntax.tyStruct (110 ∷ 97
-      ∷ 109 ∷ 101 ∷ 115 ∷ 58 ∷ 58 ∷ 84 ∷ 104 ∷ 114 ∷ 101 ∷ 101 ∷ []) (Syntax.tcons (Syntax.tyInt Syntax.w8) (Syntax.tcons (Syntax.tyInt Syntax.w8) (Syntax.tcons
-      (Syntax.tyInt Syntax.w8) Syntax.tnil)))) (Syntax.tcons (Syntax.tyInt Syntax.w32) (Syntax.tcons (Syntax.tyStruct (114 ∷ 101 ∷ 115 ∷ 105 ∷ 100 ∷ 117 ∷ 101 ∷
-      58 ∷ 58 ∷ 82 ∷ 101 ∷ 115 ∷ 105 ∷ 100 ∷ 117 ∷ 101 ∷ []) (Syntax.tcons (Syntax.tyStruct (110 ∷ 97 ∷ 109 ∷ 101 ∷ 115 ∷ 58 ∷ 58 ∷ 84 ∷ 104 ∷ 114 ∷ 101 ∷ 101 ∷
-      []) (Syntax.tcons (Syntax.tyInt Syntax.w8) (Syntax.tcons (Syntax.tyInt Syntax.w8) (Syntax.tcons (Syntax.tyInt Syntax.w8) Syntax.tnil)))) (Syntax.tcons
-      (Syntax.tyInt Syntax.w8) (Syntax.tcons (Syntax.tyStruct (102 ∷ 105 ∷ 101 ∷ 108 ∷ 100 ∷ 115 ∷ 58 ∷ 58 ∷ 82 ∷ 101 ∷ 115 ∷ 105 ∷ 100 ∷ 117 ∷ 101 ∷ 78 ∷ 117 ∷
-      109 ∷ 98 ∷ 101 ∷ 114 ∷ []) (Syntax.tcons (Syntax.tyInt Syntax.w32) Syntax.tnil)) (Syntax.tcons (Syntax.tyInt Syntax.w8) Syntax.tnil))))) (Syntax.tcons
-      (Syntax.tyStruct (114 ∷ 101 ∷ 115 ∷ 105 ∷ 100 ∷ 117 ∷ 101 ∷ 58 ∷ 58 ∷ 82 ∷ 101 ∷ 115 ∷ 105 ∷ 100 ∷ 117 ∷ 101 ∷ []) (Syntax.tcons (Syntax.tyStruct (110 ∷ 97
-      ∷ 109 ∷ 101 ∷ 115 ∷ 58 ∷ 58 ∷ 84 ∷ 104 ∷ 114 ∷ 101 ∷ 101 ∷ []) (Syntax.tcons (Syntax.tyInt Syntax.w8) (Syntax.tcons (Syntax.tyInt Syntax.w8) (Syntax.tcons
-      (Syntax.tyInt Syntax.w8) Syntax.tnil)))) (Syntax.tcons (Syntax.tyInt Syntax.w8) (Syntax.tcons (Syntax.tyStruct (102 ∷ 105 ∷ 101 ∷ 108 ∷ 100 ∷ 115 ∷ 58 ∷ 58
-      ∷ 82 ∷ 101 ∷ 115 ∷ 105 ∷ 100 ∷ 117 ∷ 101 ∷ 78 ∷ 117 ∷ 109 ∷ 98 ∷ 101 ∷ 114 ∷ []) (Syntax.tcons (Syntax.tyInt Syntax.w32) Syntax.tnil)) (Syntax.tcons
-      (Syntax.tyInt Syntax.w8) Syntax.tnil))))) (Syntax.tcons (Syntax.tyInt Syntax.w32) Syntax.tnil))))))) (Syntax.tcons (Syntax.tyEnum (115 ∷ 104 ∷ 101 ∷ 101 ∷
-      116 ∷ 58 ∷ 58 ∷ 82 ∷ 101 ∷ 103 ∷ 105 ∷ 115 ∷ 116 ∷ 114 ∷ 97 ∷ 116 ∷ 105 ∷ 111 ∷ 110 ∷ []) (Syntax.ttcons Syntax.tnil (Syntax.ttcons (Syntax.tcons
-      (Syntax.tyStruct (115 ∷ 104 ∷ 101 ∷ 101 ∷ 116 ∷ 58 ∷ 58 ∷ 66 ∷ 111 ∷ 110 ∷ 100 ∷ []) (Syntax.tcons (Syntax.tyStruct (110 ∷ 97 ∷ 109 ∷ 101 ∷ 115 ∷ 58 ∷ 58 ∷
-      70 ∷ 111 ∷ 117 ∷ 114 ∷ []) (Syntax.tcons (Syntax.tyInt Syntax.w8) (Syntax.tcons (Syntax.tyInt Syntax.w8) (Syntax.tcons (Syntax.tyInt Syntax.w8)
-      (Syntax.tcons (Syntax.tyInt Syntax.w8) Syntax.tnil))))) (Syntax.tcons (Syntax.tyStruct (114 ∷ 101 ∷ 115 ∷ 105 ∷ 100 ∷ 117 ∷ 101 ∷ 58 ∷ 58 ∷ 82 ∷ 101 ∷ 115
-      ∷ 105 ∷ 100 ∷ 117 ∷ 101 ∷ []) (Syntax.tcons (Syntax.tyStruct (110 ∷ 97 ∷ 109 ∷ 101 ∷ 115 ∷ 58 ∷ 58 ∷ 84 ∷ 104 ∷ 114 ∷ 101 ∷ 101 ∷ []) (Syntax.tcons
-      (Syntax.tyInt Syntax.w8) (Syntax.tcons (Syntax.tyInt Syntax.w8) (Syntax.tcons (Syntax.tyInt Syntax.w8) Syntax.tnil)))) (Syntax.tcons (Syntax.tyInt
-      Syntax.w8) (Syntax.tcons (Syntax.tyStruct (102 ∷ 105 ∷ 101 ∷ 108 ∷ 100 ∷ 115 ∷ 58 ∷ 58 ∷ 82 ∷ 101 ∷ 115 ∷ 105 ∷ 100 ∷ 117 ∷ 101 ∷ 78 ∷ 117 ∷ 109 ∷ 98 ∷ 101
-      ∷ 114 ∷ []) (Syntax.tcons (Syntax.tyInt Syntax.w32) Syntax.tnil)) (Syntax.tcons (Syntax.tyInt Syntax.w8) Syntax.tnil))))) (Syntax.tcons (Syntax.tyStruct
-      (110 ∷ 97 ∷ 109 ∷ 101 ∷ 115 ∷ 58 ∷ 58 ∷ 70 ∷ 111 ∷ 117 ∷ 114 ∷ []) (Syntax.tcons (Syntax.tyInt Syntax.w8) (Syntax.tcons (Syntax.tyInt Syntax.w8)
-      (Syntax.tcons (Syntax.tyInt Syntax.w8) (Syntax.tcons (Syntax.tyInt Syntax.w8) Syntax.tnil))))) (Syntax.tcons (Syntax.tyStruct (114 ∷ 101 ∷ 115 ∷ 105 ∷ 100
-      ∷ 117 ∷ 101 ∷ 58 ∷ 58 ∷ 82 ∷ 101 ∷ 115 ∷ 105 ∷ 100 ∷ 117 ∷ 101 ∷ []) (Syntax.tcons (Syntax.tyStruct (110 ∷ 97 ∷ 109 ∷ 101 ∷ 115 ∷ 58 ∷ 58 ∷ 84 ∷ 104 ∷ 114
-      ∷ 101 ∷ 101 ∷ []) (Syntax.tcons (Syntax.tyInt Syntax.w8) (Syntax.tcons (Syntax.tyInt Syntax.w8) (Syntax.tcons (Syntax.tyInt Syntax.w8) Syntax.tnil))))
-      (Syntax.tcons (Syntax.tyInt Syntax.w8) (Syntax.tcons (Syntax.tyStruct (102 ∷ 105 ∷ 101 ∷ 108 ∷ 100 ∷ 115 ∷ 58 ∷ 58 ∷ 82 ∷ 101 ∷ 115 ∷ 105 ∷ 100 ∷ 117 ∷ 101
-      ∷ 78 ∷ 117 ∷ 109 ∷ 98 ∷ 101 ∷ 114 ∷ []) (Syntax.tcons (Syntax.tyInt Syntax.w32) Syntax.tnil)) (Syntax.tcons (Syntax.tyInt Syntax.w8) Syntax.tnil)))))
-      Syntax.tnil))))) Syntax.tnil) Syntax.ttnil))) Syntax.tnil))) Syntax.tnil) (Syntax.ttcons (Syntax.tcons (Syntax.tyStruct (99 ∷ 111 ∷ 110 ∷ 101 ∷ 99 ∷ 116 ∷
-      58 ∷ 58 ∷ 67 ∷ 111 ∷ 110 ∷ 101 ∷ 99 ∷ 116 ∷ []) (Syntax.tcons (Syntax.tyStruct (102 ∷ 105 ∷ 101 ∷ 108 ∷ 100 ∷ 115 ∷ 58 ∷ 58 ∷ 83 ∷ 101 ∷ 114 ∷ 105 ∷ 97 ∷
-      108 ∷ []) (Syntax.tcons (Syntax.tyInt Syntax.w32) Syntax.tnil)) (Syntax.tcons (Syntax.tyStruct (102 ∷ 105 ∷ 101 ∷ 108 ∷ 100 ∷ 115 ∷ 58 ∷ 58 ∷ 83 ∷ 101 ∷
-      114 ∷ 105 ∷ 97 ∷ 108 ∷ []) (Syntax.tcons (Syntax.tyInt Syntax.w32) Syntax.tnil)) (Syntax.tcons (Syntax.tyStruct (102 ∷ 105 ∷ 101 ∷ 108 ∷ 100 ∷ 115 ∷ 58 ∷
-      58 ∷ 83 ∷ 101 ∷ 114 ∷ 105 ∷ 97 ∷ 108 ∷ []) (Syntax.tcons (Syntax.tyInt Syntax.w32) Syntax.tnil)) (Syntax.tcons (Syntax.tyStruct (102 ∷ 105 ∷ 101 ∷ 108 ∷
-      100 ∷ 115 ∷ 58 ∷ 58 ∷ 83 ∷ 101 ∷ 114 ∷ 105 ∷ 97 ∷ 108 ∷ []) (Syntax.tcons (Syntax.tyInt Syntax.w32) Syntax.tnil)) (Syntax.tcons (Syntax.tyStruct (102 ∷ 105
-      ∷ 101 ∷ 108 ∷ 100 ∷ 115 ∷ 58 ∷ 58 ∷ 83 ∷ 101 ∷ 114 ∷ 105 ∷ 97 ∷ 108 ∷ []) (Syntax.tcons (Syntax.tyInt Syntax.w32) Syntax.tnil)) Syntax.tnil))))))
-      Syntax.tnil) (Syntax.ttcons (Syntax.tcons (Syntax.tyStruct (109 ∷ 97 ∷ 115 ∷ 116 ∷ 101 ∷ 114 ∷ 58 ∷ 58 ∷ 84 ∷ 97 ∷ 108 ∷ 108 ∷ 121 ∷ []) (Syntax.tcons
-      (Syntax.tyInt Syntax.w32) (Syntax.tcons (Syntax.tyInt Syntax.w32) (Syntax.tcons (Syntax.tyInt Syntax.w32) (Syntax.tcons (Syntax.tyInt Syntax.w32)
-      (Syntax.tcons (Syntax.tyInt Syntax.w32) (Syntax.tcons (Syntax.tyInt Syntax.w32) (Syntax.tcons (Syntax.tyInt Syntax.w32) (Syntax.tcons (Syntax.tyInt
-      Syntax.w32) (Syntax.tcons (Syntax.tyInt Syntax.w32) Syntax.tnil)))))))))) Syntax.tnil) (Syntax.ttcons Syntax.tnil Syntax.ttnil)))))))) Syntax.tnil)
-      Syntax.ttnil))))),
-) ∷ (8, Rows.any-gone Syntax.tyBool) ∷ (9, Rows.any-gone (Syntax.tyInt Syntax.w64)) ∷ (10, Rows.any-gone (Syntax.tyInt Syntax.w64)) ∷ (
-  11,
-  Rows.any-gone (Syntax.tyInt Syntax.w64),
-) ∷ (12, Rows.any-gone Syntax.tyBool) ∷ (13, Rows.any-gone (Syntax.tyRef Syntax.erased Syntax.mut SlotAs.pointee)) ∷ (
-  14,
-  Rows.any-gone (Syntax.tyStruct (38 ∷ 91 ∷ 93 ∷ []) (Syntax.tcons (Syntax.tyRef Syntax.erased Syntax.mut SlotAs.pointee) (Syntax.tcons (Syntax.tyInt
-      Syntax.w64) Syntax.tnil))),
-) ∷ []
-
-abbrev pub t3 : List.List Row.Entry
-t3 = (
-  0,
-  Rows.any-gone (Syntax.tyStruct (115 ∷ 116 ∷ 111 ∷ 114 ∷ 101 ∷ 58 ∷ 58 ∷ 79 ∷ 117 ∷ 116 ∷ 99 ∷ 111 ∷ 109 ∷ 101 ∷ []) (Syntax.tcons (Syntax.tyInt
-      Syntax.w8) (Syntax.tcons (Syntax.tyInt Syntax.w64) Syntax.tnil))),
-) ∷ (
-  1,
-  Rows.sslice (Referent.rtF (Referent.fInt Syntax.w8)) (Syntax.tyRef (Syntax.named
-      0) Syntax.imm (Syntax.tyInt Syntax.w8)) 0,
-) ∷ (2, Mut.mslice SlotAs.row (Syntax.tyRef (Syntax.named 1) Syntax.mut SlotAs.pointee) 1) ∷ (
-  3,
-  Rows.whole
-      (Declared'.row Needs.the-type),
-) ∷ (4, Rows.any-gone (Syntax.tyInt Syntax.w64)) ∷ (5, Rows.any-gone (Syntax.tyInt Syntax.w64)) ∷ (
-  6,
-  Rows.any-gone
-      (Syntax.tyInt Syntax.w64),
-) ∷ (
-  7,
-  Rows.any-gone (Syntax.tyEnum (112 ∷ 105 ∷ 101 ∷ 99 ∷ 101 ∷ 115 ∷ 58 ∷ 58 ∷ 76 ∷ 105 ∷ 110 ∷ 101 ∷ []) (Syntax.ttcons
-      (Syntax.tcons (Syntax.tyInt Syntax.w8) Syntax.tnil) (Syntax.ttcons (Syntax.tcons (Syntax.tyEnum (107 ∷ 105 ∷ 110 ∷ 100 ∷ 115 ∷ 58 ∷ 58 ∷ 75 ∷ 105 ∷ 110 ∷
-      100 ∷ []) (Syntax.ttcons Syntax.tnil (Syntax.ttcons Syntax.tnil (Syntax.ttcons Syntax.tnil (Syntax.ttcons Syntax.tnil (Syntax.ttcons Syntax.tnil
-      (Syntax.ttcons Syntax.tnil (Syntax.ttcons Syntax.tnil (Syntax.ttcons Syntax.tnil (Syntax.ttcons Syntax.tnil (Syntax.ttcons Syntax.tnil (Syntax.ttcons
-      Syntax.tnil (Syntax.ttcons Syntax.tnil (Syntax.ttcons Syntax.tnil (Syntax.ttcons Syntax.tnil (Syntax.ttcons Syntax.tnil (Syntax.ttcons Syntax.tnil
-      (Syntax.ttcons Syntax.tnil (Syntax.ttcons Syntax.tnil (Syntax.ttcons Syntax.tnil (Syntax.ttcons Syntax.tnil (Syntax.ttcons Syntax.tnil (Syntax.ttcons
-      Syntax.tnil (Syntax.ttcons Syntax.tnil (Syntax.ttcons Syntax.tnil (Syntax.ttcons Syntax.tnil (Syntax.ttcons Syntax.tnil (Syntax.ttcons Syntax.tnil
-      (Syntax.ttcons Syntax.tnil Syntax.ttnil))))))))))))))))))))))))))))) (Syntax.tcons (Syntax.tyInt Syntax.w32) Syntax.tnil)) (Syntax.ttcons (Syntax.tcons
-      (Syntax.tyEnum (107 ∷ 105 ∷ 110 ∷ 100 ∷ 115 ∷ 58 ∷ 58 ∷ 75 ∷ 105 ∷ 110 ∷ 100 ∷ []) (Syntax.ttcons Syntax.tnil (Syntax.ttcons Syntax.tnil (Syntax.ttcons
-      Syntax.tnil (Syntax.ttcons Syntax.tnil (Syntax.ttcons Syntax.tnil (Syntax.ttcons Syntax.tnil (Syntax.ttcons Syntax.tnil (Syntax.ttcons Syntax.tnil
-      (Syntax.ttcons Syntax.tnil (Syntax.ttcons Syntax.tnil (Syntax.ttcons Syntax.tnil (Syntax.ttcons Syntax.tnil (Syntax.ttcons Syntax.tnil (Syntax.ttcons
-      Syntax.tnil (Syntax.ttcons Syntax.tnil (Syntax.ttcons Syntax.tnil (Syntax.ttcons Syntax.tnil (Syntax.ttcons Syntax.tnil (Syntax.ttcons Syntax.tnil
-      (Syntax.ttcons Syntax.tnil (Syntax.ttcons Syntax.tnil (Syntax.ttcons Syntax.tnil (Syntax.ttcons Syntax.tnil (Syntax.ttcons Syntax.tnil (Syntax.ttcons
-      Syntax.tnil (Syntax.ttcons Syntax.tnil (Syntax.ttcons Syntax.tnil (Syntax.ttcons Syntax.tnil Syntax.ttnil))))))))))))))))))))))))))))) Syntax.tnil)
-      (Syntax.ttcons (Syntax.tcons (Syntax.tyEnum (108 ∷ 105 ∷ 110 ∷ 101 ∷ 58 ∷ 58 ∷ 82 ∷ 101 ∷ 99 ∷ 111 ∷ 114 ∷ 100 ∷ []) (Syntax.ttcons (Syntax.tcons
-      Syntax.tyBool (Syntax.tcons (Syntax.tyStruct (99 ∷ 111 ∷ 111 ∷ 114 ∷ 100 ∷ 105 ∷ 110 ∷ 97 ∷ 116 ∷ 101 ∷ 58 ∷ 58 ∷ 65 ∷ 116 ∷ 111 ∷ 109 ∷ []) (Syntax.tcons
-      (Syntax.tyStruct (99 ∷ 111 ∷ 111 ∷ 114 ∷ 100 ∷ 105 ∷ 110 ∷ 97 ∷ 116 ∷ 101 ∷ 58 ∷ 58 ∷ 73 ∷ 100 ∷ 101 ∷ 110 ∷ 116 ∷ 105 ∷ 116 ∷ 121 ∷ []) (Syntax.tcons
-      (Syntax.tyStruct (102 ∷ 105 ∷ 101 ∷ 108 ∷ 100 ∷ 115 ∷ 58 ∷ 58 ∷ 83 ∷ 101 ∷ 114 ∷ 105 ∷ 97 ∷ 108 ∷ []) (Syntax.tcons (Syntax.tyInt Syntax.w32) Syntax.tnil))
-      (Syntax.tcons (Syntax.tyStruct (110 ∷ 97 ∷ 109 ∷ 101 ∷ 115 ∷ 58 ∷ 58 ∷ 70 ∷ 111 ∷ 117 ∷ 114 ∷ []) (Syntax.tcons (Syntax.tyInt Syntax.w8) (Syntax.tcons
-      (Syntax.tyInt Syntax.w8) (Syntax.tcons (Syntax.tyInt Syntax.w8) (Syntax.tcons (Syntax.tyInt Syntax.w8) Syntax.tnil))))) (Syntax.tcons (Syntax.tyInt
-      Syntax.w8) (Syntax.tcons (Syntax.tyStruct (114 ∷ 101 ∷ 115 ∷ 105 ∷ 100 ∷ 117 ∷ 101 ∷ 58 ∷ 58 ∷ 82 ∷ 101 ∷ 115 ∷ 105 ∷ 100 ∷ 117 ∷ 101 ∷ []) (Syntax.tcons
-      (Syntax.tyStruct (110 ∷ 97 ∷ 109 ∷ 101 ∷ 115 ∷ 58 ∷ 58 ∷ 84 ∷ 104 ∷ 114 ∷ 101 ∷ 101 ∷ []) (Syntax.tcons (Syntax.tyInt Syntax.w8) (Syntax.tcons
-      (Syntax.tyInt Syntax.w8) (Syntax.tcons (Syntax.tyInt Syntax.w8) Syntax.tnil)))) (Syntax.tcons (Syntax.tyInt Syntax.w8) (Syntax.tcons (Syntax.tyStruct (102
-      ∷ 105 ∷ 101 ∷ 108 ∷ 100 ∷ 115 ∷ 58 ∷ 58 ∷ 82 ∷ 101 ∷ 115 ∷ 105 ∷ 100 ∷ 117 ∷ 101 ∷ 78 ∷ 117 ∷ 109 ∷ 98 ∷ 101 ∷ 114 ∷ []) (Syntax.tcons (Syntax.tyInt
-      Syntax.w32) Syntax.tnil)) (Syntax.tcons (Syntax.tyInt Syntax.w8) Syntax.tnil))))) Syntax.tnil))))) (Syntax.tcons (Syntax.tyStruct (99 ∷ 111 ∷ 111 ∷ 114 ∷
-      100 ∷ 105 ∷ 110 ∷ 97 ∷ 116 ∷ 101 ∷ 58 ∷ 58 ∷ 77 ∷ 101 ∷ 97 ∷ 115 ∷ 117 ∷ 114 ∷ 101 ∷ []) (Syntax.tcons (Syntax.tyStruct (99 ∷ 111 ∷ 111 ∷ 114 ∷ 100 ∷ 105 ∷
-      110 ∷ 97 ∷ 116 ∷ 101 ∷ 58 ∷ 58 ∷ 80 ∷ 111 ∷ 115 ∷ 105 ∷ 116 ∷ 105 ∷ 111 ∷ 110 ∷ []) (Syntax.tcons (Syntax.tyInt Syntax.w32) (Syntax.tcons (Syntax.tyInt
-      Syntax.w32) (Syntax.tcons (Syntax.tyInt Syntax.w32) Syntax.tnil)))) (Syntax.tcons (Syntax.tyInt Syntax.w32) (Syntax.tcons (Syntax.tyInt Syntax.w32)
-      Syntax.tnil)))) (Syntax.tcons (Syntax.tyStruct (99 ∷ 111 ∷ 111 ∷ 114 ∷ 100 ∷ 105 ∷ 110 ∷ 97 ∷ 116 ∷ 101 ∷ 58 ∷ 58 ∷ 83 ∷ 112 ∷ 101 ∷ 99 ∷ 105 ∷ 101 ∷ 115 ∷
-      []) (Syntax.tcons (Syntax.tyStruct (110 ∷ 97 ∷ 109 ∷ 101 ∷ 115 ∷ 58 ∷ 58 ∷ 80 ∷ 97 ∷ 105 ∷ 114 ∷ []) (Syntax.tcons (Syntax.tyInt Syntax.w8) (Syntax.tcons
-      (Syntax.tyInt Syntax.w8) Syntax.tnil))) (Syntax.tcons (Syntax.tyStruct (110 ∷ 97 ∷ 109 ∷ 101 ∷ 115 ∷ 58 ∷ 58 ∷ 80 ∷ 97 ∷ 105 ∷ 114 ∷ []) (Syntax.tcons
-      (Syntax.tyInt Syntax.w8) (Syntax.tcons (Syntax.tyInt Syntax.w8) Syntax.tnil))) Syntax.tnil))) Syntax.tnil)))) Syntax.tnil)) (Syntax.ttcons (Syntax.tcons
-      (Syntax.tyStruct (116 ∷ 101 ∷ 114 ∷ 58 ∷ 58 ∷ 84 ∷ 101 ∷ 114 ∷ []) (Syntax.tcons (Syntax.tyStruct (102 ∷ 105 ∷ 101 ∷ 108 ∷ 100 ∷ 115 ∷ 58 ∷ 58 ∷ 83 ∷ 101 ∷
-      114 ∷ 105 ∷ 97 ∷ 108 ∷ []) (Syntax.tcons (Syntax.tyInt Syntax.w32) Syntax.tnil)) (Syntax.tcons (Syntax.tyStruct (114 ∷ 101 ∷ 115 ∷ 105 ∷ 100 ∷ 117 ∷ 101 ∷
-      58 ∷ 58 ∷ 82 ∷ 101 ∷ 115 ∷ 105 ∷ 100 ∷ 117 ∷ 101 ∷ []) (Syntax.tcons (Syntax.tyStruct (110 ∷ 97 ∷ 109 ∷ 101 ∷ 115 ∷ 58 ∷ 58 ∷ 84 ∷ 104 ∷ 114 ∷ 101 ∷ 101 ∷
-      []) (Syntax.tcons (Syntax.tyInt Syntax.w8) (Syntax.tcons (Syntax.tyInt Syntax.w8) (Syntax.tcons (Syntax.tyInt Syntax.w8) Syntax.tnil)))) (Syntax.tcons
-      (Syntax.tyInt Syntax.w8) (Syntax.tcons (Syntax.tyStruct (102 ∷ 105 ∷ 101 ∷ 108 ∷ 100 ∷ 115 ∷ 58 ∷ 58 ∷ 82 ∷ 101 ∷ 115 ∷ 105 ∷ 100 ∷ 117 ∷ 101 ∷ 78 ∷ 117 ∷
-      109 ∷ 98 ∷ 101 ∷ 114 ∷ []) (Syntax.tcons (Syntax.tyInt Syntax.w32) Syntax.tnil)) (Syntax.tcons (Syntax.tyInt Syntax.w8) Syntax.tnil))))) Syntax.tnil)))
-      Syntax.tnil) (Syntax.ttcons (Syntax.tcons (Syntax.tyStruct (104 ∷ 101 ∷ 108 ∷ 105 ∷ 120 ∷ 58 ∷ 58 ∷ 72 ∷ 101 ∷ 108 ∷ 105 ∷ 120 ∷ []) (Syntax.tcons
-      (Syntax.tyStruct (104 ∷ 101 ∷ 108 ∷ 105 ∷ 120 ∷ 58 ∷ 58 ∷ 69 ∷ 120 ∷ 116 ∷ 101 ∷ 110 ∷ 116 ∷ []) (Syntax.tcons (Syntax.tyInt Syntax.w32) (Syntax.tcons
-      (Syntax.tyStruct (110 ∷ 97 ∷ 109 ∷ 101 ∷ 115 ∷ 58 ∷ 58 ∷ 84 ∷ 104 ∷ 114 ∷ 101 ∷ 101 ∷ []) (Syntax.tcons (Syntax.tyInt Syntax.w8) (Syntax.tcons
-      (Syntax.tyInt Syntax.w8) (Syntax.tcons (Syntax.tyInt Syntax.w8) Syntax.tnil)))) (Syntax.tcons (Syntax.tyStruct (114 ∷ 101 ∷ 115 ∷ 105 ∷ 100 ∷ 117 ∷ 101 ∷
-      58 ∷ 58 ∷ 82 ∷ 101 ∷ 115 ∷ 105 ∷ 100 ∷ 117 ∷ 101 ∷ []) (Syntax.tcons (Syntax.tyStruct (110 ∷ 97 ∷ 109 ∷ 101 ∷ 115 ∷ 58 ∷ 58 ∷ 84 ∷ 104 ∷ 114 ∷ 101 ∷ 101 ∷
-      []) (Syntax.tcons (Syntax.tyInt Syntax.w8) (Syntax.tcons (Syntax.tyInt Syntax.w8) (Syntax.tcons (Syntax.tyInt Syntax.w8) Syntax.tnil)))) (Syntax.tcons
-      (Syntax.tyInt Syntax.w8) (Syntax.tcons (Syntax.tyStruct (102 ∷ 105 ∷ 101 ∷ 108 ∷ 100 ∷ 115 ∷ 58 ∷ 58 ∷ 82 ∷ 101 ∷ 115 ∷ 105 ∷ 100 ∷ 117 ∷ 101 ∷ 78 ∷ 117 ∷
-      109 ∷ 98 ∷ 101 ∷ 114 ∷ []) (Syntax.tcons (Syntax.tyInt Syntax.w32) Syntax.tnil)) (Syntax.tcons (Syntax.tyInt Syntax.w8) Syntax.tnil))))) (Syntax.tcons
-      (Syntax.tyStruct (114 ∷ 101 ∷ 115 ∷ 105 ∷ 100 ∷ 117 ∷ 101 ∷ 58 ∷ 58 ∷ 82 ∷ 101 ∷ 115 ∷ 105 ∷ 100 ∷ 117 ∷ 101 ∷ []) (Syntax.tcons (Syntax.tyStruct (110 ∷ 97
-      ∷ 109 ∷ 101 ∷ 115 ∷ 58 ∷ 58 ∷ 84 ∷ 104 ∷ 114 ∷ 101 ∷ 101 ∷ []) (Syntax.tcons (Syntax.tyInt Syntax.w8) (Syntax.tcons (Syntax.tyInt Syntax.w8) (Syntax.tcons
-      (Syntax.tyInt Syntax.w8) Syntax.tnil)))) (Syntax.tcons (Syntax.tyInt Syntax.w8) (Syntax.tcons (Syntax.tyStruct (102 ∷ 105 ∷ 101 ∷ 108 ∷ 100 ∷ 115 ∷ 58 ∷ 58
-      ∷ 82 ∷ 101 ∷ 115 ∷ 105 ∷ 100 ∷ 117 ∷ 101 ∷ 78 ∷ 117 ∷ 109 ∷ 98 ∷ 101 ∷ 114 ∷ []) (Syntax.tcons (Syntax.tyInt Syntax.w32) Syntax.tnil)) (Syntax.tcons
-      (Syntax.tyInt Syntax.w8) Syntax.tnil))))) Syntax.tnil))))) (Syntax.tcons (Syntax.tyInt Syntax.w32) (Syntax.tcons (Syntax.tyStruct (104 ∷ 101 ∷ 108 ∷ 105 ∷
-      120 ∷ 58 ∷ 58 ∷ 67 ∷ 111 ∷ 109 ∷ 109 ∷ 101 ∷ 110 ∷ 116 ∷ []) (Syntax.tcons (Syntax.tyInt Syntax.w64) (Syntax.tcons (Syntax.tyInt Syntax.w64) (Syntax.tcons
-      (Syntax.tyInt Syntax.w64) (Syntax.tcons (Syntax.tyInt Syntax.w64) Syntax.tnil))))) (Syntax.tcons (Syntax.tyInt Syntax.w32) Syntax.tnil))))) Syntax.tnil)
-      (Syntax.ttcons (Syntax.tcons (Syntax.tyStruct (115 ∷ 104 ∷ 101 ∷ 101 ∷ 116 ∷ 58 ∷ 58 ∷ 83 ∷ 104 ∷ 101 ∷ 101 ∷ 116 ∷ []) (Syntax.tcons (Syntax.tyStruct (115
-      ∷ 104 ∷ 101 ∷ 101 ∷ 116 ∷ 58 ∷ 58 ∷ 83 ∷ 116 ∷ 114 ∷ 97 ∷ 110 ∷ 100 ∷ []) (Syntax.tcons (Syntax.tyInt Syntax.w32) (Syntax.tcons (Syntax.tyStruct (110 ∷ 97
-      ∷ 109 ∷ 101 ∷ 115 ∷ 58 ∷ 58 ∷ 84 ∷ 104 ∷ 114 ∷ 101 ∷ 101 ∷ []) (Syntax.tcons (Syntax.tyInt Syntax.w8) (Syntax.tcons (Syntax.tyInt Syntax.w8) (Syntax.tcons
-      (Syntax.tyInt Syntax.w8) Syntax.tnil)))) (Syntax.tcons (Syntax.tyInt Syntax.w32) (Syntax.tcons (Syntax.tyStruct (114 ∷ 101 ∷ 115 ∷ 105 ∷ 100 ∷ 117 ∷ 101 ∷
-      58 ∷ 58 ∷ 82 ∷ 101 ∷ 115 ∷ 105 ∷ 100 ∷ 117 ∷ 101 ∷ []) (Syntax.tcons (Syntax.tyStruct (110 ∷ 97 ∷ 109 ∷ 101 ∷ 115 ∷ 58 ∷ 58 ∷ 84 ∷ 104 ∷ 114 ∷ 101 ∷ 101 ∷
-      []) (Syntax.tcons (Syntax.tyInt Syntax.w8) (Syntax.tcons (Syntax.tyInt Syntax.w8) (Syntax.tcons (Syntax.tyInt Syntax.w8) Syntax.tnil)))) (Syntax.tcons
-      (Syntax.tyInt Syntax.w8) (Syntax.tcons (Syntax.tyStruct (102 ∷ 105 ∷ 101 ∷ 108 ∷ 100 ∷ 115 ∷ 58 ∷ 58 ∷ 82 ∷ 101 ∷ 115 ∷ 105 ∷ 100 ∷ 117 ∷ 101 ∷ 78 ∷ 117 ∷
-      109 ∷ 98 ∷ 101 ∷ 114 ∷ []) (Syntax.tcons (Syntax.tyInt Syntax.w32) Syntax.tnil)) (Syntax.tcons (Syntax.tyInt Syntax.w8) Syntax.tnil))))) (Syntax.tcons
-      (Syntax.tyStruct (114 ∷ 101 ∷ 115 ∷ 105 ∷ 100 ∷ 117 ∷ 101 ∷ 58 ∷ 58 ∷ 82 ∷ 101 ∷ 115 ∷ 105 ∷ 100 ∷ 117 ∷ 101 ∷ []) (Syntax.tcons (Syntax.tyStruct (110 ∷ 97
-      ∷ 109 ∷ 101 ∷ 115 ∷ 58 ∷ 58 ∷ 84 ∷ 104 ∷ 114 ∷ 101 ∷ 101 ∷ []) (Syntax.tcons (Syntax.tyInt Syntax.w8) (Syntax.tcons (Syntax.tyInt Syntax.w8) (Syntax.tcons
-      (Syntax.tyInt Syntax.w8) Syntax.tnil)))) (Syntax.tcons (Syntax.tyInt Syntax.w8) (Syntax.tcons (Syntax.tyStruct (102 ∷ 105 ∷ 101 ∷ 108 ∷ 100 ∷ 115 ∷ 58 ∷ 58
-      ∷ 82 ∷ 101 ∷ 115 ∷ 105 ∷ 100 ∷ 117 ∷ 101 ∷ 78 ∷ 117 ∷ 109 ∷ 98 ∷ 101 ∷ 114 ∷ []) (Syntax.tcons (Syntax.tyInt Syntax.w32) Syntax.tnil)) (Syntax.tcons
-      (Syntax.tyInt Syntax.w8) Syntax.tnil))))) (Syntax.tcons (Syntax.tyInt Syntax.w32) Syntax.tnil))))))) (Syntax.tcons (Syntax.tyEnum (115 ∷ 104 ∷ 101 ∷ 101 ∷
-      116 ∷ 58 ∷ 58 ∷ 82 ∷ 101 ∷ 103 ∷ 105 ∷ 115 ∷ 116 ∷ 114 ∷ 97 ∷ 116 ∷ 105 ∷ 111 ∷ 110 ∷ []) (Syntax.ttcons Syntax.tnil (Syntax.ttcons (Syntax.tcons
-      (Syntax.tyStruct (115 ∷ 104 ∷ 101 ∷ 101 ∷ 116 ∷ 58 ∷ 58 ∷ 66 ∷ 111 ∷ 110 ∷ 100 ∷ []) (Syntax.tcons (Syntax.tyStruct (110 ∷ 97 ∷ 109 ∷ 101 ∷ 115 ∷ 58 ∷ 58 ∷
-      70 ∷ 111 ∷ 117 ∷ 114 ∷ []) (Syntax.tcons (Syntax.tyInt Syntax.w8) (Syntax.tcons (Syntax.tyInt Syntax.w8) (Syntax.tcons (Syntax.tyInt Syntax.w8)
-      (Syntax.tcons (Syntax.tyInt Syntax.w8) Syntax.tnil))))) (Syntax.tcons (Syntax.tyStruct (114 ∷ 101 ∷ 115 ∷ 105 ∷ 100 ∷ 117 ∷ 101 ∷ 58 ∷ 58 ∷ 82 ∷ 101 ∷ 115
-      ∷ 105 ∷ 100 ∷ 117 ∷ 101 ∷ []) (Syntax.tcons (Syntax.tyStruct (110 ∷ 97 ∷ 109 ∷ 101 ∷ 115 ∷ 58 ∷ 58 ∷ 84 ∷ 104 ∷ 114 ∷ 101 ∷ 101 ∷ []) (Syntax.tcons
-      (Syntax.tyInt Syntax.w8) (Syntax.tcons (Syntax.tyInt Syntax.w8) (Syntax.tcons (Syntax.tyInt Syntax.w8) Syntax.tnil)))) (Syntax.tcons (Syntax.tyInt
-      Syntax.w8) (Syntax.tcons (Syntax.tyStruct (102 ∷ 105 ∷ 101 ∷ 108 ∷ 100 ∷ 115 ∷ 58 ∷ 58 ∷ 82 ∷ 101 ∷ 115 ∷ 105 ∷ 100 ∷ 117 ∷ 101 ∷ 78 ∷ 117 ∷ 109 ∷ 98 ∷ 101
-      ∷ 114 ∷ []) (Syntax.tcons (Syntax.tyInt Syntax.w32) Syntax.tnil)) (Syntax.tcons (Syntax.tyInt Syntax.w8) Syntax.tnil))))) (Syntax.tcons (Syntax.tyStruct
-      (110 ∷ 97 ∷ 109 ∷ 101 ∷ 115 ∷ 58 ∷ 58 ∷ 70 ∷ 111 ∷ 117 ∷ 114 ∷ []) (Syntax.tcons (Syntax.tyInt Syntax.w8) (Syntax.tcons (Syntax.tyInt Syntax.w8)
-      (Syntax.tcons (Syntax.tyInt Syntax.w8) (Syntax.tcons (Syntax.tyInt Syntax.w8) Syntax.tnil))))) (Syntax.tcons (Syntax.tyStruct (114 ∷ 101 ∷ 115 ∷ 105 ∷ 100
-      ∷ 117 ∷ 101 ∷ 58 ∷ 58 ∷ 82 ∷ 101 ∷ 115 ∷ 105 ∷ 100 ∷ 117 ∷ 101 ∷ []) (Syntax.tcons (Syntax.tyStruct (110 ∷ 97 ∷ 109 ∷ 101 ∷ 115 ∷ 58 ∷ 58 ∷ 84 ∷ 104 ∷ 114
-      ∷ 101 ∷ 101 ∷ []) (Syntax.tcons (Syntax.tyInt Syntax.w8) (Syntax.tcons (Syntax.tyInt Syntax.w8) (Syntax.tcons (Syntax.tyInt Syntax.w8) Syntax.tnil))))
-      (Syntax.tcons (Syntax.tyInt Syntax.w8) (Syntax.tcons (Syntax.tyStruct (102 ∷ 105 ∷ 101 ∷ 108 ∷ 100 ∷ 115 ∷ 58 ∷ 58 ∷ 82 ∷ 101 ∷ 115 ∷ 105 ∷ 100 ∷ 117 ∷ 101
-      ∷ 78 ∷ 117 ∷ 109 ∷ 98 ∷ 101 ∷ 114 ∷ []) (Syntax.tcons (Syntax.tyInt Syntax.w32) Syntax.tnil)) (Syntax.tcons (Syntax.tyInt Syntax.w8) Syntax.tnil)))))
-      Syntax.tnil))))) Syntax.tnil) Syntax.ttnil))) Syntax.tnil))) Syntax.tnil) (Syntax.ttcons (Syntax.tcons (Syntax.tyStruct (99 ∷ 111 ∷ 110 ∷ 101 ∷ 99 ∷ 116 ∷
-      58 ∷ 58 ∷ 67 ∷ 111 ∷ 110 ∷ 101 ∷ 99 ∷ 116 ∷ []) (Syntax.tcons (Syntax.tyStruct (102 ∷ 105 ∷ 101 ∷ 108 ∷ 100 ∷ 115 ∷ 58 ∷ 58 ∷ 83 ∷ 101 ∷ 114 ∷ 105 ∷ 97 ∷
-      108 ∷ []) (Syntax.tcons (Syntax.tyInt Syntax.w32) Syntax.tnil)) (Syntax.tcons (Syntax.tyStruct (102 ∷ 105 ∷ 101 ∷ 108 ∷ 100 ∷ 115 ∷ 58 ∷ 58 ∷ 83 ∷ 101 ∷
-      114 ∷ 105 ∷ 97 ∷ 108 ∷ []) (Syntax.tcons (Syntax.tyInt Syntax.w32) Syntax.tnil)) (Syntax.tcons (Syntax.tyStruct (102 ∷ 105 ∷ 101 ∷ 108 ∷ 100 ∷ 115 ∷ 58 ∷
-      58 ∷ 83 ∷ 101 ∷ 114 ∷ 105 ∷ 97 ∷ 108 ∷ []) (Syntax.tcons (Syntax.tyInt Syntax.w32) Syntax.tnil)) (Syntax.tcons (Syntax.tyStruct (102 ∷ 105 ∷ 101 ∷ 108 ∷
-      100 ∷ 115 ∷ 58 ∷ 58 ∷ 83 ∷ 101 ∷ 114 ∷ 105 ∷ 97 ∷ 108 ∷ []) (Syntax.tcons (Syntax.tyInt Syntax.w32) Syntax.tnil)) (Syntax.tcons (Syntax.tyStruct (102 ∷ 105
-      ∷ 101 ∷ 108 ∷ 100 ∷ 115 ∷ 58 ∷ 58 ∷ 83 ∷ 101 ∷ 114 ∷ 105 ∷ 97 ∷ 108 ∷ []) (Syntax.tcons (Syntax.tyInt Syntax.w32) Syntax.tnil)) Syntax.tnil))))))
-      Syntax.tnil) (Syntax.ttcons (Syntax.tcons (Syntax.tyStruct (109 ∷ 97 ∷ 115 ∷ 116 ∷ 101 ∷ 114 ∷ 58 ∷ 58 ∷ 84 ∷ 97 ∷ 108 ∷ 108 ∷ 121 ∷ []) (Syntax.tcons
-      (Syntax.tyInt Syntax.w32) (Syntax.tcons (Syntax.tyInt Syntax.w32) (Syntax.tcons (Syntax.tyInt Syntax.w32) (Syntax.tcons (Syntax.tyInt Syntax.w32)
-      (Syntax.tcons (Syntax.tyInt Syntax.w32) (Syntax.tcons (Syntax.tyInt Syntax.w32) (Syntax.tcons (Syntax.tyInt Syntax.w32) (Syntax.tcons (Syntax.tyInt
-      Syntax.w32) (Syntax.tcons (Syntax.tyInt Syntax.w32) Syntax.tnil)))))))))) Syntax.tnil) (Syntax.ttcons Syntax.tnil Syntax.ttnil)))))))) Syntax.tnil)
-      Syntax.ttnil))))),
-) ∷ (8, Rows.sc-here Row.sBool) ∷ (9, Rows.any-gone (Syntax.tyInt Syntax.w64)) ∷ (10, Rows.any-gone (Syntax.tyInt Syntax.w64)) ∷ (
-  11,
-  Rows.any-gone (Syntax.tyInt Syntax.w64),
-) ∷ (12, Rows.any-gone Syntax.tyBool) ∷ (13, Rows.any-gone (Syntax.tyRef Syntax.erased Syntax.mut SlotAs.pointee)) ∷ (
-  14,
-  Rows.any-gone (Syntax.tyStruct (38 ∷ 91 ∷ 93 ∷ []) (Syntax.tcons (Syntax.tyRef Syntax.erased Syntax.mut SlotAs.pointee) (Syntax.tcons (Syntax.tyInt
-      Syntax.w64) Syntax.tnil))),
-) ∷ []
-
-abbrev pub t4 : List.List Row.Entry
-t4 = (0, Rows.whole (Declared'.row (Apart.apartT Outcome.the-type))) ∷ (
-  1,
-  Rows.sslice (Referent.rtF (Referent.fInt Syntax.w8)) (Syntax.tyRef (Syntax.named 0)
-      Syntax.imm (Syntax.tyInt Syntax.w8)) 0,
-) ∷ (2, Mut.mslice SlotAs.row (Syntax.tyRef (Syntax.named 1) Syntax.mut SlotAs.pointee) 1) ∷ (
-  3,
-  Rows.whole
-      (Declared'.row Needs.the-type),
-) ∷ (4, Rows.any-gone (Syntax.tyInt Syntax.w64)) ∷ (5, Rows.any-gone (Syntax.tyInt Syntax.w64)) ∷ (
-  6,
-  Rows.any-gone
-      (Syntax.tyInt Syntax.w64),
-) ∷ (
-  7,
-  Rows.any-gone (Syntax.tyEnum (112 ∷ 105 ∷ 101 ∷ 99 ∷ 101 ∷ 115 ∷ 58 ∷ 58 ∷ 76 ∷ 105 ∷ 110 ∷ 101 ∷ []) (Syntax.ttcons
-      (Syntax.tcons (Syntax.tyInt Syntax.w8) Syntax.tnil) (Syntax.ttcons (Syntax.tcons (Syntax.tyEnum (107 ∷ 105 ∷ 110 ∷ 100 ∷ 115 ∷ 58 ∷ 58 ∷ 75 ∷ 105 ∷ 110 ∷
-      100 ∷ []) (Syntax.ttcons Syntax.tnil (Syntax.ttcons Syntax.tnil (Syntax.ttcons Syntax.tnil (Syntax.ttcons Syntax.tnil (Syntax.ttcons Syntax.tnil
-      (Syntax.ttcons Syntax.tnil (Syntax.ttcons Syntax.tnil (Syntax.ttcons Syntax.tnil (Syntax.ttcons Syntax.tnil (Syntax.ttcons Syntax.tnil (Syntax.ttcons
-      Syntax.tnil (Syntax.ttcons Syntax.tnil (Syntax.ttcons Syntax.tnil (Syntax.ttcons Syntax.tnil (Syntax.ttcons Syntax.tnil (Syntax.ttcons Syntax.tnil
-      (Syntax.ttcons Syntax.tnil (Syntax.ttcons Syntax.tnil (Syntax.ttcons Syntax.tnil (Syntax.ttcons Syntax.tnil (Syntax.ttcons Syntax.tnil (Syntax.ttcons
-      Syntax.tnil (Syntax.ttcons Syntax.tnil (Syntax.ttcons Syntax.tnil (Syntax.ttcons Syntax.tnil (Syntax.ttcons Syntax.tnil (Syntax.ttcons Syntax.tnil
-      (Syntax.ttcons Syntax.tnil Syntax.ttnil))))))))))))))))))))))))))))) (Syntax.tcons (Syntax.tyInt Syntax.w32) Syntax.tnil)) (Syntax.ttcons (Syntax.tcons
-      (Syntax.tyEnum (107 ∷ 105 ∷ 110 ∷ 100 ∷ 115 ∷ 58 ∷ 58 ∷ 75 ∷ 105 ∷ 110 ∷ 100 ∷ []) (Syntax.ttcons Syntax.tnil (Syntax.ttcons Syntax.tnil (Syntax.ttcons
-      Syntax.tnil (Syntax.ttcons Syntax.tnil (Syntax.ttcons Syntax.tnil (Syntax.ttcons Syntax.tnil (Syntax.ttcons Syntax.tnil (Syntax.ttcons Syntax.tnil
-      (Syntax.ttcons Syntax.tnil (Syntax.ttcons Syntax.tnil (Syntax.ttcons Syntax.tnil (Syntax.ttcons Syntax.tnil (Syntax.ttcons Syntax.tnil (Syntax.ttcons
-      Syntax.tnil (Syntax.ttcons Syntax.tnil (Syntax.ttcons Syntax.tnil (Syntax.ttcons Syntax.tnil (Syntax.ttcons Syntax.tnil (Syntax.ttcons Syntax.tnil
-      (Syntax.ttcons Syntax.tnil (Syntax.ttcons Syntax.tnil (Syntax.ttcons Syntax.tnil (Syntax.ttcons Syntax.tnil (Syntax.ttcons Syntax.tnil (Syntax.ttcons
-      Syntax.tnil (Syntax.ttcons Syntax.tnil (Syntax.ttcons Syntax.tnil (Syntax.ttcons Syntax.tnil Syntax.ttnil))))))))))))))))))))))))))))) Syntax.tnil)
-      (Syntax.ttcons (Syntax.tcons (Syntax.tyEnum (108 ∷ 105 ∷ 110 ∷ 101 ∷ 58 ∷ 58 ∷ 82 ∷ 101 ∷ 99 ∷ 111 ∷ 114 ∷ 100 ∷ []) (Syntax.ttcons (Syntax.tcons
-      Syntax.tyBool (Syntax.tcons (Syntax.tyStruct (99 ∷ 111 ∷ 111 ∷ 114 ∷ 100 ∷ 105 ∷ 110 ∷ 97 ∷ 116 ∷ 101 ∷ 58 ∷ 58 ∷ 65 ∷ 116 ∷ 111 ∷ 109 ∷ []) (Syntax.tcons
-      (Syntax.tyStruct (99 ∷ 111 ∷ 111 ∷ 114 ∷ 100 ∷ 105 ∷ 110 ∷ 97 ∷ 116 ∷ 101 ∷ 58 ∷ 58 ∷ 73 ∷ 100 ∷ 101 ∷ 110 ∷ 116 ∷ 105 ∷ 116 ∷ 121 ∷ []) (Syntax.tcons
-      (Syntax.tyStruct (102 ∷ 105 ∷ 101 ∷ 108 ∷ 100 ∷ 115 ∷ 58 ∷ 58 ∷ 83 ∷ 101 ∷ 114 ∷ 105 ∷ 97 ∷ 108 ∷ []) (Syntax.tcons (Syntax.tyInt Syntax.w32) Syntax.tnil))
-      (Syntax.tcons (Syntax.tyStruct (110 ∷ 97 ∷ 109 ∷ 101 ∷ 115 ∷ 58 ∷ 58 ∷ 70 ∷ 111 ∷ 117 ∷ 114 ∷ []) (Syntax.tcons (Syntax.tyInt Syntax.w8) (Syntax.tcons
-      (Syntax.tyInt Syntax.w8) (Syntax.tcons (Syntax.tyInt Syntax.w8) (Syntax.tcons (Syntax.tyInt Syntax.w8) Syntax.tnil))))) (Syntax.tcons (Syntax.tyInt
-      Syntax.w8) (Syntax.tcons (Syntax.tyStruct (114 ∷ 101 ∷ 115 ∷ 105 ∷ 100 ∷ 117 ∷ 101 ∷ 58 ∷ 58 ∷ 82 ∷ 101 ∷ 115 ∷ 105 ∷ 100 ∷ 117 ∷ 101 ∷ []) (Syntax.tcons
-      (Syntax.tyStruct (110 ∷ 97 ∷ 109 ∷ 101 ∷ 115 ∷ 58 ∷ 58 ∷ 84 ∷ 104 ∷ 114 ∷ 101 ∷ 101 ∷ []) (Syntax.tcons (Syntax.tyInt Syntax.w8) (Syntax.tcons
-      (Syntax.tyInt Syntax.w8) (Syntax.tcons (Syntax.tyInt Syntax.w8) Syntax.tnil)))) (Syntax.tcons (Syntax.tyInt Syntax.w8) (Syntax.tcons (Syntax.tyStruct (102
-      ∷ 105 ∷ 101 ∷ 108 ∷ 100 ∷ 115 ∷ 58 ∷ 58 ∷ 82 ∷ 101 ∷ 115 ∷ 105 ∷ 100 ∷ 117 ∷ 101 ∷ 78 ∷ 117 ∷ 109 ∷ 98 ∷ 101 ∷ 114 ∷ []) (Syntax.tcons (Syntax.tyInt
-      Syntax.w32) Syntax.tnil)) (Syntax.tcons (Syntax.tyInt Syntax.w8) Syntax.tnil))))) Syntax.tnil))))) (Syntax.tcons (Syntax.tyStruct (99 ∷ 111 ∷ 111 ∷ 114 ∷
-      100 ∷ 105 ∷ 110 ∷ 97 ∷ 116 ∷ 101 ∷ 58 ∷ 58 ∷ 77 ∷ 101 ∷ 97 ∷ 115 ∷ 117 ∷ 114 ∷ 101 ∷ []) (Syntax.tcons (Syntax.tyStruct (99 ∷ 111 ∷ 111 ∷ 114 ∷ 100 ∷ 105 ∷
-      110 ∷ 97 ∷ 116 ∷ 101 ∷ 58 ∷ 58 ∷ 80 ∷ 111 ∷ 115 ∷ 105 ∷ 116 ∷ 105 ∷ 111 ∷ 110 ∷ []) (Syntax.tcons (Syntax.tyInt Syntax.w32) (Syntax.tcons (Syntax.tyInt
-      Syntax.w32) (Syntax.tcons (Syntax.tyInt Syntax.w32) Syntax.tnil)))) (Syntax.tcons (Syntax.tyInt Syntax.w32) (Syntax.tcons (Syntax.tyInt Syntax.w32)
-      Syntax.tnil)))) (Syntax.tcons (Syntax.tyStruct (99 ∷ 111 ∷ 111 ∷ 114 ∷ 100 ∷ 105 ∷ 110 ∷ 97 ∷ 116 ∷ 101 ∷ 58 ∷ 58 ∷ 83 ∷ 112 ∷ 101 ∷ 99 ∷ 105 ∷ 101 ∷ 115 ∷
-      []) (Syntax.tcons (Syntax.tyStruct (110 ∷ 97 ∷ 109 ∷ 101 ∷ 115 ∷ 58 ∷ 58 ∷ 80 ∷ 97 ∷ 105 ∷ 114 ∷ []) (Syntax.tcons (Syntax.tyInt Syntax.w8) (Syntax.tcons
-      (Syntax.tyInt Syntax.w8) Syntax.tnil))) (Syntax.tcons (Syntax.tyStruct (110 ∷ 97 ∷ 109 ∷ 101 ∷ 115 ∷ 58 ∷ 58 ∷ 80 ∷ 97 ∷ 105 ∷ 114 ∷ []) (Syntax.tcons
-      (Syntax.tyInt Syntax.w8) (Syntax.tcons (Syntax.tyInt Syntax.w8) Syntax.tnil))) Syntax.tnil))) Syntax.tnil)))) Syntax.tnil)) (Syntax.ttcons (Syntax.tcons
-      (Syntax.tyStruct (116 ∷ 101 ∷ 114 ∷ 58 ∷ 58 ∷ 84 ∷ 101 ∷ 114 ∷ []) (Syntax.tcons (Syntax.tyStruct (102 ∷ 105 ∷ 101 ∷ 108 ∷ 100 ∷ 115 ∷ 58 ∷ 58 ∷ 83 ∷ 101 ∷
-      114 ∷ 105 ∷ 97 ∷ 108 ∷ []) (Syntax.tcons (Syntax.tyInt Syntax.w32) Syntax.tnil)) (Syntax.tcons (Syntax.tyStruct (114 ∷ 101 ∷ 115 ∷ 105 ∷ 100 ∷ 117 ∷ 101 ∷
-      58 ∷ 58 ∷ 82 ∷ 101 ∷ 115 ∷ 105 ∷ 100 ∷ 117 ∷ 101 ∷ []) (Syntax.tcons (Syntax.tyStruct (110 ∷ 97 ∷ 109 ∷ 101 ∷ 115 ∷ 58 ∷ 58 ∷ 84 ∷ 104 ∷ 114 ∷ 101 ∷ 101 ∷
-      []) (Syntax.tcons (Syntax.tyInt Syntax.w8) (Syntax.tcons (Syntax.tyInt Syntax.w8) (Syntax.tcons (Syntax.tyInt Syntax.w8) Syntax.tnil)))) (Syntax.tcons
-      (Syntax.tyInt Syntax.w8) (Syntax.tcons (Syntax.tyStruct (102 ∷ 105 ∷ 101 ∷ 108 ∷ 100 ∷ 115 ∷ 58 ∷ 58 ∷ 82 ∷ 101 ∷ 115 ∷ 105 ∷ 100 ∷ 117 ∷ 101 ∷ 78 ∷ 117 ∷
-      109 ∷ 98 ∷ 101 ∷ 114 ∷ []) (Syntax.tcons (Syntax.tyInt Syntax.w32) Syntax.tnil)) (Syntax.tcons (Syntax.tyInt Syntax.w8) Syntax.tnil))))) Syntax.tnil)))
-      Syntax.tnil) (Syntax.ttcons (Syntax.tcons (Syntax.tyStruct (104 ∷ 101 ∷ 108 ∷ 105 ∷ 120 ∷ 58 ∷ 58 ∷ 72 ∷ 101 ∷ 108 ∷ 105 ∷ 120 ∷ []) (Syntax.tcons
-      (Syntax.tyStruct (104 ∷ 101 ∷ 108 ∷ 105 ∷ 120 ∷ 58 ∷ 58 ∷ 69 ∷ 120 ∷ 116 ∷ 101 ∷ 110 ∷ 116 ∷ []) (Syntax.tcons (Syntax.tyInt Syntax.w32) (Syntax.tcons
-      (Syntax.tyStruct (110 ∷ 97 ∷ 109 ∷ 101 ∷ 115 ∷ 58 ∷ 58 ∷ 84 ∷ 104 ∷ 114 ∷ 101 ∷ 101 ∷ []) (Syntax.tcons (Syntax.tyInt Syntax.w8) (Syntax.tcons
-      (Syntax.tyInt Syntax.w8) (Syntax.tcons (Syntax.tyInt Syntax.w8) Syntax.tnil)))) (Syntax.tcons (Syntax.tyStruct (114 ∷ 101 ∷ 115 ∷ 105 ∷ 100 ∷ 117 ∷ 101 ∷
-      58 ∷ 58 ∷ 82 ∷ 101 ∷ 115 ∷ 105 ∷ 100 ∷ 117 ∷ 101 ∷ []) (Syntax.tcons (Syntax.tyStruct (110 ∷ 97 ∷ 109 ∷ 101 ∷ 115 ∷ 58 ∷ 58 ∷ 84 ∷ 104 ∷ 114 ∷ 101 ∷ 101 ∷
-      []) (Syntax.tcons (Syntax.tyInt Syntax.w8) (Syntax.tcons (Syntax.tyInt Syntax.w8) (Syntax.tcons (Syntax.tyInt Syntax.w8) Syntax.tnil)))) (Syntax.tcons
-      (Syntax.tyInt Syntax.w8) (Syntax.tcons (Syntax.tyStruct (102 ∷ 105 ∷ 101 ∷ 108 ∷ 100 ∷ 115 ∷ 58 ∷ 58 ∷ 82 ∷ 101 ∷ 115 ∷ 105 ∷ 100 ∷ 117 ∷ 101 ∷ 78 ∷ 117 ∷
-      109 ∷ 98 ∷ 101 ∷ 114 ∷ []) (Syntax.tcons (Syntax.tyInt Syntax.w32) Syntax.tnil)) (Syntax.tcons (Syntax.tyInt Syntax.w8) Syntax.tnil))))) (Syntax.tcons
-      (Syntax.tyStruct (114 ∷ 101 ∷ 115 ∷ 105 ∷ 100 ∷ 117 ∷ 101 ∷ 58 ∷ 58 ∷ 82 ∷ 101 ∷ 115 ∷ 105 ∷ 100 ∷ 117 ∷ 101 ∷ []) (Syntax.tcons (Syntax.tyStruct (110 ∷ 97
-      ∷ 109 ∷ 101 ∷ 115 ∷ 58 ∷ 58 ∷ 84 ∷ 104 ∷ 114 ∷ 101 ∷ 101 ∷ []) (Syntax.tcons (Syntax.tyInt Syntax.w8) (Syntax.tcons (Syntax.tyInt Syntax.w8) (Syntax.tcons
-      (Syntax.tyInt Syntax.w8) Syntax.tnil)))) (Syntax.tcons (Syntax.tyInt Syntax.w8) (Syntax.tcons (Syntax.tyStruct (102 ∷ 105 ∷ 101 ∷ 108 ∷ 100 ∷ 115 ∷ 58 ∷ 58
-      ∷ 82 ∷ 101 ∷ 115 ∷ 105 ∷ 100 ∷ 117 ∷ 101 ∷ 78 ∷ 117 ∷ 109 ∷ 98 ∷ 101 ∷ 114 ∷ []) (Syntax.tcons (Syntax.tyInt Syntax.w32) Syntax.tnil)) (Syntax.tcons
-      (Syntax.tyInt Syntax.w8) Syntax.tnil))))) Syntax.tnil))))) (Syntax.tcons (Syntax.tyInt Syntax.w32) (Syntax.tcons (Syntax.tyStruct (104 ∷ 101 ∷ 108 ∷ 105 ∷
-      120 ∷ 58 ∷ 58 ∷ 67 ∷ 111 ∷ 109 ∷ 109 ∷ 101 ∷ 110 ∷ 116 ∷ []) (Syntax.tcons (Syntax.tyInt Syntax.w64) (Syntax.tcons (Syntax.tyInt Syntax.w64) (Syntax.tcons
-      (Syntax.tyInt Syntax.w64) (Syntax.tcons (Syntax.tyInt Syntax.w64) Syntax.tnil))))) (Syntax.tcons (Syntax.tyInt Syntax.w32) Syntax.tnil))))) Syntax.tnil)
-      (Syntax.ttcons (Syntax.tcons (Syntax.tyStruct (115 ∷ 104 ∷ 101 ∷ 101 ∷ 116 ∷ 58 ∷ 58 ∷ 83 ∷ 104 ∷ 101 ∷ 101 ∷ 116 ∷ []) (Syntax.tcons (Syntax.tyStruct (115
-      ∷ 104 ∷ 101 ∷ 101 ∷ 116 ∷ 58 ∷ 58 ∷ 83 ∷ 116 ∷ 114 ∷ 97 ∷ 110 ∷ 100 ∷ []) (Syntax.tcons (Syntax.tyInt Syntax.w32) (Syntax.tcons (Syntax.tyStruct (110 ∷ 97
-      ∷ 109 ∷ 101 ∷ 115 ∷ 58 ∷ 58 ∷ 84 ∷ 104 ∷ 114 ∷ 101 ∷ 101 ∷ []) (Syntax.tcons (Syntax.tyInt Syntax.w8) (Syntax.tcons (Syntax.tyInt Syntax.w8) (Syntax.tcons
-      (Syntax.tyInt Syntax.w8) Syntax.tnil)))) (Syntax.tcons (Syntax.tyInt Syntax.w32) (Syntax.tcons (Syntax.tyStruct (114 ∷ 101 ∷ 115 ∷ 105 ∷ 100 ∷ 117 ∷ 101 ∷
-      58 ∷ 58 ∷ 82 ∷ 101 ∷ 115 ∷ 105 ∷ 100 ∷ 117 ∷ 101 ∷ []) (Syntax.tcons (Syntax.tyStruct (110 ∷ 97 ∷ 109 ∷ 101 ∷ 115 ∷ 58 ∷ 58 ∷ 84 ∷ 104 ∷ 114 ∷ 101 ∷ 101 ∷
-      []) (Syntax.tcons (Syntax.tyInt Syntax.w8) (Syntax.tcons (Syntax.tyInt Syntax.w8) (Syntax.tcons (Syntax.tyInt Syntax.w8) Syntax.tnil)))) (Syntax.tcons
-      (Syntax.tyInt Syntax.w8) (Syntax.tcons (Syntax.tyStruct (102 ∷ 105 ∷ 101 ∷ 108 ∷ 100 ∷ 115 ∷ 58 ∷ 58 ∷ 82 ∷ 101 ∷ 115 ∷ 105 ∷ 100 ∷ 117 ∷ 101 ∷ 78 ∷ 117 ∷
-      109 ∷ 98 ∷ 101 ∷ 114 ∷ []) (Syntax.tcons (Syntax.tyInt Syntax.w32) Syntax.tnil)) (Syntax.tcons (Syntax.tyInt Syntax.w8) Syntax.tnil))))) (Syntax.tcons
-      (Syntax.tyStruct (114 ∷ 101 ∷ 115 ∷ 105 ∷ 100 ∷ 117 ∷ 101 ∷ 58 ∷ 58 ∷ 82 ∷ 101 ∷ 115 ∷ 105 ∷ 100 ∷ 117 ∷ 101 ∷ []) (Syntax.tcons (Syntax.tyStruct (110 ∷ 97
-      ∷ 109 ∷ 101 ∷ 115 ∷ 58 ∷ 58 ∷ 84 ∷ 104 ∷ 114 ∷ 101 ∷ 101 ∷ []) (Syntax.tcons (Syntax.tyInt Syntax.w8) (Syntax.tcons (Syntax.tyInt Syntax.w8) (Syntax.tcons
-      (Syntax.tyInt Syntax.w8) Syntax.tnil)))) (Syntax.tcons (Syntax.tyInt Syntax.w8) (Syntax.tcons (Syntax.tyStruct (102 ∷ 105 ∷ 101 ∷ 108 ∷ 100 ∷ 115 ∷ 58 ∷ 58
-      ∷ 82 ∷ 101 ∷ 115 ∷ 105 ∷ 100 ∷ 117 ∷ 101 ∷ 78 ∷ 117 ∷ 109 ∷ 98 ∷ 101 ∷ 114 ∷ []) (Syntax.tcons (Syntax.tyInt Syntax.w32) Syntax.tnil)) (Syntax.tcons
-      (Syntax.tyInt Syntax.w8) Syntax.tnil))))) (Syntax.tcons (Syntax.tyInt Syntax.w32) Syntax.tnil))))))) (Syntax.tcons (Syntax.tyEnum (115 ∷ 104 ∷ 101 ∷ 101 ∷
-      116 ∷ 58 ∷ 58 ∷ 82 ∷ 101 ∷ 103 ∷ 105 ∷ 115 ∷ 116 ∷ 114 ∷ 97 ∷ 116 ∷ 105 ∷ 111 ∷ 110 ∷ []) (Syntax.ttcons Syntax.tnil (Syntax.ttcons (Syntax.tcons
-      (Syntax.tyStruct (115 ∷ 104 ∷ 101 ∷ 101 ∷ 116 ∷ 58 ∷ 58 ∷ 66 ∷ 111 ∷ 110 ∷ 100 ∷ []) (Syntax.tcons (Syntax.tyStruct (110 ∷ 97 ∷ 109 ∷ 101 ∷ 115 ∷ 58 ∷ 58 ∷
-      70 ∷ 111 ∷ 117 ∷ 114 ∷ []) (Syntax.tcons (Syntax.tyInt Syntax.w8) (Syntax.tcons (Syntax.tyInt Syntax.w8) (Syntax.tcons (Syntax.tyInt Syntax.w8)
-      (Syntax.tcons (Syntax.tyInt Syntax.w8) Syntax.tnil))))) (Syntax.tcons (Syntax.tyStruct (114 ∷ 101 ∷ 115 ∷ 105 ∷ 100 ∷ 117 ∷ 101 ∷ 58 ∷ 58 ∷ 82 ∷ 101 ∷ 115
-      ∷ 105 ∷ 100 ∷ 117 ∷ 101 ∷ []) (Syntax.tcons (Syntax.tyStruct (110 ∷ 97 ∷ 109 ∷ 101 ∷ 115 ∷ 58 ∷ 58 ∷ 84 ∷ 104 ∷ 114 ∷ 101 ∷ 101 ∷ []) (Syntax.tcons
-      (Syntax.tyInt Syntax.w8) (Syntax.tcons (Syntax.tyInt Syntax.w8) (Syntax.tcons (Syntax.tyInt Syntax.w8) Syntax.tnil)))) (Syntax.tcons (Syntax.tyInt
-      Syntax.w8) (Syntax.tcons (Syntax.tyStruct (102 ∷ 105 ∷ 101 ∷ 108 ∷ 100 ∷ 115 ∷ 58 ∷ 58 ∷ 82 ∷ 101 ∷ 115 ∷ 105 ∷ 100 ∷ 117 ∷ 101 ∷ 78 ∷ 117 ∷ 109 ∷ 98 ∷ 101
-      ∷ 114 ∷ []) (Syntax.tcons (Syntax.tyInt Syntax.w32) Syntax.tnil)) (Syntax.tcons (Syntax.tyInt Syntax.w8) Syntax.tnil))))) (Syntax.tcons (Syntax.tyStruct
-      (110 ∷ 97 ∷ 109 ∷ 101 ∷ 115 ∷ 58 ∷ 58 ∷ 70 ∷ 111 ∷ 117 ∷ 114 ∷ []) (Syntax.tcons (Syntax.tyInt Syntax.w8) (Syntax.tcons (Syntax.tyInt Syntax.w8)
-      (Syntax.tcons (Syntax.tyInt Syntax.w8) (Syntax.tcons (Syntax.tyInt Syntax.w8) Syntax.tnil))))) (Syntax.tcons (Syntax.tyStruct (114 ∷ 101 ∷ 115 ∷ 105 ∷ 100
-      ∷ 117 ∷ 101 ∷ 58 ∷ 58 ∷ 82 ∷ 101 ∷ 115 ∷ 105 ∷ 100 ∷ 117 ∷ 101 ∷ []) (Syntax.tcons (Syntax.tyStruct (110 ∷ 97 ∷ 109 ∷ 101 ∷ 115 ∷ 58 ∷ 58 ∷ 84 ∷ 104 ∷ 114
-      ∷ 101 ∷ 101 ∷ []) (Syntax.tcons (Syntax.tyInt Syntax.w8) (Syntax.tcons (Syntax.tyInt Syntax.w8) (Syntax.tcons (Syntax.tyInt Syntax.w8) Syntax.tnil))))
-      (Syntax.tcons (Syntax.tyInt Syntax.w8) (Syntax.tcons (Syntax.tyStruct (102 ∷ 105 ∷ 101 ∷ 108 ∷ 100 ∷ 115 ∷ 58 ∷ 58 ∷ 82 ∷ 101 ∷ 115 ∷ 105 ∷ 100 ∷ 117 ∷ 101
-      ∷ 78 ∷ 117 ∷ 109 ∷ 98 ∷ 101 ∷ 114 ∷ []) (Syntax.tcons (Syntax.tyInt Syntax.w32) Syntax.tnil)) (Syntax.tcons (Syntax.tyInt Syntax.w8) Syntax.tnil)))))
-      Syntax.tnil))))) Syntax.tnil) Syntax.ttnil))) Syntax.tnil))) Syntax.tnil) (Syntax.ttcons (Syntax.tcons (Syntax.tyStruct (99 ∷ 111 ∷ 110 ∷ 101 ∷ 99 ∷ 116 ∷
-      58 ∷ 58 ∷ 67 ∷ 111 ∷ 110 ∷ 101 ∷ 99 ∷ 116 ∷ []) (Syntax.tcons (Syntax.tyStruct (102 ∷ 105 ∷ 101 ∷ 108 ∷ 100 ∷ 115 ∷ 58 ∷ 58 ∷ 83 ∷ 101 ∷ 114 ∷ 105 ∷ 97 ∷
-      108 ∷ []) (Syntax.tcons (Syntax.tyInt Syntax.w32) Syntax.tnil)) (Syntax.tcons (Syntax.tyStruct (102 ∷ 105 ∷ 101 ∷ 108 ∷ 100 ∷ 115 ∷ 58 ∷ 58 ∷ 83 ∷ 101 ∷
-      114 ∷ 105 ∷ 97 ∷ 108 ∷ []) (Syntax.tcons (Syntax.tyInt Syntax.w32) Syntax.tnil)) (Syntax.tcons (Syntax.tyStruct (102 ∷ 105 ∷ 101 ∷ 108 ∷ 100 ∷ 115 ∷ 58 ∷
-      58 ∷ 83 ∷ 101 ∷ 114 ∷ 105 ∷ 97 ∷ 108 ∷ []) (Syntax.tcons (Syntax.tyInt Syntax.w32) Syntax.tnil)) (Syntax.tcons (Syntax.tyStruct (102 ∷ 105 ∷ 101 ∷ 108 ∷
-      100 ∷ 115 ∷ 58 ∷ 58 ∷ 83 ∷ 101 ∷ 114 ∷ 105 ∷ 97 ∷ 108 ∷ []) (Syntax.tcons (Syntax.tyInt Syntax.w32) Syntax.tnil)) (Syntax.tcons (Syntax.tyStruct (102 ∷ 105
-      ∷ 101 ∷ 108 ∷ 100 ∷ 115 ∷ 58 ∷ 58 ∷ 83 ∷ 101 ∷ 114 ∷ 105 ∷ 97 ∷ 108 ∷ []) (Syntax.tcons (Syntax.tyInt Syntax.w32) Syntax.tnil)) Syntax.tnil))))))
-      Syntax.tnil) (Syntax.ttcons (Syntax.tcons (Syntax.tyStruct (109 ∷ 97 ∷ 115 ∷ 116 ∷ 101 ∷ 114 ∷ 58 ∷ 58 ∷ 84 ∷ 97 ∷ 108 ∷ 108 ∷ 121 ∷ []) (Syntax.tcons
-      (Syntax.tyInt Syntax.w32) (Syntax.tcons (Syntax.tyInt Syntax.w32) (Syntax.tcons (Syntax.tyInt Syntax.w32) (Syntax.tcons (Syntax.tyInt Syntax.w32)
-      (Syntax.tcons (Syntax.tyInt Syntax.w32) (Syntax.tcons (Syntax.tyInt Syntax.w32) (Syntax.tcons (Syntax.tyInt Syntax.w32) (Syntax.tcons (Syntax.tyInt
-      Syntax.w32) (Syntax.tcons (Syntax.tyInt Syntax.w32) Syntax.tnil)))))))))) Syntax.tnil) (Syntax.ttcons Syntax.tnil Syntax.ttnil)))))))) Syntax.tnil)
-      Syntax.ttnil))))),
-) ∷ (8, Rows.any-gone Syntax.tyBool) ∷ (9, Rows.any-gone (Syntax.tyInt Syntax.w64)) ∷ (10, Rows.any-gone (Syntax.tyInt Syntax.w64)) ∷ (
-  11,
-  Rows.any-gone (Syntax.tyInt Syntax.w64),
-) ∷ (12, Rows.any-gone Syntax.tyBool) ∷ (13, Rows.any-gone (Syntax.tyRef Syntax.erased Syntax.mut SlotAs.pointee)) ∷ (
-  14,
-  Rows.any-gone (Syntax.tyStruct (38 ∷ 91 ∷ 93 ∷ []) (Syntax.tcons (Syntax.tyRef Syntax.erased Syntax.mut SlotAs.pointee) (Syntax.tcons (Syntax.tyInt
-      Syntax.w64) Syntax.tnil))),
-) ∷ []
-
-abbrev pub t5 : List.List Row.Entry
-t5 = (0, Rows.whole (Declared'.row (Apart.apartT Outcome.the-type))) ∷ (
-  1,
-  Rows.sslice (Referent.rtF (Referent.fInt Syntax.w8)) (Syntax.tyRef (Syntax.named 0)
-      Syntax.imm (Syntax.tyInt Syntax.w8)) 0,
-) ∷ (2, Mut.mslice SlotAs.row (Syntax.tyRef (Syntax.named 1) Syntax.mut SlotAs.pointee) 1) ∷ (
-  3,
-  Rows.any-gone
-      (Syntax.tyStruct (115 ∷ 116 ∷ 111 ∷ 114 ∷ 101 ∷ 58 ∷ 58 ∷ 78 ∷ 101 ∷ 101 ∷ 100 ∷ 115 ∷ []) (Syntax.tcons (Syntax.tyInt Syntax.w8) (Syntax.tcons
-      (Syntax.tyInt Syntax.w64) Syntax.tnil))),
-) ∷ (4, Rows.any-gone (Syntax.tyInt Syntax.w64)) ∷ (5, Rows.any-gone (Syntax.tyInt Syntax.w64)) ∷ (
-  6,
-  Rows.any-gone
-      (Syntax.tyInt Syntax.w64),
-) ∷ (
-  7,
-  Rows.any-gone (Syntax.tyEnum (112 ∷ 105 ∷ 101 ∷ 99 ∷ 101 ∷ 115 ∷ 58 ∷ 58 ∷ 76 ∷ 105 ∷ 110 ∷ 101 ∷ []) (Syntax.ttcons
-      (Syntax.tcons (Syntax.tyInt Syntax.w8) Syntax.tnil) (Syntax.ttcons (Syntax.tcons (Syntax.tyEnum (107 ∷ 105 ∷ 110 ∷ 100 ∷ 115 ∷ 58 ∷ 58 ∷ 75 ∷ 105 ∷ 110 ∷
-      100 ∷ []) (Syntax.ttcons Syntax.tnil (Syntax.ttcons Syntax.tnil (Syntax.ttcons Syntax.tnil (Syntax.ttcons Syntax.tnil (Syntax.ttcons Syntax.tnil
-      (Syntax.ttcons Syntax.tnil (Syntax.ttcons Syntax.tnil (Syntax.ttcons Syntax.tnil (Syntax.ttcons Syntax.tnil (Syntax.ttcons Syntax.tnil (Syntax.ttcons
-      Syntax.tnil (Syntax.ttcons Syntax.tnil (Syntax.ttcons Syntax.tnil (Syntax.ttcons Syntax.tnil (Syntax.ttcons Syntax.tnil (Syntax.ttcons Syntax.tnil
-      (Syntax.ttcons Syntax.tnil (Syntax.ttcons Syntax.tnil (Syntax.ttcons Syntax.tnil (Syntax.ttcons Syntax.tnil (Syntax.ttcons Syntax.tnil (Syntax.ttcons
-      Syntax.tnil (Syntax.ttcons Syntax.tnil (Syntax.ttcons Syntax.tnil (Syntax.ttcons Syntax.tnil (Syntax.ttcons Syntax.tnil (Syntax.ttcons Syntax.tnil
-      (Syntax.ttcons Syntax.tnil Syntax.ttnil))))))))))))))))))))))))))))) (Syntax.tcons (Syntax.tyInt Syntax.w32) Syntax.tnil)) (Syntax.ttcons (Syntax.tcons
-      (Syntax.tyEnum (107 ∷ 105 ∷ 110 ∷ 100 ∷ 115 ∷ 58 ∷ 58 ∷ 75 ∷ 105 ∷ 110 ∷ 100 ∷ []) (Syntax.ttcons Syntax.tnil (Syntax.ttcons Syntax.tnil (Syntax.ttcons
-      Syntax.tnil (Syntax.ttcons Syntax.tnil (Syntax.ttcons Syntax.tnil (Syntax.ttcons Syntax.tnil (Syntax.ttcons Syntax.tnil (Syntax.ttcons Syntax.tnil
-      (Syntax.ttcons Syntax.tnil (Syntax.ttcons Syntax.tnil (Syntax.ttcons Syntax.tnil (Syntax.ttcons Syntax.tnil (Syntax.ttcons Syntax.tnil (Syntax.ttcons
-      Syntax.tnil (Syntax.ttcons Syntax.tnil (Syntax.ttcons Syntax.tnil (Syntax.ttcons Syntax.tnil (Syntax.ttcons Syntax.tnil (Syntax.ttcons Syntax.tnil
-      (Syntax.ttcons Syntax.tnil (Syntax.ttcons Syntax.tnil (Syntax.ttcons Syntax.tnil (Syntax.ttcons Syntax.tnil (Syntax.ttcons Syntax.tnil (Syntax.ttcons
-      Syntax.tnil (Syntax.ttcons Syntax.tnil (Syntax.ttcons Syntax.tnil (Syntax.ttcons Syntax.tnil Syntax.ttnil))))))))))))))))))))))))))))) Syntax.tnil)
-      (Syntax.ttcons (Syntax.tcons (Syntax.tyEnum (108 ∷ 105 ∷ 110 ∷ 101 ∷ 58 ∷ 58 ∷ 82 ∷ 101 ∷ 99 ∷ 111 ∷ 114 ∷ 100 ∷ []) (Syntax.ttcons (Syntax.tcons
-      Syntax.tyBool (Syntax.tcons (Syntax.tyStruct (99 ∷ 111 ∷ 111 ∷ 114 ∷ 100 ∷ 105 ∷ 110 ∷ 97 ∷ 116 ∷ 101 ∷ 58 ∷ 58 ∷ 65 ∷ 116 ∷ 111 ∷ 109 ∷ []) (Syntax.tcons
-      (Syntax.tyStruct (99 ∷ 111 ∷ 111 ∷ 114 ∷ 100 ∷ 105 ∷ 110 ∷ 97 ∷ 116 ∷ 101 ∷ 58 ∷ 58 ∷ 73 ∷ 100 ∷ 101 ∷ 110 ∷ 116 ∷ 105 ∷ 116 ∷ 121 ∷ []) (Syntax.tcons
-      (Syntax.tyStruct (102 ∷ 105 ∷ 101 ∷ 108 ∷ 100 ∷ 115 ∷ 58 ∷ 58 ∷ 83 ∷ 101 ∷ 114 ∷ 105 ∷ 97 ∷ 108 ∷ []) (Syntax.tcons (Syntax.tyInt Syntax.w32) Syntax.tnil))
-      (Syntax.tcons (Syntax.tyStruct (110 ∷ 97 ∷ 109 ∷ 101 ∷ 115 ∷ 58 ∷ 58 ∷ 70 ∷ 111 ∷ 117 ∷ 114 ∷ []) (Syntax.tcons (Syntax.tyInt Syntax.w8) (Syntax.tcons
-      (Syntax.tyInt Syntax.w8) (Syntax.tcons (Syntax.tyInt Syntax.w8) (Syntax.tcons (Syntax.tyInt Syntax.w8) Syntax.tnil))))) (Syntax.tcons (Syntax.tyInt
-      Syntax.w8) (Syntax.tcons (Syntax.tyStruct (114 ∷ 101 ∷ 115 ∷ 105 ∷ 100 ∷ 117 ∷ 101 ∷ 58 ∷ 58 ∷ 82 ∷ 101 ∷ 115 ∷ 105 ∷ 100 ∷ 117 ∷ 101 ∷ []) (Syntax.tcons
-      (Syntax.tyStruct (110 ∷ 97 ∷ 109 ∷ 101 ∷ 115 ∷ 58 ∷ 58 ∷ 84 ∷ 104 ∷ 114 ∷ 101 ∷ 101 ∷ []) (Syntax.tcons (Syntax.tyInt Syntax.w8) (Syntax.tcons
-      (Syntax.tyInt Syntax.w8) (Syntax.tcons (Syntax.tyInt Syntax.w8) Syntax.tnil)))) (Syntax.tcons (Syntax.tyInt Syntax.w8) (Syntax.tcons (Syntax.tyStruct (102
-      ∷ 105 ∷ 101 ∷ 108 ∷ 100 ∷ 115 ∷ 58 ∷ 58 ∷ 82 ∷ 101 ∷ 115 ∷ 105 ∷ 100 ∷ 117 ∷ 101 ∷ 78 ∷ 117 ∷ 109 ∷ 98 ∷ 101 ∷ 114 ∷ []) (Syntax.tcons (Syntax.tyInt
-      Syntax.w32) Syntax.tnil)) (Syntax.tcons (Syntax.tyInt Syntax.w8) Syntax.tnil))))) Syntax.tnil))))) (Syntax.tcons (Syntax.tyStruct (99 ∷ 111 ∷ 111 ∷ 114 ∷
-      100 ∷ 105 ∷ 110 ∷ 97 ∷ 116 ∷ 101 ∷ 58 ∷ 58 ∷ 77 ∷ 101 ∷ 97 ∷ 115 ∷ 117 ∷ 114 ∷ 101 ∷ []) (Syntax.tcons (Syntax.tyStruct (99 ∷ 111 ∷ 111 ∷ 114 ∷ 100 ∷ 105 ∷
-      110 ∷ 97 ∷ 116 ∷ 101 ∷ 58 ∷ 58 ∷ 80 ∷ 111 ∷ 115 ∷ 105 ∷ 116 ∷ 105 ∷ 111 ∷ 110 ∷ []) (Syntax.tcons (Syntax.tyInt Syntax.w32) (Syntax.tcons (Syntax.tyInt
-      Syntax.w32) (Syntax.tcons (Syntax.tyInt Syntax.w32) Syntax.tnil)))) (Syntax.tcons (Syntax.tyInt Syntax.w32) (Syntax.tcons (Syntax.tyInt Syntax.w32)
-      Syntax.tnil)))) (Syntax.tcons (Syntax.tyStruct (99 ∷ 111 ∷ 111 ∷ 114 ∷ 100 ∷ 105 ∷ 110 ∷ 97 ∷ 116 ∷ 101 ∷ 58 ∷ 58 ∷ 83 ∷ 112 ∷ 101 ∷ 99 ∷ 105 ∷ 101 ∷ 115 ∷
-      []) (Syntax.tcons (Syntax.tyStruct (110 ∷ 97 ∷ 109 ∷ 101 ∷ 115 ∷ 58 ∷ 58 ∷ 80 ∷ 97 ∷ 105 ∷ 114 ∷ []) (Syntax.tcons (Syntax.tyInt Syntax.w8) (Syntax.tcons
-      (Syntax.tyInt Syntax.w8) Syntax.tnil))) (Syntax.tcons (Syntax.tyStruct (110 ∷ 97 ∷ 109 ∷ 101 ∷ 115 ∷ 58 ∷ 58 ∷ 80 ∷ 97 ∷ 105 ∷ 114 ∷ []) (Syntax.tcons
-      (Syntax.tyInt Syntax.w8) (Syntax.tcons (Syntax.tyInt Syntax.w8) Syntax.tnil))) Syntax.tnil))) Syntax.tnil)))) Syntax.tnil)) (Syntax.ttcons (Syntax.tcons
-      (Syntax.tyStruct (116 ∷ 101 ∷ 114 ∷ 58 ∷ 58 ∷ 84 ∷ 101 ∷ 114 ∷ []) (Syntax.tcons (Syntax.tyStruct (102 ∷ 105 ∷ 101 ∷ 108 ∷ 100 ∷ 115 ∷ 58 ∷ 58 ∷ 83 ∷ 101 ∷
-      114 ∷ 105 ∷ 97 ∷ 108 ∷ []) (Syntax.tcons (Syntax.tyInt Syntax.w32) Syntax.tnil)) (Syntax.tcons (Syntax.tyStruct (114 ∷ 101 ∷ 115 ∷ 105 ∷ 100 ∷ 117 ∷ 101 ∷
-      58 ∷ 58 ∷ 82 ∷ 101 ∷ 115 ∷ 105 ∷ 100 ∷ 117 ∷ 101 ∷ []) (Syntax.tcons (Syntax.tyStruct (110 ∷ 97 ∷ 109 ∷ 101 ∷ 115 ∷ 58 ∷ 58 ∷ 84 ∷ 104 ∷ 114 ∷ 101 ∷ 101 ∷
-      []) (Syntax.tcons (Syntax.tyInt Syntax.w8) (Syntax.tcons (Syntax.tyInt Syntax.w8) (Syntax.tcons (Syntax.tyInt Syntax.w8) Syntax.tnil)))) (Syntax.tcons
-      (Syntax.tyInt Syntax.w8) (Syntax.tcons (Syntax.tyStruct (102 ∷ 105 ∷ 101 ∷ 108 ∷ 100 ∷ 115 ∷ 58 ∷ 58 ∷ 82 ∷ 101 ∷ 115 ∷ 105 ∷ 100 ∷ 117 ∷ 101 ∷ 78 ∷ 117 ∷
-      109 ∷ 98 ∷ 101 ∷ 114 ∷ []) (Syntax.tcons (Syntax.tyInt Syntax.w32) Syntax.tnil)) (Syntax.tcons (Syntax.tyInt Syntax.w8) Syntax.tnil))))) Syntax.tnil)))
-      Syntax.tnil) (Syntax.ttcons (Syntax.tcons (Syntax.tyStruct (104 ∷ 101 ∷ 108 ∷ 105 ∷ 120 ∷ 58 ∷ 58 ∷ 72 ∷ 101 ∷ 108 ∷ 105 ∷ 120 ∷ []) (Syntax.tcons
-      (Syntax.tyStruct (104 ∷ 101 ∷ 108 ∷ 105 ∷ 120 ∷ 58 ∷ 58 ∷ 69 ∷ 120 ∷ 116 ∷ 101 ∷ 110 ∷ 116 ∷ []) (Syntax.tcons (Syntax.tyInt Syntax.w32) (Syntax.tcons
-      (Syntax.tyStruct (110 ∷ 97 ∷ 109 ∷ 101 ∷ 115 ∷ 58 ∷ 58 ∷ 84 ∷ 104 ∷ 114 ∷ 101 ∷ 101 ∷ []) (Syntax.tcons (Syntax.tyInt Syntax.w8) (Syntax.tcons
-      (Syntax.tyInt Syntax.w8) (Syntax.tcons (Syntax.tyInt Syntax.w8) Syntax.tnil)))) (Syntax.tcons (Syntax.tyStruct (114 ∷ 101 ∷ 115 ∷ 105 ∷ 100 ∷ 117 ∷ 101 ∷
-      58 ∷ 58 ∷ 82 ∷ 101 ∷ 115 ∷ 105 ∷ 100 ∷ 117 ∷ 101 ∷ []) (Syntax.tcons (Syntax.tyStruct (110 ∷ 97 ∷ 109 ∷ 101 ∷ 115 ∷ 58 ∷ 58 ∷ 84 ∷ 104 ∷ 114 ∷ 101 ∷ 101 ∷
-      []) (Syntax.tcons (Syntax.tyInt Syntax.w8) (Syntax.tcons (Syntax.tyInt Syntax.w8) (Syntax.tcons (Syntax.tyInt Syntax.w8) Syntax.tnil)))) (Syntax.tcons
-      (Syntax.tyInt Syntax.w8) (Syntax.tcons (Syntax.tyStruct (102 ∷ 105 ∷ 101 ∷ 108 ∷ 100 ∷ 115 ∷ 58 ∷ 58 ∷ 82 ∷ 101 ∷ 115 ∷ 105 ∷ 100 ∷ 117 ∷ 101 ∷ 78 ∷ 117 ∷
-      109 ∷ 98 ∷ 101 ∷ 114 ∷ []) (Syntax.tcons (Syntax.tyInt Syntax.w32) Syntax.tnil)) (Syntax.tcons (Syntax.tyInt Syntax.w8) Syntax.tnil))))) (Syntax.tcons
-      (Syntax.tyStruct (114 ∷ 101 ∷ 115 ∷ 105 ∷ 100 ∷ 117 ∷ 101 ∷ 58 ∷ 58 ∷ 82 ∷ 101 ∷ 115 ∷ 105 ∷ 100 ∷ 117 ∷ 101 ∷ []) (Syntax.tcons (Syntax.tyStruct (110 ∷ 97
-      ∷ 109 ∷ 101 ∷ 115 ∷ 58 ∷ 58 ∷ 84 ∷ 104 ∷ 114 ∷ 101 ∷ 101 ∷ []) (Syntax.tcons (Syntax.tyInt Syntax.w8) (Syntax.tcons (Syntax.tyInt Syntax.w8) (Syntax.tcons
-      (Syntax.tyInt Syntax.w8) Syntax.tnil)))) (Syntax.tcons (Syntax.tyInt Syntax.w8) (Syntax.tcons (Syntax.tyStruct (102 ∷ 105 ∷ 101 ∷ 108 ∷ 100 ∷ 115 ∷ 58 ∷ 58
-      ∷ 82 ∷ 101 ∷ 115 ∷ 105 ∷ 100 ∷ 117 ∷ 101 ∷ 78 ∷ 117 ∷ 109 ∷ 98 ∷ 101 ∷ 114 ∷ []) (Syntax.tcons (Syntax.tyInt Syntax.w32) Syntax.tnil)) (Syntax.tcons
-      (Syntax.tyInt Syntax.w8) Syntax.tnil))))) Syntax.tnil))))) (Syntax.tcons (Syntax.tyInt Syntax.w32) (Syntax.tcons (Syntax.tyStruct (104 ∷ 101 ∷ 108 ∷ 105 ∷
-      120 ∷ 58 ∷ 58 ∷ 67 ∷ 111 ∷ 109 ∷ 109 ∷ 101 ∷ 110 ∷ 116 ∷ []) (Syntax.tcons (Syntax.tyInt Syntax.w64) (Syntax.tcons (Syntax.tyInt Syntax.w64) (Syntax.tcons
-      (Syntax.tyInt Syntax.w64) (Syntax.tcons (Syntax.tyInt Syntax.w64) Syntax.tnil))))) (Syntax.tcons (Syntax.tyInt Syntax.w32) Syntax.tnil))))) Syntax.tnil)
-      (Syntax.ttcons (Syntax.tcons (Syntax.tyStruct (115 ∷ 104 ∷ 101 ∷ 101 ∷ 116 ∷ 58 ∷ 58 ∷ 83 ∷ 104 ∷ 101 ∷ 101 ∷ 116 ∷ []) (Syntax.tcons (Syntax.tyStruct (115
-      ∷ 104 ∷ 101 ∷ 101 ∷ 116 ∷ 58 ∷ 58 ∷ 83 ∷ 116 ∷ 114 ∷ 97 ∷ 110 ∷ 100 ∷ []) (Syntax.tcons (Syntax.tyInt Syntax.w32) (Syntax.tcons (Syntax.tyStruct (110 ∷ 97
-      ∷ 109 ∷ 101 ∷ 115 ∷ 58 ∷ 58 ∷ 84 ∷ 104 ∷ 114 ∷ 101 ∷ 101 ∷ []) (Syntax.tcons (Syntax.tyInt Syntax.w8) (Syntax.tcons (Syntax.tyInt Syntax.w8) (Syntax.tcons
-      (Syntax.tyInt Syntax.w8) Syntax.tnil)))) (Syntax.tcons (Syntax.tyInt Syntax.w32) (Syntax.tcons (Syntax.tyStruct (114 ∷ 101 ∷ 115 ∷ 105 ∷ 100 ∷ 117 ∷ 101 ∷
-      58 ∷ 58 ∷ 82 ∷ 101 ∷ 115 ∷ 105 ∷ 100 ∷ 117 ∷ 101 ∷ []) (Syntax.tcons (Syntax.tyStruct (110 ∷ 97 ∷ 109 ∷ 101 ∷ 115 ∷ 58 ∷ 58 ∷ 84 ∷ 104 ∷ 114 ∷ 101 ∷ 101 ∷
-      []) (Syntax.tcons (Syntax.tyInt Syntax.w8) (Syntax.tcons (Syntax.tyInt Syntax.w8) (Syntax.tcons (Syntax.tyInt Syntax.w8) Syntax.tnil)))) (Syntax.tcons
-      (Syntax.tyInt Syntax.w8) (Syntax.tcons (Syntax.tyStruct (102 ∷ 105 ∷ 101 ∷ 108 ∷ 100 ∷ 115 ∷ 58 ∷ 58 ∷ 82 ∷ 101 ∷ 115 ∷ 105 ∷ 100 ∷ 117 ∷ 101 ∷ 78 ∷ 117 ∷
-      109 ∷ 98 ∷ 101 ∷ 114 ∷ []) (Syntax.tcons (Syntax.tyInt Syntax.w32) Syntax.tnil)) (Syntax.tcons (Syntax.tyInt Syntax.w8) Syntax.tnil))))) (Syntax.tcons
-      (Syntax.tyStruct (114 ∷ 101 ∷ 115 ∷ 105 ∷ 100 ∷ 117 ∷ 101 ∷ 58 ∷ 58 ∷ 82 ∷ 101 ∷ 115 ∷ 105 ∷ 100 ∷ 117 ∷ 101 ∷ []) (Syntax.tcons (Syntax.tyStruct (110 ∷ 97
-      ∷ 109 ∷ 101 ∷ 115 ∷ 58 ∷ 58 ∷ 84 ∷ 104 ∷ 114 ∷ 101 ∷ 101 ∷ []) (Syntax.tcons (Syntax.tyInt Syntax.w8) (Syntax.tcons (Syntax.tyInt Syntax.w8) (Syntax.tcons
-      (Syntax.tyInt Syntax.w8) Syntax.tnil)))) (Syntax.tcons (Syntax.tyInt Syntax.w8) (Syntax.tcons (Syntax.tyStruct (102 ∷ 105 ∷ 101 ∷ 108 ∷ 100 ∷ 115 ∷ 58 ∷ 58
-      ∷ 82 ∷ 101 ∷ 115 ∷ 105 ∷ 100 ∷ 117 ∷ 101 ∷ 78 ∷ 117 ∷ 109 ∷ 98 ∷ 101 ∷ 114 ∷ []) (Syntax.tcons (Syntax.tyInt Syntax.w32) Syntax.tnil)) (Syntax.tcons
-      (Syntax.tyInt Syntax.w8) Syntax.tnil))))) (Syntax.tcons (Syntax.tyInt Syntax.w32) Syntax.tnil))))))) (Syntax.tcons (Syntax.tyEnum (115 ∷ 104 ∷ 101 ∷ 101 ∷
-      116 ∷ 58 ∷ 58 ∷ 82 ∷ 101 ∷ 103 ∷ 105 ∷ 115 ∷ 116 ∷ 114 ∷ 97 ∷ 116 ∷ 105 ∷ 111 ∷ 110 ∷ []) (Syntax.ttcons Syntax.tnil (Syntax.ttcons (Syntax.tcons
-      (Syntax.tyStruct (115 ∷ 104 ∷ 101 ∷ 101 ∷ 116 ∷ 58 ∷ 58 ∷ 66 ∷ 111 ∷ 110 ∷ 100 ∷ []) (Syntax.tcons (Syntax.tyStruct (110 ∷ 97 ∷ 109 ∷ 101 ∷ 115 ∷ 58 ∷ 58 ∷
-      70 ∷ 111 ∷ 117 ∷ 114 ∷ []) (Syntax.tcons (Syntax.tyInt Syntax.w8) (Syntax.tcons (Syntax.tyInt Syntax.w8) (Syntax.tcons (Syntax.tyInt Syntax.w8)
-      (Syntax.tcons (Syntax.tyInt Syntax.w8) Syntax.tnil))))) (Syntax.tcons (Syntax.tyStruct (114 ∷ 101 ∷ 115 ∷ 105 ∷ 100 ∷ 117 ∷ 101 ∷ 58 ∷ 58 ∷ 82 ∷ 101 ∷ 115
-      ∷ 105 ∷ 100 ∷ 117 ∷ 101 ∷ []) (Syntax.tcons (Syntax.tyStruct (110 ∷ 97 ∷ 109 ∷ 101 ∷ 115 ∷ 58 ∷ 58 ∷ 84 ∷ 104 ∷ 114 ∷ 101 ∷ 101 ∷ []) (Syntax.tcons
-      (Syntax.tyInt Syntax.w8) (Syntax.tcons (Syntax.tyInt Syntax.w8) (Syntax.tcons (Syntax.tyInt Syntax.w8) Syntax.tnil)))) (Syntax.tcons (Syntax.tyInt
-      Syntax.w8) (Syntax.tcons (Syntax.tyStruct (102 ∷ 105 ∷ 101 ∷ 108 ∷ 100 ∷ 115 ∷ 58 ∷ 58 ∷ 82 ∷ 101 ∷ 115 ∷ 105 ∷ 100 ∷ 117 ∷ 101 ∷ 78 ∷ 117 ∷ 109 ∷ 98 ∷ 101
-      ∷ 114 ∷ []) (Syntax.tcons (Syntax.tyInt Syntax.w32) Syntax.tnil)) (Syntax.tcons (Syntax.tyInt Syntax.w8) Syntax.tnil))))) (Syntax.tcons (Syntax.tyStruct
-      (110 ∷ 97 ∷ 109 ∷ 101 ∷ 115 ∷ 58 ∷ 58 ∷ 70 ∷ 111 ∷ 117 ∷ 114 ∷ []) (Syntax.tcons (Syntax.tyInt Syntax.w8) (Syntax.tcons (Syntax.tyInt Syntax.w8)
-      (Syntax.tcons (Syntax.tyInt Syntax.w8) (Syntax.tcons (Syntax.tyInt Syntax.w8) Syntax.tnil))))) (Syntax.tcons (Syntax.tyStruct (114 ∷ 101 ∷ 115 ∷ 105 ∷ 100
-      ∷ 117 ∷ 101 ∷ 58 ∷ 58 ∷ 82 ∷ 101 ∷ 115 ∷ 105 ∷ 100 ∷ 117 ∷ 101 ∷ []) (Syntax.tcons (Syntax.tyStruct (110 ∷ 97 ∷ 109 ∷ 101 ∷ 115 ∷ 58 ∷ 58 ∷ 84 ∷ 104 ∷ 114
-      ∷ 101 ∷ 101 ∷ []) (Syntax.tcons (Syntax.tyInt Syntax.w8) (Syntax.tcons (Syntax.tyInt Syntax.w8) (Syntax.tcons (Syntax.tyInt Syntax.w8) Syntax.tnil))))
-      (Syntax.tcons (Syntax.tyInt Syntax.w8) (Syntax.tcons (Syntax.tyStruct (102 ∷ 105 ∷ 101 ∷ 108 ∷ 100 ∷ 115 ∷ 58 ∷ 58 ∷ 82 ∷ 101 ∷ 115 ∷ 105 ∷ 100 ∷ 117 ∷ 101
-      ∷ 78 ∷ 117 ∷ 109 ∷ 98 ∷ 101 ∷ 114 ∷ []) (Syntax.tcons (Syntax.tyInt Syntax.w32) Syntax.tnil)) (Syntax.tcons (Syntax.tyInt Syntax.w8) Syntax.tnil)))))
-      Syntax.tnil))))) Syntax.tnil) Syntax.ttnil))) Syntax.tnil))) Syntax.tnil) (Syntax.ttcons (Syntax.tcons (Syntax.tyStruct (99 ∷ 111 ∷ 110 ∷ 101 ∷ 99 ∷ 116 ∷
-      58 ∷ 58 ∷ 67 ∷ 111 ∷ 110 ∷ 101 ∷ 99 ∷ 116 ∷ []) (Syntax.tcons (Syntax.tyStruct (102 ∷ 105 ∷ 101 ∷ 108 ∷ 100 ∷ 115 ∷ 58 ∷ 58 ∷ 83 ∷ 101 ∷ 114 ∷ 105 ∷ 97 ∷
-      108 ∷ []) (Syntax.tcons (Syntax.tyInt Syntax.w32) Syntax.tnil)) (Syntax.tcons (Syntax.tyStruct (102 ∷ 105 ∷ 101 ∷ 108 ∷ 100 ∷ 115 ∷ 58 ∷ 58 ∷ 83 ∷ 101 ∷
-      114 ∷ 105 ∷ 97 ∷ 108 ∷ []) (Syntax.tcons (Syntax.tyInt Syntax.w32) Syntax.tnil)) (Syntax.tcons (Syntax.tyStruct (102 ∷ 105 ∷ 101 ∷ 108 ∷ 100 ∷ 115 ∷ 58 ∷
-      58 ∷ 83 ∷ 101 ∷ 114 ∷ 105 ∷ 97 ∷ 108 ∷ []) (Syntax.tcons (Syntax.tyInt Syntax.w32) Syntax.tnil)) (Syntax.tcons (Syntax.tyStruct (102 ∷ 105 ∷ 101 ∷ 108 ∷
-      100 ∷ 115 ∷ 58 ∷ 58 ∷ 83 ∷ 101 ∷ 114 ∷ 105 ∷ 97 ∷ 108 ∷ []) (Syntax.tcons (Syntax.tyInt Syntax.w32) Syntax.tnil)) (Syntax.tcons (Syntax.tyStruct (102 ∷ 105
-      ∷ 101 ∷ 108 ∷ 100 ∷ 115 ∷ 58 ∷ 58 ∷ 83 ∷ 101 ∷ 114 ∷ 105 ∷ 97 ∷ 108 ∷ []) (Syntax.tcons (Syntax.tyInt Syntax.w32) Syntax.tnil)) Syntax.tnil))))))
-      Syntax.tnil) (Syntax.ttcons (Syntax.tcons (Syntax.tyStruct (109 ∷ 97 ∷ 115 ∷ 116 ∷ 101 ∷ 114 ∷ 58 ∷ 58 ∷ 84 ∷ 97 ∷ 108 ∷ 108 ∷ 121 ∷ []) (Syntax.tcons
-      (Syntax.tyInt Syntax.w32) (Syntax.tcons (Syntax.tyInt Syntax.w32) (Syntax.tcons (Syntax.tyInt Syntax.w32) (Syntax.tcons (Syntax.tyInt Syntax.w32)
-      (Syntax.tcons (Syntax.tyInt Syntax.w32) (Syntax.tcons (Syntax.tyInt Syntax.w32) (Syntax.tcons (Syntax.tyInt Syntax.w32) (Syntax.tcons (Syntax.tyInt
-      Syntax.w32) (Syntax.tcons (Syntax.tyInt Syntax.w32) Syntax.tnil)))))))))) Syntax.tnil) (Syntax.ttcons Syntax.tnil Syntax.ttnil)))))))) Syntax.tnil)
-      Syntax.ttnil))))),
-) ∷ (8, Rows.any-gone Syntax.tyBool) ∷ (9, Rows.any-gone (Syntax.tyInt Syntax.w64)) ∷ (10, Rows.any-gone (Syntax.tyInt Syntax.w64)) ∷ (
-  11,
-  Rows.any-gone (Syntax.tyInt Syntax.w64),
-) ∷ (12, Rows.any-gone Syntax.tyBool) ∷ (13, Rows.any-gone (Syntax.tyRef Syntax.erased Syntax.mut SlotAs.pointee)) ∷ (
-  14,
-  Rows.any-gone (Syntax.tyStruct (38 ∷ 91 ∷ 93 ∷ []) (Syntax.tcons (Syntax.tyRef Syntax.erased Syntax.mut SlotAs.pointee) (Syntax.tcons (Syntax.tyInt
-      Syntax.w64) Syntax.tnil))),
-) ∷ []
-
-abbrev pub t6 : List.List Row.Entry
-t6 = (
-  0,
-  Rows.any-gone (Syntax.tyStruct (115 ∷ 116 ∷ 111 ∷ 114 ∷ 101 ∷ 58 ∷ 58 ∷ 79 ∷ 117 ∷ 116 ∷ 99 ∷ 111 ∷ 109 ∷ 101 ∷ []) (Syntax.tcons (Syntax.tyInt
-      Syntax.w8) (Syntax.tcons (Syntax.tyInt Syntax.w64) Syntax.tnil))),
-) ∷ (
-  1,
-  Rows.sslice (Referent.rtF (Referent.fInt Syntax.w8)) (Syntax.tyRef (Syntax.named
-      0) Syntax.imm (Syntax.tyInt Syntax.w8)) 0,
-) ∷ (2, Mut.mslice SlotAs.row (Syntax.tyRef (Syntax.named 1) Syntax.mut SlotAs.pointee) 1) ∷ (
-  3,
-  Rows.whole
-      (Declared'.row Needs.the-type),
-) ∷ (4, Rows.sc-here (Row.sInt Syntax.w64)) ∷ (5, Rows.any-gone (Syntax.tyInt Syntax.w64)) ∷ (
-  6,
-  Rows.any-gone (Syntax.tyInt
-      Syntax.w64),
-) ∷ (
-  7,
-  Rows.any-gone (Syntax.tyEnum (112 ∷ 105 ∷ 101 ∷ 99 ∷ 101 ∷ 115 ∷ 58 ∷ 58 ∷ 76 ∷ 105 ∷ 110 ∷ 101 ∷ []) (Syntax.ttcons (Syntax.tcons
-      (Syntax.tyInt Syntax.w8) Syntax.tnil) (Syntax.ttcons (Syntax.tcons (Syntax.tyEnum (107 ∷ 105 ∷ 110 ∷ 100 ∷ 115 ∷ 58 ∷ 58 ∷ 75 ∷ 105 ∷ 110 ∷ 100 ∷ [])
-      (Syntax.ttcons Syntax.tnil (Syntax.ttcons Syntax.tnil (Syntax.ttcons Syntax.tnil (Syntax.ttcons Syntax.tnil (Syntax.ttcons Syntax.tnil (Syntax.ttcons
-      Syntax.tnil (Syntax.ttcons Syntax.tnil (Syntax.ttcons Syntax.tnil (Syntax.ttcons Syntax.tnil (Syntax.ttcons Syntax.tnil (Syntax.ttcons Syntax.tnil
-      (Syntax.ttcons Syntax.tnil (Syntax.ttcons Syntax.tnil (Syntax.ttcons Syntax.tnil (Syntax.ttcons Syntax.tnil (Syntax.ttcons Syntax.tnil (Syntax.ttcons
-      Syntax.tnil (Syntax.ttcons Syntax.tnil (Syntax.ttcons Syntax.tnil (Syntax.ttcons Syntax.tnil (Syntax.ttcons Syntax.tnil (Syntax.ttcons Syntax.tnil
-      (Syntax.ttcons Syntax.tnil (Syntax.ttcons Syntax.tnil (Syntax.ttcons Syntax.tnil (Syntax.ttcons Syntax.tnil (Syntax.ttcons Syntax.tnil (Syntax.ttcons
-      Syntax.tnil Syntax.ttnil))))))))))))))))))))))))))))) (Syntax.tcons (Syntax.tyInt Syntax.w32) Syntax.tnil)) (Syntax.ttcons (Syntax.tcons (Syntax.tyEnum
-      (107 ∷ 105 ∷ 110 ∷ 100 ∷ 115 ∷ 58 ∷ 58 ∷ 75 ∷ 105 ∷ 110 ∷ 100 ∷ []) (Syntax.ttcons Syntax.tnil (Syntax.ttcons Syntax.tnil (Syntax.ttcons Syntax.tnil
-      (Syntax.ttcons Syntax.tnil (Syntax.ttcons Syntax.tnil (Syntax.ttcons Syntax.tnil (Syntax.ttcons Syntax.tnil (Syntax.ttcons Syntax.tnil (Syntax.ttcons
-      Syntax.tnil (Syntax.ttcons Syntax.tnil (Syntax.ttcons Syntax.tnil (Syntax.ttcons Syntax.tnil (Syntax.ttcons Syntax.tnil (Syntax.ttcons Syntax.tnil
-      (Syntax.ttcons Syntax.tnil (Syntax.ttcons Syntax.tnil (Syntax.ttcons Syntax.tnil (Syntax.ttcons Syntax.tnil (Syntax.ttcons Syntax.tnil (Syntax.ttcons
-      Syntax.tnil (Syntax.ttcons Syntax.tnil (Syntax.ttcons Syntax.tnil (Syntax.ttcons Syntax.tnil (Syntax.ttcons Syntax.tnil (Syntax.ttcons Syntax.tnil
-      (Syntax.ttcons Syntax.tnil (Syntax.ttcons Syntax.tnil (Syntax.ttcons Syntax.tnil Syntax.ttnil))))))))))))))))))))))))))))) Syntax.tnil) (Syntax.ttcons
-      (Syntax.tcons (Syntax.tyEnum (108 ∷ 105 ∷ 110 ∷ 101 ∷ 58 ∷ 58 ∷ 82 ∷ 101 ∷ 99 ∷ 111 ∷ 114 ∷ 100 ∷ []) (Syntax.ttcons (Syntax.tcons Syntax.tyBool
-      (Syntax.tcons (Syntax.tyStruct (99 ∷ 111 ∷ 111 ∷ 114 ∷ 100 ∷ 105 ∷ 110 ∷ 97 ∷ 116 ∷ 101 ∷ 58 ∷ 58 ∷ 65 ∷ 116 ∷ 111 ∷ 109 ∷ []) (Syntax.tcons
-      (Syntax.tyStruct (99 ∷ 111 ∷ 111 ∷ 114 ∷ 100 ∷ 105 ∷ 110 ∷ 97 ∷ 116 ∷ 101 ∷ 58 ∷ 58 ∷ 73 ∷ 100 ∷ 101 ∷ 110 ∷ 116 ∷ 105 ∷ 116 ∷ 121 ∷ []) (Syntax.tcons
-      (Syntax.tyStruct (102 ∷ 105 ∷ 101 ∷ 108 ∷ 100 ∷ 115 ∷ 58 ∷ 58 ∷ 83 ∷ 101 ∷ 114 ∷ 105 ∷ 97 ∷ 108 ∷ []) (Syntax.tcons (Syntax.tyInt Syntax.w32) Syntax.tnil))
-      (Syntax.tcons (Syntax.tyStruct (110 ∷ 97 ∷ 109 ∷ 101 ∷ 115 ∷ 58 ∷ 58 ∷ 70 ∷ 111 ∷ 117 ∷ 114 ∷ []) (Syntax.tcons (Syntax.tyInt Syntax.w8) (Syntax.tcons
-      (Syntax.tyInt Syntax.w8) (Syntax.tcons (Syntax.tyInt Syntax.w8) (Syntax.tcons (Syntax.tyInt Syntax.w8) Syntax.tnil))))) (Syntax.tcons (Syntax.tyInt
-      Syntax.w8) (Syntax.tcons (Syntax.tyStruct (114 ∷ 101 ∷ 115 ∷ 105 ∷ 100 ∷ 117 ∷ 101 ∷ 58 ∷ 58 ∷ 82 ∷ 101 ∷ 115 ∷ 105 ∷ 100 ∷ 117 ∷ 101 ∷ []) (Syntax.tcons
-      (Syntax.tyStruct (110 ∷ 97 ∷ 109 ∷ 101 ∷ 115 ∷ 58 ∷ 58 ∷ 84 ∷ 104 ∷ 114 ∷ 101 ∷ 101 ∷ []) (Syntax.tcons (Syntax.tyInt Syntax.w8) (Syntax.tcons
-      (Syntax.tyInt Syntax.w8) (Syntax.tcons (Syntax.tyInt Syntax.w8) Syntax.tnil)))) (Syntax.tcons (Syntax.tyInt Syntax.w8) (Syntax.tcons (Syntax.tyStruct (102
-      ∷ 105 ∷ 101 ∷ 108 ∷ 100 ∷ 115 ∷ 58 ∷ 58 ∷ 82 ∷ 101 ∷ 115 ∷ 105 ∷ 100 ∷ 117 ∷ 101 ∷ 78 ∷ 117 ∷ 109 ∷ 98 ∷ 101 ∷ 114 ∷ []) (Syntax.tcons (Syntax.tyInt
-      Syntax.w32) Syntax.tnil)) (Syntax.tcons (Syntax.tyInt Syntax.w8) Syntax.tnil))))) Syntax.tnil))))) (Syntax.tcons (Syntax.tyStruct (99 ∷ 111 ∷ 111 ∷ 114 ∷
-      100 ∷ 105 ∷ 110 ∷ 97 ∷ 116 ∷ 101 ∷ 58 ∷ 58 ∷ 77 ∷ 101 ∷ 97 ∷ 115 ∷ 117 ∷ 114 ∷ 101 ∷ []) (Syntax.tcons (Syntax.tyStruct (99 ∷ 111 ∷ 111 ∷ 114 ∷ 100 ∷ 105 ∷
-      110 ∷ 97 ∷ 116 ∷ 101 ∷ 58 ∷ 58 ∷ 80 ∷ 111 ∷ 115 ∷ 105 ∷ 116 ∷ 105 ∷ 111 ∷ 110 ∷ []) (Syntax.tcons (Syntax.tyInt Syntax.w32) (Syntax.tcons (Syntax.tyInt
-      Syntax.w32) (Syntax.tcons (Syntax.tyInt Syntax.w32) Syntax.tnil)))) (Syntax.tcons (Syntax.tyInt Syntax.w32) (Syntax.tcons (Syntax.tyInt Syntax.w32)
-      Syntax.tnil)))) (Syntax.tcons (Syntax.tyStruct (99 ∷ 111 ∷ 111 ∷ 114 ∷ 100 ∷ 105 ∷ 110 ∷ 97 ∷ 116 ∷ 101 ∷ 58 ∷ 58 ∷ 83 ∷ 112 ∷ 101 ∷ 99 ∷ 105 ∷ 101 ∷ 115 ∷
-      []) (Syntax.tcons (Syntax.tyStruct (110 ∷ 97 ∷ 109 ∷ 101 ∷ 115 ∷ 58 ∷ 58 ∷ 80 ∷ 97 ∷ 105 ∷ 114 ∷ []) (Syntax.tcons (Syntax.tyInt Syntax.w8) (Syntax.tcons
-      (Syntax.tyInt Syntax.w8) Syntax.tnil))) (Syntax.tcons (Syntax.tyStruct (110 ∷ 97 ∷ 109 ∷ 101 ∷ 115 ∷ 58 ∷ 58 ∷ 80 ∷ 97 ∷ 105 ∷ 114 ∷ []) (Syntax.tcons
-      (Syntax.tyInt Syntax.w8) (Syntax.tcons (Syntax.tyInt Syntax.w8) Syntax.tnil))) Syntax.tnil))) Syntax.tnil)))) Syntax.tnil)) (Syntax.ttcons (Syntax.tcons
-      (Syntax.tyStruct (116 ∷ 101 ∷ 114 ∷ 58 ∷ 58 ∷ 84 ∷ 101 ∷ 114 ∷ []) (Syntax.tcons (Syntax.tyStruct (102 ∷ 105 ∷ 101 ∷ 108 ∷ 100 ∷ 115 ∷ 58 ∷ 58 ∷ 83 ∷ 101 ∷
-      114 ∷ 105 ∷ 97 ∷ 108 ∷ []) (Syntax.tcons (Syntax.tyInt Syntax.w32) Syntax.tnil)) (Syntax.tcons (Syntax.tyStruct (114 ∷ 101 ∷ 115 ∷ 105 ∷ 100 ∷ 117 ∷ 101 ∷
-      58 ∷ 58 ∷ 82 ∷ 101 ∷ 115 ∷ 105 ∷ 100 ∷ 117 ∷ 101 ∷ []) (Syntax.tcons (Syntax.tyStruct (110 ∷ 97 ∷ 109 ∷ 101 ∷ 115 ∷ 58 ∷ 58 ∷ 84 ∷ 104 ∷ 114 ∷ 101 ∷ 101 ∷
-      []) (Syntax.tcons (Syntax.tyInt Syntax.w8) (Syntax.tcons (Syntax.tyInt Syntax.w8) (Syntax.tcons (Syntax.tyInt Syntax.w8) Syntax.tnil)))) (Syntax.tcons
-      (Syntax.tyInt Syntax.w8) (Syntax.tcons (Syntax.tyStruct (102 ∷ 105 ∷ 101 ∷ 108 ∷ 100 ∷ 115 ∷ 58 ∷ 58 ∷ 82 ∷ 101 ∷ 115 ∷ 105 ∷ 100 ∷ 117 ∷ 101 ∷ 78 ∷ 117 ∷
-      109 ∷ 98 ∷ 101 ∷ 114 ∷ []) (Syntax.tcons (Syntax.tyInt Syntax.w32) Syntax.tnil)) (Syntax.tcons (Syntax.tyInt Syntax.w8) Syntax.tnil))))) Syntax.tnil)))
-      Syntax.tnil) (Syntax.ttcons (Syntax.tcons (Syntax.tyStruct (104 ∷ 101 ∷ 108 ∷ 105 ∷ 120 ∷ 58 ∷ 58 ∷ 72 ∷ 101 ∷ 108 ∷ 105 ∷ 120 ∷ []) (Syntax.tcons
-      (Syntax.tyStruct (104 ∷ 101 ∷ 108 ∷ 105 ∷ 120 ∷ 58 ∷ 58 ∷ 69 ∷ 120 ∷ 116 ∷ 101 ∷ 110 ∷ 116 ∷ []) (Syntax.tcons (Syntax.tyInt Syntax.w32) (Syntax.tcons
-      (Syntax.tyStruct (110 ∷ 97 ∷ 109 ∷ 101 ∷ 115 ∷ 58 ∷ 58 ∷ 84 ∷ 104 ∷ 114 ∷ 101 ∷ 101 ∷ []) (Syntax.tcons (Syntax.tyInt Syntax.w8) (Syntax.tcons
-      (Syntax.tyInt Syntax.w8) (Syntax.tcons (Syntax.tyInt Syntax.w8) Syntax.tnil)))) (Syntax.tcons (Syntax.tyStruct (114 ∷ 101 ∷ 115 ∷ 105 ∷ 100 ∷ 117 ∷ 101 ∷
-      58 ∷ 58 ∷ 82 ∷ 101 ∷ 115 ∷ 105 ∷ 100 ∷ 117 ∷ 101 ∷ []) (Syntax.tcons (Syntax.tyStruct (110 ∷ 97 ∷ 109 ∷ 101 ∷ 115 ∷ 58 ∷ 58 ∷ 84 ∷ 104 ∷ 114 ∷ 101 ∷ 101 ∷
-      []) (Syntax.tcons (Syntax.tyInt Syntax.w8) (Syntax.tcons (Syntax.tyInt Syntax.w8) (Syntax.tcons (Syntax.tyInt Syntax.w8) Syntax.tnil)))) (Syntax.tcons
-      (Syntax.tyInt Syntax.w8) (Syntax.tcons (Syntax.tyStruct (102 ∷ 105 ∷ 101 ∷ 108 ∷ 100 ∷ 115 ∷ 58 ∷ 58 ∷ 82 ∷ 101 ∷ 115 ∷ 105 ∷ 100 ∷ 117 ∷ 101 ∷ 78 ∷ 117 ∷
-      109 ∷ 98 ∷ 101 ∷ 114 ∷ []) (Syntax.tcons (Syntax.tyInt Syntax.w32) Syntax.tnil)) (Syntax.tcons (Syntax.tyInt Syntax.w8) Syntax.tnil))))) (Syntax.tcons
-      (Syntax.tyStruct (114 ∷ 101 ∷ 115 ∷ 105 ∷ 100 ∷ 117 ∷ 101 ∷ 58 ∷ 58 ∷ 82 ∷ 101 ∷ 115 ∷ 105 ∷ 100 ∷ 117 ∷ 101 ∷ []) (Syntax.tcons (Syntax.tyStruct (110 ∷ 97
-      ∷ 109 ∷ 101 ∷ 115 ∷ 58 ∷ 58 ∷ 84 ∷ 104 ∷ 114 ∷ 101 ∷ 101 ∷ []) (Syntax.tcons (Syntax.tyInt Syntax.w8) (Syntax.tcons (Syntax.tyInt Syntax.w8) (Syntax.tcons
-      (Syntax.tyInt Syntax.w8) Syntax.tnil)))) (Syntax.tcons (Syntax.tyInt Syntax.w8) (Syntax.tcons (Syntax.tyStruct (102 ∷ 105 ∷ 101 ∷ 108 ∷ 100 ∷ 115 ∷ 58 ∷ 58
-      ∷ 82 ∷ 101 ∷ 115 ∷ 105 ∷ 100 ∷ 117 ∷ 101 ∷ 78 ∷ 117 ∷ 109 ∷ 98 ∷ 101 ∷ 114 ∷ []) (Syntax.tcons (Syntax.tyInt Syntax.w32) Syntax.tnil)) (Syntax.tcons
-      (Syntax.tyInt Syntax.w8) Syntax.tnil))))) Syntax.tnil))))) (Syntax.tcons (Syntax.tyInt Syntax.w32) (Syntax.tcons (Syntax.tyStruct (104 ∷ 101 ∷ 108 ∷ 105 ∷
-      120 ∷ 58 ∷ 58 ∷ 67 ∷ 111 ∷ 109 ∷ 109 ∷ 101 ∷ 110 ∷ 116 ∷ []) (Syntax.tcons (Syntax.tyInt Syntax.w64) (Syntax.tcons (Syntax.tyInt Syntax.w64) (Syntax.tcons
-      (Syntax.tyInt Syntax.w64) (Syntax.tcons (Syntax.tyInt Syntax.w64) Syntax.tnil))))) (Syntax.tcons (Syntax.tyInt Syntax.w32) Syntax.tnil))))) Syntax.tnil)
-      (Syntax.ttcons (Syntax.tcons (Syntax.tyStruct (115 ∷ 104 ∷ 101 ∷ 101 ∷ 116 ∷ 58 ∷ 58 ∷ 83 ∷ 104 ∷ 101 ∷ 101 ∷ 116 ∷ []) (Syntax.tcons (Syntax.tyStruct (115
-      ∷ 104 ∷ 101 ∷ 101 ∷ 116 ∷ 58 ∷ 58 ∷ 83 ∷ 116 ∷ 114 ∷ 97 ∷ 110 ∷ 100 ∷ []) (Syntax.tcons (Syntax.tyInt Syntax.w32) (Syntax.tcons (Syntax.tyStruct (110 ∷ 97
-      ∷ 109 ∷ 101 ∷ 115 ∷ 58 ∷ 58 ∷ 84 ∷ 104 ∷ 114 ∷ 101 ∷ 101 ∷ []) (Syntax.tcons (Syntax.tyInt Syntax.w8) (Syntax.tcons (Syntax.tyInt Syntax.w8) (Syntax.tcons
-      (Syntax.tyInt Syntax.w8) Syntax.tnil)))) (Syntax.tcons (Syntax.tyInt Syntax.w32) (Syntax.tcons (Syntax.tyStruct (114 ∷ 101 ∷ 115 ∷ 105 ∷ 100 ∷ 117 ∷ 101 ∷
-      58 ∷ 58 ∷ 82 ∷ 101 ∷ 115 ∷ 105 ∷ 100 ∷ 117 ∷ 101 ∷ []) (Syntax.tcons (Syntax.tyStruct (110 ∷ 97 ∷ 109 ∷ 101 ∷ 115 ∷ 58 ∷ 58 ∷ 84 ∷ 104 ∷ 114 ∷ 101 ∷ 101 ∷
-      []) (Syntax.tcons (Syntax.tyInt Syntax.w8) (Syntax.tcons (Syntax.tyInt Syntax.w8) (Syntax.tcons (Syntax.tyInt Syntax.w8) Syntax.tnil)))) (Syntax.tcons
-      (Syntax.tyInt Syntax.w8) (Syntax.tcons (Syntax.tyStruct (102 ∷ 105 ∷ 101 ∷ 108 ∷ 100 ∷ 115 ∷ 58 ∷ 58 ∷ 82 ∷ 101 ∷ 115 ∷ 105 ∷ 100 ∷ 117 ∷ 101 ∷ 78 ∷ 117 ∷
-      109 ∷ 98 ∷ 101 ∷ 114 ∷ []) (Syntax.tcons (Syntax.tyInt Syntax.w32) Syntax.tnil)) (Syntax.tcons (Syntax.tyInt Syntax.w8) Syntax.tnil))))) (Syntax.tcons
-      (Syntax.tyStruct (114 ∷ 101 ∷ 115 ∷ 105 ∷ 100 ∷ 117 ∷ 101 ∷ 58 ∷ 58 ∷ 82 ∷ 101 ∷ 115 ∷ 105 ∷ 100 ∷ 117 ∷ 101 ∷ []) (Syntax.tcons (Syntax.tyStruct (110 ∷ 97
-      ∷ 109 ∷ 101 ∷ 115 ∷ 58 ∷ 58 ∷ 84 ∷ 104 ∷ 114 ∷ 101 ∷ 101 ∷ []) (Syntax.tcons (Syntax.tyInt Syntax.w8) (Syntax.tcons (Syntax.tyInt Syntax.w8) (Syntax.tcons
-      (Syntax.tyInt Syntax.w8) Syntax.tnil)))) (Syntax.tcons (Syntax.tyInt Syntax.w8) (Syntax.tcons (Syntax.tyStruct (102 ∷ 105 ∷ 101 ∷ 108 ∷ 100 ∷ 115 ∷ 58 ∷ 58
-      ∷ 82 ∷ 101 ∷ 115 ∷ 105 ∷ 100 ∷ 117 ∷ 101 ∷ 78 ∷ 117 ∷ 109 ∷ 98 ∷ 101 ∷ 114 ∷ []) (Syntax.tcons (Syntax.tyInt Syntax.w32) Syntax.tnil)) (Syntax.tcons
-      (Syntax.tyInt Syntax.w8) Syntax.tnil))))) (Syntax.tcons (Syntax.tyInt Syntax.w32) Syntax.tnil))))))) (Syntax.tcons (Syntax.tyEnum (115 ∷ 104 ∷ 101 ∷ 101 ∷
-      116 ∷ 58 ∷ 58 ∷ 82 ∷ 101 ∷ 103 ∷ 105 ∷ 115 ∷ 116 ∷ 114 ∷ 97 ∷ 116 ∷ 105 ∷ 111 ∷ 110 ∷ []) (Syntax.ttcons Syntax.tnil (Syntax.ttcons (Syntax.tcons
-      (Syntax.tyStruct (115 ∷ 104 ∷ 101 ∷ 101 ∷ 116 ∷ 58 ∷ 58 ∷ 66 ∷ 111 ∷ 110 ∷ 100 ∷ []) (Syntax.tcons (Syntax.tyStruct (110 ∷ 97 ∷ 109 ∷ 101 ∷ 115 ∷ 58 ∷ 58 ∷
-      70 ∷ 111 ∷ 117 ∷ 114 ∷ []) (Syntax.tcons (Syntax.tyInt Syntax.w8) (Syntax.tcons (Syntax.tyInt Syntax.w8) (Syntax.tcons (Syntax.tyInt Syntax.w8)
-      (Syntax.tcons (Syntax.tyInt Syntax.w8) Syntax.tnil))))) (Syntax.tcons (Syntax.tyStruct (114 ∷ 101 ∷ 115 ∷ 105 ∷ 100 ∷ 117 ∷ 101 ∷ 58 ∷ 58 ∷ 82 ∷ 101 ∷ 115
-      ∷ 105 ∷ 100 ∷ 117 ∷ 101 ∷ []) (Syntax.tcons (Syntax.tyStruct (110 ∷ 97 ∷ 109 ∷ 101 ∷ 115 ∷ 58 ∷ 58 ∷ 84 ∷ 104 ∷ 114 ∷ 101 ∷ 101 ∷ []) (Syntax.tcons
-      (Syntax.tyInt Syntax.w8) (Syntax.tcons (Syntax.tyInt Syntax.w8) (Syntax.tcons (Syntax.tyInt Syntax.w8) Syntax.tnil)))) (Syntax.tcons (Syntax.tyInt
-      Syntax.w8) (Syntax.tcons (Syntax.tyStruct (102 ∷ 105 ∷ 101 ∷ 108 ∷ 100 ∷ 115 ∷ 58 ∷ 58 ∷ 82 ∷ 101 ∷ 115 ∷ 105 ∷ 100 ∷ 117 ∷ 101 ∷ 78 ∷ 117 ∷ 109 ∷ 98 ∷ 101
-      ∷ 114 ∷ []) (Syntax.tcons (Syntax.tyInt Syntax.w32) Syntax.tnil)) (Syntax.tcons (Syntax.tyInt Syntax.w8) Syntax.tnil))))) (Syntax.tcons (Syntax.tyStruct
-      (110 ∷ 97 ∷ 109 ∷ 101 ∷ 115 ∷ 58 ∷ 58 ∷ 70 ∷ 111 ∷ 117 ∷ 114 ∷ []) (Syntax.tcons (Syntax.tyInt Syntax.w8) (Syntax.tcons (Syntax.tyInt Syntax.w8)
-      (Syntax.tcons (Syntax.tyInt Syntax.w8) (Syntax.tcons (Syntax.tyInt Syntax.w8) Syntax.tnil))))) (Syntax.tcons (Syntax.tyStruct (114 ∷ 101 ∷ 115 ∷ 105 ∷ 100
-      ∷ 117 ∷ 101 ∷ 58 ∷ 58 ∷ 82 ∷ 101 ∷ 115 ∷ 105 ∷ 100 ∷ 117 ∷ 101 ∷ []) (Syntax.tcons (Syntax.tyStruct (110 ∷ 97 ∷ 109 ∷ 101 ∷ 115 ∷ 58 ∷ 58 ∷ 84 ∷ 104 ∷ 114
-      ∷ 101 ∷ 101 ∷ []) (Syntax.tcons (Syntax.tyInt Syntax.w8) (Syntax.tcons (Syntax.tyInt Syntax.w8) (Syntax.tcons (Syntax.tyInt Syntax.w8) Syntax.tnil))))
-      (Syntax.tcons (Syntax.tyInt Syntax.w8) (Syntax.tcons (Syntax.tyStruct (102 ∷ 105 ∷ 101 ∷ 108 ∷ 100 ∷ 115 ∷ 58 ∷ 58 ∷ 82 ∷ 101 ∷ 115 ∷ 105 ∷ 100 ∷ 117 ∷ 101
-      ∷ 78 ∷ 117 ∷ 109 ∷ 98 ∷ 101 ∷ 114 ∷ []) (Syntax.tcons (Syntax.tyInt Syntax.w32) Syntax.tnil)) (Syntax.tcons (Syntax.tyInt Syntax.w8) Syntax.tnil)))))
-      Syntax.tnil))))) Syntax.tnil) Syntax.ttnil))) Syntax.tnil))) Syntax.tnil) (Syntax.ttcons (Syntax.tcons (Syntax.tyStruct (99 ∷ 111 ∷ 110 ∷ 101 ∷ 99 ∷ 116 ∷
-      58 ∷ 58 ∷ 67 ∷ 111 ∷ 110 ∷ 101 ∷ 99 ∷ 116 ∷ []) (Syntax.tcons (Syntax.tyStruct (102 ∷ 105 ∷ 101 ∷ 108 ∷ 100 ∷ 115 ∷ 58 ∷ 58 ∷ 83 ∷ 101 ∷ 114 ∷ 105 ∷ 97 ∷
-      108 ∷ []) (Syntax.tcons (Syntax.tyInt Syntax.w32) Syntax.tnil)) (Syntax.tcons (Syntax.tyStruct (102 ∷ 105 ∷ 101 ∷ 108 ∷ 100 ∷ 115 ∷ 58 ∷ 58 ∷ 83 ∷ 101 ∷
-      114 ∷ 105 ∷ 97 ∷ 108 ∷ []) (Syntax.tcons (Syntax.tyInt Syntax.w32) Syntax.tnil)) (Syntax.tcons (Syntax.tyStruct (102 ∷ 105 ∷ 101 ∷ 108 ∷ 100 ∷ 115 ∷ 58 ∷
-      58 ∷ 83 ∷ 101 ∷ 114 ∷ 105 ∷ 97 ∷ 108 ∷ []) (Syntax.tcons (Syntax.tyInt Syntax.w32) Syntax.tnil)) (Syntax.tcons (Syntax.tyStruct (102 ∷ 105 ∷ 101 ∷ 108 ∷
-      100 ∷ 115 ∷ 58 ∷ 58 ∷ 83 ∷ 101 ∷ 114 ∷ 105 ∷ 97 ∷ 108 ∷ []) (Syntax.tcons (Syntax.tyInt Syntax.w32) Syntax.tnil)) (Syntax.tcons (Syntax.tyStruct (102 ∷ 105
-      ∷ 101 ∷ 108 ∷ 100 ∷ 115 ∷ 58 ∷ 58 ∷ 83 ∷ 101 ∷ 114 ∷ 105 ∷ 97 ∷ 108 ∷ []) (Syntax.tcons (Syntax.tyInt Syntax.w32) Syntax.tnil)) Syntax.tnil))))))
-      Syntax.tnil) (Syntax.ttcons (Syntax.tcons (Syntax.tyStruct (109 ∷ 97 ∷ 115 ∷ 116 ∷ 101 ∷ 114 ∷ 58 ∷ 58 ∷ 84 ∷ 97 ∷ 108 ∷ 108 ∷ 121 ∷ []) (Syntax.tcons
-      (Syntax.tyInt Syntax.w32) (Syntax.tcons (Syntax.tyInt Syntax.w32) (Syntax.tcons (Syntax.tyInt Syntax.w32) (Syntax.tcons (Syntax.tyInt Syntax.w32)
-      (Syntax.tcons (Syntax.tyInt Syntax.w32) (Syntax.tcons (Syntax.tyInt Syntax.w32) (Syntax.tcons (Syntax.tyInt Syntax.w32) (Syntax.tcons (Syntax.tyInt
-      Syntax.w32) (Syntax.tcons (Syntax.tyInt Syntax.w32) Syntax.tnil)))))))))) Syntax.tnil) (Syntax.ttcons Syntax.tnil Syntax.ttnil)))))))) Syntax.tnil)
-      Syntax.ttnil))))),
-) ∷ (8, Rows.any-gone Syntax.tyBool) ∷ (9, Rows.any-gone (Syntax.tyInt Syntax.w64)) ∷ (10, Rows.any-gone (Syntax.tyInt Syntax.w64)) ∷ (
-  11,
-  Rows.any-gone (Syntax.tyInt Syntax.w64),
-) ∷ (12, Rows.any-gone Syntax.tyBool) ∷ (13, Rows.any-gone (Syntax.tyRef Syntax.erased Syntax.mut SlotAs.pointee)) ∷ (
-  14,
-  Rows.any-gone (Syntax.tyStruct (38 ∷ 91 ∷ 93 ∷ []) (Syntax.tcons (Syntax.tyRef Syntax.erased Syntax.mut SlotAs.pointee) (Syntax.tcons (Syntax.tyInt
-      Syntax.w64) Syntax.tnil))),
-) ∷ []
-
-abbrev pub t7 : List.List Row.Entry
-t7 = (
-  0,
-  Rows.any-gone (Syntax.tyStruct (115 ∷ 116 ∷ 111 ∷ 114 ∷ 101 ∷ 58 ∷ 58 ∷ 79 ∷ 117 ∷ 116 ∷ 99 ∷ 111 ∷ 109 ∷ 101 ∷ []) (Syntax.tcons (Syntax.tyInt
-      Syntax.w8) (Syntax.tcons (Syntax.tyInt Syntax.w64) Syntax.tnil))),
-) ∷ (
-  1,
-  Rows.sslice (Referent.rtF (Referent.fInt Syntax.w8)) (Syntax.tyRef (Syntax.named
-      0) Syntax.imm (Syntax.tyInt Syntax.w8)) 0,
-) ∷ (2, Mut.mslice SlotAs.row (Syntax.tyRef (Syntax.named 1) Syntax.mut SlotAs.pointee) 1) ∷ (
-  3,
-  Rows.any-gone
-      (Syntax.tyStruct (115 ∷ 116 ∷ 111 ∷ 114 ∷ 101 ∷ 58 ∷ 58 ∷ 78 ∷ 101 ∷ 101 ∷ 100 ∷ 115 ∷ []) (Syntax.tcons (Syntax.tyInt Syntax.w8) (Syntax.tcons
-      (Syntax.tyInt Syntax.w64) Syntax.tnil))),
-) ∷ (4, Rows.sc-here (Row.sInt Syntax.w64)) ∷ (5, Rows.any-gone (Syntax.tyInt Syntax.w64)) ∷ (
-  6,
-  Rows.any-gone
-      (Syntax.tyInt Syntax.w64),
-) ∷ (
-  7,
-  Rows.any-gone (Syntax.tyEnum (112 ∷ 105 ∷ 101 ∷ 99 ∷ 101 ∷ 115 ∷ 58 ∷ 58 ∷ 76 ∷ 105 ∷ 110 ∷ 101 ∷ []) (Syntax.ttcons
-      (Syntax.tcons (Syntax.tyInt Syntax.w8) Syntax.tnil) (Syntax.ttcons (Syntax.tcons (Syntax.tyEnum (107 ∷ 105 ∷ 110 ∷ 100 ∷ 115 ∷ 58 ∷ 58 ∷ 75 ∷ 105 ∷ 110 ∷
-      100 ∷ []) (Syntax.ttcons Syntax.tnil (Syntax.ttcons Syntax.tnil (Syntax.ttcons Syntax.tnil (Syntax.ttcons Syntax.tnil (Syntax.ttcons Syntax.tnil
-      (Syntax.ttcons Syntax.tnil (Syntax.ttcons Syntax.tnil (Syntax.ttcons Syntax.tnil (Syntax.ttcons Syntax.tnil (Syntax.ttcons Syntax.tnil (Syntax.ttcons
-      Syntax.tnil (Syntax.ttcons Syntax.tnil (Syntax.ttcons Syntax.tnil (Syntax.ttcons Syntax.tnil (Syntax.ttcons Syntax.tnil (Syntax.ttcons Syntax.tnil
-      (Syntax.ttcons Syntax.tnil (Syntax.ttcons Syntax.tnil (Syntax.ttcons Syntax.tnil (Syntax.ttcons Syntax.tnil (Syntax.ttcons Syntax.tnil (Syntax.ttcons
-      Syntax.tnil (Syntax.ttcons Syntax.tnil (Syntax.ttcons Syntax.tnil (Syntax.ttcons Syntax.tnil (Syntax.ttcons Syntax.tnil (Syntax.ttcons Syntax.tnil
-      (Syntax.ttcons Syntax.tnil Syntax.ttnil))))))))))))))))))))))))))))) (Syntax.tcons (Syntax.tyInt Syntax.w32) Syntax.tnil)) (Syntax.ttcons (Syntax.tcons
-      (Syntax.tyEnum (107 ∷ 105 ∷ 110 ∷ 100 ∷ 115 ∷ 58 ∷ 58 ∷ 75 ∷ 105 ∷ 110 ∷ 100 ∷ []) (Syntax.ttcons Syntax.tnil (Syntax.ttcons Syntax.tnil (Syntax.ttcons
-      Syntax.tnil (Syntax.ttcons Syntax.tnil (Syntax.ttcons Syntax.tnil (Syntax.ttcons Syntax.tnil (Syntax.ttcons Syntax.tnil (Syntax.ttcons Syntax.tnil
-      (Syntax.ttcons Syntax.tnil (Syntax.ttcons Syntax.tnil (Syntax.ttcons Syntax.tnil (Syntax.ttcons Syntax.tnil (Syntax.ttcons Syntax.tnil (Syntax.ttcons
-      Syntax.tnil (Syntax.ttcons Syntax.tnil (Syntax.ttcons Syntax.tnil (Syntax.ttcons Syntax.tnil (Syntax.ttcons Syntax.tnil (Syntax.ttcons Syntax.tnil
-      (Syntax.ttcons Syntax.tnil (Syntax.ttcons Syntax.tnil (Syntax.ttcons Syntax.tnil (Syntax.ttcons Syntax.tnil (Syntax.ttcons Syntax.tnil (Syntax.ttcons
-      Syntax.tnil (Syntax.ttcons Syntax.tnil (Syntax.ttcons Syntax.tnil (Syntax.ttcons Syntax.tnil Syntax.ttnil))))))))))))))))))))))))))))) Syntax.tnil)
-      (Syntax.ttcons (Syntax.tcons (Syntax.tyEnum (108 ∷ 105 ∷ 110 ∷ 101 ∷ 58 ∷ 58 ∷ 82 ∷ 101 ∷ 99 ∷ 111 ∷ 114 ∷ 100 ∷ []) (Syntax.ttcons (Syntax.tcons
-      Syntax.tyBool (Syntax.tcons (Syntax.tyStruct (99 ∷ 111 ∷ 111 ∷ 114 ∷ 100 ∷ 105 ∷ 110 ∷ 97 ∷ 116 ∷ 101 ∷ 58 ∷ 58 ∷ 65 ∷ 116 ∷ 111 ∷ 109 ∷ []) (Syntax.tcons
-      (Syntax.tyStruct (99 ∷ 111 ∷ 111 ∷ 114 ∷ 100 ∷ 105 ∷ 110 ∷ 97 ∷ 116 ∷ 101 ∷ 58 ∷ 58 ∷ 73 ∷ 100 ∷ 101 ∷ 110 ∷ 116 ∷ 105 ∷ 116 ∷ 121 ∷ []) (Syntax.tcons
-      (Syntax.tyStruct (102 ∷ 105 ∷ 101 ∷ 108 ∷ 100 ∷ 115 ∷ 58 ∷ 58 ∷ 83 ∷ 101 ∷ 114 ∷ 105 ∷ 97 ∷ 108 ∷ []) (Syntax.tcons (Syntax.tyInt Syntax.w32) Syntax.tnil))
-      (Syntax.tcons (Syntax.tyStruct (110 ∷ 97 ∷ 109 ∷ 101 ∷ 115 ∷ 58 ∷ 58 ∷ 70 ∷ 111 ∷ 117 ∷ 114 ∷ []) (Syntax.tcons (Syntax.tyInt Syntax.w8) (Syntax.tcons
-      (Syntax.tyInt Syntax.w8) (Syntax.tcons (Syntax.tyInt Syntax.w8) (Syntax.tcons (Syntax.tyInt Syntax.w8) Syntax.tnil))))) (Syntax.tcons (Syntax.tyInt
-      Syntax.w8) (Syntax.tcons (Syntax.tyStruct (114 ∷ 101 ∷ 115 ∷ 105 ∷ 100 ∷ 117 ∷ 101 ∷ 58 ∷ 58 ∷ 82 ∷ 101 ∷ 115 ∷ 105 ∷ 100 ∷ 117 ∷ 101 ∷ []) (Syntax.tcons
-      (Syntax.tyStruct (110 ∷ 97 ∷ 109 ∷ 101 ∷ 115 ∷ 58 ∷ 58 ∷ 84 ∷ 104 ∷ 114 ∷ 101 ∷ 101 ∷ []) (Syntax.tcons (Syntax.tyInt Syntax.w8) (Syntax.tcons
-      (Syntax.tyInt Syntax.w8) (Syntax.tcons (Syntax.tyInt Syntax.w8) Syntax.tnil)))) (Syntax.tcons (Syntax.tyInt Syntax.w8) (Syntax.tcons (Syntax.tyStruct (102
-      ∷ 105 ∷ 101 ∷ 108 ∷ 100 ∷ 115 ∷ 58 ∷ 58 ∷ 82 ∷ 101 ∷ 115 ∷ 105 ∷ 100 ∷ 117 ∷ 101 ∷ 78 ∷ 117 ∷ 109 ∷ 98 ∷ 101 ∷ 114 ∷ []) (Syntax.tcons (Syntax.tyInt
-      Syntax.w32) Syntax.tnil)) (Syntax.tcons (Syntax.tyInt Syntax.w8) Syntax.tnil))))) Syntax.tnil))))) (Syntax.tcons (Syntax.tyStruct (99 ∷ 111 ∷ 111 ∷ 114 ∷
-      100 ∷ 105 ∷ 110 ∷ 97 ∷ 116 ∷ 101 ∷ 58 ∷ 58 ∷ 77 ∷ 101 ∷ 97 ∷ 115 ∷ 117 ∷ 114 ∷ 101 ∷ []) (Syntax.tcons (Syntax.tyStruct (99 ∷ 111 ∷ 111 ∷ 114 ∷ 100 ∷ 105 ∷
-      110 ∷ 97 ∷ 116 ∷ 101 ∷ 58 ∷ 58 ∷ 80 ∷ 111 ∷ 115 ∷ 105 ∷ 116 ∷ 105 ∷ 111 ∷ 110 ∷ []) (Syntax.tcons (Syntax.tyInt Syntax.w32) (Syntax.tcons (Syntax.tyInt
-      Syntax.w32) (Syntax.tcons (Syntax.tyInt Syntax.w32) Syntax.tnil)))) (Syntax.tcons (Syntax.tyInt Syntax.w32) (Syntax.tcons (Syntax.tyInt Syntax.w32)
-      Syntax.tnil)))) (Syntax.tcons (Syntax.tyStruct (99 ∷ 111 ∷ 111 ∷ 114 ∷ 100 ∷ 105 ∷ 110 ∷ 97 ∷ 116 ∷ 101 ∷ 58 ∷ 58 ∷ 83 ∷ 112 ∷ 101 ∷ 99 ∷ 105 ∷ 101 ∷ 115 ∷
-      []) (Syntax.tcons (Syntax.tyStruct (110 ∷ 97 ∷ 109 ∷ 101 ∷ 115 ∷ 58 ∷ 58 ∷ 80 ∷ 97 ∷ 105 ∷ 114 ∷ []) (Syntax.tcons (Syntax.tyInt Syntax.w8) (Syntax.tcons
-      (Syntax.tyInt Syntax.w8) Syntax.tnil))) (Syntax.tcons (Syntax.tyStruct (110 ∷ 97 ∷ 109 ∷ 101 ∷ 115 ∷ 58 ∷ 58 ∷ 80 ∷ 97 ∷ 105 ∷ 114 ∷ []) (Syntax.tcons
-      (Syntax.tyInt Syntax.w8) (Syntax.tcons (Syntax.tyInt Syntax.w8) Syntax.tnil))) Syntax.tnil))) Syntax.tnil)))) Syntax.tnil)) (Syntax.ttcons (Syntax.tcons
-      (Syntax.tyStruct (116 ∷ 101 ∷ 114 ∷ 58 ∷ 58 ∷ 84 ∷ 101 ∷ 114 ∷ []) (Syntax.tcons (Syntax.tyStruct (102 ∷ 105 ∷ 101 ∷ 108 ∷ 100 ∷ 115 ∷ 58 ∷ 58 ∷ 83 ∷ 101 ∷
-      114 ∷ 105 ∷ 97 ∷ 108 ∷ []) (Syntax.tcons (Syntax.tyInt Syntax.w32) Syntax.tnil)) (Syntax.tcons (Syntax.tyStruct (114 ∷ 101 ∷ 115 ∷ 105 ∷ 100 ∷ 117 ∷ 101 ∷
-      58 ∷ 58 ∷ 82 ∷ 101 ∷ 115 ∷ 105 ∷ 100 ∷ 117 ∷ 101 ∷ []) (Syntax.tcons (Syntax.tyStruct (110 ∷ 97 ∷ 109 ∷ 101 ∷ 115 ∷ 58 ∷ 58 ∷ 84 ∷ 104 ∷ 114 ∷ 101 ∷ 101 ∷
-      []) (Syntax.tcons (Syntax.tyInt Syntax.w8) (Syntax.tcons (Syntax.tyInt Syntax.w8) (Syntax.tcons (Syntax.tyInt Syntax.w8) Syntax.tnil)))) (Syntax.tcons
-      (Syntax.tyInt Syntax.w8) (Syntax.tcons (Syntax.tyStruct (102 ∷ 105 ∷ 101 ∷ 108 ∷ 100 ∷ 115 ∷ 58 ∷ 58 ∷ 82 ∷ 101 ∷ 115 ∷ 105 ∷ 100 ∷ 117 ∷ 101 ∷ 78 ∷ 117 ∷
-      109 ∷ 98 ∷ 101 ∷ 114 ∷ []) (Syntax.tcons (Syntax.tyInt Syntax.w32) Syntax.tnil)) (Syntax.tcons (Syntax.tyInt Syntax.w8) Syntax.tnil))))) Syntax.tnil)))
-      Syntax.tnil) (Syntax.ttcons (Syntax.tcons (Syntax.tyStruct (104 ∷ 101 ∷ 108 ∷ 105 ∷ 120 ∷ 58 ∷ 58 ∷ 72 ∷ 101 ∷ 108 ∷ 105 ∷ 120 ∷ []) (Syntax.tcons
-      (Syntax.tyStruct (104 ∷ 101 ∷ 108 ∷ 105 ∷ 120 ∷ 58 ∷ 58 ∷ 69 ∷ 120 ∷ 116 ∷ 101 ∷ 110 ∷ 116 ∷ []) (Syntax.tcons (Syntax.tyInt Syntax.w32) (Syntax.tcons
-      (Syntax.tyStruct (110 ∷ 97 ∷ 109 ∷ 101 ∷ 115 ∷ 58 ∷ 58 ∷ 84 ∷ 104 ∷ 114 ∷ 101 ∷ 101 ∷ []) (Syntax.tcons (Syntax.tyInt Syntax.w8) (Syntax.tcons
-      (Syntax.tyInt Syntax.w8) (Syntax.tcons (Syntax.tyInt Syntax.w8) Syntax.tnil)))) (Syntax.tcons (Syntax.tyStruct (114 ∷ 101 ∷ 115 ∷ 105 ∷ 100 ∷ 117 ∷ 101 ∷
-      58 ∷ 58 ∷ 82 ∷ 101 ∷ 115 ∷ 105 ∷ 100 ∷ 117 ∷ 101 ∷ []) (Syntax.tcons (Syntax.tyStruct (110 ∷ 97 ∷ 109 ∷ 101 ∷ 115 ∷ 58 ∷ 58 ∷ 84 ∷ 104 ∷ 114 ∷ 101 ∷ 101 ∷
-      []) (Syntax.tcons (Syntax.tyInt Syntax.w8) (Syntax.tcons (Syntax.tyInt Syntax.w8) (Syntax.tcons (Syntax.tyInt Syntax.w8) Syntax.tnil)))) (Syntax.tcons
-      (Syntax.tyInt Syntax.w8) (Syntax.tcons (Syntax.tyStruct (102 ∷ 105 ∷ 101 ∷ 108 ∷ 100 ∷ 115 ∷ 58 ∷ 58 ∷ 82 ∷ 101 ∷ 115 ∷ 105 ∷ 100 ∷ 117 ∷ 101 ∷ 78 ∷ 117 ∷
-      109 ∷ 98 ∷ 101 ∷ 114 ∷ []) (Syntax.tcons (Syntax.tyInt Syntax.w32) Syntax.tnil)) (Syntax.tcons (Syntax.tyInt Syntax.w8) Syntax.tnil))))) (Syntax.tcons
-      (Syntax.tyStruct (114 ∷ 101 ∷ 115 ∷ 105 ∷ 100 ∷ 117 ∷ 101 ∷ 58 ∷ 58 ∷ 82 ∷ 101 ∷ 115 ∷ 105 ∷ 100 ∷ 117 ∷ 101 ∷ []) (Syntax.tcons (Syntax.tyStruct (110 ∷ 97
-      ∷ 109 ∷ 101 ∷ 115 ∷ 58 ∷ 58 ∷ 84 ∷ 104 ∷ 114 ∷ 101 ∷ 101 ∷ []) (Syntax.tcons (Syntax.tyInt Syntax.w8) (Syntax.tcons (Syntax.tyInt Syntax.w8) (Syntax.tcons
-      (Syntax.tyInt Syntax.w8) Syntax.tnil)))) (Syntax.tcons (Syntax.tyInt Syntax.w8) (Syntax.tcons (Syntax.tyStruct (102 ∷ 105 ∷ 101 ∷ 108 ∷ 100 ∷ 115 ∷ 58 ∷ 58
-      ∷ 82 ∷ 101 ∷ 115 ∷ 105 ∷ 100 ∷ 117 ∷ 101 ∷ 78 ∷ 117 ∷ 109 ∷ 98 ∷ 101 ∷ 114 ∷ []) (Syntax.tcons (Syntax.tyInt Syntax.w32) Syntax.tnil)) (Syntax.tcons
-      (Syntax.tyInt Syntax.w8) Syntax.tnil))))) Syntax.tnil))))) (Syntax.tcons (Syntax.tyInt Syntax.w32) (Syntax.tcons (Syntax.tyStruct (104 ∷ 101 ∷ 108 ∷ 105 ∷
-      120 ∷ 58 ∷ 58 ∷ 67 ∷ 111 ∷ 109 ∷ 109 ∷ 101 ∷ 110 ∷ 116 ∷ []) (Syntax.tcons (Syntax.tyInt Syntax.w64) (Syntax.tcons (Syntax.tyInt Syntax.w64) (Syntax.tcons
-      (Syntax.tyInt Syntax.w64) (Syntax.tcons (Syntax.tyInt Syntax.w64) Syntax.tnil))))) (Syntax.tcons (Syntax.tyInt Syntax.w32) Syntax.tnil))))) Syntax.tnil)
-      (Syntax.ttcons (Syntax.tcons (Syntax.tyStruct (115 ∷ 104 ∷ 101 ∷ 101 ∷ 116 ∷ 58 ∷ 58 ∷ 83 ∷ 104 ∷ 101 ∷ 101 ∷ 116 ∷ []) (Syntax.tcons (Syntax.tyStruct (115
-      ∷ 104 ∷ 101 ∷ 101 ∷ 116 ∷ 58 ∷ 58 ∷ 83 ∷ 116 ∷ 114 ∷ 97 ∷ 110 ∷ 100 ∷ []) (Syntax.tcons (Syntax.tyInt Syntax.w32) (Syntax.tcons (Syntax.tyStruct (110 ∷ 97
-      ∷ 109 ∷ 101 ∷ 115 ∷ 58 ∷ 58 ∷ 84 ∷ 104 ∷ 114 ∷ 101 ∷ 101 ∷ []) (Syntax.tcons (Syntax.tyInt Syntax.w8) (Syntax.tcons (Syntax.tyInt Syntax.w8) (Syntax.tcons
-      (Syntax.tyInt Syntax.w8) Syntax.tnil)))) (Syntax.tcons (Syntax.tyInt Syntax.w32) (Syntax.tcons (Syntax.tyStruct (114 ∷ 101 ∷ 115 ∷ 105 ∷ 100 ∷ 117 ∷ 101 ∷
-      58 ∷ 58 ∷ 82 ∷ 101 ∷ 115 ∷ 105 ∷ 100 ∷ 117 ∷ 101 ∷ []) (Syntax.tcons (Syntax.tyStruct (110 ∷ 97 ∷ 109 ∷ 101 ∷ 115 ∷ 58 ∷ 58 ∷ 84 ∷ 104 ∷ 114 ∷ 101 ∷ 101 ∷
-      []) (Syntax.tcons (Syntax.tyInt Syntax.w8) (Syntax.tcons (Syntax.tyInt Syntax.w8) (Syntax.tcons (Syntax.tyInt Syntax.w8) Syntax.tnil)))) (Syntax.tcons
-      (Syntax.tyInt Syntax.w8) (Syntax.tcons (Syntax.tyStruct (102 ∷ 105 ∷ 101 ∷ 108 ∷ 100 ∷ 115 ∷ 58 ∷ 58 ∷ 82 ∷ 101 ∷ 115 ∷ 105 ∷ 100 ∷ 117 ∷ 101 ∷ 78 ∷ 117 ∷
-      109 ∷ 98 ∷ 101 ∷ 114 ∷ []) (Syntax.tcons (Syntax.tyInt Syntax.w32) Syntax.tnil)) (Syntax.tcons (Syntax.tyInt Syntax.w8) Syntax.tnil))))) (Syntax.tcons
-      (Syntax.tyStruct (114 ∷ 101 ∷ 115 ∷ 105 ∷ 100 ∷ 117 ∷ 101 ∷ 58 ∷ 58 ∷ 82 ∷ 101 ∷ 115 ∷ 105 ∷ 100 ∷ 117 ∷ 101 ∷ []) (Syntax.tcons (Syntax.tyStruct (110 ∷ 97
-      ∷ 109 ∷ 101 ∷ 115 ∷ 58 ∷ 58 ∷ 84 ∷ 104 ∷ 114 ∷ 101 ∷ 101 ∷ []) (Syntax.tcons (Syntax.tyInt Syntax.w8) (Syntax.tcons (Syntax.tyInt Syntax.w8) (Syntax.tcons
-      (Syntax.tyInt Syntax.w8) Syntax.tnil)))) (Syntax.tcons (Syntax.tyInt Syntax.w8) (Syntax.tcons (Syntax.tyStruct (102 ∷ 105 ∷ 101 ∷ 108 ∷ 100 ∷ 115 ∷ 58 ∷ 58
-      ∷ 82 ∷ 101 ∷ 115 ∷ 105 ∷ 100 ∷ 117 ∷ 101 ∷ 78 ∷ 117 ∷ 109 ∷ 98 ∷ 101 ∷ 114 ∷ []) (Syntax.tcons (Syntax.tyInt Syntax.w32) Syntax.tnil)) (Syntax.tcons
-      (Syntax.tyInt Syntax.w8) Syntax.tnil))))) (Syntax.tcons (Syntax.tyInt Syntax.w32) Syntax.tnil))))))) (Syntax.tcons (Syntax.tyEnum (115 ∷ 104 ∷ 101 ∷ 101 ∷
-      116 ∷ 58 ∷ 58 ∷ 82 ∷ 101 ∷ 103 ∷ 105 ∷ 115 ∷ 116 ∷ 114 ∷ 97 ∷ 116 ∷ 105 ∷ 111 ∷ 110 ∷ []) (Syntax.ttcons Syntax.tnil (Syntax.ttcons (Syntax.tcons
-      (Syntax.tyStruct (115 ∷ 104 ∷ 101 ∷ 101 ∷ 116 ∷ 58 ∷ 58 ∷ 66 ∷ 111 ∷ 110 ∷ 100 ∷ []) (Syntax.tcons (Syntax.tyStruct (110 ∷ 97 ∷ 109 ∷ 101 ∷ 115 ∷ 58 ∷ 58 ∷
-      70 ∷ 111 ∷ 117 ∷ 114 ∷ []) (Syntax.tcons (Syntax.tyInt Syntax.w8) (Syntax.tcons (Syntax.tyInt Syntax.w8) (Syntax.tcons (Syntax.tyInt Syntax.w8)
-      (Syntax.tcons (Syntax.tyInt Syntax.w8) Syntax.tnil))))) (Syntax.tcons (Syntax.tyStruct (114 ∷ 101 ∷ 115 ∷ 105 ∷ 100 ∷ 117 ∷ 101 ∷ 58 ∷ 58 ∷ 82 ∷ 101 ∷ 115
-      ∷ 105 ∷ 100 ∷ 117 ∷ 101 ∷ []) (Syntax.tcons (Syntax.tyStruct (110 ∷ 97 ∷ 109 ∷ 101 ∷ 115 ∷ 58 ∷ 58 ∷ 84 ∷ 104 ∷ 114 ∷ 101 ∷ 101 ∷ []) (Syntax.tcons
-      (Syntax.tyInt Syntax.w8) (Syntax.tcons (Syntax.tyInt Syntax.w8) (Syntax.tcons (Syntax.tyInt Syntax.w8) Syntax.tnil)))) (Syntax.tcons (Syntax.tyInt
-      Syntax.w8) (Syntax.tcons (Syntax.tyStruct (102 ∷ 105 ∷ 101 ∷ 108 ∷ 100 ∷ 115 ∷ 58 ∷ 58 ∷ 82 ∷ 101 ∷ 115 ∷ 105 ∷ 100 ∷ 117 ∷ 101 ∷ 78 ∷ 117 ∷ 109 ∷ 98 ∷ 101
-      ∷ 114 ∷ []) (Syntax.tcons (Syntax.tyInt Syntax.w32) Syntax.tnil)) (Syntax.tcons (Syntax.tyInt Syntax.w8) Syntax.tnil))))) (Syntax.tcons (Syntax.tyStruct
-      (110 ∷ 97 ∷ 109 ∷ 101 ∷ 115 ∷ 58 ∷ 58 ∷ 70 ∷ 111 ∷ 117 ∷ 114 ∷ []) (Syntax.tcons (Syntax.tyInt Syntax.w8) (Syntax.tcons (Syntax.tyInt Syntax.w8)
-      (Syntax.tcons (Syntax.tyInt Syntax.w8) (Syntax.tcons (Syntax.tyInt Syntax.w8) Syntax.tnil))))) (Syntax.tcons (Syntax.tyStruct (114 ∷ 101 ∷ 115 ∷ 105 ∷ 100
-      ∷ 117 ∷ 101 ∷ 58 ∷ 58 ∷ 82 ∷ 101 ∷ 115 ∷ 105 ∷ 100 ∷ 117 ∷ 101 ∷ []) (Syntax.tcons (Syntax.tyStruct (110 ∷ 97 ∷ 109 ∷ 101 ∷ 115 ∷ 58 ∷ 58 ∷ 84 ∷ 104 ∷ 114
-      ∷ 101 ∷ 101 ∷ []) (Syntax.tcons (Syntax.tyInt Syntax.w8) (Syntax.tcons (Syntax.tyInt Syntax.w8) (Syntax.tcons (Syntax.tyInt Syntax.w8) Syntax.tnil))))
-      (Syntax.tcons (Syntax.tyInt Syntax.w8) (Syntax.tcons (Syntax.tyStruct (102 ∷ 105 ∷ 101 ∷ 108 ∷ 100 ∷ 115 ∷ 58 ∷ 58 ∷ 82 ∷ 101 ∷ 115 ∷ 105 ∷ 100 ∷ 117 ∷ 101
-      ∷ 78 ∷ 117 ∷ 109 ∷ 98 ∷ 101 ∷ 114 ∷ []) (Syntax.tcons (Syntax.tyInt Syntax.w32) Syntax.tnil)) (Syntax.tcons (Syntax.tyInt Syntax.w8) Syntax.tnil)))))
-      Syntax.tnil))))) Syntax.tnil) Syntax.ttnil))) Syntax.tnil))) Syntax.tnil) (Syntax.ttcons (Syntax.tcons (Syntax.tyStruct (99 ∷ 111 ∷ 110 ∷ 101 ∷ 99 ∷ 116 ∷
-      58 ∷ 58 ∷ 67 ∷ 111 ∷ 110 ∷ 101 ∷ 99 ∷ 116 ∷ []) (Syntax.tcons (Syntax.tyStruct (102 ∷ 105 ∷ 101 ∷ 108 ∷ 100 ∷ 115 ∷ 58 ∷ 58 ∷ 83 ∷ 101 ∷ 114 ∷ 105 ∷ 97 ∷
-      108 ∷ []) (Syntax.tcons (Syntax.tyInt Syntax.w32) Syntax.tnil)) (Syntax.tcons (Syntax.tyStruct (102 ∷ 105 ∷ 101 ∷ 108 ∷ 100 ∷ 115 ∷ 58 ∷ 58 ∷ 83 ∷ 101 ∷
-      114 ∷ 105 ∷ 97 ∷ 108 ∷ []) (Syntax.tcons (Syntax.tyInt Syntax.w32) Syntax.tnil)) (Syntax.tcons (Syntax.tyStruct (102 ∷ 105 ∷ 101 ∷ 108 ∷ 100 ∷ 115 ∷ 58 ∷
-      58 ∷ 83 ∷ 101 ∷ 114 ∷ 105 ∷ 97 ∷ 108 ∷ []) (Syntax.tcons (Syntax.tyInt Syntax.w32) Syntax.tnil)) (Syntax.tcons (Syntax.tyStruct (102 ∷ 105 ∷ 101 ∷ 108 ∷
-      100 ∷ 115 ∷ 58 ∷ 58 ∷ 83 ∷ 101 ∷ 114 ∷ 105 ∷ 97 ∷ 108 ∷ []) (Syntax.tcons (Syntax.tyInt Syntax.w32) Syntax.tnil)) (Syntax.tcons (Syntax.tyStruct (102 ∷ 105
-      ∷ 101 ∷ 108 ∷ 100 ∷ 115 ∷ 58 ∷ 58 ∷ 83 ∷ 101 ∷ 114 ∷ 105 ∷ 97 ∷ 108 ∷ []) (Syntax.tcons (Syntax.tyInt Syntax.w32) Syntax.tnil)) Syntax.tnil))))))
-      Syntax.tnil) (Syntax.ttcons (Syntax.tcons (Syntax.tyStruct (109 ∷ 97 ∷ 115 ∷ 116 ∷ 101 ∷ 114 ∷ 58 ∷ 58 ∷ 84 ∷ 97 ∷ 108 ∷ 108 ∷ 121 ∷ []) (Syntax.tcons
-      (Syntax.tyInt Syntax.w32) (Syntax.tcons (Syntax.tyInt Syntax.w32) (Syntax.tcons (Syntax.tyInt Syntax.w32) (Syntax.tcons (Syntax.tyInt Syntax.w32)
-      (Syntax.tcons (Syntax.tyInt Syntax.w32) (Syntax.tcons (Syntax.tyInt Syntax.w32) (Syntax.tcons (Syntax.tyInt Syntax.w32) (Syntax.tcons (Syntax.tyInt
-      Syntax.w32) (Syntax.tcons (Syntax.tyInt Syntax.w32) Syntax.tnil)))))))))) Syntax.tnil) (Syntax.ttcons Syntax.tnil Syntax.ttnil)))))))) Syntax.tnil)
-      Syntax.ttnil))))),
-) ∷ (8, Rows.any-gone Syntax.tyBool) ∷ (9, Rows.any-gone (Syntax.tyInt Syntax.w64)) ∷ (10, Rows.any-gone (Syntax.tyInt Syntax.w64)) ∷ (
-  11,
-  Rows.any-gone (Syntax.tyInt Syntax.w64),
-) ∷ (12, Rows.any-gone Syntax.tyBool) ∷ (13, Rows.any-gone (Syntax.tyRef Syntax.erased Syntax.mut SlotAs.pointee)) ∷ (
-  14,
-  Rows.any-gone (Syntax.tyStruct (38 ∷ 91 ∷ 93 ∷ []) (Syntax.tcons (Syntax.tyRef Syntax.erased Syntax.mut SlotAs.pointee) (Syntax.tcons (Syntax.tyInt
-      Syntax.w64) Syntax.tnil))),
-) ∷ []
-
-abbrev pub t8 : List.List Row.Entry
-t8 = (
-  0,
-  Rows.any-gone (Syntax.tyStruct (115 ∷ 116 ∷ 111 ∷ 114 ∷ 101 ∷ 58 ∷ 58 ∷ 79 ∷ 117 ∷ 116 ∷ 99 ∷ 111 ∷ 109 ∷ 101 ∷ []) (Syntax.tcons (Syntax.tyInt
-      Syntax.w8) (Syntax.tcons (Syntax.tyInt Syntax.w64) Syntax.tnil))),
-) ∷ (
-  1,
-  Rows.sslice (Referent.rtF (Referent.fInt Syntax.w8)) (Syntax.tyRef (Syntax.named
-      0) Syntax.imm (Syntax.tyInt Syntax.w8)) 0,
-) ∷ (2, Mut.mslice SlotAs.row (Syntax.tyRef (Syntax.named 1) Syntax.mut SlotAs.pointee) 1) ∷ (
-  3,
-  Rows.any-gone
-      (Syntax.tyStruct (115 ∷ 116 ∷ 111 ∷ 114 ∷ 101 ∷ 58 ∷ 58 ∷ 78 ∷ 101 ∷ 101 ∷ 100 ∷ 115 ∷ []) (Syntax.tcons (Syntax.tyInt Syntax.w8) (Syntax.tcons
-      (Syntax.tyInt Syntax.w64) Syntax.tnil))),
-) ∷ (4, Rows.sc-here (Row.sInt Syntax.w64)) ∷ (5, Rows.any-gone (Syntax.tyInt Syntax.w64)) ∷ (
-  6,
-  Rows.any-gone
-      (Syntax.tyInt Syntax.w64),
-) ∷ (
-  7,
-  Rows.any-gone (Syntax.tyEnum (112 ∷ 105 ∷ 101 ∷ 99 ∷ 101 ∷ 115 ∷ 58 ∷ 58 ∷ 76 ∷ 105 ∷ 110 ∷ 101 ∷ []) (Syntax.ttcons
-      (Syntax.tcons (Syntax.tyInt Syntax.w8) Syntax.tnil) (Syntax.ttcons (Syntax.tcons (Syntax.tyEnum (107 ∷ 105 ∷ 110 ∷ 100 ∷ 115 ∷ 58 ∷ 58 ∷ 75 ∷ 105 ∷ 110 ∷
-      100 ∷ []) (Syntax.ttcons Syntax.tnil (Syntax.ttcons Syntax.tnil (Syntax.ttcons Syntax.tnil (Syntax.ttcons Syntax.tnil (Syntax.ttcons Syntax.tnil
-      (Syntax.ttcons Syntax.tnil (Syntax.ttcons Syntax.tnil (Syntax.ttcons Syntax.tnil (Syntax.ttcons Syntax.tnil (Syntax.ttcons Syntax.tnil (Syntax.ttcons
-      Syntax.tnil (Syntax.ttcons Syntax.tnil (Syntax.ttcons Syntax.tnil (Syntax.ttcons Syntax.tnil (Syntax.ttcons Syntax.tnil (Syntax.ttcons Syntax.tnil
-      (Syntax.ttcons Syntax.tnil (Syntax.ttcons Syntax.tnil (Syntax.ttcons Syntax.tnil (Syntax.ttcons Syntax.tnil (Syntax.ttcons Syntax.tnil (Syntax.ttcons
-      Syntax.tnil (Syntax.ttcons Syntax.tnil (Syntax.ttcons Syntax.tnil (Syntax.ttcons Syntax.tnil (Syntax.ttcons Syntax.tnil (Syntax.ttcons Syntax.tnil
-      (Syntax.ttcons Syntax.tnil Syntax.ttnil))))))))))))))))))))))))))))) (Syntax.tcons (Syntax.tyInt Syntax.w32) Syntax.tnil)) (Syntax.ttcons (Syntax.tcons
-      (Syntax.tyEnum (107 ∷ 105 ∷ 110 ∷ 100 ∷ 115 ∷ 58 ∷ 58 ∷ 75 ∷ 105 ∷ 110 ∷ 100 ∷ []) (Syntax.ttcons Syntax.tnil (Syntax.ttcons Syntax.tnil (Syntax.ttcons
-      Syntax.tnil (Syntax.ttcons Syntax.tnil (Syntax.ttcons Syntax.tnil (Syntax.ttcons Syntax.tnil (Syntax.ttcons Syntax.tnil (Syntax.ttcons Syntax.tnil
-      (Syntax.ttcons Syntax.tnil (Syntax.ttcons Syntax.tnil (Syntax.ttcons Syntax.tnil (Syntax.ttcons Syntax.tnil (Syntax.ttcons Syntax.tnil (Syntax.ttcons
-      Syntax.tnil (Syntax.ttcons Syntax.tnil (Syntax.ttcons Syntax.tnil (Syntax.ttcons Syntax.tnil (Syntax.ttcons Syntax.tnil (Syntax.ttcons Syntax.tnil
-      (Syntax.ttcons Syntax.tnil (Syntax.ttcons Syntax.tnil (Syntax.ttcons Syntax.tnil (Syntax.ttcons Syntax.tnil (Syntax.ttcons Syntax.tnil (Syntax.ttcons
-      Syntax.tnil (Syntax.ttcons Syntax.tnil (Syntax.ttcons Syntax.tnil (Syntax.ttcons Syntax.tnil Syntax.ttnil))))))))))))))))))))))))))))) Syntax.tnil)
-      (Syntax.ttcons (Syntax.tcons (Syntax.tyEnum (108 ∷ 105 ∷ 110 ∷ 101 ∷ 58 ∷ 58 ∷ 82 ∷ 101 ∷ 99 ∷ 111 ∷ 114 ∷ 100 ∷ []) (Syntax.ttcons (Syntax.tcons
-      Syntax.tyBool (Syntax.tcons (Syntax.tyStruct (99 ∷ 111 ∷ 111 ∷ 114 ∷ 100 ∷ 105 ∷ 110 ∷ 97 ∷ 116 ∷ 101 ∷ 58 ∷ 58 ∷ 65 ∷ 116 ∷ 111 ∷ 109 ∷ []) (Syntax.tcons
-      (Syntax.tyStruct (99 ∷ 111 ∷ 111 ∷ 114 ∷ 100 ∷ 105 ∷ 110 ∷ 97 ∷ 116 ∷ 101 ∷ 58 ∷ 58 ∷ 73 ∷ 100 ∷ 101 ∷ 110 ∷ 116 ∷ 105 ∷ 116 ∷ 121 ∷ []) (Syntax.tcons
-      (Syntax.tyStruct (102 ∷ 105 ∷ 101 ∷ 108 ∷ 100 ∷ 115 ∷ 58 ∷ 58 ∷ 83 ∷ 101 ∷ 114 ∷ 105 ∷ 97 ∷ 108 ∷ []) (Syntax.tcons (Syntax.tyInt Syntax.w32) Syntax.tnil))
-      (Syntax.tcons (Syntax.tyStruct (110 ∷ 97 ∷ 109 ∷ 101 ∷ 115 ∷ 58 ∷ 58 ∷ 70 ∷ 111 ∷ 117 ∷ 114 ∷ []) (Syntax.tcons (Syntax.tyInt Syntax.w8) (Syntax.tcons
-      (Syntax.tyInt Syntax.w8) (Syntax.tcons (Syntax.tyInt Syntax.w8) (Syntax.tcons (Syntax.tyInt Syntax.w8) Syntax.tnil))))) (Syntax.tcons (Syntax.tyInt
-      Syntax.w8) (Syntax.tcons (Syntax.tyStruct (114 ∷ 101 ∷ 115 ∷ 105 ∷ 100 ∷ 117 ∷ 101 ∷ 58 ∷ 58 ∷ 82 ∷ 101 ∷ 115 ∷ 105 ∷ 100 ∷ 117 ∷ 101 ∷ []) (Syntax.tcons
-      (Syntax.tyStruct (110 ∷ 97 ∷ 109 ∷ 101 ∷ 115 ∷ 58 ∷ 58 ∷ 84 ∷ 104 ∷ 114 ∷ 101 ∷ 101 ∷ []) (Syntax.tcons (Syntax.tyInt Syntax.w8) (Syntax.tcons
-      (Syntax.tyInt Syntax.w8) (Syntax.tcons (Syntax.tyInt Syntax.w8) Syntax.tnil)))) (Syntax.tcons (Syntax.tyInt Syntax.w8) (Syntax.tcons (Syntax.tyStruct (102
-      ∷ 105 ∷ 101 ∷ 108 ∷ 100 ∷ 115 ∷ 58 ∷ 58 ∷ 82 ∷ 101 ∷ 115 ∷ 105 ∷ 100 ∷ 117 ∷ 101 ∷ 78 ∷ 117 ∷ 109 ∷ 98 ∷ 101 ∷ 114 ∷ []) (Syntax.tcons (Syntax.tyInt
-      Syntax.w32) Syntax.tnil)) (Syntax.tcons (Syntax.tyInt Syntax.w8) Syntax.tnil))))) Syntax.tnil))))) (Syntax.tcons (Syntax.tyStruct (99 ∷ 111 ∷ 111 ∷ 114 ∷
-      100 ∷ 105 ∷ 110 ∷ 97 ∷ 116 ∷ 101 ∷ 58 ∷ 58 ∷ 77 ∷ 101 ∷ 97 ∷ 115 ∷ 117 ∷ 114 ∷ 101 ∷ []) (Syntax.tcons (Syntax.tyStruct (99 ∷ 111 ∷ 111 ∷ 114 ∷ 100 ∷ 105 ∷
-      110 ∷ 97 ∷ 116 ∷ 101 ∷ 58 ∷ 58 ∷ 80 ∷ 111 ∷ 115 ∷ 105 ∷ 116 ∷ 105 ∷ 111 ∷ 110 ∷ []) (Syntax.tcons (Syntax.tyInt Syntax.w32) (Syntax.tcons (Syntax.tyInt
-      Syntax.w32) (Syntax.tcons (Syntax.tyInt Syntax.w32) Syntax.tnil)))) (Syntax.tcons (Syntax.tyInt Syntax.w32) (Syntax.tcons (Syntax.tyInt Syntax.w32)
-      Syntax.tnil)))) (Syntax.tcons (Syntax.tyStruct (99 ∷ 111 ∷ 111 ∷ 114 ∷ 100 ∷ 105 ∷ 110 ∷ 97 ∷ 116 ∷ 101 ∷ 58 ∷ 58 ∷ 83 ∷ 112 ∷ 101 ∷ 99 ∷ 105 ∷ 101 ∷ 115 ∷
-      []) (Syntax.tcons (Syntax.tyStruct (110 ∷ 97 ∷ 109 ∷ 101 ∷ 115 ∷ 58 ∷ 58 ∷ 80 ∷ 97 ∷ 105 ∷ 114 ∷ []) (Syntax.tcons (Syntax.tyInt Syntax.w8) (Syntax.tcons
-      (Syntax.tyInt Syntax.w8) Syntax.tnil))) (Syntax.tcons (Syntax.tyStruct (110 ∷ 97 ∷ 109 ∷ 101 ∷ 115 ∷ 58 ∷ 58 ∷ 80 ∷ 97 ∷ 105 ∷ 114 ∷ []) (Syntax.tcons
-      (Syntax.tyInt Syntax.w8) (Syntax.tcons (Syntax.tyInt Syntax.w8) Syntax.tnil))) Syntax.tnil))) Syntax.tnil)))) Syntax.tnil)) (Syntax.ttcons (Syntax.tcons
-      (Syntax.tyStruct (116 ∷ 101 ∷ 114 ∷ 58 ∷ 58 ∷ 84 ∷ 101 ∷ 114 ∷ []) (Syntax.tcons (Syntax.tyStruct (102 ∷ 105 ∷ 101 ∷ 108 ∷ 100 ∷ 115 ∷ 58 ∷ 58 ∷ 83 ∷ 101 ∷
-      114 ∷ 105 ∷ 97 ∷ 108 ∷ []) (Syntax.tcons (Syntax.tyInt Syntax.w32) Syntax.tnil)) (Syntax.tcons (Syntax.tyStruct (114 ∷ 101 ∷ 115 ∷ 105 ∷ 100 ∷ 117 ∷ 101 ∷
-      58 ∷ 58 ∷ 82 ∷ 101 ∷ 115 ∷ 105 ∷ 100 ∷ 117 ∷ 101 ∷ []) (Syntax.tcons (Syntax.tyStruct (110 ∷ 97 ∷ 109 ∷ 101 ∷ 115 ∷ 58 ∷ 58 ∷ 84 ∷ 104 ∷ 114 ∷ 101 ∷ 101 ∷
-      []) (Syntax.tcons (Syntax.tyInt Syntax.w8) (Syntax.tcons (Syntax.tyInt Syntax.w8) (Syntax.tcons (Syntax.tyInt Syntax.w8) Syntax.tnil)))) (Syntax.tcons
-      (Syntax.tyInt Syntax.w8) (Syntax.tcons (Syntax.tyStruct (102 ∷ 105 ∷ 101 ∷ 108 ∷ 100 ∷ 115 ∷ 58 ∷ 58 ∷ 82 ∷ 101 ∷ 115 ∷ 105 ∷ 100 ∷ 117 ∷ 101 ∷ 78 ∷ 117 ∷
-      109 ∷ 98 ∷ 101 ∷ 114 ∷ []) (Syntax.tcons (Syntax.tyInt Syntax.w32) Syntax.tnil)) (Syntax.tcons (Syntax.tyInt Syntax.w8) Syntax.tnil))))) Syntax.tnil)))
-      Syntax.tnil) (Syntax.ttcons (Syntax.tcons (Syntax.tyStruct (104 ∷ 101 ∷ 108 ∷ 105 ∷ 120 ∷ 58 ∷ 58 ∷ 72 ∷ 101 ∷ 108 ∷ 105 ∷ 120 ∷ []) (Syntax.tcons
-      (Syntax.tyStruct (104 ∷ 101 ∷ 108 ∷ 105 ∷ 120 ∷ 58 ∷ 58 ∷ 69 ∷ 120 ∷ 116 ∷ 101 ∷ 110 ∷ 116 ∷ []) (Syntax.tcons (Syntax.tyInt Syntax.w32) (Syntax.tcons
-      (Syntax.tyStruct (110 ∷ 97 ∷ 109 ∷ 101 ∷ 115 ∷ 58 ∷ 58 ∷ 84 ∷ 104 ∷ 114 ∷ 101 ∷ 101 ∷ []) (Syntax.tcons (Syntax.tyInt Syntax.w8) (Syntax.tcons
-      (Syntax.tyInt Syntax.w8) (Syntax.tcons (Syntax.tyInt Syntax.w8) Syntax.tnil)))) (Syntax.tcons (Syntax.tyStruct (114 ∷ 101 ∷ 115 ∷ 105 ∷ 100 ∷ 117 ∷ 101 ∷
-      58 ∷ 58 ∷ 82 ∷ 101 ∷ 115 ∷ 105 ∷ 100 ∷ 117 ∷ 101 ∷ []) (Syntax.tcons (Syntax.tyStruct (110 ∷ 97 ∷ 109 ∷ 101 ∷ 115 ∷ 58 ∷ 58 ∷ 84 ∷ 104 ∷ 114 ∷ 101 ∷ 101 ∷
-      []) (Syntax.tcons (Syntax.tyInt Syntax.w8) (Syntax.tcons (Syntax.tyInt Syntax.w8) (Syntax.tcons (Syntax.tyInt Syntax.w8) Syntax.tnil)))) (Syntax.tcons
-      (Syntax.tyInt Syntax.w8) (Syntax.tcons (Syntax.tyStruct (102 ∷ 105 ∷ 101 ∷ 108 ∷ 100 ∷ 115 ∷ 58 ∷ 58 ∷ 82 ∷ 101 ∷ 115 ∷ 105 ∷ 100 ∷ 117 ∷ 101 ∷ 78 ∷ 117 ∷
-      109 ∷ 98 ∷ 101 ∷ 114 ∷ []) (Syntax.tcons (Syntax.tyInt Syntax.w32) Syntax.tnil)) (Syntax.tcons (Syntax.tyInt Syntax.w8) Syntax.tnil))))) (Syntax.tcons
-      (Syntax.tyStruct (114 ∷ 101 ∷ 115 ∷ 105 ∷ 100 ∷ 117 ∷ 101 ∷ 58 ∷ 58 ∷ 82 ∷ 101 ∷ 115 ∷ 105 ∷ 100 ∷ 117 ∷ 101 ∷ []) (Syntax.tcons (Syntax.tyStruct (110 ∷ 97
-      ∷ 109 ∷ 101 ∷ 115 ∷ 58 ∷ 58 ∷ 84 ∷ 104 ∷ 114 ∷ 101 ∷ 101 ∷ []) (Syntax.tcons (Syntax.tyInt Syntax.w8) (Syntax.tcons (Syntax.tyInt Syntax.w8) (Syntax.tcons
-      (Syntax.tyInt Syntax.w8) Syntax.tnil)))) (Syntax.tcons (Syntax.tyInt Syntax.w8) (Syntax.tcons (Syntax.tyStruct (102 ∷ 105 ∷ 101 ∷ 108 ∷ 100 ∷ 115 ∷ 58 ∷ 58
-      ∷ 82 ∷ 101 ∷ 115 ∷ 105 ∷ 100 ∷ 117 ∷ 101 ∷ 78 ∷ 117 ∷ 109 ∷ 98 ∷ 101 ∷ 114 ∷ []) (Syntax.tcons (Syntax.tyInt Syntax.w32) Syntax.tnil)) (Syntax.tcons
-      (Syntax.tyInt Syntax.w8) Syntax.tnil))))) Syntax.tnil))))) (Syntax.tcons (Syntax.tyInt Syntax.w32) (Syntax.tcons (Syntax.tyStruct (104 ∷ 101 ∷ 108 ∷ 105 ∷
-      120 ∷ 58 ∷ 58 ∷ 67 ∷ 111 ∷ 109 ∷ 109 ∷ 101 ∷ 110 ∷ 116 ∷ []) (Syntax.tcons (Syntax.tyInt Syntax.w64) (Syntax.tcons (Syntax.tyInt Syntax.w64) (Syntax.tcons
-      (Syntax.tyInt Syntax.w64) (Syntax.tcons (Syntax.tyInt Syntax.w64) Syntax.tnil))))) (Syntax.tcons (Syntax.tyInt Syntax.w32) Syntax.tnil))))) Syntax.tnil)
-      (Syntax.ttcons (Syntax.tcons (Syntax.tyStruct (115 ∷ 104 ∷ 101 ∷ 101 ∷ 116 ∷ 58 ∷ 58 ∷ 83 ∷ 104 ∷ 101 ∷ 101 ∷ 116 ∷ []) (Syntax.tcons (Syntax.tyStruct (115
-      ∷ 104 ∷ 101 ∷ 101 ∷ 116 ∷ 58 ∷ 58 ∷ 83 ∷ 116 ∷ 114 ∷ 97 ∷ 110 ∷ 100 ∷ []) (Syntax.tcons (Syntax.tyInt Syntax.w32) (Syntax.tcons (Syntax.tyStruct (110 ∷ 97
-      ∷ 109 ∷ 101 ∷ 115 ∷ 58 ∷ 58 ∷ 84 ∷ 104 ∷ 114 ∷ 101 ∷ 101 ∷ []) (Syntax.tcons (Syntax.tyInt Syntax.w8) (Syntax.tcons (Syntax.tyInt Syntax.w8) (Syntax.tcons
-      (Syntax.tyInt Syntax.w8) Syntax.tnil)))) (Syntax.tcons (Syntax.tyInt Syntax.w32) (Syntax.tcons (Syntax.tyStruct (114 ∷ 101 ∷ 115 ∷ 105 ∷ 100 ∷ 117 ∷ 101 ∷
-      58 ∷ 58 ∷ 82 ∷ 101 ∷ 115 ∷ 105 ∷ 100 ∷ 117 ∷ 101 ∷ []) (Syntax.tcons (Syntax.tyStruct (110 ∷ 97 ∷ 109 ∷ 101 ∷ 115 ∷ 58 ∷ 58 ∷ 84 ∷ 104 ∷ 114 ∷ 101 ∷ 101 ∷
-      []) (Syntax.tcons (Syntax.tyInt Syntax.w8) (Syntax.tcons (Syntax.tyInt Syntax.w8) (Syntax.tcons (Syntax.tyInt Syntax.w8) Syntax.tnil)))) (Syntax.tcons
-      (Syntax.tyInt Syntax.w8) (Syntax.tcons (Syntax.tyStruct (102 ∷ 105 ∷ 101 ∷ 108 ∷ 100 ∷ 115 ∷ 58 ∷ 58 ∷ 82 ∷ 101 ∷ 115 ∷ 105 ∷ 100 ∷ 117 ∷ 101 ∷ 78 ∷ 117 ∷
-      109 ∷ 98 ∷ 101 ∷ 114 ∷ []) (Syntax.tcons (Syntax.tyInt Syntax.w32) Syntax.tnil)) (Syntax.tcons (Syntax.tyInt Syntax.w8) Syntax.tnil))))) (Syntax.tcons
-      (Syntax.tyStruct (114 ∷ 101 ∷ 115 ∷ 105 ∷ 100 ∷ 117 ∷ 101 ∷ 58 ∷ 58 ∷ 82 ∷ 101 ∷ 115 ∷ 105 ∷ 100 ∷ 117 ∷ 101 ∷ []) (Syntax.tcons (Syntax.tyStruct (110 ∷ 97
-      ∷ 109 ∷ 101 ∷ 115 ∷ 58 ∷ 58 ∷ 84 ∷ 104 ∷ 114 ∷ 101 ∷ 101 ∷ []) (Syntax.tcons (Syntax.tyInt Syntax.w8) (Syntax.tcons (Syntax.tyInt Syntax.w8) (Syntax.tcons
-      (Syntax.tyInt Syntax.w8) Syntax.tnil)))) (Syntax.tcons (Syntax.tyInt Syntax.w8) (Syntax.tcons (Syntax.tyStruct (102 ∷ 105 ∷ 101 ∷ 108 ∷ 100 ∷ 115 ∷ 58 ∷ 58
-      ∷ 82 ∷ 101 ∷ 115 ∷ 105 ∷ 100 ∷ 117 ∷ 101 ∷ 78 ∷ 117 ∷ 109 ∷ 98 ∷ 101 ∷ 114 ∷ []) (Syntax.tcons (Syntax.tyInt Syntax.w32) Syntax.tnil)) (Syntax.tcons
-      (Syntax.tyInt Syntax.w8) Syntax.tnil))))) (Syntax.tcons (Syntax.tyInt Syntax.w32) Syntax.tnil))))))) (Syntax.tcons (Syntax.tyEnum (115 ∷ 104 ∷ 101 ∷ 101 ∷
-      116 ∷ 58 ∷ 58 ∷ 82 ∷ 101 ∷ 103 ∷ 105 ∷ 115 ∷ 116 ∷ 114 ∷ 97 ∷ 116 ∷ 105 ∷ 111 ∷ 110 ∷ []) (Syntax.ttcons Syntax.tnil (Syntax.ttcons (Syntax.tcons
-      (Syntax.tyStruct (115 ∷ 104 ∷ 101 ∷ 101 ∷ 116 ∷ 58 ∷ 58 ∷ 66 ∷ 111 ∷ 110 ∷ 100 ∷ []) (Syntax.tcons (Syntax.tyStruct (110 ∷ 97 ∷ 109 ∷ 101 ∷ 115 ∷ 58 ∷ 58 ∷
-      70 ∷ 111 ∷ 117 ∷ 114 ∷ []) (Syntax.tcons (Syntax.tyInt Syntax.w8) (Syntax.tcons (Syntax.tyInt Syntax.w8) (Syntax.tcons (Syntax.tyInt Syntax.w8)
-      (Syntax.tcons (Syntax.tyInt Syntax.w8) Syntax.tnil))))) (Syntax.tcons (Syntax.tyStruct (114 ∷ 101 ∷ 115 ∷ 105 ∷ 100 ∷ 117 ∷ 101 ∷ 58 ∷ 58 ∷ 82 ∷ 101 ∷ 115
-      ∷ 105 ∷ 100 ∷ 117 ∷ 101 ∷ []) (Syntax.tcons (Syntax.tyStruct (110 ∷ 97 ∷ 109 ∷ 101 ∷ 115 ∷ 58 ∷ 58 ∷ 84 ∷ 104 ∷ 114 ∷ 101 ∷ 101 ∷ []) (Syntax.tcons
-      (Syntax.tyInt Syntax.w8) (Syntax.tcons (Syntax.tyInt Syntax.w8) (Syntax.tcons (Syntax.tyInt Syntax.w8) Syntax.tnil)))) (Syntax.tcons (Syntax.tyInt
-      Syntax.w8) (Syntax.tcons (Syntax.tyStruct (102 ∷ 105 ∷ 101 ∷ 108 ∷ 100 ∷ 115 ∷ 58 ∷ 58 ∷ 82 ∷ 101 ∷ 115 ∷ 105 ∷ 100 ∷ 117 ∷ 101 ∷ 78 ∷ 117 ∷ 109 ∷ 98 ∷ 101
-      ∷ 114 ∷ []) (Syntax.tcons (Syntax.tyInt Syntax.w32) Syntax.tnil)) (Syntax.tcons (Syntax.tyInt Syntax.w8) Syntax.tnil))))) (Syntax.tcons (Syntax.tyStruct
-      (110 ∷ 97 ∷ 109 ∷ 101 ∷ 115 ∷ 58 ∷ 58 ∷ 70 ∷ 111 ∷ 117 ∷ 114 ∷ []) (Syntax.tcons (Syntax.tyInt Syntax.w8) (Syntax.tcons (Syntax.tyInt Syntax.w8)
-      (Syntax.tcons (Syntax.tyInt Syntax.w8) (Syntax.tcons (Syntax.tyInt Syntax.w8) Syntax.tnil))))) (Syntax.tcons (Syntax.tyStruct (114 ∷ 101 ∷ 115 ∷ 105 ∷ 100
-      ∷ 117 ∷ 101 ∷ 58 ∷ 58 ∷ 82 ∷ 101 ∷ 115 ∷ 105 ∷ 100 ∷ 117 ∷ 101 ∷ []) (Syntax.tcons (Syntax.tyStruct (110 ∷ 97 ∷ 109 ∷ 101 ∷ 115 ∷ 58 ∷ 58 ∷ 84 ∷ 104 ∷ 114
-      ∷ 101 ∷ 101 ∷ []) (Syntax.tcons (Syntax.tyInt Syntax.w8) (Syntax.tcons (Syntax.tyInt Syntax.w8) (Syntax.tcons (Syntax.tyInt Syntax.w8) Syntax.tnil))))
-      (Syntax.tcons (Syntax.tyInt Syntax.w8) (Syntax.tcons (Syntax.tyStruct (102 ∷ 105 ∷ 101 ∷ 108 ∷ 100 ∷ 115 ∷ 58 ∷ 58 ∷ 82 ∷ 101 ∷ 115 ∷ 105 ∷ 100 ∷ 117 ∷ 101
-      ∷ 78 ∷ 117 ∷ 109 ∷ 98 ∷ 101 ∷ 114 ∷ []) (Syntax.tcons (Syntax.tyInt Syntax.w32) Syntax.tnil)) (Syntax.tcons (Syntax.tyInt Syntax.w8) Syntax.tnil)))))
-      Syntax.tnil))))) Syntax.tnil) Syntax.ttnil))) Syntax.tnil))) Syntax.tnil) (Syntax.ttcons (Syntax.tcons (Syntax.tyStruct (99 ∷ 111 ∷ 110 ∷ 101 ∷ 99 ∷ 116 ∷
-      58 ∷ 58 ∷ 67 ∷ 111 ∷ 110 ∷ 101 ∷ 99 ∷ 116 ∷ []) (Syntax.tcons (Syntax.tyStruct (102 ∷ 105 ∷ 101 ∷ 108 ∷ 100 ∷ 115 ∷ 58 ∷ 58 ∷ 83 ∷ 101 ∷ 114 ∷ 105 ∷ 97 ∷
-      108 ∷ []) (Syntax.tcons (Syntax.tyInt Syntax.w32) Syntax.tnil)) (Syntax.tcons (Syntax.tyStruct (102 ∷ 105 ∷ 101 ∷ 108 ∷ 100 ∷ 115 ∷ 58 ∷ 58 ∷ 83 ∷ 101 ∷
-      114 ∷ 105 ∷ 97 ∷ 108 ∷ []) (Syntax.tcons (Syntax.tyInt Syntax.w32) Syntax.tnil)) (Syntax.tcons (Syntax.tyStruct (102 ∷ 105 ∷ 101 ∷ 108 ∷ 100 ∷ 115 ∷ 58 ∷
-      58 ∷ 83 ∷ 101 ∷ 114 ∷ 105 ∷ 97 ∷ 108 ∷ []) (Syntax.tcons (Syntax.tyInt Syntax.w32) Syntax.tnil)) (Syntax.tcons (Syntax.tyStruct (102 ∷ 105 ∷ 101 ∷ 108 ∷
-      100 ∷ 115 ∷ 58 ∷ 58 ∷ 83 ∷ 101 ∷ 114 ∷ 105 ∷ 97 ∷ 108 ∷ []) (Syntax.tcons (Syntax.tyInt Syntax.w32) Syntax.tnil)) (Syntax.tcons (Syntax.tyStruct (102 ∷ 105
-      ∷ 101 ∷ 108 ∷ 100 ∷ 115 ∷ 58 ∷ 58 ∷ 83 ∷ 101 ∷ 114 ∷ 105 ∷ 97 ∷ 108 ∷ []) (Syntax.tcons (Syntax.tyInt Syntax.w32) Syntax.tnil)) Syntax.tnil))))))
-      Syntax.tnil) (Syntax.ttcons (Syntax.tcons (Syntax.tyStruct (109 ∷ 97 ∷ 115 ∷ 116 ∷ 101 ∷ 114 ∷ 58 ∷ 58 ∷ 84 ∷ 97 ∷ 108 ∷ 108 ∷ 121 ∷ []) (Syntax.tcons
-      (Syntax.tyInt Syntax.w32) (Syntax.tcons (Syntax.tyInt Syntax.w32) (Syntax.tcons (Syntax.tyInt Syntax.w32) (Syntax.tcons (Syntax.tyInt Syntax.w32)
-      (Syntax.tcons (Syntax.tyInt Syntax.w32) (Syntax.tcons (Syntax.tyInt Syntax.w32) (Syntax.tcons (Syntax.tyInt Syntax.w32) (Syntax.tcons (Syntax.tyInt
-      Syntax.w32) (Syntax.tcons (Syntax.tyInt Syntax.w32) Syntax.tnil)))))))))) Syntax.tnil) (Syntax.ttcons Syntax.tnil Syntax.ttnil)))))))) Syntax.tnil)
-      Syntax.ttnil))))),
-) ∷ (8, Rows.any-gone Syntax.tyBool) ∷ (9, Rows.sc-here (Row.sInt Syntax.w64)) ∷ (10, Rows.any-gone (Syntax.tyInt Syntax.w64)) ∷ (
-  11,
-  Rows.any-gone (Syntax.tyInt Syntax.w64),
-) ∷ (12, Rows.any-gone Syntax.tyBool) ∷ (13, Rows.any-gone (Syntax.tyRef Syntax.erased Syntax.mut SlotAs.pointee)) ∷ (
-  14,
-  Rows.any-gone (Syntax.tyStruct (38 ∷ 91 ∷ 93 ∷ []) (Syntax.tcons (Syntax.tyRef Syntax.erased Syntax.mut SlotAs.pointee) (Syntax.tcons (Syntax.tyInt
-      Syntax.w64) Syntax.tnil))),
-) ∷ []
-
-abbrev pub t9 : List.List Row.Entry
-t9 = (
-  0,
-  Rows.any-gone (Syntax.tyStruct (115 ∷ 116 ∷ 111 ∷ 114 ∷ 101 ∷ 58 ∷ 58 ∷ 79 ∷ 117 ∷ 116 ∷ 99 ∷ 111 ∷ 109 ∷ 101 ∷ []) (Syntax.tcons (Syntax.tyInt
-      Syntax.w8) (Syntax.tcons (Syntax.tyInt Syntax.w64) Syntax.tnil))),
-) ∷ (
-  1,
-  Rows.sslice (Referent.rtF (Referent.fInt Syntax.w8)) (Syntax.tyRef (Syntax.named
-      0) Syntax.imm (Syntax.tyInt Syntax.w8)) 0,
-) ∷ (2, Mut.mslice SlotAs.row (Syntax.tyRef (Syntax.named 1) Syntax.mut SlotAs.pointee) 1) ∷ (
-  3,
-  Rows.any-gone
-      (Syntax.tyStruct (115 ∷ 116 ∷ 111 ∷ 114 ∷ 101 ∷ 58 ∷ 58 ∷ 78 ∷ 101 ∷ 101 ∷ 100 ∷ 115 ∷ []) (Syntax.tcons (Syntax.tyInt Syntax.w8) (Syntax.tcons
-      (Syntax.tyInt Syntax.w64) Syntax.tnil))),
-) ∷ (4, Rows.sc-here (Row.sInt Syntax.w64)) ∷ (5, Rows.any-gone (Syntax.tyInt Syntax.w64)) ∷ (
-  6,
-  Rows.any-gone
-      (Syntax.tyInt Syntax.w64),
-) ∷ (
-  7,
-  Rows.any-gone (Syntax.tyEnum (112 ∷ 105 ∷ 101 ∷ 99 ∷ 101 ∷ 115 ∷ 58 ∷ 58 ∷ 76 ∷ 105 ∷ 110 ∷ 101 ∷ []) (Syntax.ttcons
-      (Syntax.tcons (Syntax.tyInt Syntax.w8) Syntax.tnil) (Syntax.ttcons (Syntax.tcons (Syntax.tyEnum (107 ∷ 105 ∷ 110 ∷ 100 ∷ 115 ∷ 58 ∷ 58 ∷ 75 ∷ 105 ∷ 110 ∷
-      100 ∷ []) (Syntax.ttcons Syntax.tnil (Syntax.ttcons Syntax.tnil (Syntax.ttcons Syntax.tnil (Syntax.ttcons Syntax.tnil (Syntax.ttcons Syntax.tnil
-      (Syntax.ttcons Syntax.tnil (Syntax.ttcons Syntax.tnil (Syntax.ttcons Syntax.tnil (Syntax.ttcons Syntax.tnil (Syntax.ttcons Syntax.tnil (Syntax.ttcons
-      Syntax.tnil (Syntax.ttcons Syntax.tnil (Syntax.ttcons Syntax.tnil (Syntax.ttcons Syntax.tnil (Syntax.ttcons Syntax.tnil (Syntax.ttcons Syntax.tnil
-      (Syntax.ttcons Syntax.tnil (Syntax.ttcons Syntax.tnil (Syntax.ttcons Syntax.tnil (Syntax.ttcons Syntax.tnil (Syntax.ttcons Syntax.tnil (Syntax.ttcons
-      Syntax.tnil (Syntax.ttcons Syntax.tnil (Syntax.ttcons Syntax.tnil (Syntax.ttcons Syntax.tnil (Syntax.ttcons Syntax.tnil (Syntax.ttcons Syntax.tnil
-      (Syntax.ttcons Syntax.tnil Syntax.ttnil))))))))))))))))))))))))))))) (Syntax.tcons (Syntax.tyInt Syntax.w32) Syntax.tnil)) (Syntax.ttcons (Syntax.tcons
-      (Syntax.tyEnum (107 ∷ 105 ∷ 110 ∷ 100 ∷ 115 ∷ 58 ∷ 58 ∷ 75 ∷ 105 ∷ 110 ∷ 100 ∷ []) (Syntax.ttcons Syntax.tnil (Syntax.ttcons Syntax.tnil (Syntax.ttcons
-      Syntax.tnil (Syntax.ttcons Syntax.tnil (Syntax.ttcons Syntax.tnil (Syntax.ttcons Syntax.tnil (Syntax.ttcons Syntax.tnil (Syntax.ttcons Syntax.tnil
-      (Syntax.ttcons Syntax.tnil (Syntax.ttcons Syntax.tnil (Syntax.ttcons Syntax.tnil (Syntax.ttcons Syntax.tnil (Syntax.ttcons Syntax.tnil (Syntax.ttcons
-      Syntax.tnil (Syntax.ttcons Syntax.tnil (Syntax.ttcons Syntax.tnil (Syntax.ttcons Syntax.tnil (Syntax.ttcons Syntax.tnil (Syntax.ttcons Syntax.tnil
-      (Syntax.ttcons Syntax.tnil (Syntax.ttcons Syntax.tnil (Syntax.ttcons Syntax.tnil (Syntax.ttcons Syntax.tnil (Syntax.ttcons Syntax.tnil (Syntax.ttcons
-      Syntax.tnil (Syntax.ttcons Syntax.tnil (Syntax.ttcons Syntax.tnil (Syntax.ttcons Syntax.tnil Syntax.ttnil))))))))))))))))))))))))))))) Syntax.tnil)
-      (Syntax.ttcons (Syntax.tcons (Syntax.tyEnum (108 ∷ 105 ∷ 110 ∷ 101 ∷ 58 ∷ 58 ∷ 82 ∷ 101 ∷ 99 ∷ 111 ∷ 114 ∷ 100 ∷ []) (Syntax.ttcons (Syntax.tcons
-      Syntax.tyBool (Syntax.tcons (Syntax.tyStruct (99 ∷ 111 ∷ 111 ∷ 114 ∷ 100 ∷ 105 ∷ 110 ∷ 97 ∷ 116 ∷ 101 ∷ 58 ∷ 58 ∷ 65 ∷ 116 ∷ 111 ∷ 109 ∷ []) (Syntax.tcons
-      (Syntax.tyStruct (99 ∷ 111 ∷ 111 ∷ 114 ∷ 100 ∷ 105 ∷ 110 ∷ 97 ∷ 116 ∷ 101 ∷ 58 ∷ 58 ∷ 73 ∷ 100 ∷ 101 ∷ 110 ∷ 116 ∷ 105 ∷ 116 ∷ 121 ∷ []) (Syntax.tcons
-      (Syntax.tyStruct (102 ∷ 105 ∷ 101 ∷ 108 ∷ 100 ∷ 115 ∷ 58 ∷ 58 ∷ 83 ∷ 101 ∷ 114 ∷ 105 ∷ 97 ∷ 108 ∷ []) (Syntax.tcons (Syntax.tyInt Syntax.w32) Syntax.tnil))
-      (Syntax.tcons (Syntax.tyStruct (110 ∷ 97 ∷ 109 ∷ 101 ∷ 115 ∷ 58 ∷ 58 ∷ 70 ∷ 111 ∷ 117 ∷ 114 ∷ []) (Syntax.tcons (Syntax.tyInt Syntax.w8) (Syntax.tcons
-      (Syntax.tyInt Syntax.w8) (Syntax.tcons (Syntax.tyInt Syntax.w8) (Syntax.tcons (Syntax.tyInt Syntax.w8) Syntax.tnil))))) (Syntax.tcons (Syntax.tyInt
-      Syntax.w8) (Syntax.tcons (Syntax.tyStruct (114 ∷ 101 ∷ 115 ∷ 105 ∷ 100 ∷ 117 ∷ 101 ∷ 58 ∷ 58 ∷ 82 ∷ 101 ∷ 115 ∷ 105 ∷ 100 ∷ 117 ∷ 101 ∷ []) (Syntax.tcons
-      (Syntax.tyStruct (110 ∷ 97 ∷ 109 ∷ 101 ∷ 115 ∷ 58 ∷ 58 ∷ 84 ∷ 104 ∷ 114 ∷ 101 ∷ 101 ∷ []) (Syntax.tcons (Syntax.tyInt Syntax.w8) (Syntax.tcons
-      (Syntax.tyInt Syntax.w8) (Syntax.tcons (Syntax.tyInt Syntax.w8) Syntax.tnil)))) (Syntax.tcons (Syntax.tyInt Syntax.w8) (Syntax.tcons (Syntax.tyStruct (102
-      ∷ 105 ∷ 101 ∷ 108 ∷ 100 ∷ 115 ∷ 58 ∷ 58 ∷ 82 ∷ 101 ∷ 115 ∷ 105 ∷ 100 ∷ 117 ∷ 101 ∷ 78 ∷ 117 ∷ 109 ∷ 98 ∷ 101 ∷ 114 ∷ []) (Syntax.tcons (Syntax.tyInt
-      Syntax.w32) Syntax.tnil)) (Syntax.tcons (Syntax.tyInt Syntax.w8) Syntax.tnil))))) Syntax.tnil))))) (Syntax.tcons (Syntax.tyStruct (99 ∷ 111 ∷ 111 ∷ 114 ∷
-      100 ∷ 105 ∷ 110 ∷ 97 ∷ 116 ∷ 101 ∷ 58 ∷ 58 ∷ 77 ∷ 101 ∷ 97 ∷ 115 ∷ 117 ∷ 114 ∷ 101 ∷ []) (Syntax.tcons (Syntax.tyStruct (99 ∷ 111 ∷ 111 ∷ 114 ∷ 100 ∷ 105 ∷
-      110 ∷ 97 ∷ 116 ∷ 101 ∷ 58 ∷ 58 ∷ 80 ∷ 111 ∷ 115 ∷ 105 ∷ 116 ∷ 105 ∷ 111 ∷ 110 ∷ []) (Syntax.tcons (Syntax.tyInt Syntax.w32) (Syntax.tcons (Syntax.tyInt
-      Syntax.w32) (Syntax.tcons (Syntax.tyInt Syntax.w32) Syntax.tnil)))) (Syntax.tcons (Syntax.tyInt Syntax.w32) (Syntax.tcons (Syntax.tyInt Syntax.w32)
-      Syntax.tnil)))) (Syntax.tcons (Syntax.tyStruct (99 ∷ 111 ∷ 111 ∷ 114 ∷ 100 ∷ 105 ∷ 110 ∷ 97 ∷ 116 ∷ 101 ∷ 58 ∷ 58 ∷ 83 ∷ 112 ∷ 101 ∷ 99 ∷ 105 ∷ 101 ∷ 115 ∷
-      []) (Syntax.tcons (Syntax.tyStruct (110 ∷ 97 ∷ 109 ∷ 101 ∷ 115 ∷ 58 ∷ 58 ∷ 80 ∷ 97 ∷ 105 ∷ 114 ∷ []) (Syntax.tcons (Syntax.tyInt Syntax.w8) (Syntax.tcons
-      (Syntax.tyInt Syntax.w8) Syntax.tnil))) (Syntax.tcons (Syntax.tyStruct (110 ∷ 97 ∷ 109 ∷ 101 ∷ 115 ∷ 58 ∷ 58 ∷ 80 ∷ 97 ∷ 105 ∷ 114 ∷ []) (Syntax.tcons
-      (Syntax.tyInt Syntax.w8) (Syntax.tcons (Syntax.tyInt Syntax.w8) Syntax.tnil))) Syntax.tnil))) Syntax.tnil)))) Syntax.tnil)) (Syntax.ttcons (Syntax.tcons
-      (Syntax.tyStruct (116 ∷ 101 ∷ 114 ∷ 58 ∷ 58 ∷ 84 ∷ 101 ∷ 114 ∷ []) (Syntax.tcons (Syntax.tyStruct (102 ∷ 105 ∷ 101 ∷ 108 ∷ 100 ∷ 115 ∷ 58 ∷ 58 ∷ 83 ∷ 101 ∷
-      114 ∷ 105 ∷ 97 ∷ 108 ∷ []) (Syntax.tcons (Syntax.tyInt Syntax.w32) Syntax.tnil)) (Syntax.tcons (Syntax.tyStruct (114 ∷ 101 ∷ 115 ∷ 105 ∷ 100 ∷ 117 ∷ 101 ∷
-      58 ∷ 58 ∷ 82 ∷ 101 ∷ 115 ∷ 105 ∷ 100 ∷ 117 ∷ 101 ∷ []) (Syntax.tcons (Syntax.tyStruct (110 ∷ 97 ∷ 109 ∷ 101 ∷ 115 ∷ 58 ∷ 58 ∷ 84 ∷ 104 ∷ 114 ∷ 101 ∷ 101 ∷
-      []) (Syntax.tcons (Syntax.tyInt Syntax.w8) (Syntax.tcons (Syntax.tyInt Syntax.w8) (Syntax.tcons (Syntax.tyInt Syntax.w8) Syntax.tnil)))) (Syntax.tcons
-      (Syntax.tyInt Syntax.w8) (Syntax.tcons (Syntax.tyStruct (102 ∷ 105 ∷ 101 ∷ 108 ∷ 100 ∷ 115 ∷ 58 ∷ 58 ∷ 82 ∷ 101 ∷ 115 ∷ 105 ∷ 100 ∷ 117 ∷ 101 ∷ 78 ∷ 117 ∷
-      109 ∷ 98 ∷ 101 ∷ 114 ∷ []) (Syntax.tcons (Syntax.tyInt Syntax.w32) Syntax.tnil)) (Syntax.tcons (Syntax.tyInt Syntax.w8) Syntax.tnil))))) Syntax.tnil)))
-      Syntax.tnil) (Syntax.ttcons (Syntax.tcons (Syntax.tyStruct (104 ∷ 101 ∷ 108 ∷ 105 ∷ 120 ∷ 58 ∷ 58 ∷ 72 ∷ 101 ∷ 108 ∷ 105 ∷ 120 ∷ []) (Syntax.tcons
-      (Syntax.tyStruct (104 ∷ 101 ∷ 108 ∷ 105 ∷ 120 ∷ 58 ∷ 58 ∷ 69 ∷ 120 ∷ 116 ∷ 101 ∷ 110 ∷ 116 ∷ []) (Syntax.tcons (Syntax.tyInt Syntax.w32) (Syntax.tcons
-      (Syntax.tyStruct (110 ∷ 97 ∷ 109 ∷ 101 ∷ 115 ∷ 58 ∷ 58 ∷ 84 ∷ 104 ∷ 114 ∷ 101 ∷ 101 ∷ []) (Syntax.tcons (Syntax.tyInt Syntax.w8) (Syntax.tcons
-      (Syntax.tyInt Syntax.w8) (Syntax.tcons (Syntax.tyInt Syntax.w8) Syntax.tnil)))) (Syntax.tcons (Syntax.tyStruct (114 ∷ 101 ∷ 115 ∷ 105 ∷ 100 ∷ 117 ∷ 101 ∷
-      58 ∷ 58 ∷ 82 ∷ 101 ∷ 115 ∷ 105 ∷ 100 ∷ 117 ∷ 101 ∷ []) (Syntax.tcons (Syntax.tyStruct (110 ∷ 97 ∷ 109 ∷ 101 ∷ 115 ∷ 58 ∷ 58 ∷ 84 ∷ 104 ∷ 114 ∷ 101 ∷ 101 ∷
-      []) (Syntax.tcons (Syntax.tyInt Syntax.w8) (Syntax.tcons (Syntax.tyInt Syntax.w8) (Syntax.tcons (Syntax.tyInt Syntax.w8) Syntax.tnil)))) (Syntax.tcons
-      (Syntax.tyInt Syntax.w8) (Syntax.tcons (Syntax.tyStruct (102 ∷ 105 ∷ 101 ∷ 108 ∷ 100 ∷ 115 ∷ 58 ∷ 58 ∷ 82 ∷ 101 ∷ 115 ∷ 105 ∷ 100 ∷ 117 ∷ 101 ∷ 78 ∷ 117 ∷
-      109 ∷ 98 ∷ 101 ∷ 114 ∷ []) (Syntax.tcons (Syntax.tyInt Syntax.w32) Syntax.tnil)) (Syntax.tcons (Syntax.tyInt Syntax.w8) Syntax.tnil))))) (Syntax.tcons
-      (Syntax.tyStruct (114 ∷ 101 ∷ 115 ∷ 105 ∷ 100 ∷ 117 ∷ 101 ∷ 58 ∷ 58 ∷ 82 ∷ 101 ∷ 115 ∷ 105 ∷ 100 ∷ 117 ∷ 101 ∷ []) (Syntax.tcons (Syntax.tyStruct (110 ∷ 97
-      ∷ 109 ∷ 101 ∷ 115 ∷ 58 ∷ 58 ∷ 84 ∷ 104 ∷ 114 ∷ 101 ∷ 101 ∷ []) (Syntax.tcons (Syntax.tyInt Syntax.w8) (Syntax.tcons (Syntax.tyInt Syntax.w8) (Syntax.tcons
-      (Syntax.tyInt Syntax.w8) Syntax.tnil)))) (Syntax.tcons (Syntax.tyInt Syntax.w8) (Syntax.tcons (Syntax.tyStruct (102 ∷ 105 ∷ 101 ∷ 108 ∷ 100 ∷ 115 ∷ 58 ∷ 58
-      ∷ 82 ∷ 101 ∷ 115 ∷ 105 ∷ 100 ∷ 117 ∷ 101 ∷ 78 ∷ 117 ∷ 109 ∷ 98 ∷ 101 ∷ 114 ∷ []) (Syntax.tcons (Syntax.tyInt Syntax.w32) Syntax.tnil)) (Syntax.tcons
-      (Syntax.tyInt Syntax.w8) Syntax.tnil))))) Syntax.tnil))))) (Syntax.tcons (Syntax.tyInt Syntax.w32) (Syntax.tcons (Syntax.tyStruct (104 ∷ 101 ∷ 108 ∷ 105 ∷
-      120 ∷ 58 ∷ 58 ∷ 67 ∷ 111 ∷ 109 ∷ 109 ∷ 101 ∷ 110 ∷ 116 ∷ []) (Syntax.tcons (Syntax.tyInt Syntax.w64) (Syntax.tcons (Syntax.tyInt Syntax.w64) (Syntax.tcons
-      (Syntax.tyInt Syntax.w64) (Syntax.tcons (Syntax.tyInt Syntax.w64) Syntax.tnil))))) (Syntax.tcons (Syntax.tyInt Syntax.w32) Syntax.tnil))))) Syntax.tnil)
-      (Syntax.ttcons (Syntax.tcons (Syntax.tyStruct (115 ∷ 104 ∷ 101 ∷ 101 ∷ 116 ∷ 58 ∷ 58 ∷ 83 ∷ 104 ∷ 101 ∷ 101 ∷ 116 ∷ []) (Syntax.tcons (Syntax.tyStruct (115
-      ∷ 104 ∷ 101 ∷ 101 ∷ 116 ∷ 58 ∷ 58 ∷ 83 ∷ 116 ∷ 114 ∷ 97 ∷ 110 ∷ 100 ∷ []) (Syntax.tcons (Syntax.tyInt Syntax.w32) (Syntax.tcons (Syntax.tyStruct (110 ∷ 97
-      ∷ 109 ∷ 101 ∷ 115 ∷ 58 ∷ 58 ∷ 84 ∷ 104 ∷ 114 ∷ 101 ∷ 101 ∷ []) (Syntax.tcons (Syntax.tyInt Syntax.w8) (Syntax.tcons (Syntax.tyInt Syntax.w8) (Syntax.tcons
-      (Syntax.tyInt Syntax.w8) Syntax.tnil)))) (Syntax.tcons (Syntax.tyInt Syntax.w32) (Syntax.tcons (Syntax.tyStruct (114 ∷ 101 ∷ 115 ∷ 105 ∷ 100 ∷ 117 ∷ 101 ∷
-      58 ∷ 58 ∷ 82 ∷ 101 ∷ 115 ∷ 105 ∷ 100 ∷ 117 ∷ 101 ∷ []) (Syntax.tcons (Syntax.tyStruct (110 ∷ 97 ∷ 109 ∷ 101 ∷ 115 ∷ 58 ∷ 58 ∷ 84 ∷ 104 ∷ 114 ∷ 101 ∷ 101 ∷
-      []) (Syntax.tcons (Syntax.tyInt Syntax.w8) (Syntax.tcons (Syntax.tyInt Syntax.w8) (Syntax.tcons (Syntax.tyInt Syntax.w8) Syntax.tnil)))) (Syntax.tcons
-      (Syntax.tyInt Syntax.w8) (Syntax.tcons (Syntax.tyStruct (102 ∷ 105 ∷ 101 ∷ 108 ∷ 100 ∷ 115 ∷ 58 ∷ 58 ∷ 82 ∷ 101 ∷ 115 ∷ 105 ∷ 100 ∷ 117 ∷ 101 ∷ 78 ∷ 117 ∷
-      109 ∷ 98 ∷ 101 ∷ 114 ∷ []) (Syntax.tcons (Syntax.tyInt Syntax.w32) Syntax.tnil)) (Syntax.tcons (Syntax.tyInt Syntax.w8) Syntax.tnil))))) (Syntax.tcons
-      (Syntax.tyStruct (114 ∷ 101 ∷ 115 ∷ 105 ∷ 100 ∷ 117 ∷ 101 ∷ 58 ∷ 58 ∷ 82 ∷ 101 ∷ 115 ∷ 105 ∷ 100 ∷ 117 ∷ 101 ∷ []) (Syntax.tcons (Syntax.tyStruct (110 ∷ 97
-      ∷ 109 ∷ 101 ∷ 115 ∷ 58 ∷ 58 ∷ 84 ∷ 104 ∷ 114 ∷ 101 ∷ 101 ∷ []) (Syntax.tcons (Syntax.tyInt Syntax.w8) (Syntax.tcons (Syntax.tyInt Syntax.w8) (Syntax.tcons
-      (Syntax.tyInt Syntax.w8) Syntax.tnil)))) (Syntax.tcons (Syntax.tyInt Syntax.w8) (Syntax.tcons (Syntax.tyStruct (102 ∷ 105 ∷ 101 ∷ 108 ∷ 100 ∷ 115 ∷ 58 ∷ 58
-      ∷ 82 ∷ 101 ∷ 115 ∷ 105 ∷ 100 ∷ 117 ∷ 101 ∷ 78 ∷ 117 ∷ 109 ∷ 98 ∷ 101 ∷ 114 ∷ []) (Syntax.tcons (Syntax.tyInt Syntax.w32) Syntax.tnil)) (Syntax.tcons
-      (Syntax.tyInt Syntax.w8) Syntax.tnil))))) (Syntax.tcons (Syntax.tyInt Syntax.w32) Syntax.tnil))))))) (Syntax.tcons (Syntax.tyEnum (115 ∷ 104 ∷ 101 ∷ 101 ∷
-      116 ∷ 58 ∷ 58 ∷ 82 ∷ 101 ∷ 103 ∷ 105 ∷ 115 ∷ 116 ∷ 114 ∷ 97 ∷ 116 ∷ 105 ∷ 111 ∷ 110 ∷ []) (Syntax.ttcons Syntax.tnil (Syntax.ttcons (Syntax.tcons
-      (Syntax.tyStruct (115 ∷ 104 ∷ 101 ∷ 101 ∷ 116 ∷ 58 ∷ 58 ∷ 66 ∷ 111 ∷ 110 ∷ 100 ∷ []) (Syntax.tcons (Syntax.tyStruct (110 ∷ 97 ∷ 109 ∷ 101 ∷ 115 ∷ 58 ∷ 58 ∷
-      70 ∷ 111 ∷ 117 ∷ 114 ∷ []) (Syntax.tcons (Syntax.tyInt Syntax.w8) (Syntax.tcons (Syntax.tyInt Syntax.w8) (Syntax.tcons (Syntax.tyInt Syntax.w8)
-      (Syntax.tcons (Syntax.tyInt Syntax.w8) Syntax.tnil))))) (Syntax.tcons (Syntax.tyStruct (114 ∷ 101 ∷ 115 ∷ 105 ∷ 100 ∷ 117 ∷ 101 ∷ 58 ∷ 58 ∷ 82 ∷ 101 ∷ 115
-      ∷ 105 ∷ 100 ∷ 117 ∷ 101 ∷ []) (Syntax.tcons (Syntax.tyStruct (110 ∷ 97 ∷ 109 ∷ 101 ∷ 115 ∷ 58 ∷ 58 ∷ 84 ∷ 104 ∷ 114 ∷ 101 ∷ 101 ∷ []) (Syntax.tcons
-      (Syntax.tyInt Syntax.w8) (Syntax.tcons (Syntax.tyInt Syntax.w8) (Syntax.tcons (Syntax.tyInt Syntax.w8) Syntax.tnil)))) (Syntax.tcons (Syntax.tyInt
-      Syntax.w8) (Syntax.tcons (Syntax.tyStruct (102 ∷ 105 ∷ 101 ∷ 108 ∷ 100 ∷ 115 ∷ 58 ∷ 58 ∷ 82 ∷ 101 ∷ 115 ∷ 105 ∷ 100 ∷ 117 ∷ 101 ∷ 78 ∷ 117 ∷ 109 ∷ 98 ∷ 101
-      ∷ 114 ∷ []) (Syntax.tcons (Syntax.tyInt Syntax.w32) Syntax.tnil)) (Syntax.tcons (Syntax.tyInt Syntax.w8) Syntax.tnil))))) (Syntax.tcons (Syntax.tyStruct
-      (110 ∷ 97 ∷ 109 ∷ 101 ∷ 115 ∷ 58 ∷ 58 ∷ 70 ∷ 111 ∷ 117 ∷ 114 ∷ []) (Syntax.tcons (Syntax.tyInt Syntax.w8) (Syntax.tcons (Syntax.tyInt Syntax.w8)
-      (Syntax.tcons (Syntax.tyInt Syntax.w8) (Syntax.tcons (Syntax.tyInt Syntax.w8) Syntax.tnil))))) (Syntax.tcons (Syntax.tyStruct (114 ∷ 101 ∷ 115 ∷ 105 ∷ 100
-      ∷ 117 ∷ 101 ∷ 58 ∷ 58 ∷ 82 ∷ 101 ∷ 115 ∷ 105 ∷ 100 ∷ 117 ∷ 101 ∷ []) (Syntax.tcons (Syntax.tyStruct (110 ∷ 97 ∷ 109 ∷ 101 ∷ 115 ∷ 58 ∷ 58 ∷ 84 ∷ 104 ∷ 114
-      ∷ 101 ∷ 101 ∷ []) (Syntax.tcons (Syntax.tyInt Syntax.w8) (Syntax.tcons (Syntax.tyInt Syntax.w8) (Syntax.tcons (Syntax.tyInt Syntax.w8) Syntax.tnil))))
-      (Syntax.tcons (Syntax.tyInt Syntax.w8) (Syntax.tcons (Syntax.tyStruct (102 ∷ 105 ∷ 101 ∷ 108 ∷ 100 ∷ 115 ∷ 58 ∷ 58 ∷ 82 ∷ 101 ∷ 115 ∷ 105 ∷ 100 ∷ 117 ∷ 101
-      ∷ 78 ∷ 117 ∷ 109 ∷ 98 ∷ 101 ∷ 114 ∷ []) (Syntax.tcons (Syntax.tyInt Syntax.w32) Syntax.tnil)) (Syntax.tcons (Syntax.tyInt Syntax.w8) Syntax.tnil)))))
-      Syntax.tnil))))) Syntax.tnil) Syntax.ttnil))) Syntax.tnil))) Syntax.tnil) (Syntax.ttcons (Syntax.tcons (Syntax.tyStruct (99 ∷ 111 ∷ 110 ∷ 101 ∷ 99 ∷ 116 ∷
-      58 ∷ 58 ∷ 67 ∷ 111 ∷ 110 ∷ 101 ∷ 99 ∷ 116 ∷ []) (Syntax.tcons (Syntax.tyStruct (102 ∷ 105 ∷ 101 ∷ 108 ∷ 100 ∷ 115 ∷ 58 ∷ 58 ∷ 83 ∷ 101 ∷ 114 ∷ 105 ∷ 97 ∷
-      108 ∷ []) (Syntax.tcons (Syntax.tyInt Syntax.w32) Syntax.tnil)) (Syntax.tcons (Syntax.tyStruct (102 ∷ 105 ∷ 101 ∷ 108 ∷ 100 ∷ 115 ∷ 58 ∷ 58 ∷ 83 ∷ 101 ∷
-      114 ∷ 105 ∷ 97 ∷ 108 ∷ []) (Syntax.tcons (Syntax.tyInt Syntax.w32) Syntax.tnil)) (Syntax.tcons (Syntax.tyStruct (102 ∷ 105 ∷ 101 ∷ 108 ∷ 100 ∷ 115 ∷ 58 ∷
-      58 ∷ 83 ∷ 101 ∷ 114 ∷ 105 ∷ 97 ∷ 108 ∷ []) (Syntax.tcons (Syntax.tyInt Syntax.w32) Syntax.tnil)) (Syntax.tcons (Syntax.tyStruct (102 ∷ 105 ∷ 101 ∷ 108 ∷
-      100 ∷ 115 ∷ 58 ∷ 58 ∷ 83 ∷ 101 ∷ 114 ∷ 105 ∷ 97 ∷ 108 ∷ []) (Syntax.tcons (Syntax.tyInt Syntax.w32) Syntax.tnil)) (Syntax.tcons (Syntax.tyStruct (102 ∷ 105
-      ∷ 101 ∷ 108 ∷ 100 ∷ 115 ∷ 58 ∷ 58 ∷ 83 ∷ 101 ∷ 114 ∷ 105 ∷ 97 ∷ 108 ∷ []) (Syntax.tcons (Syntax.tyInt Syntax.w32) Syntax.tnil)) Syntax.tnil))))))
-      Syntax.tnil) (Syntax.ttcons (Syntax.tcons (Syntax.tyStruct (109 ∷ 97 ∷ 115 ∷ 116 ∷ 101 ∷ 114 ∷ 58 ∷ 58 ∷ 84 ∷ 97 ∷ 108 ∷ 108 ∷ 121 ∷ []) (Syntax.tcons
-      (Syntax.tyInt Syntax.w32) (Syntax.tcons (Syntax.tyInt Syntax.w32) (Syntax.tcons (Syntax.tyInt Syntax.w32) (Syntax.tcons (Syntax.tyInt Syntax.w32)
-      (Syntax.tcons (Syntax.tyInt Syntax.w32) (Syntax.tcons (Syntax.tyInt Syntax.w32) (Syntax.tcons (Syntax.tyInt Syntax.w32) (Syntax.tcons (Syntax.tyInt
-      Syntax.w32) (Syntax.tcons (Syntax.tyInt Syntax.w32) Syntax.tnil)))))))))) Syntax.tnil) (Syntax.ttcons Syntax.tnil Syntax.ttnil)))))))) Syntax.tnil)
-      Syntax.ttnil))))),
-) ∷ (8, Rows.sc-here Row.sBool) ∷ (9, Rows.sc-here (Row.sInt Syntax.w64)) ∷ (10, Rows.any-gone (Syntax.tyInt Syntax.w64)) ∷ (
-  11,
-  Rows.any-gone (Syntax.tyInt Syntax.w64),
-) ∷ (12, Rows.any-gone Syntax.tyBool) ∷ (13, Rows.any-gone (Syntax.tyRef Syntax.erased Syntax.mut SlotAs.pointee)) ∷ (
-  14,
-  Rows.any-gone (Syntax.tyStruct (38 ∷ 91 ∷ 93 ∷ []) (Syntax.tcons (Syntax.tyRef Syntax.erased Syntax.mut SlotAs.pointee) (Syntax.tcons (Syntax.tyInt
-      Syntax.w64) Syntax.tnil))),
-) ∷ []
-
-abbrev pub t10 : List.List Row.Entry
-t10 = (
-  0,
-  Rows.any-gone (Syntax.tyStruct (115 ∷ 116 ∷ 111 ∷ 114 ∷ 101 ∷ 58 ∷ 58 ∷ 79 ∷ 117 ∷ 116 ∷ 99 ∷ 111 ∷ 109 ∷ 101 ∷ []) (Syntax.tcons (Syntax.tyInt
-      Syntax.w8) (Syntax.tcons (Syntax.tyInt Syntax.w64) Syntax.tnil))),
-) ∷ (
-  1,
-  Rows.sslice (Referent.rtF (Referent.fInt Syntax.w8)) (Syntax.tyRef (Syntax.named
-      0) Syntax.imm (Syntax.tyInt Syntax.w8)) 0,
-) ∷ (2, Mut.mslice SlotAs.row (Syntax.tyRef (Syntax.named 1) Syntax.mut SlotAs.pointee) 1) ∷ (
-  3,
-  Rows.any-gone
-      (Syntax.tyStruct (115 ∷ 116 ∷ 111 ∷ 114 ∷ 101 ∷ 58 ∷ 58 ∷ 78 ∷ 101 ∷ 101 ∷ 100 ∷ 115 ∷ []) (Syntax.tcons (Syntax.tyInt Syntax.w8) (Syntax.tcons
-      (Syntax.tyInt Syntax.w64) Syntax.tnil))),
-) ∷ (4, Rows.sc-here (Row.sInt Syntax.w64)) ∷ (5, Rows.any-gone (Syntax.tyInt Syntax.w64)) ∷ (
-  6,
-  Rows.any-gone
-      (Syntax.tyInt Syntax.w64),
-) ∷ (
-  7,
-  Rows.any-gone (Syntax.tyEnum (112 ∷ 105 ∷ 101 ∷ 99 ∷ 101 ∷ 115 ∷ 58 ∷ 58 ∷ 76 ∷ 105 ∷ 110 ∷ 101 ∷ []) (Syntax.ttcons
-      (Syntax.tcons (Syntax.tyInt Syntax.w8) Syntax.tnil) (Syntax.ttcons (Syntax.tcons (Syntax.tyEnum (107 ∷ 105 ∷ 110 ∷ 100 ∷ 115 ∷ 58 ∷ 58 ∷ 75 ∷ 105 ∷ 110 ∷
-      100 ∷ []) (Syntax.ttcons Syntax.tnil (Syntax.ttcons Syntax.tnil (Syntax.ttcons Syntax.tnil (Syntax.ttcons Syntax.tnil (Syntax.ttcons Syntax.tnil
-      (Syntax.ttcons Syntax.tnil (Syntax.ttcons Syntax.tnil (Syntax.ttcons Syntax.tnil (Syntax.ttcons Syntax.tnil (Syntax.ttcons Syntax.tnil (Syntax.ttcons
-      Syntax.tnil (Syntax.ttcons Syntax.tnil (Syntax.ttcons Syntax.tnil (Syntax.ttcons Syntax.tnil (Syntax.ttcons Syntax.tnil (Syntax.ttcons Syntax.tnil
-      (Syntax.ttcons Syntax.tnil (Syntax.ttcons Syntax.tnil (Syntax.ttcons Syntax.tnil (Syntax.ttcons Syntax.tnil (Syntax.ttcons Syntax.tnil (Syntax.ttcons
-      Syntax.tnil (Syntax.ttcons Syntax.tnil (Syntax.ttcons Syntax.tnil (Syntax.ttcons Syntax.tnil (Syntax.ttcons Syntax.tnil (Syntax.ttcons Syntax.tnil
-      (Syntax.ttcons Syntax.tnil Syntax.ttnil))))))))))))))))))))))))))))) (Syntax.tcons (Syntax.tyInt Syntax.w32) Syntax.tnil)) (Syntax.ttcons (Syntax.tcons
-      (Syntax.tyEnum (107 ∷ 105 ∷ 110 ∷ 100 ∷ 115 ∷ 58 ∷ 58 ∷ 75 ∷ 105 ∷ 110 ∷ 100 ∷ []) (Syntax.ttcons Syntax.tnil (Syntax.ttcons Syntax.tnil (Syntax.ttcons
-      Syntax.tnil (Syntax.ttcons Syntax.tnil (Syntax.ttcons Syntax.tnil (Syntax.ttcons Syntax.tnil (Syntax.ttcons Syntax.tnil (Syntax.ttcons Syntax.tnil
-      (Syntax.ttcons Syntax.tnil (Syntax.ttcons Syntax.tnil (Syntax.ttcons Syntax.tnil (Syntax.ttcons Syntax.tnil (Syntax.ttcons Syntax.tnil (Syntax.ttcons
-      Syntax.tnil (Syntax.ttcons Syntax.tnil (Syntax.ttcons Syntax.tnil (Syntax.ttcons Syntax.tnil (Syntax.ttcons Syntax.tnil (Syntax.ttcons Syntax.tnil
-      (Syntax.ttcons Syntax.tnil (Syntax.ttcons Syntax.tnil (Syntax.ttcons Syntax.tnil (Syntax.ttcons Syntax.tnil (Syntax.ttcons Syntax.tnil (Syntax.ttcons
-      Syntax.tnil (Syntax.ttcons Syntax.tnil (Syntax.ttcons Syntax.tnil (Syntax.ttcons Syntax.tnil Syntax.ttnil))))))))))))))))))))))))))))) Syntax.tnil)
-      (Syntax.ttcons (Syntax.tcons (Syntax.tyEnum (108 ∷ 105 ∷ 110 ∷ 101 ∷ 58 ∷ 58 ∷ 82 ∷ 101 ∷ 99 ∷ 111 ∷ 114 ∷ 100 ∷ []) (Syntax.ttcons (Syntax.tcons
-      Syntax.tyBool (Syntax.tcons (Syntax.tyStruct (99 ∷ 111 ∷ 111 ∷ 114 ∷ 100 ∷ 105 ∷ 110 ∷ 97 ∷ 116 ∷ 101 ∷ 58 ∷ 58 ∷ 65 ∷ 116 ∷ 111 ∷ 109 ∷ []) (Syntax.tcons
-      (Syntax.tyStruct (99 ∷ 111 ∷ 111 ∷ 114 ∷ 100 ∷ 105 ∷ 110 ∷ 97 ∷ 116 ∷ 101 ∷ 58 ∷ 58 ∷ 73 ∷ 100 ∷ 101 ∷ 110 ∷ 116 ∷ 105 ∷ 116 ∷ 121 ∷ []) (Syntax.tcons
-      (Syntax.tyStruct (102 ∷ 105 ∷ 101 ∷ 108 ∷ 100 ∷ 115 ∷ 58 ∷ 58 ∷ 83 ∷ 101 ∷ 114 ∷ 105 ∷ 97 ∷ 108 ∷ []) (Syntax.tcons (Syntax.tyInt Syntax.w32) Syntax.tnil))
-      (Syntax.tcons (Syntax.tyStruct (110 ∷ 97 ∷ 109 ∷ 101 ∷ 115 ∷ 58 ∷ 58 ∷ 70 ∷ 111 ∷ 117 ∷ 114 ∷ []) (Syntax.tcons (Syntax.tyInt Syntax.w8) (Syntax.tcons
-      (Syntax.tyInt Syntax.w8) (Syntax.tcons (Syntax.tyInt Syntax.w8) (Syntax.tcons (Syntax.tyInt Syntax.w8) Syntax.tnil))))) (Syntax.tcons (Syntax.tyInt
-      Syntax.w8) (Syntax.tcons (Syntax.tyStruct (114 ∷ 101 ∷ 115 ∷ 105 ∷ 100 ∷ 117 ∷ 101 ∷ 58 ∷ 58 ∷ 82 ∷ 101 ∷ 115 ∷ 105 ∷ 100 ∷ 117 ∷ 101 ∷ []) (Syntax.tcons
-      (Syntax.tyStruct (110 ∷ 97 ∷ 109 ∷ 101 ∷ 115 ∷ 58 ∷ 58 ∷ 84 ∷ 104 ∷ 114 ∷ 101 ∷ 101 ∷ []) (Syntax.tcons (Syntax.tyInt Syntax.w8) (Syntax.tcons
-      (Syntax.tyInt Syntax.w8) (Syntax.tcons (Syntax.tyInt Syntax.w8) Syntax.tnil)))) (Syntax.tcons (Syntax.tyInt Syntax.w8) (Syntax.tcons (Syntax.tyStruct (102
-      ∷ 105 ∷ 101 ∷ 108 ∷ 100 ∷ 115 ∷ 58 ∷ 58 ∷ 82 ∷ 101 ∷ 115 ∷ 105 ∷ 100 ∷ 117 ∷ 101 ∷ 78 ∷ 117 ∷ 109 ∷ 98 ∷ 101 ∷ 114 ∷ []) (Syntax.tcons (Syntax.tyInt
-      Syntax.w32) Syntax.tnil)) (Syntax.tcons (Syntax.tyInt Syntax.w8) Syntax.tnil))))) Syntax.tnil))))) (Syntax.tcons (Syntax.tyStruct (99 ∷ 111 ∷ 111 ∷ 114 ∷
-      100 ∷ 105 ∷ 110 ∷ 97 ∷ 116 ∷ 101 ∷ 58 ∷ 58 ∷ 77 ∷ 101 ∷ 97 ∷ 115 ∷ 117 ∷ 114 ∷ 101 ∷ []) (Syntax.tcons (Syntax.tyStruct (99 ∷ 111 ∷ 111 ∷ 114 ∷ 100 ∷ 105 ∷
-      110 ∷ 97 ∷ 116 ∷ 101 ∷ 58 ∷ 58 ∷ 80 ∷ 111 ∷ 115 ∷ 105 ∷ 116 ∷ 105 ∷ 111 ∷ 110 ∷ []) (Syntax.tcons (Syntax.tyInt Syntax.w32) (Syntax.tcons (Syntax.tyInt
-      Syntax.w32) (Syntax.tcons (Syntax.tyInt Syntax.w32) Syntax.tnil)))) (Syntax.tcons (Syntax.tyInt Syntax.w32) (Syntax.tcons (Syntax.tyInt Syntax.w32)
-      Syntax.tnil)))) (Syntax.tcons (Syntax.tyStruct (99 ∷ 111 ∷ 111 ∷ 114 ∷ 100 ∷ 105 ∷ 110 ∷ 97 ∷ 116 ∷ 101 ∷ 58 ∷ 58 ∷ 83 ∷ 112 ∷ 101 ∷ 99 ∷ 105 ∷ 101 ∷ 115 ∷
-      []) (Syntax.tcons (Syntax.tyStruct (110 ∷ 97 ∷ 109 ∷ 101 ∷ 115 ∷ 58 ∷ 58 ∷ 80 ∷ 97 ∷ 105 ∷ 114 ∷ []) (Syntax.tcons (Syntax.tyInt Syntax.w8) (Syntax.tcons
-      (Syntax.tyInt Syntax.w8) Syntax.tnil))) (Syntax.tcons (Syntax.tyStruct (110 ∷ 97 ∷ 109 ∷ 101 ∷ 115 ∷ 58 ∷ 58 ∷ 80 ∷ 97 ∷ 105 ∷ 114 ∷ []) (Syntax.tcons
-      (Syntax.tyInt Syntax.w8) (Syntax.tcons (Syntax.tyInt Syntax.w8) Syntax.tnil))) Syntax.tnil))) Syntax.tnil)))) Syntax.tnil)) (Syntax.ttcons (Syntax.tcons
-      (Syntax.tyStruct (116 ∷ 101 ∷ 114 ∷ 58 ∷ 58 ∷ 84 ∷ 101 ∷ 114 ∷ []) (Syntax.tcons (Syntax.tyStruct (102 ∷ 105 ∷ 101 ∷ 108 ∷ 100 ∷ 115 ∷ 58 ∷ 58 ∷ 83 ∷ 101 ∷
-      114 ∷ 105 ∷ 97 ∷ 108 ∷ []) (Syntax.tcons (Syntax.tyInt Syntax.w32) Syntax.tnil)) (Syntax.tcons (Syntax.tyStruct (114 ∷ 101 ∷ 115 ∷ 105 ∷ 100 ∷ 117 ∷ 101 ∷
-      58 ∷ 58 ∷ 82 ∷ 101 ∷ 115 ∷ 105 ∷ 100 ∷ 117 ∷ 101 ∷ []) (Syntax.tcons (Syntax.tyStruct (110 ∷ 97 ∷ 109 ∷ 101 ∷ 115 ∷ 58 ∷ 58 ∷ 84 ∷ 104 ∷ 114 ∷ 101 ∷ 101 ∷
-      []) (Syntax.tcons (Syntax.tyInt Syntax.w8) (Syntax.tcons (Syntax.tyInt Syntax.w8) (Syntax.tcons (Syntax.tyInt Syntax.w8) Syntax.tnil)))) (Syntax.tcons
-      (Syntax.tyInt Syntax.w8) (Syntax.tcons (Syntax.tyStruct (102 ∷ 105 ∷ 101 ∷ 108 ∷ 100 ∷ 115 ∷ 58 ∷ 58 ∷ 82 ∷ 101 ∷ 115 ∷ 105 ∷ 100 ∷ 117 ∷ 101 ∷ 78 ∷ 117 ∷
-      109 ∷ 98 ∷ 101 ∷ 114 ∷ []) (Syntax.tcons (Syntax.tyInt Syntax.w32) Syntax.tnil)) (Syntax.tcons (Syntax.tyInt Syntax.w8) Syntax.tnil))))) Syntax.tnil)))
-      Syntax.tnil) (Syntax.ttcons (Syntax.tcons (Syntax.tyStruct (104 ∷ 101 ∷ 108 ∷ 105 ∷ 120 ∷ 58 ∷ 58 ∷ 72 ∷ 101 ∷ 108 ∷ 105 ∷ 120 ∷ []) (Syntax.tcons
-      (Syntax.tyStruct (104 ∷ 101 ∷ 108 ∷ 105 ∷ 120 ∷ 58 ∷ 58 ∷ 69 ∷ 120 ∷ 116 ∷ 101 ∷ 110 ∷ 116 ∷ []) (Syntax.tcons (Syntax.tyInt Syntax.w32) (Syntax.tcons
-      (Syntax.tyStruct (110 ∷ 97 ∷ 109 ∷ 101 ∷ 115 ∷ 58 ∷ 58 ∷ 84 ∷ 104 ∷ 114 ∷ 101 ∷ 101 ∷ []) (Syntax.tcons (Syntax.tyInt Syntax.w8) (Syntax.tcons
-      (Syntax.tyInt Syntax.w8) (Syntax.tcons (Syntax.tyInt Syntax.w8) Syntax.tnil)))) (Syntax.tcons (Syntax.tyStruct (114 ∷ 101 ∷ 115 ∷ 105 ∷ 100 ∷ 117 ∷ 101 ∷
-      58 ∷ 58 ∷ 82 ∷ 101 ∷ 115 ∷ 105 ∷ 100 ∷ 117 ∷ 101 ∷ []) (Syntax.tcons (Syntax.tyStruct (110 ∷ 97 ∷ 109 ∷ 101 ∷ 115 ∷ 58 ∷ 58 ∷ 84 ∷ 104 ∷ 114 ∷ 101 ∷ 101 ∷
-      []) (Syntax.tcons (Syntax.tyInt Syntax.w8) (Syntax.tcons (Syntax.tyInt Syntax.w8) (Syntax.tcons (Syntax.tyInt Syntax.w8) Syntax.tnil)))) (Syntax.tcons
-      (Syntax.tyInt Syntax.w8) (Syntax.tcons (Syntax.tyStruct (102 ∷ 105 ∷ 101 ∷ 108 ∷ 100 ∷ 115 ∷ 58 ∷ 58 ∷ 82 ∷ 101 ∷ 115 ∷ 105 ∷ 100 ∷ 117 ∷ 101 ∷ 78 ∷ 117 ∷
-      109 ∷ 98 ∷ 101 ∷ 114 ∷ []) (Syntax.tcons (Syntax.tyInt Syntax.w32) Syntax.tnil)) (Syntax.tcons (Syntax.tyInt Syntax.w8) Syntax.tnil))))) (Syntax.tcons
-      (Syntax.tyStruct (114 ∷ 101 ∷ 115 ∷ 105 ∷ 100 ∷ 117 ∷ 101 ∷ 58 ∷ 58 ∷ 82 ∷ 101 ∷ 115 ∷ 105 ∷ 100 ∷ 117 ∷ 101 ∷ []) (Syntax.tcons (Syntax.tyStruct (110 ∷ 97
-      ∷ 109 ∷ 101 ∷ 115 ∷ 58 ∷ 58 ∷ 84 ∷ 104 ∷ 114 ∷ 101 ∷ 101 ∷ []) (Syntax.tcons (Syntax.tyInt Syntax.w8) (Syntax.tcons (Syntax.tyInt Syntax.w8) (Syntax.tcons
-      (Syntax.tyInt Syntax.w8) Syntax.tnil)))) (Syntax.tcons (Syntax.tyInt Syntax.w8) (Syntax.tcons (Syntax.tyStruct (102 ∷ 105 ∷ 101 ∷ 108 ∷ 100 ∷ 115 ∷ 58 ∷ 58
-      ∷ 82 ∷ 101 ∷ 115 ∷ 105 ∷ 100 ∷ 117 ∷ 101 ∷ 78 ∷ 117 ∷ 109 ∷ 98 ∷ 101 ∷ 114 ∷ []) (Syntax.tcons (Syntax.tyInt Syntax.w32) Syntax.tnil)) (Syntax.tcons
-      (Syntax.tyInt Syntax.w8) Syntax.tnil))))) Syntax.tnil))))) (Syntax.tcons (Syntax.tyInt Syntax.w32) (Syntax.tcons (Syntax.tyStruct (104 ∷ 101 ∷ 108 ∷ 105 ∷
-      120 ∷ 58 ∷ 58 ∷ 67 ∷ 111 ∷ 109 ∷ 109 ∷ 101 ∷ 110 ∷ 116 ∷ []) (Syntax.tcons (Syntax.tyInt Syntax.w64) (Syntax.tcons (Syntax.tyInt Syntax.w64) (Syntax.tcons
-      (Syntax.tyInt Syntax.w64) (Syntax.tcons (Syntax.tyInt Syntax.w64) Syntax.tnil))))) (Syntax.tcons (Syntax.tyInt Syntax.w32) Syntax.tnil))))) Syntax.tnil)
-      (Syntax.ttcons (Syntax.tcons (Syntax.tyStruct (115 ∷ 104 ∷ 101 ∷ 101 ∷ 116 ∷ 58 ∷ 58 ∷ 83 ∷ 104 ∷ 101 ∷ 101 ∷ 116 ∷ []) (Syntax.tcons (Syntax.tyStruct (115
-      ∷ 104 ∷ 101 ∷ 101 ∷ 116 ∷ 58 ∷ 58 ∷ 83 ∷ 116 ∷ 114 ∷ 97 ∷ 110 ∷ 100 ∷ []) (Syntax.tcons (Syntax.tyInt Syntax.w32) (Syntax.tcons (Syntax.tyStruct (110 ∷ 97
-      ∷ 109 ∷ 101 ∷ 115 ∷ 58 ∷ 58 ∷ 84 ∷ 104 ∷ 114 ∷ 101 ∷ 101 ∷ []) (Syntax.tcons (Syntax.tyInt Syntax.w8) (Syntax.tcons (Syntax.tyInt Syntax.w8) (Syntax.tcons
-      (Syntax.tyInt Syntax.w8) Syntax.tnil)))) (Syntax.tcons (Syntax.tyInt Syntax.w32) (Syntax.tcons (Syntax.tyStruct (114 ∷ 101 ∷ 115 ∷ 105 ∷ 100 ∷ 117 ∷ 101 ∷
-      58 ∷ 58 ∷ 82 ∷ 101 ∷ 115 ∷ 105 ∷ 100 ∷ 117 ∷ 101 ∷ []) (Syntax.tcons (Syntax.tyStruct (110 ∷ 97 ∷ 109 ∷ 101 ∷ 115 ∷ 58 ∷ 58 ∷ 84 ∷ 104 ∷ 114 ∷ 101 ∷ 101 ∷
-      []) (Syntax.tcons (Syntax.tyInt Syntax.w8) (Syntax.tcons (Syntax.tyInt Syntax.w8) (Syntax.tcons (Syntax.tyInt Syntax.w8) Syntax.tnil)))) (Syntax.tcons
-      (Syntax.tyInt Syntax.w8) (Syntax.tcons (Syntax.tyStruct (102 ∷ 105 ∷ 101 ∷ 108 ∷ 100 ∷ 115 ∷ 58 ∷ 58 ∷ 82 ∷ 101 ∷ 115 ∷ 105 ∷ 100 ∷ 117 ∷ 101 ∷ 78 ∷ 117 ∷
-      109 ∷ 98 ∷ 101 ∷ 114 ∷ []) (Syntax.tcons (Syntax.tyInt Syntax.w32) Syntax.tnil)) (Syntax.tcons (Syntax.tyInt Syntax.w8) Syntax.tnil))))) (Syntax.tcons
-      (Syntax.tyStruct (114 ∷ 101 ∷ 115 ∷ 105 ∷ 100 ∷ 117 ∷ 101 ∷ 58 ∷ 58 ∷ 82 ∷ 101 ∷ 115 ∷ 105 ∷ 100 ∷ 117 ∷ 101 ∷ []) (Syntax.tcons (Syntax.tyStruct (110 ∷ 97
-      ∷ 109 ∷ 101 ∷ 115 ∷ 58 ∷ 58 ∷ 84 ∷ 104 ∷ 114 ∷ 101 ∷ 101 ∷ []) (Syntax.tcons (Syntax.tyInt Syntax.w8) (Syntax.tcons (Syntax.tyInt Syntax.w8) (Syntax.tcons
-      (Syntax.tyInt Syntax.w8) Syntax.tnil)))) (Syntax.tcons (Syntax.tyInt Syntax.w8) (Syntax.tcons (Syntax.tyStruct (102 ∷ 105 ∷ 101 ∷ 108 ∷ 100 ∷ 115 ∷ 58 ∷ 58
-      ∷ 82 ∷ 101 ∷ 115 ∷ 105 ∷ 100 ∷ 117 ∷ 101 ∷ 78 ∷ 117 ∷ 109 ∷ 98 ∷ 101 ∷ 114 ∷ []) (Syntax.tcons (Syntax.tyInt Syntax.w32) Syntax.tnil)) (Syntax.tcons
-      (Syntax.tyInt Syntax.w8) Syntax.tnil))))) (Syntax.tcons (Syntax.tyInt Syntax.w32) Syntax.tnil))))))) (Syntax.tcons (Syntax.tyEnum (115 ∷ 104 ∷ 101 ∷ 101 ∷
-      116 ∷ 58 ∷ 58 ∷ 82 ∷ 101 ∷ 103 ∷ 105 ∷ 115 ∷ 116 ∷ 114 ∷ 97 ∷ 116 ∷ 105 ∷ 111 ∷ 110 ∷ []) (Syntax.ttcons Syntax.tnil (Syntax.ttcons (Syntax.tcons
-      (Syntax.tyStruct (115 ∷ 104 ∷ 101 ∷ 101 ∷ 116 ∷ 58 ∷ 58 ∷ 66 ∷ 111 ∷ 110 ∷ 100 ∷ []) (Syntax.tcons (Syntax.tyStruct (110 ∷ 97 ∷ 109 ∷ 101 ∷ 115 ∷ 58 ∷ 58 ∷
-      70 ∷ 111 ∷ 117 ∷ 114 ∷ []) (Syntax.tcons (Syntax.tyInt Syntax.w8) (Syntax.tcons (Syntax.tyInt Syntax.w8) (Syntax.tcons (Syntax.tyInt Syntax.w8)
-      (Syntax.tcons (Syntax.tyInt Syntax.w8) Syntax.tnil))))) (Syntax.tcons (Syntax.tyStruct (114 ∷ 101 ∷ 115 ∷ 105 ∷ 100 ∷ 117 ∷ 101 ∷ 58 ∷ 58 ∷ 82 ∷ 101 ∷ 115
-      ∷ 105 ∷ 100 ∷ 117 ∷ 101 ∷ []) (Syntax.tcons (Syntax.tyStruct (110 ∷ 97 ∷ 109 ∷ 101 ∷ 115 ∷ 58 ∷ 58 ∷ 84 ∷ 104 ∷ 114 ∷ 101 ∷ 101 ∷ []) (Syntax.tcons
-      (Syntax.tyInt Syntax.w8) (Syntax.tcons (Syntax.tyInt Syntax.w8) (Syntax.tcons (Syntax.tyInt Syntax.w8) Syntax.tnil)))) (Syntax.tcons (Syntax.tyInt
-      Syntax.w8) (Syntax.tcons (Syntax.tyStruct (102 ∷ 105 ∷ 101 ∷ 108 ∷ 100 ∷ 115 ∷ 58 ∷ 58 ∷ 82 ∷ 101 ∷ 115 ∷ 105 ∷ 100 ∷ 117 ∷ 101 ∷ 78 ∷ 117 ∷ 109 ∷ 98 ∷ 101
-      ∷ 114 ∷ []) (Syntax.tcons (Syntax.tyInt Syntax.w32) Syntax.tnil)) (Syntax.tcons (Syntax.tyInt Syntax.w8) Syntax.tnil))))) (Syntax.tcons (Syntax.tyStruct
-      (110 ∷ 97 ∷ 109 ∷ 101 ∷ 115 ∷ 58 ∷ 58 ∷ 70 ∷ 111 ∷ 117 ∷ 114 ∷ []) (Syntax.tcons (Syntax.tyInt Syntax.w8) (Syntax.tcons (Syntax.tyInt Syntax.w8)
-      (Syntax.tcons (Syntax.tyInt Syntax.w8) (Syntax.tcons (Syntax.tyInt Syntax.w8) Syntax.tnil))))) (Syntax.tcons (Syntax.tyStruct (114 ∷ 101 ∷ 115 ∷ 105 ∷ 100
-      ∷ 117 ∷ 101 ∷ 58 ∷ 58 ∷ 82 ∷ 101 ∷ 115 ∷ 105 ∷ 100 ∷ 117 ∷ 101 ∷ []) (Syntax.tcons (Syntax.tyStruct (110 ∷ 97 ∷ 109 ∷ 101 ∷ 115 ∷ 58 ∷ 58 ∷ 84 ∷ 104 ∷ 114
-      ∷ 101 ∷ 101 ∷ []) (Syntax.tcons (Syntax.tyInt Syntax.w8) (Syntax.tcons (Syntax.tyInt Syntax.w8) (Syntax.tcons (Syntax.tyInt Syntax.w8) Syntax.tnil))))
-      (Syntax.tcons (Syntax.tyInt Syntax.w8) (Syntax.tcons (Syntax.tyStruct (102 ∷ 105 ∷ 101 ∷ 108 ∷ 100 ∷ 115 ∷ 58 ∷ 58 ∷ 82 ∷ 101 ∷ 115 ∷ 105 ∷ 100 ∷ 117 ∷ 101
-      ∷ 78 ∷ 117 ∷ 109 ∷ 98 ∷ 101 ∷ 114 ∷ []) (Syntax.tcons (Syntax.tyInt Syntax.w32) Syntax.tnil)) (Syntax.tcons (Syntax.tyInt Syntax.w8) Syntax.tnil)))))
-      Syntax.tnil))))) Syntax.tnil) Syntax.ttnil))) Syntax.tnil))) Syntax.tnil) (Syntax.ttcons (Syntax.tcons (Syntax.tyStruct (99 ∷ 111 ∷ 110 ∷ 101 ∷ 99 ∷ 116 ∷
-      58 ∷ 58 ∷ 67 ∷ 111 ∷ 110 ∷ 101 ∷ 99 ∷ 116 ∷ []) (Syntax.tcons (Syntax.tyStruct (102 ∷ 105 ∷ 101 ∷ 108 ∷ 100 ∷ 115 ∷ 58 ∷ 58 ∷ 83 ∷ 101 ∷ 114 ∷ 105 ∷ 97 ∷
-      108 ∷ []) (Syntax.tcons (Syntax.tyInt Syntax.w32) Syntax.tnil)) (Syntax.tcons (Syntax.tyStruct (102 ∷ 105 ∷ 101 ∷ 108 ∷ 100 ∷ 115 ∷ 58 ∷ 58 ∷ 83 ∷ 101 ∷
-      114 ∷ 105 ∷ 97 ∷ 108 ∷ []) (Syntax.tcons (Syntax.tyInt Syntax.w32) Syntax.tnil)) (Syntax.tcons (Syntax.tyStruct (102 ∷ 105 ∷ 101 ∷ 108 ∷ 100 ∷ 115 ∷ 58 ∷
-      58 ∷ 83 ∷ 101 ∷ 114 ∷ 105 ∷ 97 ∷ 108 ∷ []) (Syntax.tcons (Syntax.tyInt Syntax.w32) Syntax.tnil)) (Syntax.tcons (Syntax.tyStruct (102 ∷ 105 ∷ 101 ∷ 108 ∷
-      100 ∷ 115 ∷ 58 ∷ 58 ∷ 83 ∷ 101 ∷ 114 ∷ 105 ∷ 97 ∷ 108 ∷ []) (Syntax.tcons (Syntax.tyInt Syntax.w32) Syntax.tnil)) (Syntax.tcons (Syntax.tyStruct (102 ∷ 105
-      ∷ 101 ∷ 108 ∷ 100 ∷ 115 ∷ 58 ∷ 58 ∷ 83 ∷ 101 ∷ 114 ∷ 105 ∷ 97 ∷ 108 ∷ []) (Syntax.tcons (Syntax.tyInt Syntax.w32) Syntax.tnil)) Syntax.tnil))))))
-      Syntax.tnil) (Syntax.ttcons (Syntax.tcons (Syntax.tyStruct (109 ∷ 97 ∷ 115 ∷ 116 ∷ 101 ∷ 114 ∷ 58 ∷ 58 ∷ 84 ∷ 97 ∷ 108 ∷ 108 ∷ 121 ∷ []) (Syntax.tcons
-      (Syntax.tyInt Syntax.w32) (Syntax.tcons (Syntax.tyInt Syntax.w32) (Syntax.tcons (Syntax.tyInt Syntax.w32) (Syntax.tcons (Syntax.tyInt Syntax.w32)
-      (Syntax.tcons (Syntax.tyInt Syntax.w32) (Syntax.tcons (Syntax.tyInt Syntax.w32) (Syntax.tcons (Syntax.tyInt Syntax.w32) (Syntax.tcons (Syntax.tyInt
-      Syntax.w32) (Syntax.tcons (Syntax.tyInt Syntax.w32) Syntax.tnil)))))))))) Syntax.tnil) (Syntax.ttcons Syntax.tnil Syntax.ttnil)))))))) Syntax.tnil)
-      Syntax.ttnil))))),
-) ∷ (8, Rows.sc-here Row.sBool) ∷ (9, Rows.any-gone (Syntax.tyInt Syntax.w64)) ∷ (10, Rows.any-gone (Syntax.tyInt Syntax.w64)) ∷ (
-  11,
-  Rows.any-gone (Syntax.tyInt Syntax.w64),
-) ∷ (12, Rows.any-gone Syntax.tyBool) ∷ (13, Rows.any-gone (Syntax.tyRef Syntax.erased Syntax.mut SlotAs.pointee)) ∷ (
-  14,
-  Rows.any-gone (Syntax.tyStruct (38 ∷ 91 ∷ 93 ∷ []) (Syntax.tcons (Syntax.tyRef Syntax.erased Syntax.mut SlotAs.pointee) (Syntax.tcons (Syntax.tyInt
-      Syntax.w64) Syntax.tnil))),
-) ∷ []
-
-abbrev pub t11 : List.List Row.Entry
-t11 = (0, Rows.whole (Declared'.row (Apart.apartT Outcome.the-type))) ∷ (
-  1,
-  Rows.sslice (Referent.rtF (Referent.fInt Syntax.w8)) (Syntax.tyRef (Syntax.named 0)
-      Syntax.imm (Syntax.tyInt Syntax.w8)) 0,
-) ∷ (2, Mut.mslice SlotAs.row (Syntax.tyRef (Syntax.named 1) Syntax.mut SlotAs.pointee) 1) ∷ (
-  3,
-  Rows.any-gone
-      (Syntax.tyStruct (115 ∷ 116 ∷ 111 ∷ 114 ∷ 101 ∷ 58 ∷ 58 ∷ 78 ∷ 101 ∷ 101 ∷ 100 ∷ 115 ∷ []) (Syntax.tcons (Syntax.tyInt Syntax.w8) (Syntax.tcons
-      (Syntax.tyInt Syntax.w64) Syntax.tnil))),
-) ∷ (4, Rows.sc-here (Row.sInt Syntax.w64)) ∷ (5, Rows.any-gone (Syntax.tyInt Syntax.w64)) ∷ (
-  6,
-  Rows.any-gone
-      (Syntax.tyInt Syntax.w64),
-) ∷ (
-  7,
-  Rows.any-gone (Syntax.tyEnum (112 ∷ 105 ∷ 101 ∷ 99 ∷ 101 ∷ 115 ∷ 58 ∷ 58 ∷ 76 ∷ 105 ∷ 110 ∷ 101 ∷ []) (Syntax.ttcons
-      (Syntax.tcons (Syntax.tyInt Syntax.w8) Syntax.tnil) (Syntax.ttcons (Syntax.tcons (Syntax.tyEnum (107 ∷ 105 ∷ 110 ∷ 100 ∷ 115 ∷ 58 ∷ 58 ∷ 75 ∷ 105 ∷ 110 ∷
-      100 ∷ []) (Syntax.ttcons Syntax.tnil (Syntax.ttcons Syntax.tnil (Syntax.ttcons Syntax.tnil (Syntax.ttcons Syntax.tnil (Syntax.ttcons Syntax.tnil
-      (Syntax.ttcons Syntax.tnil (Syntax.ttcons Syntax.tnil (Syntax.ttcons Syntax.tnil (Syntax.ttcons Syntax.tnil (Syntax.ttcons Syntax.tnil (Syntax.ttcons
-      Syntax.tnil (Syntax.ttcons Syntax.tnil (Syntax.ttcons Syntax.tnil (Syntax.ttcons Syntax.tnil (Syntax.ttcons Syntax.tnil (Syntax.ttcons Syntax.tnil
-      (Syntax.ttcons Syntax.tnil (Syntax.ttcons Syntax.tnil (Syntax.ttcons Syntax.tnil (Syntax.ttcons Syntax.tnil (Syntax.ttcons Syntax.tnil (Syntax.ttcons
-      Syntax.tnil (Syntax.ttcons Syntax.tnil (Syntax.ttcons Syntax.tnil (Syntax.ttcons Syntax.tnil (Syntax.ttcons Syntax.tnil (Syntax.ttcons Syntax.tnil
-      (Syntax.ttcons Syntax.tnil Syntax.ttnil))))))))))))))))))))))))))))) (Syntax.tcons (Syntax.tyInt Syntax.w32) Syntax.tnil)) (Syntax.ttcons (Syntax.tcons
-      (Syntax.tyEnum (107 ∷ 105 ∷ 110 ∷ 100 ∷ 115 ∷ 58 ∷ 58 ∷ 75 ∷ 105 ∷ 110 ∷ 100 ∷ []) (Syntax.ttcons Syntax.tnil (Syntax.ttcons Syntax.tnil (Syntax.ttcons
-      Syntax.tnil (Syntax.ttcons Syntax.tnil (Syntax.ttcons Syntax.tnil (Syntax.ttcons Syntax.tnil (Syntax.ttcons Syntax.tnil (Syntax.ttcons Syntax.tnil
-      (Syntax.ttcons Syntax.tnil (Syntax.ttcons Syntax.tnil (Syntax.ttcons Syntax.tnil (Syntax.ttcons Syntax.tnil (Syntax.ttcons Syntax.tnil (Syntax.ttcons
-      Syntax.tnil (Syntax.ttcons Syntax.tnil (Syntax.ttcons Syntax.tnil (Syntax.ttcons Syntax.tnil (Syntax.ttcons Syntax.tnil (Syntax.ttcons Syntax.tnil
-      (Syntax.ttcons Syntax.tnil (Syntax.ttcons Syntax.tnil (Syntax.ttcons Syntax.tnil (Syntax.ttcons Syntax.tnil (Syntax.ttcons Syntax.tnil (Syntax.ttcons
-      Syntax.tnil (Syntax.ttcons Syntax.tnil (Syntax.ttcons Syntax.tnil (Syntax.ttcons Syntax.tnil Syntax.ttnil))))))))))))))))))))))))))))) Syntax.tnil)
-      (Syntax.ttcons (Syntax.tcons (Syntax.tyEnum (108 ∷ 105 ∷ 110 ∷ 101 ∷ 58 ∷ 58 ∷ 82 ∷ 101 ∷ 99 ∷ 111 ∷ 114 ∷ 100 ∷ []) (Syntax.ttcons (Syntax.tcons
-      Syntax.tyBool (Syntax.tcons (Syntax.tyStruct (99 ∷ 111 ∷ 111 ∷ 114 ∷ 100 ∷ 105 ∷ 110 ∷ 97 ∷ 116 ∷ 101 ∷ 58 ∷ 58 ∷ 65 ∷ 116 ∷ 111 ∷ 109 ∷ []) (Syntax.tcons
-      (Syntax.tyStruct (99 ∷ 111 ∷ 111 ∷ 114 ∷ 100 ∷ 105 ∷ 110 ∷ 97 ∷ 116 ∷ 101 ∷ 58 ∷ 58 ∷ 73 ∷ 100 ∷ 101 ∷ 110 ∷ 116 ∷ 105 ∷ 116 ∷ 121 ∷ []) (Syntax.tcons
-      (Syntax.tyStruct (102 ∷ 105 ∷ 101 ∷ 108 ∷ 100 ∷ 115 ∷ 58 ∷ 58 ∷ 83 ∷ 101 ∷ 114 ∷ 105 ∷ 97 ∷ 108 ∷ []) (Syntax.tcons (Syntax.tyInt Syntax.w32) Syntax.tnil))
-      (Syntax.tcons (Syntax.tyStruct (110 ∷ 97 ∷ 109 ∷ 101 ∷ 115 ∷ 58 ∷ 58 ∷ 70 ∷ 111 ∷ 117 ∷ 114 ∷ []) (Syntax.tcons (Syntax.tyInt Syntax.w8) (Syntax.tcons
-      (Syntax.tyInt Syntax.w8) (Syntax.tcons (Syntax.tyInt Syntax.w8) (Syntax.tcons (Syntax.tyInt Syntax.w8) Syntax.tnil))))) (Syntax.tcons (Syntax.tyInt
-      Syntax.w8) (Syntax.tcons (Syntax.tyStruct (114 ∷ 101 ∷ 115 ∷ 105 ∷ 100 ∷ 117 ∷ 101 ∷ 58 ∷ 58 ∷ 82 ∷ 101 ∷ 115 ∷ 105 ∷ 100 ∷ 117 ∷ 101 ∷ []) (Syntax.tcons
-      (Syntax.tyStruct (110 ∷ 97 ∷ 109 ∷ 101 ∷ 115 ∷ 58 ∷ 58 ∷ 84 ∷ 104 ∷ 114 ∷ 101 ∷ 101 ∷ []) (Syntax.tcons (Syntax.tyInt Syntax.w8) (Syntax.tcons
-      (Syntax.tyInt Syntax.w8) (Syntax.tcons (Syntax.tyInt Syntax.w8) Syntax.tnil)))) (Syntax.tcons (Syntax.tyInt Syntax.w8) (Syntax.tcons (Syntax.tyStruct (102
-      ∷ 105 ∷ 101 ∷ 108 ∷ 100 ∷ 115 ∷ 58 ∷ 58 ∷ 82 ∷ 101 ∷ 115 ∷ 105 ∷ 100 ∷ 117 ∷ 101 ∷ 78 ∷ 117 ∷ 109 ∷ 98 ∷ 101 ∷ 114 ∷ []) (Syntax.tcons (Syntax.tyInt
-      Syntax.w32) Syntax.tnil)) (Syntax.tcons (Syntax.tyInt Syntax.w8) Syntax.tnil))))) Syntax.tnil))))) (Syntax.tcons (Syntax.tyStruct (99 ∷ 111 ∷ 111 ∷ 114 ∷
-      100 ∷ 105 ∷ 110 ∷ 97 ∷ 116 ∷ 101 ∷ 58 ∷ 58 ∷ 77 ∷ 101 ∷ 97 ∷ 115 ∷ 117 ∷ 114 ∷ 101 ∷ []) (Syntax.tcons (Syntax.tyStruct (99 ∷ 111 ∷ 111 ∷ 114 ∷ 100 ∷ 105 ∷
-      110 ∷ 97 ∷ 116 ∷ 101 ∷ 58 ∷ 58 ∷ 80 ∷ 111 ∷ 115 ∷ 105 ∷ 116 ∷ 105 ∷ 111 ∷ 110 ∷ []) (Syntax.tcons (Syntax.tyInt Syntax.w32) (Syntax.tcons (Syntax.tyInt
-      Syntax.w32) (Syntax.tcons (Syntax.tyInt Syntax.w32) Syntax.tnil)))) (Syntax.tcons (Syntax.tyInt Syntax.w32) (Syntax.tcons (Syntax.tyInt Syntax.w32)
-      Syntax.tnil)))) (Syntax.tcons (Syntax.tyStruct (99 ∷ 111 ∷ 111 ∷ 114 ∷ 100 ∷ 105 ∷ 110 ∷ 97 ∷ 116 ∷ 101 ∷ 58 ∷ 58 ∷ 83 ∷ 112 ∷ 101 ∷ 99 ∷ 105 ∷ 101 ∷ 115 ∷
-      []) (Syntax.tcons (Syntax.tyStruct (110 ∷ 97 ∷ 109 ∷ 101 ∷ 115 ∷ 58 ∷ 58 ∷ 80 ∷ 97 ∷ 105 ∷ 114 ∷ []) (Syntax.tcons (Syntax.tyInt Syntax.w8) (Syntax.tcons
-      (Syntax.tyInt Syntax.w8) Syntax.tnil))) (Syntax.tcons (Syntax.tyStruct (110 ∷ 97 ∷ 109 ∷ 101 ∷ 115 ∷ 58 ∷ 58 ∷ 80 ∷ 97 ∷ 105 ∷ 114 ∷ []) (Syntax.tcons
-      (Syntax.tyInt Syntax.w8) (Syntax.tcons (Syntax.tyInt Syntax.w8) Syntax.tnil))) Syntax.tnil))) Syntax.tnil)))) Syntax.tnil)) (Syntax.ttcons (Syntax.tcons
-      (Syntax.tyStruct (116 ∷ 101 ∷ 114 ∷ 58 ∷ 58 ∷ 84 ∷ 101 ∷ 114 ∷ []) (Syntax.tcons (Syntax.tyStruct (102 ∷ 105 ∷ 101 ∷ 108 ∷ 100 ∷ 115 ∷ 58 ∷ 58 ∷ 83 ∷ 101 ∷
-      114 ∷ 105 ∷ 97 ∷ 108 ∷ []) (Syntax.tcons (Syntax.tyInt Syntax.w32) Syntax.tnil)) (Syntax.tcons (Syntax.tyStruct (114 ∷ 101 ∷ 115 ∷ 105 ∷ 100 ∷ 117 ∷ 101 ∷
-      58 ∷ 58 ∷ 82 ∷ 101 ∷ 115 ∷ 105 ∷ 100 ∷ 117 ∷ 101 ∷ []) (Syntax.tcons (Syntax.tyStruct (110 ∷ 97 ∷ 109 ∷ 101 ∷ 115 ∷ 58 ∷ 58 ∷ 84 ∷ 104 ∷ 114 ∷ 101 ∷ 101 ∷
-      []) (Syntax.tcons (Syntax.tyInt Syntax.w8) (Syntax.tcons (Syntax.tyInt Syntax.w8) (Syntax.tcons (Syntax.tyInt Syntax.w8) Syntax.tnil)))) (Syntax.tcons
-      (Syntax.tyInt Syntax.w8) (Syntax.tcons (Syntax.tyStruct (102 ∷ 105 ∷ 101 ∷ 108 ∷ 100 ∷ 115 ∷ 58 ∷ 58 ∷ 82 ∷ 101 ∷ 115 ∷ 105 ∷ 100 ∷ 117 ∷ 101 ∷ 78 ∷ 117 ∷
-      109 ∷ 98 ∷ 101 ∷ 114 ∷ []) (Syntax.tcons (Syntax.tyInt Syntax.w32) Syntax.tnil)) (Syntax.tcons (Syntax.tyInt Syntax.w8) Syntax.tnil))))) Syntax.tnil)))
-      Syntax.tnil) (Syntax.ttcons (Syntax.tcons (Syntax.tyStruct (104 ∷ 101 ∷ 108 ∷ 105 ∷ 120 ∷ 58 ∷ 58 ∷ 72 ∷ 101 ∷ 108 ∷ 105 ∷ 120 ∷ []) (Syntax.tcons
-      (Syntax.tyStruct (104 ∷ 101 ∷ 108 ∷ 105 ∷ 120 ∷ 58 ∷ 58 ∷ 69 ∷ 120 ∷ 116 ∷ 101 ∷ 110 ∷ 116 ∷ []) (Syntax.tcons (Syntax.tyInt Syntax.w32) (Syntax.tcons
-      (Syntax.tyStruct (110 ∷ 97 ∷ 109 ∷ 101 ∷ 115 ∷ 58 ∷ 58 ∷ 84 ∷ 104 ∷ 114 ∷ 101 ∷ 101 ∷ []) (Syntax.tcons (Syntax.tyInt Syntax.w8) (Syntax.tcons
-      (Syntax.tyInt Syntax.w8) (Syntax.tcons (Syntax.tyInt Syntax.w8) Syntax.tnil)))) (Syntax.tcons (Syntax.tyStruct (114 ∷ 101 ∷ 115 ∷ 105 ∷ 100 ∷ 117 ∷ 101 ∷
-      58 ∷ 58 ∷ 82 ∷ 101 ∷ 115 ∷ 105 ∷ 100 ∷ 117 ∷ 101 ∷ []) (Syntax.tcons (Syntax.tyStruct (110 ∷ 97 ∷ 109 ∷ 101 ∷ 115 ∷ 58 ∷ 58 ∷ 84 ∷ 104 ∷ 114 ∷ 101 ∷ 101 ∷
-      []) (Syntax.tcons (Syntax.tyInt Syntax.w8) (Syntax.tcons (Syntax.tyInt Syntax.w8) (Syntax.tcons (Syntax.tyInt Syntax.w8) Syntax.tnil)))) (Syntax.tcons
-      (Syntax.tyInt Syntax.w8) (Syntax.tcons (Syntax.tyStruct (102 ∷ 105 ∷ 101 ∷ 108 ∷ 100 ∷ 115 ∷ 58 ∷ 58 ∷ 82 ∷ 101 ∷ 115 ∷ 105 ∷ 100 ∷ 117 ∷ 101 ∷ 78 ∷ 117 ∷
-      109 ∷ 98 ∷ 101 ∷ 114 ∷ []) (Syntax.tcons (Syntax.tyInt Syntax.w32) Syntax.tnil)) (Syntax.tcons (Syntax.tyInt Syntax.w8) Syntax.tnil))))) (Syntax.tcons
-      (Syntax.tyStruct (114 ∷ 101 ∷ 115 ∷ 105 ∷ 100 ∷ 117 ∷ 101 ∷ 58 ∷ 58 ∷ 82 ∷ 101 ∷ 115 ∷ 105 ∷ 100 ∷ 117 ∷ 101 ∷ []) (Syntax.tcons (Syntax.tyStruct (110 ∷ 97
-      ∷ 109 ∷ 101 ∷ 115 ∷ 58 ∷ 58 ∷ 84 ∷ 104 ∷ 114 ∷ 101 ∷ 101 ∷ []) (Syntax.tcons (Syntax.tyInt Syntax.w8) (Syntax.tcons (Syntax.tyInt Syntax.w8) (Syntax.tcons
-      (Syntax.tyInt Syntax.w8) Syntax.tnil)))) (Syntax.tcons (Syntax.tyInt Syntax.w8) (Syntax.tcons (Syntax.tyStruct (102 ∷ 105 ∷ 101 ∷ 108 ∷ 100 ∷ 115 ∷ 58 ∷ 58
-      ∷ 82 ∷ 101 ∷ 115 ∷ 105 ∷ 100 ∷ 117 ∷ 101 ∷ 78 ∷ 117 ∷ 109 ∷ 98 ∷ 101 ∷ 114 ∷ []) (Syntax.tcons (Syntax.tyInt Syntax.w32) Syntax.tnil)) (Syntax.tcons
-      (Syntax.tyInt Syntax.w8) Syntax.tnil))))) Syntax.tnil))))) (Syntax.tcons (Syntax.tyInt Syntax.w32) (Syntax.tcons (Syntax.tyStruct (104 ∷ 101 ∷ 108 ∷ 105 ∷
-      120 ∷ 58 ∷ 58 ∷ 67 ∷ 111 ∷ 109 ∷ 109 ∷ 101 ∷ 110 ∷ 116 ∷ []) (Syntax.tcons (Syntax.tyInt Syntax.w64) (Syntax.tcons (Syntax.tyInt Syntax.w64) (Syntax.tcons
-      (Syntax.tyInt Syntax.w64) (Syntax.tcons (Syntax.tyInt Syntax.w64) Syntax.tnil))))) (Syntax.tcons (Syntax.tyInt Syntax.w32) Syntax.tnil))))) Syntax.tnil)
-      (Syntax.ttcons (Syntax.tcons (Syntax.tyStruct (115 ∷ 104 ∷ 101 ∷ 101 ∷ 116 ∷ 58 ∷ 58 ∷ 83 ∷ 104 ∷ 101 ∷ 101 ∷ 116 ∷ []) (Syntax.tcons (Syntax.tyStruct (115
-      ∷ 104 ∷ 101 ∷ 101 ∷ 116 ∷ 58 ∷ 58 ∷ 83 ∷ 116 ∷ 114 ∷ 97 ∷ 110 ∷ 100 ∷ []) (Syntax.tcons (Syntax.tyInt Syntax.w32) (Syntax.tcons (Syntax.tyStruct (110 ∷ 97
-      ∷ 109 ∷ 101 ∷ 115 ∷ 58 ∷ 58 ∷ 84 ∷ 104 ∷ 114 ∷ 101 ∷ 101 ∷ []) (Syntax.tcons (Syntax.tyInt Syntax.w8) (Syntax.tcons (Syntax.tyInt Syntax.w8) (Syntax.tcons
-      (Syntax.tyInt Syntax.w8) Syntax.tnil)))) (Syntax.tcons (Syntax.tyInt Syntax.w32) (Syntax.tcons (Syntax.tyStruct (114 ∷ 101 ∷ 115 ∷ 105 ∷ 100 ∷ 117 ∷ 101 ∷
-      58 ∷ 58 ∷ 82 ∷ 101 ∷ 115 ∷ 105 ∷ 100 ∷ 117 ∷ 101 ∷ []) (Syntax.tcons (Syntax.tyStruct (110 ∷ 97 ∷ 109 ∷ 101 ∷ 115 ∷ 58 ∷ 58 ∷ 84 ∷ 104 ∷ 114 ∷ 101 ∷ 101 ∷
-      []) (Syntax.tcons (Syntax.tyInt Syntax.w8) (Syntax.tcons (Syntax.tyInt Syntax.w8) (Syntax.tcons (Syntax.tyInt Syntax.w8) Syntax.tnil)))) (Syntax.tcons
-      (Syntax.tyInt Syntax.w8) (Syntax.tcons (Syntax.tyStruct (102 ∷ 105 ∷ 101 ∷ 108 ∷ 100 ∷ 115 ∷ 58 ∷ 58 ∷ 82 ∷ 101 ∷ 115 ∷ 105 ∷ 100 ∷ 117 ∷ 101 ∷ 78 ∷ 117 ∷
-      109 ∷ 98 ∷ 101 ∷ 114 ∷ []) (Syntax.tcons (Syntax.tyInt Syntax.w32) Syntax.tnil)) (Syntax.tcons (Syntax.tyInt Syntax.w8) Syntax.tnil))))) (Syntax.tcons
-      (Syntax.tyStruct (114 ∷ 101 ∷ 115 ∷ 105 ∷ 100 ∷ 117 ∷ 101 ∷ 58 ∷ 58 ∷ 82 ∷ 101 ∷ 115 ∷ 105 ∷ 100 ∷ 117 ∷ 101 ∷ []) (Syntax.tcons (Syntax.tyStruct (110 ∷ 97
-      ∷ 109 ∷ 101 ∷ 115 ∷ 58 ∷ 58 ∷ 84 ∷ 104 ∷ 114 ∷ 101 ∷ 101 ∷ []) (Syntax.tcons (Syntax.tyInt Syntax.w8) (Syntax.tcons (Syntax.tyInt Syntax.w8) (Syntax.tcons
-      (Syntax.tyInt Syntax.w8) Syntax.tnil)))) (Syntax.tcons (Syntax.tyInt Syntax.w8) (Syntax.tcons (Syntax.tyStruct (102 ∷ 105 ∷ 101 ∷ 108 ∷ 100 ∷ 115 ∷ 58 ∷ 58
-      ∷ 82 ∷ 101 ∷ 115 ∷ 105 ∷ 100 ∷ 117 ∷ 101 ∷ 78 ∷ 117 ∷ 109 ∷ 98 ∷ 101 ∷ 114 ∷ []) (Syntax.tcons (Syntax.tyInt Syntax.w32) Syntax.tnil)) (Syntax.tcons
-      (Syntax.tyInt Syntax.w8) Syntax.tnil))))) (Syntax.tcons (Syntax.tyInt Syntax.w32) Syntax.tnil))))))) (Syntax.tcons (Syntax.tyEnum (115 ∷ 104 ∷ 101 ∷ 101 ∷
-      116 ∷ 58 ∷ 58 ∷ 82 ∷ 101 ∷ 103 ∷ 105 ∷ 115 ∷ 116 ∷ 114 ∷ 97 ∷ 116 ∷ 105 ∷ 111 ∷ 110 ∷ []) (Syntax.ttcons Syntax.tnil (Syntax.ttcons (Syntax.tcons
-      (Syntax.tyStruct (115 ∷ 104 ∷ 101 ∷ 101 ∷ 116 ∷ 58 ∷ 58 ∷ 66 ∷ 111 ∷ 110 ∷ 100 ∷ []) (Syntax.tcons (Syntax.tyStruct (110 ∷ 97 ∷ 109 ∷ 101 ∷ 115 ∷ 58 ∷ 58 ∷
-      70 ∷ 111 ∷ 117 ∷ 114 ∷ []) (Syntax.tcons (Syntax.tyInt Syntax.w8) (Syntax.tcons (Syntax.tyInt Syntax.w8) (Syntax.tcons (Syntax.tyInt Syntax.w8)
-      (Syntax.tcons (Syntax.tyInt Syntax.w8) Syntax.tnil))))) (Syntax.tcons (Syntax.tyStruct (114 ∷ 101 ∷ 115 ∷ 105 ∷ 100 ∷ 117 ∷ 101 ∷ 58 ∷ 58 ∷ 82 ∷ 101 ∷ 115
-      ∷ 105 ∷ 100 ∷ 117 ∷ 101 ∷ []) (Syntax.tcons (Syntax.tyStruct (110 ∷ 97 ∷ 109 ∷ 101 ∷ 115 ∷ 58 ∷ 58 ∷ 84 ∷ 104 ∷ 114 ∷ 101 ∷ 101 ∷ []) (Syntax.tcons
-      (Syntax.tyInt Syntax.w8) (Syntax.tcons (Syntax.tyInt Syntax.w8) (Syntax.tcons (Syntax.tyInt Syntax.w8) Syntax.tnil)))) (Syntax.tcons (Syntax.tyInt
-      Syntax.w8) (Syntax.tcons (Syntax.tyStruct (102 ∷ 105 ∷ 101 ∷ 108 ∷ 100 ∷ 115 ∷ 58 ∷ 58 ∷ 82 ∷ 101 ∷ 115 ∷ 105 ∷ 100 ∷ 117 ∷ 101 ∷ 78 ∷ 117 ∷ 109 ∷ 98 ∷ 101
-      ∷ 114 ∷ []) (Syntax.tcons (Syntax.tyInt Syntax.w32) Syntax.tnil)) (Syntax.tcons (Syntax.tyInt Syntax.w8) Syntax.tnil))))) (Syntax.tcons (Syntax.tyStruct
-      (110 ∷ 97 ∷ 109 ∷ 101 ∷ 115 ∷ 58 ∷ 58 ∷ 70 ∷ 111 ∷ 117 ∷ 114 ∷ []) (Syntax.tcons (Syntax.tyInt Syntax.w8) (Syntax.tcons (Syntax.tyInt Syntax.w8)
-      (Syntax.tcons (Syntax.tyInt Syntax.w8) (Syntax.tcons (Syntax.tyInt Syntax.w8) Syntax.tnil))))) (Syntax.tcons (Syntax.tyStruct (114 ∷ 101 ∷ 115 ∷ 105 ∷ 100
-      ∷ 117 ∷ 101 ∷ 58 ∷ 58 ∷ 82 ∷ 101 ∷ 115 ∷ 105 ∷ 100 ∷ 117 ∷ 101 ∷ []) (Syntax.tcons (Syntax.tyStruct (110 ∷ 97 ∷ 109 ∷ 101 ∷ 115 ∷ 58 ∷ 58 ∷ 84 ∷ 104 ∷ 114
-      ∷ 101 ∷ 101 ∷ []) (Syntax.tcons (Syntax.tyInt Syntax.w8) (Syntax.tcons (Syntax.tyInt Syntax.w8) (Syntax.tcons (Syntax.tyInt Syntax.w8) Syntax.tnil))))
-      (Syntax.tcons (Syntax.tyInt Syntax.w8) (Syntax.tcons (Syntax.tyStruct (102 ∷ 105 ∷ 101 ∷ 108 ∷ 100 ∷ 115 ∷ 58 ∷ 58 ∷ 82 ∷ 101 ∷ 115 ∷ 105 ∷ 100 ∷ 117 ∷ 101
-      ∷ 78 ∷ 117 ∷ 109 ∷ 98 ∷ 101 ∷ 114 ∷ []) (Syntax.tcons (Syntax.tyInt Syntax.w32) Syntax.tnil)) (Syntax.tcons (Syntax.tyInt Syntax.w8) Syntax.tnil)))))
-      Syntax.tnil))))) Syntax.tnil) Syntax.ttnil))) Syntax.tnil))) Syntax.tnil) (Syntax.ttcons (Syntax.tcons (Syntax.tyStruct (99 ∷ 111 ∷ 110 ∷ 101 ∷ 99 ∷ 116 ∷
-      58 ∷ 58 ∷ 67 ∷ 111 ∷ 110 ∷ 101 ∷ 99 ∷ 116 ∷ []) (Syntax.tcons (Syntax.tyStruct (102 ∷ 105 ∷ 101 ∷ 108 ∷ 100 ∷ 115 ∷ 58 ∷ 58 ∷ 83 ∷ 101 ∷ 114 ∷ 105 ∷ 97 ∷
-      108 ∷ []) (Syntax.tcons (Syntax.tyInt Syntax.w32) Syntax.tnil)) (Syntax.tcons (Syntax.tyStruct (102 ∷ 105 ∷ 101 ∷ 108 ∷ 100 ∷ 115 ∷ 58 ∷ 58 ∷ 83 ∷ 101 ∷
-      114 ∷ 105 ∷ 97 ∷ 108 ∷ []) (Syntax.tcons (Syntax.tyInt Syntax.w32) Syntax.tnil)) (Syntax.tcons (Syntax.tyStruct (102 ∷ 105 ∷ 101 ∷ 108 ∷ 100 ∷ 115 ∷ 58 ∷
-      58 ∷ 83 ∷ 101 ∷ 114 ∷ 105 ∷ 97 ∷ 108 ∷ []) (Syntax.tcons (Syntax.tyInt Syntax.w32) Syntax.tnil)) (Syntax.tcons (Syntax.tyStruct (102 ∷ 105 ∷ 101 ∷ 108 ∷
-      100 ∷ 115 ∷ 58 ∷ 58 ∷ 83 ∷ 101 ∷ 114 ∷ 105 ∷ 97 ∷ 108 ∷ []) (Syntax.tcons (Syntax.tyInt Syntax.w32) Syntax.tnil)) (Syntax.tcons (Syntax.tyStruct (102 ∷ 105
-      ∷ 101 ∷ 108 ∷ 100 ∷ 115 ∷ 58 ∷ 58 ∷ 83 ∷ 101 ∷ 114 ∷ 105 ∷ 97 ∷ 108 ∷ []) (Syntax.tcons (Syntax.tyInt Syntax.w32) Syntax.tnil)) Syntax.tnil))))))
-      Syntax.tnil) (Syntax.ttcons (Syntax.tcons (Syntax.tyStruct (109 ∷ 97 ∷ 115 ∷ 116 ∷ 101 ∷ 114 ∷ 58 ∷ 58 ∷ 84 ∷ 97 ∷ 108 ∷ 108 ∷ 121 ∷ []) (Syntax.tcons
-      (Syntax.tyInt Syntax.w32) (Syntax.tcons (Syntax.tyInt Syntax.w32) (Syntax.tcons (Syntax.tyInt Syntax.w32) (Syntax.tcons (Syntax.tyInt Syntax.w32)
-      (Syntax.tcons (Syntax.tyInt Syntax.w32) (Syntax.tcons (Syntax.tyInt Syntax.w32) (Syntax.tcons (Syntax.tyInt Syntax.w32) (Syntax.tcons (Syntax.tyInt
-      Syntax.w32) (Syntax.tcons (Syntax.tyInt Syntax.w32) Syntax.tnil)))))))))) Syntax.tnil) (Syntax.ttcons Syntax.tnil Syntax.ttnil)))))))) Syntax.tnil)
-      Syntax.ttnil))))),
-) ∷ (8, Rows.any-gone Syntax.tyBool) ∷ (9, Rows.any-gone (Syntax.tyInt Syntax.w64)) ∷ (10, Rows.any-gone (Syntax.tyInt Syntax.w64)) ∷ (
-  11,
-  Rows.any-gone (Syntax.tyInt Syntax.w64),
-) ∷ (12, Rows.any-gone Syntax.tyBool) ∷ (13, Rows.any-gone (Syntax.tyRef Syntax.erased Syntax.mut SlotAs.pointee)) ∷ (
-  14,
-  Rows.any-gone (Syntax.tyStruct (38 ∷ 91 ∷ 93 ∷ []) (Syntax.tcons (Syntax.tyRef Syntax.erased Syntax.mut SlotAs.pointee) (Syntax.tcons (Syntax.tyInt
-      Syntax.w64) Syntax.tnil))),
-) ∷ []
-
-abbrev pub t12 : List.List Row.Entry
-t12 = (
-  0,
-  Rows.any-gone (Syntax.tyStruct (115 ∷ 116 ∷ 111 ∷ 114 ∷ 101 ∷ 58 ∷ 58 ∷ 79 ∷ 117 ∷ 116 ∷ 99 ∷ 111 ∷ 109 ∷ 101 ∷ []) (Syntax.tcons (Syntax.tyInt
-      Syntax.w8) (Syntax.tcons (Syntax.tyInt Syntax.w64) Syntax.tnil))),
-) ∷ (
-  1,
-  Rows.sslice (Referent.rtF (Referent.fInt Syntax.w8)) (Syntax.tyRef (Syntax.named
-      0) Syntax.imm (Syntax.tyInt Syntax.w8)) 0,
-) ∷ (2, Mut.mslice SlotAs.row (Syntax.tyRef (Syntax.named 1) Syntax.mut SlotAs.pointee) 1) ∷ (
-  3,
-  Rows.any-gone
-      (Syntax.tyStruct (115 ∷ 116 ∷ 111 ∷ 114 ∷ 101 ∷ 58 ∷ 58 ∷ 78 ∷ 101 ∷ 101 ∷ 100 ∷ 115 ∷ []) (Syntax.tcons (Syntax.tyInt Syntax.w8) (Syntax.tcons
-      (Syntax.tyInt Syntax.w64) Syntax.tnil))),
-) ∷ (4, Rows.sc-here (Row.sInt Syntax.w64)) ∷ (5, Rows.sc-here (Row.sInt Syntax.w64)) ∷ (
-  6,
-  Rows.any-gone
-      (Syntax.tyInt Syntax.w64),
-) ∷ (
-  7,
-  Rows.any-gone (Syntax.tyEnum (112 ∷ 105 ∷ 101 ∷ 99 ∷ 101 ∷ 115 ∷ 58 ∷ 58 ∷ 76 ∷ 105 ∷ 110 ∷ 101 ∷ []) (Syntax.ttcons
-      (Syntax.tcons (Syntax.tyInt Syntax.w8) Syntax.tnil) (Syntax.ttcons (Syntax.tcons (Syntax.tyEnum (107 ∷ 105 ∷ 110 ∷ 100 ∷ 115 ∷ 58 ∷ 58 ∷ 75 ∷ 105 ∷ 110 ∷
-      100 ∷ []) (Syntax.ttcons Syntax.tnil (Syntax.ttcons Syntax.tnil (Syntax.ttcons Syntax.tnil (Syntax.ttcons Syntax.tnil (Syntax.ttcons Syntax.tnil
-      (Syntax.ttcons Syntax.tnil (Syntax.ttcons Syntax.tnil (Syntax.ttcons Syntax.tnil (Syntax.ttcons Syntax.tnil (Syntax.ttcons Syntax.tnil (Syntax.ttcons
-      Syntax.tnil (Syntax.ttcons Syntax.tnil (Syntax.ttcons Syntax.tnil (Syntax.ttcons Syntax.tnil (Syntax.ttcons Syntax.tnil (Syntax.ttcons Syntax.tnil
-      (Syntax.ttcons Syntax.tnil (Syntax.ttcons Syntax.tnil (Syntax.ttcons Syntax.tnil (Syntax.ttcons Syntax.tnil (Syntax.ttcons Syntax.tnil (Syntax.ttcons
-      Syntax.tnil (Syntax.ttcons Syntax.tnil (Syntax.ttcons Syntax.tnil (Syntax.ttcons Syntax.tnil (Syntax.ttcons Syntax.tnil (Syntax.ttcons Syntax.tnil
-      (Syntax.ttcons Syntax.tnil Syntax.ttnil))))))))))))))))))))))))))))) (Syntax.tcons (Syntax.tyInt Syntax.w32) Syntax.tnil)) (Syntax.ttcons (Syntax.tcons
-      (Syntax.tyEnum (107 ∷ 105 ∷ 110 ∷ 100 ∷ 115 ∷ 58 ∷ 58 ∷ 75 ∷ 105 ∷ 110 ∷ 100 ∷ []) (Syntax.ttcons Syntax.tnil (Syntax.ttcons Syntax.tnil (Syntax.ttcons
-      Syntax.tnil (Syntax.ttcons Syntax.tnil (Syntax.ttcons Syntax.tnil (Syntax.ttcons Syntax.tnil (Syntax.ttcons Syntax.tnil (Syntax.ttcons Syntax.tnil
-      (Syntax.ttcons Syntax.tnil (Syntax.ttcons Syntax.tnil (Syntax.ttcons Syntax.tnil (Syntax.ttcons Syntax.tnil (Syntax.ttcons Syntax.tnil (Syntax.ttcons
-      Syntax.tnil (Syntax.ttcons Syntax.tnil (Syntax.ttcons Syntax.tnil (Syntax.ttcons Syntax.tnil (Syntax.ttcons Syntax.tnil (Syntax.ttcons Syntax.tnil
-      (Syntax.ttcons Syntax.tnil (Syntax.ttcons Syntax.tnil (Syntax.ttcons Syntax.tnil (Syntax.ttcons Syntax.tnil (Syntax.ttcons Syntax.tnil (Syntax.ttcons
-      Syntax.tnil (Syntax.ttcons Syntax.tnil (Syntax.ttcons Syntax.tnil (Syntax.ttcons Syntax.tnil Syntax.ttnil))))))))))))))))))))))))))))) Syntax.tnil)
-      (Syntax.ttcons (Syntax.tcons (Syntax.tyEnum (108 ∷ 105 ∷ 110 ∷ 101 ∷ 58 ∷ 58 ∷ 82 ∷ 101 ∷ 99 ∷ 111 ∷ 114 ∷ 100 ∷ []) (Syntax.ttcons (Syntax.tcons
-      Syntax.tyBool (Syntax.tcons (Syntax.tyStruct (99 ∷ 111 ∷ 111 ∷ 114 ∷ 100 ∷ 105 ∷ 110 ∷ 97 ∷ 116 ∷ 101 ∷ 58 ∷ 58 ∷ 65 ∷ 116 ∷ 111 ∷ 109 ∷ []) (Syntax.tcons
-      (Syntax.tyStruct (99 ∷ 111 ∷ 111 ∷ 114 ∷ 100 ∷ 105 ∷ 110 ∷ 97 ∷ 116 ∷ 101 ∷ 58 ∷ 58 ∷ 73 ∷ 100 ∷ 101 ∷ 110 ∷ 116 ∷ 105 ∷ 116 ∷ 121 ∷ []) (Syntax.tcons
-      (Syntax.tyStruct (102 ∷ 105 ∷ 101 ∷ 108 ∷ 100 ∷ 115 ∷ 58 ∷ 58 ∷ 83 ∷ 101 ∷ 114 ∷ 105 ∷ 97 ∷ 108 ∷ []) (Syntax.tcons (Syntax.tyInt Syntax.w32) Syntax.tnil))
-      (Syntax.tcons (Syntax.tyStruct (110 ∷ 97 ∷ 109 ∷ 101 ∷ 115 ∷ 58 ∷ 58 ∷ 70 ∷ 111 ∷ 117 ∷ 114 ∷ []) (Syntax.tcons (Syntax.tyInt Syntax.w8) (Syntax.tcons
-      (Syntax.tyInt Syntax.w8) (Syntax.tcons (Syntax.tyInt Syntax.w8) (Syntax.tcons (Syntax.tyInt Syntax.w8) Syntax.tnil))))) (Syntax.tcons (Syntax.tyInt
-      Syntax.w8) (Syntax.tcons (Syntax.tyStruct (114 ∷ 101 ∷ 115 ∷ 105 ∷ 100 ∷ 117 ∷ 101 ∷ 58 ∷ 58 ∷ 82 ∷ 101 ∷ 115 ∷ 105 ∷ 100 ∷ 117 ∷ 101 ∷ []) (Syntax.tcons
-      (Syntax.tyStruct (110 ∷ 97 ∷ 109 ∷ 101 ∷ 115 ∷ 58 ∷ 58 ∷ 84 ∷ 104 ∷ 114 ∷ 101 ∷ 101 ∷ []) (Syntax.tcons (Syntax.tyInt Syntax.w8) (Syntax.tcons
-      (Syntax.tyInt Syntax.w8) (Syntax.tcons (Syntax.tyInt Syntax.w8) Syntax.tnil)))) (Syntax.tcons (Syntax.tyInt Syntax.w8) (Syntax.tcons (Syntax.tyStruct (102
-      ∷ 105 ∷ 101 ∷ 108 ∷ 100 ∷ 115 ∷ 58 ∷ 58 ∷ 82 ∷ 101 ∷ 115 ∷ 105 ∷ 100 ∷ 117 ∷ 101 ∷ 78 ∷ 117 ∷ 109 ∷ 98 ∷ 101 ∷ 114 ∷ []) (Syntax.tcons (Syntax.tyInt
-      Syntax.w32) Syntax.tnil)) (Syntax.tcons (Syntax.tyInt Syntax.w8) Syntax.tnil))))) Syntax.tnil))))) (Syntax.tcons (Syntax.tyStruct (99 ∷ 111 ∷ 111 ∷ 114 ∷
-      100 ∷ 105 ∷ 110 ∷ 97 ∷ 116 ∷ 101 ∷ 58 ∷ 58 ∷ 77 ∷ 101 ∷ 97 ∷ 115 ∷ 117 ∷ 114 ∷ 101 ∷ []) (Syntax.tcons (Syntax.tyStruct (99 ∷ 111 ∷ 111 ∷ 114 ∷ 100 ∷ 105 ∷
-      110 ∷ 97 ∷ 116 ∷ 101 ∷ 58 ∷ 58 ∷ 80 ∷ 111 ∷ 115 ∷ 105 ∷ 116 ∷ 105 ∷ 111 ∷ 110 ∷ []) (Syntax.tcons (Syntax.tyInt Syntax.w32) (Syntax.tcons (Syntax.tyInt
-      Syntax.w32) (Syntax.tcons (Syntax.tyInt Syntax.w32) Syntax.tnil)))) (Syntax.tcons (Syntax.tyInt Syntax.w32) (Syntax.tcons (Syntax.tyInt Syntax.w32)
-      Syntax.tnil)))) (Syntax.tcons (Syntax.tyStruct (99 ∷ 111 ∷ 111 ∷ 114 ∷ 100 ∷ 105 ∷ 110 ∷ 97 ∷ 116 ∷ 101 ∷ 58 ∷ 58 ∷ 83 ∷ 112 ∷ 101 ∷ 99 ∷ 105 ∷ 101 ∷ 115 ∷
-      []) (Syntax.tcons (Syntax.tyStruct (110 ∷ 97 ∷ 109 ∷ 101 ∷ 115 ∷ 58 ∷ 58 ∷ 80 ∷ 97 ∷ 105 ∷ 114 ∷ []) (Syntax.tcons (Syntax.tyInt Syntax.w8) (Syntax.tcons
-      (Syntax.tyInt Syntax.w8) Syntax.tnil))) (Syntax.tcons (Syntax.tyStruct (110 ∷ 97 ∷ 109 ∷ 101 ∷ 115 ∷ 58 ∷ 58 ∷ 80 ∷ 97 ∷ 105 ∷ 114 ∷ []) (Syntax.tcons
-      (Syntax.tyInt Syntax.w8) (Syntax.tcons (Syntax.tyInt Syntax.w8) Syntax.tnil))) Syntax.tnil))) Syntax.tnil)))) Syntax.tnil)) (Syntax.ttcons (Syntax.tcons
-      (Syntax.tyStruct (116 ∷ 101 ∷ 114 ∷ 58 ∷ 58 ∷ 84 ∷ 101 ∷ 114 ∷ []) (Syntax.tcons (Syntax.tyStruct (102 ∷ 105 ∷ 101 ∷ 108 ∷ 100 ∷ 115 ∷ 58 ∷ 58 ∷ 83 ∷ 101 ∷
-      114 ∷ 105 ∷ 97 ∷ 108 ∷ []) (Syntax.tcons (Syntax.tyInt Syntax.w32) Syntax.tnil)) (Syntax.tcons (Syntax.tyStruct (114 ∷ 101 ∷ 115 ∷ 105 ∷ 100 ∷ 117 ∷ 101 ∷
-      58 ∷ 58 ∷ 82 ∷ 101 ∷ 115 ∷ 105 ∷ 100 ∷ 117 ∷ 101 ∷ []) (Syntax.tcons (Syntax.tyStruct (110 ∷ 97 ∷ 109 ∷ 101 ∷ 115 ∷ 58 ∷ 58 ∷ 84 ∷ 104 ∷ 114 ∷ 101 ∷ 101 ∷
-      []) (Syntax.tcons (Syntax.tyInt Syntax.w8) (Syntax.tcons (Syntax.tyInt Syntax.w8) (Syntax.tcons (Syntax.tyInt Syntax.w8) Syntax.tnil)))) (Syntax.tcons
-      (Syntax.tyInt Syntax.w8) (Syntax.tcons (Syntax.tyStruct (102 ∷ 105 ∷ 101 ∷ 108 ∷ 100 ∷ 115 ∷ 58 ∷ 58 ∷ 82 ∷ 101 ∷ 115 ∷ 105 ∷ 100 ∷ 117 ∷ 101 ∷ 78 ∷ 117 ∷
-      109 ∷ 98 ∷ 101 ∷ 114 ∷ []) (Syntax.tcons (Syntax.tyInt Syntax.w32) Syntax.tnil)) (Syntax.tcons (Syntax.tyInt Syntax.w8) Syntax.tnil))))) Syntax.tnil)))
-      Syntax.tnil) (Syntax.ttcons (Syntax.tcons (Syntax.tyStruct (104 ∷ 101 ∷ 108 ∷ 105 ∷ 120 ∷ 58 ∷ 58 ∷ 72 ∷ 101 ∷ 108 ∷ 105 ∷ 120 ∷ []) (Syntax.tcons
-      (Syntax.tyStruct (104 ∷ 101 ∷ 108 ∷ 105 ∷ 120 ∷ 58 ∷ 58 ∷ 69 ∷ 120 ∷ 116 ∷ 101 ∷ 110 ∷ 116 ∷ []) (Syntax.tcons (Syntax.tyInt Syntax.w32) (Syntax.tcons
-      (Syntax.tyStruct (110 ∷ 97 ∷ 109 ∷ 101 ∷ 115 ∷ 58 ∷ 58 ∷ 84 ∷ 104 ∷ 114 ∷ 101 ∷ 101 ∷ []) (Syntax.tcons (Syntax.tyInt Syntax.w8) (Syntax.tcons
-      (Syntax.tyInt Syntax.w8) (Syntax.tcons (Syntax.tyInt Syntax.w8) Syntax.tnil)))) (Syntax.tcons (Syntax.tyStruct (114 ∷ 101 ∷ 115 ∷ 105 ∷ 100 ∷ 117 ∷ 101 ∷
-      58 ∷ 58 ∷ 82 ∷ 101 ∷ 115 ∷ 105 ∷ 100 ∷ 117 ∷ 101 ∷ []) (Syntax.tcons (Syntax.tyStruct (110 ∷ 97 ∷ 109 ∷ 101 ∷ 115 ∷ 58 ∷ 58 ∷ 84 ∷ 104 ∷ 114 ∷ 101 ∷ 101 ∷
-      []) (Syntax.tcons (Syntax.tyInt Syntax.w8) (Syntax.tcons (Syntax.tyInt Syntax.w8) (Syntax.tcons (Syntax.tyInt Syntax.w8) Syntax.tnil)))) (Syntax.tcons
-      (Syntax.tyInt Syntax.w8) (Syntax.tcons (Syntax.tyStruct (102 ∷ 105 ∷ 101 ∷ 108 ∷ 100 ∷ 115 ∷ 58 ∷ 58 ∷ 82 ∷ 101 ∷ 115 ∷ 105 ∷ 100 ∷ 117 ∷ 101 ∷ 78 ∷ 117 ∷
-      109 ∷ 98 ∷ 101 ∷ 114 ∷ []) (Syntax.tcons (Syntax.tyInt Syntax.w32) Syntax.tnil)) (Syntax.tcons (Syntax.tyInt Syntax.w8) Syntax.tnil))))) (Syntax.tcons
-      (Syntax.tyStruct (114 ∷ 101 ∷ 115 ∷ 105 ∷ 100 ∷ 117 ∷ 101 ∷ 58 ∷ 58 ∷ 82 ∷ 101 ∷ 115 ∷ 105 ∷ 100 ∷ 117 ∷ 101 ∷ []) (Syntax.tcons (Syntax.tyStruct (110 ∷ 97
-      ∷ 109 ∷ 101 ∷ 115 ∷ 58 ∷ 58 ∷ 84 ∷ 104 ∷ 114 ∷ 101 ∷ 101 ∷ []) (Syntax.tcons (Syntax.tyInt Syntax.w8) (Syntax.tcons (Syntax.tyInt Syntax.w8) (Syntax.tcons
-      (Syntax.tyInt Syntax.w8) Syntax.tnil)))) (Syntax.tcons (Syntax.tyInt Syntax.w8) (Syntax.tcons (Syntax.tyStruct (102 ∷ 105 ∷ 101 ∷ 108 ∷ 100 ∷ 115 ∷ 58 ∷ 58
-      ∷ 82 ∷ 101 ∷ 115 ∷ 105 ∷ 100 ∷ 117 ∷ 101 ∷ 78 ∷ 117 ∷ 109 ∷ 98 ∷ 101 ∷ 114 ∷ []) (Syntax.tcons (Syntax.tyInt Syntax.w32) Syntax.tnil)) (Syntax.tcons
-      (Syntax.tyInt Syntax.w8) Syntax.tnil))))) Syntax.tnil))))) (Syntax.tcons (Syntax.tyInt Syntax.w32) (Syntax.tcons (Syntax.tyStruct (104 ∷ 101 ∷ 108 ∷ 105 ∷
-      120 ∷ 58 ∷ 58 ∷ 67 ∷ 111 ∷ 109 ∷ 109 ∷ 101 ∷ 110 ∷ 116 ∷ []) (Syntax.tcons (Syntax.tyInt Syntax.w64) (Syntax.tcons (Syntax.tyInt Syntax.w64) (Syntax.tcons
-      (Syntax.tyInt Syntax.w64) (Syntax.tcons (Syntax.tyInt Syntax.w64) Syntax.tnil))))) (Syntax.tcons (Syntax.tyInt Syntax.w32) Syntax.tnil))))) Syntax.tnil)
-      (Syntax.ttcons (Syntax.tcons (Syntax.tyStruct (115 ∷ 104 ∷ 101 ∷ 101 ∷ 116 ∷ 58 ∷ 58 ∷ 83 ∷ 104 ∷ 101 ∷ 101 ∷ 116 ∷ []) (Syntax.tcons (Syntax.tyStruct (115
-      ∷ 104 ∷ 101 ∷ 101 ∷ 116 ∷ 58 ∷ 58 ∷ 83 ∷ 116 ∷ 114 ∷ 97 ∷ 110 ∷ 100 ∷ []) (Syntax.tcons (Syntax.tyInt Syntax.w32) (Syntax.tcons (Syntax.tyStruct (110 ∷ 97
-      ∷ 109 ∷ 101 ∷ 115 ∷ 58 ∷ 58 ∷ 84 ∷ 104 ∷ 114 ∷ 101 ∷ 101 ∷ []) (Syntax.tcons (Syntax.tyInt Syntax.w8) (Syntax.tcons (Syntax.tyInt Syntax.w8) (Syntax.tcons
-      (Syntax.tyInt Syntax.w8) Syntax.tnil)))) (Syntax.tcons (Syntax.tyInt Syntax.w32) (Syntax.tcons (Syntax.tyStruct (114 ∷ 101 ∷ 115 ∷ 105 ∷ 100 ∷ 117 ∷ 101 ∷
-      58 ∷ 58 ∷ 82 ∷ 101 ∷ 115 ∷ 105 ∷ 100 ∷ 117 ∷ 101 ∷ []) (Syntax.tcons (Syntax.tyStruct (110 ∷ 97 ∷ 109 ∷ 101 ∷ 115 ∷ 58 ∷ 58 ∷ 84 ∷ 104 ∷ 114 ∷ 101 ∷ 101 ∷
-      []) (Syntax.tcons (Syntax.tyInt Syntax.w8) (Syntax.tcons (Syntax.tyInt Syntax.w8) (Syntax.tcons (Syntax.tyInt Syntax.w8) Syntax.tnil)))) (Syntax.tcons
-      (Syntax.tyInt Syntax.w8) (Syntax.tcons (Syntax.tyStruct (102 ∷ 105 ∷ 101 ∷ 108 ∷ 100 ∷ 115 ∷ 58 ∷ 58 ∷ 82 ∷ 101 ∷ 115 ∷ 105 ∷ 100 ∷ 117 ∷ 101 ∷ 78 ∷ 117 ∷
-      109 ∷ 98 ∷ 101 ∷ 114 ∷ []) (Syntax.tcons (Syntax.tyInt Syntax.w32) Syntax.tnil)) (Syntax.tcons (Syntax.tyInt Syntax.w8) Syntax.tnil))))) (Syntax.tcons
-      (Syntax.tyStruct (114 ∷ 101 ∷ 115 ∷ 105 ∷ 100 ∷ 117 ∷ 101 ∷ 58 ∷ 58 ∷ 82 ∷ 101 ∷ 115 ∷ 105 ∷ 100 ∷ 117 ∷ 101 ∷ []) (Syntax.tcons (Syntax.tyStruct (110 ∷ 97
-      ∷ 109 ∷ 101 ∷ 115 ∷ 58 ∷ 58 ∷ 84 ∷ 104 ∷ 114 ∷ 101 ∷ 101 ∷ []) (Syntax.tcons (Syntax.tyInt Syntax.w8) (Syntax.tcons (Syntax.tyInt Syntax.w8) (Syntax.tcons
-      (Syntax.tyInt Syntax.w8) Syntax.tnil)))) (Syntax.tcons (Syntax.tyInt Syntax.w8) (Syntax.tcons (Syntax.tyStruct (102 ∷ 105 ∷ 101 ∷ 108 ∷ 100 ∷ 115 ∷ 58 ∷ 58
-      ∷ 82 ∷ 101 ∷ 115 ∷ 105 ∷ 100 ∷ 117 ∷ 101 ∷ 78 ∷ 117 ∷ 109 ∷ 98 ∷ 101 ∷ 114 ∷ []) (Syntax.tcons (Syntax.tyInt Syntax.w32) Syntax.tnil)) (Syntax.tcons
-      (Syntax.tyInt Syntax.w8) Syntax.tnil))))) (Syntax.tcons (Syntax.tyInt Syntax.w32) Syntax.tnil))))))) (Syntax.tcons (Syntax.tyEnum (115 ∷ 104 ∷ 101 ∷ 101 ∷
-      116 ∷ 58 ∷ 58 ∷ 82 ∷ 101 ∷ 103 ∷ 105 ∷ 115 ∷ 116 ∷ 114 ∷ 97 ∷ 116 ∷ 105 ∷ 111 ∷ 110 ∷ []) (Syntax.ttcons Syntax.tnil (Syntax.ttcons (Syntax.tcons
-      (Syntax.tyStruct (115 ∷ 104 ∷ 101 ∷ 101 ∷ 116 ∷ 58 ∷ 58 ∷ 66 ∷ 111 ∷ 110 ∷ 100 ∷ []) (Syntax.tcons (Syntax.tyStruct (110 ∷ 97 ∷ 109 ∷ 101 ∷ 115 ∷ 58 ∷ 58 ∷
-      70 ∷ 111 ∷ 117 ∷ 114 ∷ []) (Syntax.tcons (Syntax.tyInt Syntax.w8) (Syntax.tcons (Syntax.tyInt Syntax.w8) (Syntax.tcons (Syntax.tyInt Syntax.w8)
-      (Syntax.tcons (Syntax.tyInt Syntax.w8) Syntax.tnil))))) (Syntax.tcons (Syntax.tyStruct (114 ∷ 101 ∷ 115 ∷ 105 ∷ 100 ∷ 117 ∷ 101 ∷ 58 ∷ 58 ∷ 82 ∷ 101 ∷ 115
-      ∷ 105 ∷ 100 ∷ 117 ∷ 101 ∷ []) (Syntax.tcons (Syntax.tyStruct (110 ∷ 97 ∷ 109 ∷ 101 ∷ 115 ∷ 58 ∷ 58 ∷ 84 ∷ 104 ∷ 114 ∷ 101 ∷ 101 ∷ []) (Syntax.tcons
-      (Syntax.tyInt Syntax.w8) (Syntax.tcons (Syntax.tyInt Syntax.w8) (Syntax.tcons (Syntax.tyInt Syntax.w8) Syntax.tnil)))) (Syntax.tcons (Syntax.tyInt
-      Syntax.w8) (Syntax.tcons (Syntax.tyStruct (102 ∷ 105 ∷ 101 ∷ 108 ∷ 100 ∷ 115 ∷ 58 ∷ 58 ∷ 82 ∷ 101 ∷ 115 ∷ 105 ∷ 100 ∷ 117 ∷ 101 ∷ 78 ∷ 117 ∷ 109 ∷ 98 ∷ 101
-      ∷ 114 ∷ []) (Syntax.tcons (Syntax.tyInt Syntax.w32) Syntax.tnil)) (Syntax.tcons (Syntax.tyInt Syntax.w8) Syntax.tnil))))) (Syntax.tcons (Syntax.tyStruct
-      (110 ∷ 97 ∷ 109 ∷ 101 ∷ 115 ∷ 58 ∷ 58 ∷ 70 ∷ 111 ∷ 117 ∷ 114 ∷ []) (Syntax.tcons (Syntax.tyInt Syntax.w8) (Syntax.tcons (Syntax.tyInt Syntax.w8)
-      (Syntax.tcons (Syntax.tyInt Syntax.w8) (Syntax.tcons (Syntax.tyInt Syntax.w8) Syntax.tnil))))) (Syntax.tcons (Syntax.tyStruct (114 ∷ 101 ∷ 115 ∷ 105 ∷ 100
-      ∷ 117 ∷ 101 ∷ 58 ∷ 58 ∷ 82 ∷ 101 ∷ 115 ∷ 105 ∷ 100 ∷ 117 ∷ 101 ∷ []) (Syntax.tcons (Syntax.tyStruct (110 ∷ 97 ∷ 109 ∷ 101 ∷ 115 ∷ 58 ∷ 58 ∷ 84 ∷ 104 ∷ 114
-      ∷ 101 ∷ 101 ∷ []) (Syntax.tcons (Syntax.tyInt Syntax.w8) (Syntax.tcons (Syntax.tyInt Syntax.w8) (Syntax.tcons (Syntax.tyInt Syntax.w8) Syntax.tnil))))
-      (Syntax.tcons (Syntax.tyInt Syntax.w8) (Syntax.tcons (Syntax.tyStruct (102 ∷ 105 ∷ 101 ∷ 108 ∷ 100 ∷ 115 ∷ 58 ∷ 58 ∷ 82 ∷ 101 ∷ 115 ∷ 105 ∷ 100 ∷ 117 ∷ 101
-      ∷ 78 ∷ 117 ∷ 109 ∷ 98 ∷ 101 ∷ 114 ∷ []) (Syntax.tcons (Syntax.tyInt Syntax.w32) Syntax.tnil)) (Syntax.tcons (Syntax.tyInt Syntax.w8) Syntax.tnil)))))
-      Syntax.tnil))))) Syntax.tnil) Syntax.ttnil))) Syntax.tnil))) Syntax.tnil) (Syntax.ttcons (Syntax.tcons (Syntax.tyStruct (99 ∷ 111 ∷ 110 ∷ 101 ∷ 99 ∷ 116 ∷
-      58 ∷ 58 ∷ 67 ∷ 111 ∷ 110 ∷ 101 ∷ 99 ∷ 116 ∷ []) (Syntax.tcons (Syntax.tyStruct (102 ∷ 105 ∷ 101 ∷ 108 ∷ 100 ∷ 115 ∷ 58 ∷ 58 ∷ 83 ∷ 101 ∷ 114 ∷ 105 ∷ 97 ∷
-      108 ∷ []) (Syntax.tcons (Syntax.tyInt Syntax.w32) Syntax.tnil)) (Syntax.tcons (Syntax.tyStruct (102 ∷ 105 ∷ 101 ∷ 108 ∷ 100 ∷ 115 ∷ 58 ∷ 58 ∷ 83 ∷ 101 ∷
-      114 ∷ 105 ∷ 97 ∷ 108 ∷ []) (Syntax.tcons (Syntax.tyInt Syntax.w32) Syntax.tnil)) (Syntax.tcons (Syntax.tyStruct (102 ∷ 105 ∷ 101 ∷ 108 ∷ 100 ∷ 115 ∷ 58 ∷
-      58 ∷ 83 ∷ 101 ∷ 114 ∷ 105 ∷ 97 ∷ 108 ∷ []) (Syntax.tcons (Syntax.tyInt Syntax.w32) Syntax.tnil)) (Syntax.tcons (Syntax.tyStruct (102 ∷ 105 ∷ 101 ∷ 108 ∷
-      100 ∷ 115 ∷ 58 ∷ 58 ∷ 83 ∷ 101 ∷ 114 ∷ 105 ∷ 97 ∷ 108 ∷ []) (Syntax.tcons (Syntax.tyInt Syntax.w32) Syntax.tnil)) (Syntax.tcons (Syntax.tyStruct (102 ∷ 105
-      ∷ 101 ∷ 108 ∷ 100 ∷ 115 ∷ 58 ∷ 58 ∷ 83 ∷ 101 ∷ 114 ∷ 105 ∷ 97 ∷ 108 ∷ []) (Syntax.tcons (Syntax.tyInt Syntax.w32) Syntax.tnil)) Syntax.tnil))))))
-      Syntax.tnil) (Syntax.ttcons (Syntax.tcons (Syntax.tyStruct (109 ∷ 97 ∷ 115 ∷ 116 ∷ 101 ∷ 114 ∷ 58 ∷ 58 ∷ 84 ∷ 97 ∷ 108 ∷ 108 ∷ 121 ∷ []) (Syntax.tcons
-      (Syntax.tyInt Syntax.w32) (Syntax.tcons (Syntax.tyInt Syntax.w32) (Syntax.tcons (Syntax.tyInt Syntax.w32) (Syntax.tcons (Syntax.tyInt Syntax.w32)
-      (Syntax.tcons (Syntax.tyInt Syntax.w32) (Syntax.tcons (Syntax.tyInt Syntax.w32) (Syntax.tcons (Syntax.tyInt Syntax.w32) (Syntax.tcons (Syntax.tyInt
-      Syntax.w32) (Syntax.tcons (Syntax.tyInt Syntax.w32) Syntax.tnil)))))))))) Syntax.tnil) (Syntax.ttcons Syntax.tnil Syntax.ttnil)))))))) Syntax.tnil)
-      Syntax.ttnil))))),
-) ∷ (8, Rows.any-gone Syntax.tyBool) ∷ (9, Rows.any-gone (Syntax.tyInt Syntax.w64)) ∷ (10, Rows.any-gone (Syntax.tyInt Syntax.w64)) ∷ (
-  11,
-  Rows.any-gone (Syntax.tyInt Syntax.w64),
-) ∷ (12, Rows.any-gone Syntax.tyBool) ∷ (13, Rows.any-gone (Syntax.tyRef Syntax.erased Syntax.mut SlotAs.pointee)) ∷ (
-  14,
-  Rows.any-gone (Syntax.tyStruct (38 ∷ 91 ∷ 93 ∷ []) (Syntax.tcons (Syntax.tyRef Syntax.erased Syntax.mut SlotAs.pointee) (Syntax.tcons (Syntax.tyInt
-      Syntax.w64) Syntax.tnil))),
-) ∷ []
-
-abbrev pub t13 : List.List Row.Entry
-t13 = (
-  0,
-  Rows.any-gone (Syntax.tyStruct (115 ∷ 116 ∷ 111 ∷ 114 ∷ 101 ∷ 58 ∷ 58 ∷ 79 ∷ 117 ∷ 116 ∷ 99 ∷ 111 ∷ 109 ∷ 101 ∷ []) (Syntax.tcons (Syntax.tyInt
-      Syntax.w8) (Syntax.tcons (Syntax.tyInt Syntax.w64) Syntax.tnil))),
-) ∷ (
-  1,
-  Rows.sslice (Referent.rtF (Referent.fInt Syntax.w8)) (Syntax.tyRef (Syntax.named
-      0) Syntax.imm (Syntax.tyInt Syntax.w8)) 0,
-) ∷ (2, Mut.mslice SlotAs.row (Syntax.tyRef (Syntax.named 1) Syntax.mut SlotAs.pointee) 1) ∷ (
-  3,
-  Rows.any-gone
-      (Syntax.tyStruct (115 ∷ 116 ∷ 111 ∷ 114 ∷ 101 ∷ 58 ∷ 58 ∷ 78 ∷ 101 ∷ 101 ∷ 100 ∷ 115 ∷ []) (Syntax.tcons (Syntax.tyInt Syntax.w8) (Syntax.tcons
-      (Syntax.tyInt Syntax.w64) Syntax.tnil))),
-) ∷ (4, Rows.sc-here (Row.sInt Syntax.w64)) ∷ (5, Rows.sc-here (Row.sInt Syntax.w64)) ∷ (
-  6,
-  Rows.sc-here (Row.sInt
-      Syntax.w64),
-) ∷ (
-  7,
-  Rows.any-gone (Syntax.tyEnum (112 ∷ 105 ∷ 101 ∷ 99 ∷ 101 ∷ 115 ∷ 58 ∷ 58 ∷ 76 ∷ 105 ∷ 110 ∷ 101 ∷ []) (Syntax.ttcons (Syntax.tcons
-      (Syntax.tyInt Syntax.w8) Syntax.tnil) (Syntax.ttcons (Syntax.tcons (Syntax.tyEnum (107 ∷ 105 ∷ 110 ∷ 100 ∷ 115 ∷ 58 ∷ 58 ∷ 75 ∷ 105 ∷ 110 ∷ 100 ∷ [])
-      (Syntax.ttcons Syntax.tnil (Syntax.ttcons Syntax.tnil (Syntax.ttcons Syntax.tnil (Syntax.ttcons Syntax.tnil (Syntax.ttcons Syntax.tnil (Syntax.ttcons
-      Syntax.tnil (Syntax.ttcons Syntax.tnil (Syntax.ttcons Syntax.tnil (Syntax.ttcons Syntax.tnil (Syntax.ttcons Syntax.tnil (Syntax.ttcons Syntax.tnil
-      (Syntax.ttcons Syntax.tnil (Syntax.ttcons Syntax.tnil (Syntax.ttcons Syntax.tnil (Syntax.ttcons Syntax.tnil (Syntax.ttcons Syntax.tnil (Syntax.ttcons
-      Syntax.tnil (Syntax.ttcons Syntax.tnil (Syntax.ttcons Syntax.tnil (Syntax.ttcons Syntax.tnil (Syntax.ttcons Syntax.tnil (Syntax.ttcons Syntax.tnil
-      (Syntax.ttcons Syntax.tnil (Syntax.ttcons Syntax.tnil (Syntax.ttcons Syntax.tnil (Syntax.ttcons Syntax.tnil (Syntax.ttcons Syntax.tnil (Syntax.ttcons
-      Syntax.tnil Syntax.ttnil))))))))))))))))))))))))))))) (Syntax.tcons (Syntax.tyInt Syntax.w32) Syntax.tnil)) (Syntax.ttcons (Syntax.tcons (Syntax.tyEnum
-      (107 ∷ 105 ∷ 110 ∷ 100 ∷ 115 ∷ 58 ∷ 58 ∷ 75 ∷ 105 ∷ 110 ∷ 100 ∷ []) (Syntax.ttcons Syntax.tnil (Syntax.ttcons Syntax.tnil (Syntax.ttcons Syntax.tnil
-      (Syntax.ttcons Syntax.tnil (Syntax.ttcons Syntax.tnil (Syntax.ttcons Syntax.tnil (Syntax.ttcons Syntax.tnil (Syntax.ttcons Syntax.tnil (Syntax.ttcons
-      Syntax.tnil (Syntax.ttcons Syntax.tnil (Syntax.ttcons Syntax.tnil (Syntax.ttcons Syntax.tnil (Syntax.ttcons Syntax.tnil (Syntax.ttcons Syntax.tnil
-      (Syntax.ttcons Syntax.tnil (Syntax.ttcons Syntax.tnil (Syntax.ttcons Syntax.tnil (Syntax.ttcons Syntax.tnil (Syntax.ttcons Syntax.tnil (Syntax.ttcons
-      Syntax.tnil (Syntax.ttcons Syntax.tnil (Syntax.ttcons Syntax.tnil (Syntax.ttcons Syntax.tnil (Syntax.ttcons Syntax.tnil (Syntax.ttcons Syntax.tnil
-      (Syntax.ttcons Syntax.tnil (Syntax.ttcons Syntax.tnil (Syntax.ttcons Syntax.tnil Syntax.ttnil))))))))))))))))))))))))))))) Syntax.tnil) (Syntax.ttcons
-      (Syntax.tcons (Syntax.tyEnum (108 ∷ 105 ∷ 110 ∷ 101 ∷ 58 ∷ 58 ∷ 82 ∷ 101 ∷ 99 ∷ 111 ∷ 114 ∷ 100 ∷ []) (Syntax.ttcons (Syntax.tcons Syntax.tyBool
-      (Syntax.tcons (Syntax.tyStruct (99 ∷ 111 ∷ 111 ∷ 114 ∷ 100 ∷ 105 ∷ 110 ∷ 97 ∷ 116 ∷ 101 ∷ 58 ∷ 58 ∷ 65 ∷ 116 ∷ 111 ∷ 109 ∷ []) (Syntax.tcons
-      (Syntax.tyStruct (99 ∷ 111 ∷ 111 ∷ 114 ∷ 100 ∷ 105 ∷ 110 ∷ 97 ∷ 116 ∷ 101 ∷ 58 ∷ 58 ∷ 73 ∷ 100 ∷ 101 ∷ 110 ∷ 116 ∷ 105 ∷ 116 ∷ 121 ∷ []) (Syntax.tcons
-      (Syntax.tyStruct (102 ∷ 105 ∷ 101 ∷ 108 ∷ 100 ∷ 115 ∷ 58 ∷ 58 ∷ 83 ∷ 101 ∷ 114 ∷ 105 ∷ 97 ∷ 108 ∷ []) (Syntax.tcons (Syntax.tyInt Syntax.w32) Syntax.tnil))
-      (Syntax.tcons (Syntax.tyStruct (110 ∷ 97 ∷ 109 ∷ 101 ∷ 115 ∷ 58 ∷ 58 ∷ 70 ∷ 111 ∷ 117 ∷ 114 ∷ []) (Syntax.tcons (Syntax.tyInt Syntax.w8) (Syntax.tcons
-      (Syntax.tyInt Syntax.w8) (Syntax.tcons (Syntax.tyInt Syntax.w8) (Syntax.tcons (Syntax.tyInt Syntax.w8) Syntax.tnil))))) (Syntax.tcons (Syntax.tyInt
-      Syntax.w8) (Syntax.tcons (Syntax.tyStruct (114 ∷ 101 ∷ 115 ∷ 105 ∷ 100 ∷ 117 ∷ 101 ∷ 58 ∷ 58 ∷ 82 ∷ 101 ∷ 115 ∷ 105 ∷ 100 ∷ 117 ∷ 101 ∷ []) (Syntax.tcons
-      (Syntax.tyStruct (110 ∷ 97 ∷ 109 ∷ 101 ∷ 115 ∷ 58 ∷ 58 ∷ 84 ∷ 104 ∷ 114 ∷ 101 ∷ 101 ∷ []) (Syntax.tcons (Syntax.tyInt Syntax.w8) (Syntax.tcons
-      (Syntax.tyInt Syntax.w8) (Syntax.tcons (Syntax.tyInt Syntax.w8) Syntax.tnil)))) (Syntax.tcons (Syntax.tyInt Syntax.w8) (Syntax.tcons (Syntax.tyStruct (102
-      ∷ 105 ∷ 101 ∷ 108 ∷ 100 ∷ 115 ∷ 58 ∷ 58 ∷ 82 ∷ 101 ∷ 115 ∷ 105 ∷ 100 ∷ 117 ∷ 101 ∷ 78 ∷ 117 ∷ 109 ∷ 98 ∷ 101 ∷ 114 ∷ []) (Syntax.tcons (Syntax.tyInt
-      Syntax.w32) Syntax.tnil)) (Syntax.tcons (Syntax.tyInt Syntax.w8) Syntax.tnil))))) Syntax.tnil))))) (Syntax.tcons (Syntax.tyStruct (99 ∷ 111 ∷ 111 ∷ 114 ∷
-      100 ∷ 105 ∷ 110 ∷ 97 ∷ 116 ∷ 101 ∷ 58 ∷ 58 ∷ 77 ∷ 101 ∷ 97 ∷ 115 ∷ 117 ∷ 114 ∷ 101 ∷ []) (Syntax.tcons (Syntax.tyStruct (99 ∷ 111 ∷ 111 ∷ 114 ∷ 100 ∷ 105 ∷
-      110 ∷ 97 ∷ 116 ∷ 101 ∷ 58 ∷ 58 ∷ 80 ∷ 111 ∷ 115 ∷ 105 ∷ 116 ∷ 105 ∷ 111 ∷ 110 ∷ []) (Syntax.tcons (Syntax.tyInt Syntax.w32) (Syntax.tcons (Syntax.tyInt
-      Syntax.w32) (Syntax.tcons (Syntax.tyInt Syntax.w32) Syntax.tnil)))) (Syntax.tcons (Syntax.tyInt Syntax.w32) (Syntax.tcons (Syntax.tyInt Syntax.w32)
-      Syntax.tnil)))) (Syntax.tcons (Syntax.tyStruct (99 ∷ 111 ∷ 111 ∷ 114 ∷ 100 ∷ 105 ∷ 110 ∷ 97 ∷ 116 ∷ 101 ∷ 58 ∷ 58 ∷ 83 ∷ 112 ∷ 101 ∷ 99 ∷ 105 ∷ 101 ∷ 115 ∷
-      []) (Syntax.tcons (Syntax.tyStruct (110 ∷ 97 ∷ 109 ∷ 101 ∷ 115 ∷ 58 ∷ 58 ∷ 80 ∷ 97 ∷ 105 ∷ 114 ∷ []) (Syntax.tcons (Syntax.tyInt Syntax.w8) (Syntax.tcons
-      (Syntax.tyInt Syntax.w8) Syntax.tnil))) (Syntax.tcons (Syntax.tyStruct (110 ∷ 97 ∷ 109 ∷ 101 ∷ 115 ∷ 58 ∷ 58 ∷ 80 ∷ 97 ∷ 105 ∷ 114 ∷ []) (Syntax.tcons
-      (Syntax.tyInt Syntax.w8) (Syntax.tcons (Syntax.tyInt Syntax.w8) Syntax.tnil))) Syntax.tnil))) Syntax.tnil)))) Syntax.tnil)) (Syntax.ttcons (Syntax.tcons
-      (Syntax.tyStruct (116 ∷ 101 ∷ 114 ∷ 58 ∷ 58 ∷ 84 ∷ 101 ∷ 114 ∷ []) (Syntax.tcons (Syntax.tyStruct (102 ∷ 105 ∷ 101 ∷ 108 ∷ 100 ∷ 115 ∷ 58 ∷ 58 ∷ 83 ∷ 101 ∷
-      114 ∷ 105 ∷ 97 ∷ 108 ∷ []) (Syntax.tcons (Syntax.tyInt Syntax.w32) Syntax.tnil)) (Syntax.tcons (Syntax.tyStruct (114 ∷ 101 ∷ 115 ∷ 105 ∷ 100 ∷ 117 ∷ 101 ∷
-      58 ∷ 58 ∷ 82 ∷ 101 ∷ 115 ∷ 105 ∷ 100 ∷ 117 ∷ 101 ∷ []) (Syntax.tcons (Syntax.tyStruct (110 ∷ 97 ∷ 109 ∷ 101 ∷ 115 ∷ 58 ∷ 58 ∷ 84 ∷ 104 ∷ 114 ∷ 101 ∷ 101 ∷
-      []) (Syntax.tcons (Syntax.tyInt Syntax.w8) (Syntax.tcons (Syntax.tyInt Syntax.w8) (Syntax.tcons (Syntax.tyInt Syntax.w8) Syntax.tnil)))) (Syntax.tcons
-      (Syntax.tyInt Syntax.w8) (Syntax.tcons (Syntax.tyStruct (102 ∷ 105 ∷ 101 ∷ 108 ∷ 100 ∷ 115 ∷ 58 ∷ 58 ∷ 82 ∷ 101 ∷ 115 ∷ 105 ∷ 100 ∷ 117 ∷ 101 ∷ 78 ∷ 117 ∷
-      109 ∷ 98 ∷ 101 ∷ 114 ∷ []) (Syntax.tcons (Syntax.tyInt Syntax.w32) Syntax.tnil)) (Syntax.tcons (Syntax.tyInt Syntax.w8) Syntax.tnil))))) Syntax.tnil)))
-      Syntax.tnil) (Syntax.ttcons (Syntax.tcons (Syntax.tyStruct (104 ∷ 101 ∷ 108 ∷ 105 ∷ 120 ∷ 58 ∷ 58 ∷ 72 ∷ 101 ∷ 108 ∷ 105 ∷ 120 ∷ []) (Syntax.tcons
-      (Syntax.tyStruct (104 ∷ 101 ∷ 108 ∷ 105 ∷ 120 ∷ 58 ∷ 58 ∷ 69 ∷ 120 ∷ 116 ∷ 101 ∷ 110 ∷ 116 ∷ []) (Syntax.tcons (Syntax.tyInt Syntax.w32) (Syntax.tcons
-      (Syntax.tyStruct (110 ∷ 97 ∷ 109 ∷ 101 ∷ 115 ∷ 58 ∷ 58 ∷ 84 ∷ 104 ∷ 114 ∷ 101 ∷ 101 ∷ []) (Syntax.tcons (Syntax.tyInt Syntax.w8) (Syntax.tcons
-      (Syntax.tyInt Syntax.w8) (Syntax.tcons (Syntax.tyInt Syntax.w8) Syntax.tnil)))) (Syntax.tcons (Syntax.tyStruct (114 ∷ 101 ∷ 115 ∷ 105 ∷ 100 ∷ 117 ∷ 101 ∷
-      58 ∷ 58 ∷ 82 ∷ 101 ∷ 115 ∷ 105 ∷ 100 ∷ 117 ∷ 101 ∷ []) (Syntax.tcons (Syntax.tyStruct (110 ∷ 97 ∷ 109 ∷ 101 ∷ 115 ∷ 58 ∷ 58 ∷ 84 ∷ 104 ∷ 114 ∷ 101 ∷ 101 ∷
-      []) (Syntax.tcons (Syntax.tyInt Syntax.w8) (Syntax.tcons (Syntax.tyInt Syntax.w8) (Syntax.tcons (Syntax.tyInt Syntax.w8) Syntax.tnil)))) (Syntax.tcons
-      (Syntax.tyInt Syntax.w8) (Syntax.tcons (Syntax.tyStruct (102 ∷ 105 ∷ 101 ∷ 108 ∷ 100 ∷ 115 ∷ 58 ∷ 58 ∷ 82 ∷ 101 ∷ 115 ∷ 105 ∷ 100 ∷ 117 ∷ 101 ∷ 78 ∷ 117 ∷
-      109 ∷ 98 ∷ 101 ∷ 114 ∷ []) (Syntax.tcons (Syntax.tyInt Syntax.w32) Syntax.tnil)) (Syntax.tcons (Syntax.tyInt Syntax.w8) Syntax.tnil))))) (Syntax.tcons
-      (Syntax.tyStruct (114 ∷ 101 ∷ 115 ∷ 105 ∷ 100 ∷ 117 ∷ 101 ∷ 58 ∷ 58 ∷ 82 ∷ 101 ∷ 115 ∷ 105 ∷ 100 ∷ 117 ∷ 101 ∷ []) (Syntax.tcons (Syntax.tyStruct (110 ∷ 97
-      ∷ 109 ∷ 101 ∷ 115 ∷ 58 ∷ 58 ∷ 84 ∷ 104 ∷ 114 ∷ 101 ∷ 101 ∷ []) (Syntax.tcons (Syntax.tyInt Syntax.w8) (Syntax.tcons (Syntax.tyInt Syntax.w8) (Syntax.tcons
-      (Syntax.tyInt Syntax.w8) Syntax.tnil)))) (Syntax.tcons (Syntax.tyInt Syntax.w8) (Syntax.tcons (Syntax.tyStruct (102 ∷ 105 ∷ 101 ∷ 108 ∷ 100 ∷ 115 ∷ 58 ∷ 58
-      ∷ 82 ∷ 101 ∷ 115 ∷ 105 ∷ 100 ∷ 117 ∷ 101 ∷ 78 ∷ 117 ∷ 109 ∷ 98 ∷ 101 ∷ 114 ∷ []) (Syntax.tcons (Syntax.tyInt Syntax.w32) Syntax.tnil)) (Syntax.tcons
-      (Syntax.tyInt Syntax.w8) Syntax.tnil))))) Syntax.tnil))))) (Syntax.tcons (Syntax.tyInt Syntax.w32) (Syntax.tcons (Syntax.tyStruct (104 ∷ 101 ∷ 108 ∷ 105 ∷
-      120 ∷ 58 ∷ 58 ∷ 67 ∷ 111 ∷ 109 ∷ 109 ∷ 101 ∷ 110 ∷ 116 ∷ []) (Syntax.tcons (Syntax.tyInt Syntax.w64) (Syntax.tcons (Syntax.tyInt Syntax.w64) (Syntax.tcons
-      (Syntax.tyInt Syntax.w64) (Syntax.tcons (Syntax.tyInt Syntax.w64) Syntax.tnil))))) (Syntax.tcons (Syntax.tyInt Syntax.w32) Syntax.tnil))))) Syntax.tnil)
-      (Syntax.ttcons (Syntax.tcons (Syntax.tyStruct (115 ∷ 104 ∷ 101 ∷ 101 ∷ 116 ∷ 58 ∷ 58 ∷ 83 ∷ 104 ∷ 101 ∷ 101 ∷ 116 ∷ []) (Syntax.tcons (Syntax.tyStruct (115
-      ∷ 104 ∷ 101 ∷ 101 ∷ 116 ∷ 58 ∷ 58 ∷ 83 ∷ 116 ∷ 114 ∷ 97 ∷ 110 ∷ 100 ∷ []) (Syntax.tcons (Syntax.tyInt Syntax.w32) (Syntax.tcons (Syntax.tyStruct (110 ∷ 97
-      ∷ 109 ∷ 101 ∷ 115 ∷ 58 ∷ 58 ∷ 84 ∷ 104 ∷ 114 ∷ 101 ∷ 101 ∷ []) (Syntax.tcons (Syntax.tyInt Syntax.w8) (Syntax.tcons (Syntax.tyInt Syntax.w8) (Syntax.tcons
-      (Syntax.tyInt Syntax.w8) Syntax.tnil)))) (Syntax.tcons (Syntax.tyInt Syntax.w32) (Syntax.tcons (Syntax.tyStruct (114 ∷ 101 ∷ 115 ∷ 105 ∷ 100 ∷ 117 ∷ 101 ∷
-      58 ∷ 58 ∷ 82 ∷ 101 ∷ 115 ∷ 105 ∷ 100 ∷ 117 ∷ 101 ∷ []) (Syntax.tcons (Syntax.tyStruct (110 ∷ 97 ∷ 109 ∷ 101 ∷ 115 ∷ 58 ∷ 58 ∷ 84 ∷ 104 ∷ 114 ∷ 101 ∷ 101 ∷
-      []) (Syntax.tcons (Syntax.tyInt Syntax.w8) (Syntax.tcons (Syntax.tyInt Syntax.w8) (Syntax.tcons (Syntax.tyInt Syntax.w8) Syntax.tnil)))) (Syntax.tcons
-      (Syntax.tyInt Syntax.w8) (Syntax.tcons (Syntax.tyStruct (102 ∷ 105 ∷ 101 ∷ 108 ∷ 100 ∷ 115 ∷ 58 ∷ 58 ∷ 82 ∷ 101 ∷ 115 ∷ 105 ∷ 100 ∷ 117 ∷ 101 ∷ 78 ∷ 117 ∷
-      109 ∷ 98 ∷ 101 ∷ 114 ∷ []) (Syntax.tcons (Syntax.tyInt Syntax.w32) Syntax.tnil)) (Syntax.tcons (Syntax.tyInt Syntax.w8) Syntax.tnil))))) (Syntax.tcons
-      (Syntax.tyStruct (114 ∷ 101 ∷ 115 ∷ 105 ∷ 100 ∷ 117 ∷ 101 ∷ 58 ∷ 58 ∷ 82 ∷ 101 ∷ 115 ∷ 105 ∷ 100 ∷ 117 ∷ 101 ∷ []) (Syntax.tcons (Syntax.tyStruct (110 ∷ 97
-      ∷ 109 ∷ 101 ∷ 115 ∷ 58 ∷ 58 ∷ 84 ∷ 104 ∷ 114 ∷ 101 ∷ 101 ∷ []) (Syntax.tcons (Syntax.tyInt Syntax.w8) (Syntax.tcons (Syntax.tyInt Syntax.w8) (Syntax.tcons
-      (Syntax.tyInt Syntax.w8) Syntax.tnil)))) (Syntax.tcons (Syntax.tyInt Syntax.w8) (Syntax.tcons (Syntax.tyStruct (102 ∷ 105 ∷ 101 ∷ 108 ∷ 100 ∷ 115 ∷ 58 ∷ 58
-      ∷ 82 ∷ 101 ∷ 115 ∷ 105 ∷ 100 ∷ 117 ∷ 101 ∷ 78 ∷ 117 ∷ 109 ∷ 98 ∷ 101 ∷ 114 ∷ []) (Syntax.tcons (Syntax.tyInt Syntax.w32) Syntax.tnil)) (Syntax.tcons
-      (Syntax.tyInt Syntax.w8) Syntax.tnil))))) (Syntax.tcons (Syntax.tyInt Syntax.w32) Syntax.tnil))))))) (Syntax.tcons (Syntax.tyEnum (115 ∷ 104 ∷ 101 ∷ 101 ∷
-      116 ∷ 58 ∷ 58 ∷ 82 ∷ 101 ∷ 103 ∷ 105 ∷ 115 ∷ 116 ∷ 114 ∷ 97 ∷ 116 ∷ 105 ∷ 111 ∷ 110 ∷ []) (Syntax.ttcons Syntax.tnil (Syntax.ttcons (Syntax.tcons
-      (Syntax.tyStruct (115 ∷ 104 ∷ 101 ∷ 101 ∷ 116 ∷ 58 ∷ 58 ∷ 66 ∷ 111 ∷ 110 ∷ 100 ∷ []) (Syntax.tcons (Syntax.tyStruct (110 ∷ 97 ∷ 109 ∷ 101 ∷ 115 ∷ 58 ∷ 58 ∷
-      70 ∷ 111 ∷ 117 ∷ 114 ∷ []) (Syntax.tcons (Syntax.tyInt Syntax.w8) (Syntax.tcons (Syntax.tyInt Syntax.w8) (Syntax.tcons (Syntax.tyInt Syntax.w8)
-      (Syntax.tcons (Syntax.tyInt Syntax.w8) Syntax.tnil))))) (Syntax.tcons (Syntax.tyStruct (114 ∷ 101 ∷ 115 ∷ 105 ∷ 100 ∷ 117 ∷ 101 ∷ 58 ∷ 58 ∷ 82 ∷ 101 ∷ 115
-      ∷ 105 ∷ 100 ∷ 117 ∷ 101 ∷ []) (Syntax.tcons (Syntax.tyStruct (110 ∷ 97 ∷ 109 ∷ 101 ∷ 115 ∷ 58 ∷ 58 ∷ 84 ∷ 104 ∷ 114 ∷ 101 ∷ 101 ∷ []) (Syntax.tcons
-      (Syntax.tyInt Syntax.w8) (Syntax.tcons (Syntax.tyInt Syntax.w8) (Syntax.tcons (Syntax.tyInt Syntax.w8) Syntax.tnil)))) (Syntax.tcons (Syntax.tyInt
-      Syntax.w8) (Syntax.tcons (Syntax.tyStruct (102 ∷ 105 ∷ 101 ∷ 108 ∷ 100 ∷ 115 ∷ 58 ∷ 58 ∷ 82 ∷ 101 ∷ 115 ∷ 105 ∷ 100 ∷ 117 ∷ 101 ∷ 78 ∷ 117 ∷ 109 ∷ 98 ∷ 101
-      ∷ 114 ∷ []) (Syntax.tcons (Syntax.tyInt Syntax.w32) Syntax.tnil)) (Syntax.tcons (Syntax.tyInt Syntax.w8) Syntax.tnil))))) (Syntax.tcons (Syntax.tyStruct
-      (110 ∷ 97 ∷ 109 ∷ 101 ∷ 115 ∷ 58 ∷ 58 ∷ 70 ∷ 111 ∷ 117 ∷ 114 ∷ []) (Syntax.tcons (Syntax.tyInt Syntax.w8) (Syntax.tcons (Syntax.tyInt Syntax.w8)
-      (Syntax.tcons (Syntax.tyInt Syntax.w8) (Syntax.tcons (Syntax.tyInt Syntax.w8) Syntax.tnil))))) (Syntax.tcons (Syntax.tyStruct (114 ∷ 101 ∷ 115 ∷ 105 ∷ 100
-      ∷ 117 ∷ 101 ∷ 58 ∷ 58 ∷ 82 ∷ 101 ∷ 115 ∷ 105 ∷ 100 ∷ 117 ∷ 101 ∷ []) (Syntax.tcons (Syntax.tyStruct (110 ∷ 97 ∷ 109 ∷ 101 ∷ 115 ∷ 58 ∷ 58 ∷ 84 ∷ 104 ∷ 114
-      ∷ 101 ∷ 101 ∷ []) (Syntax.tcons (Syntax.tyInt Syntax.w8) (Syntax.tcons (Syntax.tyInt Syntax.w8) (Syntax.tcons (Syntax.tyInt Syntax.w8) Syntax.tnil))))
-      (Syntax.tcons (Syntax.tyInt Syntax.w8) (Syntax.tcons (Syntax.tyStruct (102 ∷ 105 ∷ 101 ∷ 108 ∷ 100 ∷ 115 ∷ 58 ∷ 58 ∷ 82 ∷ 101 ∷ 115 ∷ 105 ∷ 100 ∷ 117 ∷ 101
-      ∷ 78 ∷ 117 ∷ 109 ∷ 98 ∷ 101 ∷ 114 ∷ []) (Syntax.tcons (Syntax.tyInt Syntax.w32) Syntax.tnil)) (Syntax.tcons (Syntax.tyInt Syntax.w8) Syntax.tnil)))))
-      Syntax.tnil))))) Syntax.tnil) Syntax.ttnil))) Syntax.tnil))) Syntax.tnil) (Syntax.ttcons (Syntax.tcons (Syntax.tyStruct (99 ∷ 111 ∷ 110 ∷ 101 ∷ 99 ∷ 116 ∷
-      58 ∷ 58 ∷ 67 ∷ 111 ∷ 110 ∷ 101 ∷ 99 ∷ 116 ∷ []) (Syntax.tcons (Syntax.tyStruct (102 ∷ 105 ∷ 101 ∷ 108 ∷ 100 ∷ 115 ∷ 58 ∷ 58 ∷ 83 ∷ 101 ∷ 114 ∷ 105 ∷ 97 ∷
-      108 ∷ []) (Syntax.tcons (Syntax.tyInt Syntax.w32) Syntax.tnil)) (Syntax.tcons (Syntax.tyStruct (102 ∷ 105 ∷ 101 ∷ 108 ∷ 100 ∷ 115 ∷ 58 ∷ 58 ∷ 83 ∷ 101 ∷
-      114 ∷ 105 ∷ 97 ∷ 108 ∷ []) (Syntax.tcons (Syntax.tyInt Syntax.w32) Syntax.tnil)) (Syntax.tcons (Syntax.tyStruct (102 ∷ 105 ∷ 101 ∷ 108 ∷ 100 ∷ 115 ∷ 58 ∷
-      58 ∷ 83 ∷ 101 ∷ 114 ∷ 105 ∷ 97 ∷ 108 ∷ []) (Syntax.tcons (Syntax.tyInt Syntax.w32) Syntax.tnil)) (Syntax.tcons (Syntax.tyStruct (102 ∷ 105 ∷ 101 ∷ 108 ∷
-      100 ∷ 115 ∷ 58 ∷ 58 ∷ 83 ∷ 101 ∷ 114 ∷ 105 ∷ 97 ∷ 108 ∷ []) (Syntax.tcons (Syntax.tyInt Syntax.w32) Syntax.tnil)) (Syntax.tcons (Syntax.tyStruct (102 ∷ 105
-      ∷ 101 ∷ 108 ∷ 100 ∷ 115 ∷ 58 ∷ 58 ∷ 83 ∷ 101 ∷ 114 ∷ 105 ∷ 97 ∷ 108 ∷ []) (Syntax.tcons (Syntax.tyInt Syntax.w32) Syntax.tnil)) Syntax.tnil))))))
-      Syntax.tnil) (Syntax.ttcons (Syntax.tcons (Syntax.tyStruct (109 ∷ 97 ∷ 115 ∷ 116 ∷ 101 ∷ 114 ∷ 58 ∷ 58 ∷ 84 ∷ 97 ∷ 108 ∷ 108 ∷ 121 ∷ []) (Syntax.tcons
-      (Syntax.tyInt Syntax.w32) (Syntax.tcons (Syntax.tyInt Syntax.w32) (Syntax.tcons (Syntax.tyInt Syntax.w32) (Syntax.tcons (Syntax.tyInt Syntax.w32)
-      (Syntax.tcons (Syntax.tyInt Syntax.w32) (Syntax.tcons (Syntax.tyInt Syntax.w32) (Syntax.tcons (Syntax.tyInt Syntax.w32) (Syntax.tcons (Syntax.tyInt
-      Syntax.w32) (Syntax.tcons (Syntax.tyInt Syntax.w32) Syntax.tnil)))))))))) Syntax.tnil) (Syntax.ttcons Syntax.tnil Syntax.ttnil)))))))) Syntax.tnil)
-      Syntax.ttnil))))),
-) ∷ (8, Rows.any-gone Syntax.tyBool) ∷ (9, Rows.any-gone (Syntax.tyInt Syntax.w64)) ∷ (10, Rows.any-gone (Syntax.tyInt Syntax.w64)) ∷ (
-  11,
-  Rows.any-gone (Syntax.tyInt Syntax.w64),
-) ∷ (12, Rows.any-gone Syntax.tyBool) ∷ (13, Rows.any-gone (Syntax.tyRef Syntax.erased Syntax.mut SlotAs.pointee)) ∷ (
-  14,
-  Rows.any-gone (Syntax.tyStruct (38 ∷ 91 ∷ 93 ∷ []) (Syntax.tcons (Syntax.tyRef Syntax.erased Syntax.mut SlotAs.pointee) (Syntax.tcons (Syntax.tyInt
-      Syntax.w64) Syntax.tnil))),
-) ∷ []
-
-abbrev pub t14 : List.List Row.Entry
-t14 = (
-  0,
-  Rows.any-gone (Syntax.tyStruct (115 ∷ 116 ∷ 111 ∷ 114 ∷ 101 ∷ 58 ∷ 58 ∷ 79 ∷ 117 ∷ 116 ∷ 99 ∷ 111 ∷ 109 ∷ 101 ∷ []) (Syntax.tcons (Syntax.tyInt
-      Syntax.w8) (Syntax.tcons (Syntax.tyInt Syntax.w64) Syntax.tnil))),
-) ∷ (
-  1,
-  Rows.sslice (Referent.rtF (Referent.fInt Syntax.w8)) (Syntax.tyRef (Syntax.named
-      0) Syntax.imm (Syntax.tyInt Syntax.w8)) 0,
-) ∷ (2, Mut.mslice SlotAs.row (Syntax.tyRef (Syntax.named 1) Syntax.mut SlotAs.pointee) 1) ∷ (
-  3,
-  Rows.any-gone
-      (Syntax.tyStruct (115 ∷ 116 ∷ 111 ∷ 114 ∷ 101 ∷ 58 ∷ 58 ∷ 78 ∷ 101 ∷ 101 ∷ 100 ∷ 115 ∷ []) (Syntax.tcons (Syntax.tyInt Syntax.w8) (Syntax.tcons
-      (Syntax.tyInt Syntax.w64) Syntax.tnil))),
-) ∷ (4, Rows.sc-here (Row.sInt Syntax.w64)) ∷ (5, Rows.sc-here (Row.sInt Syntax.w64)) ∷ (
-  6,
-  Rows.sc-here (Row.sInt
-      Syntax.w64),
-) ∷ (
-  7,
-  Rows.any-gone (Syntax.tyEnum (112 ∷ 105 ∷ 101 ∷ 99 ∷ 101 ∷ 115 ∷ 58 ∷ 58 ∷ 76 ∷ 105 ∷ 110 ∷ 101 ∷ []) (Syntax.ttcons (Syntax.tcons
-      (Syntax.tyInt Syntax.w8) Syntax.tnil) (Syntax.ttcons (Syntax.tcons (Syntax.tyEnum (107 ∷ 105 ∷ 110 ∷ 100 ∷ 115 ∷ 58 ∷ 58 ∷ 75 ∷ 105 ∷ 110 ∷ 100 ∷ [])
-      (Syntax.ttcons Syntax.tnil (Syntax.ttcons Syntax.tnil (Syntax.ttcons Syntax.tnil (Syntax.ttcons Syntax.tnil (Syntax.ttcons Syntax.tnil (Syntax.ttcons
-      Syntax.tnil (Syntax.ttcons Syntax.tnil (Syntax.ttcons Syntax.tnil (Syntax.ttcons Syntax.tnil (Syntax.ttcons Syntax.tnil (Syntax.ttcons Syntax.tnil
-      (Syntax.ttcons Syntax.tnil (Syntax.ttcons Syntax.tnil (Syntax.ttcons Syntax.tnil (Syntax.ttcons Syntax.tnil (Syntax.ttcons Syntax.tnil (Syntax.ttcons
-      Syntax.tnil (Syntax.ttcons Syntax.tnil (Syntax.ttcons Syntax.tnil (Syntax.ttcons Syntax.tnil (Syntax.ttcons Syntax.tnil (Syntax.ttcons Syntax.tnil
-      (Syntax.ttcons Syntax.tnil (Syntax.ttcons Syntax.tnil (Syntax.ttcons Syntax.tnil (Syntax.ttcons Syntax.tnil (Syntax.ttcons Syntax.tnil (Syntax.ttcons
-      Syntax.tnil Syntax.ttnil))))))))))))))))))))))))))))) (Syntax.tcons (Syntax.tyInt Syntax.w32) Syntax.tnil)) (Syntax.ttcons (Syntax.tcons (Syntax.tyEnum
-      (107 ∷ 105 ∷ 110 ∷ 100 ∷ 115 ∷ 58 ∷ 58 ∷ 75 ∷ 105 ∷ 110 ∷ 100 ∷ []) (Syntax.ttcons Syntax.tnil (Syntax.ttcons Syntax.tnil (Syntax.ttcons Syntax.tnil
-      (Syntax.ttcons Syntax.tnil (Syntax.ttcons Syntax.tnil (Syntax.ttcons Syntax.tnil (Syntax.ttcons Syntax.tnil (Syntax.ttcons Syntax.tnil (Syntax.ttcons
-      Syntax.tnil (Syntax.ttcons Syntax.tnil (Syntax.ttcons Syntax.tnil (Syntax.ttcons Syntax.tnil (Syntax.ttcons Syntax.tnil (Syntax.ttcons Syntax.tnil
-      (Syntax.ttcons Syntax.tnil (Syntax.ttcons Syntax.tnil (Syntax.ttcons Syntax.tnil (Syntax.ttcons Syntax.tnil (Syntax.ttcons Syntax.tnil (Syntax.ttcons
-      Syntax.tnil (Syntax.ttcons Syntax.tnil (Syntax.ttcons Syntax.tnil (Syntax.ttcons Syntax.tnil (Syntax.ttcons Syntax.tnil (Syntax.ttcons Syntax.tnil
-      (Syntax.ttcons Syntax.tnil (Syntax.ttcons Syntax.tnil (Syntax.ttcons Syntax.tnil Syntax.ttnil))))))))))))))))))))))))))))) Syntax.tnil) (Syntax.ttcons
-      (Syntax.tcons (Syntax.tyEnum (108 ∷ 105 ∷ 110 ∷ 101 ∷ 58 ∷ 58 ∷ 82 ∷ 101 ∷ 99 ∷ 111 ∷ 114 ∷ 100 ∷ []) (Syntax.ttcons (Syntax.tcons Syntax.tyBool
-      (Syntax.tcons (Syntax.tyStruct (99 ∷ 111 ∷ 111 ∷ 114 ∷ 100 ∷ 105 ∷ 110 ∷ 97 ∷ 116 ∷ 101 ∷ 58 ∷ 58 ∷ 65 ∷ 116 ∷ 111 ∷ 109 ∷ []) (Syntax.tcons
-      (Syntax.tyStruct (99 ∷ 111 ∷ 111 ∷ 114 ∷ 100 ∷ 105 ∷ 110 ∷ 97 ∷ 116 ∷ 101 ∷ 58 ∷ 58 ∷ 73 ∷ 100 ∷ 101 ∷ 110 ∷ 116 ∷ 105 ∷ 116 ∷ 121 ∷ []) (Syntax.tcons
-      (Syntax.tyStruct (102 ∷ 105 ∷ 101 ∷ 108 ∷ 100 ∷ 115 ∷ 58 ∷ 58 ∷ 83 ∷ 101 ∷ 114 ∷ 105 ∷ 97 ∷ 108 ∷ []) (Syntax.tcons (Syntax.tyInt Syntax.w32) Syntax.tnil))
-      (Syntax.tcons (Syntax.tyStruct (110 ∷ 97 ∷ 109 ∷ 101 ∷ 115 ∷ 58 ∷ 58 ∷ 70 ∷ 111 ∷ 117 ∷ 114 ∷ []) (Syntax.tcons (Syntax.tyInt Syntax.w8) (Syntax.tcons
-      (Syntax.tyInt Syntax.w8) (Syntax.tcons (Syntax.tyInt Syntax.w8) (Syntax.tcons (Syntax.tyInt Syntax.w8) Syntax.tnil))))) (Syntax.tcons (Syntax.tyInt
-      Syntax.w8) (Syntax.tcons (Syntax.tyStruct (114 ∷ 101 ∷ 115 ∷ 105 ∷ 100 ∷ 117 ∷ 101 ∷ 58 ∷ 58 ∷ 82 ∷ 101 ∷ 115 ∷ 105 ∷ 100 ∷ 117 ∷ 101 ∷ []) (Syntax.tcons
-      (Syntax.tyStruct (110 ∷ 97 ∷ 109 ∷ 101 ∷ 115 ∷ 58 ∷ 58 ∷ 84 ∷ 104 ∷ 114 ∷ 101 ∷ 101 ∷ []) (Syntax.tcons (Syntax.tyInt Syntax.w8) (Syntax.tcons
-      (Syntax.tyInt Syntax.w8) (Syntax.tcons (Syntax.tyInt Syntax.w8) Syntax.tnil)))) (Syntax.tcons (Syntax.tyInt Syntax.w8) (Syntax.tcons (Syntax.tyStruct (102
-      ∷ 105 ∷ 101 ∷ 108 ∷ 100 ∷ 115 ∷ 58 ∷ 58 ∷ 82 ∷ 101 ∷ 115 ∷ 105 ∷ 100 ∷ 117 ∷ 101 ∷ 78 ∷ 117 ∷ 109 ∷ 98 ∷ 101 ∷ 114 ∷ []) (Syntax.tcons (Syntax.tyInt
-      Syntax.w32) Syntax.tnil)) (Syntax.tcons (Syntax.tyInt Syntax.w8) Syntax.tnil))))) Syntax.tnil))))) (Syntax.tcons (Syntax.tyStruct (99 ∷ 111 ∷ 111 ∷ 114 ∷
-      100 ∷ 105 ∷ 110 ∷ 97 ∷ 116 ∷ 101 ∷ 58 ∷ 58 ∷ 77 ∷ 101 ∷ 97 ∷ 115 ∷ 117 ∷ 114 ∷ 101 ∷ []) (Syntax.tcons (Syntax.tyStruct (99 ∷ 111 ∷ 111 ∷ 114 ∷ 100 ∷ 105 ∷
-      110 ∷ 97 ∷ 116 ∷ 101 ∷ 58 ∷ 58 ∷ 80 ∷ 111 ∷ 115 ∷ 105 ∷ 116 ∷ 105 ∷ 111 ∷ 110 ∷ []) (Syntax.tcons (Syntax.tyInt Syntax.w32) (Syntax.tcons (Syntax.tyInt
-      Syntax.w32) (Syntax.tcons (Syntax.tyInt Syntax.w32) Syntax.tnil)))) (Syntax.tcons (Syntax.tyInt Syntax.w32) (Syntax.tcons (Syntax.tyInt Syntax.w32)
-      Syntax.tnil)))) (Syntax.tcons (Syntax.tyStruct (99 ∷ 111 ∷ 111 ∷ 114 ∷ 100 ∷ 105 ∷ 110 ∷ 97 ∷ 116 ∷ 101 ∷ 58 ∷ 58 ∷ 83 ∷ 112 ∷ 101 ∷ 99 ∷ 105 ∷ 101 ∷ 115 ∷
-      []) (Syntax.tcons (Syntax.tyStruct (110 ∷ 97 ∷ 109 ∷ 101 ∷ 115 ∷ 58 ∷ 58 ∷ 80 ∷ 97 ∷ 105 ∷ 114 ∷ []) (Syntax.tcons (Syntax.tyInt Syntax.w8) (Syntax.tcons
-      (Syntax.tyInt Syntax.w8) Syntax.tnil))) (Syntax.tcons (Syntax.tyStruct (110 ∷ 97 ∷ 109 ∷ 101 ∷ 115 ∷ 58 ∷ 58 ∷ 80 ∷ 97 ∷ 105 ∷ 114 ∷ []) (Syntax.tcons
-      (Syntax.tyInt Syntax.w8) (Syntax.tcons (Syntax.tyInt Syntax.w8) Syntax.tnil))) Syntax.tnil))) Syntax.tnil)))) Syntax.tnil)) (Syntax.ttcons (Syntax.tcons
-      (Syntax.tyStruct (116 ∷ 101 ∷ 114 ∷ 58 ∷ 58 ∷ 84 ∷ 101 ∷ 114 ∷ []) (Syntax.tcons (Syntax.tyStruct (102 ∷ 105 ∷ 101 ∷ 108 ∷ 100 ∷ 115 ∷ 58 ∷ 58 ∷ 83 ∷ 101 ∷
-      114 ∷ 105 ∷ 97 ∷ 108 ∷ []) (Syntax.tcons (Syntax.tyInt Syntax.w32) Syntax.tnil)) (Syntax.tcons (Syntax.tyStruct (114 ∷ 101 ∷ 115 ∷ 105 ∷ 100 ∷ 117 ∷ 101 ∷
-      58 ∷ 58 ∷ 82 ∷ 101 ∷ 115 ∷ 105 ∷ 100 ∷ 117 ∷ 101 ∷ []) (Syntax.tcons (Syntax.tyStruct (110 ∷ 97 ∷ 109 ∷ 101 ∷ 115 ∷ 58 ∷ 58 ∷ 84 ∷ 104 ∷ 114 ∷ 101 ∷ 101 ∷
-      []) (Syntax.tcons (Syntax.tyInt Syntax.w8) (Syntax.tcons (Syntax.tyInt Syntax.w8) (Syntax.tcons (Syntax.tyInt Syntax.w8) Syntax.tnil)))) (Syntax.tcons
-      (Syntax.tyInt Syntax.w8) (Syntax.tcons (Syntax.tyStruct (102 ∷ 105 ∷ 101 ∷ 108 ∷ 100 ∷ 115 ∷ 58 ∷ 58 ∷ 82 ∷ 101 ∷ 115 ∷ 105 ∷ 100 ∷ 117 ∷ 101 ∷ 78 ∷ 117 ∷
-      109 ∷ 98 ∷ 101 ∷ 114 ∷ []) (Syntax.tcons (Syntax.tyInt Syntax.w32) Syntax.tnil)) (Syntax.tcons (Syntax.tyInt Syntax.w8) Syntax.tnil))))) Syntax.tnil)))
-      Syntax.tnil) (Syntax.ttcons (Syntax.tcons (Syntax.tyStruct (104 ∷ 101 ∷ 108 ∷ 105 ∷ 120 ∷ 58 ∷ 58 ∷ 72 ∷ 101 ∷ 108 ∷ 105 ∷ 120 ∷ []) (Syntax.tcons
-      (Syntax.tyStruct (104 ∷ 101 ∷ 108 ∷ 105 ∷ 120 ∷ 58 ∷ 58 ∷ 69 ∷ 120 ∷ 116 ∷ 101 ∷ 110 ∷ 116 ∷ []) (Syntax.tcons (Syntax.tyInt Syntax.w32) (Syntax.tcons
-      (Syntax.tyStruct (110 ∷ 97 ∷ 109 ∷ 101 ∷ 115 ∷ 58 ∷ 58 ∷ 84 ∷ 104 ∷ 114 ∷ 101 ∷ 101 ∷ []) (Syntax.tcons (Syntax.tyInt Syntax.w8) (Syntax.tcons
-      (Syntax.tyInt Syntax.w8) (Syntax.tcons (Syntax.tyInt Syntax.w8) Syntax.tnil)))) (Syntax.tcons (Syntax.tyStruct (114 ∷ 101 ∷ 115 ∷ 105 ∷ 100 ∷ 117 ∷ 101 ∷
-      58 ∷ 58 ∷ 82 ∷ 101 ∷ 115 ∷ 105 ∷ 100 ∷ 117 ∷ 101 ∷ []) (Syntax.tcons (Syntax.tyStruct (110 ∷ 97 ∷ 109 ∷ 101 ∷ 115 ∷ 58 ∷ 58 ∷ 84 ∷ 104 ∷ 114 ∷ 101 ∷ 101 ∷
-      []) (Syntax.tcons (Syntax.tyInt Syntax.w8) (Syntax.tcons (Syntax.tyInt Syntax.w8) (Syntax.tcons (Syntax.tyInt Syntax.w8) Syntax.tnil)))) (Syntax.tcons
-      (Syntax.tyInt Syntax.w8) (Syntax.tcons (Syntax.tyStruct (102 ∷ 105 ∷ 101 ∷ 108 ∷ 100 ∷ 115 ∷ 58 ∷ 58 ∷ 82 ∷ 101 ∷ 115 ∷ 105 ∷ 100 ∷ 117 ∷ 101 ∷ 78 ∷ 117 ∷
-      109 ∷ 98 ∷ 101 ∷ 114 ∷ []) (Syntax.tcons (Syntax.tyInt Syntax.w32) Syntax.tnil)) (Syntax.tcons (Syntax.tyInt Syntax.w8) Syntax.tnil))))) (Syntax.tcons
-      (Syntax.tyStruct (114 ∷ 101 ∷ 115 ∷ 105 ∷ 100 ∷ 117 ∷ 101 ∷ 58 ∷ 58 ∷ 82 ∷ 101 ∷ 115 ∷ 105 ∷ 100 ∷ 117 ∷ 101 ∷ []) (Syntax.tcons (Syntax.tyStruct (110 ∷ 97
-      ∷ 109 ∷ 101 ∷ 115 ∷ 58 ∷ 58 ∷ 84 ∷ 104 ∷ 114 ∷ 101 ∷ 101 ∷ []) (Syntax.tcons (Syntax.tyInt Syntax.w8) (Syntax.tcons (Syntax.tyInt Syntax.w8) (Syntax.tcons
-      (Syntax.tyInt Syntax.w8) Syntax.tnil)))) (Syntax.tcons (Syntax.tyInt Syntax.w8) (Syntax.tcons (Syntax.tyStruct (102 ∷ 105 ∷ 101 ∷ 108 ∷ 100 ∷ 115 ∷ 58 ∷ 58
-      ∷ 82 ∷ 101 ∷ 115 ∷ 105 ∷ 100 ∷ 117 ∷ 101 ∷ 78 ∷ 117 ∷ 109 ∷ 98 ∷ 101 ∷ 114 ∷ []) (Syntax.tcons (Syntax.tyInt Syntax.w32) Syntax.tnil)) (Syntax.tcons
-      (Syntax.tyInt Syntax.w8) Syntax.tnil))))) Syntax.tnil))))) (Syntax.tcons (Syntax.tyInt Syntax.w32) (Syntax.tcons (Syntax.tyStruct (104 ∷ 101 ∷ 108 ∷ 105 ∷
-      120 ∷ 58 ∷ 58 ∷ 67 ∷ 111 ∷ 109 ∷ 109 ∷ 101 ∷ 110 ∷ 116 ∷ []) (Syntax.tcons (Syntax.tyInt Syntax.w64) (Syntax.tcons (Syntax.tyInt Syntax.w64) (Syntax.tcons
-      (Syntax.tyInt Syntax.w64) (Syntax.tcons (Syntax.tyInt Syntax.w64) Syntax.tnil))))) (Syntax.tcons (Syntax.tyInt Syntax.w32) Syntax.tnil))))) Syntax.tnil)
-      (Syntax.ttcons (Syntax.tcons (Syntax.tyStruct (115 ∷ 104 ∷ 101 ∷ 101 ∷ 116 ∷ 58 ∷ 58 ∷ 83 ∷ 104 ∷ 101 ∷ 101 ∷ 116 ∷ []) (Syntax.tcons (Syntax.tyStruct (115
-      ∷ 104 ∷ 101 ∷ 101 ∷ 116 ∷ 58 ∷ 58 ∷ 83 ∷ 116 ∷ 114 ∷ 97 ∷ 110 ∷ 100 ∷ []) (Syntax.tcons (Syntax.tyInt Syntax.w32) (Syntax.tcons (Syntax.tyStruct (110 ∷ 97
-      ∷ 109 ∷ 101 ∷ 115 ∷ 58 ∷ 58 ∷ 84 ∷ 104 ∷ 114 ∷ 101 ∷ 101 ∷ []) (Syntax.tcons (Syntax.tyInt Syntax.w8) (Syntax.tcons (Syntax.tyInt Syntax.w8) (Syntax.tcons
-      (Syntax.tyInt Syntax.w8) Syntax.tnil)))) (Syntax.tcons (Syntax.tyInt Syntax.w32) (Syntax.tcons (Syntax.tyStruct (114 ∷ 101 ∷ 115 ∷ 105 ∷ 100 ∷ 117 ∷ 101 ∷
-      58 ∷ 58 ∷ 82 ∷ 101 ∷ 115 ∷ 105 ∷ 100 ∷ 117 ∷ 101 ∷ []) (Syntax.tcons (Syntax.tyStruct (110 ∷ 97 ∷ 109 ∷ 101 ∷ 115 ∷ 58 ∷ 58 ∷ 84 ∷ 104 ∷ 114 ∷ 101 ∷ 101 ∷
-      []) (Syntax.tcons (Syntax.tyInt Syntax.w8) (Syntax.tcons (Syntax.tyInt Syntax.w8) (Syntax.tcons (Syntax.tyInt Syntax.w8) Syntax.tnil)))) (Syntax.tcons
-      (Syntax.tyInt Syntax.w8) (Syntax.tcons (Syntax.tyStruct (102 ∷ 105 ∷ 101 ∷ 108 ∷ 100 ∷ 115 ∷ 58 ∷ 58 ∷ 82 ∷ 101 ∷ 115 ∷ 105 ∷ 100 ∷ 117 ∷ 101 ∷ 78 ∷ 117 ∷
-      109 ∷ 98 ∷ 101 ∷ 114 ∷ []) (Syntax.tcons (Syntax.tyInt Syntax.w32) Syntax.tnil)) (Syntax.tcons (Syntax.tyInt Syntax.w8) Syntax.tnil))))) (Syntax.tcons
-      (Syntax.tyStruct (114 ∷ 101 ∷ 115 ∷ 105 ∷ 100 ∷ 117 ∷ 101 ∷ 58 ∷ 58 ∷ 82 ∷ 101 ∷ 115 ∷ 105 ∷ 100 ∷ 117 ∷ 101 ∷ []) (Syntax.tcons (Syntax.tyStruct (110 ∷ 97
-      ∷ 109 ∷ 101 ∷ 115 ∷ 58 ∷ 58 ∷ 84 ∷ 104 ∷ 114 ∷ 101 ∷ 101 ∷ []) (Syntax.tcons (Syntax.tyInt Syntax.w8) (Syntax.tcons (Syntax.tyInt Syntax.w8) (Syntax.tcons
-      (Syntax.tyInt Syntax.w8) Syntax.tnil)))) (Syntax.tcons (Syntax.tyInt Syntax.w8) (Syntax.tcons (Syntax.tyStruct (102 ∷ 105 ∷ 101 ∷ 108 ∷ 100 ∷ 115 ∷ 58 ∷ 58
-      ∷ 82 ∷ 101 ∷ 115 ∷ 105 ∷ 100 ∷ 117 ∷ 101 ∷ 78 ∷ 117 ∷ 109 ∷ 98 ∷ 101 ∷ 114 ∷ []) (Syntax.tcons (Syntax.tyInt Syntax.w32) Syntax.tnil)) (Syntax.tcons
-      (Syntax.tyInt Syntax.w8) Syntax.tnil))))) (Syntax.tcons (Syntax.tyInt Syntax.w32) Syntax.tnil))))))) (Syntax.tcons (Syntax.tyEnum (115 ∷ 104 ∷ 101 ∷ 101 ∷
-      116 ∷ 58 ∷ 58 ∷ 82 ∷ 101 ∷ 103 ∷ 105 ∷ 115 ∷ 116 ∷ 114 ∷ 97 ∷ 116 ∷ 105 ∷ 111 ∷ 110 ∷ []) (Syntax.ttcons Syntax.tnil (Syntax.ttcons (Syntax.tcons
-      (Syntax.tyStruct (115 ∷ 104 ∷ 101 ∷ 101 ∷ 116 ∷ 58 ∷ 58 ∷ 66 ∷ 111 ∷ 110 ∷ 100 ∷ []) (Syntax.tcons (Syntax.tyStruct (110 ∷ 97 ∷ 109 ∷ 101 ∷ 115 ∷ 58 ∷ 58 ∷
-      70 ∷ 111 ∷ 117 ∷ 114 ∷ []) (Syntax.tcons (Syntax.tyInt Syntax.w8) (Syntax.tcons (Syntax.tyInt Syntax.w8) (Syntax.tcons (Syntax.tyInt Syntax.w8)
-      (Syntax.tcons (Syntax.tyInt Syntax.w8) Syntax.tnil))))) (Syntax.tcons (Syntax.tyStruct (114 ∷ 101 ∷ 115 ∷ 105 ∷ 100 ∷ 117 ∷ 101 ∷ 58 ∷ 58 ∷ 82 ∷ 101 ∷ 115
-      ∷ 105 ∷ 100 ∷ 117 ∷ 101 ∷ []) (Syntax.tcons (Syntax.tyStruct (110 ∷ 97 ∷ 109 ∷ 101 ∷ 115 ∷ 58 ∷ 58 ∷ 84 ∷ 104 ∷ 114 ∷ 101 ∷ 101 ∷ []) (Syntax.tcons
-      (Syntax.tyInt Syntax.w8) (Syntax.tcons (Syntax.tyInt Syntax.w8) (Syntax.tcons (Syntax.tyInt Syntax.w8) Syntax.tnil)))) (Syntax.tcons (Syntax.tyInt
-      Syntax.w8) (Syntax.tcons (Syntax.tyStruct (102 ∷ 105 ∷ 101 ∷ 108 ∷ 100 ∷ 115 ∷ 58 ∷ 58 ∷ 82 ∷ 101 ∷ 115 ∷ 105 ∷ 100 ∷ 117 ∷ 101 ∷ 78 ∷ 117 ∷ 109 ∷ 98 ∷ 101
-      ∷ 114 ∷ []) (Syntax.tcons (Syntax.tyInt Syntax.w32) Syntax.tnil)) (Syntax.tcons (Syntax.tyInt Syntax.w8) Syntax.tnil))))) (Syntax.tcons (Syntax.tyStruct
-      (110 ∷ 97 ∷ 109 ∷ 101 ∷ 115 ∷ 58 ∷ 58 ∷ 70 ∷ 111 ∷ 117 ∷ 114 ∷ []) (Syntax.tcons (Syntax.tyInt Syntax.w8) (Syntax.tcons (Syntax.tyInt Syntax.w8)
-      (Syntax.tcons (Syntax.tyInt Syntax.w8) (Syntax.tcons (Syntax.tyInt Syntax.w8) Syntax.tnil))))) (Syntax.tcons (Syntax.tyStruct (114 ∷ 101 ∷ 115 ∷ 105 ∷ 100
-      ∷ 117 ∷ 101 ∷ 58 ∷ 58 ∷ 82 ∷ 101 ∷ 115 ∷ 105 ∷ 100 ∷ 117 ∷ 101 ∷ []) (Syntax.tcons (Syntax.tyStruct (110 ∷ 97 ∷ 109 ∷ 101 ∷ 115 ∷ 58 ∷ 58 ∷ 84 ∷ 104 ∷ 114
-      ∷ 101 ∷ 101 ∷ []) (Syntax.tcons (Syntax.tyInt Syntax.w8) (Syntax.tcons (Syntax.tyInt Syntax.w8) (Syntax.tcons (Syntax.tyInt Syntax.w8) Syntax.tnil))))
-      (Syntax.tcons (Syntax.tyInt Syntax.w8) (Syntax.tcons (Syntax.tyStruct (102 ∷ 105 ∷ 101 ∷ 108 ∷ 100 ∷ 115 ∷ 58 ∷ 58 ∷ 82 ∷ 101 ∷ 115 ∷ 105 ∷ 100 ∷ 117 ∷ 101
-      ∷ 78 ∷ 117 ∷ 109 ∷ 98 ∷ 101 ∷ 114 ∷ []) (Syntax.tcons (Syntax.tyInt Syntax.w32) Syntax.tnil)) (Syntax.tcons (Syntax.tyInt Syntax.w8) Syntax.tnil)))))
-      Syntax.tnil))))) Syntax.tnil) Syntax.ttnil))) Syntax.tnil))) Syntax.tnil) (Syntax.ttcons (Syntax.tcons (Syntax.tyStruct (99 ∷ 111 ∷ 110 ∷ 101 ∷ 99 ∷ 116 ∷
-      58 ∷ 58 ∷ 67 ∷ 111 ∷ 110 ∷ 101 ∷ 99 ∷ 116 ∷ []) (Syntax.tcons (Syntax.tyStruct (102 ∷ 105 ∷ 101 ∷ 108 ∷ 100 ∷ 115 ∷ 58 ∷ 58 ∷ 83 ∷ 101 ∷ 114 ∷ 105 ∷ 97 ∷
-      108 ∷ []) (Syntax.tcons (Syntax.tyInt Syntax.w32) Syntax.tnil)) (Syntax.tcons (Syntax.tyStruct (102 ∷ 105 ∷ 101 ∷ 108 ∷ 100 ∷ 115 ∷ 58 ∷ 58 ∷ 83 ∷ 101 ∷
-      114 ∷ 105 ∷ 97 ∷ 108 ∷ []) (Syntax.tcons (Syntax.tyInt Syntax.w32) Syntax.tnil)) (Syntax.tcons (Syntax.tyStruct (102 ∷ 105 ∷ 101 ∷ 108 ∷ 100 ∷ 115 ∷ 58 ∷
-      58 ∷ 83 ∷ 101 ∷ 114 ∷ 105 ∷ 97 ∷ 108 ∷ []) (Syntax.tcons (Syntax.tyInt Syntax.w32) Syntax.tnil)) (Syntax.tcons (Syntax.tyStruct (102 ∷ 105 ∷ 101 ∷ 108 ∷
-      100 ∷ 115 ∷ 58 ∷ 58 ∷ 83 ∷ 101 ∷ 114 ∷ 105 ∷ 97 ∷ 108 ∷ []) (Syntax.tcons (Syntax.tyInt Syntax.w32) Syntax.tnil)) (Syntax.tcons (Syntax.tyStruct (102 ∷ 105
-      ∷ 101 ∷ 108 ∷ 100 ∷ 115 ∷ 58 ∷ 58 ∷ 83 ∷ 101 ∷ 114 ∷ 105 ∷ 97 ∷ 108 ∷ []) (Syntax.tcons (Syntax.tyInt Syntax.w32) Syntax.tnil)) Syntax.tnil))))))
-      Syntax.tnil) (Syntax.ttcons (Syntax.tcons (Syntax.tyStruct (109 ∷ 97 ∷ 115 ∷ 116 ∷ 101 ∷ 114 ∷ 58 ∷ 58 ∷ 84 ∷ 97 ∷ 108 ∷ 108 ∷ 121 ∷ []) (Syntax.tcons
-      (Syntax.tyInt Syntax.w32) (Syntax.tcons (Syntax.tyInt Syntax.w32) (Syntax.tcons (Syntax.tyInt Syntax.w32) (Syntax.tcons (Syntax.tyInt Syntax.w32)
-      (Syntax.tcons (Syntax.tyInt Syntax.w32) (Syntax.tcons (Syntax.tyInt Syntax.w32) (Syntax.tcons (Syntax.tyInt Syntax.w32) (Syntax.tcons (Syntax.tyInt
-      Syntax.w32) (Syntax.tcons (Syntax.tyInt Syntax.w32) Syntax.tnil)))))))))) Syntax.tnil) (Syntax.ttcons Syntax.tnil Syntax.ttnil)))))))) Syntax.tnil)
-      Syntax.ttnil))))),
-) ∷ (8, Rows.any-gone Syntax.tyBool) ∷ (9, Rows.any-gone (Syntax.tyInt Syntax.w64)) ∷ (10, Rows.sc-here (Row.sInt Syntax.w64)) ∷ (
-  11,
-  Rows.any-gone (Syntax.tyInt Syntax.w64),
-) ∷ (12, Rows.any-gone Syntax.tyBool) ∷ (13, Rows.any-gone (Syntax.tyRef Syntax.erased Syntax.mut SlotAs.pointee)) ∷ (
-  14,
-  Rows.any-gone (Syntax.tyStruct (38 ∷ 91 ∷ 93 ∷ []) (Syntax.tcons (Syntax.tyRef Syntax.erased Syntax.mut SlotAs.pointee) (Syntax.tcons (Syntax.tyInt
-      Syntax.w64) Syntax.tnil))),
-) ∷ []
-
-abbrev pub t15 : List.List Row.Entry
-t15 = (
-  0,
-  Rows.any-gone (Syntax.tyStruct (115 ∷ 116 ∷ 111 ∷ 114 ∷ 101 ∷ 58 ∷ 58 ∷ 79 ∷ 117 ∷ 116 ∷ 99 ∷ 111 ∷ 109 ∷ 101 ∷ []) (Syntax.tcons (Syntax.tyInt
-      Syntax.w8) (Syntax.tcons (Syntax.tyInt Syntax.w64) Syntax.tnil))),
-) ∷ (
-  1,
-  Rows.sslice (Referent.rtF (Referent.fInt Syntax.w8)) (Syntax.tyRef (Syntax.named
-      0) Syntax.imm (Syntax.tyInt Syntax.w8)) 0,
-) ∷ (2, Mut.mslice SlotAs.row (Syntax.tyRef (Syntax.named 1) Syntax.mut SlotAs.pointee) 1) ∷ (
-  3,
-  Rows.any-gone
-      (Syntax.tyStruct (115 ∷ 116 ∷ 111 ∷ 114 ∷ 101 ∷ 58 ∷ 58 ∷ 78 ∷ 101 ∷ 101 ∷ 100 ∷ 115 ∷ []) (Syntax.tcons (Syntax.tyInt Syntax.w8) (Syntax.tcons
-      (Syntax.tyInt Syntax.w64) Syntax.tnil))),
-) ∷ (4, Rows.sc-here (Row.sInt Syntax.w64)) ∷ (5, Rows.sc-here (Row.sInt Syntax.w64)) ∷ (
-  6,
-  Rows.sc-here (Row.sInt
-      Syntax.w64),
-) ∷ (
-  7,
-  Rows.any-gone (Syntax.tyEnum (112 ∷ 105 ∷ 101 ∷ 99 ∷ 101 ∷ 115 ∷ 58 ∷ 58 ∷ 76 ∷ 105 ∷ 110 ∷ 101 ∷ []) (Syntax.ttcons (Syntax.tcons
-      (Syntax.tyInt Syntax.w8) Syntax.tnil) (Syntax.ttcons (Syntax.tcons (Syntax.tyEnum (107 ∷ 105 ∷ 110 ∷ 100 ∷ 115 ∷ 58 ∷ 58 ∷ 75 ∷ 105 ∷ 110 ∷ 100 ∷ [])
-      (Syntax.ttcons Syntax.tnil (Syntax.ttcons Syntax.tnil (Syntax.ttcons Syntax.tnil (Syntax.ttcons Syntax.tnil (Syntax.ttcons Syntax.tnil (Syntax.ttcons
-      Syntax.tnil (Syntax.ttcons Syntax.tnil (Syntax.ttcons Syntax.tnil (Syntax.ttcons Syntax.tnil (Syntax.ttcons Syntax.tnil (Syntax.ttcons Syntax.tnil
-      (Syntax.ttcons Syntax.tnil (Syntax.ttcons Syntax.tnil (Syntax.ttcons Syntax.tnil (Syntax.ttcons Syntax.tnil (Syntax.ttcons Syntax.tnil (Syntax.ttcons
-      Syntax.tnil (Syntax.ttcons Syntax.tnil (Syntax.ttcons Syntax.tnil (Syntax.ttcons Syntax.tnil (Syntax.ttcons Syntax.tnil (Syntax.ttcons Syntax.tnil
-      (Syntax.ttcons Syntax.tnil (Syntax.ttcons Syntax.tnil (Syntax.ttcons Syntax.tnil (Syntax.ttcons Syntax.tnil (Syntax.ttcons Syntax.tnil (Syntax.ttcons
-      Syntax.tnil Syntax.ttnil))))))))))))))))))))))))))))) (Syntax.tcons (Syntax.tyInt Syntax.w32) Syntax.tnil)) (Syntax.ttcons (Syntax.tcons (Syntax.tyEnum
-      (107 ∷ 105 ∷ 110 ∷ 100 ∷ 115 ∷ 58 ∷ 58 ∷ 75 ∷ 105 ∷ 110 ∷ 100 ∷ []) (Syntax.ttcons Syntax.tnil (Syntax.ttcons Syntax.tnil (Syntax.ttcons Syntax.tnil
-      (Syntax.ttcons Syntax.tnil (Syntax.ttcons Syntax.tnil (Syntax.ttcons Syntax.tnil (Syntax.ttcons Syntax.tnil (Syntax.ttcons Syntax.tnil (Syntax.ttcons
-      Syntax.tnil (Syntax.ttcons Syntax.tnil (Syntax.ttcons Syntax.tnil (Syntax.ttcons Syntax.tnil (Syntax.ttcons Syntax.tnil (Syntax.ttcons Syntax.tnil
-      (Syntax.ttcons Syntax.tnil (Syntax.ttcons Syntax.tnil (Syntax.ttcons Syntax.tnil (Syntax.ttcons Syntax.tnil (Syntax.ttcons Syntax.tnil (Syntax.ttcons
-      Syntax.tnil (Syntax.ttcons Syntax.tnil (Syntax.ttcons Syntax.tnil (Syntax.ttcons Syntax.tnil (Syntax.ttcons Syntax.tnil (Syntax.ttcons Syntax.tnil
-      (Syntax.ttcons Syntax.tnil (Syntax.ttcons Syntax.tnil (Syntax.ttcons Syntax.tnil Syntax.ttnil))))))))))))))))))))))))))))) Syntax.tnil) (Syntax.ttcons
-      (Syntax.tcons (Syntax.tyEnum (108 ∷ 105 ∷ 110 ∷ 101 ∷ 58 ∷ 58 ∷ 82 ∷ 101 ∷ 99 ∷ 111 ∷ 114 ∷ 100 ∷ []) (Syntax.ttcons (Syntax.tcons Syntax.tyBool
-      (Syntax.tcons (Syntax.tyStruct (99 ∷ 111 ∷ 111 ∷ 114 ∷ 100 ∷ 105 ∷ 110 ∷ 97 ∷ 116 ∷ 101 ∷ 58 ∷ 58 ∷ 65 ∷ 116 ∷ 111 ∷ 109 ∷ []) (Syntax.tcons
-      (Syntax.tyStruct (99 ∷ 111 ∷ 111 ∷ 114 ∷ 100 ∷ 105 ∷ 110 ∷ 97 ∷ 116 ∷ 101 ∷ 58 ∷ 58 ∷ 73 ∷ 100 ∷ 101 ∷ 110 ∷ 116 ∷ 105 ∷ 116 ∷ 121 ∷ []) (Syntax.tcons
-      (Syntax.tyStruct (102 ∷ 105 ∷ 101 ∷ 108 ∷ 100 ∷ 115 ∷ 58 ∷ 58 ∷ 83 ∷ 101 ∷ 114 ∷ 105 ∷ 97 ∷ 108 ∷ []) (Syntax.tcons (Syntax.tyInt Syntax.w32) Syntax.tnil))
-      (Syntax.tcons (Syntax.tyStruct (110 ∷ 97 ∷ 109 ∷ 101 ∷ 115 ∷ 58 ∷ 58 ∷ 70 ∷ 111 ∷ 117 ∷ 114 ∷ []) (Syntax.tcons (Syntax.tyInt Syntax.w8) (Syntax.tcons
-      (Syntax.tyInt Syntax.w8) (Syntax.tcons (Syntax.tyInt Syntax.w8) (Syntax.tcons (Syntax.tyInt Syntax.w8) Syntax.tnil))))) (Syntax.tcons (Syntax.tyInt
-      Syntax.w8) (Syntax.tcons (Syntax.tyStruct (114 ∷ 101 ∷ 115 ∷ 105 ∷ 100 ∷ 117 ∷ 101 ∷ 58 ∷ 58 ∷ 82 ∷ 101 ∷ 115 ∷ 105 ∷ 100 ∷ 117 ∷ 101 ∷ []) (Syntax.tcons
-      (Syntax.tyStruct (110 ∷ 97 ∷ 109 ∷ 101 ∷ 115 ∷ 58 ∷ 58 ∷ 84 ∷ 104 ∷ 114 ∷ 101 ∷ 101 ∷ []) (Syntax.tcons (Syntax.tyInt Syntax.w8) (Syntax.tcons
-      (Syntax.tyInt Syntax.w8) (Syntax.tcons (Syntax.tyInt Syntax.w8) Syntax.tnil)))) (Syntax.tcons (Syntax.tyInt Syntax.w8) (Syntax.tcons (Syntax.tyStruct (102
-      ∷ 105 ∷ 101 ∷ 108 ∷ 100 ∷ 115 ∷ 58 ∷ 58 ∷ 82 ∷ 101 ∷ 115 ∷ 105 ∷ 100 ∷ 117 ∷ 101 ∷ 78 ∷ 117 ∷ 109 ∷ 98 ∷ 101 ∷ 114 ∷ []) (Syntax.tcons (Syntax.tyInt
-      Syntax.w32) Syntax.tnil)) (Syntax.tcons (Syntax.tyInt Syntax.w8) Syntax.tnil))))) Syntax.tnil))))) (Syntax.tcons (Syntax.tyStruct (99 ∷ 111 ∷ 111 ∷ 114 ∷
-      100 ∷ 105 ∷ 110 ∷ 97 ∷ 116 ∷ 101 ∷ 58 ∷ 58 ∷ 77 ∷ 101 ∷ 97 ∷ 115 ∷ 117 ∷ 114 ∷ 101 ∷ []) (Syntax.tcons (Syntax.tyStruct (99 ∷ 111 ∷ 111 ∷ 114 ∷ 100 ∷ 105 ∷
-      110 ∷ 97 ∷ 116 ∷ 101 ∷ 58 ∷ 58 ∷ 80 ∷ 111 ∷ 115 ∷ 105 ∷ 116 ∷ 105 ∷ 111 ∷ 110 ∷ []) (Syntax.tcons (Syntax.tyInt Syntax.w32) (Syntax.tcons (Syntax.tyInt
-      Syntax.w32) (Syntax.tcons (Syntax.tyInt Syntax.w32) Syntax.tnil)))) (Syntax.tcons (Syntax.tyInt Syntax.w32) (Syntax.tcons (Syntax.tyInt Syntax.w32)
-      Syntax.tnil)))) (Syntax.tcons (Syntax.tyStruct (99 ∷ 111 ∷ 111 ∷ 114 ∷ 100 ∷ 105 ∷ 110 ∷ 97 ∷ 116 ∷ 101 ∷ 58 ∷ 58 ∷ 83 ∷ 112 ∷ 101 ∷ 99 ∷ 105 ∷ 101 ∷ 115 ∷
-      []) (Syntax.tcons (Syntax.tyStruct (110 ∷ 97 ∷ 109 ∷ 101 ∷ 115 ∷ 58 ∷ 58 ∷ 80 ∷ 97 ∷ 105 ∷ 114 ∷ []) (Syntax.tcons (Syntax.tyInt Syntax.w8) (Syntax.tcons
-      (Syntax.tyInt Syntax.w8) Syntax.tnil))) (Syntax.tcons (Syntax.tyStruct (110 ∷ 97 ∷ 109 ∷ 101 ∷ 115 ∷ 58 ∷ 58 ∷ 80 ∷ 97 ∷ 105 ∷ 114 ∷ []) (Syntax.tcons
-      (Syntax.tyInt Syntax.w8) (Syntax.tcons (Syntax.tyInt Syntax.w8) Syntax.tnil))) Syntax.tnil))) Syntax.tnil)))) Syntax.tnil)) (Syntax.ttcons (Syntax.tcons
-      (Syntax.tyStruct (116 ∷ 101 ∷ 114 ∷ 58 ∷ 58 ∷ 84 ∷ 101 ∷ 114 ∷ []) (Syntax.tcons (Syntax.tyStruct (102 ∷ 105 ∷ 101 ∷ 108 ∷ 100 ∷ 115 ∷ 58 ∷ 58 ∷ 83 ∷ 101 ∷
-      114 ∷ 105 ∷ 97 ∷ 108 ∷ []) (Syntax.tcons (Syntax.tyInt Syntax.w32) Syntax.tnil)) (Syntax.tcons (Syntax.tyStruct (114 ∷ 101 ∷ 115 ∷ 105 ∷ 100 ∷ 117 ∷ 101 ∷
-      58 ∷ 58 ∷ 82 ∷ 101 ∷ 115 ∷ 105 ∷ 100 ∷ 117 ∷ 101 ∷ []) (Syntax.tcons (Syntax.tyStruct (110 ∷ 97 ∷ 109 ∷ 101 ∷ 115 ∷ 58 ∷ 58 ∷ 84 ∷ 104 ∷ 114 ∷ 101 ∷ 101 ∷
-      []) (Syntax.tcons (Syntax.tyInt Syntax.w8) (Syntax.tcons (Syntax.tyInt Syntax.w8) (Syntax.tcons (Syntax.tyInt Syntax.w8) Syntax.tnil)))) (Syntax.tcons
-      (Syntax.tyInt Syntax.w8) (Syntax.tcons (Syntax.tyStruct (102 ∷ 105 ∷ 101 ∷ 108 ∷ 100 ∷ 115 ∷ 58 ∷ 58 ∷ 82 ∷ 101 ∷ 115 ∷ 105 ∷ 100 ∷ 117 ∷ 101 ∷ 78 ∷ 117 ∷
-      109 ∷ 98 ∷ 101 ∷ 114 ∷ []) (Syntax.tcons (Syntax.tyInt Syntax.w32) Syntax.tnil)) (Syntax.tcons (Syntax.tyInt Syntax.w8) Syntax.tnil))))) Syntax.tnil)))
-      Syntax.tnil) (Syntax.ttcons (Syntax.tcons (Syntax.tyStruct (104 ∷ 101 ∷ 108 ∷ 105 ∷ 120 ∷ 58 ∷ 58 ∷ 72 ∷ 101 ∷ 108 ∷ 105 ∷ 120 ∷ []) (Syntax.tcons
-      (Syntax.tyStruct (104 ∷ 101 ∷ 108 ∷ 105 ∷ 120 ∷ 58 ∷ 58 ∷ 69 ∷ 120 ∷ 116 ∷ 101 ∷ 110 ∷ 116 ∷ []) (Syntax.tcons (Syntax.tyInt Syntax.w32) (Syntax.tcons
-      (Syntax.tyStruct (110 ∷ 97 ∷ 109 ∷ 101 ∷ 115 ∷ 58 ∷ 58 ∷ 84 ∷ 104 ∷ 114 ∷ 101 ∷ 101 ∷ []) (Syntax.tcons (Syntax.tyInt Syntax.w8) (Syntax.tcons
-      (Syntax.tyInt Syntax.w8) (Syntax.tcons (Syntax.tyInt Syntax.w8) Syntax.tnil)))) (Syntax.tcons (Syntax.tyStruct (114 ∷ 101 ∷ 115 ∷ 105 ∷ 100 ∷ 117 ∷ 101 ∷
-      58 ∷ 58 ∷ 82 ∷ 101 ∷ 115 ∷ 105 ∷ 100 ∷ 117 ∷ 101 ∷ []) (Syntax.tcons (Syntax.tyStruct (110 ∷ 97 ∷ 109 ∷ 101 ∷ 115 ∷ 58 ∷ 58 ∷ 84 ∷ 104 ∷ 114 ∷ 101 ∷ 101 ∷
-      []) (Syntax.tcons (Syntax.tyInt Syntax.w8) (Syntax.tcons (Syntax.tyInt Syntax.w8) (Syntax.tcons (Syntax.tyInt Syntax.w8) Syntax.tnil)))) (Syntax.tcons
-      (Syntax.tyInt Syntax.w8) (Syntax.tcons (Syntax.tyStruct (102 ∷ 105 ∷ 101 ∷ 108 ∷ 100 ∷ 115 ∷ 58 ∷ 58 ∷ 82 ∷ 101 ∷ 115 ∷ 105 ∷ 100 ∷ 117 ∷ 101 ∷ 78 ∷ 117 ∷
-      109 ∷ 98 ∷ 101 ∷ 114 ∷ []) (Syntax.tcons (Syntax.tyInt Syntax.w32) Syntax.tnil)) (Syntax.tcons (Syntax.tyInt Syntax.w8) Syntax.tnil))))) (Syntax.tcons
-      (Syntax.tyStruct (114 ∷ 101 ∷ 115 ∷ 105 ∷ 100 ∷ 117 ∷ 101 ∷ 58 ∷ 58 ∷ 82 ∷ 101 ∷ 115 ∷ 105 ∷ 100 ∷ 117 ∷ 101 ∷ []) (Syntax.tcons (Syntax.tyStruct (110 ∷ 97
-      ∷ 109 ∷ 101 ∷ 115 ∷ 58 ∷ 58 ∷ 84 ∷ 104 ∷ 114 ∷ 101 ∷ 101 ∷ []) (Syntax.tcons (Syntax.tyInt Syntax.w8) (Syntax.tcons (Syntax.tyInt Syntax.w8) (Syntax.tcons
-      (Syntax.tyInt Syntax.w8) Syntax.tnil)))) (Syntax.tcons (Syntax.tyInt Syntax.w8) (Syntax.tcons (Syntax.tyStruct (102 ∷ 105 ∷ 101 ∷ 108 ∷ 100 ∷ 115 ∷ 58 ∷ 58
-      ∷ 82 ∷ 101 ∷ 115 ∷ 105 ∷ 100 ∷ 117 ∷ 101 ∷ 78 ∷ 117 ∷ 109 ∷ 98 ∷ 101 ∷ 114 ∷ []) (Syntax.tcons (Syntax.tyInt Syntax.w32) Syntax.tnil)) (Syntax.tcons
-      (Syntax.tyInt Syntax.w8) Syntax.tnil))))) Syntax.tnil))))) (Syntax.tcons (Syntax.tyInt Syntax.w32) (Syntax.tcons (Syntax.tyStruct (104 ∷ 101 ∷ 108 ∷ 105 ∷
-      120 ∷ 58 ∷ 58 ∷ 67 ∷ 111 ∷ 109 ∷ 109 ∷ 101 ∷ 110 ∷ 116 ∷ []) (Syntax.tcons (Syntax.tyInt Syntax.w64) (Syntax.tcons (Syntax.tyInt Syntax.w64) (Syntax.tcons
-      (Syntax.tyInt Syntax.w64) (Syntax.tcons (Syntax.tyInt Syntax.w64) Syntax.tnil))))) (Syntax.tcons (Syntax.tyInt Syntax.w32) Syntax.tnil))))) Syntax.tnil)
-      (Syntax.ttcons (Syntax.tcons (Syntax.tyStruct (115 ∷ 104 ∷ 101 ∷ 101 ∷ 116 ∷ 58 ∷ 58 ∷ 83 ∷ 104 ∷ 101 ∷ 101 ∷ 116 ∷ []) (Syntax.tcons (Syntax.tyStruct (115
-      ∷ 104 ∷ 101 ∷ 101 ∷ 116 ∷ 58 ∷ 58 ∷ 83 ∷ 116 ∷ 114 ∷ 97 ∷ 110 ∷ 100 ∷ []) (Syntax.tcons (Syntax.tyInt Syntax.w32) (Syntax.tcons (Syntax.tyStruct (110 ∷ 97
-      ∷ 109 ∷ 101 ∷ 115 ∷ 58 ∷ 58 ∷ 84 ∷ 104 ∷ 114 ∷ 101 ∷ 101 ∷ []) (Syntax.tcons (Syntax.tyInt Syntax.w8) (Syntax.tcons (Syntax.tyInt Syntax.w8) (Syntax.tcons
-      (Syntax.tyInt Syntax.w8) Syntax.tnil)))) (Syntax.tcons (Syntax.tyInt Syntax.w32) (Syntax.tcons (Syntax.tyStruct (114 ∷ 101 ∷ 115 ∷ 105 ∷ 100 ∷ 117 ∷ 101 ∷
-      58 ∷ 58 ∷ 82 ∷ 101 ∷ 115 ∷ 105 ∷ 100 ∷ 117 ∷ 101 ∷ []) (Syntax.tcons (Syntax.tyStruct (110 ∷ 97 ∷ 109 ∷ 101 ∷ 115 ∷ 58 ∷ 58 ∷ 84 ∷ 104 ∷ 114 ∷ 101 ∷ 101 ∷
-      []) (Syntax.tcons (Syntax.tyInt Syntax.w8) (Syntax.tcons (Syntax.tyInt Syntax.w8) (Syntax.tcons (Syntax.tyInt Syntax.w8) Syntax.tnil)))) (Syntax.tcons
-      (Syntax.tyInt Syntax.w8) (Syntax.tcons (Syntax.tyStruct (102 ∷ 105 ∷ 101 ∷ 108 ∷ 100 ∷ 115 ∷ 58 ∷ 58 ∷ 82 ∷ 101 ∷ 115 ∷ 105 ∷ 100 ∷ 117 ∷ 101 ∷ 78 ∷ 117 ∷
-      109 ∷ 98 ∷ 101 ∷ 114 ∷ []) (Syntax.tcons (Syntax.tyInt Syntax.w32) Syntax.tnil)) (Syntax.tcons (Syntax.tyInt Syntax.w8) Syntax.tnil))))) (Syntax.tcons
-      (Syntax.tyStruct (114 ∷ 101 ∷ 115 ∷ 105 ∷ 100 ∷ 117 ∷ 101 ∷ 58 ∷ 58 ∷ 82 ∷ 101 ∷ 115 ∷ 105 ∷ 100 ∷ 117 ∷ 101 ∷ []) (Syntax.tcons (Syntax.tyStruct (110 ∷ 97
-      ∷ 109 ∷ 101 ∷ 115 ∷ 58 ∷ 58 ∷ 84 ∷ 104 ∷ 114 ∷ 101 ∷ 101 ∷ []) (Syntax.tcons (Syntax.tyInt Syntax.w8) (Syntax.tcons (Syntax.tyInt Syntax.w8) (Syntax.tcons
-      (Syntax.tyInt Syntax.w8) Syntax.tnil)))) (Syntax.tcons (Syntax.tyInt Syntax.w8) (Syntax.tcons (Syntax.tyStruct (102 ∷ 105 ∷ 101 ∷ 108 ∷ 100 ∷ 115 ∷ 58 ∷ 58
-      ∷ 82 ∷ 101 ∷ 115 ∷ 105 ∷ 100 ∷ 117 ∷ 101 ∷ 78 ∷ 117 ∷ 109 ∷ 98 ∷ 101 ∷ 114 ∷ []) (Syntax.tcons (Syntax.tyInt Syntax.w32) Syntax.tnil)) (Syntax.tcons
-      (Syntax.tyInt Syntax.w8) Syntax.tnil))))) (Syntax.tcons (Syntax.tyInt Syntax.w32) Syntax.tnil))))))) (Syntax.tcons (Syntax.tyEnum (115 ∷ 104 ∷ 101 ∷ 101 ∷
-      116 ∷ 58 ∷ 58 ∷ 82 ∷ 101 ∷ 103 ∷ 105 ∷ 115 ∷ 116 ∷ 114 ∷ 97 ∷ 116 ∷ 105 ∷ 111 ∷ 110 ∷ []) (Syntax.ttcons Syntax.tnil (Syntax.ttcons (Syntax.tcons
-      (Syntax.tyStruct (115 ∷ 104 ∷ 101 ∷ 101 ∷ 116 ∷ 58 ∷ 58 ∷ 66 ∷ 111 ∷ 110 ∷ 100 ∷ []) (Syntax.tcons (Syntax.tyStruct (110 ∷ 97 ∷ 109 ∷ 101 ∷ 115 ∷ 58 ∷ 58 ∷
-      70 ∷ 111 ∷ 117 ∷ 114 ∷ []) (Syntax.tcons (Syntax.tyInt Syntax.w8) (Syntax.tcons (Syntax.tyInt Syntax.w8) (Syntax.tcons (Syntax.tyInt Syntax.w8)
-      (Syntax.tcons (Syntax.tyInt Syntax.w8) Syntax.tnil))))) (Syntax.tcons (Syntax.tyStruct (114 ∷ 101 ∷ 115 ∷ 105 ∷ 100 ∷ 117 ∷ 101 ∷ 58 ∷ 58 ∷ 82 ∷ 101 ∷ 115
-      ∷ 105 ∷ 100 ∷ 117 ∷ 101 ∷ []) (Syntax.tcons (Syntax.tyStruct (110 ∷ 97 ∷ 109 ∷ 101 ∷ 115 ∷ 58 ∷ 58 ∷ 84 ∷ 104 ∷ 114 ∷ 101 ∷ 101 ∷ []) (Syntax.tcons
-      (Syntax.tyInt Syntax.w8) (Syntax.tcons (Syntax.tyInt Syntax.w8) (Syntax.tcons (Syntax.tyInt Syntax.w8) Syntax.tnil)))) (Syntax.tcons (Syntax.tyInt
-      Syntax.w8) (Syntax.tcons (Syntax.tyStruct (102 ∷ 105 ∷ 101 ∷ 108 ∷ 100 ∷ 115 ∷ 58 ∷ 58 ∷ 82 ∷ 101 ∷ 115 ∷ 105 ∷ 100 ∷ 117 ∷ 101 ∷ 78 ∷ 117 ∷ 109 ∷ 98 ∷ 101
-      ∷ 114 ∷ []) (Syntax.tcons (Syntax.tyInt Syntax.w32) Syntax.tnil)) (Syntax.tcons (Syntax.tyInt Syntax.w8) Syntax.tnil))))) (Syntax.tcons (Syntax.tyStruct
-      (110 ∷ 97 ∷ 109 ∷ 101 ∷ 115 ∷ 58 ∷ 58 ∷ 70 ∷ 111 ∷ 117 ∷ 114 ∷ []) (Syntax.tcons (Syntax.tyInt Syntax.w8) (Syntax.tcons (Syntax.tyInt Syntax.w8)
-      (Syntax.tcons (Syntax.tyInt Syntax.w8) (Syntax.tcons (Syntax.tyInt Syntax.w8) Syntax.tnil))))) (Syntax.tcons (Syntax.tyStruct (114 ∷ 101 ∷ 115 ∷ 105 ∷ 100
-      ∷ 117 ∷ 101 ∷ 58 ∷ 58 ∷ 82 ∷ 101 ∷ 115 ∷ 105 ∷ 100 ∷ 117 ∷ 101 ∷ []) (Syntax.tcons (Syntax.tyStruct (110 ∷ 97 ∷ 109 ∷ 101 ∷ 115 ∷ 58 ∷ 58 ∷ 84 ∷ 104 ∷ 114
-      ∷ 101 ∷ 101 ∷ []) (Syntax.tcons (Syntax.tyInt Syntax.w8) (Syntax.tcons (Syntax.tyInt Syntax.w8) (Syntax.tcons (Syntax.tyInt Syntax.w8) Syntax.tnil))))
-      (Syntax.tcons (Syntax.tyInt Syntax.w8) (Syntax.tcons (Syntax.tyStruct (102 ∷ 105 ∷ 101 ∷ 108 ∷ 100 ∷ 115 ∷ 58 ∷ 58 ∷ 82 ∷ 101 ∷ 115 ∷ 105 ∷ 100 ∷ 117 ∷ 101
-      ∷ 78 ∷ 117 ∷ 109 ∷ 98 ∷ 101 ∷ 114 ∷ []) (Syntax.tcons (Syntax.tyInt Syntax.w32) Syntax.tnil)) (Syntax.tcons (Syntax.tyInt Syntax.w8) Syntax.tnil)))))
-      Syntax.tnil))))) Syntax.tnil) Syntax.ttnil))) Syntax.tnil))) Syntax.tnil) (Syntax.ttcons (Syntax.tcons (Syntax.tyStruct (99 ∷ 111 ∷ 110 ∷ 101 ∷ 99 ∷ 116 ∷
-      58 ∷ 58 ∷ 67 ∷ 111 ∷ 110 ∷ 101 ∷ 99 ∷ 116 ∷ []) (Syntax.tcons (Syntax.tyStruct (102 ∷ 105 ∷ 101 ∷ 108 ∷ 100 ∷ 115 ∷ 58 ∷ 58 ∷ 83 ∷ 101 ∷ 114 ∷ 105 ∷ 97 ∷
-      108 ∷ []) (Syntax.tcons (Syntax.tyInt Syntax.w32) Syntax.tnil)) (Syntax.tcons (Syntax.tyStruct (102 ∷ 105 ∷ 101 ∷ 108 ∷ 100 ∷ 115 ∷ 58 ∷ 58 ∷ 83 ∷ 101 ∷
-      114 ∷ 105 ∷ 97 ∷ 108 ∷ []) (Syntax.tcons (Syntax.tyInt Syntax.w32) Syntax.tnil)) (Syntax.tcons (Syntax.tyStruct (102 ∷ 105 ∷ 101 ∷ 108 ∷ 100 ∷ 115 ∷ 58 ∷
-      58 ∷ 83 ∷ 101 ∷ 114 ∷ 105 ∷ 97 ∷ 108 ∷ []) (Syntax.tcons (Syntax.tyInt Syntax.w32) Syntax.tnil)) (Syntax.tcons (Syntax.tyStruct (102 ∷ 105 ∷ 101 ∷ 108 ∷
-      100 ∷ 115 ∷ 58 ∷ 58 ∷ 83 ∷ 101 ∷ 114 ∷ 105 ∷ 97 ∷ 108 ∷ []) (Syntax.tcons (Syntax.tyInt Syntax.w32) Syntax.tnil)) (Syntax.tcons (Syntax.tyStruct (102 ∷ 105
-      ∷ 101 ∷ 108 ∷ 100 ∷ 115 ∷ 58 ∷ 58 ∷ 83 ∷ 101 ∷ 114 ∷ 105 ∷ 97 ∷ 108 ∷ []) (Syntax.tcons (Syntax.tyInt Syntax.w32) Syntax.tnil)) Syntax.tnil))))))
-      Syntax.tnil) (Syntax.ttcons (Syntax.tcons (Syntax.tyStruct (109 ∷ 97 ∷ 115 ∷ 116 ∷ 101 ∷ 114 ∷ 58 ∷ 58 ∷ 84 ∷ 97 ∷ 108 ∷ 108 ∷ 121 ∷ []) (Syntax.tcons
-      (Syntax.tyInt Syntax.w32) (Syntax.tcons (Syntax.tyInt Syntax.w32) (Syntax.tcons (Syntax.tyInt Syntax.w32) (Syntax.tcons (Syntax.tyInt Syntax.w32)
-      (Syntax.tcons (Syntax.tyInt Syntax.w32) (Syntax.tcons (Syntax.tyInt Syntax.w32) (Syntax.tcons (Syntax.tyInt Syntax.w32) (Syntax.tcons (Syntax.tyInt
-      Syntax.w32) (Syntax.tcons (Syntax.tyInt Syntax.w32) Syntax.tnil)))))))))) Syntax.tnil) (Syntax.ttcons Syntax.tnil Syntax.ttnil)))))))) Syntax.tnil)
-      Syntax.ttnil))))),
-) ∷ (8, Rows.any-gone Syntax.tyBool) ∷ (9, Rows.any-gone (Syntax.tyInt Syntax.w64)) ∷ (10, Rows.sc-here (Row.sInt Syntax.w64)) ∷ (
-  11,
-  Rows.sc-here (Row.sInt Syntax.w64),
-) ∷ (12, Rows.any-gone Syntax.tyBool) ∷ (13, Rows.any-gone (Syntax.tyRef Syntax.erased Syntax.mut SlotAs.pointee)) ∷ (
-  14,
-  Rows.any-gone (Syntax.tyStruct (38 ∷ 91 ∷ 93 ∷ []) (Syntax.tcons (Syntax.tyRef Syntax.erased Syntax.mut SlotAs.pointee) (Syntax.tcons (Syntax.tyInt
-      Syntax.w64) Syntax.tnil))),
-) ∷ []
-
-abbrev pub t16 : List.List Row.Entry
-t16 = (
-  0,
-  Rows.any-gone (Syntax.tyStruct (115 ∷ 116 ∷ 111 ∷ 114 ∷ 101 ∷ 58 ∷ 58 ∷ 79 ∷ 117 ∷ 116 ∷ 99 ∷ 111 ∷ 109 ∷ 101 ∷ []) (Syntax.tcons (Syntax.tyInt
-      Syntax.w8) (Syntax.tcons (Syntax.tyInt Syntax.w64) Syntax.tnil))),
-) ∷ (
-  1,
-  Rows.sslice (Referent.rtF (Referent.fInt Syntax.w8)) (Syntax.tyRef (Syntax.named
-      0) Syntax.imm (Syntax.tyInt Syntax.w8)) 0,
-) ∷ (2, Mut.mslice SlotAs.row (Syntax.tyRef (Syntax.named 1) Syntax.mut SlotAs.pointee) 1) ∷ (
-  3,
-  Rows.any-gone
-      (Syntax.tyStruct (115 ∷ 116 ∷ 111 ∷ 114 ∷ 101 ∷ 58 ∷ 58 ∷ 78 ∷ 101 ∷ 101 ∷ 100 ∷ 115 ∷ []) (Syntax.tcons (Syntax.tyInt Syntax.w8) (Syntax.tcons
-      (Syntax.tyInt Syntax.w64) Syntax.tnil))),
-) ∷ (4, Rows.sc-here (Row.sInt Syntax.w64)) ∷ (5, Rows.sc-here (Row.sInt Syntax.w64)) ∷ (
-  6,
-  Rows.sc-here (Row.sInt
-      Syntax.w64),
-) ∷ (
-  7,
-  Rows.any-gone (Syntax.tyEnum (112 ∷ 105 ∷ 101 ∷ 99 ∷ 101 ∷ 115 ∷ 58 ∷ 58 ∷ 76 ∷ 105 ∷ 110 ∷ 101 ∷ []) (Syntax.ttcons (Syntax.tcons
-      (Syntax.tyInt Syntax.w8) Syntax.tnil) (Syntax.ttcons (Syntax.tcons (Syntax.tyEnum (107 ∷ 105 ∷ 110 ∷ 100 ∷ 115 ∷ 58 ∷ 58 ∷ 75 ∷ 105 ∷ 110 ∷ 100 ∷ [])
-      (Syntax.ttcons Syntax.tnil (Syntax.ttcons Syntax.tnil (Syntax.ttcons Syntax.tnil (Syntax.ttcons Syntax.tnil (Syntax.ttcons Syntax.tnil (Syntax.ttcons
-      Syntax.tnil (Syntax.ttcons Syntax.tnil (Syntax.ttcons Syntax.tnil (Syntax.ttcons Syntax.tnil (Syntax.ttcons Syntax.tnil (Syntax.ttcons Syntax.tnil
-      (Syntax.ttcons Syntax.tnil (Syntax.ttcons Syntax.tnil (Syntax.ttcons Syntax.tnil (Syntax.ttcons Syntax.tnil (Syntax.ttcons Syntax.tnil (Syntax.ttcons
-      Syntax.tnil (Syntax.ttcons Syntax.tnil (Syntax.ttcons Syntax.tnil (Syntax.ttcons Syntax.tnil (Syntax.ttcons Syntax.tnil (Syntax.ttcons Syntax.tnil
-      (Syntax.ttcons Syntax.tnil (Syntax.ttcons Syntax.tnil (Syntax.ttcons Syntax.tnil (Syntax.ttcons Syntax.tnil (Syntax.ttcons Syntax.tnil (Syntax.ttcons
-      Syntax.tnil Syntax.ttnil))))))))))))))))))))))))))))) (Syntax.tcons (Syntax.tyInt Syntax.w32) Syntax.tnil)) (Syntax.ttcons (Syntax.tcons (Syntax.tyEnum
-      (107 ∷ 105 ∷ 110 ∷ 100 ∷ 115 ∷ 58 ∷ 58 ∷ 75 ∷ 105 ∷ 110 ∷ 100 ∷ []) (Syntax.ttcons Syntax.tnil (Syntax.ttcons Syntax.tnil (Syntax.ttcons Syntax.tnil
-      (Syntax.ttcons Syntax.tnil (Syntax.ttcons Syntax.tnil (Syntax.ttcons Syntax.tnil (Syntax.ttcons Syntax.tnil (Syntax.ttcons Syntax.tnil (Syntax.ttcons
-      Syntax.tnil (Syntax.ttcons Syntax.tnil (Syntax.ttcons Syntax.tnil (Syntax.ttcons Syntax.tnil (Syntax.ttcons Syntax.tnil (Syntax.ttcons Syntax.tnil
-      (Syntax.ttcons Syntax.tnil (Syntax.ttcons Syntax.tnil (Syntax.ttcons Syntax.tnil (Syntax.ttcons Syntax.tnil (Syntax.ttcons Syntax.tnil (Syntax.ttcons
-      Syntax.tnil (Syntax.ttcons Syntax.tnil (Syntax.ttcons Syntax.tnil (Syntax.ttcons Syntax.tnil (Syntax.ttcons Syntax.tnil (Syntax.ttcons Syntax.tnil
-      (Syntax.ttcons Syntax.tnil (Syntax.ttcons Syntax.tnil (Syntax.ttcons Syntax.tnil Syntax.ttnil))))))))))))))))))))))))))))) Syntax.tnil) (Syntax.ttcons
-      (Syntax.tcons (Syntax.tyEnum (108 ∷ 105 ∷ 110 ∷ 101 ∷ 58 ∷ 58 ∷ 82 ∷ 101 ∷ 99 ∷ 111 ∷ 114 ∷ 100 ∷ []) (Syntax.ttcons (Syntax.tcons Syntax.tyBool
-      (Syntax.tcons (Syntax.tyStruct (99 ∷ 111 ∷ 111 ∷ 114 ∷ 100 ∷ 105 ∷ 110 ∷ 97 ∷ 116 ∷ 101 ∷ 58 ∷ 58 ∷ 65 ∷ 116 ∷ 111 ∷ 109 ∷ []) (Syntax.tcons
-      (Syntax.tyStruct (99 ∷ 111 ∷ 111 ∷ 114 ∷ 100 ∷ 105 ∷ 110 ∷ 97 ∷ 116 ∷ 101 ∷ 58 ∷ 58 ∷ 73 ∷ 100 ∷ 101 ∷ 110 ∷ 116 ∷ 105 ∷ 116 ∷ 121 ∷ []) (Syntax.tcons
-      (Syntax.tyStruct (102 ∷ 105 ∷ 101 ∷ 108 ∷ 100 ∷ 115 ∷ 58 ∷ 58 ∷ 83 ∷ 101 ∷ 114 ∷ 105 ∷ 97 ∷ 108 ∷ []) (Syntax.tcons (Syntax.tyInt Syntax.w32) Syntax.tnil))
-      (Syntax.tcons (Syntax.tyStruct (110 ∷ 97 ∷ 109 ∷ 101 ∷ 115 ∷ 58 ∷ 58 ∷ 70 ∷ 111 ∷ 117 ∷ 114 ∷ []) (Syntax.tcons (Syntax.tyInt Syntax.w8) (Syntax.tcons
-      (Syntax.tyInt Syntax.w8) (Syntax.tcons (Syntax.tyInt Syntax.w8) (Syntax.tcons (Syntax.tyInt Syntax.w8) Syntax.tnil))))) (Syntax.tcons (Syntax.tyInt
-      Syntax.w8) (Syntax.tcons (Syntax.tyStruct (114 ∷ 101 ∷ 115 ∷ 105 ∷ 100 ∷ 117 ∷ 101 ∷ 58 ∷ 58 ∷ 82 ∷ 101 ∷ 115 ∷ 105 ∷ 100 ∷ 117 ∷ 101 ∷ []) (Syntax.tcons
-      (Syntax.tyStruct (110 ∷ 97 ∷ 109 ∷ 101 ∷ 115 ∷ 58 ∷ 58 ∷ 84 ∷ 104 ∷ 114 ∷ 101 ∷ 101 ∷ []) (Syntax.tcons (Syntax.tyInt Syntax.w8) (Syntax.tcons
-      (Syntax.tyInt Syntax.w8) (Syntax.tcons (Syntax.tyInt Syntax.w8) Syntax.tnil)))) (Syntax.tcons (Syntax.tyInt Syntax.w8) (Syntax.tcons (Syntax.tyStruct (102
-      ∷ 105 ∷ 101 ∷ 108 ∷ 100 ∷ 115 ∷ 58 ∷ 58 ∷ 82 ∷ 101 ∷ 115 ∷ 105 ∷ 100 ∷ 117 ∷ 101 ∷ 78 ∷ 117 ∷ 109 ∷ 98 ∷ 101 ∷ 114 ∷ []) (Syntax.tcons (Syntax.tyInt
-      Syntax.w32) Syntax.tnil)) (Syntax.tcons (Syntax.tyInt Syntax.w8) Syntax.tnil))))) Syntax.tnil))))) (Syntax.tcons (Syntax.tyStruct (99 ∷ 111 ∷ 111 ∷ 114 ∷
-      100 ∷ 105 ∷ 110 ∷ 97 ∷ 116 ∷ 101 ∷ 58 ∷ 58 ∷ 77 ∷ 101 ∷ 97 ∷ 115 ∷ 117 ∷ 114 ∷ 101 ∷ []) (Syntax.tcons (Syntax.tyStruct (99 ∷ 111 ∷ 111 ∷ 114 ∷ 100 ∷ 105 ∷
-      110 ∷ 97 ∷ 116 ∷ 101 ∷ 58 ∷ 58 ∷ 80 ∷ 111 ∷ 115 ∷ 105 ∷ 116 ∷ 105 ∷ 111 ∷ 110 ∷ []) (Syntax.tcons (Syntax.tyInt Syntax.w32) (Syntax.tcons (Syntax.tyInt
-      Syntax.w32) (Syntax.tcons (Syntax.tyInt Syntax.w32) Syntax.tnil)))) (Syntax.tcons (Syntax.tyInt Syntax.w32) (Syntax.tcons (Syntax.tyInt Syntax.w32)
-      Syntax.tnil)))) (Syntax.tcons (Syntax.tyStruct (99 ∷ 111 ∷ 111 ∷ 114 ∷ 100 ∷ 105 ∷ 110 ∷ 97 ∷ 116 ∷ 101 ∷ 58 ∷ 58 ∷ 83 ∷ 112 ∷ 101 ∷ 99 ∷ 105 ∷ 101 ∷ 115 ∷
-      []) (Syntax.tcons (Syntax.tyStruct (110 ∷ 97 ∷ 109 ∷ 101 ∷ 115 ∷ 58 ∷ 58 ∷ 80 ∷ 97 ∷ 105 ∷ 114 ∷ []) (Syntax.tcons (Syntax.tyInt Syntax.w8) (Syntax.tcons
-      (Syntax.tyInt Syntax.w8) Syntax.tnil))) (Syntax.tcons (Syntax.tyStruct (110 ∷ 97 ∷ 109 ∷ 101 ∷ 115 ∷ 58 ∷ 58 ∷ 80 ∷ 97 ∷ 105 ∷ 114 ∷ []) (Syntax.tcons
-      (Syntax.tyInt Syntax.w8) (Syntax.tcons (Syntax.tyInt Syntax.w8) Syntax.tnil))) Syntax.tnil))) Syntax.tnil)))) Syntax.tnil)) (Syntax.ttcons (Syntax.tcons
-      (Syntax.tyStruct (116 ∷ 101 ∷ 114 ∷ 58 ∷ 58 ∷ 84 ∷ 101 ∷ 114 ∷ []) (Syntax.tcons (Syntax.tyStruct (102 ∷ 105 ∷ 101 ∷ 108 ∷ 100 ∷ 115 ∷ 58 ∷ 58 ∷ 83 ∷ 101 ∷
-      114 ∷ 105 ∷ 97 ∷ 108 ∷ []) (Syntax.tcons (Syntax.tyInt Syntax.w32) Syntax.tnil)) (Syntax.tcons (Syntax.tyStruct (114 ∷ 101 ∷ 115 ∷ 105 ∷ 100 ∷ 117 ∷ 101 ∷
-      58 ∷ 58 ∷ 82 ∷ 101 ∷ 115 ∷ 105 ∷ 100 ∷ 117 ∷ 101 ∷ []) (Syntax.tcons (Syntax.tyStruct (110 ∷ 97 ∷ 109 ∷ 101 ∷ 115 ∷ 58 ∷ 58 ∷ 84 ∷ 104 ∷ 114 ∷ 101 ∷ 101 ∷
-      []) (Syntax.tcons (Syntax.tyInt Syntax.w8) (Syntax.tcons (Syntax.tyInt Syntax.w8) (Syntax.tcons (Syntax.tyInt Syntax.w8) Syntax.tnil)))) (Syntax.tcons
-      (Syntax.tyInt Syntax.w8) (Syntax.tcons (Syntax.tyStruct (102 ∷ 105 ∷ 101 ∷ 108 ∷ 100 ∷ 115 ∷ 58 ∷ 58 ∷ 82 ∷ 101 ∷ 115 ∷ 105 ∷ 100 ∷ 117 ∷ 101 ∷ 78 ∷ 117 ∷
-      109 ∷ 98 ∷ 101 ∷ 114 ∷ []) (Syntax.tcons (Syntax.tyInt Syntax.w32) Syntax.tnil)) (Syntax.tcons (Syntax.tyInt Syntax.w8) Syntax.tnil))))) Syntax.tnil)))
-      Syntax.tnil) (Syntax.ttcons (Syntax.tcons (Syntax.tyStruct (104 ∷ 101 ∷ 108 ∷ 105 ∷ 120 ∷ 58 ∷ 58 ∷ 72 ∷ 101 ∷ 108 ∷ 105 ∷ 120 ∷ []) (Syntax.tcons
-      (Syntax.tyStruct (104 ∷ 101 ∷ 108 ∷ 105 ∷ 120 ∷ 58 ∷ 58 ∷ 69 ∷ 120 ∷ 116 ∷ 101 ∷ 110 ∷ 116 ∷ []) (Syntax.tcons (Syntax.tyInt Syntax.w32) (Syntax.tcons
-      (Syntax.tyStruct (110 ∷ 97 ∷ 109 ∷ 101 ∷ 115 ∷ 58 ∷ 58 ∷ 84 ∷ 104 ∷ 114 ∷ 101 ∷ 101 ∷ []) (Syntax.tcons (Syntax.tyInt Syntax.w8) (Syntax.tcons
-      (Syntax.tyInt Syntax.w8) (Syntax.tcons (Syntax.tyInt Syntax.w8) Syntax.tnil)))) (Syntax.tcons (Syntax.tyStruct (114 ∷ 101 ∷ 115 ∷ 105 ∷ 100 ∷ 117 ∷ 101 ∷
-      58 ∷ 58 ∷ 82 ∷ 101 ∷ 115 ∷ 105 ∷ 100 ∷ 117 ∷ 101 ∷ []) (Syntax.tcons (Syntax.tyStruct (110 ∷ 97 ∷ 109 ∷ 101 ∷ 115 ∷ 58 ∷ 58 ∷ 84 ∷ 104 ∷ 114 ∷ 101 ∷ 101 ∷
-      []) (Syntax.tcons (Syntax.tyInt Syntax.w8) (Syntax.tcons (Syntax.tyInt Syntax.w8) (Syntax.tcons (Syntax.tyInt Syntax.w8) Syntax.tnil)))) (Syntax.tcons
-      (Syntax.tyInt Syntax.w8) (Syntax.tcons (Syntax.tyStruct (102 ∷ 105 ∷ 101 ∷ 108 ∷ 100 ∷ 115 ∷ 58 ∷ 58 ∷ 82 ∷ 101 ∷ 115 ∷ 105 ∷ 100 ∷ 117 ∷ 101 ∷ 78 ∷ 117 ∷
-      109 ∷ 98 ∷ 101 ∷ 114 ∷ []) (Syntax.tcons (Syntax.tyInt Syntax.w32) Syntax.tnil)) (Syntax.tcons (Syntax.tyInt Syntax.w8) Syntax.tnil))))) (Syntax.tcons
-      (Syntax.tyStruct (114 ∷ 101 ∷ 115 ∷ 105 ∷ 100 ∷ 117 ∷ 101 ∷ 58 ∷ 58 ∷ 82 ∷ 101 ∷ 115 ∷ 105 ∷ 100 ∷ 117 ∷ 101 ∷ []) (Syntax.tcons (Syntax.tyStruct (110 ∷ 97
-      ∷ 109 ∷ 101 ∷ 115 ∷ 58 ∷ 58 ∷ 84 ∷ 104 ∷ 114 ∷ 101 ∷ 101 ∷ []) (Syntax.tcons (Syntax.tyInt Syntax.w8) (Syntax.tcons (Syntax.tyInt Syntax.w8) (Syntax.tcons
-      (Syntax.tyInt Syntax.w8) Syntax.tnil)))) (Syntax.tcons (Syntax.tyInt Syntax.w8) (Syntax.tcons (Syntax.tyStruct (102 ∷ 105 ∷ 101 ∷ 108 ∷ 100 ∷ 115 ∷ 58 ∷ 58
-      ∷ 82 ∷ 101 ∷ 115 ∷ 105 ∷ 100 ∷ 117 ∷ 101 ∷ 78 ∷ 117 ∷ 109 ∷ 98 ∷ 101 ∷ 114 ∷ []) (Syntax.tcons (Syntax.tyInt Syntax.w32) Syntax.tnil)) (Syntax.tcons
-      (Syntax.tyInt Syntax.w8) Syntax.tnil))))) Syntax.tnil))))) (Syntax.tcons (Syntax.tyInt Syntax.w32) (Syntax.tcons (Syntax.tyStruct (104 ∷ 101 ∷ 108 ∷ 105 ∷
-      120 ∷ 58 ∷ 58 ∷ 67 ∷ 111 ∷ 109 ∷ 109 ∷ 101 ∷ 110 ∷ 116 ∷ []) (Syntax.tcons (Syntax.tyInt Syntax.w64) (Syntax.tcons (Syntax.tyInt Syntax.w64) (Syntax.tcons
-      (Syntax.tyInt Syntax.w64) (Syntax.tcons (Syntax.tyInt Syntax.w64) Syntax.tnil))))) (Syntax.tcons (Syntax.tyInt Syntax.w32) Syntax.tnil))))) Syntax.tnil)
-      (Syntax.ttcons (Syntax.tcons (Syntax.tyStruct (115 ∷ 104 ∷ 101 ∷ 101 ∷ 116 ∷ 58 ∷ 58 ∷ 83 ∷ 104 ∷ 101 ∷ 101 ∷ 116 ∷ []) (Syntax.tcons (Syntax.tyStruct (115
-      ∷ 104 ∷ 101 ∷ 101 ∷ 116 ∷ 58 ∷ 58 ∷ 83 ∷ 116 ∷ 114 ∷ 97 ∷ 110 ∷ 100 ∷ []) (Syntax.tcons (Syntax.tyInt Syntax.w32) (Syntax.tcons (Syntax.tyStruct (110 ∷ 97
-      ∷ 109 ∷ 101 ∷ 115 ∷ 58 ∷ 58 ∷ 84 ∷ 104 ∷ 114 ∷ 101 ∷ 101 ∷ []) (Syntax.tcons (Syntax.tyInt Syntax.w8) (Syntax.tcons (Syntax.tyInt Syntax.w8) (Syntax.tcons
-      (Syntax.tyInt Syntax.w8) Syntax.tnil)))) (Syntax.tcons (Syntax.tyInt Syntax.w32) (Syntax.tcons (Syntax.tyStruct (114 ∷ 101 ∷ 115 ∷ 105 ∷ 100 ∷ 117 ∷ 101 ∷
-      58 ∷ 58 ∷ 82 ∷ 101 ∷ 115 ∷ 105 ∷ 100 ∷ 117 ∷ 101 ∷ []) (Syntax.tcons (Syntax.tyStruct (110 ∷ 97 ∷ 109 ∷ 101 ∷ 115 ∷ 58 ∷ 58 ∷ 84 ∷ 104 ∷ 114 ∷ 101 ∷ 101 ∷
-      []) (Syntax.tcons (Syntax.tyInt Syntax.w8) (Syntax.tcons (Syntax.tyInt Syntax.w8) (Syntax.tcons (Syntax.tyInt Syntax.w8) Syntax.tnil)))) (Syntax.tcons
-      (Syntax.tyInt Syntax.w8) (Syntax.tcons (Syntax.tyStruct (102 ∷ 105 ∷ 101 ∷ 108 ∷ 100 ∷ 115 ∷ 58 ∷ 58 ∷ 82 ∷ 101 ∷ 115 ∷ 105 ∷ 100 ∷ 117 ∷ 101 ∷ 78 ∷ 117 ∷
-      109 ∷ 98 ∷ 101 ∷ 114 ∷ []) (Syntax.tcons (Syntax.tyInt Syntax.w32) Syntax.tnil)) (Syntax.tcons (Syntax.tyInt Syntax.w8) Syntax.tnil))))) (Syntax.tcons
-      (Syntax.tyStruct (114 ∷ 101 ∷ 115 ∷ 105 ∷ 100 ∷ 117 ∷ 101 ∷ 58 ∷ 58 ∷ 82 ∷ 101 ∷ 115 ∷ 105 ∷ 100 ∷ 117 ∷ 101 ∷ []) (Syntax.tcons (Syntax.tyStruct (110 ∷ 97
-      ∷ 109 ∷ 101 ∷ 115 ∷ 58 ∷ 58 ∷ 84 ∷ 104 ∷ 114 ∷ 101 ∷ 101 ∷ []) (Syntax.tcons (Syntax.tyInt Syntax.w8) (Syntax.tcons (Syntax.tyInt Syntax.w8) (Syntax.tcons
-      (Syntax.tyInt Syntax.w8) Syntax.tnil)))) (Syntax.tcons (Syntax.tyInt Syntax.w8) (Syntax.tcons (Syntax.tyStruct (102 ∷ 105 ∷ 101 ∷ 108 ∷ 100 ∷ 115 ∷ 58 ∷ 58
-      ∷ 82 ∷ 101 ∷ 115 ∷ 105 ∷ 100 ∷ 117 ∷ 101 ∷ 78 ∷ 117 ∷ 109 ∷ 98 ∷ 101 ∷ 114 ∷ []) (Syntax.tcons (Syntax.tyInt Syntax.w32) Syntax.tnil)) (Syntax.tcons
-      (Syntax.tyInt Syntax.w8) Syntax.tnil))))) (Syntax.tcons (Syntax.tyInt Syntax.w32) Syntax.tnil))))))) (Syntax.tcons (Syntax.tyEnum (115 ∷ 104 ∷ 101 ∷ 101 ∷
-      116 ∷ 58 ∷ 58 ∷ 82 ∷ 101 ∷ 103 ∷ 105 ∷ 115 ∷ 116 ∷ 114 ∷ 97 ∷ 116 ∷ 105 ∷ 111 ∷ 110 ∷ []) (Syntax.ttcons Syntax.tnil (Syntax.ttcons (Syntax.tcons
-      (Syntax.tyStruct (115 ∷ 104 ∷ 101 ∷ 101 ∷ 116 ∷ 58 ∷ 58 ∷ 66 ∷ 111 ∷ 110 ∷ 100 ∷ []) (Syntax.tcons (Syntax.tyStruct (110 ∷ 97 ∷ 109 ∷ 101 ∷ 115 ∷ 58 ∷ 58 ∷
-      70 ∷ 111 ∷ 117 ∷ 114 ∷ []) (Syntax.tcons (Syntax.tyInt Syntax.w8) (Syntax.tcons (Syntax.tyInt Syntax.w8) (Syntax.tcons (Syntax.tyInt Syntax.w8)
-      (Syntax.tcons (Syntax.tyInt Syntax.w8) Syntax.tnil))))) (Syntax.tcons (Syntax.tyStruct (114 ∷ 101 ∷ 115 ∷ 105 ∷ 100 ∷ 117 ∷ 101 ∷ 58 ∷ 58 ∷ 82 ∷ 101 ∷ 115
-      ∷ 105 ∷ 100 ∷ 117 ∷ 101 ∷ []) (Syntax.tcons (Syntax.tyStruct (110 ∷ 97 ∷ 109 ∷ 101 ∷ 115 ∷ 58 ∷ 58 ∷ 84 ∷ 104 ∷ 114 ∷ 101 ∷ 101 ∷ []) (Syntax.tcons
-      (Syntax.tyInt Syntax.w8) (Syntax.tcons (Syntax.tyInt Syntax.w8) (Syntax.tcons (Syntax.tyInt Syntax.w8) Syntax.tnil)))) (Syntax.tcons (Syntax.tyInt
-      Syntax.w8) (Syntax.tcons (Syntax.tyStruct (102 ∷ 105 ∷ 101 ∷ 108 ∷ 100 ∷ 115 ∷ 58 ∷ 58 ∷ 82 ∷ 101 ∷ 115 ∷ 105 ∷ 100 ∷ 117 ∷ 101 ∷ 78 ∷ 117 ∷ 109 ∷ 98 ∷ 101
-      ∷ 114 ∷ []) (Syntax.tcons (Syntax.tyInt Syntax.w32) Syntax.tnil)) (Syntax.tcons (Syntax.tyInt Syntax.w8) Syntax.tnil))))) (Syntax.tcons (Syntax.tyStruct
-      (110 ∷ 97 ∷ 109 ∷ 101 ∷ 115 ∷ 58 ∷ 58 ∷ 70 ∷ 111 ∷ 117 ∷ 114 ∷ []) (Syntax.tcons (Syntax.tyInt Syntax.w8) (Syntax.tcons (Syntax.tyInt Syntax.w8)
-      (Syntax.tcons (Syntax.tyInt Syntax.w8) (Syntax.tcons (Syntax.tyInt Syntax.w8) Syntax.tnil))))) (Syntax.tcons (Syntax.tyStruct (114 ∷ 101 ∷ 115 ∷ 105 ∷ 100
-      ∷ 117 ∷ 101 ∷ 58 ∷ 58 ∷ 82 ∷ 101 ∷ 115 ∷ 105 ∷ 100 ∷ 117 ∷ 101 ∷ []) (Syntax.tcons (Syntax.tyStruct (110 ∷ 97 ∷ 109 ∷ 101 ∷ 115 ∷ 58 ∷ 58 ∷ 84 ∷ 104 ∷ 114
-      ∷ 101 ∷ 101 ∷ []) (Syntax.tcons (Syntax.tyInt Syntax.w8) (Syntax.tcons (Syntax.tyInt Syntax.w8) (Syntax.tcons (Syntax.tyInt Syntax.w8) Syntax.tnil))))
-      (Syntax.tcons (Syntax.tyInt Syntax.w8) (Syntax.tcons (Syntax.tyStruct (102 ∷ 105 ∷ 101 ∷ 108 ∷ 100 ∷ 115 ∷ 58 ∷ 58 ∷ 82 ∷ 101 ∷ 115 ∷ 105 ∷ 100 ∷ 117 ∷ 101
-      ∷ 78 ∷ 117 ∷ 109 ∷ 98 ∷ 101 ∷ 114 ∷ []) (Syntax.tcons (Syntax.tyInt Syntax.w32) Syntax.tnil)) (Syntax.tcons (Syntax.tyInt Syntax.w8) Syntax.tnil)))))
-      Syntax.tnil))))) Syntax.tnil) Syntax.ttnil))) Syntax.tnil))) Syntax.tnil) (Syntax.ttcons (Syntax.tcons (Syntax.tyStruct (99 ∷ 111 ∷ 110 ∷ 101 ∷ 99 ∷ 116 ∷
-      58 ∷ 58 ∷ 67 ∷ 111 ∷ 110 ∷ 101 ∷ 99 ∷ 116 ∷ []) (Syntax.tcons (Syntax.tyStruct (102 ∷ 105 ∷ 101 ∷ 108 ∷ 100 ∷ 115 ∷ 58 ∷ 58 ∷ 83 ∷ 101 ∷ 114 ∷ 105 ∷ 97 ∷
-      108 ∷ []) (Syntax.tcons (Syntax.tyInt Syntax.w32) Syntax.tnil)) (Syntax.tcons (Syntax.tyStruct (102 ∷ 105 ∷ 101 ∷ 108 ∷ 100 ∷ 115 ∷ 58 ∷ 58 ∷ 83 ∷ 101 ∷
-      114 ∷ 105 ∷ 97 ∷ 108 ∷ []) (Syntax.tcons (Syntax.tyInt Syntax.w32) Syntax.tnil)) (Syntax.tcons (Syntax.tyStruct (102 ∷ 105 ∷ 101 ∷ 108 ∷ 100 ∷ 115 ∷ 58 ∷
-      58 ∷ 83 ∷ 101 ∷ 114 ∷ 105 ∷ 97 ∷ 108 ∷ []) (Syntax.tcons (Syntax.tyInt Syntax.w32) Syntax.tnil)) (Syntax.tcons (Syntax.tyStruct (102 ∷ 105 ∷ 101 ∷ 108 ∷
-      100 ∷ 115 ∷ 58 ∷ 58 ∷ 83 ∷ 101 ∷ 114 ∷ 105 ∷ 97 ∷ 108 ∷ []) (Syntax.tcons (Syntax.tyInt Syntax.w32) Syntax.tnil)) (Syntax.tcons (Syntax.tyStruct (102 ∷ 105
-      ∷ 101 ∷ 108 ∷ 100 ∷ 115 ∷ 58 ∷ 58 ∷ 83 ∷ 101 ∷ 114 ∷ 105 ∷ 97 ∷ 108 ∷ []) (Syntax.tcons (Syntax.tyInt Syntax.w32) Syntax.tnil)) Syntax.tnil))))))
-      Syntax.tnil) (Syntax.ttcons (Syntax.tcons (Syntax.tyStruct (109 ∷ 97 ∷ 115 ∷ 116 ∷ 101 ∷ 114 ∷ 58 ∷ 58 ∷ 84 ∷ 97 ∷ 108 ∷ 108 ∷ 121 ∷ []) (Syntax.tcons
-      (Syntax.tyInt Syntax.w32) (Syntax.tcons (Syntax.tyInt Syntax.w32) (Syntax.tcons (Syntax.tyInt Syntax.w32) (Syntax.tcons (Syntax.tyInt Syntax.w32)
-      (Syntax.tcons (Syntax.tyInt Syntax.w32) (Syntax.tcons (Syntax.tyInt Syntax.w32) (Syntax.tcons (Syntax.tyInt Syntax.w32) (Syntax.tcons (Syntax.tyInt
-      Syntax.w32) (Syntax.tcons (Syntax.tyInt Syntax.w32) Syntax.tnil)))))))))) Syntax.tnil) (Syntax.ttcons Syntax.tnil Syntax.ttnil)))))))) Syntax.tnil)
-      Syntax.ttnil))))),
-) ∷ (8, Rows.any-gone Syntax.tyBool) ∷ (9, Rows.any-gone (Syntax.tyInt Syntax.w64)) ∷ (10, Rows.sc-here (Row.sInt Syntax.w64)) ∷ (
-  11,
-  Rows.sc-here (Row.sInt Syntax.w64),
-) ∷ (12, Rows.sc-here Row.sBool) ∷ (13, Rows.any-gone (Syntax.tyRef Syntax.erased Syntax.mut SlotAs.pointee)) ∷ (
-  14,
-  Rows.any-gone (Syntax.tyStruct (38 ∷ 91 ∷ 93 ∷ []) (Syntax.tcons (Syntax.tyRef Syntax.erased Syntax.mut SlotAs.pointee) (Syntax.tcons (Syntax.tyInt
-      Syntax.w64) Syntax.tnil))),
-) ∷ []
-
-abbrev pub t17 : List.List Row.Entry
-t17 = (
-  0,
-  Rows.any-gone (Syntax.tyStruct (115 ∷ 116 ∷ 111 ∷ 114 ∷ 101 ∷ 58 ∷ 58 ∷ 79 ∷ 117 ∷ 116 ∷ 99 ∷ 111 ∷ 109 ∷ 101 ∷ []) (Syntax.tcons (Syntax.tyInt
-      Syntax.w8) (Syntax.tcons (Syntax.tyInt Syntax.w64) Syntax.tnil))),
-) ∷ (
-  1,
-  Rows.sslice (Referent.rtF (Referent.fInt Syntax.w8)) (Syntax.tyRef (Syntax.named
-      0) Syntax.imm (Syntax.tyInt Syntax.w8)) 0,
-) ∷ (2, Mut.mslice SlotAs.row (Syntax.tyRef (Syntax.named 1) Syntax.mut SlotAs.pointee) 1) ∷ (
-  3,
-  Rows.any-gone
-      (Syntax.tyStruct (115 ∷ 116 ∷ 111 ∷ 114 ∷ 101 ∷ 58 ∷ 58 ∷ 78 ∷ 101 ∷ 101 ∷ 100 ∷ 115 ∷ []) (Syntax.tcons (Syntax.tyInt Syntax.w8) (Syntax.tcons
-      (Syntax.tyInt Syntax.w64) Syntax.tnil))),
-) ∷ (4, Rows.sc-here (Row.sInt Syntax.w64)) ∷ (5, Rows.sc-here (Row.sInt Syntax.w64)) ∷ (
-  6,
-  Rows.sc-here (Row.sInt
-      Syntax.w64),
-) ∷ (
-  7,
-  Rows.any-gone (Syntax.tyEnum (112 ∷ 105 ∷ 101 ∷ 99 ∷ 101 ∷ 115 ∷ 58 ∷ 58 ∷ 76 ∷ 105 ∷ 110 ∷ 101 ∷ []) (Syntax.ttcons (Syntax.tcons
-      (Syntax.tyInt Syntax.w8) Syntax.tnil) (Syntax.ttcons (Syntax.tcons (Syntax.tyEnum (107 ∷ 105 ∷ 110 ∷ 100 ∷ 115 ∷ 58 ∷ 58 ∷ 75 ∷ 105 ∷ 110 ∷ 100 ∷ [])
-      (Syntax.ttcons Syntax.tnil (Syntax.ttcons Syntax.tnil (Syntax.ttcons Syntax.tnil (Syntax.ttcons Syntax.tnil (Syntax.ttcons Syntax.tnil (Syntax.ttcons
-      Syntax.tnil (Syntax.ttcons Syntax.tnil (Syntax.ttcons Syntax.tnil (Syntax.ttcons Syntax.tnil (Syntax.ttcons Syntax.tnil (Syntax.ttcons Syntax.tnil
-      (Syntax.ttcons Syntax.tnil (Syntax.ttcons Syntax.tnil (Syntax.ttcons Syntax.tnil (Syntax.ttcons Syntax.tnil (Syntax.ttcons Syntax.tnil (Syntax.ttcons
-      Syntax.tnil (Syntax.ttcons Syntax.tnil (Syntax.ttcons Syntax.tnil (Syntax.ttcons Syntax.tnil (Syntax.ttcons Syntax.tnil (Syntax.ttcons Syntax.tnil
-      (Syntax.ttcons Syntax.tnil (Syntax.ttcons Syntax.tnil (Syntax.ttcons Syntax.tnil (Syntax.ttcons Syntax.tnil (Syntax.ttcons Syntax.tnil (Syntax.ttcons
-      Syntax.tnil Syntax.ttnil))))))))))))))))))))))))))))) (Syntax.tcons (Syntax.tyInt Syntax.w32) Syntax.tnil)) (Syntax.ttcons (Syntax.tcons (Syntax.tyEnum
-      (107 ∷ 105 ∷ 110 ∷ 100 ∷ 115 ∷ 58 ∷ 58 ∷ 75 ∷ 105 ∷ 110 ∷ 100 ∷ []) (Syntax.ttcons Syntax.tnil (Syntax.ttcons Syntax.tnil (Syntax.ttcons Syntax.tnil
-      (Syntax.ttcons Syntax.tnil (Syntax.ttcons Syntax.tnil (Syntax.ttcons Syntax.tnil (Syntax.ttcons Syntax.tnil (Syntax.ttcons Syntax.tnil (Syntax.ttcons
-      Syntax.tnil (Syntax.ttcons Syntax.tnil (Syntax.ttcons Syntax.tnil (Syntax.ttcons Syntax.tnil (Syntax.ttcons Syntax.tnil (Syntax.ttcons Syntax.tnil
-      (Syntax.ttcons Syntax.tnil (Syntax.ttcons Syntax.tnil (Syntax.ttcons Syntax.tnil (Syntax.ttcons Syntax.tnil (Syntax.ttcons Syntax.tnil (Syntax.ttcons
-      Syntax.tnil (Syntax.ttcons Syntax.tnil (Syntax.ttcons Syntax.tnil (Syntax.ttcons Syntax.tnil (Syntax.ttcons Syntax.tnil (Syntax.ttcons Syntax.tnil
-      (Syntax.ttcons Syntax.tnil (Syntax.ttcons Syntax.tnil (Syntax.ttcons Syntax.tnil Syntax.ttnil))))))))))))))))))))))))))))) Syntax.tnil) (Syntax.ttcons
-      (Syntax.tcons (Syntax.tyEnum (108 ∷ 105 ∷ 110 ∷ 101 ∷ 58 ∷ 58 ∷ 82 ∷ 101 ∷ 99 ∷ 111 ∷ 114 ∷ 100 ∷ []) (Syntax.ttcons (Syntax.tcons Syntax.tyBool
-      (Syntax.tcons (Syntax.tyStruct (99 ∷ 111 ∷ 111 ∷ 114 ∷ 100 ∷ 105 ∷ 110 ∷ 97 ∷ 116 ∷ 101 ∷ 58 ∷ 58 ∷ 65 ∷ 116 ∷ 111 ∷ 109 ∷ []) (Syntax.tcons
-      (Syntax.tyStruct (99 ∷ 111 ∷ 111 ∷ 114 ∷ 100 ∷ 105 ∷ 110 ∷ 97 ∷ 116 ∷ 101 ∷ 58 ∷ 58 ∷ 73 ∷ 100 ∷ 101 ∷ 110 ∷ 116 ∷ 105 ∷ 116 ∷ 121 ∷ []) (Syntax.tcons
-      (Syntax.tyStruct (102 ∷ 105 ∷ 101 ∷ 108 ∷ 100 ∷ 115 ∷ 58 ∷ 58 ∷ 83 ∷ 101 ∷ 114 ∷ 105 ∷ 97 ∷ 108 ∷ []) (Syntax.tcons (Syntax.tyInt Syntax.w32) Syntax.tnil))
-      (Syntax.tcons (Syntax.tyStruct (110 ∷ 97 ∷ 109 ∷ 101 ∷ 115 ∷ 58 ∷ 58 ∷ 70 ∷ 111 ∷ 117 ∷ 114 ∷ []) (Syntax.tcons (Syntax.tyInt Syntax.w8) (Syntax.tcons
-      (Syntax.tyInt Syntax.w8) (Syntax.tcons (Syntax.tyInt Syntax.w8) (Syntax.tcons (Syntax.tyInt Syntax.w8) Syntax.tnil))))) (Syntax.tcons (Syntax.tyInt
-      Syntax.w8) (Syntax.tcons (Syntax.tyStruct (114 ∷ 101 ∷ 115 ∷ 105 ∷ 100 ∷ 117 ∷ 101 ∷ 58 ∷ 58 ∷ 82 ∷ 101 ∷ 115 ∷ 105 ∷ 100 ∷ 117 ∷ 101 ∷ []) (Syntax.tcons
-      (Syntax.tyStruct (110 ∷ 97 ∷ 109 ∷ 101 ∷ 115 ∷ 58 ∷ 58 ∷ 84 ∷ 104 ∷ 114 ∷ 101 ∷ 101 ∷ []) (Syntax.tcons (Syntax.tyInt Syntax.w8) (Syntax.tcons
-      (Syntax.tyInt Syntax.w8) (Syntax.tcons (Syntax.tyInt Syntax.w8) Syntax.tnil)))) (Syntax.tcons (Syntax.tyInt Syntax.w8) (Syntax.tcons (Syntax.tyStruct (102
-      ∷ 105 ∷ 101 ∷ 108 ∷ 100 ∷ 115 ∷ 58 ∷ 58 ∷ 82 ∷ 101 ∷ 115 ∷ 105 ∷ 100 ∷ 117 ∷ 101 ∷ 78 ∷ 117 ∷ 109 ∷ 98 ∷ 101 ∷ 114 ∷ []) (Syntax.tcons (Syntax.tyInt
-      Syntax.w32) Syntax.tnil)) (Syntax.tcons (Syntax.tyInt Syntax.w8) Syntax.tnil))))) Syntax.tnil))))) (Syntax.tcons (Syntax.tyStruct (99 ∷ 111 ∷ 111 ∷ 114 ∷
-      100 ∷ 105 ∷ 110 ∷ 97 ∷ 116 ∷ 101 ∷ 58 ∷ 58 ∷ 77 ∷ 101 ∷ 97 ∷ 115 ∷ 117 ∷ 114 ∷ 101 ∷ []) (Syntax.tcons (Syntax.tyStruct (99 ∷ 111 ∷ 111 ∷ 114 ∷ 100 ∷ 105 ∷
-      110 ∷ 97 ∷ 116 ∷ 101 ∷ 58 ∷ 58 ∷ 80 ∷ 111 ∷ 115 ∷ 105 ∷ 116 ∷ 105 ∷ 111 ∷ 110 ∷ []) (Syntax.tcons (Syntax.tyInt Syntax.w32) (Syntax.tcons (Syntax.tyInt
-      Syntax.w32) (Syntax.tcons (Syntax.tyInt Syntax.w32) Syntax.tnil)))) (Syntax.tcons (Syntax.tyInt Syntax.w32) (Syntax.tcons (Syntax.tyInt Syntax.w32)
-      Syntax.tnil)))) (Syntax.tcons (Syntax.tyStruct (99 ∷ 111 ∷ 111 ∷ 114 ∷ 100 ∷ 105 ∷ 110 ∷ 97 ∷ 116 ∷ 101 ∷ 58 ∷ 58 ∷ 83 ∷ 112 ∷ 101 ∷ 99 ∷ 105 ∷ 101 ∷ 115 ∷
-      []) (Syntax.tcons (Syntax.tyStruct (110 ∷ 97 ∷ 109 ∷ 101 ∷ 115 ∷ 58 ∷ 58 ∷ 80 ∷ 97 ∷ 105 ∷ 114 ∷ []) (Syntax.tcons (Syntax.tyInt Syntax.w8) (Syntax.tcons
-      (Syntax.tyInt Syntax.w8) Syntax.tnil))) (Syntax.tcons (Syntax.tyStruct (110 ∷ 97 ∷ 109 ∷ 101 ∷ 115 ∷ 58 ∷ 58 ∷ 80 ∷ 97 ∷ 105 ∷ 114 ∷ []) (Syntax.tcons
-      (Syntax.tyInt Syntax.w8) (Syntax.tcons (Syntax.tyInt Syntax.w8) Syntax.tnil))) Syntax.tnil))) Syntax.tnil)))) Syntax.tnil)) (Syntax.ttcons (Syntax.tcons
-      (Syntax.tyStruct (116 ∷ 101 ∷ 114 ∷ 58 ∷ 58 ∷ 84 ∷ 101 ∷ 114 ∷ []) (Syntax.tcons (Syntax.tyStruct (102 ∷ 105 ∷ 101 ∷ 108 ∷ 100 ∷ 115 ∷ 58 ∷ 58 ∷ 83 ∷ 101 ∷
-      114 ∷ 105 ∷ 97 ∷ 108 ∷ []) (Syntax.tcons (Syntax.tyInt Syntax.w32) Syntax.tnil)) (Syntax.tcons (Syntax.tyStruct (114 ∷ 101 ∷ 115 ∷ 105 ∷ 100 ∷ 117 ∷ 101 ∷
-      58 ∷ 58 ∷ 82 ∷ 101 ∷ 115 ∷ 105 ∷ 100 ∷ 117 ∷ 101 ∷ []) (Syntax.tcons (Syntax.tyStruct (110 ∷ 97 ∷ 109 ∷ 101 ∷ 115 ∷ 58 ∷ 58 ∷ 84 ∷ 104 ∷ 114 ∷ 101 ∷ 101 ∷
-      []) (Syntax.tcons (Syntax.tyInt Syntax.w8) (Syntax.tcons (Syntax.tyInt Syntax.w8) (Syntax.tcons (Syntax.tyInt Syntax.w8) Syntax.tnil)))) (Syntax.tcons
-      (Syntax.tyInt Syntax.w8) (Syntax.tcons (Syntax.tyStruct (102 ∷ 105 ∷ 101 ∷ 108 ∷ 100 ∷ 115 ∷ 58 ∷ 58 ∷ 82 ∷ 101 ∷ 115 ∷ 105 ∷ 100 ∷ 117 ∷ 101 ∷ 78 ∷ 117 ∷
-      109 ∷ 98 ∷ 101 ∷ 114 ∷ []) (Syntax.tcons (Syntax.tyInt Syntax.w32) Syntax.tnil)) (Syntax.tcons (Syntax.tyInt Syntax.w8) Syntax.tnil))))) Syntax.tnil)))
-      Syntax.tnil) (Syntax.ttcons (Syntax.tcons (Syntax.tyStruct (104 ∷ 101 ∷ 108 ∷ 105 ∷ 120 ∷ 58 ∷ 58 ∷ 72 ∷ 101 ∷ 108 ∷ 105 ∷ 120 ∷ []) (Syntax.tcons
-      (Syntax.tyStruct (104 ∷ 101 ∷ 108 ∷ 105 ∷ 120 ∷ 58 ∷ 58 ∷ 69 ∷ 120 ∷ 116 ∷ 101 ∷ 110 ∷ 116 ∷ []) (Syntax.tcons (Syntax.tyInt Syntax.w32) (Syntax.tcons
-      (Syntax.tyStruct (110 ∷ 97 ∷ 109 ∷ 101 ∷ 115 ∷ 58 ∷ 58 ∷ 84 ∷ 104 ∷ 114 ∷ 101 ∷ 101 ∷ []) (Syntax.tcons (Syntax.tyInt Syntax.w8) (Syntax.tcons
-      (Syntax.tyInt Syntax.w8) (Syntax.tcons (Syntax.tyInt Syntax.w8) Syntax.tnil)))) (Syntax.tcons (Syntax.tyStruct (114 ∷ 101 ∷ 115 ∷ 105 ∷ 100 ∷ 117 ∷ 101 ∷
-      58 ∷ 58 ∷ 82 ∷ 101 ∷ 115 ∷ 105 ∷ 100 ∷ 117 ∷ 101 ∷ []) (Syntax.tcons (Syntax.tyStruct (110 ∷ 97 ∷ 109 ∷ 101 ∷ 115 ∷ 58 ∷ 58 ∷ 84 ∷ 104 ∷ 114 ∷ 101 ∷ 101 ∷
-      []) (Syntax.tcons (Syntax.tyInt Syntax.w8) (Syntax.tcons (Syntax.tyInt Syntax.w8) (Syntax.tcons (Syntax.tyInt Syntax.w8) Syntax.tnil)))) (Syntax.tcons
-      (Syntax.tyInt Syntax.w8) (Syntax.tcons (Syntax.tyStruct (102 ∷ 105 ∷ 101 ∷ 108 ∷ 100 ∷ 115 ∷ 58 ∷ 58 ∷ 82 ∷ 101 ∷ 115 ∷ 105 ∷ 100 ∷ 117 ∷ 101 ∷ 78 ∷ 117 ∷
-      109 ∷ 98 ∷ 101 ∷ 114 ∷ []) (Syntax.tcons (Syntax.tyInt Syntax.w32) Syntax.tnil)) (Syntax.tcons (Syntax.tyInt Syntax.w8) Syntax.tnil))))) (Syntax.tcons
-      (Syntax.tyStruct (114 ∷ 101 ∷ 115 ∷ 105 ∷ 100 ∷ 117 ∷ 101 ∷ 58 ∷ 58 ∷ 82 ∷ 101 ∷ 115 ∷ 105 ∷ 100 ∷ 117 ∷ 101 ∷ []) (Syntax.tcons (Syntax.tyStruct (110 ∷ 97
-      ∷ 109 ∷ 101 ∷ 115 ∷ 58 ∷ 58 ∷ 84 ∷ 104 ∷ 114 ∷ 101 ∷ 101 ∷ []) (Syntax.tcons (Syntax.tyInt Syntax.w8) (Syntax.tcons (Syntax.tyInt Syntax.w8) (Syntax.tcons
-      (Syntax.tyInt Syntax.w8) Syntax.tnil)))) (Syntax.tcons (Syntax.tyInt Syntax.w8) (Syntax.tcons (Syntax.tyStruct (102 ∷ 105 ∷ 101 ∷ 108 ∷ 100 ∷ 115 ∷ 58 ∷ 58
-      ∷ 82 ∷ 101 ∷ 115 ∷ 105 ∷ 100 ∷ 117 ∷ 101 ∷ 78 ∷ 117 ∷ 109 ∷ 98 ∷ 101 ∷ 114 ∷ []) (Syntax.tcons (Syntax.tyInt Syntax.w32) Syntax.tnil)) (Syntax.tcons
-      (Syntax.tyInt Syntax.w8) Syntax.tnil))))) Syntax.tnil))))) (Syntax.tcons (Syntax.tyInt Syntax.w32) (Syntax.tcons (Syntax.tyStruct (104 ∷ 101 ∷ 108 ∷ 105 ∷
-      120 ∷ 58 ∷ 58 ∷ 67 ∷ 111 ∷ 109 ∷ 109 ∷ 101 ∷ 110 ∷ 116 ∷ []) (Syntax.tcons (Syntax.tyInt Syntax.w64) (Syntax.tcons (Syntax.tyInt Syntax.w64) (Syntax.tcons
-      (Syntax.tyInt Syntax.w64) (Syntax.tcons (Syntax.tyInt Syntax.w64) Syntax.tnil))))) (Syntax.tcons (Syntax.tyInt Syntax.w32) Syntax.tnil))))) Syntax.tnil)
-      (Syntax.ttcons (Syntax.tcons (Syntax.tyStruct (115 ∷ 104 ∷ 101 ∷ 101 ∷ 116 ∷ 58 ∷ 58 ∷ 83 ∷ 104 ∷ 101 ∷ 101 ∷ 116 ∷ []) (Syntax.tcons (Syntax.tyStruct (115
-      ∷ 104 ∷ 101 ∷ 101 ∷ 116 ∷ 58 ∷ 58 ∷ 83 ∷ 116 ∷ 114 ∷ 97 ∷ 110 ∷ 100 ∷ []) (Syntax.tcons (Syntax.tyInt Syntax.w32) (Syntax.tcons (Syntax.tyStruct (110 ∷ 97
-      ∷ 109 ∷ 101 ∷ 115 ∷ 58 ∷ 58 ∷ 84 ∷ 104 ∷ 114 ∷ 101 ∷ 101 ∷ []) (Syntax.tcons (Syntax.tyInt Syntax.w8) (Syntax.tcons (Syntax.tyInt Syntax.w8) (Syntax.tcons
-      (Syntax.tyInt Syntax.w8) Syntax.tnil)))) (Syntax.tcons (Syntax.tyInt Syntax.w32) (Syntax.tcons (Syntax.tyStruct (114 ∷ 101 ∷ 115 ∷ 105 ∷ 100 ∷ 117 ∷ 101 ∷
-      58 ∷ 58 ∷ 82 ∷ 101 ∷ 115 ∷ 105 ∷ 100 ∷ 117 ∷ 101 ∷ []) (Syntax.tcons (Syntax.tyStruct (110 ∷ 97 ∷ 109 ∷ 101 ∷ 115 ∷ 58 ∷ 58 ∷ 84 ∷ 104 ∷ 114 ∷ 101 ∷ 101 ∷
-      []) (Syntax.tcons (Syntax.tyInt Syntax.w8) (Syntax.tcons (Syntax.tyInt Syntax.w8) (Syntax.tcons (Syntax.tyInt Syntax.w8) Syntax.tnil)))) (Syntax.tcons
-      (Syntax.tyInt Syntax.w8) (Syntax.tcons (Syntax.tyStruct (102 ∷ 105 ∷ 101 ∷ 108 ∷ 100 ∷ 115 ∷ 58 ∷ 58 ∷ 82 ∷ 101 ∷ 115 ∷ 105 ∷ 100 ∷ 117 ∷ 101 ∷ 78 ∷ 117 ∷
-      109 ∷ 98 ∷ 101 ∷ 114 ∷ []) (Syntax.tcons (Syntax.tyInt Syntax.w32) Syntax.tnil)) (Syntax.tcons (Syntax.tyInt Syntax.w8) Syntax.tnil))))) (Syntax.tcons
-      (Syntax.tyStruct (114 ∷ 101 ∷ 115 ∷ 105 ∷ 100 ∷ 117 ∷ 101 ∷ 58 ∷ 58 ∷ 82 ∷ 101 ∷ 115 ∷ 105 ∷ 100 ∷ 117 ∷ 101 ∷ []) (Syntax.tcons (Syntax.tyStruct (110 ∷ 97
-      ∷ 109 ∷ 101 ∷ 115 ∷ 58 ∷ 58 ∷ 84 ∷ 104 ∷ 114 ∷ 101 ∷ 101 ∷ []) (Syntax.tcons (Syntax.tyInt Syntax.w8) (Syntax.tcons (Syntax.tyInt Syntax.w8) (Syntax.tcons
-      (Syntax.tyInt Syntax.w8) Syntax.tnil)))) (Syntax.tcons (Syntax.tyInt Syntax.w8) (Syntax.tcons (Syntax.tyStruct (102 ∷ 105 ∷ 101 ∷ 108 ∷ 100 ∷ 115 ∷ 58 ∷ 58
-      ∷ 82 ∷ 101 ∷ 115 ∷ 105 ∷ 100 ∷ 117 ∷ 101 ∷ 78 ∷ 117 ∷ 109 ∷ 98 ∷ 101 ∷ 114 ∷ []) (Syntax.tcons (Syntax.tyInt Syntax.w32) Syntax.tnil)) (Syntax.tcons
-      (Syntax.tyInt Syntax.w8) Syntax.tnil))))) (Syntax.tcons (Syntax.tyInt Syntax.w32) Syntax.tnil))))))) (Syntax.tcons (Syntax.tyEnum (115 ∷ 104 ∷ 101 ∷ 101 ∷
-      116 ∷ 58 ∷ 58 ∷ 82 ∷ 101 ∷ 103 ∷ 105 ∷ 115 ∷ 116 ∷ 114 ∷ 97 ∷ 116 ∷ 105 ∷ 111 ∷ 110 ∷ []) (Syntax.ttcons Syntax.tnil (Syntax.ttcons (Syntax.tcons
-      (Syntax.tyStruct (115 ∷ 104 ∷ 101 ∷ 101 ∷ 116 ∷ 58 ∷ 58 ∷ 66 ∷ 111 ∷ 110 ∷ 100 ∷ []) (Syntax.tcons (Syntax.tyStruct (110 ∷ 97 ∷ 109 ∷ 101 ∷ 115 ∷ 58 ∷ 58 ∷
-      70 ∷ 111 ∷ 117 ∷ 114 ∷ []) (Syntax.tcons (Syntax.tyInt Syntax.w8) (Syntax.tcons (Syntax.tyInt Syntax.w8) (Syntax.tcons (Syntax.tyInt Syntax.w8)
-      (Syntax.tcons (Syntax.tyInt Syntax.w8) Syntax.tnil))))) (Syntax.tcons (Syntax.tyStruct (114 ∷ 101 ∷ 115 ∷ 105 ∷ 100 ∷ 117 ∷ 101 ∷ 58 ∷ 58 ∷ 82 ∷ 101 ∷ 115
-      ∷ 105 ∷ 100 ∷ 117 ∷ 101 ∷ []) (Syntax.tcons (Syntax.tyStruct (110 ∷ 97 ∷ 109 ∷ 101 ∷ 115 ∷ 58 ∷ 58 ∷ 84 ∷ 104 ∷ 114 ∷ 101 ∷ 101 ∷ []) (Syntax.tcons
-      (Syntax.tyInt Syntax.w8) (Syntax.tcons (Syntax.tyInt Syntax.w8) (Syntax.tcons (Syntax.tyInt Syntax.w8) Syntax.tnil)))) (Syntax.tcons (Syntax.tyInt
-      Syntax.w8) (Syntax.tcons (Syntax.tyStruct (102 ∷ 105 ∷ 101 ∷ 108 ∷ 100 ∷ 115 ∷ 58 ∷ 58 ∷ 82 ∷ 101 ∷ 115 ∷ 105 ∷ 100 ∷ 117 ∷ 101 ∷ 78 ∷ 117 ∷ 109 ∷ 98 ∷ 101
-      ∷ 114 ∷ []) (Syntax.tcons (Syntax.tyInt Syntax.w32) Syntax.tnil)) (Syntax.tcons (Syntax.tyInt Syntax.w8) Syntax.tnil))))) (Syntax.tcons (Syntax.tyStruct
-      (110 ∷ 97 ∷ 109 ∷ 101 ∷ 115 ∷ 58 ∷ 58 ∷ 70 ∷ 111 ∷ 117 ∷ 114 ∷ []) (Syntax.tcons (Syntax.tyInt Syntax.w8) (Syntax.tcons (Syntax.tyInt Syntax.w8)
-      (Syntax.tcons (Syntax.tyInt Syntax.w8) (Syntax.tcons (Syntax.tyInt Syntax.w8) Syntax.tnil))))) (Syntax.tcons (Syntax.tyStruct (114 ∷ 101 ∷ 115 ∷ 105 ∷ 100
-      ∷ 117 ∷ 101 ∷ 58 ∷ 58 ∷ 82 ∷ 101 ∷ 115 ∷ 105 ∷ 100 ∷ 117 ∷ 101 ∷ []) (Syntax.tcons (Syntax.tyStruct (110 ∷ 97 ∷ 109 ∷ 101 ∷ 115 ∷ 58 ∷ 58 ∷ 84 ∷ 104 ∷ 114
-      ∷ 101 ∷ 101 ∷ []) (Syntax.tcons (Syntax.tyInt Syntax.w8) (Syntax.tcons (Syntax.tyInt Syntax.w8) (Syntax.tcons (Syntax.tyInt Syntax.w8) Syntax.tnil))))
-      (Syntax.tcons (Syntax.tyInt Syntax.w8) (Syntax.tcons (Syntax.tyStruct (102 ∷ 105 ∷ 101 ∷ 108 ∷ 100 ∷ 115 ∷ 58 ∷ 58 ∷ 82 ∷ 101 ∷ 115 ∷ 105 ∷ 100 ∷ 117 ∷ 101
-      ∷ 78 ∷ 117 ∷ 109 ∷ 98 ∷ 101 ∷ 114 ∷ []) (Syntax.tcons (Syntax.tyInt Syntax.w32) Syntax.tnil)) (Syntax.tcons (Syntax.tyInt Syntax.w8) Syntax.tnil)))))
-      Syntax.tnil))))) Syntax.tnil) Syntax.ttnil))) Syntax.tnil))) Syntax.tnil) (Syntax.ttcons (Syntax.tcons (Syntax.tyStruct (99 ∷ 111 ∷ 110 ∷ 101 ∷ 99 ∷ 116 ∷
-      58 ∷ 58 ∷ 67 ∷ 111 ∷ 110 ∷ 101 ∷ 99 ∷ 116 ∷ []) (Syntax.tcons (Syntax.tyStruct (102 ∷ 105 ∷ 101 ∷ 108 ∷ 100 ∷ 115 ∷ 58 ∷ 58 ∷ 83 ∷ 101 ∷ 114 ∷ 105 ∷ 97 ∷
-      108 ∷ []) (Syntax.tcons (Syntax.tyInt Syntax.w32) Syntax.tnil)) (Syntax.tcons (Syntax.tyStruct (102 ∷ 105 ∷ 101 ∷ 108 ∷ 100 ∷ 115 ∷ 58 ∷ 58 ∷ 83 ∷ 101 ∷
-      114 ∷ 105 ∷ 97 ∷ 108 ∷ []) (Syntax.tcons (Syntax.tyInt Syntax.w32) Syntax.tnil)) (Syntax.tcons (Syntax.tyStruct (102 ∷ 105 ∷ 101 ∷ 108 ∷ 100 ∷ 115 ∷ 58 ∷
-      58 ∷ 83 ∷ 101 ∷ 114 ∷ 105 ∷ 97 ∷ 108 ∷ []) (Syntax.tcons (Syntax.tyInt Syntax.w32) Syntax.tnil)) (Syntax.tcons (Syntax.tyStruct (102 ∷ 105 ∷ 101 ∷ 108 ∷
-      100 ∷ 115 ∷ 58 ∷ 58 ∷ 83 ∷ 101 ∷ 114 ∷ 105 ∷ 97 ∷ 108 ∷ []) (Syntax.tcons (Syntax.tyInt Syntax.w32) Syntax.tnil)) (Syntax.tcons (Syntax.tyStruct (102 ∷ 105
-      ∷ 101 ∷ 108 ∷ 100 ∷ 115 ∷ 58 ∷ 58 ∷ 83 ∷ 101 ∷ 114 ∷ 105 ∷ 97 ∷ 108 ∷ []) (Syntax.tcons (Syntax.tyInt Syntax.w32) Syntax.tnil)) Syntax.tnil))))))
-      Syntax.tnil) (Syntax.ttcons (Syntax.tcons (Syntax.tyStruct (109 ∷ 97 ∷ 115 ∷ 116 ∷ 101 ∷ 114 ∷ 58 ∷ 58 ∷ 84 ∷ 97 ∷ 108 ∷ 108 ∷ 121 ∷ []) (Syntax.tcons
-      (Syntax.tyInt Syntax.w32) (Syntax.tcons (Syntax.tyInt Syntax.w32) (Syntax.tcons (Syntax.tyInt Syntax.w32) (Syntax.tcons (Syntax.tyInt Syntax.w32)
-      (Syntax.tcons (Syntax.tyInt Syntax.w32) (Syntax.tcons (Syntax.tyInt Syntax.w32) (Syntax.tcons (Syntax.tyInt Syntax.w32) (Syntax.tcons (Syntax.tyInt
-      Syntax.w32) (Syntax.tcons (Syntax.tyInt Syntax.w32) Syntax.tnil)))))))))) Syntax.tnil) (Syntax.ttcons Syntax.tnil Syntax.ttnil)))))))) Syntax.tnil)
-      Syntax.ttnil))))),
-) ∷ (8, Rows.any-gone Syntax.tyBool) ∷ (9, Rows.any-gone (Syntax.tyInt Syntax.w64)) ∷ (10, Rows.any-gone (Syntax.tyInt Syntax.w64)) ∷ (
-  11,
-  Rows.sc-here (Row.sInt Syntax.w64),
-) ∷ (12, Rows.sc-here Row.sBool) ∷ (13, Rows.any-gone (Syntax.tyRef Syntax.erased Syntax.mut SlotAs.pointee)) ∷ (
-  14,
-  Rows.any-gone (Syntax.tyStruct (38 ∷ 91 ∷ 93 ∷ []) (Syntax.tcons (Syntax.tyRef Syntax.erased Syntax.mut SlotAs.pointee) (Syntax.tcons (Syntax.tyInt
-      Syntax.w64) Syntax.tnil))),
-) ∷ []
-
-abbrev pub t18 : List.List Row.Entry
-t18 = (
-  0,
-  Rows.any-gone (Syntax.tyStruct (115 ∷ 116 ∷ 111 ∷ 114 ∷ 101 ∷ 58 ∷ 58 ∷ 79 ∷ 117 ∷ 116 ∷ 99 ∷ 111 ∷ 109 ∷ 101 ∷ []) (Syntax.tcons (Syntax.tyInt
-      Syntax.w8) (Syntax.tcons (Syntax.tyInt Syntax.w64) Syntax.tnil))),
-) ∷ (
-  1,
-  Rows.sslice (Referent.rtF (Referent.fInt Syntax.w8)) (Syntax.tyRef (Syntax.named
-      0) Syntax.imm (Syntax.tyInt Syntax.w8)) 0,
-) ∷ (2, Mut.mslice SlotAs.row (Syntax.tyRef (Syntax.named 1) Syntax.mut SlotAs.pointee) 1) ∷ (
-  3,
-  Rows.any-gone
-      (Syntax.tyStruct (115 ∷ 116 ∷ 111 ∷ 114 ∷ 101 ∷ 58 ∷ 58 ∷ 78 ∷ 101 ∷ 101 ∷ 100 ∷ 115 ∷ []) (Syntax.tcons (Syntax.tyInt Syntax.w8) (Syntax.tcons
-      (Syntax.tyInt Syntax.w64) Syntax.tnil))),
-) ∷ (4, Rows.sc-here (Row.sInt Syntax.w64)) ∷ (5, Rows.sc-here (Row.sInt Syntax.w64)) ∷ (
-  6,
-  Rows.sc-here (Row.sInt
-      Syntax.w64),
-) ∷ (
-  7,
-  Rows.any-gone (Syntax.tyEnum (112 ∷ 105 ∷ 101 ∷ 99 ∷ 101 ∷ 115 ∷ 58 ∷ 58 ∷ 76 ∷ 105 ∷ 110 ∷ 101 ∷ []) (Syntax.ttcons (Syntax.tcons
-      (Syntax.tyInt Syntax.w8) Syntax.tnil) (Syntax.ttcons (Syntax.tcons (Syntax.tyEnum (107 ∷ 105 ∷ 110 ∷ 100 ∷ 115 ∷ 58 ∷ 58 ∷ 75 ∷ 105 ∷ 110 ∷ 100 ∷ [])
-      (Syntax.ttcons Syntax.tnil (Syntax.ttcons Syntax.tnil (Syntax.ttcons Syntax.tnil (Syntax.ttcons Syntax.tnil (Syntax.ttcons Syntax.tnil (Syntax.ttcons
-      Syntax.tnil (Syntax.ttcons Syntax.tnil (Syntax.ttcons Syntax.tnil (Syntax.ttcons Syntax.tnil (Syntax.ttcons Syntax.tnil (Syntax.ttcons Syntax.tnil
-      (Syntax.ttcons Syntax.tnil (Syntax.ttcons Syntax.tnil (Syntax.ttcons Syntax.tnil (Syntax.ttcons Syntax.tnil (Syntax.ttcons Syntax.tnil (Syntax.ttcons
-      Syntax.tnil (Syntax.ttcons Syntax.tnil (Syntax.ttcons Syntax.tnil (Syntax.ttcons Syntax.tnil (Syntax.ttcons Syntax.tnil (Syntax.ttcons Syntax.tnil
-      (Syntax.ttcons Syntax.tnil (Syntax.ttcons Syntax.tnil (Syntax.ttcons Syntax.tnil (Syntax.ttcons Syntax.tnil (Syntax.ttcons Syntax.tnil (Syntax.ttcons
-      Syntax.tnil Syntax.ttnil))))))))))))))))))))))))))))) (Syntax.tcons (Syntax.tyInt Syntax.w32) Syntax.tnil)) (Syntax.ttcons (Syntax.tcons (Syntax.tyEnum
-      (107 ∷ 105 ∷ 110 ∷ 100 ∷ 115 ∷ 58 ∷ 58 ∷ 75 ∷ 105 ∷ 110 ∷ 100 ∷ []) (Syntax.ttcons Syntax.tnil (Syntax.ttcons Syntax.tnil (Syntax.ttcons Syntax.tnil
-      (Syntax.ttcons Syntax.tnil (Syntax.ttcons Syntax.tnil (Syntax.ttcons Syntax.tnil (Syntax.ttcons Syntax.tnil (Syntax.ttcons Syntax.tnil (Syntax.ttcons
-      Syntax.tnil (Syntax.ttcons Syntax.tnil (Syntax.ttcons Syntax.tnil (Syntax.ttcons Syntax.tnil (Syntax.ttcons Syntax.tnil (Syntax.ttcons Syntax.tnil
-      (Syntax.ttcons Syntax.tnil (Syntax.ttcons Syntax.tnil (Syntax.ttcons Syntax.tnil (Syntax.ttcons Syntax.tnil (Syntax.ttcons Syntax.tnil (Syntax.ttcons
-      Syntax.tnil (Syntax.ttcons Syntax.tnil (Syntax.ttcons Syntax.tnil (Syntax.ttcons Syntax.tnil (Syntax.ttcons Syntax.tnil (Syntax.ttcons Syntax.tnil
-      (Syntax.ttcons Syntax.tnil (Syntax.ttcons Syntax.tnil (Syntax.ttcons Syntax.tnil Syntax.ttnil))))))))))))))))))))))))))))) Syntax.tnil) (Syntax.ttcons
-      (Syntax.tcons (Syntax.tyEnum (108 ∷ 105 ∷ 110 ∷ 101 ∷ 58 ∷ 58 ∷ 82 ∷ 101 ∷ 99 ∷ 111 ∷ 114 ∷ 100 ∷ []) (Syntax.ttcons (Syntax.tcons Syntax.tyBool
-      (Syntax.tcons (Syntax.tyStruct (99 ∷ 111 ∷ 111 ∷ 114 ∷ 100 ∷ 105 ∷ 110 ∷ 97 ∷ 116 ∷ 101 ∷ 58 ∷ 58 ∷ 65 ∷ 116 ∷ 111 ∷ 109 ∷ []) (Syntax.tcons
-      (Syntax.tyStruct (99 ∷ 111 ∷ 111 ∷ 114 ∷ 100 ∷ 105 ∷ 110 ∷ 97 ∷ 116 ∷ 101 ∷ 58 ∷ 58 ∷ 73 ∷ 100 ∷ 101 ∷ 110 ∷ 116 ∷ 105 ∷ 116 ∷ 121 ∷ []) (Syntax.tcons
-      (Syntax.tyStruct (102 ∷ 105 ∷ 101 ∷ 108 ∷ 100 ∷ 115 ∷ 58 ∷ 58 ∷ 83 ∷ 101 ∷ 114 ∷ 105 ∷ 97 ∷ 108 ∷ []) (Syntax.tcons (Syntax.tyInt Syntax.w32) Syntax.tnil))
-      (Syntax.tcons (Syntax.tyStruct (110 ∷ 97 ∷ 109 ∷ 101 ∷ 115 ∷ 58 ∷ 58 ∷ 70 ∷ 111 ∷ 117 ∷ 114 ∷ []) (Syntax.tcons (Syntax.tyInt Syntax.w8) (Syntax.tcons
-      (Syntax.tyInt Syntax.w8) (Syntax.tcons (Syntax.tyInt Syntax.w8) (Syntax.tcons (Syntax.tyInt Syntax.w8) Syntax.tnil))))) (Syntax.tcons (Syntax.tyInt
-      Syntax.w8) (Syntax.tcons (Syntax.tyStruct (114 ∷ 101 ∷ 115 ∷ 105 ∷ 100 ∷ 117 ∷ 101 ∷ 58 ∷ 58 ∷ 82 ∷ 101 ∷ 115 ∷ 105 ∷ 100 ∷ 117 ∷ 101 ∷ []) (Syntax.tcons
-      (Syntax.tyStruct (110 ∷ 97 ∷ 109 ∷ 101 ∷ 115 ∷ 58 ∷ 58 ∷ 84 ∷ 104 ∷ 114 ∷ 101 ∷ 101 ∷ []) (Syntax.tcons (Syntax.tyInt Syntax.w8) (Syntax.tcons
-      (Syntax.tyInt Syntax.w8) (Syntax.tcons (Syntax.tyInt Syntax.w8) Syntax.tnil)))) (Syntax.tcons (Syntax.tyInt Syntax.w8) (Syntax.tcons (Syntax.tyStruct (102
-      ∷ 105 ∷ 101 ∷ 108 ∷ 100 ∷ 115 ∷ 58 ∷ 58 ∷ 82 ∷ 101 ∷ 115 ∷ 105 ∷ 100 ∷ 117 ∷ 101 ∷ 78 ∷ 117 ∷ 109 ∷ 98 ∷ 101 ∷ 114 ∷ []) (Syntax.tcons (Syntax.tyInt
-      Syntax.w32) Syntax.tnil)) (Syntax.tcons (Syntax.tyInt Syntax.w8) Syntax.tnil))))) Syntax.tnil))))) (Syntax.tcons (Syntax.tyStruct (99 ∷ 111 ∷ 111 ∷ 114 ∷
-      100 ∷ 105 ∷ 110 ∷ 97 ∷ 116 ∷ 101 ∷ 58 ∷ 58 ∷ 77 ∷ 101 ∷ 97 ∷ 115 ∷ 117 ∷ 114 ∷ 101 ∷ []) (Syntax.tcons (Syntax.tyStruct (99 ∷ 111 ∷ 111 ∷ 114 ∷ 100 ∷ 105 ∷
-      110 ∷ 97 ∷ 116 ∷ 101 ∷ 58 ∷ 58 ∷ 80 ∷ 111 ∷ 115 ∷ 105 ∷ 116 ∷ 105 ∷ 111 ∷ 110 ∷ []) (Syntax.tcons (Syntax.tyInt Syntax.w32) (Syntax.tcons (Syntax.tyInt
-      Syntax.w32) (Syntax.tcons (Syntax.tyInt Syntax.w32) Syntax.tnil)))) (Syntax.tcons (Syntax.tyInt Syntax.w32) (Syntax.tcons (Syntax.tyInt Syntax.w32)
-      Syntax.tnil)))) (Syntax.tcons (Syntax.tyStruct (99 ∷ 111 ∷ 111 ∷ 114 ∷ 100 ∷ 105 ∷ 110 ∷ 97 ∷ 116 ∷ 101 ∷ 58 ∷ 58 ∷ 83 ∷ 112 ∷ 101 ∷ 99 ∷ 105 ∷ 101 ∷ 115 ∷
-      []) (Syntax.tcons (Syntax.tyStruct (110 ∷ 97 ∷ 109 ∷ 101 ∷ 115 ∷ 58 ∷ 58 ∷ 80 ∷ 97 ∷ 105 ∷ 114 ∷ []) (Syntax.tcons (Syntax.tyInt Syntax.w8) (Syntax.tcons
-      (Syntax.tyInt Syntax.w8) Syntax.tnil))) (Syntax.tcons (Syntax.tyStruct (110 ∷ 97 ∷ 109 ∷ 101 ∷ 115 ∷ 58 ∷ 58 ∷ 80 ∷ 97 ∷ 105 ∷ 114 ∷ []) (Syntax.tcons
-      (Syntax.tyInt Syntax.w8) (Syntax.tcons (Syntax.tyInt Syntax.w8) Syntax.tnil))) Syntax.tnil))) Syntax.tnil)))) Syntax.tnil)) (Syntax.ttcons (Syntax.tcons
-      (Syntax.tyStruct (116 ∷ 101 ∷ 114 ∷ 58 ∷ 58 ∷ 84 ∷ 101 ∷ 114 ∷ []) (Syntax.tcons (Syntax.tyStruct (102 ∷ 105 ∷ 101 ∷ 108 ∷ 100 ∷ 115 ∷ 58 ∷ 58 ∷ 83 ∷ 101 ∷
-      114 ∷ 105 ∷ 97 ∷ 108 ∷ []) (Syntax.tcons (Syntax.tyInt Syntax.w32) Syntax.tnil)) (Syntax.tcons (Syntax.tyStruct (114 ∷ 101 ∷ 115 ∷ 105 ∷ 100 ∷ 117 ∷ 101 ∷
-      58 ∷ 58 ∷ 82 ∷ 101 ∷ 115 ∷ 105 ∷ 100 ∷ 117 ∷ 101 ∷ []) (Syntax.tcons (Syntax.tyStruct (110 ∷ 97 ∷ 109 ∷ 101 ∷ 115 ∷ 58 ∷ 58 ∷ 84 ∷ 104 ∷ 114 ∷ 101 ∷ 101 ∷
-      []) (Syntax.tcons (Syntax.tyInt Syntax.w8) (Syntax.tcons (Syntax.tyInt Syntax.w8) (Syntax.tcons (Syntax.tyInt Syntax.w8) Syntax.tnil)))) (Syntax.tcons
-      (Syntax.tyInt Syntax.w8) (Syntax.tcons (Syntax.tyStruct (102 ∷ 105 ∷ 101 ∷ 108 ∷ 100 ∷ 115 ∷ 58 ∷ 58 ∷ 82 ∷ 101 ∷ 115 ∷ 105 ∷ 100 ∷ 117 ∷ 101 ∷ 78 ∷ 117 ∷
-      109 ∷ 98 ∷ 101 ∷ 114 ∷ []) (Syntax.tcons (Syntax.tyInt Syntax.w32) Syntax.tnil)) (Syntax.tcons (Syntax.tyInt Syntax.w8) Syntax.tnil))))) Syntax.tnil)))
-      Syntax.tnil) (Syntax.ttcons (Syntax.tcons (Syntax.tyStruct (104 ∷ 101 ∷ 108 ∷ 105 ∷ 120 ∷ 58 ∷ 58 ∷ 72 ∷ 101 ∷ 108 ∷ 105 ∷ 120 ∷ []) (Syntax.tcons
-      (Syntax.tyStruct (104 ∷ 101 ∷ 108 ∷ 105 ∷ 120 ∷ 58 ∷ 58 ∷ 69 ∷ 120 ∷ 116 ∷ 101 ∷ 110 ∷ 116 ∷ []) (Syntax.tcons (Syntax.tyInt Syntax.w32) (Syntax.tcons
-      (Syntax.tyStruct (110 ∷ 97 ∷ 109 ∷ 101 ∷ 115 ∷ 58 ∷ 58 ∷ 84 ∷ 104 ∷ 114 ∷ 101 ∷ 101 ∷ []) (Syntax.tcons (Syntax.tyInt Syntax.w8) (Syntax.tcons
-      (Syntax.tyInt Syntax.w8) (Syntax.tcons (Syntax.tyInt Syntax.w8) Syntax.tnil)))) (Syntax.tcons (Syntax.tyStruct (114 ∷ 101 ∷ 115 ∷ 105 ∷ 100 ∷ 117 ∷ 101 ∷
-      58 ∷ 58 ∷ 82 ∷ 101 ∷ 115 ∷ 105 ∷ 100 ∷ 117 ∷ 101 ∷ []) (Syntax.tcons (Syntax.tyStruct (110 ∷ 97 ∷ 109 ∷ 101 ∷ 115 ∷ 58 ∷ 58 ∷ 84 ∷ 104 ∷ 114 ∷ 101 ∷ 101 ∷
-      []) (Syntax.tcons (Syntax.tyInt Syntax.w8) (Syntax.tcons (Syntax.tyInt Syntax.w8) (Syntax.tcons (Syntax.tyInt Syntax.w8) Syntax.tnil)))) (Syntax.tcons
-      (Syntax.tyInt Syntax.w8) (Syntax.tcons (Syntax.tyStruct (102 ∷ 105 ∷ 101 ∷ 108 ∷ 100 ∷ 115 ∷ 58 ∷ 58 ∷ 82 ∷ 101 ∷ 115 ∷ 105 ∷ 100 ∷ 117 ∷ 101 ∷ 78 ∷ 117 ∷
-      109 ∷ 98 ∷ 101 ∷ 114 ∷ []) (Syntax.tcons (Syntax.tyInt Syntax.w32) Syntax.tnil)) (Syntax.tcons (Syntax.tyInt Syntax.w8) Syntax.tnil))))) (Syntax.tcons
-      (Syntax.tyStruct (114 ∷ 101 ∷ 115 ∷ 105 ∷ 100 ∷ 117 ∷ 101 ∷ 58 ∷ 58 ∷ 82 ∷ 101 ∷ 115 ∷ 105 ∷ 100 ∷ 117 ∷ 101 ∷ []) (Syntax.tcons (Syntax.tyStruct (110 ∷ 97
-      ∷ 109 ∷ 101 ∷ 115 ∷ 58 ∷ 58 ∷ 84 ∷ 104 ∷ 114 ∷ 101 ∷ 101 ∷ []) (Syntax.tcons (Syntax.tyInt Syntax.w8) (Syntax.tcons (Syntax.tyInt Syntax.w8) (Syntax.tcons
-      (Syntax.tyInt Syntax.w8) Syntax.tnil)))) (Syntax.tcons (Syntax.tyInt Syntax.w8) (Syntax.tcons (Syntax.tyStruct (102 ∷ 105 ∷ 101 ∷ 108 ∷ 100 ∷ 115 ∷ 58 ∷ 58
-      ∷ 82 ∷ 101 ∷ 115 ∷ 105 ∷ 100 ∷ 117 ∷ 101 ∷ 78 ∷ 117 ∷ 109 ∷ 98 ∷ 101 ∷ 114 ∷ []) (Syntax.tcons (Syntax.tyInt Syntax.w32) Syntax.tnil)) (Syntax.tcons
-      (Syntax.tyInt Syntax.w8) Syntax.tnil))))) Syntax.tnil))))) (Syntax.tcons (Syntax.tyInt Syntax.w32) (Syntax.tcons (Syntax.tyStruct (104 ∷ 101 ∷ 108 ∷ 105 ∷
-      120 ∷ 58 ∷ 58 ∷ 67 ∷ 111 ∷ 109 ∷ 109 ∷ 101 ∷ 110 ∷ 116 ∷ []) (Syntax.tcons (Syntax.tyInt Syntax.w64) (Syntax.tcons (Syntax.tyInt Syntax.w64) (Syntax.tcons
-      (Syntax.tyInt Syntax.w64) (Syntax.tcons (Syntax.tyInt Syntax.w64) Syntax.tnil))))) (Syntax.tcons (Syntax.tyInt Syntax.w32) Syntax.tnil))))) Syntax.tnil)
-      (Syntax.ttcons (Syntax.tcons (Syntax.tyStruct (115 ∷ 104 ∷ 101 ∷ 101 ∷ 116 ∷ 58 ∷ 58 ∷ 83 ∷ 104 ∷ 101 ∷ 101 ∷ 116 ∷ []) (Syntax.tcons (Syntax.tyStruct (115
-      ∷ 104 ∷ 101 ∷ 101 ∷ 116 ∷ 58 ∷ 58 ∷ 83 ∷ 116 ∷ 114 ∷ 97 ∷ 110 ∷ 100 ∷ []) (Syntax.tcons (Syntax.tyInt Syntax.w32) (Syntax.tcons (Syntax.tyStruct (110 ∷ 97
-      ∷ 109 ∷ 101 ∷ 115 ∷ 58 ∷ 58 ∷ 84 ∷ 104 ∷ 114 ∷ 101 ∷ 101 ∷ []) (Syntax.tcons (Syntax.tyInt Syntax.w8) (Syntax.tcons (Syntax.tyInt Syntax.w8) (Syntax.tcons
-      (Syntax.tyInt Syntax.w8) Syntax.tnil)))) (Syntax.tcons (Syntax.tyInt Syntax.w32) (Syntax.tcons (Syntax.tyStruct (114 ∷ 101 ∷ 115 ∷ 105 ∷ 100 ∷ 117 ∷ 101 ∷
-      58 ∷ 58 ∷ 82 ∷ 101 ∷ 115 ∷ 105 ∷ 100 ∷ 117 ∷ 101 ∷ []) (Syntax.tcons (Syntax.tyStruct (110 ∷ 97 ∷ 109 ∷ 101 ∷ 115 ∷ 58 ∷ 58 ∷ 84 ∷ 104 ∷ 114 ∷ 101 ∷ 101 ∷
-      []) (Syntax.tcons (Syntax.tyInt Syntax.w8) (Syntax.tcons (Syntax.tyInt Syntax.w8) (Syntax.tcons (Syntax.tyInt Syntax.w8) Syntax.tnil)))) (Syntax.tcons
-      (Syntax.tyInt Syntax.w8) (Syntax.tcons (Syntax.tyStruct (102 ∷ 105 ∷ 101 ∷ 108 ∷ 100 ∷ 115 ∷ 58 ∷ 58 ∷ 82 ∷ 101 ∷ 115 ∷ 105 ∷ 100 ∷ 117 ∷ 101 ∷ 78 ∷ 117 ∷
-      109 ∷ 98 ∷ 101 ∷ 114 ∷ []) (Syntax.tcons (Syntax.tyInt Syntax.w32) Syntax.tnil)) (Syntax.tcons (Syntax.tyInt Syntax.w8) Syntax.tnil))))) (Syntax.tcons
-      (Syntax.tyStruct (114 ∷ 101 ∷ 115 ∷ 105 ∷ 100 ∷ 117 ∷ 101 ∷ 58 ∷ 58 ∷ 82 ∷ 101 ∷ 115 ∷ 105 ∷ 100 ∷ 117 ∷ 101 ∷ []) (Syntax.tcons (Syntax.tyStruct (110 ∷ 97
-      ∷ 109 ∷ 101 ∷ 115 ∷ 58 ∷ 58 ∷ 84 ∷ 104 ∷ 114 ∷ 101 ∷ 101 ∷ []) (Syntax.tcons (Syntax.tyInt Syntax.w8) (Syntax.tcons (Syntax.tyInt Syntax.w8) (Syntax.tcons
-      (Syntax.tyInt Syntax.w8) Syntax.tnil)))) (Syntax.tcons (Syntax.tyInt Syntax.w8) (Syntax.tcons (Syntax.tyStruct (102 ∷ 105 ∷ 101 ∷ 108 ∷ 100 ∷ 115 ∷ 58 ∷ 58
-      ∷ 82 ∷ 101 ∷ 115 ∷ 105 ∷ 100 ∷ 117 ∷ 101 ∷ 78 ∷ 117 ∷ 109 ∷ 98 ∷ 101 ∷ 114 ∷ []) (Syntax.tcons (Syntax.tyInt Syntax.w32) Syntax.tnil)) (Syntax.tcons
-      (Syntax.tyInt Syntax.w8) Syntax.tnil))))) (Syntax.tcons (Syntax.tyInt Syntax.w32) Syntax.tnil))))))) (Syntax.tcons (Syntax.tyEnum (115 ∷ 104 ∷ 101 ∷ 101 ∷
-      116 ∷ 58 ∷ 58 ∷ 82 ∷ 101 ∷ 103 ∷ 105 ∷ 115 ∷ 116 ∷ 114 ∷ 97 ∷ 116 ∷ 105 ∷ 111 ∷ 110 ∷ []) (Syntax.ttcons Syntax.tnil (Syntax.ttcons (Syntax.tcons
-      (Syntax.tyStruct (115 ∷ 104 ∷ 101 ∷ 101 ∷ 116 ∷ 58 ∷ 58 ∷ 66 ∷ 111 ∷ 110 ∷ 100 ∷ []) (Syntax.tcons (Syntax.tyStruct (110 ∷ 97 ∷ 109 ∷ 101 ∷ 115 ∷ 58 ∷ 58 ∷
-      70 ∷ 111 ∷ 117 ∷ 114 ∷ []) (Syntax.tcons (Syntax.tyInt Syntax.w8) (Syntax.tcons (Syntax.tyInt Syntax.w8) (Syntax.tcons (Syntax.tyInt Syntax.w8)
-      (Syntax.tcons (Syntax.tyInt Syntax.w8) Syntax.tnil))))) (Syntax.tcons (Syntax.tyStruct (114 ∷ 101 ∷ 115 ∷ 105 ∷ 100 ∷ 117 ∷ 101 ∷ 58 ∷ 58 ∷ 82 ∷ 101 ∷ 115
-      ∷ 105 ∷ 100 ∷ 117 ∷ 101 ∷ []) (Syntax.tcons (Syntax.tyStruct (110 ∷ 97 ∷ 109 ∷ 101 ∷ 115 ∷ 58 ∷ 58 ∷ 84 ∷ 104 ∷ 114 ∷ 101 ∷ 101 ∷ []) (Syntax.tcons
-      (Syntax.tyInt Syntax.w8) (Syntax.tcons (Syntax.tyInt Syntax.w8) (Syntax.tcons (Syntax.tyInt Syntax.w8) Syntax.tnil)))) (Syntax.tcons (Syntax.tyInt
-      Syntax.w8) (Syntax.tcons (Syntax.tyStruct (102 ∷ 105 ∷ 101 ∷ 108 ∷ 100 ∷ 115 ∷ 58 ∷ 58 ∷ 82 ∷ 101 ∷ 115 ∷ 105 ∷ 100 ∷ 117 ∷ 101 ∷ 78 ∷ 117 ∷ 109 ∷ 98 ∷ 101
-      ∷ 114 ∷ []) (Syntax.tcons (Syntax.tyInt Syntax.w32) Syntax.tnil)) (Syntax.tcons (Syntax.tyInt Syntax.w8) Syntax.tnil))))) (Syntax.tcons (Syntax.tyStruct
-      (110 ∷ 97 ∷ 109 ∷ 101 ∷ 115 ∷ 58 ∷ 58 ∷ 70 ∷ 111 ∷ 117 ∷ 114 ∷ []) (Syntax.tcons (Syntax.tyInt Syntax.w8) (Syntax.tcons (Syntax.tyInt Syntax.w8)
-      (Syntax.tcons (Syntax.tyInt Syntax.w8) (Syntax.tcons (Syntax.tyInt Syntax.w8) Syntax.tnil))))) (Syntax.tcons (Syntax.tyStruct (114 ∷ 101 ∷ 115 ∷ 105 ∷ 100
-      ∷ 117 ∷ 101 ∷ 58 ∷ 58 ∷ 82 ∷ 101 ∷ 115 ∷ 105 ∷ 100 ∷ 117 ∷ 101 ∷ []) (Syntax.tcons (Syntax.tyStruct (110 ∷ 97 ∷ 109 ∷ 101 ∷ 115 ∷ 58 ∷ 58 ∷ 84 ∷ 104 ∷ 114
-      ∷ 101 ∷ 101 ∷ []) (Syntax.tcons (Syntax.tyInt Syntax.w8) (Syntax.tcons (Syntax.tyInt Syntax.w8) (Syntax.tcons (Syntax.tyInt Syntax.w8) Syntax.tnil))))
-      (Syntax.tcons (Syntax.tyInt Syntax.w8) (Syntax.tcons (Syntax.tyStruct (102 ∷ 105 ∷ 101 ∷ 108 ∷ 100 ∷ 115 ∷ 58 ∷ 58 ∷ 82 ∷ 101 ∷ 115 ∷ 105 ∷ 100 ∷ 117 ∷ 101
-      ∷ 78 ∷ 117 ∷ 109 ∷ 98 ∷ 101 ∷ 114 ∷ []) (Syntax.tcons (Syntax.tyInt Syntax.w32) Syntax.tnil)) (Syntax.tcons (Syntax.tyInt Syntax.w8) Syntax.tnil)))))
-      Syntax.tnil))))) Syntax.tnil) Syntax.ttnil))) Syntax.tnil))) Syntax.tnil) (Syntax.ttcons (Syntax.tcons (Syntax.tyStruct (99 ∷ 111 ∷ 110 ∷ 101 ∷ 99 ∷ 116 ∷
-      58 ∷ 58 ∷ 67 ∷ 111 ∷ 110 ∷ 101 ∷ 99 ∷ 116 ∷ []) (Syntax.tcons (Syntax.tyStruct (102 ∷ 105 ∷ 101 ∷ 108 ∷ 100 ∷ 115 ∷ 58 ∷ 58 ∷ 83 ∷ 101 ∷ 114 ∷ 105 ∷ 97 ∷
-      108 ∷ []) (Syntax.tcons (Syntax.tyInt Syntax.w32) Syntax.tnil)) (Syntax.tcons (Syntax.tyStruct (102 ∷ 105 ∷ 101 ∷ 108 ∷ 100 ∷ 115 ∷ 58 ∷ 58 ∷ 83 ∷ 101 ∷
-      114 ∷ 105 ∷ 97 ∷ 108 ∷ []) (Syntax.tcons (Syntax.tyInt Syntax.w32) Syntax.tnil)) (Syntax.tcons (Syntax.tyStruct (102 ∷ 105 ∷ 101 ∷ 108 ∷ 100 ∷ 115 ∷ 58 ∷
-      58 ∷ 83 ∷ 101 ∷ 114 ∷ 105 ∷ 97 ∷ 108 ∷ []) (Syntax.tcons (Syntax.tyInt Syntax.w32) Syntax.tnil)) (Syntax.tcons (Syntax.tyStruct (102 ∷ 105 ∷ 101 ∷ 108 ∷
-      100 ∷ 115 ∷ 58 ∷ 58 ∷ 83 ∷ 101 ∷ 114 ∷ 105 ∷ 97 ∷ 108 ∷ []) (Syntax.tcons (Syntax.tyInt Syntax.w32) Syntax.tnil)) (Syntax.tcons (Syntax.tyStruct (102 ∷ 105
-      ∷ 101 ∷ 108 ∷ 100 ∷ 115 ∷ 58 ∷ 58 ∷ 83 ∷ 101 ∷ 114 ∷ 105 ∷ 97 ∷ 108 ∷ []) (Syntax.tcons (Syntax.tyInt Syntax.w32) Syntax.tnil)) Syntax.tnil))))))
-      Syntax.tnil) (Syntax.ttcons (Syntax.tcons (Syntax.tyStruct (109 ∷ 97 ∷ 115 ∷ 116 ∷ 101 ∷ 114 ∷ 58 ∷ 58 ∷ 84 ∷ 97 ∷ 108 ∷ 108 ∷ 121 ∷ []) (Syntax.tcons
-      (Syntax.tyInt Syntax.w32) (Syntax.tcons (Syntax.tyInt Syntax.w32) (Syntax.tcons (Syntax.tyInt Syntax.w32) (Syntax.tcons (Syntax.tyInt Syntax.w32)
-      (Syntax.tcons (Syntax.tyInt Syntax.w32) (Syntax.tcons (Syntax.tyInt Syntax.w32) (Syntax.tcons (Syntax.tyInt Syntax.w32) (Syntax.tcons (Syntax.tyInt
-      Syntax.w32) (Syntax.tcons (Syntax.tyInt Syntax.w32) Syntax.tnil)))))))))) Syntax.tnil) (Syntax.ttcons Syntax.tnil Syntax.ttnil)))))))) Syntax.tnil)
-      Syntax.ttnil))))),
-) ∷ (8, Rows.any-gone Syntax.tyBool) ∷ (9, Rows.any-gone (Syntax.tyInt Syntax.w64)) ∷ (10, Rows.any-gone (Syntax.tyInt Syntax.w64)) ∷ (
-  11,
-  Rows.any-gone (Syntax.tyInt Syntax.w64),
-) ∷ (12, Rows.sc-here Row.sBool) ∷ (13, Rows.any-gone (Syntax.tyRef Syntax.erased Syntax.mut SlotAs.pointee)) ∷ (
-  14,
-  Rows.any-gone (Syntax.tyStruct (38 ∷ 91 ∷ 93 ∷ []) (Syntax.tcons (Syntax.tyRef Syntax.erased Syntax.mut SlotAs.pointee) (Syntax.tcons (Syntax.tyInt
-      Syntax.w64) Syntax.tnil))),
-) ∷ []
-
-abbrev pub t19 : List.List Row.Entry
-t19 = (
-  0,
-  Rows.any-gone (Syntax.tyStruct (115 ∷ 116 ∷ 111 ∷ 114 ∷ 101 ∷ 58 ∷ 58 ∷ 79 ∷ 117 ∷ 116 ∷ 99 ∷ 111 ∷ 109 ∷ 101 ∷ []) (Syntax.tcons (Syntax.tyInt
-      Syntax.w8) (Syntax.tcons (Syntax.tyInt Syntax.w64) Syntax.tnil))),
-) ∷ (
-  1,
-  Rows.sslice (Referent.rtF (Referent.fInt Syntax.w8)) (Syntax.tyRef (Syntax.named
-      0) Syntax.imm (Syntax.tyInt Syntax.w8)) 0,
-) ∷ (2, Mut.mslice SlotAs.row (Syntax.tyRef (Syntax.named 1) Syntax.mut SlotAs.pointee) 1) ∷ (
-  3,
-  Rows.any-gone
-      (Syntax.tyStruct (115 ∷ 116 ∷ 111 ∷ 114 ∷ 101 ∷ 58 ∷ 58 ∷ 78 ∷ 101 ∷ 101 ∷ 100 ∷ 115 ∷ []) (Syntax.tcons (Syntax.tyInt Syntax.w8) (Syntax.tcons
-      (Syntax.tyInt Syntax.w64) Syntax.tnil))),
-) ∷ (4, Rows.sc-here (Row.sInt Syntax.w64)) ∷ (5, Rows.sc-here (Row.sInt Syntax.w64)) ∷ (
-  6,
-  Rows.sc-here (Row.sInt
-      Syntax.w64),
-) ∷ (7, Rows.whole (Declared.row Line.the-type)) ∷ (8, Rows.any-gone Syntax.tyBool) ∷ (9, Rows.any-gone (Syntax.tyInt Syntax.w64)) ∷ (
-  10,
-  Rows.any-gone (Syntax.tyInt Syntax.w64),
-) ∷ (11, Rows.any-gone (Syntax.tyInt Syntax.w64)) ∷ (12, Rows.any-gone Syntax.tyBool) ∷ (
-  13,
-  Rows.any-gone
-      (Syntax.tyRef Syntax.erased Syntax.mut SlotAs.pointee),
-) ∷ (
-  14,
-  Rows.any-gone (Syntax.tyStruct (38 ∷ 91 ∷ 93 ∷ []) (Syntax.tcons (Syntax.tyRef Syntax.erased
-      Syntax.mut SlotAs.pointee) (Syntax.tcons (Syntax.tyInt Syntax.w64) Syntax.tnil))),
-) ∷ []
-
-abbrev pub t20 : List.List Row.Entry
-t20 = (
-  0,
-  Rows.any-gone (Syntax.tyStruct (115 ∷ 116 ∷ 111 ∷ 114 ∷ 101 ∷ 58 ∷ 58 ∷ 79 ∷ 117 ∷ 116 ∷ 99 ∷ 111 ∷ 109 ∷ 101 ∷ []) (Syntax.tcons (Syntax.tyInt
-      Syntax.w8) (Syntax.tcons (Syntax.tyInt Syntax.w64) Syntax.tnil))),
-) ∷ (
-  1,
-  Rows.sslice (Referent.rtF (Referent.fInt Syntax.w8)) (Syntax.tyRef (Syntax.named
-      0) Syntax.imm (Syntax.tyInt Syntax.w8)) 0,
-) ∷ (2, Relend.mslice-owed SlotAs.row (Syntax.tyRef (Syntax.named 1) Syntax.mut SlotAs.pointee) 1 2 Row.off) ∷ (
-  3,
-  Rows.any-gone (Syntax.tyStruct (115 ∷ 116 ∷ 111 ∷ 114 ∷ 101 ∷ 58 ∷ 58 ∷ 78 ∷ 101 ∷ 101 ∷ 100 ∷ 115 ∷ []) (Syntax.tcons (Syntax.tyInt Syntax.w8)
-      (Syntax.tcons (Syntax.tyInt Syntax.w64) Syntax.tnil))),
-) ∷ (4, Rows.sc-here (Row.sInt Syntax.w64)) ∷ (5, Rows.sc-here (Row.sInt Syntax.w64)) ∷ (
-  6,
-  Rows.sc-here (Row.sInt Syntax.w64),
-) ∷ (7, Rows.whole (Declared.row Line.the-type)) ∷ (8, Rows.any-gone Syntax.tyBool) ∷ (
-  9,
-  Rows.any-gone (Syntax.tyInt
-      Syntax.w64),
-) ∷ (10, Rows.any-gone (Syntax.tyInt Syntax.w64)) ∷ (11, Rows.any-gone (Syntax.tyInt Syntax.w64)) ∷ (12, Rows.any-gone Syntax.tyBool) ∷ (
-  13,
-  Relend.msptr SlotAs.row (Syntax.tyRef Syntax.erased Syntax.mut SlotAs.pointee) 2,
-) ∷ (
-  14,
-  Rows.any-gone (Syntax.tyStruct (38 ∷ 91 ∷ 93 ∷ []) (Syntax.tcons
-      (Syntax.tyRef Syntax.erased Syntax.mut SlotAs.pointee) (Syntax.tcons (Syntax.tyInt Syntax.w64) Syntax.tnil))),
-) ∷ []
-
-abbrev pub t21 : List.List Row.Entry
-t21 = (
-  0,
-  Rows.any-gone (Syntax.tyStruct (115 ∷ 116 ∷ 111 ∷ 114 ∷ 101 ∷ 58 ∷ 58 ∷ 79 ∷ 117 ∷ 116 ∷ 99 ∷ 111 ∷ 109 ∷ 101 ∷ []) (Syntax.tcons (Syntax.tyInt
-      Syntax.w8) (Syntax.tcons (Syntax.tyInt Syntax.w64) Syntax.tnil))),
-) ∷ (
-  1,
-  Rows.sslice (Referent.rtF (Referent.fInt Syntax.w8)) (Syntax.tyRef (Syntax.named
-      0) Syntax.imm (Syntax.tyInt Syntax.w8)) 0,
-) ∷ (2, Relend.mslice-owed SlotAs.row (Syntax.tyRef (Syntax.named 1) Syntax.mut SlotAs.pointee) 1 2 Row.off) ∷ (
-  3,
-  Rows.any-gone (Syntax.tyStruct (115 ∷ 116 ∷ 111 ∷ 114 ∷ 101 ∷ 58 ∷ 58 ∷ 78 ∷ 101 ∷ 101 ∷ 100 ∷ 115 ∷ []) (Syntax.tcons (Syntax.tyInt Syntax.w8)
-      (Syntax.tcons (Syntax.tyInt Syntax.w64) Syntax.tnil))),
-) ∷ (4, Rows.sc-here (Row.sInt Syntax.w64)) ∷ (5, Rows.sc-here (Row.sInt Syntax.w64)) ∷ (
-  6,
-  Rows.sc-here (Row.sInt Syntax.w64),
-) ∷ (7, Rows.whole (Declared.row Line.the-type)) ∷ (8, Rows.any-gone Syntax.tyBool) ∷ (
-  9,
-  Rows.any-gone (Syntax.tyInt
-      Syntax.w64),
-) ∷ (10, Rows.any-gone (Syntax.tyInt Syntax.w64)) ∷ (11, Rows.any-gone (Syntax.tyInt Syntax.w64)) ∷ (12, Rows.any-gone Syntax.tyBool) ∷ (
-  13,
-  Rows.any-gone (Syntax.tyRef Syntax.erased Syntax.mut SlotAs.pointee),
-) ∷ (
-  14,
-  Mut.mslice SlotAs.row (Syntax.tyRef Syntax.erased Syntax.mut SlotAs.pointee)
-      2,
-) ∷ []
-
-abbrev pub t22 : List.List Row.Entry
-t22 = (
-  0,
-  Rows.any-gone (Syntax.tyStruct (115 ∷ 116 ∷ 111 ∷ 114 ∷ 101 ∷ 58 ∷ 58 ∷ 79 ∷ 117 ∷ 116 ∷ 99 ∷ 111 ∷ 109 ∷ 101 ∷ []) (Syntax.tcons (Syntax.tyInt
-      Syntax.w8) (Syntax.tcons (Syntax.tyInt Syntax.w64) Syntax.tnil))),
-) ∷ (
-  1,
-  Rows.sslice (Referent.rtF (Referent.fInt Syntax.w8)) (Syntax.tyRef (Syntax.named
-      0) Syntax.imm (Syntax.tyInt Syntax.w8)) 0,
-) ∷ (2, Relend.mslice-owed SlotAs.row (Syntax.tyRef (Syntax.named 1) Syntax.mut SlotAs.pointee) 1 2 Row.off) ∷ (
-  3,
-  Rows.any-gone (Syntax.tyStruct (115 ∷ 116 ∷ 111 ∷ 114 ∷ 101 ∷ 58 ∷ 58 ∷ 78 ∷ 101 ∷ 101 ∷ 100 ∷ 115 ∷ []) (Syntax.tcons (Syntax.tyInt Syntax.w8)
-      (Syntax.tcons (Syntax.tyInt Syntax.w64) Syntax.tnil))),
-) ∷ (4, Rows.sc-here (Row.sInt Syntax.w64)) ∷ (5, Rows.sc-here (Row.sInt Syntax.w64)) ∷ (
-  6,
-  Rows.sc-here (Row.sInt Syntax.w64),
-) ∷ (7, Rows.whole (Declared.row Line.the-type)) ∷ (8, Rows.any-gone Syntax.tyBool) ∷ (
-  9,
-  Rows.any-gone (Syntax.tyInt
-      Syntax.w64),
-) ∷ (10, Rows.any-gone (Syntax.tyInt Syntax.w64)) ∷ (11, Rows.any-gone (Syntax.tyInt Syntax.w64)) ∷ (12, Rows.any-gone Syntax.tyBool) ∷ (
-  13,
-  Rows.any-gone (Syntax.tyRef Syntax.erased Syntax.mut SlotAs.pointee),
-) ∷ (14, Mut.msleft SlotAs.row (Syntax.tyRef Syntax.erased Syntax.mut SlotAs.pointee))
-    ∷ []
-
-abbrev pub t23 : List.List Row.Entry
-t23 = (
-  0,
-  Rows.any-gone (Syntax.tyStruct (115 ∷ 116 ∷ 111 ∷ 114 ∷ 101 ∷ 58 ∷ 58 ∷ 79 ∷ 117 ∷ 116 ∷ 99 ∷ 111 ∷ 109 ∷ 101 ∷ []) (Syntax.tcons (Syntax.tyInt
-      Syntax.w8) (Syntax.tcons (Syntax.tyInt Syntax.w64) Syntax.tnil))),
-) ∷ (
-  1,
-  Rows.sslice (Referent.rtF (Referent.fInt Syntax.w8)) (Syntax.tyRef (Syntax.named
-      0) Syntax.imm (Syntax.tyInt Syntax.w8)) 0,
-) ∷ (2, Relend.mslice-owed SlotAs.row (Syntax.tyRef (Syntax.named 1) Syntax.mut SlotAs.pointee) 1 2 Row.off) ∷ (
-  3,
-  Rows.any-gone (Syntax.tyStruct (115 ∷ 116 ∷ 111 ∷ 114 ∷ 101 ∷ 58 ∷ 58 ∷ 78 ∷ 101 ∷ 101 ∷ 100 ∷ 115 ∷ []) (Syntax.tcons (Syntax.tyInt Syntax.w8)
-      (Syntax.tcons (Syntax.tyInt Syntax.w64) Syntax.tnil))),
-) ∷ (4, Rows.sc-here (Row.sInt Syntax.w64)) ∷ (5, Rows.sc-here (Row.sInt Syntax.w64)) ∷ (
-  6,
-  Rows.sc-here (Row.sInt Syntax.w64),
-) ∷ (
-  7,
-  Rows.any-gone (Syntax.tyEnum (112 ∷ 105 ∷ 101 ∷ 99 ∷ 101 ∷ 115 ∷ 58 ∷ 58 ∷ 76 ∷ 105 ∷ 110 ∷ 101 ∷ [])
-      (Syntax.ttcons (Syntax.tcons (Syntax.tyInt Syntax.w8) Syntax.tnil) (Syntax.ttcons (Syntax.tcons (Syntax.tyEnum (107 ∷ 105 ∷ 110 ∷ 100 ∷ 115 ∷ 58 ∷ 58 ∷ 75
-      ∷ 105 ∷ 110 ∷ 100 ∷ []) (Syntax.ttcons Syntax.tnil (Syntax.ttcons Syntax.tnil (Syntax.ttcons Syntax.tnil (Syntax.ttcons Syntax.tnil (Syntax.ttcons
-      Syntax.tnil (Syntax.ttcons Syntax.tnil (Syntax.ttcons Syntax.tnil (Syntax.ttcons Syntax.tnil (Syntax.ttcons Syntax.tnil (Syntax.ttcons Syntax.tnil
-      (Syntax.ttcons Syntax.tnil (Syntax.ttcons Syntax.tnil (Syntax.ttcons Syntax.tnil (Syntax.ttcons Syntax.tnil (Syntax.ttcons Syntax.tnil (Syntax.ttcons
-      Syntax.tnil (Syntax.ttcons Syntax.tnil (Syntax.ttcons Syntax.tnil (Syntax.ttcons Syntax.tnil (Syntax.ttcons Syntax.tnil (Syntax.ttcons Syntax.tnil
-      (Syntax.ttcons Syntax.tnil (Syntax.ttcons Syntax.tnil (Syntax.ttcons Syntax.tnil (Syntax.ttcons Syntax.tnil (Syntax.ttcons Syntax.tnil (Syntax.ttcons
-      Syntax.tnil (Syntax.ttcons Syntax.tnil Syntax.ttnil))))))))))))))))))))))))))))) (Syntax.tcons (Syntax.tyInt Syntax.w32) Syntax.tnil)) (Syntax.ttcons
-      (Syntax.tcons (Syntax.tyEnum (107 ∷ 105 ∷ 110 ∷ 100 ∷ 115 ∷ 58 ∷ 58 ∷ 75 ∷ 105 ∷ 110 ∷ 100 ∷ []) (Syntax.ttcons Syntax.tnil (Syntax.ttcons Syntax.tnil
-      (Syntax.ttcons Syntax.tnil (Syntax.ttcons Syntax.tnil (Syntax.ttcons Syntax.tnil (Syntax.ttcons Syntax.tnil (Syntax.ttcons Syntax.tnil (Syntax.ttcons
-      Syntax.tnil (Syntax.ttcons Syntax.tnil (Syntax.ttcons Syntax.tnil (Syntax.ttcons Syntax.tnil (Syntax.ttcons Syntax.tnil (Syntax.ttcons Syntax.tnil
-      (Syntax.ttcons Syntax.tnil (Syntax.ttcons Syntax.tnil (Syntax.ttcons Syntax.tnil (Syntax.ttcons Syntax.tnil (Syntax.ttcons Syntax.tnil (Syntax.ttcons
-      Syntax.tnil (Syntax.ttcons Syntax.tnil (Syntax.ttcons Syntax.tnil (Syntax.ttcons Syntax.tnil (Syntax.ttcons Syntax.tnil (Syntax.ttcons Syntax.tnil
-      (Syntax.ttcons Syntax.tnil (Syntax.ttcons Syntax.tnil (Syntax.ttcons Syntax.tnil (Syntax.ttcons Syntax.tnil Syntax.ttnil)))))))))))))))))))))))))))))
-      Syntax.tnil) (Syntax.ttcons (Syntax.tcons (Syntax.tyEnum (108 ∷ 105 ∷ 110 ∷ 101 ∷ 58 ∷ 58 ∷ 82 ∷ 101 ∷ 99 ∷ 111 ∷ 114 ∷ 100 ∷ []) (Syntax.ttcons
-      (Syntax.tcons Syntax.tyBool (Syntax.tcons (Syntax.tyStruct (99 ∷ 111 ∷ 111 ∷ 114 ∷ 100 ∷ 105 ∷ 110 ∷ 97 ∷ 116 ∷ 101 ∷ 58 ∷ 58 ∷ 65 ∷ 116 ∷ 111 ∷ 109 ∷ [])
-      (Syntax.tcons (Syntax.tyStruct (99 ∷ 111 ∷ 111 ∷ 114 ∷ 100 ∷ 105 ∷ 110 ∷ 97 ∷ 116 ∷ 101 ∷ 58 ∷ 58 ∷ 73 ∷ 100 ∷ 101 ∷ 110 ∷ 116 ∷ 105 ∷ 116 ∷ 121 ∷ [])
-      (Syntax.tcons (Syntax.tyStruct (102 ∷ 105 ∷ 101 ∷ 108 ∷ 100 ∷ 115 ∷ 58 ∷ 58 ∷ 83 ∷ 101 ∷ 114 ∷ 105 ∷ 97 ∷ 108 ∷ []) (Syntax.tcons (Syntax.tyInt Syntax.w32)
-      Syntax.tnil)) (Syntax.tcons (Syntax.tyStruct (110 ∷ 97 ∷ 109 ∷ 101 ∷ 115 ∷ 58 ∷ 58 ∷ 70 ∷ 111 ∷ 117 ∷ 114 ∷ []) (Syntax.tcons (Syntax.tyInt Syntax.w8)
-      (Syntax.tcons (Syntax.tyInt Syntax.w8) (Syntax.tcons (Syntax.tyInt Syntax.w8) (Syntax.tcons (Syntax.tyInt Syntax.w8) Syntax.tnil))))) (Syntax.tcons
-      (Syntax.tyInt Syntax.w8) (Syntax.tcons (Syntax.tyStruct (114 ∷ 101 ∷ 115 ∷ 105 ∷ 100 ∷ 117 ∷ 101 ∷ 58 ∷ 58 ∷ 82 ∷ 101 ∷ 115 ∷ 105 ∷ 100 ∷ 117 ∷ 101 ∷ [])
-      (Syntax.tcons (Syntax.tyStruct (110 ∷ 97 ∷ 109 ∷ 101 ∷ 115 ∷ 58 ∷ 58 ∷ 84 ∷ 104 ∷ 114 ∷ 101 ∷ 101 ∷ []) (Syntax.tcons (Syntax.tyInt Syntax.w8)
-      (Syntax.tcons (Syntax.tyInt Syntax.w8) (Syntax.tcons (Syntax.tyInt Syntax.w8) Syntax.tnil)))) (Syntax.tcons (Syntax.tyInt Syntax.w8) (Syntax.tcons
-      (Syntax.tyStruct (102 ∷ 105 ∷ 101 ∷ 108 ∷ 100 ∷ 115 ∷ 58 ∷ 58 ∷ 82 ∷ 101 ∷ 115 ∷ 105 ∷ 100 ∷ 117 ∷ 101 ∷ 78 ∷ 117 ∷ 109 ∷ 98 ∷ 101 ∷ 114 ∷ [])
-      (Syntax.tcons (Syntax.tyInt Syntax.w32) Syntax.tnil)) (Syntax.tcons (Syntax.tyInt Syntax.w8) Syntax.tnil))))) Syntax.tnil))))) (Syntax.tcons
+      ∷ 114 ∷ []) (Syntax.tcons (Syntax.tyInt Syntax.w32) Syntax.tnil)) (Syntax.tcons (Syntax.tyInt Syntax.w8) Syntax.tnil))))) Syntax.tnil))))) (Syntax.tcons
       (Syntax.tyStruct (99 ∷ 111 ∷ 111 ∷ 114 ∷ 100 ∷ 105 ∷ 110 ∷ 97 ∷ 116 ∷ 101 ∷ 58 ∷ 58 ∷ 77 ∷ 101 ∷ 97 ∷ 115 ∷ 117 ∷ 114 ∷ 101 ∷ []) (Syntax.tcons
       (Syntax.tyStruct (99 ∷ 111 ∷ 111 ∷ 114 ∷ 100 ∷ 105 ∷ 110 ∷ 97 ∷ 116 ∷ 101 ∷ 58 ∷ 58 ∷ 80 ∷ 111 ∷ 115 ∷ 105 ∷ 116 ∷ 105 ∷ 111 ∷ 110 ∷ []) (Syntax.tcons
       (Syntax.tyInt Syntax.w32) (Syntax.tcons (Syntax.tyInt Syntax.w32) (Syntax.tcons (Syntax.tyInt Syntax.w32) Syntax.tnil)))) (Syntax.tcons (Syntax.tyInt
@@ -2929,47 +577,51 @@ t23 = (
       (Syntax.ttcons (Syntax.tcons (Syntax.tyStruct (109 ∷ 97 ∷ 115 ∷ 116 ∷ 101 ∷ 114 ∷ 58 ∷ 58 ∷ 84 ∷ 97 ∷ 108 ∷ 108 ∷ 121 ∷ []) (Syntax.tcons (Syntax.tyInt
       Syntax.w32) (Syntax.tcons (Syntax.tyInt Syntax.w32) (Syntax.tcons (Syntax.tyInt Syntax.w32) (Syntax.tcons (Syntax.tyInt Syntax.w32) (Syntax.tcons
       (Syntax.tyInt Syntax.w32) (Syntax.tcons (Syntax.tyInt Syntax.w32) (Syntax.tcons (Syntax.tyInt Syntax.w32) (Syntax.tcons (Syntax.tyInt Syntax.w32)
-      (Syntax.tcons (Syntax.tyInt Syntax.w32) Syntax.tnil)))))))))) Syntax.tnil) (Syntax.ttcons Syntax.tnil Syntax.ttnil)))))))) Syntax.tnil) Syntax.ttnil))))),
-)
-    ∷ (8, Rows.any-gone Syntax.tyBool) ∷ (9, Rows.any-gone (Syntax.tyInt Syntax.w64)) ∷ (10, Rows.any-gone (Syntax.tyInt Syntax.w64)) ∷ (
-      11,
-      Rows.any-gone
-          (Syntax.tyInt Syntax.w64),
-    ) ∷ (12, Rows.any-gone Syntax.tyBool) ∷ (13, Rows.any-gone (Syntax.tyRef Syntax.erased Syntax.mut SlotAs.pointee)) ∷ (
+      (Syntax.tcons (Syntax.tyInt Syntax.w32) Syntax.tnil)))))))))) Syntax.tnil) (Syntax.ttcons Syntax.tnil (Syntax.ttcons (Syntax.tcons (Syntax.tyStruct (109 ∷
+      111 ∷ 100 ∷ 101 ∷ 108 ∷ 58 ∷ 58 ∷ 77 ∷ 111 ∷ 100 ∷ 101 ∷ 108 ∷ []) (Syntax.tcons (Syntax.tyInt Syntax.w32) Syntax.tnil)) Syntax.tnil) (Syntax.ttcons
+      Syntax.tnil Syntax.ttnil)))))))))) Syntax.tnil) Syntax.ttnil))))),
+) ∷ (9, Rows.any-gone Syntax.tyBool) ∷ (10, Rows.any-gone (Syntax.tyInt Syntax.w64)) ∷
+    (11, Rows.any-gone (Syntax.tyInt Syntax.w64)) ∷ (12, Rows.any-gone (Syntax.tyInt Syntax.w64)) ∷ (13, Rows.any-gone Syntax.tyBool) ∷ (
       14,
-      Mut.msleft SlotAs.row (Syntax.tyRef Syntax.erased Syntax.mut SlotAs.pointee),
+      Rows.any-gone
+          (Syntax.tyRef Syntax.erased Syntax.mut SlotAs.pointee),
+    ) ∷ (
+      15,
+      Rows.any-gone (Syntax.tyStruct (38 ∷ 91 ∷ 93 ∷ []) (Syntax.tcons (Syntax.tyRef Syntax.erased
+          Syntax.mut SlotAs.pointee) (Syntax.tcons (Syntax.tyInt Syntax.w64) Syntax.tnil))),
     ) ∷ []
 
-abbrev pub t24 : List.List Row.Entry
-t24 = (0, Rows.whole (Declared'.row (Apart.apartT Outcome.the-type))) ∷ (
+abbrev pub t1 : List.List Row.Entry
+t1 = (0, Rows.whole (Declared'.row Outcome.the-type)) ∷ (
   1,
-  Rows.sslice (Referent.rtF (Referent.fInt Syntax.w8)) (Syntax.tyRef (Syntax.named 0)
-      Syntax.imm (Syntax.tyInt Syntax.w8)) 0,
+  Rows.sslice (Referent.rtF (Referent.fInt Syntax.w8)) (Syntax.tyRef (Syntax.named 0) Syntax.imm
+      (Syntax.tyInt Syntax.w8)) 0,
 ) ∷ (2, Mut.mslice SlotAs.row (Syntax.tyRef (Syntax.named 1) Syntax.mut SlotAs.pointee) 1) ∷ (
   3,
-  Rows.any-gone
-      (Syntax.tyStruct (115 ∷ 116 ∷ 111 ∷ 114 ∷ 101 ∷ 58 ∷ 58 ∷ 78 ∷ 101 ∷ 101 ∷ 100 ∷ 115 ∷ []) (Syntax.tcons (Syntax.tyInt Syntax.w8) (Syntax.tcons
-      (Syntax.tyInt Syntax.w64) Syntax.tnil))),
-) ∷ (4, Rows.sc-here (Row.sInt Syntax.w64)) ∷ (5, Rows.sc-here (Row.sInt Syntax.w64)) ∷ (
+  Rows.any-gone (Syntax.tyStruct
+      (115 ∷ 116 ∷ 111 ∷ 114 ∷ 101 ∷ 58 ∷ 58 ∷ 78 ∷ 101 ∷ 101 ∷ 100 ∷ 115 ∷ []) (Syntax.tcons (Syntax.tyInt Syntax.w8) (Syntax.tcons (Syntax.tyInt Syntax.w64)
+      Syntax.tnil))),
+) ∷ (4, Rows.any-gone (Syntax.tyInt Syntax.w64)) ∷ (5, Rows.any-gone (Syntax.tyInt Syntax.w64)) ∷ (
   6,
-  Rows.sc-here (Row.sInt
+  Rows.any-gone (Syntax.tyInt
       Syntax.w64),
-) ∷ (
-  7,
-  Rows.any-gone (Syntax.tyEnum (112 ∷ 105 ∷ 101 ∷ 99 ∷ 101 ∷ 115 ∷ 58 ∷ 58 ∷ 76 ∷ 105 ∷ 110 ∷ 101 ∷ []) (Syntax.ttcons (Syntax.tcons
-      (Syntax.tyInt Syntax.w8) Syntax.tnil) (Syntax.ttcons (Syntax.tcons (Syntax.tyEnum (107 ∷ 105 ∷ 110 ∷ 100 ∷ 115 ∷ 58 ∷ 58 ∷ 75 ∷ 105 ∷ 110 ∷ 100 ∷ [])
+) ∷ (7, Rows.any-gone (Syntax.tyInt Syntax.w32)) ∷ (
+  8,
+  Rows.any-gone (Syntax.tyEnum (112 ∷ 105 ∷ 101 ∷ 99 ∷ 101 ∷ 115 ∷ 58 ∷ 58 ∷ 76 ∷ 105 ∷ 110
+      ∷ 101 ∷ []) (Syntax.ttcons (Syntax.tcons (Syntax.tyInt Syntax.w8) Syntax.tnil) (Syntax.ttcons (Syntax.tcons (Syntax.tyEnum (107 ∷ 105 ∷ 110 ∷ 100 ∷ 115 ∷
+      58 ∷ 58 ∷ 75 ∷ 105 ∷ 110 ∷ 100 ∷ []) (Syntax.ttcons Syntax.tnil (Syntax.ttcons Syntax.tnil (Syntax.ttcons Syntax.tnil (Syntax.ttcons Syntax.tnil
       (Syntax.ttcons Syntax.tnil (Syntax.ttcons Syntax.tnil (Syntax.ttcons Syntax.tnil (Syntax.ttcons Syntax.tnil (Syntax.ttcons Syntax.tnil (Syntax.ttcons
       Syntax.tnil (Syntax.ttcons Syntax.tnil (Syntax.ttcons Syntax.tnil (Syntax.ttcons Syntax.tnil (Syntax.ttcons Syntax.tnil (Syntax.ttcons Syntax.tnil
       (Syntax.ttcons Syntax.tnil (Syntax.ttcons Syntax.tnil (Syntax.ttcons Syntax.tnil (Syntax.ttcons Syntax.tnil (Syntax.ttcons Syntax.tnil (Syntax.ttcons
       Syntax.tnil (Syntax.ttcons Syntax.tnil (Syntax.ttcons Syntax.tnil (Syntax.ttcons Syntax.tnil (Syntax.ttcons Syntax.tnil (Syntax.ttcons Syntax.tnil
-      (Syntax.ttcons Syntax.tnil (Syntax.ttcons Syntax.tnil (Syntax.ttcons Syntax.tnil (Syntax.ttcons Syntax.tnil (Syntax.ttcons Syntax.tnil (Syntax.ttcons
-      Syntax.tnil Syntax.ttnil))))))))))))))))))))))))))))) (Syntax.tcons (Syntax.tyInt Syntax.w32) Syntax.tnil)) (Syntax.ttcons (Syntax.tcons (Syntax.tyEnum
-      (107 ∷ 105 ∷ 110 ∷ 100 ∷ 115 ∷ 58 ∷ 58 ∷ 75 ∷ 105 ∷ 110 ∷ 100 ∷ []) (Syntax.ttcons Syntax.tnil (Syntax.ttcons Syntax.tnil (Syntax.ttcons Syntax.tnil
-      (Syntax.ttcons Syntax.tnil (Syntax.ttcons Syntax.tnil (Syntax.ttcons Syntax.tnil (Syntax.ttcons Syntax.tnil (Syntax.ttcons Syntax.tnil (Syntax.ttcons
-      Syntax.tnil (Syntax.ttcons Syntax.tnil (Syntax.ttcons Syntax.tnil (Syntax.ttcons Syntax.tnil (Syntax.ttcons Syntax.tnil (Syntax.ttcons Syntax.tnil
+      (Syntax.ttcons Syntax.tnil (Syntax.ttcons Syntax.tnil (Syntax.ttcons Syntax.tnil (Syntax.ttcons Syntax.tnil Syntax.ttnil)))))))))))))))))))))))))))))))
+      (Syntax.tcons (Syntax.tyInt Syntax.w32) Syntax.tnil)) (Syntax.ttcons (Syntax.tcons (Syntax.tyEnum (107 ∷ 105 ∷ 110 ∷ 100 ∷ 115 ∷ 58 ∷ 58 ∷ 75 ∷ 105 ∷ 110 ∷
+      100 ∷ []) (Syntax.ttcons Syntax.tnil (Syntax.ttcons Syntax.tnil (Syntax.ttcons Syntax.tnil (Syntax.ttcons Syntax.tnil (Syntax.ttcons Syntax.tnil
       (Syntax.ttcons Syntax.tnil (Syntax.ttcons Syntax.tnil (Syntax.ttcons Syntax.tnil (Syntax.ttcons Syntax.tnil (Syntax.ttcons Syntax.tnil (Syntax.ttcons
       Syntax.tnil (Syntax.ttcons Syntax.tnil (Syntax.ttcons Syntax.tnil (Syntax.ttcons Syntax.tnil (Syntax.ttcons Syntax.tnil (Syntax.ttcons Syntax.tnil
-      (Syntax.ttcons Syntax.tnil (Syntax.ttcons Syntax.tnil (Syntax.ttcons Syntax.tnil Syntax.ttnil))))))))))))))))))))))))))))) Syntax.tnil) (Syntax.ttcons
+      (Syntax.ttcons Syntax.tnil (Syntax.ttcons Syntax.tnil (Syntax.ttcons Syntax.tnil (Syntax.ttcons Syntax.tnil (Syntax.ttcons Syntax.tnil (Syntax.ttcons
+      Syntax.tnil (Syntax.ttcons Syntax.tnil (Syntax.ttcons Syntax.tnil (Syntax.ttcons Syntax.tnil (Syntax.ttcons Syntax.tnil (Syntax.ttcons Syntax.tnil
+      (Syntax.ttcons Syntax.tnil (Syntax.ttcons Syntax.tnil (Syntax.ttcons Syntax.tnil Syntax.ttnil))))))))))))))))))))))))))))))) Syntax.tnil) (Syntax.ttcons
       (Syntax.tcons (Syntax.tyEnum (108 ∷ 105 ∷ 110 ∷ 101 ∷ 58 ∷ 58 ∷ 82 ∷ 101 ∷ 99 ∷ 111 ∷ 114 ∷ 100 ∷ []) (Syntax.ttcons (Syntax.tcons Syntax.tyBool
       (Syntax.tcons (Syntax.tyStruct (99 ∷ 111 ∷ 111 ∷ 114 ∷ 100 ∷ 105 ∷ 110 ∷ 97 ∷ 116 ∷ 101 ∷ 58 ∷ 58 ∷ 65 ∷ 116 ∷ 111 ∷ 109 ∷ []) (Syntax.tcons
       (Syntax.tyStruct (99 ∷ 111 ∷ 111 ∷ 114 ∷ 100 ∷ 105 ∷ 110 ∷ 97 ∷ 116 ∷ 101 ∷ 58 ∷ 58 ∷ 73 ∷ 100 ∷ 101 ∷ 110 ∷ 116 ∷ 105 ∷ 116 ∷ 121 ∷ []) (Syntax.tcons
@@ -3046,15 +698,2532 @@ t24 = (0, Rows.whole (Declared'.row (Apart.apartT Outcome.the-type))) ∷ (
       Syntax.tnil) (Syntax.ttcons (Syntax.tcons (Syntax.tyStruct (109 ∷ 97 ∷ 115 ∷ 116 ∷ 101 ∷ 114 ∷ 58 ∷ 58 ∷ 84 ∷ 97 ∷ 108 ∷ 108 ∷ 121 ∷ []) (Syntax.tcons
       (Syntax.tyInt Syntax.w32) (Syntax.tcons (Syntax.tyInt Syntax.w32) (Syntax.tcons (Syntax.tyInt Syntax.w32) (Syntax.tcons (Syntax.tyInt Syntax.w32)
       (Syntax.tcons (Syntax.tyInt Syntax.w32) (Syntax.tcons (Syntax.tyInt Syntax.w32) (Syntax.tcons (Syntax.tyInt Syntax.w32) (Syntax.tcons (Syntax.tyInt
-      Syntax.w32) (Syntax.tcons (Syntax.tyInt Syntax.w32) Syntax.tnil)))))))))) Syntax.tnil) (Syntax.ttcons Syntax.tnil Syntax.ttnil)))))))) Syntax.tnil)
-      Syntax.ttnil))))),
-) ∷ (8, Rows.any-gone Syntax.tyBool) ∷ (9, Rows.any-gone (Syntax.tyInt Syntax.w64)) ∷ (10, Rows.any-gone (Syntax.tyInt Syntax.w64)) ∷ (
+      Syntax.w32) (Syntax.tcons (Syntax.tyInt Syntax.w32) Syntax.tnil)))))))))) Syntax.tnil) (Syntax.ttcons Syntax.tnil (Syntax.ttcons (Syntax.tcons
+      (Syntax.tyStruct (109 ∷ 111 ∷ 100 ∷ 101 ∷ 108 ∷ 58 ∷ 58 ∷ 77 ∷ 111 ∷ 100 ∷ 101 ∷ 108 ∷ []) (Syntax.tcons (Syntax.tyInt Syntax.w32) Syntax.tnil))
+      Syntax.tnil) (Syntax.ttcons Syntax.tnil Syntax.ttnil)))))))))) Syntax.tnil) Syntax.ttnil))))),
+) ∷ (9, Rows.any-gone Syntax.tyBool) ∷ (
+  10,
+  Rows.any-gone
+      (Syntax.tyInt Syntax.w64),
+) ∷ (11, Rows.any-gone (Syntax.tyInt Syntax.w64)) ∷ (12, Rows.any-gone (Syntax.tyInt Syntax.w64)) ∷ (
+  13,
+  Rows.any-gone
+      Syntax.tyBool,
+) ∷ (14, Rows.any-gone (Syntax.tyRef Syntax.erased Syntax.mut SlotAs.pointee)) ∷ (
+  15,
+  Rows.any-gone (Syntax.tyStruct (38 ∷ 91 ∷ 93 ∷ [])
+      (Syntax.tcons (Syntax.tyRef Syntax.erased Syntax.mut SlotAs.pointee) (Syntax.tcons (Syntax.tyInt Syntax.w64) Syntax.tnil))),
+) ∷ []
+
+abbrev pub t2 : List.List Row.Entry
+t2 = (
+  0,
+  Rows.any-gone (Syntax.tyStruct (115 ∷ 116 ∷ 111 ∷ 114 ∷ 101 ∷ 58 ∷ 58 ∷ 79 ∷ 117 ∷ 116 ∷ 99 ∷ 111 ∷ 109 ∷ 101 ∷ []) (Syntax.tcons (Syntax.tyInt
+      Syntax.w8) (Syntax.tcons (Syntax.tyInt Syntax.w64) Syntax.tnil))),
+) ∷ (
+  1,
+  Rows.sslice (Referent.rtF (Referent.fInt Syntax.w8)) (Syntax.tyRef (Syntax.named
+      0) Syntax.imm (Syntax.tyInt Syntax.w8)) 0,
+) ∷ (2, Mut.mslice SlotAs.row (Syntax.tyRef (Syntax.named 1) Syntax.mut SlotAs.pointee) 1) ∷ (
+  3,
+  Rows.whole
+      (Declared'.row Needs.the-type),
+) ∷ (4, Rows.any-gone (Syntax.tyInt Syntax.w64)) ∷ (5, Rows.any-gone (Syntax.tyInt Syntax.w64)) ∷ (
+  6,
+  Rows.any-gone
+      (Syntax.tyInt Syntax.w64),
+) ∷ (7, Rows.any-gone (Syntax.tyInt Syntax.w32)) ∷ (
+  8,
+  Rows.any-gone (Syntax.tyEnum (112 ∷ 105 ∷ 101 ∷ 99 ∷ 101 ∷ 115 ∷ 58 ∷ 58 ∷
+      76 ∷ 105 ∷ 110 ∷ 101 ∷ []) (Syntax.ttcons (Syntax.tcons (Syntax.tyInt Syntax.w8) Syntax.tnil) (Syntax.ttcons (Syntax.tcons (Syntax.tyEnum (107 ∷ 105 ∷ 110
+      ∷ 100 ∷ 115 ∷ 58 ∷ 58 ∷ 75 ∷ 105 ∷ 110 ∷ 100 ∷ []) (Syntax.ttcons Syntax.tnil (Syntax.ttcons Syntax.tnil (Syntax.ttcons Syntax.tnil (Syntax.ttcons
+      Syntax.tnil (Syntax.ttcons Syntax.tnil (Syntax.ttcons Syntax.tnil (Syntax.ttcons Syntax.tnil (Syntax.ttcons Syntax.tnil (Syntax.ttcons Syntax.tnil
+      (Syntax.ttcons Syntax.tnil (Syntax.ttcons Syntax.tnil (Syntax.ttcons Syntax.tnil (Syntax.ttcons Syntax.tnil (Syntax.ttcons Syntax.tnil (Syntax.ttcons
+      Syntax.tnil (Syntax.ttcons Syntax.tnil (Syntax.ttcons Syntax.tnil (Syntax.ttcons Syntax.tnil (Syntax.ttcons Syntax.tnil (Syntax.ttcons Syntax.tnil
+      (Syntax.ttcons Syntax.tnil (Syntax.ttcons Syntax.tnil (Syntax.ttcons Syntax.tnil (Syntax.ttcons Syntax.tnil (Syntax.ttcons Syntax.tnil (Syntax.ttcons
+      Syntax.tnil (Syntax.ttcons Syntax.tnil (Syntax.ttcons Syntax.tnil (Syntax.ttcons Syntax.tnil (Syntax.ttcons Syntax.tnil
+      Syntax.ttnil))))))))))))))))))))))))))))))) (Syntax.tcons (Syntax.tyInt Syntax.w32) Syntax.tnil)) (Syntax.ttcons (Syntax.tcons (Syntax.tyEnum (107 ∷ 105 ∷
+      110 ∷ 100 ∷ 115 ∷ 58 ∷ 58 ∷ 75 ∷ 105 ∷ 110 ∷ 100 ∷ []) (Syntax.ttcons Syntax.tnil (Syntax.ttcons Syntax.tnil (Syntax.ttcons Syntax.tnil (Syntax.ttcons
+      Syntax.tnil (Syntax.ttcons Syntax.tnil (Syntax.ttcons Syntax.tnil (Syntax.ttcons Syntax.tnil (Syntax.ttcons Syntax.tnil (Syntax.ttcons Syntax.tnil
+      (Syntax.ttcons Syntax.tnil (Syntax.ttcons Syntax.tnil (Syntax.ttcons Syntax.tnil (Syntax.ttcons Syntax.tnil (Syntax.ttcons Syntax.tnil (Syntax.ttcons
+      Syntax.tnil (Syntax.ttcons Syntax.tnil (Syntax.ttcons Syntax.tnil (Syntax.ttcons Syntax.tnil (Syntax.ttcons Syntax.tnil (Syntax.ttcons Syntax.tnil
+      (Syntax.ttcons Syntax.tnil (Syntax.ttcons Syntax.tnil (Syntax.ttcons Syntax.tnil (Syntax.ttcons Syntax.tnil (Syntax.ttcons Syntax.tnil (Syntax.ttcons
+      Syntax.tnil (Syntax.ttcons Syntax.tnil (Syntax.ttcons Syntax.tnil (Syntax.ttcons Syntax.tnil (Syntax.ttcons Syntax.tnil
+      Syntax.ttnil))))))))))))))))))))))))))))))) Syntax.tnil) (Syntax.ttcons (Syntax.tcons (Syntax.tyEnum (108 ∷ 105 ∷ 110 ∷ 101 ∷ 58 ∷ 58 ∷ 82 ∷ 101 ∷ 99 ∷ 111
+      ∷ 114 ∷ 100 ∷ []) (Syntax.ttcons (Syntax.tcons Syntax.tyBool (Syntax.tcons (Syntax.tyStruct (99 ∷ 111 ∷ 111 ∷ 114 ∷ 100 ∷ 105 ∷ 110 ∷ 97 ∷ 116 ∷ 101 ∷ 58 ∷
+      58 ∷ 65 ∷ 116 ∷ 111 ∷ 109 ∷ []) (Syntax.tcons (Syntax.tyStruct (99 ∷ 111 ∷ 111 ∷ 114 ∷ 100 ∷ 105 ∷ 110 ∷ 97 ∷ 116 ∷ 101 ∷ 58 ∷ 58 ∷ 73 ∷ 100 ∷ 101 ∷ 110 ∷
+      116 ∷ 105 ∷ 116 ∷ 121 ∷ []) (Syntax.tcons (Syntax.tyStruct (102 ∷ 105 ∷ 101 ∷ 108 ∷ 100 ∷ 115 ∷ 58 ∷ 58 ∷ 83 ∷ 101 ∷ 114 ∷ 105 ∷ 97 ∷ 108 ∷ [])
+      (Syntax.tcons (Syntax.tyInt Syntax.w32) Syntax.tnil)) (Syntax.tcons (Syntax.tyStruct (110 ∷ 97 ∷ 109 ∷ 101 ∷ 115 ∷ 58 ∷ 58 ∷ 70 ∷ 111 ∷ 117 ∷ 114 ∷ [])
+      (Syntax.tcons (Syntax.tyInt Syntax.w8) (Syntax.tcons (Syntax.tyInt Syntax.w8) (Syntax.tcons (Syntax.tyInt Syntax.w8) (Syntax.tcons (Syntax.tyInt Syntax.w8)
+      Syntax.tnil))))) (Syntax.tcons (Syntax.tyInt Syntax.w8) (Syntax.tcons (Syntax.tyStruct (114 ∷ 101 ∷ 115 ∷ 105 ∷ 100 ∷ 117 ∷ 101 ∷ 58 ∷ 58 ∷ 82 ∷ 101 ∷ 115
+      ∷ 105 ∷ 100 ∷ 117 ∷ 101 ∷ []) (Syntax.tcons (Syntax.tyStruct (110 ∷ 97 ∷ 109 ∷ 101 ∷ 115 ∷ 58 ∷ 58 ∷ 84 ∷ 104 ∷ 114 ∷ 101 ∷ 101 ∷ []) (Syntax.tcons
+      (Syntax.tyInt Syntax.w8) (Syntax.tcons (Syntax.tyInt Syntax.w8) (Syntax.tcons (Syntax.tyInt Syntax.w8) Syntax.tnil)))) (Syntax.tcons (Syntax.tyInt
+      Syntax.w8) (Syntax.tcons (Syntax.tyStruct (102 ∷ 105 ∷ 101 ∷ 108 ∷ 100 ∷ 115 ∷ 58 ∷ 58 ∷ 82 ∷ 101 ∷ 115 ∷ 105 ∷ 100 ∷ 117 ∷ 101 ∷ 78 ∷ 117 ∷ 109 ∷ 98 ∷ 101
+      ∷ 114 ∷ []) (Syntax.tcons (Syntax.tyInt Syntax.w32) Syntax.tnil)) (Syntax.tcons (Syntax.tyInt Syntax.w8) Syntax.tnil))))) Syntax.tnil))))) (Syntax.tcons
+      (Syntax.tyStruct (99 ∷ 111 ∷ 111 ∷ 114 ∷ 100 ∷ 105 ∷ 110 ∷ 97 ∷ 116 ∷ 101 ∷ 58 ∷ 58 ∷ 77 ∷ 101 ∷ 97 ∷ 115 ∷ 117 ∷ 114 ∷ 101 ∷ []) (Syntax.tcons
+      (Syntax.tyStruct (99 ∷ 111 ∷ 111 ∷ 114 ∷ 100 ∷ 105 ∷ 110 ∷ 97 ∷ 116 ∷ 101 ∷ 58 ∷ 58 ∷ 80 ∷ 111 ∷ 115 ∷ 105 ∷ 116 ∷ 105 ∷ 111 ∷ 110 ∷ []) (Syntax.tcons
+      (Syntax.tyInt Syntax.w32) (Syntax.tcons (Syntax.tyInt Syntax.w32) (Syntax.tcons (Syntax.tyInt Syntax.w32) Syntax.tnil)))) (Syntax.tcons (Syntax.tyInt
+      Syntax.w32) (Syntax.tcons (Syntax.tyInt Syntax.w32) Syntax.tnil)))) (Syntax.tcons (Syntax.tyStruct (99 ∷ 111 ∷ 111 ∷ 114 ∷ 100 ∷ 105 ∷ 110 ∷ 97 ∷ 116 ∷ 101
+      ∷ 58 ∷ 58 ∷ 83 ∷ 112 ∷ 101 ∷ 99 ∷ 105 ∷ 101 ∷ 115 ∷ []) (Syntax.tcons (Syntax.tyStruct (110 ∷ 97 ∷ 109 ∷ 101 ∷ 115 ∷ 58 ∷ 58 ∷ 80 ∷ 97 ∷ 105 ∷ 114 ∷ [])
+      (Syntax.tcons (Syntax.tyInt Syntax.w8) (Syntax.tcons (Syntax.tyInt Syntax.w8) Syntax.tnil))) (Syntax.tcons (Syntax.tyStruct (110 ∷ 97 ∷ 109 ∷ 101 ∷ 115 ∷
+      58 ∷ 58 ∷ 80 ∷ 97 ∷ 105 ∷ 114 ∷ []) (Syntax.tcons (Syntax.tyInt Syntax.w8) (Syntax.tcons (Syntax.tyInt Syntax.w8) Syntax.tnil))) Syntax.tnil)))
+      Syntax.tnil)))) Syntax.tnil)) (Syntax.ttcons (Syntax.tcons (Syntax.tyStruct (116 ∷ 101 ∷ 114 ∷ 58 ∷ 58 ∷ 84 ∷ 101 ∷ 114 ∷ []) (Syntax.tcons
+      (Syntax.tyStruct (102 ∷ 105 ∷ 101 ∷ 108 ∷ 100 ∷ 115 ∷ 58 ∷ 58 ∷ 83 ∷ 101 ∷ 114 ∷ 105 ∷ 97 ∷ 108 ∷ []) (Syntax.tcons (Syntax.tyInt Syntax.w32) Syntax.tnil))
+      (Syntax.tcons (Syntax.tyStruct (114 ∷ 101 ∷ 115 ∷ 105 ∷ 100 ∷ 117 ∷ 101 ∷ 58 ∷ 58 ∷ 82 ∷ 101 ∷ 115 ∷ 105 ∷ 100 ∷ 117 ∷ 101 ∷ []) (Syntax.tcons
+      (Syntax.tyStruct (110 ∷ 97 ∷ 109 ∷ 101 ∷ 115 ∷ 58 ∷ 58 ∷ 84 ∷ 104 ∷ 114 ∷ 101 ∷ 101 ∷ []) (Syntax.tcons (Syntax.tyInt Syntax.w8) (Syntax.tcons
+      (Syntax.tyInt Syntax.w8) (Syntax.tcons (Syntax.tyInt Syntax.w8) Syntax.tnil)))) (Syntax.tcons (Syntax.tyInt Syntax.w8) (Syntax.tcons (Syntax.tyStruct (102
+      ∷ 105 ∷ 101 ∷ 108 ∷ 100 ∷ 115 ∷ 58 ∷ 58 ∷ 82 ∷ 101 ∷ 115 ∷ 105 ∷ 100 ∷ 117 ∷ 101 ∷ 78 ∷ 117 ∷ 109 ∷ 98 ∷ 101 ∷ 114 ∷ []) (Syntax.tcons (Syntax.tyInt
+      Syntax.w32) Syntax.tnil)) (Syntax.tcons (Syntax.tyInt Syntax.w8) Syntax.tnil))))) Syntax.tnil))) Syntax.tnil) (Syntax.ttcons (Syntax.tcons (Syntax.tyStruct
+      (104 ∷ 101 ∷ 108 ∷ 105 ∷ 120 ∷ 58 ∷ 58 ∷ 72 ∷ 101 ∷ 108 ∷ 105 ∷ 120 ∷ []) (Syntax.tcons (Syntax.tyStruct (104 ∷ 101 ∷ 108 ∷ 105 ∷ 120 ∷ 58 ∷ 58 ∷ 69 ∷ 120
+      ∷ 116 ∷ 101 ∷ 110 ∷ 116 ∷ []) (Syntax.tcons (Syntax.tyInt Syntax.w32) (Syntax.tcons (Syntax.tyStruct (110 ∷ 97 ∷ 109 ∷ 101 ∷ 115 ∷ 58 ∷ 58 ∷ 84 ∷ 104 ∷ 114
+      ∷ 101 ∷ 101 ∷ []) (Syntax.tcons (Syntax.tyInt Syntax.w8) (Syntax.tcons (Syntax.tyInt Syntax.w8) (Syntax.tcons (Syntax.tyInt Syntax.w8) Syntax.tnil))))
+      (Syntax.tcons (Syntax.tyStruct (114 ∷ 101 ∷ 115 ∷ 105 ∷ 100 ∷ 117 ∷ 101 ∷ 58 ∷ 58 ∷ 82 ∷ 101 ∷ 115 ∷ 105 ∷ 100 ∷ 117 ∷ 101 ∷ []) (Syntax.tcons
+      (Syntax.tyStruct (110 ∷ 97 ∷ 109 ∷ 101 ∷ 115 ∷ 58 ∷ 58 ∷ 84 ∷ 104 ∷ 114 ∷ 101 ∷ 101 ∷ []) (Syntax.tcons (Syntax.tyInt Syntax.w8) (Syntax.tcons
+      (Syntax.tyInt Syntax.w8) (Syntax.tcons (Syntax.tyInt Syntax.w8) Syntax.tnil)))) (Syntax.tcons (Syntax.tyInt Syntax.w8) (Syntax.tcons (Syntax.tyStruct (102
+      ∷ 105 ∷ 101 ∷ 108 ∷ 100 ∷ 115 ∷ 58 ∷ 58 ∷ 82 ∷ 101 ∷ 115 ∷ 105 ∷ 100 ∷ 117 ∷ 101 ∷ 78 ∷ 117 ∷ 109 ∷ 98 ∷ 101 ∷ 114 ∷ []) (Syntax.tcons (Syntax.tyInt
+      Syntax.w32) Syntax.tnil)) (Syntax.tcons (Syntax.tyInt Syntax.w8) Syntax.tnil))))) (Syntax.tcons (Syntax.tyStruct (114 ∷ 101 ∷ 115 ∷ 105 ∷ 100 ∷ 117 ∷ 101 ∷
+      58 ∷ 58 ∷ 82 ∷ 101 ∷ 115 ∷ 105 ∷ 100 ∷ 117 ∷ 101 ∷ []) (Syntax.tcons (Syntax.tyStruct (110 ∷ 97 ∷ 109 ∷ 101 ∷ 115 ∷ 58 ∷ 58 ∷ 84 ∷ 104 ∷ 114 ∷ 101 ∷ 101 ∷
+      []) (Syntax.tcons (Syntax.tyInt Syntax.w8) (Syntax.tcons (Syntax.tyInt Syntax.w8) (Syntax.tcons (Syntax.tyInt Syntax.w8) Syntax.tnil)))) (Syntax.tcons
+      (Syntax.tyInt Syntax.w8) (Syntax.tcons (Syntax.tyStruct (102 ∷ 105 ∷ 101 ∷ 108 ∷ 100 ∷ 115 ∷ 58 ∷ 58 ∷ 82 ∷ 101 ∷ 115 ∷ 105 ∷ 100 ∷ 117 ∷ 101 ∷ 78 ∷ 117 ∷
+      109 ∷ 98 ∷ 101 ∷ 114 ∷ []) (Syntax.tcons (Syntax.tyInt Syntax.w32) Syntax.tnil)) (Syntax.tcons (Syntax.tyInt Syntax.w8) Syntax.tnil))))) Syntax.tnil)))))
+      (Syntax.tcons (Syntax.tyInt Syntax.w32) (Syntax.tcons (Syntax.tyStruct (104 ∷ 101 ∷ 108 ∷ 105 ∷ 120 ∷ 58 ∷ 58 ∷ 67 ∷ 111 ∷ 109 ∷ 109 ∷ 101 ∷ 110 ∷ 116 ∷
+      []) (Syntax.tcons (Syntax.tyInt Syntax.w64) (Syntax.tcons (Syntax.tyInt Syntax.w64) (Syntax.tcons (Syntax.tyInt Syntax.w64) (Syntax.tcons (Syntax.tyInt
+      Syntax.w64) Syntax.tnil))))) (Syntax.tcons (Syntax.tyInt Syntax.w32) Syntax.tnil))))) Syntax.tnil) (Syntax.ttcons (Syntax.tcons (Syntax.tyStruct (115 ∷ 104
+      ∷ 101 ∷ 101 ∷ 116 ∷ 58 ∷ 58 ∷ 83 ∷ 104 ∷ 101 ∷ 101 ∷ 116 ∷ []) (Syntax.tcons (Syntax.tyStruct (115 ∷ 104 ∷ 101 ∷ 101 ∷ 116 ∷ 58 ∷ 58 ∷ 83 ∷ 116 ∷ 114 ∷ 97
+      ∷ 110 ∷ 100 ∷ []) (Syntax.tcons (Syntax.tyInt Syntax.w32) (Syntax.tcons (Syntax.tyStruct (110 ∷ 97 ∷ 109 ∷ 101 ∷ 115 ∷ 58 ∷ 58 ∷ 84 ∷ 104 ∷ 114 ∷ 101 ∷ 101
+      ∷ []) (Syntax.tcons (Syntax.tyInt Syntax.w8) (Syntax.tcons (Syntax.tyInt Syntax.w8) (Syntax.tcons (Syntax.tyInt Syntax.w8) Syntax.tnil)))) (Syntax.tcons
+      (Syntax.tyInt Syntax.w32) (Syntax.tcons (Syntax.tyStruct (114 ∷ 101 ∷ 115 ∷ 105 ∷ 100 ∷ 117 ∷ 101 ∷ 58 ∷ 58 ∷ 82 ∷ 101 ∷ 115 ∷ 105 ∷ 100 ∷ 117 ∷ 101 ∷ [])
+      (Syntax.tcons (Syntax.tyStruct (110 ∷ 97 ∷ 109 ∷ 101 ∷ 115 ∷ 58 ∷ 58 ∷ 84 ∷ 104 ∷ 114 ∷ 101 ∷ 101 ∷ []) (Syntax.tcons (Syntax.tyInt Syntax.w8)
+      (Syntax.tcons (Syntax.tyInt Syntax.w8) (Syntax.tcons (Syntax.tyInt Syntax.w8) Syntax.tnil)))) (Syntax.tcons (Syntax.tyInt Syntax.w8) (Syntax.tcons
+      (Syntax.tyStruct (102 ∷ 105 ∷ 101 ∷ 108 ∷ 100 ∷ 115 ∷ 58 ∷ 58 ∷ 82 ∷ 101 ∷ 115 ∷ 105 ∷ 100 ∷ 117 ∷ 101 ∷ 78 ∷ 117 ∷ 109 ∷ 98 ∷ 101 ∷ 114 ∷ [])
+      (Syntax.tcons (Syntax.tyInt Syntax.w32) Syntax.tnil)) (Syntax.tcons (Syntax.tyInt Syntax.w8) Syntax.tnil))))) (Syntax.tcons (Syntax.tyStruct (114 ∷ 101 ∷
+      115 ∷ 105 ∷ 100 ∷ 117 ∷ 101 ∷ 58 ∷ 58 ∷ 82 ∷ 101 ∷ 115 ∷ 105 ∷ 100 ∷ 117 ∷ 101 ∷ []) (Syntax.tcons (Syntax.tyStruct (110 ∷ 97 ∷ 109 ∷ 101 ∷ 115 ∷ 58 ∷ 58 ∷
+      84 ∷ 104 ∷ 114 ∷ 101 ∷ 101 ∷ []) (Syntax.tcons (Syntax.tyInt Syntax.w8) (Syntax.tcons (Syntax.tyInt Syntax.w8) (Syntax.tcons (Syntax.tyInt Syntax.w8)
+      Syntax.tnil)))) (Syntax.tcons (Syntax.tyInt Syntax.w8) (Syntax.tcons (Syntax.tyStruct (102 ∷ 105 ∷ 101 ∷ 108 ∷ 100 ∷ 115 ∷ 58 ∷ 58 ∷ 82 ∷ 101 ∷ 115 ∷ 105 ∷
+      100 ∷ 117 ∷ 101 ∷ 78 ∷ 117 ∷ 109 ∷ 98 ∷ 101 ∷ 114 ∷ []) (Syntax.tcons (Syntax.tyInt Syntax.w32) Syntax.tnil)) (Syntax.tcons (Syntax.tyInt Syntax.w8)
+      Syntax.tnil))))) (Syntax.tcons (Syntax.tyInt Syntax.w32) Syntax.tnil))))))) (Syntax.tcons (Syntax.tyEnum (115 ∷ 104 ∷ 101 ∷ 101 ∷ 116 ∷ 58 ∷ 58 ∷ 82 ∷ 101
+      ∷ 103 ∷ 105 ∷ 115 ∷ 116 ∷ 114 ∷ 97 ∷ 116 ∷ 105 ∷ 111 ∷ 110 ∷ []) (Syntax.ttcons Syntax.tnil (Syntax.ttcons (Syntax.tcons (Syntax.tyStruct (115 ∷ 104 ∷ 101
+      ∷ 101 ∷ 116 ∷ 58 ∷ 58 ∷ 66 ∷ 111 ∷ 110 ∷ 100 ∷ []) (Syntax.tcons (Syntax.tyStruct (110 ∷ 97 ∷ 109 ∷ 101 ∷ 115 ∷ 58 ∷ 58 ∷ 70 ∷ 111 ∷ 117 ∷ 114 ∷ [])
+      (Syntax.tcons (Syntax.tyInt Syntax.w8) (Syntax.tcons (Syntax.tyInt Syntax.w8) (Syntax.tcons (Syntax.tyInt Syntax.w8) (Syntax.tcons (Syntax.tyInt Syntax.w8)
+      Syntax.tnil))))) (Syntax.tcons (Syntax.tyStruct (114 ∷ 101 ∷ 115 ∷ 105 ∷ 100 ∷ 117 ∷ 101 ∷ 58 ∷ 58 ∷ 82 ∷ 101 ∷ 115 ∷ 105 ∷ 100 ∷ 117 ∷ 101 ∷ [])
+      (Syntax.tcons (Syntax.tyStruct (110 ∷ 97 ∷ 109 ∷ 101 ∷ 115 ∷ 58 ∷ 58 ∷ 84 ∷ 104 ∷ 114 ∷ 101 ∷ 101 ∷ []) (Syntax.tcons (Syntax.tyInt Syntax.w8)
+      (Syntax.tcons (Syntax.tyInt Syntax.w8) (Syntax.tcons (Syntax.tyInt Syntax.w8) Syntax.tnil)))) (Syntax.tcons (Syntax.tyInt Syntax.w8) (Syntax.tcons
+      (Syntax.tyStruct (102 ∷ 105 ∷ 101 ∷ 108 ∷ 100 ∷ 115 ∷ 58 ∷ 58 ∷ 82 ∷ 101 ∷ 115 ∷ 105 ∷ 100 ∷ 117 ∷ 101 ∷ 78 ∷ 117 ∷ 109 ∷ 98 ∷ 101 ∷ 114 ∷ [])
+      (Syntax.tcons (Syntax.tyInt Syntax.w32) Syntax.tnil)) (Syntax.tcons (Syntax.tyInt Syntax.w8) Syntax.tnil))))) (Syntax.tcons (Syntax.tyStruct (110 ∷ 97 ∷
+      109 ∷ 101 ∷ 115 ∷ 58 ∷ 58 ∷ 70 ∷ 111 ∷ 117 ∷ 114 ∷ []) (Syntax.tcons (Syntax.tyInt Syntax.w8) (Syntax.tcons (Syntax.tyInt Syntax.w8) (Syntax.tcons
+      (Syntax.tyInt Syntax.w8) (Syntax.tcons (Syntax.tyInt Syntax.w8) Syntax.tnil))))) (Syntax.tcons (Syntax.tyStruct (114 ∷ 101 ∷ 115 ∷ 105 ∷ 100 ∷ 117 ∷ 101 ∷
+      58 ∷ 58 ∷ 82 ∷ 101 ∷ 115 ∷ 105 ∷ 100 ∷ 117 ∷ 101 ∷ []) (Syntax.tcons (Syntax.tyStruct (110 ∷ 97 ∷ 109 ∷ 101 ∷ 115 ∷ 58 ∷ 58 ∷ 84 ∷ 104 ∷ 114 ∷ 101 ∷ 101 ∷
+      []) (Syntax.tcons (Syntax.tyInt Syntax.w8) (Syntax.tcons (Syntax.tyInt Syntax.w8) (Syntax.tcons (Syntax.tyInt Syntax.w8) Syntax.tnil)))) (Syntax.tcons
+      (Syntax.tyInt Syntax.w8) (Syntax.tcons (Syntax.tyStruct (102 ∷ 105 ∷ 101 ∷ 108 ∷ 100 ∷ 115 ∷ 58 ∷ 58 ∷ 82 ∷ 101 ∷ 115 ∷ 105 ∷ 100 ∷ 117 ∷ 101 ∷ 78 ∷ 117 ∷
+      109 ∷ 98 ∷ 101 ∷ 114 ∷ []) (Syntax.tcons (Syntax.tyInt Syntax.w32) Syntax.tnil)) (Syntax.tcons (Syntax.tyInt Syntax.w8) Syntax.tnil))))) Syntax.tnil)))))
+      Syntax.tnil) Syntax.ttnil))) Syntax.tnil))) Syntax.tnil) (Syntax.ttcons (Syntax.tcons (Syntax.tyStruct (99 ∷ 111 ∷ 110 ∷ 101 ∷ 99 ∷ 116 ∷ 58 ∷ 58 ∷ 67 ∷
+      111 ∷ 110 ∷ 101 ∷ 99 ∷ 116 ∷ []) (Syntax.tcons (Syntax.tyStruct (102 ∷ 105 ∷ 101 ∷ 108 ∷ 100 ∷ 115 ∷ 58 ∷ 58 ∷ 83 ∷ 101 ∷ 114 ∷ 105 ∷ 97 ∷ 108 ∷ [])
+      (Syntax.tcons (Syntax.tyInt Syntax.w32) Syntax.tnil)) (Syntax.tcons (Syntax.tyStruct (102 ∷ 105 ∷ 101 ∷ 108 ∷ 100 ∷ 115 ∷ 58 ∷ 58 ∷ 83 ∷ 101 ∷ 114 ∷ 105 ∷
+      97 ∷ 108 ∷ []) (Syntax.tcons (Syntax.tyInt Syntax.w32) Syntax.tnil)) (Syntax.tcons (Syntax.tyStruct (102 ∷ 105 ∷ 101 ∷ 108 ∷ 100 ∷ 115 ∷ 58 ∷ 58 ∷ 83 ∷ 101
+      ∷ 114 ∷ 105 ∷ 97 ∷ 108 ∷ []) (Syntax.tcons (Syntax.tyInt Syntax.w32) Syntax.tnil)) (Syntax.tcons (Syntax.tyStruct (102 ∷ 105 ∷ 101 ∷ 108 ∷ 100 ∷ 115 ∷ 58 ∷
+      58 ∷ 83 ∷ 101 ∷ 114 ∷ 105 ∷ 97 ∷ 108 ∷ []) (Syntax.tcons (Syntax.tyInt Syntax.w32) Syntax.tnil)) (Syntax.tcons (Syntax.tyStruct (102 ∷ 105 ∷ 101 ∷ 108 ∷
+      100 ∷ 115 ∷ 58 ∷ 58 ∷ 83 ∷ 101 ∷ 114 ∷ 105 ∷ 97 ∷ 108 ∷ []) (Syntax.tcons (Syntax.tyInt Syntax.w32) Syntax.tnil)) Syntax.tnil)))))) Syntax.tnil)
+      (Syntax.ttcons (Syntax.tcons (Syntax.tyStruct (109 ∷ 97 ∷ 115 ∷ 116 ∷ 101 ∷ 114 ∷ 58 ∷ 58 ∷ 84 ∷ 97 ∷ 108 ∷ 108 ∷ 121 ∷ []) (Syntax.tcons (Syntax.tyInt
+      Syntax.w32) (Syntax.tcons (Syntax.tyInt Syntax.w32) (Syntax.tcons (Syntax.tyInt Syntax.w32) (Syntax.tcons (Syntax.tyInt Syntax.w32) (Syntax.tcons
+      (Syntax.tyInt Syntax.w32) (Syntax.tcons (Syntax.tyInt Syntax.w32) (Syntax.tcons (Syntax.tyInt Syntax.w32) (Syntax.tcons (Syntax.tyInt Syntax.w32)
+      (Syntax.tcons (Syntax.tyInt Syntax.w32) Syntax.tnil)))))))))) Syntax.tnil) (Syntax.ttcons Syntax.tnil (Syntax.ttcons (Syntax.tcons (Syntax.tyStruct (109 ∷
+      111 ∷ 100 ∷ 101 ∷ 108 ∷ 58 ∷ 58 ∷ 77 ∷ 111 ∷ 100 ∷ 101 ∷ 108 ∷ []) (Syntax.tcons (Syntax.tyInt Syntax.w32) Syntax.tnil)) Syntax.tnil) (Syntax.ttcons
+      Syntax.tnil Syntax.ttnil)))))))))) Syntax.tnil) Syntax.ttnil))))),
+) ∷ (9, Rows.any-gone Syntax.tyBool) ∷ (10, Rows.any-gone (Syntax.tyInt Syntax.w64)) ∷
+    (11, Rows.any-gone (Syntax.tyInt Syntax.w64)) ∷ (12, Rows.any-gone (Syntax.tyInt Syntax.w64)) ∷ (13, Rows.any-gone Syntax.tyBool) ∷ (
+      14,
+      Rows.any-gone
+          (Syntax.tyRef Syntax.erased Syntax.mut SlotAs.pointee),
+    ) ∷ (
+      15,
+      Rows.any-gone (Syntax.tyStruct (38 ∷ 91 ∷ 93 ∷ []) (Syntax.tcons (Syntax.tyRef Syntax.erased
+          Syntax.mut SlotAs.pointee) (Syntax.tcons (Syntax.tyInt Syntax.w64) Syntax.tnil))),
+    ) ∷ []
+
+abbrev pub t3 : List.List Row.Entry
+t3 = (
+  0,
+  Rows.any-gone (Syntax.tyStruct (115 ∷ 116 ∷ 111 ∷ 114 ∷ 101 ∷ 58 ∷ 58 ∷ 79 ∷ 117 ∷ 116 ∷ 99 ∷ 111 ∷ 109 ∷ 101 ∷ []) (Syntax.tcons (Syntax.tyInt
+      Syntax.w8) (Syntax.tcons (Syntax.tyInt Syntax.w64) Syntax.tnil))),
+) ∷ (
+  1,
+  Rows.sslice (Referent.rtF (Referent.fInt Syntax.w8)) (Syntax.tyRef (Syntax.named
+      0) Syntax.imm (Syntax.tyInt Syntax.w8)) 0,
+) ∷ (2, Mut.mslice SlotAs.row (Syntax.tyRef (Syntax.named 1) Syntax.mut SlotAs.pointee) 1) ∷ (
+  3,
+  Rows.whole
+      (Declared'.row Needs.the-type),
+) ∷ (4, Rows.any-gone (Syntax.tyInt Syntax.w64)) ∷ (5, Rows.any-gone (Syntax.tyInt Syntax.w64)) ∷ (
+  6,
+  Rows.any-gone
+      (Syntax.tyInt Syntax.w64),
+) ∷ (7, Rows.any-gone (Syntax.tyInt Syntax.w32)) ∷ (
+  8,
+  Rows.any-gone (Syntax.tyEnum (112 ∷ 105 ∷ 101 ∷ 99 ∷ 101 ∷ 115 ∷ 58 ∷ 58 ∷
+      76 ∷ 105 ∷ 110 ∷ 101 ∷ []) (Syntax.ttcons (Syntax.tcons (Syntax.tyInt Syntax.w8) Syntax.tnil) (Syntax.ttcons (Syntax.tcons (Syntax.tyEnum (107 ∷ 105 ∷ 110
+      ∷ 100 ∷ 115 ∷ 58 ∷ 58 ∷ 75 ∷ 105 ∷ 110 ∷ 100 ∷ []) (Syntax.ttcons Syntax.tnil (Syntax.ttcons Syntax.tnil (Syntax.ttcons Syntax.tnil (Syntax.ttcons
+      Syntax.tnil (Syntax.ttcons Syntax.tnil (Syntax.ttcons Syntax.tnil (Syntax.ttcons Syntax.tnil (Syntax.ttcons Syntax.tnil (Syntax.ttcons Syntax.tnil
+      (Syntax.ttcons Syntax.tnil (Syntax.ttcons Syntax.tnil (Syntax.ttcons Syntax.tnil (Syntax.ttcons Syntax.tnil (Syntax.ttcons Syntax.tnil (Syntax.ttcons
+      Syntax.tnil (Syntax.ttcons Syntax.tnil (Syntax.ttcons Syntax.tnil (Syntax.ttcons Syntax.tnil (Syntax.ttcons Syntax.tnil (Syntax.ttcons Syntax.tnil
+      (Syntax.ttcons Syntax.tnil (Syntax.ttcons Syntax.tnil (Syntax.ttcons Syntax.tnil (Syntax.ttcons Syntax.tnil (Syntax.ttcons Syntax.tnil (Syntax.ttcons
+      Syntax.tnil (Syntax.ttcons Syntax.tnil (Syntax.ttcons Syntax.tnil (Syntax.ttcons Syntax.tnil (Syntax.ttcons Syntax.tnil
+      Syntax.ttnil))))))))))))))))))))))))))))))) (Syntax.tcons (Syntax.tyInt Syntax.w32) Syntax.tnil)) (Syntax.ttcons (Syntax.tcons (Syntax.tyEnum (107 ∷ 105 ∷
+      110 ∷ 100 ∷ 115 ∷ 58 ∷ 58 ∷ 75 ∷ 105 ∷ 110 ∷ 100 ∷ []) (Syntax.ttcons Syntax.tnil (Syntax.ttcons Syntax.tnil (Syntax.ttcons Syntax.tnil (Syntax.ttcons
+      Syntax.tnil (Syntax.ttcons Syntax.tnil (Syntax.ttcons Syntax.tnil (Syntax.ttcons Syntax.tnil (Syntax.ttcons Syntax.tnil (Syntax.ttcons Syntax.tnil
+      (Syntax.ttcons Syntax.tnil (Syntax.ttcons Syntax.tnil (Syntax.ttcons Syntax.tnil (Syntax.ttcons Syntax.tnil (Syntax.ttcons Syntax.tnil (Syntax.ttcons
+      Syntax.tnil (Syntax.ttcons Syntax.tnil (Syntax.ttcons Syntax.tnil (Syntax.ttcons Syntax.tnil (Syntax.ttcons Syntax.tnil (Syntax.ttcons Syntax.tnil
+      (Syntax.ttcons Syntax.tnil (Syntax.ttcons Syntax.tnil (Syntax.ttcons Syntax.tnil (Syntax.ttcons Syntax.tnil (Syntax.ttcons Syntax.tnil (Syntax.ttcons
+      Syntax.tnil (Syntax.ttcons Syntax.tnil (Syntax.ttcons Syntax.tnil (Syntax.ttcons Syntax.tnil (Syntax.ttcons Syntax.tnil
+      Syntax.ttnil))))))))))))))))))))))))))))))) Syntax.tnil) (Syntax.ttcons (Syntax.tcons (Syntax.tyEnum (108 ∷ 105 ∷ 110 ∷ 101 ∷ 58 ∷ 58 ∷ 82 ∷ 101 ∷ 99 ∷ 111
+      ∷ 114 ∷ 100 ∷ []) (Syntax.ttcons (Syntax.tcons Syntax.tyBool (Syntax.tcons (Syntax.tyStruct (99 ∷ 111 ∷ 111 ∷ 114 ∷ 100 ∷ 105 ∷ 110 ∷ 97 ∷ 116 ∷ 101 ∷ 58 ∷
+      58 ∷ 65 ∷ 116 ∷ 111 ∷ 109 ∷ []) (Syntax.tcons (Syntax.tyStruct (99 ∷ 111 ∷ 111 ∷ 114 ∷ 100 ∷ 105 ∷ 110 ∷ 97 ∷ 116 ∷ 101 ∷ 58 ∷ 58 ∷ 73 ∷ 100 ∷ 101 ∷ 110 ∷
+      116 ∷ 105 ∷ 116 ∷ 121 ∷ []) (Syntax.tcons (Syntax.tyStruct (102 ∷ 105 ∷ 101 ∷ 108 ∷ 100 ∷ 115 ∷ 58 ∷ 58 ∷ 83 ∷ 101 ∷ 114 ∷ 105 ∷ 97 ∷ 108 ∷ [])
+      (Syntax.tcons (Syntax.tyInt Syntax.w32) Syntax.tnil)) (Syntax.tcons (Syntax.tyStruct (110 ∷ 97 ∷ 109 ∷ 101 ∷ 115 ∷ 58 ∷ 58 ∷ 70 ∷ 111 ∷ 117 ∷ 114 ∷ [])
+      (Syntax.tcons (Syntax.tyInt Syntax.w8) (Syntax.tcons (Syntax.tyInt Syntax.w8) (Syntax.tcons (Syntax.tyInt Syntax.w8) (Syntax.tcons (Syntax.tyInt Syntax.w8)
+      Syntax.tnil))))) (Syntax.tcons (Syntax.tyInt Syntax.w8) (Syntax.tcons (Syntax.tyStruct (114 ∷ 101 ∷ 115 ∷ 105 ∷ 100 ∷ 117 ∷ 101 ∷ 58 ∷ 58 ∷ 82 ∷ 101 ∷ 115
+      ∷ 105 ∷ 100 ∷ 117 ∷ 101 ∷ []) (Syntax.tcons (Syntax.tyStruct (110 ∷ 97 ∷ 109 ∷ 101 ∷ 115 ∷ 58 ∷ 58 ∷ 84 ∷ 104 ∷ 114 ∷ 101 ∷ 101 ∷ []) (Syntax.tcons
+      (Syntax.tyInt Syntax.w8) (Syntax.tcons (Syntax.tyInt Syntax.w8) (Syntax.tcons (Syntax.tyInt Syntax.w8) Syntax.tnil)))) (Syntax.tcons (Syntax.tyInt
+      Syntax.w8) (Syntax.tcons (Syntax.tyStruct (102 ∷ 105 ∷ 101 ∷ 108 ∷ 100 ∷ 115 ∷ 58 ∷ 58 ∷ 82 ∷ 101 ∷ 115 ∷ 105 ∷ 100 ∷ 117 ∷ 101 ∷ 78 ∷ 117 ∷ 109 ∷ 98 ∷ 101
+      ∷ 114 ∷ []) (Syntax.tcons (Syntax.tyInt Syntax.w32) Syntax.tnil)) (Syntax.tcons (Syntax.tyInt Syntax.w8) Syntax.tnil))))) Syntax.tnil))))) (Syntax.tcons
+      (Syntax.tyStruct (99 ∷ 111 ∷ 111 ∷ 114 ∷ 100 ∷ 105 ∷ 110 ∷ 97 ∷ 116 ∷ 101 ∷ 58 ∷ 58 ∷ 77 ∷ 101 ∷ 97 ∷ 115 ∷ 117 ∷ 114 ∷ 101 ∷ []) (Syntax.tcons
+      (Syntax.tyStruct (99 ∷ 111 ∷ 111 ∷ 114 ∷ 100 ∷ 105 ∷ 110 ∷ 97 ∷ 116 ∷ 101 ∷ 58 ∷ 58 ∷ 80 ∷ 111 ∷ 115 ∷ 105 ∷ 116 ∷ 105 ∷ 111 ∷ 110 ∷ []) (Syntax.tcons
+      (Syntax.tyInt Syntax.w32) (Syntax.tcons (Syntax.tyInt Syntax.w32) (Syntax.tcons (Syntax.tyInt Syntax.w32) Syntax.tnil)))) (Syntax.tcons (Syntax.tyInt
+      Syntax.w32) (Syntax.tcons (Syntax.tyInt Syntax.w32) Syntax.tnil)))) (Syntax.tcons (Syntax.tyStruct (99 ∷ 111 ∷ 111 ∷ 114 ∷ 100 ∷ 105 ∷ 110 ∷ 97 ∷ 116 ∷ 101
+      ∷ 58 ∷ 58 ∷ 83 ∷ 112 ∷ 101 ∷ 99 ∷ 105 ∷ 101 ∷ 115 ∷ []) (Syntax.tcons (Syntax.tyStruct (110 ∷ 97 ∷ 109 ∷ 101 ∷ 115 ∷ 58 ∷ 58 ∷ 80 ∷ 97 ∷ 105 ∷ 114 ∷ [])
+      (Syntax.tcons (Syntax.tyInt Syntax.w8) (Syntax.tcons (Syntax.tyInt Syntax.w8) Syntax.tnil))) (Syntax.tcons (Syntax.tyStruct (110 ∷ 97 ∷ 109 ∷ 101 ∷ 115 ∷
+      58 ∷ 58 ∷ 80 ∷ 97 ∷ 105 ∷ 114 ∷ []) (Syntax.tcons (Syntax.tyInt Syntax.w8) (Syntax.tcons (Syntax.tyInt Syntax.w8) Syntax.tnil))) Syntax.tnil)))
+      Syntax.tnil)))) Syntax.tnil)) (Syntax.ttcons (Syntax.tcons (Syntax.tyStruct (116 ∷ 101 ∷ 114 ∷ 58 ∷ 58 ∷ 84 ∷ 101 ∷ 114 ∷ []) (Syntax.tcons
+      (Syntax.tyStruct (102 ∷ 105 ∷ 101 ∷ 108 ∷ 100 ∷ 115 ∷ 58 ∷ 58 ∷ 83 ∷ 101 ∷ 114 ∷ 105 ∷ 97 ∷ 108 ∷ []) (Syntax.tcons (Syntax.tyInt Syntax.w32) Syntax.tnil))
+      (Syntax.tcons (Syntax.tyStruct (114 ∷ 101 ∷ 115 ∷ 105 ∷ 100 ∷ 117 ∷ 101 ∷ 58 ∷ 58 ∷ 82 ∷ 101 ∷ 115 ∷ 105 ∷ 100 ∷ 117 ∷ 101 ∷ []) (Syntax.tcons
+      (Syntax.tyStruct (110 ∷ 97 ∷ 109 ∷ 101 ∷ 115 ∷ 58 ∷ 58 ∷ 84 ∷ 104 ∷ 114 ∷ 101 ∷ 101 ∷ []) (Syntax.tcons (Syntax.tyInt Syntax.w8) (Syntax.tcons
+      (Syntax.tyInt Syntax.w8) (Syntax.tcons (Syntax.tyInt Syntax.w8) Syntax.tnil)))) (Syntax.tcons (Syntax.tyInt Syntax.w8) (Syntax.tcons (Syntax.tyStruct (102
+      ∷ 105 ∷ 101 ∷ 108 ∷ 100 ∷ 115 ∷ 58 ∷ 58 ∷ 82 ∷ 101 ∷ 115 ∷ 105 ∷ 100 ∷ 117 ∷ 101 ∷ 78 ∷ 117 ∷ 109 ∷ 98 ∷ 101 ∷ 114 ∷ []) (Syntax.tcons (Syntax.tyInt
+      Syntax.w32) Syntax.tnil)) (Syntax.tcons (Syntax.tyInt Syntax.w8) Syntax.tnil))))) Syntax.tnil))) Syntax.tnil) (Syntax.ttcons (Syntax.tcons (Syntax.tyStruct
+      (104 ∷ 101 ∷ 108 ∷ 105 ∷ 120 ∷ 58 ∷ 58 ∷ 72 ∷ 101 ∷ 108 ∷ 105 ∷ 120 ∷ []) (Syntax.tcons (Syntax.tyStruct (104 ∷ 101 ∷ 108 ∷ 105 ∷ 120 ∷ 58 ∷ 58 ∷ 69 ∷ 120
+      ∷ 116 ∷ 101 ∷ 110 ∷ 116 ∷ []) (Syntax.tcons (Syntax.tyInt Syntax.w32) (Syntax.tcons (Syntax.tyStruct (110 ∷ 97 ∷ 109 ∷ 101 ∷ 115 ∷ 58 ∷ 58 ∷ 84 ∷ 104 ∷ 114
+      ∷ 101 ∷ 101 ∷ []) (Syntax.tcons (Syntax.tyInt Syntax.w8) (Syntax.tcons (Syntax.tyInt Syntax.w8) (Syntax.tcons (Syntax.tyInt Syntax.w8) Syntax.tnil))))
+      (Syntax.tcons (Syntax.tyStruct (114 ∷ 101 ∷ 115 ∷ 105 ∷ 100 ∷ 117 ∷ 101 ∷ 58 ∷ 58 ∷ 82 ∷ 101 ∷ 115 ∷ 105 ∷ 100 ∷ 117 ∷ 101 ∷ []) (Syntax.tcons
+      (Syntax.tyStruct (110 ∷ 97 ∷ 109 ∷ 101 ∷ 115 ∷ 58 ∷ 58 ∷ 84 ∷ 104 ∷ 114 ∷ 101 ∷ 101 ∷ []) (Syntax.tcons (Syntax.tyInt Syntax.w8) (Syntax.tcons
+      (Syntax.tyInt Syntax.w8) (Syntax.tcons (Syntax.tyInt Syntax.w8) Syntax.tnil)))) (Syntax.tcons (Syntax.tyInt Syntax.w8) (Syntax.tcons (Syntax.tyStruct (102
+      ∷ 105 ∷ 101 ∷ 108 ∷ 100 ∷ 115 ∷ 58 ∷ 58 ∷ 82 ∷ 101 ∷ 115 ∷ 105 ∷ 100 ∷ 117 ∷ 101 ∷ 78 ∷ 117 ∷ 109 ∷ 98 ∷ 101 ∷ 114 ∷ []) (Syntax.tcons (Syntax.tyInt
+      Syntax.w32) Syntax.tnil)) (Syntax.tcons (Syntax.tyInt Syntax.w8) Syntax.tnil))))) (Syntax.tcons (Syntax.tyStruct (114 ∷ 101 ∷ 115 ∷ 105 ∷ 100 ∷ 117 ∷ 101 ∷
+      58 ∷ 58 ∷ 82 ∷ 101 ∷ 115 ∷ 105 ∷ 100 ∷ 117 ∷ 101 ∷ []) (Syntax.tcons (Syntax.tyStruct (110 ∷ 97 ∷ 109 ∷ 101 ∷ 115 ∷ 58 ∷ 58 ∷ 84 ∷ 104 ∷ 114 ∷ 101 ∷ 101 ∷
+      []) (Syntax.tcons (Syntax.tyInt Syntax.w8) (Syntax.tcons (Syntax.tyInt Syntax.w8) (Syntax.tcons (Syntax.tyInt Syntax.w8) Syntax.tnil)))) (Syntax.tcons
+      (Syntax.tyInt Syntax.w8) (Syntax.tcons (Syntax.tyStruct (102 ∷ 105 ∷ 101 ∷ 108 ∷ 100 ∷ 115 ∷ 58 ∷ 58 ∷ 82 ∷ 101 ∷ 115 ∷ 105 ∷ 100 ∷ 117 ∷ 101 ∷ 78 ∷ 117 ∷
+      109 ∷ 98 ∷ 101 ∷ 114 ∷ []) (Syntax.tcons (Syntax.tyInt Syntax.w32) Syntax.tnil)) (Syntax.tcons (Syntax.tyInt Syntax.w8) Syntax.tnil))))) Syntax.tnil)))))
+      (Syntax.tcons (Syntax.tyInt Syntax.w32) (Syntax.tcons (Syntax.tyStruct (104 ∷ 101 ∷ 108 ∷ 105 ∷ 120 ∷ 58 ∷ 58 ∷ 67 ∷ 111 ∷ 109 ∷ 109 ∷ 101 ∷ 110 ∷ 116 ∷
+      []) (Syntax.tcons (Syntax.tyInt Syntax.w64) (Syntax.tcons (Syntax.tyInt Syntax.w64) (Syntax.tcons (Syntax.tyInt Syntax.w64) (Syntax.tcons (Syntax.tyInt
+      Syntax.w64) Syntax.tnil))))) (Syntax.tcons (Syntax.tyInt Syntax.w32) Syntax.tnil))))) Syntax.tnil) (Syntax.ttcons (Syntax.tcons (Syntax.tyStruct (115 ∷ 104
+      ∷ 101 ∷ 101 ∷ 116 ∷ 58 ∷ 58 ∷ 83 ∷ 104 ∷ 101 ∷ 101 ∷ 116 ∷ []) (Syntax.tcons (Syntax.tyStruct (115 ∷ 104 ∷ 101 ∷ 101 ∷ 116 ∷ 58 ∷ 58 ∷ 83 ∷ 116 ∷ 114 ∷ 97
+      ∷ 110 ∷ 100 ∷ []) (Syntax.tcons (Syntax.tyInt Syntax.w32) (Syntax.tcons (Syntax.tyStruct (110 ∷ 97 ∷ 109 ∷ 101 ∷ 115 ∷ 58 ∷ 58 ∷ 84 ∷ 104 ∷ 114 ∷ 101 ∷ 101
+      ∷ []) (Syntax.tcons (Syntax.tyInt Syntax.w8) (Syntax.tcons (Syntax.tyInt Syntax.w8) (Syntax.tcons (Syntax.tyInt Syntax.w8) Syntax.tnil)))) (Syntax.tcons
+      (Syntax.tyInt Syntax.w32) (Syntax.tcons (Syntax.tyStruct (114 ∷ 101 ∷ 115 ∷ 105 ∷ 100 ∷ 117 ∷ 101 ∷ 58 ∷ 58 ∷ 82 ∷ 101 ∷ 115 ∷ 105 ∷ 100 ∷ 117 ∷ 101 ∷ [])
+      (Syntax.tcons (Syntax.tyStruct (110 ∷ 97 ∷ 109 ∷ 101 ∷ 115 ∷ 58 ∷ 58 ∷ 84 ∷ 104 ∷ 114 ∷ 101 ∷ 101 ∷ []) (Syntax.tcons (Syntax.tyInt Syntax.w8)
+      (Syntax.tcons (Syntax.tyInt Syntax.w8) (Syntax.tcons (Syntax.tyInt Syntax.w8) Syntax.tnil)))) (Syntax.tcons (Syntax.tyInt Syntax.w8) (Syntax.tcons
+      (Syntax.tyStruct (102 ∷ 105 ∷ 101 ∷ 108 ∷ 100 ∷ 115 ∷ 58 ∷ 58 ∷ 82 ∷ 101 ∷ 115 ∷ 105 ∷ 100 ∷ 117 ∷ 101 ∷ 78 ∷ 117 ∷ 109 ∷ 98 ∷ 101 ∷ 114 ∷ [])
+      (Syntax.tcons (Syntax.tyInt Syntax.w32) Syntax.tnil)) (Syntax.tcons (Syntax.tyInt Syntax.w8) Syntax.tnil))))) (Syntax.tcons (Syntax.tyStruct (114 ∷ 101 ∷
+      115 ∷ 105 ∷ 100 ∷ 117 ∷ 101 ∷ 58 ∷ 58 ∷ 82 ∷ 101 ∷ 115 ∷ 105 ∷ 100 ∷ 117 ∷ 101 ∷ []) (Syntax.tcons (Syntax.tyStruct (110 ∷ 97 ∷ 109 ∷ 101 ∷ 115 ∷ 58 ∷ 58 ∷
+      84 ∷ 104 ∷ 114 ∷ 101 ∷ 101 ∷ []) (Syntax.tcons (Syntax.tyInt Syntax.w8) (Syntax.tcons (Syntax.tyInt Syntax.w8) (Syntax.tcons (Syntax.tyInt Syntax.w8)
+      Syntax.tnil)))) (Syntax.tcons (Syntax.tyInt Syntax.w8) (Syntax.tcons (Syntax.tyStruct (102 ∷ 105 ∷ 101 ∷ 108 ∷ 100 ∷ 115 ∷ 58 ∷ 58 ∷ 82 ∷ 101 ∷ 115 ∷ 105 ∷
+      100 ∷ 117 ∷ 101 ∷ 78 ∷ 117 ∷ 109 ∷ 98 ∷ 101 ∷ 114 ∷ []) (Syntax.tcons (Syntax.tyInt Syntax.w32) Syntax.tnil)) (Syntax.tcons (Syntax.tyInt Syntax.w8)
+      Syntax.tnil))))) (Syntax.tcons (Syntax.tyInt Syntax.w32) Syntax.tnil))))))) (Syntax.tcons (Syntax.tyEnum (115 ∷ 104 ∷ 101 ∷ 101 ∷ 116 ∷ 58 ∷ 58 ∷ 82 ∷ 101
+      ∷ 103 ∷ 105 ∷ 115 ∷ 116 ∷ 114 ∷ 97 ∷ 116 ∷ 105 ∷ 111 ∷ 110 ∷ []) (Syntax.ttcons Syntax.tnil (Syntax.ttcons (Syntax.tcons (Syntax.tyStruct (115 ∷ 104 ∷ 101
+      ∷ 101 ∷ 116 ∷ 58 ∷ 58 ∷ 66 ∷ 111 ∷ 110 ∷ 100 ∷ []) (Syntax.tcons (Syntax.tyStruct (110 ∷ 97 ∷ 109 ∷ 101 ∷ 115 ∷ 58 ∷ 58 ∷ 70 ∷ 111 ∷ 117 ∷ 114 ∷ [])
+      (Syntax.tcons (Syntax.tyInt Syntax.w8) (Syntax.tcons (Syntax.tyInt Syntax.w8) (Syntax.tcons (Syntax.tyInt Syntax.w8) (Syntax.tcons (Syntax.tyInt Syntax.w8)
+      Syntax.tnil))))) (Syntax.tcons (Syntax.tyStruct (114 ∷ 101 ∷ 115 ∷ 105 ∷ 100 ∷ 117 ∷ 101 ∷ 58 ∷ 58 ∷ 82 ∷ 101 ∷ 115 ∷ 105 ∷ 100 ∷ 117 ∷ 101 ∷ [])
+      (Syntax.tcons (Syntax.tyStruct (110 ∷ 97 ∷ 109 ∷ 101 ∷ 115 ∷ 58 ∷ 58 ∷ 84 ∷ 104 ∷ 114 ∷ 101 ∷ 101 ∷ []) (Syntax.tcons (Syntax.tyInt Syntax.w8)
+      (Syntax.tcons (Syntax.tyInt Syntax.w8) (Syntax.tcons (Syntax.tyInt Syntax.w8) Syntax.tnil)))) (Syntax.tcons (Syntax.tyInt Syntax.w8) (Syntax.tcons
+      (Syntax.tyStruct (102 ∷ 105 ∷ 101 ∷ 108 ∷ 100 ∷ 115 ∷ 58 ∷ 58 ∷ 82 ∷ 101 ∷ 115 ∷ 105 ∷ 100 ∷ 117 ∷ 101 ∷ 78 ∷ 117 ∷ 109 ∷ 98 ∷ 101 ∷ 114 ∷ [])
+      (Syntax.tcons (Syntax.tyInt Syntax.w32) Syntax.tnil)) (Syntax.tcons (Syntax.tyInt Syntax.w8) Syntax.tnil))))) (Syntax.tcons (Syntax.tyStruct (110 ∷ 97 ∷
+      109 ∷ 101 ∷ 115 ∷ 58 ∷ 58 ∷ 70 ∷ 111 ∷ 117 ∷ 114 ∷ []) (Syntax.tcons (Syntax.tyInt Syntax.w8) (Syntax.tcons (Syntax.tyInt Syntax.w8) (Syntax.tcons
+      (Syntax.tyInt Syntax.w8) (Syntax.tcons (Syntax.tyInt Syntax.w8) Syntax.tnil))))) (Syntax.tcons (Syntax.tyStruct (114 ∷ 101 ∷ 115 ∷ 105 ∷ 100 ∷ 117 ∷ 101 ∷
+      58 ∷ 58 ∷ 82 ∷ 101 ∷ 115 ∷ 105 ∷ 100 ∷ 117 ∷ 101 ∷ []) (Syntax.tcons (Syntax.tyStruct (110 ∷ 97 ∷ 109 ∷ 101 ∷ 115 ∷ 58 ∷ 58 ∷ 84 ∷ 104 ∷ 114 ∷ 101 ∷ 101 ∷
+      []) (Syntax.tcons (Syntax.tyInt Syntax.w8) (Syntax.tcons (Syntax.tyInt Syntax.w8) (Syntax.tcons (Syntax.tyInt Syntax.w8) Syntax.tnil)))) (Syntax.tcons
+      (Syntax.tyInt Syntax.w8) (Syntax.tcons (Syntax.tyStruct (102 ∷ 105 ∷ 101 ∷ 108 ∷ 100 ∷ 115 ∷ 58 ∷ 58 ∷ 82 ∷ 101 ∷ 115 ∷ 105 ∷ 100 ∷ 117 ∷ 101 ∷ 78 ∷ 117 ∷
+      109 ∷ 98 ∷ 101 ∷ 114 ∷ []) (Syntax.tcons (Syntax.tyInt Syntax.w32) Syntax.tnil)) (Syntax.tcons (Syntax.tyInt Syntax.w8) Syntax.tnil))))) Syntax.tnil)))))
+      Syntax.tnil) Syntax.ttnil))) Syntax.tnil))) Syntax.tnil) (Syntax.ttcons (Syntax.tcons (Syntax.tyStruct (99 ∷ 111 ∷ 110 ∷ 101 ∷ 99 ∷ 116 ∷ 58 ∷ 58 ∷ 67 ∷
+      111 ∷ 110 ∷ 101 ∷ 99 ∷ 116 ∷ []) (Syntax.tcons (Syntax.tyStruct (102 ∷ 105 ∷ 101 ∷ 108 ∷ 100 ∷ 115 ∷ 58 ∷ 58 ∷ 83 ∷ 101 ∷ 114 ∷ 105 ∷ 97 ∷ 108 ∷ [])
+      (Syntax.tcons (Syntax.tyInt Syntax.w32) Syntax.tnil)) (Syntax.tcons (Syntax.tyStruct (102 ∷ 105 ∷ 101 ∷ 108 ∷ 100 ∷ 115 ∷ 58 ∷ 58 ∷ 83 ∷ 101 ∷ 114 ∷ 105 ∷
+      97 ∷ 108 ∷ []) (Syntax.tcons (Syntax.tyInt Syntax.w32) Syntax.tnil)) (Syntax.tcons (Syntax.tyStruct (102 ∷ 105 ∷ 101 ∷ 108 ∷ 100 ∷ 115 ∷ 58 ∷ 58 ∷ 83 ∷ 101
+      ∷ 114 ∷ 105 ∷ 97 ∷ 108 ∷ []) (Syntax.tcons (Syntax.tyInt Syntax.w32) Syntax.tnil)) (Syntax.tcons (Syntax.tyStruct (102 ∷ 105 ∷ 101 ∷ 108 ∷ 100 ∷ 115 ∷ 58 ∷
+      58 ∷ 83 ∷ 101 ∷ 114 ∷ 105 ∷ 97 ∷ 108 ∷ []) (Syntax.tcons (Syntax.tyInt Syntax.w32) Syntax.tnil)) (Syntax.tcons (Syntax.tyStruct (102 ∷ 105 ∷ 101 ∷ 108 ∷
+      100 ∷ 115 ∷ 58 ∷ 58 ∷ 83 ∷ 101 ∷ 114 ∷ 105 ∷ 97 ∷ 108 ∷ []) (Syntax.tcons (Syntax.tyInt Syntax.w32) Syntax.tnil)) Syntax.tnil)))))) Syntax.tnil)
+      (Syntax.ttcons (Syntax.tcons (Syntax.tyStruct (109 ∷ 97 ∷ 115 ∷ 116 ∷ 101 ∷ 114 ∷ 58 ∷ 58 ∷ 84 ∷ 97 ∷ 108 ∷ 108 ∷ 121 ∷ []) (Syntax.tcons (Syntax.tyInt
+      Syntax.w32) (Syntax.tcons (Syntax.tyInt Syntax.w32) (Syntax.tcons (Syntax.tyInt Syntax.w32) (Syntax.tcons (Syntax.tyInt Syntax.w32) (Syntax.tcons
+      (Syntax.tyInt Syntax.w32) (Syntax.tcons (Syntax.tyInt Syntax.w32) (Syntax.tcons (Syntax.tyInt Syntax.w32) (Syntax.tcons (Syntax.tyInt Syntax.w32)
+      (Syntax.tcons (Syntax.tyInt Syntax.w32) Syntax.tnil)))))))))) Syntax.tnil) (Syntax.ttcons Syntax.tnil (Syntax.ttcons (Syntax.tcons (Syntax.tyStruct (109 ∷
+      111 ∷ 100 ∷ 101 ∷ 108 ∷ 58 ∷ 58 ∷ 77 ∷ 111 ∷ 100 ∷ 101 ∷ 108 ∷ []) (Syntax.tcons (Syntax.tyInt Syntax.w32) Syntax.tnil)) Syntax.tnil) (Syntax.ttcons
+      Syntax.tnil Syntax.ttnil)))))))))) Syntax.tnil) Syntax.ttnil))))),
+) ∷ (9, Rows.sc-here Row.sBool) ∷ (10, Rows.any-gone (Syntax.tyInt Syntax.w64)) ∷ (
   11,
   Rows.any-gone (Syntax.tyInt Syntax.w64),
-) ∷ (12, Rows.any-gone Syntax.tyBool) ∷ (13, Rows.any-gone (Syntax.tyRef Syntax.erased Syntax.mut SlotAs.pointee)) ∷ (
+) ∷ (12, Rows.any-gone (Syntax.tyInt Syntax.w64)) ∷ (13, Rows.any-gone Syntax.tyBool) ∷ (
   14,
+  Rows.any-gone
+      (Syntax.tyRef Syntax.erased Syntax.mut SlotAs.pointee),
+) ∷ (
+  15,
+  Rows.any-gone (Syntax.tyStruct (38 ∷ 91 ∷ 93 ∷ []) (Syntax.tcons (Syntax.tyRef Syntax.erased
+      Syntax.mut SlotAs.pointee) (Syntax.tcons (Syntax.tyInt Syntax.w64) Syntax.tnil))),
+) ∷ []
+
+abbrev pub t4 : List.List Row.Entry
+t4 = (0, Rows.whole (Declared'.row (Apart.apartT Outcome.the-type))) ∷ (
+  1,
+  Rows.sslice (Referent.rtF (Referent.fInt Syntax.w8)) (Syntax.tyRef (Syntax.named 0)
+      Syntax.imm (Syntax.tyInt Syntax.w8)) 0,
+) ∷ (2, Mut.mslice SlotAs.row (Syntax.tyRef (Syntax.named 1) Syntax.mut SlotAs.pointee) 1) ∷ (
+  3,
+  Rows.whole
+      (Declared'.row Needs.the-type),
+) ∷ (4, Rows.any-gone (Syntax.tyInt Syntax.w64)) ∷ (5, Rows.any-gone (Syntax.tyInt Syntax.w64)) ∷ (
+  6,
+  Rows.any-gone
+      (Syntax.tyInt Syntax.w64),
+) ∷ (7, Rows.any-gone (Syntax.tyInt Syntax.w32)) ∷ (
+  8,
+  Rows.any-gone (Syntax.tyEnum (112 ∷ 105 ∷ 101 ∷ 99 ∷ 101 ∷ 115 ∷ 58 ∷ 58 ∷
+      76 ∷ 105 ∷ 110 ∷ 101 ∷ []) (Syntax.ttcons (Syntax.tcons (Syntax.tyInt Syntax.w8) Syntax.tnil) (Syntax.ttcons (Syntax.tcons (Syntax.tyEnum (107 ∷ 105 ∷ 110
+      ∷ 100 ∷ 115 ∷ 58 ∷ 58 ∷ 75 ∷ 105 ∷ 110 ∷ 100 ∷ []) (Syntax.ttcons Syntax.tnil (Syntax.ttcons Syntax.tnil (Syntax.ttcons Syntax.tnil (Syntax.ttcons
+      Syntax.tnil (Syntax.ttcons Syntax.tnil (Syntax.ttcons Syntax.tnil (Syntax.ttcons Syntax.tnil (Syntax.ttcons Syntax.tnil (Syntax.ttcons Syntax.tnil
+      (Syntax.ttcons Syntax.tnil (Syntax.ttcons Syntax.tnil (Syntax.ttcons Syntax.tnil (Syntax.ttcons Syntax.tnil (Syntax.ttcons Syntax.tnil (Syntax.ttcons
+      Syntax.tnil (Syntax.ttcons Syntax.tnil (Syntax.ttcons Syntax.tnil (Syntax.ttcons Syntax.tnil (Syntax.ttcons Syntax.tnil (Syntax.ttcons Syntax.tnil
+      (Syntax.ttcons Syntax.tnil (Syntax.ttcons Syntax.tnil (Syntax.ttcons Syntax.tnil (Syntax.ttcons Syntax.tnil (Syntax.ttcons Syntax.tnil (Syntax.ttcons
+      Syntax.tnil (Syntax.ttcons Syntax.tnil (Syntax.ttcons Syntax.tnil (Syntax.ttcons Syntax.tnil (Syntax.ttcons Syntax.tnil
+      Syntax.ttnil))))))))))))))))))))))))))))))) (Syntax.tcons (Syntax.tyInt Syntax.w32) Syntax.tnil)) (Syntax.ttcons (Syntax.tcons (Syntax.tyEnum (107 ∷ 105 ∷
+      110 ∷ 100 ∷ 115 ∷ 58 ∷ 58 ∷ 75 ∷ 105 ∷ 110 ∷ 100 ∷ []) (Syntax.ttcons Syntax.tnil (Syntax.ttcons Syntax.tnil (Syntax.ttcons Syntax.tnil (Syntax.ttcons
+      Syntax.tnil (Syntax.ttcons Syntax.tnil (Syntax.ttcons Syntax.tnil (Syntax.ttcons Syntax.tnil (Syntax.ttcons Syntax.tnil (Syntax.ttcons Syntax.tnil
+      (Syntax.ttcons Syntax.tnil (Syntax.ttcons Syntax.tnil (Syntax.ttcons Syntax.tnil (Syntax.ttcons Syntax.tnil (Syntax.ttcons Syntax.tnil (Syntax.ttcons
+      Syntax.tnil (Syntax.ttcons Syntax.tnil (Syntax.ttcons Syntax.tnil (Syntax.ttcons Syntax.tnil (Syntax.ttcons Syntax.tnil (Syntax.ttcons Syntax.tnil
+      (Syntax.ttcons Syntax.tnil (Syntax.ttcons Syntax.tnil (Syntax.ttcons Syntax.tnil (Syntax.ttcons Syntax.tnil (Syntax.ttcons Syntax.tnil (Syntax.ttcons
+      Syntax.tnil (Syntax.ttcons Syntax.tnil (Syntax.ttcons Syntax.tnil (Syntax.ttcons Syntax.tnil (Syntax.ttcons Syntax.tnil
+      Syntax.ttnil))))))))))))))))))))))))))))))) Syntax.tnil) (Syntax.ttcons (Syntax.tcons (Syntax.tyEnum (108 ∷ 105 ∷ 110 ∷ 101 ∷ 58 ∷ 58 ∷ 82 ∷ 101 ∷ 99 ∷ 111
+      ∷ 114 ∷ 100 ∷ []) (Syntax.ttcons (Syntax.tcons Syntax.tyBool (Syntax.tcons (Syntax.tyStruct (99 ∷ 111 ∷ 111 ∷ 114 ∷ 100 ∷ 105 ∷ 110 ∷ 97 ∷ 116 ∷ 101 ∷ 58 ∷
+      58 ∷ 65 ∷ 116 ∷ 111 ∷ 109 ∷ []) (Syntax.tcons (Syntax.tyStruct (99 ∷ 111 ∷ 111 ∷ 114 ∷ 100 ∷ 105 ∷ 110 ∷ 97 ∷ 116 ∷ 101 ∷ 58 ∷ 58 ∷ 73 ∷ 100 ∷ 101 ∷ 110 ∷
+      116 ∷ 105 ∷ 116 ∷ 121 ∷ []) (Syntax.tcons (Syntax.tyStruct (102 ∷ 105 ∷ 101 ∷ 108 ∷ 100 ∷ 115 ∷ 58 ∷ 58 ∷ 83 ∷ 101 ∷ 114 ∷ 105 ∷ 97 ∷ 108 ∷ [])
+      (Syntax.tcons (Syntax.tyInt Syntax.w32) Syntax.tnil)) (Syntax.tcons (Syntax.tyStruct (110 ∷ 97 ∷ 109 ∷ 101 ∷ 115 ∷ 58 ∷ 58 ∷ 70 ∷ 111 ∷ 117 ∷ 114 ∷ [])
+      (Syntax.tcons (Syntax.tyInt Syntax.w8) (Syntax.tcons (Syntax.tyInt Syntax.w8) (Syntax.tcons (Syntax.tyInt Syntax.w8) (Syntax.tcons (Syntax.tyInt Syntax.w8)
+      Syntax.tnil))))) (Syntax.tcons (Syntax.tyInt Syntax.w8) (Syntax.tcons (Syntax.tyStruct (114 ∷ 101 ∷ 115 ∷ 105 ∷ 100 ∷ 117 ∷ 101 ∷ 58 ∷ 58 ∷ 82 ∷ 101 ∷ 115
+      ∷ 105 ∷ 100 ∷ 117 ∷ 101 ∷ []) (Syntax.tcons (Syntax.tyStruct (110 ∷ 97 ∷ 109 ∷ 101 ∷ 115 ∷ 58 ∷ 58 ∷ 84 ∷ 104 ∷ 114 ∷ 101 ∷ 101 ∷ []) (Syntax.tcons
+      (Syntax.tyInt Syntax.w8) (Syntax.tcons (Syntax.tyInt Syntax.w8) (Syntax.tcons (Syntax.tyInt Syntax.w8) Syntax.tnil)))) (Syntax.tcons (Syntax.tyInt
+      Syntax.w8) (Syntax.tcons (Syntax.tyStruct (102 ∷ 105 ∷ 101 ∷ 108 ∷ 100 ∷ 115 ∷ 58 ∷ 58 ∷ 82 ∷ 101 ∷ 115 ∷ 105 ∷ 100 ∷ 117 ∷ 101 ∷ 78 ∷ 117 ∷ 109 ∷ 98 ∷ 101
+      ∷ 114 ∷ []) (Syntax.tcons (Syntax.tyInt Syntax.w32) Syntax.tnil)) (Syntax.tcons (Syntax.tyInt Syntax.w8) Syntax.tnil))))) Syntax.tnil))))) (Syntax.tcons
+      (Syntax.tyStruct (99 ∷ 111 ∷ 111 ∷ 114 ∷ 100 ∷ 105 ∷ 110 ∷ 97 ∷ 116 ∷ 101 ∷ 58 ∷ 58 ∷ 77 ∷ 101 ∷ 97 ∷ 115 ∷ 117 ∷ 114 ∷ 101 ∷ []) (Syntax.tcons
+      (Syntax.tyStruct (99 ∷ 111 ∷ 111 ∷ 114 ∷ 100 ∷ 105 ∷ 110 ∷ 97 ∷ 116 ∷ 101 ∷ 58 ∷ 58 ∷ 80 ∷ 111 ∷ 115 ∷ 105 ∷ 116 ∷ 105 ∷ 111 ∷ 110 ∷ []) (Syntax.tcons
+      (Syntax.tyInt Syntax.w32) (Syntax.tcons (Syntax.tyInt Syntax.w32) (Syntax.tcons (Syntax.tyInt Syntax.w32) Syntax.tnil)))) (Syntax.tcons (Syntax.tyInt
+      Syntax.w32) (Syntax.tcons (Syntax.tyInt Syntax.w32) Syntax.tnil)))) (Syntax.tcons (Syntax.tyStruct (99 ∷ 111 ∷ 111 ∷ 114 ∷ 100 ∷ 105 ∷ 110 ∷ 97 ∷ 116 ∷ 101
+      ∷ 58 ∷ 58 ∷ 83 ∷ 112 ∷ 101 ∷ 99 ∷ 105 ∷ 101 ∷ 115 ∷ []) (Syntax.tcons (Syntax.tyStruct (110 ∷ 97 ∷ 109 ∷ 101 ∷ 115 ∷ 58 ∷ 58 ∷ 80 ∷ 97 ∷ 105 ∷ 114 ∷ [])
+      (Syntax.tcons (Syntax.tyInt Syntax.w8) (Syntax.tcons (Syntax.tyInt Syntax.w8) Syntax.tnil))) (Syntax.tcons (Syntax.tyStruct (110 ∷ 97 ∷ 109 ∷ 101 ∷ 115 ∷
+      58 ∷ 58 ∷ 80 ∷ 97 ∷ 105 ∷ 114 ∷ []) (Syntax.tcons (Syntax.tyInt Syntax.w8) (Syntax.tcons (Syntax.tyInt Syntax.w8) Syntax.tnil))) Syntax.tnil)))
+      Syntax.tnil)))) Syntax.tnil)) (Syntax.ttcons (Syntax.tcons (Syntax.tyStruct (116 ∷ 101 ∷ 114 ∷ 58 ∷ 58 ∷ 84 ∷ 101 ∷ 114 ∷ []) (Syntax.tcons
+      (Syntax.tyStruct (102 ∷ 105 ∷ 101 ∷ 108 ∷ 100 ∷ 115 ∷ 58 ∷ 58 ∷ 83 ∷ 101 ∷ 114 ∷ 105 ∷ 97 ∷ 108 ∷ []) (Syntax.tcons (Syntax.tyInt Syntax.w32) Syntax.tnil))
+      (Syntax.tcons (Syntax.tyStruct (114 ∷ 101 ∷ 115 ∷ 105 ∷ 100 ∷ 117 ∷ 101 ∷ 58 ∷ 58 ∷ 82 ∷ 101 ∷ 115 ∷ 105 ∷ 100 ∷ 117 ∷ 101 ∷ []) (Syntax.tcons
+      (Syntax.tyStruct (110 ∷ 97 ∷ 109 ∷ 101 ∷ 115 ∷ 58 ∷ 58 ∷ 84 ∷ 104 ∷ 114 ∷ 101 ∷ 101 ∷ []) (Syntax.tcons (Syntax.tyInt Syntax.w8) (Syntax.tcons
+      (Syntax.tyInt Syntax.w8) (Syntax.tcons (Syntax.tyInt Syntax.w8) Syntax.tnil)))) (Syntax.tcons (Syntax.tyInt Syntax.w8) (Syntax.tcons (Syntax.tyStruct (102
+      ∷ 105 ∷ 101 ∷ 108 ∷ 100 ∷ 115 ∷ 58 ∷ 58 ∷ 82 ∷ 101 ∷ 115 ∷ 105 ∷ 100 ∷ 117 ∷ 101 ∷ 78 ∷ 117 ∷ 109 ∷ 98 ∷ 101 ∷ 114 ∷ []) (Syntax.tcons (Syntax.tyInt
+      Syntax.w32) Syntax.tnil)) (Syntax.tcons (Syntax.tyInt Syntax.w8) Syntax.tnil))))) Syntax.tnil))) Syntax.tnil) (Syntax.ttcons (Syntax.tcons (Syntax.tyStruct
+      (104 ∷ 101 ∷ 108 ∷ 105 ∷ 120 ∷ 58 ∷ 58 ∷ 72 ∷ 101 ∷ 108 ∷ 105 ∷ 120 ∷ []) (Syntax.tcons (Syntax.tyStruct (104 ∷ 101 ∷ 108 ∷ 105 ∷ 120 ∷ 58 ∷ 58 ∷ 69 ∷ 120
+      ∷ 116 ∷ 101 ∷ 110 ∷ 116 ∷ []) (Syntax.tcons (Syntax.tyInt Syntax.w32) (Syntax.tcons (Syntax.tyStruct (110 ∷ 97 ∷ 109 ∷ 101 ∷ 115 ∷ 58 ∷ 58 ∷ 84 ∷ 104 ∷ 114
+      ∷ 101 ∷ 101 ∷ []) (Syntax.tcons (Syntax.tyInt Syntax.w8) (Syntax.tcons (Syntax.tyInt Syntax.w8) (Syntax.tcons (Syntax.tyInt Syntax.w8) Syntax.tnil))))
+      (Syntax.tcons (Syntax.tyStruct (114 ∷ 101 ∷ 115 ∷ 105 ∷ 100 ∷ 117 ∷ 101 ∷ 58 ∷ 58 ∷ 82 ∷ 101 ∷ 115 ∷ 105 ∷ 100 ∷ 117 ∷ 101 ∷ []) (Syntax.tcons
+      (Syntax.tyStruct (110 ∷ 97 ∷ 109 ∷ 101 ∷ 115 ∷ 58 ∷ 58 ∷ 84 ∷ 104 ∷ 114 ∷ 101 ∷ 101 ∷ []) (Syntax.tcons (Syntax.tyInt Syntax.w8) (Syntax.tcons
+      (Syntax.tyInt Syntax.w8) (Syntax.tcons (Syntax.tyInt Syntax.w8) Syntax.tnil)))) (Syntax.tcons (Syntax.tyInt Syntax.w8) (Syntax.tcons (Syntax.tyStruct (102
+      ∷ 105 ∷ 101 ∷ 108 ∷ 100 ∷ 115 ∷ 58 ∷ 58 ∷ 82 ∷ 101 ∷ 115 ∷ 105 ∷ 100 ∷ 117 ∷ 101 ∷ 78 ∷ 117 ∷ 109 ∷ 98 ∷ 101 ∷ 114 ∷ []) (Syntax.tcons (Syntax.tyInt
+      Syntax.w32) Syntax.tnil)) (Syntax.tcons (Syntax.tyInt Syntax.w8) Syntax.tnil))))) (Syntax.tcons (Syntax.tyStruct (114 ∷ 101 ∷ 115 ∷ 105 ∷ 100 ∷ 117 ∷ 101 ∷
+      58 ∷ 58 ∷ 82 ∷ 101 ∷ 115 ∷ 105 ∷ 100 ∷ 117 ∷ 101 ∷ []) (Syntax.tcons (Syntax.tyStruct (110 ∷ 97 ∷ 109 ∷ 101 ∷ 115 ∷ 58 ∷ 58 ∷ 84 ∷ 104 ∷ 114 ∷ 101 ∷ 101 ∷
+      []) (Syntax.tcons (Syntax.tyInt Syntax.w8) (Syntax.tcons (Syntax.tyInt Syntax.w8) (Syntax.tcons (Syntax.tyInt Syntax.w8) Syntax.tnil)))) (Syntax.tcons
+      (Syntax.tyInt Syntax.w8) (Syntax.tcons (Syntax.tyStruct (102 ∷ 105 ∷ 101 ∷ 108 ∷ 100 ∷ 115 ∷ 58 ∷ 58 ∷ 82 ∷ 101 ∷ 115 ∷ 105 ∷ 100 ∷ 117 ∷ 101 ∷ 78 ∷ 117 ∷
+      109 ∷ 98 ∷ 101 ∷ 114 ∷ []) (Syntax.tcons (Syntax.tyInt Syntax.w32) Syntax.tnil)) (Syntax.tcons (Syntax.tyInt Syntax.w8) Syntax.tnil))))) Syntax.tnil)))))
+      (Syntax.tcons (Syntax.tyInt Syntax.w32) (Syntax.tcons (Syntax.tyStruct (104 ∷ 101 ∷ 108 ∷ 105 ∷ 120 ∷ 58 ∷ 58 ∷ 67 ∷ 111 ∷ 109 ∷ 109 ∷ 101 ∷ 110 ∷ 116 ∷
+      []) (Syntax.tcons (Syntax.tyInt Syntax.w64) (Syntax.tcons (Syntax.tyInt Syntax.w64) (Syntax.tcons (Syntax.tyInt Syntax.w64) (Syntax.tcons (Syntax.tyInt
+      Syntax.w64) Syntax.tnil))))) (Syntax.tcons (Syntax.tyInt Syntax.w32) Syntax.tnil))))) Syntax.tnil) (Syntax.ttcons (Syntax.tcons (Syntax.tyStruct (115 ∷ 104
+      ∷ 101 ∷ 101 ∷ 116 ∷ 58 ∷ 58 ∷ 83 ∷ 104 ∷ 101 ∷ 101 ∷ 116 ∷ []) (Syntax.tcons (Syntax.tyStruct (115 ∷ 104 ∷ 101 ∷ 101 ∷ 116 ∷ 58 ∷ 58 ∷ 83 ∷ 116 ∷ 114 ∷ 97
+      ∷ 110 ∷ 100 ∷ []) (Syntax.tcons (Syntax.tyInt Syntax.w32) (Syntax.tcons (Syntax.tyStruct (110 ∷ 97 ∷ 109 ∷ 101 ∷ 115 ∷ 58 ∷ 58 ∷ 84 ∷ 104 ∷ 114 ∷ 101 ∷ 101
+      ∷ []) (Syntax.tcons (Syntax.tyInt Syntax.w8) (Syntax.tcons (Syntax.tyInt Syntax.w8) (Syntax.tcons (Syntax.tyInt Syntax.w8) Syntax.tnil)))) (Syntax.tcons
+      (Syntax.tyInt Syntax.w32) (Syntax.tcons (Syntax.tyStruct (114 ∷ 101 ∷ 115 ∷ 105 ∷ 100 ∷ 117 ∷ 101 ∷ 58 ∷ 58 ∷ 82 ∷ 101 ∷ 115 ∷ 105 ∷ 100 ∷ 117 ∷ 101 ∷ [])
+      (Syntax.tcons (Syntax.tyStruct (110 ∷ 97 ∷ 109 ∷ 101 ∷ 115 ∷ 58 ∷ 58 ∷ 84 ∷ 104 ∷ 114 ∷ 101 ∷ 101 ∷ []) (Syntax.tcons (Syntax.tyInt Syntax.w8)
+      (Syntax.tcons (Syntax.tyInt Syntax.w8) (Syntax.tcons (Syntax.tyInt Syntax.w8) Syntax.tnil)))) (Syntax.tcons (Syntax.tyInt Syntax.w8) (Syntax.tcons
+      (Syntax.tyStruct (102 ∷ 105 ∷ 101 ∷ 108 ∷ 100 ∷ 115 ∷ 58 ∷ 58 ∷ 82 ∷ 101 ∷ 115 ∷ 105 ∷ 100 ∷ 117 ∷ 101 ∷ 78 ∷ 117 ∷ 109 ∷ 98 ∷ 101 ∷ 114 ∷ [])
+      (Syntax.tcons (Syntax.tyInt Syntax.w32) Syntax.tnil)) (Syntax.tcons (Syntax.tyInt Syntax.w8) Syntax.tnil))))) (Syntax.tcons (Syntax.tyStruct (114 ∷ 101 ∷
+      115 ∷ 105 ∷ 100 ∷ 117 ∷ 101 ∷ 58 ∷ 58 ∷ 82 ∷ 101 ∷ 115 ∷ 105 ∷ 100 ∷ 117 ∷ 101 ∷ []) (Syntax.tcons (Syntax.tyStruct (110 ∷ 97 ∷ 109 ∷ 101 ∷ 115 ∷ 58 ∷ 58 ∷
+      84 ∷ 104 ∷ 114 ∷ 101 ∷ 101 ∷ []) (Syntax.tcons (Syntax.tyInt Syntax.w8) (Syntax.tcons (Syntax.tyInt Syntax.w8) (Syntax.tcons (Syntax.tyInt Syntax.w8)
+      Syntax.tnil)))) (Syntax.tcons (Syntax.tyInt Syntax.w8) (Syntax.tcons (Syntax.tyStruct (102 ∷ 105 ∷ 101 ∷ 108 ∷ 100 ∷ 115 ∷ 58 ∷ 58 ∷ 82 ∷ 101 ∷ 115 ∷ 105 ∷
+      100 ∷ 117 ∷ 101 ∷ 78 ∷ 117 ∷ 109 ∷ 98 ∷ 101 ∷ 114 ∷ []) (Syntax.tcons (Syntax.tyInt Syntax.w32) Syntax.tnil)) (Syntax.tcons (Syntax.tyInt Syntax.w8)
+      Syntax.tnil))))) (Syntax.tcons (Syntax.tyInt Syntax.w32) Syntax.tnil))))))) (Syntax.tcons (Syntax.tyEnum (115 ∷ 104 ∷ 101 ∷ 101 ∷ 116 ∷ 58 ∷ 58 ∷ 82 ∷ 101
+      ∷ 103 ∷ 105 ∷ 115 ∷ 116 ∷ 114 ∷ 97 ∷ 116 ∷ 105 ∷ 111 ∷ 110 ∷ []) (Syntax.ttcons Syntax.tnil (Syntax.ttcons (Syntax.tcons (Syntax.tyStruct (115 ∷ 104 ∷ 101
+      ∷ 101 ∷ 116 ∷ 58 ∷ 58 ∷ 66 ∷ 111 ∷ 110 ∷ 100 ∷ []) (Syntax.tcons (Syntax.tyStruct (110 ∷ 97 ∷ 109 ∷ 101 ∷ 115 ∷ 58 ∷ 58 ∷ 70 ∷ 111 ∷ 117 ∷ 114 ∷ [])
+      (Syntax.tcons (Syntax.tyInt Syntax.w8) (Syntax.tcons (Syntax.tyInt Syntax.w8) (Syntax.tcons (Syntax.tyInt Syntax.w8) (Syntax.tcons (Syntax.tyInt Syntax.w8)
+      Syntax.tnil))))) (Syntax.tcons (Syntax.tyStruct (114 ∷ 101 ∷ 115 ∷ 105 ∷ 100 ∷ 117 ∷ 101 ∷ 58 ∷ 58 ∷ 82 ∷ 101 ∷ 115 ∷ 105 ∷ 100 ∷ 117 ∷ 101 ∷ [])
+      (Syntax.tcons (Syntax.tyStruct (110 ∷ 97 ∷ 109 ∷ 101 ∷ 115 ∷ 58 ∷ 58 ∷ 84 ∷ 104 ∷ 114 ∷ 101 ∷ 101 ∷ []) (Syntax.tcons (Syntax.tyInt Syntax.w8)
+      (Syntax.tcons (Syntax.tyInt Syntax.w8) (Syntax.tcons (Syntax.tyInt Syntax.w8) Syntax.tnil)))) (Syntax.tcons (Syntax.tyInt Syntax.w8) (Syntax.tcons
+      (Syntax.tyStruct (102 ∷ 105 ∷ 101 ∷ 108 ∷ 100 ∷ 115 ∷ 58 ∷ 58 ∷ 82 ∷ 101 ∷ 115 ∷ 105 ∷ 100 ∷ 117 ∷ 101 ∷ 78 ∷ 117 ∷ 109 ∷ 98 ∷ 101 ∷ 114 ∷ [])
+      (Syntax.tcons (Syntax.tyInt Syntax.w32) Syntax.tnil)) (Syntax.tcons (Syntax.tyInt Syntax.w8) Syntax.tnil))))) (Syntax.tcons (Syntax.tyStruct (110 ∷ 97 ∷
+      109 ∷ 101 ∷ 115 ∷ 58 ∷ 58 ∷ 70 ∷ 111 ∷ 117 ∷ 114 ∷ []) (Syntax.tcons (Syntax.tyInt Syntax.w8) (Syntax.tcons (Syntax.tyInt Syntax.w8) (Syntax.tcons
+      (Syntax.tyInt Syntax.w8) (Syntax.tcons (Syntax.tyInt Syntax.w8) Syntax.tnil))))) (Syntax.tcons (Syntax.tyStruct (114 ∷ 101 ∷ 115 ∷ 105 ∷ 100 ∷ 117 ∷ 101 ∷
+      58 ∷ 58 ∷ 82 ∷ 101 ∷ 115 ∷ 105 ∷ 100 ∷ 117 ∷ 101 ∷ []) (Syntax.tcons (Syntax.tyStruct (110 ∷ 97 ∷ 109 ∷ 101 ∷ 115 ∷ 58 ∷ 58 ∷ 84 ∷ 104 ∷ 114 ∷ 101 ∷ 101 ∷
+      []) (Syntax.tcons (Syntax.tyInt Syntax.w8) (Syntax.tcons (Syntax.tyInt Syntax.w8) (Syntax.tcons (Syntax.tyInt Syntax.w8) Syntax.tnil)))) (Syntax.tcons
+      (Syntax.tyInt Syntax.w8) (Syntax.tcons (Syntax.tyStruct (102 ∷ 105 ∷ 101 ∷ 108 ∷ 100 ∷ 115 ∷ 58 ∷ 58 ∷ 82 ∷ 101 ∷ 115 ∷ 105 ∷ 100 ∷ 117 ∷ 101 ∷ 78 ∷ 117 ∷
+      109 ∷ 98 ∷ 101 ∷ 114 ∷ []) (Syntax.tcons (Syntax.tyInt Syntax.w32) Syntax.tnil)) (Syntax.tcons (Syntax.tyInt Syntax.w8) Syntax.tnil))))) Syntax.tnil)))))
+      Syntax.tnil) Syntax.ttnil))) Syntax.tnil))) Syntax.tnil) (Syntax.ttcons (Syntax.tcons (Syntax.tyStruct (99 ∷ 111 ∷ 110 ∷ 101 ∷ 99 ∷ 116 ∷ 58 ∷ 58 ∷ 67 ∷
+      111 ∷ 110 ∷ 101 ∷ 99 ∷ 116 ∷ []) (Syntax.tcons (Syntax.tyStruct (102 ∷ 105 ∷ 101 ∷ 108 ∷ 100 ∷ 115 ∷ 58 ∷ 58 ∷ 83 ∷ 101 ∷ 114 ∷ 105 ∷ 97 ∷ 108 ∷ [])
+      (Syntax.tcons (Syntax.tyInt Syntax.w32) Syntax.tnil)) (Syntax.tcons (Syntax.tyStruct (102 ∷ 105 ∷ 101 ∷ 108 ∷ 100 ∷ 115 ∷ 58 ∷ 58 ∷ 83 ∷ 101 ∷ 114 ∷ 105 ∷
+      97 ∷ 108 ∷ []) (Syntax.tcons (Syntax.tyInt Syntax.w32) Syntax.tnil)) (Syntax.tcons (Syntax.tyStruct (102 ∷ 105 ∷ 101 ∷ 108 ∷ 100 ∷ 115 ∷ 58 ∷ 58 ∷ 83 ∷ 101
+      ∷ 114 ∷ 105 ∷ 97 ∷ 108 ∷ []) (Syntax.tcons (Syntax.tyInt Syntax.w32) Syntax.tnil)) (Syntax.tcons (Syntax.tyStruct (102 ∷ 105 ∷ 101 ∷ 108 ∷ 100 ∷ 115 ∷ 58 ∷
+      58 ∷ 83 ∷ 101 ∷ 114 ∷ 105 ∷ 97 ∷ 108 ∷ []) (Syntax.tcons (Syntax.tyInt Syntax.w32) Syntax.tnil)) (Syntax.tcons (Syntax.tyStruct (102 ∷ 105 ∷ 101 ∷ 108 ∷
+      100 ∷ 115 ∷ 58 ∷ 58 ∷ 83 ∷ 101 ∷ 114 ∷ 105 ∷ 97 ∷ 108 ∷ []) (Syntax.tcons (Syntax.tyInt Syntax.w32) Syntax.tnil)) Syntax.tnil)))))) Syntax.tnil)
+      (Syntax.ttcons (Syntax.tcons (Syntax.tyStruct (109 ∷ 97 ∷ 115 ∷ 116 ∷ 101 ∷ 114 ∷ 58 ∷ 58 ∷ 84 ∷ 97 ∷ 108 ∷ 108 ∷ 121 ∷ []) (Syntax.tcons (Syntax.tyInt
+      Syntax.w32) (Syntax.tcons (Syntax.tyInt Syntax.w32) (Syntax.tcons (Syntax.tyInt Syntax.w32) (Syntax.tcons (Syntax.tyInt Syntax.w32) (Syntax.tcons
+      (Syntax.tyInt Syntax.w32) (Syntax.tcons (Syntax.tyInt Syntax.w32) (Syntax.tcons (Syntax.tyInt Syntax.w32) (Syntax.tcons (Syntax.tyInt Syntax.w32)
+      (Syntax.tcons (Syntax.tyInt Syntax.w32) Syntax.tnil)))))))))) Syntax.tnil) (Syntax.ttcons Syntax.tnil (Syntax.ttcons (Syntax.tcons (Syntax.tyStruct (109 ∷
+      111 ∷ 100 ∷ 101 ∷ 108 ∷ 58 ∷ 58 ∷ 77 ∷ 111 ∷ 100 ∷ 101 ∷ 108 ∷ []) (Syntax.tcons (Syntax.tyInt Syntax.w32) Syntax.tnil)) Syntax.tnil) (Syntax.ttcons
+      Syntax.tnil Syntax.ttnil)))))))))) Syntax.tnil) Syntax.ttnil))))),
+) ∷ (9, Rows.any-gone Syntax.tyBool) ∷ (10, Rows.any-gone (Syntax.tyInt Syntax.w64)) ∷
+    (11, Rows.any-gone (Syntax.tyInt Syntax.w64)) ∷ (12, Rows.any-gone (Syntax.tyInt Syntax.w64)) ∷ (13, Rows.any-gone Syntax.tyBool) ∷ (
+      14,
+      Rows.any-gone
+          (Syntax.tyRef Syntax.erased Syntax.mut SlotAs.pointee),
+    ) ∷ (
+      15,
+      Rows.any-gone (Syntax.tyStruct (38 ∷ 91 ∷ 93 ∷ []) (Syntax.tcons (Syntax.tyRef Syntax.erased
+          Syntax.mut SlotAs.pointee) (Syntax.tcons (Syntax.tyInt Syntax.w64) Syntax.tnil))),
+    ) ∷ []
+
+abbrev pub t5 : List.List Row.Entry
+t5 = (0, Rows.whole (Declared'.row (Apart.apartT Outcome.the-type))) ∷ (
+  1,
+  Rows.sslice (Referent.rtF (Referent.fInt Syntax.w8)) (Syntax.tyRef (Syntax.named 0)
+      Syntax.imm (Syntax.tyInt Syntax.w8)) 0,
+) ∷ (2, Mut.mslice SlotAs.row (Syntax.tyRef (Syntax.named 1) Syntax.mut SlotAs.pointee) 1) ∷ (
+  3,
+  Rows.any-gone
+      (Syntax.tyStruct (115 ∷ 116 ∷ 111 ∷ 114 ∷ 101 ∷ 58 ∷ 58 ∷ 78 ∷ 101 ∷ 101 ∷ 100 ∷ 115 ∷ []) (Syntax.tcons (Syntax.tyInt Syntax.w8) (Syntax.tcons
+      (Syntax.tyInt Syntax.w64) Syntax.tnil))),
+) ∷ (4, Rows.any-gone (Syntax.tyInt Syntax.w64)) ∷ (5, Rows.any-gone (Syntax.tyInt Syntax.w64)) ∷ (
+  6,
+  Rows.any-gone
+      (Syntax.tyInt Syntax.w64),
+) ∷ (7, Rows.any-gone (Syntax.tyInt Syntax.w32)) ∷ (
+  8,
+  Rows.any-gone (Syntax.tyEnum (112 ∷ 105 ∷ 101 ∷ 99 ∷ 101 ∷ 115 ∷ 58 ∷ 58 ∷
+      76 ∷ 105 ∷ 110 ∷ 101 ∷ []) (Syntax.ttcons (Syntax.tcons (Syntax.tyInt Syntax.w8) Syntax.tnil) (Syntax.ttcons (Syntax.tcons (Syntax.tyEnum (107 ∷ 105 ∷ 110
+      ∷ 100 ∷ 115 ∷ 58 ∷ 58 ∷ 75 ∷ 105 ∷ 110 ∷ 100 ∷ []) (Syntax.ttcons Syntax.tnil (Syntax.ttcons Syntax.tnil (Syntax.ttcons Syntax.tnil (Syntax.ttcons
+      Syntax.tnil (Syntax.ttcons Syntax.tnil (Syntax.ttcons Syntax.tnil (Syntax.ttcons Syntax.tnil (Syntax.ttcons Syntax.tnil (Syntax.ttcons Syntax.tnil
+      (Syntax.ttcons Syntax.tnil (Syntax.ttcons Syntax.tnil (Syntax.ttcons Syntax.tnil (Syntax.ttcons Syntax.tnil (Syntax.ttcons Syntax.tnil (Syntax.ttcons
+      Syntax.tnil (Syntax.ttcons Syntax.tnil (Syntax.ttcons Syntax.tnil (Syntax.ttcons Syntax.tnil (Syntax.ttcons Syntax.tnil (Syntax.ttcons Syntax.tnil
+      (Syntax.ttcons Syntax.tnil (Syntax.ttcons Syntax.tnil (Syntax.ttcons Syntax.tnil (Syntax.ttcons Syntax.tnil (Syntax.ttcons Syntax.tnil (Syntax.ttcons
+      Syntax.tnil (Syntax.ttcons Syntax.tnil (Syntax.ttcons Syntax.tnil (Syntax.ttcons Syntax.tnil (Syntax.ttcons Syntax.tnil
+      Syntax.ttnil))))))))))))))))))))))))))))))) (Syntax.tcons (Syntax.tyInt Syntax.w32) Syntax.tnil)) (Syntax.ttcons (Syntax.tcons (Syntax.tyEnum (107 ∷ 105 ∷
+      110 ∷ 100 ∷ 115 ∷ 58 ∷ 58 ∷ 75 ∷ 105 ∷ 110 ∷ 100 ∷ []) (Syntax.ttcons Syntax.tnil (Syntax.ttcons Syntax.tnil (Syntax.ttcons Syntax.tnil (Syntax.ttcons
+      Syntax.tnil (Syntax.ttcons Syntax.tnil (Syntax.ttcons Syntax.tnil (Syntax.ttcons Syntax.tnil (Syntax.ttcons Syntax.tnil (Syntax.ttcons Syntax.tnil
+      (Syntax.ttcons Syntax.tnil (Syntax.ttcons Syntax.tnil (Syntax.ttcons Syntax.tnil (Syntax.ttcons Syntax.tnil (Syntax.ttcons Syntax.tnil (Syntax.ttcons
+      Syntax.tnil (Syntax.ttcons Syntax.tnil (Syntax.ttcons Syntax.tnil (Syntax.ttcons Syntax.tnil (Syntax.ttcons Syntax.tnil (Syntax.ttcons Syntax.tnil
+      (Syntax.ttcons Syntax.tnil (Syntax.ttcons Syntax.tnil (Syntax.ttcons Syntax.tnil (Syntax.ttcons Syntax.tnil (Syntax.ttcons Syntax.tnil (Syntax.ttcons
+      Syntax.tnil (Syntax.ttcons Syntax.tnil (Syntax.ttcons Syntax.tnil (Syntax.ttcons Syntax.tnil (Syntax.ttcons Syntax.tnil
+      Syntax.ttnil))))))))))))))))))))))))))))))) Syntax.tnil) (Syntax.ttcons (Syntax.tcons (Syntax.tyEnum (108 ∷ 105 ∷ 110 ∷ 101 ∷ 58 ∷ 58 ∷ 82 ∷ 101 ∷ 99 ∷ 111
+      ∷ 114 ∷ 100 ∷ []) (Syntax.ttcons (Syntax.tcons Syntax.tyBool (Syntax.tcons (Syntax.tyStruct (99 ∷ 111 ∷ 111 ∷ 114 ∷ 100 ∷ 105 ∷ 110 ∷ 97 ∷ 116 ∷ 101 ∷ 58 ∷
+      58 ∷ 65 ∷ 116 ∷ 111 ∷ 109 ∷ []) (Syntax.tcons (Syntax.tyStruct (99 ∷ 111 ∷ 111 ∷ 114 ∷ 100 ∷ 105 ∷ 110 ∷ 97 ∷ 116 ∷ 101 ∷ 58 ∷ 58 ∷ 73 ∷ 100 ∷ 101 ∷ 110 ∷
+      116 ∷ 105 ∷ 116 ∷ 121 ∷ []) (Syntax.tcons (Syntax.tyStruct (102 ∷ 105 ∷ 101 ∷ 108 ∷ 100 ∷ 115 ∷ 58 ∷ 58 ∷ 83 ∷ 101 ∷ 114 ∷ 105 ∷ 97 ∷ 108 ∷ [])
+      (Syntax.tcons (Syntax.tyInt Syntax.w32) Syntax.tnil)) (Syntax.tcons (Syntax.tyStruct (110 ∷ 97 ∷ 109 ∷ 101 ∷ 115 ∷ 58 ∷ 58 ∷ 70 ∷ 111 ∷ 117 ∷ 114 ∷ [])
+      (Syntax.tcons (Syntax.tyInt Syntax.w8) (Syntax.tcons (Syntax.tyInt Syntax.w8) (Syntax.tcons (Syntax.tyInt Syntax.w8) (Syntax.tcons (Syntax.tyInt Syntax.w8)
+      Syntax.tnil))))) (Syntax.tcons (Syntax.tyInt Syntax.w8) (Syntax.tcons (Syntax.tyStruct (114 ∷ 101 ∷ 115 ∷ 105 ∷ 100 ∷ 117 ∷ 101 ∷ 58 ∷ 58 ∷ 82 ∷ 101 ∷ 115
+      ∷ 105 ∷ 100 ∷ 117 ∷ 101 ∷ []) (Syntax.tcons (Syntax.tyStruct (110 ∷ 97 ∷ 109 ∷ 101 ∷ 115 ∷ 58 ∷ 58 ∷ 84 ∷ 104 ∷ 114 ∷ 101 ∷ 101 ∷ []) (Syntax.tcons
+      (Syntax.tyInt Syntax.w8) (Syntax.tcons (Syntax.tyInt Syntax.w8) (Syntax.tcons (Syntax.tyInt Syntax.w8) Syntax.tnil)))) (Syntax.tcons (Syntax.tyInt
+      Syntax.w8) (Syntax.tcons (Syntax.tyStruct (102 ∷ 105 ∷ 101 ∷ 108 ∷ 100 ∷ 115 ∷ 58 ∷ 58 ∷ 82 ∷ 101 ∷ 115 ∷ 105 ∷ 100 ∷ 117 ∷ 101 ∷ 78 ∷ 117 ∷ 109 ∷ 98 ∷ 101
+      ∷ 114 ∷ []) (Syntax.tcons (Syntax.tyInt Syntax.w32) Syntax.tnil)) (Syntax.tcons (Syntax.tyInt Syntax.w8) Syntax.tnil))))) Syntax.tnil))))) (Syntax.tcons
+      (Syntax.tyStruct (99 ∷ 111 ∷ 111 ∷ 114 ∷ 100 ∷ 105 ∷ 110 ∷ 97 ∷ 116 ∷ 101 ∷ 58 ∷ 58 ∷ 77 ∷ 101 ∷ 97 ∷ 115 ∷ 117 ∷ 114 ∷ 101 ∷ []) (Syntax.tcons
+      (Syntax.tyStruct (99 ∷ 111 ∷ 111 ∷ 114 ∷ 100 ∷ 105 ∷ 110 ∷ 97 ∷ 116 ∷ 101 ∷ 58 ∷ 58 ∷ 80 ∷ 111 ∷ 115 ∷ 105 ∷ 116 ∷ 105 ∷ 111 ∷ 110 ∷ []) (Syntax.tcons
+      (Syntax.tyInt Syntax.w32) (Syntax.tcons (Syntax.tyInt Syntax.w32) (Syntax.tcons (Syntax.tyInt Syntax.w32) Syntax.tnil)))) (Syntax.tcons (Syntax.tyInt
+      Syntax.w32) (Syntax.tcons (Syntax.tyInt Syntax.w32) Syntax.tnil)))) (Syntax.tcons (Syntax.tyStruct (99 ∷ 111 ∷ 111 ∷ 114 ∷ 100 ∷ 105 ∷ 110 ∷ 97 ∷ 116 ∷ 101
+      ∷ 58 ∷ 58 ∷ 83 ∷ 112 ∷ 101 ∷ 99 ∷ 105 ∷ 101 ∷ 115 ∷ []) (Syntax.tcons (Syntax.tyStruct (110 ∷ 97 ∷ 109 ∷ 101 ∷ 115 ∷ 58 ∷ 58 ∷ 80 ∷ 97 ∷ 105 ∷ 114 ∷ [])
+      (Syntax.tcons (Syntax.tyInt Syntax.w8) (Syntax.tcons (Syntax.tyInt Syntax.w8) Syntax.tnil))) (Syntax.tcons (Syntax.tyStruct (110 ∷ 97 ∷ 109 ∷ 101 ∷ 115 ∷
+      58 ∷ 58 ∷ 80 ∷ 97 ∷ 105 ∷ 114 ∷ []) (Syntax.tcons (Syntax.tyInt Syntax.w8) (Syntax.tcons (Syntax.tyInt Syntax.w8) Syntax.tnil))) Syntax.tnil)))
+      Syntax.tnil)))) Syntax.tnil)) (Syntax.ttcons (Syntax.tcons (Syntax.tyStruct (116 ∷ 101 ∷ 114 ∷ 58 ∷ 58 ∷ 84 ∷ 101 ∷ 114 ∷ []) (Syntax.tcons
+      (Syntax.tyStruct (102 ∷ 105 ∷ 101 ∷ 108 ∷ 100 ∷ 115 ∷ 58 ∷ 58 ∷ 83 ∷ 101 ∷ 114 ∷ 105 ∷ 97 ∷ 108 ∷ []) (Syntax.tcons (Syntax.tyInt Syntax.w32) Syntax.tnil))
+      (Syntax.tcons (Syntax.tyStruct (114 ∷ 101 ∷ 115 ∷ 105 ∷ 100 ∷ 117 ∷ 101 ∷ 58 ∷ 58 ∷ 82 ∷ 101 ∷ 115 ∷ 105 ∷ 100 ∷ 117 ∷ 101 ∷ []) (Syntax.tcons
+      (Syntax.tyStruct (110 ∷ 97 ∷ 109 ∷ 101 ∷ 115 ∷ 58 ∷ 58 ∷ 84 ∷ 104 ∷ 114 ∷ 101 ∷ 101 ∷ []) (Syntax.tcons (Syntax.tyInt Syntax.w8) (Syntax.tcons
+      (Syntax.tyInt Syntax.w8) (Syntax.tcons (Syntax.tyInt Syntax.w8) Syntax.tnil)))) (Syntax.tcons (Syntax.tyInt Syntax.w8) (Syntax.tcons (Syntax.tyStruct (102
+      ∷ 105 ∷ 101 ∷ 108 ∷ 100 ∷ 115 ∷ 58 ∷ 58 ∷ 82 ∷ 101 ∷ 115 ∷ 105 ∷ 100 ∷ 117 ∷ 101 ∷ 78 ∷ 117 ∷ 109 ∷ 98 ∷ 101 ∷ 114 ∷ []) (Syntax.tcons (Syntax.tyInt
+      Syntax.w32) Syntax.tnil)) (Syntax.tcons (Syntax.tyInt Syntax.w8) Syntax.tnil))))) Syntax.tnil))) Syntax.tnil) (Syntax.ttcons (Syntax.tcons (Syntax.tyStruct
+      (104 ∷ 101 ∷ 108 ∷ 105 ∷ 120 ∷ 58 ∷ 58 ∷ 72 ∷ 101 ∷ 108 ∷ 105 ∷ 120 ∷ []) (Syntax.tcons (Syntax.tyStruct (104 ∷ 101 ∷ 108 ∷ 105 ∷ 120 ∷ 58 ∷ 58 ∷ 69 ∷ 120
+      ∷ 116 ∷ 101 ∷ 110 ∷ 116 ∷ []) (Syntax.tcons (Syntax.tyInt Syntax.w32) (Syntax.tcons (Syntax.tyStruct (110 ∷ 97 ∷ 109 ∷ 101 ∷ 115 ∷ 58 ∷ 58 ∷ 84 ∷ 104 ∷ 114
+      ∷ 101 ∷ 101 ∷ []) (Syntax.tcons (Syntax.tyInt Syntax.w8) (Syntax.tcons (Syntax.tyInt Syntax.w8) (Syntax.tcons (Syntax.tyInt Syntax.w8) Syntax.tnil))))
+      (Syntax.tcons (Syntax.tyStruct (114 ∷ 101 ∷ 115 ∷ 105 ∷ 100 ∷ 117 ∷ 101 ∷ 58 ∷ 58 ∷ 82 ∷ 101 ∷ 115 ∷ 105 ∷ 100 ∷ 117 ∷ 101 ∷ []) (Syntax.tcons
+      (Syntax.tyStruct (110 ∷ 97 ∷ 109 ∷ 101 ∷ 115 ∷ 58 ∷ 58 ∷ 84 ∷ 104 ∷ 114 ∷ 101 ∷ 101 ∷ []) (Syntax.tcons (Syntax.tyInt Syntax.w8) (Syntax.tcons
+      (Syntax.tyInt Syntax.w8) (Syntax.tcons (Syntax.tyInt Syntax.w8) Syntax.tnil)))) (Syntax.tcons (Syntax.tyInt Syntax.w8) (Syntax.tcons (Syntax.tyStruct (102
+      ∷ 105 ∷ 101 ∷ 108 ∷ 100 ∷ 115 ∷ 58 ∷ 58 ∷ 82 ∷ 101 ∷ 115 ∷ 105 ∷ 100 ∷ 117 ∷ 101 ∷ 78 ∷ 117 ∷ 109 ∷ 98 ∷ 101 ∷ 114 ∷ []) (Syntax.tcons (Syntax.tyInt
+      Syntax.w32) Syntax.tnil)) (Syntax.tcons (Syntax.tyInt Syntax.w8) Syntax.tnil))))) (Syntax.tcons (Syntax.tyStruct (114 ∷ 101 ∷ 115 ∷ 105 ∷ 100 ∷ 117 ∷ 101 ∷
+      58 ∷ 58 ∷ 82 ∷ 101 ∷ 115 ∷ 105 ∷ 100 ∷ 117 ∷ 101 ∷ []) (Syntax.tcons (Syntax.tyStruct (110 ∷ 97 ∷ 109 ∷ 101 ∷ 115 ∷ 58 ∷ 58 ∷ 84 ∷ 104 ∷ 114 ∷ 101 ∷ 101 ∷
+      []) (Syntax.tcons (Syntax.tyInt Syntax.w8) (Syntax.tcons (Syntax.tyInt Syntax.w8) (Syntax.tcons (Syntax.tyInt Syntax.w8) Syntax.tnil)))) (Syntax.tcons
+      (Syntax.tyInt Syntax.w8) (Syntax.tcons (Syntax.tyStruct (102 ∷ 105 ∷ 101 ∷ 108 ∷ 100 ∷ 115 ∷ 58 ∷ 58 ∷ 82 ∷ 101 ∷ 115 ∷ 105 ∷ 100 ∷ 117 ∷ 101 ∷ 78 ∷ 117 ∷
+      109 ∷ 98 ∷ 101 ∷ 114 ∷ []) (Syntax.tcons (Syntax.tyInt Syntax.w32) Syntax.tnil)) (Syntax.tcons (Syntax.tyInt Syntax.w8) Syntax.tnil))))) Syntax.tnil)))))
+      (Syntax.tcons (Syntax.tyInt Syntax.w32) (Syntax.tcons (Syntax.tyStruct (104 ∷ 101 ∷ 108 ∷ 105 ∷ 120 ∷ 58 ∷ 58 ∷ 67 ∷ 111 ∷ 109 ∷ 109 ∷ 101 ∷ 110 ∷ 116 ∷
+      []) (Syntax.tcons (Syntax.tyInt Syntax.w64) (Syntax.tcons (Syntax.tyInt Syntax.w64) (Syntax.tcons (Syntax.tyInt Syntax.w64) (Syntax.tcons (Syntax.tyInt
+      Syntax.w64) Syntax.tnil))))) (Syntax.tcons (Syntax.tyInt Syntax.w32) Syntax.tnil))))) Syntax.tnil) (Syntax.ttcons (Syntax.tcons (Syntax.tyStruct (115 ∷ 104
+      ∷ 101 ∷ 101 ∷ 116 ∷ 58 ∷ 58 ∷ 83 ∷ 104 ∷ 101 ∷ 101 ∷ 116 ∷ []) (Syntax.tcons (Syntax.tyStruct (115 ∷ 104 ∷ 101 ∷ 101 ∷ 116 ∷ 58 ∷ 58 ∷ 83 ∷ 116 ∷ 114 ∷ 97
+      ∷ 110 ∷ 100 ∷ []) (Syntax.tcons (Syntax.tyInt Syntax.w32) (Syntax.tcons (Syntax.tyStruct (110 ∷ 97 ∷ 109 ∷ 101 ∷ 115 ∷ 58 ∷ 58 ∷ 84 ∷ 104 ∷ 114 ∷ 101 ∷ 101
+      ∷ []) (Syntax.tcons (Syntax.tyInt Syntax.w8) (Syntax.tcons (Syntax.tyInt Syntax.w8) (Syntax.tcons (Syntax.tyInt Syntax.w8) Syntax.tnil)))) (Syntax.tcons
+      (Syntax.tyInt Syntax.w32) (Syntax.tcons (Syntax.tyStruct (114 ∷ 101 ∷ 115 ∷ 105 ∷ 100 ∷ 117 ∷ 101 ∷ 58 ∷ 58 ∷ 82 ∷ 101 ∷ 115 ∷ 105 ∷ 100 ∷ 117 ∷ 101 ∷ [])
+      (Syntax.tcons (Syntax.tyStruct (110 ∷ 97 ∷ 109 ∷ 101 ∷ 115 ∷ 58 ∷ 58 ∷ 84 ∷ 104 ∷ 114 ∷ 101 ∷ 101 ∷ []) (Syntax.tcons (Syntax.tyInt Syntax.w8)
+      (Syntax.tcons (Syntax.tyInt Syntax.w8) (Syntax.tcons (Syntax.tyInt Syntax.w8) Syntax.tnil)))) (Syntax.tcons (Syntax.tyInt Syntax.w8) (Syntax.tcons
+      (Syntax.tyStruct (102 ∷ 105 ∷ 101 ∷ 108 ∷ 100 ∷ 115 ∷ 58 ∷ 58 ∷ 82 ∷ 101 ∷ 115 ∷ 105 ∷ 100 ∷ 117 ∷ 101 ∷ 78 ∷ 117 ∷ 109 ∷ 98 ∷ 101 ∷ 114 ∷ [])
+      (Syntax.tcons (Syntax.tyInt Syntax.w32) Syntax.tnil)) (Syntax.tcons (Syntax.tyInt Syntax.w8) Syntax.tnil))))) (Syntax.tcons (Syntax.tyStruct (114 ∷ 101 ∷
+      115 ∷ 105 ∷ 100 ∷ 117 ∷ 101 ∷ 58 ∷ 58 ∷ 82 ∷ 101 ∷ 115 ∷ 105 ∷ 100 ∷ 117 ∷ 101 ∷ []) (Syntax.tcons (Syntax.tyStruct (110 ∷ 97 ∷ 109 ∷ 101 ∷ 115 ∷ 58 ∷ 58 ∷
+      84 ∷ 104 ∷ 114 ∷ 101 ∷ 101 ∷ []) (Syntax.tcons (Syntax.tyInt Syntax.w8) (Syntax.tcons (Syntax.tyInt Syntax.w8) (Syntax.tcons (Syntax.tyInt Syntax.w8)
+      Syntax.tnil)))) (Syntax.tcons (Syntax.tyInt Syntax.w8) (Syntax.tcons (Syntax.tyStruct (102 ∷ 105 ∷ 101 ∷ 108 ∷ 100 ∷ 115 ∷ 58 ∷ 58 ∷ 82 ∷ 101 ∷ 115 ∷ 105 ∷
+      100 ∷ 117 ∷ 101 ∷ 78 ∷ 117 ∷ 109 ∷ 98 ∷ 101 ∷ 114 ∷ []) (Syntax.tcons (Syntax.tyInt Syntax.w32) Syntax.tnil)) (Syntax.tcons (Syntax.tyInt Syntax.w8)
+      Syntax.tnil))))) (Syntax.tcons (Syntax.tyInt Syntax.w32) Syntax.tnil))))))) (Syntax.tcons (Syntax.tyEnum (115 ∷ 104 ∷ 101 ∷ 101 ∷ 116 ∷ 58 ∷ 58 ∷ 82 ∷ 101
+      ∷ 103 ∷ 105 ∷ 115 ∷ 116 ∷ 114 ∷ 97 ∷ 116 ∷ 105 ∷ 111 ∷ 110 ∷ []) (Syntax.ttcons Syntax.tnil (Syntax.ttcons (Syntax.tcons (Syntax.tyStruct (115 ∷ 104 ∷ 101
+      ∷ 101 ∷ 116 ∷ 58 ∷ 58 ∷ 66 ∷ 111 ∷ 110 ∷ 100 ∷ []) (Syntax.tcons (Syntax.tyStruct (110 ∷ 97 ∷ 109 ∷ 101 ∷ 115 ∷ 58 ∷ 58 ∷ 70 ∷ 111 ∷ 117 ∷ 114 ∷ [])
+      (Syntax.tcons (Syntax.tyInt Syntax.w8) (Syntax.tcons (Syntax.tyInt Syntax.w8) (Syntax.tcons (Syntax.tyInt Syntax.w8) (Syntax.tcons (Syntax.tyInt Syntax.w8)
+      Syntax.tnil))))) (Syntax.tcons (Syntax.tyStruct (114 ∷ 101 ∷ 115 ∷ 105 ∷ 100 ∷ 117 ∷ 101 ∷ 58 ∷ 58 ∷ 82 ∷ 101 ∷ 115 ∷ 105 ∷ 100 ∷ 117 ∷ 101 ∷ [])
+      (Syntax.tcons (Syntax.tyStruct (110 ∷ 97 ∷ 109 ∷ 101 ∷ 115 ∷ 58 ∷ 58 ∷ 84 ∷ 104 ∷ 114 ∷ 101 ∷ 101 ∷ []) (Syntax.tcons (Syntax.tyInt Syntax.w8)
+      (Syntax.tcons (Syntax.tyInt Syntax.w8) (Syntax.tcons (Syntax.tyInt Syntax.w8) Syntax.tnil)))) (Syntax.tcons (Syntax.tyInt Syntax.w8) (Syntax.tcons
+      (Syntax.tyStruct (102 ∷ 105 ∷ 101 ∷ 108 ∷ 100 ∷ 115 ∷ 58 ∷ 58 ∷ 82 ∷ 101 ∷ 115 ∷ 105 ∷ 100 ∷ 117 ∷ 101 ∷ 78 ∷ 117 ∷ 109 ∷ 98 ∷ 101 ∷ 114 ∷ [])
+      (Syntax.tcons (Syntax.tyInt Syntax.w32) Syntax.tnil)) (Syntax.tcons (Syntax.tyInt Syntax.w8) Syntax.tnil))))) (Syntax.tcons (Syntax.tyStruct (110 ∷ 97 ∷
+      109 ∷ 101 ∷ 115 ∷ 58 ∷ 58 ∷ 70 ∷ 111 ∷ 117 ∷ 114 ∷ []) (Syntax.tcons (Syntax.tyInt Syntax.w8) (Syntax.tcons (Syntax.tyInt Syntax.w8) (Syntax.tcons
+      (Syntax.tyInt Syntax.w8) (Syntax.tcons (Syntax.tyInt Syntax.w8) Syntax.tnil))))) (Syntax.tcons (Syntax.tyStruct (114 ∷ 101 ∷ 115 ∷ 105 ∷ 100 ∷ 117 ∷ 101 ∷
+      58 ∷ 58 ∷ 82 ∷ 101 ∷ 115 ∷ 105 ∷ 100 ∷ 117 ∷ 101 ∷ []) (Syntax.tcons (Syntax.tyStruct (110 ∷ 97 ∷ 109 ∷ 101 ∷ 115 ∷ 58 ∷ 58 ∷ 84 ∷ 104 ∷ 114 ∷ 101 ∷ 101 ∷
+      []) (Syntax.tcons (Syntax.tyInt Syntax.w8) (Syntax.tcons (Syntax.tyInt Syntax.w8) (Syntax.tcons (Syntax.tyInt Syntax.w8) Syntax.tnil)))) (Syntax.tcons
+      (Syntax.tyInt Syntax.w8) (Syntax.tcons (Syntax.tyStruct (102 ∷ 105 ∷ 101 ∷ 108 ∷ 100 ∷ 115 ∷ 58 ∷ 58 ∷ 82 ∷ 101 ∷ 115 ∷ 105 ∷ 100 ∷ 117 ∷ 101 ∷ 78 ∷ 117 ∷
+      109 ∷ 98 ∷ 101 ∷ 114 ∷ []) (Syntax.tcons (Syntax.tyInt Syntax.w32) Syntax.tnil)) (Syntax.tcons (Syntax.tyInt Syntax.w8) Syntax.tnil))))) Syntax.tnil)))))
+      Syntax.tnil) Syntax.ttnil))) Syntax.tnil))) Syntax.tnil) (Syntax.ttcons (Syntax.tcons (Syntax.tyStruct (99 ∷ 111 ∷ 110 ∷ 101 ∷ 99 ∷ 116 ∷ 58 ∷ 58 ∷ 67 ∷
+      111 ∷ 110 ∷ 101 ∷ 99 ∷ 116 ∷ []) (Syntax.tcons (Syntax.tyStruct (102 ∷ 105 ∷ 101 ∷ 108 ∷ 100 ∷ 115 ∷ 58 ∷ 58 ∷ 83 ∷ 101 ∷ 114 ∷ 105 ∷ 97 ∷ 108 ∷ [])
+      (Syntax.tcons (Syntax.tyInt Syntax.w32) Syntax.tnil)) (Syntax.tcons (Syntax.tyStruct (102 ∷ 105 ∷ 101 ∷ 108 ∷ 100 ∷ 115 ∷ 58 ∷ 58 ∷ 83 ∷ 101 ∷ 114 ∷ 105 ∷
+      97 ∷ 108 ∷ []) (Syntax.tcons (Syntax.tyInt Syntax.w32) Syntax.tnil)) (Syntax.tcons (Syntax.tyStruct (102 ∷ 105 ∷ 101 ∷ 108 ∷ 100 ∷ 115 ∷ 58 ∷ 58 ∷ 83 ∷ 101
+      ∷ 114 ∷ 105 ∷ 97 ∷ 108 ∷ []) (Syntax.tcons (Syntax.tyInt Syntax.w32) Syntax.tnil)) (Syntax.tcons (Syntax.tyStruct (102 ∷ 105 ∷ 101 ∷ 108 ∷ 100 ∷ 115 ∷ 58 ∷
+      58 ∷ 83 ∷ 101 ∷ 114 ∷ 105 ∷ 97 ∷ 108 ∷ []) (Syntax.tcons (Syntax.tyInt Syntax.w32) Syntax.tnil)) (Syntax.tcons (Syntax.tyStruct (102 ∷ 105 ∷ 101 ∷ 108 ∷
+      100 ∷ 115 ∷ 58 ∷ 58 ∷ 83 ∷ 101 ∷ 114 ∷ 105 ∷ 97 ∷ 108 ∷ []) (Syntax.tcons (Syntax.tyInt Syntax.w32) Syntax.tnil)) Syntax.tnil)))))) Syntax.tnil)
+      (Syntax.ttcons (Syntax.tcons (Syntax.tyStruct (109 ∷ 97 ∷ 115 ∷ 116 ∷ 101 ∷ 114 ∷ 58 ∷ 58 ∷ 84 ∷ 97 ∷ 108 ∷ 108 ∷ 121 ∷ []) (Syntax.tcons (Syntax.tyInt
+      Syntax.w32) (Syntax.tcons (Syntax.tyInt Syntax.w32) (Syntax.tcons (Syntax.tyInt Syntax.w32) (Syntax.tcons (Syntax.tyInt Syntax.w32) (Syntax.tcons
+      (Syntax.tyInt Syntax.w32) (Syntax.tcons (Syntax.tyInt Syntax.w32) (Syntax.tcons (Syntax.tyInt Syntax.w32) (Syntax.tcons (Syntax.tyInt Syntax.w32)
+      (Syntax.tcons (Syntax.tyInt Syntax.w32) Syntax.tnil)))))))))) Syntax.tnil) (Syntax.ttcons Syntax.tnil (Syntax.ttcons (Syntax.tcons (Syntax.tyStruct (109 ∷
+      111 ∷ 100 ∷ 101 ∷ 108 ∷ 58 ∷ 58 ∷ 77 ∷ 111 ∷ 100 ∷ 101 ∷ 108 ∷ []) (Syntax.tcons (Syntax.tyInt Syntax.w32) Syntax.tnil)) Syntax.tnil) (Syntax.ttcons
+      Syntax.tnil Syntax.ttnil)))))))))) Syntax.tnil) Syntax.ttnil))))),
+) ∷ (9, Rows.any-gone Syntax.tyBool) ∷ (10, Rows.any-gone (Syntax.tyInt Syntax.w64)) ∷
+    (11, Rows.any-gone (Syntax.tyInt Syntax.w64)) ∷ (12, Rows.any-gone (Syntax.tyInt Syntax.w64)) ∷ (13, Rows.any-gone Syntax.tyBool) ∷ (
+      14,
+      Rows.any-gone
+          (Syntax.tyRef Syntax.erased Syntax.mut SlotAs.pointee),
+    ) ∷ (
+      15,
+      Rows.any-gone (Syntax.tyStruct (38 ∷ 91 ∷ 93 ∷ []) (Syntax.tcons (Syntax.tyRef Syntax.erased
+          Syntax.mut SlotAs.pointee) (Syntax.tcons (Syntax.tyInt Syntax.w64) Syntax.tnil))),
+    ) ∷ []
+
+abbrev pub t6 : List.List Row.Entry
+t6 = (
+  0,
+  Rows.any-gone (Syntax.tyStruct (115 ∷ 116 ∷ 111 ∷ 114 ∷ 101 ∷ 58 ∷ 58 ∷ 79 ∷ 117 ∷ 116 ∷ 99 ∷ 111 ∷ 109 ∷ 101 ∷ []) (Syntax.tcons (Syntax.tyInt
+      Syntax.w8) (Syntax.tcons (Syntax.tyInt Syntax.w64) Syntax.tnil))),
+) ∷ (
+  1,
+  Rows.sslice (Referent.rtF (Referent.fInt Syntax.w8)) (Syntax.tyRef (Syntax.named
+      0) Syntax.imm (Syntax.tyInt Syntax.w8)) 0,
+) ∷ (2, Mut.mslice SlotAs.row (Syntax.tyRef (Syntax.named 1) Syntax.mut SlotAs.pointee) 1) ∷ (
+  3,
+  Rows.whole
+      (Declared'.row Needs.the-type),
+) ∷ (4, Rows.sc-here (Row.sInt Syntax.w64)) ∷ (5, Rows.any-gone (Syntax.tyInt Syntax.w64)) ∷ (
+  6,
+  Rows.any-gone (Syntax.tyInt
+      Syntax.w64),
+) ∷ (7, Rows.any-gone (Syntax.tyInt Syntax.w32)) ∷ (
+  8,
+  Rows.any-gone (Syntax.tyEnum (112 ∷ 105 ∷ 101 ∷ 99 ∷ 101 ∷ 115 ∷ 58 ∷ 58 ∷ 76 ∷ 105 ∷ 110
+      ∷ 101 ∷ []) (Syntax.ttcons (Syntax.tcons (Syntax.tyInt Syntax.w8) Syntax.tnil) (Syntax.ttcons (Syntax.tcons (Syntax.tyEnum (107 ∷ 105 ∷ 110 ∷ 100 ∷ 115 ∷
+      58 ∷ 58 ∷ 75 ∷ 105 ∷ 110 ∷ 100 ∷ []) (Syntax.ttcons Syntax.tnil (Syntax.ttcons Syntax.tnil (Syntax.ttcons Syntax.tnil (Syntax.ttcons Syntax.tnil
+      (Syntax.ttcons Syntax.tnil (Syntax.ttcons Syntax.tnil (Syntax.ttcons Syntax.tnil (Syntax.ttcons Syntax.tnil (Syntax.ttcons Syntax.tnil (Syntax.ttcons
+      Syntax.tnil (Syntax.ttcons Syntax.tnil (Syntax.ttcons Syntax.tnil (Syntax.ttcons Syntax.tnil (Syntax.ttcons Syntax.tnil (Syntax.ttcons Syntax.tnil
+      (Syntax.ttcons Syntax.tnil (Syntax.ttcons Syntax.tnil (Syntax.ttcons Syntax.tnil (Syntax.ttcons Syntax.tnil (Syntax.ttcons Syntax.tnil (Syntax.ttcons
+      Syntax.tnil (Syntax.ttcons Syntax.tnil (Syntax.ttcons Syntax.tnil (Syntax.ttcons Syntax.tnil (Syntax.ttcons Syntax.tnil (Syntax.ttcons Syntax.tnil
+      (Syntax.ttcons Syntax.tnil (Syntax.ttcons Syntax.tnil (Syntax.ttcons Syntax.tnil (Syntax.ttcons Syntax.tnil Syntax.ttnil)))))))))))))))))))))))))))))))
+      (Syntax.tcons (Syntax.tyInt Syntax.w32) Syntax.tnil)) (Syntax.ttcons (Syntax.tcons (Syntax.tyEnum (107 ∷ 105 ∷ 110 ∷ 100 ∷ 115 ∷ 58 ∷ 58 ∷ 75 ∷ 105 ∷ 110 ∷
+      100 ∷ []) (Syntax.ttcons Syntax.tnil (Syntax.ttcons Syntax.tnil (Syntax.ttcons Syntax.tnil (Syntax.ttcons Syntax.tnil (Syntax.ttcons Syntax.tnil
+      (Syntax.ttcons Syntax.tnil (Syntax.ttcons Syntax.tnil (Syntax.ttcons Syntax.tnil (Syntax.ttcons Syntax.tnil (Syntax.ttcons Syntax.tnil (Syntax.ttcons
+      Syntax.tnil (Syntax.ttcons Syntax.tnil (Syntax.ttcons Syntax.tnil (Syntax.ttcons Syntax.tnil (Syntax.ttcons Syntax.tnil (Syntax.ttcons Syntax.tnil
+      (Syntax.ttcons Syntax.tnil (Syntax.ttcons Syntax.tnil (Syntax.ttcons Syntax.tnil (Syntax.ttcons Syntax.tnil (Syntax.ttcons Syntax.tnil (Syntax.ttcons
+      Syntax.tnil (Syntax.ttcons Syntax.tnil (Syntax.ttcons Syntax.tnil (Syntax.ttcons Syntax.tnil (Syntax.ttcons Syntax.tnil (Syntax.ttcons Syntax.tnil
+      (Syntax.ttcons Syntax.tnil (Syntax.ttcons Syntax.tnil (Syntax.ttcons Syntax.tnil Syntax.ttnil))))))))))))))))))))))))))))))) Syntax.tnil) (Syntax.ttcons
+      (Syntax.tcons (Syntax.tyEnum (108 ∷ 105 ∷ 110 ∷ 101 ∷ 58 ∷ 58 ∷ 82 ∷ 101 ∷ 99 ∷ 111 ∷ 114 ∷ 100 ∷ []) (Syntax.ttcons (Syntax.tcons Syntax.tyBool
+      (Syntax.tcons (Syntax.tyStruct (99 ∷ 111 ∷ 111 ∷ 114 ∷ 100 ∷ 105 ∷ 110 ∷ 97 ∷ 116 ∷ 101 ∷ 58 ∷ 58 ∷ 65 ∷ 116 ∷ 111 ∷ 109 ∷ []) (Syntax.tcons
+      (Syntax.tyStruct (99 ∷ 111 ∷ 111 ∷ 114 ∷ 100 ∷ 105 ∷ 110 ∷ 97 ∷ 116 ∷ 101 ∷ 58 ∷ 58 ∷ 73 ∷ 100 ∷ 101 ∷ 110 ∷ 116 ∷ 105 ∷ 116 ∷ 121 ∷ []) (Syntax.tcons
+      (Syntax.tyStruct (102 ∷ 105 ∷ 101 ∷ 108 ∷ 100 ∷ 115 ∷ 58 ∷ 58 ∷ 83 ∷ 101 ∷ 114 ∷ 105 ∷ 97 ∷ 108 ∷ []) (Syntax.tcons (Syntax.tyInt Syntax.w32) Syntax.tnil))
+      (Syntax.tcons (Syntax.tyStruct (110 ∷ 97 ∷ 109 ∷ 101 ∷ 115 ∷ 58 ∷ 58 ∷ 70 ∷ 111 ∷ 117 ∷ 114 ∷ []) (Syntax.tcons (Syntax.tyInt Syntax.w8) (Syntax.tcons
+      (Syntax.tyInt Syntax.w8) (Syntax.tcons (Syntax.tyInt Syntax.w8) (Syntax.tcons (Syntax.tyInt Syntax.w8) Syntax.tnil))))) (Syntax.tcons (Syntax.tyInt
+      Syntax.w8) (Syntax.tcons (Syntax.tyStruct (114 ∷ 101 ∷ 115 ∷ 105 ∷ 100 ∷ 117 ∷ 101 ∷ 58 ∷ 58 ∷ 82 ∷ 101 ∷ 115 ∷ 105 ∷ 100 ∷ 117 ∷ 101 ∷ []) (Syntax.tcons
+      (Syntax.tyStruct (110 ∷ 97 ∷ 109 ∷ 101 ∷ 115 ∷ 58 ∷ 58 ∷ 84 ∷ 104 ∷ 114 ∷ 101 ∷ 101 ∷ []) (Syntax.tcons (Syntax.tyInt Syntax.w8) (Syntax.tcons
+      (Syntax.tyInt Syntax.w8) (Syntax.tcons (Syntax.tyInt Syntax.w8) Syntax.tnil)))) (Syntax.tcons (Syntax.tyInt Syntax.w8) (Syntax.tcons (Syntax.tyStruct (102
+      ∷ 105 ∷ 101 ∷ 108 ∷ 100 ∷ 115 ∷ 58 ∷ 58 ∷ 82 ∷ 101 ∷ 115 ∷ 105 ∷ 100 ∷ 117 ∷ 101 ∷ 78 ∷ 117 ∷ 109 ∷ 98 ∷ 101 ∷ 114 ∷ []) (Syntax.tcons (Syntax.tyInt
+      Syntax.w32) Syntax.tnil)) (Syntax.tcons (Syntax.tyInt Syntax.w8) Syntax.tnil))))) Syntax.tnil))))) (Syntax.tcons (Syntax.tyStruct (99 ∷ 111 ∷ 111 ∷ 114 ∷
+      100 ∷ 105 ∷ 110 ∷ 97 ∷ 116 ∷ 101 ∷ 58 ∷ 58 ∷ 77 ∷ 101 ∷ 97 ∷ 115 ∷ 117 ∷ 114 ∷ 101 ∷ []) (Syntax.tcons (Syntax.tyStruct (99 ∷ 111 ∷ 111 ∷ 114 ∷ 100 ∷ 105 ∷
+      110 ∷ 97 ∷ 116 ∷ 101 ∷ 58 ∷ 58 ∷ 80 ∷ 111 ∷ 115 ∷ 105 ∷ 116 ∷ 105 ∷ 111 ∷ 110 ∷ []) (Syntax.tcons (Syntax.tyInt Syntax.w32) (Syntax.tcons (Syntax.tyInt
+      Syntax.w32) (Syntax.tcons (Syntax.tyInt Syntax.w32) Syntax.tnil)))) (Syntax.tcons (Syntax.tyInt Syntax.w32) (Syntax.tcons (Syntax.tyInt Syntax.w32)
+      Syntax.tnil)))) (Syntax.tcons (Syntax.tyStruct (99 ∷ 111 ∷ 111 ∷ 114 ∷ 100 ∷ 105 ∷ 110 ∷ 97 ∷ 116 ∷ 101 ∷ 58 ∷ 58 ∷ 83 ∷ 112 ∷ 101 ∷ 99 ∷ 105 ∷ 101 ∷ 115 ∷
+      []) (Syntax.tcons (Syntax.tyStruct (110 ∷ 97 ∷ 109 ∷ 101 ∷ 115 ∷ 58 ∷ 58 ∷ 80 ∷ 97 ∷ 105 ∷ 114 ∷ []) (Syntax.tcons (Syntax.tyInt Syntax.w8) (Syntax.tcons
+      (Syntax.tyInt Syntax.w8) Syntax.tnil))) (Syntax.tcons (Syntax.tyStruct (110 ∷ 97 ∷ 109 ∷ 101 ∷ 115 ∷ 58 ∷ 58 ∷ 80 ∷ 97 ∷ 105 ∷ 114 ∷ []) (Syntax.tcons
+      (Syntax.tyInt Syntax.w8) (Syntax.tcons (Syntax.tyInt Syntax.w8) Syntax.tnil))) Syntax.tnil))) Syntax.tnil)))) Syntax.tnil)) (Syntax.ttcons (Syntax.tcons
+      (Syntax.tyStruct (116 ∷ 101 ∷ 114 ∷ 58 ∷ 58 ∷ 84 ∷ 101 ∷ 114 ∷ []) (Syntax.tcons (Syntax.tyStruct (102 ∷ 105 ∷ 101 ∷ 108 ∷ 100 ∷ 115 ∷ 58 ∷ 58 ∷ 83 ∷ 101 ∷
+      114 ∷ 105 ∷ 97 ∷ 108 ∷ []) (Syntax.tcons (Syntax.tyInt Syntax.w32) Syntax.tnil)) (Syntax.tcons (Syntax.tyStruct (114 ∷ 101 ∷ 115 ∷ 105 ∷ 100 ∷ 117 ∷ 101 ∷
+      58 ∷ 58 ∷ 82 ∷ 101 ∷ 115 ∷ 105 ∷ 100 ∷ 117 ∷ 101 ∷ []) (Syntax.tcons (Syntax.tyStruct (110 ∷ 97 ∷ 109 ∷ 101 ∷ 115 ∷ 58 ∷ 58 ∷ 84 ∷ 104 ∷ 114 ∷ 101 ∷ 101 ∷
+      []) (Syntax.tcons (Syntax.tyInt Syntax.w8) (Syntax.tcons (Syntax.tyInt Syntax.w8) (Syntax.tcons (Syntax.tyInt Syntax.w8) Syntax.tnil)))) (Syntax.tcons
+      (Syntax.tyInt Syntax.w8) (Syntax.tcons (Syntax.tyStruct (102 ∷ 105 ∷ 101 ∷ 108 ∷ 100 ∷ 115 ∷ 58 ∷ 58 ∷ 82 ∷ 101 ∷ 115 ∷ 105 ∷ 100 ∷ 117 ∷ 101 ∷ 78 ∷ 117 ∷
+      109 ∷ 98 ∷ 101 ∷ 114 ∷ []) (Syntax.tcons (Syntax.tyInt Syntax.w32) Syntax.tnil)) (Syntax.tcons (Syntax.tyInt Syntax.w8) Syntax.tnil))))) Syntax.tnil)))
+      Syntax.tnil) (Syntax.ttcons (Syntax.tcons (Syntax.tyStruct (104 ∷ 101 ∷ 108 ∷ 105 ∷ 120 ∷ 58 ∷ 58 ∷ 72 ∷ 101 ∷ 108 ∷ 105 ∷ 120 ∷ []) (Syntax.tcons
+      (Syntax.tyStruct (104 ∷ 101 ∷ 108 ∷ 105 ∷ 120 ∷ 58 ∷ 58 ∷ 69 ∷ 120 ∷ 116 ∷ 101 ∷ 110 ∷ 116 ∷ []) (Syntax.tcons (Syntax.tyInt Syntax.w32) (Syntax.tcons
+      (Syntax.tyStruct (110 ∷ 97 ∷ 109 ∷ 101 ∷ 115 ∷ 58 ∷ 58 ∷ 84 ∷ 104 ∷ 114 ∷ 101 ∷ 101 ∷ []) (Syntax.tcons (Syntax.tyInt Syntax.w8) (Syntax.tcons
+      (Syntax.tyInt Syntax.w8) (Syntax.tcons (Syntax.tyInt Syntax.w8) Syntax.tnil)))) (Syntax.tcons (Syntax.tyStruct (114 ∷ 101 ∷ 115 ∷ 105 ∷ 100 ∷ 117 ∷ 101 ∷
+      58 ∷ 58 ∷ 82 ∷ 101 ∷ 115 ∷ 105 ∷ 100 ∷ 117 ∷ 101 ∷ []) (Syntax.tcons (Syntax.tyStruct (110 ∷ 97 ∷ 109 ∷ 101 ∷ 115 ∷ 58 ∷ 58 ∷ 84 ∷ 104 ∷ 114 ∷ 101 ∷ 101 ∷
+      []) (Syntax.tcons (Syntax.tyInt Syntax.w8) (Syntax.tcons (Syntax.tyInt Syntax.w8) (Syntax.tcons (Syntax.tyInt Syntax.w8) Syntax.tnil)))) (Syntax.tcons
+      (Syntax.tyInt Syntax.w8) (Syntax.tcons (Syntax.tyStruct (102 ∷ 105 ∷ 101 ∷ 108 ∷ 100 ∷ 115 ∷ 58 ∷ 58 ∷ 82 ∷ 101 ∷ 115 ∷ 105 ∷ 100 ∷ 117 ∷ 101 ∷ 78 ∷ 117 ∷
+      109 ∷ 98 ∷ 101 ∷ 114 ∷ []) (Syntax.tcons (Syntax.tyInt Syntax.w32) Syntax.tnil)) (Syntax.tcons (Syntax.tyInt Syntax.w8) Syntax.tnil))))) (Syntax.tcons
+      (Syntax.tyStruct (114 ∷ 101 ∷ 115 ∷ 105 ∷ 100 ∷ 117 ∷ 101 ∷ 58 ∷ 58 ∷ 82 ∷ 101 ∷ 115 ∷ 105 ∷ 100 ∷ 117 ∷ 101 ∷ []) (Syntax.tcons (Syntax.tyStruct (110 ∷ 97
+      ∷ 109 ∷ 101 ∷ 115 ∷ 58 ∷ 58 ∷ 84 ∷ 104 ∷ 114 ∷ 101 ∷ 101 ∷ []) (Syntax.tcons (Syntax.tyInt Syntax.w8) (Syntax.tcons (Syntax.tyInt Syntax.w8) (Syntax.tcons
+      (Syntax.tyInt Syntax.w8) Syntax.tnil)))) (Syntax.tcons (Syntax.tyInt Syntax.w8) (Syntax.tcons (Syntax.tyStruct (102 ∷ 105 ∷ 101 ∷ 108 ∷ 100 ∷ 115 ∷ 58 ∷ 58
+      ∷ 82 ∷ 101 ∷ 115 ∷ 105 ∷ 100 ∷ 117 ∷ 101 ∷ 78 ∷ 117 ∷ 109 ∷ 98 ∷ 101 ∷ 114 ∷ []) (Syntax.tcons (Syntax.tyInt Syntax.w32) Syntax.tnil)) (Syntax.tcons
+      (Syntax.tyInt Syntax.w8) Syntax.tnil))))) Syntax.tnil))))) (Syntax.tcons (Syntax.tyInt Syntax.w32) (Syntax.tcons (Syntax.tyStruct (104 ∷ 101 ∷ 108 ∷ 105 ∷
+      120 ∷ 58 ∷ 58 ∷ 67 ∷ 111 ∷ 109 ∷ 109 ∷ 101 ∷ 110 ∷ 116 ∷ []) (Syntax.tcons (Syntax.tyInt Syntax.w64) (Syntax.tcons (Syntax.tyInt Syntax.w64) (Syntax.tcons
+      (Syntax.tyInt Syntax.w64) (Syntax.tcons (Syntax.tyInt Syntax.w64) Syntax.tnil))))) (Syntax.tcons (Syntax.tyInt Syntax.w32) Syntax.tnil))))) Syntax.tnil)
+      (Syntax.ttcons (Syntax.tcons (Syntax.tyStruct (115 ∷ 104 ∷ 101 ∷ 101 ∷ 116 ∷ 58 ∷ 58 ∷ 83 ∷ 104 ∷ 101 ∷ 101 ∷ 116 ∷ []) (Syntax.tcons (Syntax.tyStruct (115
+      ∷ 104 ∷ 101 ∷ 101 ∷ 116 ∷ 58 ∷ 58 ∷ 83 ∷ 116 ∷ 114 ∷ 97 ∷ 110 ∷ 100 ∷ []) (Syntax.tcons (Syntax.tyInt Syntax.w32) (Syntax.tcons (Syntax.tyStruct (110 ∷ 97
+      ∷ 109 ∷ 101 ∷ 115 ∷ 58 ∷ 58 ∷ 84 ∷ 104 ∷ 114 ∷ 101 ∷ 101 ∷ []) (Syntax.tcons (Syntax.tyInt Syntax.w8) (Syntax.tcons (Syntax.tyInt Syntax.w8) (Syntax.tcons
+      (Syntax.tyInt Syntax.w8) Syntax.tnil)))) (Syntax.tcons (Syntax.tyInt Syntax.w32) (Syntax.tcons (Syntax.tyStruct (114 ∷ 101 ∷ 115 ∷ 105 ∷ 100 ∷ 117 ∷ 101 ∷
+      58 ∷ 58 ∷ 82 ∷ 101 ∷ 115 ∷ 105 ∷ 100 ∷ 117 ∷ 101 ∷ []) (Syntax.tcons (Syntax.tyStruct (110 ∷ 97 ∷ 109 ∷ 101 ∷ 115 ∷ 58 ∷ 58 ∷ 84 ∷ 104 ∷ 114 ∷ 101 ∷ 101 ∷
+      []) (Syntax.tcons (Syntax.tyInt Syntax.w8) (Syntax.tcons (Syntax.tyInt Syntax.w8) (Syntax.tcons (Syntax.tyInt Syntax.w8) Syntax.tnil)))) (Syntax.tcons
+      (Syntax.tyInt Syntax.w8) (Syntax.tcons (Syntax.tyStruct (102 ∷ 105 ∷ 101 ∷ 108 ∷ 100 ∷ 115 ∷ 58 ∷ 58 ∷ 82 ∷ 101 ∷ 115 ∷ 105 ∷ 100 ∷ 117 ∷ 101 ∷ 78 ∷ 117 ∷
+      109 ∷ 98 ∷ 101 ∷ 114 ∷ []) (Syntax.tcons (Syntax.tyInt Syntax.w32) Syntax.tnil)) (Syntax.tcons (Syntax.tyInt Syntax.w8) Syntax.tnil))))) (Syntax.tcons
+      (Syntax.tyStruct (114 ∷ 101 ∷ 115 ∷ 105 ∷ 100 ∷ 117 ∷ 101 ∷ 58 ∷ 58 ∷ 82 ∷ 101 ∷ 115 ∷ 105 ∷ 100 ∷ 117 ∷ 101 ∷ []) (Syntax.tcons (Syntax.tyStruct (110 ∷ 97
+      ∷ 109 ∷ 101 ∷ 115 ∷ 58 ∷ 58 ∷ 84 ∷ 104 ∷ 114 ∷ 101 ∷ 101 ∷ []) (Syntax.tcons (Syntax.tyInt Syntax.w8) (Syntax.tcons (Syntax.tyInt Syntax.w8) (Syntax.tcons
+      (Syntax.tyInt Syntax.w8) Syntax.tnil)))) (Syntax.tcons (Syntax.tyInt Syntax.w8) (Syntax.tcons (Syntax.tyStruct (102 ∷ 105 ∷ 101 ∷ 108 ∷ 100 ∷ 115 ∷ 58 ∷ 58
+      ∷ 82 ∷ 101 ∷ 115 ∷ 105 ∷ 100 ∷ 117 ∷ 101 ∷ 78 ∷ 117 ∷ 109 ∷ 98 ∷ 101 ∷ 114 ∷ []) (Syntax.tcons (Syntax.tyInt Syntax.w32) Syntax.tnil)) (Syntax.tcons
+      (Syntax.tyInt Syntax.w8) Syntax.tnil))))) (Syntax.tcons (Syntax.tyInt Syntax.w32) Syntax.tnil))))))) (Syntax.tcons (Syntax.tyEnum (115 ∷ 104 ∷ 101 ∷ 101 ∷
+      116 ∷ 58 ∷ 58 ∷ 82 ∷ 101 ∷ 103 ∷ 105 ∷ 115 ∷ 116 ∷ 114 ∷ 97 ∷ 116 ∷ 105 ∷ 111 ∷ 110 ∷ []) (Syntax.ttcons Syntax.tnil (Syntax.ttcons (Syntax.tcons
+      (Syntax.tyStruct (115 ∷ 104 ∷ 101 ∷ 101 ∷ 116 ∷ 58 ∷ 58 ∷ 66 ∷ 111 ∷ 110 ∷ 100 ∷ []) (Syntax.tcons (Syntax.tyStruct (110 ∷ 97 ∷ 109 ∷ 101 ∷ 115 ∷ 58 ∷ 58 ∷
+      70 ∷ 111 ∷ 117 ∷ 114 ∷ []) (Syntax.tcons (Syntax.tyInt Syntax.w8) (Syntax.tcons (Syntax.tyInt Syntax.w8) (Syntax.tcons (Syntax.tyInt Syntax.w8)
+      (Syntax.tcons (Syntax.tyInt Syntax.w8) Syntax.tnil))))) (Syntax.tcons (Syntax.tyStruct (114 ∷ 101 ∷ 115 ∷ 105 ∷ 100 ∷ 117 ∷ 101 ∷ 58 ∷ 58 ∷ 82 ∷ 101 ∷ 115
+      ∷ 105 ∷ 100 ∷ 117 ∷ 101 ∷ []) (Syntax.tcons (Syntax.tyStruct (110 ∷ 97 ∷ 109 ∷ 101 ∷ 115 ∷ 58 ∷ 58 ∷ 84 ∷ 104 ∷ 114 ∷ 101 ∷ 101 ∷ []) (Syntax.tcons
+      (Syntax.tyInt Syntax.w8) (Syntax.tcons (Syntax.tyInt Syntax.w8) (Syntax.tcons (Syntax.tyInt Syntax.w8) Syntax.tnil)))) (Syntax.tcons (Syntax.tyInt
+      Syntax.w8) (Syntax.tcons (Syntax.tyStruct (102 ∷ 105 ∷ 101 ∷ 108 ∷ 100 ∷ 115 ∷ 58 ∷ 58 ∷ 82 ∷ 101 ∷ 115 ∷ 105 ∷ 100 ∷ 117 ∷ 101 ∷ 78 ∷ 117 ∷ 109 ∷ 98 ∷ 101
+      ∷ 114 ∷ []) (Syntax.tcons (Syntax.tyInt Syntax.w32) Syntax.tnil)) (Syntax.tcons (Syntax.tyInt Syntax.w8) Syntax.tnil))))) (Syntax.tcons (Syntax.tyStruct
+      (110 ∷ 97 ∷ 109 ∷ 101 ∷ 115 ∷ 58 ∷ 58 ∷ 70 ∷ 111 ∷ 117 ∷ 114 ∷ []) (Syntax.tcons (Syntax.tyInt Syntax.w8) (Syntax.tcons (Syntax.tyInt Syntax.w8)
+      (Syntax.tcons (Syntax.tyInt Syntax.w8) (Syntax.tcons (Syntax.tyInt Syntax.w8) Syntax.tnil))))) (Syntax.tcons (Syntax.tyStruct (114 ∷ 101 ∷ 115 ∷ 105 ∷ 100
+      ∷ 117 ∷ 101 ∷ 58 ∷ 58 ∷ 82 ∷ 101 ∷ 115 ∷ 105 ∷ 100 ∷ 117 ∷ 101 ∷ []) (Syntax.tcons (Syntax.tyStruct (110 ∷ 97 ∷ 109 ∷ 101 ∷ 115 ∷ 58 ∷ 58 ∷ 84 ∷ 104 ∷ 114
+      ∷ 101 ∷ 101 ∷ []) (Syntax.tcons (Syntax.tyInt Syntax.w8) (Syntax.tcons (Syntax.tyInt Syntax.w8) (Syntax.tcons (Syntax.tyInt Syntax.w8) Syntax.tnil))))
+      (Syntax.tcons (Syntax.tyInt Syntax.w8) (Syntax.tcons (Syntax.tyStruct (102 ∷ 105 ∷ 101 ∷ 108 ∷ 100 ∷ 115 ∷ 58 ∷ 58 ∷ 82 ∷ 101 ∷ 115 ∷ 105 ∷ 100 ∷ 117 ∷ 101
+      ∷ 78 ∷ 117 ∷ 109 ∷ 98 ∷ 101 ∷ 114 ∷ []) (Syntax.tcons (Syntax.tyInt Syntax.w32) Syntax.tnil)) (Syntax.tcons (Syntax.tyInt Syntax.w8) Syntax.tnil)))))
+      Syntax.tnil))))) Syntax.tnil) Syntax.ttnil))) Syntax.tnil))) Syntax.tnil) (Syntax.ttcons (Syntax.tcons (Syntax.tyStruct (99 ∷ 111 ∷ 110 ∷ 101 ∷ 99 ∷ 116 ∷
+      58 ∷ 58 ∷ 67 ∷ 111 ∷ 110 ∷ 101 ∷ 99 ∷ 116 ∷ []) (Syntax.tcons (Syntax.tyStruct (102 ∷ 105 ∷ 101 ∷ 108 ∷ 100 ∷ 115 ∷ 58 ∷ 58 ∷ 83 ∷ 101 ∷ 114 ∷ 105 ∷ 97 ∷
+      108 ∷ []) (Syntax.tcons (Syntax.tyInt Syntax.w32) Syntax.tnil)) (Syntax.tcons (Syntax.tyStruct (102 ∷ 105 ∷ 101 ∷ 108 ∷ 100 ∷ 115 ∷ 58 ∷ 58 ∷ 83 ∷ 101 ∷
+      114 ∷ 105 ∷ 97 ∷ 108 ∷ []) (Syntax.tcons (Syntax.tyInt Syntax.w32) Syntax.tnil)) (Syntax.tcons (Syntax.tyStruct (102 ∷ 105 ∷ 101 ∷ 108 ∷ 100 ∷ 115 ∷ 58 ∷
+      58 ∷ 83 ∷ 101 ∷ 114 ∷ 105 ∷ 97 ∷ 108 ∷ []) (Syntax.tcons (Syntax.tyInt Syntax.w32) Syntax.tnil)) (Syntax.tcons (Syntax.tyStruct (102 ∷ 105 ∷ 101 ∷ 108 ∷
+      100 ∷ 115 ∷ 58 ∷ 58 ∷ 83 ∷ 101 ∷ 114 ∷ 105 ∷ 97 ∷ 108 ∷ []) (Syntax.tcons (Syntax.tyInt Syntax.w32) Syntax.tnil)) (Syntax.tcons (Syntax.tyStruct (102 ∷ 105
+      ∷ 101 ∷ 108 ∷ 100 ∷ 115 ∷ 58 ∷ 58 ∷ 83 ∷ 101 ∷ 114 ∷ 105 ∷ 97 ∷ 108 ∷ []) (Syntax.tcons (Syntax.tyInt Syntax.w32) Syntax.tnil)) Syntax.tnil))))))
+      Syntax.tnil) (Syntax.ttcons (Syntax.tcons (Syntax.tyStruct (109 ∷ 97 ∷ 115 ∷ 116 ∷ 101 ∷ 114 ∷ 58 ∷ 58 ∷ 84 ∷ 97 ∷ 108 ∷ 108 ∷ 121 ∷ []) (Syntax.tcons
+      (Syntax.tyInt Syntax.w32) (Syntax.tcons (Syntax.tyInt Syntax.w32) (Syntax.tcons (Syntax.tyInt Syntax.w32) (Syntax.tcons (Syntax.tyInt Syntax.w32)
+      (Syntax.tcons (Syntax.tyInt Syntax.w32) (Syntax.tcons (Syntax.tyInt Syntax.w32) (Syntax.tcons (Syntax.tyInt Syntax.w32) (Syntax.tcons (Syntax.tyInt
+      Syntax.w32) (Syntax.tcons (Syntax.tyInt Syntax.w32) Syntax.tnil)))))))))) Syntax.tnil) (Syntax.ttcons Syntax.tnil (Syntax.ttcons (Syntax.tcons
+      (Syntax.tyStruct (109 ∷ 111 ∷ 100 ∷ 101 ∷ 108 ∷ 58 ∷ 58 ∷ 77 ∷ 111 ∷ 100 ∷ 101 ∷ 108 ∷ []) (Syntax.tcons (Syntax.tyInt Syntax.w32) Syntax.tnil))
+      Syntax.tnil) (Syntax.ttcons Syntax.tnil Syntax.ttnil)))))))))) Syntax.tnil) Syntax.ttnil))))),
+) ∷ (9, Rows.any-gone Syntax.tyBool) ∷ (
+  10,
+  Rows.any-gone
+      (Syntax.tyInt Syntax.w64),
+) ∷ (11, Rows.any-gone (Syntax.tyInt Syntax.w64)) ∷ (12, Rows.any-gone (Syntax.tyInt Syntax.w64)) ∷ (
+  13,
+  Rows.any-gone
+      Syntax.tyBool,
+) ∷ (14, Rows.any-gone (Syntax.tyRef Syntax.erased Syntax.mut SlotAs.pointee)) ∷ (
+  15,
+  Rows.any-gone (Syntax.tyStruct (38 ∷ 91 ∷ 93 ∷ [])
+      (Syntax.tcons (Syntax.tyRef Syntax.erased Syntax.mut SlotAs.pointee) (Syntax.tcons (Syntax.tyInt Syntax.w64) Syntax.tnil))),
+) ∷ []
+
+abbrev pub t7 : List.List Row.Entry
+t7 = (
+  0,
+  Rows.any-gone (Syntax.tyStruct (115 ∷ 116 ∷ 111 ∷ 114 ∷ 101 ∷ 58 ∷ 58 ∷ 79 ∷ 117 ∷ 116 ∷ 99 ∷ 111 ∷ 109 ∷ 101 ∷ []) (Syntax.tcons (Syntax.tyInt
+      Syntax.w8) (Syntax.tcons (Syntax.tyInt Syntax.w64) Syntax.tnil))),
+) ∷ (
+  1,
+  Rows.sslice (Referent.rtF (Referent.fInt Syntax.w8)) (Syntax.tyRef (Syntax.named
+      0) Syntax.imm (Syntax.tyInt Syntax.w8)) 0,
+) ∷ (2, Mut.mslice SlotAs.row (Syntax.tyRef (Syntax.named 1) Syntax.mut SlotAs.pointee) 1) ∷ (
+  3,
+  Rows.any-gone
+      (Syntax.tyStruct (115 ∷ 116 ∷ 111 ∷ 114 ∷ 101 ∷ 58 ∷ 58 ∷ 78 ∷ 101 ∷ 101 ∷ 100 ∷ 115 ∷ []) (Syntax.tcons (Syntax.tyInt Syntax.w8) (Syntax.tcons
+      (Syntax.tyInt Syntax.w64) Syntax.tnil))),
+) ∷ (4, Rows.sc-here (Row.sInt Syntax.w64)) ∷ (5, Rows.any-gone (Syntax.tyInt Syntax.w64)) ∷ (
+  6,
+  Rows.any-gone
+      (Syntax.tyInt Syntax.w64),
+) ∷ (7, Rows.any-gone (Syntax.tyInt Syntax.w32)) ∷ (
+  8,
+  Rows.any-gone (Syntax.tyEnum (112 ∷ 105 ∷ 101 ∷ 99 ∷ 101 ∷ 115 ∷ 58 ∷ 58 ∷
+      76 ∷ 105 ∷ 110 ∷ 101 ∷ []) (Syntax.ttcons (Syntax.tcons (Syntax.tyInt Syntax.w8) Syntax.tnil) (Syntax.ttcons (Syntax.tcons (Syntax.tyEnum (107 ∷ 105 ∷ 110
+      ∷ 100 ∷ 115 ∷ 58 ∷ 58 ∷ 75 ∷ 105 ∷ 110 ∷ 100 ∷ []) (Syntax.ttcons Syntax.tnil (Syntax.ttcons Syntax.tnil (Syntax.ttcons Syntax.tnil (Syntax.ttcons
+      Syntax.tnil (Syntax.ttcons Syntax.tnil (Syntax.ttcons Syntax.tnil (Syntax.ttcons Syntax.tnil (Syntax.ttcons Syntax.tnil (Syntax.ttcons Syntax.tnil
+      (Syntax.ttcons Syntax.tnil (Syntax.ttcons Syntax.tnil (Syntax.ttcons Syntax.tnil (Syntax.ttcons Syntax.tnil (Syntax.ttcons Syntax.tnil (Syntax.ttcons
+      Syntax.tnil (Syntax.ttcons Syntax.tnil (Syntax.ttcons Syntax.tnil (Syntax.ttcons Syntax.tnil (Syntax.ttcons Syntax.tnil (Syntax.ttcons Syntax.tnil
+      (Syntax.ttcons Syntax.tnil (Syntax.ttcons Syntax.tnil (Syntax.ttcons Syntax.tnil (Syntax.ttcons Syntax.tnil (Syntax.ttcons Syntax.tnil (Syntax.ttcons
+      Syntax.tnil (Syntax.ttcons Syntax.tnil (Syntax.ttcons Syntax.tnil (Syntax.ttcons Syntax.tnil (Syntax.ttcons Syntax.tnil
+      Syntax.ttnil))))))))))))))))))))))))))))))) (Syntax.tcons (Syntax.tyInt Syntax.w32) Syntax.tnil)) (Syntax.ttcons (Syntax.tcons (Syntax.tyEnum (107 ∷ 105 ∷
+      110 ∷ 100 ∷ 115 ∷ 58 ∷ 58 ∷ 75 ∷ 105 ∷ 110 ∷ 100 ∷ []) (Syntax.ttcons Syntax.tnil (Syntax.ttcons Syntax.tnil (Syntax.ttcons Syntax.tnil (Syntax.ttcons
+      Syntax.tnil (Syntax.ttcons Syntax.tnil (Syntax.ttcons Syntax.tnil (Syntax.ttcons Syntax.tnil (Syntax.ttcons Syntax.tnil (Syntax.ttcons Syntax.tnil
+      (Syntax.ttcons Syntax.tnil (Syntax.ttcons Syntax.tnil (Syntax.ttcons Syntax.tnil (Syntax.ttcons Syntax.tnil (Syntax.ttcons Syntax.tnil (Syntax.ttcons
+      Syntax.tnil (Syntax.ttcons Syntax.tnil (Syntax.ttcons Syntax.tnil (Syntax.ttcons Syntax.tnil (Syntax.ttcons Syntax.tnil (Syntax.ttcons Syntax.tnil
+      (Syntax.ttcons Syntax.tnil (Syntax.ttcons Syntax.tnil (Syntax.ttcons Syntax.tnil (Syntax.ttcons Syntax.tnil (Syntax.ttcons Syntax.tnil (Syntax.ttcons
+      Syntax.tnil (Syntax.ttcons Syntax.tnil (Syntax.ttcons Syntax.tnil (Syntax.ttcons Syntax.tnil (Syntax.ttcons Syntax.tnil
+      Syntax.ttnil))))))))))))))))))))))))))))))) Syntax.tnil) (Syntax.ttcons (Syntax.tcons (Syntax.tyEnum (108 ∷ 105 ∷ 110 ∷ 101 ∷ 58 ∷ 58 ∷ 82 ∷ 101 ∷ 99 ∷ 111
+      ∷ 114 ∷ 100 ∷ []) (Syntax.ttcons (Syntax.tcons Syntax.tyBool (Syntax.tcons (Syntax.tyStruct (99 ∷ 111 ∷ 111 ∷ 114 ∷ 100 ∷ 105 ∷ 110 ∷ 97 ∷ 116 ∷ 101 ∷ 58 ∷
+      58 ∷ 65 ∷ 116 ∷ 111 ∷ 109 ∷ []) (Syntax.tcons (Syntax.tyStruct (99 ∷ 111 ∷ 111 ∷ 114 ∷ 100 ∷ 105 ∷ 110 ∷ 97 ∷ 116 ∷ 101 ∷ 58 ∷ 58 ∷ 73 ∷ 100 ∷ 101 ∷ 110 ∷
+      116 ∷ 105 ∷ 116 ∷ 121 ∷ []) (Syntax.tcons (Syntax.tyStruct (102 ∷ 105 ∷ 101 ∷ 108 ∷ 100 ∷ 115 ∷ 58 ∷ 58 ∷ 83 ∷ 101 ∷ 114 ∷ 105 ∷ 97 ∷ 108 ∷ [])
+      (Syntax.tcons (Syntax.tyInt Syntax.w32) Syntax.tnil)) (Syntax.tcons (Syntax.tyStruct (110 ∷ 97 ∷ 109 ∷ 101 ∷ 115 ∷ 58 ∷ 58 ∷ 70 ∷ 111 ∷ 117 ∷ 114 ∷ [])
+      (Syntax.tcons (Syntax.tyInt Syntax.w8) (Syntax.tcons (Syntax.tyInt Syntax.w8) (Syntax.tcons (Syntax.tyInt Syntax.w8) (Syntax.tcons (Syntax.tyInt Syntax.w8)
+      Syntax.tnil))))) (Syntax.tcons (Syntax.tyInt Syntax.w8) (Syntax.tcons (Syntax.tyStruct (114 ∷ 101 ∷ 115 ∷ 105 ∷ 100 ∷ 117 ∷ 101 ∷ 58 ∷ 58 ∷ 82 ∷ 101 ∷ 115
+      ∷ 105 ∷ 100 ∷ 117 ∷ 101 ∷ []) (Syntax.tcons (Syntax.tyStruct (110 ∷ 97 ∷ 109 ∷ 101 ∷ 115 ∷ 58 ∷ 58 ∷ 84 ∷ 104 ∷ 114 ∷ 101 ∷ 101 ∷ []) (Syntax.tcons
+      (Syntax.tyInt Syntax.w8) (Syntax.tcons (Syntax.tyInt Syntax.w8) (Syntax.tcons (Syntax.tyInt Syntax.w8) Syntax.tnil)))) (Syntax.tcons (Syntax.tyInt
+      Syntax.w8) (Syntax.tcons (Syntax.tyStruct (102 ∷ 105 ∷ 101 ∷ 108 ∷ 100 ∷ 115 ∷ 58 ∷ 58 ∷ 82 ∷ 101 ∷ 115 ∷ 105 ∷ 100 ∷ 117 ∷ 101 ∷ 78 ∷ 117 ∷ 109 ∷ 98 ∷ 101
+      ∷ 114 ∷ []) (Syntax.tcons (Syntax.tyInt Syntax.w32) Syntax.tnil)) (Syntax.tcons (Syntax.tyInt Syntax.w8) Syntax.tnil))))) Syntax.tnil))))) (Syntax.tcons
+      (Syntax.tyStruct (99 ∷ 111 ∷ 111 ∷ 114 ∷ 100 ∷ 105 ∷ 110 ∷ 97 ∷ 116 ∷ 101 ∷ 58 ∷ 58 ∷ 77 ∷ 101 ∷ 97 ∷ 115 ∷ 117 ∷ 114 ∷ 101 ∷ []) (Syntax.tcons
+      (Syntax.tyStruct (99 ∷ 111 ∷ 111 ∷ 114 ∷ 100 ∷ 105 ∷ 110 ∷ 97 ∷ 116 ∷ 101 ∷ 58 ∷ 58 ∷ 80 ∷ 111 ∷ 115 ∷ 105 ∷ 116 ∷ 105 ∷ 111 ∷ 110 ∷ []) (Syntax.tcons
+      (Syntax.tyInt Syntax.w32) (Syntax.tcons (Syntax.tyInt Syntax.w32) (Syntax.tcons (Syntax.tyInt Syntax.w32) Syntax.tnil)))) (Syntax.tcons (Syntax.tyInt
+      Syntax.w32) (Syntax.tcons (Syntax.tyInt Syntax.w32) Syntax.tnil)))) (Syntax.tcons (Syntax.tyStruct (99 ∷ 111 ∷ 111 ∷ 114 ∷ 100 ∷ 105 ∷ 110 ∷ 97 ∷ 116 ∷ 101
+      ∷ 58 ∷ 58 ∷ 83 ∷ 112 ∷ 101 ∷ 99 ∷ 105 ∷ 101 ∷ 115 ∷ []) (Syntax.tcons (Syntax.tyStruct (110 ∷ 97 ∷ 109 ∷ 101 ∷ 115 ∷ 58 ∷ 58 ∷ 80 ∷ 97 ∷ 105 ∷ 114 ∷ [])
+      (Syntax.tcons (Syntax.tyInt Syntax.w8) (Syntax.tcons (Syntax.tyInt Syntax.w8) Syntax.tnil))) (Syntax.tcons (Syntax.tyStruct (110 ∷ 97 ∷ 109 ∷ 101 ∷ 115 ∷
+      58 ∷ 58 ∷ 80 ∷ 97 ∷ 105 ∷ 114 ∷ []) (Syntax.tcons (Syntax.tyInt Syntax.w8) (Syntax.tcons (Syntax.tyInt Syntax.w8) Syntax.tnil))) Syntax.tnil)))
+      Syntax.tnil)))) Syntax.tnil)) (Syntax.ttcons (Syntax.tcons (Syntax.tyStruct (116 ∷ 101 ∷ 114 ∷ 58 ∷ 58 ∷ 84 ∷ 101 ∷ 114 ∷ []) (Syntax.tcons
+      (Syntax.tyStruct (102 ∷ 105 ∷ 101 ∷ 108 ∷ 100 ∷ 115 ∷ 58 ∷ 58 ∷ 83 ∷ 101 ∷ 114 ∷ 105 ∷ 97 ∷ 108 ∷ []) (Syntax.tcons (Syntax.tyInt Syntax.w32) Syntax.tnil))
+      (Syntax.tcons (Syntax.tyStruct (114 ∷ 101 ∷ 115 ∷ 105 ∷ 100 ∷ 117 ∷ 101 ∷ 58 ∷ 58 ∷ 82 ∷ 101 ∷ 115 ∷ 105 ∷ 100 ∷ 117 ∷ 101 ∷ []) (Syntax.tcons
+      (Syntax.tyStruct (110 ∷ 97 ∷ 109 ∷ 101 ∷ 115 ∷ 58 ∷ 58 ∷ 84 ∷ 104 ∷ 114 ∷ 101 ∷ 101 ∷ []) (Syntax.tcons (Syntax.tyInt Syntax.w8) (Syntax.tcons
+      (Syntax.tyInt Syntax.w8) (Syntax.tcons (Syntax.tyInt Syntax.w8) Syntax.tnil)))) (Syntax.tcons (Syntax.tyInt Syntax.w8) (Syntax.tcons (Syntax.tyStruct (102
+      ∷ 105 ∷ 101 ∷ 108 ∷ 100 ∷ 115 ∷ 58 ∷ 58 ∷ 82 ∷ 101 ∷ 115 ∷ 105 ∷ 100 ∷ 117 ∷ 101 ∷ 78 ∷ 117 ∷ 109 ∷ 98 ∷ 101 ∷ 114 ∷ []) (Syntax.tcons (Syntax.tyInt
+      Syntax.w32) Syntax.tnil)) (Syntax.tcons (Syntax.tyInt Syntax.w8) Syntax.tnil))))) Syntax.tnil))) Syntax.tnil) (Syntax.ttcons (Syntax.tcons (Syntax.tyStruct
+      (104 ∷ 101 ∷ 108 ∷ 105 ∷ 120 ∷ 58 ∷ 58 ∷ 72 ∷ 101 ∷ 108 ∷ 105 ∷ 120 ∷ []) (Syntax.tcons (Syntax.tyStruct (104 ∷ 101 ∷ 108 ∷ 105 ∷ 120 ∷ 58 ∷ 58 ∷ 69 ∷ 120
+      ∷ 116 ∷ 101 ∷ 110 ∷ 116 ∷ []) (Syntax.tcons (Syntax.tyInt Syntax.w32) (Syntax.tcons (Syntax.tyStruct (110 ∷ 97 ∷ 109 ∷ 101 ∷ 115 ∷ 58 ∷ 58 ∷ 84 ∷ 104 ∷ 114
+      ∷ 101 ∷ 101 ∷ []) (Syntax.tcons (Syntax.tyInt Syntax.w8) (Syntax.tcons (Syntax.tyInt Syntax.w8) (Syntax.tcons (Syntax.tyInt Syntax.w8) Syntax.tnil))))
+      (Syntax.tcons (Syntax.tyStruct (114 ∷ 101 ∷ 115 ∷ 105 ∷ 100 ∷ 117 ∷ 101 ∷ 58 ∷ 58 ∷ 82 ∷ 101 ∷ 115 ∷ 105 ∷ 100 ∷ 117 ∷ 101 ∷ []) (Syntax.tcons
+      (Syntax.tyStruct (110 ∷ 97 ∷ 109 ∷ 101 ∷ 115 ∷ 58 ∷ 58 ∷ 84 ∷ 104 ∷ 114 ∷ 101 ∷ 101 ∷ []) (Syntax.tcons (Syntax.tyInt Syntax.w8) (Syntax.tcons
+      (Syntax.tyInt Syntax.w8) (Syntax.tcons (Syntax.tyInt Syntax.w8) Syntax.tnil)))) (Syntax.tcons (Syntax.tyInt Syntax.w8) (Syntax.tcons (Syntax.tyStruct (102
+      ∷ 105 ∷ 101 ∷ 108 ∷ 100 ∷ 115 ∷ 58 ∷ 58 ∷ 82 ∷ 101 ∷ 115 ∷ 105 ∷ 100 ∷ 117 ∷ 101 ∷ 78 ∷ 117 ∷ 109 ∷ 98 ∷ 101 ∷ 114 ∷ []) (Syntax.tcons (Syntax.tyInt
+      Syntax.w32) Syntax.tnil)) (Syntax.tcons (Syntax.tyInt Syntax.w8) Syntax.tnil))))) (Syntax.tcons (Syntax.tyStruct (114 ∷ 101 ∷ 115 ∷ 105 ∷ 100 ∷ 117 ∷ 101 ∷
+      58 ∷ 58 ∷ 82 ∷ 101 ∷ 115 ∷ 105 ∷ 100 ∷ 117 ∷ 101 ∷ []) (Syntax.tcons (Syntax.tyStruct (110 ∷ 97 ∷ 109 ∷ 101 ∷ 115 ∷ 58 ∷ 58 ∷ 84 ∷ 104 ∷ 114 ∷ 101 ∷ 101 ∷
+      []) (Syntax.tcons (Syntax.tyInt Syntax.w8) (Syntax.tcons (Syntax.tyInt Syntax.w8) (Syntax.tcons (Syntax.tyInt Syntax.w8) Syntax.tnil)))) (Syntax.tcons
+      (Syntax.tyInt Syntax.w8) (Syntax.tcons (Syntax.tyStruct (102 ∷ 105 ∷ 101 ∷ 108 ∷ 100 ∷ 115 ∷ 58 ∷ 58 ∷ 82 ∷ 101 ∷ 115 ∷ 105 ∷ 100 ∷ 117 ∷ 101 ∷ 78 ∷ 117 ∷
+      109 ∷ 98 ∷ 101 ∷ 114 ∷ []) (Syntax.tcons (Syntax.tyInt Syntax.w32) Syntax.tnil)) (Syntax.tcons (Syntax.tyInt Syntax.w8) Syntax.tnil))))) Syntax.tnil)))))
+      (Syntax.tcons (Syntax.tyInt Syntax.w32) (Syntax.tcons (Syntax.tyStruct (104 ∷ 101 ∷ 108 ∷ 105 ∷ 120 ∷ 58 ∷ 58 ∷ 67 ∷ 111 ∷ 109 ∷ 109 ∷ 101 ∷ 110 ∷ 116 ∷
+      []) (Syntax.tcons (Syntax.tyInt Syntax.w64) (Syntax.tcons (Syntax.tyInt Syntax.w64) (Syntax.tcons (Syntax.tyInt Syntax.w64) (Syntax.tcons (Syntax.tyInt
+      Syntax.w64) Syntax.tnil))))) (Syntax.tcons (Syntax.tyInt Syntax.w32) Syntax.tnil))))) Syntax.tnil) (Syntax.ttcons (Syntax.tcons (Syntax.tyStruct (115 ∷ 104
+      ∷ 101 ∷ 101 ∷ 116 ∷ 58 ∷ 58 ∷ 83 ∷ 104 ∷ 101 ∷ 101 ∷ 116 ∷ []) (Syntax.tcons (Syntax.tyStruct (115 ∷ 104 ∷ 101 ∷ 101 ∷ 116 ∷ 58 ∷ 58 ∷ 83 ∷ 116 ∷ 114 ∷ 97
+      ∷ 110 ∷ 100 ∷ []) (Syntax.tcons (Syntax.tyInt Syntax.w32) (Syntax.tcons (Syntax.tyStruct (110 ∷ 97 ∷ 109 ∷ 101 ∷ 115 ∷ 58 ∷ 58 ∷ 84 ∷ 104 ∷ 114 ∷ 101 ∷ 101
+      ∷ []) (Syntax.tcons (Syntax.tyInt Syntax.w8) (Syntax.tcons (Syntax.tyInt Syntax.w8) (Syntax.tcons (Syntax.tyInt Syntax.w8) Syntax.tnil)))) (Syntax.tcons
+      (Syntax.tyInt Syntax.w32) (Syntax.tcons (Syntax.tyStruct (114 ∷ 101 ∷ 115 ∷ 105 ∷ 100 ∷ 117 ∷ 101 ∷ 58 ∷ 58 ∷ 82 ∷ 101 ∷ 115 ∷ 105 ∷ 100 ∷ 117 ∷ 101 ∷ [])
+      (Syntax.tcons (Syntax.tyStruct (110 ∷ 97 ∷ 109 ∷ 101 ∷ 115 ∷ 58 ∷ 58 ∷ 84 ∷ 104 ∷ 114 ∷ 101 ∷ 101 ∷ []) (Syntax.tcons (Syntax.tyInt Syntax.w8)
+      (Syntax.tcons (Syntax.tyInt Syntax.w8) (Syntax.tcons (Syntax.tyInt Syntax.w8) Syntax.tnil)))) (Syntax.tcons (Syntax.tyInt Syntax.w8) (Syntax.tcons
+      (Syntax.tyStruct (102 ∷ 105 ∷ 101 ∷ 108 ∷ 100 ∷ 115 ∷ 58 ∷ 58 ∷ 82 ∷ 101 ∷ 115 ∷ 105 ∷ 100 ∷ 117 ∷ 101 ∷ 78 ∷ 117 ∷ 109 ∷ 98 ∷ 101 ∷ 114 ∷ [])
+      (Syntax.tcons (Syntax.tyInt Syntax.w32) Syntax.tnil)) (Syntax.tcons (Syntax.tyInt Syntax.w8) Syntax.tnil))))) (Syntax.tcons (Syntax.tyStruct (114 ∷ 101 ∷
+      115 ∷ 105 ∷ 100 ∷ 117 ∷ 101 ∷ 58 ∷ 58 ∷ 82 ∷ 101 ∷ 115 ∷ 105 ∷ 100 ∷ 117 ∷ 101 ∷ []) (Syntax.tcons (Syntax.tyStruct (110 ∷ 97 ∷ 109 ∷ 101 ∷ 115 ∷ 58 ∷ 58 ∷
+      84 ∷ 104 ∷ 114 ∷ 101 ∷ 101 ∷ []) (Syntax.tcons (Syntax.tyInt Syntax.w8) (Syntax.tcons (Syntax.tyInt Syntax.w8) (Syntax.tcons (Syntax.tyInt Syntax.w8)
+      Syntax.tnil)))) (Syntax.tcons (Syntax.tyInt Syntax.w8) (Syntax.tcons (Syntax.tyStruct (102 ∷ 105 ∷ 101 ∷ 108 ∷ 100 ∷ 115 ∷ 58 ∷ 58 ∷ 82 ∷ 101 ∷ 115 ∷ 105 ∷
+      100 ∷ 117 ∷ 101 ∷ 78 ∷ 117 ∷ 109 ∷ 98 ∷ 101 ∷ 114 ∷ []) (Syntax.tcons (Syntax.tyInt Syntax.w32) Syntax.tnil)) (Syntax.tcons (Syntax.tyInt Syntax.w8)
+      Syntax.tnil))))) (Syntax.tcons (Syntax.tyInt Syntax.w32) Syntax.tnil))))))) (Syntax.tcons (Syntax.tyEnum (115 ∷ 104 ∷ 101 ∷ 101 ∷ 116 ∷ 58 ∷ 58 ∷ 82 ∷ 101
+      ∷ 103 ∷ 105 ∷ 115 ∷ 116 ∷ 114 ∷ 97 ∷ 116 ∷ 105 ∷ 111 ∷ 110 ∷ []) (Syntax.ttcons Syntax.tnil (Syntax.ttcons (Syntax.tcons (Syntax.tyStruct (115 ∷ 104 ∷ 101
+      ∷ 101 ∷ 116 ∷ 58 ∷ 58 ∷ 66 ∷ 111 ∷ 110 ∷ 100 ∷ []) (Syntax.tcons (Syntax.tyStruct (110 ∷ 97 ∷ 109 ∷ 101 ∷ 115 ∷ 58 ∷ 58 ∷ 70 ∷ 111 ∷ 117 ∷ 114 ∷ [])
+      (Syntax.tcons (Syntax.tyInt Syntax.w8) (Syntax.tcons (Syntax.tyInt Syntax.w8) (Syntax.tcons (Syntax.tyInt Syntax.w8) (Syntax.tcons (Syntax.tyInt Syntax.w8)
+      Syntax.tnil))))) (Syntax.tcons (Syntax.tyStruct (114 ∷ 101 ∷ 115 ∷ 105 ∷ 100 ∷ 117 ∷ 101 ∷ 58 ∷ 58 ∷ 82 ∷ 101 ∷ 115 ∷ 105 ∷ 100 ∷ 117 ∷ 101 ∷ [])
+      (Syntax.tcons (Syntax.tyStruct (110 ∷ 97 ∷ 109 ∷ 101 ∷ 115 ∷ 58 ∷ 58 ∷ 84 ∷ 104 ∷ 114 ∷ 101 ∷ 101 ∷ []) (Syntax.tcons (Syntax.tyInt Syntax.w8)
+      (Syntax.tcons (Syntax.tyInt Syntax.w8) (Syntax.tcons (Syntax.tyInt Syntax.w8) Syntax.tnil)))) (Syntax.tcons (Syntax.tyInt Syntax.w8) (Syntax.tcons
+      (Syntax.tyStruct (102 ∷ 105 ∷ 101 ∷ 108 ∷ 100 ∷ 115 ∷ 58 ∷ 58 ∷ 82 ∷ 101 ∷ 115 ∷ 105 ∷ 100 ∷ 117 ∷ 101 ∷ 78 ∷ 117 ∷ 109 ∷ 98 ∷ 101 ∷ 114 ∷ [])
+      (Syntax.tcons (Syntax.tyInt Syntax.w32) Syntax.tnil)) (Syntax.tcons (Syntax.tyInt Syntax.w8) Syntax.tnil))))) (Syntax.tcons (Syntax.tyStruct (110 ∷ 97 ∷
+      109 ∷ 101 ∷ 115 ∷ 58 ∷ 58 ∷ 70 ∷ 111 ∷ 117 ∷ 114 ∷ []) (Syntax.tcons (Syntax.tyInt Syntax.w8) (Syntax.tcons (Syntax.tyInt Syntax.w8) (Syntax.tcons
+      (Syntax.tyInt Syntax.w8) (Syntax.tcons (Syntax.tyInt Syntax.w8) Syntax.tnil))))) (Syntax.tcons (Syntax.tyStruct (114 ∷ 101 ∷ 115 ∷ 105 ∷ 100 ∷ 117 ∷ 101 ∷
+      58 ∷ 58 ∷ 82 ∷ 101 ∷ 115 ∷ 105 ∷ 100 ∷ 117 ∷ 101 ∷ []) (Syntax.tcons (Syntax.tyStruct (110 ∷ 97 ∷ 109 ∷ 101 ∷ 115 ∷ 58 ∷ 58 ∷ 84 ∷ 104 ∷ 114 ∷ 101 ∷ 101 ∷
+      []) (Syntax.tcons (Syntax.tyInt Syntax.w8) (Syntax.tcons (Syntax.tyInt Syntax.w8) (Syntax.tcons (Syntax.tyInt Syntax.w8) Syntax.tnil)))) (Syntax.tcons
+      (Syntax.tyInt Syntax.w8) (Syntax.tcons (Syntax.tyStruct (102 ∷ 105 ∷ 101 ∷ 108 ∷ 100 ∷ 115 ∷ 58 ∷ 58 ∷ 82 ∷ 101 ∷ 115 ∷ 105 ∷ 100 ∷ 117 ∷ 101 ∷ 78 ∷ 117 ∷
+      109 ∷ 98 ∷ 101 ∷ 114 ∷ []) (Syntax.tcons (Syntax.tyInt Syntax.w32) Syntax.tnil)) (Syntax.tcons (Syntax.tyInt Syntax.w8) Syntax.tnil))))) Syntax.tnil)))))
+      Syntax.tnil) Syntax.ttnil))) Syntax.tnil))) Syntax.tnil) (Syntax.ttcons (Syntax.tcons (Syntax.tyStruct (99 ∷ 111 ∷ 110 ∷ 101 ∷ 99 ∷ 116 ∷ 58 ∷ 58 ∷ 67 ∷
+      111 ∷ 110 ∷ 101 ∷ 99 ∷ 116 ∷ []) (Syntax.tcons (Syntax.tyStruct (102 ∷ 105 ∷ 101 ∷ 108 ∷ 100 ∷ 115 ∷ 58 ∷ 58 ∷ 83 ∷ 101 ∷ 114 ∷ 105 ∷ 97 ∷ 108 ∷ [])
+      (Syntax.tcons (Syntax.tyInt Syntax.w32) Syntax.tnil)) (Syntax.tcons (Syntax.tyStruct (102 ∷ 105 ∷ 101 ∷ 108 ∷ 100 ∷ 115 ∷ 58 ∷ 58 ∷ 83 ∷ 101 ∷ 114 ∷ 105 ∷
+      97 ∷ 108 ∷ []) (Syntax.tcons (Syntax.tyInt Syntax.w32) Syntax.tnil)) (Syntax.tcons (Syntax.tyStruct (102 ∷ 105 ∷ 101 ∷ 108 ∷ 100 ∷ 115 ∷ 58 ∷ 58 ∷ 83 ∷ 101
+      ∷ 114 ∷ 105 ∷ 97 ∷ 108 ∷ []) (Syntax.tcons (Syntax.tyInt Syntax.w32) Syntax.tnil)) (Syntax.tcons (Syntax.tyStruct (102 ∷ 105 ∷ 101 ∷ 108 ∷ 100 ∷ 115 ∷ 58 ∷
+      58 ∷ 83 ∷ 101 ∷ 114 ∷ 105 ∷ 97 ∷ 108 ∷ []) (Syntax.tcons (Syntax.tyInt Syntax.w32) Syntax.tnil)) (Syntax.tcons (Syntax.tyStruct (102 ∷ 105 ∷ 101 ∷ 108 ∷
+      100 ∷ 115 ∷ 58 ∷ 58 ∷ 83 ∷ 101 ∷ 114 ∷ 105 ∷ 97 ∷ 108 ∷ []) (Syntax.tcons (Syntax.tyInt Syntax.w32) Syntax.tnil)) Syntax.tnil)))))) Syntax.tnil)
+      (Syntax.ttcons (Syntax.tcons (Syntax.tyStruct (109 ∷ 97 ∷ 115 ∷ 116 ∷ 101 ∷ 114 ∷ 58 ∷ 58 ∷ 84 ∷ 97 ∷ 108 ∷ 108 ∷ 121 ∷ []) (Syntax.tcons (Syntax.tyInt
+      Syntax.w32) (Syntax.tcons (Syntax.tyInt Syntax.w32) (Syntax.tcons (Syntax.tyInt Syntax.w32) (Syntax.tcons (Syntax.tyInt Syntax.w32) (Syntax.tcons
+      (Syntax.tyInt Syntax.w32) (Syntax.tcons (Syntax.tyInt Syntax.w32) (Syntax.tcons (Syntax.tyInt Syntax.w32) (Syntax.tcons (Syntax.tyInt Syntax.w32)
+      (Syntax.tcons (Syntax.tyInt Syntax.w32) Syntax.tnil)))))))))) Syntax.tnil) (Syntax.ttcons Syntax.tnil (Syntax.ttcons (Syntax.tcons (Syntax.tyStruct (109 ∷
+      111 ∷ 100 ∷ 101 ∷ 108 ∷ 58 ∷ 58 ∷ 77 ∷ 111 ∷ 100 ∷ 101 ∷ 108 ∷ []) (Syntax.tcons (Syntax.tyInt Syntax.w32) Syntax.tnil)) Syntax.tnil) (Syntax.ttcons
+      Syntax.tnil Syntax.ttnil)))))))))) Syntax.tnil) Syntax.ttnil))))),
+) ∷ (9, Rows.any-gone Syntax.tyBool) ∷ (10, Rows.any-gone (Syntax.tyInt Syntax.w64)) ∷
+    (11, Rows.any-gone (Syntax.tyInt Syntax.w64)) ∷ (12, Rows.any-gone (Syntax.tyInt Syntax.w64)) ∷ (13, Rows.any-gone Syntax.tyBool) ∷ (
+      14,
+      Rows.any-gone
+          (Syntax.tyRef Syntax.erased Syntax.mut SlotAs.pointee),
+    ) ∷ (
+      15,
+      Rows.any-gone (Syntax.tyStruct (38 ∷ 91 ∷ 93 ∷ []) (Syntax.tcons (Syntax.tyRef Syntax.erased
+          Syntax.mut SlotAs.pointee) (Syntax.tcons (Syntax.tyInt Syntax.w64) Syntax.tnil))),
+    ) ∷ []
+
+abbrev pub t8 : List.List Row.Entry
+t8 = (
+  0,
+  Rows.any-gone (Syntax.tyStruct (115 ∷ 116 ∷ 111 ∷ 114 ∷ 101 ∷ 58 ∷ 58 ∷ 79 ∷ 117 ∷ 116 ∷ 99 ∷ 111 ∷ 109 ∷ 101 ∷ []) (Syntax.tcons (Syntax.tyInt
+      Syntax.w8) (Syntax.tcons (Syntax.tyInt Syntax.w64) Syntax.tnil))),
+) ∷ (
+  1,
+  Rows.sslice (Referent.rtF (Referent.fInt Syntax.w8)) (Syntax.tyRef (Syntax.named
+      0) Syntax.imm (Syntax.tyInt Syntax.w8)) 0,
+) ∷ (2, Mut.mslice SlotAs.row (Syntax.tyRef (Syntax.named 1) Syntax.mut SlotAs.pointee) 1) ∷ (
+  3,
+  Rows.any-gone
+      (Syntax.tyStruct (115 ∷ 116 ∷ 111 ∷ 114 ∷ 101 ∷ 58 ∷ 58 ∷ 78 ∷ 101 ∷ 101 ∷ 100 ∷ 115 ∷ []) (Syntax.tcons (Syntax.tyInt Syntax.w8) (Syntax.tcons
+      (Syntax.tyInt Syntax.w64) Syntax.tnil))),
+) ∷ (4, Rows.sc-here (Row.sInt Syntax.w64)) ∷ (5, Rows.any-gone (Syntax.tyInt Syntax.w64)) ∷ (
+  6,
+  Rows.any-gone
+      (Syntax.tyInt Syntax.w64),
+) ∷ (7, Rows.any-gone (Syntax.tyInt Syntax.w32)) ∷ (
+  8,
+  Rows.any-gone (Syntax.tyEnum (112 ∷ 105 ∷ 101 ∷ 99 ∷ 101 ∷ 115 ∷ 58 ∷ 58 ∷
+      76 ∷ 105 ∷ 110 ∷ 101 ∷ []) (Syntax.ttcons (Syntax.tcons (Syntax.tyInt Syntax.w8) Syntax.tnil) (Syntax.ttcons (Syntax.tcons (Syntax.tyEnum (107 ∷ 105 ∷ 110
+      ∷ 100 ∷ 115 ∷ 58 ∷ 58 ∷ 75 ∷ 105 ∷ 110 ∷ 100 ∷ []) (Syntax.ttcons Syntax.tnil (Syntax.ttcons Syntax.tnil (Syntax.ttcons Syntax.tnil (Syntax.ttcons
+      Syntax.tnil (Syntax.ttcons Syntax.tnil (Syntax.ttcons Syntax.tnil (Syntax.ttcons Syntax.tnil (Syntax.ttcons Syntax.tnil (Syntax.ttcons Syntax.tnil
+      (Syntax.ttcons Syntax.tnil (Syntax.ttcons Syntax.tnil (Syntax.ttcons Syntax.tnil (Syntax.ttcons Syntax.tnil (Syntax.ttcons Syntax.tnil (Syntax.ttcons
+      Syntax.tnil (Syntax.ttcons Syntax.tnil (Syntax.ttcons Syntax.tnil (Syntax.ttcons Syntax.tnil (Syntax.ttcons Syntax.tnil (Syntax.ttcons Syntax.tnil
+      (Syntax.ttcons Syntax.tnil (Syntax.ttcons Syntax.tnil (Syntax.ttcons Syntax.tnil (Syntax.ttcons Syntax.tnil (Syntax.ttcons Syntax.tnil (Syntax.ttcons
+      Syntax.tnil (Syntax.ttcons Syntax.tnil (Syntax.ttcons Syntax.tnil (Syntax.ttcons Syntax.tnil (Syntax.ttcons Syntax.tnil
+      Syntax.ttnil))))))))))))))))))))))))))))))) (Syntax.tcons (Syntax.tyInt Syntax.w32) Syntax.tnil)) (Syntax.ttcons (Syntax.tcons (Syntax.tyEnum (107 ∷ 105 ∷
+      110 ∷ 100 ∷ 115 ∷ 58 ∷ 58 ∷ 75 ∷ 105 ∷ 110 ∷ 100 ∷ []) (Syntax.ttcons Syntax.tnil (Syntax.ttcons Syntax.tnil (Syntax.ttcons Syntax.tnil (Syntax.ttcons
+      Syntax.tnil (Syntax.ttcons Syntax.tnil (Syntax.ttcons Syntax.tnil (Syntax.ttcons Syntax.tnil (Syntax.ttcons Syntax.tnil (Syntax.ttcons Syntax.tnil
+      (Syntax.ttcons Syntax.tnil (Syntax.ttcons Syntax.tnil (Syntax.ttcons Syntax.tnil (Syntax.ttcons Syntax.tnil (Syntax.ttcons Syntax.tnil (Syntax.ttcons
+      Syntax.tnil (Syntax.ttcons Syntax.tnil (Syntax.ttcons Syntax.tnil (Syntax.ttcons Syntax.tnil (Syntax.ttcons Syntax.tnil (Syntax.ttcons Syntax.tnil
+      (Syntax.ttcons Syntax.tnil (Syntax.ttcons Syntax.tnil (Syntax.ttcons Syntax.tnil (Syntax.ttcons Syntax.tnil (Syntax.ttcons Syntax.tnil (Syntax.ttcons
+      Syntax.tnil (Syntax.ttcons Syntax.tnil (Syntax.ttcons Syntax.tnil (Syntax.ttcons Syntax.tnil (Syntax.ttcons Syntax.tnil
+      Syntax.ttnil))))))))))))))))))))))))))))))) Syntax.tnil) (Syntax.ttcons (Syntax.tcons (Syntax.tyEnum (108 ∷ 105 ∷ 110 ∷ 101 ∷ 58 ∷ 58 ∷ 82 ∷ 101 ∷ 99 ∷ 111
+      ∷ 114 ∷ 100 ∷ []) (Syntax.ttcons (Syntax.tcons Syntax.tyBool (Syntax.tcons (Syntax.tyStruct (99 ∷ 111 ∷ 111 ∷ 114 ∷ 100 ∷ 105 ∷ 110 ∷ 97 ∷ 116 ∷ 101 ∷ 58 ∷
+      58 ∷ 65 ∷ 116 ∷ 111 ∷ 109 ∷ []) (Syntax.tcons (Syntax.tyStruct (99 ∷ 111 ∷ 111 ∷ 114 ∷ 100 ∷ 105 ∷ 110 ∷ 97 ∷ 116 ∷ 101 ∷ 58 ∷ 58 ∷ 73 ∷ 100 ∷ 101 ∷ 110 ∷
+      116 ∷ 105 ∷ 116 ∷ 121 ∷ []) (Syntax.tcons (Syntax.tyStruct (102 ∷ 105 ∷ 101 ∷ 108 ∷ 100 ∷ 115 ∷ 58 ∷ 58 ∷ 83 ∷ 101 ∷ 114 ∷ 105 ∷ 97 ∷ 108 ∷ [])
+      (Syntax.tcons (Syntax.tyInt Syntax.w32) Syntax.tnil)) (Syntax.tcons (Syntax.tyStruct (110 ∷ 97 ∷ 109 ∷ 101 ∷ 115 ∷ 58 ∷ 58 ∷ 70 ∷ 111 ∷ 117 ∷ 114 ∷ [])
+      (Syntax.tcons (Syntax.tyInt Syntax.w8) (Syntax.tcons (Syntax.tyInt Syntax.w8) (Syntax.tcons (Syntax.tyInt Syntax.w8) (Syntax.tcons (Syntax.tyInt Syntax.w8)
+      Syntax.tnil))))) (Syntax.tcons (Syntax.tyInt Syntax.w8) (Syntax.tcons (Syntax.tyStruct (114 ∷ 101 ∷ 115 ∷ 105 ∷ 100 ∷ 117 ∷ 101 ∷ 58 ∷ 58 ∷ 82 ∷ 101 ∷ 115
+      ∷ 105 ∷ 100 ∷ 117 ∷ 101 ∷ []) (Syntax.tcons (Syntax.tyStruct (110 ∷ 97 ∷ 109 ∷ 101 ∷ 115 ∷ 58 ∷ 58 ∷ 84 ∷ 104 ∷ 114 ∷ 101 ∷ 101 ∷ []) (Syntax.tcons
+      (Syntax.tyInt Syntax.w8) (Syntax.tcons (Syntax.tyInt Syntax.w8) (Syntax.tcons (Syntax.tyInt Syntax.w8) Syntax.tnil)))) (Syntax.tcons (Syntax.tyInt
+      Syntax.w8) (Syntax.tcons (Syntax.tyStruct (102 ∷ 105 ∷ 101 ∷ 108 ∷ 100 ∷ 115 ∷ 58 ∷ 58 ∷ 82 ∷ 101 ∷ 115 ∷ 105 ∷ 100 ∷ 117 ∷ 101 ∷ 78 ∷ 117 ∷ 109 ∷ 98 ∷ 101
+      ∷ 114 ∷ []) (Syntax.tcons (Syntax.tyInt Syntax.w32) Syntax.tnil)) (Syntax.tcons (Syntax.tyInt Syntax.w8) Syntax.tnil))))) Syntax.tnil))))) (Syntax.tcons
+      (Syntax.tyStruct (99 ∷ 111 ∷ 111 ∷ 114 ∷ 100 ∷ 105 ∷ 110 ∷ 97 ∷ 116 ∷ 101 ∷ 58 ∷ 58 ∷ 77 ∷ 101 ∷ 97 ∷ 115 ∷ 117 ∷ 114 ∷ 101 ∷ []) (Syntax.tcons
+      (Syntax.tyStruct (99 ∷ 111 ∷ 111 ∷ 114 ∷ 100 ∷ 105 ∷ 110 ∷ 97 ∷ 116 ∷ 101 ∷ 58 ∷ 58 ∷ 80 ∷ 111 ∷ 115 ∷ 105 ∷ 116 ∷ 105 ∷ 111 ∷ 110 ∷ []) (Syntax.tcons
+      (Syntax.tyInt Syntax.w32) (Syntax.tcons (Syntax.tyInt Syntax.w32) (Syntax.tcons (Syntax.tyInt Syntax.w32) Syntax.tnil)))) (Syntax.tcons (Syntax.tyInt
+      Syntax.w32) (Syntax.tcons (Syntax.tyInt Syntax.w32) Syntax.tnil)))) (Syntax.tcons (Syntax.tyStruct (99 ∷ 111 ∷ 111 ∷ 114 ∷ 100 ∷ 105 ∷ 110 ∷ 97 ∷ 116 ∷ 101
+      ∷ 58 ∷ 58 ∷ 83 ∷ 112 ∷ 101 ∷ 99 ∷ 105 ∷ 101 ∷ 115 ∷ []) (Syntax.tcons (Syntax.tyStruct (110 ∷ 97 ∷ 109 ∷ 101 ∷ 115 ∷ 58 ∷ 58 ∷ 80 ∷ 97 ∷ 105 ∷ 114 ∷ [])
+      (Syntax.tcons (Syntax.tyInt Syntax.w8) (Syntax.tcons (Syntax.tyInt Syntax.w8) Syntax.tnil))) (Syntax.tcons (Syntax.tyStruct (110 ∷ 97 ∷ 109 ∷ 101 ∷ 115 ∷
+      58 ∷ 58 ∷ 80 ∷ 97 ∷ 105 ∷ 114 ∷ []) (Syntax.tcons (Syntax.tyInt Syntax.w8) (Syntax.tcons (Syntax.tyInt Syntax.w8) Syntax.tnil))) Syntax.tnil)))
+      Syntax.tnil)))) Syntax.tnil)) (Syntax.ttcons (Syntax.tcons (Syntax.tyStruct (116 ∷ 101 ∷ 114 ∷ 58 ∷ 58 ∷ 84 ∷ 101 ∷ 114 ∷ []) (Syntax.tcons
+      (Syntax.tyStruct (102 ∷ 105 ∷ 101 ∷ 108 ∷ 100 ∷ 115 ∷ 58 ∷ 58 ∷ 83 ∷ 101 ∷ 114 ∷ 105 ∷ 97 ∷ 108 ∷ []) (Syntax.tcons (Syntax.tyInt Syntax.w32) Syntax.tnil))
+      (Syntax.tcons (Syntax.tyStruct (114 ∷ 101 ∷ 115 ∷ 105 ∷ 100 ∷ 117 ∷ 101 ∷ 58 ∷ 58 ∷ 82 ∷ 101 ∷ 115 ∷ 105 ∷ 100 ∷ 117 ∷ 101 ∷ []) (Syntax.tcons
+      (Syntax.tyStruct (110 ∷ 97 ∷ 109 ∷ 101 ∷ 115 ∷ 58 ∷ 58 ∷ 84 ∷ 104 ∷ 114 ∷ 101 ∷ 101 ∷ []) (Syntax.tcons (Syntax.tyInt Syntax.w8) (Syntax.tcons
+      (Syntax.tyInt Syntax.w8) (Syntax.tcons (Syntax.tyInt Syntax.w8) Syntax.tnil)))) (Syntax.tcons (Syntax.tyInt Syntax.w8) (Syntax.tcons (Syntax.tyStruct (102
+      ∷ 105 ∷ 101 ∷ 108 ∷ 100 ∷ 115 ∷ 58 ∷ 58 ∷ 82 ∷ 101 ∷ 115 ∷ 105 ∷ 100 ∷ 117 ∷ 101 ∷ 78 ∷ 117 ∷ 109 ∷ 98 ∷ 101 ∷ 114 ∷ []) (Syntax.tcons (Syntax.tyInt
+      Syntax.w32) Syntax.tnil)) (Syntax.tcons (Syntax.tyInt Syntax.w8) Syntax.tnil))))) Syntax.tnil))) Syntax.tnil) (Syntax.ttcons (Syntax.tcons (Syntax.tyStruct
+      (104 ∷ 101 ∷ 108 ∷ 105 ∷ 120 ∷ 58 ∷ 58 ∷ 72 ∷ 101 ∷ 108 ∷ 105 ∷ 120 ∷ []) (Syntax.tcons (Syntax.tyStruct (104 ∷ 101 ∷ 108 ∷ 105 ∷ 120 ∷ 58 ∷ 58 ∷ 69 ∷ 120
+      ∷ 116 ∷ 101 ∷ 110 ∷ 116 ∷ []) (Syntax.tcons (Syntax.tyInt Syntax.w32) (Syntax.tcons (Syntax.tyStruct (110 ∷ 97 ∷ 109 ∷ 101 ∷ 115 ∷ 58 ∷ 58 ∷ 84 ∷ 104 ∷ 114
+      ∷ 101 ∷ 101 ∷ []) (Syntax.tcons (Syntax.tyInt Syntax.w8) (Syntax.tcons (Syntax.tyInt Syntax.w8) (Syntax.tcons (Syntax.tyInt Syntax.w8) Syntax.tnil))))
+      (Syntax.tcons (Syntax.tyStruct (114 ∷ 101 ∷ 115 ∷ 105 ∷ 100 ∷ 117 ∷ 101 ∷ 58 ∷ 58 ∷ 82 ∷ 101 ∷ 115 ∷ 105 ∷ 100 ∷ 117 ∷ 101 ∷ []) (Syntax.tcons
+      (Syntax.tyStruct (110 ∷ 97 ∷ 109 ∷ 101 ∷ 115 ∷ 58 ∷ 58 ∷ 84 ∷ 104 ∷ 114 ∷ 101 ∷ 101 ∷ []) (Syntax.tcons (Syntax.tyInt Syntax.w8) (Syntax.tcons
+      (Syntax.tyInt Syntax.w8) (Syntax.tcons (Syntax.tyInt Syntax.w8) Syntax.tnil)))) (Syntax.tcons (Syntax.tyInt Syntax.w8) (Syntax.tcons (Syntax.tyStruct (102
+      ∷ 105 ∷ 101 ∷ 108 ∷ 100 ∷ 115 ∷ 58 ∷ 58 ∷ 82 ∷ 101 ∷ 115 ∷ 105 ∷ 100 ∷ 117 ∷ 101 ∷ 78 ∷ 117 ∷ 109 ∷ 98 ∷ 101 ∷ 114 ∷ []) (Syntax.tcons (Syntax.tyInt
+      Syntax.w32) Syntax.tnil)) (Syntax.tcons (Syntax.tyInt Syntax.w8) Syntax.tnil))))) (Syntax.tcons (Syntax.tyStruct (114 ∷ 101 ∷ 115 ∷ 105 ∷ 100 ∷ 117 ∷ 101 ∷
+      58 ∷ 58 ∷ 82 ∷ 101 ∷ 115 ∷ 105 ∷ 100 ∷ 117 ∷ 101 ∷ []) (Syntax.tcons (Syntax.tyStruct (110 ∷ 97 ∷ 109 ∷ 101 ∷ 115 ∷ 58 ∷ 58 ∷ 84 ∷ 104 ∷ 114 ∷ 101 ∷ 101 ∷
+      []) (Syntax.tcons (Syntax.tyInt Syntax.w8) (Syntax.tcons (Syntax.tyInt Syntax.w8) (Syntax.tcons (Syntax.tyInt Syntax.w8) Syntax.tnil)))) (Syntax.tcons
+      (Syntax.tyInt Syntax.w8) (Syntax.tcons (Syntax.tyStruct (102 ∷ 105 ∷ 101 ∷ 108 ∷ 100 ∷ 115 ∷ 58 ∷ 58 ∷ 82 ∷ 101 ∷ 115 ∷ 105 ∷ 100 ∷ 117 ∷ 101 ∷ 78 ∷ 117 ∷
+      109 ∷ 98 ∷ 101 ∷ 114 ∷ []) (Syntax.tcons (Syntax.tyInt Syntax.w32) Syntax.tnil)) (Syntax.tcons (Syntax.tyInt Syntax.w8) Syntax.tnil))))) Syntax.tnil)))))
+      (Syntax.tcons (Syntax.tyInt Syntax.w32) (Syntax.tcons (Syntax.tyStruct (104 ∷ 101 ∷ 108 ∷ 105 ∷ 120 ∷ 58 ∷ 58 ∷ 67 ∷ 111 ∷ 109 ∷ 109 ∷ 101 ∷ 110 ∷ 116 ∷
+      []) (Syntax.tcons (Syntax.tyInt Syntax.w64) (Syntax.tcons (Syntax.tyInt Syntax.w64) (Syntax.tcons (Syntax.tyInt Syntax.w64) (Syntax.tcons (Syntax.tyInt
+      Syntax.w64) Syntax.tnil))))) (Syntax.tcons (Syntax.tyInt Syntax.w32) Syntax.tnil))))) Syntax.tnil) (Syntax.ttcons (Syntax.tcons (Syntax.tyStruct (115 ∷ 104
+      ∷ 101 ∷ 101 ∷ 116 ∷ 58 ∷ 58 ∷ 83 ∷ 104 ∷ 101 ∷ 101 ∷ 116 ∷ []) (Syntax.tcons (Syntax.tyStruct (115 ∷ 104 ∷ 101 ∷ 101 ∷ 116 ∷ 58 ∷ 58 ∷ 83 ∷ 116 ∷ 114 ∷ 97
+      ∷ 110 ∷ 100 ∷ []) (Syntax.tcons (Syntax.tyInt Syntax.w32) (Syntax.tcons (Syntax.tyStruct (110 ∷ 97 ∷ 109 ∷ 101 ∷ 115 ∷ 58 ∷ 58 ∷ 84 ∷ 104 ∷ 114 ∷ 101 ∷ 101
+      ∷ []) (Syntax.tcons (Syntax.tyInt Syntax.w8) (Syntax.tcons (Syntax.tyInt Syntax.w8) (Syntax.tcons (Syntax.tyInt Syntax.w8) Syntax.tnil)))) (Syntax.tcons
+      (Syntax.tyInt Syntax.w32) (Syntax.tcons (Syntax.tyStruct (114 ∷ 101 ∷ 115 ∷ 105 ∷ 100 ∷ 117 ∷ 101 ∷ 58 ∷ 58 ∷ 82 ∷ 101 ∷ 115 ∷ 105 ∷ 100 ∷ 117 ∷ 101 ∷ [])
+      (Syntax.tcons (Syntax.tyStruct (110 ∷ 97 ∷ 109 ∷ 101 ∷ 115 ∷ 58 ∷ 58 ∷ 84 ∷ 104 ∷ 114 ∷ 101 ∷ 101 ∷ []) (Syntax.tcons (Syntax.tyInt Syntax.w8)
+      (Syntax.tcons (Syntax.tyInt Syntax.w8) (Syntax.tcons (Syntax.tyInt Syntax.w8) Syntax.tnil)))) (Syntax.tcons (Syntax.tyInt Syntax.w8) (Syntax.tcons
+      (Syntax.tyStruct (102 ∷ 105 ∷ 101 ∷ 108 ∷ 100 ∷ 115 ∷ 58 ∷ 58 ∷ 82 ∷ 101 ∷ 115 ∷ 105 ∷ 100 ∷ 117 ∷ 101 ∷ 78 ∷ 117 ∷ 109 ∷ 98 ∷ 101 ∷ 114 ∷ [])
+      (Syntax.tcons (Syntax.tyInt Syntax.w32) Syntax.tnil)) (Syntax.tcons (Syntax.tyInt Syntax.w8) Syntax.tnil))))) (Syntax.tcons (Syntax.tyStruct (114 ∷ 101 ∷
+      115 ∷ 105 ∷ 100 ∷ 117 ∷ 101 ∷ 58 ∷ 58 ∷ 82 ∷ 101 ∷ 115 ∷ 105 ∷ 100 ∷ 117 ∷ 101 ∷ []) (Syntax.tcons (Syntax.tyStruct (110 ∷ 97 ∷ 109 ∷ 101 ∷ 115 ∷ 58 ∷ 58 ∷
+      84 ∷ 104 ∷ 114 ∷ 101 ∷ 101 ∷ []) (Syntax.tcons (Syntax.tyInt Syntax.w8) (Syntax.tcons (Syntax.tyInt Syntax.w8) (Syntax.tcons (Syntax.tyInt Syntax.w8)
+      Syntax.tnil)))) (Syntax.tcons (Syntax.tyInt Syntax.w8) (Syntax.tcons (Syntax.tyStruct (102 ∷ 105 ∷ 101 ∷ 108 ∷ 100 ∷ 115 ∷ 58 ∷ 58 ∷ 82 ∷ 101 ∷ 115 ∷ 105 ∷
+      100 ∷ 117 ∷ 101 ∷ 78 ∷ 117 ∷ 109 ∷ 98 ∷ 101 ∷ 114 ∷ []) (Syntax.tcons (Syntax.tyInt Syntax.w32) Syntax.tnil)) (Syntax.tcons (Syntax.tyInt Syntax.w8)
+      Syntax.tnil))))) (Syntax.tcons (Syntax.tyInt Syntax.w32) Syntax.tnil))))))) (Syntax.tcons (Syntax.tyEnum (115 ∷ 104 ∷ 101 ∷ 101 ∷ 116 ∷ 58 ∷ 58 ∷ 82 ∷ 101
+      ∷ 103 ∷ 105 ∷ 115 ∷ 116 ∷ 114 ∷ 97 ∷ 116 ∷ 105 ∷ 111 ∷ 110 ∷ []) (Syntax.ttcons Syntax.tnil (Syntax.ttcons (Syntax.tcons (Syntax.tyStruct (115 ∷ 104 ∷ 101
+      ∷ 101 ∷ 116 ∷ 58 ∷ 58 ∷ 66 ∷ 111 ∷ 110 ∷ 100 ∷ []) (Syntax.tcons (Syntax.tyStruct (110 ∷ 97 ∷ 109 ∷ 101 ∷ 115 ∷ 58 ∷ 58 ∷ 70 ∷ 111 ∷ 117 ∷ 114 ∷ [])
+      (Syntax.tcons (Syntax.tyInt Syntax.w8) (Syntax.tcons (Syntax.tyInt Syntax.w8) (Syntax.tcons (Syntax.tyInt Syntax.w8) (Syntax.tcons (Syntax.tyInt Syntax.w8)
+      Syntax.tnil))))) (Syntax.tcons (Syntax.tyStruct (114 ∷ 101 ∷ 115 ∷ 105 ∷ 100 ∷ 117 ∷ 101 ∷ 58 ∷ 58 ∷ 82 ∷ 101 ∷ 115 ∷ 105 ∷ 100 ∷ 117 ∷ 101 ∷ [])
+      (Syntax.tcons (Syntax.tyStruct (110 ∷ 97 ∷ 109 ∷ 101 ∷ 115 ∷ 58 ∷ 58 ∷ 84 ∷ 104 ∷ 114 ∷ 101 ∷ 101 ∷ []) (Syntax.tcons (Syntax.tyInt Syntax.w8)
+      (Syntax.tcons (Syntax.tyInt Syntax.w8) (Syntax.tcons (Syntax.tyInt Syntax.w8) Syntax.tnil)))) (Syntax.tcons (Syntax.tyInt Syntax.w8) (Syntax.tcons
+      (Syntax.tyStruct (102 ∷ 105 ∷ 101 ∷ 108 ∷ 100 ∷ 115 ∷ 58 ∷ 58 ∷ 82 ∷ 101 ∷ 115 ∷ 105 ∷ 100 ∷ 117 ∷ 101 ∷ 78 ∷ 117 ∷ 109 ∷ 98 ∷ 101 ∷ 114 ∷ [])
+      (Syntax.tcons (Syntax.tyInt Syntax.w32) Syntax.tnil)) (Syntax.tcons (Syntax.tyInt Syntax.w8) Syntax.tnil))))) (Syntax.tcons (Syntax.tyStruct (110 ∷ 97 ∷
+      109 ∷ 101 ∷ 115 ∷ 58 ∷ 58 ∷ 70 ∷ 111 ∷ 117 ∷ 114 ∷ []) (Syntax.tcons (Syntax.tyInt Syntax.w8) (Syntax.tcons (Syntax.tyInt Syntax.w8) (Syntax.tcons
+      (Syntax.tyInt Syntax.w8) (Syntax.tcons (Syntax.tyInt Syntax.w8) Syntax.tnil))))) (Syntax.tcons (Syntax.tyStruct (114 ∷ 101 ∷ 115 ∷ 105 ∷ 100 ∷ 117 ∷ 101 ∷
+      58 ∷ 58 ∷ 82 ∷ 101 ∷ 115 ∷ 105 ∷ 100 ∷ 117 ∷ 101 ∷ []) (Syntax.tcons (Syntax.tyStruct (110 ∷ 97 ∷ 109 ∷ 101 ∷ 115 ∷ 58 ∷ 58 ∷ 84 ∷ 104 ∷ 114 ∷ 101 ∷ 101 ∷
+      []) (Syntax.tcons (Syntax.tyInt Syntax.w8) (Syntax.tcons (Syntax.tyInt Syntax.w8) (Syntax.tcons (Syntax.tyInt Syntax.w8) Syntax.tnil)))) (Syntax.tcons
+      (Syntax.tyInt Syntax.w8) (Syntax.tcons (Syntax.tyStruct (102 ∷ 105 ∷ 101 ∷ 108 ∷ 100 ∷ 115 ∷ 58 ∷ 58 ∷ 82 ∷ 101 ∷ 115 ∷ 105 ∷ 100 ∷ 117 ∷ 101 ∷ 78 ∷ 117 ∷
+      109 ∷ 98 ∷ 101 ∷ 114 ∷ []) (Syntax.tcons (Syntax.tyInt Syntax.w32) Syntax.tnil)) (Syntax.tcons (Syntax.tyInt Syntax.w8) Syntax.tnil))))) Syntax.tnil)))))
+      Syntax.tnil) Syntax.ttnil))) Syntax.tnil))) Syntax.tnil) (Syntax.ttcons (Syntax.tcons (Syntax.tyStruct (99 ∷ 111 ∷ 110 ∷ 101 ∷ 99 ∷ 116 ∷ 58 ∷ 58 ∷ 67 ∷
+      111 ∷ 110 ∷ 101 ∷ 99 ∷ 116 ∷ []) (Syntax.tcons (Syntax.tyStruct (102 ∷ 105 ∷ 101 ∷ 108 ∷ 100 ∷ 115 ∷ 58 ∷ 58 ∷ 83 ∷ 101 ∷ 114 ∷ 105 ∷ 97 ∷ 108 ∷ [])
+      (Syntax.tcons (Syntax.tyInt Syntax.w32) Syntax.tnil)) (Syntax.tcons (Syntax.tyStruct (102 ∷ 105 ∷ 101 ∷ 108 ∷ 100 ∷ 115 ∷ 58 ∷ 58 ∷ 83 ∷ 101 ∷ 114 ∷ 105 ∷
+      97 ∷ 108 ∷ []) (Syntax.tcons (Syntax.tyInt Syntax.w32) Syntax.tnil)) (Syntax.tcons (Syntax.tyStruct (102 ∷ 105 ∷ 101 ∷ 108 ∷ 100 ∷ 115 ∷ 58 ∷ 58 ∷ 83 ∷ 101
+      ∷ 114 ∷ 105 ∷ 97 ∷ 108 ∷ []) (Syntax.tcons (Syntax.tyInt Syntax.w32) Syntax.tnil)) (Syntax.tcons (Syntax.tyStruct (102 ∷ 105 ∷ 101 ∷ 108 ∷ 100 ∷ 115 ∷ 58 ∷
+      58 ∷ 83 ∷ 101 ∷ 114 ∷ 105 ∷ 97 ∷ 108 ∷ []) (Syntax.tcons (Syntax.tyInt Syntax.w32) Syntax.tnil)) (Syntax.tcons (Syntax.tyStruct (102 ∷ 105 ∷ 101 ∷ 108 ∷
+      100 ∷ 115 ∷ 58 ∷ 58 ∷ 83 ∷ 101 ∷ 114 ∷ 105 ∷ 97 ∷ 108 ∷ []) (Syntax.tcons (Syntax.tyInt Syntax.w32) Syntax.tnil)) Syntax.tnil)))))) Syntax.tnil)
+      (Syntax.ttcons (Syntax.tcons (Syntax.tyStruct (109 ∷ 97 ∷ 115 ∷ 116 ∷ 101 ∷ 114 ∷ 58 ∷ 58 ∷ 84 ∷ 97 ∷ 108 ∷ 108 ∷ 121 ∷ []) (Syntax.tcons (Syntax.tyInt
+      Syntax.w32) (Syntax.tcons (Syntax.tyInt Syntax.w32) (Syntax.tcons (Syntax.tyInt Syntax.w32) (Syntax.tcons (Syntax.tyInt Syntax.w32) (Syntax.tcons
+      (Syntax.tyInt Syntax.w32) (Syntax.tcons (Syntax.tyInt Syntax.w32) (Syntax.tcons (Syntax.tyInt Syntax.w32) (Syntax.tcons (Syntax.tyInt Syntax.w32)
+      (Syntax.tcons (Syntax.tyInt Syntax.w32) Syntax.tnil)))))))))) Syntax.tnil) (Syntax.ttcons Syntax.tnil (Syntax.ttcons (Syntax.tcons (Syntax.tyStruct (109 ∷
+      111 ∷ 100 ∷ 101 ∷ 108 ∷ 58 ∷ 58 ∷ 77 ∷ 111 ∷ 100 ∷ 101 ∷ 108 ∷ []) (Syntax.tcons (Syntax.tyInt Syntax.w32) Syntax.tnil)) Syntax.tnil) (Syntax.ttcons
+      Syntax.tnil Syntax.ttnil)))))))))) Syntax.tnil) Syntax.ttnil))))),
+) ∷ (9, Rows.any-gone Syntax.tyBool) ∷ (10, Rows.sc-here (Row.sInt Syntax.w64)) ∷ (
+  11,
+  Rows.any-gone (Syntax.tyInt Syntax.w64),
+) ∷ (12, Rows.any-gone (Syntax.tyInt Syntax.w64)) ∷ (13, Rows.any-gone Syntax.tyBool) ∷ (
+  14,
+  Rows.any-gone
+      (Syntax.tyRef Syntax.erased Syntax.mut SlotAs.pointee),
+) ∷ (
+  15,
+  Rows.any-gone (Syntax.tyStruct (38 ∷ 91 ∷ 93 ∷ []) (Syntax.tcons (Syntax.tyRef Syntax.erased
+      Syntax.mut SlotAs.pointee) (Syntax.tcons (Syntax.tyInt Syntax.w64) Syntax.tnil))),
+) ∷ []
+
+abbrev pub t9 : List.List Row.Entry
+t9 = (
+  0,
+  Rows.any-gone (Syntax.tyStruct (115 ∷ 116 ∷ 111 ∷ 114 ∷ 101 ∷ 58 ∷ 58 ∷ 79 ∷ 117 ∷ 116 ∷ 99 ∷ 111 ∷ 109 ∷ 101 ∷ []) (Syntax.tcons (Syntax.tyInt
+      Syntax.w8) (Syntax.tcons (Syntax.tyInt Syntax.w64) Syntax.tnil))),
+) ∷ (
+  1,
+  Rows.sslice (Referent.rtF (Referent.fInt Syntax.w8)) (Syntax.tyRef (Syntax.named
+      0) Syntax.imm (Syntax.tyInt Syntax.w8)) 0,
+) ∷ (2, Mut.mslice SlotAs.row (Syntax.tyRef (Syntax.named 1) Syntax.mut SlotAs.pointee) 1) ∷ (
+  3,
+  Rows.any-gone
+      (Syntax.tyStruct (115 ∷ 116 ∷ 111 ∷ 114 ∷ 101 ∷ 58 ∷ 58 ∷ 78 ∷ 101 ∷ 101 ∷ 100 ∷ 115 ∷ []) (Syntax.tcons (Syntax.tyInt Syntax.w8) (Syntax.tcons
+      (Syntax.tyInt Syntax.w64) Syntax.tnil))),
+) ∷ (4, Rows.sc-here (Row.sInt Syntax.w64)) ∷ (5, Rows.any-gone (Syntax.tyInt Syntax.w64)) ∷ (
+  6,
+  Rows.any-gone
+      (Syntax.tyInt Syntax.w64),
+) ∷ (7, Rows.any-gone (Syntax.tyInt Syntax.w32)) ∷ (
+  8,
+  Rows.any-gone (Syntax.tyEnum (112 ∷ 105 ∷ 101 ∷ 99 ∷ 101 ∷ 115 ∷ 58 ∷ 58 ∷
+      76 ∷ 105 ∷ 110 ∷ 101 ∷ []) (Syntax.ttcons (Syntax.tcons (Syntax.tyInt Syntax.w8) Syntax.tnil) (Syntax.ttcons (Syntax.tcons (Syntax.tyEnum (107 ∷ 105 ∷ 110
+      ∷ 100 ∷ 115 ∷ 58 ∷ 58 ∷ 75 ∷ 105 ∷ 110 ∷ 100 ∷ []) (Syntax.ttcons Syntax.tnil (Syntax.ttcons Syntax.tnil (Syntax.ttcons Syntax.tnil (Syntax.ttcons
+      Syntax.tnil (Syntax.ttcons Syntax.tnil (Syntax.ttcons Syntax.tnil (Syntax.ttcons Syntax.tnil (Syntax.ttcons Syntax.tnil (Syntax.ttcons Syntax.tnil
+      (Syntax.ttcons Syntax.tnil (Syntax.ttcons Syntax.tnil (Syntax.ttcons Syntax.tnil (Syntax.ttcons Syntax.tnil (Syntax.ttcons Syntax.tnil (Syntax.ttcons
+      Syntax.tnil (Syntax.ttcons Syntax.tnil (Syntax.ttcons Syntax.tnil (Syntax.ttcons Syntax.tnil (Syntax.ttcons Syntax.tnil (Syntax.ttcons Syntax.tnil
+      (Syntax.ttcons Syntax.tnil (Syntax.ttcons Syntax.tnil (Syntax.ttcons Syntax.tnil (Syntax.ttcons Syntax.tnil (Syntax.ttcons Syntax.tnil (Syntax.ttcons
+      Syntax.tnil (Syntax.ttcons Syntax.tnil (Syntax.ttcons Syntax.tnil (Syntax.ttcons Syntax.tnil (Syntax.ttcons Syntax.tnil
+      Syntax.ttnil))))))))))))))))))))))))))))))) (Syntax.tcons (Syntax.tyInt Syntax.w32) Syntax.tnil)) (Syntax.ttcons (Syntax.tcons (Syntax.tyEnum (107 ∷ 105 ∷
+      110 ∷ 100 ∷ 115 ∷ 58 ∷ 58 ∷ 75 ∷ 105 ∷ 110 ∷ 100 ∷ []) (Syntax.ttcons Syntax.tnil (Syntax.ttcons Syntax.tnil (Syntax.ttcons Syntax.tnil (Syntax.ttcons
+      Syntax.tnil (Syntax.ttcons Syntax.tnil (Syntax.ttcons Syntax.tnil (Syntax.ttcons Syntax.tnil (Syntax.ttcons Syntax.tnil (Syntax.ttcons Syntax.tnil
+      (Syntax.ttcons Syntax.tnil (Syntax.ttcons Syntax.tnil (Syntax.ttcons Syntax.tnil (Syntax.ttcons Syntax.tnil (Syntax.ttcons Syntax.tnil (Syntax.ttcons
+      Syntax.tnil (Syntax.ttcons Syntax.tnil (Syntax.ttcons Syntax.tnil (Syntax.ttcons Syntax.tnil (Syntax.ttcons Syntax.tnil (Syntax.ttcons Syntax.tnil
+      (Syntax.ttcons Syntax.tnil (Syntax.ttcons Syntax.tnil (Syntax.ttcons Syntax.tnil (Syntax.ttcons Syntax.tnil (Syntax.ttcons Syntax.tnil (Syntax.ttcons
+      Syntax.tnil (Syntax.ttcons Syntax.tnil (Syntax.ttcons Syntax.tnil (Syntax.ttcons Syntax.tnil (Syntax.ttcons Syntax.tnil
+      Syntax.ttnil))))))))))))))))))))))))))))))) Syntax.tnil) (Syntax.ttcons (Syntax.tcons (Syntax.tyEnum (108 ∷ 105 ∷ 110 ∷ 101 ∷ 58 ∷ 58 ∷ 82 ∷ 101 ∷ 99 ∷ 111
+      ∷ 114 ∷ 100 ∷ []) (Syntax.ttcons (Syntax.tcons Syntax.tyBool (Syntax.tcons (Syntax.tyStruct (99 ∷ 111 ∷ 111 ∷ 114 ∷ 100 ∷ 105 ∷ 110 ∷ 97 ∷ 116 ∷ 101 ∷ 58 ∷
+      58 ∷ 65 ∷ 116 ∷ 111 ∷ 109 ∷ []) (Syntax.tcons (Syntax.tyStruct (99 ∷ 111 ∷ 111 ∷ 114 ∷ 100 ∷ 105 ∷ 110 ∷ 97 ∷ 116 ∷ 101 ∷ 58 ∷ 58 ∷ 73 ∷ 100 ∷ 101 ∷ 110 ∷
+      116 ∷ 105 ∷ 116 ∷ 121 ∷ []) (Syntax.tcons (Syntax.tyStruct (102 ∷ 105 ∷ 101 ∷ 108 ∷ 100 ∷ 115 ∷ 58 ∷ 58 ∷ 83 ∷ 101 ∷ 114 ∷ 105 ∷ 97 ∷ 108 ∷ [])
+      (Syntax.tcons (Syntax.tyInt Syntax.w32) Syntax.tnil)) (Syntax.tcons (Syntax.tyStruct (110 ∷ 97 ∷ 109 ∷ 101 ∷ 115 ∷ 58 ∷ 58 ∷ 70 ∷ 111 ∷ 117 ∷ 114 ∷ [])
+      (Syntax.tcons (Syntax.tyInt Syntax.w8) (Syntax.tcons (Syntax.tyInt Syntax.w8) (Syntax.tcons (Syntax.tyInt Syntax.w8) (Syntax.tcons (Syntax.tyInt Syntax.w8)
+      Syntax.tnil))))) (Syntax.tcons (Syntax.tyInt Syntax.w8) (Syntax.tcons (Syntax.tyStruct (114 ∷ 101 ∷ 115 ∷ 105 ∷ 100 ∷ 117 ∷ 101 ∷ 58 ∷ 58 ∷ 82 ∷ 101 ∷ 115
+      ∷ 105 ∷ 100 ∷ 117 ∷ 101 ∷ []) (Syntax.tcons (Syntax.tyStruct (110 ∷ 97 ∷ 109 ∷ 101 ∷ 115 ∷ 58 ∷ 58 ∷ 84 ∷ 104 ∷ 114 ∷ 101 ∷ 101 ∷ []) (Syntax.tcons
+      (Syntax.tyInt Syntax.w8) (Syntax.tcons (Syntax.tyInt Syntax.w8) (Syntax.tcons (Syntax.tyInt Syntax.w8) Syntax.tnil)))) (Syntax.tcons (Syntax.tyInt
+      Syntax.w8) (Syntax.tcons (Syntax.tyStruct (102 ∷ 105 ∷ 101 ∷ 108 ∷ 100 ∷ 115 ∷ 58 ∷ 58 ∷ 82 ∷ 101 ∷ 115 ∷ 105 ∷ 100 ∷ 117 ∷ 101 ∷ 78 ∷ 117 ∷ 109 ∷ 98 ∷ 101
+      ∷ 114 ∷ []) (Syntax.tcons (Syntax.tyInt Syntax.w32) Syntax.tnil)) (Syntax.tcons (Syntax.tyInt Syntax.w8) Syntax.tnil))))) Syntax.tnil))))) (Syntax.tcons
+      (Syntax.tyStruct (99 ∷ 111 ∷ 111 ∷ 114 ∷ 100 ∷ 105 ∷ 110 ∷ 97 ∷ 116 ∷ 101 ∷ 58 ∷ 58 ∷ 77 ∷ 101 ∷ 97 ∷ 115 ∷ 117 ∷ 114 ∷ 101 ∷ []) (Syntax.tcons
+      (Syntax.tyStruct (99 ∷ 111 ∷ 111 ∷ 114 ∷ 100 ∷ 105 ∷ 110 ∷ 97 ∷ 116 ∷ 101 ∷ 58 ∷ 58 ∷ 80 ∷ 111 ∷ 115 ∷ 105 ∷ 116 ∷ 105 ∷ 111 ∷ 110 ∷ []) (Syntax.tcons
+      (Syntax.tyInt Syntax.w32) (Syntax.tcons (Syntax.tyInt Syntax.w32) (Syntax.tcons (Syntax.tyInt Syntax.w32) Syntax.tnil)))) (Syntax.tcons (Syntax.tyInt
+      Syntax.w32) (Syntax.tcons (Syntax.tyInt Syntax.w32) Syntax.tnil)))) (Syntax.tcons (Syntax.tyStruct (99 ∷ 111 ∷ 111 ∷ 114 ∷ 100 ∷ 105 ∷ 110 ∷ 97 ∷ 116 ∷ 101
+      ∷ 58 ∷ 58 ∷ 83 ∷ 112 ∷ 101 ∷ 99 ∷ 105 ∷ 101 ∷ 115 ∷ []) (Syntax.tcons (Syntax.tyStruct (110 ∷ 97 ∷ 109 ∷ 101 ∷ 115 ∷ 58 ∷ 58 ∷ 80 ∷ 97 ∷ 105 ∷ 114 ∷ [])
+      (Syntax.tcons (Syntax.tyInt Syntax.w8) (Syntax.tcons (Syntax.tyInt Syntax.w8) Syntax.tnil))) (Syntax.tcons (Syntax.tyStruct (110 ∷ 97 ∷ 109 ∷ 101 ∷ 115 ∷
+      58 ∷ 58 ∷ 80 ∷ 97 ∷ 105 ∷ 114 ∷ []) (Syntax.tcons (Syntax.tyInt Syntax.w8) (Syntax.tcons (Syntax.tyInt Syntax.w8) Syntax.tnil))) Syntax.tnil)))
+      Syntax.tnil)))) Syntax.tnil)) (Syntax.ttcons (Syntax.tcons (Syntax.tyStruct (116 ∷ 101 ∷ 114 ∷ 58 ∷ 58 ∷ 84 ∷ 101 ∷ 114 ∷ []) (Syntax.tcons
+      (Syntax.tyStruct (102 ∷ 105 ∷ 101 ∷ 108 ∷ 100 ∷ 115 ∷ 58 ∷ 58 ∷ 83 ∷ 101 ∷ 114 ∷ 105 ∷ 97 ∷ 108 ∷ []) (Syntax.tcons (Syntax.tyInt Syntax.w32) Syntax.tnil))
+      (Syntax.tcons (Syntax.tyStruct (114 ∷ 101 ∷ 115 ∷ 105 ∷ 100 ∷ 117 ∷ 101 ∷ 58 ∷ 58 ∷ 82 ∷ 101 ∷ 115 ∷ 105 ∷ 100 ∷ 117 ∷ 101 ∷ []) (Syntax.tcons
+      (Syntax.tyStruct (110 ∷ 97 ∷ 109 ∷ 101 ∷ 115 ∷ 58 ∷ 58 ∷ 84 ∷ 104 ∷ 114 ∷ 101 ∷ 101 ∷ []) (Syntax.tcons (Syntax.tyInt Syntax.w8) (Syntax.tcons
+      (Syntax.tyInt Syntax.w8) (Syntax.tcons (Syntax.tyInt Syntax.w8) Syntax.tnil)))) (Syntax.tcons (Syntax.tyInt Syntax.w8) (Syntax.tcons (Syntax.tyStruct (102
+      ∷ 105 ∷ 101 ∷ 108 ∷ 100 ∷ 115 ∷ 58 ∷ 58 ∷ 82 ∷ 101 ∷ 115 ∷ 105 ∷ 100 ∷ 117 ∷ 101 ∷ 78 ∷ 117 ∷ 109 ∷ 98 ∷ 101 ∷ 114 ∷ []) (Syntax.tcons (Syntax.tyInt
+      Syntax.w32) Syntax.tnil)) (Syntax.tcons (Syntax.tyInt Syntax.w8) Syntax.tnil))))) Syntax.tnil))) Syntax.tnil) (Syntax.ttcons (Syntax.tcons (Syntax.tyStruct
+      (104 ∷ 101 ∷ 108 ∷ 105 ∷ 120 ∷ 58 ∷ 58 ∷ 72 ∷ 101 ∷ 108 ∷ 105 ∷ 120 ∷ []) (Syntax.tcons (Syntax.tyStruct (104 ∷ 101 ∷ 108 ∷ 105 ∷ 120 ∷ 58 ∷ 58 ∷ 69 ∷ 120
+      ∷ 116 ∷ 101 ∷ 110 ∷ 116 ∷ []) (Syntax.tcons (Syntax.tyInt Syntax.w32) (Syntax.tcons (Syntax.tyStruct (110 ∷ 97 ∷ 109 ∷ 101 ∷ 115 ∷ 58 ∷ 58 ∷ 84 ∷ 104 ∷ 114
+      ∷ 101 ∷ 101 ∷ []) (Syntax.tcons (Syntax.tyInt Syntax.w8) (Syntax.tcons (Syntax.tyInt Syntax.w8) (Syntax.tcons (Syntax.tyInt Syntax.w8) Syntax.tnil))))
+      (Syntax.tcons (Syntax.tyStruct (114 ∷ 101 ∷ 115 ∷ 105 ∷ 100 ∷ 117 ∷ 101 ∷ 58 ∷ 58 ∷ 82 ∷ 101 ∷ 115 ∷ 105 ∷ 100 ∷ 117 ∷ 101 ∷ []) (Syntax.tcons
+      (Syntax.tyStruct (110 ∷ 97 ∷ 109 ∷ 101 ∷ 115 ∷ 58 ∷ 58 ∷ 84 ∷ 104 ∷ 114 ∷ 101 ∷ 101 ∷ []) (Syntax.tcons (Syntax.tyInt Syntax.w8) (Syntax.tcons
+      (Syntax.tyInt Syntax.w8) (Syntax.tcons (Syntax.tyInt Syntax.w8) Syntax.tnil)))) (Syntax.tcons (Syntax.tyInt Syntax.w8) (Syntax.tcons (Syntax.tyStruct (102
+      ∷ 105 ∷ 101 ∷ 108 ∷ 100 ∷ 115 ∷ 58 ∷ 58 ∷ 82 ∷ 101 ∷ 115 ∷ 105 ∷ 100 ∷ 117 ∷ 101 ∷ 78 ∷ 117 ∷ 109 ∷ 98 ∷ 101 ∷ 114 ∷ []) (Syntax.tcons (Syntax.tyInt
+      Syntax.w32) Syntax.tnil)) (Syntax.tcons (Syntax.tyInt Syntax.w8) Syntax.tnil))))) (Syntax.tcons (Syntax.tyStruct (114 ∷ 101 ∷ 115 ∷ 105 ∷ 100 ∷ 117 ∷ 101 ∷
+      58 ∷ 58 ∷ 82 ∷ 101 ∷ 115 ∷ 105 ∷ 100 ∷ 117 ∷ 101 ∷ []) (Syntax.tcons (Syntax.tyStruct (110 ∷ 97 ∷ 109 ∷ 101 ∷ 115 ∷ 58 ∷ 58 ∷ 84 ∷ 104 ∷ 114 ∷ 101 ∷ 101 ∷
+      []) (Syntax.tcons (Syntax.tyInt Syntax.w8) (Syntax.tcons (Syntax.tyInt Syntax.w8) (Syntax.tcons (Syntax.tyInt Syntax.w8) Syntax.tnil)))) (Syntax.tcons
+      (Syntax.tyInt Syntax.w8) (Syntax.tcons (Syntax.tyStruct (102 ∷ 105 ∷ 101 ∷ 108 ∷ 100 ∷ 115 ∷ 58 ∷ 58 ∷ 82 ∷ 101 ∷ 115 ∷ 105 ∷ 100 ∷ 117 ∷ 101 ∷ 78 ∷ 117 ∷
+      109 ∷ 98 ∷ 101 ∷ 114 ∷ []) (Syntax.tcons (Syntax.tyInt Syntax.w32) Syntax.tnil)) (Syntax.tcons (Syntax.tyInt Syntax.w8) Syntax.tnil))))) Syntax.tnil)))))
+      (Syntax.tcons (Syntax.tyInt Syntax.w32) (Syntax.tcons (Syntax.tyStruct (104 ∷ 101 ∷ 108 ∷ 105 ∷ 120 ∷ 58 ∷ 58 ∷ 67 ∷ 111 ∷ 109 ∷ 109 ∷ 101 ∷ 110 ∷ 116 ∷
+      []) (Syntax.tcons (Syntax.tyInt Syntax.w64) (Syntax.tcons (Syntax.tyInt Syntax.w64) (Syntax.tcons (Syntax.tyInt Syntax.w64) (Syntax.tcons (Syntax.tyInt
+      Syntax.w64) Syntax.tnil))))) (Syntax.tcons (Syntax.tyInt Syntax.w32) Syntax.tnil))))) Syntax.tnil) (Syntax.ttcons (Syntax.tcons (Syntax.tyStruct (115 ∷ 104
+      ∷ 101 ∷ 101 ∷ 116 ∷ 58 ∷ 58 ∷ 83 ∷ 104 ∷ 101 ∷ 101 ∷ 116 ∷ []) (Syntax.tcons (Syntax.tyStruct (115 ∷ 104 ∷ 101 ∷ 101 ∷ 116 ∷ 58 ∷ 58 ∷ 83 ∷ 116 ∷ 114 ∷ 97
+      ∷ 110 ∷ 100 ∷ []) (Syntax.tcons (Syntax.tyInt Syntax.w32) (Syntax.tcons (Syntax.tyStruct (110 ∷ 97 ∷ 109 ∷ 101 ∷ 115 ∷ 58 ∷ 58 ∷ 84 ∷ 104 ∷ 114 ∷ 101 ∷ 101
+      ∷ []) (Syntax.tcons (Syntax.tyInt Syntax.w8) (Syntax.tcons (Syntax.tyInt Syntax.w8) (Syntax.tcons (Syntax.tyInt Syntax.w8) Syntax.tnil)))) (Syntax.tcons
+      (Syntax.tyInt Syntax.w32) (Syntax.tcons (Syntax.tyStruct (114 ∷ 101 ∷ 115 ∷ 105 ∷ 100 ∷ 117 ∷ 101 ∷ 58 ∷ 58 ∷ 82 ∷ 101 ∷ 115 ∷ 105 ∷ 100 ∷ 117 ∷ 101 ∷ [])
+      (Syntax.tcons (Syntax.tyStruct (110 ∷ 97 ∷ 109 ∷ 101 ∷ 115 ∷ 58 ∷ 58 ∷ 84 ∷ 104 ∷ 114 ∷ 101 ∷ 101 ∷ []) (Syntax.tcons (Syntax.tyInt Syntax.w8)
+      (Syntax.tcons (Syntax.tyInt Syntax.w8) (Syntax.tcons (Syntax.tyInt Syntax.w8) Syntax.tnil)))) (Syntax.tcons (Syntax.tyInt Syntax.w8) (Syntax.tcons
+      (Syntax.tyStruct (102 ∷ 105 ∷ 101 ∷ 108 ∷ 100 ∷ 115 ∷ 58 ∷ 58 ∷ 82 ∷ 101 ∷ 115 ∷ 105 ∷ 100 ∷ 117 ∷ 101 ∷ 78 ∷ 117 ∷ 109 ∷ 98 ∷ 101 ∷ 114 ∷ [])
+      (Syntax.tcons (Syntax.tyInt Syntax.w32) Syntax.tnil)) (Syntax.tcons (Syntax.tyInt Syntax.w8) Syntax.tnil))))) (Syntax.tcons (Syntax.tyStruct (114 ∷ 101 ∷
+      115 ∷ 105 ∷ 100 ∷ 117 ∷ 101 ∷ 58 ∷ 58 ∷ 82 ∷ 101 ∷ 115 ∷ 105 ∷ 100 ∷ 117 ∷ 101 ∷ []) (Syntax.tcons (Syntax.tyStruct (110 ∷ 97 ∷ 109 ∷ 101 ∷ 115 ∷ 58 ∷ 58 ∷
+      84 ∷ 104 ∷ 114 ∷ 101 ∷ 101 ∷ []) (Syntax.tcons (Syntax.tyInt Syntax.w8) (Syntax.tcons (Syntax.tyInt Syntax.w8) (Syntax.tcons (Syntax.tyInt Syntax.w8)
+      Syntax.tnil)))) (Syntax.tcons (Syntax.tyInt Syntax.w8) (Syntax.tcons (Syntax.tyStruct (102 ∷ 105 ∷ 101 ∷ 108 ∷ 100 ∷ 115 ∷ 58 ∷ 58 ∷ 82 ∷ 101 ∷ 115 ∷ 105 ∷
+      100 ∷ 117 ∷ 101 ∷ 78 ∷ 117 ∷ 109 ∷ 98 ∷ 101 ∷ 114 ∷ []) (Syntax.tcons (Syntax.tyInt Syntax.w32) Syntax.tnil)) (Syntax.tcons (Syntax.tyInt Syntax.w8)
+      Syntax.tnil))))) (Syntax.tcons (Syntax.tyInt Syntax.w32) Syntax.tnil))))))) (Syntax.tcons (Syntax.tyEnum (115 ∷ 104 ∷ 101 ∷ 101 ∷ 116 ∷ 58 ∷ 58 ∷ 82 ∷ 101
+      ∷ 103 ∷ 105 ∷ 115 ∷ 116 ∷ 114 ∷ 97 ∷ 116 ∷ 105 ∷ 111 ∷ 110 ∷ []) (Syntax.ttcons Syntax.tnil (Syntax.ttcons (Syntax.tcons (Syntax.tyStruct (115 ∷ 104 ∷ 101
+      ∷ 101 ∷ 116 ∷ 58 ∷ 58 ∷ 66 ∷ 111 ∷ 110 ∷ 100 ∷ []) (Syntax.tcons (Syntax.tyStruct (110 ∷ 97 ∷ 109 ∷ 101 ∷ 115 ∷ 58 ∷ 58 ∷ 70 ∷ 111 ∷ 117 ∷ 114 ∷ [])
+      (Syntax.tcons (Syntax.tyInt Syntax.w8) (Syntax.tcons (Syntax.tyInt Syntax.w8) (Syntax.tcons (Syntax.tyInt Syntax.w8) (Syntax.tcons (Syntax.tyInt Syntax.w8)
+      Syntax.tnil))))) (Syntax.tcons (Syntax.tyStruct (114 ∷ 101 ∷ 115 ∷ 105 ∷ 100 ∷ 117 ∷ 101 ∷ 58 ∷ 58 ∷ 82 ∷ 101 ∷ 115 ∷ 105 ∷ 100 ∷ 117 ∷ 101 ∷ [])
+      (Syntax.tcons (Syntax.tyStruct (110 ∷ 97 ∷ 109 ∷ 101 ∷ 115 ∷ 58 ∷ 58 ∷ 84 ∷ 104 ∷ 114 ∷ 101 ∷ 101 ∷ []) (Syntax.tcons (Syntax.tyInt Syntax.w8)
+      (Syntax.tcons (Syntax.tyInt Syntax.w8) (Syntax.tcons (Syntax.tyInt Syntax.w8) Syntax.tnil)))) (Syntax.tcons (Syntax.tyInt Syntax.w8) (Syntax.tcons
+      (Syntax.tyStruct (102 ∷ 105 ∷ 101 ∷ 108 ∷ 100 ∷ 115 ∷ 58 ∷ 58 ∷ 82 ∷ 101 ∷ 115 ∷ 105 ∷ 100 ∷ 117 ∷ 101 ∷ 78 ∷ 117 ∷ 109 ∷ 98 ∷ 101 ∷ 114 ∷ [])
+      (Syntax.tcons (Syntax.tyInt Syntax.w32) Syntax.tnil)) (Syntax.tcons (Syntax.tyInt Syntax.w8) Syntax.tnil))))) (Syntax.tcons (Syntax.tyStruct (110 ∷ 97 ∷
+      109 ∷ 101 ∷ 115 ∷ 58 ∷ 58 ∷ 70 ∷ 111 ∷ 117 ∷ 114 ∷ []) (Syntax.tcons (Syntax.tyInt Syntax.w8) (Syntax.tcons (Syntax.tyInt Syntax.w8) (Syntax.tcons
+      (Syntax.tyInt Syntax.w8) (Syntax.tcons (Syntax.tyInt Syntax.w8) Syntax.tnil))))) (Syntax.tcons (Syntax.tyStruct (114 ∷ 101 ∷ 115 ∷ 105 ∷ 100 ∷ 117 ∷ 101 ∷
+      58 ∷ 58 ∷ 82 ∷ 101 ∷ 115 ∷ 105 ∷ 100 ∷ 117 ∷ 101 ∷ []) (Syntax.tcons (Syntax.tyStruct (110 ∷ 97 ∷ 109 ∷ 101 ∷ 115 ∷ 58 ∷ 58 ∷ 84 ∷ 104 ∷ 114 ∷ 101 ∷ 101 ∷
+      []) (Syntax.tcons (Syntax.tyInt Syntax.w8) (Syntax.tcons (Syntax.tyInt Syntax.w8) (Syntax.tcons (Syntax.tyInt Syntax.w8) Syntax.tnil)))) (Syntax.tcons
+      (Syntax.tyInt Syntax.w8) (Syntax.tcons (Syntax.tyStruct (102 ∷ 105 ∷ 101 ∷ 108 ∷ 100 ∷ 115 ∷ 58 ∷ 58 ∷ 82 ∷ 101 ∷ 115 ∷ 105 ∷ 100 ∷ 117 ∷ 101 ∷ 78 ∷ 117 ∷
+      109 ∷ 98 ∷ 101 ∷ 114 ∷ []) (Syntax.tcons (Syntax.tyInt Syntax.w32) Syntax.tnil)) (Syntax.tcons (Syntax.tyInt Syntax.w8) Syntax.tnil))))) Syntax.tnil)))))
+      Syntax.tnil) Syntax.ttnil))) Syntax.tnil))) Syntax.tnil) (Syntax.ttcons (Syntax.tcons (Syntax.tyStruct (99 ∷ 111 ∷ 110 ∷ 101 ∷ 99 ∷ 116 ∷ 58 ∷ 58 ∷ 67 ∷
+      111 ∷ 110 ∷ 101 ∷ 99 ∷ 116 ∷ []) (Syntax.tcons (Syntax.tyStruct (102 ∷ 105 ∷ 101 ∷ 108 ∷ 100 ∷ 115 ∷ 58 ∷ 58 ∷ 83 ∷ 101 ∷ 114 ∷ 105 ∷ 97 ∷ 108 ∷ [])
+      (Syntax.tcons (Syntax.tyInt Syntax.w32) Syntax.tnil)) (Syntax.tcons (Syntax.tyStruct (102 ∷ 105 ∷ 101 ∷ 108 ∷ 100 ∷ 115 ∷ 58 ∷ 58 ∷ 83 ∷ 101 ∷ 114 ∷ 105 ∷
+      97 ∷ 108 ∷ []) (Syntax.tcons (Syntax.tyInt Syntax.w32) Syntax.tnil)) (Syntax.tcons (Syntax.tyStruct (102 ∷ 105 ∷ 101 ∷ 108 ∷ 100 ∷ 115 ∷ 58 ∷ 58 ∷ 83 ∷ 101
+      ∷ 114 ∷ 105 ∷ 97 ∷ 108 ∷ []) (Syntax.tcons (Syntax.tyInt Syntax.w32) Syntax.tnil)) (Syntax.tcons (Syntax.tyStruct (102 ∷ 105 ∷ 101 ∷ 108 ∷ 100 ∷ 115 ∷ 58 ∷
+      58 ∷ 83 ∷ 101 ∷ 114 ∷ 105 ∷ 97 ∷ 108 ∷ []) (Syntax.tcons (Syntax.tyInt Syntax.w32) Syntax.tnil)) (Syntax.tcons (Syntax.tyStruct (102 ∷ 105 ∷ 101 ∷ 108 ∷
+      100 ∷ 115 ∷ 58 ∷ 58 ∷ 83 ∷ 101 ∷ 114 ∷ 105 ∷ 97 ∷ 108 ∷ []) (Syntax.tcons (Syntax.tyInt Syntax.w32) Syntax.tnil)) Syntax.tnil)))))) Syntax.tnil)
+      (Syntax.ttcons (Syntax.tcons (Syntax.tyStruct (109 ∷ 97 ∷ 115 ∷ 116 ∷ 101 ∷ 114 ∷ 58 ∷ 58 ∷ 84 ∷ 97 ∷ 108 ∷ 108 ∷ 121 ∷ []) (Syntax.tcons (Syntax.tyInt
+      Syntax.w32) (Syntax.tcons (Syntax.tyInt Syntax.w32) (Syntax.tcons (Syntax.tyInt Syntax.w32) (Syntax.tcons (Syntax.tyInt Syntax.w32) (Syntax.tcons
+      (Syntax.tyInt Syntax.w32) (Syntax.tcons (Syntax.tyInt Syntax.w32) (Syntax.tcons (Syntax.tyInt Syntax.w32) (Syntax.tcons (Syntax.tyInt Syntax.w32)
+      (Syntax.tcons (Syntax.tyInt Syntax.w32) Syntax.tnil)))))))))) Syntax.tnil) (Syntax.ttcons Syntax.tnil (Syntax.ttcons (Syntax.tcons (Syntax.tyStruct (109 ∷
+      111 ∷ 100 ∷ 101 ∷ 108 ∷ 58 ∷ 58 ∷ 77 ∷ 111 ∷ 100 ∷ 101 ∷ 108 ∷ []) (Syntax.tcons (Syntax.tyInt Syntax.w32) Syntax.tnil)) Syntax.tnil) (Syntax.ttcons
+      Syntax.tnil Syntax.ttnil)))))))))) Syntax.tnil) Syntax.ttnil))))),
+) ∷ (9, Rows.sc-here Row.sBool) ∷ (10, Rows.sc-here (Row.sInt Syntax.w64)) ∷ (
+  11,
+  Rows.any-gone (Syntax.tyInt Syntax.w64),
+) ∷ (12, Rows.any-gone (Syntax.tyInt Syntax.w64)) ∷ (13, Rows.any-gone Syntax.tyBool) ∷ (
+  14,
+  Rows.any-gone
+      (Syntax.tyRef Syntax.erased Syntax.mut SlotAs.pointee),
+) ∷ (
+  15,
+  Rows.any-gone (Syntax.tyStruct (38 ∷ 91 ∷ 93 ∷ []) (Syntax.tcons (Syntax.tyRef Syntax.erased
+      Syntax.mut SlotAs.pointee) (Syntax.tcons (Syntax.tyInt Syntax.w64) Syntax.tnil))),
+) ∷ []
+
+abbrev pub t10 : List.List Row.Entry
+t10 = (
+  0,
+  Rows.any-gone (Syntax.tyStruct (115 ∷ 116 ∷ 111 ∷ 114 ∷ 101 ∷ 58 ∷ 58 ∷ 79 ∷ 117 ∷ 116 ∷ 99 ∷ 111 ∷ 109 ∷ 101 ∷ []) (Syntax.tcons (Syntax.tyInt
+      Syntax.w8) (Syntax.tcons (Syntax.tyInt Syntax.w64) Syntax.tnil))),
+) ∷ (
+  1,
+  Rows.sslice (Referent.rtF (Referent.fInt Syntax.w8)) (Syntax.tyRef (Syntax.named
+      0) Syntax.imm (Syntax.tyInt Syntax.w8)) 0,
+) ∷ (2, Mut.mslice SlotAs.row (Syntax.tyRef (Syntax.named 1) Syntax.mut SlotAs.pointee) 1) ∷ (
+  3,
+  Rows.any-gone
+      (Syntax.tyStruct (115 ∷ 116 ∷ 111 ∷ 114 ∷ 101 ∷ 58 ∷ 58 ∷ 78 ∷ 101 ∷ 101 ∷ 100 ∷ 115 ∷ []) (Syntax.tcons (Syntax.tyInt Syntax.w8) (Syntax.tcons
+      (Syntax.tyInt Syntax.w64) Syntax.tnil))),
+) ∷ (4, Rows.sc-here (Row.sInt Syntax.w64)) ∷ (5, Rows.any-gone (Syntax.tyInt Syntax.w64)) ∷ (
+  6,
+  Rows.any-gone
+      (Syntax.tyInt Syntax.w64),
+) ∷ (7, Rows.any-gone (Syntax.tyInt Syntax.w32)) ∷ (
+  8,
+  Rows.any-gone (Syntax.tyEnum (112 ∷ 105 ∷ 101 ∷ 99 ∷ 101 ∷ 115 ∷ 58 ∷ 58 ∷
+      76 ∷ 105 ∷ 110 ∷ 101 ∷ []) (Syntax.ttcons (Syntax.tcons (Syntax.tyInt Syntax.w8) Syntax.tnil) (Syntax.ttcons (Syntax.tcons (Syntax.tyEnum (107 ∷ 105 ∷ 110
+      ∷ 100 ∷ 115 ∷ 58 ∷ 58 ∷ 75 ∷ 105 ∷ 110 ∷ 100 ∷ []) (Syntax.ttcons Syntax.tnil (Syntax.ttcons Syntax.tnil (Syntax.ttcons Syntax.tnil (Syntax.ttcons
+      Syntax.tnil (Syntax.ttcons Syntax.tnil (Syntax.ttcons Syntax.tnil (Syntax.ttcons Syntax.tnil (Syntax.ttcons Syntax.tnil (Syntax.ttcons Syntax.tnil
+      (Syntax.ttcons Syntax.tnil (Syntax.ttcons Syntax.tnil (Syntax.ttcons Syntax.tnil (Syntax.ttcons Syntax.tnil (Syntax.ttcons Syntax.tnil (Syntax.ttcons
+      Syntax.tnil (Syntax.ttcons Syntax.tnil (Syntax.ttcons Syntax.tnil (Syntax.ttcons Syntax.tnil (Syntax.ttcons Syntax.tnil (Syntax.ttcons Syntax.tnil
+      (Syntax.ttcons Syntax.tnil (Syntax.ttcons Syntax.tnil (Syntax.ttcons Syntax.tnil (Syntax.ttcons Syntax.tnil (Syntax.ttcons Syntax.tnil (Syntax.ttcons
+      Syntax.tnil (Syntax.ttcons Syntax.tnil (Syntax.ttcons Syntax.tnil (Syntax.ttcons Syntax.tnil (Syntax.ttcons Syntax.tnil
+      Syntax.ttnil))))))))))))))))))))))))))))))) (Syntax.tcons (Syntax.tyInt Syntax.w32) Syntax.tnil)) (Syntax.ttcons (Syntax.tcons (Syntax.tyEnum (107 ∷ 105 ∷
+      110 ∷ 100 ∷ 115 ∷ 58 ∷ 58 ∷ 75 ∷ 105 ∷ 110 ∷ 100 ∷ []) (Syntax.ttcons Syntax.tnil (Syntax.ttcons Syntax.tnil (Syntax.ttcons Syntax.tnil (Syntax.ttcons
+      Syntax.tnil (Syntax.ttcons Syntax.tnil (Syntax.ttcons Syntax.tnil (Syntax.ttcons Syntax.tnil (Syntax.ttcons Syntax.tnil (Syntax.ttcons Syntax.tnil
+      (Syntax.ttcons Syntax.tnil (Syntax.ttcons Syntax.tnil (Syntax.ttcons Syntax.tnil (Syntax.ttcons Syntax.tnil (Syntax.ttcons Syntax.tnil (Syntax.ttcons
+      Syntax.tnil (Syntax.ttcons Syntax.tnil (Syntax.ttcons Syntax.tnil (Syntax.ttcons Syntax.tnil (Syntax.ttcons Syntax.tnil (Syntax.ttcons Syntax.tnil
+      (Syntax.ttcons Syntax.tnil (Syntax.ttcons Syntax.tnil (Syntax.ttcons Syntax.tnil (Syntax.ttcons Syntax.tnil (Syntax.ttcons Syntax.tnil (Syntax.ttcons
+      Syntax.tnil (Syntax.ttcons Syntax.tnil (Syntax.ttcons Syntax.tnil (Syntax.ttcons Syntax.tnil (Syntax.ttcons Syntax.tnil
+      Syntax.ttnil))))))))))))))))))))))))))))))) Syntax.tnil) (Syntax.ttcons (Syntax.tcons (Syntax.tyEnum (108 ∷ 105 ∷ 110 ∷ 101 ∷ 58 ∷ 58 ∷ 82 ∷ 101 ∷ 99 ∷ 111
+      ∷ 114 ∷ 100 ∷ []) (Syntax.ttcons (Syntax.tcons Syntax.tyBool (Syntax.tcons (Syntax.tyStruct (99 ∷ 111 ∷ 111 ∷ 114 ∷ 100 ∷ 105 ∷ 110 ∷ 97 ∷ 116 ∷ 101 ∷ 58 ∷
+      58 ∷ 65 ∷ 116 ∷ 111 ∷ 109 ∷ []) (Syntax.tcons (Syntax.tyStruct (99 ∷ 111 ∷ 111 ∷ 114 ∷ 100 ∷ 105 ∷ 110 ∷ 97 ∷ 116 ∷ 101 ∷ 58 ∷ 58 ∷ 73 ∷ 100 ∷ 101 ∷ 110 ∷
+      116 ∷ 105 ∷ 116 ∷ 121 ∷ []) (Syntax.tcons (Syntax.tyStruct (102 ∷ 105 ∷ 101 ∷ 108 ∷ 100 ∷ 115 ∷ 58 ∷ 58 ∷ 83 ∷ 101 ∷ 114 ∷ 105 ∷ 97 ∷ 108 ∷ [])
+      (Syntax.tcons (Syntax.tyInt Syntax.w32) Syntax.tnil)) (Syntax.tcons (Syntax.tyStruct (110 ∷ 97 ∷ 109 ∷ 101 ∷ 115 ∷ 58 ∷ 58 ∷ 70 ∷ 111 ∷ 117 ∷ 114 ∷ [])
+      (Syntax.tcons (Syntax.tyInt Syntax.w8) (Syntax.tcons (Syntax.tyInt Syntax.w8) (Syntax.tcons (Syntax.tyInt Syntax.w8) (Syntax.tcons (Syntax.tyInt Syntax.w8)
+      Syntax.tnil))))) (Syntax.tcons (Syntax.tyInt Syntax.w8) (Syntax.tcons (Syntax.tyStruct (114 ∷ 101 ∷ 115 ∷ 105 ∷ 100 ∷ 117 ∷ 101 ∷ 58 ∷ 58 ∷ 82 ∷ 101 ∷ 115
+      ∷ 105 ∷ 100 ∷ 117 ∷ 101 ∷ []) (Syntax.tcons (Syntax.tyStruct (110 ∷ 97 ∷ 109 ∷ 101 ∷ 115 ∷ 58 ∷ 58 ∷ 84 ∷ 104 ∷ 114 ∷ 101 ∷ 101 ∷ []) (Syntax.tcons
+      (Syntax.tyInt Syntax.w8) (Syntax.tcons (Syntax.tyInt Syntax.w8) (Syntax.tcons (Syntax.tyInt Syntax.w8) Syntax.tnil)))) (Syntax.tcons (Syntax.tyInt
+      Syntax.w8) (Syntax.tcons (Syntax.tyStruct (102 ∷ 105 ∷ 101 ∷ 108 ∷ 100 ∷ 115 ∷ 58 ∷ 58 ∷ 82 ∷ 101 ∷ 115 ∷ 105 ∷ 100 ∷ 117 ∷ 101 ∷ 78 ∷ 117 ∷ 109 ∷ 98 ∷ 101
+      ∷ 114 ∷ []) (Syntax.tcons (Syntax.tyInt Syntax.w32) Syntax.tnil)) (Syntax.tcons (Syntax.tyInt Syntax.w8) Syntax.tnil))))) Syntax.tnil))))) (Syntax.tcons
+      (Syntax.tyStruct (99 ∷ 111 ∷ 111 ∷ 114 ∷ 100 ∷ 105 ∷ 110 ∷ 97 ∷ 116 ∷ 101 ∷ 58 ∷ 58 ∷ 77 ∷ 101 ∷ 97 ∷ 115 ∷ 117 ∷ 114 ∷ 101 ∷ []) (Syntax.tcons
+      (Syntax.tyStruct (99 ∷ 111 ∷ 111 ∷ 114 ∷ 100 ∷ 105 ∷ 110 ∷ 97 ∷ 116 ∷ 101 ∷ 58 ∷ 58 ∷ 80 ∷ 111 ∷ 115 ∷ 105 ∷ 116 ∷ 105 ∷ 111 ∷ 110 ∷ []) (Syntax.tcons
+      (Syntax.tyInt Syntax.w32) (Syntax.tcons (Syntax.tyInt Syntax.w32) (Syntax.tcons (Syntax.tyInt Syntax.w32) Syntax.tnil)))) (Syntax.tcons (Syntax.tyInt
+      Syntax.w32) (Syntax.tcons (Syntax.tyInt Syntax.w32) Syntax.tnil)))) (Syntax.tcons (Syntax.tyStruct (99 ∷ 111 ∷ 111 ∷ 114 ∷ 100 ∷ 105 ∷ 110 ∷ 97 ∷ 116 ∷ 101
+      ∷ 58 ∷ 58 ∷ 83 ∷ 112 ∷ 101 ∷ 99 ∷ 105 ∷ 101 ∷ 115 ∷ []) (Syntax.tcons (Syntax.tyStruct (110 ∷ 97 ∷ 109 ∷ 101 ∷ 115 ∷ 58 ∷ 58 ∷ 80 ∷ 97 ∷ 105 ∷ 114 ∷ [])
+      (Syntax.tcons (Syntax.tyInt Syntax.w8) (Syntax.tcons (Syntax.tyInt Syntax.w8) Syntax.tnil))) (Syntax.tcons (Syntax.tyStruct (110 ∷ 97 ∷ 109 ∷ 101 ∷ 115 ∷
+      58 ∷ 58 ∷ 80 ∷ 97 ∷ 105 ∷ 114 ∷ []) (Syntax.tcons (Syntax.tyInt Syntax.w8) (Syntax.tcons (Syntax.tyInt Syntax.w8) Syntax.tnil))) Syntax.tnil)))
+      Syntax.tnil)))) Syntax.tnil)) (Syntax.ttcons (Syntax.tcons (Syntax.tyStruct (116 ∷ 101 ∷ 114 ∷ 58 ∷ 58 ∷ 84 ∷ 101 ∷ 114 ∷ []) (Syntax.tcons
+      (Syntax.tyStruct (102 ∷ 105 ∷ 101 ∷ 108 ∷ 100 ∷ 115 ∷ 58 ∷ 58 ∷ 83 ∷ 101 ∷ 114 ∷ 105 ∷ 97 ∷ 108 ∷ []) (Syntax.tcons (Syntax.tyInt Syntax.w32) Syntax.tnil))
+      (Syntax.tcons (Syntax.tyStruct (114 ∷ 101 ∷ 115 ∷ 105 ∷ 100 ∷ 117 ∷ 101 ∷ 58 ∷ 58 ∷ 82 ∷ 101 ∷ 115 ∷ 105 ∷ 100 ∷ 117 ∷ 101 ∷ []) (Syntax.tcons
+      (Syntax.tyStruct (110 ∷ 97 ∷ 109 ∷ 101 ∷ 115 ∷ 58 ∷ 58 ∷ 84 ∷ 104 ∷ 114 ∷ 101 ∷ 101 ∷ []) (Syntax.tcons (Syntax.tyInt Syntax.w8) (Syntax.tcons
+      (Syntax.tyInt Syntax.w8) (Syntax.tcons (Syntax.tyInt Syntax.w8) Syntax.tnil)))) (Syntax.tcons (Syntax.tyInt Syntax.w8) (Syntax.tcons (Syntax.tyStruct (102
+      ∷ 105 ∷ 101 ∷ 108 ∷ 100 ∷ 115 ∷ 58 ∷ 58 ∷ 82 ∷ 101 ∷ 115 ∷ 105 ∷ 100 ∷ 117 ∷ 101 ∷ 78 ∷ 117 ∷ 109 ∷ 98 ∷ 101 ∷ 114 ∷ []) (Syntax.tcons (Syntax.tyInt
+      Syntax.w32) Syntax.tnil)) (Syntax.tcons (Syntax.tyInt Syntax.w8) Syntax.tnil))))) Syntax.tnil))) Syntax.tnil) (Syntax.ttcons (Syntax.tcons (Syntax.tyStruct
+      (104 ∷ 101 ∷ 108 ∷ 105 ∷ 120 ∷ 58 ∷ 58 ∷ 72 ∷ 101 ∷ 108 ∷ 105 ∷ 120 ∷ []) (Syntax.tcons (Syntax.tyStruct (104 ∷ 101 ∷ 108 ∷ 105 ∷ 120 ∷ 58 ∷ 58 ∷ 69 ∷ 120
+      ∷ 116 ∷ 101 ∷ 110 ∷ 116 ∷ []) (Syntax.tcons (Syntax.tyInt Syntax.w32) (Syntax.tcons (Syntax.tyStruct (110 ∷ 97 ∷ 109 ∷ 101 ∷ 115 ∷ 58 ∷ 58 ∷ 84 ∷ 104 ∷ 114
+      ∷ 101 ∷ 101 ∷ []) (Syntax.tcons (Syntax.tyInt Syntax.w8) (Syntax.tcons (Syntax.tyInt Syntax.w8) (Syntax.tcons (Syntax.tyInt Syntax.w8) Syntax.tnil))))
+      (Syntax.tcons (Syntax.tyStruct (114 ∷ 101 ∷ 115 ∷ 105 ∷ 100 ∷ 117 ∷ 101 ∷ 58 ∷ 58 ∷ 82 ∷ 101 ∷ 115 ∷ 105 ∷ 100 ∷ 117 ∷ 101 ∷ []) (Syntax.tcons
+      (Syntax.tyStruct (110 ∷ 97 ∷ 109 ∷ 101 ∷ 115 ∷ 58 ∷ 58 ∷ 84 ∷ 104 ∷ 114 ∷ 101 ∷ 101 ∷ []) (Syntax.tcons (Syntax.tyInt Syntax.w8) (Syntax.tcons
+      (Syntax.tyInt Syntax.w8) (Syntax.tcons (Syntax.tyInt Syntax.w8) Syntax.tnil)))) (Syntax.tcons (Syntax.tyInt Syntax.w8) (Syntax.tcons (Syntax.tyStruct (102
+      ∷ 105 ∷ 101 ∷ 108 ∷ 100 ∷ 115 ∷ 58 ∷ 58 ∷ 82 ∷ 101 ∷ 115 ∷ 105 ∷ 100 ∷ 117 ∷ 101 ∷ 78 ∷ 117 ∷ 109 ∷ 98 ∷ 101 ∷ 114 ∷ []) (Syntax.tcons (Syntax.tyInt
+      Syntax.w32) Syntax.tnil)) (Syntax.tcons (Syntax.tyInt Syntax.w8) Syntax.tnil))))) (Syntax.tcons (Syntax.tyStruct (114 ∷ 101 ∷ 115 ∷ 105 ∷ 100 ∷ 117 ∷ 101 ∷
+      58 ∷ 58 ∷ 82 ∷ 101 ∷ 115 ∷ 105 ∷ 100 ∷ 117 ∷ 101 ∷ []) (Syntax.tcons (Syntax.tyStruct (110 ∷ 97 ∷ 109 ∷ 101 ∷ 115 ∷ 58 ∷ 58 ∷ 84 ∷ 104 ∷ 114 ∷ 101 ∷ 101 ∷
+      []) (Syntax.tcons (Syntax.tyInt Syntax.w8) (Syntax.tcons (Syntax.tyInt Syntax.w8) (Syntax.tcons (Syntax.tyInt Syntax.w8) Syntax.tnil)))) (Syntax.tcons
+      (Syntax.tyInt Syntax.w8) (Syntax.tcons (Syntax.tyStruct (102 ∷ 105 ∷ 101 ∷ 108 ∷ 100 ∷ 115 ∷ 58 ∷ 58 ∷ 82 ∷ 101 ∷ 115 ∷ 105 ∷ 100 ∷ 117 ∷ 101 ∷ 78 ∷ 117 ∷
+      109 ∷ 98 ∷ 101 ∷ 114 ∷ []) (Syntax.tcons (Syntax.tyInt Syntax.w32) Syntax.tnil)) (Syntax.tcons (Syntax.tyInt Syntax.w8) Syntax.tnil))))) Syntax.tnil)))))
+      (Syntax.tcons (Syntax.tyInt Syntax.w32) (Syntax.tcons (Syntax.tyStruct (104 ∷ 101 ∷ 108 ∷ 105 ∷ 120 ∷ 58 ∷ 58 ∷ 67 ∷ 111 ∷ 109 ∷ 109 ∷ 101 ∷ 110 ∷ 116 ∷
+      []) (Syntax.tcons (Syntax.tyInt Syntax.w64) (Syntax.tcons (Syntax.tyInt Syntax.w64) (Syntax.tcons (Syntax.tyInt Syntax.w64) (Syntax.tcons (Syntax.tyInt
+      Syntax.w64) Syntax.tnil))))) (Syntax.tcons (Syntax.tyInt Syntax.w32) Syntax.tnil))))) Syntax.tnil) (Syntax.ttcons (Syntax.tcons (Syntax.tyStruct (115 ∷ 104
+      ∷ 101 ∷ 101 ∷ 116 ∷ 58 ∷ 58 ∷ 83 ∷ 104 ∷ 101 ∷ 101 ∷ 116 ∷ []) (Syntax.tcons (Syntax.tyStruct (115 ∷ 104 ∷ 101 ∷ 101 ∷ 116 ∷ 58 ∷ 58 ∷ 83 ∷ 116 ∷ 114 ∷ 97
+      ∷ 110 ∷ 100 ∷ []) (Syntax.tcons (Syntax.tyInt Syntax.w32) (Syntax.tcons (Syntax.tyStruct (110 ∷ 97 ∷ 109 ∷ 101 ∷ 115 ∷ 58 ∷ 58 ∷ 84 ∷ 104 ∷ 114 ∷ 101 ∷ 101
+      ∷ []) (Syntax.tcons (Syntax.tyInt Syntax.w8) (Syntax.tcons (Syntax.tyInt Syntax.w8) (Syntax.tcons (Syntax.tyInt Syntax.w8) Syntax.tnil)))) (Syntax.tcons
+      (Syntax.tyInt Syntax.w32) (Syntax.tcons (Syntax.tyStruct (114 ∷ 101 ∷ 115 ∷ 105 ∷ 100 ∷ 117 ∷ 101 ∷ 58 ∷ 58 ∷ 82 ∷ 101 ∷ 115 ∷ 105 ∷ 100 ∷ 117 ∷ 101 ∷ [])
+      (Syntax.tcons (Syntax.tyStruct (110 ∷ 97 ∷ 109 ∷ 101 ∷ 115 ∷ 58 ∷ 58 ∷ 84 ∷ 104 ∷ 114 ∷ 101 ∷ 101 ∷ []) (Syntax.tcons (Syntax.tyInt Syntax.w8)
+      (Syntax.tcons (Syntax.tyInt Syntax.w8) (Syntax.tcons (Syntax.tyInt Syntax.w8) Syntax.tnil)))) (Syntax.tcons (Syntax.tyInt Syntax.w8) (Syntax.tcons
+      (Syntax.tyStruct (102 ∷ 105 ∷ 101 ∷ 108 ∷ 100 ∷ 115 ∷ 58 ∷ 58 ∷ 82 ∷ 101 ∷ 115 ∷ 105 ∷ 100 ∷ 117 ∷ 101 ∷ 78 ∷ 117 ∷ 109 ∷ 98 ∷ 101 ∷ 114 ∷ [])
+      (Syntax.tcons (Syntax.tyInt Syntax.w32) Syntax.tnil)) (Syntax.tcons (Syntax.tyInt Syntax.w8) Syntax.tnil))))) (Syntax.tcons (Syntax.tyStruct (114 ∷ 101 ∷
+      115 ∷ 105 ∷ 100 ∷ 117 ∷ 101 ∷ 58 ∷ 58 ∷ 82 ∷ 101 ∷ 115 ∷ 105 ∷ 100 ∷ 117 ∷ 101 ∷ []) (Syntax.tcons (Syntax.tyStruct (110 ∷ 97 ∷ 109 ∷ 101 ∷ 115 ∷ 58 ∷ 58 ∷
+      84 ∷ 104 ∷ 114 ∷ 101 ∷ 101 ∷ []) (Syntax.tcons (Syntax.tyInt Syntax.w8) (Syntax.tcons (Syntax.tyInt Syntax.w8) (Syntax.tcons (Syntax.tyInt Syntax.w8)
+      Syntax.tnil)))) (Syntax.tcons (Syntax.tyInt Syntax.w8) (Syntax.tcons (Syntax.tyStruct (102 ∷ 105 ∷ 101 ∷ 108 ∷ 100 ∷ 115 ∷ 58 ∷ 58 ∷ 82 ∷ 101 ∷ 115 ∷ 105 ∷
+      100 ∷ 117 ∷ 101 ∷ 78 ∷ 117 ∷ 109 ∷ 98 ∷ 101 ∷ 114 ∷ []) (Syntax.tcons (Syntax.tyInt Syntax.w32) Syntax.tnil)) (Syntax.tcons (Syntax.tyInt Syntax.w8)
+      Syntax.tnil))))) (Syntax.tcons (Syntax.tyInt Syntax.w32) Syntax.tnil))))))) (Syntax.tcons (Syntax.tyEnum (115 ∷ 104 ∷ 101 ∷ 101 ∷ 116 ∷ 58 ∷ 58 ∷ 82 ∷ 101
+      ∷ 103 ∷ 105 ∷ 115 ∷ 116 ∷ 114 ∷ 97 ∷ 116 ∷ 105 ∷ 111 ∷ 110 ∷ []) (Syntax.ttcons Syntax.tnil (Syntax.ttcons (Syntax.tcons (Syntax.tyStruct (115 ∷ 104 ∷ 101
+      ∷ 101 ∷ 116 ∷ 58 ∷ 58 ∷ 66 ∷ 111 ∷ 110 ∷ 100 ∷ []) (Syntax.tcons (Syntax.tyStruct (110 ∷ 97 ∷ 109 ∷ 101 ∷ 115 ∷ 58 ∷ 58 ∷ 70 ∷ 111 ∷ 117 ∷ 114 ∷ [])
+      (Syntax.tcons (Syntax.tyInt Syntax.w8) (Syntax.tcons (Syntax.tyInt Syntax.w8) (Syntax.tcons (Syntax.tyInt Syntax.w8) (Syntax.tcons (Syntax.tyInt Syntax.w8)
+      Syntax.tnil))))) (Syntax.tcons (Syntax.tyStruct (114 ∷ 101 ∷ 115 ∷ 105 ∷ 100 ∷ 117 ∷ 101 ∷ 58 ∷ 58 ∷ 82 ∷ 101 ∷ 115 ∷ 105 ∷ 100 ∷ 117 ∷ 101 ∷ [])
+      (Syntax.tcons (Syntax.tyStruct (110 ∷ 97 ∷ 109 ∷ 101 ∷ 115 ∷ 58 ∷ 58 ∷ 84 ∷ 104 ∷ 114 ∷ 101 ∷ 101 ∷ []) (Syntax.tcons (Syntax.tyInt Syntax.w8)
+      (Syntax.tcons (Syntax.tyInt Syntax.w8) (Syntax.tcons (Syntax.tyInt Syntax.w8) Syntax.tnil)))) (Syntax.tcons (Syntax.tyInt Syntax.w8) (Syntax.tcons
+      (Syntax.tyStruct (102 ∷ 105 ∷ 101 ∷ 108 ∷ 100 ∷ 115 ∷ 58 ∷ 58 ∷ 82 ∷ 101 ∷ 115 ∷ 105 ∷ 100 ∷ 117 ∷ 101 ∷ 78 ∷ 117 ∷ 109 ∷ 98 ∷ 101 ∷ 114 ∷ [])
+      (Syntax.tcons (Syntax.tyInt Syntax.w32) Syntax.tnil)) (Syntax.tcons (Syntax.tyInt Syntax.w8) Syntax.tnil))))) (Syntax.tcons (Syntax.tyStruct (110 ∷ 97 ∷
+      109 ∷ 101 ∷ 115 ∷ 58 ∷ 58 ∷ 70 ∷ 111 ∷ 117 ∷ 114 ∷ []) (Syntax.tcons (Syntax.tyInt Syntax.w8) (Syntax.tcons (Syntax.tyInt Syntax.w8) (Syntax.tcons
+      (Syntax.tyInt Syntax.w8) (Syntax.tcons (Syntax.tyInt Syntax.w8) Syntax.tnil))))) (Syntax.tcons (Syntax.tyStruct (114 ∷ 101 ∷ 115 ∷ 105 ∷ 100 ∷ 117 ∷ 101 ∷
+      58 ∷ 58 ∷ 82 ∷ 101 ∷ 115 ∷ 105 ∷ 100 ∷ 117 ∷ 101 ∷ []) (Syntax.tcons (Syntax.tyStruct (110 ∷ 97 ∷ 109 ∷ 101 ∷ 115 ∷ 58 ∷ 58 ∷ 84 ∷ 104 ∷ 114 ∷ 101 ∷ 101 ∷
+      []) (Syntax.tcons (Syntax.tyInt Syntax.w8) (Syntax.tcons (Syntax.tyInt Syntax.w8) (Syntax.tcons (Syntax.tyInt Syntax.w8) Syntax.tnil)))) (Syntax.tcons
+      (Syntax.tyInt Syntax.w8) (Syntax.tcons (Syntax.tyStruct (102 ∷ 105 ∷ 101 ∷ 108 ∷ 100 ∷ 115 ∷ 58 ∷ 58 ∷ 82 ∷ 101 ∷ 115 ∷ 105 ∷ 100 ∷ 117 ∷ 101 ∷ 78 ∷ 117 ∷
+      109 ∷ 98 ∷ 101 ∷ 114 ∷ []) (Syntax.tcons (Syntax.tyInt Syntax.w32) Syntax.tnil)) (Syntax.tcons (Syntax.tyInt Syntax.w8) Syntax.tnil))))) Syntax.tnil)))))
+      Syntax.tnil) Syntax.ttnil))) Syntax.tnil))) Syntax.tnil) (Syntax.ttcons (Syntax.tcons (Syntax.tyStruct (99 ∷ 111 ∷ 110 ∷ 101 ∷ 99 ∷ 116 ∷ 58 ∷ 58 ∷ 67 ∷
+      111 ∷ 110 ∷ 101 ∷ 99 ∷ 116 ∷ []) (Syntax.tcons (Syntax.tyStruct (102 ∷ 105 ∷ 101 ∷ 108 ∷ 100 ∷ 115 ∷ 58 ∷ 58 ∷ 83 ∷ 101 ∷ 114 ∷ 105 ∷ 97 ∷ 108 ∷ [])
+      (Syntax.tcons (Syntax.tyInt Syntax.w32) Syntax.tnil)) (Syntax.tcons (Syntax.tyStruct (102 ∷ 105 ∷ 101 ∷ 108 ∷ 100 ∷ 115 ∷ 58 ∷ 58 ∷ 83 ∷ 101 ∷ 114 ∷ 105 ∷
+      97 ∷ 108 ∷ []) (Syntax.tcons (Syntax.tyInt Syntax.w32) Syntax.tnil)) (Syntax.tcons (Syntax.tyStruct (102 ∷ 105 ∷ 101 ∷ 108 ∷ 100 ∷ 115 ∷ 58 ∷ 58 ∷ 83 ∷ 101
+      ∷ 114 ∷ 105 ∷ 97 ∷ 108 ∷ []) (Syntax.tcons (Syntax.tyInt Syntax.w32) Syntax.tnil)) (Syntax.tcons (Syntax.tyStruct (102 ∷ 105 ∷ 101 ∷ 108 ∷ 100 ∷ 115 ∷ 58 ∷
+      58 ∷ 83 ∷ 101 ∷ 114 ∷ 105 ∷ 97 ∷ 108 ∷ []) (Syntax.tcons (Syntax.tyInt Syntax.w32) Syntax.tnil)) (Syntax.tcons (Syntax.tyStruct (102 ∷ 105 ∷ 101 ∷ 108 ∷
+      100 ∷ 115 ∷ 58 ∷ 58 ∷ 83 ∷ 101 ∷ 114 ∷ 105 ∷ 97 ∷ 108 ∷ []) (Syntax.tcons (Syntax.tyInt Syntax.w32) Syntax.tnil)) Syntax.tnil)))))) Syntax.tnil)
+      (Syntax.ttcons (Syntax.tcons (Syntax.tyStruct (109 ∷ 97 ∷ 115 ∷ 116 ∷ 101 ∷ 114 ∷ 58 ∷ 58 ∷ 84 ∷ 97 ∷ 108 ∷ 108 ∷ 121 ∷ []) (Syntax.tcons (Syntax.tyInt
+      Syntax.w32) (Syntax.tcons (Syntax.tyInt Syntax.w32) (Syntax.tcons (Syntax.tyInt Syntax.w32) (Syntax.tcons (Syntax.tyInt Syntax.w32) (Syntax.tcons
+      (Syntax.tyInt Syntax.w32) (Syntax.tcons (Syntax.tyInt Syntax.w32) (Syntax.tcons (Syntax.tyInt Syntax.w32) (Syntax.tcons (Syntax.tyInt Syntax.w32)
+      (Syntax.tcons (Syntax.tyInt Syntax.w32) Syntax.tnil)))))))))) Syntax.tnil) (Syntax.ttcons Syntax.tnil (Syntax.ttcons (Syntax.tcons (Syntax.tyStruct (109 ∷
+      111 ∷ 100 ∷ 101 ∷ 108 ∷ 58 ∷ 58 ∷ 77 ∷ 111 ∷ 100 ∷ 101 ∷ 108 ∷ []) (Syntax.tcons (Syntax.tyInt Syntax.w32) Syntax.tnil)) Syntax.tnil) (Syntax.ttcons
+      Syntax.tnil Syntax.ttnil)))))))))) Syntax.tnil) Syntax.ttnil))))),
+) ∷ (9, Rows.sc-here Row.sBool) ∷ (10, Rows.any-gone (Syntax.tyInt Syntax.w64)) ∷ (
+  11,
+  Rows.any-gone (Syntax.tyInt Syntax.w64),
+) ∷ (12, Rows.any-gone (Syntax.tyInt Syntax.w64)) ∷ (13, Rows.any-gone Syntax.tyBool) ∷ (
+  14,
+  Rows.any-gone
+      (Syntax.tyRef Syntax.erased Syntax.mut SlotAs.pointee),
+) ∷ (
+  15,
+  Rows.any-gone (Syntax.tyStruct (38 ∷ 91 ∷ 93 ∷ []) (Syntax.tcons (Syntax.tyRef Syntax.erased
+      Syntax.mut SlotAs.pointee) (Syntax.tcons (Syntax.tyInt Syntax.w64) Syntax.tnil))),
+) ∷ []
+
+abbrev pub t11 : List.List Row.Entry
+t11 = (0, Rows.whole (Declared'.row (Apart.apartT Outcome.the-type))) ∷ (
+  1,
+  Rows.sslice (Referent.rtF (Referent.fInt Syntax.w8)) (Syntax.tyRef (Syntax.named 0)
+      Syntax.imm (Syntax.tyInt Syntax.w8)) 0,
+) ∷ (2, Mut.mslice SlotAs.row (Syntax.tyRef (Syntax.named 1) Syntax.mut SlotAs.pointee) 1) ∷ (
+  3,
+  Rows.any-gone
+      (Syntax.tyStruct (115 ∷ 116 ∷ 111 ∷ 114 ∷ 101 ∷ 58 ∷ 58 ∷ 78 ∷ 101 ∷ 101 ∷ 100 ∷ 115 ∷ []) (Syntax.tcons (Syntax.tyInt Syntax.w8) (Syntax.tcons
+      (Syntax.tyInt Syntax.w64) Syntax.tnil))),
+) ∷ (4, Rows.sc-here (Row.sInt Syntax.w64)) ∷ (5, Rows.any-gone (Syntax.tyInt Syntax.w64)) ∷ (
+  6,
+  Rows.any-gone
+      (Syntax.tyInt Syntax.w64),
+) ∷ (7, Rows.any-gone (Syntax.tyInt Syntax.w32)) ∷ (
+  8,
+  Rows.any-gone (Syntax.tyEnum (112 ∷ 105 ∷ 101 ∷ 99 ∷ 101 ∷ 115 ∷ 58 ∷ 58 ∷
+      76 ∷ 105 ∷ 110 ∷ 101 ∷ []) (Syntax.ttcons (Syntax.tcons (Syntax.tyInt Syntax.w8) Syntax.tnil) (Syntax.ttcons (Syntax.tcons (Syntax.tyEnum (107 ∷ 105 ∷ 110
+      ∷ 100 ∷ 115 ∷ 58 ∷ 58 ∷ 75 ∷ 105 ∷ 110 ∷ 100 ∷ []) (Syntax.ttcons Syntax.tnil (Syntax.ttcons Syntax.tnil (Syntax.ttcons Syntax.tnil (Syntax.ttcons
+      Syntax.tnil (Syntax.ttcons Syntax.tnil (Syntax.ttcons Syntax.tnil (Syntax.ttcons Syntax.tnil (Syntax.ttcons Syntax.tnil (Syntax.ttcons Syntax.tnil
+      (Syntax.ttcons Syntax.tnil (Syntax.ttcons Syntax.tnil (Syntax.ttcons Syntax.tnil (Syntax.ttcons Syntax.tnil (Syntax.ttcons Syntax.tnil (Syntax.ttcons
+      Syntax.tnil (Syntax.ttcons Syntax.tnil (Syntax.ttcons Syntax.tnil (Syntax.ttcons Syntax.tnil (Syntax.ttcons Syntax.tnil (Syntax.ttcons Syntax.tnil
+      (Syntax.ttcons Syntax.tnil (Syntax.ttcons Syntax.tnil (Syntax.ttcons Syntax.tnil (Syntax.ttcons Syntax.tnil (Syntax.ttcons Syntax.tnil (Syntax.ttcons
+      Syntax.tnil (Syntax.ttcons Syntax.tnil (Syntax.ttcons Syntax.tnil (Syntax.ttcons Syntax.tnil (Syntax.ttcons Syntax.tnil
+      Syntax.ttnil))))))))))))))))))))))))))))))) (Syntax.tcons (Syntax.tyInt Syntax.w32) Syntax.tnil)) (Syntax.ttcons (Syntax.tcons (Syntax.tyEnum (107 ∷ 105 ∷
+      110 ∷ 100 ∷ 115 ∷ 58 ∷ 58 ∷ 75 ∷ 105 ∷ 110 ∷ 100 ∷ []) (Syntax.ttcons Syntax.tnil (Syntax.ttcons Syntax.tnil (Syntax.ttcons Syntax.tnil (Syntax.ttcons
+      Syntax.tnil (Syntax.ttcons Syntax.tnil (Syntax.ttcons Syntax.tnil (Syntax.ttcons Syntax.tnil (Syntax.ttcons Syntax.tnil (Syntax.ttcons Syntax.tnil
+      (Syntax.ttcons Syntax.tnil (Syntax.ttcons Syntax.tnil (Syntax.ttcons Syntax.tnil (Syntax.ttcons Syntax.tnil (Syntax.ttcons Syntax.tnil (Syntax.ttcons
+      Syntax.tnil (Syntax.ttcons Syntax.tnil (Syntax.ttcons Syntax.tnil (Syntax.ttcons Syntax.tnil (Syntax.ttcons Syntax.tnil (Syntax.ttcons Syntax.tnil
+      (Syntax.ttcons Syntax.tnil (Syntax.ttcons Syntax.tnil (Syntax.ttcons Syntax.tnil (Syntax.ttcons Syntax.tnil (Syntax.ttcons Syntax.tnil (Syntax.ttcons
+      Syntax.tnil (Syntax.ttcons Syntax.tnil (Syntax.ttcons Syntax.tnil (Syntax.ttcons Syntax.tnil (Syntax.ttcons Syntax.tnil
+      Syntax.ttnil))))))))))))))))))))))))))))))) Syntax.tnil) (Syntax.ttcons (Syntax.tcons (Syntax.tyEnum (108 ∷ 105 ∷ 110 ∷ 101 ∷ 58 ∷ 58 ∷ 82 ∷ 101 ∷ 99 ∷ 111
+      ∷ 114 ∷ 100 ∷ []) (Syntax.ttcons (Syntax.tcons Syntax.tyBool (Syntax.tcons (Syntax.tyStruct (99 ∷ 111 ∷ 111 ∷ 114 ∷ 100 ∷ 105 ∷ 110 ∷ 97 ∷ 116 ∷ 101 ∷ 58 ∷
+      58 ∷ 65 ∷ 116 ∷ 111 ∷ 109 ∷ []) (Syntax.tcons (Syntax.tyStruct (99 ∷ 111 ∷ 111 ∷ 114 ∷ 100 ∷ 105 ∷ 110 ∷ 97 ∷ 116 ∷ 101 ∷ 58 ∷ 58 ∷ 73 ∷ 100 ∷ 101 ∷ 110 ∷
+      116 ∷ 105 ∷ 116 ∷ 121 ∷ []) (Syntax.tcons (Syntax.tyStruct (102 ∷ 105 ∷ 101 ∷ 108 ∷ 100 ∷ 115 ∷ 58 ∷ 58 ∷ 83 ∷ 101 ∷ 114 ∷ 105 ∷ 97 ∷ 108 ∷ [])
+      (Syntax.tcons (Syntax.tyInt Syntax.w32) Syntax.tnil)) (Syntax.tcons (Syntax.tyStruct (110 ∷ 97 ∷ 109 ∷ 101 ∷ 115 ∷ 58 ∷ 58 ∷ 70 ∷ 111 ∷ 117 ∷ 114 ∷ [])
+      (Syntax.tcons (Syntax.tyInt Syntax.w8) (Syntax.tcons (Syntax.tyInt Syntax.w8) (Syntax.tcons (Syntax.tyInt Syntax.w8) (Syntax.tcons (Syntax.tyInt Syntax.w8)
+      Syntax.tnil))))) (Syntax.tcons (Syntax.tyInt Syntax.w8) (Syntax.tcons (Syntax.tyStruct (114 ∷ 101 ∷ 115 ∷ 105 ∷ 100 ∷ 117 ∷ 101 ∷ 58 ∷ 58 ∷ 82 ∷ 101 ∷ 115
+      ∷ 105 ∷ 100 ∷ 117 ∷ 101 ∷ []) (Syntax.tcons (Syntax.tyStruct (110 ∷ 97 ∷ 109 ∷ 101 ∷ 115 ∷ 58 ∷ 58 ∷ 84 ∷ 104 ∷ 114 ∷ 101 ∷ 101 ∷ []) (Syntax.tcons
+      (Syntax.tyInt Syntax.w8) (Syntax.tcons (Syntax.tyInt Syntax.w8) (Syntax.tcons (Syntax.tyInt Syntax.w8) Syntax.tnil)))) (Syntax.tcons (Syntax.tyInt
+      Syntax.w8) (Syntax.tcons (Syntax.tyStruct (102 ∷ 105 ∷ 101 ∷ 108 ∷ 100 ∷ 115 ∷ 58 ∷ 58 ∷ 82 ∷ 101 ∷ 115 ∷ 105 ∷ 100 ∷ 117 ∷ 101 ∷ 78 ∷ 117 ∷ 109 ∷ 98 ∷ 101
+      ∷ 114 ∷ []) (Syntax.tcons (Syntax.tyInt Syntax.w32) Syntax.tnil)) (Syntax.tcons (Syntax.tyInt Syntax.w8) Syntax.tnil))))) Syntax.tnil))))) (Syntax.tcons
+      (Syntax.tyStruct (99 ∷ 111 ∷ 111 ∷ 114 ∷ 100 ∷ 105 ∷ 110 ∷ 97 ∷ 116 ∷ 101 ∷ 58 ∷ 58 ∷ 77 ∷ 101 ∷ 97 ∷ 115 ∷ 117 ∷ 114 ∷ 101 ∷ []) (Syntax.tcons
+      (Syntax.tyStruct (99 ∷ 111 ∷ 111 ∷ 114 ∷ 100 ∷ 105 ∷ 110 ∷ 97 ∷ 116 ∷ 101 ∷ 58 ∷ 58 ∷ 80 ∷ 111 ∷ 115 ∷ 105 ∷ 116 ∷ 105 ∷ 111 ∷ 110 ∷ []) (Syntax.tcons
+      (Syntax.tyInt Syntax.w32) (Syntax.tcons (Syntax.tyInt Syntax.w32) (Syntax.tcons (Syntax.tyInt Syntax.w32) Syntax.tnil)))) (Syntax.tcons (Syntax.tyInt
+      Syntax.w32) (Syntax.tcons (Syntax.tyInt Syntax.w32) Syntax.tnil)))) (Syntax.tcons (Syntax.tyStruct (99 ∷ 111 ∷ 111 ∷ 114 ∷ 100 ∷ 105 ∷ 110 ∷ 97 ∷ 116 ∷ 101
+      ∷ 58 ∷ 58 ∷ 83 ∷ 112 ∷ 101 ∷ 99 ∷ 105 ∷ 101 ∷ 115 ∷ []) (Syntax.tcons (Syntax.tyStruct (110 ∷ 97 ∷ 109 ∷ 101 ∷ 115 ∷ 58 ∷ 58 ∷ 80 ∷ 97 ∷ 105 ∷ 114 ∷ [])
+      (Syntax.tcons (Syntax.tyInt Syntax.w8) (Syntax.tcons (Syntax.tyInt Syntax.w8) Syntax.tnil))) (Syntax.tcons (Syntax.tyStruct (110 ∷ 97 ∷ 109 ∷ 101 ∷ 115 ∷
+      58 ∷ 58 ∷ 80 ∷ 97 ∷ 105 ∷ 114 ∷ []) (Syntax.tcons (Syntax.tyInt Syntax.w8) (Syntax.tcons (Syntax.tyInt Syntax.w8) Syntax.tnil))) Syntax.tnil)))
+      Syntax.tnil)))) Syntax.tnil)) (Syntax.ttcons (Syntax.tcons (Syntax.tyStruct (116 ∷ 101 ∷ 114 ∷ 58 ∷ 58 ∷ 84 ∷ 101 ∷ 114 ∷ []) (Syntax.tcons
+      (Syntax.tyStruct (102 ∷ 105 ∷ 101 ∷ 108 ∷ 100 ∷ 115 ∷ 58 ∷ 58 ∷ 83 ∷ 101 ∷ 114 ∷ 105 ∷ 97 ∷ 108 ∷ []) (Syntax.tcons (Syntax.tyInt Syntax.w32) Syntax.tnil))
+      (Syntax.tcons (Syntax.tyStruct (114 ∷ 101 ∷ 115 ∷ 105 ∷ 100 ∷ 117 ∷ 101 ∷ 58 ∷ 58 ∷ 82 ∷ 101 ∷ 115 ∷ 105 ∷ 100 ∷ 117 ∷ 101 ∷ []) (Syntax.tcons
+      (Syntax.tyStruct (110 ∷ 97 ∷ 109 ∷ 101 ∷ 115 ∷ 58 ∷ 58 ∷ 84 ∷ 104 ∷ 114 ∷ 101 ∷ 101 ∷ []) (Syntax.tcons (Syntax.tyInt Syntax.w8) (Syntax.tcons
+      (Syntax.tyInt Syntax.w8) (Syntax.tcons (Syntax.tyInt Syntax.w8) Syntax.tnil)))) (Syntax.tcons (Syntax.tyInt Syntax.w8) (Syntax.tcons (Syntax.tyStruct (102
+      ∷ 105 ∷ 101 ∷ 108 ∷ 100 ∷ 115 ∷ 58 ∷ 58 ∷ 82 ∷ 101 ∷ 115 ∷ 105 ∷ 100 ∷ 117 ∷ 101 ∷ 78 ∷ 117 ∷ 109 ∷ 98 ∷ 101 ∷ 114 ∷ []) (Syntax.tcons (Syntax.tyInt
+      Syntax.w32) Syntax.tnil)) (Syntax.tcons (Syntax.tyInt Syntax.w8) Syntax.tnil))))) Syntax.tnil))) Syntax.tnil) (Syntax.ttcons (Syntax.tcons (Syntax.tyStruct
+      (104 ∷ 101 ∷ 108 ∷ 105 ∷ 120 ∷ 58 ∷ 58 ∷ 72 ∷ 101 ∷ 108 ∷ 105 ∷ 120 ∷ []) (Syntax.tcons (Syntax.tyStruct (104 ∷ 101 ∷ 108 ∷ 105 ∷ 120 ∷ 58 ∷ 58 ∷ 69 ∷ 120
+      ∷ 116 ∷ 101 ∷ 110 ∷ 116 ∷ []) (Syntax.tcons (Syntax.tyInt Syntax.w32) (Syntax.tcons (Syntax.tyStruct (110 ∷ 97 ∷ 109 ∷ 101 ∷ 115 ∷ 58 ∷ 58 ∷ 84 ∷ 104 ∷ 114
+      ∷ 101 ∷ 101 ∷ []) (Syntax.tcons (Syntax.tyInt Syntax.w8) (Syntax.tcons (Syntax.tyInt Syntax.w8) (Syntax.tcons (Syntax.tyInt Syntax.w8) Syntax.tnil))))
+      (Syntax.tcons (Syntax.tyStruct (114 ∷ 101 ∷ 115 ∷ 105 ∷ 100 ∷ 117 ∷ 101 ∷ 58 ∷ 58 ∷ 82 ∷ 101 ∷ 115 ∷ 105 ∷ 100 ∷ 117 ∷ 101 ∷ []) (Syntax.tcons
+      (Syntax.tyStruct (110 ∷ 97 ∷ 109 ∷ 101 ∷ 115 ∷ 58 ∷ 58 ∷ 84 ∷ 104 ∷ 114 ∷ 101 ∷ 101 ∷ []) (Syntax.tcons (Syntax.tyInt Syntax.w8) (Syntax.tcons
+      (Syntax.tyInt Syntax.w8) (Syntax.tcons (Syntax.tyInt Syntax.w8) Syntax.tnil)))) (Syntax.tcons (Syntax.tyInt Syntax.w8) (Syntax.tcons (Syntax.tyStruct (102
+      ∷ 105 ∷ 101 ∷ 108 ∷ 100 ∷ 115 ∷ 58 ∷ 58 ∷ 82 ∷ 101 ∷ 115 ∷ 105 ∷ 100 ∷ 117 ∷ 101 ∷ 78 ∷ 117 ∷ 109 ∷ 98 ∷ 101 ∷ 114 ∷ []) (Syntax.tcons (Syntax.tyInt
+      Syntax.w32) Syntax.tnil)) (Syntax.tcons (Syntax.tyInt Syntax.w8) Syntax.tnil))))) (Syntax.tcons (Syntax.tyStruct (114 ∷ 101 ∷ 115 ∷ 105 ∷ 100 ∷ 117 ∷ 101 ∷
+      58 ∷ 58 ∷ 82 ∷ 101 ∷ 115 ∷ 105 ∷ 100 ∷ 117 ∷ 101 ∷ []) (Syntax.tcons (Syntax.tyStruct (110 ∷ 97 ∷ 109 ∷ 101 ∷ 115 ∷ 58 ∷ 58 ∷ 84 ∷ 104 ∷ 114 ∷ 101 ∷ 101 ∷
+      []) (Syntax.tcons (Syntax.tyInt Syntax.w8) (Syntax.tcons (Syntax.tyInt Syntax.w8) (Syntax.tcons (Syntax.tyInt Syntax.w8) Syntax.tnil)))) (Syntax.tcons
+      (Syntax.tyInt Syntax.w8) (Syntax.tcons (Syntax.tyStruct (102 ∷ 105 ∷ 101 ∷ 108 ∷ 100 ∷ 115 ∷ 58 ∷ 58 ∷ 82 ∷ 101 ∷ 115 ∷ 105 ∷ 100 ∷ 117 ∷ 101 ∷ 78 ∷ 117 ∷
+      109 ∷ 98 ∷ 101 ∷ 114 ∷ []) (Syntax.tcons (Syntax.tyInt Syntax.w32) Syntax.tnil)) (Syntax.tcons (Syntax.tyInt Syntax.w8) Syntax.tnil))))) Syntax.tnil)))))
+      (Syntax.tcons (Syntax.tyInt Syntax.w32) (Syntax.tcons (Syntax.tyStruct (104 ∷ 101 ∷ 108 ∷ 105 ∷ 120 ∷ 58 ∷ 58 ∷ 67 ∷ 111 ∷ 109 ∷ 109 ∷ 101 ∷ 110 ∷ 116 ∷
+      []) (Syntax.tcons (Syntax.tyInt Syntax.w64) (Syntax.tcons (Syntax.tyInt Syntax.w64) (Syntax.tcons (Syntax.tyInt Syntax.w64) (Syntax.tcons (Syntax.tyInt
+      Syntax.w64) Syntax.tnil))))) (Syntax.tcons (Syntax.tyInt Syntax.w32) Syntax.tnil))))) Syntax.tnil) (Syntax.ttcons (Syntax.tcons (Syntax.tyStruct (115 ∷ 104
+      ∷ 101 ∷ 101 ∷ 116 ∷ 58 ∷ 58 ∷ 83 ∷ 104 ∷ 101 ∷ 101 ∷ 116 ∷ []) (Syntax.tcons (Syntax.tyStruct (115 ∷ 104 ∷ 101 ∷ 101 ∷ 116 ∷ 58 ∷ 58 ∷ 83 ∷ 116 ∷ 114 ∷ 97
+      ∷ 110 ∷ 100 ∷ []) (Syntax.tcons (Syntax.tyInt Syntax.w32) (Syntax.tcons (Syntax.tyStruct (110 ∷ 97 ∷ 109 ∷ 101 ∷ 115 ∷ 58 ∷ 58 ∷ 84 ∷ 104 ∷ 114 ∷ 101 ∷ 101
+      ∷ []) (Syntax.tcons (Syntax.tyInt Syntax.w8) (Syntax.tcons (Syntax.tyInt Syntax.w8) (Syntax.tcons (Syntax.tyInt Syntax.w8) Syntax.tnil)))) (Syntax.tcons
+      (Syntax.tyInt Syntax.w32) (Syntax.tcons (Syntax.tyStruct (114 ∷ 101 ∷ 115 ∷ 105 ∷ 100 ∷ 117 ∷ 101 ∷ 58 ∷ 58 ∷ 82 ∷ 101 ∷ 115 ∷ 105 ∷ 100 ∷ 117 ∷ 101 ∷ [])
+      (Syntax.tcons (Syntax.tyStruct (110 ∷ 97 ∷ 109 ∷ 101 ∷ 115 ∷ 58 ∷ 58 ∷ 84 ∷ 104 ∷ 114 ∷ 101 ∷ 101 ∷ []) (Syntax.tcons (Syntax.tyInt Syntax.w8)
+      (Syntax.tcons (Syntax.tyInt Syntax.w8) (Syntax.tcons (Syntax.tyInt Syntax.w8) Syntax.tnil)))) (Syntax.tcons (Syntax.tyInt Syntax.w8) (Syntax.tcons
+      (Syntax.tyStruct (102 ∷ 105 ∷ 101 ∷ 108 ∷ 100 ∷ 115 ∷ 58 ∷ 58 ∷ 82 ∷ 101 ∷ 115 ∷ 105 ∷ 100 ∷ 117 ∷ 101 ∷ 78 ∷ 117 ∷ 109 ∷ 98 ∷ 101 ∷ 114 ∷ [])
+      (Syntax.tcons (Syntax.tyInt Syntax.w32) Syntax.tnil)) (Syntax.tcons (Syntax.tyInt Syntax.w8) Syntax.tnil))))) (Syntax.tcons (Syntax.tyStruct (114 ∷ 101 ∷
+      115 ∷ 105 ∷ 100 ∷ 117 ∷ 101 ∷ 58 ∷ 58 ∷ 82 ∷ 101 ∷ 115 ∷ 105 ∷ 100 ∷ 117 ∷ 101 ∷ []) (Syntax.tcons (Syntax.tyStruct (110 ∷ 97 ∷ 109 ∷ 101 ∷ 115 ∷ 58 ∷ 58 ∷
+      84 ∷ 104 ∷ 114 ∷ 101 ∷ 101 ∷ []) (Syntax.tcons (Syntax.tyInt Syntax.w8) (Syntax.tcons (Syntax.tyInt Syntax.w8) (Syntax.tcons (Syntax.tyInt Syntax.w8)
+      Syntax.tnil)))) (Syntax.tcons (Syntax.tyInt Syntax.w8) (Syntax.tcons (Syntax.tyStruct (102 ∷ 105 ∷ 101 ∷ 108 ∷ 100 ∷ 115 ∷ 58 ∷ 58 ∷ 82 ∷ 101 ∷ 115 ∷ 105 ∷
+      100 ∷ 117 ∷ 101 ∷ 78 ∷ 117 ∷ 109 ∷ 98 ∷ 101 ∷ 114 ∷ []) (Syntax.tcons (Syntax.tyInt Syntax.w32) Syntax.tnil)) (Syntax.tcons (Syntax.tyInt Syntax.w8)
+      Syntax.tnil))))) (Syntax.tcons (Syntax.tyInt Syntax.w32) Syntax.tnil))))))) (Syntax.tcons (Syntax.tyEnum (115 ∷ 104 ∷ 101 ∷ 101 ∷ 116 ∷ 58 ∷ 58 ∷ 82 ∷ 101
+      ∷ 103 ∷ 105 ∷ 115 ∷ 116 ∷ 114 ∷ 97 ∷ 116 ∷ 105 ∷ 111 ∷ 110 ∷ []) (Syntax.ttcons Syntax.tnil (Syntax.ttcons (Syntax.tcons (Syntax.tyStruct (115 ∷ 104 ∷ 101
+      ∷ 101 ∷ 116 ∷ 58 ∷ 58 ∷ 66 ∷ 111 ∷ 110 ∷ 100 ∷ []) (Syntax.tcons (Syntax.tyStruct (110 ∷ 97 ∷ 109 ∷ 101 ∷ 115 ∷ 58 ∷ 58 ∷ 70 ∷ 111 ∷ 117 ∷ 114 ∷ [])
+      (Syntax.tcons (Syntax.tyInt Syntax.w8) (Syntax.tcons (Syntax.tyInt Syntax.w8) (Syntax.tcons (Syntax.tyInt Syntax.w8) (Syntax.tcons (Syntax.tyInt Syntax.w8)
+      Syntax.tnil))))) (Syntax.tcons (Syntax.tyStruct (114 ∷ 101 ∷ 115 ∷ 105 ∷ 100 ∷ 117 ∷ 101 ∷ 58 ∷ 58 ∷ 82 ∷ 101 ∷ 115 ∷ 105 ∷ 100 ∷ 117 ∷ 101 ∷ [])
+      (Syntax.tcons (Syntax.tyStruct (110 ∷ 97 ∷ 109 ∷ 101 ∷ 115 ∷ 58 ∷ 58 ∷ 84 ∷ 104 ∷ 114 ∷ 101 ∷ 101 ∷ []) (Syntax.tcons (Syntax.tyInt Syntax.w8)
+      (Syntax.tcons (Syntax.tyInt Syntax.w8) (Syntax.tcons (Syntax.tyInt Syntax.w8) Syntax.tnil)))) (Syntax.tcons (Syntax.tyInt Syntax.w8) (Syntax.tcons
+      (Syntax.tyStruct (102 ∷ 105 ∷ 101 ∷ 108 ∷ 100 ∷ 115 ∷ 58 ∷ 58 ∷ 82 ∷ 101 ∷ 115 ∷ 105 ∷ 100 ∷ 117 ∷ 101 ∷ 78 ∷ 117 ∷ 109 ∷ 98 ∷ 101 ∷ 114 ∷ [])
+      (Syntax.tcons (Syntax.tyInt Syntax.w32) Syntax.tnil)) (Syntax.tcons (Syntax.tyInt Syntax.w8) Syntax.tnil))))) (Syntax.tcons (Syntax.tyStruct (110 ∷ 97 ∷
+      109 ∷ 101 ∷ 115 ∷ 58 ∷ 58 ∷ 70 ∷ 111 ∷ 117 ∷ 114 ∷ []) (Syntax.tcons (Syntax.tyInt Syntax.w8) (Syntax.tcons (Syntax.tyInt Syntax.w8) (Syntax.tcons
+      (Syntax.tyInt Syntax.w8) (Syntax.tcons (Syntax.tyInt Syntax.w8) Syntax.tnil))))) (Syntax.tcons (Syntax.tyStruct (114 ∷ 101 ∷ 115 ∷ 105 ∷ 100 ∷ 117 ∷ 101 ∷
+      58 ∷ 58 ∷ 82 ∷ 101 ∷ 115 ∷ 105 ∷ 100 ∷ 117 ∷ 101 ∷ []) (Syntax.tcons (Syntax.tyStruct (110 ∷ 97 ∷ 109 ∷ 101 ∷ 115 ∷ 58 ∷ 58 ∷ 84 ∷ 104 ∷ 114 ∷ 101 ∷ 101 ∷
+      []) (Syntax.tcons (Syntax.tyInt Syntax.w8) (Syntax.tcons (Syntax.tyInt Syntax.w8) (Syntax.tcons (Syntax.tyInt Syntax.w8) Syntax.tnil)))) (Syntax.tcons
+      (Syntax.tyInt Syntax.w8) (Syntax.tcons (Syntax.tyStruct (102 ∷ 105 ∷ 101 ∷ 108 ∷ 100 ∷ 115 ∷ 58 ∷ 58 ∷ 82 ∷ 101 ∷ 115 ∷ 105 ∷ 100 ∷ 117 ∷ 101 ∷ 78 ∷ 117 ∷
+      109 ∷ 98 ∷ 101 ∷ 114 ∷ []) (Syntax.tcons (Syntax.tyInt Syntax.w32) Syntax.tnil)) (Syntax.tcons (Syntax.tyInt Syntax.w8) Syntax.tnil))))) Syntax.tnil)))))
+      Syntax.tnil) Syntax.ttnil))) Syntax.tnil))) Syntax.tnil) (Syntax.ttcons (Syntax.tcons (Syntax.tyStruct (99 ∷ 111 ∷ 110 ∷ 101 ∷ 99 ∷ 116 ∷ 58 ∷ 58 ∷ 67 ∷
+      111 ∷ 110 ∷ 101 ∷ 99 ∷ 116 ∷ []) (Syntax.tcons (Syntax.tyStruct (102 ∷ 105 ∷ 101 ∷ 108 ∷ 100 ∷ 115 ∷ 58 ∷ 58 ∷ 83 ∷ 101 ∷ 114 ∷ 105 ∷ 97 ∷ 108 ∷ [])
+      (Syntax.tcons (Syntax.tyInt Syntax.w32) Syntax.tnil)) (Syntax.tcons (Syntax.tyStruct (102 ∷ 105 ∷ 101 ∷ 108 ∷ 100 ∷ 115 ∷ 58 ∷ 58 ∷ 83 ∷ 101 ∷ 114 ∷ 105 ∷
+      97 ∷ 108 ∷ []) (Syntax.tcons (Syntax.tyInt Syntax.w32) Syntax.tnil)) (Syntax.tcons (Syntax.tyStruct (102 ∷ 105 ∷ 101 ∷ 108 ∷ 100 ∷ 115 ∷ 58 ∷ 58 ∷ 83 ∷ 101
+      ∷ 114 ∷ 105 ∷ 97 ∷ 108 ∷ []) (Syntax.tcons (Syntax.tyInt Syntax.w32) Syntax.tnil)) (Syntax.tcons (Syntax.tyStruct (102 ∷ 105 ∷ 101 ∷ 108 ∷ 100 ∷ 115 ∷ 58 ∷
+      58 ∷ 83 ∷ 101 ∷ 114 ∷ 105 ∷ 97 ∷ 108 ∷ []) (Syntax.tcons (Syntax.tyInt Syntax.w32) Syntax.tnil)) (Syntax.tcons (Syntax.tyStruct (102 ∷ 105 ∷ 101 ∷ 108 ∷
+      100 ∷ 115 ∷ 58 ∷ 58 ∷ 83 ∷ 101 ∷ 114 ∷ 105 ∷ 97 ∷ 108 ∷ []) (Syntax.tcons (Syntax.tyInt Syntax.w32) Syntax.tnil)) Syntax.tnil)))))) Syntax.tnil)
+      (Syntax.ttcons (Syntax.tcons (Syntax.tyStruct (109 ∷ 97 ∷ 115 ∷ 116 ∷ 101 ∷ 114 ∷ 58 ∷ 58 ∷ 84 ∷ 97 ∷ 108 ∷ 108 ∷ 121 ∷ []) (Syntax.tcons (Syntax.tyInt
+      Syntax.w32) (Syntax.tcons (Syntax.tyInt Syntax.w32) (Syntax.tcons (Syntax.tyInt Syntax.w32) (Syntax.tcons (Syntax.tyInt Syntax.w32) (Syntax.tcons
+      (Syntax.tyInt Syntax.w32) (Syntax.tcons (Syntax.tyInt Syntax.w32) (Syntax.tcons (Syntax.tyInt Syntax.w32) (Syntax.tcons (Syntax.tyInt Syntax.w32)
+      (Syntax.tcons (Syntax.tyInt Syntax.w32) Syntax.tnil)))))))))) Syntax.tnil) (Syntax.ttcons Syntax.tnil (Syntax.ttcons (Syntax.tcons (Syntax.tyStruct (109 ∷
+      111 ∷ 100 ∷ 101 ∷ 108 ∷ 58 ∷ 58 ∷ 77 ∷ 111 ∷ 100 ∷ 101 ∷ 108 ∷ []) (Syntax.tcons (Syntax.tyInt Syntax.w32) Syntax.tnil)) Syntax.tnil) (Syntax.ttcons
+      Syntax.tnil Syntax.ttnil)))))))))) Syntax.tnil) Syntax.ttnil))))),
+) ∷ (9, Rows.any-gone Syntax.tyBool) ∷ (10, Rows.any-gone (Syntax.tyInt Syntax.w64)) ∷
+    (11, Rows.any-gone (Syntax.tyInt Syntax.w64)) ∷ (12, Rows.any-gone (Syntax.tyInt Syntax.w64)) ∷ (13, Rows.any-gone Syntax.tyBool) ∷ (
+      14,
+      Rows.any-gone
+          (Syntax.tyRef Syntax.erased Syntax.mut SlotAs.pointee),
+    ) ∷ (
+      15,
+      Rows.any-gone (Syntax.tyStruct (38 ∷ 91 ∷ 93 ∷ []) (Syntax.tcons (Syntax.tyRef Syntax.erased
+          Syntax.mut SlotAs.pointee) (Syntax.tcons (Syntax.tyInt Syntax.w64) Syntax.tnil))),
+    ) ∷ []
+
+abbrev pub t12 : List.List Row.Entry
+t12 = (
+  0,
+  Rows.any-gone (Syntax.tyStruct (115 ∷ 116 ∷ 111 ∷ 114 ∷ 101 ∷ 58 ∷ 58 ∷ 79 ∷ 117 ∷ 116 ∷ 99 ∷ 111 ∷ 109 ∷ 101 ∷ []) (Syntax.tcons (Syntax.tyInt
+      Syntax.w8) (Syntax.tcons (Syntax.tyInt Syntax.w64) Syntax.tnil))),
+) ∷ (
+  1,
+  Rows.sslice (Referent.rtF (Referent.fInt Syntax.w8)) (Syntax.tyRef (Syntax.named
+      0) Syntax.imm (Syntax.tyInt Syntax.w8)) 0,
+) ∷ (2, Mut.mslice SlotAs.row (Syntax.tyRef (Syntax.named 1) Syntax.mut SlotAs.pointee) 1) ∷ (
+  3,
+  Rows.any-gone
+      (Syntax.tyStruct (115 ∷ 116 ∷ 111 ∷ 114 ∷ 101 ∷ 58 ∷ 58 ∷ 78 ∷ 101 ∷ 101 ∷ 100 ∷ 115 ∷ []) (Syntax.tcons (Syntax.tyInt Syntax.w8) (Syntax.tcons
+      (Syntax.tyInt Syntax.w64) Syntax.tnil))),
+) ∷ (4, Rows.sc-here (Row.sInt Syntax.w64)) ∷ (5, Rows.sc-here (Row.sInt Syntax.w64)) ∷ (
+  6,
+  Rows.any-gone
+      (Syntax.tyInt Syntax.w64),
+) ∷ (7, Rows.any-gone (Syntax.tyInt Syntax.w32)) ∷ (
+  8,
+  Rows.any-gone (Syntax.tyEnum (112 ∷ 105 ∷ 101 ∷ 99 ∷ 101 ∷ 115 ∷ 58 ∷ 58 ∷
+      76 ∷ 105 ∷ 110 ∷ 101 ∷ []) (Syntax.ttcons (Syntax.tcons (Syntax.tyInt Syntax.w8) Syntax.tnil) (Syntax.ttcons (Syntax.tcons (Syntax.tyEnum (107 ∷ 105 ∷ 110
+      ∷ 100 ∷ 115 ∷ 58 ∷ 58 ∷ 75 ∷ 105 ∷ 110 ∷ 100 ∷ []) (Syntax.ttcons Syntax.tnil (Syntax.ttcons Syntax.tnil (Syntax.ttcons Syntax.tnil (Syntax.ttcons
+      Syntax.tnil (Syntax.ttcons Syntax.tnil (Syntax.ttcons Syntax.tnil (Syntax.ttcons Syntax.tnil (Syntax.ttcons Syntax.tnil (Syntax.ttcons Syntax.tnil
+      (Syntax.ttcons Syntax.tnil (Syntax.ttcons Syntax.tnil (Syntax.ttcons Syntax.tnil (Syntax.ttcons Syntax.tnil (Syntax.ttcons Syntax.tnil (Syntax.ttcons
+      Syntax.tnil (Syntax.ttcons Syntax.tnil (Syntax.ttcons Syntax.tnil (Syntax.ttcons Syntax.tnil (Syntax.ttcons Syntax.tnil (Syntax.ttcons Syntax.tnil
+      (Syntax.ttcons Syntax.tnil (Syntax.ttcons Syntax.tnil (Syntax.ttcons Syntax.tnil (Syntax.ttcons Syntax.tnil (Syntax.ttcons Syntax.tnil (Syntax.ttcons
+      Syntax.tnil (Syntax.ttcons Syntax.tnil (Syntax.ttcons Syntax.tnil (Syntax.ttcons Syntax.tnil (Syntax.ttcons Syntax.tnil
+      Syntax.ttnil))))))))))))))))))))))))))))))) (Syntax.tcons (Syntax.tyInt Syntax.w32) Syntax.tnil)) (Syntax.ttcons (Syntax.tcons (Syntax.tyEnum (107 ∷ 105 ∷
+      110 ∷ 100 ∷ 115 ∷ 58 ∷ 58 ∷ 75 ∷ 105 ∷ 110 ∷ 100 ∷ []) (Syntax.ttcons Syntax.tnil (Syntax.ttcons Syntax.tnil (Syntax.ttcons Syntax.tnil (Syntax.ttcons
+      Syntax.tnil (Syntax.ttcons Syntax.tnil (Syntax.ttcons Syntax.tnil (Syntax.ttcons Syntax.tnil (Syntax.ttcons Syntax.tnil (Syntax.ttcons Syntax.tnil
+      (Syntax.ttcons Syntax.tnil (Syntax.ttcons Syntax.tnil (Syntax.ttcons Syntax.tnil (Syntax.ttcons Syntax.tnil (Syntax.ttcons Syntax.tnil (Syntax.ttcons
+      Syntax.tnil (Syntax.ttcons Syntax.tnil (Syntax.ttcons Syntax.tnil (Syntax.ttcons Syntax.tnil (Syntax.ttcons Syntax.tnil (Syntax.ttcons Syntax.tnil
+      (Syntax.ttcons Syntax.tnil (Syntax.ttcons Syntax.tnil (Syntax.ttcons Syntax.tnil (Syntax.ttcons Syntax.tnil (Syntax.ttcons Syntax.tnil (Syntax.ttcons
+      Syntax.tnil (Syntax.ttcons Syntax.tnil (Syntax.ttcons Syntax.tnil (Syntax.ttcons Syntax.tnil (Syntax.ttcons Syntax.tnil
+      Syntax.ttnil))))))))))))))))))))))))))))))) Syntax.tnil) (Syntax.ttcons (Syntax.tcons (Syntax.tyEnum (108 ∷ 105 ∷ 110 ∷ 101 ∷ 58 ∷ 58 ∷ 82 ∷ 101 ∷ 99 ∷ 111
+      ∷ 114 ∷ 100 ∷ []) (Syntax.ttcons (Syntax.tcons Syntax.tyBool (Syntax.tcons (Syntax.tyStruct (99 ∷ 111 ∷ 111 ∷ 114 ∷ 100 ∷ 105 ∷ 110 ∷ 97 ∷ 116 ∷ 101 ∷ 58 ∷
+      58 ∷ 65 ∷ 116 ∷ 111 ∷ 109 ∷ []) (Syntax.tcons (Syntax.tyStruct (99 ∷ 111 ∷ 111 ∷ 114 ∷ 100 ∷ 105 ∷ 110 ∷ 97 ∷ 116 ∷ 101 ∷ 58 ∷ 58 ∷ 73 ∷ 100 ∷ 101 ∷ 110 ∷
+      116 ∷ 105 ∷ 116 ∷ 121 ∷ []) (Syntax.tcons (Syntax.tyStruct (102 ∷ 105 ∷ 101 ∷ 108 ∷ 100 ∷ 115 ∷ 58 ∷ 58 ∷ 83 ∷ 101 ∷ 114 ∷ 105 ∷ 97 ∷ 108 ∷ [])
+      (Syntax.tcons (Syntax.tyInt Syntax.w32) Syntax.tnil)) (Syntax.tcons (Syntax.tyStruct (110 ∷ 97 ∷ 109 ∷ 101 ∷ 115 ∷ 58 ∷ 58 ∷ 70 ∷ 111 ∷ 117 ∷ 114 ∷ [])
+      (Syntax.tcons (Syntax.tyInt Syntax.w8) (Syntax.tcons (Syntax.tyInt Syntax.w8) (Syntax.tcons (Syntax.tyInt Syntax.w8) (Syntax.tcons (Syntax.tyInt Syntax.w8)
+      Syntax.tnil))))) (Syntax.tcons (Syntax.tyInt Syntax.w8) (Syntax.tcons (Syntax.tyStruct (114 ∷ 101 ∷ 115 ∷ 105 ∷ 100 ∷ 117 ∷ 101 ∷ 58 ∷ 58 ∷ 82 ∷ 101 ∷ 115
+      ∷ 105 ∷ 100 ∷ 117 ∷ 101 ∷ []) (Syntax.tcons (Syntax.tyStruct (110 ∷ 97 ∷ 109 ∷ 101 ∷ 115 ∷ 58 ∷ 58 ∷ 84 ∷ 104 ∷ 114 ∷ 101 ∷ 101 ∷ []) (Syntax.tcons
+      (Syntax.tyInt Syntax.w8) (Syntax.tcons (Syntax.tyInt Syntax.w8) (Syntax.tcons (Syntax.tyInt Syntax.w8) Syntax.tnil)))) (Syntax.tcons (Syntax.tyInt
+      Syntax.w8) (Syntax.tcons (Syntax.tyStruct (102 ∷ 105 ∷ 101 ∷ 108 ∷ 100 ∷ 115 ∷ 58 ∷ 58 ∷ 82 ∷ 101 ∷ 115 ∷ 105 ∷ 100 ∷ 117 ∷ 101 ∷ 78 ∷ 117 ∷ 109 ∷ 98 ∷ 101
+      ∷ 114 ∷ []) (Syntax.tcons (Syntax.tyInt Syntax.w32) Syntax.tnil)) (Syntax.tcons (Syntax.tyInt Syntax.w8) Syntax.tnil))))) Syntax.tnil))))) (Syntax.tcons
+      (Syntax.tyStruct (99 ∷ 111 ∷ 111 ∷ 114 ∷ 100 ∷ 105 ∷ 110 ∷ 97 ∷ 116 ∷ 101 ∷ 58 ∷ 58 ∷ 77 ∷ 101 ∷ 97 ∷ 115 ∷ 117 ∷ 114 ∷ 101 ∷ []) (Syntax.tcons
+      (Syntax.tyStruct (99 ∷ 111 ∷ 111 ∷ 114 ∷ 100 ∷ 105 ∷ 110 ∷ 97 ∷ 116 ∷ 101 ∷ 58 ∷ 58 ∷ 80 ∷ 111 ∷ 115 ∷ 105 ∷ 116 ∷ 105 ∷ 111 ∷ 110 ∷ []) (Syntax.tcons
+      (Syntax.tyInt Syntax.w32) (Syntax.tcons (Syntax.tyInt Syntax.w32) (Syntax.tcons (Syntax.tyInt Syntax.w32) Syntax.tnil)))) (Syntax.tcons (Syntax.tyInt
+      Syntax.w32) (Syntax.tcons (Syntax.tyInt Syntax.w32) Syntax.tnil)))) (Syntax.tcons (Syntax.tyStruct (99 ∷ 111 ∷ 111 ∷ 114 ∷ 100 ∷ 105 ∷ 110 ∷ 97 ∷ 116 ∷ 101
+      ∷ 58 ∷ 58 ∷ 83 ∷ 112 ∷ 101 ∷ 99 ∷ 105 ∷ 101 ∷ 115 ∷ []) (Syntax.tcons (Syntax.tyStruct (110 ∷ 97 ∷ 109 ∷ 101 ∷ 115 ∷ 58 ∷ 58 ∷ 80 ∷ 97 ∷ 105 ∷ 114 ∷ [])
+      (Syntax.tcons (Syntax.tyInt Syntax.w8) (Syntax.tcons (Syntax.tyInt Syntax.w8) Syntax.tnil))) (Syntax.tcons (Syntax.tyStruct (110 ∷ 97 ∷ 109 ∷ 101 ∷ 115 ∷
+      58 ∷ 58 ∷ 80 ∷ 97 ∷ 105 ∷ 114 ∷ []) (Syntax.tcons (Syntax.tyInt Syntax.w8) (Syntax.tcons (Syntax.tyInt Syntax.w8) Syntax.tnil))) Syntax.tnil)))
+      Syntax.tnil)))) Syntax.tnil)) (Syntax.ttcons (Syntax.tcons (Syntax.tyStruct (116 ∷ 101 ∷ 114 ∷ 58 ∷ 58 ∷ 84 ∷ 101 ∷ 114 ∷ []) (Syntax.tcons
+      (Syntax.tyStruct (102 ∷ 105 ∷ 101 ∷ 108 ∷ 100 ∷ 115 ∷ 58 ∷ 58 ∷ 83 ∷ 101 ∷ 114 ∷ 105 ∷ 97 ∷ 108 ∷ []) (Syntax.tcons (Syntax.tyInt Syntax.w32) Syntax.tnil))
+      (Syntax.tcons (Syntax.tyStruct (114 ∷ 101 ∷ 115 ∷ 105 ∷ 100 ∷ 117 ∷ 101 ∷ 58 ∷ 58 ∷ 82 ∷ 101 ∷ 115 ∷ 105 ∷ 100 ∷ 117 ∷ 101 ∷ []) (Syntax.tcons
+      (Syntax.tyStruct (110 ∷ 97 ∷ 109 ∷ 101 ∷ 115 ∷ 58 ∷ 58 ∷ 84 ∷ 104 ∷ 114 ∷ 101 ∷ 101 ∷ []) (Syntax.tcons (Syntax.tyInt Syntax.w8) (Syntax.tcons
+      (Syntax.tyInt Syntax.w8) (Syntax.tcons (Syntax.tyInt Syntax.w8) Syntax.tnil)))) (Syntax.tcons (Syntax.tyInt Syntax.w8) (Syntax.tcons (Syntax.tyStruct (102
+      ∷ 105 ∷ 101 ∷ 108 ∷ 100 ∷ 115 ∷ 58 ∷ 58 ∷ 82 ∷ 101 ∷ 115 ∷ 105 ∷ 100 ∷ 117 ∷ 101 ∷ 78 ∷ 117 ∷ 109 ∷ 98 ∷ 101 ∷ 114 ∷ []) (Syntax.tcons (Syntax.tyInt
+      Syntax.w32) Syntax.tnil)) (Syntax.tcons (Syntax.tyInt Syntax.w8) Syntax.tnil))))) Syntax.tnil))) Syntax.tnil) (Syntax.ttcons (Syntax.tcons (Syntax.tyStruct
+      (104 ∷ 101 ∷ 108 ∷ 105 ∷ 120 ∷ 58 ∷ 58 ∷ 72 ∷ 101 ∷ 108 ∷ 105 ∷ 120 ∷ []) (Syntax.tcons (Syntax.tyStruct (104 ∷ 101 ∷ 108 ∷ 105 ∷ 120 ∷ 58 ∷ 58 ∷ 69 ∷ 120
+      ∷ 116 ∷ 101 ∷ 110 ∷ 116 ∷ []) (Syntax.tcons (Syntax.tyInt Syntax.w32) (Syntax.tcons (Syntax.tyStruct (110 ∷ 97 ∷ 109 ∷ 101 ∷ 115 ∷ 58 ∷ 58 ∷ 84 ∷ 104 ∷ 114
+      ∷ 101 ∷ 101 ∷ []) (Syntax.tcons (Syntax.tyInt Syntax.w8) (Syntax.tcons (Syntax.tyInt Syntax.w8) (Syntax.tcons (Syntax.tyInt Syntax.w8) Syntax.tnil))))
+      (Syntax.tcons (Syntax.tyStruct (114 ∷ 101 ∷ 115 ∷ 105 ∷ 100 ∷ 117 ∷ 101 ∷ 58 ∷ 58 ∷ 82 ∷ 101 ∷ 115 ∷ 105 ∷ 100 ∷ 117 ∷ 101 ∷ []) (Syntax.tcons
+      (Syntax.tyStruct (110 ∷ 97 ∷ 109 ∷ 101 ∷ 115 ∷ 58 ∷ 58 ∷ 84 ∷ 104 ∷ 114 ∷ 101 ∷ 101 ∷ []) (Syntax.tcons (Syntax.tyInt Syntax.w8) (Syntax.tcons
+      (Syntax.tyInt Syntax.w8) (Syntax.tcons (Syntax.tyInt Syntax.w8) Syntax.tnil)))) (Syntax.tcons (Syntax.tyInt Syntax.w8) (Syntax.tcons (Syntax.tyStruct (102
+      ∷ 105 ∷ 101 ∷ 108 ∷ 100 ∷ 115 ∷ 58 ∷ 58 ∷ 82 ∷ 101 ∷ 115 ∷ 105 ∷ 100 ∷ 117 ∷ 101 ∷ 78 ∷ 117 ∷ 109 ∷ 98 ∷ 101 ∷ 114 ∷ []) (Syntax.tcons (Syntax.tyInt
+      Syntax.w32) Syntax.tnil)) (Syntax.tcons (Syntax.tyInt Syntax.w8) Syntax.tnil))))) (Syntax.tcons (Syntax.tyStruct (114 ∷ 101 ∷ 115 ∷ 105 ∷ 100 ∷ 117 ∷ 101 ∷
+      58 ∷ 58 ∷ 82 ∷ 101 ∷ 115 ∷ 105 ∷ 100 ∷ 117 ∷ 101 ∷ []) (Syntax.tcons (Syntax.tyStruct (110 ∷ 97 ∷ 109 ∷ 101 ∷ 115 ∷ 58 ∷ 58 ∷ 84 ∷ 104 ∷ 114 ∷ 101 ∷ 101 ∷
+      []) (Syntax.tcons (Syntax.tyInt Syntax.w8) (Syntax.tcons (Syntax.tyInt Syntax.w8) (Syntax.tcons (Syntax.tyInt Syntax.w8) Syntax.tnil)))) (Syntax.tcons
+      (Syntax.tyInt Syntax.w8) (Syntax.tcons (Syntax.tyStruct (102 ∷ 105 ∷ 101 ∷ 108 ∷ 100 ∷ 115 ∷ 58 ∷ 58 ∷ 82 ∷ 101 ∷ 115 ∷ 105 ∷ 100 ∷ 117 ∷ 101 ∷ 78 ∷ 117 ∷
+      109 ∷ 98 ∷ 101 ∷ 114 ∷ []) (Syntax.tcons (Syntax.tyInt Syntax.w32) Syntax.tnil)) (Syntax.tcons (Syntax.tyInt Syntax.w8) Syntax.tnil))))) Syntax.tnil)))))
+      (Syntax.tcons (Syntax.tyInt Syntax.w32) (Syntax.tcons (Syntax.tyStruct (104 ∷ 101 ∷ 108 ∷ 105 ∷ 120 ∷ 58 ∷ 58 ∷ 67 ∷ 111 ∷ 109 ∷ 109 ∷ 101 ∷ 110 ∷ 116 ∷
+      []) (Syntax.tcons (Syntax.tyInt Syntax.w64) (Syntax.tcons (Syntax.tyInt Syntax.w64) (Syntax.tcons (Syntax.tyInt Syntax.w64) (Syntax.tcons (Syntax.tyInt
+      Syntax.w64) Syntax.tnil))))) (Syntax.tcons (Syntax.tyInt Syntax.w32) Syntax.tnil))))) Syntax.tnil) (Syntax.ttcons (Syntax.tcons (Syntax.tyStruct (115 ∷ 104
+      ∷ 101 ∷ 101 ∷ 116 ∷ 58 ∷ 58 ∷ 83 ∷ 104 ∷ 101 ∷ 101 ∷ 116 ∷ []) (Syntax.tcons (Syntax.tyStruct (115 ∷ 104 ∷ 101 ∷ 101 ∷ 116 ∷ 58 ∷ 58 ∷ 83 ∷ 116 ∷ 114 ∷ 97
+      ∷ 110 ∷ 100 ∷ []) (Syntax.tcons (Syntax.tyInt Syntax.w32) (Syntax.tcons (Syntax.tyStruct (110 ∷ 97 ∷ 109 ∷ 101 ∷ 115 ∷ 58 ∷ 58 ∷ 84 ∷ 104 ∷ 114 ∷ 101 ∷ 101
+      ∷ []) (Syntax.tcons (Syntax.tyInt Syntax.w8) (Syntax.tcons (Syntax.tyInt Syntax.w8) (Syntax.tcons (Syntax.tyInt Syntax.w8) Syntax.tnil)))) (Syntax.tcons
+      (Syntax.tyInt Syntax.w32) (Syntax.tcons (Syntax.tyStruct (114 ∷ 101 ∷ 115 ∷ 105 ∷ 100 ∷ 117 ∷ 101 ∷ 58 ∷ 58 ∷ 82 ∷ 101 ∷ 115 ∷ 105 ∷ 100 ∷ 117 ∷ 101 ∷ [])
+      (Syntax.tcons (Syntax.tyStruct (110 ∷ 97 ∷ 109 ∷ 101 ∷ 115 ∷ 58 ∷ 58 ∷ 84 ∷ 104 ∷ 114 ∷ 101 ∷ 101 ∷ []) (Syntax.tcons (Syntax.tyInt Syntax.w8)
+      (Syntax.tcons (Syntax.tyInt Syntax.w8) (Syntax.tcons (Syntax.tyInt Syntax.w8) Syntax.tnil)))) (Syntax.tcons (Syntax.tyInt Syntax.w8) (Syntax.tcons
+      (Syntax.tyStruct (102 ∷ 105 ∷ 101 ∷ 108 ∷ 100 ∷ 115 ∷ 58 ∷ 58 ∷ 82 ∷ 101 ∷ 115 ∷ 105 ∷ 100 ∷ 117 ∷ 101 ∷ 78 ∷ 117 ∷ 109 ∷ 98 ∷ 101 ∷ 114 ∷ [])
+      (Syntax.tcons (Syntax.tyInt Syntax.w32) Syntax.tnil)) (Syntax.tcons (Syntax.tyInt Syntax.w8) Syntax.tnil))))) (Syntax.tcons (Syntax.tyStruct (114 ∷ 101 ∷
+      115 ∷ 105 ∷ 100 ∷ 117 ∷ 101 ∷ 58 ∷ 58 ∷ 82 ∷ 101 ∷ 115 ∷ 105 ∷ 100 ∷ 117 ∷ 101 ∷ []) (Syntax.tcons (Syntax.tyStruct (110 ∷ 97 ∷ 109 ∷ 101 ∷ 115 ∷ 58 ∷ 58 ∷
+      84 ∷ 104 ∷ 114 ∷ 101 ∷ 101 ∷ []) (Syntax.tcons (Syntax.tyInt Syntax.w8) (Syntax.tcons (Syntax.tyInt Syntax.w8) (Syntax.tcons (Syntax.tyInt Syntax.w8)
+      Syntax.tnil)))) (Syntax.tcons (Syntax.tyInt Syntax.w8) (Syntax.tcons (Syntax.tyStruct (102 ∷ 105 ∷ 101 ∷ 108 ∷ 100 ∷ 115 ∷ 58 ∷ 58 ∷ 82 ∷ 101 ∷ 115 ∷ 105 ∷
+      100 ∷ 117 ∷ 101 ∷ 78 ∷ 117 ∷ 109 ∷ 98 ∷ 101 ∷ 114 ∷ []) (Syntax.tcons (Syntax.tyInt Syntax.w32) Syntax.tnil)) (Syntax.tcons (Syntax.tyInt Syntax.w8)
+      Syntax.tnil))))) (Syntax.tcons (Syntax.tyInt Syntax.w32) Syntax.tnil))))))) (Syntax.tcons (Syntax.tyEnum (115 ∷ 104 ∷ 101 ∷ 101 ∷ 116 ∷ 58 ∷ 58 ∷ 82 ∷ 101
+      ∷ 103 ∷ 105 ∷ 115 ∷ 116 ∷ 114 ∷ 97 ∷ 116 ∷ 105 ∷ 111 ∷ 110 ∷ []) (Syntax.ttcons Syntax.tnil (Syntax.ttcons (Syntax.tcons (Syntax.tyStruct (115 ∷ 104 ∷ 101
+      ∷ 101 ∷ 116 ∷ 58 ∷ 58 ∷ 66 ∷ 111 ∷ 110 ∷ 100 ∷ []) (Syntax.tcons (Syntax.tyStruct (110 ∷ 97 ∷ 109 ∷ 101 ∷ 115 ∷ 58 ∷ 58 ∷ 70 ∷ 111 ∷ 117 ∷ 114 ∷ [])
+      (Syntax.tcons (Syntax.tyInt Syntax.w8) (Syntax.tcons (Syntax.tyInt Syntax.w8) (Syntax.tcons (Syntax.tyInt Syntax.w8) (Syntax.tcons (Syntax.tyInt Syntax.w8)
+      Syntax.tnil))))) (Syntax.tcons (Syntax.tyStruct (114 ∷ 101 ∷ 115 ∷ 105 ∷ 100 ∷ 117 ∷ 101 ∷ 58 ∷ 58 ∷ 82 ∷ 101 ∷ 115 ∷ 105 ∷ 100 ∷ 117 ∷ 101 ∷ [])
+      (Syntax.tcons (Syntax.tyStruct (110 ∷ 97 ∷ 109 ∷ 101 ∷ 115 ∷ 58 ∷ 58 ∷ 84 ∷ 104 ∷ 114 ∷ 101 ∷ 101 ∷ []) (Syntax.tcons (Syntax.tyInt Syntax.w8)
+      (Syntax.tcons (Syntax.tyInt Syntax.w8) (Syntax.tcons (Syntax.tyInt Syntax.w8) Syntax.tnil)))) (Syntax.tcons (Syntax.tyInt Syntax.w8) (Syntax.tcons
+      (Syntax.tyStruct (102 ∷ 105 ∷ 101 ∷ 108 ∷ 100 ∷ 115 ∷ 58 ∷ 58 ∷ 82 ∷ 101 ∷ 115 ∷ 105 ∷ 100 ∷ 117 ∷ 101 ∷ 78 ∷ 117 ∷ 109 ∷ 98 ∷ 101 ∷ 114 ∷ [])
+      (Syntax.tcons (Syntax.tyInt Syntax.w32) Syntax.tnil)) (Syntax.tcons (Syntax.tyInt Syntax.w8) Syntax.tnil))))) (Syntax.tcons (Syntax.tyStruct (110 ∷ 97 ∷
+      109 ∷ 101 ∷ 115 ∷ 58 ∷ 58 ∷ 70 ∷ 111 ∷ 117 ∷ 114 ∷ []) (Syntax.tcons (Syntax.tyInt Syntax.w8) (Syntax.tcons (Syntax.tyInt Syntax.w8) (Syntax.tcons
+      (Syntax.tyInt Syntax.w8) (Syntax.tcons (Syntax.tyInt Syntax.w8) Syntax.tnil))))) (Syntax.tcons (Syntax.tyStruct (114 ∷ 101 ∷ 115 ∷ 105 ∷ 100 ∷ 117 ∷ 101 ∷
+      58 ∷ 58 ∷ 82 ∷ 101 ∷ 115 ∷ 105 ∷ 100 ∷ 117 ∷ 101 ∷ []) (Syntax.tcons (Syntax.tyStruct (110 ∷ 97 ∷ 109 ∷ 101 ∷ 115 ∷ 58 ∷ 58 ∷ 84 ∷ 104 ∷ 114 ∷ 101 ∷ 101 ∷
+      []) (Syntax.tcons (Syntax.tyInt Syntax.w8) (Syntax.tcons (Syntax.tyInt Syntax.w8) (Syntax.tcons (Syntax.tyInt Syntax.w8) Syntax.tnil)))) (Syntax.tcons
+      (Syntax.tyInt Syntax.w8) (Syntax.tcons (Syntax.tyStruct (102 ∷ 105 ∷ 101 ∷ 108 ∷ 100 ∷ 115 ∷ 58 ∷ 58 ∷ 82 ∷ 101 ∷ 115 ∷ 105 ∷ 100 ∷ 117 ∷ 101 ∷ 78 ∷ 117 ∷
+      109 ∷ 98 ∷ 101 ∷ 114 ∷ []) (Syntax.tcons (Syntax.tyInt Syntax.w32) Syntax.tnil)) (Syntax.tcons (Syntax.tyInt Syntax.w8) Syntax.tnil))))) Syntax.tnil)))))
+      Syntax.tnil) Syntax.ttnil))) Syntax.tnil))) Syntax.tnil) (Syntax.ttcons (Syntax.tcons (Syntax.tyStruct (99 ∷ 111 ∷ 110 ∷ 101 ∷ 99 ∷ 116 ∷ 58 ∷ 58 ∷ 67 ∷
+      111 ∷ 110 ∷ 101 ∷ 99 ∷ 116 ∷ []) (Syntax.tcons (Syntax.tyStruct (102 ∷ 105 ∷ 101 ∷ 108 ∷ 100 ∷ 115 ∷ 58 ∷ 58 ∷ 83 ∷ 101 ∷ 114 ∷ 105 ∷ 97 ∷ 108 ∷ [])
+      (Syntax.tcons (Syntax.tyInt Syntax.w32) Syntax.tnil)) (Syntax.tcons (Syntax.tyStruct (102 ∷ 105 ∷ 101 ∷ 108 ∷ 100 ∷ 115 ∷ 58 ∷ 58 ∷ 83 ∷ 101 ∷ 114 ∷ 105 ∷
+      97 ∷ 108 ∷ []) (Syntax.tcons (Syntax.tyInt Syntax.w32) Syntax.tnil)) (Syntax.tcons (Syntax.tyStruct (102 ∷ 105 ∷ 101 ∷ 108 ∷ 100 ∷ 115 ∷ 58 ∷ 58 ∷ 83 ∷ 101
+      ∷ 114 ∷ 105 ∷ 97 ∷ 108 ∷ []) (Syntax.tcons (Syntax.tyInt Syntax.w32) Syntax.tnil)) (Syntax.tcons (Syntax.tyStruct (102 ∷ 105 ∷ 101 ∷ 108 ∷ 100 ∷ 115 ∷ 58 ∷
+      58 ∷ 83 ∷ 101 ∷ 114 ∷ 105 ∷ 97 ∷ 108 ∷ []) (Syntax.tcons (Syntax.tyInt Syntax.w32) Syntax.tnil)) (Syntax.tcons (Syntax.tyStruct (102 ∷ 105 ∷ 101 ∷ 108 ∷
+      100 ∷ 115 ∷ 58 ∷ 58 ∷ 83 ∷ 101 ∷ 114 ∷ 105 ∷ 97 ∷ 108 ∷ []) (Syntax.tcons (Syntax.tyInt Syntax.w32) Syntax.tnil)) Syntax.tnil)))))) Syntax.tnil)
+      (Syntax.ttcons (Syntax.tcons (Syntax.tyStruct (109 ∷ 97 ∷ 115 ∷ 116 ∷ 101 ∷ 114 ∷ 58 ∷ 58 ∷ 84 ∷ 97 ∷ 108 ∷ 108 ∷ 121 ∷ []) (Syntax.tcons (Syntax.tyInt
+      Syntax.w32) (Syntax.tcons (Syntax.tyInt Syntax.w32) (Syntax.tcons (Syntax.tyInt Syntax.w32) (Syntax.tcons (Syntax.tyInt Syntax.w32) (Syntax.tcons
+      (Syntax.tyInt Syntax.w32) (Syntax.tcons (Syntax.tyInt Syntax.w32) (Syntax.tcons (Syntax.tyInt Syntax.w32) (Syntax.tcons (Syntax.tyInt Syntax.w32)
+      (Syntax.tcons (Syntax.tyInt Syntax.w32) Syntax.tnil)))))))))) Syntax.tnil) (Syntax.ttcons Syntax.tnil (Syntax.ttcons (Syntax.tcons (Syntax.tyStruct (109 ∷
+      111 ∷ 100 ∷ 101 ∷ 108 ∷ 58 ∷ 58 ∷ 77 ∷ 111 ∷ 100 ∷ 101 ∷ 108 ∷ []) (Syntax.tcons (Syntax.tyInt Syntax.w32) Syntax.tnil)) Syntax.tnil) (Syntax.ttcons
+      Syntax.tnil Syntax.ttnil)))))))))) Syntax.tnil) Syntax.ttnil))))),
+) ∷ (9, Rows.any-gone Syntax.tyBool) ∷ (10, Rows.any-gone (Syntax.tyInt Syntax.w64)) ∷
+    (11, Rows.any-gone (Syntax.tyInt Syntax.w64)) ∷ (12, Rows.any-gone (Syntax.tyInt Syntax.w64)) ∷ (13, Rows.any-gone Syntax.tyBool) ∷ (
+      14,
+      Rows.any-gone
+          (Syntax.tyRef Syntax.erased Syntax.mut SlotAs.pointee),
+    ) ∷ (
+      15,
+      Rows.any-gone (Syntax.tyStruct (38 ∷ 91 ∷ 93 ∷ []) (Syntax.tcons (Syntax.tyRef Syntax.erased
+          Syntax.mut SlotAs.pointee) (Syntax.tcons (Syntax.tyInt Syntax.w64) Syntax.tnil))),
+    ) ∷ []
+
+abbrev pub t13 : List.List Row.Entry
+t13 = (
+  0,
+  Rows.any-gone (Syntax.tyStruct (115 ∷ 116 ∷ 111 ∷ 114 ∷ 101 ∷ 58 ∷ 58 ∷ 79 ∷ 117 ∷ 116 ∷ 99 ∷ 111 ∷ 109 ∷ 101 ∷ []) (Syntax.tcons (Syntax.tyInt
+      Syntax.w8) (Syntax.tcons (Syntax.tyInt Syntax.w64) Syntax.tnil))),
+) ∷ (
+  1,
+  Rows.sslice (Referent.rtF (Referent.fInt Syntax.w8)) (Syntax.tyRef (Syntax.named
+      0) Syntax.imm (Syntax.tyInt Syntax.w8)) 0,
+) ∷ (2, Mut.mslice SlotAs.row (Syntax.tyRef (Syntax.named 1) Syntax.mut SlotAs.pointee) 1) ∷ (
+  3,
+  Rows.any-gone
+      (Syntax.tyStruct (115 ∷ 116 ∷ 111 ∷ 114 ∷ 101 ∷ 58 ∷ 58 ∷ 78 ∷ 101 ∷ 101 ∷ 100 ∷ 115 ∷ []) (Syntax.tcons (Syntax.tyInt Syntax.w8) (Syntax.tcons
+      (Syntax.tyInt Syntax.w64) Syntax.tnil))),
+) ∷ (4, Rows.sc-here (Row.sInt Syntax.w64)) ∷ (5, Rows.sc-here (Row.sInt Syntax.w64)) ∷ (
+  6,
+  Rows.sc-here (Row.sInt
+      Syntax.w64),
+) ∷ (7, Rows.any-gone (Syntax.tyInt Syntax.w32)) ∷ (
+  8,
+  Rows.any-gone (Syntax.tyEnum (112 ∷ 105 ∷ 101 ∷ 99 ∷ 101 ∷ 115 ∷ 58 ∷ 58 ∷ 76 ∷ 105 ∷ 110
+      ∷ 101 ∷ []) (Syntax.ttcons (Syntax.tcons (Syntax.tyInt Syntax.w8) Syntax.tnil) (Syntax.ttcons (Syntax.tcons (Syntax.tyEnum (107 ∷ 105 ∷ 110 ∷ 100 ∷ 115 ∷
+      58 ∷ 58 ∷ 75 ∷ 105 ∷ 110 ∷ 100 ∷ []) (Syntax.ttcons Syntax.tnil (Syntax.ttcons Syntax.tnil (Syntax.ttcons Syntax.tnil (Syntax.ttcons Syntax.tnil
+      (Syntax.ttcons Syntax.tnil (Syntax.ttcons Syntax.tnil (Syntax.ttcons Syntax.tnil (Syntax.ttcons Syntax.tnil (Syntax.ttcons Syntax.tnil (Syntax.ttcons
+      Syntax.tnil (Syntax.ttcons Syntax.tnil (Syntax.ttcons Syntax.tnil (Syntax.ttcons Syntax.tnil (Syntax.ttcons Syntax.tnil (Syntax.ttcons Syntax.tnil
+      (Syntax.ttcons Syntax.tnil (Syntax.ttcons Syntax.tnil (Syntax.ttcons Syntax.tnil (Syntax.ttcons Syntax.tnil (Syntax.ttcons Syntax.tnil (Syntax.ttcons
+      Syntax.tnil (Syntax.ttcons Syntax.tnil (Syntax.ttcons Syntax.tnil (Syntax.ttcons Syntax.tnil (Syntax.ttcons Syntax.tnil (Syntax.ttcons Syntax.tnil
+      (Syntax.ttcons Syntax.tnil (Syntax.ttcons Syntax.tnil (Syntax.ttcons Syntax.tnil (Syntax.ttcons Syntax.tnil Syntax.ttnil)))))))))))))))))))))))))))))))
+      (Syntax.tcons (Syntax.tyInt Syntax.w32) Syntax.tnil)) (Syntax.ttcons (Syntax.tcons (Syntax.tyEnum (107 ∷ 105 ∷ 110 ∷ 100 ∷ 115 ∷ 58 ∷ 58 ∷ 75 ∷ 105 ∷ 110 ∷
+      100 ∷ []) (Syntax.ttcons Syntax.tnil (Syntax.ttcons Syntax.tnil (Syntax.ttcons Syntax.tnil (Syntax.ttcons Syntax.tnil (Syntax.ttcons Syntax.tnil
+      (Syntax.ttcons Syntax.tnil (Syntax.ttcons Syntax.tnil (Syntax.ttcons Syntax.tnil (Syntax.ttcons Syntax.tnil (Syntax.ttcons Syntax.tnil (Syntax.ttcons
+      Syntax.tnil (Syntax.ttcons Syntax.tnil (Syntax.ttcons Syntax.tnil (Syntax.ttcons Syntax.tnil (Syntax.ttcons Syntax.tnil (Syntax.ttcons Syntax.tnil
+      (Syntax.ttcons Syntax.tnil (Syntax.ttcons Syntax.tnil (Syntax.ttcons Syntax.tnil (Syntax.ttcons Syntax.tnil (Syntax.ttcons Syntax.tnil (Syntax.ttcons
+      Syntax.tnil (Syntax.ttcons Syntax.tnil (Syntax.ttcons Syntax.tnil (Syntax.ttcons Syntax.tnil (Syntax.ttcons Syntax.tnil (Syntax.ttcons Syntax.tnil
+      (Syntax.ttcons Syntax.tnil (Syntax.ttcons Syntax.tnil (Syntax.ttcons Syntax.tnil Syntax.ttnil))))))))))))))))))))))))))))))) Syntax.tnil) (Syntax.ttcons
+      (Syntax.tcons (Syntax.tyEnum (108 ∷ 105 ∷ 110 ∷ 101 ∷ 58 ∷ 58 ∷ 82 ∷ 101 ∷ 99 ∷ 111 ∷ 114 ∷ 100 ∷ []) (Syntax.ttcons (Syntax.tcons Syntax.tyBool
+      (Syntax.tcons (Syntax.tyStruct (99 ∷ 111 ∷ 111 ∷ 114 ∷ 100 ∷ 105 ∷ 110 ∷ 97 ∷ 116 ∷ 101 ∷ 58 ∷ 58 ∷ 65 ∷ 116 ∷ 111 ∷ 109 ∷ []) (Syntax.tcons
+      (Syntax.tyStruct (99 ∷ 111 ∷ 111 ∷ 114 ∷ 100 ∷ 105 ∷ 110 ∷ 97 ∷ 116 ∷ 101 ∷ 58 ∷ 58 ∷ 73 ∷ 100 ∷ 101 ∷ 110 ∷ 116 ∷ 105 ∷ 116 ∷ 121 ∷ []) (Syntax.tcons
+      (Syntax.tyStruct (102 ∷ 105 ∷ 101 ∷ 108 ∷ 100 ∷ 115 ∷ 58 ∷ 58 ∷ 83 ∷ 101 ∷ 114 ∷ 105 ∷ 97 ∷ 108 ∷ []) (Syntax.tcons (Syntax.tyInt Syntax.w32) Syntax.tnil))
+      (Syntax.tcons (Syntax.tyStruct (110 ∷ 97 ∷ 109 ∷ 101 ∷ 115 ∷ 58 ∷ 58 ∷ 70 ∷ 111 ∷ 117 ∷ 114 ∷ []) (Syntax.tcons (Syntax.tyInt Syntax.w8) (Syntax.tcons
+      (Syntax.tyInt Syntax.w8) (Syntax.tcons (Syntax.tyInt Syntax.w8) (Syntax.tcons (Syntax.tyInt Syntax.w8) Syntax.tnil))))) (Syntax.tcons (Syntax.tyInt
+      Syntax.w8) (Syntax.tcons (Syntax.tyStruct (114 ∷ 101 ∷ 115 ∷ 105 ∷ 100 ∷ 117 ∷ 101 ∷ 58 ∷ 58 ∷ 82 ∷ 101 ∷ 115 ∷ 105 ∷ 100 ∷ 117 ∷ 101 ∷ []) (Syntax.tcons
+      (Syntax.tyStruct (110 ∷ 97 ∷ 109 ∷ 101 ∷ 115 ∷ 58 ∷ 58 ∷ 84 ∷ 104 ∷ 114 ∷ 101 ∷ 101 ∷ []) (Syntax.tcons (Syntax.tyInt Syntax.w8) (Syntax.tcons
+      (Syntax.tyInt Syntax.w8) (Syntax.tcons (Syntax.tyInt Syntax.w8) Syntax.tnil)))) (Syntax.tcons (Syntax.tyInt Syntax.w8) (Syntax.tcons (Syntax.tyStruct (102
+      ∷ 105 ∷ 101 ∷ 108 ∷ 100 ∷ 115 ∷ 58 ∷ 58 ∷ 82 ∷ 101 ∷ 115 ∷ 105 ∷ 100 ∷ 117 ∷ 101 ∷ 78 ∷ 117 ∷ 109 ∷ 98 ∷ 101 ∷ 114 ∷ []) (Syntax.tcons (Syntax.tyInt
+      Syntax.w32) Syntax.tnil)) (Syntax.tcons (Syntax.tyInt Syntax.w8) Syntax.tnil))))) Syntax.tnil))))) (Syntax.tcons (Syntax.tyStruct (99 ∷ 111 ∷ 111 ∷ 114 ∷
+      100 ∷ 105 ∷ 110 ∷ 97 ∷ 116 ∷ 101 ∷ 58 ∷ 58 ∷ 77 ∷ 101 ∷ 97 ∷ 115 ∷ 117 ∷ 114 ∷ 101 ∷ []) (Syntax.tcons (Syntax.tyStruct (99 ∷ 111 ∷ 111 ∷ 114 ∷ 100 ∷ 105 ∷
+      110 ∷ 97 ∷ 116 ∷ 101 ∷ 58 ∷ 58 ∷ 80 ∷ 111 ∷ 115 ∷ 105 ∷ 116 ∷ 105 ∷ 111 ∷ 110 ∷ []) (Syntax.tcons (Syntax.tyInt Syntax.w32) (Syntax.tcons (Syntax.tyInt
+      Syntax.w32) (Syntax.tcons (Syntax.tyInt Syntax.w32) Syntax.tnil)))) (Syntax.tcons (Syntax.tyInt Syntax.w32) (Syntax.tcons (Syntax.tyInt Syntax.w32)
+      Syntax.tnil)))) (Syntax.tcons (Syntax.tyStruct (99 ∷ 111 ∷ 111 ∷ 114 ∷ 100 ∷ 105 ∷ 110 ∷ 97 ∷ 116 ∷ 101 ∷ 58 ∷ 58 ∷ 83 ∷ 112 ∷ 101 ∷ 99 ∷ 105 ∷ 101 ∷ 115 ∷
+      []) (Syntax.tcons (Syntax.tyStruct (110 ∷ 97 ∷ 109 ∷ 101 ∷ 115 ∷ 58 ∷ 58 ∷ 80 ∷ 97 ∷ 105 ∷ 114 ∷ []) (Syntax.tcons (Syntax.tyInt Syntax.w8) (Syntax.tcons
+      (Syntax.tyInt Syntax.w8) Syntax.tnil))) (Syntax.tcons (Syntax.tyStruct (110 ∷ 97 ∷ 109 ∷ 101 ∷ 115 ∷ 58 ∷ 58 ∷ 80 ∷ 97 ∷ 105 ∷ 114 ∷ []) (Syntax.tcons
+      (Syntax.tyInt Syntax.w8) (Syntax.tcons (Syntax.tyInt Syntax.w8) Syntax.tnil))) Syntax.tnil))) Syntax.tnil)))) Syntax.tnil)) (Syntax.ttcons (Syntax.tcons
+      (Syntax.tyStruct (116 ∷ 101 ∷ 114 ∷ 58 ∷ 58 ∷ 84 ∷ 101 ∷ 114 ∷ []) (Syntax.tcons (Syntax.tyStruct (102 ∷ 105 ∷ 101 ∷ 108 ∷ 100 ∷ 115 ∷ 58 ∷ 58 ∷ 83 ∷ 101 ∷
+      114 ∷ 105 ∷ 97 ∷ 108 ∷ []) (Syntax.tcons (Syntax.tyInt Syntax.w32) Syntax.tnil)) (Syntax.tcons (Syntax.tyStruct (114 ∷ 101 ∷ 115 ∷ 105 ∷ 100 ∷ 117 ∷ 101 ∷
+      58 ∷ 58 ∷ 82 ∷ 101 ∷ 115 ∷ 105 ∷ 100 ∷ 117 ∷ 101 ∷ []) (Syntax.tcons (Syntax.tyStruct (110 ∷ 97 ∷ 109 ∷ 101 ∷ 115 ∷ 58 ∷ 58 ∷ 84 ∷ 104 ∷ 114 ∷ 101 ∷ 101 ∷
+      []) (Syntax.tcons (Syntax.tyInt Syntax.w8) (Syntax.tcons (Syntax.tyInt Syntax.w8) (Syntax.tcons (Syntax.tyInt Syntax.w8) Syntax.tnil)))) (Syntax.tcons
+      (Syntax.tyInt Syntax.w8) (Syntax.tcons (Syntax.tyStruct (102 ∷ 105 ∷ 101 ∷ 108 ∷ 100 ∷ 115 ∷ 58 ∷ 58 ∷ 82 ∷ 101 ∷ 115 ∷ 105 ∷ 100 ∷ 117 ∷ 101 ∷ 78 ∷ 117 ∷
+      109 ∷ 98 ∷ 101 ∷ 114 ∷ []) (Syntax.tcons (Syntax.tyInt Syntax.w32) Syntax.tnil)) (Syntax.tcons (Syntax.tyInt Syntax.w8) Syntax.tnil))))) Syntax.tnil)))
+      Syntax.tnil) (Syntax.ttcons (Syntax.tcons (Syntax.tyStruct (104 ∷ 101 ∷ 108 ∷ 105 ∷ 120 ∷ 58 ∷ 58 ∷ 72 ∷ 101 ∷ 108 ∷ 105 ∷ 120 ∷ []) (Syntax.tcons
+      (Syntax.tyStruct (104 ∷ 101 ∷ 108 ∷ 105 ∷ 120 ∷ 58 ∷ 58 ∷ 69 ∷ 120 ∷ 116 ∷ 101 ∷ 110 ∷ 116 ∷ []) (Syntax.tcons (Syntax.tyInt Syntax.w32) (Syntax.tcons
+      (Syntax.tyStruct (110 ∷ 97 ∷ 109 ∷ 101 ∷ 115 ∷ 58 ∷ 58 ∷ 84 ∷ 104 ∷ 114 ∷ 101 ∷ 101 ∷ []) (Syntax.tcons (Syntax.tyInt Syntax.w8) (Syntax.tcons
+      (Syntax.tyInt Syntax.w8) (Syntax.tcons (Syntax.tyInt Syntax.w8) Syntax.tnil)))) (Syntax.tcons (Syntax.tyStruct (114 ∷ 101 ∷ 115 ∷ 105 ∷ 100 ∷ 117 ∷ 101 ∷
+      58 ∷ 58 ∷ 82 ∷ 101 ∷ 115 ∷ 105 ∷ 100 ∷ 117 ∷ 101 ∷ []) (Syntax.tcons (Syntax.tyStruct (110 ∷ 97 ∷ 109 ∷ 101 ∷ 115 ∷ 58 ∷ 58 ∷ 84 ∷ 104 ∷ 114 ∷ 101 ∷ 101 ∷
+      []) (Syntax.tcons (Syntax.tyInt Syntax.w8) (Syntax.tcons (Syntax.tyInt Syntax.w8) (Syntax.tcons (Syntax.tyInt Syntax.w8) Syntax.tnil)))) (Syntax.tcons
+      (Syntax.tyInt Syntax.w8) (Syntax.tcons (Syntax.tyStruct (102 ∷ 105 ∷ 101 ∷ 108 ∷ 100 ∷ 115 ∷ 58 ∷ 58 ∷ 82 ∷ 101 ∷ 115 ∷ 105 ∷ 100 ∷ 117 ∷ 101 ∷ 78 ∷ 117 ∷
+      109 ∷ 98 ∷ 101 ∷ 114 ∷ []) (Syntax.tcons (Syntax.tyInt Syntax.w32) Syntax.tnil)) (Syntax.tcons (Syntax.tyInt Syntax.w8) Syntax.tnil))))) (Syntax.tcons
+      (Syntax.tyStruct (114 ∷ 101 ∷ 115 ∷ 105 ∷ 100 ∷ 117 ∷ 101 ∷ 58 ∷ 58 ∷ 82 ∷ 101 ∷ 115 ∷ 105 ∷ 100 ∷ 117 ∷ 101 ∷ []) (Syntax.tcons (Syntax.tyStruct (110 ∷ 97
+      ∷ 109 ∷ 101 ∷ 115 ∷ 58 ∷ 58 ∷ 84 ∷ 104 ∷ 114 ∷ 101 ∷ 101 ∷ []) (Syntax.tcons (Syntax.tyInt Syntax.w8) (Syntax.tcons (Syntax.tyInt Syntax.w8) (Syntax.tcons
+      (Syntax.tyInt Syntax.w8) Syntax.tnil)))) (Syntax.tcons (Syntax.tyInt Syntax.w8) (Syntax.tcons (Syntax.tyStruct (102 ∷ 105 ∷ 101 ∷ 108 ∷ 100 ∷ 115 ∷ 58 ∷ 58
+      ∷ 82 ∷ 101 ∷ 115 ∷ 105 ∷ 100 ∷ 117 ∷ 101 ∷ 78 ∷ 117 ∷ 109 ∷ 98 ∷ 101 ∷ 114 ∷ []) (Syntax.tcons (Syntax.tyInt Syntax.w32) Syntax.tnil)) (Syntax.tcons
+      (Syntax.tyInt Syntax.w8) Syntax.tnil))))) Syntax.tnil))))) (Syntax.tcons (Syntax.tyInt Syntax.w32) (Syntax.tcons (Syntax.tyStruct (104 ∷ 101 ∷ 108 ∷ 105 ∷
+      120 ∷ 58 ∷ 58 ∷ 67 ∷ 111 ∷ 109 ∷ 109 ∷ 101 ∷ 110 ∷ 116 ∷ []) (Syntax.tcons (Syntax.tyInt Syntax.w64) (Syntax.tcons (Syntax.tyInt Syntax.w64) (Syntax.tcons
+      (Syntax.tyInt Syntax.w64) (Syntax.tcons (Syntax.tyInt Syntax.w64) Syntax.tnil))))) (Syntax.tcons (Syntax.tyInt Syntax.w32) Syntax.tnil))))) Syntax.tnil)
+      (Syntax.ttcons (Syntax.tcons (Syntax.tyStruct (115 ∷ 104 ∷ 101 ∷ 101 ∷ 116 ∷ 58 ∷ 58 ∷ 83 ∷ 104 ∷ 101 ∷ 101 ∷ 116 ∷ []) (Syntax.tcons (Syntax.tyStruct (115
+      ∷ 104 ∷ 101 ∷ 101 ∷ 116 ∷ 58 ∷ 58 ∷ 83 ∷ 116 ∷ 114 ∷ 97 ∷ 110 ∷ 100 ∷ []) (Syntax.tcons (Syntax.tyInt Syntax.w32) (Syntax.tcons (Syntax.tyStruct (110 ∷ 97
+      ∷ 109 ∷ 101 ∷ 115 ∷ 58 ∷ 58 ∷ 84 ∷ 104 ∷ 114 ∷ 101 ∷ 101 ∷ []) (Syntax.tcons (Syntax.tyInt Syntax.w8) (Syntax.tcons (Syntax.tyInt Syntax.w8) (Syntax.tcons
+      (Syntax.tyInt Syntax.w8) Syntax.tnil)))) (Syntax.tcons (Syntax.tyInt Syntax.w32) (Syntax.tcons (Syntax.tyStruct (114 ∷ 101 ∷ 115 ∷ 105 ∷ 100 ∷ 117 ∷ 101 ∷
+      58 ∷ 58 ∷ 82 ∷ 101 ∷ 115 ∷ 105 ∷ 100 ∷ 117 ∷ 101 ∷ []) (Syntax.tcons (Syntax.tyStruct (110 ∷ 97 ∷ 109 ∷ 101 ∷ 115 ∷ 58 ∷ 58 ∷ 84 ∷ 104 ∷ 114 ∷ 101 ∷ 101 ∷
+      []) (Syntax.tcons (Syntax.tyInt Syntax.w8) (Syntax.tcons (Syntax.tyInt Syntax.w8) (Syntax.tcons (Syntax.tyInt Syntax.w8) Syntax.tnil)))) (Syntax.tcons
+      (Syntax.tyInt Syntax.w8) (Syntax.tcons (Syntax.tyStruct (102 ∷ 105 ∷ 101 ∷ 108 ∷ 100 ∷ 115 ∷ 58 ∷ 58 ∷ 82 ∷ 101 ∷ 115 ∷ 105 ∷ 100 ∷ 117 ∷ 101 ∷ 78 ∷ 117 ∷
+      109 ∷ 98 ∷ 101 ∷ 114 ∷ []) (Syntax.tcons (Syntax.tyInt Syntax.w32) Syntax.tnil)) (Syntax.tcons (Syntax.tyInt Syntax.w8) Syntax.tnil))))) (Syntax.tcons
+      (Syntax.tyStruct (114 ∷ 101 ∷ 115 ∷ 105 ∷ 100 ∷ 117 ∷ 101 ∷ 58 ∷ 58 ∷ 82 ∷ 101 ∷ 115 ∷ 105 ∷ 100 ∷ 117 ∷ 101 ∷ []) (Syntax.tcons (Syntax.tyStruct (110 ∷ 97
+      ∷ 109 ∷ 101 ∷ 115 ∷ 58 ∷ 58 ∷ 84 ∷ 104 ∷ 114 ∷ 101 ∷ 101 ∷ []) (Syntax.tcons (Syntax.tyInt Syntax.w8) (Syntax.tcons (Syntax.tyInt Syntax.w8) (Syntax.tcons
+      (Syntax.tyInt Syntax.w8) Syntax.tnil)))) (Syntax.tcons (Syntax.tyInt Syntax.w8) (Syntax.tcons (Syntax.tyStruct (102 ∷ 105 ∷ 101 ∷ 108 ∷ 100 ∷ 115 ∷ 58 ∷ 58
+      ∷ 82 ∷ 101 ∷ 115 ∷ 105 ∷ 100 ∷ 117 ∷ 101 ∷ 78 ∷ 117 ∷ 109 ∷ 98 ∷ 101 ∷ 114 ∷ []) (Syntax.tcons (Syntax.tyInt Syntax.w32) Syntax.tnil)) (Syntax.tcons
+      (Syntax.tyInt Syntax.w8) Syntax.tnil))))) (Syntax.tcons (Syntax.tyInt Syntax.w32) Syntax.tnil))))))) (Syntax.tcons (Syntax.tyEnum (115 ∷ 104 ∷ 101 ∷ 101 ∷
+      116 ∷ 58 ∷ 58 ∷ 82 ∷ 101 ∷ 103 ∷ 105 ∷ 115 ∷ 116 ∷ 114 ∷ 97 ∷ 116 ∷ 105 ∷ 111 ∷ 110 ∷ []) (Syntax.ttcons Syntax.tnil (Syntax.ttcons (Syntax.tcons
+      (Syntax.tyStruct (115 ∷ 104 ∷ 101 ∷ 101 ∷ 116 ∷ 58 ∷ 58 ∷ 66 ∷ 111 ∷ 110 ∷ 100 ∷ []) (Syntax.tcons (Syntax.tyStruct (110 ∷ 97 ∷ 109 ∷ 101 ∷ 115 ∷ 58 ∷ 58 ∷
+      70 ∷ 111 ∷ 117 ∷ 114 ∷ []) (Syntax.tcons (Syntax.tyInt Syntax.w8) (Syntax.tcons (Syntax.tyInt Syntax.w8) (Syntax.tcons (Syntax.tyInt Syntax.w8)
+      (Syntax.tcons (Syntax.tyInt Syntax.w8) Syntax.tnil))))) (Syntax.tcons (Syntax.tyStruct (114 ∷ 101 ∷ 115 ∷ 105 ∷ 100 ∷ 117 ∷ 101 ∷ 58 ∷ 58 ∷ 82 ∷ 101 ∷ 115
+      ∷ 105 ∷ 100 ∷ 117 ∷ 101 ∷ []) (Syntax.tcons (Syntax.tyStruct (110 ∷ 97 ∷ 109 ∷ 101 ∷ 115 ∷ 58 ∷ 58 ∷ 84 ∷ 104 ∷ 114 ∷ 101 ∷ 101 ∷ []) (Syntax.tcons
+      (Syntax.tyInt Syntax.w8) (Syntax.tcons (Syntax.tyInt Syntax.w8) (Syntax.tcons (Syntax.tyInt Syntax.w8) Syntax.tnil)))) (Syntax.tcons (Syntax.tyInt
+      Syntax.w8) (Syntax.tcons (Syntax.tyStruct (102 ∷ 105 ∷ 101 ∷ 108 ∷ 100 ∷ 115 ∷ 58 ∷ 58 ∷ 82 ∷ 101 ∷ 115 ∷ 105 ∷ 100 ∷ 117 ∷ 101 ∷ 78 ∷ 117 ∷ 109 ∷ 98 ∷ 101
+      ∷ 114 ∷ []) (Syntax.tcons (Syntax.tyInt Syntax.w32) Syntax.tnil)) (Syntax.tcons (Syntax.tyInt Syntax.w8) Syntax.tnil))))) (Syntax.tcons (Syntax.tyStruct
+      (110 ∷ 97 ∷ 109 ∷ 101 ∷ 115 ∷ 58 ∷ 58 ∷ 70 ∷ 111 ∷ 117 ∷ 114 ∷ []) (Syntax.tcons (Syntax.tyInt Syntax.w8) (Syntax.tcons (Syntax.tyInt Syntax.w8)
+      (Syntax.tcons (Syntax.tyInt Syntax.w8) (Syntax.tcons (Syntax.tyInt Syntax.w8) Syntax.tnil))))) (Syntax.tcons (Syntax.tyStruct (114 ∷ 101 ∷ 115 ∷ 105 ∷ 100
+      ∷ 117 ∷ 101 ∷ 58 ∷ 58 ∷ 82 ∷ 101 ∷ 115 ∷ 105 ∷ 100 ∷ 117 ∷ 101 ∷ []) (Syntax.tcons (Syntax.tyStruct (110 ∷ 97 ∷ 109 ∷ 101 ∷ 115 ∷ 58 ∷ 58 ∷ 84 ∷ 104 ∷ 114
+      ∷ 101 ∷ 101 ∷ []) (Syntax.tcons (Syntax.tyInt Syntax.w8) (Syntax.tcons (Syntax.tyInt Syntax.w8) (Syntax.tcons (Syntax.tyInt Syntax.w8) Syntax.tnil))))
+      (Syntax.tcons (Syntax.tyInt Syntax.w8) (Syntax.tcons (Syntax.tyStruct (102 ∷ 105 ∷ 101 ∷ 108 ∷ 100 ∷ 115 ∷ 58 ∷ 58 ∷ 82 ∷ 101 ∷ 115 ∷ 105 ∷ 100 ∷ 117 ∷ 101
+      ∷ 78 ∷ 117 ∷ 109 ∷ 98 ∷ 101 ∷ 114 ∷ []) (Syntax.tcons (Syntax.tyInt Syntax.w32) Syntax.tnil)) (Syntax.tcons (Syntax.tyInt Syntax.w8) Syntax.tnil)))))
+      Syntax.tnil))))) Syntax.tnil) Syntax.ttnil))) Syntax.tnil))) Syntax.tnil) (Syntax.ttcons (Syntax.tcons (Syntax.tyStruct (99 ∷ 111 ∷ 110 ∷ 101 ∷ 99 ∷ 116 ∷
+      58 ∷ 58 ∷ 67 ∷ 111 ∷ 110 ∷ 101 ∷ 99 ∷ 116 ∷ []) (Syntax.tcons (Syntax.tyStruct (102 ∷ 105 ∷ 101 ∷ 108 ∷ 100 ∷ 115 ∷ 58 ∷ 58 ∷ 83 ∷ 101 ∷ 114 ∷ 105 ∷ 97 ∷
+      108 ∷ []) (Syntax.tcons (Syntax.tyInt Syntax.w32) Syntax.tnil)) (Syntax.tcons (Syntax.tyStruct (102 ∷ 105 ∷ 101 ∷ 108 ∷ 100 ∷ 115 ∷ 58 ∷ 58 ∷ 83 ∷ 101 ∷
+      114 ∷ 105 ∷ 97 ∷ 108 ∷ []) (Syntax.tcons (Syntax.tyInt Syntax.w32) Syntax.tnil)) (Syntax.tcons (Syntax.tyStruct (102 ∷ 105 ∷ 101 ∷ 108 ∷ 100 ∷ 115 ∷ 58 ∷
+      58 ∷ 83 ∷ 101 ∷ 114 ∷ 105 ∷ 97 ∷ 108 ∷ []) (Syntax.tcons (Syntax.tyInt Syntax.w32) Syntax.tnil)) (Syntax.tcons (Syntax.tyStruct (102 ∷ 105 ∷ 101 ∷ 108 ∷
+      100 ∷ 115 ∷ 58 ∷ 58 ∷ 83 ∷ 101 ∷ 114 ∷ 105 ∷ 97 ∷ 108 ∷ []) (Syntax.tcons (Syntax.tyInt Syntax.w32) Syntax.tnil)) (Syntax.tcons (Syntax.tyStruct (102 ∷ 105
+      ∷ 101 ∷ 108 ∷ 100 ∷ 115 ∷ 58 ∷ 58 ∷ 83 ∷ 101 ∷ 114 ∷ 105 ∷ 97 ∷ 108 ∷ []) (Syntax.tcons (Syntax.tyInt Syntax.w32) Syntax.tnil)) Syntax.tnil))))))
+      Syntax.tnil) (Syntax.ttcons (Syntax.tcons (Syntax.tyStruct (109 ∷ 97 ∷ 115 ∷ 116 ∷ 101 ∷ 114 ∷ 58 ∷ 58 ∷ 84 ∷ 97 ∷ 108 ∷ 108 ∷ 121 ∷ []) (Syntax.tcons
+      (Syntax.tyInt Syntax.w32) (Syntax.tcons (Syntax.tyInt Syntax.w32) (Syntax.tcons (Syntax.tyInt Syntax.w32) (Syntax.tcons (Syntax.tyInt Syntax.w32)
+      (Syntax.tcons (Syntax.tyInt Syntax.w32) (Syntax.tcons (Syntax.tyInt Syntax.w32) (Syntax.tcons (Syntax.tyInt Syntax.w32) (Syntax.tcons (Syntax.tyInt
+      Syntax.w32) (Syntax.tcons (Syntax.tyInt Syntax.w32) Syntax.tnil)))))))))) Syntax.tnil) (Syntax.ttcons Syntax.tnil (Syntax.ttcons (Syntax.tcons
+      (Syntax.tyStruct (109 ∷ 111 ∷ 100 ∷ 101 ∷ 108 ∷ 58 ∷ 58 ∷ 77 ∷ 111 ∷ 100 ∷ 101 ∷ 108 ∷ []) (Syntax.tcons (Syntax.tyInt Syntax.w32) Syntax.tnil))
+      Syntax.tnil) (Syntax.ttcons Syntax.tnil Syntax.ttnil)))))))))) Syntax.tnil) Syntax.ttnil))))),
+) ∷ (9, Rows.any-gone Syntax.tyBool) ∷ (
+  10,
+  Rows.any-gone
+      (Syntax.tyInt Syntax.w64),
+) ∷ (11, Rows.any-gone (Syntax.tyInt Syntax.w64)) ∷ (12, Rows.any-gone (Syntax.tyInt Syntax.w64)) ∷ (
+  13,
+  Rows.any-gone
+      Syntax.tyBool,
+) ∷ (14, Rows.any-gone (Syntax.tyRef Syntax.erased Syntax.mut SlotAs.pointee)) ∷ (
+  15,
+  Rows.any-gone (Syntax.tyStruct (38 ∷ 91 ∷ 93 ∷ [])
+      (Syntax.tcons (Syntax.tyRef Syntax.erased Syntax.mut SlotAs.pointee) (Syntax.tcons (Syntax.tyInt Syntax.w64) Syntax.tnil))),
+) ∷ []
+
+abbrev pub t14 : List.List Row.Entry
+t14 = (
+  0,
+  Rows.any-gone (Syntax.tyStruct (115 ∷ 116 ∷ 111 ∷ 114 ∷ 101 ∷ 58 ∷ 58 ∷ 79 ∷ 117 ∷ 116 ∷ 99 ∷ 111 ∷ 109 ∷ 101 ∷ []) (Syntax.tcons (Syntax.tyInt
+      Syntax.w8) (Syntax.tcons (Syntax.tyInt Syntax.w64) Syntax.tnil))),
+) ∷ (
+  1,
+  Rows.sslice (Referent.rtF (Referent.fInt Syntax.w8)) (Syntax.tyRef (Syntax.named
+      0) Syntax.imm (Syntax.tyInt Syntax.w8)) 0,
+) ∷ (2, Mut.mslice SlotAs.row (Syntax.tyRef (Syntax.named 1) Syntax.mut SlotAs.pointee) 1) ∷ (
+  3,
+  Rows.any-gone
+      (Syntax.tyStruct (115 ∷ 116 ∷ 111 ∷ 114 ∷ 101 ∷ 58 ∷ 58 ∷ 78 ∷ 101 ∷ 101 ∷ 100 ∷ 115 ∷ []) (Syntax.tcons (Syntax.tyInt Syntax.w8) (Syntax.tcons
+      (Syntax.tyInt Syntax.w64) Syntax.tnil))),
+) ∷ (4, Rows.sc-here (Row.sInt Syntax.w64)) ∷ (5, Rows.sc-here (Row.sInt Syntax.w64)) ∷ (
+  6,
+  Rows.sc-here (Row.sInt
+      Syntax.w64),
+) ∷ (7, Rows.sc-here (Row.sInt Syntax.w32)) ∷ (
+  8,
+  Rows.any-gone (Syntax.tyEnum (112 ∷ 105 ∷ 101 ∷ 99 ∷ 101 ∷ 115 ∷ 58 ∷ 58 ∷ 76 ∷ 105 ∷ 110 ∷
+      101 ∷ []) (Syntax.ttcons (Syntax.tcons (Syntax.tyInt Syntax.w8) Syntax.tnil) (Syntax.ttcons (Syntax.tcons (Syntax.tyEnum (107 ∷ 105 ∷ 110 ∷ 100 ∷ 115 ∷ 58
+      ∷ 58 ∷ 75 ∷ 105 ∷ 110 ∷ 100 ∷ []) (Syntax.ttcons Syntax.tnil (Syntax.ttcons Syntax.tnil (Syntax.ttcons Syntax.tnil (Syntax.ttcons Syntax.tnil
+      (Syntax.ttcons Syntax.tnil (Syntax.ttcons Syntax.tnil (Syntax.ttcons Syntax.tnil (Syntax.ttcons Syntax.tnil (Syntax.ttcons Syntax.tnil (Syntax.ttcons
+      Syntax.tnil (Syntax.ttcons Syntax.tnil (Syntax.ttcons Syntax.tnil (Syntax.ttcons Syntax.tnil (Syntax.ttcons Syntax.tnil (Syntax.ttcons Syntax.tnil
+      (Syntax.ttcons Syntax.tnil (Syntax.ttcons Syntax.tnil (Syntax.ttcons Syntax.tnil (Syntax.ttcons Syntax.tnil (Syntax.ttcons Syntax.tnil (Syntax.ttcons
+      Syntax.tnil (Syntax.ttcons Syntax.tnil (Syntax.ttcons Syntax.tnil (Syntax.ttcons Syntax.tnil (Syntax.ttcons Syntax.tnil (Syntax.ttcons Syntax.tnil
+      (Syntax.ttcons Syntax.tnil (Syntax.ttcons Syntax.tnil (Syntax.ttcons Syntax.tnil (Syntax.ttcons Syntax.tnil Syntax.ttnil)))))))))))))))))))))))))))))))
+      (Syntax.tcons (Syntax.tyInt Syntax.w32) Syntax.tnil)) (Syntax.ttcons (Syntax.tcons (Syntax.tyEnum (107 ∷ 105 ∷ 110 ∷ 100 ∷ 115 ∷ 58 ∷ 58 ∷ 75 ∷ 105 ∷ 110 ∷
+      100 ∷ []) (Syntax.ttcons Syntax.tnil (Syntax.ttcons Syntax.tnil (Syntax.ttcons Syntax.tnil (Syntax.ttcons Syntax.tnil (Syntax.ttcons Syntax.tnil
+      (Syntax.ttcons Syntax.tnil (Syntax.ttcons Syntax.tnil (Syntax.ttcons Syntax.tnil (Syntax.ttcons Syntax.tnil (Syntax.ttcons Syntax.tnil (Syntax.ttcons
+      Syntax.tnil (Syntax.ttcons Syntax.tnil (Syntax.ttcons Syntax.tnil (Syntax.ttcons Syntax.tnil (Syntax.ttcons Syntax.tnil (Syntax.ttcons Syntax.tnil
+      (Syntax.ttcons Syntax.tnil (Syntax.ttcons Syntax.tnil (Syntax.ttcons Syntax.tnil (Syntax.ttcons Syntax.tnil (Syntax.ttcons Syntax.tnil (Syntax.ttcons
+      Syntax.tnil (Syntax.ttcons Syntax.tnil (Syntax.ttcons Syntax.tnil (Syntax.ttcons Syntax.tnil (Syntax.ttcons Syntax.tnil (Syntax.ttcons Syntax.tnil
+      (Syntax.ttcons Syntax.tnil (Syntax.ttcons Syntax.tnil (Syntax.ttcons Syntax.tnil Syntax.ttnil))))))))))))))))))))))))))))))) Syntax.tnil) (Syntax.ttcons
+      (Syntax.tcons (Syntax.tyEnum (108 ∷ 105 ∷ 110 ∷ 101 ∷ 58 ∷ 58 ∷ 82 ∷ 101 ∷ 99 ∷ 111 ∷ 114 ∷ 100 ∷ []) (Syntax.ttcons (Syntax.tcons Syntax.tyBool
+      (Syntax.tcons (Syntax.tyStruct (99 ∷ 111 ∷ 111 ∷ 114 ∷ 100 ∷ 105 ∷ 110 ∷ 97 ∷ 116 ∷ 101 ∷ 58 ∷ 58 ∷ 65 ∷ 116 ∷ 111 ∷ 109 ∷ []) (Syntax.tcons
+      (Syntax.tyStruct (99 ∷ 111 ∷ 111 ∷ 114 ∷ 100 ∷ 105 ∷ 110 ∷ 97 ∷ 116 ∷ 101 ∷ 58 ∷ 58 ∷ 73 ∷ 100 ∷ 101 ∷ 110 ∷ 116 ∷ 105 ∷ 116 ∷ 121 ∷ []) (Syntax.tcons
+      (Syntax.tyStruct (102 ∷ 105 ∷ 101 ∷ 108 ∷ 100 ∷ 115 ∷ 58 ∷ 58 ∷ 83 ∷ 101 ∷ 114 ∷ 105 ∷ 97 ∷ 108 ∷ []) (Syntax.tcons (Syntax.tyInt Syntax.w32) Syntax.tnil))
+      (Syntax.tcons (Syntax.tyStruct (110 ∷ 97 ∷ 109 ∷ 101 ∷ 115 ∷ 58 ∷ 58 ∷ 70 ∷ 111 ∷ 117 ∷ 114 ∷ []) (Syntax.tcons (Syntax.tyInt Syntax.w8) (Syntax.tcons
+      (Syntax.tyInt Syntax.w8) (Syntax.tcons (Syntax.tyInt Syntax.w8) (Syntax.tcons (Syntax.tyInt Syntax.w8) Syntax.tnil))))) (Syntax.tcons (Syntax.tyInt
+      Syntax.w8) (Syntax.tcons (Syntax.tyStruct (114 ∷ 101 ∷ 115 ∷ 105 ∷ 100 ∷ 117 ∷ 101 ∷ 58 ∷ 58 ∷ 82 ∷ 101 ∷ 115 ∷ 105 ∷ 100 ∷ 117 ∷ 101 ∷ []) (Syntax.tcons
+      (Syntax.tyStruct (110 ∷ 97 ∷ 109 ∷ 101 ∷ 115 ∷ 58 ∷ 58 ∷ 84 ∷ 104 ∷ 114 ∷ 101 ∷ 101 ∷ []) (Syntax.tcons (Syntax.tyInt Syntax.w8) (Syntax.tcons
+      (Syntax.tyInt Syntax.w8) (Syntax.tcons (Syntax.tyInt Syntax.w8) Syntax.tnil)))) (Syntax.tcons (Syntax.tyInt Syntax.w8) (Syntax.tcons (Syntax.tyStruct (102
+      ∷ 105 ∷ 101 ∷ 108 ∷ 100 ∷ 115 ∷ 58 ∷ 58 ∷ 82 ∷ 101 ∷ 115 ∷ 105 ∷ 100 ∷ 117 ∷ 101 ∷ 78 ∷ 117 ∷ 109 ∷ 98 ∷ 101 ∷ 114 ∷ []) (Syntax.tcons (Syntax.tyInt
+      Syntax.w32) Syntax.tnil)) (Syntax.tcons (Syntax.tyInt Syntax.w8) Syntax.tnil))))) Syntax.tnil))))) (Syntax.tcons (Syntax.tyStruct (99 ∷ 111 ∷ 111 ∷ 114 ∷
+      100 ∷ 105 ∷ 110 ∷ 97 ∷ 116 ∷ 101 ∷ 58 ∷ 58 ∷ 77 ∷ 101 ∷ 97 ∷ 115 ∷ 117 ∷ 114 ∷ 101 ∷ []) (Syntax.tcons (Syntax.tyStruct (99 ∷ 111 ∷ 111 ∷ 114 ∷ 100 ∷ 105 ∷
+      110 ∷ 97 ∷ 116 ∷ 101 ∷ 58 ∷ 58 ∷ 80 ∷ 111 ∷ 115 ∷ 105 ∷ 116 ∷ 105 ∷ 111 ∷ 110 ∷ []) (Syntax.tcons (Syntax.tyInt Syntax.w32) (Syntax.tcons (Syntax.tyInt
+      Syntax.w32) (Syntax.tcons (Syntax.tyInt Syntax.w32) Syntax.tnil)))) (Syntax.tcons (Syntax.tyInt Syntax.w32) (Syntax.tcons (Syntax.tyInt Syntax.w32)
+      Syntax.tnil)))) (Syntax.tcons (Syntax.tyStruct (99 ∷ 111 ∷ 111 ∷ 114 ∷ 100 ∷ 105 ∷ 110 ∷ 97 ∷ 116 ∷ 101 ∷ 58 ∷ 58 ∷ 83 ∷ 112 ∷ 101 ∷ 99 ∷ 105 ∷ 101 ∷ 115 ∷
+      []) (Syntax.tcons (Syntax.tyStruct (110 ∷ 97 ∷ 109 ∷ 101 ∷ 115 ∷ 58 ∷ 58 ∷ 80 ∷ 97 ∷ 105 ∷ 114 ∷ []) (Syntax.tcons (Syntax.tyInt Syntax.w8) (Syntax.tcons
+      (Syntax.tyInt Syntax.w8) Syntax.tnil))) (Syntax.tcons (Syntax.tyStruct (110 ∷ 97 ∷ 109 ∷ 101 ∷ 115 ∷ 58 ∷ 58 ∷ 80 ∷ 97 ∷ 105 ∷ 114 ∷ []) (Syntax.tcons
+      (Syntax.tyInt Syntax.w8) (Syntax.tcons (Syntax.tyInt Syntax.w8) Syntax.tnil))) Syntax.tnil))) Syntax.tnil)))) Syntax.tnil)) (Syntax.ttcons (Syntax.tcons
+      (Syntax.tyStruct (116 ∷ 101 ∷ 114 ∷ 58 ∷ 58 ∷ 84 ∷ 101 ∷ 114 ∷ []) (Syntax.tcons (Syntax.tyStruct (102 ∷ 105 ∷ 101 ∷ 108 ∷ 100 ∷ 115 ∷ 58 ∷ 58 ∷ 83 ∷ 101 ∷
+      114 ∷ 105 ∷ 97 ∷ 108 ∷ []) (Syntax.tcons (Syntax.tyInt Syntax.w32) Syntax.tnil)) (Syntax.tcons (Syntax.tyStruct (114 ∷ 101 ∷ 115 ∷ 105 ∷ 100 ∷ 117 ∷ 101 ∷
+      58 ∷ 58 ∷ 82 ∷ 101 ∷ 115 ∷ 105 ∷ 100 ∷ 117 ∷ 101 ∷ []) (Syntax.tcons (Syntax.tyStruct (110 ∷ 97 ∷ 109 ∷ 101 ∷ 115 ∷ 58 ∷ 58 ∷ 84 ∷ 104 ∷ 114 ∷ 101 ∷ 101 ∷
+      []) (Syntax.tcons (Syntax.tyInt Syntax.w8) (Syntax.tcons (Syntax.tyInt Syntax.w8) (Syntax.tcons (Syntax.tyInt Syntax.w8) Syntax.tnil)))) (Syntax.tcons
+      (Syntax.tyInt Syntax.w8) (Syntax.tcons (Syntax.tyStruct (102 ∷ 105 ∷ 101 ∷ 108 ∷ 100 ∷ 115 ∷ 58 ∷ 58 ∷ 82 ∷ 101 ∷ 115 ∷ 105 ∷ 100 ∷ 117 ∷ 101 ∷ 78 ∷ 117 ∷
+      109 ∷ 98 ∷ 101 ∷ 114 ∷ []) (Syntax.tcons (Syntax.tyInt Syntax.w32) Syntax.tnil)) (Syntax.tcons (Syntax.tyInt Syntax.w8) Syntax.tnil))))) Syntax.tnil)))
+      Syntax.tnil) (Syntax.ttcons (Syntax.tcons (Syntax.tyStruct (104 ∷ 101 ∷ 108 ∷ 105 ∷ 120 ∷ 58 ∷ 58 ∷ 72 ∷ 101 ∷ 108 ∷ 105 ∷ 120 ∷ []) (Syntax.tcons
+      (Syntax.tyStruct (104 ∷ 101 ∷ 108 ∷ 105 ∷ 120 ∷ 58 ∷ 58 ∷ 69 ∷ 120 ∷ 116 ∷ 101 ∷ 110 ∷ 116 ∷ []) (Syntax.tcons (Syntax.tyInt Syntax.w32) (Syntax.tcons
+      (Syntax.tyStruct (110 ∷ 97 ∷ 109 ∷ 101 ∷ 115 ∷ 58 ∷ 58 ∷ 84 ∷ 104 ∷ 114 ∷ 101 ∷ 101 ∷ []) (Syntax.tcons (Syntax.tyInt Syntax.w8) (Syntax.tcons
+      (Syntax.tyInt Syntax.w8) (Syntax.tcons (Syntax.tyInt Syntax.w8) Syntax.tnil)))) (Syntax.tcons (Syntax.tyStruct (114 ∷ 101 ∷ 115 ∷ 105 ∷ 100 ∷ 117 ∷ 101 ∷
+      58 ∷ 58 ∷ 82 ∷ 101 ∷ 115 ∷ 105 ∷ 100 ∷ 117 ∷ 101 ∷ []) (Syntax.tcons (Syntax.tyStruct (110 ∷ 97 ∷ 109 ∷ 101 ∷ 115 ∷ 58 ∷ 58 ∷ 84 ∷ 104 ∷ 114 ∷ 101 ∷ 101 ∷
+      []) (Syntax.tcons (Syntax.tyInt Syntax.w8) (Syntax.tcons (Syntax.tyInt Syntax.w8) (Syntax.tcons (Syntax.tyInt Syntax.w8) Syntax.tnil)))) (Syntax.tcons
+      (Syntax.tyInt Syntax.w8) (Syntax.tcons (Syntax.tyStruct (102 ∷ 105 ∷ 101 ∷ 108 ∷ 100 ∷ 115 ∷ 58 ∷ 58 ∷ 82 ∷ 101 ∷ 115 ∷ 105 ∷ 100 ∷ 117 ∷ 101 ∷ 78 ∷ 117 ∷
+      109 ∷ 98 ∷ 101 ∷ 114 ∷ []) (Syntax.tcons (Syntax.tyInt Syntax.w32) Syntax.tnil)) (Syntax.tcons (Syntax.tyInt Syntax.w8) Syntax.tnil))))) (Syntax.tcons
+      (Syntax.tyStruct (114 ∷ 101 ∷ 115 ∷ 105 ∷ 100 ∷ 117 ∷ 101 ∷ 58 ∷ 58 ∷ 82 ∷ 101 ∷ 115 ∷ 105 ∷ 100 ∷ 117 ∷ 101 ∷ []) (Syntax.tcons (Syntax.tyStruct (110 ∷ 97
+      ∷ 109 ∷ 101 ∷ 115 ∷ 58 ∷ 58 ∷ 84 ∷ 104 ∷ 114 ∷ 101 ∷ 101 ∷ []) (Syntax.tcons (Syntax.tyInt Syntax.w8) (Syntax.tcons (Syntax.tyInt Syntax.w8) (Syntax.tcons
+      (Syntax.tyInt Syntax.w8) Syntax.tnil)))) (Syntax.tcons (Syntax.tyInt Syntax.w8) (Syntax.tcons (Syntax.tyStruct (102 ∷ 105 ∷ 101 ∷ 108 ∷ 100 ∷ 115 ∷ 58 ∷ 58
+      ∷ 82 ∷ 101 ∷ 115 ∷ 105 ∷ 100 ∷ 117 ∷ 101 ∷ 78 ∷ 117 ∷ 109 ∷ 98 ∷ 101 ∷ 114 ∷ []) (Syntax.tcons (Syntax.tyInt Syntax.w32) Syntax.tnil)) (Syntax.tcons
+      (Syntax.tyInt Syntax.w8) Syntax.tnil))))) Syntax.tnil))))) (Syntax.tcons (Syntax.tyInt Syntax.w32) (Syntax.tcons (Syntax.tyStruct (104 ∷ 101 ∷ 108 ∷ 105 ∷
+      120 ∷ 58 ∷ 58 ∷ 67 ∷ 111 ∷ 109 ∷ 109 ∷ 101 ∷ 110 ∷ 116 ∷ []) (Syntax.tcons (Syntax.tyInt Syntax.w64) (Syntax.tcons (Syntax.tyInt Syntax.w64) (Syntax.tcons
+      (Syntax.tyInt Syntax.w64) (Syntax.tcons (Syntax.tyInt Syntax.w64) Syntax.tnil))))) (Syntax.tcons (Syntax.tyInt Syntax.w32) Syntax.tnil))))) Syntax.tnil)
+      (Syntax.ttcons (Syntax.tcons (Syntax.tyStruct (115 ∷ 104 ∷ 101 ∷ 101 ∷ 116 ∷ 58 ∷ 58 ∷ 83 ∷ 104 ∷ 101 ∷ 101 ∷ 116 ∷ []) (Syntax.tcons (Syntax.tyStruct (115
+      ∷ 104 ∷ 101 ∷ 101 ∷ 116 ∷ 58 ∷ 58 ∷ 83 ∷ 116 ∷ 114 ∷ 97 ∷ 110 ∷ 100 ∷ []) (Syntax.tcons (Syntax.tyInt Syntax.w32) (Syntax.tcons (Syntax.tyStruct (110 ∷ 97
+      ∷ 109 ∷ 101 ∷ 115 ∷ 58 ∷ 58 ∷ 84 ∷ 104 ∷ 114 ∷ 101 ∷ 101 ∷ []) (Syntax.tcons (Syntax.tyInt Syntax.w8) (Syntax.tcons (Syntax.tyInt Syntax.w8) (Syntax.tcons
+      (Syntax.tyInt Syntax.w8) Syntax.tnil)))) (Syntax.tcons (Syntax.tyInt Syntax.w32) (Syntax.tcons (Syntax.tyStruct (114 ∷ 101 ∷ 115 ∷ 105 ∷ 100 ∷ 117 ∷ 101 ∷
+      58 ∷ 58 ∷ 82 ∷ 101 ∷ 115 ∷ 105 ∷ 100 ∷ 117 ∷ 101 ∷ []) (Syntax.tcons (Syntax.tyStruct (110 ∷ 97 ∷ 109 ∷ 101 ∷ 115 ∷ 58 ∷ 58 ∷ 84 ∷ 104 ∷ 114 ∷ 101 ∷ 101 ∷
+      []) (Syntax.tcons (Syntax.tyInt Syntax.w8) (Syntax.tcons (Syntax.tyInt Syntax.w8) (Syntax.tcons (Syntax.tyInt Syntax.w8) Syntax.tnil)))) (Syntax.tcons
+      (Syntax.tyInt Syntax.w8) (Syntax.tcons (Syntax.tyStruct (102 ∷ 105 ∷ 101 ∷ 108 ∷ 100 ∷ 115 ∷ 58 ∷ 58 ∷ 82 ∷ 101 ∷ 115 ∷ 105 ∷ 100 ∷ 117 ∷ 101 ∷ 78 ∷ 117 ∷
+      109 ∷ 98 ∷ 101 ∷ 114 ∷ []) (Syntax.tcons (Syntax.tyInt Syntax.w32) Syntax.tnil)) (Syntax.tcons (Syntax.tyInt Syntax.w8) Syntax.tnil))))) (Syntax.tcons
+      (Syntax.tyStruct (114 ∷ 101 ∷ 115 ∷ 105 ∷ 100 ∷ 117 ∷ 101 ∷ 58 ∷ 58 ∷ 82 ∷ 101 ∷ 115 ∷ 105 ∷ 100 ∷ 117 ∷ 101 ∷ []) (Syntax.tcons (Syntax.tyStruct (110 ∷ 97
+      ∷ 109 ∷ 101 ∷ 115 ∷ 58 ∷ 58 ∷ 84 ∷ 104 ∷ 114 ∷ 101 ∷ 101 ∷ []) (Syntax.tcons (Syntax.tyInt Syntax.w8) (Syntax.tcons (Syntax.tyInt Syntax.w8) (Syntax.tcons
+      (Syntax.tyInt Syntax.w8) Syntax.tnil)))) (Syntax.tcons (Syntax.tyInt Syntax.w8) (Syntax.tcons (Syntax.tyStruct (102 ∷ 105 ∷ 101 ∷ 108 ∷ 100 ∷ 115 ∷ 58 ∷ 58
+      ∷ 82 ∷ 101 ∷ 115 ∷ 105 ∷ 100 ∷ 117 ∷ 101 ∷ 78 ∷ 117 ∷ 109 ∷ 98 ∷ 101 ∷ 114 ∷ []) (Syntax.tcons (Syntax.tyInt Syntax.w32) Syntax.tnil)) (Syntax.tcons
+      (Syntax.tyInt Syntax.w8) Syntax.tnil))))) (Syntax.tcons (Syntax.tyInt Syntax.w32) Syntax.tnil))))))) (Syntax.tcons (Syntax.tyEnum (115 ∷ 104 ∷ 101 ∷ 101 ∷
+      116 ∷ 58 ∷ 58 ∷ 82 ∷ 101 ∷ 103 ∷ 105 ∷ 115 ∷ 116 ∷ 114 ∷ 97 ∷ 116 ∷ 105 ∷ 111 ∷ 110 ∷ []) (Syntax.ttcons Syntax.tnil (Syntax.ttcons (Syntax.tcons
+      (Syntax.tyStruct (115 ∷ 104 ∷ 101 ∷ 101 ∷ 116 ∷ 58 ∷ 58 ∷ 66 ∷ 111 ∷ 110 ∷ 100 ∷ []) (Syntax.tcons (Syntax.tyStruct (110 ∷ 97 ∷ 109 ∷ 101 ∷ 115 ∷ 58 ∷ 58 ∷
+      70 ∷ 111 ∷ 117 ∷ 114 ∷ []) (Syntax.tcons (Syntax.tyInt Syntax.w8) (Syntax.tcons (Syntax.tyInt Syntax.w8) (Syntax.tcons (Syntax.tyInt Syntax.w8)
+      (Syntax.tcons (Syntax.tyInt Syntax.w8) Syntax.tnil))))) (Syntax.tcons (Syntax.tyStruct (114 ∷ 101 ∷ 115 ∷ 105 ∷ 100 ∷ 117 ∷ 101 ∷ 58 ∷ 58 ∷ 82 ∷ 101 ∷ 115
+      ∷ 105 ∷ 100 ∷ 117 ∷ 101 ∷ []) (Syntax.tcons (Syntax.tyStruct (110 ∷ 97 ∷ 109 ∷ 101 ∷ 115 ∷ 58 ∷ 58 ∷ 84 ∷ 104 ∷ 114 ∷ 101 ∷ 101 ∷ []) (Syntax.tcons
+      (Syntax.tyInt Syntax.w8) (Syntax.tcons (Syntax.tyInt Syntax.w8) (Syntax.tcons (Syntax.tyInt Syntax.w8) Syntax.tnil)))) (Syntax.tcons (Syntax.tyInt
+      Syntax.w8) (Syntax.tcons (Syntax.tyStruct (102 ∷ 105 ∷ 101 ∷ 108 ∷ 100 ∷ 115 ∷ 58 ∷ 58 ∷ 82 ∷ 101 ∷ 115 ∷ 105 ∷ 100 ∷ 117 ∷ 101 ∷ 78 ∷ 117 ∷ 109 ∷ 98 ∷ 101
+      ∷ 114 ∷ []) (Syntax.tcons (Syntax.tyInt Syntax.w32) Syntax.tnil)) (Syntax.tcons (Syntax.tyInt Syntax.w8) Syntax.tnil))))) (Syntax.tcons (Syntax.tyStruct
+      (110 ∷ 97 ∷ 109 ∷ 101 ∷ 115 ∷ 58 ∷ 58 ∷ 70 ∷ 111 ∷ 117 ∷ 114 ∷ []) (Syntax.tcons (Syntax.tyInt Syntax.w8) (Syntax.tcons (Syntax.tyInt Syntax.w8)
+      (Syntax.tcons (Syntax.tyInt Syntax.w8) (Syntax.tcons (Syntax.tyInt Syntax.w8) Syntax.tnil))))) (Syntax.tcons (Syntax.tyStruct (114 ∷ 101 ∷ 115 ∷ 105 ∷ 100
+      ∷ 117 ∷ 101 ∷ 58 ∷ 58 ∷ 82 ∷ 101 ∷ 115 ∷ 105 ∷ 100 ∷ 117 ∷ 101 ∷ []) (Syntax.tcons (Syntax.tyStruct (110 ∷ 97 ∷ 109 ∷ 101 ∷ 115 ∷ 58 ∷ 58 ∷ 84 ∷ 104 ∷ 114
+      ∷ 101 ∷ 101 ∷ []) (Syntax.tcons (Syntax.tyInt Syntax.w8) (Syntax.tcons (Syntax.tyInt Syntax.w8) (Syntax.tcons (Syntax.tyInt Syntax.w8) Syntax.tnil))))
+      (Syntax.tcons (Syntax.tyInt Syntax.w8) (Syntax.tcons (Syntax.tyStruct (102 ∷ 105 ∷ 101 ∷ 108 ∷ 100 ∷ 115 ∷ 58 ∷ 58 ∷ 82 ∷ 101 ∷ 115 ∷ 105 ∷ 100 ∷ 117 ∷ 101
+      ∷ 78 ∷ 117 ∷ 109 ∷ 98 ∷ 101 ∷ 114 ∷ []) (Syntax.tcons (Syntax.tyInt Syntax.w32) Syntax.tnil)) (Syntax.tcons (Syntax.tyInt Syntax.w8) Syntax.tnil)))))
+      Syntax.tnil))))) Syntax.tnil) Syntax.ttnil))) Syntax.tnil))) Syntax.tnil) (Syntax.ttcons (Syntax.tcons (Syntax.tyStruct (99 ∷ 111 ∷ 110 ∷ 101 ∷ 99 ∷ 116 ∷
+      58 ∷ 58 ∷ 67 ∷ 111 ∷ 110 ∷ 101 ∷ 99 ∷ 116 ∷ []) (Syntax.tcons (Syntax.tyStruct (102 ∷ 105 ∷ 101 ∷ 108 ∷ 100 ∷ 115 ∷ 58 ∷ 58 ∷ 83 ∷ 101 ∷ 114 ∷ 105 ∷ 97 ∷
+      108 ∷ []) (Syntax.tcons (Syntax.tyInt Syntax.w32) Syntax.tnil)) (Syntax.tcons (Syntax.tyStruct (102 ∷ 105 ∷ 101 ∷ 108 ∷ 100 ∷ 115 ∷ 58 ∷ 58 ∷ 83 ∷ 101 ∷
+      114 ∷ 105 ∷ 97 ∷ 108 ∷ []) (Syntax.tcons (Syntax.tyInt Syntax.w32) Syntax.tnil)) (Syntax.tcons (Syntax.tyStruct (102 ∷ 105 ∷ 101 ∷ 108 ∷ 100 ∷ 115 ∷ 58 ∷
+      58 ∷ 83 ∷ 101 ∷ 114 ∷ 105 ∷ 97 ∷ 108 ∷ []) (Syntax.tcons (Syntax.tyInt Syntax.w32) Syntax.tnil)) (Syntax.tcons (Syntax.tyStruct (102 ∷ 105 ∷ 101 ∷ 108 ∷
+      100 ∷ 115 ∷ 58 ∷ 58 ∷ 83 ∷ 101 ∷ 114 ∷ 105 ∷ 97 ∷ 108 ∷ []) (Syntax.tcons (Syntax.tyInt Syntax.w32) Syntax.tnil)) (Syntax.tcons (Syntax.tyStruct (102 ∷ 105
+      ∷ 101 ∷ 108 ∷ 100 ∷ 115 ∷ 58 ∷ 58 ∷ 83 ∷ 101 ∷ 114 ∷ 105 ∷ 97 ∷ 108 ∷ []) (Syntax.tcons (Syntax.tyInt Syntax.w32) Syntax.tnil)) Syntax.tnil))))))
+      Syntax.tnil) (Syntax.ttcons (Syntax.tcons (Syntax.tyStruct (109 ∷ 97 ∷ 115 ∷ 116 ∷ 101 ∷ 114 ∷ 58 ∷ 58 ∷ 84 ∷ 97 ∷ 108 ∷ 108 ∷ 121 ∷ []) (Syntax.tcons
+      (Syntax.tyInt Syntax.w32) (Syntax.tcons (Syntax.tyInt Syntax.w32) (Syntax.tcons (Syntax.tyInt Syntax.w32) (Syntax.tcons (Syntax.tyInt Syntax.w32)
+      (Syntax.tcons (Syntax.tyInt Syntax.w32) (Syntax.tcons (Syntax.tyInt Syntax.w32) (Syntax.tcons (Syntax.tyInt Syntax.w32) (Syntax.tcons (Syntax.tyInt
+      Syntax.w32) (Syntax.tcons (Syntax.tyInt Syntax.w32) Syntax.tnil)))))))))) Syntax.tnil) (Syntax.ttcons Syntax.tnil (Syntax.ttcons (Syntax.tcons
+      (Syntax.tyStruct (109 ∷ 111 ∷ 100 ∷ 101 ∷ 108 ∷ 58 ∷ 58 ∷ 77 ∷ 111 ∷ 100 ∷ 101 ∷ 108 ∷ []) (Syntax.tcons (Syntax.tyInt Syntax.w32) Syntax.tnil))
+      Syntax.tnil) (Syntax.ttcons Syntax.tnil Syntax.ttnil)))))))))) Syntax.tnil) Syntax.ttnil))))),
+) ∷ (9, Rows.any-gone Syntax.tyBool) ∷ (
+  10,
+  Rows.any-gone
+      (Syntax.tyInt Syntax.w64),
+) ∷ (11, Rows.any-gone (Syntax.tyInt Syntax.w64)) ∷ (12, Rows.any-gone (Syntax.tyInt Syntax.w64)) ∷ (
+  13,
+  Rows.any-gone
+      Syntax.tyBool,
+) ∷ (14, Rows.any-gone (Syntax.tyRef Syntax.erased Syntax.mut SlotAs.pointee)) ∷ (
+  15,
+  Rows.any-gone (Syntax.tyStruct (38 ∷ 91 ∷ 93 ∷ [])
+      (Syntax.tcons (Syntax.tyRef Syntax.erased Syntax.mut SlotAs.pointee) (Syntax.tcons (Syntax.tyInt Syntax.w64) Syntax.tnil))),
+) ∷ []
+
+abbrev pub t15 : List.List Row.Entry
+t15 = (
+  0,
+  Rows.any-gone (Syntax.tyStruct (115 ∷ 116 ∷ 111 ∷ 114 ∷ 101 ∷ 58 ∷ 58 ∷ 79 ∷ 117 ∷ 116 ∷ 99 ∷ 111 ∷ 109 ∷ 101 ∷ []) (Syntax.tcons (Syntax.tyInt
+      Syntax.w8) (Syntax.tcons (Syntax.tyInt Syntax.w64) Syntax.tnil))),
+) ∷ (
+  1,
+  Rows.sslice (Referent.rtF (Referent.fInt Syntax.w8)) (Syntax.tyRef (Syntax.named
+      0) Syntax.imm (Syntax.tyInt Syntax.w8)) 0,
+) ∷ (2, Mut.mslice SlotAs.row (Syntax.tyRef (Syntax.named 1) Syntax.mut SlotAs.pointee) 1) ∷ (
+  3,
+  Rows.any-gone
+      (Syntax.tyStruct (115 ∷ 116 ∷ 111 ∷ 114 ∷ 101 ∷ 58 ∷ 58 ∷ 78 ∷ 101 ∷ 101 ∷ 100 ∷ 115 ∷ []) (Syntax.tcons (Syntax.tyInt Syntax.w8) (Syntax.tcons
+      (Syntax.tyInt Syntax.w64) Syntax.tnil))),
+) ∷ (4, Rows.sc-here (Row.sInt Syntax.w64)) ∷ (5, Rows.sc-here (Row.sInt Syntax.w64)) ∷ (
+  6,
+  Rows.sc-here (Row.sInt
+      Syntax.w64),
+) ∷ (7, Rows.sc-here (Row.sInt Syntax.w32)) ∷ (
+  8,
+  Rows.any-gone (Syntax.tyEnum (112 ∷ 105 ∷ 101 ∷ 99 ∷ 101 ∷ 115 ∷ 58 ∷ 58 ∷ 76 ∷ 105 ∷ 110 ∷
+      101 ∷ []) (Syntax.ttcons (Syntax.tcons (Syntax.tyInt Syntax.w8) Syntax.tnil) (Syntax.ttcons (Syntax.tcons (Syntax.tyEnum (107 ∷ 105 ∷ 110 ∷ 100 ∷ 115 ∷ 58
+      ∷ 58 ∷ 75 ∷ 105 ∷ 110 ∷ 100 ∷ []) (Syntax.ttcons Syntax.tnil (Syntax.ttcons Syntax.tnil (Syntax.ttcons Syntax.tnil (Syntax.ttcons Syntax.tnil
+      (Syntax.ttcons Syntax.tnil (Syntax.ttcons Syntax.tnil (Syntax.ttcons Syntax.tnil (Syntax.ttcons Syntax.tnil (Syntax.ttcons Syntax.tnil (Syntax.ttcons
+      Syntax.tnil (Syntax.ttcons Syntax.tnil (Syntax.ttcons Syntax.tnil (Syntax.ttcons Syntax.tnil (Syntax.ttcons Syntax.tnil (Syntax.ttcons Syntax.tnil
+      (Syntax.ttcons Syntax.tnil (Syntax.ttcons Syntax.tnil (Syntax.ttcons Syntax.tnil (Syntax.ttcons Syntax.tnil (Syntax.ttcons Syntax.tnil (Syntax.ttcons
+      Syntax.tnil (Syntax.ttcons Syntax.tnil (Syntax.ttcons Syntax.tnil (Syntax.ttcons Syntax.tnil (Syntax.ttcons Syntax.tnil (Syntax.ttcons Syntax.tnil
+      (Syntax.ttcons Syntax.tnil (Syntax.ttcons Syntax.tnil (Syntax.ttcons Syntax.tnil (Syntax.ttcons Syntax.tnil Syntax.ttnil)))))))))))))))))))))))))))))))
+      (Syntax.tcons (Syntax.tyInt Syntax.w32) Syntax.tnil)) (Syntax.ttcons (Syntax.tcons (Syntax.tyEnum (107 ∷ 105 ∷ 110 ∷ 100 ∷ 115 ∷ 58 ∷ 58 ∷ 75 ∷ 105 ∷ 110 ∷
+      100 ∷ []) (Syntax.ttcons Syntax.tnil (Syntax.ttcons Syntax.tnil (Syntax.ttcons Syntax.tnil (Syntax.ttcons Syntax.tnil (Syntax.ttcons Syntax.tnil
+      (Syntax.ttcons Syntax.tnil (Syntax.ttcons Syntax.tnil (Syntax.ttcons Syntax.tnil (Syntax.ttcons Syntax.tnil (Syntax.ttcons Syntax.tnil (Syntax.ttcons
+      Syntax.tnil (Syntax.ttcons Syntax.tnil (Syntax.ttcons Syntax.tnil (Syntax.ttcons Syntax.tnil (Syntax.ttcons Syntax.tnil (Syntax.ttcons Syntax.tnil
+      (Syntax.ttcons Syntax.tnil (Syntax.ttcons Syntax.tnil (Syntax.ttcons Syntax.tnil (Syntax.ttcons Syntax.tnil (Syntax.ttcons Syntax.tnil (Syntax.ttcons
+      Syntax.tnil (Syntax.ttcons Syntax.tnil (Syntax.ttcons Syntax.tnil (Syntax.ttcons Syntax.tnil (Syntax.ttcons Syntax.tnil (Syntax.ttcons Syntax.tnil
+      (Syntax.ttcons Syntax.tnil (Syntax.ttcons Syntax.tnil (Syntax.ttcons Syntax.tnil Syntax.ttnil))))))))))))))))))))))))))))))) Syntax.tnil) (Syntax.ttcons
+      (Syntax.tcons (Syntax.tyEnum (108 ∷ 105 ∷ 110 ∷ 101 ∷ 58 ∷ 58 ∷ 82 ∷ 101 ∷ 99 ∷ 111 ∷ 114 ∷ 100 ∷ []) (Syntax.ttcons (Syntax.tcons Syntax.tyBool
+      (Syntax.tcons (Syntax.tyStruct (99 ∷ 111 ∷ 111 ∷ 114 ∷ 100 ∷ 105 ∷ 110 ∷ 97 ∷ 116 ∷ 101 ∷ 58 ∷ 58 ∷ 65 ∷ 116 ∷ 111 ∷ 109 ∷ []) (Syntax.tcons
+      (Syntax.tyStruct (99 ∷ 111 ∷ 111 ∷ 114 ∷ 100 ∷ 105 ∷ 110 ∷ 97 ∷ 116 ∷ 101 ∷ 58 ∷ 58 ∷ 73 ∷ 100 ∷ 101 ∷ 110 ∷ 116 ∷ 105 ∷ 116 ∷ 121 ∷ []) (Syntax.tcons
+      (Syntax.tyStruct (102 ∷ 105 ∷ 101 ∷ 108 ∷ 100 ∷ 115 ∷ 58 ∷ 58 ∷ 83 ∷ 101 ∷ 114 ∷ 105 ∷ 97 ∷ 108 ∷ []) (Syntax.tcons (Syntax.tyInt Syntax.w32) Syntax.tnil))
+      (Syntax.tcons (Syntax.tyStruct (110 ∷ 97 ∷ 109 ∷ 101 ∷ 115 ∷ 58 ∷ 58 ∷ 70 ∷ 111 ∷ 117 ∷ 114 ∷ []) (Syntax.tcons (Syntax.tyInt Syntax.w8) (Syntax.tcons
+      (Syntax.tyInt Syntax.w8) (Syntax.tcons (Syntax.tyInt Syntax.w8) (Syntax.tcons (Syntax.tyInt Syntax.w8) Syntax.tnil))))) (Syntax.tcons (Syntax.tyInt
+      Syntax.w8) (Syntax.tcons (Syntax.tyStruct (114 ∷ 101 ∷ 115 ∷ 105 ∷ 100 ∷ 117 ∷ 101 ∷ 58 ∷ 58 ∷ 82 ∷ 101 ∷ 115 ∷ 105 ∷ 100 ∷ 117 ∷ 101 ∷ []) (Syntax.tcons
+      (Syntax.tyStruct (110 ∷ 97 ∷ 109 ∷ 101 ∷ 115 ∷ 58 ∷ 58 ∷ 84 ∷ 104 ∷ 114 ∷ 101 ∷ 101 ∷ []) (Syntax.tcons (Syntax.tyInt Syntax.w8) (Syntax.tcons
+      (Syntax.tyInt Syntax.w8) (Syntax.tcons (Syntax.tyInt Syntax.w8) Syntax.tnil)))) (Syntax.tcons (Syntax.tyInt Syntax.w8) (Syntax.tcons (Syntax.tyStruct (102
+      ∷ 105 ∷ 101 ∷ 108 ∷ 100 ∷ 115 ∷ 58 ∷ 58 ∷ 82 ∷ 101 ∷ 115 ∷ 105 ∷ 100 ∷ 117 ∷ 101 ∷ 78 ∷ 117 ∷ 109 ∷ 98 ∷ 101 ∷ 114 ∷ []) (Syntax.tcons (Syntax.tyInt
+      Syntax.w32) Syntax.tnil)) (Syntax.tcons (Syntax.tyInt Syntax.w8) Syntax.tnil))))) Syntax.tnil))))) (Syntax.tcons (Syntax.tyStruct (99 ∷ 111 ∷ 111 ∷ 114 ∷
+      100 ∷ 105 ∷ 110 ∷ 97 ∷ 116 ∷ 101 ∷ 58 ∷ 58 ∷ 77 ∷ 101 ∷ 97 ∷ 115 ∷ 117 ∷ 114 ∷ 101 ∷ []) (Syntax.tcons (Syntax.tyStruct (99 ∷ 111 ∷ 111 ∷ 114 ∷ 100 ∷ 105 ∷
+      110 ∷ 97 ∷ 116 ∷ 101 ∷ 58 ∷ 58 ∷ 80 ∷ 111 ∷ 115 ∷ 105 ∷ 116 ∷ 105 ∷ 111 ∷ 110 ∷ []) (Syntax.tcons (Syntax.tyInt Syntax.w32) (Syntax.tcons (Syntax.tyInt
+      Syntax.w32) (Syntax.tcons (Syntax.tyInt Syntax.w32) Syntax.tnil)))) (Syntax.tcons (Syntax.tyInt Syntax.w32) (Syntax.tcons (Syntax.tyInt Syntax.w32)
+      Syntax.tnil)))) (Syntax.tcons (Syntax.tyStruct (99 ∷ 111 ∷ 111 ∷ 114 ∷ 100 ∷ 105 ∷ 110 ∷ 97 ∷ 116 ∷ 101 ∷ 58 ∷ 58 ∷ 83 ∷ 112 ∷ 101 ∷ 99 ∷ 105 ∷ 101 ∷ 115 ∷
+      []) (Syntax.tcons (Syntax.tyStruct (110 ∷ 97 ∷ 109 ∷ 101 ∷ 115 ∷ 58 ∷ 58 ∷ 80 ∷ 97 ∷ 105 ∷ 114 ∷ []) (Syntax.tcons (Syntax.tyInt Syntax.w8) (Syntax.tcons
+      (Syntax.tyInt Syntax.w8) Syntax.tnil))) (Syntax.tcons (Syntax.tyStruct (110 ∷ 97 ∷ 109 ∷ 101 ∷ 115 ∷ 58 ∷ 58 ∷ 80 ∷ 97 ∷ 105 ∷ 114 ∷ []) (Syntax.tcons
+      (Syntax.tyInt Syntax.w8) (Syntax.tcons (Syntax.tyInt Syntax.w8) Syntax.tnil))) Syntax.tnil))) Syntax.tnil)))) Syntax.tnil)) (Syntax.ttcons (Syntax.tcons
+      (Syntax.tyStruct (116 ∷ 101 ∷ 114 ∷ 58 ∷ 58 ∷ 84 ∷ 101 ∷ 114 ∷ []) (Syntax.tcons (Syntax.tyStruct (102 ∷ 105 ∷ 101 ∷ 108 ∷ 100 ∷ 115 ∷ 58 ∷ 58 ∷ 83 ∷ 101 ∷
+      114 ∷ 105 ∷ 97 ∷ 108 ∷ []) (Syntax.tcons (Syntax.tyInt Syntax.w32) Syntax.tnil)) (Syntax.tcons (Syntax.tyStruct (114 ∷ 101 ∷ 115 ∷ 105 ∷ 100 ∷ 117 ∷ 101 ∷
+      58 ∷ 58 ∷ 82 ∷ 101 ∷ 115 ∷ 105 ∷ 100 ∷ 117 ∷ 101 ∷ []) (Syntax.tcons (Syntax.tyStruct (110 ∷ 97 ∷ 109 ∷ 101 ∷ 115 ∷ 58 ∷ 58 ∷ 84 ∷ 104 ∷ 114 ∷ 101 ∷ 101 ∷
+      []) (Syntax.tcons (Syntax.tyInt Syntax.w8) (Syntax.tcons (Syntax.tyInt Syntax.w8) (Syntax.tcons (Syntax.tyInt Syntax.w8) Syntax.tnil)))) (Syntax.tcons
+      (Syntax.tyInt Syntax.w8) (Syntax.tcons (Syntax.tyStruct (102 ∷ 105 ∷ 101 ∷ 108 ∷ 100 ∷ 115 ∷ 58 ∷ 58 ∷ 82 ∷ 101 ∷ 115 ∷ 105 ∷ 100 ∷ 117 ∷ 101 ∷ 78 ∷ 117 ∷
+      109 ∷ 98 ∷ 101 ∷ 114 ∷ []) (Syntax.tcons (Syntax.tyInt Syntax.w32) Syntax.tnil)) (Syntax.tcons (Syntax.tyInt Syntax.w8) Syntax.tnil))))) Syntax.tnil)))
+      Syntax.tnil) (Syntax.ttcons (Syntax.tcons (Syntax.tyStruct (104 ∷ 101 ∷ 108 ∷ 105 ∷ 120 ∷ 58 ∷ 58 ∷ 72 ∷ 101 ∷ 108 ∷ 105 ∷ 120 ∷ []) (Syntax.tcons
+      (Syntax.tyStruct (104 ∷ 101 ∷ 108 ∷ 105 ∷ 120 ∷ 58 ∷ 58 ∷ 69 ∷ 120 ∷ 116 ∷ 101 ∷ 110 ∷ 116 ∷ []) (Syntax.tcons (Syntax.tyInt Syntax.w32) (Syntax.tcons
+      (Syntax.tyStruct (110 ∷ 97 ∷ 109 ∷ 101 ∷ 115 ∷ 58 ∷ 58 ∷ 84 ∷ 104 ∷ 114 ∷ 101 ∷ 101 ∷ []) (Syntax.tcons (Syntax.tyInt Syntax.w8) (Syntax.tcons
+      (Syntax.tyInt Syntax.w8) (Syntax.tcons (Syntax.tyInt Syntax.w8) Syntax.tnil)))) (Syntax.tcons (Syntax.tyStruct (114 ∷ 101 ∷ 115 ∷ 105 ∷ 100 ∷ 117 ∷ 101 ∷
+      58 ∷ 58 ∷ 82 ∷ 101 ∷ 115 ∷ 105 ∷ 100 ∷ 117 ∷ 101 ∷ []) (Syntax.tcons (Syntax.tyStruct (110 ∷ 97 ∷ 109 ∷ 101 ∷ 115 ∷ 58 ∷ 58 ∷ 84 ∷ 104 ∷ 114 ∷ 101 ∷ 101 ∷
+      []) (Syntax.tcons (Syntax.tyInt Syntax.w8) (Syntax.tcons (Syntax.tyInt Syntax.w8) (Syntax.tcons (Syntax.tyInt Syntax.w8) Syntax.tnil)))) (Syntax.tcons
+      (Syntax.tyInt Syntax.w8) (Syntax.tcons (Syntax.tyStruct (102 ∷ 105 ∷ 101 ∷ 108 ∷ 100 ∷ 115 ∷ 58 ∷ 58 ∷ 82 ∷ 101 ∷ 115 ∷ 105 ∷ 100 ∷ 117 ∷ 101 ∷ 78 ∷ 117 ∷
+      109 ∷ 98 ∷ 101 ∷ 114 ∷ []) (Syntax.tcons (Syntax.tyInt Syntax.w32) Syntax.tnil)) (Syntax.tcons (Syntax.tyInt Syntax.w8) Syntax.tnil))))) (Syntax.tcons
+      (Syntax.tyStruct (114 ∷ 101 ∷ 115 ∷ 105 ∷ 100 ∷ 117 ∷ 101 ∷ 58 ∷ 58 ∷ 82 ∷ 101 ∷ 115 ∷ 105 ∷ 100 ∷ 117 ∷ 101 ∷ []) (Syntax.tcons (Syntax.tyStruct (110 ∷ 97
+      ∷ 109 ∷ 101 ∷ 115 ∷ 58 ∷ 58 ∷ 84 ∷ 104 ∷ 114 ∷ 101 ∷ 101 ∷ []) (Syntax.tcons (Syntax.tyInt Syntax.w8) (Syntax.tcons (Syntax.tyInt Syntax.w8) (Syntax.tcons
+      (Syntax.tyInt Syntax.w8) Syntax.tnil)))) (Syntax.tcons (Syntax.tyInt Syntax.w8) (Syntax.tcons (Syntax.tyStruct (102 ∷ 105 ∷ 101 ∷ 108 ∷ 100 ∷ 115 ∷ 58 ∷ 58
+      ∷ 82 ∷ 101 ∷ 115 ∷ 105 ∷ 100 ∷ 117 ∷ 101 ∷ 78 ∷ 117 ∷ 109 ∷ 98 ∷ 101 ∷ 114 ∷ []) (Syntax.tcons (Syntax.tyInt Syntax.w32) Syntax.tnil)) (Syntax.tcons
+      (Syntax.tyInt Syntax.w8) Syntax.tnil))))) Syntax.tnil))))) (Syntax.tcons (Syntax.tyInt Syntax.w32) (Syntax.tcons (Syntax.tyStruct (104 ∷ 101 ∷ 108 ∷ 105 ∷
+      120 ∷ 58 ∷ 58 ∷ 67 ∷ 111 ∷ 109 ∷ 109 ∷ 101 ∷ 110 ∷ 116 ∷ []) (Syntax.tcons (Syntax.tyInt Syntax.w64) (Syntax.tcons (Syntax.tyInt Syntax.w64) (Syntax.tcons
+      (Syntax.tyInt Syntax.w64) (Syntax.tcons (Syntax.tyInt Syntax.w64) Syntax.tnil))))) (Syntax.tcons (Syntax.tyInt Syntax.w32) Syntax.tnil))))) Syntax.tnil)
+      (Syntax.ttcons (Syntax.tcons (Syntax.tyStruct (115 ∷ 104 ∷ 101 ∷ 101 ∷ 116 ∷ 58 ∷ 58 ∷ 83 ∷ 104 ∷ 101 ∷ 101 ∷ 116 ∷ []) (Syntax.tcons (Syntax.tyStruct (115
+      ∷ 104 ∷ 101 ∷ 101 ∷ 116 ∷ 58 ∷ 58 ∷ 83 ∷ 116 ∷ 114 ∷ 97 ∷ 110 ∷ 100 ∷ []) (Syntax.tcons (Syntax.tyInt Syntax.w32) (Syntax.tcons (Syntax.tyStruct (110 ∷ 97
+      ∷ 109 ∷ 101 ∷ 115 ∷ 58 ∷ 58 ∷ 84 ∷ 104 ∷ 114 ∷ 101 ∷ 101 ∷ []) (Syntax.tcons (Syntax.tyInt Syntax.w8) (Syntax.tcons (Syntax.tyInt Syntax.w8) (Syntax.tcons
+      (Syntax.tyInt Syntax.w8) Syntax.tnil)))) (Syntax.tcons (Syntax.tyInt Syntax.w32) (Syntax.tcons (Syntax.tyStruct (114 ∷ 101 ∷ 115 ∷ 105 ∷ 100 ∷ 117 ∷ 101 ∷
+      58 ∷ 58 ∷ 82 ∷ 101 ∷ 115 ∷ 105 ∷ 100 ∷ 117 ∷ 101 ∷ []) (Syntax.tcons (Syntax.tyStruct (110 ∷ 97 ∷ 109 ∷ 101 ∷ 115 ∷ 58 ∷ 58 ∷ 84 ∷ 104 ∷ 114 ∷ 101 ∷ 101 ∷
+      []) (Syntax.tcons (Syntax.tyInt Syntax.w8) (Syntax.tcons (Syntax.tyInt Syntax.w8) (Syntax.tcons (Syntax.tyInt Syntax.w8) Syntax.tnil)))) (Syntax.tcons
+      (Syntax.tyInt Syntax.w8) (Syntax.tcons (Syntax.tyStruct (102 ∷ 105 ∷ 101 ∷ 108 ∷ 100 ∷ 115 ∷ 58 ∷ 58 ∷ 82 ∷ 101 ∷ 115 ∷ 105 ∷ 100 ∷ 117 ∷ 101 ∷ 78 ∷ 117 ∷
+      109 ∷ 98 ∷ 101 ∷ 114 ∷ []) (Syntax.tcons (Syntax.tyInt Syntax.w32) Syntax.tnil)) (Syntax.tcons (Syntax.tyInt Syntax.w8) Syntax.tnil))))) (Syntax.tcons
+      (Syntax.tyStruct (114 ∷ 101 ∷ 115 ∷ 105 ∷ 100 ∷ 117 ∷ 101 ∷ 58 ∷ 58 ∷ 82 ∷ 101 ∷ 115 ∷ 105 ∷ 100 ∷ 117 ∷ 101 ∷ []) (Syntax.tcons (Syntax.tyStruct (110 ∷ 97
+      ∷ 109 ∷ 101 ∷ 115 ∷ 58 ∷ 58 ∷ 84 ∷ 104 ∷ 114 ∷ 101 ∷ 101 ∷ []) (Syntax.tcons (Syntax.tyInt Syntax.w8) (Syntax.tcons (Syntax.tyInt Syntax.w8) (Syntax.tcons
+      (Syntax.tyInt Syntax.w8) Syntax.tnil)))) (Syntax.tcons (Syntax.tyInt Syntax.w8) (Syntax.tcons (Syntax.tyStruct (102 ∷ 105 ∷ 101 ∷ 108 ∷ 100 ∷ 115 ∷ 58 ∷ 58
+      ∷ 82 ∷ 101 ∷ 115 ∷ 105 ∷ 100 ∷ 117 ∷ 101 ∷ 78 ∷ 117 ∷ 109 ∷ 98 ∷ 101 ∷ 114 ∷ []) (Syntax.tcons (Syntax.tyInt Syntax.w32) Syntax.tnil)) (Syntax.tcons
+      (Syntax.tyInt Syntax.w8) Syntax.tnil))))) (Syntax.tcons (Syntax.tyInt Syntax.w32) Syntax.tnil))))))) (Syntax.tcons (Syntax.tyEnum (115 ∷ 104 ∷ 101 ∷ 101 ∷
+      116 ∷ 58 ∷ 58 ∷ 82 ∷ 101 ∷ 103 ∷ 105 ∷ 115 ∷ 116 ∷ 114 ∷ 97 ∷ 116 ∷ 105 ∷ 111 ∷ 110 ∷ []) (Syntax.ttcons Syntax.tnil (Syntax.ttcons (Syntax.tcons
+      (Syntax.tyStruct (115 ∷ 104 ∷ 101 ∷ 101 ∷ 116 ∷ 58 ∷ 58 ∷ 66 ∷ 111 ∷ 110 ∷ 100 ∷ []) (Syntax.tcons (Syntax.tyStruct (110 ∷ 97 ∷ 109 ∷ 101 ∷ 115 ∷ 58 ∷ 58 ∷
+      70 ∷ 111 ∷ 117 ∷ 114 ∷ []) (Syntax.tcons (Syntax.tyInt Syntax.w8) (Syntax.tcons (Syntax.tyInt Syntax.w8) (Syntax.tcons (Syntax.tyInt Syntax.w8)
+      (Syntax.tcons (Syntax.tyInt Syntax.w8) Syntax.tnil))))) (Syntax.tcons (Syntax.tyStruct (114 ∷ 101 ∷ 115 ∷ 105 ∷ 100 ∷ 117 ∷ 101 ∷ 58 ∷ 58 ∷ 82 ∷ 101 ∷ 115
+      ∷ 105 ∷ 100 ∷ 117 ∷ 101 ∷ []) (Syntax.tcons (Syntax.tyStruct (110 ∷ 97 ∷ 109 ∷ 101 ∷ 115 ∷ 58 ∷ 58 ∷ 84 ∷ 104 ∷ 114 ∷ 101 ∷ 101 ∷ []) (Syntax.tcons
+      (Syntax.tyInt Syntax.w8) (Syntax.tcons (Syntax.tyInt Syntax.w8) (Syntax.tcons (Syntax.tyInt Syntax.w8) Syntax.tnil)))) (Syntax.tcons (Syntax.tyInt
+      Syntax.w8) (Syntax.tcons (Syntax.tyStruct (102 ∷ 105 ∷ 101 ∷ 108 ∷ 100 ∷ 115 ∷ 58 ∷ 58 ∷ 82 ∷ 101 ∷ 115 ∷ 105 ∷ 100 ∷ 117 ∷ 101 ∷ 78 ∷ 117 ∷ 109 ∷ 98 ∷ 101
+      ∷ 114 ∷ []) (Syntax.tcons (Syntax.tyInt Syntax.w32) Syntax.tnil)) (Syntax.tcons (Syntax.tyInt Syntax.w8) Syntax.tnil))))) (Syntax.tcons (Syntax.tyStruct
+      (110 ∷ 97 ∷ 109 ∷ 101 ∷ 115 ∷ 58 ∷ 58 ∷ 70 ∷ 111 ∷ 117 ∷ 114 ∷ []) (Syntax.tcons (Syntax.tyInt Syntax.w8) (Syntax.tcons (Syntax.tyInt Syntax.w8)
+      (Syntax.tcons (Syntax.tyInt Syntax.w8) (Syntax.tcons (Syntax.tyInt Syntax.w8) Syntax.tnil))))) (Syntax.tcons (Syntax.tyStruct (114 ∷ 101 ∷ 115 ∷ 105 ∷ 100
+      ∷ 117 ∷ 101 ∷ 58 ∷ 58 ∷ 82 ∷ 101 ∷ 115 ∷ 105 ∷ 100 ∷ 117 ∷ 101 ∷ []) (Syntax.tcons (Syntax.tyStruct (110 ∷ 97 ∷ 109 ∷ 101 ∷ 115 ∷ 58 ∷ 58 ∷ 84 ∷ 104 ∷ 114
+      ∷ 101 ∷ 101 ∷ []) (Syntax.tcons (Syntax.tyInt Syntax.w8) (Syntax.tcons (Syntax.tyInt Syntax.w8) (Syntax.tcons (Syntax.tyInt Syntax.w8) Syntax.tnil))))
+      (Syntax.tcons (Syntax.tyInt Syntax.w8) (Syntax.tcons (Syntax.tyStruct (102 ∷ 105 ∷ 101 ∷ 108 ∷ 100 ∷ 115 ∷ 58 ∷ 58 ∷ 82 ∷ 101 ∷ 115 ∷ 105 ∷ 100 ∷ 117 ∷ 101
+      ∷ 78 ∷ 117 ∷ 109 ∷ 98 ∷ 101 ∷ 114 ∷ []) (Syntax.tcons (Syntax.tyInt Syntax.w32) Syntax.tnil)) (Syntax.tcons (Syntax.tyInt Syntax.w8) Syntax.tnil)))))
+      Syntax.tnil))))) Syntax.tnil) Syntax.ttnil))) Syntax.tnil))) Syntax.tnil) (Syntax.ttcons (Syntax.tcons (Syntax.tyStruct (99 ∷ 111 ∷ 110 ∷ 101 ∷ 99 ∷ 116 ∷
+      58 ∷ 58 ∷ 67 ∷ 111 ∷ 110 ∷ 101 ∷ 99 ∷ 116 ∷ []) (Syntax.tcons (Syntax.tyStruct (102 ∷ 105 ∷ 101 ∷ 108 ∷ 100 ∷ 115 ∷ 58 ∷ 58 ∷ 83 ∷ 101 ∷ 114 ∷ 105 ∷ 97 ∷
+      108 ∷ []) (Syntax.tcons (Syntax.tyInt Syntax.w32) Syntax.tnil)) (Syntax.tcons (Syntax.tyStruct (102 ∷ 105 ∷ 101 ∷ 108 ∷ 100 ∷ 115 ∷ 58 ∷ 58 ∷ 83 ∷ 101 ∷
+      114 ∷ 105 ∷ 97 ∷ 108 ∷ []) (Syntax.tcons (Syntax.tyInt Syntax.w32) Syntax.tnil)) (Syntax.tcons (Syntax.tyStruct (102 ∷ 105 ∷ 101 ∷ 108 ∷ 100 ∷ 115 ∷ 58 ∷
+      58 ∷ 83 ∷ 101 ∷ 114 ∷ 105 ∷ 97 ∷ 108 ∷ []) (Syntax.tcons (Syntax.tyInt Syntax.w32) Syntax.tnil)) (Syntax.tcons (Syntax.tyStruct (102 ∷ 105 ∷ 101 ∷ 108 ∷
+      100 ∷ 115 ∷ 58 ∷ 58 ∷ 83 ∷ 101 ∷ 114 ∷ 105 ∷ 97 ∷ 108 ∷ []) (Syntax.tcons (Syntax.tyInt Syntax.w32) Syntax.tnil)) (Syntax.tcons (Syntax.tyStruct (102 ∷ 105
+      ∷ 101 ∷ 108 ∷ 100 ∷ 115 ∷ 58 ∷ 58 ∷ 83 ∷ 101 ∷ 114 ∷ 105 ∷ 97 ∷ 108 ∷ []) (Syntax.tcons (Syntax.tyInt Syntax.w32) Syntax.tnil)) Syntax.tnil))))))
+      Syntax.tnil) (Syntax.ttcons (Syntax.tcons (Syntax.tyStruct (109 ∷ 97 ∷ 115 ∷ 116 ∷ 101 ∷ 114 ∷ 58 ∷ 58 ∷ 84 ∷ 97 ∷ 108 ∷ 108 ∷ 121 ∷ []) (Syntax.tcons
+      (Syntax.tyInt Syntax.w32) (Syntax.tcons (Syntax.tyInt Syntax.w32) (Syntax.tcons (Syntax.tyInt Syntax.w32) (Syntax.tcons (Syntax.tyInt Syntax.w32)
+      (Syntax.tcons (Syntax.tyInt Syntax.w32) (Syntax.tcons (Syntax.tyInt Syntax.w32) (Syntax.tcons (Syntax.tyInt Syntax.w32) (Syntax.tcons (Syntax.tyInt
+      Syntax.w32) (Syntax.tcons (Syntax.tyInt Syntax.w32) Syntax.tnil)))))))))) Syntax.tnil) (Syntax.ttcons Syntax.tnil (Syntax.ttcons (Syntax.tcons
+      (Syntax.tyStruct (109 ∷ 111 ∷ 100 ∷ 101 ∷ 108 ∷ 58 ∷ 58 ∷ 77 ∷ 111 ∷ 100 ∷ 101 ∷ 108 ∷ []) (Syntax.tcons (Syntax.tyInt Syntax.w32) Syntax.tnil))
+      Syntax.tnil) (Syntax.ttcons Syntax.tnil Syntax.ttnil)))))))))) Syntax.tnil) Syntax.ttnil))))),
+) ∷ (9, Rows.any-gone Syntax.tyBool) ∷ (
+  10,
+  Rows.any-gone
+      (Syntax.tyInt Syntax.w64),
+) ∷ (11, Rows.sc-here (Row.sInt Syntax.w64)) ∷ (12, Rows.any-gone (Syntax.tyInt Syntax.w64)) ∷ (13, Rows.any-gone Syntax.tyBool) ∷
+    (14, Rows.any-gone (Syntax.tyRef Syntax.erased Syntax.mut SlotAs.pointee)) ∷ (
+      15,
+      Rows.any-gone (Syntax.tyStruct (38 ∷ 91 ∷ 93 ∷ []) (Syntax.tcons
+          (Syntax.tyRef Syntax.erased Syntax.mut SlotAs.pointee) (Syntax.tcons (Syntax.tyInt Syntax.w64) Syntax.tnil))),
+    ) ∷ []
+
+abbrev pub t16 : List.List Row.Entry
+t16 = (
+  0,
+  Rows.any-gone (Syntax.tyStruct (115 ∷ 116 ∷ 111 ∷ 114 ∷ 101 ∷ 58 ∷ 58 ∷ 79 ∷ 117 ∷ 116 ∷ 99 ∷ 111 ∷ 109 ∷ 101 ∷ []) (Syntax.tcons (Syntax.tyInt
+      Syntax.w8) (Syntax.tcons (Syntax.tyInt Syntax.w64) Syntax.tnil))),
+) ∷ (
+  1,
+  Rows.sslice (Referent.rtF (Referent.fInt Syntax.w8)) (Syntax.tyRef (Syntax.named
+      0) Syntax.imm (Syntax.tyInt Syntax.w8)) 0,
+) ∷ (2, Mut.mslice SlotAs.row (Syntax.tyRef (Syntax.named 1) Syntax.mut SlotAs.pointee) 1) ∷ (
+  3,
+  Rows.any-gone
+      (Syntax.tyStruct (115 ∷ 116 ∷ 111 ∷ 114 ∷ 101 ∷ 58 ∷ 58 ∷ 78 ∷ 101 ∷ 101 ∷ 100 ∷ 115 ∷ []) (Syntax.tcons (Syntax.tyInt Syntax.w8) (Syntax.tcons
+      (Syntax.tyInt Syntax.w64) Syntax.tnil))),
+) ∷ (4, Rows.sc-here (Row.sInt Syntax.w64)) ∷ (5, Rows.sc-here (Row.sInt Syntax.w64)) ∷ (
+  6,
+  Rows.sc-here (Row.sInt
+      Syntax.w64),
+) ∷ (7, Rows.sc-here (Row.sInt Syntax.w32)) ∷ (
+  8,
+  Rows.any-gone (Syntax.tyEnum (112 ∷ 105 ∷ 101 ∷ 99 ∷ 101 ∷ 115 ∷ 58 ∷ 58 ∷ 76 ∷ 105 ∷ 110 ∷
+      101 ∷ []) (Syntax.ttcons (Syntax.tcons (Syntax.tyInt Syntax.w8) Syntax.tnil) (Syntax.ttcons (Syntax.tcons (Syntax.tyEnum (107 ∷ 105 ∷ 110 ∷ 100 ∷ 115 ∷ 58
+      ∷ 58 ∷ 75 ∷ 105 ∷ 110 ∷ 100 ∷ []) (Syntax.ttcons Syntax.tnil (Syntax.ttcons Syntax.tnil (Syntax.ttcons Syntax.tnil (Syntax.ttcons Syntax.tnil
+      (Syntax.ttcons Syntax.tnil (Syntax.ttcons Syntax.tnil (Syntax.ttcons Syntax.tnil (Syntax.ttcons Syntax.tnil (Syntax.ttcons Syntax.tnil (Syntax.ttcons
+      Syntax.tnil (Syntax.ttcons Syntax.tnil (Syntax.ttcons Syntax.tnil (Syntax.ttcons Syntax.tnil (Syntax.ttcons Syntax.tnil (Syntax.ttcons Syntax.tnil
+      (Syntax.ttcons Syntax.tnil (Syntax.ttcons Syntax.tnil (Syntax.ttcons Syntax.tnil (Syntax.ttcons Syntax.tnil (Syntax.ttcons Syntax.tnil (Syntax.ttcons
+      Syntax.tnil (Syntax.ttcons Syntax.tnil (Syntax.ttcons Syntax.tnil (Syntax.ttcons Syntax.tnil (Syntax.ttcons Syntax.tnil (Syntax.ttcons Syntax.tnil
+      (Syntax.ttcons Syntax.tnil (Syntax.ttcons Syntax.tnil (Syntax.ttcons Syntax.tnil (Syntax.ttcons Syntax.tnil Syntax.ttnil)))))))))))))))))))))))))))))))
+      (Syntax.tcons (Syntax.tyInt Syntax.w32) Syntax.tnil)) (Syntax.ttcons (Syntax.tcons (Syntax.tyEnum (107 ∷ 105 ∷ 110 ∷ 100 ∷ 115 ∷ 58 ∷ 58 ∷ 75 ∷ 105 ∷ 110 ∷
+      100 ∷ []) (Syntax.ttcons Syntax.tnil (Syntax.ttcons Syntax.tnil (Syntax.ttcons Syntax.tnil (Syntax.ttcons Syntax.tnil (Syntax.ttcons Syntax.tnil
+      (Syntax.ttcons Syntax.tnil (Syntax.ttcons Syntax.tnil (Syntax.ttcons Syntax.tnil (Syntax.ttcons Syntax.tnil (Syntax.ttcons Syntax.tnil (Syntax.ttcons
+      Syntax.tnil (Syntax.ttcons Syntax.tnil (Syntax.ttcons Syntax.tnil (Syntax.ttcons Syntax.tnil (Syntax.ttcons Syntax.tnil (Syntax.ttcons Syntax.tnil
+      (Syntax.ttcons Syntax.tnil (Syntax.ttcons Syntax.tnil (Syntax.ttcons Syntax.tnil (Syntax.ttcons Syntax.tnil (Syntax.ttcons Syntax.tnil (Syntax.ttcons
+      Syntax.tnil (Syntax.ttcons Syntax.tnil (Syntax.ttcons Syntax.tnil (Syntax.ttcons Syntax.tnil (Syntax.ttcons Syntax.tnil (Syntax.ttcons Syntax.tnil
+      (Syntax.ttcons Syntax.tnil (Syntax.ttcons Syntax.tnil (Syntax.ttcons Syntax.tnil Syntax.ttnil))))))))))))))))))))))))))))))) Syntax.tnil) (Syntax.ttcons
+      (Syntax.tcons (Syntax.tyEnum (108 ∷ 105 ∷ 110 ∷ 101 ∷ 58 ∷ 58 ∷ 82 ∷ 101 ∷ 99 ∷ 111 ∷ 114 ∷ 100 ∷ []) (Syntax.ttcons (Syntax.tcons Syntax.tyBool
+      (Syntax.tcons (Syntax.tyStruct (99 ∷ 111 ∷ 111 ∷ 114 ∷ 100 ∷ 105 ∷ 110 ∷ 97 ∷ 116 ∷ 101 ∷ 58 ∷ 58 ∷ 65 ∷ 116 ∷ 111 ∷ 109 ∷ []) (Syntax.tcons
+      (Syntax.tyStruct (99 ∷ 111 ∷ 111 ∷ 114 ∷ 100 ∷ 105 ∷ 110 ∷ 97 ∷ 116 ∷ 101 ∷ 58 ∷ 58 ∷ 73 ∷ 100 ∷ 101 ∷ 110 ∷ 116 ∷ 105 ∷ 116 ∷ 121 ∷ []) (Syntax.tcons
+      (Syntax.tyStruct (102 ∷ 105 ∷ 101 ∷ 108 ∷ 100 ∷ 115 ∷ 58 ∷ 58 ∷ 83 ∷ 101 ∷ 114 ∷ 105 ∷ 97 ∷ 108 ∷ []) (Syntax.tcons (Syntax.tyInt Syntax.w32) Syntax.tnil))
+      (Syntax.tcons (Syntax.tyStruct (110 ∷ 97 ∷ 109 ∷ 101 ∷ 115 ∷ 58 ∷ 58 ∷ 70 ∷ 111 ∷ 117 ∷ 114 ∷ []) (Syntax.tcons (Syntax.tyInt Syntax.w8) (Syntax.tcons
+      (Syntax.tyInt Syntax.w8) (Syntax.tcons (Syntax.tyInt Syntax.w8) (Syntax.tcons (Syntax.tyInt Syntax.w8) Syntax.tnil))))) (Syntax.tcons (Syntax.tyInt
+      Syntax.w8) (Syntax.tcons (Syntax.tyStruct (114 ∷ 101 ∷ 115 ∷ 105 ∷ 100 ∷ 117 ∷ 101 ∷ 58 ∷ 58 ∷ 82 ∷ 101 ∷ 115 ∷ 105 ∷ 100 ∷ 117 ∷ 101 ∷ []) (Syntax.tcons
+      (Syntax.tyStruct (110 ∷ 97 ∷ 109 ∷ 101 ∷ 115 ∷ 58 ∷ 58 ∷ 84 ∷ 104 ∷ 114 ∷ 101 ∷ 101 ∷ []) (Syntax.tcons (Syntax.tyInt Syntax.w8) (Syntax.tcons
+      (Syntax.tyInt Syntax.w8) (Syntax.tcons (Syntax.tyInt Syntax.w8) Syntax.tnil)))) (Syntax.tcons (Syntax.tyInt Syntax.w8) (Syntax.tcons (Syntax.tyStruct (102
+      ∷ 105 ∷ 101 ∷ 108 ∷ 100 ∷ 115 ∷ 58 ∷ 58 ∷ 82 ∷ 101 ∷ 115 ∷ 105 ∷ 100 ∷ 117 ∷ 101 ∷ 78 ∷ 117 ∷ 109 ∷ 98 ∷ 101 ∷ 114 ∷ []) (Syntax.tcons (Syntax.tyInt
+      Syntax.w32) Syntax.tnil)) (Syntax.tcons (Syntax.tyInt Syntax.w8) Syntax.tnil))))) Syntax.tnil))))) (Syntax.tcons (Syntax.tyStruct (99 ∷ 111 ∷ 111 ∷ 114 ∷
+      100 ∷ 105 ∷ 110 ∷ 97 ∷ 116 ∷ 101 ∷ 58 ∷ 58 ∷ 77 ∷ 101 ∷ 97 ∷ 115 ∷ 117 ∷ 114 ∷ 101 ∷ []) (Syntax.tcons (Syntax.tyStruct (99 ∷ 111 ∷ 111 ∷ 114 ∷ 100 ∷ 105 ∷
+      110 ∷ 97 ∷ 116 ∷ 101 ∷ 58 ∷ 58 ∷ 80 ∷ 111 ∷ 115 ∷ 105 ∷ 116 ∷ 105 ∷ 111 ∷ 110 ∷ []) (Syntax.tcons (Syntax.tyInt Syntax.w32) (Syntax.tcons (Syntax.tyInt
+      Syntax.w32) (Syntax.tcons (Syntax.tyInt Syntax.w32) Syntax.tnil)))) (Syntax.tcons (Syntax.tyInt Syntax.w32) (Syntax.tcons (Syntax.tyInt Syntax.w32)
+      Syntax.tnil)))) (Syntax.tcons (Syntax.tyStruct (99 ∷ 111 ∷ 111 ∷ 114 ∷ 100 ∷ 105 ∷ 110 ∷ 97 ∷ 116 ∷ 101 ∷ 58 ∷ 58 ∷ 83 ∷ 112 ∷ 101 ∷ 99 ∷ 105 ∷ 101 ∷ 115 ∷
+      []) (Syntax.tcons (Syntax.tyStruct (110 ∷ 97 ∷ 109 ∷ 101 ∷ 115 ∷ 58 ∷ 58 ∷ 80 ∷ 97 ∷ 105 ∷ 114 ∷ []) (Syntax.tcons (Syntax.tyInt Syntax.w8) (Syntax.tcons
+      (Syntax.tyInt Syntax.w8) Syntax.tnil))) (Syntax.tcons (Syntax.tyStruct (110 ∷ 97 ∷ 109 ∷ 101 ∷ 115 ∷ 58 ∷ 58 ∷ 80 ∷ 97 ∷ 105 ∷ 114 ∷ []) (Syntax.tcons
+      (Syntax.tyInt Syntax.w8) (Syntax.tcons (Syntax.tyInt Syntax.w8) Syntax.tnil))) Syntax.tnil))) Syntax.tnil)))) Syntax.tnil)) (Syntax.ttcons (Syntax.tcons
+      (Syntax.tyStruct (116 ∷ 101 ∷ 114 ∷ 58 ∷ 58 ∷ 84 ∷ 101 ∷ 114 ∷ []) (Syntax.tcons (Syntax.tyStruct (102 ∷ 105 ∷ 101 ∷ 108 ∷ 100 ∷ 115 ∷ 58 ∷ 58 ∷ 83 ∷ 101 ∷
+      114 ∷ 105 ∷ 97 ∷ 108 ∷ []) (Syntax.tcons (Syntax.tyInt Syntax.w32) Syntax.tnil)) (Syntax.tcons (Syntax.tyStruct (114 ∷ 101 ∷ 115 ∷ 105 ∷ 100 ∷ 117 ∷ 101 ∷
+      58 ∷ 58 ∷ 82 ∷ 101 ∷ 115 ∷ 105 ∷ 100 ∷ 117 ∷ 101 ∷ []) (Syntax.tcons (Syntax.tyStruct (110 ∷ 97 ∷ 109 ∷ 101 ∷ 115 ∷ 58 ∷ 58 ∷ 84 ∷ 104 ∷ 114 ∷ 101 ∷ 101 ∷
+      []) (Syntax.tcons (Syntax.tyInt Syntax.w8) (Syntax.tcons (Syntax.tyInt Syntax.w8) (Syntax.tcons (Syntax.tyInt Syntax.w8) Syntax.tnil)))) (Syntax.tcons
+      (Syntax.tyInt Syntax.w8) (Syntax.tcons (Syntax.tyStruct (102 ∷ 105 ∷ 101 ∷ 108 ∷ 100 ∷ 115 ∷ 58 ∷ 58 ∷ 82 ∷ 101 ∷ 115 ∷ 105 ∷ 100 ∷ 117 ∷ 101 ∷ 78 ∷ 117 ∷
+      109 ∷ 98 ∷ 101 ∷ 114 ∷ []) (Syntax.tcons (Syntax.tyInt Syntax.w32) Syntax.tnil)) (Syntax.tcons (Syntax.tyInt Syntax.w8) Syntax.tnil))))) Syntax.tnil)))
+      Syntax.tnil) (Syntax.ttcons (Syntax.tcons (Syntax.tyStruct (104 ∷ 101 ∷ 108 ∷ 105 ∷ 120 ∷ 58 ∷ 58 ∷ 72 ∷ 101 ∷ 108 ∷ 105 ∷ 120 ∷ []) (Syntax.tcons
+      (Syntax.tyStruct (104 ∷ 101 ∷ 108 ∷ 105 ∷ 120 ∷ 58 ∷ 58 ∷ 69 ∷ 120 ∷ 116 ∷ 101 ∷ 110 ∷ 116 ∷ []) (Syntax.tcons (Syntax.tyInt Syntax.w32) (Syntax.tcons
+      (Syntax.tyStruct (110 ∷ 97 ∷ 109 ∷ 101 ∷ 115 ∷ 58 ∷ 58 ∷ 84 ∷ 104 ∷ 114 ∷ 101 ∷ 101 ∷ []) (Syntax.tcons (Syntax.tyInt Syntax.w8) (Syntax.tcons
+      (Syntax.tyInt Syntax.w8) (Syntax.tcons (Syntax.tyInt Syntax.w8) Syntax.tnil)))) (Syntax.tcons (Syntax.tyStruct (114 ∷ 101 ∷ 115 ∷ 105 ∷ 100 ∷ 117 ∷ 101 ∷
+      58 ∷ 58 ∷ 82 ∷ 101 ∷ 115 ∷ 105 ∷ 100 ∷ 117 ∷ 101 ∷ []) (Syntax.tcons (Syntax.tyStruct (110 ∷ 97 ∷ 109 ∷ 101 ∷ 115 ∷ 58 ∷ 58 ∷ 84 ∷ 104 ∷ 114 ∷ 101 ∷ 101 ∷
+      []) (Syntax.tcons (Syntax.tyInt Syntax.w8) (Syntax.tcons (Syntax.tyInt Syntax.w8) (Syntax.tcons (Syntax.tyInt Syntax.w8) Syntax.tnil)))) (Syntax.tcons
+      (Syntax.tyInt Syntax.w8) (Syntax.tcons (Syntax.tyStruct (102 ∷ 105 ∷ 101 ∷ 108 ∷ 100 ∷ 115 ∷ 58 ∷ 58 ∷ 82 ∷ 101 ∷ 115 ∷ 105 ∷ 100 ∷ 117 ∷ 101 ∷ 78 ∷ 117 ∷
+      109 ∷ 98 ∷ 101 ∷ 114 ∷ []) (Syntax.tcons (Syntax.tyInt Syntax.w32) Syntax.tnil)) (Syntax.tcons (Syntax.tyInt Syntax.w8) Syntax.tnil))))) (Syntax.tcons
+      (Syntax.tyStruct (114 ∷ 101 ∷ 115 ∷ 105 ∷ 100 ∷ 117 ∷ 101 ∷ 58 ∷ 58 ∷ 82 ∷ 101 ∷ 115 ∷ 105 ∷ 100 ∷ 117 ∷ 101 ∷ []) (Syntax.tcons (Syntax.tyStruct (110 ∷ 97
+      ∷ 109 ∷ 101 ∷ 115 ∷ 58 ∷ 58 ∷ 84 ∷ 104 ∷ 114 ∷ 101 ∷ 101 ∷ []) (Syntax.tcons (Syntax.tyInt Syntax.w8) (Syntax.tcons (Syntax.tyInt Syntax.w8) (Syntax.tcons
+      (Syntax.tyInt Syntax.w8) Syntax.tnil)))) (Syntax.tcons (Syntax.tyInt Syntax.w8) (Syntax.tcons (Syntax.tyStruct (102 ∷ 105 ∷ 101 ∷ 108 ∷ 100 ∷ 115 ∷ 58 ∷ 58
+      ∷ 82 ∷ 101 ∷ 115 ∷ 105 ∷ 100 ∷ 117 ∷ 101 ∷ 78 ∷ 117 ∷ 109 ∷ 98 ∷ 101 ∷ 114 ∷ []) (Syntax.tcons (Syntax.tyInt Syntax.w32) Syntax.tnil)) (Syntax.tcons
+      (Syntax.tyInt Syntax.w8) Syntax.tnil))))) Syntax.tnil))))) (Syntax.tcons (Syntax.tyInt Syntax.w32) (Syntax.tcons (Syntax.tyStruct (104 ∷ 101 ∷ 108 ∷ 105 ∷
+      120 ∷ 58 ∷ 58 ∷ 67 ∷ 111 ∷ 109 ∷ 109 ∷ 101 ∷ 110 ∷ 116 ∷ []) (Syntax.tcons (Syntax.tyInt Syntax.w64) (Syntax.tcons (Syntax.tyInt Syntax.w64) (Syntax.tcons
+      (Syntax.tyInt Syntax.w64) (Syntax.tcons (Syntax.tyInt Syntax.w64) Syntax.tnil))))) (Syntax.tcons (Syntax.tyInt Syntax.w32) Syntax.tnil))))) Syntax.tnil)
+      (Syntax.ttcons (Syntax.tcons (Syntax.tyStruct (115 ∷ 104 ∷ 101 ∷ 101 ∷ 116 ∷ 58 ∷ 58 ∷ 83 ∷ 104 ∷ 101 ∷ 101 ∷ 116 ∷ []) (Syntax.tcons (Syntax.tyStruct (115
+      ∷ 104 ∷ 101 ∷ 101 ∷ 116 ∷ 58 ∷ 58 ∷ 83 ∷ 116 ∷ 114 ∷ 97 ∷ 110 ∷ 100 ∷ []) (Syntax.tcons (Syntax.tyInt Syntax.w32) (Syntax.tcons (Syntax.tyStruct (110 ∷ 97
+      ∷ 109 ∷ 101 ∷ 115 ∷ 58 ∷ 58 ∷ 84 ∷ 104 ∷ 114 ∷ 101 ∷ 101 ∷ []) (Syntax.tcons (Syntax.tyInt Syntax.w8) (Syntax.tcons (Syntax.tyInt Syntax.w8) (Syntax.tcons
+      (Syntax.tyInt Syntax.w8) Syntax.tnil)))) (Syntax.tcons (Syntax.tyInt Syntax.w32) (Syntax.tcons (Syntax.tyStruct (114 ∷ 101 ∷ 115 ∷ 105 ∷ 100 ∷ 117 ∷ 101 ∷
+      58 ∷ 58 ∷ 82 ∷ 101 ∷ 115 ∷ 105 ∷ 100 ∷ 117 ∷ 101 ∷ []) (Syntax.tcons (Syntax.tyStruct (110 ∷ 97 ∷ 109 ∷ 101 ∷ 115 ∷ 58 ∷ 58 ∷ 84 ∷ 104 ∷ 114 ∷ 101 ∷ 101 ∷
+      []) (Syntax.tcons (Syntax.tyInt Syntax.w8) (Syntax.tcons (Syntax.tyInt Syntax.w8) (Syntax.tcons (Syntax.tyInt Syntax.w8) Syntax.tnil)))) (Syntax.tcons
+      (Syntax.tyInt Syntax.w8) (Syntax.tcons (Syntax.tyStruct (102 ∷ 105 ∷ 101 ∷ 108 ∷ 100 ∷ 115 ∷ 58 ∷ 58 ∷ 82 ∷ 101 ∷ 115 ∷ 105 ∷ 100 ∷ 117 ∷ 101 ∷ 78 ∷ 117 ∷
+      109 ∷ 98 ∷ 101 ∷ 114 ∷ []) (Syntax.tcons (Syntax.tyInt Syntax.w32) Syntax.tnil)) (Syntax.tcons (Syntax.tyInt Syntax.w8) Syntax.tnil))))) (Syntax.tcons
+      (Syntax.tyStruct (114 ∷ 101 ∷ 115 ∷ 105 ∷ 100 ∷ 117 ∷ 101 ∷ 58 ∷ 58 ∷ 82 ∷ 101 ∷ 115 ∷ 105 ∷ 100 ∷ 117 ∷ 101 ∷ []) (Syntax.tcons (Syntax.tyStruct (110 ∷ 97
+      ∷ 109 ∷ 101 ∷ 115 ∷ 58 ∷ 58 ∷ 84 ∷ 104 ∷ 114 ∷ 101 ∷ 101 ∷ []) (Syntax.tcons (Syntax.tyInt Syntax.w8) (Syntax.tcons (Syntax.tyInt Syntax.w8) (Syntax.tcons
+      (Syntax.tyInt Syntax.w8) Syntax.tnil)))) (Syntax.tcons (Syntax.tyInt Syntax.w8) (Syntax.tcons (Syntax.tyStruct (102 ∷ 105 ∷ 101 ∷ 108 ∷ 100 ∷ 115 ∷ 58 ∷ 58
+      ∷ 82 ∷ 101 ∷ 115 ∷ 105 ∷ 100 ∷ 117 ∷ 101 ∷ 78 ∷ 117 ∷ 109 ∷ 98 ∷ 101 ∷ 114 ∷ []) (Syntax.tcons (Syntax.tyInt Syntax.w32) Syntax.tnil)) (Syntax.tcons
+      (Syntax.tyInt Syntax.w8) Syntax.tnil))))) (Syntax.tcons (Syntax.tyInt Syntax.w32) Syntax.tnil))))))) (Syntax.tcons (Syntax.tyEnum (115 ∷ 104 ∷ 101 ∷ 101 ∷
+      116 ∷ 58 ∷ 58 ∷ 82 ∷ 101 ∷ 103 ∷ 105 ∷ 115 ∷ 116 ∷ 114 ∷ 97 ∷ 116 ∷ 105 ∷ 111 ∷ 110 ∷ []) (Syntax.ttcons Syntax.tnil (Syntax.ttcons (Syntax.tcons
+      (Syntax.tyStruct (115 ∷ 104 ∷ 101 ∷ 101 ∷ 116 ∷ 58 ∷ 58 ∷ 66 ∷ 111 ∷ 110 ∷ 100 ∷ []) (Syntax.tcons (Syntax.tyStruct (110 ∷ 97 ∷ 109 ∷ 101 ∷ 115 ∷ 58 ∷ 58 ∷
+      70 ∷ 111 ∷ 117 ∷ 114 ∷ []) (Syntax.tcons (Syntax.tyInt Syntax.w8) (Syntax.tcons (Syntax.tyInt Syntax.w8) (Syntax.tcons (Syntax.tyInt Syntax.w8)
+      (Syntax.tcons (Syntax.tyInt Syntax.w8) Syntax.tnil))))) (Syntax.tcons (Syntax.tyStruct (114 ∷ 101 ∷ 115 ∷ 105 ∷ 100 ∷ 117 ∷ 101 ∷ 58 ∷ 58 ∷ 82 ∷ 101 ∷ 115
+      ∷ 105 ∷ 100 ∷ 117 ∷ 101 ∷ []) (Syntax.tcons (Syntax.tyStruct (110 ∷ 97 ∷ 109 ∷ 101 ∷ 115 ∷ 58 ∷ 58 ∷ 84 ∷ 104 ∷ 114 ∷ 101 ∷ 101 ∷ []) (Syntax.tcons
+      (Syntax.tyInt Syntax.w8) (Syntax.tcons (Syntax.tyInt Syntax.w8) (Syntax.tcons (Syntax.tyInt Syntax.w8) Syntax.tnil)))) (Syntax.tcons (Syntax.tyInt
+      Syntax.w8) (Syntax.tcons (Syntax.tyStruct (102 ∷ 105 ∷ 101 ∷ 108 ∷ 100 ∷ 115 ∷ 58 ∷ 58 ∷ 82 ∷ 101 ∷ 115 ∷ 105 ∷ 100 ∷ 117 ∷ 101 ∷ 78 ∷ 117 ∷ 109 ∷ 98 ∷ 101
+      ∷ 114 ∷ []) (Syntax.tcons (Syntax.tyInt Syntax.w32) Syntax.tnil)) (Syntax.tcons (Syntax.tyInt Syntax.w8) Syntax.tnil))))) (Syntax.tcons (Syntax.tyStruct
+      (110 ∷ 97 ∷ 109 ∷ 101 ∷ 115 ∷ 58 ∷ 58 ∷ 70 ∷ 111 ∷ 117 ∷ 114 ∷ []) (Syntax.tcons (Syntax.tyInt Syntax.w8) (Syntax.tcons (Syntax.tyInt Syntax.w8)
+      (Syntax.tcons (Syntax.tyInt Syntax.w8) (Syntax.tcons (Syntax.tyInt Syntax.w8) Syntax.tnil))))) (Syntax.tcons (Syntax.tyStruct (114 ∷ 101 ∷ 115 ∷ 105 ∷ 100
+      ∷ 117 ∷ 101 ∷ 58 ∷ 58 ∷ 82 ∷ 101 ∷ 115 ∷ 105 ∷ 100 ∷ 117 ∷ 101 ∷ []) (Syntax.tcons (Syntax.tyStruct (110 ∷ 97 ∷ 109 ∷ 101 ∷ 115 ∷ 58 ∷ 58 ∷ 84 ∷ 104 ∷ 114
+      ∷ 101 ∷ 101 ∷ []) (Syntax.tcons (Syntax.tyInt Syntax.w8) (Syntax.tcons (Syntax.tyInt Syntax.w8) (Syntax.tcons (Syntax.tyInt Syntax.w8) Syntax.tnil))))
+      (Syntax.tcons (Syntax.tyInt Syntax.w8) (Syntax.tcons (Syntax.tyStruct (102 ∷ 105 ∷ 101 ∷ 108 ∷ 100 ∷ 115 ∷ 58 ∷ 58 ∷ 82 ∷ 101 ∷ 115 ∷ 105 ∷ 100 ∷ 117 ∷ 101
+      ∷ 78 ∷ 117 ∷ 109 ∷ 98 ∷ 101 ∷ 114 ∷ []) (Syntax.tcons (Syntax.tyInt Syntax.w32) Syntax.tnil)) (Syntax.tcons (Syntax.tyInt Syntax.w8) Syntax.tnil)))))
+      Syntax.tnil))))) Syntax.tnil) Syntax.ttnil))) Syntax.tnil))) Syntax.tnil) (Syntax.ttcons (Syntax.tcons (Syntax.tyStruct (99 ∷ 111 ∷ 110 ∷ 101 ∷ 99 ∷ 116 ∷
+      58 ∷ 58 ∷ 67 ∷ 111 ∷ 110 ∷ 101 ∷ 99 ∷ 116 ∷ []) (Syntax.tcons (Syntax.tyStruct (102 ∷ 105 ∷ 101 ∷ 108 ∷ 100 ∷ 115 ∷ 58 ∷ 58 ∷ 83 ∷ 101 ∷ 114 ∷ 105 ∷ 97 ∷
+      108 ∷ []) (Syntax.tcons (Syntax.tyInt Syntax.w32) Syntax.tnil)) (Syntax.tcons (Syntax.tyStruct (102 ∷ 105 ∷ 101 ∷ 108 ∷ 100 ∷ 115 ∷ 58 ∷ 58 ∷ 83 ∷ 101 ∷
+      114 ∷ 105 ∷ 97 ∷ 108 ∷ []) (Syntax.tcons (Syntax.tyInt Syntax.w32) Syntax.tnil)) (Syntax.tcons (Syntax.tyStruct (102 ∷ 105 ∷ 101 ∷ 108 ∷ 100 ∷ 115 ∷ 58 ∷
+      58 ∷ 83 ∷ 101 ∷ 114 ∷ 105 ∷ 97 ∷ 108 ∷ []) (Syntax.tcons (Syntax.tyInt Syntax.w32) Syntax.tnil)) (Syntax.tcons (Syntax.tyStruct (102 ∷ 105 ∷ 101 ∷ 108 ∷
+      100 ∷ 115 ∷ 58 ∷ 58 ∷ 83 ∷ 101 ∷ 114 ∷ 105 ∷ 97 ∷ 108 ∷ []) (Syntax.tcons (Syntax.tyInt Syntax.w32) Syntax.tnil)) (Syntax.tcons (Syntax.tyStruct (102 ∷ 105
+      ∷ 101 ∷ 108 ∷ 100 ∷ 115 ∷ 58 ∷ 58 ∷ 83 ∷ 101 ∷ 114 ∷ 105 ∷ 97 ∷ 108 ∷ []) (Syntax.tcons (Syntax.tyInt Syntax.w32) Syntax.tnil)) Syntax.tnil))))))
+      Syntax.tnil) (Syntax.ttcons (Syntax.tcons (Syntax.tyStruct (109 ∷ 97 ∷ 115 ∷ 116 ∷ 101 ∷ 114 ∷ 58 ∷ 58 ∷ 84 ∷ 97 ∷ 108 ∷ 108 ∷ 121 ∷ []) (Syntax.tcons
+      (Syntax.tyInt Syntax.w32) (Syntax.tcons (Syntax.tyInt Syntax.w32) (Syntax.tcons (Syntax.tyInt Syntax.w32) (Syntax.tcons (Syntax.tyInt Syntax.w32)
+      (Syntax.tcons (Syntax.tyInt Syntax.w32) (Syntax.tcons (Syntax.tyInt Syntax.w32) (Syntax.tcons (Syntax.tyInt Syntax.w32) (Syntax.tcons (Syntax.tyInt
+      Syntax.w32) (Syntax.tcons (Syntax.tyInt Syntax.w32) Syntax.tnil)))))))))) Syntax.tnil) (Syntax.ttcons Syntax.tnil (Syntax.ttcons (Syntax.tcons
+      (Syntax.tyStruct (109 ∷ 111 ∷ 100 ∷ 101 ∷ 108 ∷ 58 ∷ 58 ∷ 77 ∷ 111 ∷ 100 ∷ 101 ∷ 108 ∷ []) (Syntax.tcons (Syntax.tyInt Syntax.w32) Syntax.tnil))
+      Syntax.tnil) (Syntax.ttcons Syntax.tnil Syntax.ttnil)))))))))) Syntax.tnil) Syntax.ttnil))))),
+) ∷ (9, Rows.any-gone Syntax.tyBool) ∷ (
+  10,
+  Rows.any-gone
+      (Syntax.tyInt Syntax.w64),
+) ∷ (11, Rows.sc-here (Row.sInt Syntax.w64)) ∷ (12, Rows.sc-here (Row.sInt Syntax.w64)) ∷ (13, Rows.any-gone Syntax.tyBool) ∷ (
+  14,
+  Rows.any-gone (Syntax.tyRef Syntax.erased Syntax.mut SlotAs.pointee),
+) ∷ (
+  15,
+  Rows.any-gone (Syntax.tyStruct (38 ∷ 91 ∷ 93 ∷ []) (Syntax.tcons (Syntax.tyRef
+      Syntax.erased Syntax.mut SlotAs.pointee) (Syntax.tcons (Syntax.tyInt Syntax.w64) Syntax.tnil))),
+) ∷ []
+
+abbrev pub t17 : List.List Row.Entry
+t17 = (
+  0,
+  Rows.any-gone (Syntax.tyStruct (115 ∷ 116 ∷ 111 ∷ 114 ∷ 101 ∷ 58 ∷ 58 ∷ 79 ∷ 117 ∷ 116 ∷ 99 ∷ 111 ∷ 109 ∷ 101 ∷ []) (Syntax.tcons (Syntax.tyInt
+      Syntax.w8) (Syntax.tcons (Syntax.tyInt Syntax.w64) Syntax.tnil))),
+) ∷ (
+  1,
+  Rows.sslice (Referent.rtF (Referent.fInt Syntax.w8)) (Syntax.tyRef (Syntax.named
+      0) Syntax.imm (Syntax.tyInt Syntax.w8)) 0,
+) ∷ (2, Mut.mslice SlotAs.row (Syntax.tyRef (Syntax.named 1) Syntax.mut SlotAs.pointee) 1) ∷ (
+  3,
+  Rows.any-gone
+      (Syntax.tyStruct (115 ∷ 116 ∷ 111 ∷ 114 ∷ 101 ∷ 58 ∷ 58 ∷ 78 ∷ 101 ∷ 101 ∷ 100 ∷ 115 ∷ []) (Syntax.tcons (Syntax.tyInt Syntax.w8) (Syntax.tcons
+      (Syntax.tyInt Syntax.w64) Syntax.tnil))),
+) ∷ (4, Rows.sc-here (Row.sInt Syntax.w64)) ∷ (5, Rows.sc-here (Row.sInt Syntax.w64)) ∷ (
+  6,
+  Rows.sc-here (Row.sInt
+      Syntax.w64),
+) ∷ (7, Rows.sc-here (Row.sInt Syntax.w32)) ∷ (
+  8,
+  Rows.any-gone (Syntax.tyEnum (112 ∷ 105 ∷ 101 ∷ 99 ∷ 101 ∷ 115 ∷ 58 ∷ 58 ∷ 76 ∷ 105 ∷ 110 ∷
+      101 ∷ []) (Syntax.ttcons (Syntax.tcons (Syntax.tyInt Syntax.w8) Syntax.tnil) (Syntax.ttcons (Syntax.tcons (Syntax.tyEnum (107 ∷ 105 ∷ 110 ∷ 100 ∷ 115 ∷ 58
+      ∷ 58 ∷ 75 ∷ 105 ∷ 110 ∷ 100 ∷ []) (Syntax.ttcons Syntax.tnil (Syntax.ttcons Syntax.tnil (Syntax.ttcons Syntax.tnil (Syntax.ttcons Syntax.tnil
+      (Syntax.ttcons Syntax.tnil (Syntax.ttcons Syntax.tnil (Syntax.ttcons Syntax.tnil (Syntax.ttcons Syntax.tnil (Syntax.ttcons Syntax.tnil (Syntax.ttcons
+      Syntax.tnil (Syntax.ttcons Syntax.tnil (Syntax.ttcons Syntax.tnil (Syntax.ttcons Syntax.tnil (Syntax.ttcons Syntax.tnil (Syntax.ttcons Syntax.tnil
+      (Syntax.ttcons Syntax.tnil (Syntax.ttcons Syntax.tnil (Syntax.ttcons Syntax.tnil (Syntax.ttcons Syntax.tnil (Syntax.ttcons Syntax.tnil (Syntax.ttcons
+      Syntax.tnil (Syntax.ttcons Syntax.tnil (Syntax.ttcons Syntax.tnil (Syntax.ttcons Syntax.tnil (Syntax.ttcons Syntax.tnil (Syntax.ttcons Syntax.tnil
+      (Syntax.ttcons Syntax.tnil (Syntax.ttcons Syntax.tnil (Syntax.ttcons Syntax.tnil (Syntax.ttcons Syntax.tnil Syntax.ttnil)))))))))))))))))))))))))))))))
+      (Syntax.tcons (Syntax.tyInt Syntax.w32) Syntax.tnil)) (Syntax.ttcons (Syntax.tcons (Syntax.tyEnum (107 ∷ 105 ∷ 110 ∷ 100 ∷ 115 ∷ 58 ∷ 58 ∷ 75 ∷ 105 ∷ 110 ∷
+      100 ∷ []) (Syntax.ttcons Syntax.tnil (Syntax.ttcons Syntax.tnil (Syntax.ttcons Syntax.tnil (Syntax.ttcons Syntax.tnil (Syntax.ttcons Syntax.tnil
+      (Syntax.ttcons Syntax.tnil (Syntax.ttcons Syntax.tnil (Syntax.ttcons Syntax.tnil (Syntax.ttcons Syntax.tnil (Syntax.ttcons Syntax.tnil (Syntax.ttcons
+      Syntax.tnil (Syntax.ttcons Syntax.tnil (Syntax.ttcons Syntax.tnil (Syntax.ttcons Syntax.tnil (Syntax.ttcons Syntax.tnil (Syntax.ttcons Syntax.tnil
+      (Syntax.ttcons Syntax.tnil (Syntax.ttcons Syntax.tnil (Syntax.ttcons Syntax.tnil (Syntax.ttcons Syntax.tnil (Syntax.ttcons Syntax.tnil (Syntax.ttcons
+      Syntax.tnil (Syntax.ttcons Syntax.tnil (Syntax.ttcons Syntax.tnil (Syntax.ttcons Syntax.tnil (Syntax.ttcons Syntax.tnil (Syntax.ttcons Syntax.tnil
+      (Syntax.ttcons Syntax.tnil (Syntax.ttcons Syntax.tnil (Syntax.ttcons Syntax.tnil Syntax.ttnil))))))))))))))))))))))))))))))) Syntax.tnil) (Syntax.ttcons
+      (Syntax.tcons (Syntax.tyEnum (108 ∷ 105 ∷ 110 ∷ 101 ∷ 58 ∷ 58 ∷ 82 ∷ 101 ∷ 99 ∷ 111 ∷ 114 ∷ 100 ∷ []) (Syntax.ttcons (Syntax.tcons Syntax.tyBool
+      (Syntax.tcons (Syntax.tyStruct (99 ∷ 111 ∷ 111 ∷ 114 ∷ 100 ∷ 105 ∷ 110 ∷ 97 ∷ 116 ∷ 101 ∷ 58 ∷ 58 ∷ 65 ∷ 116 ∷ 111 ∷ 109 ∷ []) (Syntax.tcons
+      (Syntax.tyStruct (99 ∷ 111 ∷ 111 ∷ 114 ∷ 100 ∷ 105 ∷ 110 ∷ 97 ∷ 116 ∷ 101 ∷ 58 ∷ 58 ∷ 73 ∷ 100 ∷ 101 ∷ 110 ∷ 116 ∷ 105 ∷ 116 ∷ 121 ∷ []) (Syntax.tcons
+      (Syntax.tyStruct (102 ∷ 105 ∷ 101 ∷ 108 ∷ 100 ∷ 115 ∷ 58 ∷ 58 ∷ 83 ∷ 101 ∷ 114 ∷ 105 ∷ 97 ∷ 108 ∷ []) (Syntax.tcons (Syntax.tyInt Syntax.w32) Syntax.tnil))
+      (Syntax.tcons (Syntax.tyStruct (110 ∷ 97 ∷ 109 ∷ 101 ∷ 115 ∷ 58 ∷ 58 ∷ 70 ∷ 111 ∷ 117 ∷ 114 ∷ []) (Syntax.tcons (Syntax.tyInt Syntax.w8) (Syntax.tcons
+      (Syntax.tyInt Syntax.w8) (Syntax.tcons (Syntax.tyInt Syntax.w8) (Syntax.tcons (Syntax.tyInt Syntax.w8) Syntax.tnil))))) (Syntax.tcons (Syntax.tyInt
+      Syntax.w8) (Syntax.tcons (Syntax.tyStruct (114 ∷ 101 ∷ 115 ∷ 105 ∷ 100 ∷ 117 ∷ 101 ∷ 58 ∷ 58 ∷ 82 ∷ 101 ∷ 115 ∷ 105 ∷ 100 ∷ 117 ∷ 101 ∷ []) (Syntax.tcons
+      (Syntax.tyStruct (110 ∷ 97 ∷ 109 ∷ 101 ∷ 115 ∷ 58 ∷ 58 ∷ 84 ∷ 104 ∷ 114 ∷ 101 ∷ 101 ∷ []) (Syntax.tcons (Syntax.tyInt Syntax.w8) (Syntax.tcons
+      (Syntax.tyInt Syntax.w8) (Syntax.tcons (Syntax.tyInt Syntax.w8) Syntax.tnil)))) (Syntax.tcons (Syntax.tyInt Syntax.w8) (Syntax.tcons (Syntax.tyStruct (102
+      ∷ 105 ∷ 101 ∷ 108 ∷ 100 ∷ 115 ∷ 58 ∷ 58 ∷ 82 ∷ 101 ∷ 115 ∷ 105 ∷ 100 ∷ 117 ∷ 101 ∷ 78 ∷ 117 ∷ 109 ∷ 98 ∷ 101 ∷ 114 ∷ []) (Syntax.tcons (Syntax.tyInt
+      Syntax.w32) Syntax.tnil)) (Syntax.tcons (Syntax.tyInt Syntax.w8) Syntax.tnil))))) Syntax.tnil))))) (Syntax.tcons (Syntax.tyStruct (99 ∷ 111 ∷ 111 ∷ 114 ∷
+      100 ∷ 105 ∷ 110 ∷ 97 ∷ 116 ∷ 101 ∷ 58 ∷ 58 ∷ 77 ∷ 101 ∷ 97 ∷ 115 ∷ 117 ∷ 114 ∷ 101 ∷ []) (Syntax.tcons (Syntax.tyStruct (99 ∷ 111 ∷ 111 ∷ 114 ∷ 100 ∷ 105 ∷
+      110 ∷ 97 ∷ 116 ∷ 101 ∷ 58 ∷ 58 ∷ 80 ∷ 111 ∷ 115 ∷ 105 ∷ 116 ∷ 105 ∷ 111 ∷ 110 ∷ []) (Syntax.tcons (Syntax.tyInt Syntax.w32) (Syntax.tcons (Syntax.tyInt
+      Syntax.w32) (Syntax.tcons (Syntax.tyInt Syntax.w32) Syntax.tnil)))) (Syntax.tcons (Syntax.tyInt Syntax.w32) (Syntax.tcons (Syntax.tyInt Syntax.w32)
+      Syntax.tnil)))) (Syntax.tcons (Syntax.tyStruct (99 ∷ 111 ∷ 111 ∷ 114 ∷ 100 ∷ 105 ∷ 110 ∷ 97 ∷ 116 ∷ 101 ∷ 58 ∷ 58 ∷ 83 ∷ 112 ∷ 101 ∷ 99 ∷ 105 ∷ 101 ∷ 115 ∷
+      []) (Syntax.tcons (Syntax.tyStruct (110 ∷ 97 ∷ 109 ∷ 101 ∷ 115 ∷ 58 ∷ 58 ∷ 80 ∷ 97 ∷ 105 ∷ 114 ∷ []) (Syntax.tcons (Syntax.tyInt Syntax.w8) (Syntax.tcons
+      (Syntax.tyInt Syntax.w8) Syntax.tnil))) (Syntax.tcons (Syntax.tyStruct (110 ∷ 97 ∷ 109 ∷ 101 ∷ 115 ∷ 58 ∷ 58 ∷ 80 ∷ 97 ∷ 105 ∷ 114 ∷ []) (Syntax.tcons
+      (Syntax.tyInt Syntax.w8) (Syntax.tcons (Syntax.tyInt Syntax.w8) Syntax.tnil))) Syntax.tnil))) Syntax.tnil)))) Syntax.tnil)) (Syntax.ttcons (Syntax.tcons
+      (Syntax.tyStruct (116 ∷ 101 ∷ 114 ∷ 58 ∷ 58 ∷ 84 ∷ 101 ∷ 114 ∷ []) (Syntax.tcons (Syntax.tyStruct (102 ∷ 105 ∷ 101 ∷ 108 ∷ 100 ∷ 115 ∷ 58 ∷ 58 ∷ 83 ∷ 101 ∷
+      114 ∷ 105 ∷ 97 ∷ 108 ∷ []) (Syntax.tcons (Syntax.tyInt Syntax.w32) Syntax.tnil)) (Syntax.tcons (Syntax.tyStruct (114 ∷ 101 ∷ 115 ∷ 105 ∷ 100 ∷ 117 ∷ 101 ∷
+      58 ∷ 58 ∷ 82 ∷ 101 ∷ 115 ∷ 105 ∷ 100 ∷ 117 ∷ 101 ∷ []) (Syntax.tcons (Syntax.tyStruct (110 ∷ 97 ∷ 109 ∷ 101 ∷ 115 ∷ 58 ∷ 58 ∷ 84 ∷ 104 ∷ 114 ∷ 101 ∷ 101 ∷
+      []) (Syntax.tcons (Syntax.tyInt Syntax.w8) (Syntax.tcons (Syntax.tyInt Syntax.w8) (Syntax.tcons (Syntax.tyInt Syntax.w8) Syntax.tnil)))) (Syntax.tcons
+      (Syntax.tyInt Syntax.w8) (Syntax.tcons (Syntax.tyStruct (102 ∷ 105 ∷ 101 ∷ 108 ∷ 100 ∷ 115 ∷ 58 ∷ 58 ∷ 82 ∷ 101 ∷ 115 ∷ 105 ∷ 100 ∷ 117 ∷ 101 ∷ 78 ∷ 117 ∷
+      109 ∷ 98 ∷ 101 ∷ 114 ∷ []) (Syntax.tcons (Syntax.tyInt Syntax.w32) Syntax.tnil)) (Syntax.tcons (Syntax.tyInt Syntax.w8) Syntax.tnil))))) Syntax.tnil)))
+      Syntax.tnil) (Syntax.ttcons (Syntax.tcons (Syntax.tyStruct (104 ∷ 101 ∷ 108 ∷ 105 ∷ 120 ∷ 58 ∷ 58 ∷ 72 ∷ 101 ∷ 108 ∷ 105 ∷ 120 ∷ []) (Syntax.tcons
+      (Syntax.tyStruct (104 ∷ 101 ∷ 108 ∷ 105 ∷ 120 ∷ 58 ∷ 58 ∷ 69 ∷ 120 ∷ 116 ∷ 101 ∷ 110 ∷ 116 ∷ []) (Syntax.tcons (Syntax.tyInt Syntax.w32) (Syntax.tcons
+      (Syntax.tyStruct (110 ∷ 97 ∷ 109 ∷ 101 ∷ 115 ∷ 58 ∷ 58 ∷ 84 ∷ 104 ∷ 114 ∷ 101 ∷ 101 ∷ []) (Syntax.tcons (Syntax.tyInt Syntax.w8) (Syntax.tcons
+      (Syntax.tyInt Syntax.w8) (Syntax.tcons (Syntax.tyInt Syntax.w8) Syntax.tnil)))) (Syntax.tcons (Syntax.tyStruct (114 ∷ 101 ∷ 115 ∷ 105 ∷ 100 ∷ 117 ∷ 101 ∷
+      58 ∷ 58 ∷ 82 ∷ 101 ∷ 115 ∷ 105 ∷ 100 ∷ 117 ∷ 101 ∷ []) (Syntax.tcons (Syntax.tyStruct (110 ∷ 97 ∷ 109 ∷ 101 ∷ 115 ∷ 58 ∷ 58 ∷ 84 ∷ 104 ∷ 114 ∷ 101 ∷ 101 ∷
+      []) (Syntax.tcons (Syntax.tyInt Syntax.w8) (Syntax.tcons (Syntax.tyInt Syntax.w8) (Syntax.tcons (Syntax.tyInt Syntax.w8) Syntax.tnil)))) (Syntax.tcons
+      (Syntax.tyInt Syntax.w8) (Syntax.tcons (Syntax.tyStruct (102 ∷ 105 ∷ 101 ∷ 108 ∷ 100 ∷ 115 ∷ 58 ∷ 58 ∷ 82 ∷ 101 ∷ 115 ∷ 105 ∷ 100 ∷ 117 ∷ 101 ∷ 78 ∷ 117 ∷
+      109 ∷ 98 ∷ 101 ∷ 114 ∷ []) (Syntax.tcons (Syntax.tyInt Syntax.w32) Syntax.tnil)) (Syntax.tcons (Syntax.tyInt Syntax.w8) Syntax.tnil))))) (Syntax.tcons
+      (Syntax.tyStruct (114 ∷ 101 ∷ 115 ∷ 105 ∷ 100 ∷ 117 ∷ 101 ∷ 58 ∷ 58 ∷ 82 ∷ 101 ∷ 115 ∷ 105 ∷ 100 ∷ 117 ∷ 101 ∷ []) (Syntax.tcons (Syntax.tyStruct (110 ∷ 97
+      ∷ 109 ∷ 101 ∷ 115 ∷ 58 ∷ 58 ∷ 84 ∷ 104 ∷ 114 ∷ 101 ∷ 101 ∷ []) (Syntax.tcons (Syntax.tyInt Syntax.w8) (Syntax.tcons (Syntax.tyInt Syntax.w8) (Syntax.tcons
+      (Syntax.tyInt Syntax.w8) Syntax.tnil)))) (Syntax.tcons (Syntax.tyInt Syntax.w8) (Syntax.tcons (Syntax.tyStruct (102 ∷ 105 ∷ 101 ∷ 108 ∷ 100 ∷ 115 ∷ 58 ∷ 58
+      ∷ 82 ∷ 101 ∷ 115 ∷ 105 ∷ 100 ∷ 117 ∷ 101 ∷ 78 ∷ 117 ∷ 109 ∷ 98 ∷ 101 ∷ 114 ∷ []) (Syntax.tcons (Syntax.tyInt Syntax.w32) Syntax.tnil)) (Syntax.tcons
+      (Syntax.tyInt Syntax.w8) Syntax.tnil))))) Syntax.tnil))))) (Syntax.tcons (Syntax.tyInt Syntax.w32) (Syntax.tcons (Syntax.tyStruct (104 ∷ 101 ∷ 108 ∷ 105 ∷
+      120 ∷ 58 ∷ 58 ∷ 67 ∷ 111 ∷ 109 ∷ 109 ∷ 101 ∷ 110 ∷ 116 ∷ []) (Syntax.tcons (Syntax.tyInt Syntax.w64) (Syntax.tcons (Syntax.tyInt Syntax.w64) (Syntax.tcons
+      (Syntax.tyInt Syntax.w64) (Syntax.tcons (Syntax.tyInt Syntax.w64) Syntax.tnil))))) (Syntax.tcons (Syntax.tyInt Syntax.w32) Syntax.tnil))))) Syntax.tnil)
+      (Syntax.ttcons (Syntax.tcons (Syntax.tyStruct (115 ∷ 104 ∷ 101 ∷ 101 ∷ 116 ∷ 58 ∷ 58 ∷ 83 ∷ 104 ∷ 101 ∷ 101 ∷ 116 ∷ []) (Syntax.tcons (Syntax.tyStruct (115
+      ∷ 104 ∷ 101 ∷ 101 ∷ 116 ∷ 58 ∷ 58 ∷ 83 ∷ 116 ∷ 114 ∷ 97 ∷ 110 ∷ 100 ∷ []) (Syntax.tcons (Syntax.tyInt Syntax.w32) (Syntax.tcons (Syntax.tyStruct (110 ∷ 97
+      ∷ 109 ∷ 101 ∷ 115 ∷ 58 ∷ 58 ∷ 84 ∷ 104 ∷ 114 ∷ 101 ∷ 101 ∷ []) (Syntax.tcons (Syntax.tyInt Syntax.w8) (Syntax.tcons (Syntax.tyInt Syntax.w8) (Syntax.tcons
+      (Syntax.tyInt Syntax.w8) Syntax.tnil)))) (Syntax.tcons (Syntax.tyInt Syntax.w32) (Syntax.tcons (Syntax.tyStruct (114 ∷ 101 ∷ 115 ∷ 105 ∷ 100 ∷ 117 ∷ 101 ∷
+      58 ∷ 58 ∷ 82 ∷ 101 ∷ 115 ∷ 105 ∷ 100 ∷ 117 ∷ 101 ∷ []) (Syntax.tcons (Syntax.tyStruct (110 ∷ 97 ∷ 109 ∷ 101 ∷ 115 ∷ 58 ∷ 58 ∷ 84 ∷ 104 ∷ 114 ∷ 101 ∷ 101 ∷
+      []) (Syntax.tcons (Syntax.tyInt Syntax.w8) (Syntax.tcons (Syntax.tyInt Syntax.w8) (Syntax.tcons (Syntax.tyInt Syntax.w8) Syntax.tnil)))) (Syntax.tcons
+      (Syntax.tyInt Syntax.w8) (Syntax.tcons (Syntax.tyStruct (102 ∷ 105 ∷ 101 ∷ 108 ∷ 100 ∷ 115 ∷ 58 ∷ 58 ∷ 82 ∷ 101 ∷ 115 ∷ 105 ∷ 100 ∷ 117 ∷ 101 ∷ 78 ∷ 117 ∷
+      109 ∷ 98 ∷ 101 ∷ 114 ∷ []) (Syntax.tcons (Syntax.tyInt Syntax.w32) Syntax.tnil)) (Syntax.tcons (Syntax.tyInt Syntax.w8) Syntax.tnil))))) (Syntax.tcons
+      (Syntax.tyStruct (114 ∷ 101 ∷ 115 ∷ 105 ∷ 100 ∷ 117 ∷ 101 ∷ 58 ∷ 58 ∷ 82 ∷ 101 ∷ 115 ∷ 105 ∷ 100 ∷ 117 ∷ 101 ∷ []) (Syntax.tcons (Syntax.tyStruct (110 ∷ 97
+      ∷ 109 ∷ 101 ∷ 115 ∷ 58 ∷ 58 ∷ 84 ∷ 104 ∷ 114 ∷ 101 ∷ 101 ∷ []) (Syntax.tcons (Syntax.tyInt Syntax.w8) (Syntax.tcons (Syntax.tyInt Syntax.w8) (Syntax.tcons
+      (Syntax.tyInt Syntax.w8) Syntax.tnil)))) (Syntax.tcons (Syntax.tyInt Syntax.w8) (Syntax.tcons (Syntax.tyStruct (102 ∷ 105 ∷ 101 ∷ 108 ∷ 100 ∷ 115 ∷ 58 ∷ 58
+      ∷ 82 ∷ 101 ∷ 115 ∷ 105 ∷ 100 ∷ 117 ∷ 101 ∷ 78 ∷ 117 ∷ 109 ∷ 98 ∷ 101 ∷ 114 ∷ []) (Syntax.tcons (Syntax.tyInt Syntax.w32) Syntax.tnil)) (Syntax.tcons
+      (Syntax.tyInt Syntax.w8) Syntax.tnil))))) (Syntax.tcons (Syntax.tyInt Syntax.w32) Syntax.tnil))))))) (Syntax.tcons (Syntax.tyEnum (115 ∷ 104 ∷ 101 ∷ 101 ∷
+      116 ∷ 58 ∷ 58 ∷ 82 ∷ 101 ∷ 103 ∷ 105 ∷ 115 ∷ 116 ∷ 114 ∷ 97 ∷ 116 ∷ 105 ∷ 111 ∷ 110 ∷ []) (Syntax.ttcons Syntax.tnil (Syntax.ttcons (Syntax.tcons
+      (Syntax.tyStruct (115 ∷ 104 ∷ 101 ∷ 101 ∷ 116 ∷ 58 ∷ 58 ∷ 66 ∷ 111 ∷ 110 ∷ 100 ∷ []) (Syntax.tcons (Syntax.tyStruct (110 ∷ 97 ∷ 109 ∷ 101 ∷ 115 ∷ 58 ∷ 58 ∷
+      70 ∷ 111 ∷ 117 ∷ 114 ∷ []) (Syntax.tcons (Syntax.tyInt Syntax.w8) (Syntax.tcons (Syntax.tyInt Syntax.w8) (Syntax.tcons (Syntax.tyInt Syntax.w8)
+      (Syntax.tcons (Syntax.tyInt Syntax.w8) Syntax.tnil))))) (Syntax.tcons (Syntax.tyStruct (114 ∷ 101 ∷ 115 ∷ 105 ∷ 100 ∷ 117 ∷ 101 ∷ 58 ∷ 58 ∷ 82 ∷ 101 ∷ 115
+      ∷ 105 ∷ 100 ∷ 117 ∷ 101 ∷ []) (Syntax.tcons (Syntax.tyStruct (110 ∷ 97 ∷ 109 ∷ 101 ∷ 115 ∷ 58 ∷ 58 ∷ 84 ∷ 104 ∷ 114 ∷ 101 ∷ 101 ∷ []) (Syntax.tcons
+      (Syntax.tyInt Syntax.w8) (Syntax.tcons (Syntax.tyInt Syntax.w8) (Syntax.tcons (Syntax.tyInt Syntax.w8) Syntax.tnil)))) (Syntax.tcons (Syntax.tyInt
+      Syntax.w8) (Syntax.tcons (Syntax.tyStruct (102 ∷ 105 ∷ 101 ∷ 108 ∷ 100 ∷ 115 ∷ 58 ∷ 58 ∷ 82 ∷ 101 ∷ 115 ∷ 105 ∷ 100 ∷ 117 ∷ 101 ∷ 78 ∷ 117 ∷ 109 ∷ 98 ∷ 101
+      ∷ 114 ∷ []) (Syntax.tcons (Syntax.tyInt Syntax.w32) Syntax.tnil)) (Syntax.tcons (Syntax.tyInt Syntax.w8) Syntax.tnil))))) (Syntax.tcons (Syntax.tyStruct
+      (110 ∷ 97 ∷ 109 ∷ 101 ∷ 115 ∷ 58 ∷ 58 ∷ 70 ∷ 111 ∷ 117 ∷ 114 ∷ []) (Syntax.tcons (Syntax.tyInt Syntax.w8) (Syntax.tcons (Syntax.tyInt Syntax.w8)
+      (Syntax.tcons (Syntax.tyInt Syntax.w8) (Syntax.tcons (Syntax.tyInt Syntax.w8) Syntax.tnil))))) (Syntax.tcons (Syntax.tyStruct (114 ∷ 101 ∷ 115 ∷ 105 ∷ 100
+      ∷ 117 ∷ 101 ∷ 58 ∷ 58 ∷ 82 ∷ 101 ∷ 115 ∷ 105 ∷ 100 ∷ 117 ∷ 101 ∷ []) (Syntax.tcons (Syntax.tyStruct (110 ∷ 97 ∷ 109 ∷ 101 ∷ 115 ∷ 58 ∷ 58 ∷ 84 ∷ 104 ∷ 114
+      ∷ 101 ∷ 101 ∷ []) (Syntax.tcons (Syntax.tyInt Syntax.w8) (Syntax.tcons (Syntax.tyInt Syntax.w8) (Syntax.tcons (Syntax.tyInt Syntax.w8) Syntax.tnil))))
+      (Syntax.tcons (Syntax.tyInt Syntax.w8) (Syntax.tcons (Syntax.tyStruct (102 ∷ 105 ∷ 101 ∷ 108 ∷ 100 ∷ 115 ∷ 58 ∷ 58 ∷ 82 ∷ 101 ∷ 115 ∷ 105 ∷ 100 ∷ 117 ∷ 101
+      ∷ 78 ∷ 117 ∷ 109 ∷ 98 ∷ 101 ∷ 114 ∷ []) (Syntax.tcons (Syntax.tyInt Syntax.w32) Syntax.tnil)) (Syntax.tcons (Syntax.tyInt Syntax.w8) Syntax.tnil)))))
+      Syntax.tnil))))) Syntax.tnil) Syntax.ttnil))) Syntax.tnil))) Syntax.tnil) (Syntax.ttcons (Syntax.tcons (Syntax.tyStruct (99 ∷ 111 ∷ 110 ∷ 101 ∷ 99 ∷ 116 ∷
+      58 ∷ 58 ∷ 67 ∷ 111 ∷ 110 ∷ 101 ∷ 99 ∷ 116 ∷ []) (Syntax.tcons (Syntax.tyStruct (102 ∷ 105 ∷ 101 ∷ 108 ∷ 100 ∷ 115 ∷ 58 ∷ 58 ∷ 83 ∷ 101 ∷ 114 ∷ 105 ∷ 97 ∷
+      108 ∷ []) (Syntax.tcons (Syntax.tyInt Syntax.w32) Syntax.tnil)) (Syntax.tcons (Syntax.tyStruct (102 ∷ 105 ∷ 101 ∷ 108 ∷ 100 ∷ 115 ∷ 58 ∷ 58 ∷ 83 ∷ 101 ∷
+      114 ∷ 105 ∷ 97 ∷ 108 ∷ []) (Syntax.tcons (Syntax.tyInt Syntax.w32) Syntax.tnil)) (Syntax.tcons (Syntax.tyStruct (102 ∷ 105 ∷ 101 ∷ 108 ∷ 100 ∷ 115 ∷ 58 ∷
+      58 ∷ 83 ∷ 101 ∷ 114 ∷ 105 ∷ 97 ∷ 108 ∷ []) (Syntax.tcons (Syntax.tyInt Syntax.w32) Syntax.tnil)) (Syntax.tcons (Syntax.tyStruct (102 ∷ 105 ∷ 101 ∷ 108 ∷
+      100 ∷ 115 ∷ 58 ∷ 58 ∷ 83 ∷ 101 ∷ 114 ∷ 105 ∷ 97 ∷ 108 ∷ []) (Syntax.tcons (Syntax.tyInt Syntax.w32) Syntax.tnil)) (Syntax.tcons (Syntax.tyStruct (102 ∷ 105
+      ∷ 101 ∷ 108 ∷ 100 ∷ 115 ∷ 58 ∷ 58 ∷ 83 ∷ 101 ∷ 114 ∷ 105 ∷ 97 ∷ 108 ∷ []) (Syntax.tcons (Syntax.tyInt Syntax.w32) Syntax.tnil)) Syntax.tnil))))))
+      Syntax.tnil) (Syntax.ttcons (Syntax.tcons (Syntax.tyStruct (109 ∷ 97 ∷ 115 ∷ 116 ∷ 101 ∷ 114 ∷ 58 ∷ 58 ∷ 84 ∷ 97 ∷ 108 ∷ 108 ∷ 121 ∷ []) (Syntax.tcons
+      (Syntax.tyInt Syntax.w32) (Syntax.tcons (Syntax.tyInt Syntax.w32) (Syntax.tcons (Syntax.tyInt Syntax.w32) (Syntax.tcons (Syntax.tyInt Syntax.w32)
+      (Syntax.tcons (Syntax.tyInt Syntax.w32) (Syntax.tcons (Syntax.tyInt Syntax.w32) (Syntax.tcons (Syntax.tyInt Syntax.w32) (Syntax.tcons (Syntax.tyInt
+      Syntax.w32) (Syntax.tcons (Syntax.tyInt Syntax.w32) Syntax.tnil)))))))))) Syntax.tnil) (Syntax.ttcons Syntax.tnil (Syntax.ttcons (Syntax.tcons
+      (Syntax.tyStruct (109 ∷ 111 ∷ 100 ∷ 101 ∷ 108 ∷ 58 ∷ 58 ∷ 77 ∷ 111 ∷ 100 ∷ 101 ∷ 108 ∷ []) (Syntax.tcons (Syntax.tyInt Syntax.w32) Syntax.tnil))
+      Syntax.tnil) (Syntax.ttcons Syntax.tnil Syntax.ttnil)))))))))) Syntax.tnil) Syntax.ttnil))))),
+) ∷ (9, Rows.any-gone Syntax.tyBool) ∷ (
+  10,
+  Rows.any-gone
+      (Syntax.tyInt Syntax.w64),
+) ∷ (11, Rows.sc-here (Row.sInt Syntax.w64)) ∷ (12, Rows.sc-here (Row.sInt Syntax.w64)) ∷ (13, Rows.sc-here Row.sBool) ∷ (
+  14,
+  Rows.any-gone (Syntax.tyRef Syntax.erased Syntax.mut SlotAs.pointee),
+) ∷ (
+  15,
+  Rows.any-gone (Syntax.tyStruct (38 ∷ 91 ∷ 93 ∷ []) (Syntax.tcons (Syntax.tyRef
+      Syntax.erased Syntax.mut SlotAs.pointee) (Syntax.tcons (Syntax.tyInt Syntax.w64) Syntax.tnil))),
+) ∷ []
+
+abbrev pub t18 : List.List Row.Entry
+t18 = (
+  0,
+  Rows.any-gone (Syntax.tyStruct (115 ∷ 116 ∷ 111 ∷ 114 ∷ 101 ∷ 58 ∷ 58 ∷ 79 ∷ 117 ∷ 116 ∷ 99 ∷ 111 ∷ 109 ∷ 101 ∷ []) (Syntax.tcons (Syntax.tyInt
+      Syntax.w8) (Syntax.tcons (Syntax.tyInt Syntax.w64) Syntax.tnil))),
+) ∷ (
+  1,
+  Rows.sslice (Referent.rtF (Referent.fInt Syntax.w8)) (Syntax.tyRef (Syntax.named
+      0) Syntax.imm (Syntax.tyInt Syntax.w8)) 0,
+) ∷ (2, Mut.mslice SlotAs.row (Syntax.tyRef (Syntax.named 1) Syntax.mut SlotAs.pointee) 1) ∷ (
+  3,
+  Rows.any-gone
+      (Syntax.tyStruct (115 ∷ 116 ∷ 111 ∷ 114 ∷ 101 ∷ 58 ∷ 58 ∷ 78 ∷ 101 ∷ 101 ∷ 100 ∷ 115 ∷ []) (Syntax.tcons (Syntax.tyInt Syntax.w8) (Syntax.tcons
+      (Syntax.tyInt Syntax.w64) Syntax.tnil))),
+) ∷ (4, Rows.sc-here (Row.sInt Syntax.w64)) ∷ (5, Rows.sc-here (Row.sInt Syntax.w64)) ∷ (
+  6,
+  Rows.sc-here (Row.sInt
+      Syntax.w64),
+) ∷ (7, Rows.sc-here (Row.sInt Syntax.w32)) ∷ (
+  8,
+  Rows.any-gone (Syntax.tyEnum (112 ∷ 105 ∷ 101 ∷ 99 ∷ 101 ∷ 115 ∷ 58 ∷ 58 ∷ 76 ∷ 105 ∷ 110 ∷
+      101 ∷ []) (Syntax.ttcons (Syntax.tcons (Syntax.tyInt Syntax.w8) Syntax.tnil) (Syntax.ttcons (Syntax.tcons (Syntax.tyEnum (107 ∷ 105 ∷ 110 ∷ 100 ∷ 115 ∷ 58
+      ∷ 58 ∷ 75 ∷ 105 ∷ 110 ∷ 100 ∷ []) (Syntax.ttcons Syntax.tnil (Syntax.ttcons Syntax.tnil (Syntax.ttcons Syntax.tnil (Syntax.ttcons Syntax.tnil
+      (Syntax.ttcons Syntax.tnil (Syntax.ttcons Syntax.tnil (Syntax.ttcons Syntax.tnil (Syntax.ttcons Syntax.tnil (Syntax.ttcons Syntax.tnil (Syntax.ttcons
+      Syntax.tnil (Syntax.ttcons Syntax.tnil (Syntax.ttcons Syntax.tnil (Syntax.ttcons Syntax.tnil (Syntax.ttcons Syntax.tnil (Syntax.ttcons Syntax.tnil
+      (Syntax.ttcons Syntax.tnil (Syntax.ttcons Syntax.tnil (Syntax.ttcons Syntax.tnil (Syntax.ttcons Syntax.tnil (Syntax.ttcons Syntax.tnil (Syntax.ttcons
+      Syntax.tnil (Syntax.ttcons Syntax.tnil (Syntax.ttcons Syntax.tnil (Syntax.ttcons Syntax.tnil (Syntax.ttcons Syntax.tnil (Syntax.ttcons Syntax.tnil
+      (Syntax.ttcons Syntax.tnil (Syntax.ttcons Syntax.tnil (Syntax.ttcons Syntax.tnil (Syntax.ttcons Syntax.tnil Syntax.ttnil)))))))))))))))))))))))))))))))
+      (Syntax.tcons (Syntax.tyInt Syntax.w32) Syntax.tnil)) (Syntax.ttcons (Syntax.tcons (Syntax.tyEnum (107 ∷ 105 ∷ 110 ∷ 100 ∷ 115 ∷ 58 ∷ 58 ∷ 75 ∷ 105 ∷ 110 ∷
+      100 ∷ []) (Syntax.ttcons Syntax.tnil (Syntax.ttcons Syntax.tnil (Syntax.ttcons Syntax.tnil (Syntax.ttcons Syntax.tnil (Syntax.ttcons Syntax.tnil
+      (Syntax.ttcons Syntax.tnil (Syntax.ttcons Syntax.tnil (Syntax.ttcons Syntax.tnil (Syntax.ttcons Syntax.tnil (Syntax.ttcons Syntax.tnil (Syntax.ttcons
+      Syntax.tnil (Syntax.ttcons Syntax.tnil (Syntax.ttcons Syntax.tnil (Syntax.ttcons Syntax.tnil (Syntax.ttcons Syntax.tnil (Syntax.ttcons Syntax.tnil
+      (Syntax.ttcons Syntax.tnil (Syntax.ttcons Syntax.tnil (Syntax.ttcons Syntax.tnil (Syntax.ttcons Syntax.tnil (Syntax.ttcons Syntax.tnil (Syntax.ttcons
+      Syntax.tnil (Syntax.ttcons Syntax.tnil (Syntax.ttcons Syntax.tnil (Syntax.ttcons Syntax.tnil (Syntax.ttcons Syntax.tnil (Syntax.ttcons Syntax.tnil
+      (Syntax.ttcons Syntax.tnil (Syntax.ttcons Syntax.tnil (Syntax.ttcons Syntax.tnil Syntax.ttnil))))))))))))))))))))))))))))))) Syntax.tnil) (Syntax.ttcons
+      (Syntax.tcons (Syntax.tyEnum (108 ∷ 105 ∷ 110 ∷ 101 ∷ 58 ∷ 58 ∷ 82 ∷ 101 ∷ 99 ∷ 111 ∷ 114 ∷ 100 ∷ []) (Syntax.ttcons (Syntax.tcons Syntax.tyBool
+      (Syntax.tcons (Syntax.tyStruct (99 ∷ 111 ∷ 111 ∷ 114 ∷ 100 ∷ 105 ∷ 110 ∷ 97 ∷ 116 ∷ 101 ∷ 58 ∷ 58 ∷ 65 ∷ 116 ∷ 111 ∷ 109 ∷ []) (Syntax.tcons
+      (Syntax.tyStruct (99 ∷ 111 ∷ 111 ∷ 114 ∷ 100 ∷ 105 ∷ 110 ∷ 97 ∷ 116 ∷ 101 ∷ 58 ∷ 58 ∷ 73 ∷ 100 ∷ 101 ∷ 110 ∷ 116 ∷ 105 ∷ 116 ∷ 121 ∷ []) (Syntax.tcons
+      (Syntax.tyStruct (102 ∷ 105 ∷ 101 ∷ 108 ∷ 100 ∷ 115 ∷ 58 ∷ 58 ∷ 83 ∷ 101 ∷ 114 ∷ 105 ∷ 97 ∷ 108 ∷ []) (Syntax.tcons (Syntax.tyInt Syntax.w32) Syntax.tnil))
+      (Syntax.tcons (Syntax.tyStruct (110 ∷ 97 ∷ 109 ∷ 101 ∷ 115 ∷ 58 ∷ 58 ∷ 70 ∷ 111 ∷ 117 ∷ 114 ∷ []) (Syntax.tcons (Syntax.tyInt Syntax.w8) (Syntax.tcons
+      (Syntax.tyInt Syntax.w8) (Syntax.tcons (Syntax.tyInt Syntax.w8) (Syntax.tcons (Syntax.tyInt Syntax.w8) Syntax.tnil))))) (Syntax.tcons (Syntax.tyInt
+      Syntax.w8) (Syntax.tcons (Syntax.tyStruct (114 ∷ 101 ∷ 115 ∷ 105 ∷ 100 ∷ 117 ∷ 101 ∷ 58 ∷ 58 ∷ 82 ∷ 101 ∷ 115 ∷ 105 ∷ 100 ∷ 117 ∷ 101 ∷ []) (Syntax.tcons
+      (Syntax.tyStruct (110 ∷ 97 ∷ 109 ∷ 101 ∷ 115 ∷ 58 ∷ 58 ∷ 84 ∷ 104 ∷ 114 ∷ 101 ∷ 101 ∷ []) (Syntax.tcons (Syntax.tyInt Syntax.w8) (Syntax.tcons
+      (Syntax.tyInt Syntax.w8) (Syntax.tcons (Syntax.tyInt Syntax.w8) Syntax.tnil)))) (Syntax.tcons (Syntax.tyInt Syntax.w8) (Syntax.tcons (Syntax.tyStruct (102
+      ∷ 105 ∷ 101 ∷ 108 ∷ 100 ∷ 115 ∷ 58 ∷ 58 ∷ 82 ∷ 101 ∷ 115 ∷ 105 ∷ 100 ∷ 117 ∷ 101 ∷ 78 ∷ 117 ∷ 109 ∷ 98 ∷ 101 ∷ 114 ∷ []) (Syntax.tcons (Syntax.tyInt
+      Syntax.w32) Syntax.tnil)) (Syntax.tcons (Syntax.tyInt Syntax.w8) Syntax.tnil))))) Syntax.tnil))))) (Syntax.tcons (Syntax.tyStruct (99 ∷ 111 ∷ 111 ∷ 114 ∷
+      100 ∷ 105 ∷ 110 ∷ 97 ∷ 116 ∷ 101 ∷ 58 ∷ 58 ∷ 77 ∷ 101 ∷ 97 ∷ 115 ∷ 117 ∷ 114 ∷ 101 ∷ []) (Syntax.tcons (Syntax.tyStruct (99 ∷ 111 ∷ 111 ∷ 114 ∷ 100 ∷ 105 ∷
+      110 ∷ 97 ∷ 116 ∷ 101 ∷ 58 ∷ 58 ∷ 80 ∷ 111 ∷ 115 ∷ 105 ∷ 116 ∷ 105 ∷ 111 ∷ 110 ∷ []) (Syntax.tcons (Syntax.tyInt Syntax.w32) (Syntax.tcons (Syntax.tyInt
+      Syntax.w32) (Syntax.tcons (Syntax.tyInt Syntax.w32) Syntax.tnil)))) (Syntax.tcons (Syntax.tyInt Syntax.w32) (Syntax.tcons (Syntax.tyInt Syntax.w32)
+      Syntax.tnil)))) (Syntax.tcons (Syntax.tyStruct (99 ∷ 111 ∷ 111 ∷ 114 ∷ 100 ∷ 105 ∷ 110 ∷ 97 ∷ 116 ∷ 101 ∷ 58 ∷ 58 ∷ 83 ∷ 112 ∷ 101 ∷ 99 ∷ 105 ∷ 101 ∷ 115 ∷
+      []) (Syntax.tcons (Syntax.tyStruct (110 ∷ 97 ∷ 109 ∷ 101 ∷ 115 ∷ 58 ∷ 58 ∷ 80 ∷ 97 ∷ 105 ∷ 114 ∷ []) (Syntax.tcons (Syntax.tyInt Syntax.w8) (Syntax.tcons
+      (Syntax.tyInt Syntax.w8) Syntax.tnil))) (Syntax.tcons (Syntax.tyStruct (110 ∷ 97 ∷ 109 ∷ 101 ∷ 115 ∷ 58 ∷ 58 ∷ 80 ∷ 97 ∷ 105 ∷ 114 ∷ []) (Syntax.tcons
+      (Syntax.tyInt Syntax.w8) (Syntax.tcons (Syntax.tyInt Syntax.w8) Syntax.tnil))) Syntax.tnil))) Syntax.tnil)))) Syntax.tnil)) (Syntax.ttcons (Syntax.tcons
+      (Syntax.tyStruct (116 ∷ 101 ∷ 114 ∷ 58 ∷ 58 ∷ 84 ∷ 101 ∷ 114 ∷ []) (Syntax.tcons (Syntax.tyStruct (102 ∷ 105 ∷ 101 ∷ 108 ∷ 100 ∷ 115 ∷ 58 ∷ 58 ∷ 83 ∷ 101 ∷
+      114 ∷ 105 ∷ 97 ∷ 108 ∷ []) (Syntax.tcons (Syntax.tyInt Syntax.w32) Syntax.tnil)) (Syntax.tcons (Syntax.tyStruct (114 ∷ 101 ∷ 115 ∷ 105 ∷ 100 ∷ 117 ∷ 101 ∷
+      58 ∷ 58 ∷ 82 ∷ 101 ∷ 115 ∷ 105 ∷ 100 ∷ 117 ∷ 101 ∷ []) (Syntax.tcons (Syntax.tyStruct (110 ∷ 97 ∷ 109 ∷ 101 ∷ 115 ∷ 58 ∷ 58 ∷ 84 ∷ 104 ∷ 114 ∷ 101 ∷ 101 ∷
+      []) (Syntax.tcons (Syntax.tyInt Syntax.w8) (Syntax.tcons (Syntax.tyInt Syntax.w8) (Syntax.tcons (Syntax.tyInt Syntax.w8) Syntax.tnil)))) (Syntax.tcons
+      (Syntax.tyInt Syntax.w8) (Syntax.tcons (Syntax.tyStruct (102 ∷ 105 ∷ 101 ∷ 108 ∷ 100 ∷ 115 ∷ 58 ∷ 58 ∷ 82 ∷ 101 ∷ 115 ∷ 105 ∷ 100 ∷ 117 ∷ 101 ∷ 78 ∷ 117 ∷
+      109 ∷ 98 ∷ 101 ∷ 114 ∷ []) (Syntax.tcons (Syntax.tyInt Syntax.w32) Syntax.tnil)) (Syntax.tcons (Syntax.tyInt Syntax.w8) Syntax.tnil))))) Syntax.tnil)))
+      Syntax.tnil) (Syntax.ttcons (Syntax.tcons (Syntax.tyStruct (104 ∷ 101 ∷ 108 ∷ 105 ∷ 120 ∷ 58 ∷ 58 ∷ 72 ∷ 101 ∷ 108 ∷ 105 ∷ 120 ∷ []) (Syntax.tcons
+      (Syntax.tyStruct (104 ∷ 101 ∷ 108 ∷ 105 ∷ 120 ∷ 58 ∷ 58 ∷ 69 ∷ 120 ∷ 116 ∷ 101 ∷ 110 ∷ 116 ∷ []) (Syntax.tcons (Syntax.tyInt Syntax.w32) (Syntax.tcons
+      (Syntax.tyStruct (110 ∷ 97 ∷ 109 ∷ 101 ∷ 115 ∷ 58 ∷ 58 ∷ 84 ∷ 104 ∷ 114 ∷ 101 ∷ 101 ∷ []) (Syntax.tcons (Syntax.tyInt Syntax.w8) (Syntax.tcons
+      (Syntax.tyInt Syntax.w8) (Syntax.tcons (Syntax.tyInt Syntax.w8) Syntax.tnil)))) (Syntax.tcons (Syntax.tyStruct (114 ∷ 101 ∷ 115 ∷ 105 ∷ 100 ∷ 117 ∷ 101 ∷
+      58 ∷ 58 ∷ 82 ∷ 101 ∷ 115 ∷ 105 ∷ 100 ∷ 117 ∷ 101 ∷ []) (Syntax.tcons (Syntax.tyStruct (110 ∷ 97 ∷ 109 ∷ 101 ∷ 115 ∷ 58 ∷ 58 ∷ 84 ∷ 104 ∷ 114 ∷ 101 ∷ 101 ∷
+      []) (Syntax.tcons (Syntax.tyInt Syntax.w8) (Syntax.tcons (Syntax.tyInt Syntax.w8) (Syntax.tcons (Syntax.tyInt Syntax.w8) Syntax.tnil)))) (Syntax.tcons
+      (Syntax.tyInt Syntax.w8) (Syntax.tcons (Syntax.tyStruct (102 ∷ 105 ∷ 101 ∷ 108 ∷ 100 ∷ 115 ∷ 58 ∷ 58 ∷ 82 ∷ 101 ∷ 115 ∷ 105 ∷ 100 ∷ 117 ∷ 101 ∷ 78 ∷ 117 ∷
+      109 ∷ 98 ∷ 101 ∷ 114 ∷ []) (Syntax.tcons (Syntax.tyInt Syntax.w32) Syntax.tnil)) (Syntax.tcons (Syntax.tyInt Syntax.w8) Syntax.tnil))))) (Syntax.tcons
+      (Syntax.tyStruct (114 ∷ 101 ∷ 115 ∷ 105 ∷ 100 ∷ 117 ∷ 101 ∷ 58 ∷ 58 ∷ 82 ∷ 101 ∷ 115 ∷ 105 ∷ 100 ∷ 117 ∷ 101 ∷ []) (Syntax.tcons (Syntax.tyStruct (110 ∷ 97
+      ∷ 109 ∷ 101 ∷ 115 ∷ 58 ∷ 58 ∷ 84 ∷ 104 ∷ 114 ∷ 101 ∷ 101 ∷ []) (Syntax.tcons (Syntax.tyInt Syntax.w8) (Syntax.tcons (Syntax.tyInt Syntax.w8) (Syntax.tcons
+      (Syntax.tyInt Syntax.w8) Syntax.tnil)))) (Syntax.tcons (Syntax.tyInt Syntax.w8) (Syntax.tcons (Syntax.tyStruct (102 ∷ 105 ∷ 101 ∷ 108 ∷ 100 ∷ 115 ∷ 58 ∷ 58
+      ∷ 82 ∷ 101 ∷ 115 ∷ 105 ∷ 100 ∷ 117 ∷ 101 ∷ 78 ∷ 117 ∷ 109 ∷ 98 ∷ 101 ∷ 114 ∷ []) (Syntax.tcons (Syntax.tyInt Syntax.w32) Syntax.tnil)) (Syntax.tcons
+      (Syntax.tyInt Syntax.w8) Syntax.tnil))))) Syntax.tnil))))) (Syntax.tcons (Syntax.tyInt Syntax.w32) (Syntax.tcons (Syntax.tyStruct (104 ∷ 101 ∷ 108 ∷ 105 ∷
+      120 ∷ 58 ∷ 58 ∷ 67 ∷ 111 ∷ 109 ∷ 109 ∷ 101 ∷ 110 ∷ 116 ∷ []) (Syntax.tcons (Syntax.tyInt Syntax.w64) (Syntax.tcons (Syntax.tyInt Syntax.w64) (Syntax.tcons
+      (Syntax.tyInt Syntax.w64) (Syntax.tcons (Syntax.tyInt Syntax.w64) Syntax.tnil))))) (Syntax.tcons (Syntax.tyInt Syntax.w32) Syntax.tnil))))) Syntax.tnil)
+      (Syntax.ttcons (Syntax.tcons (Syntax.tyStruct (115 ∷ 104 ∷ 101 ∷ 101 ∷ 116 ∷ 58 ∷ 58 ∷ 83 ∷ 104 ∷ 101 ∷ 101 ∷ 116 ∷ []) (Syntax.tcons (Syntax.tyStruct (115
+      ∷ 104 ∷ 101 ∷ 101 ∷ 116 ∷ 58 ∷ 58 ∷ 83 ∷ 116 ∷ 114 ∷ 97 ∷ 110 ∷ 100 ∷ []) (Syntax.tcons (Syntax.tyInt Syntax.w32) (Syntax.tcons (Syntax.tyStruct (110 ∷ 97
+      ∷ 109 ∷ 101 ∷ 115 ∷ 58 ∷ 58 ∷ 84 ∷ 104 ∷ 114 ∷ 101 ∷ 101 ∷ []) (Syntax.tcons (Syntax.tyInt Syntax.w8) (Syntax.tcons (Syntax.tyInt Syntax.w8) (Syntax.tcons
+      (Syntax.tyInt Syntax.w8) Syntax.tnil)))) (Syntax.tcons (Syntax.tyInt Syntax.w32) (Syntax.tcons (Syntax.tyStruct (114 ∷ 101 ∷ 115 ∷ 105 ∷ 100 ∷ 117 ∷ 101 ∷
+      58 ∷ 58 ∷ 82 ∷ 101 ∷ 115 ∷ 105 ∷ 100 ∷ 117 ∷ 101 ∷ []) (Syntax.tcons (Syntax.tyStruct (110 ∷ 97 ∷ 109 ∷ 101 ∷ 115 ∷ 58 ∷ 58 ∷ 84 ∷ 104 ∷ 114 ∷ 101 ∷ 101 ∷
+      []) (Syntax.tcons (Syntax.tyInt Syntax.w8) (Syntax.tcons (Syntax.tyInt Syntax.w8) (Syntax.tcons (Syntax.tyInt Syntax.w8) Syntax.tnil)))) (Syntax.tcons
+      (Syntax.tyInt Syntax.w8) (Syntax.tcons (Syntax.tyStruct (102 ∷ 105 ∷ 101 ∷ 108 ∷ 100 ∷ 115 ∷ 58 ∷ 58 ∷ 82 ∷ 101 ∷ 115 ∷ 105 ∷ 100 ∷ 117 ∷ 101 ∷ 78 ∷ 117 ∷
+      109 ∷ 98 ∷ 101 ∷ 114 ∷ []) (Syntax.tcons (Syntax.tyInt Syntax.w32) Syntax.tnil)) (Syntax.tcons (Syntax.tyInt Syntax.w8) Syntax.tnil))))) (Syntax.tcons
+      (Syntax.tyStruct (114 ∷ 101 ∷ 115 ∷ 105 ∷ 100 ∷ 117 ∷ 101 ∷ 58 ∷ 58 ∷ 82 ∷ 101 ∷ 115 ∷ 105 ∷ 100 ∷ 117 ∷ 101 ∷ []) (Syntax.tcons (Syntax.tyStruct (110 ∷ 97
+      ∷ 109 ∷ 101 ∷ 115 ∷ 58 ∷ 58 ∷ 84 ∷ 104 ∷ 114 ∷ 101 ∷ 101 ∷ []) (Syntax.tcons (Syntax.tyInt Syntax.w8) (Syntax.tcons (Syntax.tyInt Syntax.w8) (Syntax.tcons
+      (Syntax.tyInt Syntax.w8) Syntax.tnil)))) (Syntax.tcons (Syntax.tyInt Syntax.w8) (Syntax.tcons (Syntax.tyStruct (102 ∷ 105 ∷ 101 ∷ 108 ∷ 100 ∷ 115 ∷ 58 ∷ 58
+      ∷ 82 ∷ 101 ∷ 115 ∷ 105 ∷ 100 ∷ 117 ∷ 101 ∷ 78 ∷ 117 ∷ 109 ∷ 98 ∷ 101 ∷ 114 ∷ []) (Syntax.tcons (Syntax.tyInt Syntax.w32) Syntax.tnil)) (Syntax.tcons
+      (Syntax.tyInt Syntax.w8) Syntax.tnil))))) (Syntax.tcons (Syntax.tyInt Syntax.w32) Syntax.tnil))))))) (Syntax.tcons (Syntax.tyEnum (115 ∷ 104 ∷ 101 ∷ 101 ∷
+      116 ∷ 58 ∷ 58 ∷ 82 ∷ 101 ∷ 103 ∷ 105 ∷ 115 ∷ 116 ∷ 114 ∷ 97 ∷ 116 ∷ 105 ∷ 111 ∷ 110 ∷ []) (Syntax.ttcons Syntax.tnil (Syntax.ttcons (Syntax.tcons
+      (Syntax.tyStruct (115 ∷ 104 ∷ 101 ∷ 101 ∷ 116 ∷ 58 ∷ 58 ∷ 66 ∷ 111 ∷ 110 ∷ 100 ∷ []) (Syntax.tcons (Syntax.tyStruct (110 ∷ 97 ∷ 109 ∷ 101 ∷ 115 ∷ 58 ∷ 58 ∷
+      70 ∷ 111 ∷ 117 ∷ 114 ∷ []) (Syntax.tcons (Syntax.tyInt Syntax.w8) (Syntax.tcons (Syntax.tyInt Syntax.w8) (Syntax.tcons (Syntax.tyInt Syntax.w8)
+      (Syntax.tcons (Syntax.tyInt Syntax.w8) Syntax.tnil))))) (Syntax.tcons (Syntax.tyStruct (114 ∷ 101 ∷ 115 ∷ 105 ∷ 100 ∷ 117 ∷ 101 ∷ 58 ∷ 58 ∷ 82 ∷ 101 ∷ 115
+      ∷ 105 ∷ 100 ∷ 117 ∷ 101 ∷ []) (Syntax.tcons (Syntax.tyStruct (110 ∷ 97 ∷ 109 ∷ 101 ∷ 115 ∷ 58 ∷ 58 ∷ 84 ∷ 104 ∷ 114 ∷ 101 ∷ 101 ∷ []) (Syntax.tcons
+      (Syntax.tyInt Syntax.w8) (Syntax.tcons (Syntax.tyInt Syntax.w8) (Syntax.tcons (Syntax.tyInt Syntax.w8) Syntax.tnil)))) (Syntax.tcons (Syntax.tyInt
+      Syntax.w8) (Syntax.tcons (Syntax.tyStruct (102 ∷ 105 ∷ 101 ∷ 108 ∷ 100 ∷ 115 ∷ 58 ∷ 58 ∷ 82 ∷ 101 ∷ 115 ∷ 105 ∷ 100 ∷ 117 ∷ 101 ∷ 78 ∷ 117 ∷ 109 ∷ 98 ∷ 101
+      ∷ 114 ∷ []) (Syntax.tcons (Syntax.tyInt Syntax.w32) Syntax.tnil)) (Syntax.tcons (Syntax.tyInt Syntax.w8) Syntax.tnil))))) (Syntax.tcons (Syntax.tyStruct
+      (110 ∷ 97 ∷ 109 ∷ 101 ∷ 115 ∷ 58 ∷ 58 ∷ 70 ∷ 111 ∷ 117 ∷ 114 ∷ []) (Syntax.tcons (Syntax.tyInt Syntax.w8) (Syntax.tcons (Syntax.tyInt Syntax.w8)
+      (Syntax.tcons (Syntax.tyInt Syntax.w8) (Syntax.tcons (Syntax.tyInt Syntax.w8) Syntax.tnil))))) (Syntax.tcons (Syntax.tyStruct (114 ∷ 101 ∷ 115 ∷ 105 ∷ 100
+      ∷ 117 ∷ 101 ∷ 58 ∷ 58 ∷ 82 ∷ 101 ∷ 115 ∷ 105 ∷ 100 ∷ 117 ∷ 101 ∷ []) (Syntax.tcons (Syntax.tyStruct (110 ∷ 97 ∷ 109 ∷ 101 ∷ 115 ∷ 58 ∷ 58 ∷ 84 ∷ 104 ∷ 114
+      ∷ 101 ∷ 101 ∷ []) (Syntax.tcons (Syntax.tyInt Syntax.w8) (Syntax.tcons (Syntax.tyInt Syntax.w8) (Syntax.tcons (Syntax.tyInt Syntax.w8) Syntax.tnil))))
+      (Syntax.tcons (Syntax.tyInt Syntax.w8) (Syntax.tcons (Syntax.tyStruct (102 ∷ 105 ∷ 101 ∷ 108 ∷ 100 ∷ 115 ∷ 58 ∷ 58 ∷ 82 ∷ 101 ∷ 115 ∷ 105 ∷ 100 ∷ 117 ∷ 101
+      ∷ 78 ∷ 117 ∷ 109 ∷ 98 ∷ 101 ∷ 114 ∷ []) (Syntax.tcons (Syntax.tyInt Syntax.w32) Syntax.tnil)) (Syntax.tcons (Syntax.tyInt Syntax.w8) Syntax.tnil)))))
+      Syntax.tnil))))) Syntax.tnil) Syntax.ttnil))) Syntax.tnil))) Syntax.tnil) (Syntax.ttcons (Syntax.tcons (Syntax.tyStruct (99 ∷ 111 ∷ 110 ∷ 101 ∷ 99 ∷ 116 ∷
+      58 ∷ 58 ∷ 67 ∷ 111 ∷ 110 ∷ 101 ∷ 99 ∷ 116 ∷ []) (Syntax.tcons (Syntax.tyStruct (102 ∷ 105 ∷ 101 ∷ 108 ∷ 100 ∷ 115 ∷ 58 ∷ 58 ∷ 83 ∷ 101 ∷ 114 ∷ 105 ∷ 97 ∷
+      108 ∷ []) (Syntax.tcons (Syntax.tyInt Syntax.w32) Syntax.tnil)) (Syntax.tcons (Syntax.tyStruct (102 ∷ 105 ∷ 101 ∷ 108 ∷ 100 ∷ 115 ∷ 58 ∷ 58 ∷ 83 ∷ 101 ∷
+      114 ∷ 105 ∷ 97 ∷ 108 ∷ []) (Syntax.tcons (Syntax.tyInt Syntax.w32) Syntax.tnil)) (Syntax.tcons (Syntax.tyStruct (102 ∷ 105 ∷ 101 ∷ 108 ∷ 100 ∷ 115 ∷ 58 ∷
+      58 ∷ 83 ∷ 101 ∷ 114 ∷ 105 ∷ 97 ∷ 108 ∷ []) (Syntax.tcons (Syntax.tyInt Syntax.w32) Syntax.tnil)) (Syntax.tcons (Syntax.tyStruct (102 ∷ 105 ∷ 101 ∷ 108 ∷
+      100 ∷ 115 ∷ 58 ∷ 58 ∷ 83 ∷ 101 ∷ 114 ∷ 105 ∷ 97 ∷ 108 ∷ []) (Syntax.tcons (Syntax.tyInt Syntax.w32) Syntax.tnil)) (Syntax.tcons (Syntax.tyStruct (102 ∷ 105
+      ∷ 101 ∷ 108 ∷ 100 ∷ 115 ∷ 58 ∷ 58 ∷ 83 ∷ 101 ∷ 114 ∷ 105 ∷ 97 ∷ 108 ∷ []) (Syntax.tcons (Syntax.tyInt Syntax.w32) Syntax.tnil)) Syntax.tnil))))))
+      Syntax.tnil) (Syntax.ttcons (Syntax.tcons (Syntax.tyStruct (109 ∷ 97 ∷ 115 ∷ 116 ∷ 101 ∷ 114 ∷ 58 ∷ 58 ∷ 84 ∷ 97 ∷ 108 ∷ 108 ∷ 121 ∷ []) (Syntax.tcons
+      (Syntax.tyInt Syntax.w32) (Syntax.tcons (Syntax.tyInt Syntax.w32) (Syntax.tcons (Syntax.tyInt Syntax.w32) (Syntax.tcons (Syntax.tyInt Syntax.w32)
+      (Syntax.tcons (Syntax.tyInt Syntax.w32) (Syntax.tcons (Syntax.tyInt Syntax.w32) (Syntax.tcons (Syntax.tyInt Syntax.w32) (Syntax.tcons (Syntax.tyInt
+      Syntax.w32) (Syntax.tcons (Syntax.tyInt Syntax.w32) Syntax.tnil)))))))))) Syntax.tnil) (Syntax.ttcons Syntax.tnil (Syntax.ttcons (Syntax.tcons
+      (Syntax.tyStruct (109 ∷ 111 ∷ 100 ∷ 101 ∷ 108 ∷ 58 ∷ 58 ∷ 77 ∷ 111 ∷ 100 ∷ 101 ∷ 108 ∷ []) (Syntax.tcons (Syntax.tyInt Syntax.w32) Syntax.tnil))
+      Syntax.tnil) (Syntax.ttcons Syntax.tnil Syntax.ttnil)))))))))) Syntax.tnil) Syntax.ttnil))))),
+) ∷ (9, Rows.any-gone Syntax.tyBool) ∷ (
+  10,
+  Rows.any-gone
+      (Syntax.tyInt Syntax.w64),
+) ∷ (11, Rows.any-gone (Syntax.tyInt Syntax.w64)) ∷ (12, Rows.sc-here (Row.sInt Syntax.w64)) ∷ (13, Rows.sc-here Row.sBool) ∷ (
+  14,
+  Rows.any-gone (Syntax.tyRef Syntax.erased Syntax.mut SlotAs.pointee),
+) ∷ (
+  15,
+  Rows.any-gone (Syntax.tyStruct (38 ∷ 91 ∷ 93 ∷ []) (Syntax.tcons (Syntax.tyRef
+      Syntax.erased Syntax.mut SlotAs.pointee) (Syntax.tcons (Syntax.tyInt Syntax.w64) Syntax.tnil))),
+) ∷ []
+
+abbrev pub t19 : List.List Row.Entry
+t19 = (
+  0,
+  Rows.any-gone (Syntax.tyStruct (115 ∷ 116 ∷ 111 ∷ 114 ∷ 101 ∷ 58 ∷ 58 ∷ 79 ∷ 117 ∷ 116 ∷ 99 ∷ 111 ∷ 109 ∷ 101 ∷ []) (Syntax.tcons (Syntax.tyInt
+      Syntax.w8) (Syntax.tcons (Syntax.tyInt Syntax.w64) Syntax.tnil))),
+) ∷ (
+  1,
+  Rows.sslice (Referent.rtF (Referent.fInt Syntax.w8)) (Syntax.tyRef (Syntax.named
+      0) Syntax.imm (Syntax.tyInt Syntax.w8)) 0,
+) ∷ (2, Mut.mslice SlotAs.row (Syntax.tyRef (Syntax.named 1) Syntax.mut SlotAs.pointee) 1) ∷ (
+  3,
+  Rows.any-gone
+      (Syntax.tyStruct (115 ∷ 116 ∷ 111 ∷ 114 ∷ 101 ∷ 58 ∷ 58 ∷ 78 ∷ 101 ∷ 101 ∷ 100 ∷ 115 ∷ []) (Syntax.tcons (Syntax.tyInt Syntax.w8) (Syntax.tcons
+      (Syntax.tyInt Syntax.w64) Syntax.tnil))),
+) ∷ (4, Rows.sc-here (Row.sInt Syntax.w64)) ∷ (5, Rows.sc-here (Row.sInt Syntax.w64)) ∷ (
+  6,
+  Rows.sc-here (Row.sInt
+      Syntax.w64),
+) ∷ (7, Rows.sc-here (Row.sInt Syntax.w32)) ∷ (
+  8,
+  Rows.any-gone (Syntax.tyEnum (112 ∷ 105 ∷ 101 ∷ 99 ∷ 101 ∷ 115 ∷ 58 ∷ 58 ∷ 76 ∷ 105 ∷ 110 ∷
+      101 ∷ []) (Syntax.ttcons (Syntax.tcons (Syntax.tyInt Syntax.w8) Syntax.tnil) (Syntax.ttcons (Syntax.tcons (Syntax.tyEnum (107 ∷ 105 ∷ 110 ∷ 100 ∷ 115 ∷ 58
+      ∷ 58 ∷ 75 ∷ 105 ∷ 110 ∷ 100 ∷ []) (Syntax.ttcons Syntax.tnil (Syntax.ttcons Syntax.tnil (Syntax.ttcons Syntax.tnil (Syntax.ttcons Syntax.tnil
+      (Syntax.ttcons Syntax.tnil (Syntax.ttcons Syntax.tnil (Syntax.ttcons Syntax.tnil (Syntax.ttcons Syntax.tnil (Syntax.ttcons Syntax.tnil (Syntax.ttcons
+      Syntax.tnil (Syntax.ttcons Syntax.tnil (Syntax.ttcons Syntax.tnil (Syntax.ttcons Syntax.tnil (Syntax.ttcons Syntax.tnil (Syntax.ttcons Syntax.tnil
+      (Syntax.ttcons Syntax.tnil (Syntax.ttcons Syntax.tnil (Syntax.ttcons Syntax.tnil (Syntax.ttcons Syntax.tnil (Syntax.ttcons Syntax.tnil (Syntax.ttcons
+      Syntax.tnil (Syntax.ttcons Syntax.tnil (Syntax.ttcons Syntax.tnil (Syntax.ttcons Syntax.tnil (Syntax.ttcons Syntax.tnil (Syntax.ttcons Syntax.tnil
+      (Syntax.ttcons Syntax.tnil (Syntax.ttcons Syntax.tnil (Syntax.ttcons Syntax.tnil (Syntax.ttcons Syntax.tnil Syntax.ttnil)))))))))))))))))))))))))))))))
+      (Syntax.tcons (Syntax.tyInt Syntax.w32) Syntax.tnil)) (Syntax.ttcons (Syntax.tcons (Syntax.tyEnum (107 ∷ 105 ∷ 110 ∷ 100 ∷ 115 ∷ 58 ∷ 58 ∷ 75 ∷ 105 ∷ 110 ∷
+      100 ∷ []) (Syntax.ttcons Syntax.tnil (Syntax.ttcons Syntax.tnil (Syntax.ttcons Syntax.tnil (Syntax.ttcons Syntax.tnil (Syntax.ttcons Syntax.tnil
+      (Syntax.ttcons Syntax.tnil (Syntax.ttcons Syntax.tnil (Syntax.ttcons Syntax.tnil (Syntax.ttcons Syntax.tnil (Syntax.ttcons Syntax.tnil (Syntax.ttcons
+      Syntax.tnil (Syntax.ttcons Syntax.tnil (Syntax.ttcons Syntax.tnil (Syntax.ttcons Syntax.tnil (Syntax.ttcons Syntax.tnil (Syntax.ttcons Syntax.tnil
+      (Syntax.ttcons Syntax.tnil (Syntax.ttcons Syntax.tnil (Syntax.ttcons Syntax.tnil (Syntax.ttcons Syntax.tnil (Syntax.ttcons Syntax.tnil (Syntax.ttcons
+      Syntax.tnil (Syntax.ttcons Syntax.tnil (Syntax.ttcons Syntax.tnil (Syntax.ttcons Syntax.tnil (Syntax.ttcons Syntax.tnil (Syntax.ttcons Syntax.tnil
+      (Syntax.ttcons Syntax.tnil (Syntax.ttcons Syntax.tnil (Syntax.ttcons Syntax.tnil Syntax.ttnil))))))))))))))))))))))))))))))) Syntax.tnil) (Syntax.ttcons
+      (Syntax.tcons (Syntax.tyEnum (108 ∷ 105 ∷ 110 ∷ 101 ∷ 58 ∷ 58 ∷ 82 ∷ 101 ∷ 99 ∷ 111 ∷ 114 ∷ 100 ∷ []) (Syntax.ttcons (Syntax.tcons Syntax.tyBool
+      (Syntax.tcons (Syntax.tyStruct (99 ∷ 111 ∷ 111 ∷ 114 ∷ 100 ∷ 105 ∷ 110 ∷ 97 ∷ 116 ∷ 101 ∷ 58 ∷ 58 ∷ 65 ∷ 116 ∷ 111 ∷ 109 ∷ []) (Syntax.tcons
+      (Syntax.tyStruct (99 ∷ 111 ∷ 111 ∷ 114 ∷ 100 ∷ 105 ∷ 110 ∷ 97 ∷ 116 ∷ 101 ∷ 58 ∷ 58 ∷ 73 ∷ 100 ∷ 101 ∷ 110 ∷ 116 ∷ 105 ∷ 116 ∷ 121 ∷ []) (Syntax.tcons
+      (Syntax.tyStruct (102 ∷ 105 ∷ 101 ∷ 108 ∷ 100 ∷ 115 ∷ 58 ∷ 58 ∷ 83 ∷ 101 ∷ 114 ∷ 105 ∷ 97 ∷ 108 ∷ []) (Syntax.tcons (Syntax.tyInt Syntax.w32) Syntax.tnil))
+      (Syntax.tcons (Syntax.tyStruct (110 ∷ 97 ∷ 109 ∷ 101 ∷ 115 ∷ 58 ∷ 58 ∷ 70 ∷ 111 ∷ 117 ∷ 114 ∷ []) (Syntax.tcons (Syntax.tyInt Syntax.w8) (Syntax.tcons
+      (Syntax.tyInt Syntax.w8) (Syntax.tcons (Syntax.tyInt Syntax.w8) (Syntax.tcons (Syntax.tyInt Syntax.w8) Syntax.tnil))))) (Syntax.tcons (Syntax.tyInt
+      Syntax.w8) (Syntax.tcons (Syntax.tyStruct (114 ∷ 101 ∷ 115 ∷ 105 ∷ 100 ∷ 117 ∷ 101 ∷ 58 ∷ 58 ∷ 82 ∷ 101 ∷ 115 ∷ 105 ∷ 100 ∷ 117 ∷ 101 ∷ []) (Syntax.tcons
+      (Syntax.tyStruct (110 ∷ 97 ∷ 109 ∷ 101 ∷ 115 ∷ 58 ∷ 58 ∷ 84 ∷ 104 ∷ 114 ∷ 101 ∷ 101 ∷ []) (Syntax.tcons (Syntax.tyInt Syntax.w8) (Syntax.tcons
+      (Syntax.tyInt Syntax.w8) (Syntax.tcons (Syntax.tyInt Syntax.w8) Syntax.tnil)))) (Syntax.tcons (Syntax.tyInt Syntax.w8) (Syntax.tcons (Syntax.tyStruct (102
+      ∷ 105 ∷ 101 ∷ 108 ∷ 100 ∷ 115 ∷ 58 ∷ 58 ∷ 82 ∷ 101 ∷ 115 ∷ 105 ∷ 100 ∷ 117 ∷ 101 ∷ 78 ∷ 117 ∷ 109 ∷ 98 ∷ 101 ∷ 114 ∷ []) (Syntax.tcons (Syntax.tyInt
+      Syntax.w32) Syntax.tnil)) (Syntax.tcons (Syntax.tyInt Syntax.w8) Syntax.tnil))))) Syntax.tnil))))) (Syntax.tcons (Syntax.tyStruct (99 ∷ 111 ∷ 111 ∷ 114 ∷
+      100 ∷ 105 ∷ 110 ∷ 97 ∷ 116 ∷ 101 ∷ 58 ∷ 58 ∷ 77 ∷ 101 ∷ 97 ∷ 115 ∷ 117 ∷ 114 ∷ 101 ∷ []) (Syntax.tcons (Syntax.tyStruct (99 ∷ 111 ∷ 111 ∷ 114 ∷ 100 ∷ 105 ∷
+      110 ∷ 97 ∷ 116 ∷ 101 ∷ 58 ∷ 58 ∷ 80 ∷ 111 ∷ 115 ∷ 105 ∷ 116 ∷ 105 ∷ 111 ∷ 110 ∷ []) (Syntax.tcons (Syntax.tyInt Syntax.w32) (Syntax.tcons (Syntax.tyInt
+      Syntax.w32) (Syntax.tcons (Syntax.tyInt Syntax.w32) Syntax.tnil)))) (Syntax.tcons (Syntax.tyInt Syntax.w32) (Syntax.tcons (Syntax.tyInt Syntax.w32)
+      Syntax.tnil)))) (Syntax.tcons (Syntax.tyStruct (99 ∷ 111 ∷ 111 ∷ 114 ∷ 100 ∷ 105 ∷ 110 ∷ 97 ∷ 116 ∷ 101 ∷ 58 ∷ 58 ∷ 83 ∷ 112 ∷ 101 ∷ 99 ∷ 105 ∷ 101 ∷ 115 ∷
+      []) (Syntax.tcons (Syntax.tyStruct (110 ∷ 97 ∷ 109 ∷ 101 ∷ 115 ∷ 58 ∷ 58 ∷ 80 ∷ 97 ∷ 105 ∷ 114 ∷ []) (Syntax.tcons (Syntax.tyInt Syntax.w8) (Syntax.tcons
+      (Syntax.tyInt Syntax.w8) Syntax.tnil))) (Syntax.tcons (Syntax.tyStruct (110 ∷ 97 ∷ 109 ∷ 101 ∷ 115 ∷ 58 ∷ 58 ∷ 80 ∷ 97 ∷ 105 ∷ 114 ∷ []) (Syntax.tcons
+      (Syntax.tyInt Syntax.w8) (Syntax.tcons (Syntax.tyInt Syntax.w8) Syntax.tnil))) Syntax.tnil))) Syntax.tnil)))) Syntax.tnil)) (Syntax.ttcons (Syntax.tcons
+      (Syntax.tyStruct (116 ∷ 101 ∷ 114 ∷ 58 ∷ 58 ∷ 84 ∷ 101 ∷ 114 ∷ []) (Syntax.tcons (Syntax.tyStruct (102 ∷ 105 ∷ 101 ∷ 108 ∷ 100 ∷ 115 ∷ 58 ∷ 58 ∷ 83 ∷ 101 ∷
+      114 ∷ 105 ∷ 97 ∷ 108 ∷ []) (Syntax.tcons (Syntax.tyInt Syntax.w32) Syntax.tnil)) (Syntax.tcons (Syntax.tyStruct (114 ∷ 101 ∷ 115 ∷ 105 ∷ 100 ∷ 117 ∷ 101 ∷
+      58 ∷ 58 ∷ 82 ∷ 101 ∷ 115 ∷ 105 ∷ 100 ∷ 117 ∷ 101 ∷ []) (Syntax.tcons (Syntax.tyStruct (110 ∷ 97 ∷ 109 ∷ 101 ∷ 115 ∷ 58 ∷ 58 ∷ 84 ∷ 104 ∷ 114 ∷ 101 ∷ 101 ∷
+      []) (Syntax.tcons (Syntax.tyInt Syntax.w8) (Syntax.tcons (Syntax.tyInt Syntax.w8) (Syntax.tcons (Syntax.tyInt Syntax.w8) Syntax.tnil)))) (Syntax.tcons
+      (Syntax.tyInt Syntax.w8) (Syntax.tcons (Syntax.tyStruct (102 ∷ 105 ∷ 101 ∷ 108 ∷ 100 ∷ 115 ∷ 58 ∷ 58 ∷ 82 ∷ 101 ∷ 115 ∷ 105 ∷ 100 ∷ 117 ∷ 101 ∷ 78 ∷ 117 ∷
+      109 ∷ 98 ∷ 101 ∷ 114 ∷ []) (Syntax.tcons (Syntax.tyInt Syntax.w32) Syntax.tnil)) (Syntax.tcons (Syntax.tyInt Syntax.w8) Syntax.tnil))))) Syntax.tnil)))
+      Syntax.tnil) (Syntax.ttcons (Syntax.tcons (Syntax.tyStruct (104 ∷ 101 ∷ 108 ∷ 105 ∷ 120 ∷ 58 ∷ 58 ∷ 72 ∷ 101 ∷ 108 ∷ 105 ∷ 120 ∷ []) (Syntax.tcons
+      (Syntax.tyStruct (104 ∷ 101 ∷ 108 ∷ 105 ∷ 120 ∷ 58 ∷ 58 ∷ 69 ∷ 120 ∷ 116 ∷ 101 ∷ 110 ∷ 116 ∷ []) (Syntax.tcons (Syntax.tyInt Syntax.w32) (Syntax.tcons
+      (Syntax.tyStruct (110 ∷ 97 ∷ 109 ∷ 101 ∷ 115 ∷ 58 ∷ 58 ∷ 84 ∷ 104 ∷ 114 ∷ 101 ∷ 101 ∷ []) (Syntax.tcons (Syntax.tyInt Syntax.w8) (Syntax.tcons
+      (Syntax.tyInt Syntax.w8) (Syntax.tcons (Syntax.tyInt Syntax.w8) Syntax.tnil)))) (Syntax.tcons (Syntax.tyStruct (114 ∷ 101 ∷ 115 ∷ 105 ∷ 100 ∷ 117 ∷ 101 ∷
+      58 ∷ 58 ∷ 82 ∷ 101 ∷ 115 ∷ 105 ∷ 100 ∷ 117 ∷ 101 ∷ []) (Syntax.tcons (Syntax.tyStruct (110 ∷ 97 ∷ 109 ∷ 101 ∷ 115 ∷ 58 ∷ 58 ∷ 84 ∷ 104 ∷ 114 ∷ 101 ∷ 101 ∷
+      []) (Syntax.tcons (Syntax.tyInt Syntax.w8) (Syntax.tcons (Syntax.tyInt Syntax.w8) (Syntax.tcons (Syntax.tyInt Syntax.w8) Syntax.tnil)))) (Syntax.tcons
+      (Syntax.tyInt Syntax.w8) (Syntax.tcons (Syntax.tyStruct (102 ∷ 105 ∷ 101 ∷ 108 ∷ 100 ∷ 115 ∷ 58 ∷ 58 ∷ 82 ∷ 101 ∷ 115 ∷ 105 ∷ 100 ∷ 117 ∷ 101 ∷ 78 ∷ 117 ∷
+      109 ∷ 98 ∷ 101 ∷ 114 ∷ []) (Syntax.tcons (Syntax.tyInt Syntax.w32) Syntax.tnil)) (Syntax.tcons (Syntax.tyInt Syntax.w8) Syntax.tnil))))) (Syntax.tcons
+      (Syntax.tyStruct (114 ∷ 101 ∷ 115 ∷ 105 ∷ 100 ∷ 117 ∷ 101 ∷ 58 ∷ 58 ∷ 82 ∷ 101 ∷ 115 ∷ 105 ∷ 100 ∷ 117 ∷ 101 ∷ []) (Syntax.tcons (Syntax.tyStruct (110 ∷ 97
+      ∷ 109 ∷ 101 ∷ 115 ∷ 58 ∷ 58 ∷ 84 ∷ 104 ∷ 114 ∷ 101 ∷ 101 ∷ []) (Syntax.tcons (Syntax.tyInt Syntax.w8) (Syntax.tcons (Syntax.tyInt Syntax.w8) (Syntax.tcons
+      (Syntax.tyInt Syntax.w8) Syntax.tnil)))) (Syntax.tcons (Syntax.tyInt Syntax.w8) (Syntax.tcons (Syntax.tyStruct (102 ∷ 105 ∷ 101 ∷ 108 ∷ 100 ∷ 115 ∷ 58 ∷ 58
+      ∷ 82 ∷ 101 ∷ 115 ∷ 105 ∷ 100 ∷ 117 ∷ 101 ∷ 78 ∷ 117 ∷ 109 ∷ 98 ∷ 101 ∷ 114 ∷ []) (Syntax.tcons (Syntax.tyInt Syntax.w32) Syntax.tnil)) (Syntax.tcons
+      (Syntax.tyInt Syntax.w8) Syntax.tnil))))) Syntax.tnil))))) (Syntax.tcons (Syntax.tyInt Syntax.w32) (Syntax.tcons (Syntax.tyStruct (104 ∷ 101 ∷ 108 ∷ 105 ∷
+      120 ∷ 58 ∷ 58 ∷ 67 ∷ 111 ∷ 109 ∷ 109 ∷ 101 ∷ 110 ∷ 116 ∷ []) (Syntax.tcons (Syntax.tyInt Syntax.w64) (Syntax.tcons (Syntax.tyInt Syntax.w64) (Syntax.tcons
+      (Syntax.tyInt Syntax.w64) (Syntax.tcons (Syntax.tyInt Syntax.w64) Syntax.tnil))))) (Syntax.tcons (Syntax.tyInt Syntax.w32) Syntax.tnil))))) Syntax.tnil)
+      (Syntax.ttcons (Syntax.tcons (Syntax.tyStruct (115 ∷ 104 ∷ 101 ∷ 101 ∷ 116 ∷ 58 ∷ 58 ∷ 83 ∷ 104 ∷ 101 ∷ 101 ∷ 116 ∷ []) (Syntax.tcons (Syntax.tyStruct (115
+      ∷ 104 ∷ 101 ∷ 101 ∷ 116 ∷ 58 ∷ 58 ∷ 83 ∷ 116 ∷ 114 ∷ 97 ∷ 110 ∷ 100 ∷ []) (Syntax.tcons (Syntax.tyInt Syntax.w32) (Syntax.tcons (Syntax.tyStruct (110 ∷ 97
+      ∷ 109 ∷ 101 ∷ 115 ∷ 58 ∷ 58 ∷ 84 ∷ 104 ∷ 114 ∷ 101 ∷ 101 ∷ []) (Syntax.tcons (Syntax.tyInt Syntax.w8) (Syntax.tcons (Syntax.tyInt Syntax.w8) (Syntax.tcons
+      (Syntax.tyInt Syntax.w8) Syntax.tnil)))) (Syntax.tcons (Syntax.tyInt Syntax.w32) (Syntax.tcons (Syntax.tyStruct (114 ∷ 101 ∷ 115 ∷ 105 ∷ 100 ∷ 117 ∷ 101 ∷
+      58 ∷ 58 ∷ 82 ∷ 101 ∷ 115 ∷ 105 ∷ 100 ∷ 117 ∷ 101 ∷ []) (Syntax.tcons (Syntax.tyStruct (110 ∷ 97 ∷ 109 ∷ 101 ∷ 115 ∷ 58 ∷ 58 ∷ 84 ∷ 104 ∷ 114 ∷ 101 ∷ 101 ∷
+      []) (Syntax.tcons (Syntax.tyInt Syntax.w8) (Syntax.tcons (Syntax.tyInt Syntax.w8) (Syntax.tcons (Syntax.tyInt Syntax.w8) Syntax.tnil)))) (Syntax.tcons
+      (Syntax.tyInt Syntax.w8) (Syntax.tcons (Syntax.tyStruct (102 ∷ 105 ∷ 101 ∷ 108 ∷ 100 ∷ 115 ∷ 58 ∷ 58 ∷ 82 ∷ 101 ∷ 115 ∷ 105 ∷ 100 ∷ 117 ∷ 101 ∷ 78 ∷ 117 ∷
+      109 ∷ 98 ∷ 101 ∷ 114 ∷ []) (Syntax.tcons (Syntax.tyInt Syntax.w32) Syntax.tnil)) (Syntax.tcons (Syntax.tyInt Syntax.w8) Syntax.tnil))))) (Syntax.tcons
+      (Syntax.tyStruct (114 ∷ 101 ∷ 115 ∷ 105 ∷ 100 ∷ 117 ∷ 101 ∷ 58 ∷ 58 ∷ 82 ∷ 101 ∷ 115 ∷ 105 ∷ 100 ∷ 117 ∷ 101 ∷ []) (Syntax.tcons (Syntax.tyStruct (110 ∷ 97
+      ∷ 109 ∷ 101 ∷ 115 ∷ 58 ∷ 58 ∷ 84 ∷ 104 ∷ 114 ∷ 101 ∷ 101 ∷ []) (Syntax.tcons (Syntax.tyInt Syntax.w8) (Syntax.tcons (Syntax.tyInt Syntax.w8) (Syntax.tcons
+      (Syntax.tyInt Syntax.w8) Syntax.tnil)))) (Syntax.tcons (Syntax.tyInt Syntax.w8) (Syntax.tcons (Syntax.tyStruct (102 ∷ 105 ∷ 101 ∷ 108 ∷ 100 ∷ 115 ∷ 58 ∷ 58
+      ∷ 82 ∷ 101 ∷ 115 ∷ 105 ∷ 100 ∷ 117 ∷ 101 ∷ 78 ∷ 117 ∷ 109 ∷ 98 ∷ 101 ∷ 114 ∷ []) (Syntax.tcons (Syntax.tyInt Syntax.w32) Syntax.tnil)) (Syntax.tcons
+      (Syntax.tyInt Syntax.w8) Syntax.tnil))))) (Syntax.tcons (Syntax.tyInt Syntax.w32) Syntax.tnil))))))) (Syntax.tcons (Syntax.tyEnum (115 ∷ 104 ∷ 101 ∷ 101 ∷
+      116 ∷ 58 ∷ 58 ∷ 82 ∷ 101 ∷ 103 ∷ 105 ∷ 115 ∷ 116 ∷ 114 ∷ 97 ∷ 116 ∷ 105 ∷ 111 ∷ 110 ∷ []) (Syntax.ttcons Syntax.tnil (Syntax.ttcons (Syntax.tcons
+      (Syntax.tyStruct (115 ∷ 104 ∷ 101 ∷ 101 ∷ 116 ∷ 58 ∷ 58 ∷ 66 ∷ 111 ∷ 110 ∷ 100 ∷ []) (Syntax.tcons (Syntax.tyStruct (110 ∷ 97 ∷ 109 ∷ 101 ∷ 115 ∷ 58 ∷ 58 ∷
+      70 ∷ 111 ∷ 117 ∷ 114 ∷ []) (Syntax.tcons (Syntax.tyInt Syntax.w8) (Syntax.tcons (Syntax.tyInt Syntax.w8) (Syntax.tcons (Syntax.tyInt Syntax.w8)
+      (Syntax.tcons (Syntax.tyInt Syntax.w8) Syntax.tnil))))) (Syntax.tcons (Syntax.tyStruct (114 ∷ 101 ∷ 115 ∷ 105 ∷ 100 ∷ 117 ∷ 101 ∷ 58 ∷ 58 ∷ 82 ∷ 101 ∷ 115
+      ∷ 105 ∷ 100 ∷ 117 ∷ 101 ∷ []) (Syntax.tcons (Syntax.tyStruct (110 ∷ 97 ∷ 109 ∷ 101 ∷ 115 ∷ 58 ∷ 58 ∷ 84 ∷ 104 ∷ 114 ∷ 101 ∷ 101 ∷ []) (Syntax.tcons
+      (Syntax.tyInt Syntax.w8) (Syntax.tcons (Syntax.tyInt Syntax.w8) (Syntax.tcons (Syntax.tyInt Syntax.w8) Syntax.tnil)))) (Syntax.tcons (Syntax.tyInt
+      Syntax.w8) (Syntax.tcons (Syntax.tyStruct (102 ∷ 105 ∷ 101 ∷ 108 ∷ 100 ∷ 115 ∷ 58 ∷ 58 ∷ 82 ∷ 101 ∷ 115 ∷ 105 ∷ 100 ∷ 117 ∷ 101 ∷ 78 ∷ 117 ∷ 109 ∷ 98 ∷ 101
+      ∷ 114 ∷ []) (Syntax.tcons (Syntax.tyInt Syntax.w32) Syntax.tnil)) (Syntax.tcons (Syntax.tyInt Syntax.w8) Syntax.tnil))))) (Syntax.tcons (Syntax.tyStruct
+      (110 ∷ 97 ∷ 109 ∷ 101 ∷ 115 ∷ 58 ∷ 58 ∷ 70 ∷ 111 ∷ 117 ∷ 114 ∷ []) (Syntax.tcons (Syntax.tyInt Syntax.w8) (Syntax.tcons (Syntax.tyInt Syntax.w8)
+      (Syntax.tcons (Syntax.tyInt Syntax.w8) (Syntax.tcons (Syntax.tyInt Syntax.w8) Syntax.tnil))))) (Syntax.tcons (Syntax.tyStruct (114 ∷ 101 ∷ 115 ∷ 105 ∷ 100
+      ∷ 117 ∷ 101 ∷ 58 ∷ 58 ∷ 82 ∷ 101 ∷ 115 ∷ 105 ∷ 100 ∷ 117 ∷ 101 ∷ []) (Syntax.tcons (Syntax.tyStruct (110 ∷ 97 ∷ 109 ∷ 101 ∷ 115 ∷ 58 ∷ 58 ∷ 84 ∷ 104 ∷ 114
+      ∷ 101 ∷ 101 ∷ []) (Syntax.tcons (Syntax.tyInt Syntax.w8) (Syntax.tcons (Syntax.tyInt Syntax.w8) (Syntax.tcons (Syntax.tyInt Syntax.w8) Syntax.tnil))))
+      (Syntax.tcons (Syntax.tyInt Syntax.w8) (Syntax.tcons (Syntax.tyStruct (102 ∷ 105 ∷ 101 ∷ 108 ∷ 100 ∷ 115 ∷ 58 ∷ 58 ∷ 82 ∷ 101 ∷ 115 ∷ 105 ∷ 100 ∷ 117 ∷ 101
+      ∷ 78 ∷ 117 ∷ 109 ∷ 98 ∷ 101 ∷ 114 ∷ []) (Syntax.tcons (Syntax.tyInt Syntax.w32) Syntax.tnil)) (Syntax.tcons (Syntax.tyInt Syntax.w8) Syntax.tnil)))))
+      Syntax.tnil))))) Syntax.tnil) Syntax.ttnil))) Syntax.tnil))) Syntax.tnil) (Syntax.ttcons (Syntax.tcons (Syntax.tyStruct (99 ∷ 111 ∷ 110 ∷ 101 ∷ 99 ∷ 116 ∷
+      58 ∷ 58 ∷ 67 ∷ 111 ∷ 110 ∷ 101 ∷ 99 ∷ 116 ∷ []) (Syntax.tcons (Syntax.tyStruct (102 ∷ 105 ∷ 101 ∷ 108 ∷ 100 ∷ 115 ∷ 58 ∷ 58 ∷ 83 ∷ 101 ∷ 114 ∷ 105 ∷ 97 ∷
+      108 ∷ []) (Syntax.tcons (Syntax.tyInt Syntax.w32) Syntax.tnil)) (Syntax.tcons (Syntax.tyStruct (102 ∷ 105 ∷ 101 ∷ 108 ∷ 100 ∷ 115 ∷ 58 ∷ 58 ∷ 83 ∷ 101 ∷
+      114 ∷ 105 ∷ 97 ∷ 108 ∷ []) (Syntax.tcons (Syntax.tyInt Syntax.w32) Syntax.tnil)) (Syntax.tcons (Syntax.tyStruct (102 ∷ 105 ∷ 101 ∷ 108 ∷ 100 ∷ 115 ∷ 58 ∷
+      58 ∷ 83 ∷ 101 ∷ 114 ∷ 105 ∷ 97 ∷ 108 ∷ []) (Syntax.tcons (Syntax.tyInt Syntax.w32) Syntax.tnil)) (Syntax.tcons (Syntax.tyStruct (102 ∷ 105 ∷ 101 ∷ 108 ∷
+      100 ∷ 115 ∷ 58 ∷ 58 ∷ 83 ∷ 101 ∷ 114 ∷ 105 ∷ 97 ∷ 108 ∷ []) (Syntax.tcons (Syntax.tyInt Syntax.w32) Syntax.tnil)) (Syntax.tcons (Syntax.tyStruct (102 ∷ 105
+      ∷ 101 ∷ 108 ∷ 100 ∷ 115 ∷ 58 ∷ 58 ∷ 83 ∷ 101 ∷ 114 ∷ 105 ∷ 97 ∷ 108 ∷ []) (Syntax.tcons (Syntax.tyInt Syntax.w32) Syntax.tnil)) Syntax.tnil))))))
+      Syntax.tnil) (Syntax.ttcons (Syntax.tcons (Syntax.tyStruct (109 ∷ 97 ∷ 115 ∷ 116 ∷ 101 ∷ 114 ∷ 58 ∷ 58 ∷ 84 ∷ 97 ∷ 108 ∷ 108 ∷ 121 ∷ []) (Syntax.tcons
+      (Syntax.tyInt Syntax.w32) (Syntax.tcons (Syntax.tyInt Syntax.w32) (Syntax.tcons (Syntax.tyInt Syntax.w32) (Syntax.tcons (Syntax.tyInt Syntax.w32)
+      (Syntax.tcons (Syntax.tyInt Syntax.w32) (Syntax.tcons (Syntax.tyInt Syntax.w32) (Syntax.tcons (Syntax.tyInt Syntax.w32) (Syntax.tcons (Syntax.tyInt
+      Syntax.w32) (Syntax.tcons (Syntax.tyInt Syntax.w32) Syntax.tnil)))))))))) Syntax.tnil) (Syntax.ttcons Syntax.tnil (Syntax.ttcons (Syntax.tcons
+      (Syntax.tyStruct (109 ∷ 111 ∷ 100 ∷ 101 ∷ 108 ∷ 58 ∷ 58 ∷ 77 ∷ 111 ∷ 100 ∷ 101 ∷ 108 ∷ []) (Syntax.tcons (Syntax.tyInt Syntax.w32) Syntax.tnil))
+      Syntax.tnil) (Syntax.ttcons Syntax.tnil Syntax.ttnil)))))))))) Syntax.tnil) Syntax.ttnil))))),
+) ∷ (9, Rows.any-gone Syntax.tyBool) ∷ (
+  10,
+  Rows.any-gone
+      (Syntax.tyInt Syntax.w64),
+) ∷ (11, Rows.any-gone (Syntax.tyInt Syntax.w64)) ∷ (12, Rows.any-gone (Syntax.tyInt Syntax.w64)) ∷ (13, Rows.sc-here Row.sBool) ∷
+    (14, Rows.any-gone (Syntax.tyRef Syntax.erased Syntax.mut SlotAs.pointee)) ∷ (
+      15,
+      Rows.any-gone (Syntax.tyStruct (38 ∷ 91 ∷ 93 ∷ []) (Syntax.tcons
+          (Syntax.tyRef Syntax.erased Syntax.mut SlotAs.pointee) (Syntax.tcons (Syntax.tyInt Syntax.w64) Syntax.tnil))),
+    ) ∷ []
+
+abbrev pub t20 : List.List Row.Entry
+t20 = (
+  0,
+  Rows.any-gone (Syntax.tyStruct (115 ∷ 116 ∷ 111 ∷ 114 ∷ 101 ∷ 58 ∷ 58 ∷ 79 ∷ 117 ∷ 116 ∷ 99 ∷ 111 ∷ 109 ∷ 101 ∷ []) (Syntax.tcons (Syntax.tyInt
+      Syntax.w8) (Syntax.tcons (Syntax.tyInt Syntax.w64) Syntax.tnil))),
+) ∷ (
+  1,
+  Rows.sslice (Referent.rtF (Referent.fInt Syntax.w8)) (Syntax.tyRef (Syntax.named
+      0) Syntax.imm (Syntax.tyInt Syntax.w8)) 0,
+) ∷ (2, Mut.mslice SlotAs.row (Syntax.tyRef (Syntax.named 1) Syntax.mut SlotAs.pointee) 1) ∷ (
+  3,
+  Rows.any-gone
+      (Syntax.tyStruct (115 ∷ 116 ∷ 111 ∷ 114 ∷ 101 ∷ 58 ∷ 58 ∷ 78 ∷ 101 ∷ 101 ∷ 100 ∷ 115 ∷ []) (Syntax.tcons (Syntax.tyInt Syntax.w8) (Syntax.tcons
+      (Syntax.tyInt Syntax.w64) Syntax.tnil))),
+) ∷ (4, Rows.sc-here (Row.sInt Syntax.w64)) ∷ (5, Rows.sc-here (Row.sInt Syntax.w64)) ∷ (
+  6,
+  Rows.sc-here (Row.sInt
+      Syntax.w64),
+) ∷ (7, Rows.sc-here (Row.sInt Syntax.w32)) ∷ (8, Rows.whole (Declared.row Line.the-type)) ∷ (9, Rows.any-gone Syntax.tyBool) ∷ (
+  10,
+  Rows.any-gone (Syntax.tyInt Syntax.w64),
+) ∷ (11, Rows.any-gone (Syntax.tyInt Syntax.w64)) ∷ (12, Rows.any-gone (Syntax.tyInt Syntax.w64)) ∷ (
+  13,
+  Rows.any-gone Syntax.tyBool,
+) ∷ (14, Rows.any-gone (Syntax.tyRef Syntax.erased Syntax.mut SlotAs.pointee)) ∷ (
+  15,
+  Rows.any-gone (Syntax.tyStruct (38 ∷ 91 ∷
+      93 ∷ []) (Syntax.tcons (Syntax.tyRef Syntax.erased Syntax.mut SlotAs.pointee) (Syntax.tcons (Syntax.tyInt Syntax.w64) Syntax.tnil))),
+) ∷ []
+
+abbrev pub t21 : List.List Row.Entry
+t21 = (
+  0,
+  Rows.any-gone (Syntax.tyStruct (115 ∷ 116 ∷ 111 ∷ 114 ∷ 101 ∷ 58 ∷ 58 ∷ 79 ∷ 117 ∷ 116 ∷ 99 ∷ 111 ∷ 109 ∷ 101 ∷ []) (Syntax.tcons (Syntax.tyInt
+      Syntax.w8) (Syntax.tcons (Syntax.tyInt Syntax.w64) Syntax.tnil))),
+) ∷ (
+  1,
+  Rows.sslice (Referent.rtF (Referent.fInt Syntax.w8)) (Syntax.tyRef (Syntax.named
+      0) Syntax.imm (Syntax.tyInt Syntax.w8)) 0,
+) ∷ (2, Relend.mslice-owed SlotAs.row (Syntax.tyRef (Syntax.named 1) Syntax.mut SlotAs.pointee) 1 2 Row.off) ∷ (
+  3,
+  Rows.any-gone (Syntax.tyStruct (115 ∷ 116 ∷ 111 ∷ 114 ∷ 101 ∷ 58 ∷ 58 ∷ 78 ∷ 101 ∷ 101 ∷ 100 ∷ 115 ∷ []) (Syntax.tcons (Syntax.tyInt Syntax.w8)
+      (Syntax.tcons (Syntax.tyInt Syntax.w64) Syntax.tnil))),
+) ∷ (4, Rows.sc-here (Row.sInt Syntax.w64)) ∷ (5, Rows.sc-here (Row.sInt Syntax.w64)) ∷ (
+  6,
+  Rows.sc-here (Row.sInt Syntax.w64),
+) ∷ (7, Rows.sc-here (Row.sInt Syntax.w32)) ∷ (8, Rows.whole (Declared.row Line.the-type)) ∷ (
+  9,
+  Rows.any-gone
+      Syntax.tyBool,
+) ∷ (10, Rows.any-gone (Syntax.tyInt Syntax.w64)) ∷ (11, Rows.any-gone (Syntax.tyInt Syntax.w64)) ∷ (
+  12,
+  Rows.any-gone (Syntax.tyInt
+      Syntax.w64),
+) ∷ (13, Rows.any-gone Syntax.tyBool) ∷ (14, Relend.msptr SlotAs.row (Syntax.tyRef Syntax.erased Syntax.mut SlotAs.pointee) 2) ∷ (
+  15,
   Rows.any-gone (Syntax.tyStruct (38 ∷ 91 ∷ 93 ∷ []) (Syntax.tcons (Syntax.tyRef Syntax.erased Syntax.mut SlotAs.pointee) (Syntax.tcons (Syntax.tyInt
       Syntax.w64) Syntax.tnil))),
+) ∷ []
+
+abbrev pub t22 : List.List Row.Entry
+t22 = (
+  0,
+  Rows.any-gone (Syntax.tyStruct (115 ∷ 116 ∷ 111 ∷ 114 ∷ 101 ∷ 58 ∷ 58 ∷ 79 ∷ 117 ∷ 116 ∷ 99 ∷ 111 ∷ 109 ∷ 101 ∷ []) (Syntax.tcons (Syntax.tyInt
+      Syntax.w8) (Syntax.tcons (Syntax.tyInt Syntax.w64) Syntax.tnil))),
+) ∷ (
+  1,
+  Rows.sslice (Referent.rtF (Referent.fInt Syntax.w8)) (Syntax.tyRef (Syntax.named
+      0) Syntax.imm (Syntax.tyInt Syntax.w8)) 0,
+) ∷ (2, Relend.mslice-owed SlotAs.row (Syntax.tyRef (Syntax.named 1) Syntax.mut SlotAs.pointee) 1 2 Row.off) ∷ (
+  3,
+  Rows.any-gone (Syntax.tyStruct (115 ∷ 116 ∷ 111 ∷ 114 ∷ 101 ∷ 58 ∷ 58 ∷ 78 ∷ 101 ∷ 101 ∷ 100 ∷ 115 ∷ []) (Syntax.tcons (Syntax.tyInt Syntax.w8)
+      (Syntax.tcons (Syntax.tyInt Syntax.w64) Syntax.tnil))),
+) ∷ (4, Rows.sc-here (Row.sInt Syntax.w64)) ∷ (5, Rows.sc-here (Row.sInt Syntax.w64)) ∷ (
+  6,
+  Rows.sc-here (Row.sInt Syntax.w64),
+) ∷ (7, Rows.sc-here (Row.sInt Syntax.w32)) ∷ (8, Rows.whole (Declared.row Line.the-type)) ∷ (
+  9,
+  Rows.any-gone
+      Syntax.tyBool,
+) ∷ (10, Rows.any-gone (Syntax.tyInt Syntax.w64)) ∷ (11, Rows.any-gone (Syntax.tyInt Syntax.w64)) ∷ (
+  12,
+  Rows.any-gone (Syntax.tyInt
+      Syntax.w64),
+) ∷ (13, Rows.any-gone Syntax.tyBool) ∷ (14, Rows.any-gone (Syntax.tyRef Syntax.erased Syntax.mut SlotAs.pointee)) ∷ (
+  15,
+  Mut.mslice SlotAs.row
+      (Syntax.tyRef Syntax.erased Syntax.mut SlotAs.pointee) 2,
+) ∷ []
+
+abbrev pub t23 : List.List Row.Entry
+t23 = (
+  0,
+  Rows.any-gone (Syntax.tyStruct (115 ∷ 116 ∷ 111 ∷ 114 ∷ 101 ∷ 58 ∷ 58 ∷ 79 ∷ 117 ∷ 116 ∷ 99 ∷ 111 ∷ 109 ∷ 101 ∷ []) (Syntax.tcons (Syntax.tyInt
+      Syntax.w8) (Syntax.tcons (Syntax.tyInt Syntax.w64) Syntax.tnil))),
+) ∷ (
+  1,
+  Rows.sslice (Referent.rtF (Referent.fInt Syntax.w8)) (Syntax.tyRef (Syntax.named
+      0) Syntax.imm (Syntax.tyInt Syntax.w8)) 0,
+) ∷ (2, Relend.mslice-owed SlotAs.row (Syntax.tyRef (Syntax.named 1) Syntax.mut SlotAs.pointee) 1 2 Row.off) ∷ (
+  3,
+  Rows.any-gone (Syntax.tyStruct (115 ∷ 116 ∷ 111 ∷ 114 ∷ 101 ∷ 58 ∷ 58 ∷ 78 ∷ 101 ∷ 101 ∷ 100 ∷ 115 ∷ []) (Syntax.tcons (Syntax.tyInt Syntax.w8)
+      (Syntax.tcons (Syntax.tyInt Syntax.w64) Syntax.tnil))),
+) ∷ (4, Rows.sc-here (Row.sInt Syntax.w64)) ∷ (5, Rows.sc-here (Row.sInt Syntax.w64)) ∷ (
+  6,
+  Rows.sc-here (Row.sInt Syntax.w64),
+) ∷ (7, Rows.sc-here (Row.sInt Syntax.w32)) ∷ (8, Rows.whole (Declared.row Line.the-type)) ∷ (
+  9,
+  Rows.any-gone
+      Syntax.tyBool,
+) ∷ (10, Rows.any-gone (Syntax.tyInt Syntax.w64)) ∷ (11, Rows.any-gone (Syntax.tyInt Syntax.w64)) ∷ (
+  12,
+  Rows.any-gone (Syntax.tyInt
+      Syntax.w64),
+) ∷ (13, Rows.any-gone Syntax.tyBool) ∷ (14, Rows.any-gone (Syntax.tyRef Syntax.erased Syntax.mut SlotAs.pointee)) ∷ (
+  15,
+  Mut.msleft SlotAs.row
+      (Syntax.tyRef Syntax.erased Syntax.mut SlotAs.pointee),
+) ∷ []
+
+abbrev pub t24 : List.List Row.Entry
+t24 = (0, Rows.whole (Declared'.row (Apart.apartT Outcome.the-type))) ∷ (
+  1,
+  Rows.sslice (Referent.rtF (Referent.fInt Syntax.w8)) (Syntax.tyRef (Syntax.named 0)
+      Syntax.imm (Syntax.tyInt Syntax.w8)) 0,
+) ∷ (2, Mut.mslice SlotAs.row (Syntax.tyRef (Syntax.named 1) Syntax.mut SlotAs.pointee) 1) ∷ (
+  3,
+  Rows.any-gone
+      (Syntax.tyStruct (115 ∷ 116 ∷ 111 ∷ 114 ∷ 101 ∷ 58 ∷ 58 ∷ 78 ∷ 101 ∷ 101 ∷ 100 ∷ 115 ∷ []) (Syntax.tcons (Syntax.tyInt Syntax.w8) (Syntax.tcons
+      (Syntax.tyInt Syntax.w64) Syntax.tnil))),
+) ∷ (4, Rows.sc-here (Row.sInt Syntax.w64)) ∷ (5, Rows.sc-here (Row.sInt Syntax.w64)) ∷ (
+  6,
+  Rows.sc-here (Row.sInt
+      Syntax.w64),
+) ∷ (7, Rows.sc-here (Row.sInt Syntax.w32)) ∷ (
+  8,
+  Rows.any-gone (Syntax.tyEnum (112 ∷ 105 ∷ 101 ∷ 99 ∷ 101 ∷ 115 ∷ 58 ∷ 58 ∷ 76 ∷ 105 ∷ 110 ∷
+      101 ∷ []) (Syntax.ttcons (Syntax.tcons (Syntax.tyInt Syntax.w8) Syntax.tnil) (Syntax.ttcons (Syntax.tcons (Syntax.tyEnum (107 ∷ 105 ∷ 110 ∷ 100 ∷ 115 ∷ 58
+      ∷ 58 ∷ 75 ∷ 105 ∷ 110 ∷ 100 ∷ []) (Syntax.ttcons Syntax.tnil (Syntax.ttcons Syntax.tnil (Syntax.ttcons Syntax.tnil (Syntax.ttcons Syntax.tnil
+      (Syntax.ttcons Syntax.tnil (Syntax.ttcons Syntax.tnil (Syntax.ttcons Syntax.tnil (Syntax.ttcons Syntax.tnil (Syntax.ttcons Syntax.tnil (Syntax.ttcons
+      Syntax.tnil (Syntax.ttcons Syntax.tnil (Syntax.ttcons Syntax.tnil (Syntax.ttcons Syntax.tnil (Syntax.ttcons Syntax.tnil (Syntax.ttcons Syntax.tnil
+      (Syntax.ttcons Syntax.tnil (Syntax.ttcons Syntax.tnil (Syntax.ttcons Syntax.tnil (Syntax.ttcons Syntax.tnil (Syntax.ttcons Syntax.tnil (Syntax.ttcons
+      Syntax.tnil (Syntax.ttcons Syntax.tnil (Syntax.ttcons Syntax.tnil (Syntax.ttcons Syntax.tnil (Syntax.ttcons Syntax.tnil (Syntax.ttcons Syntax.tnil
+      (Syntax.ttcons Syntax.tnil (Syntax.ttcons Syntax.tnil (Syntax.ttcons Syntax.tnil (Syntax.ttcons Syntax.tnil Syntax.ttnil)))))))))))))))))))))))))))))))
+      (Syntax.tcons (Syntax.tyInt Syntax.w32) Syntax.tnil)) (Syntax.ttcons (Syntax.tcons (Syntax.tyEnum (107 ∷ 105 ∷ 110 ∷ 100 ∷ 115 ∷ 58 ∷ 58 ∷ 75 ∷ 105 ∷ 110 ∷
+      100 ∷ []) (Syntax.ttcons Syntax.tnil (Syntax.ttcons Syntax.tnil (Syntax.ttcons Syntax.tnil (Syntax.ttcons Syntax.tnil (Syntax.ttcons Syntax.tnil
+      (Syntax.ttcons Syntax.tnil (Syntax.ttcons Syntax.tnil (Syntax.ttcons Syntax.tnil (Syntax.ttcons Syntax.tnil (Syntax.ttcons Syntax.tnil (Syntax.ttcons
+      Syntax.tnil (Syntax.ttcons Syntax.tnil (Syntax.ttcons Syntax.tnil (Syntax.ttcons Syntax.tnil (Syntax.ttcons Syntax.tnil (Syntax.ttcons Syntax.tnil
+      (Syntax.ttcons Syntax.tnil (Syntax.ttcons Syntax.tnil (Syntax.ttcons Syntax.tnil (Syntax.ttcons Syntax.tnil (Syntax.ttcons Syntax.tnil (Syntax.ttcons
+      Syntax.tnil (Syntax.ttcons Syntax.tnil (Syntax.ttcons Syntax.tnil (Syntax.ttcons Syntax.tnil (Syntax.ttcons Syntax.tnil (Syntax.ttcons Syntax.tnil
+      (Syntax.ttcons Syntax.tnil (Syntax.ttcons Syntax.tnil (Syntax.ttcons Syntax.tnil Syntax.ttnil))))))))))))))))))))))))))))))) Syntax.tnil) (Syntax.ttcons
+      (Syntax.tcons (Syntax.tyEnum (108 ∷ 105 ∷ 110 ∷ 101 ∷ 58 ∷ 58 ∷ 82 ∷ 101 ∷ 99 ∷ 111 ∷ 114 ∷ 100 ∷ []) (Syntax.ttcons (Syntax.tcons Syntax.tyBool
+      (Syntax.tcons (Syntax.tyStruct (99 ∷ 111 ∷ 111 ∷ 114 ∷ 100 ∷ 105 ∷ 110 ∷ 97 ∷ 116 ∷ 101 ∷ 58 ∷ 58 ∷ 65 ∷ 116 ∷ 111 ∷ 109 ∷ []) (Syntax.tcons
+      (Syntax.tyStruct (99 ∷ 111 ∷ 111 ∷ 114 ∷ 100 ∷ 105 ∷ 110 ∷ 97 ∷ 116 ∷ 101 ∷ 58 ∷ 58 ∷ 73 ∷ 100 ∷ 101 ∷ 110 ∷ 116 ∷ 105 ∷ 116 ∷ 121 ∷ []) (Syntax.tcons
+      (Syntax.tyStruct (102 ∷ 105 ∷ 101 ∷ 108 ∷ 100 ∷ 115 ∷ 58 ∷ 58 ∷ 83 ∷ 101 ∷ 114 ∷ 105 ∷ 97 ∷ 108 ∷ []) (Syntax.tcons (Syntax.tyInt Syntax.w32) Syntax.tnil))
+      (Syntax.tcons (Syntax.tyStruct (110 ∷ 97 ∷ 109 ∷ 101 ∷ 115 ∷ 58 ∷ 58 ∷ 70 ∷ 111 ∷ 117 ∷ 114 ∷ []) (Syntax.tcons (Syntax.tyInt Syntax.w8) (Syntax.tcons
+      (Syntax.tyInt Syntax.w8) (Syntax.tcons (Syntax.tyInt Syntax.w8) (Syntax.tcons (Syntax.tyInt Syntax.w8) Syntax.tnil))))) (Syntax.tcons (Syntax.tyInt
+      Syntax.w8) (Syntax.tcons (Syntax.tyStruct (114 ∷ 101 ∷ 115 ∷ 105 ∷ 100 ∷ 117 ∷ 101 ∷ 58 ∷ 58 ∷ 82 ∷ 101 ∷ 115 ∷ 105 ∷ 100 ∷ 117 ∷ 101 ∷ []) (Syntax.tcons
+      (Syntax.tyStruct (110 ∷ 97 ∷ 109 ∷ 101 ∷ 115 ∷ 58 ∷ 58 ∷ 84 ∷ 104 ∷ 114 ∷ 101 ∷ 101 ∷ []) (Syntax.tcons (Syntax.tyInt Syntax.w8) (Syntax.tcons
+      (Syntax.tyInt Syntax.w8) (Syntax.tcons (Syntax.tyInt Syntax.w8) Syntax.tnil)))) (Syntax.tcons (Syntax.tyInt Syntax.w8) (Syntax.tcons (Syntax.tyStruct (102
+      ∷ 105 ∷ 101 ∷ 108 ∷ 100 ∷ 115 ∷ 58 ∷ 58 ∷ 82 ∷ 101 ∷ 115 ∷ 105 ∷ 100 ∷ 117 ∷ 101 ∷ 78 ∷ 117 ∷ 109 ∷ 98 ∷ 101 ∷ 114 ∷ []) (Syntax.tcons (Syntax.tyInt
+      Syntax.w32) Syntax.tnil)) (Syntax.tcons (Syntax.tyInt Syntax.w8) Syntax.tnil))))) Syntax.tnil))))) (Syntax.tcons (Syntax.tyStruct (99 ∷ 111 ∷ 111 ∷ 114 ∷
+      100 ∷ 105 ∷ 110 ∷ 97 ∷ 116 ∷ 101 ∷ 58 ∷ 58 ∷ 77 ∷ 101 ∷ 97 ∷ 115 ∷ 117 ∷ 114 ∷ 101 ∷ []) (Syntax.tcons (Syntax.tyStruct (99 ∷ 111 ∷ 111 ∷ 114 ∷ 100 ∷ 105 ∷
+      110 ∷ 97 ∷ 116 ∷ 101 ∷ 58 ∷ 58 ∷ 80 ∷ 111 ∷ 115 ∷ 105 ∷ 116 ∷ 105 ∷ 111 ∷ 110 ∷ []) (Syntax.tcons (Syntax.tyInt Syntax.w32) (Syntax.tcons (Syntax.tyInt
+      Syntax.w32) (Syntax.tcons (Syntax.tyInt Syntax.w32) Syntax.tnil)))) (Syntax.tcons (Syntax.tyInt Syntax.w32) (Syntax.tcons (Syntax.tyInt Syntax.w32)
+      Syntax.tnil)))) (Syntax.tcons (Syntax.tyStruct (99 ∷ 111 ∷ 111 ∷ 114 ∷ 100 ∷ 105 ∷ 110 ∷ 97 ∷ 116 ∷ 101 ∷ 58 ∷ 58 ∷ 83 ∷ 112 ∷ 101 ∷ 99 ∷ 105 ∷ 101 ∷ 115 ∷
+      []) (Syntax.tcons (Syntax.tyStruct (110 ∷ 97 ∷ 109 ∷ 101 ∷ 115 ∷ 58 ∷ 58 ∷ 80 ∷ 97 ∷ 105 ∷ 114 ∷ []) (Syntax.tcons (Syntax.tyInt Syntax.w8) (Syntax.tcons
+      (Syntax.tyInt Syntax.w8) Syntax.tnil))) (Syntax.tcons (Syntax.tyStruct (110 ∷ 97 ∷ 109 ∷ 101 ∷ 115 ∷ 58 ∷ 58 ∷ 80 ∷ 97 ∷ 105 ∷ 114 ∷ []) (Syntax.tcons
+      (Syntax.tyInt Syntax.w8) (Syntax.tcons (Syntax.tyInt Syntax.w8) Syntax.tnil))) Syntax.tnil))) Syntax.tnil)))) Syntax.tnil)) (Syntax.ttcons (Syntax.tcons
+      (Syntax.tyStruct (116 ∷ 101 ∷ 114 ∷ 58 ∷ 58 ∷ 84 ∷ 101 ∷ 114 ∷ []) (Syntax.tcons (Syntax.tyStruct (102 ∷ 105 ∷ 101 ∷ 108 ∷ 100 ∷ 115 ∷ 58 ∷ 58 ∷ 83 ∷ 101 ∷
+      114 ∷ 105 ∷ 97 ∷ 108 ∷ []) (Syntax.tcons (Syntax.tyInt Syntax.w32) Syntax.tnil)) (Syntax.tcons (Syntax.tyStruct (114 ∷ 101 ∷ 115 ∷ 105 ∷ 100 ∷ 117 ∷ 101 ∷
+      58 ∷ 58 ∷ 82 ∷ 101 ∷ 115 ∷ 105 ∷ 100 ∷ 117 ∷ 101 ∷ []) (Syntax.tcons (Syntax.tyStruct (110 ∷ 97 ∷ 109 ∷ 101 ∷ 115 ∷ 58 ∷ 58 ∷ 84 ∷ 104 ∷ 114 ∷ 101 ∷ 101 ∷
+      []) (Syntax.tcons (Syntax.tyInt Syntax.w8) (Syntax.tcons (Syntax.tyInt Syntax.w8) (Syntax.tcons (Syntax.tyInt Syntax.w8) Syntax.tnil)))) (Syntax.tcons
+      (Syntax.tyInt Syntax.w8) (Syntax.tcons (Syntax.tyStruct (102 ∷ 105 ∷ 101 ∷ 108 ∷ 100 ∷ 115 ∷ 58 ∷ 58 ∷ 82 ∷ 101 ∷ 115 ∷ 105 ∷ 100 ∷ 117 ∷ 101 ∷ 78 ∷ 117 ∷
+      109 ∷ 98 ∷ 101 ∷ 114 ∷ []) (Syntax.tcons (Syntax.tyInt Syntax.w32) Syntax.tnil)) (Syntax.tcons (Syntax.tyInt Syntax.w8) Syntax.tnil))))) Syntax.tnil)))
+      Syntax.tnil) (Syntax.ttcons (Syntax.tcons (Syntax.tyStruct (104 ∷ 101 ∷ 108 ∷ 105 ∷ 120 ∷ 58 ∷ 58 ∷ 72 ∷ 101 ∷ 108 ∷ 105 ∷ 120 ∷ []) (Syntax.tcons
+      (Syntax.tyStruct (104 ∷ 101 ∷ 108 ∷ 105 ∷ 120 ∷ 58 ∷ 58 ∷ 69 ∷ 120 ∷ 116 ∷ 101 ∷ 110 ∷ 116 ∷ []) (Syntax.tcons (Syntax.tyInt Syntax.w32) (Syntax.tcons
+      (Syntax.tyStruct (110 ∷ 97 ∷ 109 ∷ 101 ∷ 115 ∷ 58 ∷ 58 ∷ 84 ∷ 104 ∷ 114 ∷ 101 ∷ 101 ∷ []) (Syntax.tcons (Syntax.tyInt Syntax.w8) (Syntax.tcons
+      (Syntax.tyInt Syntax.w8) (Syntax.tcons (Syntax.tyInt Syntax.w8) Syntax.tnil)))) (Syntax.tcons (Syntax.tyStruct (114 ∷ 101 ∷ 115 ∷ 105 ∷ 100 ∷ 117 ∷ 101 ∷
+      58 ∷ 58 ∷ 82 ∷ 101 ∷ 115 ∷ 105 ∷ 100 ∷ 117 ∷ 101 ∷ []) (Syntax.tcons (Syntax.tyStruct (110 ∷ 97 ∷ 109 ∷ 101 ∷ 115 ∷ 58 ∷ 58 ∷ 84 ∷ 104 ∷ 114 ∷ 101 ∷ 101 ∷
+      []) (Syntax.tcons (Syntax.tyInt Syntax.w8) (Syntax.tcons (Syntax.tyInt Syntax.w8) (Syntax.tcons (Syntax.tyInt Syntax.w8) Syntax.tnil)))) (Syntax.tcons
+      (Syntax.tyInt Syntax.w8) (Syntax.tcons (Syntax.tyStruct (102 ∷ 105 ∷ 101 ∷ 108 ∷ 100 ∷ 115 ∷ 58 ∷ 58 ∷ 82 ∷ 101 ∷ 115 ∷ 105 ∷ 100 ∷ 117 ∷ 101 ∷ 78 ∷ 117 ∷
+      109 ∷ 98 ∷ 101 ∷ 114 ∷ []) (Syntax.tcons (Syntax.tyInt Syntax.w32) Syntax.tnil)) (Syntax.tcons (Syntax.tyInt Syntax.w8) Syntax.tnil))))) (Syntax.tcons
+      (Syntax.tyStruct (114 ∷ 101 ∷ 115 ∷ 105 ∷ 100 ∷ 117 ∷ 101 ∷ 58 ∷ 58 ∷ 82 ∷ 101 ∷ 115 ∷ 105 ∷ 100 ∷ 117 ∷ 101 ∷ []) (Syntax.tcons (Syntax.tyStruct (110 ∷ 97
+      ∷ 109 ∷ 101 ∷ 115 ∷ 58 ∷ 58 ∷ 84 ∷ 104 ∷ 114 ∷ 101 ∷ 101 ∷ []) (Syntax.tcons (Syntax.tyInt Syntax.w8) (Syntax.tcons (Syntax.tyInt Syntax.w8) (Syntax.tcons
+      (Syntax.tyInt Syntax.w8) Syntax.tnil)))) (Syntax.tcons (Syntax.tyInt Syntax.w8) (Syntax.tcons (Syntax.tyStruct (102 ∷ 105 ∷ 101 ∷ 108 ∷ 100 ∷ 115 ∷ 58 ∷ 58
+      ∷ 82 ∷ 101 ∷ 115 ∷ 105 ∷ 100 ∷ 117 ∷ 101 ∷ 78 ∷ 117 ∷ 109 ∷ 98 ∷ 101 ∷ 114 ∷ []) (Syntax.tcons (Syntax.tyInt Syntax.w32) Syntax.tnil)) (Syntax.tcons
+      (Syntax.tyInt Syntax.w8) Syntax.tnil))))) Syntax.tnil))))) (Syntax.tcons (Syntax.tyInt Syntax.w32) (Syntax.tcons (Syntax.tyStruct (104 ∷ 101 ∷ 108 ∷ 105 ∷
+      120 ∷ 58 ∷ 58 ∷ 67 ∷ 111 ∷ 109 ∷ 109 ∷ 101 ∷ 110 ∷ 116 ∷ []) (Syntax.tcons (Syntax.tyInt Syntax.w64) (Syntax.tcons (Syntax.tyInt Syntax.w64) (Syntax.tcons
+      (Syntax.tyInt Syntax.w64) (Syntax.tcons (Syntax.tyInt Syntax.w64) Syntax.tnil))))) (Syntax.tcons (Syntax.tyInt Syntax.w32) Syntax.tnil))))) Syntax.tnil)
+      (Syntax.ttcons (Syntax.tcons (Syntax.tyStruct (115 ∷ 104 ∷ 101 ∷ 101 ∷ 116 ∷ 58 ∷ 58 ∷ 83 ∷ 104 ∷ 101 ∷ 101 ∷ 116 ∷ []) (Syntax.tcons (Syntax.tyStruct (115
+      ∷ 104 ∷ 101 ∷ 101 ∷ 116 ∷ 58 ∷ 58 ∷ 83 ∷ 116 ∷ 114 ∷ 97 ∷ 110 ∷ 100 ∷ []) (Syntax.tcons (Syntax.tyInt Syntax.w32) (Syntax.tcons (Syntax.tyStruct (110 ∷ 97
+      ∷ 109 ∷ 101 ∷ 115 ∷ 58 ∷ 58 ∷ 84 ∷ 104 ∷ 114 ∷ 101 ∷ 101 ∷ []) (Syntax.tcons (Syntax.tyInt Syntax.w8) (Syntax.tcons (Syntax.tyInt Syntax.w8) (Syntax.tcons
+      (Syntax.tyInt Syntax.w8) Syntax.tnil)))) (Syntax.tcons (Syntax.tyInt Syntax.w32) (Syntax.tcons (Syntax.tyStruct (114 ∷ 101 ∷ 115 ∷ 105 ∷ 100 ∷ 117 ∷ 101 ∷
+      58 ∷ 58 ∷ 82 ∷ 101 ∷ 115 ∷ 105 ∷ 100 ∷ 117 ∷ 101 ∷ []) (Syntax.tcons (Syntax.tyStruct (110 ∷ 97 ∷ 109 ∷ 101 ∷ 115 ∷ 58 ∷ 58 ∷ 84 ∷ 104 ∷ 114 ∷ 101 ∷ 101 ∷
+      []) (Syntax.tcons (Syntax.tyInt Syntax.w8) (Syntax.tcons (Syntax.tyInt Syntax.w8) (Syntax.tcons (Syntax.tyInt Syntax.w8) Syntax.tnil)))) (Syntax.tcons
+      (Syntax.tyInt Syntax.w8) (Syntax.tcons (Syntax.tyStruct (102 ∷ 105 ∷ 101 ∷ 108 ∷ 100 ∷ 115 ∷ 58 ∷ 58 ∷ 82 ∷ 101 ∷ 115 ∷ 105 ∷ 100 ∷ 117 ∷ 101 ∷ 78 ∷ 117 ∷
+      109 ∷ 98 ∷ 101 ∷ 114 ∷ []) (Syntax.tcons (Syntax.tyInt Syntax.w32) Syntax.tnil)) (Syntax.tcons (Syntax.tyInt Syntax.w8) Syntax.tnil))))) (Syntax.tcons
+      (Syntax.tyStruct (114 ∷ 101 ∷ 115 ∷ 105 ∷ 100 ∷ 117 ∷ 101 ∷ 58 ∷ 58 ∷ 82 ∷ 101 ∷ 115 ∷ 105 ∷ 100 ∷ 117 ∷ 101 ∷ []) (Syntax.tcons (Syntax.tyStruct (110 ∷ 97
+      ∷ 109 ∷ 101 ∷ 115 ∷ 58 ∷ 58 ∷ 84 ∷ 104 ∷ 114 ∷ 101 ∷ 101 ∷ []) (Syntax.tcons (Syntax.tyInt Syntax.w8) (Syntax.tcons (Syntax.tyInt Syntax.w8) (Syntax.tcons
+      (Syntax.tyInt Syntax.w8) Syntax.tnil)))) (Syntax.tcons (Syntax.tyInt Syntax.w8) (Syntax.tcons (Syntax.tyStruct (102 ∷ 105 ∷ 101 ∷ 108 ∷ 100 ∷ 115 ∷ 58 ∷ 58
+      ∷ 82 ∷ 101 ∷ 115 ∷ 105 ∷ 100 ∷ 117 ∷ 101 ∷ 78 ∷ 117 ∷ 109 ∷ 98 ∷ 101 ∷ 114 ∷ []) (Syntax.tcons (Syntax.tyInt Syntax.w32) Syntax.tnil)) (Syntax.tcons
+      (Syntax.tyInt Syntax.w8) Syntax.tnil))))) (Syntax.tcons (Syntax.tyInt Syntax.w32) Syntax.tnil))))))) (Syntax.tcons (Syntax.tyEnum (115 ∷ 104 ∷ 101 ∷ 101 ∷
+      116 ∷ 58 ∷ 58 ∷ 82 ∷ 101 ∷ 103 ∷ 105 ∷ 115 ∷ 116 ∷ 114 ∷ 97 ∷ 116 ∷ 105 ∷ 111 ∷ 110 ∷ []) (Syntax.ttcons Syntax.tnil (Syntax.ttcons (Syntax.tcons
+      (Syntax.tyStruct (115 ∷ 104 ∷ 101 ∷ 101 ∷ 116 ∷ 58 ∷ 58 ∷ 66 ∷ 111 ∷ 110 ∷ 100 ∷ []) (Syntax.tcons (Syntax.tyStruct (110 ∷ 97 ∷ 109 ∷ 101 ∷ 115 ∷ 58 ∷ 58 ∷
+      70 ∷ 111 ∷ 117 ∷ 114 ∷ []) (Syntax.tcons (Syntax.tyInt Syntax.w8) (Syntax.tcons (Syntax.tyInt Syntax.w8) (Syntax.tcons (Syntax.tyInt Syntax.w8)
+      (Syntax.tcons (Syntax.tyInt Syntax.w8) Syntax.tnil))))) (Syntax.tcons (Syntax.tyStruct (114 ∷ 101 ∷ 115 ∷ 105 ∷ 100 ∷ 117 ∷ 101 ∷ 58 ∷ 58 ∷ 82 ∷ 101 ∷ 115
+      ∷ 105 ∷ 100 ∷ 117 ∷ 101 ∷ []) (Syntax.tcons (Syntax.tyStruct (110 ∷ 97 ∷ 109 ∷ 101 ∷ 115 ∷ 58 ∷ 58 ∷ 84 ∷ 104 ∷ 114 ∷ 101 ∷ 101 ∷ []) (Syntax.tcons
+      (Syntax.tyInt Syntax.w8) (Syntax.tcons (Syntax.tyInt Syntax.w8) (Syntax.tcons (Syntax.tyInt Syntax.w8) Syntax.tnil)))) (Syntax.tcons (Syntax.tyInt
+      Syntax.w8) (Syntax.tcons (Syntax.tyStruct (102 ∷ 105 ∷ 101 ∷ 108 ∷ 100 ∷ 115 ∷ 58 ∷ 58 ∷ 82 ∷ 101 ∷ 115 ∷ 105 ∷ 100 ∷ 117 ∷ 101 ∷ 78 ∷ 117 ∷ 109 ∷ 98 ∷ 101
+      ∷ 114 ∷ []) (Syntax.tcons (Syntax.tyInt Syntax.w32) Syntax.tnil)) (Syntax.tcons (Syntax.tyInt Syntax.w8) Syntax.tnil))))) (Syntax.tcons (Syntax.tyStruct
+      (110 ∷ 97 ∷ 109 ∷ 101 ∷ 115 ∷ 58 ∷ 58 ∷ 70 ∷ 111 ∷ 117 ∷ 114 ∷ []) (Syntax.tcons (Syntax.tyInt Syntax.w8) (Syntax.tcons (Syntax.tyInt Syntax.w8)
+      (Syntax.tcons (Syntax.tyInt Syntax.w8) (Syntax.tcons (Syntax.tyInt Syntax.w8) Syntax.tnil))))) (Syntax.tcons (Syntax.tyStruct (114 ∷ 101 ∷ 115 ∷ 105 ∷ 100
+      ∷ 117 ∷ 101 ∷ 58 ∷ 58 ∷ 82 ∷ 101 ∷ 115 ∷ 105 ∷ 100 ∷ 117 ∷ 101 ∷ []) (Syntax.tcons (Syntax.tyStruct (110 ∷ 97 ∷ 109 ∷ 101 ∷ 115 ∷ 58 ∷ 58 ∷ 84 ∷ 104 ∷ 114
+      ∷ 101 ∷ 101 ∷ []) (Syntax.tcons (Syntax.tyInt Syntax.w8) (Syntax.tcons (Syntax.tyInt Syntax.w8) (Syntax.tcons (Syntax.tyInt Syntax.w8) Syntax.tnil))))
+      (Syntax.tcons (Syntax.tyInt Syntax.w8) (Syntax.tcons (Syntax.tyStruct (102 ∷ 105 ∷ 101 ∷ 108 ∷ 100 ∷ 115 ∷ 58 ∷ 58 ∷ 82 ∷ 101 ∷ 115 ∷ 105 ∷ 100 ∷ 117 ∷ 101
+      ∷ 78 ∷ 117 ∷ 109 ∷ 98 ∷ 101 ∷ 114 ∷ []) (Syntax.tcons (Syntax.tyInt Syntax.w32) Syntax.tnil)) (Syntax.tcons (Syntax.tyInt Syntax.w8) Syntax.tnil)))))
+      Syntax.tnil))))) Syntax.tnil) Syntax.ttnil))) Syntax.tnil))) Syntax.tnil) (Syntax.ttcons (Syntax.tcons (Syntax.tyStruct (99 ∷ 111 ∷ 110 ∷ 101 ∷ 99 ∷ 116 ∷
+      58 ∷ 58 ∷ 67 ∷ 111 ∷ 110 ∷ 101 ∷ 99 ∷ 116 ∷ []) (Syntax.tcons (Syntax.tyStruct (102 ∷ 105 ∷ 101 ∷ 108 ∷ 100 ∷ 115 ∷ 58 ∷ 58 ∷ 83 ∷ 101 ∷ 114 ∷ 105 ∷ 97 ∷
+      108 ∷ []) (Syntax.tcons (Syntax.tyInt Syntax.w32) Syntax.tnil)) (Syntax.tcons (Syntax.tyStruct (102 ∷ 105 ∷ 101 ∷ 108 ∷ 100 ∷ 115 ∷ 58 ∷ 58 ∷ 83 ∷ 101 ∷
+      114 ∷ 105 ∷ 97 ∷ 108 ∷ []) (Syntax.tcons (Syntax.tyInt Syntax.w32) Syntax.tnil)) (Syntax.tcons (Syntax.tyStruct (102 ∷ 105 ∷ 101 ∷ 108 ∷ 100 ∷ 115 ∷ 58 ∷
+      58 ∷ 83 ∷ 101 ∷ 114 ∷ 105 ∷ 97 ∷ 108 ∷ []) (Syntax.tcons (Syntax.tyInt Syntax.w32) Syntax.tnil)) (Syntax.tcons (Syntax.tyStruct (102 ∷ 105 ∷ 101 ∷ 108 ∷
+      100 ∷ 115 ∷ 58 ∷ 58 ∷ 83 ∷ 101 ∷ 114 ∷ 105 ∷ 97 ∷ 108 ∷ []) (Syntax.tcons (Syntax.tyInt Syntax.w32) Syntax.tnil)) (Syntax.tcons (Syntax.tyStruct (102 ∷ 105
+      ∷ 101 ∷ 108 ∷ 100 ∷ 115 ∷ 58 ∷ 58 ∷ 83 ∷ 101 ∷ 114 ∷ 105 ∷ 97 ∷ 108 ∷ []) (Syntax.tcons (Syntax.tyInt Syntax.w32) Syntax.tnil)) Syntax.tnil))))))
+      Syntax.tnil) (Syntax.ttcons (Syntax.tcons (Syntax.tyStruct (109 ∷ 97 ∷ 115 ∷ 116 ∷ 101 ∷ 114 ∷ 58 ∷ 58 ∷ 84 ∷ 97 ∷ 108 ∷ 108 ∷ 121 ∷ []) (Syntax.tcons
+      (Syntax.tyInt Syntax.w32) (Syntax.tcons (Syntax.tyInt Syntax.w32) (Syntax.tcons (Syntax.tyInt Syntax.w32) (Syntax.tcons (Syntax.tyInt Syntax.w32)
+      (Syntax.tcons (Syntax.tyInt Syntax.w32) (Syntax.tcons (Syntax.tyInt Syntax.w32) (Syntax.tcons (Syntax.tyInt Syntax.w32) (Syntax.tcons (Syntax.tyInt
+      Syntax.w32) (Syntax.tcons (Syntax.tyInt Syntax.w32) Syntax.tnil)))))))))) Syntax.tnil) (Syntax.ttcons Syntax.tnil (Syntax.ttcons (Syntax.tcons
+      (Syntax.tyStruct (109 ∷ 111 ∷ 100 ∷ 101 ∷ 108 ∷ 58 ∷ 58 ∷ 77 ∷ 111 ∷ 100 ∷ 101 ∷ 108 ∷ []) (Syntax.tcons (Syntax.tyInt Syntax.w32) Syntax.tnil))
+      Syntax.tnil) (Syntax.ttcons Syntax.tnil Syntax.ttnil)))))))))) Syntax.tnil) Syntax.ttnil))))),
+) ∷ (9, Rows.any-gone Syntax.tyBool) ∷ (
+  10,
+  Rows.any-gone
+      (Syntax.tyInt Syntax.w64),
+) ∷ (11, Rows.any-gone (Syntax.tyInt Syntax.w64)) ∷ (12, Rows.any-gone (Syntax.tyInt Syntax.w64)) ∷ (
+  13,
+  Rows.any-gone
+      Syntax.tyBool,
+) ∷ (14, Rows.any-gone (Syntax.tyRef Syntax.erased Syntax.mut SlotAs.pointee)) ∷ (
+  15,
+  Rows.any-gone (Syntax.tyStruct (38 ∷ 91 ∷ 93 ∷ [])
+      (Syntax.tcons (Syntax.tyRef Syntax.erased Syntax.mut SlotAs.pointee) (Syntax.tcons (Syntax.tyInt Syntax.w64) Syntax.tnil))),
 ) ∷ []
 
 abbrev pub t25 : List.List Row.Entry
@@ -3071,24 +3240,25 @@ t25 = (0, Rows.whole (Declared'.row (Apart.apartT Outcome.the-type))) ∷ (
   6,
   Rows.sc-here
       (Row.sInt Syntax.w64),
-) ∷ (
-  7,
-  Rows.any-gone (Syntax.tyEnum (112 ∷ 105 ∷ 101 ∷ 99 ∷ 101 ∷ 115 ∷ 58 ∷ 58 ∷ 76 ∷ 105 ∷ 110 ∷ 101 ∷ []) (Syntax.ttcons
-      (Syntax.tcons (Syntax.tyInt Syntax.w8) Syntax.tnil) (Syntax.ttcons (Syntax.tcons (Syntax.tyEnum (107 ∷ 105 ∷ 110 ∷ 100 ∷ 115 ∷ 58 ∷ 58 ∷ 75 ∷ 105 ∷ 110 ∷
+) ∷ (7, Rows.sc-here (Row.sInt Syntax.w32)) ∷ (
+  8,
+  Rows.any-gone (Syntax.tyEnum (112 ∷ 105 ∷ 101 ∷ 99 ∷ 101 ∷ 115 ∷ 58 ∷ 58 ∷ 76 ∷ 105
+      ∷ 110 ∷ 101 ∷ []) (Syntax.ttcons (Syntax.tcons (Syntax.tyInt Syntax.w8) Syntax.tnil) (Syntax.ttcons (Syntax.tcons (Syntax.tyEnum (107 ∷ 105 ∷ 110 ∷ 100 ∷
+      115 ∷ 58 ∷ 58 ∷ 75 ∷ 105 ∷ 110 ∷ 100 ∷ []) (Syntax.ttcons Syntax.tnil (Syntax.ttcons Syntax.tnil (Syntax.ttcons Syntax.tnil (Syntax.ttcons Syntax.tnil
+      (Syntax.ttcons Syntax.tnil (Syntax.ttcons Syntax.tnil (Syntax.ttcons Syntax.tnil (Syntax.ttcons Syntax.tnil (Syntax.ttcons Syntax.tnil (Syntax.ttcons
+      Syntax.tnil (Syntax.ttcons Syntax.tnil (Syntax.ttcons Syntax.tnil (Syntax.ttcons Syntax.tnil (Syntax.ttcons Syntax.tnil (Syntax.ttcons Syntax.tnil
+      (Syntax.ttcons Syntax.tnil (Syntax.ttcons Syntax.tnil (Syntax.ttcons Syntax.tnil (Syntax.ttcons Syntax.tnil (Syntax.ttcons Syntax.tnil (Syntax.ttcons
+      Syntax.tnil (Syntax.ttcons Syntax.tnil (Syntax.ttcons Syntax.tnil (Syntax.ttcons Syntax.tnil (Syntax.ttcons Syntax.tnil (Syntax.ttcons Syntax.tnil
+      (Syntax.ttcons Syntax.tnil (Syntax.ttcons Syntax.tnil (Syntax.ttcons Syntax.tnil (Syntax.ttcons Syntax.tnil Syntax.ttnil)))))))))))))))))))))))))))))))
+      (Syntax.tcons (Syntax.tyInt Syntax.w32) Syntax.tnil)) (Syntax.ttcons (Syntax.tcons (Syntax.tyEnum (107 ∷ 105 ∷ 110 ∷ 100 ∷ 115 ∷ 58 ∷ 58 ∷ 75 ∷ 105 ∷ 110 ∷
       100 ∷ []) (Syntax.ttcons Syntax.tnil (Syntax.ttcons Syntax.tnil (Syntax.ttcons Syntax.tnil (Syntax.ttcons Syntax.tnil (Syntax.ttcons Syntax.tnil
       (Syntax.ttcons Syntax.tnil (Syntax.ttcons Syntax.tnil (Syntax.ttcons Syntax.tnil (Syntax.ttcons Syntax.tnil (Syntax.ttcons Syntax.tnil (Syntax.ttcons
       Syntax.tnil (Syntax.ttcons Syntax.tnil (Syntax.ttcons Syntax.tnil (Syntax.ttcons Syntax.tnil (Syntax.ttcons Syntax.tnil (Syntax.ttcons Syntax.tnil
       (Syntax.ttcons Syntax.tnil (Syntax.ttcons Syntax.tnil (Syntax.ttcons Syntax.tnil (Syntax.ttcons Syntax.tnil (Syntax.ttcons Syntax.tnil (Syntax.ttcons
       Syntax.tnil (Syntax.ttcons Syntax.tnil (Syntax.ttcons Syntax.tnil (Syntax.ttcons Syntax.tnil (Syntax.ttcons Syntax.tnil (Syntax.ttcons Syntax.tnil
-      (Syntax.ttcons Syntax.tnil Syntax.ttnil))))))))))))))))))))))))))))) (Syntax.tcons (Syntax.tyInt Syntax.w32) Syntax.tnil)) (Syntax.ttcons (Syntax.tcons
-      (Syntax.tyEnum (107 ∷ 105 ∷ 110 ∷ 100 ∷ 115 ∷ 58 ∷ 58 ∷ 75 ∷ 105 ∷ 110 ∷ 100 ∷ []) (Syntax.ttcons Syntax.tnil (Syntax.ttcons Syntax.tnil (Syntax.ttcons
-      Syntax.tnil (Syntax.ttcons Syntax.tnil (Syntax.ttcons Syntax.tnil (Syntax.ttcons Syntax.tnil (Syntax.ttcons Syntax.tnil (Syntax.ttcons Syntax.tnil
-      (Syntax.ttcons Syntax.tnil (Syntax.ttcons Syntax.tnil (Syntax.ttcons Syntax.tnil (Syntax.ttcons Syntax.tnil (Syntax.ttcons Syntax.tnil (Syntax.ttcons
-      Syntax.tnil (Syntax.ttcons Syntax.tnil (Syntax.ttcons Syntax.tnil (Syntax.ttcons Syntax.tnil (Syntax.ttcons Syntax.tnil (Syntax.ttcons Syntax.tnil
-      (Syntax.ttcons Syntax.tnil (Syntax.ttcons Syntax.tnil (Syntax.ttcons Syntax.tnil (Syntax.ttcons Syntax.tnil (Syntax.ttcons Syntax.tnil (Syntax.ttcons
-      Syntax.tnil (Syntax.ttcons Syntax.tnil (Syntax.ttcons Syntax.tnil (Syntax.ttcons Syntax.tnil Syntax.ttnil))))))))))))))))))))))))))))) Syntax.tnil)
-      (Syntax.ttcons (Syntax.tcons (Syntax.tyEnum (108 ∷ 105 ∷ 110 ∷ 101 ∷ 58 ∷ 58 ∷ 82 ∷ 101 ∷ 99 ∷ 111 ∷ 114 ∷ 100 ∷ []) (Syntax.ttcons (Syntax.tcons
-      Syntax.tyBool (Syntax.tcons (Syntax.tyStruct (99 ∷ 111 ∷ 111 ∷ 114 ∷ 100 ∷ 105 ∷ 110 ∷ 97 ∷ 116 ∷ 101 ∷ 58 ∷ 58 ∷ 65 ∷ 116 ∷ 111 ∷ 109 ∷ []) (Syntax.tcons
+      (Syntax.ttcons Syntax.tnil (Syntax.ttcons Syntax.tnil (Syntax.ttcons Syntax.tnil Syntax.ttnil))))))))))))))))))))))))))))))) Syntax.tnil) (Syntax.ttcons
+      (Syntax.tcons (Syntax.tyEnum (108 ∷ 105 ∷ 110 ∷ 101 ∷ 58 ∷ 58 ∷ 82 ∷ 101 ∷ 99 ∷ 111 ∷ 114 ∷ 100 ∷ []) (Syntax.ttcons (Syntax.tcons Syntax.tyBool
+      (Syntax.tcons (Syntax.tyStruct (99 ∷ 111 ∷ 111 ∷ 114 ∷ 100 ∷ 105 ∷ 110 ∷ 97 ∷ 116 ∷ 101 ∷ 58 ∷ 58 ∷ 65 ∷ 116 ∷ 111 ∷ 109 ∷ []) (Syntax.tcons
       (Syntax.tyStruct (99 ∷ 111 ∷ 111 ∷ 114 ∷ 100 ∷ 105 ∷ 110 ∷ 97 ∷ 116 ∷ 101 ∷ 58 ∷ 58 ∷ 73 ∷ 100 ∷ 101 ∷ 110 ∷ 116 ∷ 105 ∷ 116 ∷ 121 ∷ []) (Syntax.tcons
       (Syntax.tyStruct (102 ∷ 105 ∷ 101 ∷ 108 ∷ 100 ∷ 115 ∷ 58 ∷ 58 ∷ 83 ∷ 101 ∷ 114 ∷ 105 ∷ 97 ∷ 108 ∷ []) (Syntax.tcons (Syntax.tyInt Syntax.w32) Syntax.tnil))
       (Syntax.tcons (Syntax.tyStruct (110 ∷ 97 ∷ 109 ∷ 101 ∷ 115 ∷ 58 ∷ 58 ∷ 70 ∷ 111 ∷ 117 ∷ 114 ∷ []) (Syntax.tcons (Syntax.tyInt Syntax.w8) (Syntax.tcons
@@ -3163,15 +3333,21 @@ t25 = (0, Rows.whole (Declared'.row (Apart.apartT Outcome.the-type))) ∷ (
       Syntax.tnil) (Syntax.ttcons (Syntax.tcons (Syntax.tyStruct (109 ∷ 97 ∷ 115 ∷ 116 ∷ 101 ∷ 114 ∷ 58 ∷ 58 ∷ 84 ∷ 97 ∷ 108 ∷ 108 ∷ 121 ∷ []) (Syntax.tcons
       (Syntax.tyInt Syntax.w32) (Syntax.tcons (Syntax.tyInt Syntax.w32) (Syntax.tcons (Syntax.tyInt Syntax.w32) (Syntax.tcons (Syntax.tyInt Syntax.w32)
       (Syntax.tcons (Syntax.tyInt Syntax.w32) (Syntax.tcons (Syntax.tyInt Syntax.w32) (Syntax.tcons (Syntax.tyInt Syntax.w32) (Syntax.tcons (Syntax.tyInt
-      Syntax.w32) (Syntax.tcons (Syntax.tyInt Syntax.w32) Syntax.tnil)))))))))) Syntax.tnil) (Syntax.ttcons Syntax.tnil Syntax.ttnil)))))))) Syntax.tnil)
-      Syntax.ttnil))))),
-) ∷ (8, Rows.any-gone Syntax.tyBool) ∷ (9, Rows.any-gone (Syntax.tyInt Syntax.w64)) ∷ (10, Rows.any-gone (Syntax.tyInt Syntax.w64)) ∷ (
-  11,
-  Rows.any-gone (Syntax.tyInt Syntax.w64),
-) ∷ (12, Rows.any-gone Syntax.tyBool) ∷ (13, Rows.any-gone (Syntax.tyRef Syntax.erased Syntax.mut SlotAs.pointee)) ∷ (
-  14,
-  Rows.any-gone (Syntax.tyStruct (38 ∷ 91 ∷ 93 ∷ []) (Syntax.tcons (Syntax.tyRef Syntax.erased Syntax.mut SlotAs.pointee) (Syntax.tcons (Syntax.tyInt
-      Syntax.w64) Syntax.tnil))),
+      Syntax.w32) (Syntax.tcons (Syntax.tyInt Syntax.w32) Syntax.tnil)))))))))) Syntax.tnil) (Syntax.ttcons Syntax.tnil (Syntax.ttcons (Syntax.tcons
+      (Syntax.tyStruct (109 ∷ 111 ∷ 100 ∷ 101 ∷ 108 ∷ 58 ∷ 58 ∷ 77 ∷ 111 ∷ 100 ∷ 101 ∷ 108 ∷ []) (Syntax.tcons (Syntax.tyInt Syntax.w32) Syntax.tnil))
+      Syntax.tnil) (Syntax.ttcons Syntax.tnil Syntax.ttnil)))))))))) Syntax.tnil) Syntax.ttnil))))),
+) ∷ (9, Rows.any-gone Syntax.tyBool) ∷ (
+  10,
+  Rows.any-gone
+      (Syntax.tyInt Syntax.w64),
+) ∷ (11, Rows.any-gone (Syntax.tyInt Syntax.w64)) ∷ (12, Rows.any-gone (Syntax.tyInt Syntax.w64)) ∷ (
+  13,
+  Rows.any-gone
+      Syntax.tyBool,
+) ∷ (14, Rows.any-gone (Syntax.tyRef Syntax.erased Syntax.mut SlotAs.pointee)) ∷ (
+  15,
+  Rows.any-gone (Syntax.tyStruct (38 ∷ 91 ∷ 93 ∷ [])
+      (Syntax.tcons (Syntax.tyRef Syntax.erased Syntax.mut SlotAs.pointee) (Syntax.tcons (Syntax.tyInt Syntax.w64) Syntax.tnil))),
 ) ∷ []
 
 abbrev pub t26 : List.List Row.Entry
@@ -3188,24 +3364,25 @@ t26 = (0, Rows.whole (Declared'.row (Apart.apartT Outcome.the-type))) ∷ (
   6,
   Rows.sc-here
       (Row.sInt Syntax.w64),
-) ∷ (
-  7,
-  Rows.any-gone (Syntax.tyEnum (112 ∷ 105 ∷ 101 ∷ 99 ∷ 101 ∷ 115 ∷ 58 ∷ 58 ∷ 76 ∷ 105 ∷ 110 ∷ 101 ∷ []) (Syntax.ttcons
-      (Syntax.tcons (Syntax.tyInt Syntax.w8) Syntax.tnil) (Syntax.ttcons (Syntax.tcons (Syntax.tyEnum (107 ∷ 105 ∷ 110 ∷ 100 ∷ 115 ∷ 58 ∷ 58 ∷ 75 ∷ 105 ∷ 110 ∷
+) ∷ (7, Rows.sc-here (Row.sInt Syntax.w32)) ∷ (
+  8,
+  Rows.any-gone (Syntax.tyEnum (112 ∷ 105 ∷ 101 ∷ 99 ∷ 101 ∷ 115 ∷ 58 ∷ 58 ∷ 76 ∷ 105
+      ∷ 110 ∷ 101 ∷ []) (Syntax.ttcons (Syntax.tcons (Syntax.tyInt Syntax.w8) Syntax.tnil) (Syntax.ttcons (Syntax.tcons (Syntax.tyEnum (107 ∷ 105 ∷ 110 ∷ 100 ∷
+      115 ∷ 58 ∷ 58 ∷ 75 ∷ 105 ∷ 110 ∷ 100 ∷ []) (Syntax.ttcons Syntax.tnil (Syntax.ttcons Syntax.tnil (Syntax.ttcons Syntax.tnil (Syntax.ttcons Syntax.tnil
+      (Syntax.ttcons Syntax.tnil (Syntax.ttcons Syntax.tnil (Syntax.ttcons Syntax.tnil (Syntax.ttcons Syntax.tnil (Syntax.ttcons Syntax.tnil (Syntax.ttcons
+      Syntax.tnil (Syntax.ttcons Syntax.tnil (Syntax.ttcons Syntax.tnil (Syntax.ttcons Syntax.tnil (Syntax.ttcons Syntax.tnil (Syntax.ttcons Syntax.tnil
+      (Syntax.ttcons Syntax.tnil (Syntax.ttcons Syntax.tnil (Syntax.ttcons Syntax.tnil (Syntax.ttcons Syntax.tnil (Syntax.ttcons Syntax.tnil (Syntax.ttcons
+      Syntax.tnil (Syntax.ttcons Syntax.tnil (Syntax.ttcons Syntax.tnil (Syntax.ttcons Syntax.tnil (Syntax.ttcons Syntax.tnil (Syntax.ttcons Syntax.tnil
+      (Syntax.ttcons Syntax.tnil (Syntax.ttcons Syntax.tnil (Syntax.ttcons Syntax.tnil (Syntax.ttcons Syntax.tnil Syntax.ttnil)))))))))))))))))))))))))))))))
+      (Syntax.tcons (Syntax.tyInt Syntax.w32) Syntax.tnil)) (Syntax.ttcons (Syntax.tcons (Syntax.tyEnum (107 ∷ 105 ∷ 110 ∷ 100 ∷ 115 ∷ 58 ∷ 58 ∷ 75 ∷ 105 ∷ 110 ∷
       100 ∷ []) (Syntax.ttcons Syntax.tnil (Syntax.ttcons Syntax.tnil (Syntax.ttcons Syntax.tnil (Syntax.ttcons Syntax.tnil (Syntax.ttcons Syntax.tnil
       (Syntax.ttcons Syntax.tnil (Syntax.ttcons Syntax.tnil (Syntax.ttcons Syntax.tnil (Syntax.ttcons Syntax.tnil (Syntax.ttcons Syntax.tnil (Syntax.ttcons
       Syntax.tnil (Syntax.ttcons Syntax.tnil (Syntax.ttcons Syntax.tnil (Syntax.ttcons Syntax.tnil (Syntax.ttcons Syntax.tnil (Syntax.ttcons Syntax.tnil
       (Syntax.ttcons Syntax.tnil (Syntax.ttcons Syntax.tnil (Syntax.ttcons Syntax.tnil (Syntax.ttcons Syntax.tnil (Syntax.ttcons Syntax.tnil (Syntax.ttcons
       Syntax.tnil (Syntax.ttcons Syntax.tnil (Syntax.ttcons Syntax.tnil (Syntax.ttcons Syntax.tnil (Syntax.ttcons Syntax.tnil (Syntax.ttcons Syntax.tnil
-      (Syntax.ttcons Syntax.tnil Syntax.ttnil))))))))))))))))))))))))))))) (Syntax.tcons (Syntax.tyInt Syntax.w32) Syntax.tnil)) (Syntax.ttcons (Syntax.tcons
-      (Syntax.tyEnum (107 ∷ 105 ∷ 110 ∷ 100 ∷ 115 ∷ 58 ∷ 58 ∷ 75 ∷ 105 ∷ 110 ∷ 100 ∷ []) (Syntax.ttcons Syntax.tnil (Syntax.ttcons Syntax.tnil (Syntax.ttcons
-      Syntax.tnil (Syntax.ttcons Syntax.tnil (Syntax.ttcons Syntax.tnil (Syntax.ttcons Syntax.tnil (Syntax.ttcons Syntax.tnil (Syntax.ttcons Syntax.tnil
-      (Syntax.ttcons Syntax.tnil (Syntax.ttcons Syntax.tnil (Syntax.ttcons Syntax.tnil (Syntax.ttcons Syntax.tnil (Syntax.ttcons Syntax.tnil (Syntax.ttcons
-      Syntax.tnil (Syntax.ttcons Syntax.tnil (Syntax.ttcons Syntax.tnil (Syntax.ttcons Syntax.tnil (Syntax.ttcons Syntax.tnil (Syntax.ttcons Syntax.tnil
-      (Syntax.ttcons Syntax.tnil (Syntax.ttcons Syntax.tnil (Syntax.ttcons Syntax.tnil (Syntax.ttcons Syntax.tnil (Syntax.ttcons Syntax.tnil (Syntax.ttcons
-      Syntax.tnil (Syntax.ttcons Syntax.tnil (Syntax.ttcons Syntax.tnil (Syntax.ttcons Syntax.tnil Syntax.ttnil))))))))))))))))))))))))))))) Syntax.tnil)
-      (Syntax.ttcons (Syntax.tcons (Syntax.tyEnum (108 ∷ 105 ∷ 110 ∷ 101 ∷ 58 ∷ 58 ∷ 82 ∷ 101 ∷ 99 ∷ 111 ∷ 114 ∷ 100 ∷ []) (Syntax.ttcons (Syntax.tcons
-      Syntax.tyBool (Syntax.tcons (Syntax.tyStruct (99 ∷ 111 ∷ 111 ∷ 114 ∷ 100 ∷ 105 ∷ 110 ∷ 97 ∷ 116 ∷ 101 ∷ 58 ∷ 58 ∷ 65 ∷ 116 ∷ 111 ∷ 109 ∷ []) (Syntax.tcons
+      (Syntax.ttcons Syntax.tnil (Syntax.ttcons Syntax.tnil (Syntax.ttcons Syntax.tnil Syntax.ttnil))))))))))))))))))))))))))))))) Syntax.tnil) (Syntax.ttcons
+      (Syntax.tcons (Syntax.tyEnum (108 ∷ 105 ∷ 110 ∷ 101 ∷ 58 ∷ 58 ∷ 82 ∷ 101 ∷ 99 ∷ 111 ∷ 114 ∷ 100 ∷ []) (Syntax.ttcons (Syntax.tcons Syntax.tyBool
+      (Syntax.tcons (Syntax.tyStruct (99 ∷ 111 ∷ 111 ∷ 114 ∷ 100 ∷ 105 ∷ 110 ∷ 97 ∷ 116 ∷ 101 ∷ 58 ∷ 58 ∷ 65 ∷ 116 ∷ 111 ∷ 109 ∷ []) (Syntax.tcons
       (Syntax.tyStruct (99 ∷ 111 ∷ 111 ∷ 114 ∷ 100 ∷ 105 ∷ 110 ∷ 97 ∷ 116 ∷ 101 ∷ 58 ∷ 58 ∷ 73 ∷ 100 ∷ 101 ∷ 110 ∷ 116 ∷ 105 ∷ 116 ∷ 121 ∷ []) (Syntax.tcons
       (Syntax.tyStruct (102 ∷ 105 ∷ 101 ∷ 108 ∷ 100 ∷ 115 ∷ 58 ∷ 58 ∷ 83 ∷ 101 ∷ 114 ∷ 105 ∷ 97 ∷ 108 ∷ []) (Syntax.tcons (Syntax.tyInt Syntax.w32) Syntax.tnil))
       (Syntax.tcons (Syntax.tyStruct (110 ∷ 97 ∷ 109 ∷ 101 ∷ 115 ∷ 58 ∷ 58 ∷ 70 ∷ 111 ∷ 117 ∷ 114 ∷ []) (Syntax.tcons (Syntax.tyInt Syntax.w8) (Syntax.tcons
@@ -3280,15 +3457,145 @@ t26 = (0, Rows.whole (Declared'.row (Apart.apartT Outcome.the-type))) ∷ (
       Syntax.tnil) (Syntax.ttcons (Syntax.tcons (Syntax.tyStruct (109 ∷ 97 ∷ 115 ∷ 116 ∷ 101 ∷ 114 ∷ 58 ∷ 58 ∷ 84 ∷ 97 ∷ 108 ∷ 108 ∷ 121 ∷ []) (Syntax.tcons
       (Syntax.tyInt Syntax.w32) (Syntax.tcons (Syntax.tyInt Syntax.w32) (Syntax.tcons (Syntax.tyInt Syntax.w32) (Syntax.tcons (Syntax.tyInt Syntax.w32)
       (Syntax.tcons (Syntax.tyInt Syntax.w32) (Syntax.tcons (Syntax.tyInt Syntax.w32) (Syntax.tcons (Syntax.tyInt Syntax.w32) (Syntax.tcons (Syntax.tyInt
-      Syntax.w32) (Syntax.tcons (Syntax.tyInt Syntax.w32) Syntax.tnil)))))))))) Syntax.tnil) (Syntax.ttcons Syntax.tnil Syntax.ttnil)))))))) Syntax.tnil)
-      Syntax.ttnil))))),
-) ∷ (8, Rows.any-gone Syntax.tyBool) ∷ (9, Rows.any-gone (Syntax.tyInt Syntax.w64)) ∷ (10, Rows.any-gone (Syntax.tyInt Syntax.w64)) ∷ (
-  11,
-  Rows.any-gone (Syntax.tyInt Syntax.w64),
-) ∷ (12, Rows.any-gone Syntax.tyBool) ∷ (13, Rows.any-gone (Syntax.tyRef Syntax.erased Syntax.mut SlotAs.pointee)) ∷ (
-  14,
-  Rows.any-gone (Syntax.tyStruct (38 ∷ 91 ∷ 93 ∷ []) (Syntax.tcons (Syntax.tyRef Syntax.erased Syntax.mut SlotAs.pointee) (Syntax.tcons (Syntax.tyInt
-      Syntax.w64) Syntax.tnil))),
+      Syntax.w32) (Syntax.tcons (Syntax.tyInt Syntax.w32) Syntax.tnil)))))))))) Syntax.tnil) (Syntax.ttcons Syntax.tnil (Syntax.ttcons (Syntax.tcons
+      (Syntax.tyStruct (109 ∷ 111 ∷ 100 ∷ 101 ∷ 108 ∷ 58 ∷ 58 ∷ 77 ∷ 111 ∷ 100 ∷ 101 ∷ 108 ∷ []) (Syntax.tcons (Syntax.tyInt Syntax.w32) Syntax.tnil))
+      Syntax.tnil) (Syntax.ttcons Syntax.tnil Syntax.ttnil)))))))))) Syntax.tnil) Syntax.ttnil))))),
+) ∷ (9, Rows.any-gone Syntax.tyBool) ∷ (
+  10,
+  Rows.any-gone
+      (Syntax.tyInt Syntax.w64),
+) ∷ (11, Rows.any-gone (Syntax.tyInt Syntax.w64)) ∷ (12, Rows.any-gone (Syntax.tyInt Syntax.w64)) ∷ (
+  13,
+  Rows.any-gone
+      Syntax.tyBool,
+) ∷ (14, Rows.any-gone (Syntax.tyRef Syntax.erased Syntax.mut SlotAs.pointee)) ∷ (
+  15,
+  Rows.any-gone (Syntax.tyStruct (38 ∷ 91 ∷ 93 ∷ [])
+      (Syntax.tcons (Syntax.tyRef Syntax.erased Syntax.mut SlotAs.pointee) (Syntax.tcons (Syntax.tyInt Syntax.w64) Syntax.tnil))),
+) ∷ []
+
+abbrev pub t27 : List.List Row.Entry
+t27 = (0, Rows.whole (Declared'.row (Apart.apartT Outcome.the-type))) ∷ (
+  1,
+  Rows.sslice (Referent.rtF (Referent.fInt Syntax.w8)) (Syntax.tyRef (Syntax.named 0)
+      Syntax.imm (Syntax.tyInt Syntax.w8)) 0,
+) ∷ (2, Mut.mslice SlotAs.row (Syntax.tyRef (Syntax.named 1) Syntax.mut SlotAs.pointee) 1) ∷ (
+  3,
+  Rows.any-gone
+      (Syntax.tyStruct (115 ∷ 116 ∷ 111 ∷ 114 ∷ 101 ∷ 58 ∷ 58 ∷ 78 ∷ 101 ∷ 101 ∷ 100 ∷ 115 ∷ []) (Syntax.tcons (Syntax.tyInt Syntax.w8) (Syntax.tcons
+      (Syntax.tyInt Syntax.w64) Syntax.tnil))),
+) ∷ (4, Rows.any-gone (Syntax.tyInt Syntax.w64)) ∷ (5, Rows.any-gone (Syntax.tyInt Syntax.w64)) ∷ (
+  6,
+  Rows.any-gone
+      (Syntax.tyInt Syntax.w64),
+) ∷ (7, Rows.sc-here (Row.sInt Syntax.w32)) ∷ (
+  8,
+  Rows.any-gone (Syntax.tyEnum (112 ∷ 105 ∷ 101 ∷ 99 ∷ 101 ∷ 115 ∷ 58 ∷ 58 ∷ 76 ∷
+      105 ∷ 110 ∷ 101 ∷ []) (Syntax.ttcons (Syntax.tcons (Syntax.tyInt Syntax.w8) Syntax.tnil) (Syntax.ttcons (Syntax.tcons (Syntax.tyEnum (107 ∷ 105 ∷ 110 ∷ 100
+      ∷ 115 ∷ 58 ∷ 58 ∷ 75 ∷ 105 ∷ 110 ∷ 100 ∷ []) (Syntax.ttcons Syntax.tnil (Syntax.ttcons Syntax.tnil (Syntax.ttcons Syntax.tnil (Syntax.ttcons Syntax.tnil
+      (Syntax.ttcons Syntax.tnil (Syntax.ttcons Syntax.tnil (Syntax.ttcons Syntax.tnil (Syntax.ttcons Syntax.tnil (Syntax.ttcons Syntax.tnil (Syntax.ttcons
+      Syntax.tnil (Syntax.ttcons Syntax.tnil (Syntax.ttcons Syntax.tnil (Syntax.ttcons Syntax.tnil (Syntax.ttcons Syntax.tnil (Syntax.ttcons Syntax.tnil
+      (Syntax.ttcons Syntax.tnil (Syntax.ttcons Syntax.tnil (Syntax.ttcons Syntax.tnil (Syntax.ttcons Syntax.tnil (Syntax.ttcons Syntax.tnil (Syntax.ttcons
+      Syntax.tnil (Syntax.ttcons Syntax.tnil (Syntax.ttcons Syntax.tnil (Syntax.ttcons Syntax.tnil (Syntax.ttcons Syntax.tnil (Syntax.ttcons Syntax.tnil
+      (Syntax.ttcons Syntax.tnil (Syntax.ttcons Syntax.tnil (Syntax.ttcons Syntax.tnil (Syntax.ttcons Syntax.tnil Syntax.ttnil)))))))))))))))))))))))))))))))
+      (Syntax.tcons (Syntax.tyInt Syntax.w32) Syntax.tnil)) (Syntax.ttcons (Syntax.tcons (Syntax.tyEnum (107 ∷ 105 ∷ 110 ∷ 100 ∷ 115 ∷ 58 ∷ 58 ∷ 75 ∷ 105 ∷ 110 ∷
+      100 ∷ []) (Syntax.ttcons Syntax.tnil (Syntax.ttcons Syntax.tnil (Syntax.ttcons Syntax.tnil (Syntax.ttcons Syntax.tnil (Syntax.ttcons Syntax.tnil
+      (Syntax.ttcons Syntax.tnil (Syntax.ttcons Syntax.tnil (Syntax.ttcons Syntax.tnil (Syntax.ttcons Syntax.tnil (Syntax.ttcons Syntax.tnil (Syntax.ttcons
+      Syntax.tnil (Syntax.ttcons Syntax.tnil (Syntax.ttcons Syntax.tnil (Syntax.ttcons Syntax.tnil (Syntax.ttcons Syntax.tnil (Syntax.ttcons Syntax.tnil
+      (Syntax.ttcons Syntax.tnil (Syntax.ttcons Syntax.tnil (Syntax.ttcons Syntax.tnil (Syntax.ttcons Syntax.tnil (Syntax.ttcons Syntax.tnil (Syntax.ttcons
+      Syntax.tnil (Syntax.ttcons Syntax.tnil (Syntax.ttcons Syntax.tnil (Syntax.ttcons Syntax.tnil (Syntax.ttcons Syntax.tnil (Syntax.ttcons Syntax.tnil
+      (Syntax.ttcons Syntax.tnil (Syntax.ttcons Syntax.tnil (Syntax.ttcons Syntax.tnil Syntax.ttnil))))))))))))))))))))))))))))))) Syntax.tnil) (Syntax.ttcons
+      (Syntax.tcons (Syntax.tyEnum (108 ∷ 105 ∷ 110 ∷ 101 ∷ 58 ∷ 58 ∷ 82 ∷ 101 ∷ 99 ∷ 111 ∷ 114 ∷ 100 ∷ []) (Syntax.ttcons (Syntax.tcons Syntax.tyBool
+      (Syntax.tcons (Syntax.tyStruct (99 ∷ 111 ∷ 111 ∷ 114 ∷ 100 ∷ 105 ∷ 110 ∷ 97 ∷ 116 ∷ 101 ∷ 58 ∷ 58 ∷ 65 ∷ 116 ∷ 111 ∷ 109 ∷ []) (Syntax.tcons
+      (Syntax.tyStruct (99 ∷ 111 ∷ 111 ∷ 114 ∷ 100 ∷ 105 ∷ 110 ∷ 97 ∷ 116 ∷ 101 ∷ 58 ∷ 58 ∷ 73 ∷ 100 ∷ 101 ∷ 110 ∷ 116 ∷ 105 ∷ 116 ∷ 121 ∷ []) (Syntax.tcons
+      (Syntax.tyStruct (102 ∷ 105 ∷ 101 ∷ 108 ∷ 100 ∷ 115 ∷ 58 ∷ 58 ∷ 83 ∷ 101 ∷ 114 ∷ 105 ∷ 97 ∷ 108 ∷ []) (Syntax.tcons (Syntax.tyInt Syntax.w32) Syntax.tnil))
+      (Syntax.tcons (Syntax.tyStruct (110 ∷ 97 ∷ 109 ∷ 101 ∷ 115 ∷ 58 ∷ 58 ∷ 70 ∷ 111 ∷ 117 ∷ 114 ∷ []) (Syntax.tcons (Syntax.tyInt Syntax.w8) (Syntax.tcons
+      (Syntax.tyInt Syntax.w8) (Syntax.tcons (Syntax.tyInt Syntax.w8) (Syntax.tcons (Syntax.tyInt Syntax.w8) Syntax.tnil))))) (Syntax.tcons (Syntax.tyInt
+      Syntax.w8) (Syntax.tcons (Syntax.tyStruct (114 ∷ 101 ∷ 115 ∷ 105 ∷ 100 ∷ 117 ∷ 101 ∷ 58 ∷ 58 ∷ 82 ∷ 101 ∷ 115 ∷ 105 ∷ 100 ∷ 117 ∷ 101 ∷ []) (Syntax.tcons
+      (Syntax.tyStruct (110 ∷ 97 ∷ 109 ∷ 101 ∷ 115 ∷ 58 ∷ 58 ∷ 84 ∷ 104 ∷ 114 ∷ 101 ∷ 101 ∷ []) (Syntax.tcons (Syntax.tyInt Syntax.w8) (Syntax.tcons
+      (Syntax.tyInt Syntax.w8) (Syntax.tcons (Syntax.tyInt Syntax.w8) Syntax.tnil)))) (Syntax.tcons (Syntax.tyInt Syntax.w8) (Syntax.tcons (Syntax.tyStruct (102
+      ∷ 105 ∷ 101 ∷ 108 ∷ 100 ∷ 115 ∷ 58 ∷ 58 ∷ 82 ∷ 101 ∷ 115 ∷ 105 ∷ 100 ∷ 117 ∷ 101 ∷ 78 ∷ 117 ∷ 109 ∷ 98 ∷ 101 ∷ 114 ∷ []) (Syntax.tcons (Syntax.tyInt
+      Syntax.w32) Syntax.tnil)) (Syntax.tcons (Syntax.tyInt Syntax.w8) Syntax.tnil))))) Syntax.tnil))))) (Syntax.tcons (Syntax.tyStruct (99 ∷ 111 ∷ 111 ∷ 114 ∷
+      100 ∷ 105 ∷ 110 ∷ 97 ∷ 116 ∷ 101 ∷ 58 ∷ 58 ∷ 77 ∷ 101 ∷ 97 ∷ 115 ∷ 117 ∷ 114 ∷ 101 ∷ []) (Syntax.tcons (Syntax.tyStruct (99 ∷ 111 ∷ 111 ∷ 114 ∷ 100 ∷ 105 ∷
+      110 ∷ 97 ∷ 116 ∷ 101 ∷ 58 ∷ 58 ∷ 80 ∷ 111 ∷ 115 ∷ 105 ∷ 116 ∷ 105 ∷ 111 ∷ 110 ∷ []) (Syntax.tcons (Syntax.tyInt Syntax.w32) (Syntax.tcons (Syntax.tyInt
+      Syntax.w32) (Syntax.tcons (Syntax.tyInt Syntax.w32) Syntax.tnil)))) (Syntax.tcons (Syntax.tyInt Syntax.w32) (Syntax.tcons (Syntax.tyInt Syntax.w32)
+      Syntax.tnil)))) (Syntax.tcons (Syntax.tyStruct (99 ∷ 111 ∷ 111 ∷ 114 ∷ 100 ∷ 105 ∷ 110 ∷ 97 ∷ 116 ∷ 101 ∷ 58 ∷ 58 ∷ 83 ∷ 112 ∷ 101 ∷ 99 ∷ 105 ∷ 101 ∷ 115 ∷
+      []) (Syntax.tcons (Syntax.tyStruct (110 ∷ 97 ∷ 109 ∷ 101 ∷ 115 ∷ 58 ∷ 58 ∷ 80 ∷ 97 ∷ 105 ∷ 114 ∷ []) (Syntax.tcons (Syntax.tyInt Syntax.w8) (Syntax.tcons
+      (Syntax.tyInt Syntax.w8) Syntax.tnil))) (Syntax.tcons (Syntax.tyStruct (110 ∷ 97 ∷ 109 ∷ 101 ∷ 115 ∷ 58 ∷ 58 ∷ 80 ∷ 97 ∷ 105 ∷ 114 ∷ []) (Syntax.tcons
+      (Syntax.tyInt Syntax.w8) (Syntax.tcons (Syntax.tyInt Syntax.w8) Syntax.tnil))) Syntax.tnil))) Syntax.tnil)))) Syntax.tnil)) (Syntax.ttcons (Syntax.tcons
+      (Syntax.tyStruct (116 ∷ 101 ∷ 114 ∷ 58 ∷ 58 ∷ 84 ∷ 101 ∷ 114 ∷ []) (Syntax.tcons (Syntax.tyStruct (102 ∷ 105 ∷ 101 ∷ 108 ∷ 100 ∷ 115 ∷ 58 ∷ 58 ∷ 83 ∷ 101 ∷
+      114 ∷ 105 ∷ 97 ∷ 108 ∷ []) (Syntax.tcons (Syntax.tyInt Syntax.w32) Syntax.tnil)) (Syntax.tcons (Syntax.tyStruct (114 ∷ 101 ∷ 115 ∷ 105 ∷ 100 ∷ 117 ∷ 101 ∷
+      58 ∷ 58 ∷ 82 ∷ 101 ∷ 115 ∷ 105 ∷ 100 ∷ 117 ∷ 101 ∷ []) (Syntax.tcons (Syntax.tyStruct (110 ∷ 97 ∷ 109 ∷ 101 ∷ 115 ∷ 58 ∷ 58 ∷ 84 ∷ 104 ∷ 114 ∷ 101 ∷ 101 ∷
+      []) (Syntax.tcons (Syntax.tyInt Syntax.w8) (Syntax.tcons (Syntax.tyInt Syntax.w8) (Syntax.tcons (Syntax.tyInt Syntax.w8) Syntax.tnil)))) (Syntax.tcons
+      (Syntax.tyInt Syntax.w8) (Syntax.tcons (Syntax.tyStruct (102 ∷ 105 ∷ 101 ∷ 108 ∷ 100 ∷ 115 ∷ 58 ∷ 58 ∷ 82 ∷ 101 ∷ 115 ∷ 105 ∷ 100 ∷ 117 ∷ 101 ∷ 78 ∷ 117 ∷
+      109 ∷ 98 ∷ 101 ∷ 114 ∷ []) (Syntax.tcons (Syntax.tyInt Syntax.w32) Syntax.tnil)) (Syntax.tcons (Syntax.tyInt Syntax.w8) Syntax.tnil))))) Syntax.tnil)))
+      Syntax.tnil) (Syntax.ttcons (Syntax.tcons (Syntax.tyStruct (104 ∷ 101 ∷ 108 ∷ 105 ∷ 120 ∷ 58 ∷ 58 ∷ 72 ∷ 101 ∷ 108 ∷ 105 ∷ 120 ∷ []) (Syntax.tcons
+      (Syntax.tyStruct (104 ∷ 101 ∷ 108 ∷ 105 ∷ 120 ∷ 58 ∷ 58 ∷ 69 ∷ 120 ∷ 116 ∷ 101 ∷ 110 ∷ 116 ∷ []) (Syntax.tcons (Syntax.tyInt Syntax.w32) (Syntax.tcons
+      (Syntax.tyStruct (110 ∷ 97 ∷ 109 ∷ 101 ∷ 115 ∷ 58 ∷ 58 ∷ 84 ∷ 104 ∷ 114 ∷ 101 ∷ 101 ∷ []) (Syntax.tcons (Syntax.tyInt Syntax.w8) (Syntax.tcons
+      (Syntax.tyInt Syntax.w8) (Syntax.tcons (Syntax.tyInt Syntax.w8) Syntax.tnil)))) (Syntax.tcons (Syntax.tyStruct (114 ∷ 101 ∷ 115 ∷ 105 ∷ 100 ∷ 117 ∷ 101 ∷
+      58 ∷ 58 ∷ 82 ∷ 101 ∷ 115 ∷ 105 ∷ 100 ∷ 117 ∷ 101 ∷ []) (Syntax.tcons (Syntax.tyStruct (110 ∷ 97 ∷ 109 ∷ 101 ∷ 115 ∷ 58 ∷ 58 ∷ 84 ∷ 104 ∷ 114 ∷ 101 ∷ 101 ∷
+      []) (Syntax.tcons (Syntax.tyInt Syntax.w8) (Syntax.tcons (Syntax.tyInt Syntax.w8) (Syntax.tcons (Syntax.tyInt Syntax.w8) Syntax.tnil)))) (Syntax.tcons
+      (Syntax.tyInt Syntax.w8) (Syntax.tcons (Syntax.tyStruct (102 ∷ 105 ∷ 101 ∷ 108 ∷ 100 ∷ 115 ∷ 58 ∷ 58 ∷ 82 ∷ 101 ∷ 115 ∷ 105 ∷ 100 ∷ 117 ∷ 101 ∷ 78 ∷ 117 ∷
+      109 ∷ 98 ∷ 101 ∷ 114 ∷ []) (Syntax.tcons (Syntax.tyInt Syntax.w32) Syntax.tnil)) (Syntax.tcons (Syntax.tyInt Syntax.w8) Syntax.tnil))))) (Syntax.tcons
+      (Syntax.tyStruct (114 ∷ 101 ∷ 115 ∷ 105 ∷ 100 ∷ 117 ∷ 101 ∷ 58 ∷ 58 ∷ 82 ∷ 101 ∷ 115 ∷ 105 ∷ 100 ∷ 117 ∷ 101 ∷ []) (Syntax.tcons (Syntax.tyStruct (110 ∷ 97
+      ∷ 109 ∷ 101 ∷ 115 ∷ 58 ∷ 58 ∷ 84 ∷ 104 ∷ 114 ∷ 101 ∷ 101 ∷ []) (Syntax.tcons (Syntax.tyInt Syntax.w8) (Syntax.tcons (Syntax.tyInt Syntax.w8) (Syntax.tcons
+      (Syntax.tyInt Syntax.w8) Syntax.tnil)))) (Syntax.tcons (Syntax.tyInt Syntax.w8) (Syntax.tcons (Syntax.tyStruct (102 ∷ 105 ∷ 101 ∷ 108 ∷ 100 ∷ 115 ∷ 58 ∷ 58
+      ∷ 82 ∷ 101 ∷ 115 ∷ 105 ∷ 100 ∷ 117 ∷ 101 ∷ 78 ∷ 117 ∷ 109 ∷ 98 ∷ 101 ∷ 114 ∷ []) (Syntax.tcons (Syntax.tyInt Syntax.w32) Syntax.tnil)) (Syntax.tcons
+      (Syntax.tyInt Syntax.w8) Syntax.tnil))))) Syntax.tnil))))) (Syntax.tcons (Syntax.tyInt Syntax.w32) (Syntax.tcons (Syntax.tyStruct (104 ∷ 101 ∷ 108 ∷ 105 ∷
+      120 ∷ 58 ∷ 58 ∷ 67 ∷ 111 ∷ 109 ∷ 109 ∷ 101 ∷ 110 ∷ 116 ∷ []) (Syntax.tcons (Syntax.tyInt Syntax.w64) (Syntax.tcons (Syntax.tyInt Syntax.w64) (Syntax.tcons
+      (Syntax.tyInt Syntax.w64) (Syntax.tcons (Syntax.tyInt Syntax.w64) Syntax.tnil))))) (Syntax.tcons (Syntax.tyInt Syntax.w32) Syntax.tnil))))) Syntax.tnil)
+      (Syntax.ttcons (Syntax.tcons (Syntax.tyStruct (115 ∷ 104 ∷ 101 ∷ 101 ∷ 116 ∷ 58 ∷ 58 ∷ 83 ∷ 104 ∷ 101 ∷ 101 ∷ 116 ∷ []) (Syntax.tcons (Syntax.tyStruct (115
+      ∷ 104 ∷ 101 ∷ 101 ∷ 116 ∷ 58 ∷ 58 ∷ 83 ∷ 116 ∷ 114 ∷ 97 ∷ 110 ∷ 100 ∷ []) (Syntax.tcons (Syntax.tyInt Syntax.w32) (Syntax.tcons (Syntax.tyStruct (110 ∷ 97
+      ∷ 109 ∷ 101 ∷ 115 ∷ 58 ∷ 58 ∷ 84 ∷ 104 ∷ 114 ∷ 101 ∷ 101 ∷ []) (Syntax.tcons (Syntax.tyInt Syntax.w8) (Syntax.tcons (Syntax.tyInt Syntax.w8) (Syntax.tcons
+      (Syntax.tyInt Syntax.w8) Syntax.tnil)))) (Syntax.tcons (Syntax.tyInt Syntax.w32) (Syntax.tcons (Syntax.tyStruct (114 ∷ 101 ∷ 115 ∷ 105 ∷ 100 ∷ 117 ∷ 101 ∷
+      58 ∷ 58 ∷ 82 ∷ 101 ∷ 115 ∷ 105 ∷ 100 ∷ 117 ∷ 101 ∷ []) (Syntax.tcons (Syntax.tyStruct (110 ∷ 97 ∷ 109 ∷ 101 ∷ 115 ∷ 58 ∷ 58 ∷ 84 ∷ 104 ∷ 114 ∷ 101 ∷ 101 ∷
+      []) (Syntax.tcons (Syntax.tyInt Syntax.w8) (Syntax.tcons (Syntax.tyInt Syntax.w8) (Syntax.tcons (Syntax.tyInt Syntax.w8) Syntax.tnil)))) (Syntax.tcons
+      (Syntax.tyInt Syntax.w8) (Syntax.tcons (Syntax.tyStruct (102 ∷ 105 ∷ 101 ∷ 108 ∷ 100 ∷ 115 ∷ 58 ∷ 58 ∷ 82 ∷ 101 ∷ 115 ∷ 105 ∷ 100 ∷ 117 ∷ 101 ∷ 78 ∷ 117 ∷
+      109 ∷ 98 ∷ 101 ∷ 114 ∷ []) (Syntax.tcons (Syntax.tyInt Syntax.w32) Syntax.tnil)) (Syntax.tcons (Syntax.tyInt Syntax.w8) Syntax.tnil))))) (Syntax.tcons
+      (Syntax.tyStruct (114 ∷ 101 ∷ 115 ∷ 105 ∷ 100 ∷ 117 ∷ 101 ∷ 58 ∷ 58 ∷ 82 ∷ 101 ∷ 115 ∷ 105 ∷ 100 ∷ 117 ∷ 101 ∷ []) (Syntax.tcons (Syntax.tyStruct (110 ∷ 97
+      ∷ 109 ∷ 101 ∷ 115 ∷ 58 ∷ 58 ∷ 84 ∷ 104 ∷ 114 ∷ 101 ∷ 101 ∷ []) (Syntax.tcons (Syntax.tyInt Syntax.w8) (Syntax.tcons (Syntax.tyInt Syntax.w8) (Syntax.tcons
+      (Syntax.tyInt Syntax.w8) Syntax.tnil)))) (Syntax.tcons (Syntax.tyInt Syntax.w8) (Syntax.tcons (Syntax.tyStruct (102 ∷ 105 ∷ 101 ∷ 108 ∷ 100 ∷ 115 ∷ 58 ∷ 58
+      ∷ 82 ∷ 101 ∷ 115 ∷ 105 ∷ 100 ∷ 117 ∷ 101 ∷ 78 ∷ 117 ∷ 109 ∷ 98 ∷ 101 ∷ 114 ∷ []) (Syntax.tcons (Syntax.tyInt Syntax.w32) Syntax.tnil)) (Syntax.tcons
+      (Syntax.tyInt Syntax.w8) Syntax.tnil))))) (Syntax.tcons (Syntax.tyInt Syntax.w32) Syntax.tnil))))))) (Syntax.tcons (Syntax.tyEnum (115 ∷ 104 ∷ 101 ∷ 101 ∷
+      116 ∷ 58 ∷ 58 ∷ 82 ∷ 101 ∷ 103 ∷ 105 ∷ 115 ∷ 116 ∷ 114 ∷ 97 ∷ 116 ∷ 105 ∷ 111 ∷ 110 ∷ []) (Syntax.ttcons Syntax.tnil (Syntax.ttcons (Syntax.tcons
+      (Syntax.tyStruct (115 ∷ 104 ∷ 101 ∷ 101 ∷ 116 ∷ 58 ∷ 58 ∷ 66 ∷ 111 ∷ 110 ∷ 100 ∷ []) (Syntax.tcons (Syntax.tyStruct (110 ∷ 97 ∷ 109 ∷ 101 ∷ 115 ∷ 58 ∷ 58 ∷
+      70 ∷ 111 ∷ 117 ∷ 114 ∷ []) (Syntax.tcons (Syntax.tyInt Syntax.w8) (Syntax.tcons (Syntax.tyInt Syntax.w8) (Syntax.tcons (Syntax.tyInt Syntax.w8)
+      (Syntax.tcons (Syntax.tyInt Syntax.w8) Syntax.tnil))))) (Syntax.tcons (Syntax.tyStruct (114 ∷ 101 ∷ 115 ∷ 105 ∷ 100 ∷ 117 ∷ 101 ∷ 58 ∷ 58 ∷ 82 ∷ 101 ∷ 115
+      ∷ 105 ∷ 100 ∷ 117 ∷ 101 ∷ []) (Syntax.tcons (Syntax.tyStruct (110 ∷ 97 ∷ 109 ∷ 101 ∷ 115 ∷ 58 ∷ 58 ∷ 84 ∷ 104 ∷ 114 ∷ 101 ∷ 101 ∷ []) (Syntax.tcons
+      (Syntax.tyInt Syntax.w8) (Syntax.tcons (Syntax.tyInt Syntax.w8) (Syntax.tcons (Syntax.tyInt Syntax.w8) Syntax.tnil)))) (Syntax.tcons (Syntax.tyInt
+      Syntax.w8) (Syntax.tcons (Syntax.tyStruct (102 ∷ 105 ∷ 101 ∷ 108 ∷ 100 ∷ 115 ∷ 58 ∷ 58 ∷ 82 ∷ 101 ∷ 115 ∷ 105 ∷ 100 ∷ 117 ∷ 101 ∷ 78 ∷ 117 ∷ 109 ∷ 98 ∷ 101
+      ∷ 114 ∷ []) (Syntax.tcons (Syntax.tyInt Syntax.w32) Syntax.tnil)) (Syntax.tcons (Syntax.tyInt Syntax.w8) Syntax.tnil))))) (Syntax.tcons (Syntax.tyStruct
+      (110 ∷ 97 ∷ 109 ∷ 101 ∷ 115 ∷ 58 ∷ 58 ∷ 70 ∷ 111 ∷ 117 ∷ 114 ∷ []) (Syntax.tcons (Syntax.tyInt Syntax.w8) (Syntax.tcons (Syntax.tyInt Syntax.w8)
+      (Syntax.tcons (Syntax.tyInt Syntax.w8) (Syntax.tcons (Syntax.tyInt Syntax.w8) Syntax.tnil))))) (Syntax.tcons (Syntax.tyStruct (114 ∷ 101 ∷ 115 ∷ 105 ∷ 100
+      ∷ 117 ∷ 101 ∷ 58 ∷ 58 ∷ 82 ∷ 101 ∷ 115 ∷ 105 ∷ 100 ∷ 117 ∷ 101 ∷ []) (Syntax.tcons (Syntax.tyStruct (110 ∷ 97 ∷ 109 ∷ 101 ∷ 115 ∷ 58 ∷ 58 ∷ 84 ∷ 104 ∷ 114
+      ∷ 101 ∷ 101 ∷ []) (Syntax.tcons (Syntax.tyInt Syntax.w8) (Syntax.tcons (Syntax.tyInt Syntax.w8) (Syntax.tcons (Syntax.tyInt Syntax.w8) Syntax.tnil))))
+      (Syntax.tcons (Syntax.tyInt Syntax.w8) (Syntax.tcons (Syntax.tyStruct (102 ∷ 105 ∷ 101 ∷ 108 ∷ 100 ∷ 115 ∷ 58 ∷ 58 ∷ 82 ∷ 101 ∷ 115 ∷ 105 ∷ 100 ∷ 117 ∷ 101
+      ∷ 78 ∷ 117 ∷ 109 ∷ 98 ∷ 101 ∷ 114 ∷ []) (Syntax.tcons (Syntax.tyInt Syntax.w32) Syntax.tnil)) (Syntax.tcons (Syntax.tyInt Syntax.w8) Syntax.tnil)))))
+      Syntax.tnil))))) Syntax.tnil) Syntax.ttnil))) Syntax.tnil))) Syntax.tnil) (Syntax.ttcons (Syntax.tcons (Syntax.tyStruct (99 ∷ 111 ∷ 110 ∷ 101 ∷ 99 ∷ 116 ∷
+      58 ∷ 58 ∷ 67 ∷ 111 ∷ 110 ∷ 101 ∷ 99 ∷ 116 ∷ []) (Syntax.tcons (Syntax.tyStruct (102 ∷ 105 ∷ 101 ∷ 108 ∷ 100 ∷ 115 ∷ 58 ∷ 58 ∷ 83 ∷ 101 ∷ 114 ∷ 105 ∷ 97 ∷
+      108 ∷ []) (Syntax.tcons (Syntax.tyInt Syntax.w32) Syntax.tnil)) (Syntax.tcons (Syntax.tyStruct (102 ∷ 105 ∷ 101 ∷ 108 ∷ 100 ∷ 115 ∷ 58 ∷ 58 ∷ 83 ∷ 101 ∷
+      114 ∷ 105 ∷ 97 ∷ 108 ∷ []) (Syntax.tcons (Syntax.tyInt Syntax.w32) Syntax.tnil)) (Syntax.tcons (Syntax.tyStruct (102 ∷ 105 ∷ 101 ∷ 108 ∷ 100 ∷ 115 ∷ 58 ∷
+      58 ∷ 83 ∷ 101 ∷ 114 ∷ 105 ∷ 97 ∷ 108 ∷ []) (Syntax.tcons (Syntax.tyInt Syntax.w32) Syntax.tnil)) (Syntax.tcons (Syntax.tyStruct (102 ∷ 105 ∷ 101 ∷ 108 ∷
+      100 ∷ 115 ∷ 58 ∷ 58 ∷ 83 ∷ 101 ∷ 114 ∷ 105 ∷ 97 ∷ 108 ∷ []) (Syntax.tcons (Syntax.tyInt Syntax.w32) Syntax.tnil)) (Syntax.tcons (Syntax.tyStruct (102 ∷ 105
+      ∷ 101 ∷ 108 ∷ 100 ∷ 115 ∷ 58 ∷ 58 ∷ 83 ∷ 101 ∷ 114 ∷ 105 ∷ 97 ∷ 108 ∷ []) (Syntax.tcons (Syntax.tyInt Syntax.w32) Syntax.tnil)) Syntax.tnil))))))
+      Syntax.tnil) (Syntax.ttcons (Syntax.tcons (Syntax.tyStruct (109 ∷ 97 ∷ 115 ∷ 116 ∷ 101 ∷ 114 ∷ 58 ∷ 58 ∷ 84 ∷ 97 ∷ 108 ∷ 108 ∷ 121 ∷ []) (Syntax.tcons
+      (Syntax.tyInt Syntax.w32) (Syntax.tcons (Syntax.tyInt Syntax.w32) (Syntax.tcons (Syntax.tyInt Syntax.w32) (Syntax.tcons (Syntax.tyInt Syntax.w32)
+      (Syntax.tcons (Syntax.tyInt Syntax.w32) (Syntax.tcons (Syntax.tyInt Syntax.w32) (Syntax.tcons (Syntax.tyInt Syntax.w32) (Syntax.tcons (Syntax.tyInt
+      Syntax.w32) (Syntax.tcons (Syntax.tyInt Syntax.w32) Syntax.tnil)))))))))) Syntax.tnil) (Syntax.ttcons Syntax.tnil (Syntax.ttcons (Syntax.tcons
+      (Syntax.tyStruct (109 ∷ 111 ∷ 100 ∷ 101 ∷ 108 ∷ 58 ∷ 58 ∷ 77 ∷ 111 ∷ 100 ∷ 101 ∷ 108 ∷ []) (Syntax.tcons (Syntax.tyInt Syntax.w32) Syntax.tnil))
+      Syntax.tnil) (Syntax.ttcons Syntax.tnil Syntax.ttnil)))))))))) Syntax.tnil) Syntax.ttnil))))),
+) ∷ (9, Rows.any-gone Syntax.tyBool) ∷ (
+  10,
+  Rows.any-gone
+      (Syntax.tyInt Syntax.w64),
+) ∷ (11, Rows.any-gone (Syntax.tyInt Syntax.w64)) ∷ (12, Rows.any-gone (Syntax.tyInt Syntax.w64)) ∷ (
+  13,
+  Rows.any-gone
+      Syntax.tyBool,
+) ∷ (14, Rows.any-gone (Syntax.tyRef Syntax.erased Syntax.mut SlotAs.pointee)) ∷ (
+  15,
+  Rows.any-gone (Syntax.tyStruct (38 ∷ 91 ∷ 93 ∷ [])
+      (Syntax.tcons (Syntax.tyRef Syntax.erased Syntax.mut SlotAs.pointee) (Syntax.tcons (Syntax.tyInt Syntax.w64) Syntax.tnil))),
 ) ∷ []
 
 abbrev pub T0 : Row.Cx
@@ -3367,7 +3674,7 @@ abbrev pub T24 : Row.Cx
 T24 = record { locals = t13; slots = [] }
 
 abbrev pub T25 : Row.Cx
-T25 = record { locals = t13; slots = [] }
+T25 = record { locals = t14; slots = [] }
 
 abbrev pub T26 : Row.Cx
 T26 = record { locals = t14; slots = [] }
@@ -3379,25 +3686,25 @@ abbrev pub T28 : Row.Cx
 T28 = record { locals = t16; slots = [] }
 
 abbrev pub T29 : Row.Cx
-T29 = record { locals = t13; slots = [] }
+T29 = record { locals = t17; slots = [] }
 
 abbrev pub T30 : Row.Cx
-T30 = record { locals = t17; slots = [] }
+T30 = record { locals = t14; slots = [] }
 
 abbrev pub T31 : Row.Cx
 T31 = record { locals = t18; slots = [] }
 
 abbrev pub T32 : Row.Cx
-T32 = record { locals = t13; slots = [] }
+T32 = record { locals = t19; slots = [] }
 
 abbrev pub T33 : Row.Cx
-T33 = record { locals = t13; slots = [] }
+T33 = record { locals = t14; slots = [] }
 
 abbrev pub T34 : Row.Cx
-T34 = record { locals = t19; slots = [] }
+T34 = record { locals = t14; slots = [] }
 
-abbrev pub T36 : Row.Cx
-T36 = record { locals = t20; slots = [] }
+abbrev pub T35 : Row.Cx
+T35 = record { locals = t20; slots = [] }
 
 abbrev pub T37 : Row.Cx
 T37 = record { locals = t21; slots = [] }
@@ -3409,25 +3716,34 @@ abbrev pub T39 : Row.Cx
 T39 = record { locals = t23; slots = [] }
 
 abbrev pub T41 : Row.Cx
-T41 = record { locals = t13; slots = [] }
+T41 = record { locals = t20; slots = [] }
 
 abbrev pub T43 : Row.Cx
-T43 = record { locals = t13; slots = [] }
+T43 = record { locals = t20; slots = [] }
 
 abbrev pub T44 : Row.Cx
-T44 = record { locals = t24; slots = [] }
+T44 = record { locals = t14; slots = [] }
 
 abbrev pub T45 : Row.Cx
-T45 = record { locals = t25; slots = [] }
+T45 = record { locals = t14; slots = [] }
 
 abbrev pub T46 : Row.Cx
-T46 = record { locals = t26; slots = [] }
+T46 = record { locals = t24; slots = [] }
 
 abbrev pub T47 : Row.Cx
-T47 = record { locals = t5; slots = [] }
+T47 = record { locals = t25; slots = [] }
 
 abbrev pub T48 : Row.Cx
-T48 = record { locals = t1; slots = [] }
+T48 = record { locals = t26; slots = [] }
+
+abbrev pub T49 : Row.Cx
+T49 = record { locals = t27; slots = [] }
+
+abbrev pub T50 : Row.Cx
+T50 = record { locals = t5; slots = [] }
+
+abbrev pub T51 : Row.Cx
+T51 = record { locals = t1; slots = [] }
 
 abbrev pub O0 : Typed.Outs
 O0 = record { next = Option.none; exits = []; returns = Option.some T1 }
@@ -3439,26 +3755,26 @@ abbrev pub O2 : Typed.Outs
 O2 = Typed.withNext (Option.some T16) O0
 
 abbrev pub O3 : Typed.Outs
-O3 = Typed.withNext (Option.some T25) O0
+O3 = Typed.withNext (Option.some T26) O0
 
 abbrev pub O4 : Typed.Outs
 O4 = Typed.inBlock₀ O3
 
 abbrev pub O5 : Typed.Outs
-O5 = Typed.inLoop₀ T24 O4
+O5 = Typed.inLoop₀ T25 O4
 
 abbrev pub O6 : Typed.Outs
-O6 = Typed.withNext (Option.some T29) O5
+O6 = Typed.withNext (Option.some T30) O5
 
 abbrev pub InvT-loop : Type 1
 InvT-loop = List.List (Referent.rtF (Referent.fInt Syntax.w8) .Denot) → List.List (SlotAs.row .Denot) → Rows.sc-here (Row.sInt Syntax.w64) .Mod → Rows.sc-here
-    (Row.sInt Syntax.w64) .Mod → Rows.sc-here (Row.sInt Syntax.w64) .Mod → List.List (SlotAs.row .Denot) → Rows.sc-here (Row.sInt Syntax.w64) .Mod →
-    Rows.sc-here (Row.sInt Syntax.w64) .Mod → Type 0
+    (Row.sInt Syntax.w64) .Mod → Rows.sc-here (Row.sInt Syntax.w64) .Mod → Rows.sc-here (Row.sInt Syntax.w32) .Mod → List.List (SlotAs.row .Denot) →
+    Rows.sc-here (Row.sInt Syntax.w64) .Mod → Rows.sc-here (Row.sInt Syntax.w64) .Mod → Rows.sc-here (Row.sInt Syntax.w32) .Mod → Type 0
 
 abbrev pub MeasureT-loop : Type 0
 MeasureT-loop = List.List (Referent.rtF (Referent.fInt Syntax.w8) .Denot) → List.List (SlotAs.row .Denot) → Rows.sc-here (Row.sInt Syntax.w64) .Mod →
-    Rows.sc-here (Row.sInt Syntax.w64) .Mod → Rows.sc-here (Row.sInt Syntax.w64) .Mod → List.List (SlotAs.row .Denot) → Rows.sc-here (Row.sInt Syntax.w64) .Mod
-    → Rows.sc-here (Row.sInt Syntax.w64) .Mod → Nat.ℕ
+    Rows.sc-here (Row.sInt Syntax.w64) .Mod → Rows.sc-here (Row.sInt Syntax.w64) .Mod → Rows.sc-here (Row.sInt Syntax.w32) .Mod → List.List (SlotAs.row .Denot)
+    → Rows.sc-here (Row.sInt Syntax.w64) .Mod → Rows.sc-here (Row.sInt Syntax.w64) .Mod → Rows.sc-here (Row.sInt Syntax.w32) .Mod → Nat.ℕ
 
 module _ (claims· : Claims) where
   abbrev s0 : Typed.Gives T0 T2
@@ -3481,10 +3797,10 @@ module _ (claims· : Claims) where
 
   abbrev s3 : Typed.Asks T4 T5
   s3 = Scalar.k-op2 T4 Syntax.ne (Scalar.oFld 3 (Syntax.field 0 ∷ []) (Syntax.tyInt Syntax.w8) 0 (Reads.fieldV Needs.the-type Laws'.the-laws 0)) (Scalar.oInt
-      Syntax.w8 0) 8 (Rows.sc-here Row.sBool) (Row.sBool .of)
+      Syntax.w8 0) 9 (Rows.sc-here Row.sBool) (Row.sBool .of)
 
   abbrev s4 : Typed.Mo T5 → Typed.Mo T7
-  s4 = Scalar.n-room T5 8 Syntax.tyBool
+  s4 = Scalar.n-room T5 9 Syntax.tyBool
 
   abbrev s5 : Typed.Mo T7 → Typed.Mo T8
   s5 = Make.n-struct-make (Apart.apartT Outcome.the-type) T7 0 λ m. (Needs.struct .as-values (m .1 .1 .1 .0) .0, (0, tt))
@@ -3497,7 +3813,7 @@ module _ (claims· : Claims) where
   s7 = AtSlots.n-as-by T9 0 (Rows.whole (Declared'.row Outcome.the-type)) λ v. Outcome.struct .make v tt
 
   abbrev s8 : Typed.Mo T5 → Typed.Mo T11
-  s8 = Scalar.n-room T5 8 Syntax.tyBool
+  s8 = Scalar.n-room T5 9 Syntax.tyBool
 
   abbrev s9 : Typed.Mo T6 → Typed.Mo T12
   s9 = Scalar.n-use T6 (Scalar.oFld 3 (Syntax.field 1 ∷ []) (Syntax.tyInt Syntax.w64) 8 (Reads.fieldV Needs.the-type Laws'.the-laws 1)) 4 (Rows.sc-here
@@ -3508,18 +3824,18 @@ module _ (claims· : Claims) where
       (Syntax.tcons (Syntax.tyInt Syntax.w64) Syntax.tnil)))
 
   abbrev s11 : Typed.Mo T13 → Typed.Mo T14
-  s11 = Scalar.n-use T13 (Scalar.oFld 2 (Syntax.field 1 ∷ []) (Syntax.tyInt Syntax.w64) 8 Shared.lenV) 9 (Rows.sc-here (Row.sInt Syntax.w64)) (Row.sInt
+  s11 = Scalar.n-use T13 (Scalar.oFld 2 (Syntax.field 1 ∷ []) (Syntax.tyInt Syntax.w64) 8 Shared.lenV) 10 (Rows.sc-here (Row.sInt Syntax.w64)) (Row.sInt
       Syntax.w64 .of)
 
   abbrev s12 : Typed.Asks T14 T15
-  s12 = Scalar.k-op2 T14 (Syntax.lt Syntax.unsigned) (Scalar.oAt 9 (Syntax.tyInt Syntax.w64) (Row.valS (Row.sInt Syntax.w64))) (Scalar.oAt 4 (Syntax.tyInt
-      Syntax.w64) (Row.valS (Row.sInt Syntax.w64))) 8 (Rows.sc-here Row.sBool) (Row.sBool .of)
+  s12 = Scalar.k-op2 T14 (Syntax.lt Syntax.unsigned) (Scalar.oAt 10 (Syntax.tyInt Syntax.w64) (Row.valS (Row.sInt Syntax.w64))) (Scalar.oAt 4 (Syntax.tyInt
+      Syntax.w64) (Row.valS (Row.sInt Syntax.w64))) 9 (Rows.sc-here Row.sBool) (Row.sBool .of)
 
   abbrev s13 : Typed.Mo T15 → Typed.Mo T17
-  s13 = Scalar.n-room T15 9 (Syntax.tyInt Syntax.w64)
+  s13 = Scalar.n-room T15 10 (Syntax.tyInt Syntax.w64)
 
   abbrev s14 : Typed.Mo T17 → Typed.Mo T18
-  s14 = Scalar.n-room T17 8 Syntax.tyBool
+  s14 = Scalar.n-room T17 9 Syntax.tyBool
 
   abbrev s15 : Typed.Mo T18 → Typed.Mo T19
   s15 = Make.n-struct-make (Apart.apartT Outcome.the-type) T18 0 λ m. (13, (0, tt))
@@ -3531,7 +3847,7 @@ module _ (claims· : Claims) where
   s17 = AtSlots.n-as-by T20 0 (Rows.whole (Declared'.row Outcome.the-type)) λ v. Outcome.struct .make v tt
 
   abbrev s18 : Typed.Mo T17 → Typed.Mo T22
-  s18 = Scalar.n-room T17 8 Syntax.tyBool
+  s18 = Scalar.n-room T17 9 Syntax.tyBool
 
   abbrev s19 : Typed.Mo T16 → Typed.Mo T23
   s19 = Scalar.n-use T16 (Scalar.oInt Syntax.w64 0) 5 (Rows.sc-here (Row.sInt Syntax.w64)) (Row.sInt Syntax.w64 .of)
@@ -3539,32 +3855,35 @@ module _ (claims· : Claims) where
   abbrev s20 : Typed.Mo T23 → Typed.Mo T24
   s20 = Scalar.n-use T23 (Scalar.oInt Syntax.w64 0) 6 (Rows.sc-here (Row.sInt Syntax.w64)) (Row.sInt Syntax.w64 .of)
 
-  abbrev s21 : Typed.Asks T24 T26
-  s21 = Scalar.k-op2 T24 (Syntax.mul Syntax.unsigned) (Scalar.oInt Syntax.w64 81) (Scalar.oAt 5 (Syntax.tyInt Syntax.w64) (Row.valS (Row.sInt Syntax.w64))) 10
+  abbrev s21 : Typed.Mo T24 → Typed.Mo T25
+  s21 = Scalar.n-use T24 (Scalar.oInt Syntax.w32 0) 7 (Rows.sc-here (Row.sInt Syntax.w32)) (Row.sInt Syntax.w32 .of)
+
+  abbrev s22 : Typed.Asks T25 T27
+  s22 = Scalar.k-op2 T25 (Syntax.mul Syntax.unsigned) (Scalar.oInt Syntax.w64 81) (Scalar.oAt 5 (Syntax.tyInt Syntax.w64) (Row.valS (Row.sInt Syntax.w64))) 11
       (Rows.sc-here (Row.sInt Syntax.w64)) (Row.sInt Syntax.w64 .of)
 
-  abbrev s22 : Typed.Mo T26 → Typed.Mo T27
-  s22 = Scalar.n-use T26 (Scalar.oFld 1 (Syntax.field 1 ∷ []) (Syntax.tyInt Syntax.w64) 8 Shared.lenV) 11 (Rows.sc-here (Row.sInt Syntax.w64)) (Row.sInt
+  abbrev s23 : Typed.Mo T27 → Typed.Mo T28
+  s23 = Scalar.n-use T27 (Scalar.oFld 1 (Syntax.field 1 ∷ []) (Syntax.tyInt Syntax.w64) 8 Shared.lenV) 12 (Rows.sc-here (Row.sInt Syntax.w64)) (Row.sInt
       Syntax.w64 .of)
 
-  abbrev s23 : Typed.Asks T27 T28
-  s23 = Scalar.k-op2 T27 (Syntax.lt Syntax.unsigned) (Scalar.oAt 10 (Syntax.tyInt Syntax.w64) (Row.valS (Row.sInt Syntax.w64))) (Scalar.oAt 11 (Syntax.tyInt
-      Syntax.w64) (Row.valS (Row.sInt Syntax.w64))) 12 (Rows.sc-here Row.sBool) (Row.sBool .of)
+  abbrev s24 : Typed.Asks T28 T29
+  s24 = Scalar.k-op2 T28 (Syntax.lt Syntax.unsigned) (Scalar.oAt 11 (Syntax.tyInt Syntax.w64) (Row.valS (Row.sInt Syntax.w64))) (Scalar.oAt 12 (Syntax.tyInt
+      Syntax.w64) (Row.valS (Row.sInt Syntax.w64))) 13 (Rows.sc-here Row.sBool) (Row.sBool .of)
 
-  abbrev s24 : Typed.Mo T28 → Typed.Mo T30
-  s24 = Scalar.n-room T28 10 (Syntax.tyInt Syntax.w64)
-
-  abbrev s25 : Typed.Mo T30 → Typed.Mo T31
-  s25 = Scalar.n-room T30 11 (Syntax.tyInt Syntax.w64)
+  abbrev s25 : Typed.Mo T29 → Typed.Mo T31
+  s25 = Scalar.n-room T29 11 (Syntax.tyInt Syntax.w64)
 
   abbrev s26 : Typed.Mo T31 → Typed.Mo T32
-  s26 = Scalar.n-room T31 12 Syntax.tyBool
+  s26 = Scalar.n-room T31 12 (Syntax.tyInt Syntax.w64)
 
-  abbrev s27 : Typed.Mo T31 → Typed.Mo T33
-  s27 = Scalar.n-room T31 12 Syntax.tyBool
+  abbrev s27 : Typed.Mo T32 → Typed.Mo T33
+  s27 = Scalar.n-room T32 13 Syntax.tyBool
 
-  abbrev s28 : Typed.Both T29 T34
-  s28 = Call.callB ps·1 r·1 (claims· .2) (claims· .3) T29 (
+  abbrev s28 : Typed.Mo T32 → Typed.Mo T34
+  s28 = Scalar.n-room T32 13 Syntax.tyBool
+
+  abbrev s29 : Typed.Both T30 T35
+  s29 = Call.callB ps·1 r·1 (claims· .2) (claims· .3) T30 (
     record {
       pos = 1;
       ty = Syntax.tyRef (Syntax.named 0) Syntax.imm (Syntax.tyInt Syntax.w8);
@@ -3572,129 +3891,21 @@ module _ (claims· : Claims) where
           x;
     },
     (Num.vAt 5 λ x. x, tt),
-  ) 7 (0 ∷ []) (Syntax.tyEnum (112 ∷ 105 ∷ 101 ∷ 99 ∷ 101 ∷ 115 ∷ 58 ∷ 58 ∷ 76 ∷ 105 ∷ 110 ∷ 101 ∷ []) (Syntax.ttcons
+  ) 8 (0 ∷ []) (Syntax.tyEnum (112 ∷ 105 ∷ 101 ∷ 99 ∷ 101 ∷ 115 ∷ 58 ∷ 58 ∷ 76 ∷ 105 ∷ 110 ∷ 101 ∷ []) (Syntax.ttcons
       (Syntax.tcons (Syntax.tyInt Syntax.w8) Syntax.tnil) (Syntax.ttcons (Syntax.tcons (Syntax.tyEnum (107 ∷ 105 ∷ 110 ∷ 100 ∷ 115 ∷ 58 ∷ 58 ∷ 75 ∷ 105 ∷ 110 ∷
       100 ∷ []) (Syntax.ttcons Syntax.tnil (Syntax.ttcons Syntax.tnil (Syntax.ttcons Syntax.tnil (Syntax.ttcons Syntax.tnil (Syntax.ttcons Syntax.tnil
       (Syntax.ttcons Syntax.tnil (Syntax.ttcons Syntax.tnil (Syntax.ttcons Syntax.tnil (Syntax.ttcons Syntax.tnil (Syntax.ttcons Syntax.tnil (Syntax.ttcons
       Syntax.tnil (Syntax.ttcons Syntax.tnil (Syntax.ttcons Syntax.tnil (Syntax.ttcons Syntax.tnil (Syntax.ttcons Syntax.tnil (Syntax.ttcons Syntax.tnil
       (Syntax.ttcons Syntax.tnil (Syntax.ttcons Syntax.tnil (Syntax.ttcons Syntax.tnil (Syntax.ttcons Syntax.tnil (Syntax.ttcons Syntax.tnil (Syntax.ttcons
       Syntax.tnil (Syntax.ttcons Syntax.tnil (Syntax.ttcons Syntax.tnil (Syntax.ttcons Syntax.tnil (Syntax.ttcons Syntax.tnil (Syntax.ttcons Syntax.tnil
-      (Syntax.ttcons Syntax.tnil Syntax.ttnil))))))))))))))))))))))))))))) (Syntax.tcons (Syntax.tyInt Syntax.w32) Syntax.tnil)) (Syntax.ttcons (Syntax.tcons
-      (Syntax.tyEnum (107 ∷ 105 ∷ 110 ∷ 100 ∷ 115 ∷ 58 ∷ 58 ∷ 75 ∷ 105 ∷ 110 ∷ 100 ∷ []) (Syntax.ttcons Syntax.tnil (Syntax.ttcons Syntax.tnil (Syntax.ttcons
-      Syntax.tnil (Syntax.ttcons Syntax.tnil (Syntax.ttcons Syntax.tnil (Syntax.ttcons Syntax.tnil (Syntax.ttcons Syntax.tnil (Syntax.ttcons Syntax.tnil
-      (Syntax.ttcons Syntax.tnil (Syntax.ttcons Syntax.tnil (Syntax.ttcons Syntax.tnil (Syntax.ttcons Syntax.tnil (Syntax.ttcons Syntax.tnil (Syntax.ttcons
-      Syntax.tnil (Syntax.ttcons Syntax.tnil (Syntax.ttcons Syntax.tnil (Syntax.ttcons Syntax.tnil (Syntax.ttcons Syntax.tnil (Syntax.ttcons Syntax.tnil
-      (Syntax.ttcons Syntax.tnil (Syntax.ttcons Syntax.tnil (Syntax.ttcons Syntax.tnil (Syntax.ttcons Syntax.tnil (Syntax.ttcons Syntax.tnil (Syntax.ttcons
-      Syntax.tnil (Syntax.ttcons Syntax.tnil (Syntax.ttcons Syntax.tnil (Syntax.ttcons Syntax.tnil Syntax.ttnil))))))))))))))))))))))))))))) Syntax.tnil)
-      (Syntax.ttcons (Syntax.tcons (Syntax.tyEnum (108 ∷ 105 ∷ 110 ∷ 101 ∷ 58 ∷ 58 ∷ 82 ∷ 101 ∷ 99 ∷ 111 ∷ 114 ∷ 100 ∷ []) (Syntax.ttcons (Syntax.tcons
-      Syntax.tyBool (Syntax.tcons (Syntax.tyStruct (99 ∷ 111 ∷ 111 ∷ 114 ∷ 100 ∷ 105 ∷ 110 ∷ 97 ∷ 116 ∷ 101 ∷ 58 ∷ 58 ∷ 65 ∷ 116 ∷ 111 ∷ 109 ∷ [])
-      (Syntax.tcons (Syntax.tyStruct (99 ∷ 111 ∷ 111 ∷ 114 ∷ 100 ∷ 105 ∷ 110 ∷ 97 ∷ 116 ∷ 101 ∷ 58 ∷ 58 ∷ 73 ∷ 100 ∷ 101 ∷ 110 ∷ 116 ∷ 105 ∷ 116 ∷ 121 ∷ [])
-      (Syntax.tcons (Syntax.tyStruct (102 ∷ 105 ∷ 101 ∷ 108 ∷ 100 ∷ 115 ∷ 58 ∷ 58 ∷ 83 ∷ 101 ∷ 114 ∷ 105 ∷ 97 ∷ 108 ∷ []) (Syntax.tcons (Syntax.tyInt
-      Syntax.w32) Syntax.tnil)) (Syntax.tcons (Syntax.tyStruct (110 ∷ 97 ∷ 109 ∷ 101 ∷ 115 ∷ 58 ∷ 58 ∷ 70 ∷ 111 ∷ 117 ∷ 114 ∷ []) (Syntax.tcons (Syntax.tyInt
-      Syntax.w8) (Syntax.tcons (Syntax.tyInt Syntax.w8) (Syntax.tcons (Syntax.tyInt Syntax.w8) (Syntax.tcons (Syntax.tyInt Syntax.w8) Syntax.tnil)))))
-      (Syntax.tcons (Syntax.tyInt Syntax.w8) (Syntax.tcons (Syntax.tyStruct (114 ∷ 101 ∷ 115 ∷ 105 ∷ 100 ∷ 117 ∷ 101 ∷ 58 ∷ 58 ∷ 82 ∷ 101 ∷ 115 ∷ 105 ∷ 100 ∷
-      117 ∷ 101 ∷ []) (Syntax.tcons (Syntax.tyStruct (110 ∷ 97 ∷ 109 ∷ 101 ∷ 115 ∷ 58 ∷ 58 ∷ 84 ∷ 104 ∷ 114 ∷ 101 ∷ 101 ∷ []) (Syntax.tcons (Syntax.tyInt
-      Syntax.w8) (Syntax.tcons (Syntax.tyInt Syntax.w8) (Syntax.tcons (Syntax.tyInt Syntax.w8) Syntax.tnil)))) (Syntax.tcons (Syntax.tyInt Syntax.w8)
-      (Syntax.tcons (Syntax.tyStruct (102 ∷ 105 ∷ 101 ∷ 108 ∷ 100 ∷ 115 ∷ 58 ∷ 58 ∷ 82 ∷ 101 ∷ 115 ∷ 105 ∷ 100 ∷ 117 ∷ 101 ∷ 78 ∷ 117 ∷ 109 ∷ 98 ∷ 101 ∷ 114 ∷
-      []) (Syntax.tcons (Syntax.tyInt Syntax.w32) Syntax.tnil)) (Syntax.tcons (Syntax.tyInt Syntax.w8) Syntax.tnil))))) Syntax.tnil))))) (Syntax.tcons
-      (Syntax.tyStruct (99 ∷ 111 ∷ 111 ∷ 114 ∷ 100 ∷ 105 ∷ 110 ∷ 97 ∷ 116 ∷ 101 ∷ 58 ∷ 58 ∷ 77 ∷ 101 ∷ 97 ∷ 115 ∷ 117 ∷ 114 ∷ 101 ∷ []) (Syntax.tcons
-      (Syntax.tyStruct (99 ∷ 111 ∷ 111 ∷ 114 ∷ 100 ∷ 105 ∷ 110 ∷ 97 ∷ 116 ∷ 101 ∷ 58 ∷ 58 ∷ 80 ∷ 111 ∷ 115 ∷ 105 ∷ 116 ∷ 105 ∷ 111 ∷ 110 ∷ []) (Syntax.tcons
-      (Syntax.tyInt Syntax.w32) (Syntax.tcons (Syntax.tyInt Syntax.w32) (Syntax.tcons (Syntax.tyInt Syntax.w32) Syntax.tnil)))) (Syntax.tcons (Syntax.tyInt
-      Syntax.w32) (Syntax.tcons (Syntax.tyInt Syntax.w32) Syntax.tnil)))) (Syntax.tcons (Syntax.tyStruct (99 ∷ 111 ∷ 111 ∷ 114 ∷ 100 ∷ 105 ∷ 110 ∷ 97 ∷ 116 ∷
-      101 ∷ 58 ∷ 58 ∷ 83 ∷ 112 ∷ 101 ∷ 99 ∷ 105 ∷ 101 ∷ 115 ∷ []) (Syntax.tcons (Syntax.tyStruct (110 ∷ 97 ∷ 109 ∷ 101 ∷ 115 ∷ 58 ∷ 58 ∷ 80 ∷ 97 ∷ 105 ∷ 114 ∷
-      []) (Syntax.tcons (Syntax.tyInt Syntax.w8) (Syntax.tcons (Syntax.tyInt Syntax.w8) Syntax.tnil))) (Syntax.tcons (Syntax.tyStruct (110 ∷ 97 ∷ 109 ∷ 101 ∷
-      115 ∷ 58 ∷ 58 ∷ 80 ∷ 97 ∷ 105 ∷ 114 ∷ []) (Syntax.tcons (Syntax.tyInt Syntax.w8) (Syntax.tcons (Syntax.tyInt Syntax.w8) Syntax.tnil))) Syntax.tnil)))
-      Syntax.tnil)))) Syntax.tnil)) (Syntax.ttcons (Syntax.tcons (Syntax.tyStruct (116 ∷ 101 ∷ 114 ∷ 58 ∷ 58 ∷ 84 ∷ 101 ∷ 114 ∷ []) (Syntax.tcons
-      (Syntax.tyStruct (102 ∷ 105 ∷ 101 ∷ 108 ∷ 100 ∷ 115 ∷ 58 ∷ 58 ∷ 83 ∷ 101 ∷ 114 ∷ 105 ∷ 97 ∷ 108 ∷ []) (Syntax.tcons (Syntax.tyInt Syntax.w32)
-      Syntax.tnil)) (Syntax.tcons (Syntax.tyStruct (114 ∷ 101 ∷ 115 ∷ 105 ∷ 100 ∷ 117 ∷ 101 ∷ 58 ∷ 58 ∷ 82 ∷ 101 ∷ 115 ∷ 105 ∷ 100 ∷ 117 ∷ 101 ∷ [])
-      (Syntax.tcons (Syntax.tyStruct (110 ∷ 97 ∷ 109 ∷ 101 ∷ 115 ∷ 58 ∷ 58 ∷ 84 ∷ 104 ∷ 114 ∷ 101 ∷ 101 ∷ []) (Syntax.tcons (Syntax.tyInt Syntax.w8)
-      (Syntax.tcons (Syntax.tyInt Syntax.w8) (Syntax.tcons (Syntax.tyInt Syntax.w8) Syntax.tnil)))) (Syntax.tcons (Syntax.tyInt Syntax.w8) (Syntax.tcons
-      (Syntax.tyStruct (102 ∷ 105 ∷ 101 ∷ 108 ∷ 100 ∷ 115 ∷ 58 ∷ 58 ∷ 82 ∷ 101 ∷ 115 ∷ 105 ∷ 100 ∷ 117 ∷ 101 ∷ 78 ∷ 117 ∷ 109 ∷ 98 ∷ 101 ∷ 114 ∷ [])
-      (Syntax.tcons (Syntax.tyInt Syntax.w32) Syntax.tnil)) (Syntax.tcons (Syntax.tyInt Syntax.w8) Syntax.tnil))))) Syntax.tnil))) Syntax.tnil) (Syntax.ttcons
-      (Syntax.tcons (Syntax.tyStruct (104 ∷ 101 ∷ 108 ∷ 105 ∷ 120 ∷ 58 ∷ 58 ∷ 72 ∷ 101 ∷ 108 ∷ 105 ∷ 120 ∷ []) (Syntax.tcons (Syntax.tyStruct (104 ∷ 101 ∷ 108
-      ∷ 105 ∷ 120 ∷ 58 ∷ 58 ∷ 69 ∷ 120 ∷ 116 ∷ 101 ∷ 110 ∷ 116 ∷ []) (Syntax.tcons (Syntax.tyInt Syntax.w32) (Syntax.tcons (Syntax.tyStruct (110 ∷ 97 ∷ 109 ∷
-      101 ∷ 115 ∷ 58 ∷ 58 ∷ 84 ∷ 104 ∷ 114 ∷ 101 ∷ 101 ∷ []) (Syntax.tcons (Syntax.tyInt Syntax.w8) (Syntax.tcons (Syntax.tyInt Syntax.w8) (Syntax.tcons
-      (Syntax.tyInt Syntax.w8) Syntax.tnil)))) (Syntax.tcons (Syntax.tyStruct (114 ∷ 101 ∷ 115 ∷ 105 ∷ 100 ∷ 117 ∷ 101 ∷ 58 ∷ 58 ∷ 82 ∷ 101 ∷ 115 ∷ 105 ∷ 100 ∷
-      117 ∷ 101 ∷ []) (Syntax.tcons (Syntax.tyStruct (110 ∷ 97 ∷ 109 ∷ 101 ∷ 115 ∷ 58 ∷ 58 ∷ 84 ∷ 104 ∷ 114 ∷ 101 ∷ 101 ∷ []) (Syntax.tcons (Syntax.tyInt
-      Syntax.w8) (Syntax.tcons (Syntax.tyInt Syntax.w8) (Syntax.tcons (Syntax.tyInt Syntax.w8) Syntax.tnil)))) (Syntax.tcons (Syntax.tyInt Syntax.w8)
-      (Syntax.tcons (Syntax.tyStruct (102 ∷ 105 ∷ 101 ∷ 108 ∷ 100 ∷ 115 ∷ 58 ∷ 58 ∷ 82 ∷ 101 ∷ 115 ∷ 105 ∷ 100 ∷ 117 ∷ 101 ∷ 78 ∷ 117 ∷ 109 ∷ 98 ∷ 101 ∷ 114 ∷
-      []) (Syntax.tcons (Syntax.tyInt Syntax.w32) Syntax.tnil)) (Syntax.tcons (Syntax.tyInt Syntax.w8) Syntax.tnil))))) (Syntax.tcons (Syntax.tyStruct (114 ∷
-      101 ∷ 115 ∷ 105 ∷ 100 ∷ 117 ∷ 101 ∷ 58 ∷ 58 ∷ 82 ∷ 101 ∷ 115 ∷ 105 ∷ 100 ∷ 117 ∷ 101 ∷ []) (Syntax.tcons (Syntax.tyStruct (110 ∷ 97 ∷ 109 ∷ 101 ∷ 115 ∷
-      58 ∷ 58 ∷ 84 ∷ 104 ∷ 114 ∷ 101 ∷ 101 ∷ []) (Syntax.tcons (Syntax.tyInt Syntax.w8) (Syntax.tcons (Syntax.tyInt Syntax.w8) (Syntax.tcons (Syntax.tyInt
-      Syntax.w8) Syntax.tnil)))) (Syntax.tcons (Syntax.tyInt Syntax.w8) (Syntax.tcons (Syntax.tyStruct (102 ∷ 105 ∷ 101 ∷ 108 ∷ 100 ∷ 115 ∷ 58 ∷ 58 ∷ 82 ∷ 101
-      ∷ 115 ∷ 105 ∷ 100 ∷ 117 ∷ 101 ∷ 78 ∷ 117 ∷ 109 ∷ 98 ∷ 101 ∷ 114 ∷ []) (Syntax.tcons (Syntax.tyInt Syntax.w32) Syntax.tnil)) (Syntax.tcons (Syntax.tyInt
-      Syntax.w8) Syntax.tnil))))) Syntax.tnil))))) (Syntax.tcons (Syntax.tyInt Syntax.w32) (Syntax.tcons (Syntax.tyStruct (104 ∷ 101 ∷ 108 ∷ 105 ∷ 120 ∷ 58 ∷
-      58 ∷ 67 ∷ 111 ∷ 109 ∷ 109 ∷ 101 ∷ 110 ∷ 116 ∷ []) (Syntax.tcons (Syntax.tyInt Syntax.w64) (Syntax.tcons (Syntax.tyInt Syntax.w64) (Syntax.tcons
-      (Syntax.tyInt Syntax.w64) (Syntax.tcons (Syntax.tyInt Syntax.w64) Syntax.tnil))))) (Syntax.tcons (Syntax.tyInt Syntax.w32) Syntax.tnil))))) Syntax.tnil)
-      (Syntax.ttcons (Syntax.tcons (Syntax.tyStruct (115 ∷ 104 ∷ 101 ∷ 101 ∷ 116 ∷ 58 ∷ 58 ∷ 83 ∷ 104 ∷ 101 ∷ 101 ∷ 116 ∷ []) (Syntax.tcons (Syntax.tyStruct
-      (115 ∷ 104 ∷ 101 ∷ 101 ∷ 116 ∷ 58 ∷ 58 ∷ 83 ∷ 116 ∷ 114 ∷ 97 ∷ 110 ∷ 100 ∷ []) (Syntax.tcons (Syntax.tyInt Syntax.w32) (Syntax.tcons (Syntax.tyStruct
-      (110 ∷ 97 ∷ 109 ∷ 101 ∷ 115 ∷ 58 ∷ 58 ∷ 84 ∷ 104 ∷ 114 ∷ 101 ∷ 101 ∷ []) (Syntax.tcons (Syntax.tyInt Syntax.w8) (Syntax.tcons (Syntax.tyInt Syntax.w8)
-      (Syntax.tcons (Syntax.tyInt Syntax.w8) Syntax.tnil)))) (Syntax.tcons (Syntax.tyInt Syntax.w32) (Syntax.tcons (Syntax.tyStruct (114 ∷ 101 ∷ 115 ∷ 105 ∷
-      100 ∷ 117 ∷ 101 ∷ 58 ∷ 58 ∷ 82 ∷ 101 ∷ 115 ∷ 105 ∷ 100 ∷ 117 ∷ 101 ∷ []) (Syntax.tcons (Syntax.tyStruct (110 ∷ 97 ∷ 109 ∷ 101 ∷ 115 ∷ 58 ∷ 58 ∷ 84 ∷ 104
-      ∷ 114 ∷ 101 ∷ 101 ∷ []) (Syntax.tcons (Syntax.tyInt Syntax.w8) (Syntax.tcons (Syntax.tyInt Syntax.w8) (Syntax.tcons (Syntax.tyInt Syntax.w8)
-      Syntax.tnil)))) (Syntax.tcons (Syntax.tyInt Syntax.w8) (Syntax.tcons (Syntax.tyStruct (102 ∷ 105 ∷ 101 ∷ 108 ∷ 100 ∷ 115 ∷ 58 ∷ 58 ∷ 82 ∷ 101 ∷ 115 ∷ 105
-      ∷ 100 ∷ 117 ∷ 101 ∷ 78 ∷ 117 ∷ 109 ∷ 98 ∷ 101 ∷ 114 ∷ []) (Syntax.tcons (Syntax.tyInt Syntax.w32) Syntax.tnil)) (Syntax.tcons (Syntax.tyInt Syntax.w8)
-      Syntax.tnil))))) (Syntax.tcons (Syntax.tyStruct (114 ∷ 101 ∷ 115 ∷ 105 ∷ 100 ∷ 117 ∷ 101 ∷ 58 ∷ 58 ∷ 82 ∷ 101 ∷ 115 ∷ 105 ∷ 100 ∷ 117 ∷ 101 ∷ [])
-      (Syntax.tcons (Syntax.tyStruct (110 ∷ 97 ∷ 109 ∷ 101 ∷ 115 ∷ 58 ∷ 58 ∷ 84 ∷ 104 ∷ 114 ∷ 101 ∷ 101 ∷ []) (Syntax.tcons (Syntax.tyInt Syntax.w8)
-      (Syntax.tcons (Syntax.tyInt Syntax.w8) (Syntax.tcons (Syntax.tyInt Syntax.w8) Syntax.tnil)))) (Syntax.tcons (Syntax.tyInt Syntax.w8) (Syntax.tcons
-      (Syntax.tyStruct (102 ∷ 105 ∷ 101 ∷ 108 ∷ 100 ∷ 115 ∷ 58 ∷ 58 ∷ 82 ∷ 101 ∷ 115 ∷ 105 ∷ 100 ∷ 117 ∷ 101 ∷ 78 ∷ 117 ∷ 109 ∷ 98 ∷ 101 ∷ 114 ∷ [])
-      (Syntax.tcons (Syntax.tyInt Syntax.w32) Syntax.tnil)) (Syntax.tcons (Syntax.tyInt Syntax.w8) Syntax.tnil))))) (Syntax.tcons (Syntax.tyInt Syntax.w32)
-      Syntax.tnil))))))) (Syntax.tcons (Syntax.tyEnum (115 ∷ 104 ∷ 101 ∷ 101 ∷ 116 ∷ 58 ∷ 58 ∷ 82 ∷ 101 ∷ 103 ∷ 105 ∷ 115 ∷ 116 ∷ 114 ∷ 97 ∷ 116 ∷ 105 ∷ 111 ∷
-      110 ∷ []) (Syntax.ttcons Syntax.tnil (Syntax.ttcons (Syntax.tcons (Syntax.tyStruct (115 ∷ 104 ∷ 101 ∷ 101 ∷ 116 ∷ 58 ∷ 58 ∷ 66 ∷ 111 ∷ 110 ∷ 100 ∷ [])
-      (Syntax.tcons (Syntax.tyStruct (110 ∷ 97 ∷ 109 ∷ 101 ∷ 115 ∷ 58 ∷ 58 ∷ 70 ∷ 111 ∷ 117 ∷ 114 ∷ []) (Syntax.tcons (Syntax.tyInt Syntax.w8) (Syntax.tcons
-      (Syntax.tyInt Syntax.w8) (Syntax.tcons (Syntax.tyInt Syntax.w8) (Syntax.tcons (Syntax.tyInt Syntax.w8) Syntax.tnil))))) (Syntax.tcons (Syntax.tyStruct
-      (114 ∷ 101 ∷ 115 ∷ 105 ∷ 100 ∷ 117 ∷ 101 ∷ 58 ∷ 58 ∷ 82 ∷ 101 ∷ 115 ∷ 105 ∷ 100 ∷ 117 ∷ 101 ∷ []) (Syntax.tcons (Syntax.tyStruct (110 ∷ 97 ∷ 109 ∷ 101 ∷
-      115 ∷ 58 ∷ 58 ∷ 84 ∷ 104 ∷ 114 ∷ 101 ∷ 101 ∷ []) (Syntax.tcons (Syntax.tyInt Syntax.w8) (Syntax.tcons (Syntax.tyInt Syntax.w8) (Syntax.tcons
-      (Syntax.tyInt Syntax.w8) Syntax.tnil)))) (Syntax.tcons (Syntax.tyInt Syntax.w8) (Syntax.tcons (Syntax.tyStruct (102 ∷ 105 ∷ 101 ∷ 108 ∷ 100 ∷ 115 ∷ 58 ∷
-      58 ∷ 82 ∷ 101 ∷ 115 ∷ 105 ∷ 100 ∷ 117 ∷ 101 ∷ 78 ∷ 117 ∷ 109 ∷ 98 ∷ 101 ∷ 114 ∷ []) (Syntax.tcons (Syntax.tyInt Syntax.w32) Syntax.tnil)) (Syntax.tcons
-      (Syntax.tyInt Syntax.w8) Syntax.tnil))))) (Syntax.tcons (Syntax.tyStruct (110 ∷ 97 ∷ 109 ∷ 101 ∷ 115 ∷ 58 ∷ 58 ∷ 70 ∷ 111 ∷ 117 ∷ 114 ∷ []) (Syntax.tcons
-      (Syntax.tyInt Syntax.w8) (Syntax.tcons (Syntax.tyInt Syntax.w8) (Syntax.tcons (Syntax.tyInt Syntax.w8) (Syntax.tcons (Syntax.tyInt Syntax.w8)
-      Syntax.tnil))))) (Syntax.tcons (Syntax.tyStruct (114 ∷ 101 ∷ 115 ∷ 105 ∷ 100 ∷ 117 ∷ 101 ∷ 58 ∷ 58 ∷ 82 ∷ 101 ∷ 115 ∷ 105 ∷ 100 ∷ 117 ∷ 101 ∷ [])
-      (Syntax.tcons (Syntax.tyStruct (110 ∷ 97 ∷ 109 ∷ 101 ∷ 115 ∷ 58 ∷ 58 ∷ 84 ∷ 104 ∷ 114 ∷ 101 ∷ 101 ∷ []) (Syntax.tcons (Syntax.tyInt Syntax.w8)
-      (Syntax.tcons (Syntax.tyInt Syntax.w8) (Syntax.tcons (Syntax.tyInt Syntax.w8) Syntax.tnil)))) (Syntax.tcons (Syntax.tyInt Syntax.w8) (Syntax.tcons
-      (Syntax.tyStruct (102 ∷ 105 ∷ 101 ∷ 108 ∷ 100 ∷ 115 ∷ 58 ∷ 58 ∷ 82 ∷ 101 ∷ 115 ∷ 105 ∷ 100 ∷ 117 ∷ 101 ∷ 78 ∷ 117 ∷ 109 ∷ 98 ∷ 101 ∷ 114 ∷ [])
-      (Syntax.tcons (Syntax.tyInt Syntax.w32) Syntax.tnil)) (Syntax.tcons (Syntax.tyInt Syntax.w8) Syntax.tnil))))) Syntax.tnil))))) Syntax.tnil)
-      Syntax.ttnil))) Syntax.tnil))) Syntax.tnil) (Syntax.ttcons (Syntax.tcons (Syntax.tyStruct (99 ∷ 111 ∷ 110 ∷ 101 ∷ 99 ∷ 116 ∷ 58 ∷ 58 ∷ 67 ∷ 111 ∷ 110 ∷
-      101 ∷ 99 ∷ 116 ∷ []) (Syntax.tcons (Syntax.tyStruct (102 ∷ 105 ∷ 101 ∷ 108 ∷ 100 ∷ 115 ∷ 58 ∷ 58 ∷ 83 ∷ 101 ∷ 114 ∷ 105 ∷ 97 ∷ 108 ∷ []) (Syntax.tcons
-      (Syntax.tyInt Syntax.w32) Syntax.tnil)) (Syntax.tcons (Syntax.tyStruct (102 ∷ 105 ∷ 101 ∷ 108 ∷ 100 ∷ 115 ∷ 58 ∷ 58 ∷ 83 ∷ 101 ∷ 114 ∷ 105 ∷ 97 ∷ 108 ∷
-      []) (Syntax.tcons (Syntax.tyInt Syntax.w32) Syntax.tnil)) (Syntax.tcons (Syntax.tyStruct (102 ∷ 105 ∷ 101 ∷ 108 ∷ 100 ∷ 115 ∷ 58 ∷ 58 ∷ 83 ∷ 101 ∷ 114 ∷
-      105 ∷ 97 ∷ 108 ∷ []) (Syntax.tcons (Syntax.tyInt Syntax.w32) Syntax.tnil)) (Syntax.tcons (Syntax.tyStruct (102 ∷ 105 ∷ 101 ∷ 108 ∷ 100 ∷ 115 ∷ 58 ∷ 58 ∷
-      83 ∷ 101 ∷ 114 ∷ 105 ∷ 97 ∷ 108 ∷ []) (Syntax.tcons (Syntax.tyInt Syntax.w32) Syntax.tnil)) (Syntax.tcons (Syntax.tyStruct (102 ∷ 105 ∷ 101 ∷ 108 ∷ 100 ∷
-      115 ∷ 58 ∷ 58 ∷ 83 ∷ 101 ∷ 114 ∷ 105 ∷ 97 ∷ 108 ∷ []) (Syntax.tcons (Syntax.tyInt Syntax.w32) Syntax.tnil)) Syntax.tnil)))))) Syntax.tnil) (Syntax.ttcons
-      (Syntax.tcons (Syntax.tyStruct (109 ∷ 97 ∷ 115 ∷ 116 ∷ 101 ∷ 114 ∷ 58 ∷ 58 ∷ 84 ∷ 97 ∷ 108 ∷ 108 ∷ 121 ∷ []) (Syntax.tcons (Syntax.tyInt Syntax.w32)
-      (Syntax.tcons (Syntax.tyInt Syntax.w32) (Syntax.tcons (Syntax.tyInt Syntax.w32) (Syntax.tcons (Syntax.tyInt Syntax.w32) (Syntax.tcons (Syntax.tyInt
-      Syntax.w32) (Syntax.tcons (Syntax.tyInt Syntax.w32) (Syntax.tcons (Syntax.tyInt Syntax.w32) (Syntax.tcons (Syntax.tyInt Syntax.w32) (Syntax.tcons
-      (Syntax.tyInt Syntax.w32) Syntax.tnil)))))))))) Syntax.tnil) (Syntax.ttcons Syntax.tnil Syntax.ttnil)))))))) Syntax.tnil) Syntax.ttnil)))))
-
-  abbrev s30 : Typed.Gives T34 T36
-  s30 = Relend.k-sl-relend SlotAs.row T34 2 13 1 2 (Syntax.tyRef (Syntax.named 1) Syntax.mut SlotAs.pointee) (Syntax.tyRef Syntax.erased Syntax.mut
-      SlotAs.pointee) Row.off λ x. x
-
-  abbrev s31 : Typed.Asks T36 T37
-  s31 = Relend.k-sl-aggregate SlotAs.row (Relend.asMut SlotAs.row) T36 13 14 2 (Syntax.tyRef Syntax.erased Syntax.mut SlotAs.pointee) (Syntax.tyRef
-      Syntax.erased Syntax.mut SlotAs.pointee) (λ x. x) (Scalar.oFld 2 (Syntax.field 1 ∷ []) (Syntax.tyInt Syntax.w64) 8 λ v. Shared.lenV (v .0))
-
-  abbrev s32 : Typed.Both T37 T38
-  s32 = Call.callB ps·2 r·2 (claims· .4) (claims· .5) T37 (
-    record { pos = 14; ty = Syntax.tyRef Syntax.erased Syntax.mut SlotAs.pointee; ref = λ x. x },
-    (Num.vAt 6 λ x. x, (record { pos = 7; st = []; d = 0; at = λ x. x }, tt)),
-  ) 6 (2 ∷ []) (Syntax.tyInt Syntax.w64)
-
-  abbrev s33 : Typed.Mo T38 → Typed.Mo T39
-  s33 = Scalar.n-room T38 7 (Syntax.tyEnum (112 ∷ 105 ∷ 101 ∷ 99 ∷ 101 ∷ 115 ∷ 58 ∷ 58 ∷ 76 ∷ 105 ∷ 110 ∷ 101 ∷ []) (Syntax.ttcons (Syntax.tcons (Syntax.tyInt
-      Syntax.w8) Syntax.tnil) (Syntax.ttcons (Syntax.tcons (Syntax.tyEnum (107 ∷ 105 ∷ 110 ∷ 100 ∷ 115 ∷ 58 ∷ 58 ∷ 75 ∷ 105 ∷ 110 ∷ 100 ∷ []) (Syntax.ttcons
+      (Syntax.ttcons Syntax.tnil (Syntax.ttcons Syntax.tnil (Syntax.ttcons Syntax.tnil Syntax.ttnil))))))))))))))))))))))))))))))) (Syntax.tcons (Syntax.tyInt
+      Syntax.w32) Syntax.tnil)) (Syntax.ttcons (Syntax.tcons (Syntax.tyEnum (107 ∷ 105 ∷ 110 ∷ 100 ∷ 115 ∷ 58 ∷ 58 ∷ 75 ∷ 105 ∷ 110 ∷ 100 ∷ []) (Syntax.ttcons
       Syntax.tnil (Syntax.ttcons Syntax.tnil (Syntax.ttcons Syntax.tnil (Syntax.ttcons Syntax.tnil (Syntax.ttcons Syntax.tnil (Syntax.ttcons Syntax.tnil
       (Syntax.ttcons Syntax.tnil (Syntax.ttcons Syntax.tnil (Syntax.ttcons Syntax.tnil (Syntax.ttcons Syntax.tnil (Syntax.ttcons Syntax.tnil (Syntax.ttcons
       Syntax.tnil (Syntax.ttcons Syntax.tnil (Syntax.ttcons Syntax.tnil (Syntax.ttcons Syntax.tnil (Syntax.ttcons Syntax.tnil (Syntax.ttcons Syntax.tnil
       (Syntax.ttcons Syntax.tnil (Syntax.ttcons Syntax.tnil (Syntax.ttcons Syntax.tnil (Syntax.ttcons Syntax.tnil (Syntax.ttcons Syntax.tnil (Syntax.ttcons
       Syntax.tnil (Syntax.ttcons Syntax.tnil (Syntax.ttcons Syntax.tnil (Syntax.ttcons Syntax.tnil (Syntax.ttcons Syntax.tnil (Syntax.ttcons Syntax.tnil
-      Syntax.ttnil))))))))))))))))))))))))))))) (Syntax.tcons (Syntax.tyInt Syntax.w32) Syntax.tnil)) (Syntax.ttcons (Syntax.tcons (Syntax.tyEnum (107 ∷ 105 ∷
-      110 ∷ 100 ∷ 115 ∷ 58 ∷ 58 ∷ 75 ∷ 105 ∷ 110 ∷ 100 ∷ []) (Syntax.ttcons Syntax.tnil (Syntax.ttcons Syntax.tnil (Syntax.ttcons Syntax.tnil (Syntax.ttcons
-      Syntax.tnil (Syntax.ttcons Syntax.tnil (Syntax.ttcons Syntax.tnil (Syntax.ttcons Syntax.tnil (Syntax.ttcons Syntax.tnil (Syntax.ttcons Syntax.tnil
-      (Syntax.ttcons Syntax.tnil (Syntax.ttcons Syntax.tnil (Syntax.ttcons Syntax.tnil (Syntax.ttcons Syntax.tnil (Syntax.ttcons Syntax.tnil (Syntax.ttcons
-      Syntax.tnil (Syntax.ttcons Syntax.tnil (Syntax.ttcons Syntax.tnil (Syntax.ttcons Syntax.tnil (Syntax.ttcons Syntax.tnil (Syntax.ttcons Syntax.tnil
-      (Syntax.ttcons Syntax.tnil (Syntax.ttcons Syntax.tnil (Syntax.ttcons Syntax.tnil (Syntax.ttcons Syntax.tnil (Syntax.ttcons Syntax.tnil (Syntax.ttcons
-      Syntax.tnil (Syntax.ttcons Syntax.tnil (Syntax.ttcons Syntax.tnil Syntax.ttnil))))))))))))))))))))))))))))) Syntax.tnil) (Syntax.ttcons (Syntax.tcons
+      (Syntax.ttcons Syntax.tnil (Syntax.ttcons Syntax.tnil Syntax.ttnil))))))))))))))))))))))))))))))) Syntax.tnil) (Syntax.ttcons (Syntax.tcons
       (Syntax.tyEnum (108 ∷ 105 ∷ 110 ∷ 101 ∷ 58 ∷ 58 ∷ 82 ∷ 101 ∷ 99 ∷ 111 ∷ 114 ∷ 100 ∷ []) (Syntax.ttcons (Syntax.tcons Syntax.tyBool (Syntax.tcons
       (Syntax.tyStruct (99 ∷ 111 ∷ 111 ∷ 114 ∷ 100 ∷ 105 ∷ 110 ∷ 97 ∷ 116 ∷ 101 ∷ 58 ∷ 58 ∷ 65 ∷ 116 ∷ 111 ∷ 109 ∷ []) (Syntax.tcons (Syntax.tyStruct (99 ∷ 111
       ∷ 111 ∷ 114 ∷ 100 ∷ 105 ∷ 110 ∷ 97 ∷ 116 ∷ 101 ∷ 58 ∷ 58 ∷ 73 ∷ 100 ∷ 101 ∷ 110 ∷ 116 ∷ 105 ∷ 116 ∷ 121 ∷ []) (Syntax.tcons (Syntax.tyStruct (102 ∷ 105 ∷
@@ -3772,39 +3983,159 @@ module _ (claims· : Claims) where
       Syntax.tnil) (Syntax.ttcons (Syntax.tcons (Syntax.tyStruct (109 ∷ 97 ∷ 115 ∷ 116 ∷ 101 ∷ 114 ∷ 58 ∷ 58 ∷ 84 ∷ 97 ∷ 108 ∷ 108 ∷ 121 ∷ []) (Syntax.tcons
       (Syntax.tyInt Syntax.w32) (Syntax.tcons (Syntax.tyInt Syntax.w32) (Syntax.tcons (Syntax.tyInt Syntax.w32) (Syntax.tcons (Syntax.tyInt Syntax.w32)
       (Syntax.tcons (Syntax.tyInt Syntax.w32) (Syntax.tcons (Syntax.tyInt Syntax.w32) (Syntax.tcons (Syntax.tyInt Syntax.w32) (Syntax.tcons (Syntax.tyInt
-      Syntax.w32) (Syntax.tcons (Syntax.tyInt Syntax.w32) Syntax.tnil)))))))))) Syntax.tnil) (Syntax.ttcons Syntax.tnil Syntax.ttnil)))))))) Syntax.tnil)
-      Syntax.ttnil)))))
+      Syntax.w32) (Syntax.tcons (Syntax.tyInt Syntax.w32) Syntax.tnil)))))))))) Syntax.tnil) (Syntax.ttcons Syntax.tnil (Syntax.ttcons (Syntax.tcons
+      (Syntax.tyStruct (109 ∷ 111 ∷ 100 ∷ 101 ∷ 108 ∷ 58 ∷ 58 ∷ 77 ∷ 111 ∷ 100 ∷ 101 ∷ 108 ∷ []) (Syntax.tcons (Syntax.tyInt Syntax.w32) Syntax.tnil))
+      Syntax.tnil) (Syntax.ttcons Syntax.tnil Syntax.ttnil)))))))))) Syntax.tnil) Syntax.ttnil)))))
+
+  abbrev s31 : Typed.Gives T35 T37
+  s31 = Relend.k-sl-relend SlotAs.row T35 2 14 1 2 (Syntax.tyRef (Syntax.named 1) Syntax.mut SlotAs.pointee) (Syntax.tyRef Syntax.erased Syntax.mut
+      SlotAs.pointee) Row.off λ x. x
+
+  abbrev s32 : Typed.Asks T37 T38
+  s32 = Relend.k-sl-aggregate SlotAs.row (Relend.asMut SlotAs.row) T37 14 15 2 (Syntax.tyRef Syntax.erased Syntax.mut SlotAs.pointee) (Syntax.tyRef
+      Syntax.erased Syntax.mut SlotAs.pointee) (λ x. x) (Scalar.oFld 2 (Syntax.field 1 ∷ []) (Syntax.tyInt Syntax.w64) 8 λ v. Shared.lenV (v .0))
+
+  abbrev s33 : Typed.Both T38 T39
+  s33 = Call.callB ps·2 r·2 (claims· .4) (claims· .5) T38 (
+    record { pos = 15; ty = Syntax.tyRef Syntax.erased Syntax.mut SlotAs.pointee; ref = λ x. x },
+    (Num.vAt 6 λ x. x, (Num.vAt 7 λ x. x, (record { pos = 8; st = []; d = 0; at = λ x. x }, tt))),
+  ) 6 (2 ∷ []) (Syntax.tyInt Syntax.w64)
 
   abbrev s35 : Typed.Both T39 T41
-  s35 = Relend.k-back-sl SlotAs.row T39 14 2 1 2 (Syntax.tyRef (Syntax.named 1) Syntax.mut SlotAs.pointee) (Syntax.tyRef Syntax.erased Syntax.mut
+  s35 = Relend.k-back-sl SlotAs.row T39 15 2 1 2 (Syntax.tyRef (Syntax.named 1) Syntax.mut SlotAs.pointee) (Syntax.tyRef Syntax.erased Syntax.mut
       SlotAs.pointee) Row.off (λ x. x) λ x. x
 
-  abbrev s37 : Typed.Asks T41 T43
-  s37 = Scalar.k-op2 T41 (Syntax.add Syntax.unsigned) (Scalar.oAt 5 (Syntax.tyInt Syntax.w64) (Row.valS (Row.sInt Syntax.w64))) (Scalar.oInt Syntax.w64 1) 5
+  abbrev s37 : Typed.Both T41 T43
+  s37 = Call.callB ps·3 r·3 (claims· .6) (claims· .7) T41 (Num.vAt 7 λ x. x, (record { pos = 8; st = []; d = 0; at = λ x. x }, tt)) 7 []
+      (Syntax.tyInt Syntax.w32)
+
+  abbrev s38 : Typed.Mo T43 → Typed.Mo T44
+  s38 = Scalar.n-room T43 8 (Syntax.tyEnum (112 ∷ 105 ∷ 101 ∷ 99 ∷ 101 ∷ 115 ∷ 58 ∷ 58 ∷ 76 ∷ 105 ∷ 110 ∷ 101 ∷ []) (Syntax.ttcons (Syntax.tcons (Syntax.tyInt
+      Syntax.w8) Syntax.tnil) (Syntax.ttcons (Syntax.tcons (Syntax.tyEnum (107 ∷ 105 ∷ 110 ∷ 100 ∷ 115 ∷ 58 ∷ 58 ∷ 75 ∷ 105 ∷ 110 ∷ 100 ∷ []) (Syntax.ttcons
+      Syntax.tnil (Syntax.ttcons Syntax.tnil (Syntax.ttcons Syntax.tnil (Syntax.ttcons Syntax.tnil (Syntax.ttcons Syntax.tnil (Syntax.ttcons Syntax.tnil
+      (Syntax.ttcons Syntax.tnil (Syntax.ttcons Syntax.tnil (Syntax.ttcons Syntax.tnil (Syntax.ttcons Syntax.tnil (Syntax.ttcons Syntax.tnil (Syntax.ttcons
+      Syntax.tnil (Syntax.ttcons Syntax.tnil (Syntax.ttcons Syntax.tnil (Syntax.ttcons Syntax.tnil (Syntax.ttcons Syntax.tnil (Syntax.ttcons Syntax.tnil
+      (Syntax.ttcons Syntax.tnil (Syntax.ttcons Syntax.tnil (Syntax.ttcons Syntax.tnil (Syntax.ttcons Syntax.tnil (Syntax.ttcons Syntax.tnil (Syntax.ttcons
+      Syntax.tnil (Syntax.ttcons Syntax.tnil (Syntax.ttcons Syntax.tnil (Syntax.ttcons Syntax.tnil (Syntax.ttcons Syntax.tnil (Syntax.ttcons Syntax.tnil
+      (Syntax.ttcons Syntax.tnil (Syntax.ttcons Syntax.tnil Syntax.ttnil))))))))))))))))))))))))))))))) (Syntax.tcons (Syntax.tyInt Syntax.w32) Syntax.tnil))
+      (Syntax.ttcons (Syntax.tcons (Syntax.tyEnum (107 ∷ 105 ∷ 110 ∷ 100 ∷ 115 ∷ 58 ∷ 58 ∷ 75 ∷ 105 ∷ 110 ∷ 100 ∷ []) (Syntax.ttcons Syntax.tnil (Syntax.ttcons
+      Syntax.tnil (Syntax.ttcons Syntax.tnil (Syntax.ttcons Syntax.tnil (Syntax.ttcons Syntax.tnil (Syntax.ttcons Syntax.tnil (Syntax.ttcons Syntax.tnil
+      (Syntax.ttcons Syntax.tnil (Syntax.ttcons Syntax.tnil (Syntax.ttcons Syntax.tnil (Syntax.ttcons Syntax.tnil (Syntax.ttcons Syntax.tnil (Syntax.ttcons
+      Syntax.tnil (Syntax.ttcons Syntax.tnil (Syntax.ttcons Syntax.tnil (Syntax.ttcons Syntax.tnil (Syntax.ttcons Syntax.tnil (Syntax.ttcons Syntax.tnil
+      (Syntax.ttcons Syntax.tnil (Syntax.ttcons Syntax.tnil (Syntax.ttcons Syntax.tnil (Syntax.ttcons Syntax.tnil (Syntax.ttcons Syntax.tnil (Syntax.ttcons
+      Syntax.tnil (Syntax.ttcons Syntax.tnil (Syntax.ttcons Syntax.tnil (Syntax.ttcons Syntax.tnil (Syntax.ttcons Syntax.tnil (Syntax.ttcons Syntax.tnil
+      (Syntax.ttcons Syntax.tnil Syntax.ttnil))))))))))))))))))))))))))))))) Syntax.tnil) (Syntax.ttcons (Syntax.tcons (Syntax.tyEnum (108 ∷ 105 ∷ 110 ∷ 101 ∷
+      58 ∷ 58 ∷ 82 ∷ 101 ∷ 99 ∷ 111 ∷ 114 ∷ 100 ∷ []) (Syntax.ttcons (Syntax.tcons Syntax.tyBool (Syntax.tcons (Syntax.tyStruct (99 ∷ 111 ∷ 111 ∷ 114 ∷ 100 ∷
+      105 ∷ 110 ∷ 97 ∷ 116 ∷ 101 ∷ 58 ∷ 58 ∷ 65 ∷ 116 ∷ 111 ∷ 109 ∷ []) (Syntax.tcons (Syntax.tyStruct (99 ∷ 111 ∷ 111 ∷ 114 ∷ 100 ∷ 105 ∷ 110 ∷ 97 ∷ 116 ∷ 101
+      ∷ 58 ∷ 58 ∷ 73 ∷ 100 ∷ 101 ∷ 110 ∷ 116 ∷ 105 ∷ 116 ∷ 121 ∷ []) (Syntax.tcons (Syntax.tyStruct (102 ∷ 105 ∷ 101 ∷ 108 ∷ 100 ∷ 115 ∷ 58 ∷ 58 ∷ 83 ∷ 101 ∷
+      114 ∷ 105 ∷ 97 ∷ 108 ∷ []) (Syntax.tcons (Syntax.tyInt Syntax.w32) Syntax.tnil)) (Syntax.tcons (Syntax.tyStruct (110 ∷ 97 ∷ 109 ∷ 101 ∷ 115 ∷ 58 ∷ 58 ∷
+      70 ∷ 111 ∷ 117 ∷ 114 ∷ []) (Syntax.tcons (Syntax.tyInt Syntax.w8) (Syntax.tcons (Syntax.tyInt Syntax.w8) (Syntax.tcons (Syntax.tyInt Syntax.w8)
+      (Syntax.tcons (Syntax.tyInt Syntax.w8) Syntax.tnil))))) (Syntax.tcons (Syntax.tyInt Syntax.w8) (Syntax.tcons (Syntax.tyStruct (114 ∷ 101 ∷ 115 ∷ 105 ∷
+      100 ∷ 117 ∷ 101 ∷ 58 ∷ 58 ∷ 82 ∷ 101 ∷ 115 ∷ 105 ∷ 100 ∷ 117 ∷ 101 ∷ []) (Syntax.tcons (Syntax.tyStruct (110 ∷ 97 ∷ 109 ∷ 101 ∷ 115 ∷ 58 ∷ 58 ∷ 84 ∷ 104
+      ∷ 114 ∷ 101 ∷ 101 ∷ []) (Syntax.tcons (Syntax.tyInt Syntax.w8) (Syntax.tcons (Syntax.tyInt Syntax.w8) (Syntax.tcons (Syntax.tyInt Syntax.w8)
+      Syntax.tnil)))) (Syntax.tcons (Syntax.tyInt Syntax.w8) (Syntax.tcons (Syntax.tyStruct (102 ∷ 105 ∷ 101 ∷ 108 ∷ 100 ∷ 115 ∷ 58 ∷ 58 ∷ 82 ∷ 101 ∷ 115 ∷ 105
+      ∷ 100 ∷ 117 ∷ 101 ∷ 78 ∷ 117 ∷ 109 ∷ 98 ∷ 101 ∷ 114 ∷ []) (Syntax.tcons (Syntax.tyInt Syntax.w32) Syntax.tnil)) (Syntax.tcons (Syntax.tyInt Syntax.w8)
+      Syntax.tnil))))) Syntax.tnil))))) (Syntax.tcons (Syntax.tyStruct (99 ∷ 111 ∷ 111 ∷ 114 ∷ 100 ∷ 105 ∷ 110 ∷ 97 ∷ 116 ∷ 101 ∷ 58 ∷ 58 ∷ 77 ∷ 101 ∷ 97 ∷ 115
+      ∷ 117 ∷ 114 ∷ 101 ∷ []) (Syntax.tcons (Syntax.tyStruct (99 ∷ 111 ∷ 111 ∷ 114 ∷ 100 ∷ 105 ∷ 110 ∷ 97 ∷ 116 ∷ 101 ∷ 58 ∷ 58 ∷ 80 ∷ 111 ∷ 115 ∷ 105 ∷ 116 ∷
+      105 ∷ 111 ∷ 110 ∷ []) (Syntax.tcons (Syntax.tyInt Syntax.w32) (Syntax.tcons (Syntax.tyInt Syntax.w32) (Syntax.tcons (Syntax.tyInt Syntax.w32)
+      Syntax.tnil)))) (Syntax.tcons (Syntax.tyInt Syntax.w32) (Syntax.tcons (Syntax.tyInt Syntax.w32) Syntax.tnil)))) (Syntax.tcons (Syntax.tyStruct (99 ∷ 111
+      ∷ 111 ∷ 114 ∷ 100 ∷ 105 ∷ 110 ∷ 97 ∷ 116 ∷ 101 ∷ 58 ∷ 58 ∷ 83 ∷ 112 ∷ 101 ∷ 99 ∷ 105 ∷ 101 ∷ 115 ∷ []) (Syntax.tcons (Syntax.tyStruct (110 ∷ 97 ∷ 109 ∷
+      101 ∷ 115 ∷ 58 ∷ 58 ∷ 80 ∷ 97 ∷ 105 ∷ 114 ∷ []) (Syntax.tcons (Syntax.tyInt Syntax.w8) (Syntax.tcons (Syntax.tyInt Syntax.w8) Syntax.tnil)))
+      (Syntax.tcons (Syntax.tyStruct (110 ∷ 97 ∷ 109 ∷ 101 ∷ 115 ∷ 58 ∷ 58 ∷ 80 ∷ 97 ∷ 105 ∷ 114 ∷ []) (Syntax.tcons (Syntax.tyInt Syntax.w8) (Syntax.tcons
+      (Syntax.tyInt Syntax.w8) Syntax.tnil))) Syntax.tnil))) Syntax.tnil)))) Syntax.tnil)) (Syntax.ttcons (Syntax.tcons (Syntax.tyStruct (116 ∷ 101 ∷ 114 ∷ 58
+      ∷ 58 ∷ 84 ∷ 101 ∷ 114 ∷ []) (Syntax.tcons (Syntax.tyStruct (102 ∷ 105 ∷ 101 ∷ 108 ∷ 100 ∷ 115 ∷ 58 ∷ 58 ∷ 83 ∷ 101 ∷ 114 ∷ 105 ∷ 97 ∷ 108 ∷ [])
+      (Syntax.tcons (Syntax.tyInt Syntax.w32) Syntax.tnil)) (Syntax.tcons (Syntax.tyStruct (114 ∷ 101 ∷ 115 ∷ 105 ∷ 100 ∷ 117 ∷ 101 ∷ 58 ∷ 58 ∷ 82 ∷ 101 ∷ 115
+      ∷ 105 ∷ 100 ∷ 117 ∷ 101 ∷ []) (Syntax.tcons (Syntax.tyStruct (110 ∷ 97 ∷ 109 ∷ 101 ∷ 115 ∷ 58 ∷ 58 ∷ 84 ∷ 104 ∷ 114 ∷ 101 ∷ 101 ∷ []) (Syntax.tcons
+      (Syntax.tyInt Syntax.w8) (Syntax.tcons (Syntax.tyInt Syntax.w8) (Syntax.tcons (Syntax.tyInt Syntax.w8) Syntax.tnil)))) (Syntax.tcons (Syntax.tyInt
+      Syntax.w8) (Syntax.tcons (Syntax.tyStruct (102 ∷ 105 ∷ 101 ∷ 108 ∷ 100 ∷ 115 ∷ 58 ∷ 58 ∷ 82 ∷ 101 ∷ 115 ∷ 105 ∷ 100 ∷ 117 ∷ 101 ∷ 78 ∷ 117 ∷ 109 ∷ 98 ∷
+      101 ∷ 114 ∷ []) (Syntax.tcons (Syntax.tyInt Syntax.w32) Syntax.tnil)) (Syntax.tcons (Syntax.tyInt Syntax.w8) Syntax.tnil))))) Syntax.tnil))) Syntax.tnil)
+      (Syntax.ttcons (Syntax.tcons (Syntax.tyStruct (104 ∷ 101 ∷ 108 ∷ 105 ∷ 120 ∷ 58 ∷ 58 ∷ 72 ∷ 101 ∷ 108 ∷ 105 ∷ 120 ∷ []) (Syntax.tcons (Syntax.tyStruct
+      (104 ∷ 101 ∷ 108 ∷ 105 ∷ 120 ∷ 58 ∷ 58 ∷ 69 ∷ 120 ∷ 116 ∷ 101 ∷ 110 ∷ 116 ∷ []) (Syntax.tcons (Syntax.tyInt Syntax.w32) (Syntax.tcons (Syntax.tyStruct
+      (110 ∷ 97 ∷ 109 ∷ 101 ∷ 115 ∷ 58 ∷ 58 ∷ 84 ∷ 104 ∷ 114 ∷ 101 ∷ 101 ∷ []) (Syntax.tcons (Syntax.tyInt Syntax.w8) (Syntax.tcons (Syntax.tyInt Syntax.w8)
+      (Syntax.tcons (Syntax.tyInt Syntax.w8) Syntax.tnil)))) (Syntax.tcons (Syntax.tyStruct (114 ∷ 101 ∷ 115 ∷ 105 ∷ 100 ∷ 117 ∷ 101 ∷ 58 ∷ 58 ∷ 82 ∷ 101 ∷ 115
+      ∷ 105 ∷ 100 ∷ 117 ∷ 101 ∷ []) (Syntax.tcons (Syntax.tyStruct (110 ∷ 97 ∷ 109 ∷ 101 ∷ 115 ∷ 58 ∷ 58 ∷ 84 ∷ 104 ∷ 114 ∷ 101 ∷ 101 ∷ []) (Syntax.tcons
+      (Syntax.tyInt Syntax.w8) (Syntax.tcons (Syntax.tyInt Syntax.w8) (Syntax.tcons (Syntax.tyInt Syntax.w8) Syntax.tnil)))) (Syntax.tcons (Syntax.tyInt
+      Syntax.w8) (Syntax.tcons (Syntax.tyStruct (102 ∷ 105 ∷ 101 ∷ 108 ∷ 100 ∷ 115 ∷ 58 ∷ 58 ∷ 82 ∷ 101 ∷ 115 ∷ 105 ∷ 100 ∷ 117 ∷ 101 ∷ 78 ∷ 117 ∷ 109 ∷ 98 ∷
+      101 ∷ 114 ∷ []) (Syntax.tcons (Syntax.tyInt Syntax.w32) Syntax.tnil)) (Syntax.tcons (Syntax.tyInt Syntax.w8) Syntax.tnil))))) (Syntax.tcons
+      (Syntax.tyStruct (114 ∷ 101 ∷ 115 ∷ 105 ∷ 100 ∷ 117 ∷ 101 ∷ 58 ∷ 58 ∷ 82 ∷ 101 ∷ 115 ∷ 105 ∷ 100 ∷ 117 ∷ 101 ∷ []) (Syntax.tcons (Syntax.tyStruct (110 ∷
+      97 ∷ 109 ∷ 101 ∷ 115 ∷ 58 ∷ 58 ∷ 84 ∷ 104 ∷ 114 ∷ 101 ∷ 101 ∷ []) (Syntax.tcons (Syntax.tyInt Syntax.w8) (Syntax.tcons (Syntax.tyInt Syntax.w8)
+      (Syntax.tcons (Syntax.tyInt Syntax.w8) Syntax.tnil)))) (Syntax.tcons (Syntax.tyInt Syntax.w8) (Syntax.tcons (Syntax.tyStruct (102 ∷ 105 ∷ 101 ∷ 108 ∷ 100
+      ∷ 115 ∷ 58 ∷ 58 ∷ 82 ∷ 101 ∷ 115 ∷ 105 ∷ 100 ∷ 117 ∷ 101 ∷ 78 ∷ 117 ∷ 109 ∷ 98 ∷ 101 ∷ 114 ∷ []) (Syntax.tcons (Syntax.tyInt Syntax.w32) Syntax.tnil))
+      (Syntax.tcons (Syntax.tyInt Syntax.w8) Syntax.tnil))))) Syntax.tnil))))) (Syntax.tcons (Syntax.tyInt Syntax.w32) (Syntax.tcons (Syntax.tyStruct (104 ∷
+      101 ∷ 108 ∷ 105 ∷ 120 ∷ 58 ∷ 58 ∷ 67 ∷ 111 ∷ 109 ∷ 109 ∷ 101 ∷ 110 ∷ 116 ∷ []) (Syntax.tcons (Syntax.tyInt Syntax.w64) (Syntax.tcons (Syntax.tyInt
+      Syntax.w64) (Syntax.tcons (Syntax.tyInt Syntax.w64) (Syntax.tcons (Syntax.tyInt Syntax.w64) Syntax.tnil))))) (Syntax.tcons (Syntax.tyInt Syntax.w32)
+      Syntax.tnil))))) Syntax.tnil) (Syntax.ttcons (Syntax.tcons (Syntax.tyStruct (115 ∷ 104 ∷ 101 ∷ 101 ∷ 116 ∷ 58 ∷ 58 ∷ 83 ∷ 104 ∷ 101 ∷ 101 ∷ 116 ∷ [])
+      (Syntax.tcons (Syntax.tyStruct (115 ∷ 104 ∷ 101 ∷ 101 ∷ 116 ∷ 58 ∷ 58 ∷ 83 ∷ 116 ∷ 114 ∷ 97 ∷ 110 ∷ 100 ∷ []) (Syntax.tcons (Syntax.tyInt Syntax.w32)
+      (Syntax.tcons (Syntax.tyStruct (110 ∷ 97 ∷ 109 ∷ 101 ∷ 115 ∷ 58 ∷ 58 ∷ 84 ∷ 104 ∷ 114 ∷ 101 ∷ 101 ∷ []) (Syntax.tcons (Syntax.tyInt Syntax.w8)
+      (Syntax.tcons (Syntax.tyInt Syntax.w8) (Syntax.tcons (Syntax.tyInt Syntax.w8) Syntax.tnil)))) (Syntax.tcons (Syntax.tyInt Syntax.w32) (Syntax.tcons
+      (Syntax.tyStruct (114 ∷ 101 ∷ 115 ∷ 105 ∷ 100 ∷ 117 ∷ 101 ∷ 58 ∷ 58 ∷ 82 ∷ 101 ∷ 115 ∷ 105 ∷ 100 ∷ 117 ∷ 101 ∷ []) (Syntax.tcons (Syntax.tyStruct (110 ∷
+      97 ∷ 109 ∷ 101 ∷ 115 ∷ 58 ∷ 58 ∷ 84 ∷ 104 ∷ 114 ∷ 101 ∷ 101 ∷ []) (Syntax.tcons (Syntax.tyInt Syntax.w8) (Syntax.tcons (Syntax.tyInt Syntax.w8)
+      (Syntax.tcons (Syntax.tyInt Syntax.w8) Syntax.tnil)))) (Syntax.tcons (Syntax.tyInt Syntax.w8) (Syntax.tcons (Syntax.tyStruct (102 ∷ 105 ∷ 101 ∷ 108 ∷ 100
+      ∷ 115 ∷ 58 ∷ 58 ∷ 82 ∷ 101 ∷ 115 ∷ 105 ∷ 100 ∷ 117 ∷ 101 ∷ 78 ∷ 117 ∷ 109 ∷ 98 ∷ 101 ∷ 114 ∷ []) (Syntax.tcons (Syntax.tyInt Syntax.w32) Syntax.tnil))
+      (Syntax.tcons (Syntax.tyInt Syntax.w8) Syntax.tnil))))) (Syntax.tcons (Syntax.tyStruct (114 ∷ 101 ∷ 115 ∷ 105 ∷ 100 ∷ 117 ∷ 101 ∷ 58 ∷ 58 ∷ 82 ∷ 101 ∷
+      115 ∷ 105 ∷ 100 ∷ 117 ∷ 101 ∷ []) (Syntax.tcons (Syntax.tyStruct (110 ∷ 97 ∷ 109 ∷ 101 ∷ 115 ∷ 58 ∷ 58 ∷ 84 ∷ 104 ∷ 114 ∷ 101 ∷ 101 ∷ []) (Syntax.tcons
+      (Syntax.tyInt Syntax.w8) (Syntax.tcons (Syntax.tyInt Syntax.w8) (Syntax.tcons (Syntax.tyInt Syntax.w8) Syntax.tnil)))) (Syntax.tcons (Syntax.tyInt
+      Syntax.w8) (Syntax.tcons (Syntax.tyStruct (102 ∷ 105 ∷ 101 ∷ 108 ∷ 100 ∷ 115 ∷ 58 ∷ 58 ∷ 82 ∷ 101 ∷ 115 ∷ 105 ∷ 100 ∷ 117 ∷ 101 ∷ 78 ∷ 117 ∷ 109 ∷ 98 ∷
+      101 ∷ 114 ∷ []) (Syntax.tcons (Syntax.tyInt Syntax.w32) Syntax.tnil)) (Syntax.tcons (Syntax.tyInt Syntax.w8) Syntax.tnil))))) (Syntax.tcons (Syntax.tyInt
+      Syntax.w32) Syntax.tnil))))))) (Syntax.tcons (Syntax.tyEnum (115 ∷ 104 ∷ 101 ∷ 101 ∷ 116 ∷ 58 ∷ 58 ∷ 82 ∷ 101 ∷ 103 ∷ 105 ∷ 115 ∷ 116 ∷ 114 ∷ 97 ∷ 116 ∷
+      105 ∷ 111 ∷ 110 ∷ []) (Syntax.ttcons Syntax.tnil (Syntax.ttcons (Syntax.tcons (Syntax.tyStruct (115 ∷ 104 ∷ 101 ∷ 101 ∷ 116 ∷ 58 ∷ 58 ∷ 66 ∷ 111 ∷ 110 ∷
+      100 ∷ []) (Syntax.tcons (Syntax.tyStruct (110 ∷ 97 ∷ 109 ∷ 101 ∷ 115 ∷ 58 ∷ 58 ∷ 70 ∷ 111 ∷ 117 ∷ 114 ∷ []) (Syntax.tcons (Syntax.tyInt Syntax.w8)
+      (Syntax.tcons (Syntax.tyInt Syntax.w8) (Syntax.tcons (Syntax.tyInt Syntax.w8) (Syntax.tcons (Syntax.tyInt Syntax.w8) Syntax.tnil))))) (Syntax.tcons
+      (Syntax.tyStruct (114 ∷ 101 ∷ 115 ∷ 105 ∷ 100 ∷ 117 ∷ 101 ∷ 58 ∷ 58 ∷ 82 ∷ 101 ∷ 115 ∷ 105 ∷ 100 ∷ 117 ∷ 101 ∷ []) (Syntax.tcons (Syntax.tyStruct (110 ∷
+      97 ∷ 109 ∷ 101 ∷ 115 ∷ 58 ∷ 58 ∷ 84 ∷ 104 ∷ 114 ∷ 101 ∷ 101 ∷ []) (Syntax.tcons (Syntax.tyInt Syntax.w8) (Syntax.tcons (Syntax.tyInt Syntax.w8)
+      (Syntax.tcons (Syntax.tyInt Syntax.w8) Syntax.tnil)))) (Syntax.tcons (Syntax.tyInt Syntax.w8) (Syntax.tcons (Syntax.tyStruct (102 ∷ 105 ∷ 101 ∷ 108 ∷ 100
+      ∷ 115 ∷ 58 ∷ 58 ∷ 82 ∷ 101 ∷ 115 ∷ 105 ∷ 100 ∷ 117 ∷ 101 ∷ 78 ∷ 117 ∷ 109 ∷ 98 ∷ 101 ∷ 114 ∷ []) (Syntax.tcons (Syntax.tyInt Syntax.w32) Syntax.tnil))
+      (Syntax.tcons (Syntax.tyInt Syntax.w8) Syntax.tnil))))) (Syntax.tcons (Syntax.tyStruct (110 ∷ 97 ∷ 109 ∷ 101 ∷ 115 ∷ 58 ∷ 58 ∷ 70 ∷ 111 ∷ 117 ∷ 114 ∷ [])
+      (Syntax.tcons (Syntax.tyInt Syntax.w8) (Syntax.tcons (Syntax.tyInt Syntax.w8) (Syntax.tcons (Syntax.tyInt Syntax.w8) (Syntax.tcons (Syntax.tyInt
+      Syntax.w8) Syntax.tnil))))) (Syntax.tcons (Syntax.tyStruct (114 ∷ 101 ∷ 115 ∷ 105 ∷ 100 ∷ 117 ∷ 101 ∷ 58 ∷ 58 ∷ 82 ∷ 101 ∷ 115 ∷ 105 ∷ 100 ∷ 117 ∷ 101 ∷
+      []) (Syntax.tcons (Syntax.tyStruct (110 ∷ 97 ∷ 109 ∷ 101 ∷ 115 ∷ 58 ∷ 58 ∷ 84 ∷ 104 ∷ 114 ∷ 101 ∷ 101 ∷ []) (Syntax.tcons (Syntax.tyInt Syntax.w8)
+      (Syntax.tcons (Syntax.tyInt Syntax.w8) (Syntax.tcons (Syntax.tyInt Syntax.w8) Syntax.tnil)))) (Syntax.tcons (Syntax.tyInt Syntax.w8) (Syntax.tcons
+      (Syntax.tyStruct (102 ∷ 105 ∷ 101 ∷ 108 ∷ 100 ∷ 115 ∷ 58 ∷ 58 ∷ 82 ∷ 101 ∷ 115 ∷ 105 ∷ 100 ∷ 117 ∷ 101 ∷ 78 ∷ 117 ∷ 109 ∷ 98 ∷ 101 ∷ 114 ∷ [])
+      (Syntax.tcons (Syntax.tyInt Syntax.w32) Syntax.tnil)) (Syntax.tcons (Syntax.tyInt Syntax.w8) Syntax.tnil))))) Syntax.tnil))))) Syntax.tnil)
+      Syntax.ttnil))) Syntax.tnil))) Syntax.tnil) (Syntax.ttcons (Syntax.tcons (Syntax.tyStruct (99 ∷ 111 ∷ 110 ∷ 101 ∷ 99 ∷ 116 ∷ 58 ∷ 58 ∷ 67 ∷ 111 ∷ 110 ∷
+      101 ∷ 99 ∷ 116 ∷ []) (Syntax.tcons (Syntax.tyStruct (102 ∷ 105 ∷ 101 ∷ 108 ∷ 100 ∷ 115 ∷ 58 ∷ 58 ∷ 83 ∷ 101 ∷ 114 ∷ 105 ∷ 97 ∷ 108 ∷ []) (Syntax.tcons
+      (Syntax.tyInt Syntax.w32) Syntax.tnil)) (Syntax.tcons (Syntax.tyStruct (102 ∷ 105 ∷ 101 ∷ 108 ∷ 100 ∷ 115 ∷ 58 ∷ 58 ∷ 83 ∷ 101 ∷ 114 ∷ 105 ∷ 97 ∷ 108 ∷
+      []) (Syntax.tcons (Syntax.tyInt Syntax.w32) Syntax.tnil)) (Syntax.tcons (Syntax.tyStruct (102 ∷ 105 ∷ 101 ∷ 108 ∷ 100 ∷ 115 ∷ 58 ∷ 58 ∷ 83 ∷ 101 ∷ 114 ∷
+      105 ∷ 97 ∷ 108 ∷ []) (Syntax.tcons (Syntax.tyInt Syntax.w32) Syntax.tnil)) (Syntax.tcons (Syntax.tyStruct (102 ∷ 105 ∷ 101 ∷ 108 ∷ 100 ∷ 115 ∷ 58 ∷ 58 ∷
+      83 ∷ 101 ∷ 114 ∷ 105 ∷ 97 ∷ 108 ∷ []) (Syntax.tcons (Syntax.tyInt Syntax.w32) Syntax.tnil)) (Syntax.tcons (Syntax.tyStruct (102 ∷ 105 ∷ 101 ∷ 108 ∷ 100 ∷
+      115 ∷ 58 ∷ 58 ∷ 83 ∷ 101 ∷ 114 ∷ 105 ∷ 97 ∷ 108 ∷ []) (Syntax.tcons (Syntax.tyInt Syntax.w32) Syntax.tnil)) Syntax.tnil)))))) Syntax.tnil) (Syntax.ttcons
+      (Syntax.tcons (Syntax.tyStruct (109 ∷ 97 ∷ 115 ∷ 116 ∷ 101 ∷ 114 ∷ 58 ∷ 58 ∷ 84 ∷ 97 ∷ 108 ∷ 108 ∷ 121 ∷ []) (Syntax.tcons (Syntax.tyInt Syntax.w32)
+      (Syntax.tcons (Syntax.tyInt Syntax.w32) (Syntax.tcons (Syntax.tyInt Syntax.w32) (Syntax.tcons (Syntax.tyInt Syntax.w32) (Syntax.tcons (Syntax.tyInt
+      Syntax.w32) (Syntax.tcons (Syntax.tyInt Syntax.w32) (Syntax.tcons (Syntax.tyInt Syntax.w32) (Syntax.tcons (Syntax.tyInt Syntax.w32) (Syntax.tcons
+      (Syntax.tyInt Syntax.w32) Syntax.tnil)))))))))) Syntax.tnil) (Syntax.ttcons Syntax.tnil (Syntax.ttcons (Syntax.tcons (Syntax.tyStruct (109 ∷ 111 ∷ 100 ∷
+      101 ∷ 108 ∷ 58 ∷ 58 ∷ 77 ∷ 111 ∷ 100 ∷ 101 ∷ 108 ∷ []) (Syntax.tcons (Syntax.tyInt Syntax.w32) Syntax.tnil)) Syntax.tnil) (Syntax.ttcons Syntax.tnil
+      Syntax.ttnil)))))))))) Syntax.tnil) Syntax.ttnil)))))
+
+  abbrev s39 : Typed.Asks T44 T45
+  s39 = Scalar.k-op2 T44 (Syntax.add Syntax.unsigned) (Scalar.oAt 5 (Syntax.tyInt Syntax.w64) (Row.valS (Row.sInt Syntax.w64))) (Scalar.oInt Syntax.w64 1) 5
       (Rows.sc-here (Row.sInt Syntax.w64)) (Row.sInt Syntax.w64 .of)
 
-  abbrev s38 : Typed.Mo T25 → Typed.Mo T44
-  s38 = Make.n-struct-make (Apart.apartT Outcome.the-type) T25 0 λ m. (0, (m .1 .1 .1 .1 .0, tt))
-
-  abbrev s39 : Typed.Mo T44 → Typed.Mo T45
-  s39 = Scalar.n-room T44 4 (Syntax.tyInt Syntax.w64)
-
-  abbrev s40 : Typed.Mo T45 → Typed.Mo T46
-  s40 = Scalar.n-room T45 5 (Syntax.tyInt Syntax.w64)
+  abbrev s40 : Typed.Mo T26 → Typed.Mo T46
+  s40 = Make.n-struct-make (Apart.apartT Outcome.the-type) T26 0 λ m. (0, (m .1 .1 .1 .1 .0, tt))
 
   abbrev s41 : Typed.Mo T46 → Typed.Mo T47
-  s41 = Scalar.n-room T46 6 (Syntax.tyInt Syntax.w64)
+  s41 = Scalar.n-room T46 4 (Syntax.tyInt Syntax.w64)
 
   abbrev s42 : Typed.Mo T47 → Typed.Mo T48
-  s42 = AtSlots.n-as-by T47 0 (Rows.whole (Declared'.row Outcome.the-type)) λ v. Outcome.struct .make v tt
+  s42 = Scalar.n-room T47 5 (Syntax.tyInt Syntax.w64)
 
-  abbrev put0 : List.List (SlotAs.row .Denot) × Rows.sc-here (Row.sInt Syntax.w64) .Mod × Rows.sc-here (Row.sInt Syntax.w64) .Mod → Typed.Mo T24 → Typed.Mo T24
-  put0 = λ vs u. Row.set 6 (6, Rows.sc-here (Row.sInt Syntax.w64)) (vs .2) (T24 .locals) (Row.set 5 (5, Rows.sc-here (Row.sInt Syntax.w64)) (vs .1) (T24
-      .locals) (Row.set 2 (2, Mut.mslice SlotAs.row (Syntax.tyRef (Syntax.named 1) Syntax.mut SlotAs.pointee) 1) record {
-        ptr = Row.get 2 (T24 .locals) u .ptr;
-        name = Row.get 2 (T24 .locals) u .name;
-        now = vs .0;
-      } (T24 .locals) u))
+  abbrev s43 : Typed.Mo T48 → Typed.Mo T49
+  s43 = Scalar.n-room T48 6 (Syntax.tyInt Syntax.w64)
+
+  abbrev s44 : Typed.Mo T49 → Typed.Mo T50
+  s44 = Scalar.n-room T49 7 (Syntax.tyInt Syntax.w32)
+
+  abbrev s45 : Typed.Mo T50 → Typed.Mo T51
+  s45 = AtSlots.n-as-by T50 0 (Rows.whole (Declared'.row Outcome.the-type)) λ v. Outcome.struct .make v tt
+
+  abbrev put0 : List.List (SlotAs.row .Denot) × Rows.sc-here (Row.sInt Syntax.w64) .Mod × Rows.sc-here (Row.sInt Syntax.w64) .Mod × Rows.sc-here (Row.sInt
+      Syntax.w32) .Mod → Typed.Mo T25 → Typed.Mo T25
+  put0 = λ vs u. Row.set 7 (7, Rows.sc-here (Row.sInt Syntax.w32)) (vs .3) (T25 .locals) (Row.set 6 (6, Rows.sc-here (Row.sInt Syntax.w64)) (vs .2) (T25
+      .locals) (Row.set 5 (5, Rows.sc-here (Row.sInt Syntax.w64)) (vs .1) (T25 .locals) (Row.set 2 (
+        2,
+        Mut.mslice SlotAs.row (Syntax.tyRef (Syntax.named 1)
+            Syntax.mut SlotAs.pointee) 1,
+      ) record { ptr = Row.get 2 (T25 .locals) u .ptr; name = Row.get 2 (T25 .locals) u .name; now = vs .0 } (T25 .locals) u)))
 
   module _ (Pre· : (κs : Lifetimes.Lfts 2) → Kinds.Dens κs ps → Type 0) (Post· : (κs : Lifetimes.Lfts 2) → (a : Kinds.Dens κs ps) → Kinds.Plain 2 ps r κs)
     where
@@ -3812,8 +4143,9 @@ module _ (claims· : Claims) where
         abbrev pub Closed : Type 2
         Closed = (𝓤 : URA.URA M) (H : Wp.Heap 𝓤) (A : Atoms.Atoms 𝓤) (W : Kit.Given 𝓤 H A) (𝓣 : Wp.Tables 𝓤 H) (known0 : Plain.Known 𝓤 H A W 𝓣 1 ps·0 r·0
             (claims· .0) (claims· .1) "store::survey::count_slots") (known1 : Plain.Known 𝓤 H A W 𝓣 1 ps·1 r·1 (claims· .2) (claims· .3) "rows::line_at") (known2
-            : Plain.Known 𝓤 H A W 𝓣 1 ps·2 r·2 (claims· .4) (claims· .5) "store::put_slot") → Statement.Triple 𝓤 (Wp.WpFn 𝓤 H (𝓣 .C) (𝓣 .Λ) (Function.fnOf 2 ps r
-            xs m hs body)) (Function.plainOf 𝓤 H A 2 ps r Pre· Post·)
+            : Plain.Known 𝓤 H A W 𝓣 1 ps·2 r·2 (claims· .4) (claims· .5) "store::put_slot") (known3 : Plain.Known 𝓤 H A W 𝓣 0 ps·3 r·3 (claims· .6) (claims· .7)
+            "marks::models::model_next") → Statement.Triple 𝓤 (Wp.WpFn 𝓤 H (𝓣 .C) (𝓣 .Λ) (Function.fnOf 2 ps r xs m hs body)) (Function.plainOf 𝓤 H A 2 ps r Pre·
+            Post·)
 
       module _ (Inv·0 : InvT-loop) (μ·0 : MeasureT-loop) where
         abbrev at0 : Typed.TF T10 O1
@@ -3838,7 +4170,7 @@ module _ (claims· : Claims) where
         at6 = λ Ψ. Typed.pass T5 T11 s8 (at5 Ψ)
 
         abbrev at7 : Typed.TF T5 O1
-        at7 = Scalar.Φcond T5 O1 8 (λ x. x) at4 at6
+        at7 = Scalar.Φcond T5 O1 9 (λ x. x) at4 at6
 
         abbrev at8 : Typed.TF T21 O2
         at8 = Typed.atRet O2
@@ -3862,184 +4194,159 @@ module _ (claims· : Claims) where
         at14 = λ Ψ. Typed.pass T17 T22 s18 (at13 Ψ)
 
         abbrev at15 : Typed.TF T17 O2
-        at15 = Scalar.Φcond T17 O2 8 (λ x. x) at12 at14
+        at15 = Scalar.Φcond T17 O2 9 (λ x. x) at12 at14
 
         abbrev at16 : Typed.TF T15 O2
         at16 = λ Ψ. Typed.pass T15 T17 s13 (at15 Ψ)
 
-        abbrev at17 : Typed.TF T32 O6
+        abbrev at17 : Typed.TF T33 O6
         at17 = Typed.atNext O6
 
-        abbrev at18 : Typed.TF T31 O6
-        at18 = λ Ψ. Typed.pass T31 T32 s26 (at17 Ψ)
+        abbrev at18 : Typed.TF T32 O6
+        at18 = λ Ψ. Typed.pass T32 T33 s27 (at17 Ψ)
 
-        abbrev at19 : Typed.TF T33 O6
+        abbrev at19 : Typed.TF T34 O6
         at19 = Typed.atExit 1 O6
 
-        abbrev at20 : Typed.TF T31 O6
-        at20 = λ Ψ. Typed.pass T31 T33 s27 (at19 Ψ)
+        abbrev at20 : Typed.TF T32 O6
+        at20 = λ Ψ. Typed.pass T32 T34 s28 (at19 Ψ)
 
-        abbrev at21 : Typed.TF T31 O6
-        at21 = Scalar.Φcond T31 O6 12 (λ x. x) at18 at20
+        abbrev at21 : Typed.TF T32 O6
+        at21 = Scalar.Φcond T32 O6 13 (λ x. x) at18 at20
 
-        abbrev at22 : Typed.TF T30 O6
-        at22 = λ Ψ. Typed.pass T30 T31 s25 (at21 Ψ)
+        abbrev at22 : Typed.TF T31 O6
+        at22 = λ Ψ. Typed.pass T31 T32 s26 (at21 Ψ)
 
-        abbrev at23 : Typed.TF T28 O6
-        at23 = λ Ψ. Typed.pass T28 T30 s24 (at22 Ψ)
+        abbrev at23 : Typed.TF T29 O6
+        at23 = λ Ψ. Typed.pass T29 T31 s25 (at22 Ψ)
 
-        abbrev at24 : Typed.TF T41 O5
-        at24 = λ Ψ. Typed.ask s37 (Typed.atNext O5 Ψ)
+        abbrev at24 : Typed.TF T44 O5
+        at24 = λ Ψ. Typed.ask s39 (Typed.atNext O5 Ψ)
 
-        abbrev at25 : Typed.TF T41 O5
-        at25 = λ Ψ. at24 Ψ
+        abbrev at25 : Typed.TF T43 O5
+        at25 = λ Ψ. Typed.pass T43 T44 s38 (at24 Ψ)
 
-        abbrev at26 : Typed.TF T39 O5
-        at26 = λ Ψ. Typed.both s35 (at25 Ψ)
+        abbrev at26 : Typed.TF T41 O5
+        at26 = λ Ψ. Typed.both s37 (at25 Ψ)
 
-        abbrev at27 : Typed.TF T39 O5
+        abbrev at27 : Typed.TF T41 O5
         at27 = λ Ψ. at26 Ψ
 
-        abbrev at28 : Typed.TF T38 O5
-        at28 = λ Ψ. Typed.pass T38 T39 s33 (at27 Ψ)
+        abbrev at28 : Typed.TF T39 O5
+        at28 = λ Ψ. Typed.both s35 (at27 Ψ)
 
-        abbrev at29 : Typed.TF T37 O5
-        at29 = λ Ψ. Typed.both s32 (at28 Ψ)
+        abbrev at29 : Typed.TF T39 O5
+        at29 = λ Ψ. at28 Ψ
 
-        abbrev at30 : Typed.TF T36 O5
-        at30 = λ Ψ. Typed.ask s31 (at29 Ψ)
+        abbrev at30 : Typed.TF T38 O5
+        at30 = λ Ψ. Typed.both s33 (at29 Ψ)
 
-        abbrev at31 : Typed.TF T34 O5
-        at31 = λ Ψ. Typed.give s30 (at30 Ψ)
+        abbrev at31 : Typed.TF T37 O5
+        at31 = λ Ψ. Typed.ask s32 (at30 Ψ)
 
-        abbrev at32 : Typed.TF T34 O5
-        at32 = λ Ψ. at31 Ψ
+        abbrev at32 : Typed.TF T35 O5
+        at32 = λ Ψ. Typed.give s31 (at31 Ψ)
 
-        abbrev at33 : Typed.TF T29 O5
-        at33 = λ Ψ. Typed.both s28 (at32 Ψ)
+        abbrev at33 : Typed.TF T35 O5
+        at33 = λ Ψ. at32 Ψ
 
-        abbrev at34 : Typed.TF T28 O5
-        at34 = λ Ψ. at23 (Typed.wantNext T29 O5 (at33 Ψ) Ψ)
+        abbrev at34 : Typed.TF T30 O5
+        at34 = λ Ψ. Typed.both s29 (at33 Ψ)
 
-        abbrev at35 : Typed.TF T27 O5
-        at35 = λ Ψ. Typed.ask s23 (at34 Ψ)
+        abbrev at35 : Typed.TF T29 O5
+        at35 = λ Ψ. at23 (Typed.wantNext T30 O5 (at34 Ψ) Ψ)
 
-        abbrev at36 : Typed.TF T26 O5
-        at36 = λ Ψ. Typed.pass T26 T27 s22 (at35 Ψ)
+        abbrev at36 : Typed.TF T28 O5
+        at36 = λ Ψ. Typed.ask s24 (at35 Ψ)
 
-        abbrev at37 : Typed.TF T24 O5
-        at37 = λ Ψ. Typed.ask s21 (at36 Ψ)
+        abbrev at37 : Typed.TF T27 O5
+        at37 = λ Ψ. Typed.pass T27 T28 s23 (at36 Ψ)
 
-        abbrev at38 : Typed.TF T24 O4
-        at38 = Typed.LoopBy T24 O4 put0 (λ u vs. Inv·0 (Row.get 1 (T24 .locals) u .now) (Row.get 2 (T24 .locals) u .now) (Row.get 4 (T24 .locals) u) (Row.get 5
-            (T24 .locals) u) (Row.get 6 (T24 .locals) u) (vs .0) (vs .1) (vs .2)) (λ u vs. μ·0 (Row.get 1 (T24 .locals) u .now) (Row.get 2 (T24 .locals) u .now)
-            (Row.get 4 (T24 .locals) u) (Row.get 5 (T24 .locals) u) (Row.get 6 (T24 .locals) u) (vs .0) (vs .1) (vs .2)) at37
+        abbrev at38 : Typed.TF T25 O5
+        at38 = λ Ψ. Typed.ask s22 (at37 Ψ)
 
-        abbrev at39 : Typed.TF T24 O3
-        at39 = λ Ψ. at38 (Typed.inBlock O3 Ψ)
+        abbrev at39 : Typed.TF T25 O4
+        at39 = Typed.LoopBy T25 O4 put0 (λ u vs. Inv·0 (Row.get 1 (T25 .locals) u .now) (Row.get 2 (T25 .locals) u .now) (Row.get 4 (T25 .locals) u) (Row.get 5
+            (T25 .locals) u) (Row.get 6 (T25 .locals) u) (Row.get 7 (T25 .locals) u) (vs .0) (vs .1) (vs .2) (vs .3)) (λ u vs. μ·0 (Row.get 1 (T25 .locals) u
+            .now) (Row.get 2 (T25 .locals) u .now) (Row.get 4 (T25 .locals) u) (Row.get 5 (T25 .locals) u) (Row.get 6 (T25 .locals) u) (Row.get 7 (T25 .locals)
+            u) (vs .0) (vs .1) (vs .2) (vs .3)) at38
 
-        abbrev at40 : Typed.TF T48 O0
-        at40 = Typed.atRet O0
+        abbrev at40 : Typed.TF T25 O3
+        at40 = λ Ψ. at39 (Typed.inBlock O3 Ψ)
 
-        abbrev at41 : Typed.TF T47 O0
-        at41 = λ Ψ. Typed.pass T47 T48 s42 (at40 Ψ)
+        abbrev at41 : Typed.TF T51 O0
+        at41 = Typed.atRet O0
 
-        abbrev at42 : Typed.TF T46 O0
-        at42 = λ Ψ. Typed.pass T46 T47 s41 (at41 Ψ)
+        abbrev at42 : Typed.TF T50 O0
+        at42 = λ Ψ. Typed.pass T50 T51 s45 (at41 Ψ)
 
-        abbrev at43 : Typed.TF T45 O0
-        at43 = λ Ψ. Typed.pass T45 T46 s40 (at42 Ψ)
+        abbrev at43 : Typed.TF T49 O0
+        at43 = λ Ψ. Typed.pass T49 T50 s44 (at42 Ψ)
 
-        abbrev at44 : Typed.TF T44 O0
-        at44 = λ Ψ. Typed.pass T44 T45 s39 (at43 Ψ)
+        abbrev at44 : Typed.TF T48 O0
+        at44 = λ Ψ. Typed.pass T48 T49 s43 (at43 Ψ)
 
-        abbrev at45 : Typed.TF T25 O0
-        at45 = λ Ψ. Typed.pass T25 T44 s38 (at44 Ψ)
+        abbrev at45 : Typed.TF T47 O0
+        at45 = λ Ψ. Typed.pass T47 T48 s42 (at44 Ψ)
 
-        abbrev at46 : Typed.TF T24 O0
-        at46 = λ Ψ. at39 (Typed.wantNext T25 O0 (at45 Ψ) Ψ)
+        abbrev at46 : Typed.TF T46 O0
+        at46 = λ Ψ. Typed.pass T46 T47 s41 (at45 Ψ)
 
-        abbrev at47 : Typed.TF T23 O0
-        at47 = λ Ψ. Typed.pass T23 T24 s20 (at46 Ψ)
+        abbrev at47 : Typed.TF T26 O0
+        at47 = λ Ψ. Typed.pass T26 T46 s40 (at46 Ψ)
 
-        abbrev at48 : Typed.TF T16 O0
-        at48 = λ Ψ. Typed.pass T16 T23 s19 (at47 Ψ)
+        abbrev at48 : Typed.TF T25 O0
+        at48 = λ Ψ. at40 (Typed.wantNext T26 O0 (at47 Ψ) Ψ)
 
-        abbrev at49 : Typed.TF T15 O0
-        at49 = λ Ψ. at16 (Typed.wantNext T16 O0 (at48 Ψ) Ψ)
+        abbrev at49 : Typed.TF T24 O0
+        at49 = λ Ψ. Typed.pass T24 T25 s21 (at48 Ψ)
 
-        abbrev at50 : Typed.TF T14 O0
-        at50 = λ Ψ. Typed.ask s12 (at49 Ψ)
+        abbrev at50 : Typed.TF T23 O0
+        at50 = λ Ψ. Typed.pass T23 T24 s20 (at49 Ψ)
 
-        abbrev at51 : Typed.TF T13 O0
-        at51 = λ Ψ. Typed.pass T13 T14 s11 (at50 Ψ)
+        abbrev at51 : Typed.TF T16 O0
+        at51 = λ Ψ. Typed.pass T16 T23 s19 (at50 Ψ)
 
-        abbrev at52 : Typed.TF T12 O0
-        at52 = λ Ψ. Typed.pass T12 T13 s10 (at51 Ψ)
+        abbrev at52 : Typed.TF T15 O0
+        at52 = λ Ψ. at16 (Typed.wantNext T16 O0 (at51 Ψ) Ψ)
 
-        abbrev at53 : Typed.TF T6 O0
-        at53 = λ Ψ. Typed.pass T6 T12 s9 (at52 Ψ)
+        abbrev at53 : Typed.TF T14 O0
+        at53 = λ Ψ. Typed.ask s12 (at52 Ψ)
 
-        abbrev at54 : Typed.TF T5 O0
-        at54 = λ Ψ. at7 (Typed.wantNext T6 O0 (at53 Ψ) Ψ)
+        abbrev at54 : Typed.TF T13 O0
+        at54 = λ Ψ. Typed.pass T13 T14 s11 (at53 Ψ)
 
-        abbrev at55 : Typed.TF T4 O0
-        at55 = λ Ψ. Typed.ask s3 (at54 Ψ)
+        abbrev at55 : Typed.TF T12 O0
+        at55 = λ Ψ. Typed.pass T12 T13 s10 (at54 Ψ)
 
-        abbrev at56 : Typed.TF T3 O0
-        at56 = λ Ψ. Typed.give s2 (at55 Ψ)
+        abbrev at56 : Typed.TF T6 O0
+        at56 = λ Ψ. Typed.pass T6 T12 s9 (at55 Ψ)
 
-        abbrev at57 : Typed.TF T2 O0
-        at57 = λ Ψ. Typed.both s1 (at56 Ψ)
+        abbrev at57 : Typed.TF T5 O0
+        at57 = λ Ψ. at7 (Typed.wantNext T6 O0 (at56 Ψ) Ψ)
 
-        abbrev at58 : Typed.TF T0 O0
-        at58 = λ Ψ. Typed.give s0 (at57 Ψ)
+        abbrev at58 : Typed.TF T4 O0
+        at58 = λ Ψ. Typed.ask s3 (at57 Ψ)
+
+        abbrev at59 : Typed.TF T3 O0
+        at59 = λ Ψ. Typed.give s2 (at58 Ψ)
+
+        abbrev at60 : Typed.TF T2 O0
+        at60 = λ Ψ. Typed.both s1 (at59 Ψ)
+
+        abbrev at61 : Typed.TF T0 O0
+        at61 = λ Ψ. Typed.give s0 (at60 Ψ)
 
         abbrev pub Φ : Typed.TF T0 O0
-        Φ = at58
+        Φ = at61
 
         module _ {M : Type 1} (𝓤 : URA.URA M) (H : Wp.Heap 𝓤) (A : Atoms.Atoms 𝓤) (W : Kit.Given 𝓤 H A) (𝓣 : Wp.Tables 𝓤 H) where
           abbrev Knowns : Type 1
           Knowns = Plain.Known 𝓤 H A W 𝓣 1 ps·0 r·0 (claims· .0) (claims· .1) "store::survey::count_slots" × Plain.Known 𝓤 H A W 𝓣 1 ps·1 r·1 (claims· .2)
-              (claims· .3) "rows::line_at" × Plain.Known 𝓤 H A W 𝓣 1 ps·2 r·2 (claims· .4) (claims· .5) "store::put_slot"
+              (claims· .3) "rows::line_at" × Plain.Known 𝓤 H A W 𝓣 1 ps·2 r·2 (claims· .4) (claims· .5) "store::put_slot" × Plain.Known 𝓤 H A W 𝓣 0 ps·3 r·3
+              (claims· .6) (claims· .7) "marks::models::model_next"
 
         module _ (κs : Lifetimes.Lfts 2) (qs : Lifetimes.Shares 2) where
-          abbrev g20 : List.List Row.Entry
-          g20 = (
-            0,
-            Rows.any-gone (Syntax.tyStruct (115 ∷ 116 ∷ 111 ∷ 114 ∷ 101 ∷ 58 ∷ 58 ∷ 79 ∷ 117 ∷ 116 ∷ 99 ∷ 111 ∷ 109 ∷ 101 ∷ []) (Syntax.tcons
-                (Syntax.tyInt Syntax.w8) (Syntax.tcons (Syntax.tyInt Syntax.w64) Syntax.tnil))),
-          ) ∷ (
-            1,
-            Rows.sslice (Referent.rtF (Referent.fInt Syntax.w8))
-                (Syntax.tyRef (Syntax.named 0) Syntax.imm (Syntax.tyInt Syntax.w8)) 0,
-          ) ∷ (
-            2,
-            Relend.mslice-owed SlotAs.row (Syntax.tyRef (Syntax.named 1)
-                Syntax.mut SlotAs.pointee) 1 2 (Row.lease (κs .1 .0) (qs .1 .0)),
-          ) ∷ (
-            3,
-            Rows.any-gone (Syntax.tyStruct (115 ∷ 116 ∷ 111 ∷ 114 ∷ 101 ∷ 58 ∷ 58 ∷ 78
-                ∷ 101 ∷ 101 ∷ 100 ∷ 115 ∷ []) (Syntax.tcons (Syntax.tyInt Syntax.w8) (Syntax.tcons (Syntax.tyInt Syntax.w64) Syntax.tnil))),
-          ) ∷ (
-            4,
-            Rows.sc-here
-                (Row.sInt Syntax.w64),
-          ) ∷ (5, Rows.sc-here (Row.sInt Syntax.w64)) ∷ (6, Rows.sc-here (Row.sInt Syntax.w64)) ∷ (
-            7,
-            Rows.whole (Declared.row
-                Line.the-type),
-          ) ∷ (8, Rows.any-gone Syntax.tyBool) ∷ (9, Rows.any-gone (Syntax.tyInt Syntax.w64)) ∷ (10, Rows.any-gone (Syntax.tyInt Syntax.w64)) ∷
-              (11, Rows.any-gone (Syntax.tyInt Syntax.w64)) ∷ (12, Rows.any-gone Syntax.tyBool) ∷ (
-                13,
-                Relend.msptr SlotAs.row (Syntax.tyRef Syntax.erased
-                    Syntax.mut SlotAs.pointee) 2,
-              ) ∷ (
-                14,
-                Rows.any-gone (Syntax.tyStruct (38 ∷ 91 ∷ 93 ∷ []) (Syntax.tcons (Syntax.tyRef Syntax.erased Syntax.mut
-                    SlotAs.pointee) (Syntax.tcons (Syntax.tyInt Syntax.w64) Syntax.tnil))),
-              ) ∷ []
-
           abbrev g21 : List.List Row.Entry
           g21 = (
             0,
@@ -4063,14 +4370,17 @@ module _ (claims· : Claims) where
                 (Row.sInt Syntax.w64),
           ) ∷ (5, Rows.sc-here (Row.sInt Syntax.w64)) ∷ (6, Rows.sc-here (Row.sInt Syntax.w64)) ∷ (
             7,
-            Rows.whole (Declared.row
-                Line.the-type),
-          ) ∷ (8, Rows.any-gone Syntax.tyBool) ∷ (9, Rows.any-gone (Syntax.tyInt Syntax.w64)) ∷ (10, Rows.any-gone (Syntax.tyInt Syntax.w64)) ∷
-              (11, Rows.any-gone (Syntax.tyInt Syntax.w64)) ∷ (12, Rows.any-gone Syntax.tyBool) ∷ (
-                13,
-                Rows.any-gone (Syntax.tyRef Syntax.erased Syntax.mut
-                    SlotAs.pointee),
-              ) ∷ (14, Mut.mslice SlotAs.row (Syntax.tyRef Syntax.erased Syntax.mut SlotAs.pointee) 2) ∷ []
+            Rows.sc-here (Row.sInt
+                Syntax.w32),
+          ) ∷ (8, Rows.whole (Declared.row Line.the-type)) ∷ (9, Rows.any-gone Syntax.tyBool) ∷ (10, Rows.any-gone (Syntax.tyInt Syntax.w64)) ∷
+              (11, Rows.any-gone (Syntax.tyInt Syntax.w64)) ∷ (12, Rows.any-gone (Syntax.tyInt Syntax.w64)) ∷ (13, Rows.any-gone Syntax.tyBool) ∷ (
+                14,
+                Relend.msptr SlotAs.row (Syntax.tyRef Syntax.erased Syntax.mut SlotAs.pointee) 2,
+              ) ∷ (
+                15,
+                Rows.any-gone (Syntax.tyStruct (38 ∷ 91 ∷ 93 ∷ [])
+                    (Syntax.tcons (Syntax.tyRef Syntax.erased Syntax.mut SlotAs.pointee) (Syntax.tcons (Syntax.tyInt Syntax.w64) Syntax.tnil))),
+              ) ∷ []
 
           abbrev g22 : List.List Row.Entry
           g22 = (
@@ -4095,14 +4405,17 @@ module _ (claims· : Claims) where
                 (Row.sInt Syntax.w64),
           ) ∷ (5, Rows.sc-here (Row.sInt Syntax.w64)) ∷ (6, Rows.sc-here (Row.sInt Syntax.w64)) ∷ (
             7,
-            Rows.whole (Declared.row
-                Line.the-type),
-          ) ∷ (8, Rows.any-gone Syntax.tyBool) ∷ (9, Rows.any-gone (Syntax.tyInt Syntax.w64)) ∷ (10, Rows.any-gone (Syntax.tyInt Syntax.w64)) ∷
-              (11, Rows.any-gone (Syntax.tyInt Syntax.w64)) ∷ (12, Rows.any-gone Syntax.tyBool) ∷ (
-                13,
-                Rows.any-gone (Syntax.tyRef Syntax.erased Syntax.mut
-                    SlotAs.pointee),
-              ) ∷ (14, Mut.msleft SlotAs.row (Syntax.tyRef Syntax.erased Syntax.mut SlotAs.pointee)) ∷ []
+            Rows.sc-here (Row.sInt
+                Syntax.w32),
+          ) ∷ (8, Rows.whole (Declared.row Line.the-type)) ∷ (9, Rows.any-gone Syntax.tyBool) ∷ (10, Rows.any-gone (Syntax.tyInt Syntax.w64)) ∷
+              (11, Rows.any-gone (Syntax.tyInt Syntax.w64)) ∷ (12, Rows.any-gone (Syntax.tyInt Syntax.w64)) ∷ (13, Rows.any-gone Syntax.tyBool) ∷ (
+                14,
+                Rows.any-gone (Syntax.tyRef Syntax.erased Syntax.mut SlotAs.pointee),
+              ) ∷ (
+                15,
+                Mut.mslice SlotAs.row (Syntax.tyRef Syntax.erased Syntax.mut
+                    SlotAs.pointee) 2,
+              ) ∷ []
 
           abbrev g23 : List.List Row.Entry
           g23 = (
@@ -4127,110 +4440,14 @@ module _ (claims· : Claims) where
                 (Row.sInt Syntax.w64),
           ) ∷ (5, Rows.sc-here (Row.sInt Syntax.w64)) ∷ (6, Rows.sc-here (Row.sInt Syntax.w64)) ∷ (
             7,
-            Rows.any-gone (Syntax.tyEnum (112
-                ∷ 105 ∷ 101 ∷ 99 ∷ 101 ∷ 115 ∷ 58 ∷ 58 ∷ 76 ∷ 105 ∷ 110 ∷ 101 ∷ []) (Syntax.ttcons (Syntax.tcons (Syntax.tyInt Syntax.w8) Syntax.tnil)
-                (Syntax.ttcons (Syntax.tcons (Syntax.tyEnum (107 ∷ 105 ∷ 110 ∷ 100 ∷ 115 ∷ 58 ∷ 58 ∷ 75 ∷ 105 ∷ 110 ∷ 100 ∷ []) (Syntax.ttcons Syntax.tnil
-                (Syntax.ttcons Syntax.tnil (Syntax.ttcons Syntax.tnil (Syntax.ttcons Syntax.tnil (Syntax.ttcons Syntax.tnil (Syntax.ttcons Syntax.tnil
-                (Syntax.ttcons Syntax.tnil (Syntax.ttcons Syntax.tnil (Syntax.ttcons Syntax.tnil (Syntax.ttcons Syntax.tnil (Syntax.ttcons Syntax.tnil
-                (Syntax.ttcons Syntax.tnil (Syntax.ttcons Syntax.tnil (Syntax.ttcons Syntax.tnil (Syntax.ttcons Syntax.tnil (Syntax.ttcons Syntax.tnil
-                (Syntax.ttcons Syntax.tnil (Syntax.ttcons Syntax.tnil (Syntax.ttcons Syntax.tnil (Syntax.ttcons Syntax.tnil (Syntax.ttcons Syntax.tnil
-                (Syntax.ttcons Syntax.tnil (Syntax.ttcons Syntax.tnil (Syntax.ttcons Syntax.tnil (Syntax.ttcons Syntax.tnil (Syntax.ttcons Syntax.tnil
-                (Syntax.ttcons Syntax.tnil (Syntax.ttcons Syntax.tnil Syntax.ttnil))))))))))))))))))))))))))))) (Syntax.tcons (Syntax.tyInt Syntax.w32)
-                Syntax.tnil)) (Syntax.ttcons (Syntax.tcons (Syntax.tyEnum (107 ∷ 105 ∷ 110 ∷ 100 ∷ 115 ∷ 58 ∷ 58 ∷ 75 ∷ 105 ∷ 110 ∷ 100 ∷ []) (Syntax.ttcons
-                Syntax.tnil (Syntax.ttcons Syntax.tnil (Syntax.ttcons Syntax.tnil (Syntax.ttcons Syntax.tnil (Syntax.ttcons Syntax.tnil (Syntax.ttcons Syntax.tnil
-                (Syntax.ttcons Syntax.tnil (Syntax.ttcons Syntax.tnil (Syntax.ttcons Syntax.tnil (Syntax.ttcons Syntax.tnil (Syntax.ttcons Syntax.tnil
-                (Syntax.ttcons Syntax.tnil (Syntax.ttcons Syntax.tnil (Syntax.ttcons Syntax.tnil (Syntax.ttcons Syntax.tnil (Syntax.ttcons Syntax.tnil
-                (Syntax.ttcons Syntax.tnil (Syntax.ttcons Syntax.tnil (Syntax.ttcons Syntax.tnil (Syntax.ttcons Syntax.tnil (Syntax.ttcons Syntax.tnil
-                (Syntax.ttcons Syntax.tnil (Syntax.ttcons Syntax.tnil (Syntax.ttcons Syntax.tnil (Syntax.ttcons Syntax.tnil (Syntax.ttcons Syntax.tnil
-                (Syntax.ttcons Syntax.tnil (Syntax.ttcons Syntax.tnil Syntax.ttnil))))))))))))))))))))))))))))) Syntax.tnil) (Syntax.ttcons (Syntax.tcons
-                (Syntax.tyEnum (108 ∷ 105 ∷ 110 ∷ 101 ∷ 58 ∷ 58 ∷ 82 ∷ 101 ∷ 99 ∷ 111 ∷ 114 ∷ 100 ∷ []) (Syntax.ttcons (Syntax.tcons Syntax.tyBool (Syntax.tcons
-                (Syntax.tyStruct (99 ∷ 111 ∷ 111 ∷ 114 ∷ 100 ∷ 105 ∷ 110 ∷ 97 ∷ 116 ∷ 101 ∷ 58 ∷ 58 ∷ 65 ∷ 116 ∷ 111 ∷ 109 ∷ []) (Syntax.tcons (Syntax.tyStruct (99
-                ∷ 111 ∷ 111 ∷ 114 ∷ 100 ∷ 105 ∷ 110 ∷ 97 ∷ 116 ∷ 101 ∷ 58 ∷ 58 ∷ 73 ∷ 100 ∷ 101 ∷ 110 ∷ 116 ∷ 105 ∷ 116 ∷ 121 ∷ []) (Syntax.tcons (Syntax.tyStruct
-                (102 ∷ 105 ∷ 101 ∷ 108 ∷ 100 ∷ 115 ∷ 58 ∷ 58 ∷ 83 ∷ 101 ∷ 114 ∷ 105 ∷ 97 ∷ 108 ∷ []) (Syntax.tcons (Syntax.tyInt Syntax.w32) Syntax.tnil))
-                (Syntax.tcons (Syntax.tyStruct (110 ∷ 97 ∷ 109 ∷ 101 ∷ 115 ∷ 58 ∷ 58 ∷ 70 ∷ 111 ∷ 117 ∷ 114 ∷ []) (Syntax.tcons (Syntax.tyInt Syntax.w8)
-                (Syntax.tcons (Syntax.tyInt Syntax.w8) (Syntax.tcons (Syntax.tyInt Syntax.w8) (Syntax.tcons (Syntax.tyInt Syntax.w8) Syntax.tnil))))) (Syntax.tcons
-                (Syntax.tyInt Syntax.w8) (Syntax.tcons (Syntax.tyStruct (114 ∷ 101 ∷ 115 ∷ 105 ∷ 100 ∷ 117 ∷ 101 ∷ 58 ∷ 58 ∷ 82 ∷ 101 ∷ 115 ∷ 105 ∷ 100 ∷ 117 ∷ 101
-                ∷ []) (Syntax.tcons (Syntax.tyStruct (110 ∷ 97 ∷ 109 ∷ 101 ∷ 115 ∷ 58 ∷ 58 ∷ 84 ∷ 104 ∷ 114 ∷ 101 ∷ 101 ∷ []) (Syntax.tcons (Syntax.tyInt
-                Syntax.w8) (Syntax.tcons (Syntax.tyInt Syntax.w8) (Syntax.tcons (Syntax.tyInt Syntax.w8) Syntax.tnil)))) (Syntax.tcons (Syntax.tyInt Syntax.w8)
-                (Syntax.tcons (Syntax.tyStruct (102 ∷ 105 ∷ 101 ∷ 108 ∷ 100 ∷ 115 ∷ 58 ∷ 58 ∷ 82 ∷ 101 ∷ 115 ∷ 105 ∷ 100 ∷ 117 ∷ 101 ∷ 78 ∷ 117 ∷ 109 ∷ 98 ∷ 101 ∷
-                114 ∷ []) (Syntax.tcons (Syntax.tyInt Syntax.w32) Syntax.tnil)) (Syntax.tcons (Syntax.tyInt Syntax.w8) Syntax.tnil))))) Syntax.tnil)))))
-                (Syntax.tcons (Syntax.tyStruct (99 ∷ 111 ∷ 111 ∷ 114 ∷ 100 ∷ 105 ∷ 110 ∷ 97 ∷ 116 ∷ 101 ∷ 58 ∷ 58 ∷ 77 ∷ 101 ∷ 97 ∷ 115 ∷ 117 ∷ 114 ∷ 101 ∷ [])
-                (Syntax.tcons (Syntax.tyStruct (99 ∷ 111 ∷ 111 ∷ 114 ∷ 100 ∷ 105 ∷ 110 ∷ 97 ∷ 116 ∷ 101 ∷ 58 ∷ 58 ∷ 80 ∷ 111 ∷ 115 ∷ 105 ∷ 116 ∷ 105 ∷ 111 ∷ 110 ∷
-                []) (Syntax.tcons (Syntax.tyInt Syntax.w32) (Syntax.tcons (Syntax.tyInt Syntax.w32) (Syntax.tcons (Syntax.tyInt Syntax.w32) Syntax.tnil))))
-                (Syntax.tcons (Syntax.tyInt Syntax.w32) (Syntax.tcons (Syntax.tyInt Syntax.w32) Syntax.tnil)))) (Syntax.tcons (Syntax.tyStruct (99 ∷ 111 ∷ 111 ∷
-                114 ∷ 100 ∷ 105 ∷ 110 ∷ 97 ∷ 116 ∷ 101 ∷ 58 ∷ 58 ∷ 83 ∷ 112 ∷ 101 ∷ 99 ∷ 105 ∷ 101 ∷ 115 ∷ []) (Syntax.tcons (Syntax.tyStruct (110 ∷ 97 ∷ 109 ∷ 101
-                ∷ 115 ∷ 58 ∷ 58 ∷ 80 ∷ 97 ∷ 105 ∷ 114 ∷ []) (Syntax.tcons (Syntax.tyInt Syntax.w8) (Syntax.tcons (Syntax.tyInt Syntax.w8) Syntax.tnil)))
-                (Syntax.tcons (Syntax.tyStruct (110 ∷ 97 ∷ 109 ∷ 101 ∷ 115 ∷ 58 ∷ 58 ∷ 80 ∷ 97 ∷ 105 ∷ 114 ∷ []) (Syntax.tcons (Syntax.tyInt Syntax.w8)
-                (Syntax.tcons (Syntax.tyInt Syntax.w8) Syntax.tnil))) Syntax.tnil))) Syntax.tnil)))) Syntax.tnil)) (Syntax.ttcons (Syntax.tcons (Syntax.tyStruct
-                (116 ∷ 101 ∷ 114 ∷ 58 ∷ 58 ∷ 84 ∷ 101 ∷ 114 ∷ []) (Syntax.tcons (Syntax.tyStruct (102 ∷ 105 ∷ 101 ∷ 108 ∷ 100 ∷ 115 ∷ 58 ∷ 58 ∷ 83 ∷ 101 ∷ 114 ∷
-                105 ∷ 97 ∷ 108 ∷ []) (Syntax.tcons (Syntax.tyInt Syntax.w32) Syntax.tnil)) (Syntax.tcons (Syntax.tyStruct (114 ∷ 101 ∷ 115 ∷ 105 ∷ 100 ∷ 117 ∷ 101
-                ∷ 58 ∷ 58 ∷ 82 ∷ 101 ∷ 115 ∷ 105 ∷ 100 ∷ 117 ∷ 101 ∷ []) (Syntax.tcons (Syntax.tyStruct (110 ∷ 97 ∷ 109 ∷ 101 ∷ 115 ∷ 58 ∷ 58 ∷ 84 ∷ 104 ∷ 114 ∷
-                101 ∷ 101 ∷ []) (Syntax.tcons (Syntax.tyInt Syntax.w8) (Syntax.tcons (Syntax.tyInt Syntax.w8) (Syntax.tcons (Syntax.tyInt Syntax.w8)
-                Syntax.tnil)))) (Syntax.tcons (Syntax.tyInt Syntax.w8) (Syntax.tcons (Syntax.tyStruct (102 ∷ 105 ∷ 101 ∷ 108 ∷ 100 ∷ 115 ∷ 58 ∷ 58 ∷ 82 ∷ 101 ∷ 115
-                ∷ 105 ∷ 100 ∷ 117 ∷ 101 ∷ 78 ∷ 117 ∷ 109 ∷ 98 ∷ 101 ∷ 114 ∷ []) (Syntax.tcons (Syntax.tyInt Syntax.w32) Syntax.tnil)) (Syntax.tcons (Syntax.tyInt
-                Syntax.w8) Syntax.tnil))))) Syntax.tnil))) Syntax.tnil) (Syntax.ttcons (Syntax.tcons (Syntax.tyStruct (104 ∷ 101 ∷ 108 ∷ 105 ∷ 120 ∷ 58 ∷ 58 ∷ 72 ∷
-                101 ∷ 108 ∷ 105 ∷ 120 ∷ []) (Syntax.tcons (Syntax.tyStruct (104 ∷ 101 ∷ 108 ∷ 105 ∷ 120 ∷ 58 ∷ 58 ∷ 69 ∷ 120 ∷ 116 ∷ 101 ∷ 110 ∷ 116 ∷ [])
-                (Syntax.tcons (Syntax.tyInt Syntax.w32) (Syntax.tcons (Syntax.tyStruct (110 ∷ 97 ∷ 109 ∷ 101 ∷ 115 ∷ 58 ∷ 58 ∷ 84 ∷ 104 ∷ 114 ∷ 101 ∷ 101 ∷ [])
-                (Syntax.tcons (Syntax.tyInt Syntax.w8) (Syntax.tcons (Syntax.tyInt Syntax.w8) (Syntax.tcons (Syntax.tyInt Syntax.w8) Syntax.tnil)))) (Syntax.tcons
-                (Syntax.tyStruct (114 ∷ 101 ∷ 115 ∷ 105 ∷ 100 ∷ 117 ∷ 101 ∷ 58 ∷ 58 ∷ 82 ∷ 101 ∷ 115 ∷ 105 ∷ 100 ∷ 117 ∷ 101 ∷ []) (Syntax.tcons (Syntax.tyStruct
-                (110 ∷ 97 ∷ 109 ∷ 101 ∷ 115 ∷ 58 ∷ 58 ∷ 84 ∷ 104 ∷ 114 ∷ 101 ∷ 101 ∷ []) (Syntax.tcons (Syntax.tyInt Syntax.w8) (Syntax.tcons (Syntax.tyInt
-                Syntax.w8) (Syntax.tcons (Syntax.tyInt Syntax.w8) Syntax.tnil)))) (Syntax.tcons (Syntax.tyInt Syntax.w8) (Syntax.tcons (Syntax.tyStruct (102 ∷ 105
-                ∷ 101 ∷ 108 ∷ 100 ∷ 115 ∷ 58 ∷ 58 ∷ 82 ∷ 101 ∷ 115 ∷ 105 ∷ 100 ∷ 117 ∷ 101 ∷ 78 ∷ 117 ∷ 109 ∷ 98 ∷ 101 ∷ 114 ∷ []) (Syntax.tcons (Syntax.tyInt
-                Syntax.w32) Syntax.tnil)) (Syntax.tcons (Syntax.tyInt Syntax.w8) Syntax.tnil))))) (Syntax.tcons (Syntax.tyStruct (114 ∷ 101 ∷ 115 ∷ 105 ∷ 100 ∷ 117
-                ∷ 101 ∷ 58 ∷ 58 ∷ 82 ∷ 101 ∷ 115 ∷ 105 ∷ 100 ∷ 117 ∷ 101 ∷ []) (Syntax.tcons (Syntax.tyStruct (110 ∷ 97 ∷ 109 ∷ 101 ∷ 115 ∷ 58 ∷ 58 ∷ 84 ∷ 104 ∷
-                114 ∷ 101 ∷ 101 ∷ []) (Syntax.tcons (Syntax.tyInt Syntax.w8) (Syntax.tcons (Syntax.tyInt Syntax.w8) (Syntax.tcons (Syntax.tyInt Syntax.w8)
-                Syntax.tnil)))) (Syntax.tcons (Syntax.tyInt Syntax.w8) (Syntax.tcons (Syntax.tyStruct (102 ∷ 105 ∷ 101 ∷ 108 ∷ 100 ∷ 115 ∷ 58 ∷ 58 ∷ 82 ∷ 101 ∷ 115
-                ∷ 105 ∷ 100 ∷ 117 ∷ 101 ∷ 78 ∷ 117 ∷ 109 ∷ 98 ∷ 101 ∷ 114 ∷ []) (Syntax.tcons (Syntax.tyInt Syntax.w32) Syntax.tnil)) (Syntax.tcons (Syntax.tyInt
-                Syntax.w8) Syntax.tnil))))) Syntax.tnil))))) (Syntax.tcons (Syntax.tyInt Syntax.w32) (Syntax.tcons (Syntax.tyStruct (104 ∷ 101 ∷ 108 ∷ 105 ∷ 120 ∷
-                58 ∷ 58 ∷ 67 ∷ 111 ∷ 109 ∷ 109 ∷ 101 ∷ 110 ∷ 116 ∷ []) (Syntax.tcons (Syntax.tyInt Syntax.w64) (Syntax.tcons (Syntax.tyInt Syntax.w64)
-                (Syntax.tcons (Syntax.tyInt Syntax.w64) (Syntax.tcons (Syntax.tyInt Syntax.w64) Syntax.tnil))))) (Syntax.tcons (Syntax.tyInt Syntax.w32)
-                Syntax.tnil))))) Syntax.tnil) (Syntax.ttcons (Syntax.tcons (Syntax.tyStruct (115 ∷ 104 ∷ 101 ∷ 101 ∷ 116 ∷ 58 ∷ 58 ∷ 83 ∷ 104 ∷ 101 ∷ 101 ∷ 116 ∷
-                []) (Syntax.tcons (Syntax.tyStruct (115 ∷ 104 ∷ 101 ∷ 101 ∷ 116 ∷ 58 ∷ 58 ∷ 83 ∷ 116 ∷ 114 ∷ 97 ∷ 110 ∷ 100 ∷ []) (Syntax.tcons (Syntax.tyInt
-                Syntax.w32) (Syntax.tcons (Syntax.tyStruct (110 ∷ 97 ∷ 109 ∷ 101 ∷ 115 ∷ 58 ∷ 58 ∷ 84 ∷ 104 ∷ 114 ∷ 101 ∷ 101 ∷ []) (Syntax.tcons (Syntax.tyInt
-                Syntax.w8) (Syntax.tcons (Syntax.tyInt Syntax.w8) (Syntax.tcons (Syntax.tyInt Syntax.w8) Syntax.tnil)))) (Syntax.tcons (Syntax.tyInt Syntax.w32)
-                (Syntax.tcons (Syntax.tyStruct (114 ∷ 101 ∷ 115 ∷ 105 ∷ 100 ∷ 117 ∷ 101 ∷ 58 ∷ 58 ∷ 82 ∷ 101 ∷ 115 ∷ 105 ∷ 100 ∷ 117 ∷ 101 ∷ []) (Syntax.tcons
-                (Syntax.tyStruct (110 ∷ 97 ∷ 109 ∷ 101 ∷ 115 ∷ 58 ∷ 58 ∷ 84 ∷ 104 ∷ 114 ∷ 101 ∷ 101 ∷ []) (Syntax.tcons (Syntax.tyInt Syntax.w8) (Syntax.tcons
-                (Syntax.tyInt Syntax.w8) (Syntax.tcons (Syntax.tyInt Syntax.w8) Syntax.tnil)))) (Syntax.tcons (Syntax.tyInt Syntax.w8) (Syntax.tcons
-                (Syntax.tyStruct (102 ∷ 105 ∷ 101 ∷ 108 ∷ 100 ∷ 115 ∷ 58 ∷ 58 ∷ 82 ∷ 101 ∷ 115 ∷ 105 ∷ 100 ∷ 117 ∷ 101 ∷ 78 ∷ 117 ∷ 109 ∷ 98 ∷ 101 ∷ 114 ∷ [])
-                (Syntax.tcons (Syntax.tyInt Syntax.w32) Syntax.tnil)) (Syntax.tcons (Syntax.tyInt Syntax.w8) Syntax.tnil))))) (Syntax.tcons (Syntax.tyStruct (114 ∷
-                101 ∷ 115 ∷ 105 ∷ 100 ∷ 117 ∷ 101 ∷ 58 ∷ 58 ∷ 82 ∷ 101 ∷ 115 ∷ 105 ∷ 100 ∷ 117 ∷ 101 ∷ []) (Syntax.tcons (Syntax.tyStruct (110 ∷ 97 ∷ 109 ∷ 101 ∷
-                115 ∷ 58 ∷ 58 ∷ 84 ∷ 104 ∷ 114 ∷ 101 ∷ 101 ∷ []) (Syntax.tcons (Syntax.tyInt Syntax.w8) (Syntax.tcons (Syntax.tyInt Syntax.w8) (Syntax.tcons
-                (Syntax.tyInt Syntax.w8) Syntax.tnil)))) (Syntax.tcons (Syntax.tyInt Syntax.w8) (Syntax.tcons (Syntax.tyStruct (102 ∷ 105 ∷ 101 ∷ 108 ∷ 100 ∷ 115 ∷
-                58 ∷ 58 ∷ 82 ∷ 101 ∷ 115 ∷ 105 ∷ 100 ∷ 117 ∷ 101 ∷ 78 ∷ 117 ∷ 109 ∷ 98 ∷ 101 ∷ 114 ∷ []) (Syntax.tcons (Syntax.tyInt Syntax.w32) Syntax.tnil))
-                (Syntax.tcons (Syntax.tyInt Syntax.w8) Syntax.tnil))))) (Syntax.tcons (Syntax.tyInt Syntax.w32) Syntax.tnil))))))) (Syntax.tcons (Syntax.tyEnum
-                (115 ∷ 104 ∷ 101 ∷ 101 ∷ 116 ∷ 58 ∷ 58 ∷ 82 ∷ 101 ∷ 103 ∷ 105 ∷ 115 ∷ 116 ∷ 114 ∷ 97 ∷ 116 ∷ 105 ∷ 111 ∷ 110 ∷ []) (Syntax.ttcons Syntax.tnil
-                (Syntax.ttcons (Syntax.tcons (Syntax.tyStruct (115 ∷ 104 ∷ 101 ∷ 101 ∷ 116 ∷ 58 ∷ 58 ∷ 66 ∷ 111 ∷ 110 ∷ 100 ∷ []) (Syntax.tcons (Syntax.tyStruct
-                (110 ∷ 97 ∷ 109 ∷ 101 ∷ 115 ∷ 58 ∷ 58 ∷ 70 ∷ 111 ∷ 117 ∷ 114 ∷ []) (Syntax.tcons (Syntax.tyInt Syntax.w8) (Syntax.tcons (Syntax.tyInt Syntax.w8)
-                (Syntax.tcons (Syntax.tyInt Syntax.w8) (Syntax.tcons (Syntax.tyInt Syntax.w8) Syntax.tnil))))) (Syntax.tcons (Syntax.tyStruct (114 ∷ 101 ∷ 115 ∷
-                105 ∷ 100 ∷ 117 ∷ 101 ∷ 58 ∷ 58 ∷ 82 ∷ 101 ∷ 115 ∷ 105 ∷ 100 ∷ 117 ∷ 101 ∷ []) (Syntax.tcons (Syntax.tyStruct (110 ∷ 97 ∷ 109 ∷ 101 ∷ 115 ∷ 58 ∷ 58
-                ∷ 84 ∷ 104 ∷ 114 ∷ 101 ∷ 101 ∷ []) (Syntax.tcons (Syntax.tyInt Syntax.w8) (Syntax.tcons (Syntax.tyInt Syntax.w8) (Syntax.tcons (Syntax.tyInt
-                Syntax.w8) Syntax.tnil)))) (Syntax.tcons (Syntax.tyInt Syntax.w8) (Syntax.tcons (Syntax.tyStruct (102 ∷ 105 ∷ 101 ∷ 108 ∷ 100 ∷ 115 ∷ 58 ∷ 58 ∷ 82
-                ∷ 101 ∷ 115 ∷ 105 ∷ 100 ∷ 117 ∷ 101 ∷ 78 ∷ 117 ∷ 109 ∷ 98 ∷ 101 ∷ 114 ∷ []) (Syntax.tcons (Syntax.tyInt Syntax.w32) Syntax.tnil)) (Syntax.tcons
-                (Syntax.tyInt Syntax.w8) Syntax.tnil))))) (Syntax.tcons (Syntax.tyStruct (110 ∷ 97 ∷ 109 ∷ 101 ∷ 115 ∷ 58 ∷ 58 ∷ 70 ∷ 111 ∷ 117 ∷ 114 ∷ [])
-                (Syntax.tcons (Syntax.tyInt Syntax.w8) (Syntax.tcons (Syntax.tyInt Syntax.w8) (Syntax.tcons (Syntax.tyInt Syntax.w8) (Syntax.tcons (Syntax.tyInt
-                Syntax.w8) Syntax.tnil))))) (Syntax.tcons (Syntax.tyStruct (114 ∷ 101 ∷ 115 ∷ 105 ∷ 100 ∷ 117 ∷ 101 ∷ 58 ∷ 58 ∷ 82 ∷ 101 ∷ 115 ∷ 105 ∷ 100 ∷ 117 ∷
-                101 ∷ []) (Syntax.tcons (Syntax.tyStruct (110 ∷ 97 ∷ 109 ∷ 101 ∷ 115 ∷ 58 ∷ 58 ∷ 84 ∷ 104 ∷ 114 ∷ 101 ∷ 101 ∷ []) (Syntax.tcons (Syntax.tyInt
-                Syntax.w8) (Syntax.tcons (Syntax.tyInt Syntax.w8) (Syntax.tcons (Syntax.tyInt Syntax.w8) Syntax.tnil)))) (Syntax.tcons (Syntax.tyInt Syntax.w8)
-                (Syntax.tcons (Syntax.tyStruct (102 ∷ 105 ∷ 101 ∷ 108 ∷ 100 ∷ 115 ∷ 58 ∷ 58 ∷ 82 ∷ 101 ∷ 115 ∷ 105 ∷ 100 ∷ 117 ∷ 101 ∷ 78 ∷ 117 ∷ 109 ∷ 98 ∷ 101 ∷
-                114 ∷ []) (Syntax.tcons (Syntax.tyInt Syntax.w32) Syntax.tnil)) (Syntax.tcons (Syntax.tyInt Syntax.w8) Syntax.tnil))))) Syntax.tnil)))))
-                Syntax.tnil) Syntax.ttnil))) Syntax.tnil))) Syntax.tnil) (Syntax.ttcons (Syntax.tcons (Syntax.tyStruct (99 ∷ 111 ∷ 110 ∷ 101 ∷ 99 ∷ 116 ∷ 58 ∷ 58 ∷
-                67 ∷ 111 ∷ 110 ∷ 101 ∷ 99 ∷ 116 ∷ []) (Syntax.tcons (Syntax.tyStruct (102 ∷ 105 ∷ 101 ∷ 108 ∷ 100 ∷ 115 ∷ 58 ∷ 58 ∷ 83 ∷ 101 ∷ 114 ∷ 105 ∷ 97 ∷ 108
-                ∷ []) (Syntax.tcons (Syntax.tyInt Syntax.w32) Syntax.tnil)) (Syntax.tcons (Syntax.tyStruct (102 ∷ 105 ∷ 101 ∷ 108 ∷ 100 ∷ 115 ∷ 58 ∷ 58 ∷ 83 ∷ 101
-                ∷ 114 ∷ 105 ∷ 97 ∷ 108 ∷ []) (Syntax.tcons (Syntax.tyInt Syntax.w32) Syntax.tnil)) (Syntax.tcons (Syntax.tyStruct (102 ∷ 105 ∷ 101 ∷ 108 ∷ 100 ∷
-                115 ∷ 58 ∷ 58 ∷ 83 ∷ 101 ∷ 114 ∷ 105 ∷ 97 ∷ 108 ∷ []) (Syntax.tcons (Syntax.tyInt Syntax.w32) Syntax.tnil)) (Syntax.tcons (Syntax.tyStruct (102 ∷
-                105 ∷ 101 ∷ 108 ∷ 100 ∷ 115 ∷ 58 ∷ 58 ∷ 83 ∷ 101 ∷ 114 ∷ 105 ∷ 97 ∷ 108 ∷ []) (Syntax.tcons (Syntax.tyInt Syntax.w32) Syntax.tnil)) (Syntax.tcons
-                (Syntax.tyStruct (102 ∷ 105 ∷ 101 ∷ 108 ∷ 100 ∷ 115 ∷ 58 ∷ 58 ∷ 83 ∷ 101 ∷ 114 ∷ 105 ∷ 97 ∷ 108 ∷ []) (Syntax.tcons (Syntax.tyInt Syntax.w32)
-                Syntax.tnil)) Syntax.tnil)))))) Syntax.tnil) (Syntax.ttcons (Syntax.tcons (Syntax.tyStruct (109 ∷ 97 ∷ 115 ∷ 116 ∷ 101 ∷ 114 ∷ 58 ∷ 58 ∷ 84 ∷ 97 ∷
-                108 ∷ 108 ∷ 121 ∷ []) (Syntax.tcons (Syntax.tyInt Syntax.w32) (Syntax.tcons (Syntax.tyInt Syntax.w32) (Syntax.tcons (Syntax.tyInt Syntax.w32)
-                (Syntax.tcons (Syntax.tyInt Syntax.w32) (Syntax.tcons (Syntax.tyInt Syntax.w32) (Syntax.tcons (Syntax.tyInt Syntax.w32) (Syntax.tcons (Syntax.tyInt
-                Syntax.w32) (Syntax.tcons (Syntax.tyInt Syntax.w32) (Syntax.tcons (Syntax.tyInt Syntax.w32) Syntax.tnil)))))))))) Syntax.tnil) (Syntax.ttcons
-                Syntax.tnil Syntax.ttnil)))))))) Syntax.tnil) Syntax.ttnil))))),
-          ) ∷ (8, Rows.any-gone Syntax.tyBool) ∷ (9, Rows.any-gone (Syntax.tyInt Syntax.w64))
-              ∷ (10, Rows.any-gone (Syntax.tyInt Syntax.w64)) ∷ (11, Rows.any-gone (Syntax.tyInt Syntax.w64)) ∷ (12, Rows.any-gone Syntax.tyBool) ∷ (
-                13,
+            Rows.sc-here (Row.sInt
+                Syntax.w32),
+          ) ∷ (8, Rows.whole (Declared.row Line.the-type)) ∷ (9, Rows.any-gone Syntax.tyBool) ∷ (10, Rows.any-gone (Syntax.tyInt Syntax.w64)) ∷
+              (11, Rows.any-gone (Syntax.tyInt Syntax.w64)) ∷ (12, Rows.any-gone (Syntax.tyInt Syntax.w64)) ∷ (13, Rows.any-gone Syntax.tyBool) ∷ (
+                14,
                 Rows.any-gone (Syntax.tyRef Syntax.erased Syntax.mut SlotAs.pointee),
               ) ∷ (
-                14,
+                15,
                 Mut.msleft SlotAs.row (Syntax.tyRef Syntax.erased Syntax.mut
                     SlotAs.pointee),
               ) ∷ []
@@ -4311,7 +4528,7 @@ module _ (claims· : Claims) where
           G24 = record { locals = t13; slots = Row.lease (κs .0) (qs .0) ∷ Row.lease (κs .1 .0) (qs .1 .0) ∷ Row.off ∷ [] }
 
           abbrev G25 : Row.Cx
-          G25 = record { locals = t13; slots = Row.lease (κs .0) (qs .0) ∷ Row.lease (κs .1 .0) (qs .1 .0) ∷ Row.off ∷ [] }
+          G25 = record { locals = t14; slots = Row.lease (κs .0) (qs .0) ∷ Row.lease (κs .1 .0) (qs .1 .0) ∷ Row.off ∷ [] }
 
           abbrev G26 : Row.Cx
           G26 = record { locals = t14; slots = Row.lease (κs .0) (qs .0) ∷ Row.lease (κs .1 .0) (qs .1 .0) ∷ Row.off ∷ [] }
@@ -4323,28 +4540,28 @@ module _ (claims· : Claims) where
           G28 = record { locals = t16; slots = Row.lease (κs .0) (qs .0) ∷ Row.lease (κs .1 .0) (qs .1 .0) ∷ Row.off ∷ [] }
 
           abbrev G29 : Row.Cx
-          G29 = record { locals = t13; slots = Row.lease (κs .0) (qs .0) ∷ Row.lease (κs .1 .0) (qs .1 .0) ∷ Row.off ∷ [] }
+          G29 = record { locals = t17; slots = Row.lease (κs .0) (qs .0) ∷ Row.lease (κs .1 .0) (qs .1 .0) ∷ Row.off ∷ [] }
 
           abbrev G30 : Row.Cx
-          G30 = record { locals = t17; slots = Row.lease (κs .0) (qs .0) ∷ Row.lease (κs .1 .0) (qs .1 .0) ∷ Row.off ∷ [] }
+          G30 = record { locals = t14; slots = Row.lease (κs .0) (qs .0) ∷ Row.lease (κs .1 .0) (qs .1 .0) ∷ Row.off ∷ [] }
 
           abbrev G31 : Row.Cx
           G31 = record { locals = t18; slots = Row.lease (κs .0) (qs .0) ∷ Row.lease (κs .1 .0) (qs .1 .0) ∷ Row.off ∷ [] }
 
           abbrev G32 : Row.Cx
-          G32 = record { locals = t13; slots = Row.lease (κs .0) (qs .0) ∷ Row.lease (κs .1 .0) (qs .1 .0) ∷ Row.off ∷ [] }
+          G32 = record { locals = t19; slots = Row.lease (κs .0) (qs .0) ∷ Row.lease (κs .1 .0) (qs .1 .0) ∷ Row.off ∷ [] }
 
           abbrev G33 : Row.Cx
-          G33 = record { locals = t13; slots = Row.lease (κs .0) (qs .0) ∷ Row.lease (κs .1 .0) (qs .1 .0) ∷ Row.off ∷ [] }
+          G33 = record { locals = t14; slots = Row.lease (κs .0) (qs .0) ∷ Row.lease (κs .1 .0) (qs .1 .0) ∷ Row.off ∷ [] }
 
           abbrev G34 : Row.Cx
-          G34 = record { locals = t19; slots = Row.lease (κs .0) (qs .0) ∷ Row.lease (κs .1 .0) (qs .1 .0) ∷ Row.off ∷ [] }
+          G34 = record { locals = t14; slots = Row.lease (κs .0) (qs .0) ∷ Row.lease (κs .1 .0) (qs .1 .0) ∷ Row.off ∷ [] }
 
           abbrev G35 : Row.Cx
-          G35 = record { locals = t19; slots = Row.lease (κs .0) (qs .0) ∷ Row.lease (κs .1 .0) (qs .1 .0) ∷ Row.alive ∷ [] }
+          G35 = record { locals = t20; slots = Row.lease (κs .0) (qs .0) ∷ Row.lease (κs .1 .0) (qs .1 .0) ∷ Row.off ∷ [] }
 
           abbrev G36 : Row.Cx
-          G36 = record { locals = g20; slots = Row.lease (κs .0) (qs .0) ∷ Row.off ∷ Row.alive ∷ [] }
+          G36 = record { locals = t20; slots = Row.lease (κs .0) (qs .0) ∷ Row.lease (κs .1 .0) (qs .1 .0) ∷ Row.alive ∷ [] }
 
           abbrev G37 : Row.Cx
           G37 = record { locals = g21; slots = Row.lease (κs .0) (qs .0) ∷ Row.off ∷ Row.alive ∷ [] }
@@ -4359,28 +4576,37 @@ module _ (claims· : Claims) where
           G40 = record { locals = g23; slots = Row.lease (κs .0) (qs .0) ∷ Row.off ∷ Row.dead ∷ [] }
 
           abbrev G41 : Row.Cx
-          G41 = record { locals = t13; slots = Row.lease (κs .0) (qs .0) ∷ Row.lease (κs .1 .0) (qs .1 .0) ∷ Row.dead ∷ [] }
+          G41 = record { locals = t20; slots = Row.lease (κs .0) (qs .0) ∷ Row.lease (κs .1 .0) (qs .1 .0) ∷ Row.dead ∷ [] }
 
           abbrev G42 : Row.Cx
-          G42 = record { locals = t13; slots = Row.lease (κs .0) (qs .0) ∷ Row.lease (κs .1 .0) (qs .1 .0) ∷ Row.off ∷ [] }
+          G42 = record { locals = t20; slots = Row.lease (κs .0) (qs .0) ∷ Row.lease (κs .1 .0) (qs .1 .0) ∷ Row.off ∷ [] }
 
           abbrev G43 : Row.Cx
-          G43 = record { locals = t13; slots = Row.lease (κs .0) (qs .0) ∷ Row.lease (κs .1 .0) (qs .1 .0) ∷ Row.off ∷ [] }
+          G43 = record { locals = t20; slots = Row.lease (κs .0) (qs .0) ∷ Row.lease (κs .1 .0) (qs .1 .0) ∷ Row.off ∷ [] }
 
           abbrev G44 : Row.Cx
-          G44 = record { locals = t24; slots = Row.lease (κs .0) (qs .0) ∷ Row.lease (κs .1 .0) (qs .1 .0) ∷ Row.off ∷ [] }
+          G44 = record { locals = t14; slots = Row.lease (κs .0) (qs .0) ∷ Row.lease (κs .1 .0) (qs .1 .0) ∷ Row.off ∷ [] }
 
           abbrev G45 : Row.Cx
-          G45 = record { locals = t25; slots = Row.lease (κs .0) (qs .0) ∷ Row.lease (κs .1 .0) (qs .1 .0) ∷ Row.off ∷ [] }
+          G45 = record { locals = t14; slots = Row.lease (κs .0) (qs .0) ∷ Row.lease (κs .1 .0) (qs .1 .0) ∷ Row.off ∷ [] }
 
           abbrev G46 : Row.Cx
-          G46 = record { locals = t26; slots = Row.lease (κs .0) (qs .0) ∷ Row.lease (κs .1 .0) (qs .1 .0) ∷ Row.off ∷ [] }
+          G46 = record { locals = t24; slots = Row.lease (κs .0) (qs .0) ∷ Row.lease (κs .1 .0) (qs .1 .0) ∷ Row.off ∷ [] }
 
           abbrev G47 : Row.Cx
-          G47 = record { locals = t5; slots = Row.lease (κs .0) (qs .0) ∷ Row.lease (κs .1 .0) (qs .1 .0) ∷ Row.off ∷ [] }
+          G47 = record { locals = t25; slots = Row.lease (κs .0) (qs .0) ∷ Row.lease (κs .1 .0) (qs .1 .0) ∷ Row.off ∷ [] }
 
           abbrev G48 : Row.Cx
-          G48 = record { locals = t1; slots = Row.lease (κs .0) (qs .0) ∷ Row.lease (κs .1 .0) (qs .1 .0) ∷ Row.off ∷ [] }
+          G48 = record { locals = t26; slots = Row.lease (κs .0) (qs .0) ∷ Row.lease (κs .1 .0) (qs .1 .0) ∷ Row.off ∷ [] }
+
+          abbrev G49 : Row.Cx
+          G49 = record { locals = t27; slots = Row.lease (κs .0) (qs .0) ∷ Row.lease (κs .1 .0) (qs .1 .0) ∷ Row.off ∷ [] }
+
+          abbrev G50 : Row.Cx
+          G50 = record { locals = t5; slots = Row.lease (κs .0) (qs .0) ∷ Row.lease (κs .1 .0) (qs .1 .0) ∷ Row.off ∷ [] }
+
+          abbrev G51 : Row.Cx
+          G51 = record { locals = t1; slots = Row.lease (κs .0) (qs .0) ∷ Row.lease (κs .1 .0) (qs .1 .0) ∷ Row.off ∷ [] }
 
           abbrev Δ0 : Typed.Outs
           Δ0 = record { next = Option.none; exits = []; returns = Option.some G1 }
@@ -4392,16 +4618,16 @@ module _ (claims· : Claims) where
           Δ2 = Typed.withNext (Option.some G16) Δ0
 
           abbrev Δ3 : Typed.Outs
-          Δ3 = Typed.withNext (Option.some G25) Δ0
+          Δ3 = Typed.withNext (Option.some G26) Δ0
 
           abbrev Δ4 : Typed.Outs
           Δ4 = Typed.inBlock₀ Δ3
 
           abbrev Δ5 : Typed.Outs
-          Δ5 = Typed.inLoop₀ G24 Δ4
+          Δ5 = Typed.inLoop₀ G25 Δ4
 
           abbrev Δ6 : Typed.Outs
-          Δ6 = Typed.withNext (Option.some G29) Δ5
+          Δ6 = Typed.withNext (Option.some G30) Δ5
 
           module _ {M : Type 1} (𝓤 : URA.URA M) (H : Wp.Heap 𝓤) (A : Atoms.Atoms 𝓤) (W : Kit.Given 𝓤 H A) (𝓣 : Wp.Tables 𝓤 H) (known : Knowns 𝓤 H A W 𝓣) (bs :
               List.List Nat.ℕ) (bd : Lifetimes.AllOutlive 2 (Kinds.osR r) κs) where
@@ -4440,17 +4666,17 @@ module _ (claims· : Claims) where
                 )) d2
 
             d4 : Typed.Typed 𝓤 H A 𝓣 E G5 b4 Δ1 at4
-            d4 = Typed.g-pre 𝓤 H A W 𝓣 E G5 G7 b4 Δ1 (Typed.pass T5 T7 s4) at3 (Scalar.g-room 𝓤 H A W E G5 8 Syntax.tyBool (Scalar.room-sc 𝓤 H A W Row.sBool)) d3
+            d4 = Typed.g-pre 𝓤 H A W 𝓣 E G5 G7 b4 Δ1 (Typed.pass T5 T7 s4) at3 (Scalar.g-room 𝓤 H A W E G5 9 Syntax.tyBool (Scalar.room-sc 𝓤 H A W Row.sBool)) d3
 
             d5 : Typed.Typed 𝓤 H A 𝓣 E G11 b5 Δ1 at5
             d5 = Typed.t-skip 𝓤 H A W 𝓣 E Δ1 tt
 
             d6 : Typed.Typed 𝓤 H A 𝓣 E G5 b5 Δ1 at6
-            d6 = Typed.g-pre 𝓤 H A W 𝓣 E G5 G11 b5 Δ1 (Typed.pass T5 T11 s8) at5 (Scalar.g-room 𝓤 H A W E G5 8 Syntax.tyBool (Scalar.room-sc 𝓤 H A W Row.sBool))
+            d6 = Typed.g-pre 𝓤 H A W 𝓣 E G5 G11 b5 Δ1 (Typed.pass T5 T11 s8) at5 (Scalar.g-room 𝓤 H A W E G5 9 Syntax.tyBool (Scalar.room-sc 𝓤 H A W Row.sBool))
                 d5
 
             d7 : Typed.Typed 𝓤 H A 𝓣 E G5 b6 Δ1 at7
-            d7 = Scalar.t-cond 𝓤 H A W E 𝓣 G5 8 (λ x. x) b4 b5 Δ1 at4 at6 (Scalar.reads-sc 𝓤 H A W Row.sBool) Path'.refl d4 d6
+            d7 = Scalar.t-cond 𝓤 H A W E 𝓣 G5 9 (λ x. x) b4 b5 Δ1 at4 at6 (Scalar.reads-sc 𝓤 H A W Row.sBool) Path'.refl d4 d6
 
             d8 : Typed.Typed 𝓤 H A 𝓣 E G21 b11 Δ2 at8
             d8 = Typed.t-return 𝓤 H A W 𝓣 E Δ2 tt
@@ -4472,68 +4698,56 @@ module _ (claims· : Claims) where
                 Outcome.the-type) Laws''.the-laws (Make.u8-wt, (Make.u64-wt, tt)) (13, (0, tt))) d10
 
             d12 : Typed.Typed 𝓤 H A 𝓣 E G17 b12 Δ2 at12
-            d12 = Typed.g-pre 𝓤 H A W 𝓣 E G17 G18 b12 Δ2 (Typed.pass T17 T18 s14) at11 (Scalar.g-room 𝓤 H A W E G17 8 Syntax.tyBool (Scalar.room-sc 𝓤 H A W
+            d12 = Typed.g-pre 𝓤 H A W 𝓣 E G17 G18 b12 Δ2 (Typed.pass T17 T18 s14) at11 (Scalar.g-room 𝓤 H A W E G17 9 Syntax.tyBool (Scalar.room-sc 𝓤 H A W
                 Row.sBool)) d11
 
             d13 : Typed.Typed 𝓤 H A 𝓣 E G22 b13 Δ2 at13
             d13 = Typed.t-skip 𝓤 H A W 𝓣 E Δ2 tt
 
             d14 : Typed.Typed 𝓤 H A 𝓣 E G17 b13 Δ2 at14
-            d14 = Typed.g-pre 𝓤 H A W 𝓣 E G17 G22 b13 Δ2 (Typed.pass T17 T22 s18) at13 (Scalar.g-room 𝓤 H A W E G17 8 Syntax.tyBool (Scalar.room-sc 𝓤 H A W
+            d14 = Typed.g-pre 𝓤 H A W 𝓣 E G17 G22 b13 Δ2 (Typed.pass T17 T22 s18) at13 (Scalar.g-room 𝓤 H A W E G17 9 Syntax.tyBool (Scalar.room-sc 𝓤 H A W
                 Row.sBool)) d13
 
             d15 : Typed.Typed 𝓤 H A 𝓣 E G17 b14 Δ2 at15
-            d15 = Scalar.t-cond 𝓤 H A W E 𝓣 G17 8 (λ x. x) b12 b13 Δ2 at12 at14 (Scalar.reads-sc 𝓤 H A W Row.sBool) Path'.refl d12 d14
+            d15 = Scalar.t-cond 𝓤 H A W E 𝓣 G17 9 (λ x. x) b12 b13 Δ2 at12 at14 (Scalar.reads-sc 𝓤 H A W Row.sBool) Path'.refl d12 d14
 
             d16 : Typed.Typed 𝓤 H A 𝓣 E G15 b14 Δ2 at16
-            d16 = Typed.g-pre 𝓤 H A W 𝓣 E G15 G17 b14 Δ2 (Typed.pass T15 T17 s13) at15 (Scalar.g-room 𝓤 H A W E G15 9 (Syntax.tyInt Syntax.w64) (Scalar.room-sc 𝓤
-                H A W (Row.sInt Syntax.w64))) d15
+            d16 = Typed.g-pre 𝓤 H A W 𝓣 E G15 G17 b14 Δ2 (Typed.pass T15 T17 s13) at15 (Scalar.g-room 𝓤 H A W E G15 10 (Syntax.tyInt Syntax.w64) (Scalar.room-sc
+                𝓤 H A W (Row.sInt Syntax.w64))) d15
 
-            d17 : Typed.Typed 𝓤 H A 𝓣 E G32 b20 Δ6 at17
+            d17 : Typed.Typed 𝓤 H A 𝓣 E G33 b21 Δ6 at17
             d17 = Typed.t-skip 𝓤 H A W 𝓣 E Δ6 tt
 
-            d18 : Typed.Typed 𝓤 H A 𝓣 E G31 b20 Δ6 at18
-            d18 = Typed.g-pre 𝓤 H A W 𝓣 E G31 G32 b20 Δ6 (Typed.pass T31 T32 s26) at17 (Scalar.g-room 𝓤 H A W E G31 12 Syntax.tyBool (Scalar.room-sc 𝓤 H A W
+            d18 : Typed.Typed 𝓤 H A 𝓣 E G32 b21 Δ6 at18
+            d18 = Typed.g-pre 𝓤 H A W 𝓣 E G32 G33 b21 Δ6 (Typed.pass T32 T33 s27) at17 (Scalar.g-room 𝓤 H A W E G32 13 Syntax.tyBool (Scalar.room-sc 𝓤 H A W
                 Row.sBool)) d17
 
-            d19 : Typed.Typed 𝓤 H A 𝓣 E G33 b21 Δ6 at19
+            d19 : Typed.Typed 𝓤 H A 𝓣 E G34 b22 Δ6 at19
             d19 = Typed.t-exit 𝓤 H A W 𝓣 E 1 Δ6 tt
 
-            d20 : Typed.Typed 𝓤 H A 𝓣 E G31 b21 Δ6 at20
-            d20 = Typed.g-pre 𝓤 H A W 𝓣 E G31 G33 b21 Δ6 (Typed.pass T31 T33 s27) at19 (Scalar.g-room 𝓤 H A W E G31 12 Syntax.tyBool (Scalar.room-sc 𝓤 H A W
+            d20 : Typed.Typed 𝓤 H A 𝓣 E G32 b22 Δ6 at20
+            d20 = Typed.g-pre 𝓤 H A W 𝓣 E G32 G34 b22 Δ6 (Typed.pass T32 T34 s28) at19 (Scalar.g-room 𝓤 H A W E G32 13 Syntax.tyBool (Scalar.room-sc 𝓤 H A W
                 Row.sBool)) d19
 
-            d21 : Typed.Typed 𝓤 H A 𝓣 E G31 b22 Δ6 at21
-            d21 = Scalar.t-cond 𝓤 H A W E 𝓣 G31 12 (λ x. x) b20 b21 Δ6 at18 at20 (Scalar.reads-sc 𝓤 H A W Row.sBool) Path'.refl d18 d20
+            d21 : Typed.Typed 𝓤 H A 𝓣 E G32 b23 Δ6 at21
+            d21 = Scalar.t-cond 𝓤 H A W E 𝓣 G32 13 (λ x. x) b21 b22 Δ6 at18 at20 (Scalar.reads-sc 𝓤 H A W Row.sBool) Path'.refl d18 d20
 
-            d22 : Typed.Typed 𝓤 H A 𝓣 E G30 b22 Δ6 at22
-            d22 = Typed.g-pre 𝓤 H A W 𝓣 E G30 G31 b22 Δ6 (Typed.pass T30 T31 s25) at21 (Scalar.g-room 𝓤 H A W E G30 11 (Syntax.tyInt Syntax.w64) (Scalar.room-sc
+            d22 : Typed.Typed 𝓤 H A 𝓣 E G31 b23 Δ6 at22
+            d22 = Typed.g-pre 𝓤 H A W 𝓣 E G31 G32 b23 Δ6 (Typed.pass T31 T32 s26) at21 (Scalar.g-room 𝓤 H A W E G31 12 (Syntax.tyInt Syntax.w64) (Scalar.room-sc
                 𝓤 H A W (Row.sInt Syntax.w64))) d21
 
-            d23 : Typed.Typed 𝓤 H A 𝓣 E G28 b22 Δ6 at23
-            d23 = Typed.g-pre 𝓤 H A W 𝓣 E G28 G30 b22 Δ6 (Typed.pass T28 T30 s24) at22 (Scalar.g-room 𝓤 H A W E G28 10 (Syntax.tyInt Syntax.w64) (Scalar.room-sc
+            d23 : Typed.Typed 𝓤 H A 𝓣 E G29 b23 Δ6 at23
+            d23 = Typed.g-pre 𝓤 H A W 𝓣 E G29 G31 b23 Δ6 (Typed.pass T29 T31 s25) at22 (Scalar.g-room 𝓤 H A W E G29 11 (Syntax.tyInt Syntax.w64) (Scalar.room-sc
                 𝓤 H A W (Row.sInt Syntax.w64))) d22
 
-            d24 : Typed.Typed 𝓤 H A 𝓣 E G42 b27 Δ5 at24
-            d24 = Typed.s-typed 𝓤 H A W 𝓣 E G42 b27 Δ5 (Typed.ask s37) tt (Scalar.t-op2 𝓤 H A W E 𝓣 G42 (Syntax.add Syntax.unsigned) (Scalar.oAt 5 (Syntax.tyInt
+            d24 : Typed.Typed 𝓤 H A 𝓣 E G44 b29 Δ5 at24
+            d24 = Typed.s-typed 𝓤 H A W 𝓣 E G44 b29 Δ5 (Typed.ask s39) tt (Scalar.t-op2 𝓤 H A W E 𝓣 G44 (Syntax.add Syntax.unsigned) (Scalar.oAt 5 (Syntax.tyInt
                 Syntax.w64) (Row.valS (Row.sInt Syntax.w64))) (Scalar.oInt Syntax.w64 1) 5 (Rows.sc-here (Row.sInt Syntax.w64)) (Syntax.tyInt Syntax.w64)
                 (Row.valS (Row.sInt Syntax.w64)) (Row.sInt Syntax.w64 .of) (Scalar.reads-sc 𝓤 H A W (Row.sInt Syntax.w64), Path'.refl) tt (Scalar.room-sc 𝓤 H A W
                 (Row.sInt Syntax.w64)) (Scalar.holds-sc 𝓤 H A W (Row.sInt Syntax.w64)) Path'.refl (λ u. Path'.refl) λ u. tt)
 
-            d25 : Typed.Typed 𝓤 H A 𝓣 E G41 b27 Δ5 at25
-            d25 = Typed.g-pre 𝓤 H A W 𝓣 E G41 G42 b27 Δ5 (λ Ψ. Ψ) at24 (Lifetime.g-forget 𝓤 H A W E G41 2 Row.dead Path'.refl) d24
-
-            d26 : Typed.Typed 𝓤 H A 𝓣 E G40 b27 Δ5 at26
-            d26 = Typed.g-pre 𝓤 H A W 𝓣 E G40 G41 b27 Δ5 (Typed.both s35) at25 (Relend.g-back-sl 𝓤 H A W E SlotAs.row G40 14 2 1 2 (Syntax.tyRef (Syntax.named 1)
-                Syntax.mut SlotAs.pointee) (Syntax.tyRef Syntax.erased Syntax.mut SlotAs.pointee) (Row.lease (κs .1 .0) (qs .1 .0)) (λ x. x) (λ x. x)
-                (Reads'.as-is 𝓤 H A (Mut.msleft SlotAs.row (Syntax.tyRef Syntax.erased Syntax.mut SlotAs.pointee))) (Reads'.as-is 𝓤 H A (Relend.mslice-owed
-                SlotAs.row (Syntax.tyRef (Syntax.named 1) Syntax.mut SlotAs.pointee) 1 2 (Row.lease (κs .1 .0) (qs .1 .0)))) Path'.refl Path'.refl) d25
-
-            d27 : Typed.Typed 𝓤 H A 𝓣 E G39 b27 Δ5 at27
-            d27 = Typed.g-pre 𝓤 H A W 𝓣 E G39 G40 b27 Δ5 (λ Ψ. Ψ) at26 (Lifetime.g-end 𝓤 H A W E G39 2 Path'.refl) d26
-
-            d28 : Typed.Typed 𝓤 H A 𝓣 E G38 b27 Δ5 at28
-            d28 = Typed.g-pre 𝓤 H A W 𝓣 E G38 G39 b27 Δ5 (Typed.pass T38 T39 s33) at27 (Scalar.g-room 𝓤 H A W E G38 7 (Syntax.tyEnum (112 ∷ 105 ∷ 101 ∷ 99 ∷ 101
+            d25 : Typed.Typed 𝓤 H A 𝓣 E G43 b29 Δ5 at25
+            d25 = Typed.g-pre 𝓤 H A W 𝓣 E G43 G44 b29 Δ5 (Typed.pass T43 T44 s38) at24 (Scalar.g-room 𝓤 H A W E G43 8 (Syntax.tyEnum (112 ∷ 105 ∷ 101 ∷ 99 ∷ 101
                 ∷ 115 ∷ 58 ∷ 58 ∷ 76 ∷ 105 ∷ 110 ∷ 101 ∷ []) (Syntax.ttcons (Syntax.tcons (Syntax.tyInt Syntax.w8) Syntax.tnil) (Syntax.ttcons (Syntax.tcons
                 (Syntax.tyEnum (107 ∷ 105 ∷ 110 ∷ 100 ∷ 115 ∷ 58 ∷ 58 ∷ 75 ∷ 105 ∷ 110 ∷ 100 ∷ []) (Syntax.ttcons Syntax.tnil (Syntax.ttcons Syntax.tnil
                 (Syntax.ttcons Syntax.tnil (Syntax.ttcons Syntax.tnil (Syntax.ttcons Syntax.tnil (Syntax.ttcons Syntax.tnil (Syntax.ttcons Syntax.tnil
@@ -4541,43 +4755,144 @@ module _ (claims· : Claims) where
                 (Syntax.ttcons Syntax.tnil (Syntax.ttcons Syntax.tnil (Syntax.ttcons Syntax.tnil (Syntax.ttcons Syntax.tnil (Syntax.ttcons Syntax.tnil
                 (Syntax.ttcons Syntax.tnil (Syntax.ttcons Syntax.tnil (Syntax.ttcons Syntax.tnil (Syntax.ttcons Syntax.tnil (Syntax.ttcons Syntax.tnil
                 (Syntax.ttcons Syntax.tnil (Syntax.ttcons Syntax.tnil (Syntax.ttcons Syntax.tnil (Syntax.ttcons Syntax.tnil (Syntax.ttcons Syntax.tnil
-                (Syntax.ttcons Syntax.tnil Syntax.ttnil))))))))))))))))))))))))))))) (Syntax.tcons (Syntax.tyInt Syntax.w32) Syntax.tnil)) (Syntax.ttcons
+                (Syntax.ttcons Syntax.tnil (Syntax.ttcons Syntax.tnil (Syntax.ttcons Syntax.tnil Syntax.ttnil))))))))))))))))))))))))))))))) (Syntax.tcons
+                (Syntax.tyInt Syntax.w32) Syntax.tnil)) (Syntax.ttcons (Syntax.tcons (Syntax.tyEnum (107 ∷ 105 ∷ 110 ∷ 100 ∷ 115 ∷ 58 ∷ 58 ∷ 75 ∷ 105 ∷ 110 ∷ 100
+                ∷ []) (Syntax.ttcons Syntax.tnil (Syntax.ttcons Syntax.tnil (Syntax.ttcons Syntax.tnil (Syntax.ttcons Syntax.tnil (Syntax.ttcons Syntax.tnil
+                (Syntax.ttcons Syntax.tnil (Syntax.ttcons Syntax.tnil (Syntax.ttcons Syntax.tnil (Syntax.ttcons Syntax.tnil (Syntax.ttcons Syntax.tnil
+                (Syntax.ttcons Syntax.tnil (Syntax.ttcons Syntax.tnil (Syntax.ttcons Syntax.tnil (Syntax.ttcons Syntax.tnil (Syntax.ttcons Syntax.tnil
+                (Syntax.ttcons Syntax.tnil (Syntax.ttcons Syntax.tnil (Syntax.ttcons Syntax.tnil (Syntax.ttcons Syntax.tnil (Syntax.ttcons Syntax.tnil
+                (Syntax.ttcons Syntax.tnil (Syntax.ttcons Syntax.tnil (Syntax.ttcons Syntax.tnil (Syntax.ttcons Syntax.tnil (Syntax.ttcons Syntax.tnil
+                (Syntax.ttcons Syntax.tnil (Syntax.ttcons Syntax.tnil (Syntax.ttcons Syntax.tnil (Syntax.ttcons Syntax.tnil (Syntax.ttcons Syntax.tnil
+                Syntax.ttnil))))))))))))))))))))))))))))))) Syntax.tnil) (Syntax.ttcons (Syntax.tcons (Syntax.tyEnum (108 ∷ 105 ∷ 110 ∷ 101 ∷ 58 ∷ 58 ∷ 82 ∷ 101
+                ∷ 99 ∷ 111 ∷ 114 ∷ 100 ∷ []) (Syntax.ttcons (Syntax.tcons Syntax.tyBool (Syntax.tcons (Syntax.tyStruct (99 ∷ 111 ∷ 111 ∷ 114 ∷ 100 ∷ 105 ∷ 110 ∷
+                97 ∷ 116 ∷ 101 ∷ 58 ∷ 58 ∷ 65 ∷ 116 ∷ 111 ∷ 109 ∷ []) (Syntax.tcons (Syntax.tyStruct (99 ∷ 111 ∷ 111 ∷ 114 ∷ 100 ∷ 105 ∷ 110 ∷ 97 ∷ 116 ∷ 101 ∷
+                58 ∷ 58 ∷ 73 ∷ 100 ∷ 101 ∷ 110 ∷ 116 ∷ 105 ∷ 116 ∷ 121 ∷ []) (Syntax.tcons (Syntax.tyStruct (102 ∷ 105 ∷ 101 ∷ 108 ∷ 100 ∷ 115 ∷ 58 ∷ 58 ∷ 83 ∷
+                101 ∷ 114 ∷ 105 ∷ 97 ∷ 108 ∷ []) (Syntax.tcons (Syntax.tyInt Syntax.w32) Syntax.tnil)) (Syntax.tcons (Syntax.tyStruct (110 ∷ 97 ∷ 109 ∷ 101 ∷ 115
+                ∷ 58 ∷ 58 ∷ 70 ∷ 111 ∷ 117 ∷ 114 ∷ []) (Syntax.tcons (Syntax.tyInt Syntax.w8) (Syntax.tcons (Syntax.tyInt Syntax.w8) (Syntax.tcons (Syntax.tyInt
+                Syntax.w8) (Syntax.tcons (Syntax.tyInt Syntax.w8) Syntax.tnil))))) (Syntax.tcons (Syntax.tyInt Syntax.w8) (Syntax.tcons (Syntax.tyStruct (114 ∷
+                101 ∷ 115 ∷ 105 ∷ 100 ∷ 117 ∷ 101 ∷ 58 ∷ 58 ∷ 82 ∷ 101 ∷ 115 ∷ 105 ∷ 100 ∷ 117 ∷ 101 ∷ []) (Syntax.tcons (Syntax.tyStruct (110 ∷ 97 ∷ 109 ∷ 101 ∷
+                115 ∷ 58 ∷ 58 ∷ 84 ∷ 104 ∷ 114 ∷ 101 ∷ 101 ∷ []) (Syntax.tcons (Syntax.tyInt Syntax.w8) (Syntax.tcons (Syntax.tyInt Syntax.w8) (Syntax.tcons
+                (Syntax.tyInt Syntax.w8) Syntax.tnil)))) (Syntax.tcons (Syntax.tyInt Syntax.w8) (Syntax.tcons (Syntax.tyStruct (102 ∷ 105 ∷ 101 ∷ 108 ∷ 100 ∷ 115
+                ∷ 58 ∷ 58 ∷ 82 ∷ 101 ∷ 115 ∷ 105 ∷ 100 ∷ 117 ∷ 101 ∷ 78 ∷ 117 ∷ 109 ∷ 98 ∷ 101 ∷ 114 ∷ []) (Syntax.tcons (Syntax.tyInt Syntax.w32) Syntax.tnil))
+                (Syntax.tcons (Syntax.tyInt Syntax.w8) Syntax.tnil))))) Syntax.tnil))))) (Syntax.tcons (Syntax.tyStruct (99 ∷ 111 ∷ 111 ∷ 114 ∷ 100 ∷ 105 ∷ 110 ∷
+                97 ∷ 116 ∷ 101 ∷ 58 ∷ 58 ∷ 77 ∷ 101 ∷ 97 ∷ 115 ∷ 117 ∷ 114 ∷ 101 ∷ []) (Syntax.tcons (Syntax.tyStruct (99 ∷ 111 ∷ 111 ∷ 114 ∷ 100 ∷ 105 ∷ 110 ∷
+                97 ∷ 116 ∷ 101 ∷ 58 ∷ 58 ∷ 80 ∷ 111 ∷ 115 ∷ 105 ∷ 116 ∷ 105 ∷ 111 ∷ 110 ∷ []) (Syntax.tcons (Syntax.tyInt Syntax.w32) (Syntax.tcons (Syntax.tyInt
+                Syntax.w32) (Syntax.tcons (Syntax.tyInt Syntax.w32) Syntax.tnil)))) (Syntax.tcons (Syntax.tyInt Syntax.w32) (Syntax.tcons (Syntax.tyInt
+                Syntax.w32) Syntax.tnil)))) (Syntax.tcons (Syntax.tyStruct (99 ∷ 111 ∷ 111 ∷ 114 ∷ 100 ∷ 105 ∷ 110 ∷ 97 ∷ 116 ∷ 101 ∷ 58 ∷ 58 ∷ 83 ∷ 112 ∷ 101 ∷
+                99 ∷ 105 ∷ 101 ∷ 115 ∷ []) (Syntax.tcons (Syntax.tyStruct (110 ∷ 97 ∷ 109 ∷ 101 ∷ 115 ∷ 58 ∷ 58 ∷ 80 ∷ 97 ∷ 105 ∷ 114 ∷ []) (Syntax.tcons
+                (Syntax.tyInt Syntax.w8) (Syntax.tcons (Syntax.tyInt Syntax.w8) Syntax.tnil))) (Syntax.tcons (Syntax.tyStruct (110 ∷ 97 ∷ 109 ∷ 101 ∷ 115 ∷ 58 ∷
+                58 ∷ 80 ∷ 97 ∷ 105 ∷ 114 ∷ []) (Syntax.tcons (Syntax.tyInt Syntax.w8) (Syntax.tcons (Syntax.tyInt Syntax.w8) Syntax.tnil))) Syntax.tnil)))
+                Syntax.tnil)))) Syntax.tnil)) (Syntax.ttcons (Syntax.tcons (Syntax.tyStruct (116 ∷ 101 ∷ 114 ∷ 58 ∷ 58 ∷ 84 ∷ 101 ∷ 114 ∷ []) (Syntax.tcons
+                (Syntax.tyStruct (102 ∷ 105 ∷ 101 ∷ 108 ∷ 100 ∷ 115 ∷ 58 ∷ 58 ∷ 83 ∷ 101 ∷ 114 ∷ 105 ∷ 97 ∷ 108 ∷ []) (Syntax.tcons (Syntax.tyInt Syntax.w32)
+                Syntax.tnil)) (Syntax.tcons (Syntax.tyStruct (114 ∷ 101 ∷ 115 ∷ 105 ∷ 100 ∷ 117 ∷ 101 ∷ 58 ∷ 58 ∷ 82 ∷ 101 ∷ 115 ∷ 105 ∷ 100 ∷ 117 ∷ 101 ∷ [])
+                (Syntax.tcons (Syntax.tyStruct (110 ∷ 97 ∷ 109 ∷ 101 ∷ 115 ∷ 58 ∷ 58 ∷ 84 ∷ 104 ∷ 114 ∷ 101 ∷ 101 ∷ []) (Syntax.tcons (Syntax.tyInt Syntax.w8)
+                (Syntax.tcons (Syntax.tyInt Syntax.w8) (Syntax.tcons (Syntax.tyInt Syntax.w8) Syntax.tnil)))) (Syntax.tcons (Syntax.tyInt Syntax.w8)
+                (Syntax.tcons (Syntax.tyStruct (102 ∷ 105 ∷ 101 ∷ 108 ∷ 100 ∷ 115 ∷ 58 ∷ 58 ∷ 82 ∷ 101 ∷ 115 ∷ 105 ∷ 100 ∷ 117 ∷ 101 ∷ 78 ∷ 117 ∷ 109 ∷ 98 ∷ 101
+                ∷ 114 ∷ []) (Syntax.tcons (Syntax.tyInt Syntax.w32) Syntax.tnil)) (Syntax.tcons (Syntax.tyInt Syntax.w8) Syntax.tnil))))) Syntax.tnil)))
+                Syntax.tnil) (Syntax.ttcons (Syntax.tcons (Syntax.tyStruct (104 ∷ 101 ∷ 108 ∷ 105 ∷ 120 ∷ 58 ∷ 58 ∷ 72 ∷ 101 ∷ 108 ∷ 105 ∷ 120 ∷ [])
+                (Syntax.tcons (Syntax.tyStruct (104 ∷ 101 ∷ 108 ∷ 105 ∷ 120 ∷ 58 ∷ 58 ∷ 69 ∷ 120 ∷ 116 ∷ 101 ∷ 110 ∷ 116 ∷ []) (Syntax.tcons (Syntax.tyInt
+                Syntax.w32) (Syntax.tcons (Syntax.tyStruct (110 ∷ 97 ∷ 109 ∷ 101 ∷ 115 ∷ 58 ∷ 58 ∷ 84 ∷ 104 ∷ 114 ∷ 101 ∷ 101 ∷ []) (Syntax.tcons (Syntax.tyInt
+                Syntax.w8) (Syntax.tcons (Syntax.tyInt Syntax.w8) (Syntax.tcons (Syntax.tyInt Syntax.w8) Syntax.tnil)))) (Syntax.tcons (Syntax.tyStruct (114 ∷
+                101 ∷ 115 ∷ 105 ∷ 100 ∷ 117 ∷ 101 ∷ 58 ∷ 58 ∷ 82 ∷ 101 ∷ 115 ∷ 105 ∷ 100 ∷ 117 ∷ 101 ∷ []) (Syntax.tcons (Syntax.tyStruct (110 ∷ 97 ∷ 109 ∷ 101 ∷
+                115 ∷ 58 ∷ 58 ∷ 84 ∷ 104 ∷ 114 ∷ 101 ∷ 101 ∷ []) (Syntax.tcons (Syntax.tyInt Syntax.w8) (Syntax.tcons (Syntax.tyInt Syntax.w8) (Syntax.tcons
+                (Syntax.tyInt Syntax.w8) Syntax.tnil)))) (Syntax.tcons (Syntax.tyInt Syntax.w8) (Syntax.tcons (Syntax.tyStruct (102 ∷ 105 ∷ 101 ∷ 108 ∷ 100 ∷ 115
+                ∷ 58 ∷ 58 ∷ 82 ∷ 101 ∷ 115 ∷ 105 ∷ 100 ∷ 117 ∷ 101 ∷ 78 ∷ 117 ∷ 109 ∷ 98 ∷ 101 ∷ 114 ∷ []) (Syntax.tcons (Syntax.tyInt Syntax.w32) Syntax.tnil))
+                (Syntax.tcons (Syntax.tyInt Syntax.w8) Syntax.tnil))))) (Syntax.tcons (Syntax.tyStruct (114 ∷ 101 ∷ 115 ∷ 105 ∷ 100 ∷ 117 ∷ 101 ∷ 58 ∷ 58 ∷ 82 ∷
+                101 ∷ 115 ∷ 105 ∷ 100 ∷ 117 ∷ 101 ∷ []) (Syntax.tcons (Syntax.tyStruct (110 ∷ 97 ∷ 109 ∷ 101 ∷ 115 ∷ 58 ∷ 58 ∷ 84 ∷ 104 ∷ 114 ∷ 101 ∷ 101 ∷ [])
+                (Syntax.tcons (Syntax.tyInt Syntax.w8) (Syntax.tcons (Syntax.tyInt Syntax.w8) (Syntax.tcons (Syntax.tyInt Syntax.w8) Syntax.tnil))))
+                (Syntax.tcons (Syntax.tyInt Syntax.w8) (Syntax.tcons (Syntax.tyStruct (102 ∷ 105 ∷ 101 ∷ 108 ∷ 100 ∷ 115 ∷ 58 ∷ 58 ∷ 82 ∷ 101 ∷ 115 ∷ 105 ∷ 100 ∷
+                117 ∷ 101 ∷ 78 ∷ 117 ∷ 109 ∷ 98 ∷ 101 ∷ 114 ∷ []) (Syntax.tcons (Syntax.tyInt Syntax.w32) Syntax.tnil)) (Syntax.tcons (Syntax.tyInt Syntax.w8)
+                Syntax.tnil))))) Syntax.tnil))))) (Syntax.tcons (Syntax.tyInt Syntax.w32) (Syntax.tcons (Syntax.tyStruct (104 ∷ 101 ∷ 108 ∷ 105 ∷ 120 ∷ 58 ∷ 58 ∷
+                67 ∷ 111 ∷ 109 ∷ 109 ∷ 101 ∷ 110 ∷ 116 ∷ []) (Syntax.tcons (Syntax.tyInt Syntax.w64) (Syntax.tcons (Syntax.tyInt Syntax.w64) (Syntax.tcons
+                (Syntax.tyInt Syntax.w64) (Syntax.tcons (Syntax.tyInt Syntax.w64) Syntax.tnil))))) (Syntax.tcons (Syntax.tyInt Syntax.w32) Syntax.tnil)))))
+                Syntax.tnil) (Syntax.ttcons (Syntax.tcons (Syntax.tyStruct (115 ∷ 104 ∷ 101 ∷ 101 ∷ 116 ∷ 58 ∷ 58 ∷ 83 ∷ 104 ∷ 101 ∷ 101 ∷ 116 ∷ [])
+                (Syntax.tcons (Syntax.tyStruct (115 ∷ 104 ∷ 101 ∷ 101 ∷ 116 ∷ 58 ∷ 58 ∷ 83 ∷ 116 ∷ 114 ∷ 97 ∷ 110 ∷ 100 ∷ []) (Syntax.tcons (Syntax.tyInt
+                Syntax.w32) (Syntax.tcons (Syntax.tyStruct (110 ∷ 97 ∷ 109 ∷ 101 ∷ 115 ∷ 58 ∷ 58 ∷ 84 ∷ 104 ∷ 114 ∷ 101 ∷ 101 ∷ []) (Syntax.tcons (Syntax.tyInt
+                Syntax.w8) (Syntax.tcons (Syntax.tyInt Syntax.w8) (Syntax.tcons (Syntax.tyInt Syntax.w8) Syntax.tnil)))) (Syntax.tcons (Syntax.tyInt Syntax.w32)
+                (Syntax.tcons (Syntax.tyStruct (114 ∷ 101 ∷ 115 ∷ 105 ∷ 100 ∷ 117 ∷ 101 ∷ 58 ∷ 58 ∷ 82 ∷ 101 ∷ 115 ∷ 105 ∷ 100 ∷ 117 ∷ 101 ∷ []) (Syntax.tcons
+                (Syntax.tyStruct (110 ∷ 97 ∷ 109 ∷ 101 ∷ 115 ∷ 58 ∷ 58 ∷ 84 ∷ 104 ∷ 114 ∷ 101 ∷ 101 ∷ []) (Syntax.tcons (Syntax.tyInt Syntax.w8) (Syntax.tcons
+                (Syntax.tyInt Syntax.w8) (Syntax.tcons (Syntax.tyInt Syntax.w8) Syntax.tnil)))) (Syntax.tcons (Syntax.tyInt Syntax.w8) (Syntax.tcons
+                (Syntax.tyStruct (102 ∷ 105 ∷ 101 ∷ 108 ∷ 100 ∷ 115 ∷ 58 ∷ 58 ∷ 82 ∷ 101 ∷ 115 ∷ 105 ∷ 100 ∷ 117 ∷ 101 ∷ 78 ∷ 117 ∷ 109 ∷ 98 ∷ 101 ∷ 114 ∷ [])
+                (Syntax.tcons (Syntax.tyInt Syntax.w32) Syntax.tnil)) (Syntax.tcons (Syntax.tyInt Syntax.w8) Syntax.tnil))))) (Syntax.tcons (Syntax.tyStruct (114
+                ∷ 101 ∷ 115 ∷ 105 ∷ 100 ∷ 117 ∷ 101 ∷ 58 ∷ 58 ∷ 82 ∷ 101 ∷ 115 ∷ 105 ∷ 100 ∷ 117 ∷ 101 ∷ []) (Syntax.tcons (Syntax.tyStruct (110 ∷ 97 ∷ 109 ∷ 101
+                ∷ 115 ∷ 58 ∷ 58 ∷ 84 ∷ 104 ∷ 114 ∷ 101 ∷ 101 ∷ []) (Syntax.tcons (Syntax.tyInt Syntax.w8) (Syntax.tcons (Syntax.tyInt Syntax.w8) (Syntax.tcons
+                (Syntax.tyInt Syntax.w8) Syntax.tnil)))) (Syntax.tcons (Syntax.tyInt Syntax.w8) (Syntax.tcons (Syntax.tyStruct (102 ∷ 105 ∷ 101 ∷ 108 ∷ 100 ∷ 115
+                ∷ 58 ∷ 58 ∷ 82 ∷ 101 ∷ 115 ∷ 105 ∷ 100 ∷ 117 ∷ 101 ∷ 78 ∷ 117 ∷ 109 ∷ 98 ∷ 101 ∷ 114 ∷ []) (Syntax.tcons (Syntax.tyInt Syntax.w32) Syntax.tnil))
+                (Syntax.tcons (Syntax.tyInt Syntax.w8) Syntax.tnil))))) (Syntax.tcons (Syntax.tyInt Syntax.w32) Syntax.tnil))))))) (Syntax.tcons (Syntax.tyEnum
+                (115 ∷ 104 ∷ 101 ∷ 101 ∷ 116 ∷ 58 ∷ 58 ∷ 82 ∷ 101 ∷ 103 ∷ 105 ∷ 115 ∷ 116 ∷ 114 ∷ 97 ∷ 116 ∷ 105 ∷ 111 ∷ 110 ∷ []) (Syntax.ttcons Syntax.tnil
+                (Syntax.ttcons (Syntax.tcons (Syntax.tyStruct (115 ∷ 104 ∷ 101 ∷ 101 ∷ 116 ∷ 58 ∷ 58 ∷ 66 ∷ 111 ∷ 110 ∷ 100 ∷ []) (Syntax.tcons (Syntax.tyStruct
+                (110 ∷ 97 ∷ 109 ∷ 101 ∷ 115 ∷ 58 ∷ 58 ∷ 70 ∷ 111 ∷ 117 ∷ 114 ∷ []) (Syntax.tcons (Syntax.tyInt Syntax.w8) (Syntax.tcons (Syntax.tyInt Syntax.w8)
+                (Syntax.tcons (Syntax.tyInt Syntax.w8) (Syntax.tcons (Syntax.tyInt Syntax.w8) Syntax.tnil))))) (Syntax.tcons (Syntax.tyStruct (114 ∷ 101 ∷ 115 ∷
+                105 ∷ 100 ∷ 117 ∷ 101 ∷ 58 ∷ 58 ∷ 82 ∷ 101 ∷ 115 ∷ 105 ∷ 100 ∷ 117 ∷ 101 ∷ []) (Syntax.tcons (Syntax.tyStruct (110 ∷ 97 ∷ 109 ∷ 101 ∷ 115 ∷ 58 ∷
+                58 ∷ 84 ∷ 104 ∷ 114 ∷ 101 ∷ 101 ∷ []) (Syntax.tcons (Syntax.tyInt Syntax.w8) (Syntax.tcons (Syntax.tyInt Syntax.w8) (Syntax.tcons (Syntax.tyInt
+                Syntax.w8) Syntax.tnil)))) (Syntax.tcons (Syntax.tyInt Syntax.w8) (Syntax.tcons (Syntax.tyStruct (102 ∷ 105 ∷ 101 ∷ 108 ∷ 100 ∷ 115 ∷ 58 ∷ 58 ∷
+                82 ∷ 101 ∷ 115 ∷ 105 ∷ 100 ∷ 117 ∷ 101 ∷ 78 ∷ 117 ∷ 109 ∷ 98 ∷ 101 ∷ 114 ∷ []) (Syntax.tcons (Syntax.tyInt Syntax.w32) Syntax.tnil))
+                (Syntax.tcons (Syntax.tyInt Syntax.w8) Syntax.tnil))))) (Syntax.tcons (Syntax.tyStruct (110 ∷ 97 ∷ 109 ∷ 101 ∷ 115 ∷ 58 ∷ 58 ∷ 70 ∷ 111 ∷ 117 ∷
+                114 ∷ []) (Syntax.tcons (Syntax.tyInt Syntax.w8) (Syntax.tcons (Syntax.tyInt Syntax.w8) (Syntax.tcons (Syntax.tyInt Syntax.w8) (Syntax.tcons
+                (Syntax.tyInt Syntax.w8) Syntax.tnil))))) (Syntax.tcons (Syntax.tyStruct (114 ∷ 101 ∷ 115 ∷ 105 ∷ 100 ∷ 117 ∷ 101 ∷ 58 ∷ 58 ∷ 82 ∷ 101 ∷ 115 ∷
+                105 ∷ 100 ∷ 117 ∷ 101 ∷ []) (Syntax.tcons (Syntax.tyStruct (110 ∷ 97 ∷ 109 ∷ 101 ∷ 115 ∷ 58 ∷ 58 ∷ 84 ∷ 104 ∷ 114 ∷ 101 ∷ 101 ∷ []) (Syntax.tcons
+                (Syntax.tyInt Syntax.w8) (Syntax.tcons (Syntax.tyInt Syntax.w8) (Syntax.tcons (Syntax.tyInt Syntax.w8) Syntax.tnil)))) (Syntax.tcons
+                (Syntax.tyInt Syntax.w8) (Syntax.tcons (Syntax.tyStruct (102 ∷ 105 ∷ 101 ∷ 108 ∷ 100 ∷ 115 ∷ 58 ∷ 58 ∷ 82 ∷ 101 ∷ 115 ∷ 105 ∷ 100 ∷ 117 ∷ 101 ∷
+                78 ∷ 117 ∷ 109 ∷ 98 ∷ 101 ∷ 114 ∷ []) (Syntax.tcons (Syntax.tyInt Syntax.w32) Syntax.tnil)) (Syntax.tcons (Syntax.tyInt Syntax.w8)
+                Syntax.tnil))))) Syntax.tnil))))) Syntax.tnil) Syntax.ttnil))) Syntax.tnil))) Syntax.tnil) (Syntax.ttcons (Syntax.tcons (Syntax.tyStruct (99 ∷
+                111 ∷ 110 ∷ 101 ∷ 99 ∷ 116 ∷ 58 ∷ 58 ∷ 67 ∷ 111 ∷ 110 ∷ 101 ∷ 99 ∷ 116 ∷ []) (Syntax.tcons (Syntax.tyStruct (102 ∷ 105 ∷ 101 ∷ 108 ∷ 100 ∷ 115 ∷
+                58 ∷ 58 ∷ 83 ∷ 101 ∷ 114 ∷ 105 ∷ 97 ∷ 108 ∷ []) (Syntax.tcons (Syntax.tyInt Syntax.w32) Syntax.tnil)) (Syntax.tcons (Syntax.tyStruct (102 ∷ 105 ∷
+                101 ∷ 108 ∷ 100 ∷ 115 ∷ 58 ∷ 58 ∷ 83 ∷ 101 ∷ 114 ∷ 105 ∷ 97 ∷ 108 ∷ []) (Syntax.tcons (Syntax.tyInt Syntax.w32) Syntax.tnil)) (Syntax.tcons
+                (Syntax.tyStruct (102 ∷ 105 ∷ 101 ∷ 108 ∷ 100 ∷ 115 ∷ 58 ∷ 58 ∷ 83 ∷ 101 ∷ 114 ∷ 105 ∷ 97 ∷ 108 ∷ []) (Syntax.tcons (Syntax.tyInt Syntax.w32)
+                Syntax.tnil)) (Syntax.tcons (Syntax.tyStruct (102 ∷ 105 ∷ 101 ∷ 108 ∷ 100 ∷ 115 ∷ 58 ∷ 58 ∷ 83 ∷ 101 ∷ 114 ∷ 105 ∷ 97 ∷ 108 ∷ []) (Syntax.tcons
+                (Syntax.tyInt Syntax.w32) Syntax.tnil)) (Syntax.tcons (Syntax.tyStruct (102 ∷ 105 ∷ 101 ∷ 108 ∷ 100 ∷ 115 ∷ 58 ∷ 58 ∷ 83 ∷ 101 ∷ 114 ∷ 105 ∷ 97 ∷
+                108 ∷ []) (Syntax.tcons (Syntax.tyInt Syntax.w32) Syntax.tnil)) Syntax.tnil)))))) Syntax.tnil) (Syntax.ttcons (Syntax.tcons (Syntax.tyStruct (109
+                ∷ 97 ∷ 115 ∷ 116 ∷ 101 ∷ 114 ∷ 58 ∷ 58 ∷ 84 ∷ 97 ∷ 108 ∷ 108 ∷ 121 ∷ []) (Syntax.tcons (Syntax.tyInt Syntax.w32) (Syntax.tcons (Syntax.tyInt
+                Syntax.w32) (Syntax.tcons (Syntax.tyInt Syntax.w32) (Syntax.tcons (Syntax.tyInt Syntax.w32) (Syntax.tcons (Syntax.tyInt Syntax.w32) (Syntax.tcons
+                (Syntax.tyInt Syntax.w32) (Syntax.tcons (Syntax.tyInt Syntax.w32) (Syntax.tcons (Syntax.tyInt Syntax.w32) (Syntax.tcons (Syntax.tyInt Syntax.w32)
+                Syntax.tnil)))))))))) Syntax.tnil) (Syntax.ttcons Syntax.tnil (Syntax.ttcons (Syntax.tcons (Syntax.tyStruct (109 ∷ 111 ∷ 100 ∷ 101 ∷ 108 ∷ 58 ∷
+                58 ∷ 77 ∷ 111 ∷ 100 ∷ 101 ∷ 108 ∷ []) (Syntax.tcons (Syntax.tyInt Syntax.w32) Syntax.tnil)) Syntax.tnil) (Syntax.ttcons Syntax.tnil
+                Syntax.ttnil)))))))))) Syntax.tnil) Syntax.ttnil))))) (Local.room-whole 𝓤 H A W (Declared.row Line.the-type) (Syntax.tyEnum (112 ∷ 105 ∷ 101 ∷ 99
+                ∷ 101 ∷ 115 ∷ 58 ∷ 58 ∷ 76 ∷ 105 ∷ 110 ∷ 101 ∷ []) (Syntax.ttcons (Syntax.tcons (Syntax.tyInt Syntax.w8) Syntax.tnil) (Syntax.ttcons
                 (Syntax.tcons (Syntax.tyEnum (107 ∷ 105 ∷ 110 ∷ 100 ∷ 115 ∷ 58 ∷ 58 ∷ 75 ∷ 105 ∷ 110 ∷ 100 ∷ []) (Syntax.ttcons Syntax.tnil (Syntax.ttcons
                 Syntax.tnil (Syntax.ttcons Syntax.tnil (Syntax.ttcons Syntax.tnil (Syntax.ttcons Syntax.tnil (Syntax.ttcons Syntax.tnil (Syntax.ttcons
                 Syntax.tnil (Syntax.ttcons Syntax.tnil (Syntax.ttcons Syntax.tnil (Syntax.ttcons Syntax.tnil (Syntax.ttcons Syntax.tnil (Syntax.ttcons
                 Syntax.tnil (Syntax.ttcons Syntax.tnil (Syntax.ttcons Syntax.tnil (Syntax.ttcons Syntax.tnil (Syntax.ttcons Syntax.tnil (Syntax.ttcons
                 Syntax.tnil (Syntax.ttcons Syntax.tnil (Syntax.ttcons Syntax.tnil (Syntax.ttcons Syntax.tnil (Syntax.ttcons Syntax.tnil (Syntax.ttcons
                 Syntax.tnil (Syntax.ttcons Syntax.tnil (Syntax.ttcons Syntax.tnil (Syntax.ttcons Syntax.tnil (Syntax.ttcons Syntax.tnil (Syntax.ttcons
-                Syntax.tnil (Syntax.ttcons Syntax.tnil Syntax.ttnil))))))))))))))))))))))))))))) Syntax.tnil) (Syntax.ttcons (Syntax.tcons (Syntax.tyEnum (108 ∷
-                105 ∷ 110 ∷ 101 ∷ 58 ∷ 58 ∷ 82 ∷ 101 ∷ 99 ∷ 111 ∷ 114 ∷ 100 ∷ []) (Syntax.ttcons (Syntax.tcons Syntax.tyBool (Syntax.tcons (Syntax.tyStruct (99 ∷
-                111 ∷ 111 ∷ 114 ∷ 100 ∷ 105 ∷ 110 ∷ 97 ∷ 116 ∷ 101 ∷ 58 ∷ 58 ∷ 65 ∷ 116 ∷ 111 ∷ 109 ∷ []) (Syntax.tcons (Syntax.tyStruct (99 ∷ 111 ∷ 111 ∷ 114 ∷
-                100 ∷ 105 ∷ 110 ∷ 97 ∷ 116 ∷ 101 ∷ 58 ∷ 58 ∷ 73 ∷ 100 ∷ 101 ∷ 110 ∷ 116 ∷ 105 ∷ 116 ∷ 121 ∷ []) (Syntax.tcons (Syntax.tyStruct (102 ∷ 105 ∷ 101 ∷
-                108 ∷ 100 ∷ 115 ∷ 58 ∷ 58 ∷ 83 ∷ 101 ∷ 114 ∷ 105 ∷ 97 ∷ 108 ∷ []) (Syntax.tcons (Syntax.tyInt Syntax.w32) Syntax.tnil)) (Syntax.tcons
-                (Syntax.tyStruct (110 ∷ 97 ∷ 109 ∷ 101 ∷ 115 ∷ 58 ∷ 58 ∷ 70 ∷ 111 ∷ 117 ∷ 114 ∷ []) (Syntax.tcons (Syntax.tyInt Syntax.w8) (Syntax.tcons
-                (Syntax.tyInt Syntax.w8) (Syntax.tcons (Syntax.tyInt Syntax.w8) (Syntax.tcons (Syntax.tyInt Syntax.w8) Syntax.tnil))))) (Syntax.tcons
-                (Syntax.tyInt Syntax.w8) (Syntax.tcons (Syntax.tyStruct (114 ∷ 101 ∷ 115 ∷ 105 ∷ 100 ∷ 117 ∷ 101 ∷ 58 ∷ 58 ∷ 82 ∷ 101 ∷ 115 ∷ 105 ∷ 100 ∷ 117 ∷
-                101 ∷ []) (Syntax.tcons (Syntax.tyStruct (110 ∷ 97 ∷ 109 ∷ 101 ∷ 115 ∷ 58 ∷ 58 ∷ 84 ∷ 104 ∷ 114 ∷ 101 ∷ 101 ∷ []) (Syntax.tcons (Syntax.tyInt
-                Syntax.w8) (Syntax.tcons (Syntax.tyInt Syntax.w8) (Syntax.tcons (Syntax.tyInt Syntax.w8) Syntax.tnil)))) (Syntax.tcons (Syntax.tyInt Syntax.w8)
-                (Syntax.tcons (Syntax.tyStruct (102 ∷ 105 ∷ 101 ∷ 108 ∷ 100 ∷ 115 ∷ 58 ∷ 58 ∷ 82 ∷ 101 ∷ 115 ∷ 105 ∷ 100 ∷ 117 ∷ 101 ∷ 78 ∷ 117 ∷ 109 ∷ 98 ∷ 101
-                ∷ 114 ∷ []) (Syntax.tcons (Syntax.tyInt Syntax.w32) Syntax.tnil)) (Syntax.tcons (Syntax.tyInt Syntax.w8) Syntax.tnil))))) Syntax.tnil)))))
-                (Syntax.tcons (Syntax.tyStruct (99 ∷ 111 ∷ 111 ∷ 114 ∷ 100 ∷ 105 ∷ 110 ∷ 97 ∷ 116 ∷ 101 ∷ 58 ∷ 58 ∷ 77 ∷ 101 ∷ 97 ∷ 115 ∷ 117 ∷ 114 ∷ 101 ∷ [])
-                (Syntax.tcons (Syntax.tyStruct (99 ∷ 111 ∷ 111 ∷ 114 ∷ 100 ∷ 105 ∷ 110 ∷ 97 ∷ 116 ∷ 101 ∷ 58 ∷ 58 ∷ 80 ∷ 111 ∷ 115 ∷ 105 ∷ 116 ∷ 105 ∷ 111 ∷ 110
-                ∷ []) (Syntax.tcons (Syntax.tyInt Syntax.w32) (Syntax.tcons (Syntax.tyInt Syntax.w32) (Syntax.tcons (Syntax.tyInt Syntax.w32) Syntax.tnil))))
-                (Syntax.tcons (Syntax.tyInt Syntax.w32) (Syntax.tcons (Syntax.tyInt Syntax.w32) Syntax.tnil)))) (Syntax.tcons (Syntax.tyStruct (99 ∷ 111 ∷ 111 ∷
-                114 ∷ 100 ∷ 105 ∷ 110 ∷ 97 ∷ 116 ∷ 101 ∷ 58 ∷ 58 ∷ 83 ∷ 112 ∷ 101 ∷ 99 ∷ 105 ∷ 101 ∷ 115 ∷ []) (Syntax.tcons (Syntax.tyStruct (110 ∷ 97 ∷ 109 ∷
-                101 ∷ 115 ∷ 58 ∷ 58 ∷ 80 ∷ 97 ∷ 105 ∷ 114 ∷ []) (Syntax.tcons (Syntax.tyInt Syntax.w8) (Syntax.tcons (Syntax.tyInt Syntax.w8) Syntax.tnil)))
-                (Syntax.tcons (Syntax.tyStruct (110 ∷ 97 ∷ 109 ∷ 101 ∷ 115 ∷ 58 ∷ 58 ∷ 80 ∷ 97 ∷ 105 ∷ 114 ∷ []) (Syntax.tcons (Syntax.tyInt Syntax.w8)
-                (Syntax.tcons (Syntax.tyInt Syntax.w8) Syntax.tnil))) Syntax.tnil))) Syntax.tnil)))) Syntax.tnil)) (Syntax.ttcons (Syntax.tcons (Syntax.tyStruct
-                (116 ∷ 101 ∷ 114 ∷ 58 ∷ 58 ∷ 84 ∷ 101 ∷ 114 ∷ []) (Syntax.tcons (Syntax.tyStruct (102 ∷ 105 ∷ 101 ∷ 108 ∷ 100 ∷ 115 ∷ 58 ∷ 58 ∷ 83 ∷ 101 ∷ 114 ∷
-                105 ∷ 97 ∷ 108 ∷ []) (Syntax.tcons (Syntax.tyInt Syntax.w32) Syntax.tnil)) (Syntax.tcons (Syntax.tyStruct (114 ∷ 101 ∷ 115 ∷ 105 ∷ 100 ∷ 117 ∷
-                101 ∷ 58 ∷ 58 ∷ 82 ∷ 101 ∷ 115 ∷ 105 ∷ 100 ∷ 117 ∷ 101 ∷ []) (Syntax.tcons (Syntax.tyStruct (110 ∷ 97 ∷ 109 ∷ 101 ∷ 115 ∷ 58 ∷ 58 ∷ 84 ∷ 104 ∷
-                114 ∷ 101 ∷ 101 ∷ []) (Syntax.tcons (Syntax.tyInt Syntax.w8) (Syntax.tcons (Syntax.tyInt Syntax.w8) (Syntax.tcons (Syntax.tyInt Syntax.w8)
-                Syntax.tnil)))) (Syntax.tcons (Syntax.tyInt Syntax.w8) (Syntax.tcons (Syntax.tyStruct (102 ∷ 105 ∷ 101 ∷ 108 ∷ 100 ∷ 115 ∷ 58 ∷ 58 ∷ 82 ∷ 101 ∷
-                115 ∷ 105 ∷ 100 ∷ 117 ∷ 101 ∷ 78 ∷ 117 ∷ 109 ∷ 98 ∷ 101 ∷ 114 ∷ []) (Syntax.tcons (Syntax.tyInt Syntax.w32) Syntax.tnil)) (Syntax.tcons
-                (Syntax.tyInt Syntax.w8) Syntax.tnil))))) Syntax.tnil))) Syntax.tnil) (Syntax.ttcons (Syntax.tcons (Syntax.tyStruct (104 ∷ 101 ∷ 108 ∷ 105 ∷ 120
-                ∷ 58 ∷ 58 ∷ 72 ∷ 101 ∷ 108 ∷ 105 ∷ 120 ∷ []) (Syntax.tcons (Syntax.tyStruct (104 ∷ 101 ∷ 108 ∷ 105 ∷ 120 ∷ 58 ∷ 58 ∷ 69 ∷ 120 ∷ 116 ∷ 101 ∷ 110 ∷
-                116 ∷ []) (Syntax.tcons (Syntax.tyInt Syntax.w32) (Syntax.tcons (Syntax.tyStruct (110 ∷ 97 ∷ 109 ∷ 101 ∷ 115 ∷ 58 ∷ 58 ∷ 84 ∷ 104 ∷ 114 ∷ 101 ∷
-                101 ∷ []) (Syntax.tcons (Syntax.tyInt Syntax.w8) (Syntax.tcons (Syntax.tyInt Syntax.w8) (Syntax.tcons (Syntax.tyInt Syntax.w8) Syntax.tnil))))
+                Syntax.tnil (Syntax.ttcons Syntax.tnil (Syntax.ttcons Syntax.tnil (Syntax.ttcons Syntax.tnil Syntax.ttnil)))))))))))))))))))))))))))))))
+                (Syntax.tcons (Syntax.tyInt Syntax.w32) Syntax.tnil)) (Syntax.ttcons (Syntax.tcons (Syntax.tyEnum (107 ∷ 105 ∷ 110 ∷ 100 ∷ 115 ∷ 58 ∷ 58 ∷ 75 ∷
+                105 ∷ 110 ∷ 100 ∷ []) (Syntax.ttcons Syntax.tnil (Syntax.ttcons Syntax.tnil (Syntax.ttcons Syntax.tnil (Syntax.ttcons Syntax.tnil (Syntax.ttcons
+                Syntax.tnil (Syntax.ttcons Syntax.tnil (Syntax.ttcons Syntax.tnil (Syntax.ttcons Syntax.tnil (Syntax.ttcons Syntax.tnil (Syntax.ttcons
+                Syntax.tnil (Syntax.ttcons Syntax.tnil (Syntax.ttcons Syntax.tnil (Syntax.ttcons Syntax.tnil (Syntax.ttcons Syntax.tnil (Syntax.ttcons
+                Syntax.tnil (Syntax.ttcons Syntax.tnil (Syntax.ttcons Syntax.tnil (Syntax.ttcons Syntax.tnil (Syntax.ttcons Syntax.tnil (Syntax.ttcons
+                Syntax.tnil (Syntax.ttcons Syntax.tnil (Syntax.ttcons Syntax.tnil (Syntax.ttcons Syntax.tnil (Syntax.ttcons Syntax.tnil (Syntax.ttcons
+                Syntax.tnil (Syntax.ttcons Syntax.tnil (Syntax.ttcons Syntax.tnil (Syntax.ttcons Syntax.tnil (Syntax.ttcons Syntax.tnil (Syntax.ttcons
+                Syntax.tnil Syntax.ttnil))))))))))))))))))))))))))))))) Syntax.tnil) (Syntax.ttcons (Syntax.tcons (Syntax.tyEnum (108 ∷ 105 ∷ 110 ∷ 101 ∷ 58 ∷ 58
+                ∷ 82 ∷ 101 ∷ 99 ∷ 111 ∷ 114 ∷ 100 ∷ []) (Syntax.ttcons (Syntax.tcons Syntax.tyBool (Syntax.tcons (Syntax.tyStruct (99 ∷ 111 ∷ 111 ∷ 114 ∷ 100 ∷
+                105 ∷ 110 ∷ 97 ∷ 116 ∷ 101 ∷ 58 ∷ 58 ∷ 65 ∷ 116 ∷ 111 ∷ 109 ∷ []) (Syntax.tcons (Syntax.tyStruct (99 ∷ 111 ∷ 111 ∷ 114 ∷ 100 ∷ 105 ∷ 110 ∷ 97 ∷
+                116 ∷ 101 ∷ 58 ∷ 58 ∷ 73 ∷ 100 ∷ 101 ∷ 110 ∷ 116 ∷ 105 ∷ 116 ∷ 121 ∷ []) (Syntax.tcons (Syntax.tyStruct (102 ∷ 105 ∷ 101 ∷ 108 ∷ 100 ∷ 115 ∷ 58 ∷
+                58 ∷ 83 ∷ 101 ∷ 114 ∷ 105 ∷ 97 ∷ 108 ∷ []) (Syntax.tcons (Syntax.tyInt Syntax.w32) Syntax.tnil)) (Syntax.tcons (Syntax.tyStruct (110 ∷ 97 ∷ 109 ∷
+                101 ∷ 115 ∷ 58 ∷ 58 ∷ 70 ∷ 111 ∷ 117 ∷ 114 ∷ []) (Syntax.tcons (Syntax.tyInt Syntax.w8) (Syntax.tcons (Syntax.tyInt Syntax.w8) (Syntax.tcons
+                (Syntax.tyInt Syntax.w8) (Syntax.tcons (Syntax.tyInt Syntax.w8) Syntax.tnil))))) (Syntax.tcons (Syntax.tyInt Syntax.w8) (Syntax.tcons
+                (Syntax.tyStruct (114 ∷ 101 ∷ 115 ∷ 105 ∷ 100 ∷ 117 ∷ 101 ∷ 58 ∷ 58 ∷ 82 ∷ 101 ∷ 115 ∷ 105 ∷ 100 ∷ 117 ∷ 101 ∷ []) (Syntax.tcons (Syntax.tyStruct
+                (110 ∷ 97 ∷ 109 ∷ 101 ∷ 115 ∷ 58 ∷ 58 ∷ 84 ∷ 104 ∷ 114 ∷ 101 ∷ 101 ∷ []) (Syntax.tcons (Syntax.tyInt Syntax.w8) (Syntax.tcons (Syntax.tyInt
+                Syntax.w8) (Syntax.tcons (Syntax.tyInt Syntax.w8) Syntax.tnil)))) (Syntax.tcons (Syntax.tyInt Syntax.w8) (Syntax.tcons (Syntax.tyStruct (102 ∷
+                105 ∷ 101 ∷ 108 ∷ 100 ∷ 115 ∷ 58 ∷ 58 ∷ 82 ∷ 101 ∷ 115 ∷ 105 ∷ 100 ∷ 117 ∷ 101 ∷ 78 ∷ 117 ∷ 109 ∷ 98 ∷ 101 ∷ 114 ∷ []) (Syntax.tcons
+                (Syntax.tyInt Syntax.w32) Syntax.tnil)) (Syntax.tcons (Syntax.tyInt Syntax.w8) Syntax.tnil))))) Syntax.tnil))))) (Syntax.tcons (Syntax.tyStruct
+                (99 ∷ 111 ∷ 111 ∷ 114 ∷ 100 ∷ 105 ∷ 110 ∷ 97 ∷ 116 ∷ 101 ∷ 58 ∷ 58 ∷ 77 ∷ 101 ∷ 97 ∷ 115 ∷ 117 ∷ 114 ∷ 101 ∷ []) (Syntax.tcons (Syntax.tyStruct
+                (99 ∷ 111 ∷ 111 ∷ 114 ∷ 100 ∷ 105 ∷ 110 ∷ 97 ∷ 116 ∷ 101 ∷ 58 ∷ 58 ∷ 80 ∷ 111 ∷ 115 ∷ 105 ∷ 116 ∷ 105 ∷ 111 ∷ 110 ∷ []) (Syntax.tcons
+                (Syntax.tyInt Syntax.w32) (Syntax.tcons (Syntax.tyInt Syntax.w32) (Syntax.tcons (Syntax.tyInt Syntax.w32) Syntax.tnil)))) (Syntax.tcons
+                (Syntax.tyInt Syntax.w32) (Syntax.tcons (Syntax.tyInt Syntax.w32) Syntax.tnil)))) (Syntax.tcons (Syntax.tyStruct (99 ∷ 111 ∷ 111 ∷ 114 ∷ 100 ∷
+                105 ∷ 110 ∷ 97 ∷ 116 ∷ 101 ∷ 58 ∷ 58 ∷ 83 ∷ 112 ∷ 101 ∷ 99 ∷ 105 ∷ 101 ∷ 115 ∷ []) (Syntax.tcons (Syntax.tyStruct (110 ∷ 97 ∷ 109 ∷ 101 ∷ 115 ∷
+                58 ∷ 58 ∷ 80 ∷ 97 ∷ 105 ∷ 114 ∷ []) (Syntax.tcons (Syntax.tyInt Syntax.w8) (Syntax.tcons (Syntax.tyInt Syntax.w8) Syntax.tnil))) (Syntax.tcons
+                (Syntax.tyStruct (110 ∷ 97 ∷ 109 ∷ 101 ∷ 115 ∷ 58 ∷ 58 ∷ 80 ∷ 97 ∷ 105 ∷ 114 ∷ []) (Syntax.tcons (Syntax.tyInt Syntax.w8) (Syntax.tcons
+                (Syntax.tyInt Syntax.w8) Syntax.tnil))) Syntax.tnil))) Syntax.tnil)))) Syntax.tnil)) (Syntax.ttcons (Syntax.tcons (Syntax.tyStruct (116 ∷ 101 ∷
+                114 ∷ 58 ∷ 58 ∷ 84 ∷ 101 ∷ 114 ∷ []) (Syntax.tcons (Syntax.tyStruct (102 ∷ 105 ∷ 101 ∷ 108 ∷ 100 ∷ 115 ∷ 58 ∷ 58 ∷ 83 ∷ 101 ∷ 114 ∷ 105 ∷ 97 ∷
+                108 ∷ []) (Syntax.tcons (Syntax.tyInt Syntax.w32) Syntax.tnil)) (Syntax.tcons (Syntax.tyStruct (114 ∷ 101 ∷ 115 ∷ 105 ∷ 100 ∷ 117 ∷ 101 ∷ 58 ∷ 58
+                ∷ 82 ∷ 101 ∷ 115 ∷ 105 ∷ 100 ∷ 117 ∷ 101 ∷ []) (Syntax.tcons (Syntax.tyStruct (110 ∷ 97 ∷ 109 ∷ 101 ∷ 115 ∷ 58 ∷ 58 ∷ 84 ∷ 104 ∷ 114 ∷ 101 ∷ 101
+                ∷ []) (Syntax.tcons (Syntax.tyInt Syntax.w8) (Syntax.tcons (Syntax.tyInt Syntax.w8) (Syntax.tcons (Syntax.tyInt Syntax.w8) Syntax.tnil))))
+                (Syntax.tcons (Syntax.tyInt Syntax.w8) (Syntax.tcons (Syntax.tyStruct (102 ∷ 105 ∷ 101 ∷ 108 ∷ 100 ∷ 115 ∷ 58 ∷ 58 ∷ 82 ∷ 101 ∷ 115 ∷ 105 ∷ 100 ∷
+                117 ∷ 101 ∷ 78 ∷ 117 ∷ 109 ∷ 98 ∷ 101 ∷ 114 ∷ []) (Syntax.tcons (Syntax.tyInt Syntax.w32) Syntax.tnil)) (Syntax.tcons (Syntax.tyInt Syntax.w8)
+                Syntax.tnil))))) Syntax.tnil))) Syntax.tnil) (Syntax.ttcons (Syntax.tcons (Syntax.tyStruct (104 ∷ 101 ∷ 108 ∷ 105 ∷ 120 ∷ 58 ∷ 58 ∷ 72 ∷ 101 ∷
+                108 ∷ 105 ∷ 120 ∷ []) (Syntax.tcons (Syntax.tyStruct (104 ∷ 101 ∷ 108 ∷ 105 ∷ 120 ∷ 58 ∷ 58 ∷ 69 ∷ 120 ∷ 116 ∷ 101 ∷ 110 ∷ 116 ∷ [])
+                (Syntax.tcons (Syntax.tyInt Syntax.w32) (Syntax.tcons (Syntax.tyStruct (110 ∷ 97 ∷ 109 ∷ 101 ∷ 115 ∷ 58 ∷ 58 ∷ 84 ∷ 104 ∷ 114 ∷ 101 ∷ 101 ∷ [])
+                (Syntax.tcons (Syntax.tyInt Syntax.w8) (Syntax.tcons (Syntax.tyInt Syntax.w8) (Syntax.tcons (Syntax.tyInt Syntax.w8) Syntax.tnil))))
                 (Syntax.tcons (Syntax.tyStruct (114 ∷ 101 ∷ 115 ∷ 105 ∷ 100 ∷ 117 ∷ 101 ∷ 58 ∷ 58 ∷ 82 ∷ 101 ∷ 115 ∷ 105 ∷ 100 ∷ 117 ∷ 101 ∷ []) (Syntax.tcons
                 (Syntax.tyStruct (110 ∷ 97 ∷ 109 ∷ 101 ∷ 115 ∷ 58 ∷ 58 ∷ 84 ∷ 104 ∷ 114 ∷ 101 ∷ 101 ∷ []) (Syntax.tcons (Syntax.tyInt Syntax.w8) (Syntax.tcons
                 (Syntax.tyInt Syntax.w8) (Syntax.tcons (Syntax.tyInt Syntax.w8) Syntax.tnil)))) (Syntax.tcons (Syntax.tyInt Syntax.w8) (Syntax.tcons
@@ -4631,135 +4946,70 @@ module _ (claims· : Claims) where
                 121 ∷ []) (Syntax.tcons (Syntax.tyInt Syntax.w32) (Syntax.tcons (Syntax.tyInt Syntax.w32) (Syntax.tcons (Syntax.tyInt Syntax.w32) (Syntax.tcons
                 (Syntax.tyInt Syntax.w32) (Syntax.tcons (Syntax.tyInt Syntax.w32) (Syntax.tcons (Syntax.tyInt Syntax.w32) (Syntax.tcons (Syntax.tyInt Syntax.w32)
                 (Syntax.tcons (Syntax.tyInt Syntax.w32) (Syntax.tcons (Syntax.tyInt Syntax.w32) Syntax.tnil)))))))))) Syntax.tnil) (Syntax.ttcons Syntax.tnil
-                Syntax.ttnil)))))))) Syntax.tnil) Syntax.ttnil))))) (Local.room-whole 𝓤 H A W (Declared.row Line.the-type) (Syntax.tyEnum (112 ∷ 105 ∷ 101 ∷ 99 ∷
-                101 ∷ 115 ∷ 58 ∷ 58 ∷ 76 ∷ 105 ∷ 110 ∷ 101 ∷ []) (Syntax.ttcons (Syntax.tcons (Syntax.tyInt Syntax.w8) Syntax.tnil) (Syntax.ttcons (Syntax.tcons
-                (Syntax.tyEnum (107 ∷ 105 ∷ 110 ∷ 100 ∷ 115 ∷ 58 ∷ 58 ∷ 75 ∷ 105 ∷ 110 ∷ 100 ∷ []) (Syntax.ttcons Syntax.tnil (Syntax.ttcons Syntax.tnil
-                (Syntax.ttcons Syntax.tnil (Syntax.ttcons Syntax.tnil (Syntax.ttcons Syntax.tnil (Syntax.ttcons Syntax.tnil (Syntax.ttcons Syntax.tnil
-                (Syntax.ttcons Syntax.tnil (Syntax.ttcons Syntax.tnil (Syntax.ttcons Syntax.tnil (Syntax.ttcons Syntax.tnil (Syntax.ttcons Syntax.tnil
-                (Syntax.ttcons Syntax.tnil (Syntax.ttcons Syntax.tnil (Syntax.ttcons Syntax.tnil (Syntax.ttcons Syntax.tnil (Syntax.ttcons Syntax.tnil
-                (Syntax.ttcons Syntax.tnil (Syntax.ttcons Syntax.tnil (Syntax.ttcons Syntax.tnil (Syntax.ttcons Syntax.tnil (Syntax.ttcons Syntax.tnil
-                (Syntax.ttcons Syntax.tnil (Syntax.ttcons Syntax.tnil (Syntax.ttcons Syntax.tnil (Syntax.ttcons Syntax.tnil (Syntax.ttcons Syntax.tnil
-                (Syntax.ttcons Syntax.tnil Syntax.ttnil))))))))))))))))))))))))))))) (Syntax.tcons (Syntax.tyInt Syntax.w32) Syntax.tnil)) (Syntax.ttcons
-                (Syntax.tcons (Syntax.tyEnum (107 ∷ 105 ∷ 110 ∷ 100 ∷ 115 ∷ 58 ∷ 58 ∷ 75 ∷ 105 ∷ 110 ∷ 100 ∷ []) (Syntax.ttcons Syntax.tnil (Syntax.ttcons
-                Syntax.tnil (Syntax.ttcons Syntax.tnil (Syntax.ttcons Syntax.tnil (Syntax.ttcons Syntax.tnil (Syntax.ttcons Syntax.tnil (Syntax.ttcons
-                Syntax.tnil (Syntax.ttcons Syntax.tnil (Syntax.ttcons Syntax.tnil (Syntax.ttcons Syntax.tnil (Syntax.ttcons Syntax.tnil (Syntax.ttcons
-                Syntax.tnil (Syntax.ttcons Syntax.tnil (Syntax.ttcons Syntax.tnil (Syntax.ttcons Syntax.tnil (Syntax.ttcons Syntax.tnil (Syntax.ttcons
-                Syntax.tnil (Syntax.ttcons Syntax.tnil (Syntax.ttcons Syntax.tnil (Syntax.ttcons Syntax.tnil (Syntax.ttcons Syntax.tnil (Syntax.ttcons
-                Syntax.tnil (Syntax.ttcons Syntax.tnil (Syntax.ttcons Syntax.tnil (Syntax.ttcons Syntax.tnil (Syntax.ttcons Syntax.tnil (Syntax.ttcons
-                Syntax.tnil (Syntax.ttcons Syntax.tnil Syntax.ttnil))))))))))))))))))))))))))))) Syntax.tnil) (Syntax.ttcons (Syntax.tcons (Syntax.tyEnum (108 ∷
-                105 ∷ 110 ∷ 101 ∷ 58 ∷ 58 ∷ 82 ∷ 101 ∷ 99 ∷ 111 ∷ 114 ∷ 100 ∷ []) (Syntax.ttcons (Syntax.tcons Syntax.tyBool (Syntax.tcons (Syntax.tyStruct (99 ∷
-                111 ∷ 111 ∷ 114 ∷ 100 ∷ 105 ∷ 110 ∷ 97 ∷ 116 ∷ 101 ∷ 58 ∷ 58 ∷ 65 ∷ 116 ∷ 111 ∷ 109 ∷ []) (Syntax.tcons (Syntax.tyStruct (99 ∷ 111 ∷ 111 ∷ 114 ∷
-                100 ∷ 105 ∷ 110 ∷ 97 ∷ 116 ∷ 101 ∷ 58 ∷ 58 ∷ 73 ∷ 100 ∷ 101 ∷ 110 ∷ 116 ∷ 105 ∷ 116 ∷ 121 ∷ []) (Syntax.tcons (Syntax.tyStruct (102 ∷ 105 ∷ 101 ∷
-                108 ∷ 100 ∷ 115 ∷ 58 ∷ 58 ∷ 83 ∷ 101 ∷ 114 ∷ 105 ∷ 97 ∷ 108 ∷ []) (Syntax.tcons (Syntax.tyInt Syntax.w32) Syntax.tnil)) (Syntax.tcons
-                (Syntax.tyStruct (110 ∷ 97 ∷ 109 ∷ 101 ∷ 115 ∷ 58 ∷ 58 ∷ 70 ∷ 111 ∷ 117 ∷ 114 ∷ []) (Syntax.tcons (Syntax.tyInt Syntax.w8) (Syntax.tcons
-                (Syntax.tyInt Syntax.w8) (Syntax.tcons (Syntax.tyInt Syntax.w8) (Syntax.tcons (Syntax.tyInt Syntax.w8) Syntax.tnil))))) (Syntax.tcons
-                (Syntax.tyInt Syntax.w8) (Syntax.tcons (Syntax.tyStruct (114 ∷ 101 ∷ 115 ∷ 105 ∷ 100 ∷ 117 ∷ 101 ∷ 58 ∷ 58 ∷ 82 ∷ 101 ∷ 115 ∷ 105 ∷ 100 ∷ 117 ∷
-                101 ∷ []) (Syntax.tcons (Syntax.tyStruct (110 ∷ 97 ∷ 109 ∷ 101 ∷ 115 ∷ 58 ∷ 58 ∷ 84 ∷ 104 ∷ 114 ∷ 101 ∷ 101 ∷ []) (Syntax.tcons (Syntax.tyInt
-                Syntax.w8) (Syntax.tcons (Syntax.tyInt Syntax.w8) (Syntax.tcons (Syntax.tyInt Syntax.w8) Syntax.tnil)))) (Syntax.tcons (Syntax.tyInt Syntax.w8)
-                (Syntax.tcons (Syntax.tyStruct (102 ∷ 105 ∷ 101 ∷ 108 ∷ 100 ∷ 115 ∷ 58 ∷ 58 ∷ 82 ∷ 101 ∷ 115 ∷ 105 ∷ 100 ∷ 117 ∷ 101 ∷ 78 ∷ 117 ∷ 109 ∷ 98 ∷ 101
-                ∷ 114 ∷ []) (Syntax.tcons (Syntax.tyInt Syntax.w32) Syntax.tnil)) (Syntax.tcons (Syntax.tyInt Syntax.w8) Syntax.tnil))))) Syntax.tnil)))))
-                (Syntax.tcons (Syntax.tyStruct (99 ∷ 111 ∷ 111 ∷ 114 ∷ 100 ∷ 105 ∷ 110 ∷ 97 ∷ 116 ∷ 101 ∷ 58 ∷ 58 ∷ 77 ∷ 101 ∷ 97 ∷ 115 ∷ 117 ∷ 114 ∷ 101 ∷ [])
-                (Syntax.tcons (Syntax.tyStruct (99 ∷ 111 ∷ 111 ∷ 114 ∷ 100 ∷ 105 ∷ 110 ∷ 97 ∷ 116 ∷ 101 ∷ 58 ∷ 58 ∷ 80 ∷ 111 ∷ 115 ∷ 105 ∷ 116 ∷ 105 ∷ 111 ∷ 110
-                ∷ []) (Syntax.tcons (Syntax.tyInt Syntax.w32) (Syntax.tcons (Syntax.tyInt Syntax.w32) (Syntax.tcons (Syntax.tyInt Syntax.w32) Syntax.tnil))))
-                (Syntax.tcons (Syntax.tyInt Syntax.w32) (Syntax.tcons (Syntax.tyInt Syntax.w32) Syntax.tnil)))) (Syntax.tcons (Syntax.tyStruct (99 ∷ 111 ∷ 111 ∷
-                114 ∷ 100 ∷ 105 ∷ 110 ∷ 97 ∷ 116 ∷ 101 ∷ 58 ∷ 58 ∷ 83 ∷ 112 ∷ 101 ∷ 99 ∷ 105 ∷ 101 ∷ 115 ∷ []) (Syntax.tcons (Syntax.tyStruct (110 ∷ 97 ∷ 109 ∷
-                101 ∷ 115 ∷ 58 ∷ 58 ∷ 80 ∷ 97 ∷ 105 ∷ 114 ∷ []) (Syntax.tcons (Syntax.tyInt Syntax.w8) (Syntax.tcons (Syntax.tyInt Syntax.w8) Syntax.tnil)))
-                (Syntax.tcons (Syntax.tyStruct (110 ∷ 97 ∷ 109 ∷ 101 ∷ 115 ∷ 58 ∷ 58 ∷ 80 ∷ 97 ∷ 105 ∷ 114 ∷ []) (Syntax.tcons (Syntax.tyInt Syntax.w8)
-                (Syntax.tcons (Syntax.tyInt Syntax.w8) Syntax.tnil))) Syntax.tnil))) Syntax.tnil)))) Syntax.tnil)) (Syntax.ttcons (Syntax.tcons (Syntax.tyStruct
-                (116 ∷ 101 ∷ 114 ∷ 58 ∷ 58 ∷ 84 ∷ 101 ∷ 114 ∷ []) (Syntax.tcons (Syntax.tyStruct (102 ∷ 105 ∷ 101 ∷ 108 ∷ 100 ∷ 115 ∷ 58 ∷ 58 ∷ 83 ∷ 101 ∷ 114 ∷
-                105 ∷ 97 ∷ 108 ∷ []) (Syntax.tcons (Syntax.tyInt Syntax.w32) Syntax.tnil)) (Syntax.tcons (Syntax.tyStruct (114 ∷ 101 ∷ 115 ∷ 105 ∷ 100 ∷ 117 ∷
-                101 ∷ 58 ∷ 58 ∷ 82 ∷ 101 ∷ 115 ∷ 105 ∷ 100 ∷ 117 ∷ 101 ∷ []) (Syntax.tcons (Syntax.tyStruct (110 ∷ 97 ∷ 109 ∷ 101 ∷ 115 ∷ 58 ∷ 58 ∷ 84 ∷ 104 ∷
-                114 ∷ 101 ∷ 101 ∷ []) (Syntax.tcons (Syntax.tyInt Syntax.w8) (Syntax.tcons (Syntax.tyInt Syntax.w8) (Syntax.tcons (Syntax.tyInt Syntax.w8)
-                Syntax.tnil)))) (Syntax.tcons (Syntax.tyInt Syntax.w8) (Syntax.tcons (Syntax.tyStruct (102 ∷ 105 ∷ 101 ∷ 108 ∷ 100 ∷ 115 ∷ 58 ∷ 58 ∷ 82 ∷ 101 ∷
-                115 ∷ 105 ∷ 100 ∷ 117 ∷ 101 ∷ 78 ∷ 117 ∷ 109 ∷ 98 ∷ 101 ∷ 114 ∷ []) (Syntax.tcons (Syntax.tyInt Syntax.w32) Syntax.tnil)) (Syntax.tcons
-                (Syntax.tyInt Syntax.w8) Syntax.tnil))))) Syntax.tnil))) Syntax.tnil) (Syntax.ttcons (Syntax.tcons (Syntax.tyStruct (104 ∷ 101 ∷ 108 ∷ 105 ∷ 120
-                ∷ 58 ∷ 58 ∷ 72 ∷ 101 ∷ 108 ∷ 105 ∷ 120 ∷ []) (Syntax.tcons (Syntax.tyStruct (104 ∷ 101 ∷ 108 ∷ 105 ∷ 120 ∷ 58 ∷ 58 ∷ 69 ∷ 120 ∷ 116 ∷ 101 ∷ 110 ∷
-                116 ∷ []) (Syntax.tcons (Syntax.tyInt Syntax.w32) (Syntax.tcons (Syntax.tyStruct (110 ∷ 97 ∷ 109 ∷ 101 ∷ 115 ∷ 58 ∷ 58 ∷ 84 ∷ 104 ∷ 114 ∷ 101 ∷
-                101 ∷ []) (Syntax.tcons (Syntax.tyInt Syntax.w8) (Syntax.tcons (Syntax.tyInt Syntax.w8) (Syntax.tcons (Syntax.tyInt Syntax.w8) Syntax.tnil))))
-                (Syntax.tcons (Syntax.tyStruct (114 ∷ 101 ∷ 115 ∷ 105 ∷ 100 ∷ 117 ∷ 101 ∷ 58 ∷ 58 ∷ 82 ∷ 101 ∷ 115 ∷ 105 ∷ 100 ∷ 117 ∷ 101 ∷ []) (Syntax.tcons
-                (Syntax.tyStruct (110 ∷ 97 ∷ 109 ∷ 101 ∷ 115 ∷ 58 ∷ 58 ∷ 84 ∷ 104 ∷ 114 ∷ 101 ∷ 101 ∷ []) (Syntax.tcons (Syntax.tyInt Syntax.w8) (Syntax.tcons
-                (Syntax.tyInt Syntax.w8) (Syntax.tcons (Syntax.tyInt Syntax.w8) Syntax.tnil)))) (Syntax.tcons (Syntax.tyInt Syntax.w8) (Syntax.tcons
-                (Syntax.tyStruct (102 ∷ 105 ∷ 101 ∷ 108 ∷ 100 ∷ 115 ∷ 58 ∷ 58 ∷ 82 ∷ 101 ∷ 115 ∷ 105 ∷ 100 ∷ 117 ∷ 101 ∷ 78 ∷ 117 ∷ 109 ∷ 98 ∷ 101 ∷ 114 ∷ [])
-                (Syntax.tcons (Syntax.tyInt Syntax.w32) Syntax.tnil)) (Syntax.tcons (Syntax.tyInt Syntax.w8) Syntax.tnil))))) (Syntax.tcons (Syntax.tyStruct (114
-                ∷ 101 ∷ 115 ∷ 105 ∷ 100 ∷ 117 ∷ 101 ∷ 58 ∷ 58 ∷ 82 ∷ 101 ∷ 115 ∷ 105 ∷ 100 ∷ 117 ∷ 101 ∷ []) (Syntax.tcons (Syntax.tyStruct (110 ∷ 97 ∷ 109 ∷ 101
-                ∷ 115 ∷ 58 ∷ 58 ∷ 84 ∷ 104 ∷ 114 ∷ 101 ∷ 101 ∷ []) (Syntax.tcons (Syntax.tyInt Syntax.w8) (Syntax.tcons (Syntax.tyInt Syntax.w8) (Syntax.tcons
-                (Syntax.tyInt Syntax.w8) Syntax.tnil)))) (Syntax.tcons (Syntax.tyInt Syntax.w8) (Syntax.tcons (Syntax.tyStruct (102 ∷ 105 ∷ 101 ∷ 108 ∷ 100 ∷ 115
-                ∷ 58 ∷ 58 ∷ 82 ∷ 101 ∷ 115 ∷ 105 ∷ 100 ∷ 117 ∷ 101 ∷ 78 ∷ 117 ∷ 109 ∷ 98 ∷ 101 ∷ 114 ∷ []) (Syntax.tcons (Syntax.tyInt Syntax.w32) Syntax.tnil))
-                (Syntax.tcons (Syntax.tyInt Syntax.w8) Syntax.tnil))))) Syntax.tnil))))) (Syntax.tcons (Syntax.tyInt Syntax.w32) (Syntax.tcons (Syntax.tyStruct
-                (104 ∷ 101 ∷ 108 ∷ 105 ∷ 120 ∷ 58 ∷ 58 ∷ 67 ∷ 111 ∷ 109 ∷ 109 ∷ 101 ∷ 110 ∷ 116 ∷ []) (Syntax.tcons (Syntax.tyInt Syntax.w64) (Syntax.tcons
-                (Syntax.tyInt Syntax.w64) (Syntax.tcons (Syntax.tyInt Syntax.w64) (Syntax.tcons (Syntax.tyInt Syntax.w64) Syntax.tnil))))) (Syntax.tcons
-                (Syntax.tyInt Syntax.w32) Syntax.tnil))))) Syntax.tnil) (Syntax.ttcons (Syntax.tcons (Syntax.tyStruct (115 ∷ 104 ∷ 101 ∷ 101 ∷ 116 ∷ 58 ∷ 58 ∷ 83
-                ∷ 104 ∷ 101 ∷ 101 ∷ 116 ∷ []) (Syntax.tcons (Syntax.tyStruct (115 ∷ 104 ∷ 101 ∷ 101 ∷ 116 ∷ 58 ∷ 58 ∷ 83 ∷ 116 ∷ 114 ∷ 97 ∷ 110 ∷ 100 ∷ [])
-                (Syntax.tcons (Syntax.tyInt Syntax.w32) (Syntax.tcons (Syntax.tyStruct (110 ∷ 97 ∷ 109 ∷ 101 ∷ 115 ∷ 58 ∷ 58 ∷ 84 ∷ 104 ∷ 114 ∷ 101 ∷ 101 ∷ [])
-                (Syntax.tcons (Syntax.tyInt Syntax.w8) (Syntax.tcons (Syntax.tyInt Syntax.w8) (Syntax.tcons (Syntax.tyInt Syntax.w8) Syntax.tnil))))
-                (Syntax.tcons (Syntax.tyInt Syntax.w32) (Syntax.tcons (Syntax.tyStruct (114 ∷ 101 ∷ 115 ∷ 105 ∷ 100 ∷ 117 ∷ 101 ∷ 58 ∷ 58 ∷ 82 ∷ 101 ∷ 115 ∷ 105
-                ∷ 100 ∷ 117 ∷ 101 ∷ []) (Syntax.tcons (Syntax.tyStruct (110 ∷ 97 ∷ 109 ∷ 101 ∷ 115 ∷ 58 ∷ 58 ∷ 84 ∷ 104 ∷ 114 ∷ 101 ∷ 101 ∷ []) (Syntax.tcons
-                (Syntax.tyInt Syntax.w8) (Syntax.tcons (Syntax.tyInt Syntax.w8) (Syntax.tcons (Syntax.tyInt Syntax.w8) Syntax.tnil)))) (Syntax.tcons
-                (Syntax.tyInt Syntax.w8) (Syntax.tcons (Syntax.tyStruct (102 ∷ 105 ∷ 101 ∷ 108 ∷ 100 ∷ 115 ∷ 58 ∷ 58 ∷ 82 ∷ 101 ∷ 115 ∷ 105 ∷ 100 ∷ 117 ∷ 101 ∷
-                78 ∷ 117 ∷ 109 ∷ 98 ∷ 101 ∷ 114 ∷ []) (Syntax.tcons (Syntax.tyInt Syntax.w32) Syntax.tnil)) (Syntax.tcons (Syntax.tyInt Syntax.w8)
-                Syntax.tnil))))) (Syntax.tcons (Syntax.tyStruct (114 ∷ 101 ∷ 115 ∷ 105 ∷ 100 ∷ 117 ∷ 101 ∷ 58 ∷ 58 ∷ 82 ∷ 101 ∷ 115 ∷ 105 ∷ 100 ∷ 117 ∷ 101 ∷ [])
-                (Syntax.tcons (Syntax.tyStruct (110 ∷ 97 ∷ 109 ∷ 101 ∷ 115 ∷ 58 ∷ 58 ∷ 84 ∷ 104 ∷ 114 ∷ 101 ∷ 101 ∷ []) (Syntax.tcons (Syntax.tyInt Syntax.w8)
-                (Syntax.tcons (Syntax.tyInt Syntax.w8) (Syntax.tcons (Syntax.tyInt Syntax.w8) Syntax.tnil)))) (Syntax.tcons (Syntax.tyInt Syntax.w8)
-                (Syntax.tcons (Syntax.tyStruct (102 ∷ 105 ∷ 101 ∷ 108 ∷ 100 ∷ 115 ∷ 58 ∷ 58 ∷ 82 ∷ 101 ∷ 115 ∷ 105 ∷ 100 ∷ 117 ∷ 101 ∷ 78 ∷ 117 ∷ 109 ∷ 98 ∷ 101
-                ∷ 114 ∷ []) (Syntax.tcons (Syntax.tyInt Syntax.w32) Syntax.tnil)) (Syntax.tcons (Syntax.tyInt Syntax.w8) Syntax.tnil))))) (Syntax.tcons
-                (Syntax.tyInt Syntax.w32) Syntax.tnil))))))) (Syntax.tcons (Syntax.tyEnum (115 ∷ 104 ∷ 101 ∷ 101 ∷ 116 ∷ 58 ∷ 58 ∷ 82 ∷ 101 ∷ 103 ∷ 105 ∷ 115 ∷
-                116 ∷ 114 ∷ 97 ∷ 116 ∷ 105 ∷ 111 ∷ 110 ∷ []) (Syntax.ttcons Syntax.tnil (Syntax.ttcons (Syntax.tcons (Syntax.tyStruct (115 ∷ 104 ∷ 101 ∷ 101 ∷
-                116 ∷ 58 ∷ 58 ∷ 66 ∷ 111 ∷ 110 ∷ 100 ∷ []) (Syntax.tcons (Syntax.tyStruct (110 ∷ 97 ∷ 109 ∷ 101 ∷ 115 ∷ 58 ∷ 58 ∷ 70 ∷ 111 ∷ 117 ∷ 114 ∷ [])
-                (Syntax.tcons (Syntax.tyInt Syntax.w8) (Syntax.tcons (Syntax.tyInt Syntax.w8) (Syntax.tcons (Syntax.tyInt Syntax.w8) (Syntax.tcons (Syntax.tyInt
-                Syntax.w8) Syntax.tnil))))) (Syntax.tcons (Syntax.tyStruct (114 ∷ 101 ∷ 115 ∷ 105 ∷ 100 ∷ 117 ∷ 101 ∷ 58 ∷ 58 ∷ 82 ∷ 101 ∷ 115 ∷ 105 ∷ 100 ∷ 117
-                ∷ 101 ∷ []) (Syntax.tcons (Syntax.tyStruct (110 ∷ 97 ∷ 109 ∷ 101 ∷ 115 ∷ 58 ∷ 58 ∷ 84 ∷ 104 ∷ 114 ∷ 101 ∷ 101 ∷ []) (Syntax.tcons (Syntax.tyInt
-                Syntax.w8) (Syntax.tcons (Syntax.tyInt Syntax.w8) (Syntax.tcons (Syntax.tyInt Syntax.w8) Syntax.tnil)))) (Syntax.tcons (Syntax.tyInt Syntax.w8)
-                (Syntax.tcons (Syntax.tyStruct (102 ∷ 105 ∷ 101 ∷ 108 ∷ 100 ∷ 115 ∷ 58 ∷ 58 ∷ 82 ∷ 101 ∷ 115 ∷ 105 ∷ 100 ∷ 117 ∷ 101 ∷ 78 ∷ 117 ∷ 109 ∷ 98 ∷ 101
-                ∷ 114 ∷ []) (Syntax.tcons (Syntax.tyInt Syntax.w32) Syntax.tnil)) (Syntax.tcons (Syntax.tyInt Syntax.w8) Syntax.tnil))))) (Syntax.tcons
-                (Syntax.tyStruct (110 ∷ 97 ∷ 109 ∷ 101 ∷ 115 ∷ 58 ∷ 58 ∷ 70 ∷ 111 ∷ 117 ∷ 114 ∷ []) (Syntax.tcons (Syntax.tyInt Syntax.w8) (Syntax.tcons
-                (Syntax.tyInt Syntax.w8) (Syntax.tcons (Syntax.tyInt Syntax.w8) (Syntax.tcons (Syntax.tyInt Syntax.w8) Syntax.tnil))))) (Syntax.tcons
-                (Syntax.tyStruct (114 ∷ 101 ∷ 115 ∷ 105 ∷ 100 ∷ 117 ∷ 101 ∷ 58 ∷ 58 ∷ 82 ∷ 101 ∷ 115 ∷ 105 ∷ 100 ∷ 117 ∷ 101 ∷ []) (Syntax.tcons (Syntax.tyStruct
-                (110 ∷ 97 ∷ 109 ∷ 101 ∷ 115 ∷ 58 ∷ 58 ∷ 84 ∷ 104 ∷ 114 ∷ 101 ∷ 101 ∷ []) (Syntax.tcons (Syntax.tyInt Syntax.w8) (Syntax.tcons (Syntax.tyInt
-                Syntax.w8) (Syntax.tcons (Syntax.tyInt Syntax.w8) Syntax.tnil)))) (Syntax.tcons (Syntax.tyInt Syntax.w8) (Syntax.tcons (Syntax.tyStruct (102 ∷
-                105 ∷ 101 ∷ 108 ∷ 100 ∷ 115 ∷ 58 ∷ 58 ∷ 82 ∷ 101 ∷ 115 ∷ 105 ∷ 100 ∷ 117 ∷ 101 ∷ 78 ∷ 117 ∷ 109 ∷ 98 ∷ 101 ∷ 114 ∷ []) (Syntax.tcons
-                (Syntax.tyInt Syntax.w32) Syntax.tnil)) (Syntax.tcons (Syntax.tyInt Syntax.w8) Syntax.tnil))))) Syntax.tnil))))) Syntax.tnil) Syntax.ttnil)))
-                Syntax.tnil))) Syntax.tnil) (Syntax.ttcons (Syntax.tcons (Syntax.tyStruct (99 ∷ 111 ∷ 110 ∷ 101 ∷ 99 ∷ 116 ∷ 58 ∷ 58 ∷ 67 ∷ 111 ∷ 110 ∷ 101 ∷ 99
-                ∷ 116 ∷ []) (Syntax.tcons (Syntax.tyStruct (102 ∷ 105 ∷ 101 ∷ 108 ∷ 100 ∷ 115 ∷ 58 ∷ 58 ∷ 83 ∷ 101 ∷ 114 ∷ 105 ∷ 97 ∷ 108 ∷ []) (Syntax.tcons
-                (Syntax.tyInt Syntax.w32) Syntax.tnil)) (Syntax.tcons (Syntax.tyStruct (102 ∷ 105 ∷ 101 ∷ 108 ∷ 100 ∷ 115 ∷ 58 ∷ 58 ∷ 83 ∷ 101 ∷ 114 ∷ 105 ∷ 97 ∷
-                108 ∷ []) (Syntax.tcons (Syntax.tyInt Syntax.w32) Syntax.tnil)) (Syntax.tcons (Syntax.tyStruct (102 ∷ 105 ∷ 101 ∷ 108 ∷ 100 ∷ 115 ∷ 58 ∷ 58 ∷ 83
-                ∷ 101 ∷ 114 ∷ 105 ∷ 97 ∷ 108 ∷ []) (Syntax.tcons (Syntax.tyInt Syntax.w32) Syntax.tnil)) (Syntax.tcons (Syntax.tyStruct (102 ∷ 105 ∷ 101 ∷ 108 ∷
-                100 ∷ 115 ∷ 58 ∷ 58 ∷ 83 ∷ 101 ∷ 114 ∷ 105 ∷ 97 ∷ 108 ∷ []) (Syntax.tcons (Syntax.tyInt Syntax.w32) Syntax.tnil)) (Syntax.tcons (Syntax.tyStruct
-                (102 ∷ 105 ∷ 101 ∷ 108 ∷ 100 ∷ 115 ∷ 58 ∷ 58 ∷ 83 ∷ 101 ∷ 114 ∷ 105 ∷ 97 ∷ 108 ∷ []) (Syntax.tcons (Syntax.tyInt Syntax.w32) Syntax.tnil))
-                Syntax.tnil)))))) Syntax.tnil) (Syntax.ttcons (Syntax.tcons (Syntax.tyStruct (109 ∷ 97 ∷ 115 ∷ 116 ∷ 101 ∷ 114 ∷ 58 ∷ 58 ∷ 84 ∷ 97 ∷ 108 ∷ 108 ∷
-                121 ∷ []) (Syntax.tcons (Syntax.tyInt Syntax.w32) (Syntax.tcons (Syntax.tyInt Syntax.w32) (Syntax.tcons (Syntax.tyInt Syntax.w32) (Syntax.tcons
-                (Syntax.tyInt Syntax.w32) (Syntax.tcons (Syntax.tyInt Syntax.w32) (Syntax.tcons (Syntax.tyInt Syntax.w32) (Syntax.tcons (Syntax.tyInt Syntax.w32)
-                (Syntax.tcons (Syntax.tyInt Syntax.w32) (Syntax.tcons (Syntax.tyInt Syntax.w32) Syntax.tnil)))))))))) Syntax.tnil) (Syntax.ttcons Syntax.tnil
-                Syntax.ttnil)))))))) Syntax.tnil) Syntax.ttnil))))) Path'.refl)) d27
+                (Syntax.ttcons (Syntax.tcons (Syntax.tyStruct (109 ∷ 111 ∷ 100 ∷ 101 ∷ 108 ∷ 58 ∷ 58 ∷ 77 ∷ 111 ∷ 100 ∷ 101 ∷ 108 ∷ []) (Syntax.tcons
+                (Syntax.tyInt Syntax.w32) Syntax.tnil)) Syntax.tnil) (Syntax.ttcons Syntax.tnil Syntax.ttnil)))))))))) Syntax.tnil) Syntax.ttnil)))))
+                Path'.refl)) d24
 
-            d29 : Typed.Typed 𝓤 H A 𝓣 E G37 b28 Δ5 at29
-            d29 = Typed.s-seq 𝓤 H A W 𝓣 E G37 G38 b26 b27 Δ5 (Typed.both s32) at28 (Plain.t-call-plain 𝓤 H A W 𝓣 1 ps·2 r·2 (claims· .4) (claims· .5)
-                "store::put_slot" (known .2) E (λ pos β. β) G37 (
-                  record { pos = 14; ty = Syntax.tyRef Syntax.erased Syntax.mut SlotAs.pointee; ref = λ x. x },
-                  (Num.vAt 6 λ x. x, (record { pos = 7; st = []; d = 0; at = λ x. x }, tt)),
-                ) 6 (2 ∷ []) (Call.sub-id 𝓤 H A W (G37 .slots)) (
-                  Reads'.as-is 𝓤 H A
-                      (Mut.mslice SlotAs.row (Syntax.tyRef Syntax.erased Syntax.mut SlotAs.pointee) 2),
-                  Mut.reads-mslice 𝓤 H A W SlotAs.row (Syntax.tyRef Syntax.erased
-                      Syntax.mut SlotAs.pointee) 2,
+            d26 : Typed.Typed 𝓤 H A 𝓣 E G42 b30 Δ5 at26
+            d26 = Typed.s-seq 𝓤 H A W 𝓣 E G42 G43 b28 b29 Δ5 (Typed.both s37) at25 (Plain.t-call-plain 𝓤 H A W 𝓣 0 ps·3 r·3 (claims· .6) (claims· .7)
+                "marks::models::model_next" (known .3) E (λ pos β. β) G42 (Num.vAt 7 λ x. x, (record { pos = 8; st = []; d = 0; at = λ x. x }, tt)) 7
+                [] (Call.sub-id 𝓤 H A W (G42 .slots)) (
+                  (Scalar.reads-sc 𝓤 H A W (Row.sInt Syntax.w32), Path'.refl),
+                  (
+                    (
+                      Yields.yields-copy 𝓤 H A W (λ ρ. Unit)
+                          (Declared.row Line.the-type) Path'.refl (Copies.cEnum Line.the-type Laws.the-laws Laws.the-copy .copy 𝓤 H A W) (Rows.whole (Declared.row
+                          Line.the-type)) (λ x. x) (λ x. x) (λ ρ told. Local.mem-whole 𝓤 H A W (Declared.row Line.the-type) ρ) λ ρ told. Local.whole-mem 𝓤 H A W
+                          (Declared.row Line.the-type) ρ,
+                      Path'.refl,
+                    ),
+                    tt,
+                  ),
+                ) (Scalar.room-sc 𝓤 H A W (Row.sInt Syntax.w32)) tt Path'.refl) d25
+
+            d27 : Typed.Typed 𝓤 H A 𝓣 E G41 b30 Δ5 at27
+            d27 = Typed.g-pre 𝓤 H A W 𝓣 E G41 G42 b30 Δ5 (λ Ψ. Ψ) at26 (Lifetime.g-forget 𝓤 H A W E G41 2 Row.dead Path'.refl) d26
+
+            d28 : Typed.Typed 𝓤 H A 𝓣 E G40 b30 Δ5 at28
+            d28 = Typed.g-pre 𝓤 H A W 𝓣 E G40 G41 b30 Δ5 (Typed.both s35) at27 (Relend.g-back-sl 𝓤 H A W E SlotAs.row G40 15 2 1 2 (Syntax.tyRef (Syntax.named 1)
+                Syntax.mut SlotAs.pointee) (Syntax.tyRef Syntax.erased Syntax.mut SlotAs.pointee) (Row.lease (κs .1 .0) (qs .1 .0)) (λ x. x) (λ x. x)
+                (Reads'.as-is 𝓤 H A (Mut.msleft SlotAs.row (Syntax.tyRef Syntax.erased Syntax.mut SlotAs.pointee))) (Reads'.as-is 𝓤 H A (Relend.mslice-owed
+                SlotAs.row (Syntax.tyRef (Syntax.named 1) Syntax.mut SlotAs.pointee) 1 2 (Row.lease (κs .1 .0) (qs .1 .0)))) Path'.refl Path'.refl) d27
+
+            d29 : Typed.Typed 𝓤 H A 𝓣 E G39 b30 Δ5 at29
+            d29 = Typed.g-pre 𝓤 H A W 𝓣 E G39 G40 b30 Δ5 (λ Ψ. Ψ) at28 (Lifetime.g-end 𝓤 H A W E G39 2 Path'.refl) d28
+
+            d30 : Typed.Typed 𝓤 H A 𝓣 E G38 b31 Δ5 at30
+            d30 = Typed.s-seq 𝓤 H A W 𝓣 E G38 G39 b27 b30 Δ5 (Typed.both s33) at29 (Plain.t-call-plain 𝓤 H A W 𝓣 1 ps·2 r·2 (claims· .4) (claims· .5)
+                "store::put_slot" (known .2) E (λ pos β. β) G38 (
+                  record { pos = 15; ty = Syntax.tyRef Syntax.erased Syntax.mut SlotAs.pointee; ref = λ x. x },
+                  (Num.vAt 6 λ x. x, (Num.vAt 7 λ x. x, (record { pos = 8; st = []; d = 0; at = λ x. x }, tt))),
+                ) 6 (2 ∷ []) (Call.sub-id 𝓤 H A W (G38 .slots)) (
+                  Reads'.as-is 𝓤 H A (Mut.mslice SlotAs.row (Syntax.tyRef Syntax.erased Syntax.mut SlotAs.pointee) 2),
+                  Mut.reads-mslice 𝓤 H A W SlotAs.row
+                      (Syntax.tyRef Syntax.erased Syntax.mut SlotAs.pointee) 2,
                   Path'.refl,
                   (
                     (Scalar.reads-sc 𝓤 H A W (Row.sInt Syntax.w64), Path'.refl),
                     (
+                      (Scalar.reads-sc 𝓤 H A W (Row.sInt Syntax.w32), Path'.refl),
                       (
-                        Yields.yields-copy 𝓤 H A W (λ ρ. Unit)
-                            (Declared.row Line.the-type) Path'.refl (Copies.cEnum Line.the-type Laws.the-laws Laws.the-copy .copy 𝓤 H A W) (Rows.whole (Declared.row
-                            Line.the-type)) (λ x. x) (λ x. x) (λ ρ told. Local.mem-whole 𝓤 H A W (Declared.row Line.the-type) ρ) λ ρ told. Local.whole-mem 𝓤 H A W
-                            (Declared.row Line.the-type) ρ,
-                        Path'.refl,
+                        (
+                          Yields.yields-copy 𝓤 H A W (λ ρ. Unit) (Declared.row Line.the-type) Path'.refl
+                              (Copies.cEnum Line.the-type Laws.the-laws Laws.the-copy .copy 𝓤 H A W) (Rows.whole (Declared.row Line.the-type)) (λ x. x) (λ x. x) (λ ρ told.
+                              Local.mem-whole 𝓤 H A W (Declared.row Line.the-type) ρ) λ ρ told. Local.whole-mem 𝓤 H A W (Declared.row Line.the-type) ρ,
+                          Path'.refl,
+                        ),
+                        tt,
                       ),
-                      tt,
                     ),
                   ),
-                ) (Scalar.room-sc 𝓤 H A W (Row.sInt Syntax.w64)) (tt, tt) Path'.refl) d28
+                )
+                (Scalar.room-sc 𝓤 H A W (Row.sInt Syntax.w64)) (tt, tt) Path'.refl) d29
 
-            d30 : Typed.Typed 𝓤 H A 𝓣 E G36 b29 Δ5 at30
-            d30 = Typed.s-seq 𝓤 H A W 𝓣 E G36 G37 b25 b28 Δ5 (Typed.ask s31) at29 (Relend.t-sl-aggregate 𝓤 H A W E SlotAs.row 𝓣 (Relend.asMut SlotAs.row) G36 13
-                14 2 (Syntax.tyRef Syntax.erased Syntax.mut SlotAs.pointee) (Syntax.tyRef Syntax.erased Syntax.mut SlotAs.pointee) (λ x. x) (Scalar.oFld 2
+            d31 : Typed.Typed 𝓤 H A 𝓣 E G37 b32 Δ5 at31
+            d31 = Typed.s-seq 𝓤 H A W 𝓣 E G37 G38 b26 b31 Δ5 (Typed.ask s32) at30 (Relend.t-sl-aggregate 𝓤 H A W E SlotAs.row 𝓣 (Relend.asMut SlotAs.row) G37 14
+                15 2 (Syntax.tyRef Syntax.erased Syntax.mut SlotAs.pointee) (Syntax.tyRef Syntax.erased Syntax.mut SlotAs.pointee) (λ x. x) (Scalar.oFld 2
                 (Syntax.field 1 ∷ []) (Syntax.tyInt Syntax.w64) 8 λ v. Shared.lenV (v .0)) (Reads'.as-is 𝓤 H A (Relend.msptr SlotAs.row (Syntax.tyRef
                 Syntax.erased Syntax.mut SlotAs.pointee) 2)) (Reads'.room-gone 𝓤 H A (Syntax.tyStruct (38 ∷ 91 ∷ 93 ∷ []) (Syntax.tcons (Syntax.tyRef
                 Syntax.erased Syntax.mut SlotAs.pointee) (Syntax.tcons (Syntax.tyInt Syntax.w64) Syntax.tnil)))) (
@@ -4767,16 +5017,16 @@ module _ (claims· : Claims) where
                       (Syntax.tyRef (Syntax.named 1) Syntax.mut SlotAs.pointee) 1 2 (Row.lease (κs .1 .0) (qs .1 .0)) 8 Path'.refl,
                   Path'.refl,
                 ) Path'.refl Path'.refl λ
-                b o k. tt) d29
+                b o k. tt) d30
 
-            d31 : Typed.Typed 𝓤 H A 𝓣 E G35 b30 Δ5 at31
-            d31 = Typed.s-seq 𝓤 H A W 𝓣 E G35 G36 b24 b29 Δ5 (Typed.give s30) at30 (Relend.t-sl-relend 𝓤 H A W E SlotAs.row 𝓣 G35 2 13 1 2 (Syntax.tyRef
+            d32 : Typed.Typed 𝓤 H A 𝓣 E G36 b33 Δ5 at32
+            d32 = Typed.s-seq 𝓤 H A W 𝓣 E G36 G37 b25 b32 Δ5 (Typed.give s31) at31 (Relend.t-sl-relend 𝓤 H A W E SlotAs.row 𝓣 G36 2 14 1 2 (Syntax.tyRef
                 (Syntax.named 1) Syntax.mut SlotAs.pointee) (Syntax.tyRef Syntax.erased Syntax.mut SlotAs.pointee) (Row.lease (κs .1 .0) (qs .1 .0)) 0 (λ x. x)
                 (Reads'.as-is 𝓤 H A (Mut.mslice SlotAs.row (Syntax.tyRef (Syntax.named 1) Syntax.mut SlotAs.pointee) 1)) (Reads'.room-gone 𝓤 H A (Syntax.tyRef
-                Syntax.erased Syntax.mut SlotAs.pointee)) Path'.refl tt Path'.refl Path'.refl Path'.refl λ b o. tt) d30
+                Syntax.erased Syntax.mut SlotAs.pointee)) Path'.refl tt Path'.refl Path'.refl Path'.refl λ b o. tt) d31
 
-            d32 : Typed.Typed 𝓤 H A 𝓣 E G34 b30 Δ5 at32
-            d32 = Typed.g-pre 𝓤 H A W 𝓣 E G34 G35 b30 Δ5 (λ Ψ. Ψ) at31 (Lifetime.g-begin 𝓤 H A W E G34 2 (
+            d33 : Typed.Typed 𝓤 H A 𝓣 E G35 b33 Δ5 at33
+            d33 = Typed.g-pre 𝓤 H A W 𝓣 E G35 G36 b33 Δ5 (λ Ψ. Ψ) at32 (Lifetime.g-begin 𝓤 H A W E G35 2 (
               tt,
               (
                 tt,
@@ -4798,7 +5048,7 @@ module _ (claims· : Claims) where
                                 tt,
                                 (
                                   tt,
-                                  (tt, (tt, (tt, (tt, tt)))),
+                                  (tt, (tt, (tt, (tt, (tt, tt))))),
                                 ),
                               ),
                             ),
@@ -4809,11 +5059,11 @@ module _ (claims· : Claims) where
                   ),
                 ),
               ),
-            )) d31
+            )) d32
 
-            d33 : Typed.Typed 𝓤 H A 𝓣 E G29 b31 Δ5 at33
-            d33 = Typed.s-seq 𝓤 H A W 𝓣 E G29 G34 b23 b30 Δ5 (Typed.both s28) at32 (Plain.t-call-plain 𝓤 H A W 𝓣 1 ps·1 r·1 (claims· .2) (claims· .3)
-                "rows::line_at" (known .1) E (λ pos β. β) G29 (
+            d34 : Typed.Typed 𝓤 H A 𝓣 E G30 b34 Δ5 at34
+            d34 = Typed.s-seq 𝓤 H A W 𝓣 E G30 G35 b24 b33 Δ5 (Typed.both s29) at33 (Plain.t-call-plain 𝓤 H A W 𝓣 1 ps·1 r·1 (claims· .2) (claims· .3)
+                "rows::line_at" (known .1) E (λ pos β. β) G30 (
                   record {
                     pos = 1;
                     ty = Syntax.tyRef (Syntax.named 0) Syntax.imm (Syntax.tyInt Syntax.w8);
@@ -4821,7 +5071,7 @@ module _ (claims· : Claims) where
                         x. x;
                   },
                   (Num.vAt 5 λ x. x, tt),
-                ) 7 (0 ∷ []) (Call.sub-id 𝓤 H A W (G29 .slots)) (
+                ) 8 (0 ∷ []) (Call.sub-id 𝓤 H A W (G30 .slots)) (
                   ShrSlice.spares-sslice 𝓤 H A W (Referent.rtF (Referent.fInt
                       Syntax.w8)) (Syntax.tyRef (Syntax.named 0) Syntax.imm (Syntax.tyInt Syntax.w8)) 0,
                   Shared.reads-sslice 𝓤 H A W (Referent.rtF (Referent.fInt
@@ -4841,18 +5091,19 @@ module _ (claims· : Claims) where
                 Syntax.tnil (Syntax.ttcons Syntax.tnil (Syntax.ttcons Syntax.tnil (Syntax.ttcons Syntax.tnil (Syntax.ttcons Syntax.tnil (Syntax.ttcons
                 Syntax.tnil (Syntax.ttcons Syntax.tnil (Syntax.ttcons Syntax.tnil (Syntax.ttcons Syntax.tnil (Syntax.ttcons Syntax.tnil (Syntax.ttcons
                 Syntax.tnil (Syntax.ttcons Syntax.tnil (Syntax.ttcons Syntax.tnil (Syntax.ttcons Syntax.tnil (Syntax.ttcons Syntax.tnil (Syntax.ttcons
-                Syntax.tnil (Syntax.ttcons Syntax.tnil (Syntax.ttcons Syntax.tnil (Syntax.ttcons Syntax.tnil Syntax.ttnil)))))))))))))))))))))))))))))
-                (Syntax.tcons (Syntax.tyInt Syntax.w32) Syntax.tnil)) (Syntax.ttcons (Syntax.tcons (Syntax.tyEnum (107 ∷ 105 ∷ 110 ∷ 100 ∷ 115 ∷ 58 ∷ 58 ∷ 75 ∷
-                105 ∷ 110 ∷ 100 ∷ []) (Syntax.ttcons Syntax.tnil (Syntax.ttcons Syntax.tnil (Syntax.ttcons Syntax.tnil (Syntax.ttcons Syntax.tnil (Syntax.ttcons
                 Syntax.tnil (Syntax.ttcons Syntax.tnil (Syntax.ttcons Syntax.tnil (Syntax.ttcons Syntax.tnil (Syntax.ttcons Syntax.tnil (Syntax.ttcons
-                Syntax.tnil (Syntax.ttcons Syntax.tnil (Syntax.ttcons Syntax.tnil (Syntax.ttcons Syntax.tnil (Syntax.ttcons Syntax.tnil (Syntax.ttcons
-                Syntax.tnil (Syntax.ttcons Syntax.tnil (Syntax.ttcons Syntax.tnil (Syntax.ttcons Syntax.tnil (Syntax.ttcons Syntax.tnil (Syntax.ttcons
-                Syntax.tnil (Syntax.ttcons Syntax.tnil (Syntax.ttcons Syntax.tnil (Syntax.ttcons Syntax.tnil (Syntax.ttcons Syntax.tnil (Syntax.ttcons
-                Syntax.tnil (Syntax.ttcons Syntax.tnil (Syntax.ttcons Syntax.tnil (Syntax.ttcons Syntax.tnil Syntax.ttnil)))))))))))))))))))))))))))))
-                Syntax.tnil) (Syntax.ttcons (Syntax.tcons (Syntax.tyEnum (108 ∷ 105 ∷ 110 ∷ 101 ∷ 58 ∷ 58 ∷ 82 ∷ 101 ∷ 99 ∷ 111 ∷ 114 ∷ 100 ∷ []) (Syntax.ttcons
-                (Syntax.tcons Syntax.tyBool (Syntax.tcons (Syntax.tyStruct (99 ∷ 111 ∷ 111 ∷ 114 ∷ 100 ∷ 105 ∷ 110 ∷ 97 ∷ 116 ∷ 101 ∷ 58 ∷ 58 ∷ 65 ∷ 116 ∷ 111 ∷
-                109 ∷ []) (Syntax.tcons (Syntax.tyStruct (99 ∷ 111 ∷ 111 ∷ 114 ∷ 100 ∷ 105 ∷ 110 ∷ 97 ∷ 116 ∷ 101 ∷ 58 ∷ 58 ∷ 73 ∷ 100 ∷ 101 ∷ 110 ∷ 116 ∷ 105 ∷
-                116 ∷ 121 ∷ []) (Syntax.tcons (Syntax.tyStruct (102 ∷ 105 ∷ 101 ∷ 108 ∷ 100 ∷ 115 ∷ 58 ∷ 58 ∷ 83 ∷ 101 ∷ 114 ∷ 105 ∷ 97 ∷ 108 ∷ []) (Syntax.tcons
+                Syntax.tnil Syntax.ttnil))))))))))))))))))))))))))))))) (Syntax.tcons (Syntax.tyInt Syntax.w32) Syntax.tnil)) (Syntax.ttcons (Syntax.tcons
+                (Syntax.tyEnum (107 ∷ 105 ∷ 110 ∷ 100 ∷ 115 ∷ 58 ∷ 58 ∷ 75 ∷ 105 ∷ 110 ∷ 100 ∷ []) (Syntax.ttcons Syntax.tnil (Syntax.ttcons Syntax.tnil
+                (Syntax.ttcons Syntax.tnil (Syntax.ttcons Syntax.tnil (Syntax.ttcons Syntax.tnil (Syntax.ttcons Syntax.tnil (Syntax.ttcons Syntax.tnil
+                (Syntax.ttcons Syntax.tnil (Syntax.ttcons Syntax.tnil (Syntax.ttcons Syntax.tnil (Syntax.ttcons Syntax.tnil (Syntax.ttcons Syntax.tnil
+                (Syntax.ttcons Syntax.tnil (Syntax.ttcons Syntax.tnil (Syntax.ttcons Syntax.tnil (Syntax.ttcons Syntax.tnil (Syntax.ttcons Syntax.tnil
+                (Syntax.ttcons Syntax.tnil (Syntax.ttcons Syntax.tnil (Syntax.ttcons Syntax.tnil (Syntax.ttcons Syntax.tnil (Syntax.ttcons Syntax.tnil
+                (Syntax.ttcons Syntax.tnil (Syntax.ttcons Syntax.tnil (Syntax.ttcons Syntax.tnil (Syntax.ttcons Syntax.tnil (Syntax.ttcons Syntax.tnil
+                (Syntax.ttcons Syntax.tnil (Syntax.ttcons Syntax.tnil (Syntax.ttcons Syntax.tnil Syntax.ttnil))))))))))))))))))))))))))))))) Syntax.tnil)
+                (Syntax.ttcons (Syntax.tcons (Syntax.tyEnum (108 ∷ 105 ∷ 110 ∷ 101 ∷ 58 ∷ 58 ∷ 82 ∷ 101 ∷ 99 ∷ 111 ∷ 114 ∷ 100 ∷ []) (Syntax.ttcons (Syntax.tcons
+                Syntax.tyBool (Syntax.tcons (Syntax.tyStruct (99 ∷ 111 ∷ 111 ∷ 114 ∷ 100 ∷ 105 ∷ 110 ∷ 97 ∷ 116 ∷ 101 ∷ 58 ∷ 58 ∷ 65 ∷ 116 ∷ 111 ∷ 109 ∷ [])
+                (Syntax.tcons (Syntax.tyStruct (99 ∷ 111 ∷ 111 ∷ 114 ∷ 100 ∷ 105 ∷ 110 ∷ 97 ∷ 116 ∷ 101 ∷ 58 ∷ 58 ∷ 73 ∷ 100 ∷ 101 ∷ 110 ∷ 116 ∷ 105 ∷ 116 ∷ 121
+                ∷ []) (Syntax.tcons (Syntax.tyStruct (102 ∷ 105 ∷ 101 ∷ 108 ∷ 100 ∷ 115 ∷ 58 ∷ 58 ∷ 83 ∷ 101 ∷ 114 ∷ 105 ∷ 97 ∷ 108 ∷ []) (Syntax.tcons
                 (Syntax.tyInt Syntax.w32) Syntax.tnil)) (Syntax.tcons (Syntax.tyStruct (110 ∷ 97 ∷ 109 ∷ 101 ∷ 115 ∷ 58 ∷ 58 ∷ 70 ∷ 111 ∷ 117 ∷ 114 ∷ [])
                 (Syntax.tcons (Syntax.tyInt Syntax.w8) (Syntax.tcons (Syntax.tyInt Syntax.w8) (Syntax.tcons (Syntax.tyInt Syntax.w8) (Syntax.tcons (Syntax.tyInt
                 Syntax.w8) Syntax.tnil))))) (Syntax.tcons (Syntax.tyInt Syntax.w8) (Syntax.tcons (Syntax.tyStruct (114 ∷ 101 ∷ 115 ∷ 105 ∷ 100 ∷ 117 ∷ 101 ∷ 58 ∷
@@ -4931,66 +5182,72 @@ module _ (claims· : Claims) where
                 ∷ 108 ∷ 108 ∷ 121 ∷ []) (Syntax.tcons (Syntax.tyInt Syntax.w32) (Syntax.tcons (Syntax.tyInt Syntax.w32) (Syntax.tcons (Syntax.tyInt Syntax.w32)
                 (Syntax.tcons (Syntax.tyInt Syntax.w32) (Syntax.tcons (Syntax.tyInt Syntax.w32) (Syntax.tcons (Syntax.tyInt Syntax.w32) (Syntax.tcons
                 (Syntax.tyInt Syntax.w32) (Syntax.tcons (Syntax.tyInt Syntax.w32) (Syntax.tcons (Syntax.tyInt Syntax.w32) Syntax.tnil)))))))))) Syntax.tnil)
-                (Syntax.ttcons Syntax.tnil Syntax.ttnil)))))))) Syntax.tnil) Syntax.ttnil)))))) (tt, tt) Path'.refl) d32
+                (Syntax.ttcons Syntax.tnil (Syntax.ttcons (Syntax.tcons (Syntax.tyStruct (109 ∷ 111 ∷ 100 ∷ 101 ∷ 108 ∷ 58 ∷ 58 ∷ 77 ∷ 111 ∷ 100 ∷ 101 ∷ 108 ∷
+                []) (Syntax.tcons (Syntax.tyInt Syntax.w32) Syntax.tnil)) Syntax.tnil) (Syntax.ttcons Syntax.tnil Syntax.ttnil)))))))))) Syntax.tnil)
+                Syntax.ttnil)))))) (tt, tt) Path'.refl) d33
 
-            d34 : Typed.Typed 𝓤 H A 𝓣 E G28 b32 Δ5 at34
-            d34 = Typed.t-seq 𝓤 H A W 𝓣 E G28 G29 b22 b31 Δ5 at23 at33 d23 d33
+            d35 : Typed.Typed 𝓤 H A 𝓣 E G29 b35 Δ5 at35
+            d35 = Typed.t-seq 𝓤 H A W 𝓣 E G29 G30 b23 b34 Δ5 at23 at34 d23 d34
 
-            d35 : Typed.Typed 𝓤 H A 𝓣 E G27 b33 Δ5 at35
-            d35 = Typed.s-seq 𝓤 H A W 𝓣 E G27 G28 b19 b32 Δ5 (Typed.ask s23) at34 (Scalar.t-op2 𝓤 H A W E 𝓣 G27 (Syntax.lt Syntax.unsigned) (Scalar.oAt 10
-                (Syntax.tyInt Syntax.w64) (Row.valS (Row.sInt Syntax.w64))) (Scalar.oAt 11 (Syntax.tyInt Syntax.w64) (Row.valS (Row.sInt Syntax.w64))) 12
+            d36 : Typed.Typed 𝓤 H A 𝓣 E G28 b36 Δ5 at36
+            d36 = Typed.s-seq 𝓤 H A W 𝓣 E G28 G29 b20 b35 Δ5 (Typed.ask s24) at35 (Scalar.t-op2 𝓤 H A W E 𝓣 G28 (Syntax.lt Syntax.unsigned) (Scalar.oAt 11
+                (Syntax.tyInt Syntax.w64) (Row.valS (Row.sInt Syntax.w64))) (Scalar.oAt 12 (Syntax.tyInt Syntax.w64) (Row.valS (Row.sInt Syntax.w64))) 13
                 (Rows.sc-here Row.sBool) Syntax.tyBool (Row.valS Row.sBool) (Row.sBool .of) (Scalar.reads-sc 𝓤 H A W (Row.sInt Syntax.w64), Path'.refl)
                 (Scalar.reads-sc 𝓤 H A W (Row.sInt Syntax.w64), Path'.refl) (Reads'.room-gone 𝓤 H A Syntax.tyBool) (Scalar.holds-sc 𝓤 H A W Row.sBool) Path'.refl
-                (λ u. Path'.refl) λ u. tt) d34
+                (λ u. Path'.refl) λ u. tt) d35
 
-            d36 : Typed.Typed 𝓤 H A 𝓣 E G26 b34 Δ5 at36
-            d36 = Typed.s-seq 𝓤 H A W 𝓣 E G26 G27 b18 b33 Δ5 (Typed.pass T26 T27 s22) at35 (Scalar.t-use 𝓤 H A W E 𝓣 G26 (Scalar.oFld 1 (Syntax.field 1 ∷ [])
-                (Syntax.tyInt Syntax.w64) 8 Shared.lenV) 11 (Rows.sc-here (Row.sInt Syntax.w64)) (Syntax.tyInt Syntax.w64) (Row.valS (Row.sInt Syntax.w64))
+            d37 : Typed.Typed 𝓤 H A 𝓣 E G27 b37 Δ5 at37
+            d37 = Typed.s-seq 𝓤 H A W 𝓣 E G27 G28 b19 b36 Δ5 (Typed.pass T27 T28 s23) at36 (Scalar.t-use 𝓤 H A W E 𝓣 G27 (Scalar.oFld 1 (Syntax.field 1 ∷ [])
+                (Syntax.tyInt Syntax.w64) 8 Shared.lenV) 12 (Rows.sc-here (Row.sInt Syntax.w64)) (Syntax.tyInt Syntax.w64) (Row.valS (Row.sInt Syntax.w64))
                 (Row.sInt Syntax.w64 .of) (
                   Shared.reads-sslice-len 𝓤 H A W (Referent.rtF (Referent.fInt Syntax.w8)) (Syntax.tyRef (Syntax.named 0) Syntax.imm
                       (Syntax.tyInt Syntax.w8)) 0 8 Path'.refl,
                   Path'.refl,
                 ) (Reads'.room-gone 𝓤 H A (Syntax.tyInt Syntax.w64)) (Scalar.holds-sc 𝓤 H A W (Row.sInt
-                Syntax.w64)) Path'.refl (λ u. Path'.refl) λ u. tt) d35
+                Syntax.w64)) Path'.refl (λ u. Path'.refl) λ u. tt) d36
 
-            d37 : Typed.Typed 𝓤 H A 𝓣 E G24 b35 Δ5 at37
-            d37 = Typed.s-seq 𝓤 H A W 𝓣 E G24 G26 b17 b34 Δ5 (Typed.ask s21) at36 (Scalar.t-op2 𝓤 H A W E 𝓣 G24 (Syntax.mul Syntax.unsigned) (Scalar.oInt
-                Syntax.w64 81) (Scalar.oAt 5 (Syntax.tyInt Syntax.w64) (Row.valS (Row.sInt Syntax.w64))) 10 (Rows.sc-here (Row.sInt Syntax.w64)) (Syntax.tyInt
+            d38 : Typed.Typed 𝓤 H A 𝓣 E G25 b38 Δ5 at38
+            d38 = Typed.s-seq 𝓤 H A W 𝓣 E G25 G27 b18 b37 Δ5 (Typed.ask s22) at37 (Scalar.t-op2 𝓤 H A W E 𝓣 G25 (Syntax.mul Syntax.unsigned) (Scalar.oInt
+                Syntax.w64 81) (Scalar.oAt 5 (Syntax.tyInt Syntax.w64) (Row.valS (Row.sInt Syntax.w64))) 11 (Rows.sc-here (Row.sInt Syntax.w64)) (Syntax.tyInt
                 Syntax.w64) (Row.valS (Row.sInt Syntax.w64)) (Row.sInt Syntax.w64 .of) tt (Scalar.reads-sc 𝓤 H A W (Row.sInt Syntax.w64), Path'.refl)
-                (Reads'.room-gone 𝓤 H A (Syntax.tyInt Syntax.w64)) (Scalar.holds-sc 𝓤 H A W (Row.sInt Syntax.w64)) Path'.refl (λ u. Path'.refl) λ u. tt) d36
+                (Reads'.room-gone 𝓤 H A (Syntax.tyInt Syntax.w64)) (Scalar.holds-sc 𝓤 H A W (Row.sInt Syntax.w64)) Path'.refl (λ u. Path'.refl) λ u. tt) d37
 
-            d38 : Typed.Typed 𝓤 H A 𝓣 E G24 b36 Δ4 at38
-            d38 = Typed.t-loop-by 𝓤 H A W 𝓣 E G24 b35 Δ4 put0 (λ u vs. Inv·0 (Row.get 1 (T24 .locals) u .now) (Row.get 2 (T24 .locals) u .now) (Row.get 4 (T24
-                .locals) u) (Row.get 5 (T24 .locals) u) (Row.get 6 (T24 .locals) u) (vs .0) (vs .1) (vs .2)) (λ u vs. μ·0 (Row.get 1 (T24 .locals) u .now)
-                (Row.get 2 (T24 .locals) u .now) (Row.get 4 (T24 .locals) u) (Row.get 5 (T24 .locals) u) (Row.get 6 (T24 .locals) u) (vs .0) (vs .1) (vs .2))
-                at37 d37
+            d39 : Typed.Typed 𝓤 H A 𝓣 E G25 b39 Δ4 at39
+            d39 = Typed.t-loop-by 𝓤 H A W 𝓣 E G25 b38 Δ4 put0 (λ u vs. Inv·0 (Row.get 1 (T25 .locals) u .now) (Row.get 2 (T25 .locals) u .now) (Row.get 4 (T25
+                .locals) u) (Row.get 5 (T25 .locals) u) (Row.get 6 (T25 .locals) u) (Row.get 7 (T25 .locals) u) (vs .0) (vs .1) (vs .2) (vs .3)) (λ u vs. μ·0
+                (Row.get 1 (T25 .locals) u .now) (Row.get 2 (T25 .locals) u .now) (Row.get 4 (T25 .locals) u) (Row.get 5 (T25 .locals) u) (Row.get 6 (T25
+                .locals) u) (Row.get 7 (T25 .locals) u) (vs .0) (vs .1) (vs .2) (vs .3)) at38 d38
 
-            d39 : Typed.Typed 𝓤 H A 𝓣 E G24 b37 Δ3 at39
-            d39 = Typed.t-block 𝓤 H A W 𝓣 E G24 b36 Δ3 at38 d38
+            d40 : Typed.Typed 𝓤 H A 𝓣 E G25 b40 Δ3 at40
+            d40 = Typed.t-block 𝓤 H A W 𝓣 E G25 b39 Δ3 at39 d39
 
-            d40 : Typed.Typed 𝓤 H A 𝓣 E G48 b39 Δ0 at40
-            d40 = Typed.t-return 𝓤 H A W 𝓣 E Δ0 tt
+            d41 : Typed.Typed 𝓤 H A 𝓣 E G51 b42 Δ0 at41
+            d41 = Typed.t-return 𝓤 H A W 𝓣 E Δ0 tt
 
-            d41 : Typed.Typed 𝓤 H A 𝓣 E G47 b39 Δ0 at41
-            d41 = Typed.g-pre 𝓤 H A W 𝓣 E G47 G48 b39 Δ0 (Typed.pass T47 T48 s42) at40 (AtSlots.g-as-by 𝓤 H A W E (λ ρ. Unit) G47 0 (Rows.whole (Declared'.row
-                Outcome.the-type)) (λ v. Outcome.struct .make v tt) (Own.told-none 𝓤 H A (G47 .slots)) λ ρ told v b. Apart.folds 𝓤 H A Outcome.the-type
-                (Outcome.struct .Ghost) (Outcome.struct .make) (λ v g. Path'.refl) ρ v tt b) d40
+            d42 : Typed.Typed 𝓤 H A 𝓣 E G50 b42 Δ0 at42
+            d42 = Typed.g-pre 𝓤 H A W 𝓣 E G50 G51 b42 Δ0 (Typed.pass T50 T51 s45) at41 (AtSlots.g-as-by 𝓤 H A W E (λ ρ. Unit) G50 0 (Rows.whole (Declared'.row
+                Outcome.the-type)) (λ v. Outcome.struct .make v tt) (Own.told-none 𝓤 H A (G50 .slots)) λ ρ told v b. Apart.folds 𝓤 H A Outcome.the-type
+                (Outcome.struct .Ghost) (Outcome.struct .make) (λ v g. Path'.refl) ρ v tt b) d41
 
-            d42 : Typed.Typed 𝓤 H A 𝓣 E G46 b39 Δ0 at42
-            d42 = Typed.g-pre 𝓤 H A W 𝓣 E G46 G47 b39 Δ0 (Typed.pass T46 T47 s41) at41 (Scalar.g-room 𝓤 H A W E G46 6 (Syntax.tyInt Syntax.w64) (Scalar.room-sc 𝓤
-                H A W (Row.sInt Syntax.w64))) d41
+            d43 : Typed.Typed 𝓤 H A 𝓣 E G49 b42 Δ0 at43
+            d43 = Typed.g-pre 𝓤 H A W 𝓣 E G49 G50 b42 Δ0 (Typed.pass T49 T50 s44) at42 (Scalar.g-room 𝓤 H A W E G49 7 (Syntax.tyInt Syntax.w32) (Scalar.room-sc 𝓤
+                H A W (Row.sInt Syntax.w32))) d42
 
-            d43 : Typed.Typed 𝓤 H A 𝓣 E G45 b39 Δ0 at43
-            d43 = Typed.g-pre 𝓤 H A W 𝓣 E G45 G46 b39 Δ0 (Typed.pass T45 T46 s40) at42 (Scalar.g-room 𝓤 H A W E G45 5 (Syntax.tyInt Syntax.w64) (Scalar.room-sc 𝓤
-                H A W (Row.sInt Syntax.w64))) d42
-
-            d44 : Typed.Typed 𝓤 H A 𝓣 E G44 b39 Δ0 at44
-            d44 = Typed.g-pre 𝓤 H A W 𝓣 E G44 G45 b39 Δ0 (Typed.pass T44 T45 s39) at43 (Scalar.g-room 𝓤 H A W E G44 4 (Syntax.tyInt Syntax.w64) (Scalar.room-sc 𝓤
+            d44 : Typed.Typed 𝓤 H A 𝓣 E G48 b42 Δ0 at44
+            d44 = Typed.g-pre 𝓤 H A W 𝓣 E G48 G49 b42 Δ0 (Typed.pass T48 T49 s43) at43 (Scalar.g-room 𝓤 H A W E G48 6 (Syntax.tyInt Syntax.w64) (Scalar.room-sc 𝓤
                 H A W (Row.sInt Syntax.w64))) d43
 
-            d45 : Typed.Typed 𝓤 H A 𝓣 E G25 b40 Δ0 at45
-            d45 = Typed.s-seq 𝓤 H A W 𝓣 E G25 G44 b38 b39 Δ0 (Typed.pass T25 T44 s38) at44 (Make.t-struct-make 𝓤 H A W E 𝓣 (Apart.apartT Outcome.the-type)
-                Laws''.the-laws Laws''.the-plain G25 0 (Scalar.oInt Syntax.w8 0 ∷ Scalar.oAt 4 (Syntax.tyInt Syntax.w64) (Row.valS (Row.sInt Syntax.w64)) ∷ [])
+            d45 : Typed.Typed 𝓤 H A 𝓣 E G47 b42 Δ0 at45
+            d45 = Typed.g-pre 𝓤 H A W 𝓣 E G47 G48 b42 Δ0 (Typed.pass T47 T48 s42) at44 (Scalar.g-room 𝓤 H A W E G47 5 (Syntax.tyInt Syntax.w64) (Scalar.room-sc 𝓤
+                H A W (Row.sInt Syntax.w64))) d44
+
+            d46 : Typed.Typed 𝓤 H A 𝓣 E G46 b42 Δ0 at46
+            d46 = Typed.g-pre 𝓤 H A W 𝓣 E G46 G47 b42 Δ0 (Typed.pass T46 T47 s41) at45 (Scalar.g-room 𝓤 H A W E G46 4 (Syntax.tyInt Syntax.w64) (Scalar.room-sc 𝓤
+                H A W (Row.sInt Syntax.w64))) d45
+
+            d47 : Typed.Typed 𝓤 H A 𝓣 E G26 b43 Δ0 at47
+            d47 = Typed.s-seq 𝓤 H A W 𝓣 E G26 G46 b41 b42 Δ0 (Typed.pass T26 T46 s40) at46 (Make.t-struct-make 𝓤 H A W E 𝓣 (Apart.apartT Outcome.the-type)
+                Laws''.the-laws Laws''.the-plain G26 0 (Scalar.oInt Syntax.w8 0 ∷ Scalar.oAt 4 (Syntax.tyInt Syntax.w64) (Row.valS (Row.sInt Syntax.w64)) ∷ [])
                 (λ m. (0, (m .1 .1 .1 .1 .0, tt))) (Reads'.room-gone 𝓤 H A (Syntax.tyStruct (115 ∷ 116 ∷ 111 ∷ 114 ∷ 101 ∷ 58 ∷ 58 ∷ 79 ∷ 117 ∷ 116 ∷ 99 ∷ 111 ∷
                 109 ∷ 101 ∷ []) (Syntax.tcons (Syntax.tyInt Syntax.w8) (Syntax.tcons (Syntax.tyInt Syntax.w64) Syntax.tnil)))) (
                   tt,
@@ -5003,73 +5260,78 @@ module _ (claims· : Claims) where
                     tt,
                   ),
                 ) Path'.refl (λ u. Path'.refl) λ m. Make.is-wt (Apart.apartT Outcome.the-type) Laws''.the-laws
-                (Make.u8-wt, (Make.u64-wt, tt)) (0, (m .1 .1 .1 .1 .0, tt))) d44
+                (Make.u8-wt, (Make.u64-wt, tt)) (0, (m .1 .1 .1 .1 .0, tt))) d46
 
-            d46 : Typed.Typed 𝓤 H A 𝓣 E G24 b41 Δ0 at46
-            d46 = Typed.t-seq 𝓤 H A W 𝓣 E G24 G25 b37 b40 Δ0 at39 at45 d39 d45
+            d48 : Typed.Typed 𝓤 H A 𝓣 E G25 b44 Δ0 at48
+            d48 = Typed.t-seq 𝓤 H A W 𝓣 E G25 G26 b40 b43 Δ0 at40 at47 d40 d47
 
-            d47 : Typed.Typed 𝓤 H A 𝓣 E G23 b42 Δ0 at47
-            d47 = Typed.s-seq 𝓤 H A W 𝓣 E G23 G24 b16 b41 Δ0 (Typed.pass T23 T24 s20) at46 (Scalar.t-use 𝓤 H A W E 𝓣 G23 (Scalar.oInt Syntax.w64 0) 6
+            d49 : Typed.Typed 𝓤 H A 𝓣 E G24 b45 Δ0 at49
+            d49 = Typed.s-seq 𝓤 H A W 𝓣 E G24 G25 b17 b44 Δ0 (Typed.pass T24 T25 s21) at48 (Scalar.t-use 𝓤 H A W E 𝓣 G24 (Scalar.oInt Syntax.w32 0) 7
+                (Rows.sc-here (Row.sInt Syntax.w32)) (Syntax.tyInt Syntax.w32) (Row.valS (Row.sInt Syntax.w32)) (Row.sInt Syntax.w32 .of) tt (Reads'.room-gone 𝓤
+                H A (Syntax.tyInt Syntax.w32)) (Scalar.holds-sc 𝓤 H A W (Row.sInt Syntax.w32)) Path'.refl (λ u. Path'.refl) λ u. tt) d48
+
+            d50 : Typed.Typed 𝓤 H A 𝓣 E G23 b46 Δ0 at50
+            d50 = Typed.s-seq 𝓤 H A W 𝓣 E G23 G24 b16 b45 Δ0 (Typed.pass T23 T24 s20) at49 (Scalar.t-use 𝓤 H A W E 𝓣 G23 (Scalar.oInt Syntax.w64 0) 6
                 (Rows.sc-here (Row.sInt Syntax.w64)) (Syntax.tyInt Syntax.w64) (Row.valS (Row.sInt Syntax.w64)) (Row.sInt Syntax.w64 .of) tt (Reads'.room-gone 𝓤
-                H A (Syntax.tyInt Syntax.w64)) (Scalar.holds-sc 𝓤 H A W (Row.sInt Syntax.w64)) Path'.refl (λ u. Path'.refl) λ u. tt) d46
+                H A (Syntax.tyInt Syntax.w64)) (Scalar.holds-sc 𝓤 H A W (Row.sInt Syntax.w64)) Path'.refl (λ u. Path'.refl) λ u. tt) d49
 
-            d48 : Typed.Typed 𝓤 H A 𝓣 E G16 b43 Δ0 at48
-            d48 = Typed.s-seq 𝓤 H A W 𝓣 E G16 G23 b15 b42 Δ0 (Typed.pass T16 T23 s19) at47 (Scalar.t-use 𝓤 H A W E 𝓣 G16 (Scalar.oInt Syntax.w64 0) 5
+            d51 : Typed.Typed 𝓤 H A 𝓣 E G16 b47 Δ0 at51
+            d51 = Typed.s-seq 𝓤 H A W 𝓣 E G16 G23 b15 b46 Δ0 (Typed.pass T16 T23 s19) at50 (Scalar.t-use 𝓤 H A W E 𝓣 G16 (Scalar.oInt Syntax.w64 0) 5
                 (Rows.sc-here (Row.sInt Syntax.w64)) (Syntax.tyInt Syntax.w64) (Row.valS (Row.sInt Syntax.w64)) (Row.sInt Syntax.w64 .of) tt (Reads'.room-gone 𝓤
-                H A (Syntax.tyInt Syntax.w64)) (Scalar.holds-sc 𝓤 H A W (Row.sInt Syntax.w64)) Path'.refl (λ u. Path'.refl) λ u. tt) d47
+                H A (Syntax.tyInt Syntax.w64)) (Scalar.holds-sc 𝓤 H A W (Row.sInt Syntax.w64)) Path'.refl (λ u. Path'.refl) λ u. tt) d50
 
-            d49 : Typed.Typed 𝓤 H A 𝓣 E G15 b44 Δ0 at49
-            d49 = Typed.t-seq 𝓤 H A W 𝓣 E G15 G16 b14 b43 Δ0 at16 at48 d16 d48
+            d52 : Typed.Typed 𝓤 H A 𝓣 E G15 b48 Δ0 at52
+            d52 = Typed.t-seq 𝓤 H A W 𝓣 E G15 G16 b14 b47 Δ0 at16 at51 d16 d51
 
-            d50 : Typed.Typed 𝓤 H A 𝓣 E G14 b45 Δ0 at50
-            d50 = Typed.s-seq 𝓤 H A W 𝓣 E G14 G15 b9 b44 Δ0 (Typed.ask s12) at49 (Scalar.t-op2 𝓤 H A W E 𝓣 G14 (Syntax.lt Syntax.unsigned) (Scalar.oAt 9
-                (Syntax.tyInt Syntax.w64) (Row.valS (Row.sInt Syntax.w64))) (Scalar.oAt 4 (Syntax.tyInt Syntax.w64) (Row.valS (Row.sInt Syntax.w64))) 8
+            d53 : Typed.Typed 𝓤 H A 𝓣 E G14 b49 Δ0 at53
+            d53 = Typed.s-seq 𝓤 H A W 𝓣 E G14 G15 b9 b48 Δ0 (Typed.ask s12) at52 (Scalar.t-op2 𝓤 H A W E 𝓣 G14 (Syntax.lt Syntax.unsigned) (Scalar.oAt 10
+                (Syntax.tyInt Syntax.w64) (Row.valS (Row.sInt Syntax.w64))) (Scalar.oAt 4 (Syntax.tyInt Syntax.w64) (Row.valS (Row.sInt Syntax.w64))) 9
                 (Rows.sc-here Row.sBool) Syntax.tyBool (Row.valS Row.sBool) (Row.sBool .of) (Scalar.reads-sc 𝓤 H A W (Row.sInt Syntax.w64), Path'.refl)
                 (Scalar.reads-sc 𝓤 H A W (Row.sInt Syntax.w64), Path'.refl) (Reads'.room-gone 𝓤 H A Syntax.tyBool) (Scalar.holds-sc 𝓤 H A W Row.sBool) Path'.refl
-                (λ u. Path'.refl) λ u. tt) d49
+                (λ u. Path'.refl) λ u. tt) d52
 
-            d51 : Typed.Typed 𝓤 H A 𝓣 E G13 b46 Δ0 at51
-            d51 = Typed.s-seq 𝓤 H A W 𝓣 E G13 G14 b8 b45 Δ0 (Typed.pass T13 T14 s11) at50 (Scalar.t-use 𝓤 H A W E 𝓣 G13 (Scalar.oFld 2 (Syntax.field 1 ∷ [])
-                (Syntax.tyInt Syntax.w64) 8 Shared.lenV) 9 (Rows.sc-here (Row.sInt Syntax.w64)) (Syntax.tyInt Syntax.w64) (Row.valS (Row.sInt Syntax.w64))
+            d54 : Typed.Typed 𝓤 H A 𝓣 E G13 b50 Δ0 at54
+            d54 = Typed.s-seq 𝓤 H A W 𝓣 E G13 G14 b8 b49 Δ0 (Typed.pass T13 T14 s11) at53 (Scalar.t-use 𝓤 H A W E 𝓣 G13 (Scalar.oFld 2 (Syntax.field 1 ∷ [])
+                (Syntax.tyInt Syntax.w64) 8 Shared.lenV) 10 (Rows.sc-here (Row.sInt Syntax.w64)) (Syntax.tyInt Syntax.w64) (Row.valS (Row.sInt Syntax.w64))
                 (Row.sInt Syntax.w64 .of) (
                   Mut.reads-mslice-len 𝓤 H A W SlotAs.row (Syntax.tyRef (Syntax.named 1) Syntax.mut SlotAs.pointee) 1 8 Path'.refl,
                   Path'.refl,
                 ) (Reads'.room-gone 𝓤 H A (Syntax.tyInt Syntax.w64)) (Scalar.holds-sc 𝓤 H A W (Row.sInt Syntax.w64)) Path'.refl (λ u. Path'.refl) λ u.
-                tt) d50
+                tt) d53
 
-            d52 : Typed.Typed 𝓤 H A 𝓣 E G12 b46 Δ0 at52
-            d52 = Typed.g-pre 𝓤 H A W 𝓣 E G12 G13 b46 Δ0 (Typed.pass T12 T13 s10) at51 (Scalar.g-room 𝓤 H A W E G12 3 (Syntax.tyStruct (115 ∷ 116 ∷ 111 ∷ 114 ∷
+            d55 : Typed.Typed 𝓤 H A 𝓣 E G12 b50 Δ0 at55
+            d55 = Typed.g-pre 𝓤 H A W 𝓣 E G12 G13 b50 Δ0 (Typed.pass T12 T13 s10) at54 (Scalar.g-room 𝓤 H A W E G12 3 (Syntax.tyStruct (115 ∷ 116 ∷ 111 ∷ 114 ∷
                 101 ∷ 58 ∷ 58 ∷ 78 ∷ 101 ∷ 101 ∷ 100 ∷ 115 ∷ []) (Syntax.tcons (Syntax.tyInt Syntax.w8) (Syntax.tcons (Syntax.tyInt Syntax.w64) Syntax.tnil)))
                 (Local.room-whole 𝓤 H A W (Declared'.row Needs.the-type) (Syntax.tyStruct (115 ∷ 116 ∷ 111 ∷ 114 ∷ 101 ∷ 58 ∷ 58 ∷ 78 ∷ 101 ∷ 101 ∷ 100 ∷ 115 ∷
-                []) (Syntax.tcons (Syntax.tyInt Syntax.w8) (Syntax.tcons (Syntax.tyInt Syntax.w64) Syntax.tnil))) Path'.refl)) d51
+                []) (Syntax.tcons (Syntax.tyInt Syntax.w8) (Syntax.tcons (Syntax.tyInt Syntax.w64) Syntax.tnil))) Path'.refl)) d54
 
-            d53 : Typed.Typed 𝓤 H A 𝓣 E G6 b47 Δ0 at53
-            d53 = Typed.s-seq 𝓤 H A W 𝓣 E G6 G12 b7 b46 Δ0 (Typed.pass T6 T12 s9) at52 (Scalar.t-use 𝓤 H A W E 𝓣 G6 (Scalar.oFld 3 (Syntax.field 1 ∷ [])
+            d56 : Typed.Typed 𝓤 H A 𝓣 E G6 b51 Δ0 at56
+            d56 = Typed.s-seq 𝓤 H A W 𝓣 E G6 G12 b7 b50 Δ0 (Typed.pass T6 T12 s9) at55 (Scalar.t-use 𝓤 H A W E 𝓣 G6 (Scalar.oFld 3 (Syntax.field 1 ∷ [])
                 (Syntax.tyInt Syntax.w64) 8 (Reads.fieldV Needs.the-type Laws'.the-laws 1)) 4 (Rows.sc-here (Row.sInt Syntax.w64)) (Syntax.tyInt Syntax.w64)
                 (Row.valS (Row.sInt Syntax.w64)) (Row.sInt Syntax.w64 .of) (
                   Reads.reads-field 𝓤 H A W Needs.the-type Laws'.the-laws 1 (Syntax.tyInt Syntax.w64) 8
                       Path'.refl,
                   Path'.refl,
                 ) (Reads'.room-gone 𝓤 H A (Syntax.tyInt Syntax.w64)) (Scalar.holds-sc 𝓤 H A W (Row.sInt Syntax.w64)) Path'.refl (λ u.
-                Path'.refl) λ u. tt) d52
+                Path'.refl) λ u. tt) d55
 
-            d54 : Typed.Typed 𝓤 H A 𝓣 E G5 b48 Δ0 at54
-            d54 = Typed.t-seq 𝓤 H A W 𝓣 E G5 G6 b6 b47 Δ0 at7 at53 d7 d53
+            d57 : Typed.Typed 𝓤 H A 𝓣 E G5 b52 Δ0 at57
+            d57 = Typed.t-seq 𝓤 H A W 𝓣 E G5 G6 b6 b51 Δ0 at7 at56 d7 d56
 
-            d55 : Typed.Typed 𝓤 H A 𝓣 E G4 b49 Δ0 at55
-            d55 = Typed.s-seq 𝓤 H A W 𝓣 E G4 G5 b1 b48 Δ0 (Typed.ask s3) at54 (Scalar.t-op2 𝓤 H A W E 𝓣 G4 Syntax.ne (Scalar.oFld 3 (Syntax.field 0 ∷ [])
-                (Syntax.tyInt Syntax.w8) 0 (Reads.fieldV Needs.the-type Laws'.the-laws 0)) (Scalar.oInt Syntax.w8 0) 8 (Rows.sc-here Row.sBool) Syntax.tyBool
+            d58 : Typed.Typed 𝓤 H A 𝓣 E G4 b53 Δ0 at58
+            d58 = Typed.s-seq 𝓤 H A W 𝓣 E G4 G5 b1 b52 Δ0 (Typed.ask s3) at57 (Scalar.t-op2 𝓤 H A W E 𝓣 G4 Syntax.ne (Scalar.oFld 3 (Syntax.field 0 ∷ [])
+                (Syntax.tyInt Syntax.w8) 0 (Reads.fieldV Needs.the-type Laws'.the-laws 0)) (Scalar.oInt Syntax.w8 0) 9 (Rows.sc-here Row.sBool) Syntax.tyBool
                 (Row.valS Row.sBool) (Row.sBool .of) (
                   Reads.reads-field 𝓤 H A W Needs.the-type Laws'.the-laws 0 (Syntax.tyInt Syntax.w8) 0 Path'.refl,
                   Path'.refl,
-                ) tt (Reads'.room-gone 𝓤 H A Syntax.tyBool) (Scalar.holds-sc 𝓤 H A W Row.sBool) Path'.refl (λ u. Path'.refl) λ u. tt) d54
+                ) tt (Reads'.room-gone 𝓤 H A Syntax.tyBool) (Scalar.holds-sc 𝓤 H A W Row.sBool) Path'.refl (λ u. Path'.refl) λ u. tt) d57
 
-            d56 : Typed.Typed 𝓤 H A 𝓣 E G3 b49 Δ0 at56
-            d56 = Typed.g-pre 𝓤 H A W 𝓣 E G3 G4 b49 Δ0 (Typed.give s2) at55 (Know'.g-struct-known 𝓤 H A W E Needs.the-type Laws'.the-laws G3 3 (λ x. x)
-                (Reads'.as-is 𝓤 H A (Rows.whole (Declared'.row Needs.the-type)))) d55
+            d59 : Typed.Typed 𝓤 H A 𝓣 E G3 b53 Δ0 at59
+            d59 = Typed.g-pre 𝓤 H A W 𝓣 E G3 G4 b53 Δ0 (Typed.give s2) at58 (Know'.g-struct-known 𝓤 H A W E Needs.the-type Laws'.the-laws G3 3 (λ x. x)
+                (Reads'.as-is 𝓤 H A (Rows.whole (Declared'.row Needs.the-type)))) d58
 
-            d57 : Typed.Typed 𝓤 H A 𝓣 E G2 b50 Δ0 at57
-            d57 = Typed.s-seq 𝓤 H A W 𝓣 E G2 G3 b0 b49 Δ0 (Typed.both s1) at56 (Plain.t-call-plain 𝓤 H A W 𝓣 1 ps·0 r·0 (claims· .0) (claims· .1)
+            d60 : Typed.Typed 𝓤 H A 𝓣 E G2 b54 Δ0 at60
+            d60 = Typed.s-seq 𝓤 H A W 𝓣 E G2 G3 b0 b53 Δ0 (Typed.both s1) at59 (Plain.t-call-plain 𝓤 H A W 𝓣 1 ps·0 r·0 (claims· .0) (claims· .1)
                 "store::survey::count_slots" (known .0) E (λ pos β. β) G2 (
                   record {
                     pos = 1;
@@ -5087,15 +5349,15 @@ module _ (claims· : Claims) where
                   tt,
                 ) (Reads'.room-gone 𝓤 H A (Syntax.tyStruct (115
                 ∷ 116 ∷ 111 ∷ 114 ∷ 101 ∷ 58 ∷ 58 ∷ 78 ∷ 101 ∷ 101 ∷ 100 ∷ 115 ∷ []) (Syntax.tcons (Syntax.tyInt Syntax.w8) (Syntax.tcons (Syntax.tyInt
-                Syntax.w64) Syntax.tnil)))) (tt, tt) Path'.refl) d56
+                Syntax.w64) Syntax.tnil)))) (tt, tt) Path'.refl) d59
 
-            d58 : Typed.Typed 𝓤 H A 𝓣 E G0 b50 Δ0 at58
-            d58 = Typed.g-pre 𝓤 H A W 𝓣 E G0 G2 b50 Δ0 (Typed.give s0) at57 (Know.g-shs-known 𝓤 H A W (Referent.fInt Syntax.w8) E G0 1 0 (Syntax.tyRef
+            d61 : Typed.Typed 𝓤 H A 𝓣 E G0 b54 Δ0 at61
+            d61 = Typed.g-pre 𝓤 H A W 𝓣 E G0 G2 b54 Δ0 (Typed.give s0) at60 (Know.g-shs-known 𝓤 H A W (Referent.fInt Syntax.w8) E G0 1 0 (Syntax.tyRef
                 (Syntax.named 0) Syntax.imm (Syntax.tyInt Syntax.w8)) (Row.lease (κs .0) (qs .0)) 0 (λ x. x) record { fits = Dec'.lit< tt } (Reads'.as-is 𝓤 H A
-                (Rows.sslice (Referent.rtF (Referent.fInt Syntax.w8)) (Syntax.tyRef (Syntax.named 0) Syntax.imm (Syntax.tyInt Syntax.w8)) 0)) Path'.refl tt) d57
+                (Rows.sslice (Referent.rtF (Referent.fInt Syntax.w8)) (Syntax.tyRef (Syntax.named 0) Syntax.imm (Syntax.tyInt Syntax.w8)) 0)) Path'.refl tt) d60
 
-            pub typed : Typed.Typed 𝓤 H A 𝓣 E (Function.Γin 2 ps r xs m κs qs) b50 (Function.Δret 2 ps r xs m κs qs) Φ
-            typed = d58
+            pub typed : Typed.Typed 𝓤 H A 𝓣 E (Function.Γin 2 ps r xs m κs qs) b54 (Function.Δret 2 ps r xs m κs qs) Φ
+            typed = d61
 
         module _ (κs : Lifetimes.Lfts 2) where
           pub record Args : Type 0 where
@@ -5173,7 +5435,7 @@ module _ (claims· : Claims) where
         m4 = λ before given. s3 .next (m3 before given)
 
         abbrev W1 : (before : After-count-slots) → (given : s2 .gives (m2 (before .before) (After-count-slots·gave before))) → Typed.Want O1
-        W1 = λ before given. Typed.wantNext T6 O0 (at53 (W0 (before .before .before .κs) (before .before .before .args))) (W0 (before .before .before .κs)
+        W1 = λ before given. Typed.wantNext T6 O0 (at56 (W0 (before .before .before .κs) (before .before .before .args))) (W0 (before .before .before .κs)
             (before .before .before .args))
 
         module _ (before· : After-count-slots) where
@@ -5234,7 +5496,7 @@ module _ (claims· : Claims) where
         m13 = λ before. s12 .next (m12 before)
 
         abbrev W2 : (before : After-struct-known) → Typed.Want O2
-        W2 = λ before. Typed.wantNext T16 O0 (at48 (W0 (before .before .before .before .κs) (before .before .before .before .args))) (W0 (before .before .before
+        W2 = λ before. Typed.wantNext T16 O0 (at51 (W0 (before .before .before .before .κs) (before .before .before .before .args))) (W0 (before .before .before
             .before .κs) (before .before .before .before .args))
 
         abbrev pub m14 : (before : After-struct-known) → Typed.Mo T17
@@ -5242,7 +5504,7 @@ module _ (claims· : Claims) where
 
         module _ (before· : Else1) where
           pub record Then2·own : Type 0 where
-            pub taken : Nat._<_ (Row.get 9 (T14 .locals) (m12 (before· .before))) (Row.get 4 (T14 .locals) (m12 (before· .before)))
+            pub taken : Nat._<_ (Row.get 10 (T14 .locals) (m12 (before· .before))) (Row.get 4 (T14 .locals) (m12 (before· .before)))
 
         pub record Then2 : Type 0 where
           pub before : Else1
@@ -5269,7 +5531,7 @@ module _ (claims· : Claims) where
 
         module _ (before· : Else1) where
           pub record Else2·own : Type 0 where
-            pub left : Nat._≤_ (Row.get 4 (T14 .locals) (m12 (before· .before))) (Row.get 9 (T14 .locals) (m12 (before· .before)))
+            pub left : Nat._≤_ (Row.get 4 (T14 .locals) (m12 (before· .before))) (Row.get 10 (T14 .locals) (m12 (before· .before)))
 
         pub record Else2 : Type 0 where
           pub before : Else1
@@ -5284,128 +5546,138 @@ module _ (claims· : Claims) where
         abbrev pub m21 : (before : Else1) → Typed.Mo T24
         m21 = λ before. s20 (m20 before)
 
+        abbrev pub m22 : (before : Else1) → Typed.Mo T25
+        m22 = λ before. s21 (m21 before)
+
         abbrev W3 : (before : Else1) → Typed.Want O3
-        W3 = λ before. Typed.wantNext T25 O0 (at45 (W0 (before .before .before .before .before .κs) (before .before .before .before .before .args))) (W0 (before
+        W3 = λ before. Typed.wantNext T26 O0 (at47 (W0 (before .before .before .before .before .κs) (before .before .before .before .before .args))) (W0 (before
             .before .before .before .before .κs) (before .before .before .before .before .args))
 
         abbrev W4 : (before : Else1) → Typed.Want O4
         W4 = λ before. Typed.inBlock O3 (W3 before)
 
         abbrev pub Need-loop-holds : Type 0
-        Need-loop-holds = (c : Else2) → Inv·0 (Row.get 1 (T24 .locals) (m21 (c .before)) .now) (Row.get 2 (T24 .locals) (m21 (c .before)) .now) (Row.get 4 (T24
-            .locals) (m21 (c .before))) (Row.get 5 (T24 .locals) (m21 (c .before))) (Row.get 6 (T24 .locals) (m21 (c .before))) (Row.get 2 (T24 .locals) (m21 (c
-            .before)) .now) (Row.get 5 (T24 .locals) (m21 (c .before))) (Row.get 6 (T24 .locals) (m21 (c .before)))
+        Need-loop-holds = (c : Else2) → Inv·0 (Row.get 1 (T25 .locals) (m22 (c .before)) .now) (Row.get 2 (T25 .locals) (m22 (c .before)) .now) (Row.get 4 (T25
+            .locals) (m22 (c .before))) (Row.get 5 (T25 .locals) (m22 (c .before))) (Row.get 6 (T25 .locals) (m22 (c .before))) (Row.get 7 (T25 .locals) (m22 (c
+            .before))) (Row.get 2 (T25 .locals) (m22 (c .before)) .now) (Row.get 5 (T25 .locals) (m22 (c .before))) (Row.get 6 (T25 .locals) (m22 (c .before)))
+            (Row.get 7 (T25 .locals) (m22 (c .before)))
 
-        abbrev pub m22 : (before : Else2) → (table : List.List (SlotAs.row .Denot)) → (i : Rows.sc-here (Row.sInt Syntax.w64) .Mod) → (k : Rows.sc-here (Row.sInt
-            Syntax.w64) .Mod) → Typed.Mo T24
-        m22 = λ before table i k. Row.set 6 (6, Rows.sc-here (Row.sInt Syntax.w64)) k (Row.setRow 5 (5, Rows.sc-here (Row.sInt Syntax.w64)) (Row.setRow 2 (
-          2,
-          Mut.mslice SlotAs.row (Syntax.tyRef (Syntax.named 1) Syntax.mut SlotAs.pointee) 1,
-        ) (T24 .locals))) (Row.set 5 (5, Rows.sc-here (Row.sInt Syntax.w64))
-            i (Row.setRow 2 (2, Mut.mslice SlotAs.row (Syntax.tyRef (Syntax.named 1) Syntax.mut SlotAs.pointee) 1) (T24 .locals)) (Row.set 2 (
+        abbrev pub m23 : (before : Else2) → (table : List.List (SlotAs.row .Denot)) → (i : Rows.sc-here (Row.sInt Syntax.w64) .Mod) → (k : Rows.sc-here (Row.sInt
+            Syntax.w64) .Mod) → (model : Rows.sc-here (Row.sInt Syntax.w32) .Mod) → Typed.Mo T25
+        m23 = λ before table i k model. Row.set 7 (7, Rows.sc-here (Row.sInt Syntax.w32)) model (Row.setRow 6 (6, Rows.sc-here (Row.sInt Syntax.w64)) (Row.setRow
+            5 (5, Rows.sc-here (Row.sInt Syntax.w64)) (Row.setRow 2 (2, Mut.mslice SlotAs.row (Syntax.tyRef (Syntax.named 1) Syntax.mut SlotAs.pointee) 1) (T25
+            .locals)))) (Row.set 6 (6, Rows.sc-here (Row.sInt Syntax.w64)) k (Row.setRow 5 (5, Rows.sc-here (Row.sInt Syntax.w64)) (Row.setRow 2 (
+              2,
+              Mut.mslice
+                  SlotAs.row (Syntax.tyRef (Syntax.named 1) Syntax.mut SlotAs.pointee) 1,
+            ) (T25 .locals))) (Row.set 5 (5, Rows.sc-here (Row.sInt Syntax.w64)) i
+            (Row.setRow 2 (2, Mut.mslice SlotAs.row (Syntax.tyRef (Syntax.named 1) Syntax.mut SlotAs.pointee) 1) (T25 .locals)) (Row.set 2 (
               2,
               Mut.mslice
                   SlotAs.row (Syntax.tyRef (Syntax.named 1) Syntax.mut SlotAs.pointee) 1,
             ) record {
-              ptr = Row.get 2 (T24 .locals) (m21 (before .before)) .ptr;
+              ptr = Row.get 2 (T25 .locals) (m22 (before .before)) .ptr;
               name =
-                  Row.get 2 (T24 .locals) (m21 (before .before)) .name;
+                  Row.get 2 (T25 .locals) (m22 (before .before)) .name;
               now = table;
-            } (T24 .locals) (m21 (before .before))))
+            } (T25 .locals) (m22 (before .before)))))
 
         abbrev W5 : (before : Else2) → (table : List.List (SlotAs.row .Denot)) → (i : Rows.sc-here (Row.sInt Syntax.w64) .Mod) → (k : Rows.sc-here (Row.sInt
-            Syntax.w64) .Mod) → Typed.Want O5
-        W5 = λ before table i k. Typed.inLoop T24 O4 (Typed.Round T24 O4 put0 (λ u vs. Inv·0 (Row.get 1 (T24 .locals) u .now) (Row.get 2 (T24 .locals) u .now)
-            (Row.get 4 (T24 .locals) u) (Row.get 5 (T24 .locals) u) (Row.get 6 (T24 .locals) u) (vs .0) (vs .1) (vs .2)) (λ u vs. μ·0 (Row.get 1 (T24 .locals) u
-            .now) (Row.get 2 (T24 .locals) u .now) (Row.get 4 (T24 .locals) u) (Row.get 5 (T24 .locals) u) (Row.get 6 (T24 .locals) u) (vs .0) (vs .1) (vs .2))
-            at37 (m21 (before .before)) (table, i, k)) (W4 (before .before))
+            Syntax.w64) .Mod) → (model : Rows.sc-here (Row.sInt Syntax.w32) .Mod) → Typed.Want O5
+        W5 = λ before table i k model. Typed.inLoop T25 O4 (Typed.Round T25 O4 put0 (λ u vs. Inv·0 (Row.get 1 (T25 .locals) u .now) (Row.get 2 (T25 .locals) u
+            .now) (Row.get 4 (T25 .locals) u) (Row.get 5 (T25 .locals) u) (Row.get 6 (T25 .locals) u) (Row.get 7 (T25 .locals) u) (vs .0) (vs .1) (vs .2) (vs
+            .3)) (λ u vs. μ·0 (Row.get 1 (T25 .locals) u .now) (Row.get 2 (T25 .locals) u .now) (Row.get 4 (T25 .locals) u) (Row.get 5 (T25 .locals) u) (Row.get
+            6 (T25 .locals) u) (Row.get 7 (T25 .locals) u) (vs .0) (vs .1) (vs .2) (vs .3)) at38 (m22 (before .before)) (table, i, k, model)) (W4 (before
+            .before))
 
         module _ (before· : Else2) where
           pub record At-loop·own : Type 0 where
             pub table : List.List (SlotAs.row .Denot)
             pub i : Rows.sc-here (Row.sInt Syntax.w64) .Mod
             pub k : Rows.sc-here (Row.sInt Syntax.w64) .Mod
-            pub inv : Inv·0 (Row.get 1 (T24 .locals) (m21 (before· .before)) .now) (Row.get 2 (T24 .locals) (m21 (before· .before)) .now) (Row.get 4 (T24
-                .locals) (m21 (before· .before))) (Row.get 5 (T24 .locals) (m21 (before· .before))) (Row.get 6 (T24 .locals) (m21 (before· .before))) table i k
+            pub model : Rows.sc-here (Row.sInt Syntax.w32) .Mod
+            pub inv : Inv·0 (Row.get 1 (T25 .locals) (m22 (before· .before)) .now) (Row.get 2 (T25 .locals) (m22 (before· .before)) .now) (Row.get 4 (T25
+                .locals) (m22 (before· .before))) (Row.get 5 (T25 .locals) (m22 (before· .before))) (Row.get 6 (T25 .locals) (m22 (before· .before))) (Row.get 7
+                (T25 .locals) (m22 (before· .before))) table i k model
 
         pub record At-loop : Type 0 where
           pub before : Else2
           pub loop : At-loop·own before
 
         abbrev pub Need-mul-loop : Type 0
-        Need-mul-loop = (c : At-loop) → s21 .asks (m22 (c .before) (c .loop .table) (c .loop .i) (c .loop .k))
-
-        abbrev pub m23 : (before : Else2) → (table : List.List (SlotAs.row .Denot)) → (i : Rows.sc-here (Row.sInt Syntax.w64) .Mod) → (k : Rows.sc-here (Row.sInt
-            Syntax.w64) .Mod) → Typed.Mo T26
-        m23 = λ before table i k. s21 .next (m22 before table i k)
+        Need-mul-loop = (c : At-loop) → s22 .asks (m23 (c .before) (c .loop .table) (c .loop .i) (c .loop .k) (c .loop .model))
 
         abbrev pub m24 : (before : Else2) → (table : List.List (SlotAs.row .Denot)) → (i : Rows.sc-here (Row.sInt Syntax.w64) .Mod) → (k : Rows.sc-here (Row.sInt
-            Syntax.w64) .Mod) → Typed.Mo T27
-        m24 = λ before table i k. s22 (m23 before table i k)
+            Syntax.w64) .Mod) → (model : Rows.sc-here (Row.sInt Syntax.w32) .Mod) → Typed.Mo T27
+        m24 = λ before table i k model. s22 .next (m23 before table i k model)
 
         abbrev pub m25 : (before : Else2) → (table : List.List (SlotAs.row .Denot)) → (i : Rows.sc-here (Row.sInt Syntax.w64) .Mod) → (k : Rows.sc-here (Row.sInt
-            Syntax.w64) .Mod) → Typed.Mo T28
-        m25 = λ before table i k. s23 .next (m24 before table i k)
-
-        abbrev W6 : (before : Else2) → (table : List.List (SlotAs.row .Denot)) → (i : Rows.sc-here (Row.sInt Syntax.w64) .Mod) → (k : Rows.sc-here (Row.sInt
-            Syntax.w64) .Mod) → Typed.Want O6
-        W6 = λ before table i k. Typed.wantNext T29 O5 (at33 (W5 before table i k)) (W5 before table i k)
+            Syntax.w64) .Mod) → (model : Rows.sc-here (Row.sInt Syntax.w32) .Mod) → Typed.Mo T28
+        m25 = λ before table i k model. s23 (m24 before table i k model)
 
         abbrev pub m26 : (before : Else2) → (table : List.List (SlotAs.row .Denot)) → (i : Rows.sc-here (Row.sInt Syntax.w64) .Mod) → (k : Rows.sc-here (Row.sInt
-            Syntax.w64) .Mod) → Typed.Mo T30
-        m26 = λ before table i k. s24 (m25 before table i k)
+            Syntax.w64) .Mod) → (model : Rows.sc-here (Row.sInt Syntax.w32) .Mod) → Typed.Mo T29
+        m26 = λ before table i k model. s24 .next (m25 before table i k model)
+
+        abbrev W6 : (before : Else2) → (table : List.List (SlotAs.row .Denot)) → (i : Rows.sc-here (Row.sInt Syntax.w64) .Mod) → (k : Rows.sc-here (Row.sInt
+            Syntax.w64) .Mod) → (model : Rows.sc-here (Row.sInt Syntax.w32) .Mod) → Typed.Want O6
+        W6 = λ before table i k model. Typed.wantNext T30 O5 (at34 (W5 before table i k model)) (W5 before table i k model)
 
         abbrev pub m27 : (before : Else2) → (table : List.List (SlotAs.row .Denot)) → (i : Rows.sc-here (Row.sInt Syntax.w64) .Mod) → (k : Rows.sc-here (Row.sInt
-            Syntax.w64) .Mod) → Typed.Mo T31
-        m27 = λ before table i k. s25 (m26 before table i k)
+            Syntax.w64) .Mod) → (model : Rows.sc-here (Row.sInt Syntax.w32) .Mod) → Typed.Mo T31
+        m27 = λ before table i k model. s25 (m26 before table i k model)
+
+        abbrev pub m28 : (before : Else2) → (table : List.List (SlotAs.row .Denot)) → (i : Rows.sc-here (Row.sInt Syntax.w64) .Mod) → (k : Rows.sc-here (Row.sInt
+            Syntax.w64) .Mod) → (model : Rows.sc-here (Row.sInt Syntax.w32) .Mod) → Typed.Mo T32
+        m28 = λ before table i k model. s26 (m27 before table i k model)
 
         module _ (before· : At-loop) where
           pub record In-loop·own : Type 0 where
-            pub taken : Nat._<_ (Row.get 10 (T27 .locals) (m24 (before· .before) (before· .loop .table) (before· .loop .i) (before· .loop .k))) (Row.get 11 (T27
-                .locals) (m24 (before· .before) (before· .loop .table) (before· .loop .i) (before· .loop .k)))
+            pub taken : Nat._<_ (Row.get 11 (T28 .locals) (m25 (before· .before) (before· .loop .table) (before· .loop .i) (before· .loop .k) (before· .loop
+                .model))) (Row.get 12 (T28 .locals) (m25 (before· .before) (before· .loop .table) (before· .loop .i) (before· .loop .k) (before· .loop .model)))
 
         pub record In-loop : Type 0 where
           pub before : At-loop
           pub loop-test : In-loop·own before
 
-        abbrev pub m28 : (before : At-loop) → Typed.Mo T32
-        m28 = λ before. s26 (m27 (before .before) (before .loop .table) (before .loop .i) (before .loop .k))
+        abbrev pub m29 : (before : At-loop) → Typed.Mo T33
+        m29 = λ before. s27 (m28 (before .before) (before .loop .table) (before .loop .i) (before .loop .k) (before .loop .model))
 
         module _ (before· : At-loop) where
           pub record After-loop·own : Type 0 where
-            pub left : Nat._≤_ (Row.get 11 (T27 .locals) (m24 (before· .before) (before· .loop .table) (before· .loop .i) (before· .loop .k))) (Row.get 10 (T27
-                .locals) (m24 (before· .before) (before· .loop .table) (before· .loop .i) (before· .loop .k)))
+            pub left : Nat._≤_ (Row.get 12 (T28 .locals) (m25 (before· .before) (before· .loop .table) (before· .loop .i) (before· .loop .k) (before· .loop
+                .model))) (Row.get 11 (T28 .locals) (m25 (before· .before) (before· .loop .table) (before· .loop .i) (before· .loop .k) (before· .loop .model)))
 
         pub record After-loop : Type 0 where
           pub before : At-loop
           pub loop-test : After-loop·own before
 
-        abbrev pub m29 : (before : At-loop) → Typed.Mo T33
-        m29 = λ before. s27 (m27 (before .before) (before .loop .table) (before .loop .i) (before .loop .k))
+        abbrev pub m30 : (before : At-loop) → Typed.Mo T34
+        m30 = λ before. s28 (m28 (before .before) (before .loop .table) (before .loop .i) (before .loop .k) (before .loop .model))
 
         abbrev pub Need-line-at-requires : Type 0
-        Need-line-at-requires = (c : In-loop) → s28 .asks (m28 (c .before))
+        Need-line-at-requires = (c : In-loop) → s29 .asks (m29 (c .before))
 
-        abbrev pub m30 : (before : In-loop) → (given : s28 .gives (m28 (before .before))) → Typed.Mo T34
-        m30 = λ before given. s28 .next (m28 (before .before)) given
+        abbrev pub m31 : (before : In-loop) → (given : s29 .gives (m29 (before .before))) → Typed.Mo T35
+        m31 = λ before given. s29 .next (m29 (before .before)) given
 
         module _ (before· : In-loop) where
           abbrev pub After-line-at·own : Type 0
-          After-line-at·own = Called.Called ps·1 r·1 (claims· .3) T29 (
+          After-line-at·own = Called.Called ps·1 r·1 (claims· .3) T30 (
             record {
               pos = 1;
               ty = Syntax.tyRef (Syntax.named 0) Syntax.imm (Syntax.tyInt Syntax.w8);
               ref = λ x. x;
             },
             (Num.vAt 5 λ x. x, tt),
-          ) (m28 (before· .before))
+          ) (m29 (before· .before))
 
         pub record After-line-at : Type 0 where
           pub before : In-loop
           pub line-at : After-line-at·own before
 
-        abbrev pub After-line-at·gave : (c : After-line-at) → s28 .gives (m28 (c .before .before))
-        After-line-at·gave = λ c. Called.given ps·1 r·1 (claims· .3) T29 (
+        abbrev pub After-line-at·gave : (c : After-line-at) → s29 .gives (m29 (c .before .before))
+        After-line-at·gave = λ c. Called.given ps·1 r·1 (claims· .3) T30 (
           record {
             pos = 1;
             ty = Syntax.tyRef (Syntax.named 0) Syntax.imm (Syntax.tyInt
@@ -5413,58 +5685,56 @@ module _ (claims· : Claims) where
             ref = λ x. x;
           },
           (Num.vAt 5 λ x. x, tt),
-        ) (m28 (c .before .before)) (c .line-at)
+        ) (m29 (c .before .before)) (c .line-at)
 
-        abbrev pub m31 : (before : After-line-at) → (given : s30 .gives (m30 (before .before) (After-line-at·gave before))) → Typed.Mo T36
-        m31 = λ before given. s30 .next (m30 (before .before) (After-line-at·gave before)) given
+        abbrev pub m32 : (before : After-line-at) → (given : s31 .gives (m31 (before .before) (After-line-at·gave before))) → Typed.Mo T37
+        m32 = λ before given. s31 .next (m31 (before .before) (After-line-at·gave before)) given
 
-        abbrev pub m32 : (before : After-line-at) → (given : s30 .gives (m30 (before .before) (After-line-at·gave before))) → Typed.Mo T37
-        m32 = λ before given. s31 .next (m31 before given)
+        abbrev pub m33 : (before : After-line-at) → (given : s31 .gives (m31 (before .before) (After-line-at·gave before))) → Typed.Mo T38
+        m33 = λ before given. s32 .next (m32 before given)
 
         module _ (before· : After-line-at) where
           pub record After-put-slot-arg·own : Type 0 where
-            pub given : s30 .gives (m30 (before· .before) (After-line-at·gave before·))
+            pub given : s31 .gives (m31 (before· .before) (After-line-at·gave before·))
 
         pub record After-put-slot-arg : Type 0 where
           pub before : After-line-at
           pub put-slot-arg : After-put-slot-arg·own before
 
         abbrev pub Need-put-slot-requires : Type 0
-        Need-put-slot-requires = (c : After-put-slot-arg) → s32 .asks (m32 (c .before) (c .put-slot-arg .given))
+        Need-put-slot-requires = (c : After-put-slot-arg) → s33 .asks (m33 (c .before) (c .put-slot-arg .given))
 
-        abbrev pub m33 : (before : After-put-slot-arg) → (given : s32 .gives (m32 (before .before) (before .put-slot-arg .given))) → Typed.Mo T38
-        m33 = λ before given. s32 .next (m32 (before .before) (before .put-slot-arg .given)) given
+        abbrev pub m34 : (before : After-put-slot-arg) → (given : s33 .gives (m33 (before .before) (before .put-slot-arg .given))) → Typed.Mo T39
+        m34 = λ before given. s33 .next (m33 (before .before) (before .put-slot-arg .given)) given
 
         module _ (before· : After-put-slot-arg) where
           abbrev pub After-put-slot·own : Type 0
-          After-put-slot·own = Called.Called ps·2 r·2 (claims· .5) T37 (
+          After-put-slot·own = Called.Called ps·2 r·2 (claims· .5) T38 (
             record {
-              pos = 14;
+              pos = 15;
               ty = Syntax.tyRef Syntax.erased Syntax.mut SlotAs.pointee;
               ref = λ x.
                   x;
             },
-            (Num.vAt 6 λ x. x, (record { pos = 7; st = []; d = 0; at = λ x. x }, tt)),
-          ) (m32 (before· .before) (before· .put-slot-arg .given))
+            (Num.vAt 6 λ x. x, (Num.vAt 7 λ x. x, (record { pos = 8; st = []; d = 0; at = λ x. x }, tt))),
+          ) (m33 (before· .before) (before·
+              .put-slot-arg .given))
 
         pub record After-put-slot : Type 0 where
           pub before : After-put-slot-arg
           pub put-slot : After-put-slot·own before
 
-        abbrev pub After-put-slot·gave : (c : After-put-slot) → s32 .gives (m32 (c .before .before) (c .before .put-slot-arg .given))
-        After-put-slot·gave = λ c. Called.given ps·2 r·2 (claims· .5) T37 (
+        abbrev pub After-put-slot·gave : (c : After-put-slot) → s33 .gives (m33 (c .before .before) (c .before .put-slot-arg .given))
+        After-put-slot·gave = λ c. Called.given ps·2 r·2 (claims· .5) T38 (
           record {
-            pos = 14;
+            pos = 15;
             ty = Syntax.tyRef Syntax.erased Syntax.mut SlotAs.pointee;
             ref = λ
                 x. x;
           },
-          (Num.vAt 6 λ x. x, (record { pos = 7; st = []; d = 0; at = λ x. x }, tt)),
-        ) (m32 (c .before .before) (c .before .put-slot-arg .given))
-            (c .put-slot)
-
-        abbrev pub m34 : (before : After-put-slot-arg) → (given : s32 .gives (m32 (before .before) (before .put-slot-arg .given))) → Typed.Mo T39
-        m34 = λ before given. s33 (m33 before given)
+          (Num.vAt 6 λ x. x, (Num.vAt 7 λ x. x, (record { pos = 8; st = []; d = 0; at = λ x. x }, tt))),
+        ) (m33 (c .before .before) (c .before
+            .put-slot-arg .given)) (c .put-slot)
 
         abbrev pub m35 : (before : After-put-slot) → (given : s35 .gives (m34 (before .before) (After-put-slot·gave before))) → Typed.Mo T41
         m35 = λ before given. s35 .next (m34 (before .before) (After-put-slot·gave before)) given
@@ -5477,39 +5747,60 @@ module _ (claims· : Claims) where
           pub before : After-put-slot
           pub table : After-table·own before
 
-        abbrev pub Need-add-i : Type 0
-        Need-add-i = (c : After-table) → s37 .asks (m35 (c .before) (c .table .given))
+        abbrev pub Need-model-next-requires : Type 0
+        Need-model-next-requires = (c : After-table) → s37 .asks (m35 (c .before) (c .table .given))
 
-        abbrev pub m36 : (before : After-put-slot) → (given : s35 .gives (m34 (before .before) (After-put-slot·gave before))) → Typed.Mo T43
-        m36 = λ before given. s37 .next (m35 before given)
+        abbrev pub m36 : (before : After-table) → (given : s37 .gives (m35 (before .before) (before .table .given))) → Typed.Mo T43
+        m36 = λ before given. s37 .next (m35 (before .before) (before .table .given)) given
+
+        module _ (before· : After-table) where
+          abbrev pub After-model-next·own : Type 0
+          After-model-next·own = Called.Called ps·3 r·3 (claims· .7) T41 (Num.vAt 7 λ x. x, (record { pos = 8; st = []; d = 0; at = λ x. x }, tt)) (m35
+              (before· .before) (before· .table .given))
+
+        pub record After-model-next : Type 0 where
+          pub before : After-table
+          pub model-next : After-model-next·own before
+
+        abbrev pub After-model-next·gave : (c : After-model-next) → s37 .gives (m35 (c .before .before) (c .before .table .given))
+        After-model-next·gave = λ c. Called.given ps·3 r·3 (claims· .7) T41 (Num.vAt 7 λ x. x, (record { pos = 8; st = []; d = 0; at = λ x. x }, tt)) (m35
+            (c .before .before) (c .before .table .given)) (c .model-next)
+
+        abbrev pub m37 : (before : After-table) → (given : s37 .gives (m35 (before .before) (before .table .given))) → Typed.Mo T44
+        m37 = λ before given. s38 (m36 before given)
+
+        abbrev pub Need-add-i : Type 0
+        Need-add-i = (c : After-model-next) → s39 .asks (m37 (c .before) (After-model-next·gave c))
+
+        abbrev pub m38 : (before : After-table) → (given : s37 .gives (m35 (before .before) (before .table .given))) → Typed.Mo T45
+        m38 = λ before given. s39 .next (m37 before given)
 
         abbrev pub Need-loop-less : Type 0
-        Need-loop-less = (c : After-table) → Nat._<_ (μ·0 (Row.get 1 (T24 .locals) (m21 (c .before .before .before .before .before .before .before)) .now)
-            (Row.get 2 (T24 .locals) (m21 (c .before .before .before .before .before .before .before)) .now) (Row.get 4 (T24 .locals) (m21 (c .before .before
-            .before .before .before .before .before))) (Row.get 5 (T24 .locals) (m21 (c .before .before .before .before .before .before .before))) (Row.get 6
-            (T24 .locals) (m21 (c .before .before .before .before .before .before .before))) (Row.get 2 (T24 .locals) (m36 (c .before) (c .table .given)) .now)
-            (Row.get 5 (T24 .locals) (m36 (c .before) (c .table .given))) (Row.get 6 (T24 .locals) (m36 (c .before) (c .table .given)))) (μ·0 (Row.get 1 (T24
-            .locals) (m21 (c .before .before .before .before .before .before .before)) .now) (Row.get 2 (T24 .locals) (m21 (c .before .before .before .before
-            .before .before .before)) .now) (Row.get 4 (T24 .locals) (m21 (c .before .before .before .before .before .before .before))) (Row.get 5 (T24 .locals)
-            (m21 (c .before .before .before .before .before .before .before))) (Row.get 6 (T24 .locals) (m21 (c .before .before .before .before .before .before
-            .before))) (c .before .before .before .before .before .loop .table) (c .before .before .before .before .before .loop .i) (c .before .before .before
-            .before .before .loop .k))
+        Need-loop-less = (c : After-model-next) → Nat._<_ (μ·0 (Row.get 1 (T25 .locals) (m22 (c .before .before .before .before .before .before .before .before))
+            .now) (Row.get 2 (T25 .locals) (m22 (c .before .before .before .before .before .before .before .before)) .now) (Row.get 4 (T25 .locals) (m22 (c
+            .before .before .before .before .before .before .before .before))) (Row.get 5 (T25 .locals) (m22 (c .before .before .before .before .before .before
+            .before .before))) (Row.get 6 (T25 .locals) (m22 (c .before .before .before .before .before .before .before .before))) (Row.get 7 (T25 .locals) (m22
+            (c .before .before .before .before .before .before .before .before))) (Row.get 2 (T25 .locals) (m38 (c .before) (After-model-next·gave c)) .now)
+            (Row.get 5 (T25 .locals) (m38 (c .before) (After-model-next·gave c))) (Row.get 6 (T25 .locals) (m38 (c .before) (After-model-next·gave c))) (Row.get
+            7 (T25 .locals) (m38 (c .before) (After-model-next·gave c)))) (μ·0 (Row.get 1 (T25 .locals) (m22 (c .before .before .before .before .before .before
+            .before .before)) .now) (Row.get 2 (T25 .locals) (m22 (c .before .before .before .before .before .before .before .before)) .now) (Row.get 4 (T25
+            .locals) (m22 (c .before .before .before .before .before .before .before .before))) (Row.get 5 (T25 .locals) (m22 (c .before .before .before .before
+            .before .before .before .before))) (Row.get 6 (T25 .locals) (m22 (c .before .before .before .before .before .before .before .before))) (Row.get 7
+            (T25 .locals) (m22 (c .before .before .before .before .before .before .before .before))) (c .before .before .before .before .before .before .loop
+            .table) (c .before .before .before .before .before .before .loop .i) (c .before .before .before .before .before .before .loop .k) (c .before .before
+            .before .before .before .before .loop .model))
 
         abbrev pub Need-loop-again : Type 0
-        Need-loop-again = (c : After-table) → Inv·0 (Row.get 1 (T24 .locals) (m21 (c .before .before .before .before .before .before .before)) .now) (Row.get 2
-            (T24 .locals) (m21 (c .before .before .before .before .before .before .before)) .now) (Row.get 4 (T24 .locals) (m21 (c .before .before .before
-            .before .before .before .before))) (Row.get 5 (T24 .locals) (m21 (c .before .before .before .before .before .before .before))) (Row.get 6 (T24
-            .locals) (m21 (c .before .before .before .before .before .before .before))) (Row.get 2 (T24 .locals) (m36 (c .before) (c .table .given)) .now)
-            (Row.get 5 (T24 .locals) (m36 (c .before) (c .table .given))) (Row.get 6 (T24 .locals) (m36 (c .before) (c .table .given)))
-
-        abbrev pub m37 : (before : At-loop) → Typed.Mo T44
-        m37 = λ before. s38 (m29 before)
-
-        abbrev pub m38 : (before : At-loop) → Typed.Mo T45
-        m38 = λ before. s39 (m37 before)
+        Need-loop-again = (c : After-model-next) → Inv·0 (Row.get 1 (T25 .locals) (m22 (c .before .before .before .before .before .before .before .before)) .now)
+            (Row.get 2 (T25 .locals) (m22 (c .before .before .before .before .before .before .before .before)) .now) (Row.get 4 (T25 .locals) (m22 (c .before
+            .before .before .before .before .before .before .before))) (Row.get 5 (T25 .locals) (m22 (c .before .before .before .before .before .before .before
+            .before))) (Row.get 6 (T25 .locals) (m22 (c .before .before .before .before .before .before .before .before))) (Row.get 7 (T25 .locals) (m22 (c
+            .before .before .before .before .before .before .before .before))) (Row.get 2 (T25 .locals) (m38 (c .before) (After-model-next·gave c)) .now)
+            (Row.get 5 (T25 .locals) (m38 (c .before) (After-model-next·gave c))) (Row.get 6 (T25 .locals) (m38 (c .before) (After-model-next·gave c))) (Row.get
+            7 (T25 .locals) (m38 (c .before) (After-model-next·gave c)))
 
         abbrev pub m39 : (before : At-loop) → Typed.Mo T46
-        m39 = λ before. s40 (m38 before)
+        m39 = λ before. s40 (m30 before)
 
         abbrev pub m40 : (before : At-loop) → Typed.Mo T47
         m40 = λ before. s41 (m39 before)
@@ -5517,29 +5808,39 @@ module _ (claims· : Claims) where
         abbrev pub m41 : (before : At-loop) → Typed.Mo T48
         m41 = λ before. s42 (m40 before)
 
+        abbrev pub m42 : (before : At-loop) → Typed.Mo T49
+        m42 = λ before. s43 (m41 before)
+
+        abbrev pub m43 : (before : At-loop) → Typed.Mo T50
+        m43 = λ before. s44 (m42 before)
+
+        abbrev pub m44 : (before : At-loop) → Typed.Mo T51
+        m44 = λ before. s45 (m43 before)
+
         abbrev pub Need-same-length : Type 0
-        Need-same-length = (c : After-loop) → MutSlice.SameLen (Row.get 2 (T48 .locals) (m41 (c .before))) (dens (c .before .before .before .before .before
+        Need-same-length = (c : After-loop) → MutSlice.SameLen (Row.get 2 (T51 .locals) (m44 (c .before))) (dens (c .before .before .before .before .before
             .before .before .κs) (c .before .before .before .before .before .before .before .args) .1 .0)
 
         abbrev pub Need-returns-3 : Type 0
         Need-returns-3 = (c : After-loop) → Post· (c .before .before .before .before .before .before .before .κs) (dens (c .before .before .before .before
             .before .before .before .κs) (c .before .before .before .before .before .before .before .args)) (Function.resV r (c .before .before .before .before
-            .before .before .before .κs) (m41 (c .before) .0)) (Clauses.atExit (Kinds.endedOf 2 ps r) (c .before .before .before .before .before .before .before
+            .before .before .before .κs) (m44 (c .before) .0)) (Clauses.atExit (Kinds.endedOf 2 ps r) (c .before .before .before .before .before .before .before
             .κs) (dens (c .before .before .before .before .before .before .before .κs) (c .before .before .before .before .before .before .before .args))
             (Enter.lastsP (c .before .before .before .before .before .before .before .κs) 1 ps xs (dens (c .before .before .before .before .before .before
-            .before .κs) (c .before .before .before .before .before .before .before .args)) (m41 (c .before) .1)))
+            .before .κs) (c .before .before .before .before .before .before .before .args)) (m44 (c .before) .1)))
 
         module _ (count-slots-requires : Need-count-slots-requires) (returns : Need-returns) (returns-2 : Need-returns-2) (loop-holds : Need-loop-holds)
-            (mul-loop : Need-mul-loop) (line-at-requires : Need-line-at-requires) (put-slot-requires : Need-put-slot-requires) (add-i : Need-add-i) (loop-less :
-            Need-loop-less) (loop-again : Need-loop-again) (same-length : Need-same-length) (returns-3 : Need-returns-3) where
-          lay13 : (c : After-loop) → at45 (W0 (c .before .before .before .before .before .before .before .κs) (c .before .before .before .before .before .before
-              .before .args)) (m29 (c .before))
-          lay13 = λ c. (
+            (mul-loop : Need-mul-loop) (line-at-requires : Need-line-at-requires) (put-slot-requires : Need-put-slot-requires) (model-next-requires :
+            Need-model-next-requires) (add-i : Need-add-i) (loop-less : Need-loop-less) (loop-again : Need-loop-again) (same-length : Need-same-length)
+            (returns-3 : Need-returns-3) where
+          lay14 : (c : After-loop) → at47 (W0 (c .before .before .before .before .before .before .before .κs) (c .before .before .before .before .before .before
+              .before .args)) (m30 (c .before))
+          lay14 = λ c. (
             (
               Path'.refl,
               (
-                MutSlice.fix-len (Row.get 2 (T48 .locals) (m41 (c .before)) .ptr) (Row.get 2 (T48 .locals) (m41 (c .before)) .name)
-                    (Row.get 2 (T48 .locals) (m41 (c .before)) .now) (dens (c .before .before .before .before .before .before .before .κs) (c .before .before .before
+                MutSlice.fix-len (Row.get 2 (T51 .locals) (m44 (c .before)) .ptr) (Row.get 2 (T51 .locals) (m44 (c .before)) .name)
+                    (Row.get 2 (T51 .locals) (m44 (c .before)) .now) (dens (c .before .before .before .before .before .before .before .κs) (c .before .before .before
                     .before .before .before .before .args) .1 .0 .now) (same-length record { before = c .before; loop-test = c .loop-test }),
                 tt,
               ),
@@ -5550,53 +5851,73 @@ module _ (claims· : Claims) where
             },
           )
 
-          lay12 : (c : After-put-slot) → at28 (W5 (c .before .before .before .before .before) (c .before .before .before .before .loop .table) (c .before .before
-              .before .before .loop .i) (c .before .before .before .before .loop .k)) (m33 (c .before) (After-put-slot·gave c))
-          lay12 = λ c. (
-            Path'.refl,
-            λ g. (
-              add-i record { before = record { before = c .before; put-slot = c .put-slot }; table = record { given = g } },
+          lay13 : (c : After-model-next) → at25 (W5 (c .before .before .before .before .before .before .before) (c .before .before .before .before .before
+              .before .loop .table) (c .before .before .before .before .before .before .loop .i) (c .before .before .before .before .before .before .loop .k) (c
+              .before .before .before .before .before .before .loop .model)) (m36 (c .before) (After-model-next·gave c))
+          lay13 = λ c. (
+            add-i record { before = c .before; model-next = c .model-next },
+            (
+              μ·0 (Row.get 1 (T25 .locals) (m22 (c .before .before .before .before
+                  .before .before .before .before)) .now) (Row.get 2 (T25 .locals) (m22 (c .before .before .before .before .before .before .before .before)) .now)
+                  (Row.get 4 (T25 .locals) (m22 (c .before .before .before .before .before .before .before .before))) (Row.get 5 (T25 .locals) (m22 (c .before
+                  .before .before .before .before .before .before .before))) (Row.get 6 (T25 .locals) (m22 (c .before .before .before .before .before .before .before
+                  .before))) (Row.get 7 (T25 .locals) (m22 (c .before .before .before .before .before .before .before .before))) (Row.get 2 (T25 .locals) (m38 (c
+                  .before) (After-model-next·gave c)) .now) (Row.get 5 (T25 .locals) (m38 (c .before) (After-model-next·gave c))) (Row.get 6 (T25 .locals) (m38 (c
+                  .before) (After-model-next·gave c))) (Row.get 7 (T25 .locals) (m38 (c .before) (After-model-next·gave c))),
+              loop-less record {
+                before = c .before;
+                model-next = c .model-next;
+              },
               (
-                μ·0
-                    (Row.get 1 (T24 .locals) (m21 (c .before .before .before .before .before .before)) .now) (Row.get 2 (T24 .locals) (m21 (c .before .before .before
-                    .before .before .before)) .now) (Row.get 4 (T24 .locals) (m21 (c .before .before .before .before .before .before))) (Row.get 5 (T24 .locals) (m21
-                    (c .before .before .before .before .before .before))) (Row.get 6 (T24 .locals) (m21 (c .before .before .before .before .before .before))) (Row.get
-                    2 (T24 .locals) (m36 record { before = c .before; put-slot = c .put-slot } g) .now) (Row.get 5 (T24 .locals) (m36 record {
-                      before = c .before;
-                      put-slot = c .put-slot;
-                    } g)) (Row.get 6 (T24 .locals) (m36 record { before = c .before; put-slot = c .put-slot } g)),
-                loop-less record {
-                  before =
-                      record { before = c .before; put-slot = c .put-slot };
-                  table = record { given = g };
-                },
                 (
-                  (
-                    Row.get 2 (T24 .locals) (m36 record {
-                      before = c .before;
-                      put-slot = c .put-slot;
-                    } g) .now,
-                    Row.get 5 (T24 .locals) (m36 record { before = c .before; put-slot = c .put-slot } g),
-                    Row.get 6 (T24 .locals)
-                        (m36 record { before = c .before; put-slot = c .put-slot } g),
-                  ),
-                  Path'.refl {a = m36 record { before = c .before; put-slot = c .put-slot } g},
-                  loop-again record { before = record { before = c .before; put-slot = c .put-slot }; table = record { given = g } },
-                  Path'.refl {a = μ·0 (Row.get 1
-                      (T24 .locals) (m21 (c .before .before .before .before .before .before)) .now) (Row.get 2 (T24 .locals) (m21 (c .before .before .before .before
-                      .before .before)) .now) (Row.get 4 (T24 .locals) (m21 (c .before .before .before .before .before .before))) (Row.get 5 (T24 .locals) (m21 (c
-                      .before .before .before .before .before .before))) (Row.get 6 (T24 .locals) (m21 (c .before .before .before .before .before .before))) (Row.get 2
-                      (T24 .locals) (m36 record { before = c .before; put-slot = c .put-slot } g) .now) (Row.get 5 (T24 .locals) (m36 record {
-                        before = c .before;
-                        put-slot = c .put-slot;
-                      } g)) (Row.get 6 (T24 .locals) (m36 record { before = c .before; put-slot = c .put-slot } g))},
+                  Row.get 2 (T25 .locals) (m38 (c .before) (After-model-next·gave c)) .now,
+                  Row.get 5 (T25 .locals) (m38 (c .before)
+                      (After-model-next·gave c)),
+                  Row.get 6 (T25 .locals) (m38 (c .before) (After-model-next·gave c)),
+                  Row.get 7 (T25 .locals) (m38 (c .before)
+                      (After-model-next·gave c)),
                 ),
+                Path'.refl {a = m38 (c .before) (After-model-next·gave c)},
+                loop-again record {
+                  before = c .before;
+                  model-next = c
+                      .model-next;
+                },
+                Path'.refl {a = μ·0 (Row.get 1 (T25 .locals) (m22 (c .before .before .before .before .before .before .before .before)) .now)
+                    (Row.get 2 (T25 .locals) (m22 (c .before .before .before .before .before .before .before .before)) .now) (Row.get 4 (T25 .locals) (m22 (c .before
+                    .before .before .before .before .before .before .before))) (Row.get 5 (T25 .locals) (m22 (c .before .before .before .before .before .before .before
+                    .before))) (Row.get 6 (T25 .locals) (m22 (c .before .before .before .before .before .before .before .before))) (Row.get 7 (T25 .locals) (m22 (c
+                    .before .before .before .before .before .before .before .before))) (Row.get 2 (T25 .locals) (m38 (c .before) (After-model-next·gave c)) .now)
+                    (Row.get 5 (T25 .locals) (m38 (c .before) (After-model-next·gave c))) (Row.get 6 (T25 .locals) (m38 (c .before) (After-model-next·gave c)))
+                    (Row.get 7 (T25 .locals) (m38 (c .before) (After-model-next·gave c)))},
               ),
             ),
           )
 
-          lay11 : (c : After-line-at) → at32 (W5 (c .before .before .before) (c .before .before .loop .table) (c .before .before .loop .i) (c .before .before
-              .loop .k)) (m30 (c .before) (After-line-at·gave c))
+          lay12 : (c : After-put-slot) → at29 (W5 (c .before .before .before .before .before) (c .before .before .before .before .loop .table) (c .before .before
+              .before .before .loop .i) (c .before .before .before .before .loop .k) (c .before .before .before .before .loop .model)) (m34 (c .before)
+              (After-put-slot·gave c))
+          lay12 = λ c. (
+            Path'.refl,
+            λ g. (
+              model-next-requires record {
+                before = record { before = c .before; put-slot = c .put-slot };
+                table = record {
+                  given = g;
+                };
+              },
+              λ g'. lay13 record {
+                before = record { before = record { before = c .before; put-slot = c .put-slot }; table = record { given = g } };
+                model-next = Called.called ps·3 r·3 (claims· .7) T41 (Num.vAt 7 λ x. x, (record { pos = 8; st = []; d = 0; at = λ x. x }, tt)) (m35 record {
+                  before = c .before;
+                  put-slot = c .put-slot;
+                } g) g';
+              },
+            ),
+          )
+
+          lay11 : (c : After-line-at) → at33 (W5 (c .before .before .before) (c .before .before .loop .table) (c .before .before .loop .i) (c .before .before
+              .loop .k) (c .before .before .loop .model)) (m31 (c .before) (After-line-at·gave c))
           lay11 = λ c. λ g. (
             Path'.refl,
             (
@@ -5612,19 +5933,24 @@ module _ (claims· : Claims) where
                   before = record { before = c .before; line-at = c .line-at };
                   put-slot-arg = record { given = g };
                 };
-                put-slot = Called.called ps·2 r·2 (claims· .5) T37 (
+                put-slot = Called.called ps·2 r·2 (claims· .5) T38 (
                   record {
-                    pos = 14;
+                    pos = 15;
                     ty = Syntax.tyRef Syntax.erased Syntax.mut SlotAs.pointee;
                     ref = λ x. x;
                   },
-                  (Num.vAt 6 λ x. x, (record { pos = 7; st = []; d = 0; at = λ x. x }, tt)),
-                ) (m32 record { before = c .before; line-at = c .line-at } g) g';
+                  (Num.vAt 6 λ x. x, (Num.vAt 7 λ x. x, (record { pos = 8; st = []; d = 0; at = λ x. x }, tt))),
+                ) (m33 record {
+                  before = c .before;
+                  line-at =
+                      c .line-at;
+                } g) g';
               },
             ),
           )
 
-          lay10 : (c : In-loop) → at33 (W5 (c .before .before) (c .before .loop .table) (c .before .loop .i) (c .before .loop .k)) (m28 (c .before))
+          lay10 : (c : In-loop) → at34 (W5 (c .before .before) (c .before .loop .table) (c .before .loop .i) (c .before .loop .k) (c .before .loop .model)) (m29
+              (c .before))
           lay10 = λ c. (
             line-at-requires record { before = c .before; loop-test = c .loop-test },
             λ g. lay11 record {
@@ -5632,7 +5958,7 @@ module _ (claims· : Claims) where
                 before = c .before;
                 loop-test = c .loop-test;
               };
-              line-at = Called.called ps·1 r·1 (claims· .3) T29 (
+              line-at = Called.called ps·1 r·1 (claims· .3) T30 (
                 record {
                   pos = 1;
                   ty = Syntax.tyRef (Syntax.named 0) Syntax.imm
@@ -5640,33 +5966,41 @@ module _ (claims· : Claims) where
                   ref = λ x. x;
                 },
                 (Num.vAt 5 λ x. x, tt),
-              ) (m28 (c .before)) g;
+              ) (m29 (c .before)) g;
             },
           )
 
-          lay9 : (c : After-loop) → at20 (W6 (c .before .before) (c .before .loop .table) (c .before .loop .i) (c .before .loop .k)) (m27 (c .before .before) (c
-              .before .loop .table) (c .before .loop .i) (c .before .loop .k))
-          lay9 = λ c. lay13 record { before = c .before; loop-test = c .loop-test }
+          lay9 : (c : After-loop) → at20 (W6 (c .before .before) (c .before .loop .table) (c .before .loop .i) (c .before .loop .k) (c .before .loop .model))
+              (m28 (c .before .before) (c .before .loop .table) (c .before .loop .i) (c .before .loop .k) (c .before .loop .model))
+          lay9 = λ c. lay14 record { before = c .before; loop-test = c .loop-test }
 
-          lay8 : (c : In-loop) → at18 (W6 (c .before .before) (c .before .loop .table) (c .before .loop .i) (c .before .loop .k)) (m27 (c .before .before) (c
-              .before .loop .table) (c .before .loop .i) (c .before .loop .k))
+          lay8 : (c : In-loop) → at18 (W6 (c .before .before) (c .before .loop .table) (c .before .loop .i) (c .before .loop .k) (c .before .loop .model)) (m28
+              (c .before .before) (c .before .loop .table) (c .before .loop .i) (c .before .loop .k) (c .before .loop .model))
           lay8 = λ c. lay10 record { before = c .before; loop-test = c .loop-test }
 
-          lay7 : (c : Else2) → at48 (W0 (c .before .before .before .before .before .κs) (c .before .before .before .before .before .args)) (m19 (c .before))
+          lay7 : (c : Else2) → at51 (W0 (c .before .before .before .before .before .κs) (c .before .before .before .before .before .args)) (m19 (c .before))
           lay7 = λ c. (
             (
-              (Row.get 2 (T24 .locals) (m21 (c .before)) .now, Row.get 5 (T24 .locals) (m21 (c .before)), Row.get 6 (T24 .locals) (m21 (c .before))),
-              Path'.refl {a = m21 (c .before)},
+              (
+                Row.get 2 (T25 .locals) (m22 (c .before)) .now,
+                Row.get 5 (T25 .locals) (m22 (c .before)),
+                Row.get 6 (T25 .locals) (m22 (c .before)),
+                Row.get 7 (T25 .locals) (m22 (c .before)),
+              ),
+              Path'.refl {a = m22 (c .before)},
               loop-holds record { before = c .before; if2 = c .if2 },
             ),
             λ vs inv. (
               mul-loop record {
-                before = record {
-                  before =
-                      c .before;
-                  if2 = c .if2;
+                before = record { before = c .before; if2 = c .if2 };
+                loop = record {
+                  table = vs .0;
+                  i = vs .1;
+                  k = vs .2;
+                  model = vs .3;
+                  inv =
+                      inv;
                 };
-                loop = record { table = vs .0; i = vs .1; k = vs .2; inv = inv };
               },
               (
                 tt,
@@ -5674,23 +6008,42 @@ module _ (claims· : Claims) where
                   λ taken. lay8 record {
                     before = record {
                       before = record { before = c .before; if2 = c .if2 };
-                      loop = record { table = vs .0; i = vs .1; k = vs .2; inv = inv };
+                      loop = record {
+                        table = vs .0;
+                        i =
+                            vs .1;
+                        k = vs .2;
+                        model = vs .3;
+                        inv = inv;
+                      };
                     };
                     loop-test = record {
-                      taken = Tests.ltb-true (Row.get 10 (T27 .locals) (m24 record { before = c .before; if2 = c .if2 } (vs .0) (vs .1) (vs .2))) (Row.get 11 (T27
-                          .locals) (m24 record { before = c .before; if2 = c .if2 } (vs .0) (vs .1) (vs .2))) taken;
+                      taken = Tests.ltb-true (Row.get 11 (T28 .locals) (m25 record {
+                        before = c
+                            .before;
+                        if2 = c .if2;
+                      } (vs .0) (vs .1) (vs .2) (vs .3))) (Row.get 12 (T28 .locals) (m25 record { before = c .before; if2 = c .if2 } (vs .0) (vs
+                          .1) (vs .2) (vs .3))) taken;
                     };
                   },
                   λ left. lay9 record {
                     before = record {
-                      before =
-                          record { before = c .before; if2 = c .if2 };
-                      loop = record { table = vs .0; i = vs .1; k = vs .2; inv = inv };
+                      before = record { before = c .before; if2 = c .if2 };
+                      loop = record {
+                        table = vs .0;
+                        i = vs .1;
+                        k = vs .2;
+                        model = vs .3;
+                        inv = inv;
+                      };
                     };
                     loop-test = record {
-                      left =
-                          Tests.ltb-false (Row.get 10 (T27 .locals) (m24 record { before = c .before; if2 = c .if2 } (vs .0) (vs .1) (vs .2))) (Row.get 11 (T27 .locals)
-                          (m24 record { before = c .before; if2 = c .if2 } (vs .0) (vs .1) (vs .2))) left;
+                      left = Tests.ltb-false (Row.get 11 (T28 .locals) (m25
+                          record { before = c .before; if2 = c .if2 } (vs .0) (vs .1) (vs .2) (vs .3))) (Row.get 12 (T28 .locals) (m25 record {
+                            before = c .before;
+                            if2 = c
+                                .if2;
+                          } (vs .0) (vs .1) (vs .2) (vs .3))) left;
                     };
                   },
                 ),
@@ -5704,14 +6057,14 @@ module _ (claims· : Claims) where
           lay5 : (c : Then2) → at12 (W2 (c .before .before)) (m14 (c .before .before))
           lay5 = λ c. ((Path'.refl, (Path'.refl, tt)), returns-2 record { before = c .before; if2 = c .if2 })
 
-          lay4 : (c : Else1) → at53 (W0 (c .before .before .before .before .κs) (c .before .before .before .before .args)) (m9 (c .before))
+          lay4 : (c : Else1) → at56 (W0 (c .before .before .before .before .κs) (c .before .before .before .before .args)) (m9 (c .before))
           lay4 = λ c. (
             tt,
             (
               λ taken. lay5 record {
                 before = record { before = c .before; if1 = c .if1 };
                 if2 = record {
-                  taken = Tests.ltb-true (Row.get 9 (T14
+                  taken = Tests.ltb-true (Row.get 10 (T14
                       .locals) (m12 (c .before))) (Row.get 4 (T14 .locals) (m12 (c .before))) taken;
                 };
               },
@@ -5721,7 +6074,8 @@ module _ (claims· : Claims) where
                   if1 = c .if1;
                 };
                 if2 = record {
-                  left = Tests.ltb-false (Row.get 9 (T14 .locals) (m12 (c .before))) (Row.get 4 (T14 .locals) (m12 (c .before))) left;
+                  left = Tests.ltb-false (Row.get 10 (T14 .locals) (m12 (c .before))) (Row.get 4 (T14 .locals) (m12 (c .before)))
+                      left;
                 };
               },
             ),
@@ -5733,7 +6087,7 @@ module _ (claims· : Claims) where
           lay2 : (c : Then1) → at4 (W1 (c .before .before) (c .before .struct-known .given)) (m4 (c .before .before) (c .before .struct-known .given))
           lay2 = λ c. ((Path'.refl, (Path'.refl, tt)), returns record { before = c .before; if1 = c .if1 })
 
-          lay1 : (c : After-count-slots) → at56 (W0 (c .before .before .κs) (c .before .before .args)) (m2 (c .before) (After-count-slots·gave c))
+          lay1 : (c : After-count-slots) → at59 (W0 (c .before .before .κs) (c .before .before .args)) (m2 (c .before) (After-count-slots·gave c))
           lay1 = λ c. λ g. (
             tt,
             (
@@ -5771,7 +6125,7 @@ module _ (claims· : Claims) where
             ),
           )
 
-          pub laid : (c : Start) → at58 (W0 (c .κs) (c .args)) (m0 (c .κs) (c .args))
+          pub laid : (c : Start) → at61 (W0 (c .κs) (c .args)) (m0 (c .κs) (c .args))
           laid = λ c. λ g. (
             count-slots-requires record { before = c; shared-slice-known = record { given = g } },
             λ g'. lay1 record {
@@ -5799,7 +6153,8 @@ module _ (claims· : Claims) where
 
           module _ {M : Type 1} (𝓤 : URA.URA M) (H : Wp.Heap 𝓤) (A : Atoms.Atoms 𝓤) (W : Kit.Given 𝓤 H A) (𝓣 : Wp.Tables 𝓤 H) (known0 : Plain.Known 𝓤 H A W 𝓣 1
               ps·0 r·0 (claims· .0) (claims· .1) "store::survey::count_slots") (known1 : Plain.Known 𝓤 H A W 𝓣 1 ps·1 r·1 (claims· .2) (claims· .3)
-              "rows::line_at") (known2 : Plain.Known 𝓤 H A W 𝓣 1 ps·2 r·2 (claims· .4) (claims· .5) "store::put_slot") where
+              "rows::line_at") (known2 : Plain.Known 𝓤 H A W 𝓣 1 ps·2 r·2 (claims· .4) (claims· .5) "store::put_slot") (known3 : Plain.Known 𝓤 H A W 𝓣 0 ps·3 r·3
+              (claims· .6) (claims· .7) "marks::models::model_next") where
             pub spec : Statement.Triple 𝓤 (Wp.WpFn 𝓤 H (𝓣 .C) (𝓣 .Λ) (Function.fnOf 2 ps r xs m hs body)) (Function.plainOf 𝓤 H A 2 ps r Pre· Post·)
-            spec = Plain.t-fn-plain 𝓤 H A W 𝓣 2 ps r xs m hs body (λ κs qs bs. Φ) (λ κs qs bs bd. typed κs qs 𝓤 H A W 𝓣 (known0, known1, known2) bs bd) Pre·
-                Post· asked
+            spec = Plain.t-fn-plain 𝓤 H A W 𝓣 2 ps r xs m hs body (λ κs qs bs. Φ) (λ κs qs bs bd. typed κs qs 𝓤 H A W 𝓣 (known0, known1, known2, known3) bs bd)
+                Pre· Post· asked

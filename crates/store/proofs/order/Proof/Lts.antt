@@ -88,15 +88,15 @@ r = Num.rNum Syntax.w8
 
 abbrev pub xs : List.List Syntax.Ty
 xs = (Syntax.tyStruct (115 ∷ 116 ∷ 111 ∷ 114 ∷ 101 ∷ 58 ∷ 58 ∷ 72 ∷ 101 ∷ 108 ∷ 100 ∷ []) (Syntax.tcons (Syntax.tyInt Syntax.w8) (Syntax.tcons (Syntax.tyInt
-    Syntax.w64) (Syntax.tcons (Syntax.tyInt Syntax.w64) (Syntax.tcons (Syntax.tyInt Syntax.w64) (Syntax.tcons (Syntax.tyInt Syntax.w64) Syntax.tnil)))))) ∷
-    Syntax.tyInt Syntax.w64 ∷ Syntax.tyInt Syntax.w64 ∷ Syntax.tyInt Syntax.w64 ∷ Syntax.tyStruct (102 ∷ 114 ∷ 97 ∷ 103 ∷ 109 ∷ 101 ∷ 110 ∷ 116 ∷ 115 ∷ 58 ∷ 58
-    ∷ 70 ∷ 114 ∷ 111 ∷ 109 ∷ 76 ∷ 97 ∷ 115 ∷ 116 ∷ []) (Syntax.tcons (Syntax.tyInt Syntax.w64) Syntax.tnil) ∷ Syntax.tyInt Syntax.w8 ∷ Syntax.tyRef
-    Syntax.erased Syntax.imm SlotAs.pointee ∷ (Syntax.tyStruct (38 ∷ 91 ∷ 93 ∷ []) (Syntax.tcons (Syntax.tyRef Syntax.erased Syntax.imm SlotAs.pointee)
-    (Syntax.tcons (Syntax.tyInt Syntax.w64) Syntax.tnil))) ∷ Syntax.tyBool ∷ Syntax.tyInt Syntax.w64 ∷ Syntax.tyInt Syntax.w64 ∷ Syntax.tyInt Syntax.w8 ∷
-    Syntax.tyRef Syntax.erased Syntax.imm SlotAs.pointee ∷ (Syntax.tyStruct (38 ∷ 91 ∷ 93 ∷ []) (Syntax.tcons (Syntax.tyRef Syntax.erased Syntax.imm
-    SlotAs.pointee) (Syntax.tcons (Syntax.tyInt Syntax.w64) Syntax.tnil))) ∷ Syntax.tyUnit ∷ Syntax.tyRef Syntax.erased Syntax.mut SlotAs.pointee ∷
-    (Syntax.tyStruct (38 ∷ 91 ∷ 93 ∷ []) (Syntax.tcons (Syntax.tyRef Syntax.erased Syntax.mut SlotAs.pointee) (Syntax.tcons (Syntax.tyInt Syntax.w64)
-    Syntax.tnil))) ∷ []
+    Syntax.w64) (Syntax.tcons (Syntax.tyInt Syntax.w64) (Syntax.tcons (Syntax.tyInt Syntax.w64) (Syntax.tcons (Syntax.tyInt Syntax.w64) (Syntax.tcons
+    (Syntax.tyInt Syntax.w64) Syntax.tnil))))))) ∷ Syntax.tyInt Syntax.w64 ∷ Syntax.tyInt Syntax.w64 ∷ Syntax.tyInt Syntax.w64 ∷ Syntax.tyStruct (102 ∷ 114 ∷
+    97 ∷ 103 ∷ 109 ∷ 101 ∷ 110 ∷ 116 ∷ 115 ∷ 58 ∷ 58 ∷ 70 ∷ 114 ∷ 111 ∷ 109 ∷ 76 ∷ 97 ∷ 115 ∷ 116 ∷ []) (Syntax.tcons (Syntax.tyInt Syntax.w64) Syntax.tnil) ∷
+    Syntax.tyInt Syntax.w8 ∷ Syntax.tyRef Syntax.erased Syntax.imm SlotAs.pointee ∷ (Syntax.tyStruct (38 ∷ 91 ∷ 93 ∷ []) (Syntax.tcons (Syntax.tyRef
+    Syntax.erased Syntax.imm SlotAs.pointee) (Syntax.tcons (Syntax.tyInt Syntax.w64) Syntax.tnil))) ∷ Syntax.tyBool ∷ Syntax.tyInt Syntax.w64 ∷ Syntax.tyInt
+    Syntax.w64 ∷ Syntax.tyInt Syntax.w8 ∷ Syntax.tyRef Syntax.erased Syntax.imm SlotAs.pointee ∷ (Syntax.tyStruct (38 ∷ 91 ∷ 93 ∷ []) (Syntax.tcons
+    (Syntax.tyRef Syntax.erased Syntax.imm SlotAs.pointee) (Syntax.tcons (Syntax.tyInt Syntax.w64) Syntax.tnil))) ∷ Syntax.tyUnit ∷ Syntax.tyRef Syntax.erased
+    Syntax.mut SlotAs.pointee ∷ (Syntax.tyStruct (38 ∷ 91 ∷ 93 ∷ []) (Syntax.tcons (Syntax.tyRef Syntax.erased Syntax.mut SlotAs.pointee) (Syntax.tcons
+    (Syntax.tyInt Syntax.w64) Syntax.tnil))) ∷ []
 
 abbrev pub m : Nat.ℕ
 m = 3
@@ -414,24 +414,25 @@ t0 = (0, Rows.any-gone (Syntax.tyInt Syntax.w8)) ∷ (
   5,
   Rows.any-gone (Syntax.tyStruct (115 ∷ 116 ∷ 111 ∷ 114 ∷ 101 ∷ 58 ∷ 58 ∷ 72 ∷ 101 ∷ 108 ∷ 100
       ∷ []) (Syntax.tcons (Syntax.tyInt Syntax.w8) (Syntax.tcons (Syntax.tyInt Syntax.w64) (Syntax.tcons (Syntax.tyInt Syntax.w64) (Syntax.tcons (Syntax.tyInt
-      Syntax.w64) (Syntax.tcons (Syntax.tyInt Syntax.w64) Syntax.tnil)))))),
-) ∷ (6, Rows.any-gone (Syntax.tyInt Syntax.w64)) ∷ (
-  7,
+      Syntax.w64) (Syntax.tcons (Syntax.tyInt Syntax.w64) (Syntax.tcons (Syntax.tyInt Syntax.w64) Syntax.tnil))))))),
+) ∷ (
+  6,
   Rows.any-gone (Syntax.tyInt
       Syntax.w64),
-) ∷ (8, Rows.any-gone (Syntax.tyInt Syntax.w64)) ∷ (
+) ∷ (7, Rows.any-gone (Syntax.tyInt Syntax.w64)) ∷ (8, Rows.any-gone (Syntax.tyInt Syntax.w64)) ∷ (
   9,
-  Rows.any-gone (Syntax.tyStruct (102 ∷ 114 ∷ 97 ∷ 103 ∷ 109 ∷ 101 ∷ 110 ∷ 116 ∷ 115 ∷ 58 ∷
-      58 ∷ 70 ∷ 114 ∷ 111 ∷ 109 ∷ 76 ∷ 97 ∷ 115 ∷ 116 ∷ []) (Syntax.tcons (Syntax.tyInt Syntax.w64) Syntax.tnil)),
-) ∷ (10, Rows.any-gone (Syntax.tyInt Syntax.w8))
-    ∷ (11, Rows.any-gone (Syntax.tyRef Syntax.erased Syntax.imm SlotAs.pointee)) ∷ (
-      12,
-      Rows.any-gone (Syntax.tyStruct (38 ∷ 91 ∷ 93 ∷ []) (Syntax.tcons
-          (Syntax.tyRef Syntax.erased Syntax.imm SlotAs.pointee) (Syntax.tcons (Syntax.tyInt Syntax.w64) Syntax.tnil))),
-    ) ∷ (13, Rows.any-gone Syntax.tyBool) ∷ (
-      14,
-      Rows.any-gone (Syntax.tyInt Syntax.w64),
-    ) ∷ (15, Rows.any-gone (Syntax.tyInt Syntax.w64)) ∷ []
+  Rows.any-gone (Syntax.tyStruct (102 ∷ 114
+      ∷ 97 ∷ 103 ∷ 109 ∷ 101 ∷ 110 ∷ 116 ∷ 115 ∷ 58 ∷ 58 ∷ 70 ∷ 114 ∷ 111 ∷ 109 ∷ 76 ∷ 97 ∷ 115 ∷ 116 ∷ []) (Syntax.tcons (Syntax.tyInt Syntax.w64)
+      Syntax.tnil)),
+) ∷ (10, Rows.any-gone (Syntax.tyInt Syntax.w8)) ∷ (11, Rows.any-gone (Syntax.tyRef Syntax.erased Syntax.imm SlotAs.pointee)) ∷ (
+  12,
+  Rows.any-gone (Syntax.tyStruct (38 ∷ 91 ∷ 93 ∷ []) (Syntax.tcons (Syntax.tyRef Syntax.erased Syntax.imm SlotAs.pointee) (Syntax.tcons (Syntax.tyInt
+      Syntax.w64) Syntax.tnil))),
+) ∷ (13, Rows.any-gone Syntax.tyBool) ∷ (14, Rows.any-gone (Syntax.tyInt Syntax.w64)) ∷ (
+  15,
+  Rows.any-gone (Syntax.tyInt
+      Syntax.w64),
+) ∷ []
 
 abbrev pub t1 : List.List Row.Entry
 t1 = (16, Rows.any-gone (Syntax.tyInt Syntax.w8)) ∷ (17, Rows.any-gone (Syntax.tyRef Syntax.erased Syntax.imm SlotAs.pointee)) ∷ (
@@ -460,28 +461,28 @@ t2 = (0, Rows.sc-here (Row.sInt Syntax.w8)) ∷ (
   5,
   Rows.any-gone (Syntax.tyStruct (115 ∷ 116 ∷ 111 ∷ 114 ∷ 101 ∷ 58 ∷ 58 ∷ 72 ∷ 101 ∷ 108
       ∷ 100 ∷ []) (Syntax.tcons (Syntax.tyInt Syntax.w8) (Syntax.tcons (Syntax.tyInt Syntax.w64) (Syntax.tcons (Syntax.tyInt Syntax.w64) (Syntax.tcons
-      (Syntax.tyInt Syntax.w64) (Syntax.tcons (Syntax.tyInt Syntax.w64) Syntax.tnil)))))),
-) ∷ (6, Rows.any-gone (Syntax.tyInt Syntax.w64)) ∷ (
-  7,
+      (Syntax.tyInt Syntax.w64) (Syntax.tcons (Syntax.tyInt Syntax.w64) (Syntax.tcons (Syntax.tyInt Syntax.w64) Syntax.tnil))))))),
+) ∷ (
+  6,
   Rows.any-gone
       (Syntax.tyInt Syntax.w64),
-) ∷ (8, Rows.any-gone (Syntax.tyInt Syntax.w64)) ∷ (
+) ∷ (7, Rows.any-gone (Syntax.tyInt Syntax.w64)) ∷ (8, Rows.any-gone (Syntax.tyInt Syntax.w64)) ∷ (
   9,
-  Rows.any-gone (Syntax.tyStruct (102 ∷ 114 ∷ 97 ∷ 103 ∷ 109 ∷ 101 ∷ 110 ∷
-      116 ∷ 115 ∷ 58 ∷ 58 ∷ 70 ∷ 114 ∷ 111 ∷ 109 ∷ 76 ∷ 97 ∷ 115 ∷ 116 ∷ []) (Syntax.tcons (Syntax.tyInt Syntax.w64) Syntax.tnil)),
-) ∷ (
-  10,
   Rows.any-gone
-      (Syntax.tyInt Syntax.w8),
-) ∷ (11, Rows.any-gone (Syntax.tyRef Syntax.erased Syntax.imm SlotAs.pointee)) ∷ (
+      (Syntax.tyStruct (102 ∷ 114 ∷ 97 ∷ 103 ∷ 109 ∷ 101 ∷ 110 ∷ 116 ∷ 115 ∷ 58 ∷ 58 ∷ 70 ∷ 114 ∷ 111 ∷ 109 ∷ 76 ∷ 97 ∷ 115 ∷ 116 ∷ []) (Syntax.tcons
+      (Syntax.tyInt Syntax.w64) Syntax.tnil)),
+) ∷ (10, Rows.any-gone (Syntax.tyInt Syntax.w8)) ∷ (
+  11,
+  Rows.any-gone (Syntax.tyRef Syntax.erased Syntax.imm
+      SlotAs.pointee),
+) ∷ (
   12,
-  Rows.any-gone (Syntax.tyStruct (38 ∷ 91 ∷ 93
-      ∷ []) (Syntax.tcons (Syntax.tyRef Syntax.erased Syntax.imm SlotAs.pointee) (Syntax.tcons (Syntax.tyInt Syntax.w64) Syntax.tnil))),
-) ∷ (
-  13,
-  Rows.any-gone
-      Syntax.tyBool,
-) ∷ (14, Rows.any-gone (Syntax.tyInt Syntax.w64)) ∷ (15, Rows.any-gone (Syntax.tyInt Syntax.w64)) ∷ []
+  Rows.any-gone (Syntax.tyStruct (38 ∷ 91 ∷ 93 ∷ []) (Syntax.tcons (Syntax.tyRef Syntax.erased Syntax.imm SlotAs.pointee)
+      (Syntax.tcons (Syntax.tyInt Syntax.w64) Syntax.tnil))),
+) ∷ (13, Rows.any-gone Syntax.tyBool) ∷ (14, Rows.any-gone (Syntax.tyInt Syntax.w64)) ∷ (
+  15,
+  Rows.any-gone (Syntax.tyInt Syntax.w64),
+) ∷ []
 
 abbrev pub t3 : List.List Row.Entry
 t3 = (0, Rows.any-gone (Syntax.tyInt Syntax.w8)) ∷ (
@@ -496,27 +497,26 @@ t3 = (0, Rows.any-gone (Syntax.tyInt Syntax.w8)) ∷ (
   5,
   Rows.any-gone (Syntax.tyStruct (115 ∷ 116 ∷ 111 ∷ 114 ∷ 101 ∷ 58 ∷ 58 ∷ 72 ∷
       101 ∷ 108 ∷ 100 ∷ []) (Syntax.tcons (Syntax.tyInt Syntax.w8) (Syntax.tcons (Syntax.tyInt Syntax.w64) (Syntax.tcons (Syntax.tyInt Syntax.w64) (Syntax.tcons
-      (Syntax.tyInt Syntax.w64) (Syntax.tcons (Syntax.tyInt Syntax.w64) Syntax.tnil)))))),
-) ∷ (6, Rows.any-gone (Syntax.tyInt Syntax.w64)) ∷ (
-  7,
+      (Syntax.tyInt Syntax.w64) (Syntax.tcons (Syntax.tyInt Syntax.w64) (Syntax.tcons (Syntax.tyInt Syntax.w64) Syntax.tnil))))))),
+) ∷ (
+  6,
   Rows.any-gone
       (Syntax.tyInt Syntax.w64),
-) ∷ (8, Rows.any-gone (Syntax.tyInt Syntax.w64)) ∷ (
+) ∷ (7, Rows.any-gone (Syntax.tyInt Syntax.w64)) ∷ (8, Rows.any-gone (Syntax.tyInt Syntax.w64)) ∷ (
   9,
-  Rows.any-gone (Syntax.tyStruct (102 ∷ 114 ∷ 97 ∷ 103 ∷ 109 ∷ 101 ∷ 110 ∷
-      116 ∷ 115 ∷ 58 ∷ 58 ∷ 70 ∷ 114 ∷ 111 ∷ 109 ∷ 76 ∷ 97 ∷ 115 ∷ 116 ∷ []) (Syntax.tcons (Syntax.tyInt Syntax.w64) Syntax.tnil)),
-) ∷ (
-  10,
   Rows.any-gone
-      (Syntax.tyInt Syntax.w8),
-) ∷ (11, Relend.ssptr SlotAs.row (Syntax.tyRef Syntax.erased Syntax.imm SlotAs.pointee) 2) ∷ (
-  12,
-  Rows.any-gone (Syntax.tyStruct
-      (38 ∷ 91 ∷ 93 ∷ []) (Syntax.tcons (Syntax.tyRef Syntax.erased Syntax.imm SlotAs.pointee) (Syntax.tcons (Syntax.tyInt Syntax.w64) Syntax.tnil))),
+      (Syntax.tyStruct (102 ∷ 114 ∷ 97 ∷ 103 ∷ 109 ∷ 101 ∷ 110 ∷ 116 ∷ 115 ∷ 58 ∷ 58 ∷ 70 ∷ 114 ∷ 111 ∷ 109 ∷ 76 ∷ 97 ∷ 115 ∷ 116 ∷ []) (Syntax.tcons
+      (Syntax.tyInt Syntax.w64) Syntax.tnil)),
+) ∷ (10, Rows.any-gone (Syntax.tyInt Syntax.w8)) ∷ (
+  11,
+  Relend.ssptr SlotAs.row (Syntax.tyRef Syntax.erased
+      Syntax.imm SlotAs.pointee) 2,
 ) ∷ (
-  13,
-  Rows.any-gone Syntax.tyBool,
-) ∷ (14, Rows.any-gone (Syntax.tyInt Syntax.w64)) ∷ (15, Rows.any-gone (Syntax.tyInt Syntax.w64)) ∷ []
+  12,
+  Rows.any-gone (Syntax.tyStruct (38 ∷ 91 ∷ 93 ∷ []) (Syntax.tcons (Syntax.tyRef Syntax.erased Syntax.imm
+      SlotAs.pointee) (Syntax.tcons (Syntax.tyInt Syntax.w64) Syntax.tnil))),
+) ∷ (13, Rows.any-gone Syntax.tyBool) ∷ (14, Rows.any-gone (Syntax.tyInt Syntax.w64))
+    ∷ (15, Rows.any-gone (Syntax.tyInt Syntax.w64)) ∷ []
 
 abbrev pub t4 : List.List Row.Entry
 t4 = (0, Rows.any-gone (Syntax.tyInt Syntax.w8)) ∷ (
@@ -531,28 +531,24 @@ t4 = (0, Rows.any-gone (Syntax.tyInt Syntax.w8)) ∷ (
   5,
   Rows.any-gone (Syntax.tyStruct (115 ∷ 116 ∷ 111 ∷ 114 ∷ 101 ∷ 58 ∷ 58 ∷ 72 ∷
       101 ∷ 108 ∷ 100 ∷ []) (Syntax.tcons (Syntax.tyInt Syntax.w8) (Syntax.tcons (Syntax.tyInt Syntax.w64) (Syntax.tcons (Syntax.tyInt Syntax.w64) (Syntax.tcons
-      (Syntax.tyInt Syntax.w64) (Syntax.tcons (Syntax.tyInt Syntax.w64) Syntax.tnil)))))),
-) ∷ (6, Rows.any-gone (Syntax.tyInt Syntax.w64)) ∷ (
-  7,
-  Rows.any-gone
-      (Syntax.tyInt Syntax.w64),
-) ∷ (8, Rows.any-gone (Syntax.tyInt Syntax.w64)) ∷ (
-  9,
-  Rows.any-gone (Syntax.tyStruct (102 ∷ 114 ∷ 97 ∷ 103 ∷ 109 ∷ 101 ∷ 110 ∷
-      116 ∷ 115 ∷ 58 ∷ 58 ∷ 70 ∷ 114 ∷ 111 ∷ 109 ∷ 76 ∷ 97 ∷ 115 ∷ 116 ∷ []) (Syntax.tcons (Syntax.tyInt Syntax.w64) Syntax.tnil)),
+      (Syntax.tyInt Syntax.w64) (Syntax.tcons (Syntax.tyInt Syntax.w64) (Syntax.tcons (Syntax.tyInt Syntax.w64) Syntax.tnil))))))),
 ) ∷ (
-  10,
-  Rows.any-gone
-      (Syntax.tyInt Syntax.w8),
-) ∷ (11, Rows.any-gone (Syntax.tyRef Syntax.erased Syntax.imm SlotAs.pointee)) ∷ (
-  12,
-  Rows.sslice SlotAs.row (Syntax.tyRef
-      Syntax.erased Syntax.imm SlotAs.pointee) 2,
-) ∷ (13, Rows.any-gone Syntax.tyBool) ∷ (14, Rows.any-gone (Syntax.tyInt Syntax.w64)) ∷ (
-  15,
+  6,
   Rows.any-gone
       (Syntax.tyInt Syntax.w64),
-) ∷ []
+) ∷ (7, Rows.any-gone (Syntax.tyInt Syntax.w64)) ∷ (8, Rows.any-gone (Syntax.tyInt Syntax.w64)) ∷ (
+  9,
+  Rows.any-gone
+      (Syntax.tyStruct (102 ∷ 114 ∷ 97 ∷ 103 ∷ 109 ∷ 101 ∷ 110 ∷ 116 ∷ 115 ∷ 58 ∷ 58 ∷ 70 ∷ 114 ∷ 111 ∷ 109 ∷ 76 ∷ 97 ∷ 115 ∷ 116 ∷ []) (Syntax.tcons
+      (Syntax.tyInt Syntax.w64) Syntax.tnil)),
+) ∷ (10, Rows.any-gone (Syntax.tyInt Syntax.w8)) ∷ (
+  11,
+  Rows.any-gone (Syntax.tyRef Syntax.erased Syntax.imm
+      SlotAs.pointee),
+) ∷ (12, Rows.sslice SlotAs.row (Syntax.tyRef Syntax.erased Syntax.imm SlotAs.pointee) 2) ∷ (13, Rows.any-gone Syntax.tyBool) ∷ (
+  14,
+  Rows.any-gone (Syntax.tyInt Syntax.w64),
+) ∷ (15, Rows.any-gone (Syntax.tyInt Syntax.w64)) ∷ []
 
 abbrev pub t5 : List.List Row.Entry
 t5 = (0, Rows.any-gone (Syntax.tyInt Syntax.w8)) ∷ (
@@ -761,24 +757,25 @@ t12 = (0, Rows.sc-here (Row.sInt Syntax.w8)) ∷ (
   5,
   Rows.any-gone (Syntax.tyStruct (115 ∷ 116 ∷ 111 ∷ 114 ∷ 101 ∷ 58 ∷ 58 ∷ 72 ∷ 101 ∷ 108 ∷ 100
       ∷ []) (Syntax.tcons (Syntax.tyInt Syntax.w8) (Syntax.tcons (Syntax.tyInt Syntax.w64) (Syntax.tcons (Syntax.tyInt Syntax.w64) (Syntax.tcons (Syntax.tyInt
-      Syntax.w64) (Syntax.tcons (Syntax.tyInt Syntax.w64) Syntax.tnil)))))),
-) ∷ (6, Rows.any-gone (Syntax.tyInt Syntax.w64)) ∷ (
-  7,
+      Syntax.w64) (Syntax.tcons (Syntax.tyInt Syntax.w64) (Syntax.tcons (Syntax.tyInt Syntax.w64) Syntax.tnil))))))),
+) ∷ (
+  6,
   Rows.any-gone (Syntax.tyInt
       Syntax.w64),
-) ∷ (8, Rows.any-gone (Syntax.tyInt Syntax.w64)) ∷ (
+) ∷ (7, Rows.any-gone (Syntax.tyInt Syntax.w64)) ∷ (8, Rows.any-gone (Syntax.tyInt Syntax.w64)) ∷ (
   9,
-  Rows.any-gone (Syntax.tyStruct (102 ∷ 114 ∷ 97 ∷ 103 ∷ 109 ∷ 101 ∷ 110 ∷ 116 ∷ 115 ∷ 58 ∷
-      58 ∷ 70 ∷ 114 ∷ 111 ∷ 109 ∷ 76 ∷ 97 ∷ 115 ∷ 116 ∷ []) (Syntax.tcons (Syntax.tyInt Syntax.w64) Syntax.tnil)),
-) ∷ (10, Rows.any-gone (Syntax.tyInt Syntax.w8))
-    ∷ (11, Rows.any-gone (Syntax.tyRef Syntax.erased Syntax.imm SlotAs.pointee)) ∷ (
-      12,
-      Rows.any-gone (Syntax.tyStruct (38 ∷ 91 ∷ 93 ∷ []) (Syntax.tcons
-          (Syntax.tyRef Syntax.erased Syntax.imm SlotAs.pointee) (Syntax.tcons (Syntax.tyInt Syntax.w64) Syntax.tnil))),
-    ) ∷ (13, Rows.any-gone Syntax.tyBool) ∷ (
-      14,
-      Rows.any-gone (Syntax.tyInt Syntax.w64),
-    ) ∷ (15, Rows.any-gone (Syntax.tyInt Syntax.w64)) ∷ []
+  Rows.any-gone (Syntax.tyStruct (102 ∷ 114
+      ∷ 97 ∷ 103 ∷ 109 ∷ 101 ∷ 110 ∷ 116 ∷ 115 ∷ 58 ∷ 58 ∷ 70 ∷ 114 ∷ 111 ∷ 109 ∷ 76 ∷ 97 ∷ 115 ∷ 116 ∷ []) (Syntax.tcons (Syntax.tyInt Syntax.w64)
+      Syntax.tnil)),
+) ∷ (10, Rows.any-gone (Syntax.tyInt Syntax.w8)) ∷ (11, Rows.any-gone (Syntax.tyRef Syntax.erased Syntax.imm SlotAs.pointee)) ∷ (
+  12,
+  Rows.any-gone (Syntax.tyStruct (38 ∷ 91 ∷ 93 ∷ []) (Syntax.tcons (Syntax.tyRef Syntax.erased Syntax.imm SlotAs.pointee) (Syntax.tcons (Syntax.tyInt
+      Syntax.w64) Syntax.tnil))),
+) ∷ (13, Rows.any-gone Syntax.tyBool) ∷ (14, Rows.any-gone (Syntax.tyInt Syntax.w64)) ∷ (
+  15,
+  Rows.any-gone (Syntax.tyInt
+      Syntax.w64),
+) ∷ []
 
 abbrev pub t13 : List.List Row.Entry
 t13 = (0, Rows.any-gone (Syntax.tyInt Syntax.w8)) ∷ (
@@ -851,24 +848,23 @@ t15 = (0, Rows.any-gone (Syntax.tyInt Syntax.w8)) ∷ (
   5,
   Rows.any-gone (Syntax.tyStruct (115 ∷ 116 ∷ 111 ∷ 114 ∷ 101 ∷ 58 ∷ 58 ∷ 72 ∷ 101 ∷ 108 ∷ 100
       ∷ []) (Syntax.tcons (Syntax.tyInt Syntax.w8) (Syntax.tcons (Syntax.tyInt Syntax.w64) (Syntax.tcons (Syntax.tyInt Syntax.w64) (Syntax.tcons (Syntax.tyInt
-      Syntax.w64) (Syntax.tcons (Syntax.tyInt Syntax.w64) Syntax.tnil)))))),
-) ∷ (6, Rows.sc-here (Row.sInt Syntax.w64)) ∷ (7, Rows.sc-here (Row.sInt Syntax.w64))
-    ∷ (8, Rows.any-gone (Syntax.tyInt Syntax.w64)) ∷ (
+      Syntax.w64) (Syntax.tcons (Syntax.tyInt Syntax.w64) (Syntax.tcons (Syntax.tyInt Syntax.w64) Syntax.tnil))))))),
+) ∷ (6, Rows.sc-here (Row.sInt Syntax.w64)) ∷
+    (7, Rows.sc-here (Row.sInt Syntax.w64)) ∷ (8, Rows.any-gone (Syntax.tyInt Syntax.w64)) ∷ (
       9,
-      Rows.any-gone (Syntax.tyStruct (102 ∷ 114 ∷ 97 ∷ 103 ∷ 109 ∷ 101 ∷ 110 ∷ 116 ∷ 115 ∷ 58 ∷ 58 ∷ 70 ∷
-          114 ∷ 111 ∷ 109 ∷ 76 ∷ 97 ∷ 115 ∷ 116 ∷ []) (Syntax.tcons (Syntax.tyInt Syntax.w64) Syntax.tnil)),
-    ) ∷ (10, Rows.any-gone (Syntax.tyInt Syntax.w8)) ∷ (
-      11,
-      Rows.any-gone (Syntax.tyRef Syntax.erased Syntax.imm SlotAs.pointee),
+      Rows.any-gone (Syntax.tyStruct (102 ∷ 114 ∷ 97 ∷ 103 ∷ 109 ∷
+          101 ∷ 110 ∷ 116 ∷ 115 ∷ 58 ∷ 58 ∷ 70 ∷ 114 ∷ 111 ∷ 109 ∷ 76 ∷ 97 ∷ 115 ∷ 116 ∷ []) (Syntax.tcons (Syntax.tyInt Syntax.w64) Syntax.tnil)),
     ) ∷ (
+      10,
+      Rows.any-gone (Syntax.tyInt Syntax.w8),
+    ) ∷ (11, Rows.any-gone (Syntax.tyRef Syntax.erased Syntax.imm SlotAs.pointee)) ∷ (
       12,
-      Rows.any-gone (Syntax.tyStruct (38 ∷ 91 ∷ 93 ∷ []) (Syntax.tcons (Syntax.tyRef
-          Syntax.erased Syntax.imm SlotAs.pointee) (Syntax.tcons (Syntax.tyInt Syntax.w64) Syntax.tnil))),
-    ) ∷ (13, Rows.any-gone Syntax.tyBool) ∷ (
-      14,
-      Rows.any-gone
-          (Syntax.tyInt Syntax.w64),
-    ) ∷ (15, Rows.any-gone (Syntax.tyInt Syntax.w64)) ∷ []
+      Rows.any-gone (Syntax.tyStruct
+          (38 ∷ 91 ∷ 93 ∷ []) (Syntax.tcons (Syntax.tyRef Syntax.erased Syntax.imm SlotAs.pointee) (Syntax.tcons (Syntax.tyInt Syntax.w64) Syntax.tnil))),
+    ) ∷ (
+      13,
+      Rows.any-gone Syntax.tyBool,
+    ) ∷ (14, Rows.any-gone (Syntax.tyInt Syntax.w64)) ∷ (15, Rows.any-gone (Syntax.tyInt Syntax.w64)) ∷ []
 
 abbrev pub t16 : List.List Row.Entry
 t16 = (0, Rows.any-gone (Syntax.tyInt Syntax.w8)) ∷ (
@@ -883,24 +879,25 @@ t16 = (0, Rows.any-gone (Syntax.tyInt Syntax.w8)) ∷ (
   5,
   Rows.any-gone (Syntax.tyStruct (115 ∷ 116 ∷ 111 ∷ 114 ∷ 101 ∷ 58 ∷ 58 ∷ 72 ∷ 101 ∷ 108 ∷ 100
       ∷ []) (Syntax.tcons (Syntax.tyInt Syntax.w8) (Syntax.tcons (Syntax.tyInt Syntax.w64) (Syntax.tcons (Syntax.tyInt Syntax.w64) (Syntax.tcons (Syntax.tyInt
-      Syntax.w64) (Syntax.tcons (Syntax.tyInt Syntax.w64) Syntax.tnil)))))),
-) ∷ (6, Rows.sc-here (Row.sInt Syntax.w64)) ∷ (7, Rows.sc-here (Row.sInt Syntax.w64))
-    ∷ (8, Rows.sc-here (Row.sInt Syntax.w64)) ∷ (
+      Syntax.w64) (Syntax.tcons (Syntax.tyInt Syntax.w64) (Syntax.tcons (Syntax.tyInt Syntax.w64) Syntax.tnil))))))),
+) ∷ (6, Rows.sc-here (Row.sInt Syntax.w64)) ∷
+    (7, Rows.sc-here (Row.sInt Syntax.w64)) ∷ (8, Rows.sc-here (Row.sInt Syntax.w64)) ∷ (
       9,
-      Rows.any-gone (Syntax.tyStruct (102 ∷ 114 ∷ 97 ∷ 103 ∷ 109 ∷ 101 ∷ 110 ∷ 116 ∷ 115 ∷ 58 ∷ 58 ∷ 70 ∷ 114 ∷
-          111 ∷ 109 ∷ 76 ∷ 97 ∷ 115 ∷ 116 ∷ []) (Syntax.tcons (Syntax.tyInt Syntax.w64) Syntax.tnil)),
-    ) ∷ (10, Rows.any-gone (Syntax.tyInt Syntax.w8)) ∷ (
-      11,
-      Rows.any-gone (Syntax.tyRef Syntax.erased Syntax.imm SlotAs.pointee),
+      Rows.any-gone (Syntax.tyStruct (102 ∷ 114 ∷ 97 ∷ 103 ∷ 109 ∷ 101 ∷
+          110 ∷ 116 ∷ 115 ∷ 58 ∷ 58 ∷ 70 ∷ 114 ∷ 111 ∷ 109 ∷ 76 ∷ 97 ∷ 115 ∷ 116 ∷ []) (Syntax.tcons (Syntax.tyInt Syntax.w64) Syntax.tnil)),
     ) ∷ (
-      12,
-      Rows.any-gone (Syntax.tyStruct (38 ∷ 91 ∷ 93 ∷ []) (Syntax.tcons (Syntax.tyRef
-          Syntax.erased Syntax.imm SlotAs.pointee) (Syntax.tcons (Syntax.tyInt Syntax.w64) Syntax.tnil))),
-    ) ∷ (13, Rows.any-gone Syntax.tyBool) ∷ (
-      14,
+      10,
       Rows.any-gone
-          (Syntax.tyInt Syntax.w64),
-    ) ∷ (15, Rows.any-gone (Syntax.tyInt Syntax.w64)) ∷ []
+          (Syntax.tyInt Syntax.w8),
+    ) ∷ (11, Rows.any-gone (Syntax.tyRef Syntax.erased Syntax.imm SlotAs.pointee)) ∷ (
+      12,
+      Rows.any-gone (Syntax.tyStruct (38 ∷ 91 ∷ 93
+          ∷ []) (Syntax.tcons (Syntax.tyRef Syntax.erased Syntax.imm SlotAs.pointee) (Syntax.tcons (Syntax.tyInt Syntax.w64) Syntax.tnil))),
+    ) ∷ (
+      13,
+      Rows.any-gone
+          Syntax.tyBool,
+    ) ∷ (14, Rows.any-gone (Syntax.tyInt Syntax.w64)) ∷ (15, Rows.any-gone (Syntax.tyInt Syntax.w64)) ∷ []
 
 abbrev pub t17 : List.List Row.Entry
 t17 = (0, Rows.any-gone (Syntax.tyInt Syntax.w8)) ∷ (
@@ -916,24 +913,26 @@ t17 = (0, Rows.any-gone (Syntax.tyInt Syntax.w8)) ∷ (
   5,
   Rows.any-gone (Syntax.tyStruct (115 ∷ 116 ∷ 111 ∷ 114 ∷ 101 ∷ 58 ∷ 58 ∷ 72 ∷
       101 ∷ 108 ∷ 100 ∷ []) (Syntax.tcons (Syntax.tyInt Syntax.w8) (Syntax.tcons (Syntax.tyInt Syntax.w64) (Syntax.tcons (Syntax.tyInt Syntax.w64) (Syntax.tcons
-      (Syntax.tyInt Syntax.w64) (Syntax.tcons (Syntax.tyInt Syntax.w64) Syntax.tnil)))))),
-) ∷ (6, Rows.sc-here (Row.sInt Syntax.w64)) ∷ (
-  7,
+      (Syntax.tyInt Syntax.w64) (Syntax.tcons (Syntax.tyInt Syntax.w64) (Syntax.tcons (Syntax.tyInt Syntax.w64) Syntax.tnil))))))),
+) ∷ (
+  6,
   Rows.sc-here (Row.sInt
       Syntax.w64),
-) ∷ (8, Rows.sc-here (Row.sInt Syntax.w64)) ∷ (
+) ∷ (7, Rows.sc-here (Row.sInt Syntax.w64)) ∷ (8, Rows.sc-here (Row.sInt Syntax.w64)) ∷ (
   9,
-  Rows.any-gone (Syntax.tyStruct (102 ∷ 114 ∷ 97 ∷ 103 ∷ 109 ∷ 101 ∷ 110 ∷ 116 ∷ 115 ∷ 58 ∷ 58 ∷
-      70 ∷ 114 ∷ 111 ∷ 109 ∷ 76 ∷ 97 ∷ 115 ∷ 116 ∷ []) (Syntax.tcons (Syntax.tyInt Syntax.w64) Syntax.tnil)),
-) ∷ (10, Rows.any-gone (Syntax.tyInt Syntax.w8)) ∷
-    (11, Rows.any-gone (Syntax.tyRef Syntax.erased Syntax.imm SlotAs.pointee)) ∷ (
-      12,
-      Rows.any-gone (Syntax.tyStruct (38 ∷ 91 ∷ 93 ∷ []) (Syntax.tcons
-          (Syntax.tyRef Syntax.erased Syntax.imm SlotAs.pointee) (Syntax.tcons (Syntax.tyInt Syntax.w64) Syntax.tnil))),
-    ) ∷ (13, Rows.any-gone Syntax.tyBool) ∷ (
-      14,
-      Rows.any-gone (Syntax.tyInt Syntax.w64),
-    ) ∷ (15, Rows.any-gone (Syntax.tyInt Syntax.w64)) ∷ []
+  Rows.any-gone (Syntax.tyStruct (102 ∷ 114 ∷ 97 ∷ 103
+      ∷ 109 ∷ 101 ∷ 110 ∷ 116 ∷ 115 ∷ 58 ∷ 58 ∷ 70 ∷ 114 ∷ 111 ∷ 109 ∷ 76 ∷ 97 ∷ 115 ∷ 116 ∷ []) (Syntax.tcons (Syntax.tyInt Syntax.w64) Syntax.tnil)),
+) ∷ (
+  10,
+  Rows.any-gone (Syntax.tyInt Syntax.w8),
+) ∷ (11, Rows.any-gone (Syntax.tyRef Syntax.erased Syntax.imm SlotAs.pointee)) ∷ (
+  12,
+  Rows.any-gone (Syntax.tyStruct
+      (38 ∷ 91 ∷ 93 ∷ []) (Syntax.tcons (Syntax.tyRef Syntax.erased Syntax.imm SlotAs.pointee) (Syntax.tcons (Syntax.tyInt Syntax.w64) Syntax.tnil))),
+) ∷ (
+  13,
+  Rows.any-gone Syntax.tyBool,
+) ∷ (14, Rows.any-gone (Syntax.tyInt Syntax.w64)) ∷ (15, Rows.any-gone (Syntax.tyInt Syntax.w64)) ∷ []
 
 abbrev pub t18 : List.List Row.Entry
 t18 = (0, Rows.any-gone (Syntax.tyInt Syntax.w8)) ∷ (
@@ -949,24 +948,26 @@ t18 = (0, Rows.any-gone (Syntax.tyInt Syntax.w8)) ∷ (
   5,
   Rows.any-gone (Syntax.tyStruct (115 ∷ 116 ∷ 111 ∷ 114 ∷ 101 ∷ 58 ∷ 58 ∷ 72 ∷
       101 ∷ 108 ∷ 100 ∷ []) (Syntax.tcons (Syntax.tyInt Syntax.w8) (Syntax.tcons (Syntax.tyInt Syntax.w64) (Syntax.tcons (Syntax.tyInt Syntax.w64) (Syntax.tcons
-      (Syntax.tyInt Syntax.w64) (Syntax.tcons (Syntax.tyInt Syntax.w64) Syntax.tnil)))))),
-) ∷ (6, Rows.sc-here (Row.sInt Syntax.w64)) ∷ (
-  7,
+      (Syntax.tyInt Syntax.w64) (Syntax.tcons (Syntax.tyInt Syntax.w64) (Syntax.tcons (Syntax.tyInt Syntax.w64) Syntax.tnil))))))),
+) ∷ (
+  6,
   Rows.sc-here (Row.sInt
       Syntax.w64),
-) ∷ (8, Rows.sc-here (Row.sInt Syntax.w64)) ∷ (
+) ∷ (7, Rows.sc-here (Row.sInt Syntax.w64)) ∷ (8, Rows.sc-here (Row.sInt Syntax.w64)) ∷ (
   9,
-  Rows.any-gone (Syntax.tyStruct (102 ∷ 114 ∷ 97 ∷ 103 ∷ 109 ∷ 101 ∷ 110 ∷ 116 ∷ 115 ∷ 58 ∷ 58 ∷
-      70 ∷ 114 ∷ 111 ∷ 109 ∷ 76 ∷ 97 ∷ 115 ∷ 116 ∷ []) (Syntax.tcons (Syntax.tyInt Syntax.w64) Syntax.tnil)),
-) ∷ (10, Rows.any-gone (Syntax.tyInt Syntax.w8)) ∷
-    (11, Rows.any-gone (Syntax.tyRef Syntax.erased Syntax.imm SlotAs.pointee)) ∷ (
-      12,
-      Rows.any-gone (Syntax.tyStruct (38 ∷ 91 ∷ 93 ∷ []) (Syntax.tcons
-          (Syntax.tyRef Syntax.erased Syntax.imm SlotAs.pointee) (Syntax.tcons (Syntax.tyInt Syntax.w64) Syntax.tnil))),
-    ) ∷ (13, Rows.sc-here Row.sBool) ∷ (
-      14,
-      Rows.any-gone (Syntax.tyInt Syntax.w64),
-    ) ∷ (15, Rows.any-gone (Syntax.tyInt Syntax.w64)) ∷ []
+  Rows.any-gone (Syntax.tyStruct (102 ∷ 114 ∷ 97 ∷ 103
+      ∷ 109 ∷ 101 ∷ 110 ∷ 116 ∷ 115 ∷ 58 ∷ 58 ∷ 70 ∷ 114 ∷ 111 ∷ 109 ∷ 76 ∷ 97 ∷ 115 ∷ 116 ∷ []) (Syntax.tcons (Syntax.tyInt Syntax.w64) Syntax.tnil)),
+) ∷ (
+  10,
+  Rows.any-gone (Syntax.tyInt Syntax.w8),
+) ∷ (11, Rows.any-gone (Syntax.tyRef Syntax.erased Syntax.imm SlotAs.pointee)) ∷ (
+  12,
+  Rows.any-gone (Syntax.tyStruct
+      (38 ∷ 91 ∷ 93 ∷ []) (Syntax.tcons (Syntax.tyRef Syntax.erased Syntax.imm SlotAs.pointee) (Syntax.tcons (Syntax.tyInt Syntax.w64) Syntax.tnil))),
+) ∷ (
+  13,
+  Rows.sc-here Row.sBool,
+) ∷ (14, Rows.any-gone (Syntax.tyInt Syntax.w64)) ∷ (15, Rows.any-gone (Syntax.tyInt Syntax.w64)) ∷ []
 
 abbrev pub t19 : List.List Row.Entry
 t19 = (0, Rows.sc-here (Row.sInt Syntax.w8)) ∷ (
@@ -982,24 +983,25 @@ t19 = (0, Rows.sc-here (Row.sInt Syntax.w8)) ∷ (
   5,
   Rows.any-gone (Syntax.tyStruct (115 ∷ 116 ∷ 111 ∷ 114 ∷ 101 ∷ 58 ∷ 58 ∷ 72 ∷ 101 ∷ 108 ∷ 100
       ∷ []) (Syntax.tcons (Syntax.tyInt Syntax.w8) (Syntax.tcons (Syntax.tyInt Syntax.w64) (Syntax.tcons (Syntax.tyInt Syntax.w64) (Syntax.tcons (Syntax.tyInt
-      Syntax.w64) (Syntax.tcons (Syntax.tyInt Syntax.w64) Syntax.tnil)))))),
-) ∷ (6, Rows.sc-here (Row.sInt Syntax.w64)) ∷ (7, Rows.sc-here (Row.sInt Syntax.w64))
-    ∷ (8, Rows.sc-here (Row.sInt Syntax.w64)) ∷ (
+      Syntax.w64) (Syntax.tcons (Syntax.tyInt Syntax.w64) (Syntax.tcons (Syntax.tyInt Syntax.w64) Syntax.tnil))))))),
+) ∷ (6, Rows.sc-here (Row.sInt Syntax.w64)) ∷
+    (7, Rows.sc-here (Row.sInt Syntax.w64)) ∷ (8, Rows.sc-here (Row.sInt Syntax.w64)) ∷ (
       9,
-      Rows.any-gone (Syntax.tyStruct (102 ∷ 114 ∷ 97 ∷ 103 ∷ 109 ∷ 101 ∷ 110 ∷ 116 ∷ 115 ∷ 58 ∷ 58 ∷ 70 ∷ 114 ∷
-          111 ∷ 109 ∷ 76 ∷ 97 ∷ 115 ∷ 116 ∷ []) (Syntax.tcons (Syntax.tyInt Syntax.w64) Syntax.tnil)),
-    ) ∷ (10, Rows.any-gone (Syntax.tyInt Syntax.w8)) ∷ (
-      11,
-      Rows.any-gone (Syntax.tyRef Syntax.erased Syntax.imm SlotAs.pointee),
+      Rows.any-gone (Syntax.tyStruct (102 ∷ 114 ∷ 97 ∷ 103 ∷ 109 ∷ 101 ∷
+          110 ∷ 116 ∷ 115 ∷ 58 ∷ 58 ∷ 70 ∷ 114 ∷ 111 ∷ 109 ∷ 76 ∷ 97 ∷ 115 ∷ 116 ∷ []) (Syntax.tcons (Syntax.tyInt Syntax.w64) Syntax.tnil)),
     ) ∷ (
-      12,
-      Rows.any-gone (Syntax.tyStruct (38 ∷ 91 ∷ 93 ∷ []) (Syntax.tcons (Syntax.tyRef
-          Syntax.erased Syntax.imm SlotAs.pointee) (Syntax.tcons (Syntax.tyInt Syntax.w64) Syntax.tnil))),
-    ) ∷ (13, Rows.any-gone Syntax.tyBool) ∷ (
-      14,
+      10,
       Rows.any-gone
-          (Syntax.tyInt Syntax.w64),
-    ) ∷ (15, Rows.any-gone (Syntax.tyInt Syntax.w64)) ∷ []
+          (Syntax.tyInt Syntax.w8),
+    ) ∷ (11, Rows.any-gone (Syntax.tyRef Syntax.erased Syntax.imm SlotAs.pointee)) ∷ (
+      12,
+      Rows.any-gone (Syntax.tyStruct (38 ∷ 91 ∷ 93
+          ∷ []) (Syntax.tcons (Syntax.tyRef Syntax.erased Syntax.imm SlotAs.pointee) (Syntax.tcons (Syntax.tyInt Syntax.w64) Syntax.tnil))),
+    ) ∷ (
+      13,
+      Rows.any-gone
+          Syntax.tyBool,
+    ) ∷ (14, Rows.any-gone (Syntax.tyInt Syntax.w64)) ∷ (15, Rows.any-gone (Syntax.tyInt Syntax.w64)) ∷ []
 
 abbrev pub t20 : List.List Row.Entry
 t20 = (0, Rows.sc-here (Row.sInt Syntax.w8)) ∷ (
@@ -1015,24 +1017,26 @@ t20 = (0, Rows.sc-here (Row.sInt Syntax.w8)) ∷ (
   5,
   Rows.any-gone (Syntax.tyStruct (115 ∷ 116 ∷ 111 ∷ 114 ∷ 101 ∷ 58 ∷ 58 ∷ 72 ∷ 101 ∷ 108
       ∷ 100 ∷ []) (Syntax.tcons (Syntax.tyInt Syntax.w8) (Syntax.tcons (Syntax.tyInt Syntax.w64) (Syntax.tcons (Syntax.tyInt Syntax.w64) (Syntax.tcons
-      (Syntax.tyInt Syntax.w64) (Syntax.tcons (Syntax.tyInt Syntax.w64) Syntax.tnil)))))),
-) ∷ (6, Rows.sc-here (Row.sInt Syntax.w64)) ∷ (
-  7,
+      (Syntax.tyInt Syntax.w64) (Syntax.tcons (Syntax.tyInt Syntax.w64) (Syntax.tcons (Syntax.tyInt Syntax.w64) Syntax.tnil))))))),
+) ∷ (
+  6,
   Rows.sc-here (Row.sInt
       Syntax.w64),
-) ∷ (8, Rows.sc-here (Row.sInt Syntax.w64)) ∷ (
+) ∷ (7, Rows.sc-here (Row.sInt Syntax.w64)) ∷ (8, Rows.sc-here (Row.sInt Syntax.w64)) ∷ (
   9,
-  Rows.any-gone (Syntax.tyStruct (102 ∷ 114 ∷ 97 ∷ 103 ∷ 109 ∷ 101 ∷ 110 ∷ 116 ∷ 115 ∷ 58 ∷ 58 ∷
-      70 ∷ 114 ∷ 111 ∷ 109 ∷ 76 ∷ 97 ∷ 115 ∷ 116 ∷ []) (Syntax.tcons (Syntax.tyInt Syntax.w64) Syntax.tnil)),
-) ∷ (10, Rows.any-gone (Syntax.tyInt Syntax.w8)) ∷
-    (11, Rows.any-gone (Syntax.tyRef Syntax.erased Syntax.imm SlotAs.pointee)) ∷ (
-      12,
-      Rows.any-gone (Syntax.tyStruct (38 ∷ 91 ∷ 93 ∷ []) (Syntax.tcons
-          (Syntax.tyRef Syntax.erased Syntax.imm SlotAs.pointee) (Syntax.tcons (Syntax.tyInt Syntax.w64) Syntax.tnil))),
-    ) ∷ (13, Rows.any-gone Syntax.tyBool) ∷ (
-      14,
-      Rows.any-gone (Syntax.tyInt Syntax.w64),
-    ) ∷ (15, Rows.any-gone (Syntax.tyInt Syntax.w64)) ∷ []
+  Rows.any-gone (Syntax.tyStruct (102 ∷ 114 ∷ 97 ∷ 103
+      ∷ 109 ∷ 101 ∷ 110 ∷ 116 ∷ 115 ∷ 58 ∷ 58 ∷ 70 ∷ 114 ∷ 111 ∷ 109 ∷ 76 ∷ 97 ∷ 115 ∷ 116 ∷ []) (Syntax.tcons (Syntax.tyInt Syntax.w64) Syntax.tnil)),
+) ∷ (
+  10,
+  Rows.any-gone (Syntax.tyInt Syntax.w8),
+) ∷ (11, Rows.any-gone (Syntax.tyRef Syntax.erased Syntax.imm SlotAs.pointee)) ∷ (
+  12,
+  Rows.any-gone (Syntax.tyStruct
+      (38 ∷ 91 ∷ 93 ∷ []) (Syntax.tcons (Syntax.tyRef Syntax.erased Syntax.imm SlotAs.pointee) (Syntax.tcons (Syntax.tyInt Syntax.w64) Syntax.tnil))),
+) ∷ (
+  13,
+  Rows.any-gone Syntax.tyBool,
+) ∷ (14, Rows.any-gone (Syntax.tyInt Syntax.w64)) ∷ (15, Rows.any-gone (Syntax.tyInt Syntax.w64)) ∷ []
 
 abbrev pub t21 : List.List Row.Entry
 t21 = (0, Rows.sc-here (Row.sInt Syntax.w8)) ∷ (
@@ -1048,28 +1052,25 @@ t21 = (0, Rows.sc-here (Row.sInt Syntax.w8)) ∷ (
   5,
   Rows.any-gone (Syntax.tyStruct (115 ∷ 116 ∷ 111 ∷ 114 ∷ 101 ∷ 58 ∷ 58 ∷ 72 ∷ 101 ∷ 108
       ∷ 100 ∷ []) (Syntax.tcons (Syntax.tyInt Syntax.w8) (Syntax.tcons (Syntax.tyInt Syntax.w64) (Syntax.tcons (Syntax.tyInt Syntax.w64) (Syntax.tcons
-      (Syntax.tyInt Syntax.w64) (Syntax.tcons (Syntax.tyInt Syntax.w64) Syntax.tnil)))))),
-) ∷ (6, Rows.any-gone (Syntax.tyInt Syntax.w64)) ∷ (
-  7,
-  Rows.sc-here
-      (Row.sInt Syntax.w64),
-) ∷ (8, Rows.sc-here (Row.sInt Syntax.w64)) ∷ (
-  9,
-  Rows.any-gone (Syntax.tyStruct (102 ∷ 114 ∷ 97 ∷ 103 ∷ 109 ∷ 101 ∷ 110 ∷ 116 ∷ 115 ∷
-      58 ∷ 58 ∷ 70 ∷ 114 ∷ 111 ∷ 109 ∷ 76 ∷ 97 ∷ 115 ∷ 116 ∷ []) (Syntax.tcons (Syntax.tyInt Syntax.w64) Syntax.tnil)),
+      (Syntax.tyInt Syntax.w64) (Syntax.tcons (Syntax.tyInt Syntax.w64) (Syntax.tcons (Syntax.tyInt Syntax.w64) Syntax.tnil))))))),
 ) ∷ (
-  10,
-  Rows.any-gone (Syntax.tyInt
-      Syntax.w8),
-) ∷ (11, Rows.any-gone (Syntax.tyRef Syntax.erased Syntax.imm SlotAs.pointee)) ∷ (
-  12,
-  Rows.any-gone (Syntax.tyStruct (38 ∷ 91 ∷ 93 ∷ [])
-      (Syntax.tcons (Syntax.tyRef Syntax.erased Syntax.imm SlotAs.pointee) (Syntax.tcons (Syntax.tyInt Syntax.w64) Syntax.tnil))),
-) ∷ (
-  13,
+  6,
   Rows.any-gone
-      Syntax.tyBool,
-) ∷ (14, Rows.any-gone (Syntax.tyInt Syntax.w64)) ∷ (15, Rows.any-gone (Syntax.tyInt Syntax.w64)) ∷ []
+      (Syntax.tyInt Syntax.w64),
+) ∷ (7, Rows.sc-here (Row.sInt Syntax.w64)) ∷ (8, Rows.sc-here (Row.sInt Syntax.w64)) ∷ (
+  9,
+  Rows.any-gone (Syntax.tyStruct (102 ∷
+      114 ∷ 97 ∷ 103 ∷ 109 ∷ 101 ∷ 110 ∷ 116 ∷ 115 ∷ 58 ∷ 58 ∷ 70 ∷ 114 ∷ 111 ∷ 109 ∷ 76 ∷ 97 ∷ 115 ∷ 116 ∷ []) (Syntax.tcons (Syntax.tyInt Syntax.w64)
+      Syntax.tnil)),
+) ∷ (10, Rows.any-gone (Syntax.tyInt Syntax.w8)) ∷ (11, Rows.any-gone (Syntax.tyRef Syntax.erased Syntax.imm SlotAs.pointee)) ∷ (
+  12,
+  Rows.any-gone (Syntax.tyStruct (38 ∷ 91 ∷ 93 ∷ []) (Syntax.tcons (Syntax.tyRef Syntax.erased Syntax.imm SlotAs.pointee) (Syntax.tcons (Syntax.tyInt
+      Syntax.w64) Syntax.tnil))),
+) ∷ (13, Rows.any-gone Syntax.tyBool) ∷ (14, Rows.any-gone (Syntax.tyInt Syntax.w64)) ∷ (
+  15,
+  Rows.any-gone (Syntax.tyInt
+      Syntax.w64),
+) ∷ []
 
 abbrev pub t22 : List.List Row.Entry
 t22 = (0, Rows.sc-here (Row.sInt Syntax.w8)) ∷ (
@@ -1085,28 +1086,25 @@ t22 = (0, Rows.sc-here (Row.sInt Syntax.w8)) ∷ (
   5,
   Rows.any-gone (Syntax.tyStruct (115 ∷ 116 ∷ 111 ∷ 114 ∷ 101 ∷ 58 ∷ 58 ∷ 72 ∷ 101 ∷ 108
       ∷ 100 ∷ []) (Syntax.tcons (Syntax.tyInt Syntax.w8) (Syntax.tcons (Syntax.tyInt Syntax.w64) (Syntax.tcons (Syntax.tyInt Syntax.w64) (Syntax.tcons
-      (Syntax.tyInt Syntax.w64) (Syntax.tcons (Syntax.tyInt Syntax.w64) Syntax.tnil)))))),
-) ∷ (6, Rows.any-gone (Syntax.tyInt Syntax.w64)) ∷ (
-  7,
+      (Syntax.tyInt Syntax.w64) (Syntax.tcons (Syntax.tyInt Syntax.w64) (Syntax.tcons (Syntax.tyInt Syntax.w64) Syntax.tnil))))))),
+) ∷ (
+  6,
   Rows.any-gone
       (Syntax.tyInt Syntax.w64),
-) ∷ (8, Rows.sc-here (Row.sInt Syntax.w64)) ∷ (
+) ∷ (7, Rows.any-gone (Syntax.tyInt Syntax.w64)) ∷ (8, Rows.sc-here (Row.sInt Syntax.w64)) ∷ (
   9,
-  Rows.any-gone (Syntax.tyStruct (102 ∷ 114 ∷ 97 ∷ 103 ∷ 109 ∷ 101 ∷ 110 ∷ 116 ∷
-      115 ∷ 58 ∷ 58 ∷ 70 ∷ 114 ∷ 111 ∷ 109 ∷ 76 ∷ 97 ∷ 115 ∷ 116 ∷ []) (Syntax.tcons (Syntax.tyInt Syntax.w64) Syntax.tnil)),
-) ∷ (
-  10,
-  Rows.any-gone (Syntax.tyInt
-      Syntax.w8),
-) ∷ (11, Rows.any-gone (Syntax.tyRef Syntax.erased Syntax.imm SlotAs.pointee)) ∷ (
+  Rows.any-gone (Syntax.tyStruct
+      (102 ∷ 114 ∷ 97 ∷ 103 ∷ 109 ∷ 101 ∷ 110 ∷ 116 ∷ 115 ∷ 58 ∷ 58 ∷ 70 ∷ 114 ∷ 111 ∷ 109 ∷ 76 ∷ 97 ∷ 115 ∷ 116 ∷ []) (Syntax.tcons (Syntax.tyInt Syntax.w64)
+      Syntax.tnil)),
+) ∷ (10, Rows.any-gone (Syntax.tyInt Syntax.w8)) ∷ (11, Rows.any-gone (Syntax.tyRef Syntax.erased Syntax.imm SlotAs.pointee)) ∷ (
   12,
-  Rows.any-gone (Syntax.tyStruct (38 ∷ 91 ∷ 93 ∷ [])
-      (Syntax.tcons (Syntax.tyRef Syntax.erased Syntax.imm SlotAs.pointee) (Syntax.tcons (Syntax.tyInt Syntax.w64) Syntax.tnil))),
-) ∷ (
-  13,
-  Rows.any-gone
-      Syntax.tyBool,
-) ∷ (14, Rows.any-gone (Syntax.tyInt Syntax.w64)) ∷ (15, Rows.any-gone (Syntax.tyInt Syntax.w64)) ∷ []
+  Rows.any-gone (Syntax.tyStruct (38 ∷ 91 ∷ 93 ∷ []) (Syntax.tcons (Syntax.tyRef Syntax.erased Syntax.imm SlotAs.pointee) (Syntax.tcons (Syntax.tyInt
+      Syntax.w64) Syntax.tnil))),
+) ∷ (13, Rows.any-gone Syntax.tyBool) ∷ (14, Rows.any-gone (Syntax.tyInt Syntax.w64)) ∷ (
+  15,
+  Rows.any-gone (Syntax.tyInt
+      Syntax.w64),
+) ∷ []
 
 abbrev pub t23 : List.List Row.Entry
 t23 = (0, Rows.any-gone (Syntax.tyInt Syntax.w8)) ∷ (
@@ -1122,24 +1120,26 @@ t23 = (0, Rows.any-gone (Syntax.tyInt Syntax.w8)) ∷ (
   5,
   Rows.any-gone (Syntax.tyStruct (115 ∷ 116 ∷ 111 ∷ 114 ∷ 101 ∷ 58 ∷ 58 ∷ 72 ∷
       101 ∷ 108 ∷ 100 ∷ []) (Syntax.tcons (Syntax.tyInt Syntax.w8) (Syntax.tcons (Syntax.tyInt Syntax.w64) (Syntax.tcons (Syntax.tyInt Syntax.w64) (Syntax.tcons
-      (Syntax.tyInt Syntax.w64) (Syntax.tcons (Syntax.tyInt Syntax.w64) Syntax.tnil)))))),
-) ∷ (6, Rows.sc-here (Row.sInt Syntax.w64)) ∷ (
-  7,
+      (Syntax.tyInt Syntax.w64) (Syntax.tcons (Syntax.tyInt Syntax.w64) (Syntax.tcons (Syntax.tyInt Syntax.w64) Syntax.tnil))))))),
+) ∷ (
+  6,
   Rows.sc-here (Row.sInt
       Syntax.w64),
-) ∷ (8, Rows.sc-here (Row.sInt Syntax.w64)) ∷ (
+) ∷ (7, Rows.sc-here (Row.sInt Syntax.w64)) ∷ (8, Rows.sc-here (Row.sInt Syntax.w64)) ∷ (
   9,
-  Rows.any-gone (Syntax.tyStruct (102 ∷ 114 ∷ 97 ∷ 103 ∷ 109 ∷ 101 ∷ 110 ∷ 116 ∷ 115 ∷ 58 ∷ 58 ∷
-      70 ∷ 114 ∷ 111 ∷ 109 ∷ 76 ∷ 97 ∷ 115 ∷ 116 ∷ []) (Syntax.tcons (Syntax.tyInt Syntax.w64) Syntax.tnil)),
-) ∷ (10, Rows.any-gone (Syntax.tyInt Syntax.w8)) ∷
-    (11, Rows.any-gone (Syntax.tyRef Syntax.erased Syntax.imm SlotAs.pointee)) ∷ (
-      12,
-      Rows.any-gone (Syntax.tyStruct (38 ∷ 91 ∷ 93 ∷ []) (Syntax.tcons
-          (Syntax.tyRef Syntax.erased Syntax.imm SlotAs.pointee) (Syntax.tcons (Syntax.tyInt Syntax.w64) Syntax.tnil))),
-    ) ∷ (13, Rows.any-gone Syntax.tyBool) ∷ (
-      14,
-      Rows.sc-here (Row.sInt Syntax.w64),
-    ) ∷ (15, Rows.any-gone (Syntax.tyInt Syntax.w64)) ∷ []
+  Rows.any-gone (Syntax.tyStruct (102 ∷ 114 ∷ 97 ∷ 103
+      ∷ 109 ∷ 101 ∷ 110 ∷ 116 ∷ 115 ∷ 58 ∷ 58 ∷ 70 ∷ 114 ∷ 111 ∷ 109 ∷ 76 ∷ 97 ∷ 115 ∷ 116 ∷ []) (Syntax.tcons (Syntax.tyInt Syntax.w64) Syntax.tnil)),
+) ∷ (
+  10,
+  Rows.any-gone (Syntax.tyInt Syntax.w8),
+) ∷ (11, Rows.any-gone (Syntax.tyRef Syntax.erased Syntax.imm SlotAs.pointee)) ∷ (
+  12,
+  Rows.any-gone (Syntax.tyStruct
+      (38 ∷ 91 ∷ 93 ∷ []) (Syntax.tcons (Syntax.tyRef Syntax.erased Syntax.imm SlotAs.pointee) (Syntax.tcons (Syntax.tyInt Syntax.w64) Syntax.tnil))),
+) ∷ (
+  13,
+  Rows.any-gone Syntax.tyBool,
+) ∷ (14, Rows.sc-here (Row.sInt Syntax.w64)) ∷ (15, Rows.any-gone (Syntax.tyInt Syntax.w64)) ∷ []
 
 abbrev pub t24 : List.List Row.Entry
 t24 = (0, Rows.any-gone (Syntax.tyInt Syntax.w8)) ∷ (
@@ -1155,24 +1155,26 @@ t24 = (0, Rows.any-gone (Syntax.tyInt Syntax.w8)) ∷ (
   5,
   Rows.any-gone (Syntax.tyStruct (115 ∷ 116 ∷ 111 ∷ 114 ∷ 101 ∷ 58 ∷ 58 ∷ 72 ∷
       101 ∷ 108 ∷ 100 ∷ []) (Syntax.tcons (Syntax.tyInt Syntax.w8) (Syntax.tcons (Syntax.tyInt Syntax.w64) (Syntax.tcons (Syntax.tyInt Syntax.w64) (Syntax.tcons
-      (Syntax.tyInt Syntax.w64) (Syntax.tcons (Syntax.tyInt Syntax.w64) Syntax.tnil)))))),
-) ∷ (6, Rows.sc-here (Row.sInt Syntax.w64)) ∷ (
-  7,
+      (Syntax.tyInt Syntax.w64) (Syntax.tcons (Syntax.tyInt Syntax.w64) (Syntax.tcons (Syntax.tyInt Syntax.w64) Syntax.tnil))))))),
+) ∷ (
+  6,
   Rows.sc-here (Row.sInt
       Syntax.w64),
-) ∷ (8, Rows.sc-here (Row.sInt Syntax.w64)) ∷ (
+) ∷ (7, Rows.sc-here (Row.sInt Syntax.w64)) ∷ (8, Rows.sc-here (Row.sInt Syntax.w64)) ∷ (
   9,
-  Rows.any-gone (Syntax.tyStruct (102 ∷ 114 ∷ 97 ∷ 103 ∷ 109 ∷ 101 ∷ 110 ∷ 116 ∷ 115 ∷ 58 ∷ 58 ∷
-      70 ∷ 114 ∷ 111 ∷ 109 ∷ 76 ∷ 97 ∷ 115 ∷ 116 ∷ []) (Syntax.tcons (Syntax.tyInt Syntax.w64) Syntax.tnil)),
-) ∷ (10, Rows.any-gone (Syntax.tyInt Syntax.w8)) ∷
-    (11, Rows.any-gone (Syntax.tyRef Syntax.erased Syntax.imm SlotAs.pointee)) ∷ (
-      12,
-      Rows.any-gone (Syntax.tyStruct (38 ∷ 91 ∷ 93 ∷ []) (Syntax.tcons
-          (Syntax.tyRef Syntax.erased Syntax.imm SlotAs.pointee) (Syntax.tcons (Syntax.tyInt Syntax.w64) Syntax.tnil))),
-    ) ∷ (13, Rows.any-gone Syntax.tyBool) ∷ (
-      14,
-      Rows.sc-here (Row.sInt Syntax.w64),
-    ) ∷ (15, Rows.sc-here (Row.sInt Syntax.w64)) ∷ []
+  Rows.any-gone (Syntax.tyStruct (102 ∷ 114 ∷ 97 ∷ 103
+      ∷ 109 ∷ 101 ∷ 110 ∷ 116 ∷ 115 ∷ 58 ∷ 58 ∷ 70 ∷ 114 ∷ 111 ∷ 109 ∷ 76 ∷ 97 ∷ 115 ∷ 116 ∷ []) (Syntax.tcons (Syntax.tyInt Syntax.w64) Syntax.tnil)),
+) ∷ (
+  10,
+  Rows.any-gone (Syntax.tyInt Syntax.w8),
+) ∷ (11, Rows.any-gone (Syntax.tyRef Syntax.erased Syntax.imm SlotAs.pointee)) ∷ (
+  12,
+  Rows.any-gone (Syntax.tyStruct
+      (38 ∷ 91 ∷ 93 ∷ []) (Syntax.tcons (Syntax.tyRef Syntax.erased Syntax.imm SlotAs.pointee) (Syntax.tcons (Syntax.tyInt Syntax.w64) Syntax.tnil))),
+) ∷ (
+  13,
+  Rows.any-gone Syntax.tyBool,
+) ∷ (14, Rows.sc-here (Row.sInt Syntax.w64)) ∷ (15, Rows.sc-here (Row.sInt Syntax.w64)) ∷ []
 
 abbrev pub t25 : List.List Row.Entry
 t25 = (0, Rows.any-gone (Syntax.tyInt Syntax.w8)) ∷ (
@@ -1188,24 +1190,26 @@ t25 = (0, Rows.any-gone (Syntax.tyInt Syntax.w8)) ∷ (
   5,
   Rows.any-gone (Syntax.tyStruct (115 ∷ 116 ∷ 111 ∷ 114 ∷ 101 ∷ 58 ∷ 58 ∷ 72 ∷
       101 ∷ 108 ∷ 100 ∷ []) (Syntax.tcons (Syntax.tyInt Syntax.w8) (Syntax.tcons (Syntax.tyInt Syntax.w64) (Syntax.tcons (Syntax.tyInt Syntax.w64) (Syntax.tcons
-      (Syntax.tyInt Syntax.w64) (Syntax.tcons (Syntax.tyInt Syntax.w64) Syntax.tnil)))))),
-) ∷ (6, Rows.sc-here (Row.sInt Syntax.w64)) ∷ (
-  7,
+      (Syntax.tyInt Syntax.w64) (Syntax.tcons (Syntax.tyInt Syntax.w64) (Syntax.tcons (Syntax.tyInt Syntax.w64) Syntax.tnil))))))),
+) ∷ (
+  6,
   Rows.sc-here (Row.sInt
       Syntax.w64),
-) ∷ (8, Rows.sc-here (Row.sInt Syntax.w64)) ∷ (
+) ∷ (7, Rows.sc-here (Row.sInt Syntax.w64)) ∷ (8, Rows.sc-here (Row.sInt Syntax.w64)) ∷ (
   9,
-  Rows.any-gone (Syntax.tyStruct (102 ∷ 114 ∷ 97 ∷ 103 ∷ 109 ∷ 101 ∷ 110 ∷ 116 ∷ 115 ∷ 58 ∷ 58 ∷
-      70 ∷ 114 ∷ 111 ∷ 109 ∷ 76 ∷ 97 ∷ 115 ∷ 116 ∷ []) (Syntax.tcons (Syntax.tyInt Syntax.w64) Syntax.tnil)),
-) ∷ (10, Rows.any-gone (Syntax.tyInt Syntax.w8)) ∷
-    (11, Rows.any-gone (Syntax.tyRef Syntax.erased Syntax.imm SlotAs.pointee)) ∷ (
-      12,
-      Rows.any-gone (Syntax.tyStruct (38 ∷ 91 ∷ 93 ∷ []) (Syntax.tcons
-          (Syntax.tyRef Syntax.erased Syntax.imm SlotAs.pointee) (Syntax.tcons (Syntax.tyInt Syntax.w64) Syntax.tnil))),
-    ) ∷ (13, Rows.any-gone Syntax.tyBool) ∷ (
-      14,
-      Rows.any-gone (Syntax.tyInt Syntax.w64),
-    ) ∷ (15, Rows.sc-here (Row.sInt Syntax.w64)) ∷ []
+  Rows.any-gone (Syntax.tyStruct (102 ∷ 114 ∷ 97 ∷ 103
+      ∷ 109 ∷ 101 ∷ 110 ∷ 116 ∷ 115 ∷ 58 ∷ 58 ∷ 70 ∷ 114 ∷ 111 ∷ 109 ∷ 76 ∷ 97 ∷ 115 ∷ 116 ∷ []) (Syntax.tcons (Syntax.tyInt Syntax.w64) Syntax.tnil)),
+) ∷ (
+  10,
+  Rows.any-gone (Syntax.tyInt Syntax.w8),
+) ∷ (11, Rows.any-gone (Syntax.tyRef Syntax.erased Syntax.imm SlotAs.pointee)) ∷ (
+  12,
+  Rows.any-gone (Syntax.tyStruct
+      (38 ∷ 91 ∷ 93 ∷ []) (Syntax.tcons (Syntax.tyRef Syntax.erased Syntax.imm SlotAs.pointee) (Syntax.tcons (Syntax.tyInt Syntax.w64) Syntax.tnil))),
+) ∷ (
+  13,
+  Rows.any-gone Syntax.tyBool,
+) ∷ (14, Rows.any-gone (Syntax.tyInt Syntax.w64)) ∷ (15, Rows.sc-here (Row.sInt Syntax.w64)) ∷ []
 
 abbrev pub t26 : List.List Row.Entry
 t26 = (0, Rows.any-gone (Syntax.tyInt Syntax.w8)) ∷ (
@@ -1221,24 +1225,21 @@ t26 = (0, Rows.any-gone (Syntax.tyInt Syntax.w8)) ∷ (
   5,
   Rows.any-gone (Syntax.tyStruct (115 ∷ 116 ∷ 111 ∷ 114 ∷ 101 ∷ 58 ∷ 58 ∷ 72 ∷
       101 ∷ 108 ∷ 100 ∷ []) (Syntax.tcons (Syntax.tyInt Syntax.w8) (Syntax.tcons (Syntax.tyInt Syntax.w64) (Syntax.tcons (Syntax.tyInt Syntax.w64) (Syntax.tcons
-      (Syntax.tyInt Syntax.w64) (Syntax.tcons (Syntax.tyInt Syntax.w64) Syntax.tnil)))))),
-) ∷ (6, Rows.sc-here (Row.sInt Syntax.w64)) ∷ (
-  7,
+      (Syntax.tyInt Syntax.w64) (Syntax.tcons (Syntax.tyInt Syntax.w64) (Syntax.tcons (Syntax.tyInt Syntax.w64) Syntax.tnil))))))),
+) ∷ (
+  6,
   Rows.sc-here (Row.sInt
       Syntax.w64),
-) ∷ (8, Rows.sc-here (Row.sInt Syntax.w64)) ∷ (9, Rows.whole (Declared.row (Apart.apartT FromLast.the-type))) ∷ (
-  10,
-  Rows.any-gone (Syntax.tyInt
-      Syntax.w8),
-) ∷ (11, Rows.any-gone (Syntax.tyRef Syntax.erased Syntax.imm SlotAs.pointee)) ∷ (
+) ∷ (7, Rows.sc-here (Row.sInt Syntax.w64)) ∷ (8, Rows.sc-here (Row.sInt Syntax.w64)) ∷ (
+  9,
+  Rows.whole (Declared.row (Apart.apartT
+      FromLast.the-type)),
+) ∷ (10, Rows.any-gone (Syntax.tyInt Syntax.w8)) ∷ (11, Rows.any-gone (Syntax.tyRef Syntax.erased Syntax.imm SlotAs.pointee)) ∷ (
   12,
-  Rows.any-gone (Syntax.tyStruct (38 ∷ 91 ∷ 93 ∷ [])
-      (Syntax.tcons (Syntax.tyRef Syntax.erased Syntax.imm SlotAs.pointee) (Syntax.tcons (Syntax.tyInt Syntax.w64) Syntax.tnil))),
-) ∷ (
-  13,
-  Rows.any-gone
-      Syntax.tyBool,
-) ∷ (14, Rows.any-gone (Syntax.tyInt Syntax.w64)) ∷ (15, Rows.sc-here (Row.sInt Syntax.w64)) ∷ []
+  Rows.any-gone (Syntax.tyStruct (38 ∷ 91 ∷ 93 ∷ []) (Syntax.tcons (Syntax.tyRef Syntax.erased Syntax.imm SlotAs.pointee) (Syntax.tcons (Syntax.tyInt
+      Syntax.w64) Syntax.tnil))),
+) ∷ (13, Rows.any-gone Syntax.tyBool) ∷ (14, Rows.any-gone (Syntax.tyInt Syntax.w64)) ∷ (15, Rows.sc-here (Row.sInt Syntax.w64))
+    ∷ []
 
 abbrev pub t27 : List.List Row.Entry
 t27 = (0, Rows.any-gone (Syntax.tyInt Syntax.w8)) ∷ (
@@ -1254,24 +1255,24 @@ t27 = (0, Rows.any-gone (Syntax.tyInt Syntax.w8)) ∷ (
   5,
   Rows.any-gone (Syntax.tyStruct (115 ∷ 116 ∷ 111 ∷ 114 ∷ 101 ∷ 58 ∷ 58 ∷ 72 ∷
       101 ∷ 108 ∷ 100 ∷ []) (Syntax.tcons (Syntax.tyInt Syntax.w8) (Syntax.tcons (Syntax.tyInt Syntax.w64) (Syntax.tcons (Syntax.tyInt Syntax.w64) (Syntax.tcons
-      (Syntax.tyInt Syntax.w64) (Syntax.tcons (Syntax.tyInt Syntax.w64) Syntax.tnil)))))),
-) ∷ (6, Rows.sc-here (Row.sInt Syntax.w64)) ∷ (
-  7,
+      (Syntax.tyInt Syntax.w64) (Syntax.tcons (Syntax.tyInt Syntax.w64) (Syntax.tcons (Syntax.tyInt Syntax.w64) Syntax.tnil))))))),
+) ∷ (
+  6,
   Rows.sc-here (Row.sInt
       Syntax.w64),
-) ∷ (8, Rows.sc-here (Row.sInt Syntax.w64)) ∷ (9, Rows.whole (Declared.row (Apart.apartT FromLast.the-type))) ∷ (
-  10,
-  Rows.any-gone (Syntax.tyInt
-      Syntax.w8),
-) ∷ (11, Rows.any-gone (Syntax.tyRef Syntax.erased Syntax.imm SlotAs.pointee)) ∷ (
+) ∷ (7, Rows.sc-here (Row.sInt Syntax.w64)) ∷ (8, Rows.sc-here (Row.sInt Syntax.w64)) ∷ (
+  9,
+  Rows.whole (Declared.row (Apart.apartT
+      FromLast.the-type)),
+) ∷ (10, Rows.any-gone (Syntax.tyInt Syntax.w8)) ∷ (11, Rows.any-gone (Syntax.tyRef Syntax.erased Syntax.imm SlotAs.pointee)) ∷ (
   12,
-  Rows.any-gone (Syntax.tyStruct (38 ∷ 91 ∷ 93 ∷ [])
-      (Syntax.tcons (Syntax.tyRef Syntax.erased Syntax.imm SlotAs.pointee) (Syntax.tcons (Syntax.tyInt Syntax.w64) Syntax.tnil))),
-) ∷ (
-  13,
-  Rows.any-gone
-      Syntax.tyBool,
-) ∷ (14, Rows.any-gone (Syntax.tyInt Syntax.w64)) ∷ (15, Rows.any-gone (Syntax.tyInt Syntax.w64)) ∷ []
+  Rows.any-gone (Syntax.tyStruct (38 ∷ 91 ∷ 93 ∷ []) (Syntax.tcons (Syntax.tyRef Syntax.erased Syntax.imm SlotAs.pointee) (Syntax.tcons (Syntax.tyInt
+      Syntax.w64) Syntax.tnil))),
+) ∷ (13, Rows.any-gone Syntax.tyBool) ∷ (14, Rows.any-gone (Syntax.tyInt Syntax.w64)) ∷ (
+  15,
+  Rows.any-gone (Syntax.tyInt
+      Syntax.w64),
+) ∷ []
 
 abbrev pub t28 : List.List Row.Entry
 t28 = (0, Rows.any-gone (Syntax.tyInt Syntax.w8)) ∷ (
@@ -1287,24 +1288,24 @@ t28 = (0, Rows.any-gone (Syntax.tyInt Syntax.w8)) ∷ (
   5,
   Rows.any-gone (Syntax.tyStruct (115 ∷ 116 ∷ 111 ∷ 114 ∷ 101 ∷ 58 ∷ 58 ∷ 72 ∷
       101 ∷ 108 ∷ 100 ∷ []) (Syntax.tcons (Syntax.tyInt Syntax.w8) (Syntax.tcons (Syntax.tyInt Syntax.w64) (Syntax.tcons (Syntax.tyInt Syntax.w64) (Syntax.tcons
-      (Syntax.tyInt Syntax.w64) (Syntax.tcons (Syntax.tyInt Syntax.w64) Syntax.tnil)))))),
-) ∷ (6, Rows.sc-here (Row.sInt Syntax.w64)) ∷ (
-  7,
+      (Syntax.tyInt Syntax.w64) (Syntax.tcons (Syntax.tyInt Syntax.w64) (Syntax.tcons (Syntax.tyInt Syntax.w64) Syntax.tnil))))))),
+) ∷ (
+  6,
   Rows.sc-here (Row.sInt
       Syntax.w64),
-) ∷ (8, Rows.sc-here (Row.sInt Syntax.w64)) ∷ (9, Rows.whole (Declared.row (Apart.apartT FromLast.the-type))) ∷ (
-  10,
-  Rows.sc-here (Row.sInt
-      Syntax.w8),
-) ∷ (11, Rows.any-gone (Syntax.tyRef Syntax.erased Syntax.imm SlotAs.pointee)) ∷ (
+) ∷ (7, Rows.sc-here (Row.sInt Syntax.w64)) ∷ (8, Rows.sc-here (Row.sInt Syntax.w64)) ∷ (
+  9,
+  Rows.whole (Declared.row (Apart.apartT
+      FromLast.the-type)),
+) ∷ (10, Rows.sc-here (Row.sInt Syntax.w8)) ∷ (11, Rows.any-gone (Syntax.tyRef Syntax.erased Syntax.imm SlotAs.pointee)) ∷ (
   12,
-  Rows.any-gone (Syntax.tyStruct (38 ∷ 91 ∷ 93 ∷ [])
-      (Syntax.tcons (Syntax.tyRef Syntax.erased Syntax.imm SlotAs.pointee) (Syntax.tcons (Syntax.tyInt Syntax.w64) Syntax.tnil))),
-) ∷ (
-  13,
-  Rows.any-gone
-      Syntax.tyBool,
-) ∷ (14, Rows.any-gone (Syntax.tyInt Syntax.w64)) ∷ (15, Rows.any-gone (Syntax.tyInt Syntax.w64)) ∷ []
+  Rows.any-gone (Syntax.tyStruct (38 ∷ 91 ∷ 93 ∷ []) (Syntax.tcons (Syntax.tyRef Syntax.erased Syntax.imm SlotAs.pointee) (Syntax.tcons (Syntax.tyInt
+      Syntax.w64) Syntax.tnil))),
+) ∷ (13, Rows.any-gone Syntax.tyBool) ∷ (14, Rows.any-gone (Syntax.tyInt Syntax.w64)) ∷ (
+  15,
+  Rows.any-gone (Syntax.tyInt
+      Syntax.w64),
+) ∷ []
 
 abbrev pub t29 : List.List Row.Entry
 t29 = (0, Rows.any-gone (Syntax.tyInt Syntax.w8)) ∷ (
@@ -1319,19 +1320,21 @@ t29 = (0, Rows.any-gone (Syntax.tyInt Syntax.w8)) ∷ (
   5,
   Rows.any-gone (Syntax.tyStruct (115 ∷ 116 ∷ 111 ∷ 114 ∷
       101 ∷ 58 ∷ 58 ∷ 72 ∷ 101 ∷ 108 ∷ 100 ∷ []) (Syntax.tcons (Syntax.tyInt Syntax.w8) (Syntax.tcons (Syntax.tyInt Syntax.w64) (Syntax.tcons (Syntax.tyInt
-      Syntax.w64) (Syntax.tcons (Syntax.tyInt Syntax.w64) (Syntax.tcons (Syntax.tyInt Syntax.w64) Syntax.tnil)))))),
-) ∷ (6, Rows.sc-here (Row.sInt Syntax.w64)) ∷
-    (7, Rows.sc-here (Row.sInt Syntax.w64)) ∷ (8, Rows.sc-here (Row.sInt Syntax.w64)) ∷ (9, Rows.whole (Declared.row (Apart.apartT FromLast.the-type))) ∷ (
-      10,
-      Rows.sc-here (Row.sInt Syntax.w8),
-    ) ∷ (11, Rows.any-gone (Syntax.tyRef Syntax.erased Syntax.imm SlotAs.pointee)) ∷ (
+      Syntax.w64) (Syntax.tcons (Syntax.tyInt Syntax.w64) (Syntax.tcons (Syntax.tyInt Syntax.w64) (Syntax.tcons (Syntax.tyInt Syntax.w64) Syntax.tnil))))))),
+) ∷
+    (6, Rows.sc-here (Row.sInt Syntax.w64)) ∷ (7, Rows.sc-here (Row.sInt Syntax.w64)) ∷ (8, Rows.sc-here (Row.sInt Syntax.w64)) ∷ (
+      9,
+      Rows.whole (Declared.row
+          (Apart.apartT FromLast.the-type)),
+    ) ∷ (10, Rows.sc-here (Row.sInt Syntax.w8)) ∷ (11, Rows.any-gone (Syntax.tyRef Syntax.erased Syntax.imm SlotAs.pointee)) ∷ (
       12,
-      Rows.any-gone (Syntax.tyStruct (38 ∷
-          91 ∷ 93 ∷ []) (Syntax.tcons (Syntax.tyRef Syntax.erased Syntax.imm SlotAs.pointee) (Syntax.tcons (Syntax.tyInt Syntax.w64) Syntax.tnil))),
-    ) ∷ (
-      13,
-      Rows.any-gone Syntax.tyBool,
-    ) ∷ (14, Rows.any-gone (Syntax.tyInt Syntax.w64)) ∷ (15, Rows.any-gone (Syntax.tyInt Syntax.w64)) ∷ []
+      Rows.any-gone (Syntax.tyStruct (38 ∷ 91 ∷ 93 ∷ []) (Syntax.tcons (Syntax.tyRef Syntax.erased Syntax.imm SlotAs.pointee) (Syntax.tcons (Syntax.tyInt
+          Syntax.w64) Syntax.tnil))),
+    ) ∷ (13, Rows.any-gone Syntax.tyBool) ∷ (14, Rows.any-gone (Syntax.tyInt Syntax.w64)) ∷ (
+      15,
+      Rows.any-gone (Syntax.tyInt
+          Syntax.w64),
+    ) ∷ []
 
 abbrev pub t30 : List.List Row.Entry
 t30 = (16, Rows.any-gone (Syntax.tyInt Syntax.w8)) ∷ (17, Relend.ssptr SlotAs.row (Syntax.tyRef Syntax.erased Syntax.imm SlotAs.pointee) 3) ∷ (
@@ -1372,21 +1375,21 @@ t32 = (0, Rows.any-gone (Syntax.tyInt Syntax.w8)) ∷ (
   5,
   Rows.any-gone (Syntax.tyStruct (115 ∷ 116 ∷ 111 ∷ 114 ∷
       101 ∷ 58 ∷ 58 ∷ 72 ∷ 101 ∷ 108 ∷ 100 ∷ []) (Syntax.tcons (Syntax.tyInt Syntax.w8) (Syntax.tcons (Syntax.tyInt Syntax.w64) (Syntax.tcons (Syntax.tyInt
-      Syntax.w64) (Syntax.tcons (Syntax.tyInt Syntax.w64) (Syntax.tcons (Syntax.tyInt Syntax.w64) Syntax.tnil)))))),
-) ∷ (6, Rows.sc-here (Row.sInt Syntax.w64)) ∷
-    (7, Rows.sc-here (Row.sInt Syntax.w64)) ∷ (8, Rows.sc-here (Row.sInt Syntax.w64)) ∷ (9, Rows.whole (Declared.row FromLast.the-type)) ∷ (
-      10,
-      Rows.sc-here
-          (Row.sInt Syntax.w8),
-    ) ∷ (11, Rows.any-gone (Syntax.tyRef Syntax.erased Syntax.imm SlotAs.pointee)) ∷ (
+      Syntax.w64) (Syntax.tcons (Syntax.tyInt Syntax.w64) (Syntax.tcons (Syntax.tyInt Syntax.w64) (Syntax.tcons (Syntax.tyInt Syntax.w64) Syntax.tnil))))))),
+) ∷
+    (6, Rows.sc-here (Row.sInt Syntax.w64)) ∷ (7, Rows.sc-here (Row.sInt Syntax.w64)) ∷ (8, Rows.sc-here (Row.sInt Syntax.w64)) ∷ (
+      9,
+      Rows.whole (Declared.row
+          FromLast.the-type),
+    ) ∷ (10, Rows.sc-here (Row.sInt Syntax.w8)) ∷ (11, Rows.any-gone (Syntax.tyRef Syntax.erased Syntax.imm SlotAs.pointee)) ∷ (
       12,
-      Rows.any-gone (Syntax.tyStruct (38 ∷ 91 ∷ 93 ∷
-          []) (Syntax.tcons (Syntax.tyRef Syntax.erased Syntax.imm SlotAs.pointee) (Syntax.tcons (Syntax.tyInt Syntax.w64) Syntax.tnil))),
-    ) ∷ (
-      13,
-      Rows.any-gone
-          Syntax.tyBool,
-    ) ∷ (14, Rows.any-gone (Syntax.tyInt Syntax.w64)) ∷ (15, Rows.any-gone (Syntax.tyInt Syntax.w64)) ∷ []
+      Rows.any-gone (Syntax.tyStruct (38 ∷ 91 ∷ 93 ∷ []) (Syntax.tcons (Syntax.tyRef Syntax.erased Syntax.imm SlotAs.pointee) (Syntax.tcons (Syntax.tyInt
+          Syntax.w64) Syntax.tnil))),
+    ) ∷ (13, Rows.any-gone Syntax.tyBool) ∷ (14, Rows.any-gone (Syntax.tyInt Syntax.w64)) ∷ (
+      15,
+      Rows.any-gone (Syntax.tyInt
+          Syntax.w64),
+    ) ∷ []
 
 abbrev pub t33 : List.List Row.Entry
 t33 = (16, Rows.sc-here (Row.sInt Syntax.w8)) ∷ (17, Rows.any-gone (Syntax.tyRef Syntax.erased Syntax.imm SlotAs.pointee)) ∷ (
@@ -1430,23 +1433,22 @@ t35 = (0, Rows.any-gone (Syntax.tyInt Syntax.w8)) ∷ (
   5,
   Rows.any-gone (Syntax.tyStruct (115 ∷ 116 ∷ 111 ∷ 114 ∷ 101 ∷ 58 ∷ 58 ∷ 72 ∷
       101 ∷ 108 ∷ 100 ∷ []) (Syntax.tcons (Syntax.tyInt Syntax.w8) (Syntax.tcons (Syntax.tyInt Syntax.w64) (Syntax.tcons (Syntax.tyInt Syntax.w64) (Syntax.tcons
-      (Syntax.tyInt Syntax.w64) (Syntax.tcons (Syntax.tyInt Syntax.w64) Syntax.tnil)))))),
-) ∷ (6, Rows.sc-here (Row.sInt Syntax.w64)) ∷ (
-  7,
+      (Syntax.tyInt Syntax.w64) (Syntax.tcons (Syntax.tyInt Syntax.w64) (Syntax.tcons (Syntax.tyInt Syntax.w64) Syntax.tnil))))))),
+) ∷ (
+  6,
   Rows.sc-here (Row.sInt
       Syntax.w64),
-) ∷ (8, Rows.sc-here (Row.sInt Syntax.w64)) ∷ (9, Rows.whole (Declared.row FromLast.the-type)) ∷ (10, Rows.sc-here (Row.sInt Syntax.w8)) ∷ (
-  11,
-  Rows.any-gone (Syntax.tyRef Syntax.erased Syntax.imm SlotAs.pointee),
-) ∷ (
+) ∷ (7, Rows.sc-here (Row.sInt Syntax.w64)) ∷ (8, Rows.sc-here (Row.sInt Syntax.w64)) ∷ (9, Rows.whole (Declared.row FromLast.the-type)) ∷ (
+  10,
+  Rows.sc-here (Row.sInt Syntax.w8),
+) ∷ (11, Rows.any-gone (Syntax.tyRef Syntax.erased Syntax.imm SlotAs.pointee)) ∷ (
   12,
-  Rows.any-gone (Syntax.tyStruct (38 ∷ 91 ∷ 93 ∷ []) (Syntax.tcons (Syntax.tyRef
-      Syntax.erased Syntax.imm SlotAs.pointee) (Syntax.tcons (Syntax.tyInt Syntax.w64) Syntax.tnil))),
-) ∷ (13, Rows.any-gone Syntax.tyBool) ∷ (
-  14,
-  Rows.any-gone
-      (Syntax.tyInt Syntax.w64),
-) ∷ (15, Rows.any-gone (Syntax.tyInt Syntax.w64)) ∷ []
+  Rows.any-gone (Syntax.tyStruct (38 ∷
+      91 ∷ 93 ∷ []) (Syntax.tcons (Syntax.tyRef Syntax.erased Syntax.imm SlotAs.pointee) (Syntax.tcons (Syntax.tyInt Syntax.w64) Syntax.tnil))),
+) ∷ (
+  13,
+  Rows.any-gone Syntax.tyBool,
+) ∷ (14, Rows.any-gone (Syntax.tyInt Syntax.w64)) ∷ (15, Rows.any-gone (Syntax.tyInt Syntax.w64)) ∷ []
 
 abbrev pub t36 : List.List Row.Entry
 t36 = (0, Rows.any-gone (Syntax.tyInt Syntax.w8)) ∷ (
@@ -1462,23 +1464,22 @@ t36 = (0, Rows.any-gone (Syntax.tyInt Syntax.w8)) ∷ (
   5,
   Rows.any-gone (Syntax.tyStruct (115 ∷ 116 ∷ 111 ∷ 114 ∷ 101 ∷ 58 ∷ 58 ∷ 72 ∷
       101 ∷ 108 ∷ 100 ∷ []) (Syntax.tcons (Syntax.tyInt Syntax.w8) (Syntax.tcons (Syntax.tyInt Syntax.w64) (Syntax.tcons (Syntax.tyInt Syntax.w64) (Syntax.tcons
-      (Syntax.tyInt Syntax.w64) (Syntax.tcons (Syntax.tyInt Syntax.w64) Syntax.tnil)))))),
-) ∷ (6, Rows.sc-here (Row.sInt Syntax.w64)) ∷ (
-  7,
+      (Syntax.tyInt Syntax.w64) (Syntax.tcons (Syntax.tyInt Syntax.w64) (Syntax.tcons (Syntax.tyInt Syntax.w64) Syntax.tnil))))))),
+) ∷ (
+  6,
   Rows.sc-here (Row.sInt
       Syntax.w64),
-) ∷ (8, Rows.sc-here (Row.sInt Syntax.w64)) ∷ (9, Rows.whole (Declared.row FromLast.the-type)) ∷ (10, Rows.sc-here (Row.sInt Syntax.w8)) ∷ (
-  11,
-  Rows.any-gone (Syntax.tyRef Syntax.erased Syntax.imm SlotAs.pointee),
-) ∷ (
+) ∷ (7, Rows.sc-here (Row.sInt Syntax.w64)) ∷ (8, Rows.sc-here (Row.sInt Syntax.w64)) ∷ (9, Rows.whole (Declared.row FromLast.the-type)) ∷ (
+  10,
+  Rows.sc-here (Row.sInt Syntax.w8),
+) ∷ (11, Rows.any-gone (Syntax.tyRef Syntax.erased Syntax.imm SlotAs.pointee)) ∷ (
   12,
-  Rows.any-gone (Syntax.tyStruct (38 ∷ 91 ∷ 93 ∷ []) (Syntax.tcons (Syntax.tyRef
-      Syntax.erased Syntax.imm SlotAs.pointee) (Syntax.tcons (Syntax.tyInt Syntax.w64) Syntax.tnil))),
-) ∷ (13, Rows.sc-here Row.sBool) ∷ (
-  14,
-  Rows.any-gone
-      (Syntax.tyInt Syntax.w64),
-) ∷ (15, Rows.any-gone (Syntax.tyInt Syntax.w64)) ∷ []
+  Rows.any-gone (Syntax.tyStruct (38 ∷
+      91 ∷ 93 ∷ []) (Syntax.tcons (Syntax.tyRef Syntax.erased Syntax.imm SlotAs.pointee) (Syntax.tcons (Syntax.tyInt Syntax.w64) Syntax.tnil))),
+) ∷ (
+  13,
+  Rows.sc-here Row.sBool,
+) ∷ (14, Rows.any-gone (Syntax.tyInt Syntax.w64)) ∷ (15, Rows.any-gone (Syntax.tyInt Syntax.w64)) ∷ []
 
 abbrev pub t37 : List.List Row.Entry
 t37 = (0, Rows.any-gone (Syntax.tyInt Syntax.w8)) ∷ (
@@ -1494,27 +1495,26 @@ t37 = (0, Rows.any-gone (Syntax.tyInt Syntax.w8)) ∷ (
   5,
   Rows.any-gone (Syntax.tyStruct (115 ∷ 116 ∷ 111 ∷ 114 ∷ 101 ∷ 58 ∷ 58 ∷ 72 ∷
       101 ∷ 108 ∷ 100 ∷ []) (Syntax.tcons (Syntax.tyInt Syntax.w8) (Syntax.tcons (Syntax.tyInt Syntax.w64) (Syntax.tcons (Syntax.tyInt Syntax.w64) (Syntax.tcons
-      (Syntax.tyInt Syntax.w64) (Syntax.tcons (Syntax.tyInt Syntax.w64) Syntax.tnil)))))),
-) ∷ (6, Rows.sc-here (Row.sInt Syntax.w64)) ∷ (
-  7,
+      (Syntax.tyInt Syntax.w64) (Syntax.tcons (Syntax.tyInt Syntax.w64) (Syntax.tcons (Syntax.tyInt Syntax.w64) Syntax.tnil))))))),
+) ∷ (
+  6,
   Rows.sc-here (Row.sInt
       Syntax.w64),
-) ∷ (8, Rows.sc-here (Row.sInt Syntax.w64)) ∷ (
+) ∷ (7, Rows.sc-here (Row.sInt Syntax.w64)) ∷ (8, Rows.sc-here (Row.sInt Syntax.w64)) ∷ (
   9,
-  Rows.any-gone (Syntax.tyStruct (102 ∷ 114 ∷ 97 ∷ 103 ∷ 109 ∷ 101 ∷ 110 ∷ 116 ∷ 115 ∷ 58 ∷ 58 ∷
-      70 ∷ 114 ∷ 111 ∷ 109 ∷ 76 ∷ 97 ∷ 115 ∷ 116 ∷ []) (Syntax.tcons (Syntax.tyInt Syntax.w64) Syntax.tnil)),
-) ∷ (10, Rows.sc-here (Row.sInt Syntax.w8)) ∷ (
-  11,
-  Rows.any-gone (Syntax.tyRef Syntax.erased Syntax.imm SlotAs.pointee),
+  Rows.any-gone (Syntax.tyStruct (102 ∷ 114 ∷ 97 ∷ 103
+      ∷ 109 ∷ 101 ∷ 110 ∷ 116 ∷ 115 ∷ 58 ∷ 58 ∷ 70 ∷ 114 ∷ 111 ∷ 109 ∷ 76 ∷ 97 ∷ 115 ∷ 116 ∷ []) (Syntax.tcons (Syntax.tyInt Syntax.w64) Syntax.tnil)),
 ) ∷ (
+  10,
+  Rows.sc-here (Row.sInt Syntax.w8),
+) ∷ (11, Rows.any-gone (Syntax.tyRef Syntax.erased Syntax.imm SlotAs.pointee)) ∷ (
   12,
-  Rows.any-gone (Syntax.tyStruct (38 ∷ 91 ∷ 93 ∷ []) (Syntax.tcons (Syntax.tyRef
-      Syntax.erased Syntax.imm SlotAs.pointee) (Syntax.tcons (Syntax.tyInt Syntax.w64) Syntax.tnil))),
-) ∷ (13, Rows.sc-here Row.sBool) ∷ (
-  14,
-  Rows.any-gone
-      (Syntax.tyInt Syntax.w64),
-) ∷ (15, Rows.any-gone (Syntax.tyInt Syntax.w64)) ∷ []
+  Rows.any-gone (Syntax.tyStruct (38 ∷
+      91 ∷ 93 ∷ []) (Syntax.tcons (Syntax.tyRef Syntax.erased Syntax.imm SlotAs.pointee) (Syntax.tcons (Syntax.tyInt Syntax.w64) Syntax.tnil))),
+) ∷ (
+  13,
+  Rows.sc-here Row.sBool,
+) ∷ (14, Rows.any-gone (Syntax.tyInt Syntax.w64)) ∷ (15, Rows.any-gone (Syntax.tyInt Syntax.w64)) ∷ []
 
 abbrev pub t38 : List.List Row.Entry
 t38 = (0, Rows.any-gone (Syntax.tyInt Syntax.w8)) ∷ (
@@ -1530,27 +1530,26 @@ t38 = (0, Rows.any-gone (Syntax.tyInt Syntax.w8)) ∷ (
   5,
   Rows.any-gone (Syntax.tyStruct (115 ∷ 116 ∷ 111 ∷ 114 ∷ 101 ∷ 58 ∷ 58 ∷ 72 ∷
       101 ∷ 108 ∷ 100 ∷ []) (Syntax.tcons (Syntax.tyInt Syntax.w8) (Syntax.tcons (Syntax.tyInt Syntax.w64) (Syntax.tcons (Syntax.tyInt Syntax.w64) (Syntax.tcons
-      (Syntax.tyInt Syntax.w64) (Syntax.tcons (Syntax.tyInt Syntax.w64) Syntax.tnil)))))),
-) ∷ (6, Rows.sc-here (Row.sInt Syntax.w64)) ∷ (
-  7,
+      (Syntax.tyInt Syntax.w64) (Syntax.tcons (Syntax.tyInt Syntax.w64) (Syntax.tcons (Syntax.tyInt Syntax.w64) Syntax.tnil))))))),
+) ∷ (
+  6,
   Rows.sc-here (Row.sInt
       Syntax.w64),
-) ∷ (8, Rows.sc-here (Row.sInt Syntax.w64)) ∷ (
+) ∷ (7, Rows.sc-here (Row.sInt Syntax.w64)) ∷ (8, Rows.sc-here (Row.sInt Syntax.w64)) ∷ (
   9,
-  Rows.any-gone (Syntax.tyStruct (102 ∷ 114 ∷ 97 ∷ 103 ∷ 109 ∷ 101 ∷ 110 ∷ 116 ∷ 115 ∷ 58 ∷ 58 ∷
-      70 ∷ 114 ∷ 111 ∷ 109 ∷ 76 ∷ 97 ∷ 115 ∷ 116 ∷ []) (Syntax.tcons (Syntax.tyInt Syntax.w64) Syntax.tnil)),
-) ∷ (10, Rows.sc-here (Row.sInt Syntax.w8)) ∷ (
-  11,
-  Rows.any-gone (Syntax.tyRef Syntax.erased Syntax.imm SlotAs.pointee),
+  Rows.any-gone (Syntax.tyStruct (102 ∷ 114 ∷ 97 ∷ 103
+      ∷ 109 ∷ 101 ∷ 110 ∷ 116 ∷ 115 ∷ 58 ∷ 58 ∷ 70 ∷ 114 ∷ 111 ∷ 109 ∷ 76 ∷ 97 ∷ 115 ∷ 116 ∷ []) (Syntax.tcons (Syntax.tyInt Syntax.w64) Syntax.tnil)),
 ) ∷ (
+  10,
+  Rows.sc-here (Row.sInt Syntax.w8),
+) ∷ (11, Rows.any-gone (Syntax.tyRef Syntax.erased Syntax.imm SlotAs.pointee)) ∷ (
   12,
-  Rows.any-gone (Syntax.tyStruct (38 ∷ 91 ∷ 93 ∷ []) (Syntax.tcons (Syntax.tyRef
-      Syntax.erased Syntax.imm SlotAs.pointee) (Syntax.tcons (Syntax.tyInt Syntax.w64) Syntax.tnil))),
-) ∷ (13, Rows.any-gone Syntax.tyBool) ∷ (
-  14,
-  Rows.any-gone
-      (Syntax.tyInt Syntax.w64),
-) ∷ (15, Rows.any-gone (Syntax.tyInt Syntax.w64)) ∷ []
+  Rows.any-gone (Syntax.tyStruct (38 ∷
+      91 ∷ 93 ∷ []) (Syntax.tcons (Syntax.tyRef Syntax.erased Syntax.imm SlotAs.pointee) (Syntax.tcons (Syntax.tyInt Syntax.w64) Syntax.tnil))),
+) ∷ (
+  13,
+  Rows.any-gone Syntax.tyBool,
+) ∷ (14, Rows.any-gone (Syntax.tyInt Syntax.w64)) ∷ (15, Rows.any-gone (Syntax.tyInt Syntax.w64)) ∷ []
 
 abbrev pub t39 : List.List Row.Entry
 t39 = (0, Rows.sc-here (Row.sInt Syntax.w8)) ∷ (
@@ -1566,25 +1565,25 @@ t39 = (0, Rows.sc-here (Row.sInt Syntax.w8)) ∷ (
   5,
   Rows.any-gone (Syntax.tyStruct (115 ∷ 116 ∷ 111 ∷ 114 ∷ 101 ∷ 58 ∷ 58 ∷ 72 ∷ 101 ∷ 108 ∷ 100
       ∷ []) (Syntax.tcons (Syntax.tyInt Syntax.w8) (Syntax.tcons (Syntax.tyInt Syntax.w64) (Syntax.tcons (Syntax.tyInt Syntax.w64) (Syntax.tcons (Syntax.tyInt
-      Syntax.w64) (Syntax.tcons (Syntax.tyInt Syntax.w64) Syntax.tnil)))))),
-) ∷ (6, Rows.sc-here (Row.sInt Syntax.w64)) ∷ (7, Rows.sc-here (Row.sInt Syntax.w64))
-    ∷ (8, Rows.sc-here (Row.sInt Syntax.w64)) ∷ (
+      Syntax.w64) (Syntax.tcons (Syntax.tyInt Syntax.w64) (Syntax.tcons (Syntax.tyInt Syntax.w64) Syntax.tnil))))))),
+) ∷ (6, Rows.sc-here (Row.sInt Syntax.w64)) ∷
+    (7, Rows.sc-here (Row.sInt Syntax.w64)) ∷ (8, Rows.sc-here (Row.sInt Syntax.w64)) ∷ (
       9,
-      Rows.any-gone (Syntax.tyStruct (102 ∷ 114 ∷ 97 ∷ 103 ∷ 109 ∷ 101 ∷ 110 ∷ 116 ∷ 115 ∷ 58 ∷ 58 ∷ 70 ∷ 114 ∷
-          111 ∷ 109 ∷ 76 ∷ 97 ∷ 115 ∷ 116 ∷ []) (Syntax.tcons (Syntax.tyInt Syntax.w64) Syntax.tnil)),
-    ) ∷ (10, Rows.sc-here (Row.sInt Syntax.w8)) ∷ (
-      11,
-      Rows.any-gone
-          (Syntax.tyRef Syntax.erased Syntax.imm SlotAs.pointee),
+      Rows.any-gone (Syntax.tyStruct (102 ∷ 114 ∷ 97 ∷ 103 ∷ 109 ∷ 101 ∷
+          110 ∷ 116 ∷ 115 ∷ 58 ∷ 58 ∷ 70 ∷ 114 ∷ 111 ∷ 109 ∷ 76 ∷ 97 ∷ 115 ∷ 116 ∷ []) (Syntax.tcons (Syntax.tyInt Syntax.w64) Syntax.tnil)),
     ) ∷ (
+      10,
+      Rows.sc-here
+          (Row.sInt Syntax.w8),
+    ) ∷ (11, Rows.any-gone (Syntax.tyRef Syntax.erased Syntax.imm SlotAs.pointee)) ∷ (
       12,
-      Rows.any-gone (Syntax.tyStruct (38 ∷ 91 ∷ 93 ∷ []) (Syntax.tcons (Syntax.tyRef Syntax.erased
-          Syntax.imm SlotAs.pointee) (Syntax.tcons (Syntax.tyInt Syntax.w64) Syntax.tnil))),
-    ) ∷ (13, Rows.any-gone Syntax.tyBool) ∷ (
-      14,
-      Rows.any-gone (Syntax.tyInt
-          Syntax.w64),
-    ) ∷ (15, Rows.any-gone (Syntax.tyInt Syntax.w64)) ∷ []
+      Rows.any-gone (Syntax.tyStruct (38 ∷ 91 ∷ 93 ∷
+          []) (Syntax.tcons (Syntax.tyRef Syntax.erased Syntax.imm SlotAs.pointee) (Syntax.tcons (Syntax.tyInt Syntax.w64) Syntax.tnil))),
+    ) ∷ (
+      13,
+      Rows.any-gone
+          Syntax.tyBool,
+    ) ∷ (14, Rows.any-gone (Syntax.tyInt Syntax.w64)) ∷ (15, Rows.any-gone (Syntax.tyInt Syntax.w64)) ∷ []
 
 abbrev pub t40 : List.List Row.Entry
 t40 = (0, Rows.sc-here (Row.sInt Syntax.w8)) ∷ (
@@ -1600,27 +1599,26 @@ t40 = (0, Rows.sc-here (Row.sInt Syntax.w8)) ∷ (
   5,
   Rows.any-gone (Syntax.tyStruct (115 ∷ 116 ∷ 111 ∷ 114 ∷ 101 ∷ 58 ∷ 58 ∷ 72 ∷ 101 ∷ 108
       ∷ 100 ∷ []) (Syntax.tcons (Syntax.tyInt Syntax.w8) (Syntax.tcons (Syntax.tyInt Syntax.w64) (Syntax.tcons (Syntax.tyInt Syntax.w64) (Syntax.tcons
-      (Syntax.tyInt Syntax.w64) (Syntax.tcons (Syntax.tyInt Syntax.w64) Syntax.tnil)))))),
-) ∷ (6, Rows.sc-here (Row.sInt Syntax.w64)) ∷ (
-  7,
+      (Syntax.tyInt Syntax.w64) (Syntax.tcons (Syntax.tyInt Syntax.w64) (Syntax.tcons (Syntax.tyInt Syntax.w64) Syntax.tnil))))))),
+) ∷ (
+  6,
   Rows.sc-here (Row.sInt
       Syntax.w64),
-) ∷ (8, Rows.sc-here (Row.sInt Syntax.w64)) ∷ (
+) ∷ (7, Rows.sc-here (Row.sInt Syntax.w64)) ∷ (8, Rows.sc-here (Row.sInt Syntax.w64)) ∷ (
   9,
-  Rows.any-gone (Syntax.tyStruct (102 ∷ 114 ∷ 97 ∷ 103 ∷ 109 ∷ 101 ∷ 110 ∷ 116 ∷ 115 ∷ 58 ∷ 58 ∷
-      70 ∷ 114 ∷ 111 ∷ 109 ∷ 76 ∷ 97 ∷ 115 ∷ 116 ∷ []) (Syntax.tcons (Syntax.tyInt Syntax.w64) Syntax.tnil)),
-) ∷ (10, Rows.sc-here (Row.sInt Syntax.w8)) ∷ (
-  11,
-  Rows.any-gone (Syntax.tyRef Syntax.erased Syntax.imm SlotAs.pointee),
+  Rows.any-gone (Syntax.tyStruct (102 ∷ 114 ∷ 97 ∷ 103
+      ∷ 109 ∷ 101 ∷ 110 ∷ 116 ∷ 115 ∷ 58 ∷ 58 ∷ 70 ∷ 114 ∷ 111 ∷ 109 ∷ 76 ∷ 97 ∷ 115 ∷ 116 ∷ []) (Syntax.tcons (Syntax.tyInt Syntax.w64) Syntax.tnil)),
 ) ∷ (
+  10,
+  Rows.sc-here (Row.sInt Syntax.w8),
+) ∷ (11, Rows.any-gone (Syntax.tyRef Syntax.erased Syntax.imm SlotAs.pointee)) ∷ (
   12,
-  Rows.any-gone (Syntax.tyStruct (38 ∷ 91 ∷ 93 ∷ []) (Syntax.tcons (Syntax.tyRef
-      Syntax.erased Syntax.imm SlotAs.pointee) (Syntax.tcons (Syntax.tyInt Syntax.w64) Syntax.tnil))),
-) ∷ (13, Rows.any-gone Syntax.tyBool) ∷ (
-  14,
-  Rows.any-gone
-      (Syntax.tyInt Syntax.w64),
-) ∷ (15, Rows.any-gone (Syntax.tyInt Syntax.w64)) ∷ []
+  Rows.any-gone (Syntax.tyStruct (38 ∷
+      91 ∷ 93 ∷ []) (Syntax.tcons (Syntax.tyRef Syntax.erased Syntax.imm SlotAs.pointee) (Syntax.tcons (Syntax.tyInt Syntax.w64) Syntax.tnil))),
+) ∷ (
+  13,
+  Rows.any-gone Syntax.tyBool,
+) ∷ (14, Rows.any-gone (Syntax.tyInt Syntax.w64)) ∷ (15, Rows.any-gone (Syntax.tyInt Syntax.w64)) ∷ []
 
 abbrev pub t41 : List.List Row.Entry
 t41 = (0, Rows.sc-here (Row.sInt Syntax.w8)) ∷ (
@@ -1636,24 +1634,22 @@ t41 = (0, Rows.sc-here (Row.sInt Syntax.w8)) ∷ (
   5,
   Rows.any-gone (Syntax.tyStruct (115 ∷ 116 ∷ 111 ∷ 114 ∷ 101 ∷ 58 ∷ 58 ∷ 72 ∷ 101 ∷ 108
       ∷ 100 ∷ []) (Syntax.tcons (Syntax.tyInt Syntax.w8) (Syntax.tcons (Syntax.tyInt Syntax.w64) (Syntax.tcons (Syntax.tyInt Syntax.w64) (Syntax.tcons
-      (Syntax.tyInt Syntax.w64) (Syntax.tcons (Syntax.tyInt Syntax.w64) Syntax.tnil)))))),
-) ∷ (6, Rows.any-gone (Syntax.tyInt Syntax.w64)) ∷ (
-  7,
-  Rows.sc-here
-      (Row.sInt Syntax.w64),
-) ∷ (8, Rows.sc-here (Row.sInt Syntax.w64)) ∷ (
+      (Syntax.tyInt Syntax.w64) (Syntax.tcons (Syntax.tyInt Syntax.w64) (Syntax.tcons (Syntax.tyInt Syntax.w64) Syntax.tnil))))))),
+) ∷ (
+  6,
+  Rows.any-gone
+      (Syntax.tyInt Syntax.w64),
+) ∷ (7, Rows.sc-here (Row.sInt Syntax.w64)) ∷ (8, Rows.sc-here (Row.sInt Syntax.w64)) ∷ (
   9,
-  Rows.any-gone (Syntax.tyStruct (102 ∷ 114 ∷ 97 ∷ 103 ∷ 109 ∷ 101 ∷ 110 ∷ 116 ∷ 115 ∷
-      58 ∷ 58 ∷ 70 ∷ 114 ∷ 111 ∷ 109 ∷ 76 ∷ 97 ∷ 115 ∷ 116 ∷ []) (Syntax.tcons (Syntax.tyInt Syntax.w64) Syntax.tnil)),
-) ∷ (10, Rows.sc-here (Row.sInt Syntax.w8))
-    ∷ (11, Rows.any-gone (Syntax.tyRef Syntax.erased Syntax.imm SlotAs.pointee)) ∷ (
-      12,
-      Rows.any-gone (Syntax.tyStruct (38 ∷ 91 ∷ 93 ∷ []) (Syntax.tcons
-          (Syntax.tyRef Syntax.erased Syntax.imm SlotAs.pointee) (Syntax.tcons (Syntax.tyInt Syntax.w64) Syntax.tnil))),
-    ) ∷ (13, Rows.any-gone Syntax.tyBool) ∷ (
-      14,
-      Rows.any-gone (Syntax.tyInt Syntax.w64),
-    ) ∷ (15, Rows.any-gone (Syntax.tyInt Syntax.w64)) ∷ []
+  Rows.any-gone (Syntax.tyStruct (102 ∷
+      114 ∷ 97 ∷ 103 ∷ 109 ∷ 101 ∷ 110 ∷ 116 ∷ 115 ∷ 58 ∷ 58 ∷ 70 ∷ 114 ∷ 111 ∷ 109 ∷ 76 ∷ 97 ∷ 115 ∷ 116 ∷ []) (Syntax.tcons (Syntax.tyInt Syntax.w64)
+      Syntax.tnil)),
+) ∷ (10, Rows.sc-here (Row.sInt Syntax.w8)) ∷ (11, Rows.any-gone (Syntax.tyRef Syntax.erased Syntax.imm SlotAs.pointee)) ∷ (
+  12,
+  Rows.any-gone
+      (Syntax.tyStruct (38 ∷ 91 ∷ 93 ∷ []) (Syntax.tcons (Syntax.tyRef Syntax.erased Syntax.imm SlotAs.pointee) (Syntax.tcons (Syntax.tyInt Syntax.w64)
+      Syntax.tnil))),
+) ∷ (13, Rows.any-gone Syntax.tyBool) ∷ (14, Rows.any-gone (Syntax.tyInt Syntax.w64)) ∷ (15, Rows.any-gone (Syntax.tyInt Syntax.w64)) ∷ []
 
 abbrev pub t42 : List.List Row.Entry
 t42 = (0, Rows.sc-here (Row.sInt Syntax.w8)) ∷ (
@@ -1669,28 +1665,22 @@ t42 = (0, Rows.sc-here (Row.sInt Syntax.w8)) ∷ (
   5,
   Rows.any-gone (Syntax.tyStruct (115 ∷ 116 ∷ 111 ∷ 114 ∷ 101 ∷ 58 ∷ 58 ∷ 72 ∷ 101 ∷ 108
       ∷ 100 ∷ []) (Syntax.tcons (Syntax.tyInt Syntax.w8) (Syntax.tcons (Syntax.tyInt Syntax.w64) (Syntax.tcons (Syntax.tyInt Syntax.w64) (Syntax.tcons
-      (Syntax.tyInt Syntax.w64) (Syntax.tcons (Syntax.tyInt Syntax.w64) Syntax.tnil)))))),
-) ∷ (6, Rows.any-gone (Syntax.tyInt Syntax.w64)) ∷ (
-  7,
+      (Syntax.tyInt Syntax.w64) (Syntax.tcons (Syntax.tyInt Syntax.w64) (Syntax.tcons (Syntax.tyInt Syntax.w64) Syntax.tnil))))))),
+) ∷ (
+  6,
   Rows.any-gone
       (Syntax.tyInt Syntax.w64),
-) ∷ (8, Rows.sc-here (Row.sInt Syntax.w64)) ∷ (
+) ∷ (7, Rows.any-gone (Syntax.tyInt Syntax.w64)) ∷ (8, Rows.sc-here (Row.sInt Syntax.w64)) ∷ (
   9,
-  Rows.any-gone (Syntax.tyStruct (102 ∷ 114 ∷ 97 ∷ 103 ∷ 109 ∷ 101 ∷ 110 ∷ 116 ∷
-      115 ∷ 58 ∷ 58 ∷ 70 ∷ 114 ∷ 111 ∷ 109 ∷ 76 ∷ 97 ∷ 115 ∷ 116 ∷ []) (Syntax.tcons (Syntax.tyInt Syntax.w64) Syntax.tnil)),
-) ∷ (
-  10,
-  Rows.sc-here (Row.sInt
-      Syntax.w8),
-) ∷ (11, Rows.any-gone (Syntax.tyRef Syntax.erased Syntax.imm SlotAs.pointee)) ∷ (
+  Rows.any-gone (Syntax.tyStruct
+      (102 ∷ 114 ∷ 97 ∷ 103 ∷ 109 ∷ 101 ∷ 110 ∷ 116 ∷ 115 ∷ 58 ∷ 58 ∷ 70 ∷ 114 ∷ 111 ∷ 109 ∷ 76 ∷ 97 ∷ 115 ∷ 116 ∷ []) (Syntax.tcons (Syntax.tyInt Syntax.w64)
+      Syntax.tnil)),
+) ∷ (10, Rows.sc-here (Row.sInt Syntax.w8)) ∷ (11, Rows.any-gone (Syntax.tyRef Syntax.erased Syntax.imm SlotAs.pointee)) ∷ (
   12,
-  Rows.any-gone (Syntax.tyStruct (38 ∷ 91 ∷ 93 ∷ [])
-      (Syntax.tcons (Syntax.tyRef Syntax.erased Syntax.imm SlotAs.pointee) (Syntax.tcons (Syntax.tyInt Syntax.w64) Syntax.tnil))),
-) ∷ (
-  13,
   Rows.any-gone
-      Syntax.tyBool,
-) ∷ (14, Rows.any-gone (Syntax.tyInt Syntax.w64)) ∷ (15, Rows.any-gone (Syntax.tyInt Syntax.w64)) ∷ []
+      (Syntax.tyStruct (38 ∷ 91 ∷ 93 ∷ []) (Syntax.tcons (Syntax.tyRef Syntax.erased Syntax.imm SlotAs.pointee) (Syntax.tcons (Syntax.tyInt Syntax.w64)
+      Syntax.tnil))),
+) ∷ (13, Rows.any-gone Syntax.tyBool) ∷ (14, Rows.any-gone (Syntax.tyInt Syntax.w64)) ∷ (15, Rows.any-gone (Syntax.tyInt Syntax.w64)) ∷ []
 
 abbrev pub t43 : List.List Row.Entry
 t43 = (0, Rows.sc-here (Row.sInt Syntax.w8)) ∷ (
@@ -1706,28 +1696,28 @@ t43 = (0, Rows.sc-here (Row.sInt Syntax.w8)) ∷ (
   5,
   Rows.any-gone (Syntax.tyStruct (115 ∷ 116 ∷ 111 ∷ 114 ∷ 101 ∷ 58 ∷ 58 ∷ 72 ∷ 101 ∷ 108
       ∷ 100 ∷ []) (Syntax.tcons (Syntax.tyInt Syntax.w8) (Syntax.tcons (Syntax.tyInt Syntax.w64) (Syntax.tcons (Syntax.tyInt Syntax.w64) (Syntax.tcons
-      (Syntax.tyInt Syntax.w64) (Syntax.tcons (Syntax.tyInt Syntax.w64) Syntax.tnil)))))),
-) ∷ (6, Rows.any-gone (Syntax.tyInt Syntax.w64)) ∷ (
-  7,
+      (Syntax.tyInt Syntax.w64) (Syntax.tcons (Syntax.tyInt Syntax.w64) (Syntax.tcons (Syntax.tyInt Syntax.w64) Syntax.tnil))))))),
+) ∷ (
+  6,
   Rows.any-gone
       (Syntax.tyInt Syntax.w64),
-) ∷ (8, Rows.any-gone (Syntax.tyInt Syntax.w64)) ∷ (
+) ∷ (7, Rows.any-gone (Syntax.tyInt Syntax.w64)) ∷ (8, Rows.any-gone (Syntax.tyInt Syntax.w64)) ∷ (
   9,
-  Rows.any-gone (Syntax.tyStruct (102 ∷ 114 ∷ 97 ∷ 103 ∷ 109 ∷ 101 ∷ 110 ∷
-      116 ∷ 115 ∷ 58 ∷ 58 ∷ 70 ∷ 114 ∷ 111 ∷ 109 ∷ 76 ∷ 97 ∷ 115 ∷ 116 ∷ []) (Syntax.tcons (Syntax.tyInt Syntax.w64) Syntax.tnil)),
-) ∷ (
-  10,
-  Rows.sc-here (Row.sInt
-      Syntax.w8),
-) ∷ (11, Rows.any-gone (Syntax.tyRef Syntax.erased Syntax.imm SlotAs.pointee)) ∷ (
-  12,
-  Rows.any-gone (Syntax.tyStruct (38 ∷ 91 ∷ 93 ∷ [])
-      (Syntax.tcons (Syntax.tyRef Syntax.erased Syntax.imm SlotAs.pointee) (Syntax.tcons (Syntax.tyInt Syntax.w64) Syntax.tnil))),
-) ∷ (
-  13,
   Rows.any-gone
-      Syntax.tyBool,
-) ∷ (14, Rows.any-gone (Syntax.tyInt Syntax.w64)) ∷ (15, Rows.any-gone (Syntax.tyInt Syntax.w64)) ∷ []
+      (Syntax.tyStruct (102 ∷ 114 ∷ 97 ∷ 103 ∷ 109 ∷ 101 ∷ 110 ∷ 116 ∷ 115 ∷ 58 ∷ 58 ∷ 70 ∷ 114 ∷ 111 ∷ 109 ∷ 76 ∷ 97 ∷ 115 ∷ 116 ∷ []) (Syntax.tcons
+      (Syntax.tyInt Syntax.w64) Syntax.tnil)),
+) ∷ (10, Rows.sc-here (Row.sInt Syntax.w8)) ∷ (
+  11,
+  Rows.any-gone (Syntax.tyRef Syntax.erased Syntax.imm
+      SlotAs.pointee),
+) ∷ (
+  12,
+  Rows.any-gone (Syntax.tyStruct (38 ∷ 91 ∷ 93 ∷ []) (Syntax.tcons (Syntax.tyRef Syntax.erased Syntax.imm SlotAs.pointee)
+      (Syntax.tcons (Syntax.tyInt Syntax.w64) Syntax.tnil))),
+) ∷ (13, Rows.any-gone Syntax.tyBool) ∷ (14, Rows.any-gone (Syntax.tyInt Syntax.w64)) ∷ (
+  15,
+  Rows.any-gone (Syntax.tyInt Syntax.w64),
+) ∷ []
 
 abbrev pub t44 : List.List Row.Entry
 t44 = (0, Rows.any-gone (Syntax.tyInt Syntax.w8)) ∷ (
@@ -1743,23 +1733,23 @@ t44 = (0, Rows.any-gone (Syntax.tyInt Syntax.w8)) ∷ (
   5,
   Rows.any-gone (Syntax.tyStruct (115 ∷ 116 ∷ 111 ∷ 114 ∷ 101 ∷ 58
       ∷ 58 ∷ 72 ∷ 101 ∷ 108 ∷ 100 ∷ []) (Syntax.tcons (Syntax.tyInt Syntax.w8) (Syntax.tcons (Syntax.tyInt Syntax.w64) (Syntax.tcons (Syntax.tyInt Syntax.w64)
-      (Syntax.tcons (Syntax.tyInt Syntax.w64) (Syntax.tcons (Syntax.tyInt Syntax.w64) Syntax.tnil)))))),
-) ∷ (6, Rows.sc-here (Row.sInt Syntax.w64)) ∷ (
-  7,
-  Rows.sc-here (Row.sInt Syntax.w64),
-) ∷ (8, Rows.sc-here (Row.sInt Syntax.w64)) ∷ (9, Rows.whole (Declared.row FromLast.the-type)) ∷ (
-  10,
-  Rows.sc-here
-      (Row.sInt Syntax.w8),
-) ∷ (11, Rows.any-gone (Syntax.tyRef Syntax.erased Syntax.imm SlotAs.pointee)) ∷ (
-  12,
-  Rows.any-gone (Syntax.tyStruct (38 ∷ 91 ∷ 93 ∷
-      []) (Syntax.tcons (Syntax.tyRef Syntax.erased Syntax.imm SlotAs.pointee) (Syntax.tcons (Syntax.tyInt Syntax.w64) Syntax.tnil))),
+      (Syntax.tcons (Syntax.tyInt Syntax.w64) (Syntax.tcons (Syntax.tyInt Syntax.w64) (Syntax.tcons (Syntax.tyInt Syntax.w64) Syntax.tnil))))))),
 ) ∷ (
-  13,
-  Rows.any-gone
-      Syntax.tyBool,
-) ∷ (14, Rows.any-gone (Syntax.tyInt Syntax.w64)) ∷ (15, Rows.any-gone (Syntax.tyInt Syntax.w64)) ∷ []
+  6,
+  Rows.sc-here (Row.sInt Syntax.w64),
+) ∷ (7, Rows.sc-here (Row.sInt Syntax.w64)) ∷ (8, Rows.sc-here (Row.sInt Syntax.w64)) ∷ (
+  9,
+  Rows.whole (Declared.row
+      FromLast.the-type),
+) ∷ (10, Rows.sc-here (Row.sInt Syntax.w8)) ∷ (11, Rows.any-gone (Syntax.tyRef Syntax.erased Syntax.imm SlotAs.pointee)) ∷ (
+  12,
+  Rows.any-gone (Syntax.tyStruct (38 ∷ 91 ∷ 93 ∷ []) (Syntax.tcons (Syntax.tyRef Syntax.erased Syntax.imm SlotAs.pointee) (Syntax.tcons (Syntax.tyInt
+      Syntax.w64) Syntax.tnil))),
+) ∷ (13, Rows.any-gone Syntax.tyBool) ∷ (14, Rows.any-gone (Syntax.tyInt Syntax.w64)) ∷ (
+  15,
+  Rows.any-gone (Syntax.tyInt
+      Syntax.w64),
+) ∷ []
 
 abbrev pub t45 : List.List Row.Entry
 t45 = (16, Rows.any-gone (Syntax.tyInt Syntax.w8)) ∷ (17, Rows.any-gone (Syntax.tyRef Syntax.erased Syntax.imm SlotAs.pointee)) ∷ (
@@ -1811,27 +1801,27 @@ t48 = (0, Rows.any-gone (Syntax.tyInt Syntax.w8)) ∷ (
   5,
   Rows.any-gone (Syntax.tyStruct (115 ∷ 116 ∷ 111 ∷ 114 ∷ 101 ∷ 58
       ∷ 58 ∷ 72 ∷ 101 ∷ 108 ∷ 100 ∷ []) (Syntax.tcons (Syntax.tyInt Syntax.w8) (Syntax.tcons (Syntax.tyInt Syntax.w64) (Syntax.tcons (Syntax.tyInt Syntax.w64)
-      (Syntax.tcons (Syntax.tyInt Syntax.w64) (Syntax.tcons (Syntax.tyInt Syntax.w64) Syntax.tnil)))))),
-) ∷ (6, Rows.sc-here (Row.sInt Syntax.w64)) ∷ (
-  7,
+      (Syntax.tcons (Syntax.tyInt Syntax.w64) (Syntax.tcons (Syntax.tyInt Syntax.w64) (Syntax.tcons (Syntax.tyInt Syntax.w64) Syntax.tnil))))))),
+) ∷ (
+  6,
   Rows.sc-here (Row.sInt Syntax.w64),
-) ∷ (8, Rows.sc-here (Row.sInt Syntax.w64)) ∷ (
+) ∷ (7, Rows.sc-here (Row.sInt Syntax.w64)) ∷ (8, Rows.sc-here (Row.sInt Syntax.w64)) ∷ (
   9,
-  Rows.any-gone (Syntax.tyStruct (102 ∷ 114 ∷ 97 ∷ 103 ∷ 109 ∷ 101 ∷ 110
-      ∷ 116 ∷ 115 ∷ 58 ∷ 58 ∷ 70 ∷ 114 ∷ 111 ∷ 109 ∷ 76 ∷ 97 ∷ 115 ∷ 116 ∷ []) (Syntax.tcons (Syntax.tyInt Syntax.w64) Syntax.tnil)),
-) ∷ (
-  10,
-  Rows.sc-here
-      (Row.sInt Syntax.w8),
-) ∷ (11, Rows.any-gone (Syntax.tyRef Syntax.erased Syntax.imm SlotAs.pointee)) ∷ (
-  12,
-  Rows.any-gone (Syntax.tyStruct (38 ∷ 91 ∷ 93 ∷
-      []) (Syntax.tcons (Syntax.tyRef Syntax.erased Syntax.imm SlotAs.pointee) (Syntax.tcons (Syntax.tyInt Syntax.w64) Syntax.tnil))),
-) ∷ (
-  13,
   Rows.any-gone
-      Syntax.tyBool,
-) ∷ (14, Rows.any-gone (Syntax.tyInt Syntax.w64)) ∷ (15, Rows.any-gone (Syntax.tyInt Syntax.w64)) ∷ []
+      (Syntax.tyStruct (102 ∷ 114 ∷ 97 ∷ 103 ∷ 109 ∷ 101 ∷ 110 ∷ 116 ∷ 115 ∷ 58 ∷ 58 ∷ 70 ∷ 114 ∷ 111 ∷ 109 ∷ 76 ∷ 97 ∷ 115 ∷ 116 ∷ []) (Syntax.tcons
+      (Syntax.tyInt Syntax.w64) Syntax.tnil)),
+) ∷ (10, Rows.sc-here (Row.sInt Syntax.w8)) ∷ (
+  11,
+  Rows.any-gone (Syntax.tyRef Syntax.erased Syntax.imm
+      SlotAs.pointee),
+) ∷ (
+  12,
+  Rows.any-gone (Syntax.tyStruct (38 ∷ 91 ∷ 93 ∷ []) (Syntax.tcons (Syntax.tyRef Syntax.erased Syntax.imm SlotAs.pointee)
+      (Syntax.tcons (Syntax.tyInt Syntax.w64) Syntax.tnil))),
+) ∷ (13, Rows.any-gone Syntax.tyBool) ∷ (14, Rows.any-gone (Syntax.tyInt Syntax.w64)) ∷ (
+  15,
+  Rows.any-gone (Syntax.tyInt Syntax.w64),
+) ∷ []
 
 abbrev pub t49 : List.List Row.Entry
 t49 = (16, Rows.any-gone (Syntax.tyInt Syntax.w8)) ∷ (17, Rows.any-gone (Syntax.tyRef Syntax.erased Syntax.imm SlotAs.pointee)) ∷ (
@@ -1859,27 +1849,26 @@ t50 = (0, Rows.sc-here (Row.sInt Syntax.w8)) ∷ (
   5,
   Rows.any-gone (Syntax.tyStruct (115 ∷ 116 ∷ 111 ∷ 114 ∷ 101 ∷ 58 ∷ 58 ∷ 72 ∷ 101 ∷ 108 ∷ 100
       ∷ []) (Syntax.tcons (Syntax.tyInt Syntax.w8) (Syntax.tcons (Syntax.tyInt Syntax.w64) (Syntax.tcons (Syntax.tyInt Syntax.w64) (Syntax.tcons (Syntax.tyInt
-      Syntax.w64) (Syntax.tcons (Syntax.tyInt Syntax.w64) Syntax.tnil)))))),
-) ∷ (6, Rows.any-gone (Syntax.tyInt Syntax.w64)) ∷ (
-  7,
-  Rows.sc-here (Row.sInt
-      Syntax.w64),
-) ∷ (8, Rows.sc-here (Row.sInt Syntax.w64)) ∷ (
-  9,
-  Rows.any-gone (Syntax.tyStruct (102 ∷ 114 ∷ 97 ∷ 103 ∷ 109 ∷ 101 ∷ 110 ∷ 116 ∷ 115 ∷ 58 ∷ 58 ∷
-      70 ∷ 114 ∷ 111 ∷ 109 ∷ 76 ∷ 97 ∷ 115 ∷ 116 ∷ []) (Syntax.tcons (Syntax.tyInt Syntax.w64) Syntax.tnil)),
-) ∷ (10, Rows.sc-here (Row.sInt Syntax.w8)) ∷ (
-  11,
-  Rows.any-gone (Syntax.tyRef Syntax.erased Syntax.imm SlotAs.pointee),
+      Syntax.w64) (Syntax.tcons (Syntax.tyInt Syntax.w64) (Syntax.tcons (Syntax.tyInt Syntax.w64) Syntax.tnil))))))),
 ) ∷ (
+  6,
+  Rows.any-gone (Syntax.tyInt
+      Syntax.w64),
+) ∷ (7, Rows.sc-here (Row.sInt Syntax.w64)) ∷ (8, Rows.sc-here (Row.sInt Syntax.w64)) ∷ (
+  9,
+  Rows.any-gone (Syntax.tyStruct (102 ∷ 114 ∷ 97 ∷ 103
+      ∷ 109 ∷ 101 ∷ 110 ∷ 116 ∷ 115 ∷ 58 ∷ 58 ∷ 70 ∷ 114 ∷ 111 ∷ 109 ∷ 76 ∷ 97 ∷ 115 ∷ 116 ∷ []) (Syntax.tcons (Syntax.tyInt Syntax.w64) Syntax.tnil)),
+) ∷ (
+  10,
+  Rows.sc-here (Row.sInt Syntax.w8),
+) ∷ (11, Rows.any-gone (Syntax.tyRef Syntax.erased Syntax.imm SlotAs.pointee)) ∷ (
   12,
-  Rows.any-gone (Syntax.tyStruct (38 ∷ 91 ∷ 93 ∷ []) (Syntax.tcons (Syntax.tyRef
-      Syntax.erased Syntax.imm SlotAs.pointee) (Syntax.tcons (Syntax.tyInt Syntax.w64) Syntax.tnil))),
-) ∷ (13, Rows.any-gone Syntax.tyBool) ∷ (
-  14,
-  Rows.any-gone
-      (Syntax.tyInt Syntax.w64),
-) ∷ (15, Rows.any-gone (Syntax.tyInt Syntax.w64)) ∷ []
+  Rows.any-gone (Syntax.tyStruct (38 ∷
+      91 ∷ 93 ∷ []) (Syntax.tcons (Syntax.tyRef Syntax.erased Syntax.imm SlotAs.pointee) (Syntax.tcons (Syntax.tyInt Syntax.w64) Syntax.tnil))),
+) ∷ (
+  13,
+  Rows.any-gone Syntax.tyBool,
+) ∷ (14, Rows.any-gone (Syntax.tyInt Syntax.w64)) ∷ (15, Rows.any-gone (Syntax.tyInt Syntax.w64)) ∷ []
 
 abbrev pub t51 : List.List Row.Entry
 t51 = (0, Rows.sc-here (Row.sInt Syntax.w8)) ∷ (
@@ -1895,27 +1884,24 @@ t51 = (0, Rows.sc-here (Row.sInt Syntax.w8)) ∷ (
   5,
   Rows.any-gone (Syntax.tyStruct (115 ∷ 116 ∷ 111 ∷ 114 ∷ 101 ∷ 58 ∷ 58 ∷ 72 ∷ 101 ∷ 108 ∷ 100
       ∷ []) (Syntax.tcons (Syntax.tyInt Syntax.w8) (Syntax.tcons (Syntax.tyInt Syntax.w64) (Syntax.tcons (Syntax.tyInt Syntax.w64) (Syntax.tcons (Syntax.tyInt
-      Syntax.w64) (Syntax.tcons (Syntax.tyInt Syntax.w64) Syntax.tnil)))))),
-) ∷ (6, Rows.any-gone (Syntax.tyInt Syntax.w64)) ∷ (
-  7,
+      Syntax.w64) (Syntax.tcons (Syntax.tyInt Syntax.w64) (Syntax.tcons (Syntax.tyInt Syntax.w64) Syntax.tnil))))))),
+) ∷ (
+  6,
   Rows.any-gone (Syntax.tyInt
       Syntax.w64),
-) ∷ (8, Rows.sc-here (Row.sInt Syntax.w64)) ∷ (
+) ∷ (7, Rows.any-gone (Syntax.tyInt Syntax.w64)) ∷ (8, Rows.sc-here (Row.sInt Syntax.w64)) ∷ (
   9,
-  Rows.any-gone (Syntax.tyStruct (102 ∷ 114 ∷ 97 ∷ 103 ∷ 109 ∷ 101 ∷ 110 ∷ 116 ∷ 115 ∷ 58 ∷ 58 ∷
-      70 ∷ 114 ∷ 111 ∷ 109 ∷ 76 ∷ 97 ∷ 115 ∷ 116 ∷ []) (Syntax.tcons (Syntax.tyInt Syntax.w64) Syntax.tnil)),
-) ∷ (10, Rows.sc-here (Row.sInt Syntax.w8)) ∷ (
-  11,
-  Rows.any-gone (Syntax.tyRef Syntax.erased Syntax.imm SlotAs.pointee),
-) ∷ (
-  12,
-  Rows.any-gone (Syntax.tyStruct (38 ∷ 91 ∷ 93 ∷ []) (Syntax.tcons (Syntax.tyRef
-      Syntax.erased Syntax.imm SlotAs.pointee) (Syntax.tcons (Syntax.tyInt Syntax.w64) Syntax.tnil))),
-) ∷ (13, Rows.any-gone Syntax.tyBool) ∷ (
-  14,
-  Rows.any-gone
-      (Syntax.tyInt Syntax.w64),
-) ∷ (15, Rows.any-gone (Syntax.tyInt Syntax.w64)) ∷ []
+  Rows.any-gone (Syntax.tyStruct (102 ∷ 114 ∷ 97
+      ∷ 103 ∷ 109 ∷ 101 ∷ 110 ∷ 116 ∷ 115 ∷ 58 ∷ 58 ∷ 70 ∷ 114 ∷ 111 ∷ 109 ∷ 76 ∷ 97 ∷ 115 ∷ 116 ∷ []) (Syntax.tcons (Syntax.tyInt Syntax.w64) Syntax.tnil)),
+) ∷
+    (10, Rows.sc-here (Row.sInt Syntax.w8)) ∷ (11, Rows.any-gone (Syntax.tyRef Syntax.erased Syntax.imm SlotAs.pointee)) ∷ (
+      12,
+      Rows.any-gone (Syntax.tyStruct
+          (38 ∷ 91 ∷ 93 ∷ []) (Syntax.tcons (Syntax.tyRef Syntax.erased Syntax.imm SlotAs.pointee) (Syntax.tcons (Syntax.tyInt Syntax.w64) Syntax.tnil))),
+    ) ∷ (
+      13,
+      Rows.any-gone Syntax.tyBool,
+    ) ∷ (14, Rows.any-gone (Syntax.tyInt Syntax.w64)) ∷ (15, Rows.any-gone (Syntax.tyInt Syntax.w64)) ∷ []
 
 abbrev pub t52 : List.List Row.Entry
 t52 = (0, Rows.sc-here (Row.sInt Syntax.w8)) ∷ (
@@ -1931,24 +1917,22 @@ t52 = (0, Rows.sc-here (Row.sInt Syntax.w8)) ∷ (
   5,
   Rows.any-gone (Syntax.tyStruct (115 ∷ 116 ∷ 111 ∷ 114 ∷ 101 ∷ 58 ∷ 58 ∷ 72 ∷ 101 ∷ 108 ∷ 100
       ∷ []) (Syntax.tcons (Syntax.tyInt Syntax.w8) (Syntax.tcons (Syntax.tyInt Syntax.w64) (Syntax.tcons (Syntax.tyInt Syntax.w64) (Syntax.tcons (Syntax.tyInt
-      Syntax.w64) (Syntax.tcons (Syntax.tyInt Syntax.w64) Syntax.tnil)))))),
-) ∷ (6, Rows.any-gone (Syntax.tyInt Syntax.w64)) ∷ (
-  7,
+      Syntax.w64) (Syntax.tcons (Syntax.tyInt Syntax.w64) (Syntax.tcons (Syntax.tyInt Syntax.w64) Syntax.tnil))))))),
+) ∷ (
+  6,
   Rows.any-gone (Syntax.tyInt
       Syntax.w64),
-) ∷ (8, Rows.any-gone (Syntax.tyInt Syntax.w64)) ∷ (
+) ∷ (7, Rows.any-gone (Syntax.tyInt Syntax.w64)) ∷ (8, Rows.any-gone (Syntax.tyInt Syntax.w64)) ∷ (
   9,
-  Rows.any-gone (Syntax.tyStruct (102 ∷ 114 ∷ 97 ∷ 103 ∷ 109 ∷ 101 ∷ 110 ∷ 116 ∷ 115 ∷ 58 ∷
-      58 ∷ 70 ∷ 114 ∷ 111 ∷ 109 ∷ 76 ∷ 97 ∷ 115 ∷ 116 ∷ []) (Syntax.tcons (Syntax.tyInt Syntax.w64) Syntax.tnil)),
-) ∷ (10, Rows.sc-here (Row.sInt Syntax.w8)) ∷
-    (11, Rows.any-gone (Syntax.tyRef Syntax.erased Syntax.imm SlotAs.pointee)) ∷ (
-      12,
-      Rows.any-gone (Syntax.tyStruct (38 ∷ 91 ∷ 93 ∷ []) (Syntax.tcons
-          (Syntax.tyRef Syntax.erased Syntax.imm SlotAs.pointee) (Syntax.tcons (Syntax.tyInt Syntax.w64) Syntax.tnil))),
-    ) ∷ (13, Rows.any-gone Syntax.tyBool) ∷ (
-      14,
-      Rows.any-gone (Syntax.tyInt Syntax.w64),
-    ) ∷ (15, Rows.any-gone (Syntax.tyInt Syntax.w64)) ∷ []
+  Rows.any-gone (Syntax.tyStruct (102 ∷ 114
+      ∷ 97 ∷ 103 ∷ 109 ∷ 101 ∷ 110 ∷ 116 ∷ 115 ∷ 58 ∷ 58 ∷ 70 ∷ 114 ∷ 111 ∷ 109 ∷ 76 ∷ 97 ∷ 115 ∷ 116 ∷ []) (Syntax.tcons (Syntax.tyInt Syntax.w64)
+      Syntax.tnil)),
+) ∷ (10, Rows.sc-here (Row.sInt Syntax.w8)) ∷ (11, Rows.any-gone (Syntax.tyRef Syntax.erased Syntax.imm SlotAs.pointee)) ∷ (
+  12,
+  Rows.any-gone
+      (Syntax.tyStruct (38 ∷ 91 ∷ 93 ∷ []) (Syntax.tcons (Syntax.tyRef Syntax.erased Syntax.imm SlotAs.pointee) (Syntax.tcons (Syntax.tyInt Syntax.w64)
+      Syntax.tnil))),
+) ∷ (13, Rows.any-gone Syntax.tyBool) ∷ (14, Rows.any-gone (Syntax.tyInt Syntax.w64)) ∷ (15, Rows.any-gone (Syntax.tyInt Syntax.w64)) ∷ []
 
 abbrev pub T0 : Row.Cx
 T0 = record { locals = List._++_ t0 t1; slots = [] }
@@ -2219,7 +2203,8 @@ module _ (claims· : Claims) where
     (record { pos = 12; ty = Syntax.tyRef Syntax.erased Syntax.imm SlotAs.pointee; ref = λ x. x }, tt),
   ) 5 (0 ∷ 2 ∷ []) (Syntax.tyStruct (115 ∷ 116 ∷
       111 ∷ 114 ∷ 101 ∷ 58 ∷ 58 ∷ 72 ∷ 101 ∷ 108 ∷ 100 ∷ []) (Syntax.tcons (Syntax.tyInt Syntax.w8) (Syntax.tcons (Syntax.tyInt Syntax.w64) (Syntax.tcons
-      (Syntax.tyInt Syntax.w64) (Syntax.tcons (Syntax.tyInt Syntax.w64) (Syntax.tcons (Syntax.tyInt Syntax.w64) Syntax.tnil))))))
+      (Syntax.tyInt Syntax.w64) (Syntax.tcons (Syntax.tyInt Syntax.w64) (Syntax.tcons (Syntax.tyInt Syntax.w64) (Syntax.tcons (Syntax.tyInt Syntax.w64)
+      Syntax.tnil)))))))
 
   abbrev s5 : Typed.Mo T6 → Typed.Mo T7
   s5 = Scalar.n-room T6 12 (Syntax.tyStruct (38 ∷ 91 ∷ 93 ∷ []) (Syntax.tcons (Syntax.tyRef Syntax.erased Syntax.imm SlotAs.pointee) (Syntax.tcons
@@ -2249,7 +2234,7 @@ module _ (claims· : Claims) where
   abbrev s14 : Typed.Mo T16 → Typed.Mo T17
   s14 = Scalar.n-room T16 5 (Syntax.tyStruct (115 ∷ 116 ∷ 111 ∷ 114 ∷ 101 ∷ 58 ∷ 58 ∷ 72 ∷ 101 ∷ 108 ∷ 100 ∷ []) (Syntax.tcons (Syntax.tyInt Syntax.w8)
       (Syntax.tcons (Syntax.tyInt Syntax.w64) (Syntax.tcons (Syntax.tyInt Syntax.w64) (Syntax.tcons (Syntax.tyInt Syntax.w64) (Syntax.tcons (Syntax.tyInt
-      Syntax.w64) Syntax.tnil))))))
+      Syntax.w64) (Syntax.tcons (Syntax.tyInt Syntax.w64) Syntax.tnil)))))))
 
   abbrev s15 : Typed.Mo T17 → Typed.Mo T18
   s15 = Scalar.n-room T17 4 Syntax.tyBool
@@ -2268,7 +2253,7 @@ module _ (claims· : Claims) where
   abbrev s19 : Typed.Mo T21 → Typed.Mo T22
   s19 = Scalar.n-room T21 5 (Syntax.tyStruct (115 ∷ 116 ∷ 111 ∷ 114 ∷ 101 ∷ 58 ∷ 58 ∷ 72 ∷ 101 ∷ 108 ∷ 100 ∷ []) (Syntax.tcons (Syntax.tyInt Syntax.w8)
       (Syntax.tcons (Syntax.tyInt Syntax.w64) (Syntax.tcons (Syntax.tyInt Syntax.w64) (Syntax.tcons (Syntax.tyInt Syntax.w64) (Syntax.tcons (Syntax.tyInt
-      Syntax.w64) Syntax.tnil))))))
+      Syntax.w64) (Syntax.tcons (Syntax.tyInt Syntax.w64) Syntax.tnil)))))))
 
   abbrev s20 : Typed.Gives T22 T23
   s20 = Know'.k-struct-known FragmentNumber.the-type Laws.the-laws T22 3 λ x. x
@@ -2778,27 +2763,28 @@ module _ (claims· : Claims) where
             5,
             Rows.any-gone (Syntax.tyStruct (115 ∷
                 116 ∷ 111 ∷ 114 ∷ 101 ∷ 58 ∷ 58 ∷ 72 ∷ 101 ∷ 108 ∷ 100 ∷ []) (Syntax.tcons (Syntax.tyInt Syntax.w8) (Syntax.tcons (Syntax.tyInt Syntax.w64)
-                (Syntax.tcons (Syntax.tyInt Syntax.w64) (Syntax.tcons (Syntax.tyInt Syntax.w64) (Syntax.tcons (Syntax.tyInt Syntax.w64) Syntax.tnil)))))),
-          ) ∷ (
-            6,
-            Rows.any-gone (Syntax.tyInt Syntax.w64),
-          ) ∷ (7, Rows.any-gone (Syntax.tyInt Syntax.w64)) ∷ (8, Rows.any-gone (Syntax.tyInt Syntax.w64)) ∷ (
-            9,
-            Rows.any-gone (Syntax.tyStruct (102 ∷ 114 ∷ 97 ∷ 103 ∷ 109 ∷ 101 ∷ 110 ∷ 116 ∷ 115 ∷ 58 ∷ 58 ∷ 70 ∷ 114 ∷ 111 ∷ 109 ∷ 76 ∷ 97 ∷ 115 ∷ 116 ∷ [])
-                (Syntax.tcons (Syntax.tyInt Syntax.w64) Syntax.tnil)),
-          ) ∷ (10, Rows.any-gone (Syntax.tyInt Syntax.w8)) ∷ (
-            11,
-            Relend.ssptr SlotAs.row (Syntax.tyRef
-                Syntax.erased Syntax.imm SlotAs.pointee) 2,
-          ) ∷ (
-            12,
-            Rows.any-gone (Syntax.tyStruct (38 ∷ 91 ∷ 93 ∷ []) (Syntax.tcons (Syntax.tyRef Syntax.erased
-                Syntax.imm SlotAs.pointee) (Syntax.tcons (Syntax.tyInt Syntax.w64) Syntax.tnil))),
-          ) ∷ (13, Rows.any-gone Syntax.tyBool) ∷ (
-            14,
+                (Syntax.tcons (Syntax.tyInt Syntax.w64) (Syntax.tcons (Syntax.tyInt Syntax.w64) (Syntax.tcons (Syntax.tyInt Syntax.w64) (Syntax.tcons (Syntax.tyInt
+                Syntax.w64) Syntax.tnil))))))),
+          ) ∷ (6, Rows.any-gone (Syntax.tyInt Syntax.w64)) ∷ (7, Rows.any-gone (Syntax.tyInt Syntax.w64)) ∷ (
+            8,
             Rows.any-gone
                 (Syntax.tyInt Syntax.w64),
-          ) ∷ (15, Rows.any-gone (Syntax.tyInt Syntax.w64)) ∷ []
+          ) ∷ (
+            9,
+            Rows.any-gone (Syntax.tyStruct (102 ∷ 114 ∷ 97 ∷ 103 ∷ 109 ∷ 101 ∷ 110 ∷ 116 ∷ 115 ∷ 58 ∷ 58 ∷ 70 ∷ 114 ∷ 111 ∷
+                109 ∷ 76 ∷ 97 ∷ 115 ∷ 116 ∷ []) (Syntax.tcons (Syntax.tyInt Syntax.w64) Syntax.tnil)),
+          ) ∷ (10, Rows.any-gone (Syntax.tyInt Syntax.w8)) ∷ (
+            11,
+            Relend.ssptr SlotAs.row (Syntax.tyRef Syntax.erased Syntax.imm SlotAs.pointee) 2,
+          ) ∷ (
+            12,
+            Rows.any-gone (Syntax.tyStruct (38 ∷ 91 ∷ 93 ∷ [])
+                (Syntax.tcons (Syntax.tyRef Syntax.erased Syntax.imm SlotAs.pointee) (Syntax.tcons (Syntax.tyInt Syntax.w64) Syntax.tnil))),
+          ) ∷ (
+            13,
+            Rows.any-gone
+                Syntax.tyBool,
+          ) ∷ (14, Rows.any-gone (Syntax.tyInt Syntax.w64)) ∷ (15, Rows.any-gone (Syntax.tyInt Syntax.w64)) ∷ []
 
           abbrev g4 : List.List Row.Entry
           g4 = (0, Rows.any-gone (Syntax.tyInt Syntax.w8)) ∷ (
@@ -2813,22 +2799,28 @@ module _ (claims· : Claims) where
             5,
             Rows.any-gone (Syntax.tyStruct (115 ∷
                 116 ∷ 111 ∷ 114 ∷ 101 ∷ 58 ∷ 58 ∷ 72 ∷ 101 ∷ 108 ∷ 100 ∷ []) (Syntax.tcons (Syntax.tyInt Syntax.w8) (Syntax.tcons (Syntax.tyInt Syntax.w64)
-                (Syntax.tcons (Syntax.tyInt Syntax.w64) (Syntax.tcons (Syntax.tyInt Syntax.w64) (Syntax.tcons (Syntax.tyInt Syntax.w64) Syntax.tnil)))))),
+                (Syntax.tcons (Syntax.tyInt Syntax.w64) (Syntax.tcons (Syntax.tyInt Syntax.w64) (Syntax.tcons (Syntax.tyInt Syntax.w64) (Syntax.tcons (Syntax.tyInt
+                Syntax.w64) Syntax.tnil))))))),
+          ) ∷ (6, Rows.any-gone (Syntax.tyInt Syntax.w64)) ∷ (7, Rows.any-gone (Syntax.tyInt Syntax.w64)) ∷ (
+            8,
+            Rows.any-gone
+                (Syntax.tyInt Syntax.w64),
           ) ∷ (
-            6,
-            Rows.any-gone (Syntax.tyInt Syntax.w64),
-          ) ∷ (7, Rows.any-gone (Syntax.tyInt Syntax.w64)) ∷ (8, Rows.any-gone (Syntax.tyInt Syntax.w64)) ∷ (
             9,
-            Rows.any-gone (Syntax.tyStruct (102 ∷ 114 ∷ 97 ∷ 103 ∷ 109 ∷ 101 ∷ 110 ∷ 116 ∷ 115 ∷ 58 ∷ 58 ∷ 70 ∷ 114 ∷ 111 ∷ 109 ∷ 76 ∷ 97 ∷ 115 ∷ 116 ∷ [])
-                (Syntax.tcons (Syntax.tyInt Syntax.w64) Syntax.tnil)),
+            Rows.any-gone (Syntax.tyStruct (102 ∷ 114 ∷ 97 ∷ 103 ∷ 109 ∷ 101 ∷ 110 ∷ 116 ∷ 115 ∷ 58 ∷ 58 ∷ 70 ∷ 114 ∷ 111 ∷
+                109 ∷ 76 ∷ 97 ∷ 115 ∷ 116 ∷ []) (Syntax.tcons (Syntax.tyInt Syntax.w64) Syntax.tnil)),
           ) ∷ (10, Rows.any-gone (Syntax.tyInt Syntax.w8)) ∷ (
             11,
-            Rows.any-gone (Syntax.tyRef
-                Syntax.erased Syntax.imm SlotAs.pointee),
-          ) ∷ (12, Rows.sslice SlotAs.row (Syntax.tyRef Syntax.erased Syntax.imm SlotAs.pointee) 2) ∷ (
-            13,
-            Rows.any-gone Syntax.tyBool,
-          ) ∷ (14, Rows.any-gone (Syntax.tyInt Syntax.w64)) ∷ (15, Rows.any-gone (Syntax.tyInt Syntax.w64)) ∷ []
+            Rows.any-gone (Syntax.tyRef Syntax.erased Syntax.imm SlotAs.pointee),
+          ) ∷ (
+            12,
+            Rows.sslice SlotAs.row (Syntax.tyRef Syntax.erased Syntax.imm
+                SlotAs.pointee) 2,
+          ) ∷ (13, Rows.any-gone Syntax.tyBool) ∷ (14, Rows.any-gone (Syntax.tyInt Syntax.w64)) ∷ (
+            15,
+            Rows.any-gone (Syntax.tyInt
+                Syntax.w64),
+          ) ∷ []
 
           abbrev g5 : List.List Row.Entry
           g5 = (0, Rows.any-gone (Syntax.tyInt Syntax.w8)) ∷ (
@@ -2910,21 +2902,18 @@ module _ (claims· : Claims) where
             Rows.any-gone
                 (Syntax.tyStruct (115 ∷ 116 ∷ 111 ∷ 114 ∷ 101 ∷ 58 ∷ 58 ∷ 72 ∷ 101 ∷ 108 ∷ 100 ∷ []) (Syntax.tcons (Syntax.tyInt Syntax.w8) (Syntax.tcons
                 (Syntax.tyInt Syntax.w64) (Syntax.tcons (Syntax.tyInt Syntax.w64) (Syntax.tcons (Syntax.tyInt Syntax.w64) (Syntax.tcons (Syntax.tyInt Syntax.w64)
-                Syntax.tnil)))))),
-          ) ∷ (6, Rows.sc-here (Row.sInt Syntax.w64)) ∷ (7, Rows.sc-here (Row.sInt Syntax.w64)) ∷ (8, Rows.sc-here (Row.sInt Syntax.w64)) ∷
-              (9, Rows.whole (Declared.row (Apart.apartT FromLast.the-type))) ∷ (10, Rows.sc-here (Row.sInt Syntax.w8)) ∷ (
-                11,
-                Rows.any-gone (Syntax.tyRef
-                    Syntax.erased Syntax.imm SlotAs.pointee),
-              ) ∷ (
+                (Syntax.tcons (Syntax.tyInt Syntax.w64) Syntax.tnil))))))),
+          ) ∷ (6, Rows.sc-here (Row.sInt Syntax.w64)) ∷ (7, Rows.sc-here (Row.sInt Syntax.w64)) ∷
+              (8, Rows.sc-here (Row.sInt Syntax.w64)) ∷ (9, Rows.whole (Declared.row (Apart.apartT FromLast.the-type))) ∷ (10, Rows.sc-here (Row.sInt Syntax.w8))
+              ∷ (11, Rows.any-gone (Syntax.tyRef Syntax.erased Syntax.imm SlotAs.pointee)) ∷ (
                 12,
-                Rows.any-gone (Syntax.tyStruct (38 ∷ 91 ∷ 93 ∷ []) (Syntax.tcons (Syntax.tyRef Syntax.erased
-                    Syntax.imm SlotAs.pointee) (Syntax.tcons (Syntax.tyInt Syntax.w64) Syntax.tnil))),
-              ) ∷ (13, Rows.any-gone Syntax.tyBool) ∷ (
-                14,
+                Rows.any-gone (Syntax.tyStruct (38 ∷ 91 ∷ 93 ∷ [])
+                    (Syntax.tcons (Syntax.tyRef Syntax.erased Syntax.imm SlotAs.pointee) (Syntax.tcons (Syntax.tyInt Syntax.w64) Syntax.tnil))),
+              ) ∷ (
+                13,
                 Rows.any-gone
-                    (Syntax.tyInt Syntax.w64),
-              ) ∷ (15, Rows.any-gone (Syntax.tyInt Syntax.w64)) ∷ []
+                    Syntax.tyBool,
+              ) ∷ (14, Rows.any-gone (Syntax.tyInt Syntax.w64)) ∷ (15, Rows.any-gone (Syntax.tyInt Syntax.w64)) ∷ []
 
           abbrev g32 : List.List Row.Entry
           g32 = (0, Rows.any-gone (Syntax.tyInt Syntax.w8)) ∷ (
@@ -2944,21 +2933,17 @@ module _ (claims· : Claims) where
             Rows.any-gone
                 (Syntax.tyStruct (115 ∷ 116 ∷ 111 ∷ 114 ∷ 101 ∷ 58 ∷ 58 ∷ 72 ∷ 101 ∷ 108 ∷ 100 ∷ []) (Syntax.tcons (Syntax.tyInt Syntax.w8) (Syntax.tcons
                 (Syntax.tyInt Syntax.w64) (Syntax.tcons (Syntax.tyInt Syntax.w64) (Syntax.tcons (Syntax.tyInt Syntax.w64) (Syntax.tcons (Syntax.tyInt Syntax.w64)
-                Syntax.tnil)))))),
-          ) ∷ (6, Rows.sc-here (Row.sInt Syntax.w64)) ∷ (7, Rows.sc-here (Row.sInt Syntax.w64)) ∷ (8, Rows.sc-here (Row.sInt Syntax.w64)) ∷
-              (9, Rows.whole (Declared.row FromLast.the-type)) ∷ (10, Rows.sc-here (Row.sInt Syntax.w8)) ∷ (
+                (Syntax.tcons (Syntax.tyInt Syntax.w64) Syntax.tnil))))))),
+          ) ∷ (6, Rows.sc-here (Row.sInt Syntax.w64)) ∷ (7, Rows.sc-here (Row.sInt Syntax.w64)) ∷
+              (8, Rows.sc-here (Row.sInt Syntax.w64)) ∷ (9, Rows.whole (Declared.row FromLast.the-type)) ∷ (10, Rows.sc-here (Row.sInt Syntax.w8)) ∷ (
                 11,
-                Rows.any-gone (Syntax.tyRef Syntax.erased
-                    Syntax.imm SlotAs.pointee),
+                Rows.any-gone (Syntax.tyRef Syntax.erased Syntax.imm SlotAs.pointee),
               ) ∷ (
                 12,
-                Rows.any-gone (Syntax.tyStruct (38 ∷ 91 ∷ 93 ∷ []) (Syntax.tcons (Syntax.tyRef Syntax.erased Syntax.imm
-                    SlotAs.pointee) (Syntax.tcons (Syntax.tyInt Syntax.w64) Syntax.tnil))),
-              ) ∷ (13, Rows.any-gone Syntax.tyBool) ∷ (
-                14,
-                Rows.any-gone (Syntax.tyInt
-                    Syntax.w64),
-              ) ∷ (15, Rows.any-gone (Syntax.tyInt Syntax.w64)) ∷ []
+                Rows.any-gone (Syntax.tyStruct (38 ∷ 91 ∷ 93 ∷ []) (Syntax.tcons
+                    (Syntax.tyRef Syntax.erased Syntax.imm SlotAs.pointee) (Syntax.tcons (Syntax.tyInt Syntax.w64) Syntax.tnil))),
+              ) ∷ (13, Rows.any-gone Syntax.tyBool)
+              ∷ (14, Rows.any-gone (Syntax.tyInt Syntax.w64)) ∷ (15, Rows.any-gone (Syntax.tyInt Syntax.w64)) ∷ []
 
           abbrev g44 : List.List Row.Entry
           g44 = (0, Rows.any-gone (Syntax.tyInt Syntax.w8)) ∷ (
@@ -2978,21 +2963,17 @@ module _ (claims· : Claims) where
             Rows.any-gone
                 (Syntax.tyStruct (115 ∷ 116 ∷ 111 ∷ 114 ∷ 101 ∷ 58 ∷ 58 ∷ 72 ∷ 101 ∷ 108 ∷ 100 ∷ []) (Syntax.tcons (Syntax.tyInt Syntax.w8) (Syntax.tcons
                 (Syntax.tyInt Syntax.w64) (Syntax.tcons (Syntax.tyInt Syntax.w64) (Syntax.tcons (Syntax.tyInt Syntax.w64) (Syntax.tcons (Syntax.tyInt Syntax.w64)
-                Syntax.tnil)))))),
-          ) ∷ (6, Rows.sc-here (Row.sInt Syntax.w64)) ∷ (7, Rows.sc-here (Row.sInt Syntax.w64)) ∷ (8, Rows.sc-here (Row.sInt Syntax.w64)) ∷
-              (9, Rows.whole (Declared.row FromLast.the-type)) ∷ (10, Rows.sc-here (Row.sInt Syntax.w8)) ∷ (
+                (Syntax.tcons (Syntax.tyInt Syntax.w64) Syntax.tnil))))))),
+          ) ∷ (6, Rows.sc-here (Row.sInt Syntax.w64)) ∷ (7, Rows.sc-here (Row.sInt Syntax.w64)) ∷
+              (8, Rows.sc-here (Row.sInt Syntax.w64)) ∷ (9, Rows.whole (Declared.row FromLast.the-type)) ∷ (10, Rows.sc-here (Row.sInt Syntax.w8)) ∷ (
                 11,
-                Rows.any-gone (Syntax.tyRef Syntax.erased
-                    Syntax.imm SlotAs.pointee),
+                Rows.any-gone (Syntax.tyRef Syntax.erased Syntax.imm SlotAs.pointee),
               ) ∷ (
                 12,
-                Rows.any-gone (Syntax.tyStruct (38 ∷ 91 ∷ 93 ∷ []) (Syntax.tcons (Syntax.tyRef Syntax.erased Syntax.imm
-                    SlotAs.pointee) (Syntax.tcons (Syntax.tyInt Syntax.w64) Syntax.tnil))),
-              ) ∷ (13, Rows.any-gone Syntax.tyBool) ∷ (
-                14,
-                Rows.any-gone (Syntax.tyInt
-                    Syntax.w64),
-              ) ∷ (15, Rows.any-gone (Syntax.tyInt Syntax.w64)) ∷ []
+                Rows.any-gone (Syntax.tyStruct (38 ∷ 91 ∷ 93 ∷ []) (Syntax.tcons
+                    (Syntax.tyRef Syntax.erased Syntax.imm SlotAs.pointee) (Syntax.tcons (Syntax.tyInt Syntax.w64) Syntax.tnil))),
+              ) ∷ (13, Rows.any-gone Syntax.tyBool)
+              ∷ (14, Rows.any-gone (Syntax.tyInt Syntax.w64)) ∷ (15, Rows.any-gone (Syntax.tyInt Syntax.w64)) ∷ []
 
           abbrev g48 : List.List Row.Entry
           g48 = (0, Rows.any-gone (Syntax.tyInt Syntax.w8)) ∷ (
@@ -3012,24 +2993,21 @@ module _ (claims· : Claims) where
             Rows.any-gone
                 (Syntax.tyStruct (115 ∷ 116 ∷ 111 ∷ 114 ∷ 101 ∷ 58 ∷ 58 ∷ 72 ∷ 101 ∷ 108 ∷ 100 ∷ []) (Syntax.tcons (Syntax.tyInt Syntax.w8) (Syntax.tcons
                 (Syntax.tyInt Syntax.w64) (Syntax.tcons (Syntax.tyInt Syntax.w64) (Syntax.tcons (Syntax.tyInt Syntax.w64) (Syntax.tcons (Syntax.tyInt Syntax.w64)
-                Syntax.tnil)))))),
-          ) ∷ (6, Rows.sc-here (Row.sInt Syntax.w64)) ∷ (7, Rows.sc-here (Row.sInt Syntax.w64)) ∷ (8, Rows.sc-here (Row.sInt Syntax.w64)) ∷ (
-            9,
-            Rows.any-gone (Syntax.tyStruct (102 ∷ 114 ∷ 97 ∷ 103 ∷ 109 ∷ 101 ∷ 110 ∷ 116 ∷ 115 ∷ 58 ∷ 58 ∷ 70 ∷ 114 ∷ 111 ∷ 109 ∷ 76 ∷ 97 ∷ 115 ∷ 116 ∷ [])
-                (Syntax.tcons (Syntax.tyInt Syntax.w64) Syntax.tnil)),
-          ) ∷ (10, Rows.sc-here (Row.sInt Syntax.w8)) ∷ (
-            11,
-            Rows.any-gone (Syntax.tyRef Syntax.erased
-                Syntax.imm SlotAs.pointee),
-          ) ∷ (
-            12,
-            Rows.any-gone (Syntax.tyStruct (38 ∷ 91 ∷ 93 ∷ []) (Syntax.tcons (Syntax.tyRef Syntax.erased Syntax.imm
-                SlotAs.pointee) (Syntax.tcons (Syntax.tyInt Syntax.w64) Syntax.tnil))),
-          ) ∷ (13, Rows.any-gone Syntax.tyBool) ∷ (
-            14,
-            Rows.any-gone (Syntax.tyInt
-                Syntax.w64),
-          ) ∷ (15, Rows.any-gone (Syntax.tyInt Syntax.w64)) ∷ []
+                (Syntax.tcons (Syntax.tyInt Syntax.w64) Syntax.tnil))))))),
+          ) ∷ (6, Rows.sc-here (Row.sInt Syntax.w64)) ∷ (7, Rows.sc-here (Row.sInt Syntax.w64)) ∷
+              (8, Rows.sc-here (Row.sInt Syntax.w64)) ∷ (
+                9,
+                Rows.any-gone (Syntax.tyStruct (102 ∷ 114 ∷ 97 ∷ 103 ∷ 109 ∷ 101 ∷ 110 ∷ 116 ∷ 115 ∷ 58 ∷ 58 ∷ 70 ∷
+                    114 ∷ 111 ∷ 109 ∷ 76 ∷ 97 ∷ 115 ∷ 116 ∷ []) (Syntax.tcons (Syntax.tyInt Syntax.w64) Syntax.tnil)),
+              ) ∷ (10, Rows.sc-here (Row.sInt Syntax.w8)) ∷ (
+                11,
+                Rows.any-gone (Syntax.tyRef Syntax.erased Syntax.imm SlotAs.pointee),
+              ) ∷ (
+                12,
+                Rows.any-gone (Syntax.tyStruct (38 ∷ 91 ∷ 93 ∷ []) (Syntax.tcons
+                    (Syntax.tyRef Syntax.erased Syntax.imm SlotAs.pointee) (Syntax.tcons (Syntax.tyInt Syntax.w64) Syntax.tnil))),
+              ) ∷ (13, Rows.any-gone Syntax.tyBool)
+              ∷ (14, Rows.any-gone (Syntax.tyInt Syntax.w64)) ∷ (15, Rows.any-gone (Syntax.tyInt Syntax.w64)) ∷ []
 
           abbrev G0 : Row.Cx
           G0 = record { locals = List._++_ t0 t1; slots = Row.lease (κs .0) (qs .0) ∷ Row.lease (κs .1 .0) (qs .1 .0) ∷ Row.off ∷ Row.off ∷ Row.off ∷ [] }
@@ -3319,10 +3297,11 @@ module _ (claims· : Claims) where
             d2 : Typed.Typed 𝓤 H A 𝓣 E G16 b5 Δ1 at2
             d2 = Typed.g-pre 𝓤 H A W 𝓣 E G16 G17 b5 Δ1 (Typed.pass T16 T17 s14) at1 (Scalar.g-room 𝓤 H A W E G16 5 (Syntax.tyStruct (115 ∷ 116 ∷ 111 ∷ 114 ∷ 101
                 ∷ 58 ∷ 58 ∷ 72 ∷ 101 ∷ 108 ∷ 100 ∷ []) (Syntax.tcons (Syntax.tyInt Syntax.w8) (Syntax.tcons (Syntax.tyInt Syntax.w64) (Syntax.tcons (Syntax.tyInt
-                Syntax.w64) (Syntax.tcons (Syntax.tyInt Syntax.w64) (Syntax.tcons (Syntax.tyInt Syntax.w64) Syntax.tnil)))))) (Local.room-whole 𝓤 H A W
-                (Declared.row Held.the-type) (Syntax.tyStruct (115 ∷ 116 ∷ 111 ∷ 114 ∷ 101 ∷ 58 ∷ 58 ∷ 72 ∷ 101 ∷ 108 ∷ 100 ∷ []) (Syntax.tcons (Syntax.tyInt
-                Syntax.w8) (Syntax.tcons (Syntax.tyInt Syntax.w64) (Syntax.tcons (Syntax.tyInt Syntax.w64) (Syntax.tcons (Syntax.tyInt Syntax.w64) (Syntax.tcons
-                (Syntax.tyInt Syntax.w64) Syntax.tnil)))))) Path'.refl)) d1
+                Syntax.w64) (Syntax.tcons (Syntax.tyInt Syntax.w64) (Syntax.tcons (Syntax.tyInt Syntax.w64) (Syntax.tcons (Syntax.tyInt Syntax.w64)
+                Syntax.tnil))))))) (Local.room-whole 𝓤 H A W (Declared.row Held.the-type) (Syntax.tyStruct (115 ∷ 116 ∷ 111 ∷ 114 ∷ 101 ∷ 58 ∷ 58 ∷ 72 ∷ 101 ∷
+                108 ∷ 100 ∷ []) (Syntax.tcons (Syntax.tyInt Syntax.w8) (Syntax.tcons (Syntax.tyInt Syntax.w64) (Syntax.tcons (Syntax.tyInt Syntax.w64)
+                (Syntax.tcons (Syntax.tyInt Syntax.w64) (Syntax.tcons (Syntax.tyInt Syntax.w64) (Syntax.tcons (Syntax.tyInt Syntax.w64) Syntax.tnil)))))))
+                Path'.refl)) d1
 
             d3 : Typed.Typed 𝓤 H A 𝓣 E G15 b6 Δ1 at3
             d3 = Typed.s-seq 𝓤 H A W 𝓣 E G15 G16 b4 b5 Δ1 (Typed.pass T15 T16 s13) at2 (Scalar.t-use 𝓤 H A W E 𝓣 G15 (Scalar.oFld 5 (Syntax.field 0 ∷ [])
@@ -3821,10 +3800,11 @@ module _ (claims· : Claims) where
             d82 : Typed.Typed 𝓤 H A 𝓣 E G21 b59 Δ0 at82
             d82 = Typed.g-pre 𝓤 H A W 𝓣 E G21 G22 b59 Δ0 (Typed.pass T21 T22 s19) at81 (Scalar.g-room 𝓤 H A W E G21 5 (Syntax.tyStruct (115 ∷ 116 ∷ 111 ∷ 114 ∷
                 101 ∷ 58 ∷ 58 ∷ 72 ∷ 101 ∷ 108 ∷ 100 ∷ []) (Syntax.tcons (Syntax.tyInt Syntax.w8) (Syntax.tcons (Syntax.tyInt Syntax.w64) (Syntax.tcons
-                (Syntax.tyInt Syntax.w64) (Syntax.tcons (Syntax.tyInt Syntax.w64) (Syntax.tcons (Syntax.tyInt Syntax.w64) Syntax.tnil)))))) (Local.room-whole 𝓤 H
-                A W (Declared.row Held.the-type) (Syntax.tyStruct (115 ∷ 116 ∷ 111 ∷ 114 ∷ 101 ∷ 58 ∷ 58 ∷ 72 ∷ 101 ∷ 108 ∷ 100 ∷ []) (Syntax.tcons (Syntax.tyInt
-                Syntax.w8) (Syntax.tcons (Syntax.tyInt Syntax.w64) (Syntax.tcons (Syntax.tyInt Syntax.w64) (Syntax.tcons (Syntax.tyInt Syntax.w64) (Syntax.tcons
-                (Syntax.tyInt Syntax.w64) Syntax.tnil)))))) Path'.refl)) d81
+                (Syntax.tyInt Syntax.w64) (Syntax.tcons (Syntax.tyInt Syntax.w64) (Syntax.tcons (Syntax.tyInt Syntax.w64) (Syntax.tcons (Syntax.tyInt Syntax.w64)
+                Syntax.tnil))))))) (Local.room-whole 𝓤 H A W (Declared.row Held.the-type) (Syntax.tyStruct (115 ∷ 116 ∷ 111 ∷ 114 ∷ 101 ∷ 58 ∷ 58 ∷ 72 ∷ 101 ∷
+                108 ∷ 100 ∷ []) (Syntax.tcons (Syntax.tyInt Syntax.w8) (Syntax.tcons (Syntax.tyInt Syntax.w64) (Syntax.tcons (Syntax.tyInt Syntax.w64)
+                (Syntax.tcons (Syntax.tyInt Syntax.w64) (Syntax.tcons (Syntax.tyInt Syntax.w64) (Syntax.tcons (Syntax.tyInt Syntax.w64) Syntax.tnil)))))))
+                Path'.refl)) d81
 
             d83 : Typed.Typed 𝓤 H A 𝓣 E G20 b60 Δ0 at83
             d83 = Typed.s-seq 𝓤 H A W 𝓣 E G20 G21 b10 b59 Δ0 (Typed.pass T20 T21 s18) at82 (Scalar.t-use 𝓤 H A W E 𝓣 G20 (Scalar.oFld 5 (Syntax.field 2 ∷ [])
@@ -3899,8 +3879,8 @@ module _ (claims· : Claims) where
                   ),
                 ) (Reads'.room-gone 𝓤 H A (Syntax.tyStruct (115 ∷ 116 ∷ 111 ∷
                 114 ∷ 101 ∷ 58 ∷ 58 ∷ 72 ∷ 101 ∷ 108 ∷ 100 ∷ []) (Syntax.tcons (Syntax.tyInt Syntax.w8) (Syntax.tcons (Syntax.tyInt Syntax.w64) (Syntax.tcons
-                (Syntax.tyInt Syntax.w64) (Syntax.tcons (Syntax.tyInt Syntax.w64) (Syntax.tcons (Syntax.tyInt Syntax.w64) Syntax.tnil))))))) (tt, (tt, tt))
-                Path'.refl) d91
+                (Syntax.tyInt Syntax.w64) (Syntax.tcons (Syntax.tyInt Syntax.w64) (Syntax.tcons (Syntax.tyInt Syntax.w64) (Syntax.tcons (Syntax.tyInt Syntax.w64)
+                Syntax.tnil)))))))) (tt, (tt, tt)) Path'.refl) d91
 
             d93 : Typed.Typed 𝓤 H A 𝓣 E G4 b65 Δ0 at93
             d93 = Typed.s-seq 𝓤 H A W 𝓣 E G4 G5 b1 b64 Δ0 (Typed.ask s3) at92 (Relend.t-sl-aggregate 𝓤 H A W E SlotAs.row 𝓣 (Relend.asShr SlotAs.row) G4 11 12 2

@@ -1,13 +1,10 @@
-use mathlib.Core.Path.{refl}
-use Rattle.store.proofs.Asides.{stays-spot, stays-bond, stays-other}
+use Rattle.store.proofs.Standing.{stays-spot, stays-bond, stays-other}
 -- `store::seeking::stays` meets its contract. `Proof/` has its derivation, written by tools/walk.py. Assumes nothing.
 mod Lts
 mod Tie
 use borrow.Author.Needs.{needs}
 use Rattle.store.proofs.seeking.stays.Statement.{statement}
 use Rattle.store.proofs.seeking.stays.Proof.Tie as tie
-use Rattle.store.proofs.Walked.seeking.stays.Reads as reads
-use Rattle.store.proofs.seeking.stays.Proof.Lts as lts
 
 is-coord-requires : tie.Need-is-coord-requires
 is-coord-requires c = search needs
@@ -24,11 +21,11 @@ is-conect-requires c = search needs
 conect-in-requires : tie.Need-conect-in-requires
 conect-in-requires c = search needs
 
-names-aside-requires : tie.Need-names-aside-requires
-names-aside-requires c = search needs
+bond-in-requires : tie.Need-bond-in-requires
+bond-in-requires c = search needs
 
 returns-2 : tie.Need-returns-2
-returns-2 c = λ r. stays-bond _ _ _ _ (c .before .before .before .before .before .before .is-coord .ensures) (c .before .before .before .before .before .if1 .left) _ (c .before .before .before .before .is-conect .ensures) (c .before .before .before .if2 .taken) _ (c .before .before .conect-in .ensures) _ (c .before .names-aside .ensures r) _ refl
+returns-2 c = λ r. stays-bond _ _ _ _ (c .before .before .before .before .before .is-coord .ensures) (c .before .before .before .before .if1 .left) _ (c .before .before .before .is-conect .ensures) (c .before .before .if2 .taken) _ (c .before .conect-in .ensures) _ (c .bond-in .ensures r)
 
 returns-3 : tie.Need-returns-3
 returns-3 c = λ r. stays-other _ _ _ _ (c .before .before .before .is-coord .ensures) (c .before .before .if1 .left) _ (c .before .is-conect .ensures) (c .if2 .left)
@@ -42,6 +39,6 @@ stays-spec =
     returns
     is-conect-requires
     conect-in-requires
-    names-aside-requires
+    bond-in-requires
     returns-2
     returns-3)

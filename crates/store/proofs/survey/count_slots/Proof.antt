@@ -5,15 +5,16 @@ use Prim.Native.Nat.{_+_, _*_, _-_, _≤_}
 use lib.ListN.{length}
 use Rattle.gate.specs.declared.Verdict.{Verdict}
 use Rattle.gate.specs.Gate.{refusedOf}
-use Rattle.gate.proofs.Sofar.{Sofar, sofar-start, sofar-rising, sofar-done, turn-refused, turn-next, turn-watched, watched-on}
+use Rattle.gate.proofs.Sofar.{Sofar, sofar-start, sofar-rising, sofar-reached, sofar-done, turn-refused, turn-next, turn-watched, watched-on}
 use Rattle.trail.specs.Trail.{Watched}
+use Rattle.slots.specs.Slots.{noModel}
 use Rattle.table.specs.Table.{linesFrom, slotsOf, loadedOf}
 use Rattle.store.proofs.Lines.{need-step, need-done}
 use Rattle.store.proofs.survey.count_slots.Statement.{statement}
 use Rattle.store.proofs.survey.count_slots.Tie as tie
 
 abbrev Inv-loop : tie.InvT-loop
-Inv-loop text i₀ c₀ k₀ i c k = Sofar text i (c .past .block) (c .state) × (k + length (slotsOf (linesFrom text i)) ≡ length (loadedOf text)) × (k ≤ i) × Watched text (c .past .block) (c .watch)
+Inv-loop text i₀ c₀ k₀ i c k = Sofar text i (c .past) (c .state) × (k + length (slotsOf noModel (linesFrom text i)) ≡ length (loadedOf text)) × (k ≤ i) × Watched text (c .past .block) (c .watch)
 
 abbrev μ-loop : tie.MeasureT-loop
 μ-loop text i₀ c₀ k₀ i c k = length text - 81 * i
@@ -22,7 +23,7 @@ start-requires : tie.Need-start-requires Inv-loop μ-loop
 start-requires c κs = tt
 
 loop-holds : tie.Need-loop-holds Inv-loop μ-loop
-loop-holds c = (rw (c .start .ensures .0 .0, c .start .ensures .0 .1) (sofar-start _), omega arith, omega arith, watched-on _ _ _ _ (c .start .ensures .0 .1) (c .start .ensures .1 _))
+loop-holds c = (sofar-start _ _ _ (c .start .ensures .0 .0) (c .start .ensures .0 .1) (c .start .ensures .0 .2), omega arith, omega arith, watched-on _ _ _ _ (c .start .ensures .0 .1) (c .start .ensures .1 _))
 
 mul-loop : tie.Need-mul-loop Inv-loop μ-loop
 mul-loop c = omega (arith, c .loop .inv .0 .within)
@@ -31,12 +32,12 @@ line-at-requires : tie.Need-line-at-requires Inv-loop μ-loop
 line-at-requires c κs = omega arith
 
 turn-requires : tie.Need-turn-requires Inv-loop μ-loop
-turn-requires c κs = ((c .before .loop-test .taken, c .line-at .ensures), (sofar-rising _ _ _ _ (c .before .before .loop .inv .0), (c .before .before .loop .inv .3, (search needs, (omega (arith, c .before .before .loop .inv .0 .lines), omega (arith, c .before .before .loop .inv .0 .within))))))
+turn-requires c κs = ((c .before .loop-test .taken, c .line-at .ensures), ((sofar-rising _ _ _ _ (c .before .before .loop .inv .0), sofar-reached _ _ _ _ (c .before .before .loop .inv .0)), (c .before .before .loop .inv .3, (search needs, (omega (arith, c .before .before .loop .inv .0 .lines), omega (arith, c .before .before .loop .inv .0 .within))))))
 
 returns : tie.Need-returns Inv-loop μ-loop
 unfolding refusedOf
 returns c = (
-  ap (λ (v : Verdict). v .number) (turn-refused _ _ _ _ (c .before .before .before .before .loop .inv .0) (c .before .before .before .loop-test .taken) _ _ (c .before .before .line-at .ensures) (c .before .turn .ensures .0 _ _ (c .before .before .before .before .loop .inv .0 .block)) (c .if1 .taken)),
+  ap (λ (v : Verdict). v .number) (turn-refused _ _ _ _ (c .before .before .before .before .loop .inv .0) (c .before .before .before .loop-test .taken) _ _ (c .before .before .line-at .ensures) (c .before .turn .ensures .0 _ _ (c .before .before .before .before .loop .inv .0 .block) (c .before .before .before .before .loop .inv .0 .behind)) (c .if1 .taken)),
   λ z. absurd (c .if1 .taken z),
 )
 
@@ -57,10 +58,10 @@ loop-again c =
     let S = c .before .before .before .before .before .before .loop .inv in
     let h = c .before .before .before .before .before .loop-test .taken in
     let el = c .before .before .before .before .line-at .ensures in
-    let n = c .before .before .before .turn .ensures .0 _ _ (S .0 .block) in
+    let n = c .before .before .before .turn .ensures .0 _ _ (S .0 .block) (S .0 .behind) in
     let z = c .before .before .if1 .left in
     let e = c .before .before .before .turn .ensures .1 .0 z in (
-      turn-next _ _ _ _ (S .0) h _ _ el n z _ (e .1) _ (e .0),
+      turn-next _ _ _ _ (S .0) h _ _ el n z _ (record { block = e .1; earlier = e .2 }) _ (e .0),
       rw (c .one-of .ensures .0) (need-step _ _ _ _ _ h el (S .1)),
       omega (arith, S .2, c .one-of .ensures .1),
       turn-watched _ _ _ _ (S .0) h _ _ el n z _ (c .before .before .before .turn .ensures .1 .1 z) _ (e .1),

@@ -44,12 +44,13 @@ module _ (κs : Lifetimes.Lfts 2) where
 
   abbrev pub ensures-1·read : (a : World.ArgsD count_line.signature κs) → (g : Ghost) → (r : World.ResD count_line.signature κs) → (s : Clauses.AtExit
       (Kinds'.endedOf 2 Kinds.ps Kinds.r) κs) → Read.Read (Base a) (Owned r s) λ w. count_line.ensures-1 (w .𝓤) (w .H) κs (w .𝓖 .A) (w .𝓜 .mem) (w .𝓡 .run) (a
-      .0) (a .1 .0) record { entry = a .0; exit = s .0 } record { entry = a .1 .0; exit = s .1 .0 } r
-  ensures-1·read = λ a g r s. Read.all-models (λ w. count_line.ensures-1 (w .𝓤) (w .H) κs (w .𝓖 .A) (w .𝓜 .mem) (w .𝓡 .run) (a .0) (a .1 .0) record {
-    entry = a
-        .0;
-    exit = s .0;
-  } record { entry = a .1 .0; exit = s .1 .0 } r) (λ w. search Read.reads) (λ w. Path'.refl) (λ w. Path'.refl) λ w. Path'.refl
+      .0) (a .1 .0) (a .1 .1 .0) record { entry = a .0; exit = s .0 } record { entry = a .1 .0; exit = s .1 .0 } record {
+        entry = a .1 .1 .0;
+        exit = s .1 .1 .0;
+      } r
+  ensures-1·read = λ a g r s. Read.all-models (λ w. count_line.ensures-1 (w .𝓤) (w .H) κs (w .𝓖 .A) (w .𝓜 .mem) (w .𝓡 .run) (a .0) (a .1 .0) (a .1 .1 .0)
+      record { entry = a .0; exit = s .0 } record { entry = a .1 .0; exit = s .1 .0 } record { entry = a .1 .1 .0; exit = s .1 .1 .0 } r) (λ w. search
+      Read.reads) (λ w. Path'.refl) (λ w. Path'.refl) λ w. Path'.refl
 
   abbrev pub post-read : (a : World.ArgsD count_line.signature κs) → (g : Ghost) → (r : World.ResD count_line.signature κs) → (s : Clauses.AtExit
       (Kinds'.endedOf 2 Kinds.ps Kinds.r) κs) → Read.Read (Base a) (Owned r s) (ensures a g r s)

@@ -10,6 +10,7 @@ use borrow.Fn.Frame
 use borrow.Fn.Function
 use borrow.Fn.Kinds
 use borrow.Fn.Plain
+use borrow.Kind.Bool
 use borrow.Kind.Num
 use borrow.Kind.ShrSlice
 use borrow.Rule.DerefMove
@@ -38,7 +39,7 @@ use prog.Wp
 use types.Kit
 
 abbrev pub ps : List.List (Kinds.PK 2)
-ps = Kinds.pMut TallyAs.row 0 tt ∷ ShrSlice.pShrS (Referent.rtF (Referent.fInt Syntax.w8)) 1 tt ∷ []
+ps = Kinds.pMut TallyAs.row 0 tt ∷ ShrSlice.pShrS (Referent.rtF (Referent.fInt Syntax.w8)) 1 tt ∷ Bool.pBool ∷ []
 
 abbrev pub r : Kinds.RK 2
 r = Num.rNum Syntax.w8
@@ -50,7 +51,7 @@ abbrev pub m : Nat.ℕ
 m = 0
 
 abbrev pub ps·0 : List.List (Kinds.PK 1)
-ps·0 = TallyAs.param ∷ ShrSlice.pShrS (Referent.rtF (Referent.fInt Syntax.w8)) 0 tt ∷ []
+ps·0 = TallyAs.param ∷ ShrSlice.pShrS (Referent.rtF (Referent.fInt Syntax.w8)) 0 tt ∷ Bool.pBool ∷ []
 
 abbrev pub r·0 : Kinds.RK 1
 r·0 = CountedAs.result
@@ -68,22 +69,23 @@ abbrev pub r·2 : Kinds.RK 0
 r·2 = Num.rNum Syntax.w8
 
 abbrev pub hs : List.List Syntax.Home
-hs = Syntax.valueLocal ∷ Syntax.valueLocal ∷ Syntax.valueLocal ∷ Syntax.valueLocal ∷ Syntax.valueLocal ∷ []
+hs = Syntax.valueLocal ∷ Syntax.valueLocal ∷ Syntax.valueLocal ∷ Syntax.valueLocal ∷ Syntax.valueLocal ∷ Syntax.valueLocal ∷ []
 
 abbrev b0 : Syntax.Body
-b0 = Syntax.assign (Syntax.place 4 []) (Syntax.rvOpd (Syntax.copy (Syntax.place 1 (Syntax.deref TallyAs.ty ∷ []))))
+b0 = Syntax.assign (Syntax.place 5 []) (Syntax.rvOpd (Syntax.copy (Syntax.place 1 (Syntax.deref TallyAs.ty ∷ []))))
 
 abbrev b1 : Syntax.Body
-b1 = Syntax.call "tally::tally_after" (Syntax.copy (Syntax.place 4 []) ∷ Syntax.copy (Syntax.place 2 []) ∷ []) (Syntax.place 3 [])
+b1 = Syntax.call "tally::tally_after" (Syntax.copy (Syntax.place 5 []) ∷ Syntax.copy (Syntax.place 2 []) ∷ Syntax.copy (Syntax.place 3 []) ∷ [])
+    (Syntax.place 4 [])
 
 abbrev b2 : Syntax.Body
-b2 = Syntax.call "tally::tally_of" (Syntax.copy (Syntax.place 3 []) ∷ []) (Syntax.place 4 [])
+b2 = Syntax.call "tally::tally_of" (Syntax.copy (Syntax.place 4 []) ∷ []) (Syntax.place 5 [])
 
 abbrev b3 : Syntax.Body
-b3 = Syntax.assign (Syntax.place 1 (Syntax.deref TallyAs.ty ∷ [])) (Syntax.rvOpd (Syntax.copy (Syntax.place 4 [])))
+b3 = Syntax.assign (Syntax.place 1 (Syntax.deref TallyAs.ty ∷ [])) (Syntax.rvOpd (Syntax.copy (Syntax.place 5 [])))
 
 abbrev b4 : Syntax.Body
-b4 = Syntax.call "tally::number_of" (Syntax.copy (Syntax.place 3 []) ∷ []) (Syntax.place 0 [])
+b4 = Syntax.call "tally::number_of" (Syntax.copy (Syntax.place 4 []) ∷ []) (Syntax.place 0 [])
 
 abbrev b5 : Syntax.Body
 b5 = Syntax.return
@@ -114,60 +116,70 @@ t0 = (0, Rows'.any-gone (Syntax.tyInt Syntax.w8)) ∷ (1, Rows'.mref TallyAs.row
   2,
   Rows'.sslice
       (Referent.rtF (Referent.fInt Syntax.w8)) (Syntax.tyRef (Syntax.named 1) Syntax.imm (Syntax.tyInt Syntax.w8)) 1,
-) ∷ (3, Rows'.any-gone CountedAs.ty) ∷ (
+) ∷ (3, Rows'.sc-here Row.sBool) ∷ (
   4,
-  Rows'.any-gone TallyAs.ty,
-) ∷ []
+  Rows'.any-gone CountedAs.ty,
+) ∷ (5, Rows'.any-gone TallyAs.ty) ∷ []
 
 abbrev pub t1 : List.List Row.Entry
 t1 = (0, Rows'.sc-here (Row.sInt Syntax.w8)) ∷ (1, Rows'.mref TallyAs.row (Syntax.tyRef (Syntax.named 0) Syntax.mut TallyAs.pointee) 0) ∷ (
   2,
   Rows'.sslice
       (Referent.rtF (Referent.fInt Syntax.w8)) (Syntax.tyRef (Syntax.named 1) Syntax.imm (Syntax.tyInt Syntax.w8)) 1,
-) ∷ (3, Rows'.any-gone CountedAs.ty) ∷ (
+) ∷ (3, Rows'.any-gone Syntax.tyBool) ∷ (
   4,
-  Rows'.any-gone TallyAs.ty,
-) ∷ []
+  Rows'.any-gone CountedAs.ty,
+) ∷ (5, Rows'.any-gone TallyAs.ty) ∷ []
 
 abbrev pub t2 : List.List Row.Entry
 t2 = (0, Rows'.any-gone (Syntax.tyInt Syntax.w8)) ∷ (1, Rows'.mref TallyAs.row (Syntax.tyRef (Syntax.named 0) Syntax.mut TallyAs.pointee) 0) ∷ (
   2,
   Rows'.sslice
       (Referent.rtF (Referent.fInt Syntax.w8)) (Syntax.tyRef (Syntax.named 1) Syntax.imm (Syntax.tyInt Syntax.w8)) 1,
-) ∷ (3, Rows'.any-gone CountedAs.ty) ∷ (
+) ∷ (3, Rows'.sc-here Row.sBool) ∷ (
   4,
-  TallyAs.whole,
-) ∷ []
+  Rows'.any-gone CountedAs.ty,
+) ∷ (5, TallyAs.whole) ∷ []
 
 abbrev pub t3 : List.List Row.Entry
 t3 = (0, Rows'.any-gone (Syntax.tyInt Syntax.w8)) ∷ (1, Rows'.mref TallyAs.row (Syntax.tyRef (Syntax.named 0) Syntax.mut TallyAs.pointee) 0) ∷ (
   2,
   Rows'.sslice
       (Referent.rtF (Referent.fInt Syntax.w8)) (Syntax.tyRef (Syntax.named 1) Syntax.imm (Syntax.tyInt Syntax.w8)) 1,
-) ∷ (3, CountedAs.whole) ∷ (4, TallyAs.whole)
-    ∷ []
+) ∷ (3, Rows'.sc-here Row.sBool) ∷ (
+  4,
+  CountedAs.whole,
+) ∷ (5, TallyAs.whole) ∷ []
 
 abbrev pub t4 : List.List Row.Entry
 t4 = (0, Rows'.any-gone (Syntax.tyInt Syntax.w8)) ∷ (1, Rows'.mref TallyAs.row (Syntax.tyRef (Syntax.named 0) Syntax.mut TallyAs.pointee) 0) ∷ (
   2,
   Rows'.sslice
       (Referent.rtF (Referent.fInt Syntax.w8)) (Syntax.tyRef (Syntax.named 1) Syntax.imm (Syntax.tyInt Syntax.w8)) 1,
-) ∷ (3, CountedAs.whole) ∷ (
+) ∷ (3, Rows'.sc-here Row.sBool) ∷ (
   4,
-  Rows'.any-gone
-      TallyAs.ty,
-) ∷ []
+  CountedAs.whole,
+) ∷ (5, Rows'.any-gone TallyAs.ty) ∷ []
 
 abbrev pub t5 : List.List Row.Entry
 t5 = (0, Rows'.sc-here (Row.sInt Syntax.w8)) ∷ (1, Rows'.mref TallyAs.row (Syntax.tyRef (Syntax.named 0) Syntax.mut TallyAs.pointee) 0) ∷ (
   2,
   Rows'.sslice
       (Referent.rtF (Referent.fInt Syntax.w8)) (Syntax.tyRef (Syntax.named 1) Syntax.imm (Syntax.tyInt Syntax.w8)) 1,
-) ∷ (3, CountedAs.whole) ∷ (
+) ∷ (3, Rows'.sc-here Row.sBool) ∷ (
   4,
-  Rows'.any-gone
-      TallyAs.ty,
-) ∷ []
+  CountedAs.whole,
+) ∷ (5, Rows'.any-gone TallyAs.ty) ∷ []
+
+abbrev pub t6 : List.List Row.Entry
+t6 = (0, Rows'.sc-here (Row.sInt Syntax.w8)) ∷ (1, Rows'.mref TallyAs.row (Syntax.tyRef (Syntax.named 0) Syntax.mut TallyAs.pointee) 0) ∷ (
+  2,
+  Rows'.sslice
+      (Referent.rtF (Referent.fInt Syntax.w8)) (Syntax.tyRef (Syntax.named 1) Syntax.imm (Syntax.tyInt Syntax.w8)) 1,
+) ∷ (3, Rows'.sc-here Row.sBool) ∷ (
+  4,
+  Rows'.any-gone CountedAs.ty,
+) ∷ (5, Rows'.any-gone TallyAs.ty) ∷ []
 
 abbrev pub T0 : Row.Cx
 T0 = record { locals = t0; slots = [] }
@@ -200,7 +212,10 @@ abbrev pub T9 : Row.Cx
 T9 = record { locals = t5; slots = [] }
 
 abbrev pub T10 : Row.Cx
-T10 = record { locals = t1; slots = [] }
+T10 = record { locals = t6; slots = [] }
+
+abbrev pub T11 : Row.Cx
+T11 = record { locals = t1; slots = [] }
 
 abbrev pub O0 : Typed.Outs
 O0 = record { next = Option.none; exits = []; returns = Option.some T1 }
@@ -210,12 +225,12 @@ module _ (claims· : Claims) where
   s0 = Know.k-shs-known (Referent.fInt Syntax.w8) T0 2 1 (Syntax.tyRef (Syntax.named 1) Syntax.imm (Syntax.tyInt Syntax.w8)) Row.off 0 λ x. x
 
   abbrev s1 : Typed.Gives T2 T3
-  s1 = DerefMove.k-ref-read-copy T2 1 4 0 TallyAs.row (Rows'.mref TallyAs.row (Syntax.tyRef (Syntax.named 0) Syntax.mut TallyAs.pointee) 0) Row.off
+  s1 = DerefMove.k-ref-read-copy T2 1 5 0 TallyAs.row (Rows'.mref TallyAs.row (Syntax.tyRef (Syntax.named 0) Syntax.mut TallyAs.pointee) 0) Row.off
       TallyAs.whole (λ x. x) (λ x. x) (λ x. x) λ x. Unit
 
   abbrev s2 : Typed.Both T3 T4
   s2 = Call.callB ps·0 r·0 (claims· .0) (claims· .1) T3 (
-    record { pos = 4; st = []; d = 0; at = λ x. x },
+    record { pos = 5; st = []; d = 0; at = λ x. x },
     (
       record {
         pos = 2;
@@ -223,28 +238,31 @@ module _ (claims· : Claims) where
             (Syntax.named 1) Syntax.imm (Syntax.tyInt Syntax.w8);
         ref = λ x. x;
       },
-      tt,
+      (Bool.bAt 3 λ x. x, tt),
     ),
-  ) 3 (1 ∷ []) CountedAs.ty
+  ) 4 (1 ∷ []) CountedAs.ty
 
   abbrev s3 : Typed.Mo T4 → Typed.Mo T5
-  s3 = Scalar.n-room T4 4 TallyAs.ty
+  s3 = Scalar.n-room T4 5 TallyAs.ty
 
   abbrev s4 : Typed.Both T5 T6
-  s4 = Call.callB ps·1 r·1 (claims· .2) (claims· .3) T5 (record { pos = 3; st = []; d = 0; at = λ x. x }, tt) 4 [] TallyAs.ty
+  s4 = Call.callB ps·1 r·1 (claims· .2) (claims· .3) T5 (record { pos = 4; st = []; d = 0; at = λ x. x }, tt) 5 [] TallyAs.ty
 
   abbrev s5 : Typed.Mo T6 → Typed.Mo T7
-  s5 = DerefMove.n-ref-write-from T6 1 4 0 TallyAs.row (Syntax.tyRef (Syntax.named 0) Syntax.mut TallyAs.pointee) Row.off TallyAs.whole (λ x. x) (λ x. x) λ x.
+  s5 = DerefMove.n-ref-write-from T6 1 5 0 TallyAs.row (Syntax.tyRef (Syntax.named 0) Syntax.mut TallyAs.pointee) Row.off TallyAs.whole (λ x. x) (λ x. x) λ x.
       x
 
   abbrev s6 : Typed.Mo T7 → Typed.Mo T8
-  s6 = Scalar.n-room T7 4 TallyAs.ty
+  s6 = Scalar.n-room T7 5 TallyAs.ty
 
   abbrev s7 : Typed.Both T8 T9
-  s7 = Call.callB ps·2 r·2 (claims· .4) (claims· .5) T8 (record { pos = 3; st = []; d = 0; at = λ x. x }, tt) 0 [] (Syntax.tyInt Syntax.w8)
+  s7 = Call.callB ps·2 r·2 (claims· .4) (claims· .5) T8 (record { pos = 4; st = []; d = 0; at = λ x. x }, tt) 0 [] (Syntax.tyInt Syntax.w8)
 
   abbrev s8 : Typed.Mo T9 → Typed.Mo T10
-  s8 = Scalar.n-room T9 3 CountedAs.ty
+  s8 = Scalar.n-room T9 4 CountedAs.ty
+
+  abbrev s9 : Typed.Mo T10 → Typed.Mo T11
+  s9 = Scalar.n-room T10 3 Syntax.tyBool
 
   module _ (Pre· : (κs : Lifetimes.Lfts 2) → Kinds.Dens κs ps → Type 0) (Post· : (κs : Lifetimes.Lfts 2) → (a : Kinds.Dens κs ps) → Kinds.Plain 2 ps r κs)
     where
@@ -256,38 +274,41 @@ module _ (claims· : Claims) where
             xs m hs body)) (Function.plainOf 𝓤 H A 2 ps r Pre· Post·)
 
       module _ where
-        abbrev at0 : Typed.TF T10 O0
+        abbrev at0 : Typed.TF T11 O0
         at0 = Typed.atRet O0
 
-        abbrev at1 : Typed.TF T9 O0
-        at1 = λ Ψ. Typed.pass T9 T10 s8 (at0 Ψ)
+        abbrev at1 : Typed.TF T10 O0
+        at1 = λ Ψ. Typed.pass T10 T11 s9 (at0 Ψ)
 
-        abbrev at2 : Typed.TF T8 O0
-        at2 = λ Ψ. Typed.both s7 (at1 Ψ)
+        abbrev at2 : Typed.TF T9 O0
+        at2 = λ Ψ. Typed.pass T9 T10 s8 (at1 Ψ)
 
-        abbrev at3 : Typed.TF T7 O0
-        at3 = λ Ψ. Typed.pass T7 T8 s6 (at2 Ψ)
+        abbrev at3 : Typed.TF T8 O0
+        at3 = λ Ψ. Typed.both s7 (at2 Ψ)
 
-        abbrev at4 : Typed.TF T6 O0
-        at4 = λ Ψ. Typed.pass T6 T7 s5 (at3 Ψ)
+        abbrev at4 : Typed.TF T7 O0
+        at4 = λ Ψ. Typed.pass T7 T8 s6 (at3 Ψ)
 
-        abbrev at5 : Typed.TF T5 O0
-        at5 = λ Ψ. Typed.both s4 (at4 Ψ)
+        abbrev at5 : Typed.TF T6 O0
+        at5 = λ Ψ. Typed.pass T6 T7 s5 (at4 Ψ)
 
-        abbrev at6 : Typed.TF T4 O0
-        at6 = λ Ψ. Typed.pass T4 T5 s3 (at5 Ψ)
+        abbrev at6 : Typed.TF T5 O0
+        at6 = λ Ψ. Typed.both s4 (at5 Ψ)
 
-        abbrev at7 : Typed.TF T3 O0
-        at7 = λ Ψ. Typed.both s2 (at6 Ψ)
+        abbrev at7 : Typed.TF T4 O0
+        at7 = λ Ψ. Typed.pass T4 T5 s3 (at6 Ψ)
 
-        abbrev at8 : Typed.TF T2 O0
-        at8 = λ Ψ. Typed.give s1 (at7 Ψ)
+        abbrev at8 : Typed.TF T3 O0
+        at8 = λ Ψ. Typed.both s2 (at7 Ψ)
 
-        abbrev at9 : Typed.TF T0 O0
-        at9 = λ Ψ. Typed.give s0 (at8 Ψ)
+        abbrev at9 : Typed.TF T2 O0
+        at9 = λ Ψ. Typed.give s1 (at8 Ψ)
+
+        abbrev at10 : Typed.TF T0 O0
+        at10 = λ Ψ. Typed.give s0 (at9 Ψ)
 
         abbrev pub Φ : Typed.TF T0 O0
-        Φ = at9
+        Φ = at10
 
         module _ {M : Type 1} (𝓤 : URA.URA M) (H : Wp.Heap 𝓤) (A : Atoms.Atoms 𝓤) (W : Kit.Given 𝓤 H A) (𝓣 : Wp.Tables 𝓤 H) where
           abbrev Knowns : Type 1
@@ -326,7 +347,10 @@ module _ (claims· : Claims) where
           G9 = record { locals = t5; slots = Row.lease (κs .0) (qs .0) ∷ Row.lease (κs .1 .0) (qs .1 .0) ∷ [] }
 
           abbrev G10 : Row.Cx
-          G10 = record { locals = t1; slots = Row.lease (κs .0) (qs .0) ∷ Row.lease (κs .1 .0) (qs .1 .0) ∷ [] }
+          G10 = record { locals = t6; slots = Row.lease (κs .0) (qs .0) ∷ Row.lease (κs .1 .0) (qs .1 .0) ∷ [] }
+
+          abbrev G11 : Row.Cx
+          G11 = record { locals = t1; slots = Row.lease (κs .0) (qs .0) ∷ Row.lease (κs .1 .0) (qs .1 .0) ∷ [] }
 
           abbrev Δ0 : Typed.Outs
           Δ0 = record { next = Option.none; exits = []; returns = Option.some G1 }
@@ -336,39 +360,43 @@ module _ (claims· : Claims) where
             abbrev E : Wp.Env 𝓤 H
             E = Frame.EnvOf 𝓤 H (Kinds.tyR r ∷ (Enter.tysP ps xs)) bs
 
-            d0 : Typed.Typed 𝓤 H A 𝓣 E G10 b5 Δ0 at0
+            d0 : Typed.Typed 𝓤 H A 𝓣 E G11 b5 Δ0 at0
             d0 = Typed.t-return 𝓤 H A W 𝓣 E Δ0 tt
 
-            d1 : Typed.Typed 𝓤 H A 𝓣 E G9 b5 Δ0 at1
-            d1 = Typed.g-pre 𝓤 H A W 𝓣 E G9 G10 b5 Δ0 (Typed.pass T9 T10 s8) at0 (Scalar.g-room 𝓤 H A W E G9 3 CountedAs.ty (CountedAs.room 𝓤 H A W)) d0
+            d1 : Typed.Typed 𝓤 H A 𝓣 E G10 b5 Δ0 at1
+            d1 = Typed.g-pre 𝓤 H A W 𝓣 E G10 G11 b5 Δ0 (Typed.pass T10 T11 s9) at0 (Scalar.g-room 𝓤 H A W E G10 3 Syntax.tyBool (Scalar.room-sc 𝓤 H A W
+                Row.sBool)) d0
 
-            d2 : Typed.Typed 𝓤 H A 𝓣 E G8 b6 Δ0 at2
-            d2 = Typed.s-seq 𝓤 H A W 𝓣 E G8 G9 b4 b5 Δ0 (Typed.both s7) at1 (Plain.t-call-plain 𝓤 H A W 𝓣 0 ps·2 r·2 (claims· .4) (claims· .5) "tally::number_of"
-                (known .2) E (λ pos β. β) G8 (record { pos = 3; st = []; d = 0; at = λ x. x }, tt) 0 [] (Call.sub-id 𝓤 H A W (G8 .slots))
-                ((CountedAs.yields 𝓤 H A W, Path'.refl), tt) (Reads.room-gone 𝓤 H A (Syntax.tyInt Syntax.w8)) tt Path'.refl) d1
+            d2 : Typed.Typed 𝓤 H A 𝓣 E G9 b5 Δ0 at2
+            d2 = Typed.g-pre 𝓤 H A W 𝓣 E G9 G10 b5 Δ0 (Typed.pass T9 T10 s8) at1 (Scalar.g-room 𝓤 H A W E G9 4 CountedAs.ty (CountedAs.room 𝓤 H A W)) d1
 
-            d3 : Typed.Typed 𝓤 H A 𝓣 E G7 b6 Δ0 at3
-            d3 = Typed.g-pre 𝓤 H A W 𝓣 E G7 G8 b6 Δ0 (Typed.pass T7 T8 s6) at2 (Scalar.g-room 𝓤 H A W E G7 4 TallyAs.ty (TallyAs.room 𝓤 H A W)) d2
+            d3 : Typed.Typed 𝓤 H A 𝓣 E G8 b6 Δ0 at3
+            d3 = Typed.s-seq 𝓤 H A W 𝓣 E G8 G9 b4 b5 Δ0 (Typed.both s7) at2 (Plain.t-call-plain 𝓤 H A W 𝓣 0 ps·2 r·2 (claims· .4) (claims· .5) "tally::number_of"
+                (known .2) E (λ pos β. β) G8 (record { pos = 4; st = []; d = 0; at = λ x. x }, tt) 0 [] (Call.sub-id 𝓤 H A W (G8 .slots))
+                ((CountedAs.yields 𝓤 H A W, Path'.refl), tt) (Reads.room-gone 𝓤 H A (Syntax.tyInt Syntax.w8)) tt Path'.refl) d2
 
-            d4 : Typed.Typed 𝓤 H A 𝓣 E G6 b7 Δ0 at4
-            d4 = Typed.s-seq 𝓤 H A W 𝓣 E G6 G7 b3 b6 Δ0 (Typed.pass T6 T7 s5) at3 (DerefMove.t-ref-write-from 𝓤 H A W E 𝓣 (λ ρ. Unit) G6 1 4 0 TallyAs.row
+            d4 : Typed.Typed 𝓤 H A 𝓣 E G7 b6 Δ0 at4
+            d4 = Typed.g-pre 𝓤 H A W 𝓣 E G7 G8 b6 Δ0 (Typed.pass T7 T8 s6) at3 (Scalar.g-room 𝓤 H A W E G7 5 TallyAs.ty (TallyAs.room 𝓤 H A W)) d3
+
+            d5 : Typed.Typed 𝓤 H A 𝓣 E G6 b7 Δ0 at5
+            d5 = Typed.s-seq 𝓤 H A W 𝓣 E G6 G7 b3 b6 Δ0 (Typed.pass T6 T7 s5) at4 (DerefMove.t-ref-write-from 𝓤 H A W E 𝓣 (λ ρ. Unit) G6 1 5 0 TallyAs.row
                 (Syntax.tyRef (Syntax.named 0) Syntax.mut TallyAs.pointee) TallyAs.ty TallyAs.ty (Row.lease (κs .0) (qs .0)) TallyAs.whole (λ x. x) (λ x. x) (λ
                 x. x) Path'.refl Path'.refl Path'.refl (Own.told-none 𝓤 H A (G6 .slots)) (Reads.as-is 𝓤 H A (Rows'.mref TallyAs.row (Syntax.tyRef (Syntax.named
                 0) Syntax.mut TallyAs.pointee) 0)) (Yields.yields-copy 𝓤 H A W (λ ρ. Unit) TallyAs.row Path'.refl (TallyAs.copies .copy 𝓤 H A W) TallyAs.whole (λ
-                x. x) (λ x. x) (λ ρ told. TallyAs.mem 𝓤 H A W ρ) λ ρ told. TallyAs.of-mem 𝓤 H A W ρ) Path'.refl tt Path'.refl Path'.refl) d3
+                x. x) (λ x. x) (λ ρ told. TallyAs.mem 𝓤 H A W ρ) λ ρ told. TallyAs.of-mem 𝓤 H A W ρ) Path'.refl tt Path'.refl Path'.refl) d4
 
-            d5 : Typed.Typed 𝓤 H A 𝓣 E G5 b8 Δ0 at5
-            d5 = Typed.s-seq 𝓤 H A W 𝓣 E G5 G6 b2 b7 Δ0 (Typed.both s4) at4 (Plain.t-call-plain 𝓤 H A W 𝓣 0 ps·1 r·1 (claims· .2) (claims· .3) "tally::tally_of"
-                (known .1) E (λ pos β. β) G5 (record { pos = 3; st = []; d = 0; at = λ x. x }, tt) 4 [] (Call.sub-id 𝓤 H A W (G5 .slots))
-                ((CountedAs.yields 𝓤 H A W, Path'.refl), tt) (Reads.room-gone 𝓤 H A TallyAs.ty) tt Path'.refl) d4
+            d6 : Typed.Typed 𝓤 H A 𝓣 E G5 b8 Δ0 at6
+            d6 = Typed.s-seq 𝓤 H A W 𝓣 E G5 G6 b2 b7 Δ0 (Typed.both s4) at5 (Plain.t-call-plain 𝓤 H A W 𝓣 0 ps·1 r·1 (claims· .2) (claims· .3) "tally::tally_of"
+                (known .1) E (λ pos β. β) G5 (record { pos = 4; st = []; d = 0; at = λ x. x }, tt) 5 [] (Call.sub-id 𝓤 H A W (G5 .slots))
+                ((CountedAs.yields 𝓤 H A W, Path'.refl), tt) (Reads.room-gone 𝓤 H A TallyAs.ty) tt Path'.refl) d5
 
-            d6 : Typed.Typed 𝓤 H A 𝓣 E G4 b8 Δ0 at6
-            d6 = Typed.g-pre 𝓤 H A W 𝓣 E G4 G5 b8 Δ0 (Typed.pass T4 T5 s3) at5 (Scalar.g-room 𝓤 H A W E G4 4 TallyAs.ty (TallyAs.room 𝓤 H A W)) d5
+            d7 : Typed.Typed 𝓤 H A 𝓣 E G4 b8 Δ0 at7
+            d7 = Typed.g-pre 𝓤 H A W 𝓣 E G4 G5 b8 Δ0 (Typed.pass T4 T5 s3) at6 (Scalar.g-room 𝓤 H A W E G4 5 TallyAs.ty (TallyAs.room 𝓤 H A W)) d6
 
-            d7 : Typed.Typed 𝓤 H A 𝓣 E G3 b9 Δ0 at7
-            d7 = Typed.s-seq 𝓤 H A W 𝓣 E G3 G4 b1 b8 Δ0 (Typed.both s2) at6 (Plain.t-call-plain 𝓤 H A W 𝓣 1 ps·0 r·0 (claims· .0) (claims· .1)
+            d8 : Typed.Typed 𝓤 H A 𝓣 E G3 b9 Δ0 at8
+            d8 = Typed.s-seq 𝓤 H A W 𝓣 E G3 G4 b1 b8 Δ0 (Typed.both s2) at7 (Plain.t-call-plain 𝓤 H A W 𝓣 1 ps·0 r·0 (claims· .0) (claims· .1)
                 "tally::tally_after" (known .0) E (λ pos β. β) G3 (
-                  record { pos = 4; st = []; d = 0; at = λ x. x },
+                  record { pos = 5; st = []; d = 0; at = λ x. x },
                   (
                     record {
                       pos = 2;
@@ -376,48 +404,46 @@ module _ (claims· : Claims) where
                           (Syntax.named 1) Syntax.imm (Syntax.tyInt Syntax.w8);
                       ref = λ x. x;
                     },
-                    tt,
+                    (Bool.bAt 3 λ x. x, tt),
                   ),
-                ) 3 (1 ∷ []) (Call.sub-id 𝓤 H A W (G3 .slots)) (
+                ) 4 (1 ∷ []) (Call.sub-id 𝓤 H A W (G3 .slots)) (
+                  (TallyAs.yields 𝓤 H A W, Path'.refl),
                   (
-                    TallyAs.yields 𝓤 H A
-                        W,
+                    ShrSlice.spares-sslice 𝓤 H A W (Referent.rtF (Referent.fInt Syntax.w8)) (Syntax.tyRef (Syntax.named 1)
+                        Syntax.imm (Syntax.tyInt Syntax.w8)) 1,
+                    Shared.reads-sslice 𝓤 H A W (Referent.rtF (Referent.fInt Syntax.w8)) (Syntax.tyRef (Syntax.named 1)
+                        Syntax.imm (Syntax.tyInt Syntax.w8)) 1,
                     Path'.refl,
+                    ((Scalar.reads-sc 𝓤 H A W Row.sBool, Path'.refl), tt),
                   ),
-                  (
-                    ShrSlice.spares-sslice 𝓤 H A W (Referent.rtF (Referent.fInt Syntax.w8)) (Syntax.tyRef (Syntax.named 1) Syntax.imm (Syntax.tyInt
-                        Syntax.w8)) 1,
-                    Shared.reads-sslice 𝓤 H A W (Referent.rtF (Referent.fInt Syntax.w8)) (Syntax.tyRef (Syntax.named 1) Syntax.imm (Syntax.tyInt
-                        Syntax.w8)) 1,
-                    Path'.refl,
-                    tt,
-                  ),
-                ) (Reads.room-gone 𝓤 H A CountedAs.ty) (tt, tt) Path'.refl) d6
+                ) (Reads.room-gone 𝓤 H A CountedAs.ty)
+                (tt, tt) Path'.refl) d7
 
-            d8 : Typed.Typed 𝓤 H A 𝓣 E G2 b10 Δ0 at8
-            d8 = Typed.s-seq 𝓤 H A W 𝓣 E G2 G3 b0 b9 Δ0 (Typed.give s1) at7 (DerefMove.t-ref-read-copy 𝓤 H A W E 𝓣 (λ ρ. Unit) G2 1 4 0 TallyAs.row (Syntax.tyRef
+            d9 : Typed.Typed 𝓤 H A 𝓣 E G2 b10 Δ0 at9
+            d9 = Typed.s-seq 𝓤 H A W 𝓣 E G2 G3 b0 b9 Δ0 (Typed.give s1) at8 (DerefMove.t-ref-read-copy 𝓤 H A W E 𝓣 (λ ρ. Unit) G2 1 5 0 TallyAs.row (Syntax.tyRef
                 (Syntax.named 0) Syntax.mut TallyAs.pointee) TallyAs.ty TallyAs.ty (Row.lease (κs .0) (qs .0)) (λ x. x) TallyAs.whole (λ x. x) (λ x. Unit)
                 Path'.refl Path'.refl Path'.refl (TallyAs.copies .copy 𝓤 H A W) (DerefMove.learns-nothing 𝓤 H A TallyAs.row) (Own.told-none 𝓤 H A (G2 .slots))
                 (Reads.as-is 𝓤 H A (Rows'.mref TallyAs.row (Syntax.tyRef (Syntax.named 0) Syntax.mut TallyAs.pointee) 0)) (Reads.room-gone 𝓤 H A TallyAs.ty)
                 (Yields.makes-mem 𝓤 H A W (λ ρ. Unit) TallyAs.row Path'.refl TallyAs.whole (λ x. x) λ ρ told. TallyAs.of-mem 𝓤 H A W ρ) Path'.refl tt Path'.refl
-                Path'.refl) d7
+                Path'.refl) d8
 
-            d9 : Typed.Typed 𝓤 H A 𝓣 E G0 b10 Δ0 at9
-            d9 = Typed.g-pre 𝓤 H A W 𝓣 E G0 G2 b10 Δ0 (Typed.give s0) at8 (Know.g-shs-known 𝓤 H A W (Referent.fInt Syntax.w8) E G0 2 1 (Syntax.tyRef
+            d10 : Typed.Typed 𝓤 H A 𝓣 E G0 b10 Δ0 at10
+            d10 = Typed.g-pre 𝓤 H A W 𝓣 E G0 G2 b10 Δ0 (Typed.give s0) at9 (Know.g-shs-known 𝓤 H A W (Referent.fInt Syntax.w8) E G0 2 1 (Syntax.tyRef
                 (Syntax.named 1) Syntax.imm (Syntax.tyInt Syntax.w8)) (Row.lease (κs .1 .0) (qs .1 .0)) 0 (λ x. x) record { fits = Dec'.lit< tt } (Reads.as-is 𝓤
                 H A (Rows'.sslice (Referent.rtF (Referent.fInt Syntax.w8)) (Syntax.tyRef (Syntax.named 1) Syntax.imm (Syntax.tyInt Syntax.w8)) 1)) Path'.refl tt)
-                d8
+                d9
 
             pub typed : Typed.Typed 𝓤 H A 𝓣 E (Function.Γin 2 ps r xs m κs qs) b10 (Function.Δret 2 ps r xs m κs qs) Φ
-            typed = d9
+            typed = d10
 
         module _ (κs : Lifetimes.Lfts 2) where
           pub record Args : Type 0 where
             pub tally : Kinds.Den {n = 2} κs (Kinds.pMut TallyAs.row 0 tt)
             pub line : Kinds.Den {n = 2} κs (ShrSlice.pShrS (Referent.rtF (Referent.fInt Syntax.w8)) 1 tt)
+            pub past : Kinds.Den {n = 2} κs Bool.pBool
 
           abbrev pub dens : (a : Args) → Kinds.Dens κs ps
-          dens = λ a. (a .tally, (a .line, tt))
+          dens = λ a. (a .tally, (a .line, (a .past, tt)))
 
         abbrev pub m0 : (κs : Lifetimes.Lfts 2) → (args : Args κs) → Typed.Mo T0
         m0 = λ κs args. (tt, Enter.partsP κs 1 ps xs (dens κs args))
@@ -467,7 +493,7 @@ module _ (claims· : Claims) where
         module _ (before· : After-tally-after-arg) where
           abbrev pub After-tally-after·own : Type 0
           After-tally-after·own = Called.Called ps·0 r·0 (claims· .1) T3 (
-            record { pos = 4; st = []; d = 0; at = λ x. x },
+            record { pos = 5; st = []; d = 0; at = λ x. x },
             (
               record {
                 pos = 2;
@@ -475,9 +501,10 @@ module _ (claims· : Claims) where
                     Syntax.tyRef (Syntax.named 1) Syntax.imm (Syntax.tyInt Syntax.w8);
                 ref = λ x. x;
               },
-              tt,
+              (Bool.bAt 3 λ x. x, tt),
             ),
-          ) (m2 (before· .before) (before· .tally-after-arg .given))
+          ) (m2 (before· .before) (before·
+              .tally-after-arg .given))
 
         pub record After-tally-after : Type 0 where
           pub before : After-tally-after-arg
@@ -485,7 +512,7 @@ module _ (claims· : Claims) where
 
         abbrev pub After-tally-after·gave : (c : After-tally-after) → s2 .gives (m2 (c .before .before) (c .before .tally-after-arg .given))
         After-tally-after·gave = λ c. Called.given ps·0 r·0 (claims· .1) T3 (
-          record { pos = 4; st = []; d = 0; at = λ x. x },
+          record { pos = 5; st = []; d = 0; at = λ x. x },
           (
             record {
               pos = 2;
@@ -493,10 +520,10 @@ module _ (claims· : Claims) where
                   Syntax.tyRef (Syntax.named 1) Syntax.imm (Syntax.tyInt Syntax.w8);
               ref = λ x. x;
             },
-            tt,
+            (Bool.bAt 3 λ x. x, tt),
           ),
-        ) (m2 (c .before .before) (c .before .tally-after-arg .given))
-            (c .tally-after)
+        ) (m2 (c .before .before) (c .before
+            .tally-after-arg .given)) (c .tally-after)
 
         abbrev pub m4 : (before : After-tally-after-arg) → (given : s2 .gives (m2 (before .before) (before .tally-after-arg .given))) → Typed.Mo T5
         m4 = λ before given. s3 (m3 before given)
@@ -509,7 +536,7 @@ module _ (claims· : Claims) where
 
         module _ (before· : After-tally-after) where
           abbrev pub After-tally-of·own : Type 0
-          After-tally-of·own = Called.Called ps·1 r·1 (claims· .3) T5 (record { pos = 3; st = []; d = 0; at = λ x. x }, tt) (m4 (before· .before)
+          After-tally-of·own = Called.Called ps·1 r·1 (claims· .3) T5 (record { pos = 4; st = []; d = 0; at = λ x. x }, tt) (m4 (before· .before)
               (After-tally-after·gave before·))
 
         pub record After-tally-of : Type 0 where
@@ -517,7 +544,7 @@ module _ (claims· : Claims) where
           pub tally-of : After-tally-of·own before
 
         abbrev pub After-tally-of·gave : (c : After-tally-of) → s4 .gives (m4 (c .before .before) (After-tally-after·gave (c .before)))
-        After-tally-of·gave = λ c. Called.given ps·1 r·1 (claims· .3) T5 (record { pos = 3; st = []; d = 0; at = λ x. x }, tt) (m4 (c .before .before)
+        After-tally-of·gave = λ c. Called.given ps·1 r·1 (claims· .3) T5 (record { pos = 4; st = []; d = 0; at = λ x. x }, tt) (m4 (c .before .before)
             (After-tally-after·gave (c .before))) (c .tally-of)
 
         abbrev pub m6 : (before : After-tally-after) → (given : s4 .gives (m4 (before .before) (After-tally-after·gave before))) → Typed.Mo T7
@@ -534,7 +561,7 @@ module _ (claims· : Claims) where
 
         module _ (before· : After-tally-of) where
           abbrev pub After-number-of·own : Type 0
-          After-number-of·own = Called.Called ps·2 r·2 (claims· .5) T8 (record { pos = 3; st = []; d = 0; at = λ x. x }, tt) (m7 (before· .before)
+          After-number-of·own = Called.Called ps·2 r·2 (claims· .5) T8 (record { pos = 4; st = []; d = 0; at = λ x. x }, tt) (m7 (before· .before)
               (After-tally-of·gave before·))
 
         pub record After-number-of : Type 0 where
@@ -542,26 +569,29 @@ module _ (claims· : Claims) where
           pub number-of : After-number-of·own before
 
         abbrev pub After-number-of·gave : (c : After-number-of) → s7 .gives (m7 (c .before .before) (After-tally-of·gave (c .before)))
-        After-number-of·gave = λ c. Called.given ps·2 r·2 (claims· .5) T8 (record { pos = 3; st = []; d = 0; at = λ x. x }, tt) (m7 (c .before .before)
+        After-number-of·gave = λ c. Called.given ps·2 r·2 (claims· .5) T8 (record { pos = 4; st = []; d = 0; at = λ x. x }, tt) (m7 (c .before .before)
             (After-tally-of·gave (c .before))) (c .number-of)
 
         abbrev pub m9 : (before : After-tally-of) → (given : s7 .gives (m7 (before .before) (After-tally-of·gave before))) → Typed.Mo T10
         m9 = λ before given. s8 (m8 before given)
 
+        abbrev pub m10 : (before : After-tally-of) → (given : s7 .gives (m7 (before .before) (After-tally-of·gave before))) → Typed.Mo T11
+        m10 = λ before given. s9 (m9 before given)
+
         abbrev pub Need-returns : Type 0
         Need-returns = (c : After-number-of) → Post· (c .before .before .before .before .before .κs) (dens (c .before .before .before .before .before .κs) (c
-            .before .before .before .before .before .args)) (Function.resV r (c .before .before .before .before .before .κs) (m9 (c .before)
+            .before .before .before .before .before .args)) (Function.resV r (c .before .before .before .before .before .κs) (m10 (c .before)
             (After-number-of·gave c) .0)) (Clauses.atExit (Kinds.endedOf 2 ps r) (c .before .before .before .before .before .κs) (dens (c .before .before .before
             .before .before .κs) (c .before .before .before .before .before .args)) (Enter.lastsP (c .before .before .before .before .before .κs) 1 ps xs (dens
-            (c .before .before .before .before .before .κs) (c .before .before .before .before .before .args)) (m9 (c .before) (After-number-of·gave c) .1)))
+            (c .before .before .before .before .before .κs) (c .before .before .before .before .before .args)) (m10 (c .before) (After-number-of·gave c) .1)))
 
         module _ (tally-after-requires : Need-tally-after-requires) (tally-of-requires : Need-tally-of-requires) (number-of-requires : Need-number-of-requires)
             (returns : Need-returns) where
-          lay3 : (c : After-number-of) → at1 (W0 (c .before .before .before .before .before .κs) (c .before .before .before .before .before .args)) (m8 (c
+          lay3 : (c : After-number-of) → at2 (W0 (c .before .before .before .before .before .κs) (c .before .before .before .before .before .args)) (m8 (c
               .before) (After-number-of·gave c))
-          lay3 = λ c. ((Path'.refl, (Path'.refl, tt)), returns record { before = c .before; number-of = c .number-of })
+          lay3 = λ c. ((Path'.refl, (Path'.refl, (tt, tt))), returns record { before = c .before; number-of = c .number-of })
 
-          lay2 : (c : After-tally-of) → at4 (W0 (c .before .before .before .before .κs) (c .before .before .before .before .args)) (m5 (c .before)
+          lay2 : (c : After-tally-of) → at5 (W0 (c .before .before .before .before .κs) (c .before .before .before .before .args)) (m5 (c .before)
               (After-tally-of·gave c))
           lay2 = λ c. (
             number-of-requires record { before = c .before; tally-of = c .tally-of },
@@ -570,12 +600,12 @@ module _ (claims· : Claims) where
                 before = c .before;
                 tally-of = c .tally-of;
               };
-              number-of = Called.called ps·2 r·2 (claims· .5) T8 (record { pos = 3; st = []; d = 0; at = λ x. x }, tt) (m7 (c
+              number-of = Called.called ps·2 r·2 (claims· .5) T8 (record { pos = 4; st = []; d = 0; at = λ x. x }, tt) (m7 (c
                   .before) (After-tally-of·gave c)) g;
             },
           )
 
-          lay1 : (c : After-tally-after) → at6 (W0 (c .before .before .before .κs) (c .before .before .before .args)) (m3 (c .before) (After-tally-after·gave c))
+          lay1 : (c : After-tally-after) → at7 (W0 (c .before .before .before .κs) (c .before .before .before .args)) (m3 (c .before) (After-tally-after·gave c))
           lay1 = λ c. (
             tally-of-requires record { before = c .before; tally-after = c .tally-after },
             λ g. lay2 record {
@@ -583,12 +613,12 @@ module _ (claims· : Claims) where
                 before = c .before;
                 tally-after = c .tally-after;
               };
-              tally-of = Called.called ps·1 r·1 (claims· .3) T5 (record { pos = 3; st = []; d = 0; at = λ x. x }, tt) (m4 (c
+              tally-of = Called.called ps·1 r·1 (claims· .3) T5 (record { pos = 4; st = []; d = 0; at = λ x. x }, tt) (m4 (c
                   .before) (After-tally-after·gave c)) g;
             },
           )
 
-          pub laid : (c : Start) → at9 (W0 (c .κs) (c .args)) (m0 (c .κs) (c .args))
+          pub laid : (c : Start) → at10 (W0 (c .κs) (c .args)) (m0 (c .κs) (c .args))
           laid = λ c. λ g. λ g'. (
             tally-after-requires record {
               before = record { before = c; shared-slice-known = record { given = g } };
@@ -602,24 +632,22 @@ module _ (claims· : Claims) where
               };
               tally-after = Called.called ps·0 r·0 (claims· .1) T3 (
                 record {
-                  pos = 4;
+                  pos = 5;
                   st = [];
                   d = 0;
                   at = λ x.
                       x;
                 },
-                (record { pos = 2; ty = Syntax.tyRef (Syntax.named 1) Syntax.imm (Syntax.tyInt Syntax.w8); ref = λ x. x }, tt),
-              ) (m2 record {
-                before = c;
-                shared-slice-known = record { given = g };
-              } g') g'';
+                (record { pos = 2; ty = Syntax.tyRef (Syntax.named 1) Syntax.imm (Syntax.tyInt Syntax.w8); ref = λ x. x }, (Bool.bAt 3 λ x. x, tt)),
+              ) (m2
+                  record { before = c; shared-slice-known = record { given = g } } g') g'';
             },
           )
 
           module _ (κs : Lifetimes.Lfts 2) (qs : Lifetimes.Shares 2) where
             pub asked : (a : Kinds.Dens κs ps) → (good : Kinds.GoodsP κs ps a) → (pre : Pre· κs a) → (bs : List.List Nat.ℕ) → Φ (Any.wantQ 2 ps r xs m κs qs a
                 (Post· κs a)) (Function.init 2 ps r xs m κs qs a)
-            asked = λ a good pre bs. laid record { κs = κs; args = record { tally = a .0; line = a .1 .0 }; good = good; pre = pre }
+            asked = λ a good pre bs. laid record { κs = κs; args = record { tally = a .0; line = a .1 .0; past = a .1 .1 .0 }; good = good; pre = pre }
 
           module _ {M : Type 1} (𝓤 : URA.URA M) (H : Wp.Heap 𝓤) (A : Atoms.Atoms 𝓤) (W : Kit.Given 𝓤 H A) (𝓣 : Wp.Tables 𝓤 H) (known0 : Plain.Known 𝓤 H A W 𝓣 1
               ps·0 r·0 (claims· .0) (claims· .1) "tally::tally_after") (known1 : Plain.Known 𝓤 H A W 𝓣 0 ps·1 r·1 (claims· .2) (claims· .3) "tally::tally_of")

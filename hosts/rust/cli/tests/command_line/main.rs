@@ -5,5 +5,6 @@ mod draw;
 mod find;
 mod folder;
 mod manners;
+mod models;
 mod save;
 mod texts;

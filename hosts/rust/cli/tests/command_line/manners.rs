@@ -38,6 +38,10 @@ fn help_and_wrong_arguments() {
         &["save", "a", "--out", ""],
         &["draw", "a"],
         &["draw", "a", "--svg", "b", "--aside", "x"],
+        &["draw", "a", "--svg", "b", "--model", "0"],
+        &["draw", "a", "--svg", "b", "--model", "+1"],
+        &["draw", "a", "--svg", "b", "--model", "10000"],
+        &["fragments", "a", "--model", "1"],
     ] {
         let answer = folder.station(wrong);
         answer.is(2, "see station --help");

@@ -40,6 +40,20 @@ pub fn three() -> String {
     .concat()
 }
 
+/// A model with some lines.
+pub fn model(number: u32, lines: &str) -> String {
+    line(&format!("MODEL     {number:4}")) + lines + &line("ENDMDL")
+}
+
+/// An empty model, and two of a chain and a heterogen, with a bond between these.
+pub fn models() -> String {
+    let lines = |x: &str| {
+        atom("ATOM", 1, 'A', 1, x) + &line("TER       2      ALA A   1") + &atom("HETATM", 3, 'B', 7, "-1.500")
+    };
+    let models = [model(1, ""), model(2, &lines("0.000")), model(3, &lines("5.000"))].concat();
+    [line("HEADER"), models, line("CONECT    1    3"), master(0, 0, 1), line("END")].concat()
+}
+
 /// The last atom is the first one once more.
 pub fn twins() -> String {
     three().replace("HETATM    4  C   ALA B   8", "HETATM    4  C   ALA A   1")

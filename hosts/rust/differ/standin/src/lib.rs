@@ -175,10 +175,15 @@ pub unsafe extern "C" fn station_frame(table: *const Slot, slots: usize, out: *m
 
 #[no_mangle]
 pub unsafe extern "C" fn station_count_line(tally: *mut LentTally, line: *const u8, n: usize) -> u32 {
+    station_count_line_past(tally, line, n, 0)
+}
+
+#[no_mangle]
+pub unsafe extern "C" fn station_count_line_past(tally: *mut LentTally, line: *const u8, n: usize, past: u8) -> u32 {
     let lent_tally = &mut (*tally).0;
     let [remark, het, helix, sheet, xform, coord, ter, conect, seq] = lent_tally.map(u64::from);
     let mut counts = Tally { remark, het, helix, sheet, xform, coord, ter, conect, seq };
-    let answer = reference::count_line(&mut counts, lent(line, n));
+    let answer = reference::count_line_past(&mut counts, lent(line, n), past != 0);
     for (count, counted) in lent_tally.iter_mut().zip(counts.counts()) {
         *count = counted as u32;
     }

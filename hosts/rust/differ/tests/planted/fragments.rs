@@ -4,7 +4,7 @@ use std::slice::{from_raw_parts, from_raw_parts_mut};
 
 use station::raw::{Library, Slot, LINKED};
 
-use crate::{assert_found, CASES};
+use crate::{assert_found, needed, CASES};
 
 planted! {
     fragments_count_from_zero: fragments(
@@ -201,11 +201,8 @@ planted! {
         text: *const u8, n: usize, table: *mut Slot, slots: usize, aside: *const u8, fragments: usize
     ) {
         let number = (LINKED.arrange)(text, n, table, slots, aside, fragments);
-        let mut answer = [0; 12];
-        (LINKED.check)(text, n, answer.as_mut_ptr());
-        let needed = (answer[8] + answer[9]) as usize;
         if number == 0 {
-            for slot in from_raw_parts_mut(table, slots).iter_mut().skip(needed) {
+            for slot in from_raw_parts_mut(table, slots).iter_mut().skip(needed(text, n)) {
                 slot.mark = 0;
             }
         }

@@ -4,6 +4,7 @@
 
 use std::slice::{from_raw_parts, from_raw_parts_mut};
 
+use differ::entry::{named, COORDINATES};
 use station::raw::{Library, Slot, Tally, LINKED};
 
 /// Cases enough to find any of the errors.
@@ -13,6 +14,18 @@ fn assert_found(wrong_belief: &str, library: Library) {
     let findings = differ::run(library, 5, 0..CASES);
     println!("{wrong_belief}: {} differences in {} calls", findings.differences, findings.calls);
     assert!(findings.differences > 0, "{wrong_belief} was not found");
+}
+
+/// How many slots an accepted text needs.
+unsafe fn needed(text: *const u8, n: usize) -> usize {
+    from_raw_parts(text, n).chunks(81).filter(|line| named(line, COORDINATES)).count()
+}
+
+/// The answer to a text that is refused with a number at a line, counted from 0: the lines above are good.
+unsafe fn blame(text: *const u8, at: usize, number: u32, answer: *mut u64) -> u32 {
+    (LINKED.check)(text, 81 * at, answer);
+    *answer = number.into();
+    number
 }
 
 /// What a name answers: a number of refusal, unless something else is said.
@@ -39,6 +52,8 @@ macro_rules! planted {
 mod fences;
 mod fragments;
 mod jumps;
+mod models;
+mod models_saved;
 mod names;
 mod twins;
 
@@ -182,7 +197,6 @@ planted! {
     bond_kept_whose_atom_is_in_the_tray: save(
         text: *const u8, n: usize, table: *const Slot, slots: usize, out: *mut u8, room: usize, count: *mut u64
     ) {
-        let mut answer = [0; 12];
         let number = (LINKED.save)(text, n, table, slots, out, room, count);
         if number != 0 {
             return number;
@@ -195,10 +209,10 @@ planted! {
                 saved.extend_from_slice(line);
             }
         }
-        (LINKED.check)(text, n, answer.as_mut_ptr());
         let master = saved.len().saturating_sub(162);
-        let own = from_raw_parts(table, answer[8] as usize + answer[9] as usize);
-        let left = |kinds: &[u8]| own.iter().filter(|slot| slot.mark == 0 && kinds.contains(&slot.kind)).count();
+        let own = from_raw_parts(table, needed(text, n));
+        let counted = |slot: &Slot| slot.mark == 0 && slot.model <= 1;
+        let left = |kinds: &[u8]| own.iter().filter(|slot| counted(slot) && kinds.contains(&slot.kind)).count();
         let (coordinates, ters) = (left(&[1, 2]), left(&[3]));
         saved[master + 50..master + 60].copy_from_slice(format!("{coordinates:5}{ters:5}").as_bytes());
         if saved.len() > room {

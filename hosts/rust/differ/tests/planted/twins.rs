@@ -4,11 +4,12 @@
 use std::slice::{from_raw_parts, from_raw_parts_mut};
 
 use differ::entry::{named, Columns, ATOMS};
+use differ::models::model_start;
 use differ::names::put_name;
 use differ::twins::{label, lines, residue, twin_above, Label, ALTERNATE, CHAIN, INSERTION, NAME, RESIDUE};
 use station::raw::{Library, Slot, LINKED};
 
-use crate::{assert_found, CASES};
+use crate::{assert_found, blame, CASES};
 
 /// What a wrong library believes.
 #[derive(Clone, Copy)]
@@ -59,9 +60,7 @@ unsafe fn check(text: *const u8, n: usize, answer: *mut u64, belief: Belief) -> 
     let told = if number == 0 { 21 } else { (belief.instead)(number, at < good) };
     if told == 21 {
         // The lines above the one that is blamed are good, and then the text is over.
-        let blamed = if belief.first { twin } else { at };
-        (LINKED.check)(seen.as_ptr(), 81 * blamed, answer);
-        *answer = 21;
+        blame(seen.as_ptr(), if belief.first { twin } else { at }, 21, answer);
     }
     told
 }
@@ -70,7 +69,8 @@ unsafe fn check(text: *const u8, n: usize, answer: *mut u64, belief: Belief) -> 
 fn twin_by<T: PartialEq>(lines: &[&Columns], at: usize, what: fn(&Columns) -> T) -> Option<usize> {
     let own = lines.get(at).filter(|line| named(&line[..], ATOMS))?;
     let same = |line: &&Columns| line[22..26] == own[22..26] && named(&line[..], ATOMS) && what(line) == what(own);
-    lines[..at].iter().position(same)
+    let start = model_start(lines, at);
+    lines[start..at].iter().position(same).map(|above| start + above)
 }
 
 fn without(line: &Columns, field: std::ops::Range<usize>) -> Label {
@@ -114,7 +114,11 @@ fn kinds_apart(lines: &[&Columns], at: usize) -> Option<usize> {
 /// A TER is taken for an atom of its residue without a name.
 fn ter_too(lines: &[&Columns], at: usize) -> Option<usize> {
     let is_ter = |line: &&&Columns| named(&line[..], &[b"TER   "]);
-    let ter = lines.get(at).filter(is_ter).and_then(|own| lines[..at].iter().position(|line| line[12..] == own[12..]));
+    let above = |own: &&Columns| {
+        let start = model_start(lines, at);
+        lines[start..at].iter().position(|line| line[12..] == own[12..]).map(|ter| start + ter)
+    };
+    let ter = lines.get(at).filter(is_ter).and_then(above);
     ter.or_else(|| twin_above(lines, at))
 }
 

@@ -23,9 +23,12 @@ use Rattle.store.proofs.seeking.stays.Symbol as Symbol'4
 use Rattle.writing.proofs.count_line.Met as Met'5
 use Rattle.writing.proofs.count_line.Reads as Reads'6
 use Rattle.writing.proofs.count_line.Symbol as Symbol'5
-use Rattle.writing.proofs.put_share.Met as Met'6
-use Rattle.writing.proofs.put_share.Reads as Reads'7
-use Rattle.writing.proofs.put_share.Symbol as Symbol'6
+use Rattle.writing.proofs.past_next.Met as Met'6
+use Rattle.writing.proofs.past_next.Reads as Reads'7
+use Rattle.writing.proofs.past_next.Symbol as Symbol'6
+use Rattle.writing.proofs.put_share.Met as Met'7
+use Rattle.writing.proofs.put_share.Reads as Reads'8
+use Rattle.writing.proofs.put_share.Symbol as Symbol'7
 use borrow.Fn.Run
 use borrow.Fn.Written
 use contract.Running
@@ -46,10 +49,12 @@ Start = λ Inv μ. Lts.Start (
   Reads'4.Learnt,
   Reads'5.Asked,
   Reads'5.Learnt,
-  Reads'7.Asked,
-  Reads'7.Learnt,
+  Reads'8.Asked,
+  Reads'8.Learnt,
   Reads'6.Asked,
   Reads'6.Learnt,
+  Reads'7.Asked,
+  Reads'7.Learnt,
   Reads.Asked,
   Reads.Learnt,
 ) Reads'3.Pre Reads'3.Post Inv μ
@@ -64,13 +69,16 @@ After-shared-slice-known = λ Inv μ. Lts.After-shared-slice-known (
   Reads'4.Learnt,
   Reads'5.Asked,
   Reads'5.Learnt,
-  Reads'7.Asked,
-  Reads'7.Learnt,
+  Reads'8.Asked,
+  Reads'8.Learnt,
   Reads'6.Asked,
   Reads'6.Learnt,
+  Reads'7.Asked,
+  Reads'7.Learnt,
   Reads.Asked,
   Reads.Learnt,
-) Reads'3.Pre Reads'3.Post Inv μ
+)
+    Reads'3.Pre Reads'3.Post Inv μ
 
 abbrev pub After-slice-known : (Inv : InvT-loop) → (μ : MeasureT-loop) → Type 0
 After-slice-known = λ Inv μ. Lts.After-slice-known (
@@ -82,13 +90,16 @@ After-slice-known = λ Inv μ. Lts.After-slice-known (
   Reads'4.Learnt,
   Reads'5.Asked,
   Reads'5.Learnt,
-  Reads'7.Asked,
-  Reads'7.Learnt,
+  Reads'8.Asked,
+  Reads'8.Learnt,
   Reads'6.Asked,
   Reads'6.Learnt,
+  Reads'7.Asked,
+  Reads'7.Learnt,
   Reads.Asked,
   Reads.Learnt,
-) Reads'3.Pre Reads'3.Post Inv μ
+) Reads'3.Pre
+    Reads'3.Post Inv μ
 
 abbrev pub After-no-counts : (Inv : InvT-loop) → (μ : MeasureT-loop) → Type 0
 After-no-counts = λ Inv μ. Lts.After-no-counts (
@@ -100,13 +111,16 @@ After-no-counts = λ Inv μ. Lts.After-no-counts (
   Reads'4.Learnt,
   Reads'5.Asked,
   Reads'5.Learnt,
-  Reads'7.Asked,
-  Reads'7.Learnt,
+  Reads'8.Asked,
+  Reads'8.Learnt,
   Reads'6.Asked,
   Reads'6.Learnt,
+  Reads'7.Asked,
+  Reads'7.Learnt,
   Reads.Asked,
   Reads.Learnt,
-) Reads'3.Pre Reads'3.Post Inv μ
+) Reads'3.Pre
+    Reads'3.Post Inv μ
 
 abbrev pub At-loop : (Inv : InvT-loop) → (μ : MeasureT-loop) → Type 0
 At-loop = λ Inv μ. Lts.At-loop (
@@ -118,10 +132,12 @@ At-loop = λ Inv μ. Lts.At-loop (
   Reads'4.Learnt,
   Reads'5.Asked,
   Reads'5.Learnt,
-  Reads'7.Asked,
-  Reads'7.Learnt,
+  Reads'8.Asked,
+  Reads'8.Learnt,
   Reads'6.Asked,
   Reads'6.Learnt,
+  Reads'7.Asked,
+  Reads'7.Learnt,
   Reads.Asked,
   Reads.Learnt,
 ) Reads'3.Pre Reads'3.Post Inv μ
@@ -136,10 +152,12 @@ In-loop = λ Inv μ. Lts.In-loop (
   Reads'4.Learnt,
   Reads'5.Asked,
   Reads'5.Learnt,
-  Reads'7.Asked,
-  Reads'7.Learnt,
+  Reads'8.Asked,
+  Reads'8.Learnt,
   Reads'6.Asked,
   Reads'6.Learnt,
+  Reads'7.Asked,
+  Reads'7.Learnt,
   Reads.Asked,
   Reads.Learnt,
 ) Reads'3.Pre Reads'3.Post Inv μ
@@ -154,10 +172,12 @@ After-loop = λ Inv μ. Lts.After-loop (
   Reads'4.Learnt,
   Reads'5.Asked,
   Reads'5.Learnt,
-  Reads'7.Asked,
-  Reads'7.Learnt,
+  Reads'8.Asked,
+  Reads'8.Learnt,
   Reads'6.Asked,
   Reads'6.Learnt,
+  Reads'7.Asked,
+  Reads'7.Learnt,
   Reads.Asked,
   Reads.Learnt,
 ) Reads'3.Pre Reads'3.Post Inv μ
@@ -172,13 +192,16 @@ After-line-at = λ Inv μ. Lts.After-line-at (
   Reads'4.Learnt,
   Reads'5.Asked,
   Reads'5.Learnt,
-  Reads'7.Asked,
-  Reads'7.Learnt,
+  Reads'8.Asked,
+  Reads'8.Learnt,
   Reads'6.Asked,
   Reads'6.Learnt,
+  Reads'7.Asked,
+  Reads'7.Learnt,
   Reads.Asked,
   Reads.Learnt,
-) Reads'3.Pre Reads'3.Post Inv μ
+) Reads'3.Pre
+    Reads'3.Post Inv μ
 
 abbrev pub After-slot-at : (Inv : InvT-loop) → (μ : MeasureT-loop) → Type 0
 After-slot-at = λ Inv μ. Lts.After-slot-at (
@@ -190,13 +213,16 @@ After-slot-at = λ Inv μ. Lts.After-slot-at (
   Reads'4.Learnt,
   Reads'5.Asked,
   Reads'5.Learnt,
-  Reads'7.Asked,
-  Reads'7.Learnt,
+  Reads'8.Asked,
+  Reads'8.Learnt,
   Reads'6.Asked,
   Reads'6.Learnt,
+  Reads'7.Asked,
+  Reads'7.Learnt,
   Reads.Asked,
   Reads.Learnt,
-) Reads'3.Pre Reads'3.Post Inv μ
+) Reads'3.Pre
+    Reads'3.Post Inv μ
 
 abbrev pub After-stays : (Inv : InvT-loop) → (μ : MeasureT-loop) → Type 0
 After-stays = λ Inv μ. Lts.After-stays (
@@ -208,13 +234,16 @@ After-stays = λ Inv μ. Lts.After-stays (
   Reads'4.Learnt,
   Reads'5.Asked,
   Reads'5.Learnt,
-  Reads'7.Asked,
-  Reads'7.Learnt,
+  Reads'8.Asked,
+  Reads'8.Learnt,
   Reads'6.Asked,
   Reads'6.Learnt,
+  Reads'7.Asked,
+  Reads'7.Learnt,
   Reads.Asked,
   Reads.Learnt,
-) Reads'3.Pre Reads'3.Post Inv μ
+) Reads'3.Pre
+    Reads'3.Post Inv μ
 
 abbrev pub After-ended : (Inv : InvT-loop) → (μ : MeasureT-loop) → Type 0
 After-ended = λ Inv μ. Lts.After-ended (
@@ -226,13 +255,16 @@ After-ended = λ Inv μ. Lts.After-ended (
   Reads'4.Learnt,
   Reads'5.Asked,
   Reads'5.Learnt,
-  Reads'7.Asked,
-  Reads'7.Learnt,
+  Reads'8.Asked,
+  Reads'8.Learnt,
   Reads'6.Asked,
   Reads'6.Learnt,
+  Reads'7.Asked,
+  Reads'7.Learnt,
   Reads.Asked,
   Reads.Learnt,
-) Reads'3.Pre Reads'3.Post Inv μ
+) Reads'3.Pre
+    Reads'3.Post Inv μ
 
 abbrev pub After-put-share-arg : (Inv : InvT-loop) → (μ : MeasureT-loop) → Type 0
 After-put-share-arg = λ Inv μ. Lts.After-put-share-arg (
@@ -244,13 +276,16 @@ After-put-share-arg = λ Inv μ. Lts.After-put-share-arg (
   Reads'4.Learnt,
   Reads'5.Asked,
   Reads'5.Learnt,
-  Reads'7.Asked,
-  Reads'7.Learnt,
+  Reads'8.Asked,
+  Reads'8.Learnt,
   Reads'6.Asked,
   Reads'6.Learnt,
+  Reads'7.Asked,
+  Reads'7.Learnt,
   Reads.Asked,
   Reads.Learnt,
-) Reads'3.Pre Reads'3.Post Inv μ
+)
+    Reads'3.Pre Reads'3.Post Inv μ
 
 abbrev pub After-put-share : (Inv : InvT-loop) → (μ : MeasureT-loop) → Type 0
 After-put-share = λ Inv μ. Lts.After-put-share (
@@ -262,13 +297,16 @@ After-put-share = λ Inv μ. Lts.After-put-share (
   Reads'4.Learnt,
   Reads'5.Asked,
   Reads'5.Learnt,
-  Reads'7.Asked,
-  Reads'7.Learnt,
+  Reads'8.Asked,
+  Reads'8.Learnt,
   Reads'6.Asked,
   Reads'6.Learnt,
+  Reads'7.Asked,
+  Reads'7.Learnt,
   Reads.Asked,
   Reads.Learnt,
-) Reads'3.Pre Reads'3.Post Inv μ
+) Reads'3.Pre
+    Reads'3.Post Inv μ
 
 abbrev pub After-out : (Inv : InvT-loop) → (μ : MeasureT-loop) → Type 0
 After-out = λ Inv μ. Lts.After-out (
@@ -280,10 +318,12 @@ After-out = λ Inv μ. Lts.After-out (
   Reads'4.Learnt,
   Reads'5.Asked,
   Reads'5.Learnt,
-  Reads'7.Asked,
-  Reads'7.Learnt,
+  Reads'8.Asked,
+  Reads'8.Learnt,
   Reads'6.Asked,
   Reads'6.Learnt,
+  Reads'7.Asked,
+  Reads'7.Learnt,
   Reads.Asked,
   Reads.Learnt,
 ) Reads'3.Pre Reads'3.Post Inv μ
@@ -298,13 +338,16 @@ After-slice-known2 = λ Inv μ. Lts.After-slice-known2 (
   Reads'4.Learnt,
   Reads'5.Asked,
   Reads'5.Learnt,
-  Reads'7.Asked,
-  Reads'7.Learnt,
+  Reads'8.Asked,
+  Reads'8.Learnt,
   Reads'6.Asked,
   Reads'6.Learnt,
+  Reads'7.Asked,
+  Reads'7.Learnt,
   Reads.Asked,
   Reads.Learnt,
-) Reads'3.Pre Reads'3.Post Inv μ
+) Reads'3.Pre
+    Reads'3.Post Inv μ
 
 abbrev pub After-count-line : (Inv : InvT-loop) → (μ : MeasureT-loop) → Type 0
 After-count-line = λ Inv μ. Lts.After-count-line (
@@ -316,13 +359,37 @@ After-count-line = λ Inv μ. Lts.After-count-line (
   Reads'4.Learnt,
   Reads'5.Asked,
   Reads'5.Learnt,
-  Reads'7.Asked,
-  Reads'7.Learnt,
+  Reads'8.Asked,
+  Reads'8.Learnt,
   Reads'6.Asked,
   Reads'6.Learnt,
+  Reads'7.Asked,
+  Reads'7.Learnt,
   Reads.Asked,
   Reads.Learnt,
-) Reads'3.Pre Reads'3.Post Inv μ
+) Reads'3.Pre
+    Reads'3.Post Inv μ
+
+abbrev pub After-past-next : (Inv : InvT-loop) → (μ : MeasureT-loop) → Type 0
+After-past-next = λ Inv μ. Lts.After-past-next (
+  Reads'.Asked,
+  Reads'.Learnt,
+  Reads''.Asked,
+  Reads''.Learnt,
+  Reads'4.Asked,
+  Reads'4.Learnt,
+  Reads'5.Asked,
+  Reads'5.Learnt,
+  Reads'8.Asked,
+  Reads'8.Learnt,
+  Reads'6.Asked,
+  Reads'6.Learnt,
+  Reads'7.Asked,
+  Reads'7.Learnt,
+  Reads.Asked,
+  Reads.Learnt,
+) Reads'3.Pre
+    Reads'3.Post Inv μ
 
 abbrev pub After-one-of : (Inv : InvT-loop) → (μ : MeasureT-loop) → Type 0
 After-one-of = λ Inv μ. Lts.After-one-of (
@@ -334,13 +401,16 @@ After-one-of = λ Inv μ. Lts.After-one-of (
   Reads'4.Learnt,
   Reads'5.Asked,
   Reads'5.Learnt,
-  Reads'7.Asked,
-  Reads'7.Learnt,
+  Reads'8.Asked,
+  Reads'8.Learnt,
   Reads'6.Asked,
   Reads'6.Learnt,
+  Reads'7.Asked,
+  Reads'7.Learnt,
   Reads.Asked,
   Reads.Learnt,
-) Reads'3.Pre Reads'3.Post Inv μ
+) Reads'3.Pre
+    Reads'3.Post Inv μ
 
 abbrev pub Need-no-counts-requires : (Inv : InvT-loop) → (μ : MeasureT-loop) → Type 0
 Need-no-counts-requires = λ Inv μ. Lts.Need-no-counts-requires (
@@ -352,13 +422,16 @@ Need-no-counts-requires = λ Inv μ. Lts.Need-no-counts-requires (
   Reads'4.Learnt,
   Reads'5.Asked,
   Reads'5.Learnt,
-  Reads'7.Asked,
-  Reads'7.Learnt,
+  Reads'8.Asked,
+  Reads'8.Learnt,
   Reads'6.Asked,
   Reads'6.Learnt,
+  Reads'7.Asked,
+  Reads'7.Learnt,
   Reads.Asked,
   Reads.Learnt,
-) Reads'3.Pre Reads'3.Post Inv μ
+)
+    Reads'3.Pre Reads'3.Post Inv μ
 
 abbrev pub Need-loop-holds : (Inv : InvT-loop) → (μ : MeasureT-loop) → Type 0
 Need-loop-holds = λ Inv μ. Lts.Need-loop-holds (
@@ -370,13 +443,16 @@ Need-loop-holds = λ Inv μ. Lts.Need-loop-holds (
   Reads'4.Learnt,
   Reads'5.Asked,
   Reads'5.Learnt,
-  Reads'7.Asked,
-  Reads'7.Learnt,
+  Reads'8.Asked,
+  Reads'8.Learnt,
   Reads'6.Asked,
   Reads'6.Learnt,
+  Reads'7.Asked,
+  Reads'7.Learnt,
   Reads.Asked,
   Reads.Learnt,
-) Reads'3.Pre Reads'3.Post Inv μ
+) Reads'3.Pre
+    Reads'3.Post Inv μ
 
 abbrev pub Need-mul-loop : (Inv : InvT-loop) → (μ : MeasureT-loop) → Type 0
 Need-mul-loop = λ Inv μ. Lts.Need-mul-loop (
@@ -388,13 +464,16 @@ Need-mul-loop = λ Inv μ. Lts.Need-mul-loop (
   Reads'4.Learnt,
   Reads'5.Asked,
   Reads'5.Learnt,
-  Reads'7.Asked,
-  Reads'7.Learnt,
+  Reads'8.Asked,
+  Reads'8.Learnt,
   Reads'6.Asked,
   Reads'6.Learnt,
+  Reads'7.Asked,
+  Reads'7.Learnt,
   Reads.Asked,
   Reads.Learnt,
-) Reads'3.Pre Reads'3.Post Inv μ
+) Reads'3.Pre
+    Reads'3.Post Inv μ
 
 abbrev pub Need-line-at-requires : (Inv : InvT-loop) → (μ : MeasureT-loop) → Type 0
 Need-line-at-requires = λ Inv μ. Lts.Need-line-at-requires (
@@ -406,13 +485,16 @@ Need-line-at-requires = λ Inv μ. Lts.Need-line-at-requires (
   Reads'4.Learnt,
   Reads'5.Asked,
   Reads'5.Learnt,
-  Reads'7.Asked,
-  Reads'7.Learnt,
+  Reads'8.Asked,
+  Reads'8.Learnt,
   Reads'6.Asked,
   Reads'6.Learnt,
+  Reads'7.Asked,
+  Reads'7.Learnt,
   Reads.Asked,
   Reads.Learnt,
-) Reads'3.Pre Reads'3.Post Inv μ
+)
+    Reads'3.Pre Reads'3.Post Inv μ
 
 abbrev pub Need-slot-at-requires : (Inv : InvT-loop) → (μ : MeasureT-loop) → Type 0
 Need-slot-at-requires = λ Inv μ. Lts.Need-slot-at-requires (
@@ -424,13 +506,16 @@ Need-slot-at-requires = λ Inv μ. Lts.Need-slot-at-requires (
   Reads'4.Learnt,
   Reads'5.Asked,
   Reads'5.Learnt,
-  Reads'7.Asked,
-  Reads'7.Learnt,
+  Reads'8.Asked,
+  Reads'8.Learnt,
   Reads'6.Asked,
   Reads'6.Learnt,
+  Reads'7.Asked,
+  Reads'7.Learnt,
   Reads.Asked,
   Reads.Learnt,
-) Reads'3.Pre Reads'3.Post Inv μ
+)
+    Reads'3.Pre Reads'3.Post Inv μ
 
 abbrev pub Need-stays-requires : (Inv : InvT-loop) → (μ : MeasureT-loop) → Type 0
 Need-stays-requires = λ Inv μ. Lts.Need-stays-requires (
@@ -442,13 +527,16 @@ Need-stays-requires = λ Inv μ. Lts.Need-stays-requires (
   Reads'4.Learnt,
   Reads'5.Asked,
   Reads'5.Learnt,
-  Reads'7.Asked,
-  Reads'7.Learnt,
+  Reads'8.Asked,
+  Reads'8.Learnt,
   Reads'6.Asked,
   Reads'6.Learnt,
+  Reads'7.Asked,
+  Reads'7.Learnt,
   Reads.Asked,
   Reads.Learnt,
-) Reads'3.Pre Reads'3.Post Inv μ
+)
+    Reads'3.Pre Reads'3.Post Inv μ
 
 abbrev pub Need-put-share-requires : (Inv : InvT-loop) → (μ : MeasureT-loop) → Type 0
 Need-put-share-requires = λ Inv μ. Lts.Need-put-share-requires (
@@ -460,13 +548,16 @@ Need-put-share-requires = λ Inv μ. Lts.Need-put-share-requires (
   Reads'4.Learnt,
   Reads'5.Asked,
   Reads'5.Learnt,
-  Reads'7.Asked,
-  Reads'7.Learnt,
+  Reads'8.Asked,
+  Reads'8.Learnt,
   Reads'6.Asked,
   Reads'6.Learnt,
+  Reads'7.Asked,
+  Reads'7.Learnt,
   Reads.Asked,
   Reads.Learnt,
-) Reads'3.Pre Reads'3.Post Inv μ
+)
+    Reads'3.Pre Reads'3.Post Inv μ
 
 abbrev pub Need-count-line-requires : (Inv : InvT-loop) → (μ : MeasureT-loop) → Type 0
 Need-count-line-requires = λ Inv μ. Lts.Need-count-line-requires (
@@ -478,13 +569,37 @@ Need-count-line-requires = λ Inv μ. Lts.Need-count-line-requires (
   Reads'4.Learnt,
   Reads'5.Asked,
   Reads'5.Learnt,
-  Reads'7.Asked,
-  Reads'7.Learnt,
+  Reads'8.Asked,
+  Reads'8.Learnt,
   Reads'6.Asked,
   Reads'6.Learnt,
+  Reads'7.Asked,
+  Reads'7.Learnt,
   Reads.Asked,
   Reads.Learnt,
-) Reads'3.Pre Reads'3.Post Inv μ
+)
+    Reads'3.Pre Reads'3.Post Inv μ
+
+abbrev pub Need-past-next-requires : (Inv : InvT-loop) → (μ : MeasureT-loop) → Type 0
+Need-past-next-requires = λ Inv μ. Lts.Need-past-next-requires (
+  Reads'.Asked,
+  Reads'.Learnt,
+  Reads''.Asked,
+  Reads''.Learnt,
+  Reads'4.Asked,
+  Reads'4.Learnt,
+  Reads'5.Asked,
+  Reads'5.Learnt,
+  Reads'8.Asked,
+  Reads'8.Learnt,
+  Reads'6.Asked,
+  Reads'6.Learnt,
+  Reads'7.Asked,
+  Reads'7.Learnt,
+  Reads.Asked,
+  Reads.Learnt,
+)
+    Reads'3.Pre Reads'3.Post Inv μ
 
 abbrev pub Need-one-of-requires : (Inv : InvT-loop) → (μ : MeasureT-loop) → Type 0
 Need-one-of-requires = λ Inv μ. Lts.Need-one-of-requires (
@@ -496,13 +611,16 @@ Need-one-of-requires = λ Inv μ. Lts.Need-one-of-requires (
   Reads'4.Learnt,
   Reads'5.Asked,
   Reads'5.Learnt,
-  Reads'7.Asked,
-  Reads'7.Learnt,
+  Reads'8.Asked,
+  Reads'8.Learnt,
   Reads'6.Asked,
   Reads'6.Learnt,
+  Reads'7.Asked,
+  Reads'7.Learnt,
   Reads.Asked,
   Reads.Learnt,
-) Reads'3.Pre Reads'3.Post Inv μ
+)
+    Reads'3.Pre Reads'3.Post Inv μ
 
 abbrev pub Need-add-k : (Inv : InvT-loop) → (μ : MeasureT-loop) → Type 0
 Need-add-k = λ Inv μ. Lts.Need-add-k (
@@ -514,10 +632,12 @@ Need-add-k = λ Inv μ. Lts.Need-add-k (
   Reads'4.Learnt,
   Reads'5.Asked,
   Reads'5.Learnt,
-  Reads'7.Asked,
-  Reads'7.Learnt,
+  Reads'8.Asked,
+  Reads'8.Learnt,
   Reads'6.Asked,
   Reads'6.Learnt,
+  Reads'7.Asked,
+  Reads'7.Learnt,
   Reads.Asked,
   Reads.Learnt,
 ) Reads'3.Pre Reads'3.Post Inv μ
@@ -532,10 +652,12 @@ Need-add-i = λ Inv μ. Lts.Need-add-i (
   Reads'4.Learnt,
   Reads'5.Asked,
   Reads'5.Learnt,
-  Reads'7.Asked,
-  Reads'7.Learnt,
+  Reads'8.Asked,
+  Reads'8.Learnt,
   Reads'6.Asked,
   Reads'6.Learnt,
+  Reads'7.Asked,
+  Reads'7.Learnt,
   Reads.Asked,
   Reads.Learnt,
 ) Reads'3.Pre Reads'3.Post Inv μ
@@ -550,13 +672,16 @@ Need-loop-less = λ Inv μ. Lts.Need-loop-less (
   Reads'4.Learnt,
   Reads'5.Asked,
   Reads'5.Learnt,
-  Reads'7.Asked,
-  Reads'7.Learnt,
+  Reads'8.Asked,
+  Reads'8.Learnt,
   Reads'6.Asked,
   Reads'6.Learnt,
+  Reads'7.Asked,
+  Reads'7.Learnt,
   Reads.Asked,
   Reads.Learnt,
-) Reads'3.Pre Reads'3.Post Inv μ
+) Reads'3.Pre
+    Reads'3.Post Inv μ
 
 abbrev pub Need-loop-again : (Inv : InvT-loop) → (μ : MeasureT-loop) → Type 0
 Need-loop-again = λ Inv μ. Lts.Need-loop-again (
@@ -568,13 +693,16 @@ Need-loop-again = λ Inv μ. Lts.Need-loop-again (
   Reads'4.Learnt,
   Reads'5.Asked,
   Reads'5.Learnt,
-  Reads'7.Asked,
-  Reads'7.Learnt,
+  Reads'8.Asked,
+  Reads'8.Learnt,
   Reads'6.Asked,
   Reads'6.Learnt,
+  Reads'7.Asked,
+  Reads'7.Learnt,
   Reads.Asked,
   Reads.Learnt,
-) Reads'3.Pre Reads'3.Post Inv μ
+) Reads'3.Pre
+    Reads'3.Post Inv μ
 
 abbrev pub Need-same-length : (Inv : InvT-loop) → (μ : MeasureT-loop) → Type 0
 Need-same-length = λ Inv μ. Lts.Need-same-length (
@@ -586,13 +714,16 @@ Need-same-length = λ Inv μ. Lts.Need-same-length (
   Reads'4.Learnt,
   Reads'5.Asked,
   Reads'5.Learnt,
-  Reads'7.Asked,
-  Reads'7.Learnt,
+  Reads'8.Asked,
+  Reads'8.Learnt,
   Reads'6.Asked,
   Reads'6.Learnt,
+  Reads'7.Asked,
+  Reads'7.Learnt,
   Reads.Asked,
   Reads.Learnt,
-) Reads'3.Pre Reads'3.Post Inv μ
+) Reads'3.Pre
+    Reads'3.Post Inv μ
 
 abbrev pub Need-returns : (Inv : InvT-loop) → (μ : MeasureT-loop) → Type 0
 Need-returns = λ Inv μ. Lts.Need-returns (
@@ -604,20 +735,23 @@ Need-returns = λ Inv μ. Lts.Need-returns (
   Reads'4.Learnt,
   Reads'5.Asked,
   Reads'5.Learnt,
-  Reads'7.Asked,
-  Reads'7.Learnt,
+  Reads'8.Asked,
+  Reads'8.Learnt,
   Reads'6.Asked,
   Reads'6.Learnt,
+  Reads'7.Asked,
+  Reads'7.Learnt,
   Reads.Asked,
   Reads.Learnt,
-) Reads'3.Pre Reads'3.Post Inv μ
+) Reads'3.Pre
+    Reads'3.Post Inv μ
 
 module _ {M : Type 1} where
   pub spec : (Inv : InvT-loop) → (μ : MeasureT-loop) → (answer : Need-no-counts-requires Inv μ) → (answer : Need-loop-holds Inv μ) → (answer : Need-mul-loop
       Inv μ) → (answer : Need-line-at-requires Inv μ) → (answer : Need-slot-at-requires Inv μ) → (answer : Need-stays-requires Inv μ) → (answer :
-      Need-put-share-requires Inv μ) → (answer : Need-count-line-requires Inv μ) → (answer : Need-one-of-requires Inv μ) → (answer : Need-add-k Inv μ) →
-      (answer : Need-add-i Inv μ) → (answer : Need-loop-less Inv μ) → (answer : Need-loop-again Inv μ) → (answer : Need-same-length Inv μ) → (answer :
-      Need-returns Inv μ) → Lts.Closed (
+      Need-put-share-requires Inv μ) → (answer : Need-count-line-requires Inv μ) → (answer : Need-past-next-requires Inv μ) → (answer : Need-one-of-requires
+      Inv μ) → (answer : Need-add-k Inv μ) → (answer : Need-add-i Inv μ) → (answer : Need-loop-less Inv μ) → (answer : Need-loop-again Inv μ) → (answer :
+      Need-same-length Inv μ) → (answer : Need-returns Inv μ) → Lts.Closed (
         Reads'.Asked,
         Reads'.Learnt,
         Reads''.Asked,
@@ -626,15 +760,17 @@ module _ {M : Type 1} where
         Reads'4.Learnt,
         Reads'5.Asked,
         Reads'5.Learnt,
-        Reads'7.Asked,
-        Reads'7.Learnt,
+        Reads'8.Asked,
+        Reads'8.Learnt,
         Reads'6.Asked,
         Reads'6.Learnt,
+        Reads'7.Asked,
+        Reads'7.Learnt,
         Reads.Asked,
         Reads.Learnt,
       ) Reads'3.Pre Reads'3.Post M
-  spec = λ Inv μ answer answer' answer'' answer'3 answer'4 answer'5 answer'6 answer'7 answer'8 answer'9 answer'10 answer'11 answer'12 answer'13 answer'14.
-      Lts.spec (
+  spec = λ Inv μ answer answer' answer'' answer'3 answer'4 answer'5 answer'6 answer'7 answer'8 answer'9 answer'10 answer'11 answer'12 answer'13 answer'14
+      answer'15. Lts.spec (
         Reads'.Asked,
         Reads'.Learnt,
         Reads''.Asked,
@@ -643,14 +779,16 @@ module _ {M : Type 1} where
         Reads'4.Learnt,
         Reads'5.Asked,
         Reads'5.Learnt,
-        Reads'7.Asked,
-        Reads'7.Learnt,
+        Reads'8.Asked,
+        Reads'8.Learnt,
         Reads'6.Asked,
         Reads'6.Learnt,
+        Reads'7.Asked,
+        Reads'7.Learnt,
         Reads.Asked,
         Reads.Learnt,
-      ) Reads'3.Pre Reads'3.Post Inv μ answer answer' answer'' answer'3 answer'4
-      answer'5 answer'6 answer'7 answer'8 answer'9 answer'10 answer'11 answer'12 answer'13 answer'14
+      ) Reads'3.Pre Reads'3.Post Inv μ
+      answer answer' answer'' answer'3 answer'4 answer'5 answer'6 answer'7 answer'8 answer'9 answer'10 answer'11 answer'12 answer'13 answer'14 answer'15
 
   pub close : Lts.Closed (
     Reads'.Asked,
@@ -661,13 +799,16 @@ module _ {M : Type 1} where
     Reads'4.Learnt,
     Reads'5.Asked,
     Reads'5.Learnt,
-    Reads'7.Asked,
-    Reads'7.Learnt,
+    Reads'8.Asked,
+    Reads'8.Learnt,
     Reads'6.Asked,
     Reads'6.Learnt,
+    Reads'7.Asked,
+    Reads'7.Learnt,
     Reads.Asked,
     Reads.Learnt,
-  ) Reads'3.Pre Reads'3.Post M → Statement.statement M
+  ) Reads'3.Pre Reads'3.Post M →
+      Statement.statement M
   unfolding Code.routine Running.tablesOf
   close = λ closed 𝓤 H 𝓜 𝓖 𝓡. Written.close 3 Kinds.ps Kinds.r Reads'3.Ghost Reads'3.requires Reads'3.ensures Reads'3.pre-read Reads'3.Pinned Reads'3.Owned
       Reads'3.post-read record { M = M; 𝓤 = 𝓤; H = H; 𝓜 = 𝓜; 𝓖 = 𝓖; 𝓡 = 𝓡 } Code.env Key.name Code.function (Code.unfolded 𝓤 H 𝓜 𝓡) (λ κs a g. tt) (λ κs.
@@ -676,14 +817,14 @@ module _ {M : Type 1} where
       Symbol'.routine Code.calls-places·no-counts (Met'.met 𝓤 H 𝓜 𝓖 𝓡)) (Reads''.known record { M = M; 𝓤 = 𝓤; H = H; 𝓜 = 𝓜; 𝓖 = 𝓖; 𝓡 = 𝓡 } Code.env
       Symbol''.name Symbol''.routine Code.calls-rows·line-at (Met''.met 𝓤 H 𝓜 𝓖 𝓡)) (Reads'4.known record { M = M; 𝓤 = 𝓤; H = H; 𝓜 = 𝓜; 𝓖 = 𝓖; 𝓡 = 𝓡 } Code.env
       Symbol'3.name Symbol'3.routine Code.calls-store·seeking·slot-at (Met'3.met 𝓤 H 𝓜 𝓖 𝓡)) (Reads'5.known record { M = M; 𝓤 = 𝓤; H = H; 𝓜 = 𝓜; 𝓖 = 𝓖; 𝓡 = 𝓡 }
-      Code.env Symbol'4.name Symbol'4.routine Code.calls-store·seeking·stays (Met'4.met 𝓤 H 𝓜 𝓖 𝓡)) (Reads'7.known record {
+      Code.env Symbol'4.name Symbol'4.routine Code.calls-store·seeking·stays (Met'4.met 𝓤 H 𝓜 𝓖 𝓡)) (Reads'8.known record {
         M = M;
         𝓤 = 𝓤;
         H = H;
         𝓜 = 𝓜;
         𝓖 = 𝓖;
         𝓡 = 𝓡;
-      } Code.env Symbol'6.name Symbol'6.routine Code.calls-writing·put-share (Met'6.met 𝓤 H 𝓜 𝓖 𝓡)) (Reads'6.known record {
+      } Code.env Symbol'7.name Symbol'7.routine Code.calls-writing·put-share (Met'7.met 𝓤 H 𝓜 𝓖 𝓡)) (Reads'6.known record {
         M = M;
         𝓤 = 𝓤;
         H = H;
@@ -691,12 +832,20 @@ module _ {M : Type 1} where
         𝓖
             = 𝓖;
         𝓡 = 𝓡;
-      } Code.env Symbol'5.name Symbol'5.routine Code.calls-writing·count-line (Met'5.met 𝓤 H 𝓜 𝓖 𝓡)) (Reads.known record {
+      } Code.env Symbol'5.name Symbol'5.routine Code.calls-writing·count-line (Met'5.met 𝓤 H 𝓜 𝓖 𝓡)) (Reads'7.known record {
         M = M;
         𝓤 = 𝓤;
         H = H;
-        𝓜 =
-            𝓜;
+        𝓜
+            = 𝓜;
+        𝓖 = 𝓖;
+        𝓡 = 𝓡;
+      } Code.env Symbol'6.name Symbol'6.routine Code.calls-writing·past-next (Met'6.met 𝓤 H 𝓜 𝓖 𝓡)) (Reads.known record {
+        M = M;
+        𝓤 = 𝓤;
+        H =
+            H;
+        𝓜 = 𝓜;
         𝓖 = 𝓖;
         𝓡 = 𝓡;
       } Code.env Symbol.name Symbol.routine Code.calls-marks·one-of (Met.met 𝓤 H 𝓜 𝓖 𝓡))

@@ -60,13 +60,14 @@ r = Unit'.rUnit
 
 abbrev pub xs : List.List Syntax.Ty
 xs = Syntax.tyInt Syntax.w64 ∷ Syntax.tyInt Syntax.w64 ∷ (Syntax.tyStruct (102 ∷ 114 ∷ 97 ∷ 103 ∷ 109 ∷ 101 ∷ 110 ∷ 116 ∷ 115 ∷ 58 ∷ 58 ∷ 84 ∷ 97 ∷ 105 ∷ 108 ∷
-    []) (Syntax.tcons Syntax.tyBool (Syntax.tcons Syntax.tyBool (Syntax.tcons (Syntax.tyStruct (114 ∷ 101 ∷ 115 ∷ 105 ∷ 100 ∷ 117 ∷ 101 ∷ 58 ∷ 58 ∷ 82 ∷ 101 ∷
-    115 ∷ 105 ∷ 100 ∷ 117 ∷ 101 ∷ []) (Syntax.tcons (Syntax.tyStruct (110 ∷ 97 ∷ 109 ∷ 101 ∷ 115 ∷ 58 ∷ 58 ∷ 84 ∷ 104 ∷ 114 ∷ 101 ∷ 101 ∷ []) (Syntax.tcons
-    (Syntax.tyInt Syntax.w8) (Syntax.tcons (Syntax.tyInt Syntax.w8) (Syntax.tcons (Syntax.tyInt Syntax.w8) Syntax.tnil)))) (Syntax.tcons (Syntax.tyInt
-    Syntax.w8) (Syntax.tcons (Syntax.tyStruct (102 ∷ 105 ∷ 101 ∷ 108 ∷ 100 ∷ 115 ∷ 58 ∷ 58 ∷ 82 ∷ 101 ∷ 115 ∷ 105 ∷ 100 ∷ 117 ∷ 101 ∷ 78 ∷ 117 ∷ 109 ∷ 98 ∷ 101
-    ∷ 114 ∷ []) (Syntax.tcons (Syntax.tyInt Syntax.w32) Syntax.tnil)) (Syntax.tcons (Syntax.tyInt Syntax.w8) Syntax.tnil))))) (Syntax.tcons (Syntax.tyInt
-    Syntax.w8) (Syntax.tcons (Syntax.tyInt Syntax.w64) (Syntax.tcons Syntax.tyBool Syntax.tnil))))))) ∷ SlotAs.ty ∷ Syntax.tyInt Syntax.w64 ∷ Syntax.tyInt
-    Syntax.w64 ∷ SlotAs.ty ∷ Syntax.tyBool ∷ Syntax.tyInt Syntax.w64 ∷ Syntax.tyPtr ∷ SlotAs.ty ∷ Syntax.tyPtr ∷ Syntax.tyInt Syntax.w8 ∷ Syntax.tyPtr ∷ []
+    []) (Syntax.tcons Syntax.tyBool (Syntax.tcons Syntax.tyBool (Syntax.tcons (Syntax.tyInt Syntax.w32) (Syntax.tcons (Syntax.tyStruct (114 ∷ 101 ∷ 115 ∷ 105 ∷
+    100 ∷ 117 ∷ 101 ∷ 58 ∷ 58 ∷ 82 ∷ 101 ∷ 115 ∷ 105 ∷ 100 ∷ 117 ∷ 101 ∷ []) (Syntax.tcons (Syntax.tyStruct (110 ∷ 97 ∷ 109 ∷ 101 ∷ 115 ∷ 58 ∷ 58 ∷ 84 ∷ 104 ∷
+    114 ∷ 101 ∷ 101 ∷ []) (Syntax.tcons (Syntax.tyInt Syntax.w8) (Syntax.tcons (Syntax.tyInt Syntax.w8) (Syntax.tcons (Syntax.tyInt Syntax.w8) Syntax.tnil))))
+    (Syntax.tcons (Syntax.tyInt Syntax.w8) (Syntax.tcons (Syntax.tyStruct (102 ∷ 105 ∷ 101 ∷ 108 ∷ 100 ∷ 115 ∷ 58 ∷ 58 ∷ 82 ∷ 101 ∷ 115 ∷ 105 ∷ 100 ∷ 117 ∷ 101
+    ∷ 78 ∷ 117 ∷ 109 ∷ 98 ∷ 101 ∷ 114 ∷ []) (Syntax.tcons (Syntax.tyInt Syntax.w32) Syntax.tnil)) (Syntax.tcons (Syntax.tyInt Syntax.w8) Syntax.tnil)))))
+    (Syntax.tcons (Syntax.tyInt Syntax.w8) (Syntax.tcons (Syntax.tyInt Syntax.w64) (Syntax.tcons Syntax.tyBool Syntax.tnil)))))))) ∷ SlotAs.ty ∷ Syntax.tyInt
+    Syntax.w64 ∷ Syntax.tyInt Syntax.w64 ∷ SlotAs.ty ∷ Syntax.tyBool ∷ Syntax.tyInt Syntax.w64 ∷ Syntax.tyPtr ∷ SlotAs.ty ∷ Syntax.tyPtr ∷ Syntax.tyInt
+    Syntax.w8 ∷ Syntax.tyPtr ∷ []
 
 abbrev pub m : Nat.ℕ
 m = 0
@@ -176,7 +177,7 @@ abbrev b7 : Syntax.Body
 b7 = Syntax.assign (Syntax.place 4 []) (Syntax.op2 (Syntax.sub Syntax.unsigned) (Syntax.copy (Syntax.place 4 [])) (Syntax.int Syntax.w64 1))
 
 abbrev b8 : Syntax.Body
-b8 = Syntax.assign (Syntax.place 11 []) (Syntax.op2 (Syntax.mul Syntax.unsigned) (Syntax.copy (Syntax.place 4 [])) (Syntax.int Syntax.w64 44))
+b8 = Syntax.assign (Syntax.place 11 []) (Syntax.op2 (Syntax.mul Syntax.unsigned) (Syntax.copy (Syntax.place 4 [])) (Syntax.int Syntax.w64 48))
 
 abbrev b9 : Syntax.Body
 b9 = Syntax.assign (Syntax.place 12 []) (Syntax.op2 Syntax.offset (Syntax.copy (Syntax.place 1 (Syntax.field 0 ∷ []))) (Syntax.copy (Syntax.place 11
@@ -192,7 +193,7 @@ abbrev b12 : Syntax.Body
 b12 = Syntax.call "fragments::step_tail" (Syntax.copy (Syntax.place 6 []) ∷ Syntax.copy (Syntax.place 5 []) ∷ []) (Syntax.place 5 [])
 
 abbrev b13 : Syntax.Body
-b13 = Syntax.assign (Syntax.place 7 []) (Syntax.rvOpd (Syntax.copy (Syntax.place 5 (Syntax.field 4 ∷ []))))
+b13 = Syntax.assign (Syntax.place 7 []) (Syntax.rvOpd (Syntax.copy (Syntax.place 5 (Syntax.field 5 ∷ []))))
 
 abbrev b14 : Syntax.Body
 b14 = Syntax.assign (Syntax.place 8 []) (Syntax.op2 (Syntax.sub Syntax.unsigned) (Syntax.copy (Syntax.place 3 [])) (Syntax.copy (Syntax.place 7
@@ -209,7 +210,7 @@ abbrev b17 : Syntax.Body
 b17 = Syntax.call "marks::mark_as" (Syntax.copy (Syntax.place 6 []) ∷ Syntax.copy (Syntax.place 15 []) ∷ []) (Syntax.place 9 [])
 
 abbrev b18 : Syntax.Body
-b18 = Syntax.assign (Syntax.place 11 []) (Syntax.op2 (Syntax.mul Syntax.unsigned) (Syntax.copy (Syntax.place 4 [])) (Syntax.int Syntax.w64 44))
+b18 = Syntax.assign (Syntax.place 11 []) (Syntax.op2 (Syntax.mul Syntax.unsigned) (Syntax.copy (Syntax.place 4 [])) (Syntax.int Syntax.w64 48))
 
 abbrev b19 : Syntax.Body
 b19 = Syntax.assign (Syntax.place 16 []) (Syntax.op2 Syntax.offset (Syntax.copy (Syntax.place 1 (Syntax.field 0 ∷ []))) (Syntax.copy (Syntax.place 11
@@ -308,23 +309,20 @@ t0 = (0, Rows'.any-gone Syntax.tyUnit) ∷ (1, Mut.mslice SlotAs.row (Syntax.tyR
 ) ∷ (4, Rows'.any-gone (Syntax.tyInt Syntax.w64)) ∷ (
   5,
   Rows'.any-gone (Syntax.tyStruct (102 ∷ 114 ∷ 97 ∷ 103 ∷ 109 ∷ 101 ∷ 110 ∷ 116 ∷ 115 ∷ 58
-      ∷ 58 ∷ 84 ∷ 97 ∷ 105 ∷ 108 ∷ []) (Syntax.tcons Syntax.tyBool (Syntax.tcons Syntax.tyBool (Syntax.tcons (Syntax.tyStruct (114 ∷ 101 ∷ 115 ∷ 105 ∷ 100 ∷ 117
-      ∷ 101 ∷ 58 ∷ 58 ∷ 82 ∷ 101 ∷ 115 ∷ 105 ∷ 100 ∷ 117 ∷ 101 ∷ []) (Syntax.tcons (Syntax.tyStruct (110 ∷ 97 ∷ 109 ∷ 101 ∷ 115 ∷ 58 ∷ 58 ∷ 84 ∷ 104 ∷ 114 ∷ 101
-      ∷ 101 ∷ []) (Syntax.tcons (Syntax.tyInt Syntax.w8) (Syntax.tcons (Syntax.tyInt Syntax.w8) (Syntax.tcons (Syntax.tyInt Syntax.w8) Syntax.tnil))))
-      (Syntax.tcons (Syntax.tyInt Syntax.w8) (Syntax.tcons (Syntax.tyStruct (102 ∷ 105 ∷ 101 ∷ 108 ∷ 100 ∷ 115 ∷ 58 ∷ 58 ∷ 82 ∷ 101 ∷ 115 ∷ 105 ∷ 100 ∷ 117 ∷ 101
-      ∷ 78 ∷ 117 ∷ 109 ∷ 98 ∷ 101 ∷ 114 ∷ []) (Syntax.tcons (Syntax.tyInt Syntax.w32) Syntax.tnil)) (Syntax.tcons (Syntax.tyInt Syntax.w8) Syntax.tnil)))))
-      (Syntax.tcons (Syntax.tyInt Syntax.w8) (Syntax.tcons (Syntax.tyInt Syntax.w64) (Syntax.tcons Syntax.tyBool Syntax.tnil))))))),
-) ∷ (
-  6,
-  Rows'.any-gone
-      SlotAs.ty,
-) ∷ (7, Rows'.any-gone (Syntax.tyInt Syntax.w64)) ∷ (8, Rows'.any-gone (Syntax.tyInt Syntax.w64)) ∷ (9, Rows'.any-gone SlotAs.ty) ∷ (
-  10,
-  Rows'.any-gone Syntax.tyBool,
-) ∷ (11, Rows'.any-gone (Syntax.tyInt Syntax.w64)) ∷ (12, Rows'.any-gone Syntax.tyPtr) ∷ (13, Rows'.any-gone SlotAs.ty) ∷ (
-  14,
-  Rows'.any-gone Syntax.tyPtr,
-) ∷ (15, Rows'.any-gone (Syntax.tyInt Syntax.w8)) ∷ []
+      ∷ 58 ∷ 84 ∷ 97 ∷ 105 ∷ 108 ∷ []) (Syntax.tcons Syntax.tyBool (Syntax.tcons Syntax.tyBool (Syntax.tcons (Syntax.tyInt Syntax.w32) (Syntax.tcons
+      (Syntax.tyStruct (114 ∷ 101 ∷ 115 ∷ 105 ∷ 100 ∷ 117 ∷ 101 ∷ 58 ∷ 58 ∷ 82 ∷ 101 ∷ 115 ∷ 105 ∷ 100 ∷ 117 ∷ 101 ∷ []) (Syntax.tcons (Syntax.tyStruct (110 ∷ 97
+      ∷ 109 ∷ 101 ∷ 115 ∷ 58 ∷ 58 ∷ 84 ∷ 104 ∷ 114 ∷ 101 ∷ 101 ∷ []) (Syntax.tcons (Syntax.tyInt Syntax.w8) (Syntax.tcons (Syntax.tyInt Syntax.w8) (Syntax.tcons
+      (Syntax.tyInt Syntax.w8) Syntax.tnil)))) (Syntax.tcons (Syntax.tyInt Syntax.w8) (Syntax.tcons (Syntax.tyStruct (102 ∷ 105 ∷ 101 ∷ 108 ∷ 100 ∷ 115 ∷ 58 ∷ 58
+      ∷ 82 ∷ 101 ∷ 115 ∷ 105 ∷ 100 ∷ 117 ∷ 101 ∷ 78 ∷ 117 ∷ 109 ∷ 98 ∷ 101 ∷ 114 ∷ []) (Syntax.tcons (Syntax.tyInt Syntax.w32) Syntax.tnil)) (Syntax.tcons
+      (Syntax.tyInt Syntax.w8) Syntax.tnil))))) (Syntax.tcons (Syntax.tyInt Syntax.w8) (Syntax.tcons (Syntax.tyInt Syntax.w64) (Syntax.tcons Syntax.tyBool
+      Syntax.tnil)))))))),
+) ∷ (6, Rows'.any-gone SlotAs.ty) ∷ (7, Rows'.any-gone (Syntax.tyInt Syntax.w64)) ∷ (8, Rows'.any-gone (Syntax.tyInt Syntax.w64)) ∷ (
+  9,
+  Rows'.any-gone SlotAs.ty,
+) ∷ (10, Rows'.any-gone Syntax.tyBool) ∷ (11, Rows'.any-gone (Syntax.tyInt Syntax.w64)) ∷ (12, Rows'.any-gone Syntax.tyPtr) ∷ (
+  13,
+  Rows'.any-gone SlotAs.ty,
+) ∷ (14, Rows'.any-gone Syntax.tyPtr) ∷ (15, Rows'.any-gone (Syntax.tyInt Syntax.w8)) ∷ []
 
 abbrev pub t1 : List.List Row.Entry
 t1 = (16, Rows'.any-gone Syntax.tyPtr) ∷ []
@@ -340,24 +338,18 @@ t2 = (0, Rows'.sc-here Row.sUnit) ∷ (1, Mut.mslice SlotAs.row (Syntax.tyRef (S
 ) ∷ (
   5,
   Rows'.any-gone (Syntax.tyStruct (102 ∷ 114 ∷ 97 ∷ 103 ∷ 109 ∷ 101 ∷ 110 ∷ 116 ∷ 115 ∷ 58 ∷ 58 ∷ 84 ∷ 97 ∷
-      105 ∷ 108 ∷ []) (Syntax.tcons Syntax.tyBool (Syntax.tcons Syntax.tyBool (Syntax.tcons (Syntax.tyStruct (114 ∷ 101 ∷ 115 ∷ 105 ∷ 100 ∷ 117 ∷ 101 ∷ 58 ∷ 58 ∷
-      82 ∷ 101 ∷ 115 ∷ 105 ∷ 100 ∷ 117 ∷ 101 ∷ []) (Syntax.tcons (Syntax.tyStruct (110 ∷ 97 ∷ 109 ∷ 101 ∷ 115 ∷ 58 ∷ 58 ∷ 84 ∷ 104 ∷ 114 ∷ 101 ∷ 101 ∷ [])
-      (Syntax.tcons (Syntax.tyInt Syntax.w8) (Syntax.tcons (Syntax.tyInt Syntax.w8) (Syntax.tcons (Syntax.tyInt Syntax.w8) Syntax.tnil)))) (Syntax.tcons
-      (Syntax.tyInt Syntax.w8) (Syntax.tcons (Syntax.tyStruct (102 ∷ 105 ∷ 101 ∷ 108 ∷ 100 ∷ 115 ∷ 58 ∷ 58 ∷ 82 ∷ 101 ∷ 115 ∷ 105 ∷ 100 ∷ 117 ∷ 101 ∷ 78 ∷ 117 ∷
-      109 ∷ 98 ∷ 101 ∷ 114 ∷ []) (Syntax.tcons (Syntax.tyInt Syntax.w32) Syntax.tnil)) (Syntax.tcons (Syntax.tyInt Syntax.w8) Syntax.tnil))))) (Syntax.tcons
-      (Syntax.tyInt Syntax.w8) (Syntax.tcons (Syntax.tyInt Syntax.w64) (Syntax.tcons Syntax.tyBool Syntax.tnil))))))),
-) ∷ (6, Rows'.any-gone SlotAs.ty) ∷ (
-  7,
-  Rows'.any-gone (Syntax.tyInt Syntax.w64),
-) ∷ (8, Rows'.any-gone (Syntax.tyInt Syntax.w64)) ∷ (9, Rows'.any-gone SlotAs.ty) ∷ (
-  10,
-  Rows'.any-gone
-      Syntax.tyBool,
-) ∷ (11, Rows'.any-gone (Syntax.tyInt Syntax.w64)) ∷ (12, Rows'.any-gone Syntax.tyPtr) ∷ (13, Rows'.any-gone SlotAs.ty) ∷ (
-  14,
-  Rows'.any-gone
-      Syntax.tyPtr,
-) ∷ (15, Rows'.any-gone (Syntax.tyInt Syntax.w8)) ∷ []
+      105 ∷ 108 ∷ []) (Syntax.tcons Syntax.tyBool (Syntax.tcons Syntax.tyBool (Syntax.tcons (Syntax.tyInt Syntax.w32) (Syntax.tcons (Syntax.tyStruct (114 ∷ 101 ∷
+      115 ∷ 105 ∷ 100 ∷ 117 ∷ 101 ∷ 58 ∷ 58 ∷ 82 ∷ 101 ∷ 115 ∷ 105 ∷ 100 ∷ 117 ∷ 101 ∷ []) (Syntax.tcons (Syntax.tyStruct (110 ∷ 97 ∷ 109 ∷ 101 ∷ 115 ∷ 58 ∷ 58 ∷
+      84 ∷ 104 ∷ 114 ∷ 101 ∷ 101 ∷ []) (Syntax.tcons (Syntax.tyInt Syntax.w8) (Syntax.tcons (Syntax.tyInt Syntax.w8) (Syntax.tcons (Syntax.tyInt Syntax.w8)
+      Syntax.tnil)))) (Syntax.tcons (Syntax.tyInt Syntax.w8) (Syntax.tcons (Syntax.tyStruct (102 ∷ 105 ∷ 101 ∷ 108 ∷ 100 ∷ 115 ∷ 58 ∷ 58 ∷ 82 ∷ 101 ∷ 115 ∷ 105 ∷
+      100 ∷ 117 ∷ 101 ∷ 78 ∷ 117 ∷ 109 ∷ 98 ∷ 101 ∷ 114 ∷ []) (Syntax.tcons (Syntax.tyInt Syntax.w32) Syntax.tnil)) (Syntax.tcons (Syntax.tyInt Syntax.w8)
+      Syntax.tnil))))) (Syntax.tcons (Syntax.tyInt Syntax.w8) (Syntax.tcons (Syntax.tyInt Syntax.w64) (Syntax.tcons Syntax.tyBool Syntax.tnil)))))))),
+) ∷ (
+  6,
+  Rows'.any-gone SlotAs.ty,
+) ∷ (7, Rows'.any-gone (Syntax.tyInt Syntax.w64)) ∷ (8, Rows'.any-gone (Syntax.tyInt Syntax.w64)) ∷ (9, Rows'.any-gone SlotAs.ty) ∷
+    (10, Rows'.any-gone Syntax.tyBool) ∷ (11, Rows'.any-gone (Syntax.tyInt Syntax.w64)) ∷ (12, Rows'.any-gone Syntax.tyPtr) ∷ (13, Rows'.any-gone SlotAs.ty) ∷
+    (14, Rows'.any-gone Syntax.tyPtr) ∷ (15, Rows'.any-gone (Syntax.tyInt Syntax.w8)) ∷ []
 
 abbrev pub t3 : List.List Row.Entry
 t3 = (0, Rows'.any-gone Syntax.tyUnit) ∷ (1, Mut.mslice SlotAs.row (Syntax.tyRef (Syntax.named 0) Syntax.mut SlotAs.pointee) 0) ∷ (
@@ -368,24 +360,22 @@ t3 = (0, Rows'.any-gone Syntax.tyUnit) ∷ (1, Mut.mslice SlotAs.row (Syntax.tyR
     ∷ (4, Rows'.any-gone (Syntax.tyInt Syntax.w64)) ∷ (
       5,
       Rows'.any-gone (Syntax.tyStruct (102 ∷ 114 ∷ 97 ∷ 103 ∷ 109 ∷ 101 ∷ 110 ∷ 116 ∷ 115 ∷ 58 ∷ 58 ∷ 84 ∷
-          97 ∷ 105 ∷ 108 ∷ []) (Syntax.tcons Syntax.tyBool (Syntax.tcons Syntax.tyBool (Syntax.tcons (Syntax.tyStruct (114 ∷ 101 ∷ 115 ∷ 105 ∷ 100 ∷ 117 ∷ 101 ∷ 58 ∷
-          58 ∷ 82 ∷ 101 ∷ 115 ∷ 105 ∷ 100 ∷ 117 ∷ 101 ∷ []) (Syntax.tcons (Syntax.tyStruct (110 ∷ 97 ∷ 109 ∷ 101 ∷ 115 ∷ 58 ∷ 58 ∷ 84 ∷ 104 ∷ 114 ∷ 101 ∷ 101 ∷ [])
-          (Syntax.tcons (Syntax.tyInt Syntax.w8) (Syntax.tcons (Syntax.tyInt Syntax.w8) (Syntax.tcons (Syntax.tyInt Syntax.w8) Syntax.tnil)))) (Syntax.tcons
-          (Syntax.tyInt Syntax.w8) (Syntax.tcons (Syntax.tyStruct (102 ∷ 105 ∷ 101 ∷ 108 ∷ 100 ∷ 115 ∷ 58 ∷ 58 ∷ 82 ∷ 101 ∷ 115 ∷ 105 ∷ 100 ∷ 117 ∷ 101 ∷ 78 ∷ 117 ∷
-          109 ∷ 98 ∷ 101 ∷ 114 ∷ []) (Syntax.tcons (Syntax.tyInt Syntax.w32) Syntax.tnil)) (Syntax.tcons (Syntax.tyInt Syntax.w8) Syntax.tnil))))) (Syntax.tcons
-          (Syntax.tyInt Syntax.w8) (Syntax.tcons (Syntax.tyInt Syntax.w64) (Syntax.tcons Syntax.tyBool Syntax.tnil))))))),
-    ) ∷ (6, Rows'.any-gone SlotAs.ty) ∷ (
-      7,
-      Rows'.any-gone (Syntax.tyInt Syntax.w64),
-    ) ∷ (8, Rows'.any-gone (Syntax.tyInt Syntax.w64)) ∷ (9, Rows'.any-gone SlotAs.ty) ∷ (
-      10,
+          97 ∷ 105 ∷ 108 ∷ []) (Syntax.tcons Syntax.tyBool (Syntax.tcons Syntax.tyBool (Syntax.tcons (Syntax.tyInt Syntax.w32) (Syntax.tcons (Syntax.tyStruct (114 ∷
+          101 ∷ 115 ∷ 105 ∷ 100 ∷ 117 ∷ 101 ∷ 58 ∷ 58 ∷ 82 ∷ 101 ∷ 115 ∷ 105 ∷ 100 ∷ 117 ∷ 101 ∷ []) (Syntax.tcons (Syntax.tyStruct (110 ∷ 97 ∷ 109 ∷ 101 ∷ 115 ∷ 58
+          ∷ 58 ∷ 84 ∷ 104 ∷ 114 ∷ 101 ∷ 101 ∷ []) (Syntax.tcons (Syntax.tyInt Syntax.w8) (Syntax.tcons (Syntax.tyInt Syntax.w8) (Syntax.tcons (Syntax.tyInt
+          Syntax.w8) Syntax.tnil)))) (Syntax.tcons (Syntax.tyInt Syntax.w8) (Syntax.tcons (Syntax.tyStruct (102 ∷ 105 ∷ 101 ∷ 108 ∷ 100 ∷ 115 ∷ 58 ∷ 58 ∷ 82 ∷ 101 ∷
+          115 ∷ 105 ∷ 100 ∷ 117 ∷ 101 ∷ 78 ∷ 117 ∷ 109 ∷ 98 ∷ 101 ∷ 114 ∷ []) (Syntax.tcons (Syntax.tyInt Syntax.w32) Syntax.tnil)) (Syntax.tcons (Syntax.tyInt
+          Syntax.w8) Syntax.tnil))))) (Syntax.tcons (Syntax.tyInt Syntax.w8) (Syntax.tcons (Syntax.tyInt Syntax.w64) (Syntax.tcons Syntax.tyBool Syntax.tnil)))))))),
+    )
+    ∷ (6, Rows'.any-gone SlotAs.ty) ∷ (7, Rows'.any-gone (Syntax.tyInt Syntax.w64)) ∷ (8, Rows'.any-gone (Syntax.tyInt Syntax.w64)) ∷ (
+      9,
       Rows'.any-gone
-          Syntax.tyBool,
-    ) ∷ (11, Rows'.any-gone (Syntax.tyInt Syntax.w64)) ∷ (12, Rows'.any-gone Syntax.tyPtr) ∷ (13, Rows'.any-gone SlotAs.ty) ∷ (
-      14,
+          SlotAs.ty,
+    ) ∷ (10, Rows'.any-gone Syntax.tyBool) ∷ (11, Rows'.any-gone (Syntax.tyInt Syntax.w64)) ∷ (12, Rows'.any-gone Syntax.tyPtr) ∷ (
+      13,
       Rows'.any-gone
-          Syntax.tyPtr,
-    ) ∷ (15, Rows'.any-gone (Syntax.tyInt Syntax.w8)) ∷ []
+          SlotAs.ty,
+    ) ∷ (14, Rows'.any-gone Syntax.tyPtr) ∷ (15, Rows'.any-gone (Syntax.tyInt Syntax.w8)) ∷ []
 
 abbrev pub t4 : List.List Row.Entry
 t4 = (0, Rows'.any-gone Syntax.tyUnit) ∷ (1, Mut.mslice SlotAs.row (Syntax.tyRef (Syntax.named 0) Syntax.mut SlotAs.pointee) 0) ∷ (
@@ -396,24 +386,18 @@ t4 = (0, Rows'.any-gone Syntax.tyUnit) ∷ (1, Mut.mslice SlotAs.row (Syntax.tyR
     ∷ (4, Rows'.sc-here (Row.sInt Syntax.w64)) ∷ (
       5,
       Rows'.any-gone (Syntax.tyStruct (102 ∷ 114 ∷ 97 ∷ 103 ∷ 109 ∷ 101 ∷ 110 ∷ 116 ∷ 115 ∷ 58 ∷ 58 ∷ 84 ∷ 97 ∷
-          105 ∷ 108 ∷ []) (Syntax.tcons Syntax.tyBool (Syntax.tcons Syntax.tyBool (Syntax.tcons (Syntax.tyStruct (114 ∷ 101 ∷ 115 ∷ 105 ∷ 100 ∷ 117 ∷ 101 ∷ 58 ∷ 58 ∷
-          82 ∷ 101 ∷ 115 ∷ 105 ∷ 100 ∷ 117 ∷ 101 ∷ []) (Syntax.tcons (Syntax.tyStruct (110 ∷ 97 ∷ 109 ∷ 101 ∷ 115 ∷ 58 ∷ 58 ∷ 84 ∷ 104 ∷ 114 ∷ 101 ∷ 101 ∷ [])
-          (Syntax.tcons (Syntax.tyInt Syntax.w8) (Syntax.tcons (Syntax.tyInt Syntax.w8) (Syntax.tcons (Syntax.tyInt Syntax.w8) Syntax.tnil)))) (Syntax.tcons
-          (Syntax.tyInt Syntax.w8) (Syntax.tcons (Syntax.tyStruct (102 ∷ 105 ∷ 101 ∷ 108 ∷ 100 ∷ 115 ∷ 58 ∷ 58 ∷ 82 ∷ 101 ∷ 115 ∷ 105 ∷ 100 ∷ 117 ∷ 101 ∷ 78 ∷ 117 ∷
-          109 ∷ 98 ∷ 101 ∷ 114 ∷ []) (Syntax.tcons (Syntax.tyInt Syntax.w32) Syntax.tnil)) (Syntax.tcons (Syntax.tyInt Syntax.w8) Syntax.tnil))))) (Syntax.tcons
-          (Syntax.tyInt Syntax.w8) (Syntax.tcons (Syntax.tyInt Syntax.w64) (Syntax.tcons Syntax.tyBool Syntax.tnil))))))),
-    ) ∷ (6, Rows'.any-gone SlotAs.ty) ∷ (
-      7,
-      Rows'.any-gone (Syntax.tyInt Syntax.w64),
-    ) ∷ (8, Rows'.any-gone (Syntax.tyInt Syntax.w64)) ∷ (9, Rows'.any-gone SlotAs.ty) ∷ (
-      10,
-      Rows'.any-gone
-          Syntax.tyBool,
-    ) ∷ (11, Rows'.any-gone (Syntax.tyInt Syntax.w64)) ∷ (12, Rows'.any-gone Syntax.tyPtr) ∷ (13, Rows'.any-gone SlotAs.ty) ∷ (
-      14,
-      Rows'.any-gone
-          Syntax.tyPtr,
-    ) ∷ (15, Rows'.any-gone (Syntax.tyInt Syntax.w8)) ∷ []
+          105 ∷ 108 ∷ []) (Syntax.tcons Syntax.tyBool (Syntax.tcons Syntax.tyBool (Syntax.tcons (Syntax.tyInt Syntax.w32) (Syntax.tcons (Syntax.tyStruct (114 ∷ 101 ∷
+          115 ∷ 105 ∷ 100 ∷ 117 ∷ 101 ∷ 58 ∷ 58 ∷ 82 ∷ 101 ∷ 115 ∷ 105 ∷ 100 ∷ 117 ∷ 101 ∷ []) (Syntax.tcons (Syntax.tyStruct (110 ∷ 97 ∷ 109 ∷ 101 ∷ 115 ∷ 58 ∷ 58 ∷
+          84 ∷ 104 ∷ 114 ∷ 101 ∷ 101 ∷ []) (Syntax.tcons (Syntax.tyInt Syntax.w8) (Syntax.tcons (Syntax.tyInt Syntax.w8) (Syntax.tcons (Syntax.tyInt Syntax.w8)
+          Syntax.tnil)))) (Syntax.tcons (Syntax.tyInt Syntax.w8) (Syntax.tcons (Syntax.tyStruct (102 ∷ 105 ∷ 101 ∷ 108 ∷ 100 ∷ 115 ∷ 58 ∷ 58 ∷ 82 ∷ 101 ∷ 115 ∷ 105 ∷
+          100 ∷ 117 ∷ 101 ∷ 78 ∷ 117 ∷ 109 ∷ 98 ∷ 101 ∷ 114 ∷ []) (Syntax.tcons (Syntax.tyInt Syntax.w32) Syntax.tnil)) (Syntax.tcons (Syntax.tyInt Syntax.w8)
+          Syntax.tnil))))) (Syntax.tcons (Syntax.tyInt Syntax.w8) (Syntax.tcons (Syntax.tyInt Syntax.w64) (Syntax.tcons Syntax.tyBool Syntax.tnil)))))))),
+    ) ∷ (
+      6,
+      Rows'.any-gone SlotAs.ty,
+    ) ∷ (7, Rows'.any-gone (Syntax.tyInt Syntax.w64)) ∷ (8, Rows'.any-gone (Syntax.tyInt Syntax.w64)) ∷ (9, Rows'.any-gone SlotAs.ty) ∷
+    (10, Rows'.any-gone Syntax.tyBool) ∷ (11, Rows'.any-gone (Syntax.tyInt Syntax.w64)) ∷ (12, Rows'.any-gone Syntax.tyPtr) ∷ (13, Rows'.any-gone SlotAs.ty) ∷
+    (14, Rows'.any-gone Syntax.tyPtr) ∷ (15, Rows'.any-gone (Syntax.tyInt Syntax.w8)) ∷ []
 
 abbrev pub t5 : List.List Row.Entry
 t5 = (0, Rows'.any-gone Syntax.tyUnit) ∷ (1, Mut.mslice SlotAs.row (Syntax.tyRef (Syntax.named 0) Syntax.mut SlotAs.pointee) 0) ∷ (
@@ -460,18 +444,20 @@ t7 = (0, Rows'.any-gone Syntax.tyUnit) ∷ (1, Mut.mslice SlotAs.row (Syntax.tyR
     ∷ (4, Rows'.sc-here (Row.sInt Syntax.w64)) ∷ (
       5,
       Rows'.any-gone (Syntax.tyStruct (102 ∷ 114 ∷ 97 ∷ 103 ∷ 109 ∷ 101 ∷ 110 ∷ 116 ∷ 115 ∷ 58 ∷ 58 ∷ 84 ∷ 97 ∷
-          105 ∷ 108 ∷ []) (Syntax.tcons Syntax.tyBool (Syntax.tcons Syntax.tyBool (Syntax.tcons (Syntax.tyStruct (114 ∷ 101 ∷ 115 ∷ 105 ∷ 100 ∷ 117 ∷ 101 ∷ 58 ∷ 58 ∷
-          82 ∷ 101 ∷ 115 ∷ 105 ∷ 100 ∷ 117 ∷ 101 ∷ []) (Syntax.tcons (Syntax.tyStruct (110 ∷ 97 ∷ 109 ∷ 101 ∷ 115 ∷ 58 ∷ 58 ∷ 84 ∷ 104 ∷ 114 ∷ 101 ∷ 101 ∷ [])
-          (Syntax.tcons (Syntax.tyInt Syntax.w8) (Syntax.tcons (Syntax.tyInt Syntax.w8) (Syntax.tcons (Syntax.tyInt Syntax.w8) Syntax.tnil)))) (Syntax.tcons
-          (Syntax.tyInt Syntax.w8) (Syntax.tcons (Syntax.tyStruct (102 ∷ 105 ∷ 101 ∷ 108 ∷ 100 ∷ 115 ∷ 58 ∷ 58 ∷ 82 ∷ 101 ∷ 115 ∷ 105 ∷ 100 ∷ 117 ∷ 101 ∷ 78 ∷ 117 ∷
-          109 ∷ 98 ∷ 101 ∷ 114 ∷ []) (Syntax.tcons (Syntax.tyInt Syntax.w32) Syntax.tnil)) (Syntax.tcons (Syntax.tyInt Syntax.w8) Syntax.tnil))))) (Syntax.tcons
-          (Syntax.tyInt Syntax.w8) (Syntax.tcons (Syntax.tyInt Syntax.w64) (Syntax.tcons Syntax.tyBool Syntax.tnil))))))),
-    ) ∷ (6, Rows'.any-gone SlotAs.ty) ∷ (
-      7,
-      Rows'.any-gone (Syntax.tyInt Syntax.w64),
-    ) ∷ (8, Rows'.any-gone (Syntax.tyInt Syntax.w64)) ∷ (9, Rows'.any-gone SlotAs.ty) ∷ (10, Rows'.sc-here Row.sBool) ∷
-    (11, Rows'.any-gone (Syntax.tyInt Syntax.w64)) ∷ (12, Rows'.any-gone Syntax.tyPtr) ∷ (13, Rows'.any-gone SlotAs.ty) ∷ (14, Rows'.any-gone Syntax.tyPtr) ∷
-    (15, Rows'.any-gone (Syntax.tyInt Syntax.w8)) ∷ []
+          105 ∷ 108 ∷ []) (Syntax.tcons Syntax.tyBool (Syntax.tcons Syntax.tyBool (Syntax.tcons (Syntax.tyInt Syntax.w32) (Syntax.tcons (Syntax.tyStruct (114 ∷ 101 ∷
+          115 ∷ 105 ∷ 100 ∷ 117 ∷ 101 ∷ 58 ∷ 58 ∷ 82 ∷ 101 ∷ 115 ∷ 105 ∷ 100 ∷ 117 ∷ 101 ∷ []) (Syntax.tcons (Syntax.tyStruct (110 ∷ 97 ∷ 109 ∷ 101 ∷ 115 ∷ 58 ∷ 58 ∷
+          84 ∷ 104 ∷ 114 ∷ 101 ∷ 101 ∷ []) (Syntax.tcons (Syntax.tyInt Syntax.w8) (Syntax.tcons (Syntax.tyInt Syntax.w8) (Syntax.tcons (Syntax.tyInt Syntax.w8)
+          Syntax.tnil)))) (Syntax.tcons (Syntax.tyInt Syntax.w8) (Syntax.tcons (Syntax.tyStruct (102 ∷ 105 ∷ 101 ∷ 108 ∷ 100 ∷ 115 ∷ 58 ∷ 58 ∷ 82 ∷ 101 ∷ 115 ∷ 105 ∷
+          100 ∷ 117 ∷ 101 ∷ 78 ∷ 117 ∷ 109 ∷ 98 ∷ 101 ∷ 114 ∷ []) (Syntax.tcons (Syntax.tyInt Syntax.w32) Syntax.tnil)) (Syntax.tcons (Syntax.tyInt Syntax.w8)
+          Syntax.tnil))))) (Syntax.tcons (Syntax.tyInt Syntax.w8) (Syntax.tcons (Syntax.tyInt Syntax.w64) (Syntax.tcons Syntax.tyBool Syntax.tnil)))))))),
+    ) ∷ (
+      6,
+      Rows'.any-gone SlotAs.ty,
+    ) ∷ (7, Rows'.any-gone (Syntax.tyInt Syntax.w64)) ∷ (8, Rows'.any-gone (Syntax.tyInt Syntax.w64)) ∷ (9, Rows'.any-gone SlotAs.ty) ∷
+    (10, Rows'.sc-here Row.sBool) ∷ (11, Rows'.any-gone (Syntax.tyInt Syntax.w64)) ∷ (12, Rows'.any-gone Syntax.tyPtr) ∷ (13, Rows'.any-gone SlotAs.ty) ∷ (
+      14,
+      Rows'.any-gone Syntax.tyPtr,
+    ) ∷ (15, Rows'.any-gone (Syntax.tyInt Syntax.w8)) ∷ []
 
 abbrev pub t8 : List.List Row.Entry
 t8 = (0, Rows'.any-gone Syntax.tyUnit) ∷ (1, Mut.mslice SlotAs.row (Syntax.tyRef (Syntax.named 0) Syntax.mut SlotAs.pointee) 0) ∷ (
@@ -813,24 +799,18 @@ t27 = (0, Rows'.sc-here Row.sUnit) ∷ (1, Mut.mslice SlotAs.row (Syntax.tyRef (
 ) ∷ (
   5,
   Rows'.any-gone (Syntax.tyStruct (102 ∷ 114 ∷ 97 ∷ 103 ∷ 109 ∷ 101 ∷ 110 ∷ 116 ∷ 115 ∷ 58 ∷ 58 ∷ 84 ∷ 97 ∷ 105 ∷
-      108 ∷ []) (Syntax.tcons Syntax.tyBool (Syntax.tcons Syntax.tyBool (Syntax.tcons (Syntax.tyStruct (114 ∷ 101 ∷ 115 ∷ 105 ∷ 100 ∷ 117 ∷ 101 ∷ 58 ∷ 58 ∷ 82 ∷
-      101 ∷ 115 ∷ 105 ∷ 100 ∷ 117 ∷ 101 ∷ []) (Syntax.tcons (Syntax.tyStruct (110 ∷ 97 ∷ 109 ∷ 101 ∷ 115 ∷ 58 ∷ 58 ∷ 84 ∷ 104 ∷ 114 ∷ 101 ∷ 101 ∷ [])
-      (Syntax.tcons (Syntax.tyInt Syntax.w8) (Syntax.tcons (Syntax.tyInt Syntax.w8) (Syntax.tcons (Syntax.tyInt Syntax.w8) Syntax.tnil)))) (Syntax.tcons
-      (Syntax.tyInt Syntax.w8) (Syntax.tcons (Syntax.tyStruct (102 ∷ 105 ∷ 101 ∷ 108 ∷ 100 ∷ 115 ∷ 58 ∷ 58 ∷ 82 ∷ 101 ∷ 115 ∷ 105 ∷ 100 ∷ 117 ∷ 101 ∷ 78 ∷ 117 ∷
-      109 ∷ 98 ∷ 101 ∷ 114 ∷ []) (Syntax.tcons (Syntax.tyInt Syntax.w32) Syntax.tnil)) (Syntax.tcons (Syntax.tyInt Syntax.w8) Syntax.tnil))))) (Syntax.tcons
-      (Syntax.tyInt Syntax.w8) (Syntax.tcons (Syntax.tyInt Syntax.w64) (Syntax.tcons Syntax.tyBool Syntax.tnil))))))),
-) ∷ (6, Rows'.any-gone SlotAs.ty) ∷ (
-  7,
-  Rows'.any-gone (Syntax.tyInt Syntax.w64),
-) ∷ (8, Rows'.any-gone (Syntax.tyInt Syntax.w64)) ∷ (9, Rows'.any-gone SlotAs.ty) ∷ (
-  10,
-  Rows'.any-gone
-      Syntax.tyBool,
-) ∷ (11, Rows'.any-gone (Syntax.tyInt Syntax.w64)) ∷ (12, Rows'.any-gone Syntax.tyPtr) ∷ (13, Rows'.any-gone SlotAs.ty) ∷ (
-  14,
-  Rows'.any-gone
-      Syntax.tyPtr,
-) ∷ (15, Rows'.any-gone (Syntax.tyInt Syntax.w8)) ∷ []
+      108 ∷ []) (Syntax.tcons Syntax.tyBool (Syntax.tcons Syntax.tyBool (Syntax.tcons (Syntax.tyInt Syntax.w32) (Syntax.tcons (Syntax.tyStruct (114 ∷ 101 ∷ 115 ∷
+      105 ∷ 100 ∷ 117 ∷ 101 ∷ 58 ∷ 58 ∷ 82 ∷ 101 ∷ 115 ∷ 105 ∷ 100 ∷ 117 ∷ 101 ∷ []) (Syntax.tcons (Syntax.tyStruct (110 ∷ 97 ∷ 109 ∷ 101 ∷ 115 ∷ 58 ∷ 58 ∷ 84 ∷
+      104 ∷ 114 ∷ 101 ∷ 101 ∷ []) (Syntax.tcons (Syntax.tyInt Syntax.w8) (Syntax.tcons (Syntax.tyInt Syntax.w8) (Syntax.tcons (Syntax.tyInt Syntax.w8)
+      Syntax.tnil)))) (Syntax.tcons (Syntax.tyInt Syntax.w8) (Syntax.tcons (Syntax.tyStruct (102 ∷ 105 ∷ 101 ∷ 108 ∷ 100 ∷ 115 ∷ 58 ∷ 58 ∷ 82 ∷ 101 ∷ 115 ∷ 105 ∷
+      100 ∷ 117 ∷ 101 ∷ 78 ∷ 117 ∷ 109 ∷ 98 ∷ 101 ∷ 114 ∷ []) (Syntax.tcons (Syntax.tyInt Syntax.w32) Syntax.tnil)) (Syntax.tcons (Syntax.tyInt Syntax.w8)
+      Syntax.tnil))))) (Syntax.tcons (Syntax.tyInt Syntax.w8) (Syntax.tcons (Syntax.tyInt Syntax.w64) (Syntax.tcons Syntax.tyBool Syntax.tnil)))))))),
+) ∷ (
+  6,
+  Rows'.any-gone SlotAs.ty,
+) ∷ (7, Rows'.any-gone (Syntax.tyInt Syntax.w64)) ∷ (8, Rows'.any-gone (Syntax.tyInt Syntax.w64)) ∷ (9, Rows'.any-gone SlotAs.ty) ∷
+    (10, Rows'.any-gone Syntax.tyBool) ∷ (11, Rows'.any-gone (Syntax.tyInt Syntax.w64)) ∷ (12, Rows'.any-gone Syntax.tyPtr) ∷ (13, Rows'.any-gone SlotAs.ty) ∷
+    (14, Rows'.any-gone Syntax.tyPtr) ∷ (15, Rows'.any-gone (Syntax.tyInt Syntax.w8)) ∷ []
 
 abbrev pub t28 : List.List Row.Entry
 t28 = (0, Rows'.sc-here Row.sUnit) ∷ (1, Mut.mslice SlotAs.row (Syntax.tyRef (Syntax.named 0) Syntax.mut SlotAs.pointee) 0) ∷ (
@@ -843,24 +823,18 @@ t28 = (0, Rows'.sc-here Row.sUnit) ∷ (1, Mut.mslice SlotAs.row (Syntax.tyRef (
 ) ∷ (
   5,
   Rows'.any-gone (Syntax.tyStruct (102 ∷ 114 ∷ 97 ∷ 103 ∷ 109 ∷ 101 ∷ 110 ∷ 116 ∷ 115 ∷ 58 ∷ 58 ∷ 84 ∷ 97 ∷ 105 ∷
-      108 ∷ []) (Syntax.tcons Syntax.tyBool (Syntax.tcons Syntax.tyBool (Syntax.tcons (Syntax.tyStruct (114 ∷ 101 ∷ 115 ∷ 105 ∷ 100 ∷ 117 ∷ 101 ∷ 58 ∷ 58 ∷ 82 ∷
-      101 ∷ 115 ∷ 105 ∷ 100 ∷ 117 ∷ 101 ∷ []) (Syntax.tcons (Syntax.tyStruct (110 ∷ 97 ∷ 109 ∷ 101 ∷ 115 ∷ 58 ∷ 58 ∷ 84 ∷ 104 ∷ 114 ∷ 101 ∷ 101 ∷ [])
-      (Syntax.tcons (Syntax.tyInt Syntax.w8) (Syntax.tcons (Syntax.tyInt Syntax.w8) (Syntax.tcons (Syntax.tyInt Syntax.w8) Syntax.tnil)))) (Syntax.tcons
-      (Syntax.tyInt Syntax.w8) (Syntax.tcons (Syntax.tyStruct (102 ∷ 105 ∷ 101 ∷ 108 ∷ 100 ∷ 115 ∷ 58 ∷ 58 ∷ 82 ∷ 101 ∷ 115 ∷ 105 ∷ 100 ∷ 117 ∷ 101 ∷ 78 ∷ 117 ∷
-      109 ∷ 98 ∷ 101 ∷ 114 ∷ []) (Syntax.tcons (Syntax.tyInt Syntax.w32) Syntax.tnil)) (Syntax.tcons (Syntax.tyInt Syntax.w8) Syntax.tnil))))) (Syntax.tcons
-      (Syntax.tyInt Syntax.w8) (Syntax.tcons (Syntax.tyInt Syntax.w64) (Syntax.tcons Syntax.tyBool Syntax.tnil))))))),
-) ∷ (6, Rows'.any-gone SlotAs.ty) ∷ (
-  7,
-  Rows'.any-gone (Syntax.tyInt Syntax.w64),
-) ∷ (8, Rows'.any-gone (Syntax.tyInt Syntax.w64)) ∷ (9, Rows'.any-gone SlotAs.ty) ∷ (
-  10,
-  Rows'.any-gone
-      Syntax.tyBool,
-) ∷ (11, Rows'.any-gone (Syntax.tyInt Syntax.w64)) ∷ (12, Rows'.any-gone Syntax.tyPtr) ∷ (13, Rows'.any-gone SlotAs.ty) ∷ (
-  14,
-  Rows'.any-gone
-      Syntax.tyPtr,
-) ∷ (15, Rows'.any-gone (Syntax.tyInt Syntax.w8)) ∷ []
+      108 ∷ []) (Syntax.tcons Syntax.tyBool (Syntax.tcons Syntax.tyBool (Syntax.tcons (Syntax.tyInt Syntax.w32) (Syntax.tcons (Syntax.tyStruct (114 ∷ 101 ∷ 115 ∷
+      105 ∷ 100 ∷ 117 ∷ 101 ∷ 58 ∷ 58 ∷ 82 ∷ 101 ∷ 115 ∷ 105 ∷ 100 ∷ 117 ∷ 101 ∷ []) (Syntax.tcons (Syntax.tyStruct (110 ∷ 97 ∷ 109 ∷ 101 ∷ 115 ∷ 58 ∷ 58 ∷ 84 ∷
+      104 ∷ 114 ∷ 101 ∷ 101 ∷ []) (Syntax.tcons (Syntax.tyInt Syntax.w8) (Syntax.tcons (Syntax.tyInt Syntax.w8) (Syntax.tcons (Syntax.tyInt Syntax.w8)
+      Syntax.tnil)))) (Syntax.tcons (Syntax.tyInt Syntax.w8) (Syntax.tcons (Syntax.tyStruct (102 ∷ 105 ∷ 101 ∷ 108 ∷ 100 ∷ 115 ∷ 58 ∷ 58 ∷ 82 ∷ 101 ∷ 115 ∷ 105 ∷
+      100 ∷ 117 ∷ 101 ∷ 78 ∷ 117 ∷ 109 ∷ 98 ∷ 101 ∷ 114 ∷ []) (Syntax.tcons (Syntax.tyInt Syntax.w32) Syntax.tnil)) (Syntax.tcons (Syntax.tyInt Syntax.w8)
+      Syntax.tnil))))) (Syntax.tcons (Syntax.tyInt Syntax.w8) (Syntax.tcons (Syntax.tyInt Syntax.w64) (Syntax.tcons Syntax.tyBool Syntax.tnil)))))))),
+) ∷ (
+  6,
+  Rows'.any-gone SlotAs.ty,
+) ∷ (7, Rows'.any-gone (Syntax.tyInt Syntax.w64)) ∷ (8, Rows'.any-gone (Syntax.tyInt Syntax.w64)) ∷ (9, Rows'.any-gone SlotAs.ty) ∷
+    (10, Rows'.any-gone Syntax.tyBool) ∷ (11, Rows'.any-gone (Syntax.tyInt Syntax.w64)) ∷ (12, Rows'.any-gone Syntax.tyPtr) ∷ (13, Rows'.any-gone SlotAs.ty) ∷
+    (14, Rows'.any-gone Syntax.tyPtr) ∷ (15, Rows'.any-gone (Syntax.tyInt Syntax.w8)) ∷ []
 
 abbrev pub T0 : Row.Cx
 T0 = record { locals = List._++_ t0 t1; slots = [] }
@@ -1024,12 +998,13 @@ module _ (claims· : Claims) where
 
   abbrev s3 : Typed.Both T4 T5
   s3 = Call.callB ps·0 r·0 (claims· .0) (claims· .1) T4 tt 5 [] (Syntax.tyStruct (102 ∷ 114 ∷ 97 ∷ 103 ∷ 109 ∷ 101 ∷ 110 ∷ 116 ∷ 115 ∷ 58 ∷ 58 ∷ 84 ∷ 97 ∷
-      105 ∷ 108 ∷ []) (Syntax.tcons Syntax.tyBool (Syntax.tcons Syntax.tyBool (Syntax.tcons (Syntax.tyStruct (114 ∷ 101 ∷ 115 ∷ 105 ∷ 100 ∷ 117 ∷ 101 ∷ 58 ∷ 58
-      ∷ 82 ∷ 101 ∷ 115 ∷ 105 ∷ 100 ∷ 117 ∷ 101 ∷ []) (Syntax.tcons (Syntax.tyStruct (110 ∷ 97 ∷ 109 ∷ 101 ∷ 115 ∷ 58 ∷ 58 ∷ 84 ∷ 104 ∷ 114 ∷ 101 ∷ 101 ∷ [])
-      (Syntax.tcons (Syntax.tyInt Syntax.w8) (Syntax.tcons (Syntax.tyInt Syntax.w8) (Syntax.tcons (Syntax.tyInt Syntax.w8) Syntax.tnil)))) (Syntax.tcons
-      (Syntax.tyInt Syntax.w8) (Syntax.tcons (Syntax.tyStruct (102 ∷ 105 ∷ 101 ∷ 108 ∷ 100 ∷ 115 ∷ 58 ∷ 58 ∷ 82 ∷ 101 ∷ 115 ∷ 105 ∷ 100 ∷ 117 ∷ 101 ∷ 78 ∷ 117
-      ∷ 109 ∷ 98 ∷ 101 ∷ 114 ∷ []) (Syntax.tcons (Syntax.tyInt Syntax.w32) Syntax.tnil)) (Syntax.tcons (Syntax.tyInt Syntax.w8) Syntax.tnil))))) (Syntax.tcons
-      (Syntax.tyInt Syntax.w8) (Syntax.tcons (Syntax.tyInt Syntax.w64) (Syntax.tcons Syntax.tyBool Syntax.tnil)))))))
+      105 ∷ 108 ∷ []) (Syntax.tcons Syntax.tyBool (Syntax.tcons Syntax.tyBool (Syntax.tcons (Syntax.tyInt Syntax.w32) (Syntax.tcons (Syntax.tyStruct (114 ∷ 101
+      ∷ 115 ∷ 105 ∷ 100 ∷ 117 ∷ 101 ∷ 58 ∷ 58 ∷ 82 ∷ 101 ∷ 115 ∷ 105 ∷ 100 ∷ 117 ∷ 101 ∷ []) (Syntax.tcons (Syntax.tyStruct (110 ∷ 97 ∷ 109 ∷ 101 ∷ 115 ∷ 58 ∷
+      58 ∷ 84 ∷ 104 ∷ 114 ∷ 101 ∷ 101 ∷ []) (Syntax.tcons (Syntax.tyInt Syntax.w8) (Syntax.tcons (Syntax.tyInt Syntax.w8) (Syntax.tcons (Syntax.tyInt
+      Syntax.w8) Syntax.tnil)))) (Syntax.tcons (Syntax.tyInt Syntax.w8) (Syntax.tcons (Syntax.tyStruct (102 ∷ 105 ∷ 101 ∷ 108 ∷ 100 ∷ 115 ∷ 58 ∷ 58 ∷ 82 ∷ 101
+      ∷ 115 ∷ 105 ∷ 100 ∷ 117 ∷ 101 ∷ 78 ∷ 117 ∷ 109 ∷ 98 ∷ 101 ∷ 114 ∷ []) (Syntax.tcons (Syntax.tyInt Syntax.w32) Syntax.tnil)) (Syntax.tcons (Syntax.tyInt
+      Syntax.w8) Syntax.tnil))))) (Syntax.tcons (Syntax.tyInt Syntax.w8) (Syntax.tcons (Syntax.tyInt Syntax.w64) (Syntax.tcons Syntax.tyBool
+      Syntax.tnil))))))))
 
   abbrev s4 : Typed.Asks T5 T7
   s4 = Scalar.k-op2 T5 (Syntax.lt Syntax.unsigned) (Scalar.oInt Syntax.w64 0) (Scalar.oAt 4 (Syntax.tyInt Syntax.w64) (Row.valS (Row.sInt Syntax.w64))) 10
@@ -1040,12 +1015,12 @@ module _ (claims· : Claims) where
 
   abbrev s6 : Typed.Mo T7 → Typed.Mo T10
   s6 = Scalar.n-room T7 5 (Syntax.tyStruct (102 ∷ 114 ∷ 97 ∷ 103 ∷ 109 ∷ 101 ∷ 110 ∷ 116 ∷ 115 ∷ 58 ∷ 58 ∷ 84 ∷ 97 ∷ 105 ∷ 108 ∷ []) (Syntax.tcons
-      Syntax.tyBool (Syntax.tcons Syntax.tyBool (Syntax.tcons (Syntax.tyStruct (114 ∷ 101 ∷ 115 ∷ 105 ∷ 100 ∷ 117 ∷ 101 ∷ 58 ∷ 58 ∷ 82 ∷ 101 ∷ 115 ∷ 105 ∷ 100
-      ∷ 117 ∷ 101 ∷ []) (Syntax.tcons (Syntax.tyStruct (110 ∷ 97 ∷ 109 ∷ 101 ∷ 115 ∷ 58 ∷ 58 ∷ 84 ∷ 104 ∷ 114 ∷ 101 ∷ 101 ∷ []) (Syntax.tcons (Syntax.tyInt
-      Syntax.w8) (Syntax.tcons (Syntax.tyInt Syntax.w8) (Syntax.tcons (Syntax.tyInt Syntax.w8) Syntax.tnil)))) (Syntax.tcons (Syntax.tyInt Syntax.w8)
-      (Syntax.tcons (Syntax.tyStruct (102 ∷ 105 ∷ 101 ∷ 108 ∷ 100 ∷ 115 ∷ 58 ∷ 58 ∷ 82 ∷ 101 ∷ 115 ∷ 105 ∷ 100 ∷ 117 ∷ 101 ∷ 78 ∷ 117 ∷ 109 ∷ 98 ∷ 101 ∷ 114 ∷
-      []) (Syntax.tcons (Syntax.tyInt Syntax.w32) Syntax.tnil)) (Syntax.tcons (Syntax.tyInt Syntax.w8) Syntax.tnil))))) (Syntax.tcons (Syntax.tyInt Syntax.w8)
-      (Syntax.tcons (Syntax.tyInt Syntax.w64) (Syntax.tcons Syntax.tyBool Syntax.tnil)))))))
+      Syntax.tyBool (Syntax.tcons Syntax.tyBool (Syntax.tcons (Syntax.tyInt Syntax.w32) (Syntax.tcons (Syntax.tyStruct (114 ∷ 101 ∷ 115 ∷ 105 ∷ 100 ∷ 117 ∷ 101
+      ∷ 58 ∷ 58 ∷ 82 ∷ 101 ∷ 115 ∷ 105 ∷ 100 ∷ 117 ∷ 101 ∷ []) (Syntax.tcons (Syntax.tyStruct (110 ∷ 97 ∷ 109 ∷ 101 ∷ 115 ∷ 58 ∷ 58 ∷ 84 ∷ 104 ∷ 114 ∷ 101 ∷
+      101 ∷ []) (Syntax.tcons (Syntax.tyInt Syntax.w8) (Syntax.tcons (Syntax.tyInt Syntax.w8) (Syntax.tcons (Syntax.tyInt Syntax.w8) Syntax.tnil))))
+      (Syntax.tcons (Syntax.tyInt Syntax.w8) (Syntax.tcons (Syntax.tyStruct (102 ∷ 105 ∷ 101 ∷ 108 ∷ 100 ∷ 115 ∷ 58 ∷ 58 ∷ 82 ∷ 101 ∷ 115 ∷ 105 ∷ 100 ∷ 117 ∷
+      101 ∷ 78 ∷ 117 ∷ 109 ∷ 98 ∷ 101 ∷ 114 ∷ []) (Syntax.tcons (Syntax.tyInt Syntax.w32) Syntax.tnil)) (Syntax.tcons (Syntax.tyInt Syntax.w8) Syntax.tnil)))))
+      (Syntax.tcons (Syntax.tyInt Syntax.w8) (Syntax.tcons (Syntax.tyInt Syntax.w64) (Syntax.tcons Syntax.tyBool Syntax.tnil))))))))
 
   abbrev s7 : Typed.Mo T10 → Typed.Mo T11
   s7 = Scalar.n-room T10 10 Syntax.tyBool
@@ -1055,7 +1030,7 @@ module _ (claims· : Claims) where
       (Rows'.sc-here (Row.sInt Syntax.w64)) (Row.sInt Syntax.w64 .of)
 
   abbrev s9 : Typed.Asks T12 T13
-  s9 = Scalar.k-op2 T12 (Syntax.mul Syntax.unsigned) (Scalar.oAt 4 (Syntax.tyInt Syntax.w64) (Row.valS (Row.sInt Syntax.w64))) (Scalar.oInt Syntax.w64 44) 11
+  s9 = Scalar.k-op2 T12 (Syntax.mul Syntax.unsigned) (Scalar.oAt 4 (Syntax.tyInt Syntax.w64) (Row.valS (Row.sInt Syntax.w64))) (Scalar.oInt Syntax.w64 48) 11
       (Rows'.sc-here (Row.sInt Syntax.w64)) (Row.sInt Syntax.w64 .of)
 
   abbrev s10 : Typed.Asks T13 T14
@@ -1063,7 +1038,7 @@ module _ (claims· : Claims) where
       (Scalar.oAt 11 (Syntax.tyInt Syntax.w64) (Row.valS (Row.sInt Syntax.w64))) 12 (Rows'.sc-here Row.sPtr) (Row.sPtr .of)
 
   abbrev s11 : Typed.Both T14 T15
-  s11 = Move.k-sl-copy-out SlotAs.row T14 1 12 13 0 (Syntax.tyRef (Syntax.named 0) Syntax.mut SlotAs.pointee) Row.off SlotAs.whole (Shared.bySize 44) (λ u. u
+  s11 = Move.k-sl-copy-out SlotAs.row T14 1 12 13 0 (Syntax.tyRef (Syntax.named 0) Syntax.mut SlotAs.pointee) Row.off SlotAs.whole (Shared.bySize 48) (λ u. u
       .1 .1 .1 .1 .0) (λ x. x) SlotAs.none (λ x. Unit) (λ x. x) λ x. x
 
   abbrev s12 : Typed.Mo T15 → Typed.Mo T16
@@ -1092,15 +1067,15 @@ module _ (claims· : Claims) where
       tt,
     ),
   ) 5 [] (Syntax.tyStruct (102 ∷ 114 ∷ 97 ∷ 103 ∷ 109 ∷ 101 ∷ 110 ∷ 116 ∷ 115 ∷ 58 ∷ 58 ∷ 84 ∷ 97 ∷ 105 ∷ 108 ∷ []) (Syntax.tcons
-      Syntax.tyBool (Syntax.tcons Syntax.tyBool (Syntax.tcons (Syntax.tyStruct (114 ∷ 101 ∷ 115 ∷ 105 ∷ 100 ∷ 117 ∷ 101 ∷ 58 ∷ 58 ∷ 82 ∷ 101 ∷ 115 ∷ 105 ∷ 100
-      ∷ 117 ∷ 101 ∷ []) (Syntax.tcons (Syntax.tyStruct (110 ∷ 97 ∷ 109 ∷ 101 ∷ 115 ∷ 58 ∷ 58 ∷ 84 ∷ 104 ∷ 114 ∷ 101 ∷ 101 ∷ []) (Syntax.tcons (Syntax.tyInt
-      Syntax.w8) (Syntax.tcons (Syntax.tyInt Syntax.w8) (Syntax.tcons (Syntax.tyInt Syntax.w8) Syntax.tnil)))) (Syntax.tcons (Syntax.tyInt Syntax.w8)
-      (Syntax.tcons (Syntax.tyStruct (102 ∷ 105 ∷ 101 ∷ 108 ∷ 100 ∷ 115 ∷ 58 ∷ 58 ∷ 82 ∷ 101 ∷ 115 ∷ 105 ∷ 100 ∷ 117 ∷ 101 ∷ 78 ∷ 117 ∷ 109 ∷ 98 ∷ 101 ∷ 114 ∷
-      []) (Syntax.tcons (Syntax.tyInt Syntax.w32) Syntax.tnil)) (Syntax.tcons (Syntax.tyInt Syntax.w8) Syntax.tnil))))) (Syntax.tcons (Syntax.tyInt Syntax.w8)
-      (Syntax.tcons (Syntax.tyInt Syntax.w64) (Syntax.tcons Syntax.tyBool Syntax.tnil)))))))
+      Syntax.tyBool (Syntax.tcons Syntax.tyBool (Syntax.tcons (Syntax.tyInt Syntax.w32) (Syntax.tcons (Syntax.tyStruct (114 ∷ 101 ∷ 115 ∷ 105 ∷ 100 ∷ 117 ∷ 101
+      ∷ 58 ∷ 58 ∷ 82 ∷ 101 ∷ 115 ∷ 105 ∷ 100 ∷ 117 ∷ 101 ∷ []) (Syntax.tcons (Syntax.tyStruct (110 ∷ 97 ∷ 109 ∷ 101 ∷ 115 ∷ 58 ∷ 58 ∷ 84 ∷ 104 ∷ 114 ∷ 101 ∷
+      101 ∷ []) (Syntax.tcons (Syntax.tyInt Syntax.w8) (Syntax.tcons (Syntax.tyInt Syntax.w8) (Syntax.tcons (Syntax.tyInt Syntax.w8) Syntax.tnil))))
+      (Syntax.tcons (Syntax.tyInt Syntax.w8) (Syntax.tcons (Syntax.tyStruct (102 ∷ 105 ∷ 101 ∷ 108 ∷ 100 ∷ 115 ∷ 58 ∷ 58 ∷ 82 ∷ 101 ∷ 115 ∷ 105 ∷ 100 ∷ 117 ∷
+      101 ∷ 78 ∷ 117 ∷ 109 ∷ 98 ∷ 101 ∷ 114 ∷ []) (Syntax.tcons (Syntax.tyInt Syntax.w32) Syntax.tnil)) (Syntax.tcons (Syntax.tyInt Syntax.w8) Syntax.tnil)))))
+      (Syntax.tcons (Syntax.tyInt Syntax.w8) (Syntax.tcons (Syntax.tyInt Syntax.w64) (Syntax.tcons Syntax.tyBool Syntax.tnil))))))))
 
   abbrev s17 : Typed.Mo T20 → Typed.Mo T21
-  s17 = Scalar.n-use T20 (Scalar.oFld 5 (Syntax.field 4 ∷ []) (Syntax.tyInt Syntax.w64) 24 (Reads.fieldV Tail.the-type Laws.the-laws 4)) 7 (Rows'.sc-here
+  s17 = Scalar.n-use T20 (Scalar.oFld 5 (Syntax.field 5 ∷ []) (Syntax.tyInt Syntax.w64) 24 (Reads.fieldV Tail.the-type Laws.the-laws 5)) 7 (Rows'.sc-here
       (Row.sInt Syntax.w64)) (Row.sInt Syntax.w64 .of)
 
   abbrev s18 : Typed.Asks T21 T22
@@ -1131,7 +1106,7 @@ module _ (claims· : Claims) where
   s25 = Scalar.n-room T28 15 (Syntax.tyInt Syntax.w8)
 
   abbrev s26 : Typed.Asks T29 T30
-  s26 = Scalar.k-op2 T29 (Syntax.mul Syntax.unsigned) (Scalar.oAt 4 (Syntax.tyInt Syntax.w64) (Row.valS (Row.sInt Syntax.w64))) (Scalar.oInt Syntax.w64 44) 11
+  s26 = Scalar.k-op2 T29 (Syntax.mul Syntax.unsigned) (Scalar.oAt 4 (Syntax.tyInt Syntax.w64) (Row.valS (Row.sInt Syntax.w64))) (Scalar.oInt Syntax.w64 48) 11
       (Rows'.sc-here (Row.sInt Syntax.w64)) (Row.sInt Syntax.w64 .of)
 
   abbrev s27 : Typed.Asks T30 T31
@@ -1139,7 +1114,7 @@ module _ (claims· : Claims) where
       (Scalar.oAt 11 (Syntax.tyInt Syntax.w64) (Row.valS (Row.sInt Syntax.w64))) 16 (Rows'.sc-here Row.sPtr) (Row.sPtr .of)
 
   abbrev s28 : Typed.Asks T31 T32
-  s28 = Move.k-sl-set-from SlotAs.row T31 1 16 9 0 (Syntax.tyRef (Syntax.named 0) Syntax.mut SlotAs.pointee) Row.off SlotAs.whole (Shared.bySize 44) (λ u. u .1
+  s28 = Move.k-sl-set-from SlotAs.row T31 1 16 9 0 (Syntax.tyRef (Syntax.named 0) Syntax.mut SlotAs.pointee) Row.off SlotAs.whole (Shared.bySize 48) (λ u. u .1
       .1 .1 .1 .0) (λ x. x) (λ x. x) (λ x. x) λ x. x
 
   abbrev s29 : Typed.Mo T32 → Typed.Mo T33
@@ -1476,20 +1451,21 @@ module _ (claims· : Claims) where
 
             d4 : Typed.Typed 𝓤 H A 𝓣 E G7 b5 Δ4 at4
             d4 = Typed.g-pre 𝓤 H A W 𝓣 E G7 G10 b5 Δ4 (Typed.pass T7 T10 s6) at3 (Scalar.g-room 𝓤 H A W E G7 5 (Syntax.tyStruct (102 ∷ 114 ∷ 97 ∷ 103 ∷ 109 ∷ 101
-                ∷ 110 ∷ 116 ∷ 115 ∷ 58 ∷ 58 ∷ 84 ∷ 97 ∷ 105 ∷ 108 ∷ []) (Syntax.tcons Syntax.tyBool (Syntax.tcons Syntax.tyBool (Syntax.tcons (Syntax.tyStruct
-                (114 ∷ 101 ∷ 115 ∷ 105 ∷ 100 ∷ 117 ∷ 101 ∷ 58 ∷ 58 ∷ 82 ∷ 101 ∷ 115 ∷ 105 ∷ 100 ∷ 117 ∷ 101 ∷ []) (Syntax.tcons (Syntax.tyStruct (110 ∷ 97 ∷ 109
-                ∷ 101 ∷ 115 ∷ 58 ∷ 58 ∷ 84 ∷ 104 ∷ 114 ∷ 101 ∷ 101 ∷ []) (Syntax.tcons (Syntax.tyInt Syntax.w8) (Syntax.tcons (Syntax.tyInt Syntax.w8)
-                (Syntax.tcons (Syntax.tyInt Syntax.w8) Syntax.tnil)))) (Syntax.tcons (Syntax.tyInt Syntax.w8) (Syntax.tcons (Syntax.tyStruct (102 ∷ 105 ∷ 101 ∷
-                108 ∷ 100 ∷ 115 ∷ 58 ∷ 58 ∷ 82 ∷ 101 ∷ 115 ∷ 105 ∷ 100 ∷ 117 ∷ 101 ∷ 78 ∷ 117 ∷ 109 ∷ 98 ∷ 101 ∷ 114 ∷ []) (Syntax.tcons (Syntax.tyInt
-                Syntax.w32) Syntax.tnil)) (Syntax.tcons (Syntax.tyInt Syntax.w8) Syntax.tnil))))) (Syntax.tcons (Syntax.tyInt Syntax.w8) (Syntax.tcons
-                (Syntax.tyInt Syntax.w64) (Syntax.tcons Syntax.tyBool Syntax.tnil))))))) (Local.room-whole 𝓤 H A W (Declared.row Tail.the-type) (Syntax.tyStruct
-                (102 ∷ 114 ∷ 97 ∷ 103 ∷ 109 ∷ 101 ∷ 110 ∷ 116 ∷ 115 ∷ 58 ∷ 58 ∷ 84 ∷ 97 ∷ 105 ∷ 108 ∷ []) (Syntax.tcons Syntax.tyBool (Syntax.tcons Syntax.tyBool
-                (Syntax.tcons (Syntax.tyStruct (114 ∷ 101 ∷ 115 ∷ 105 ∷ 100 ∷ 117 ∷ 101 ∷ 58 ∷ 58 ∷ 82 ∷ 101 ∷ 115 ∷ 105 ∷ 100 ∷ 117 ∷ 101 ∷ []) (Syntax.tcons
-                (Syntax.tyStruct (110 ∷ 97 ∷ 109 ∷ 101 ∷ 115 ∷ 58 ∷ 58 ∷ 84 ∷ 104 ∷ 114 ∷ 101 ∷ 101 ∷ []) (Syntax.tcons (Syntax.tyInt Syntax.w8) (Syntax.tcons
-                (Syntax.tyInt Syntax.w8) (Syntax.tcons (Syntax.tyInt Syntax.w8) Syntax.tnil)))) (Syntax.tcons (Syntax.tyInt Syntax.w8) (Syntax.tcons
-                (Syntax.tyStruct (102 ∷ 105 ∷ 101 ∷ 108 ∷ 100 ∷ 115 ∷ 58 ∷ 58 ∷ 82 ∷ 101 ∷ 115 ∷ 105 ∷ 100 ∷ 117 ∷ 101 ∷ 78 ∷ 117 ∷ 109 ∷ 98 ∷ 101 ∷ 114 ∷ [])
-                (Syntax.tcons (Syntax.tyInt Syntax.w32) Syntax.tnil)) (Syntax.tcons (Syntax.tyInt Syntax.w8) Syntax.tnil))))) (Syntax.tcons (Syntax.tyInt
-                Syntax.w8) (Syntax.tcons (Syntax.tyInt Syntax.w64) (Syntax.tcons Syntax.tyBool Syntax.tnil))))))) Path'.refl)) d3
+                ∷ 110 ∷ 116 ∷ 115 ∷ 58 ∷ 58 ∷ 84 ∷ 97 ∷ 105 ∷ 108 ∷ []) (Syntax.tcons Syntax.tyBool (Syntax.tcons Syntax.tyBool (Syntax.tcons (Syntax.tyInt
+                Syntax.w32) (Syntax.tcons (Syntax.tyStruct (114 ∷ 101 ∷ 115 ∷ 105 ∷ 100 ∷ 117 ∷ 101 ∷ 58 ∷ 58 ∷ 82 ∷ 101 ∷ 115 ∷ 105 ∷ 100 ∷ 117 ∷ 101 ∷ [])
+                (Syntax.tcons (Syntax.tyStruct (110 ∷ 97 ∷ 109 ∷ 101 ∷ 115 ∷ 58 ∷ 58 ∷ 84 ∷ 104 ∷ 114 ∷ 101 ∷ 101 ∷ []) (Syntax.tcons (Syntax.tyInt Syntax.w8)
+                (Syntax.tcons (Syntax.tyInt Syntax.w8) (Syntax.tcons (Syntax.tyInt Syntax.w8) Syntax.tnil)))) (Syntax.tcons (Syntax.tyInt Syntax.w8)
+                (Syntax.tcons (Syntax.tyStruct (102 ∷ 105 ∷ 101 ∷ 108 ∷ 100 ∷ 115 ∷ 58 ∷ 58 ∷ 82 ∷ 101 ∷ 115 ∷ 105 ∷ 100 ∷ 117 ∷ 101 ∷ 78 ∷ 117 ∷ 109 ∷ 98 ∷ 101
+                ∷ 114 ∷ []) (Syntax.tcons (Syntax.tyInt Syntax.w32) Syntax.tnil)) (Syntax.tcons (Syntax.tyInt Syntax.w8) Syntax.tnil))))) (Syntax.tcons
+                (Syntax.tyInt Syntax.w8) (Syntax.tcons (Syntax.tyInt Syntax.w64) (Syntax.tcons Syntax.tyBool Syntax.tnil)))))))) (Local.room-whole 𝓤 H A W
+                (Declared.row Tail.the-type) (Syntax.tyStruct (102 ∷ 114 ∷ 97 ∷ 103 ∷ 109 ∷ 101 ∷ 110 ∷ 116 ∷ 115 ∷ 58 ∷ 58 ∷ 84 ∷ 97 ∷ 105 ∷ 108 ∷ [])
+                (Syntax.tcons Syntax.tyBool (Syntax.tcons Syntax.tyBool (Syntax.tcons (Syntax.tyInt Syntax.w32) (Syntax.tcons (Syntax.tyStruct (114 ∷ 101 ∷ 115 ∷
+                105 ∷ 100 ∷ 117 ∷ 101 ∷ 58 ∷ 58 ∷ 82 ∷ 101 ∷ 115 ∷ 105 ∷ 100 ∷ 117 ∷ 101 ∷ []) (Syntax.tcons (Syntax.tyStruct (110 ∷ 97 ∷ 109 ∷ 101 ∷ 115 ∷ 58 ∷
+                58 ∷ 84 ∷ 104 ∷ 114 ∷ 101 ∷ 101 ∷ []) (Syntax.tcons (Syntax.tyInt Syntax.w8) (Syntax.tcons (Syntax.tyInt Syntax.w8) (Syntax.tcons (Syntax.tyInt
+                Syntax.w8) Syntax.tnil)))) (Syntax.tcons (Syntax.tyInt Syntax.w8) (Syntax.tcons (Syntax.tyStruct (102 ∷ 105 ∷ 101 ∷ 108 ∷ 100 ∷ 115 ∷ 58 ∷ 58 ∷
+                82 ∷ 101 ∷ 115 ∷ 105 ∷ 100 ∷ 117 ∷ 101 ∷ 78 ∷ 117 ∷ 109 ∷ 98 ∷ 101 ∷ 114 ∷ []) (Syntax.tcons (Syntax.tyInt Syntax.w32) Syntax.tnil))
+                (Syntax.tcons (Syntax.tyInt Syntax.w8) Syntax.tnil))))) (Syntax.tcons (Syntax.tyInt Syntax.w8) (Syntax.tcons (Syntax.tyInt Syntax.w64)
+                (Syntax.tcons Syntax.tyBool Syntax.tnil)))))))) Path'.refl)) d3
 
             d5 : Typed.Typed 𝓤 H A 𝓣 E G7 b6 Δ4 at5
             d5 = Scalar.t-cond 𝓤 H A W E 𝓣 G7 10 (λ x. x) b4 b5 Δ4 at1 at4 (Scalar.reads-sc 𝓤 H A W Row.sBool) Path'.refl d1 d4
@@ -1502,8 +1478,8 @@ module _ (claims· : Claims) where
                 b20 (λ Ψ. Typed.ask s28 (Typed.pass T32 T33 s29 (Typed.pass T33 T34 s30 Ψ))) (Typed.pass T34 T35 s31) (Typed.g-post 𝓤 H A W 𝓣 E G31 G33 G34 b20
                 (λ Ψ. Typed.ask s28 (Typed.pass T32 T33 s29 Ψ)) (Typed.pass T33 T34 s30) (Typed.g-post 𝓤 H A W 𝓣 E G31 G32 G33 b20 (Typed.ask s28) (Typed.pass
                 T32 T33 s29) (Move.t-sl-set-from 𝓤 H A W E SlotAs.row 𝓣 Path'.refl (λ ρ. Unit) G31 1 16 9 0 (Syntax.tyRef (Syntax.named 0) Syntax.mut
-                SlotAs.pointee) (Row.lease (κs .0) (qs .0)) SlotAs.ty SlotAs.ty SlotAs.whole (Shared.bySize 44) (λ u. u .1 .1 .1 .1 .0) (λ x. x) (λ x. x) (λ x.
-                x) (λ x. x) (λ i o. Elements.at-mul o 44 i) Path'.refl Path'.refl (Own.told-none 𝓤 H A (G31 .slots)) (Reads'.as-is 𝓤 H A (Mut.mslice SlotAs.row
+                SlotAs.pointee) (Row.lease (κs .0) (qs .0)) SlotAs.ty SlotAs.ty SlotAs.whole (Shared.bySize 48) (λ u. u .1 .1 .1 .1 .0) (λ x. x) (λ x. x) (λ x.
+                x) (λ x. x) (λ i o. Elements.at-mul o 48 i) Path'.refl Path'.refl (Own.told-none 𝓤 H A (G31 .slots)) (Reads'.as-is 𝓤 H A (Mut.mslice SlotAs.row
                 (Syntax.tyRef (Syntax.named 0) Syntax.mut SlotAs.pointee) 0)) (Reads'.as-is 𝓤 H A (Rows'.sc-here Row.sPtr)) (Yields.yields-copy 𝓤 H A W (λ ρ.
                 Unit) SlotAs.row Path'.refl (SlotAs.copies .copy 𝓤 H A W) SlotAs.whole (λ x. x) (λ x. x) (λ ρ told. SlotAs.mem 𝓤 H A W ρ) λ ρ told. SlotAs.of-mem
                 𝓤 H A W ρ) Path'.refl tt Path'.refl Path'.refl) (Scalar.g-room 𝓤 H A W E G32 7 (Syntax.tyInt Syntax.w64) (Scalar.room-sc 𝓤 H A W (Row.sInt
@@ -1523,7 +1499,7 @@ module _ (claims· : Claims) where
 
             d8 : Typed.Typed 𝓤 H A 𝓣 E G29 b22 Δ3 at8
             d8 = Typed.s-seq 𝓤 H A W 𝓣 E G29 G30 b18 b21 Δ3 (Typed.ask s26) at7 (Scalar.t-op2 𝓤 H A W E 𝓣 G29 (Syntax.mul Syntax.unsigned) (Scalar.oAt 4
-                (Syntax.tyInt Syntax.w64) (Row.valS (Row.sInt Syntax.w64))) (Scalar.oInt Syntax.w64 44) 11 (Rows'.sc-here (Row.sInt Syntax.w64)) (Syntax.tyInt
+                (Syntax.tyInt Syntax.w64) (Row.valS (Row.sInt Syntax.w64))) (Scalar.oInt Syntax.w64 48) 11 (Rows'.sc-here (Row.sInt Syntax.w64)) (Syntax.tyInt
                 Syntax.w64) (Row.valS (Row.sInt Syntax.w64)) (Row.sInt Syntax.w64 .of) (Scalar.reads-sc 𝓤 H A W (Row.sInt Syntax.w64), Path'.refl) tt
                 (Reads'.room-gone 𝓤 H A (Syntax.tyInt Syntax.w64)) (Scalar.holds-sc 𝓤 H A W (Row.sInt Syntax.w64)) Path'.refl (λ u. Path'.refl) λ u. tt) d7
 
@@ -1580,10 +1556,10 @@ module _ (claims· : Claims) where
                 Syntax.w64)) (Scalar.holds-sc 𝓤 H A W (Row.sInt Syntax.w64)) Path'.refl (λ u. Path'.refl) λ u. tt) d15
 
             d17 : Typed.Typed 𝓤 H A 𝓣 E G20 b27 Δ3 at17
-            d17 = Typed.s-seq 𝓤 H A W 𝓣 E G20 G21 b13 b26 Δ3 (Typed.pass T20 T21 s17) at16 (Scalar.t-use 𝓤 H A W E 𝓣 G20 (Scalar.oFld 5 (Syntax.field 4 ∷ [])
-                (Syntax.tyInt Syntax.w64) 24 (Reads.fieldV Tail.the-type Laws.the-laws 4)) 7 (Rows'.sc-here (Row.sInt Syntax.w64)) (Syntax.tyInt Syntax.w64)
+            d17 = Typed.s-seq 𝓤 H A W 𝓣 E G20 G21 b13 b26 Δ3 (Typed.pass T20 T21 s17) at16 (Scalar.t-use 𝓤 H A W E 𝓣 G20 (Scalar.oFld 5 (Syntax.field 5 ∷ [])
+                (Syntax.tyInt Syntax.w64) 24 (Reads.fieldV Tail.the-type Laws.the-laws 5)) 7 (Rows'.sc-here (Row.sInt Syntax.w64)) (Syntax.tyInt Syntax.w64)
                 (Row.valS (Row.sInt Syntax.w64)) (Row.sInt Syntax.w64 .of) (
-                  Reads.reads-field 𝓤 H A W Tail.the-type Laws.the-laws 4 (Syntax.tyInt Syntax.w64) 24
+                  Reads.reads-field 𝓤 H A W Tail.the-type Laws.the-laws 5 (Syntax.tyInt Syntax.w64) 24
                       Path'.refl,
                   Path'.refl,
                 ) (Reads'.room-gone 𝓤 H A (Syntax.tyInt Syntax.w64)) (Scalar.holds-sc 𝓤 H A W (Row.sInt Syntax.w64)) Path'.refl (λ u.
@@ -1617,12 +1593,12 @@ module _ (claims· : Claims) where
                   ),
                 ) (Local.room-whole 𝓤 H A W (Declared.row Tail.the-type) (Syntax.tyStruct (102 ∷ 114 ∷ 97 ∷ 103 ∷
                 109 ∷ 101 ∷ 110 ∷ 116 ∷ 115 ∷ 58 ∷ 58 ∷ 84 ∷ 97 ∷ 105 ∷ 108 ∷ []) (Syntax.tcons Syntax.tyBool (Syntax.tcons Syntax.tyBool (Syntax.tcons
-                (Syntax.tyStruct (114 ∷ 101 ∷ 115 ∷ 105 ∷ 100 ∷ 117 ∷ 101 ∷ 58 ∷ 58 ∷ 82 ∷ 101 ∷ 115 ∷ 105 ∷ 100 ∷ 117 ∷ 101 ∷ []) (Syntax.tcons (Syntax.tyStruct
-                (110 ∷ 97 ∷ 109 ∷ 101 ∷ 115 ∷ 58 ∷ 58 ∷ 84 ∷ 104 ∷ 114 ∷ 101 ∷ 101 ∷ []) (Syntax.tcons (Syntax.tyInt Syntax.w8) (Syntax.tcons (Syntax.tyInt
-                Syntax.w8) (Syntax.tcons (Syntax.tyInt Syntax.w8) Syntax.tnil)))) (Syntax.tcons (Syntax.tyInt Syntax.w8) (Syntax.tcons (Syntax.tyStruct (102 ∷
-                105 ∷ 101 ∷ 108 ∷ 100 ∷ 115 ∷ 58 ∷ 58 ∷ 82 ∷ 101 ∷ 115 ∷ 105 ∷ 100 ∷ 117 ∷ 101 ∷ 78 ∷ 117 ∷ 109 ∷ 98 ∷ 101 ∷ 114 ∷ []) (Syntax.tcons
-                (Syntax.tyInt Syntax.w32) Syntax.tnil)) (Syntax.tcons (Syntax.tyInt Syntax.w8) Syntax.tnil))))) (Syntax.tcons (Syntax.tyInt Syntax.w8)
-                (Syntax.tcons (Syntax.tyInt Syntax.w64) (Syntax.tcons Syntax.tyBool Syntax.tnil))))))) Path'.refl) tt Path'.refl) d17
+                (Syntax.tyInt Syntax.w32) (Syntax.tcons (Syntax.tyStruct (114 ∷ 101 ∷ 115 ∷ 105 ∷ 100 ∷ 117 ∷ 101 ∷ 58 ∷ 58 ∷ 82 ∷ 101 ∷ 115 ∷ 105 ∷ 100 ∷ 117 ∷
+                101 ∷ []) (Syntax.tcons (Syntax.tyStruct (110 ∷ 97 ∷ 109 ∷ 101 ∷ 115 ∷ 58 ∷ 58 ∷ 84 ∷ 104 ∷ 114 ∷ 101 ∷ 101 ∷ []) (Syntax.tcons (Syntax.tyInt
+                Syntax.w8) (Syntax.tcons (Syntax.tyInt Syntax.w8) (Syntax.tcons (Syntax.tyInt Syntax.w8) Syntax.tnil)))) (Syntax.tcons (Syntax.tyInt Syntax.w8)
+                (Syntax.tcons (Syntax.tyStruct (102 ∷ 105 ∷ 101 ∷ 108 ∷ 100 ∷ 115 ∷ 58 ∷ 58 ∷ 82 ∷ 101 ∷ 115 ∷ 105 ∷ 100 ∷ 117 ∷ 101 ∷ 78 ∷ 117 ∷ 109 ∷ 98 ∷ 101
+                ∷ 114 ∷ []) (Syntax.tcons (Syntax.tyInt Syntax.w32) Syntax.tnil)) (Syntax.tcons (Syntax.tyInt Syntax.w8) Syntax.tnil))))) (Syntax.tcons
+                (Syntax.tyInt Syntax.w8) (Syntax.tcons (Syntax.tyInt Syntax.w64) (Syntax.tcons Syntax.tyBool Syntax.tnil)))))))) Path'.refl) tt Path'.refl) d17
 
             d19 : Typed.Typed 𝓤 H A 𝓣 E G18 b28 Δ3 at19
             d19 = Typed.g-pre 𝓤 H A W 𝓣 E G18 G19 b28 Δ3 (Typed.pass T18 T19 s15) at18 (Scalar.g-room 𝓤 H A W E G18 13 SlotAs.ty (SlotAs.room 𝓤 H A W)) d18
@@ -1645,7 +1621,7 @@ module _ (claims· : Claims) where
             d23 : Typed.Typed 𝓤 H A 𝓣 E G14 b30 Δ3 at23
             d23 = Typed.s-seq 𝓤 H A W 𝓣 E G14 G15 b10 b29 Δ3 (Typed.both s11) at22 (Move.t-sl-copy-out 𝓤 H A W E SlotAs.row 𝓣 Path'.refl (SlotAs.copies .copy 𝓤 H
                 A W) (λ ρ. Unit) G14 1 12 13 0 (Syntax.tyRef (Syntax.named 0) Syntax.mut SlotAs.pointee) (Row.lease (κs .0) (qs .0)) SlotAs.ty SlotAs.ty
-                SlotAs.whole (Shared.bySize 44) (λ u. u .1 .1 .1 .1 .0) (λ x. x) SlotAs.none (λ x. Unit) (λ x. x) (λ x. x) (λ i o. Elements.at-mul o 44 i)
+                SlotAs.whole (Shared.bySize 48) (λ u. u .1 .1 .1 .1 .0) (λ x. x) SlotAs.none (λ x. Unit) (λ x. x) (λ x. x) (λ i o. Elements.at-mul o 48 i)
                 Path'.refl Path'.refl (Own.told-none 𝓤 H A (G14 .slots)) (DerefMove.learns-nothing 𝓤 H A SlotAs.row) (Reads'.as-is 𝓤 H A (Mut.mslice SlotAs.row
                 (Syntax.tyRef (Syntax.named 0) Syntax.mut SlotAs.pointee) 0)) (Reads'.as-is 𝓤 H A (Rows'.sc-here Row.sPtr)) (Reads'.room-gone 𝓤 H A SlotAs.ty)
                 (Yields.makes-mem 𝓤 H A W (λ ρ. Unit) SlotAs.row Path'.refl SlotAs.whole (λ x. x) λ ρ told. SlotAs.of-mem 𝓤 H A W ρ) Path'.refl tt Path'.refl
@@ -1663,7 +1639,7 @@ module _ (claims· : Claims) where
 
             d25 : Typed.Typed 𝓤 H A 𝓣 E G12 b32 Δ3 at25
             d25 = Typed.s-seq 𝓤 H A W 𝓣 E G12 G13 b8 b31 Δ3 (Typed.ask s9) at24 (Scalar.t-op2 𝓤 H A W E 𝓣 G12 (Syntax.mul Syntax.unsigned) (Scalar.oAt 4
-                (Syntax.tyInt Syntax.w64) (Row.valS (Row.sInt Syntax.w64))) (Scalar.oInt Syntax.w64 44) 11 (Rows'.sc-here (Row.sInt Syntax.w64)) (Syntax.tyInt
+                (Syntax.tyInt Syntax.w64) (Row.valS (Row.sInt Syntax.w64))) (Scalar.oInt Syntax.w64 48) 11 (Rows'.sc-here (Row.sInt Syntax.w64)) (Syntax.tyInt
                 Syntax.w64) (Row.valS (Row.sInt Syntax.w64)) (Row.sInt Syntax.w64 .of) (Scalar.reads-sc 𝓤 H A W (Row.sInt Syntax.w64), Path'.refl) tt
                 (Reads'.room-gone 𝓤 H A (Syntax.tyInt Syntax.w64)) (Scalar.holds-sc 𝓤 H A W (Row.sInt Syntax.w64)) Path'.refl (λ u. Path'.refl) λ u. tt) d24
 
@@ -1713,12 +1689,13 @@ module _ (claims· : Claims) where
             d36 = Typed.s-seq 𝓤 H A W 𝓣 E G4 G5 b2 b41 Δ0 (Typed.both s3) at35 (Plain.t-call-plain 𝓤 H A W 𝓣 0 ps·0 r·0 (claims· .0) (claims· .1)
                 "fragments::end_tail" (known .0) E (λ pos β. β) G4 tt 5 [] (Call.sub-id 𝓤 H A W (G4 .slots)) tt (Reads'.room-gone 𝓤 H A (Syntax.tyStruct
                 (102 ∷ 114 ∷ 97 ∷ 103 ∷ 109 ∷ 101 ∷ 110 ∷ 116 ∷ 115 ∷ 58 ∷ 58 ∷ 84 ∷ 97 ∷ 105 ∷ 108 ∷ []) (Syntax.tcons Syntax.tyBool (Syntax.tcons Syntax.tyBool
-                (Syntax.tcons (Syntax.tyStruct (114 ∷ 101 ∷ 115 ∷ 105 ∷ 100 ∷ 117 ∷ 101 ∷ 58 ∷ 58 ∷ 82 ∷ 101 ∷ 115 ∷ 105 ∷ 100 ∷ 117 ∷ 101 ∷ []) (Syntax.tcons
-                (Syntax.tyStruct (110 ∷ 97 ∷ 109 ∷ 101 ∷ 115 ∷ 58 ∷ 58 ∷ 84 ∷ 104 ∷ 114 ∷ 101 ∷ 101 ∷ []) (Syntax.tcons (Syntax.tyInt Syntax.w8) (Syntax.tcons
-                (Syntax.tyInt Syntax.w8) (Syntax.tcons (Syntax.tyInt Syntax.w8) Syntax.tnil)))) (Syntax.tcons (Syntax.tyInt Syntax.w8) (Syntax.tcons
-                (Syntax.tyStruct (102 ∷ 105 ∷ 101 ∷ 108 ∷ 100 ∷ 115 ∷ 58 ∷ 58 ∷ 82 ∷ 101 ∷ 115 ∷ 105 ∷ 100 ∷ 117 ∷ 101 ∷ 78 ∷ 117 ∷ 109 ∷ 98 ∷ 101 ∷ 114 ∷ [])
-                (Syntax.tcons (Syntax.tyInt Syntax.w32) Syntax.tnil)) (Syntax.tcons (Syntax.tyInt Syntax.w8) Syntax.tnil))))) (Syntax.tcons (Syntax.tyInt
-                Syntax.w8) (Syntax.tcons (Syntax.tyInt Syntax.w64) (Syntax.tcons Syntax.tyBool Syntax.tnil)))))))) tt Path'.refl) d35
+                (Syntax.tcons (Syntax.tyInt Syntax.w32) (Syntax.tcons (Syntax.tyStruct (114 ∷ 101 ∷ 115 ∷ 105 ∷ 100 ∷ 117 ∷ 101 ∷ 58 ∷ 58 ∷ 82 ∷ 101 ∷ 115 ∷ 105
+                ∷ 100 ∷ 117 ∷ 101 ∷ []) (Syntax.tcons (Syntax.tyStruct (110 ∷ 97 ∷ 109 ∷ 101 ∷ 115 ∷ 58 ∷ 58 ∷ 84 ∷ 104 ∷ 114 ∷ 101 ∷ 101 ∷ []) (Syntax.tcons
+                (Syntax.tyInt Syntax.w8) (Syntax.tcons (Syntax.tyInt Syntax.w8) (Syntax.tcons (Syntax.tyInt Syntax.w8) Syntax.tnil)))) (Syntax.tcons
+                (Syntax.tyInt Syntax.w8) (Syntax.tcons (Syntax.tyStruct (102 ∷ 105 ∷ 101 ∷ 108 ∷ 100 ∷ 115 ∷ 58 ∷ 58 ∷ 82 ∷ 101 ∷ 115 ∷ 105 ∷ 100 ∷ 117 ∷ 101 ∷
+                78 ∷ 117 ∷ 109 ∷ 98 ∷ 101 ∷ 114 ∷ []) (Syntax.tcons (Syntax.tyInt Syntax.w32) Syntax.tnil)) (Syntax.tcons (Syntax.tyInt Syntax.w8)
+                Syntax.tnil))))) (Syntax.tcons (Syntax.tyInt Syntax.w8) (Syntax.tcons (Syntax.tyInt Syntax.w64) (Syntax.tcons Syntax.tyBool Syntax.tnil)))))))))
+                tt Path'.refl) d35
 
             d37 : Typed.Typed 𝓤 H A 𝓣 E G3 b43 Δ0 at37
             d37 = Typed.s-seq 𝓤 H A W 𝓣 E G3 G4 b1 b42 Δ0 (Typed.pass T3 T4 s2) at36 (Scalar.t-use 𝓤 H A W E 𝓣 G3 (Scalar.oFld 1 (Syntax.field 1 ∷ [])

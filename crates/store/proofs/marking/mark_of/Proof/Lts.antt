@@ -74,13 +74,13 @@ r = Num.rNum Syntax.w8
 
 abbrev pub xs : List.List Syntax.Ty
 xs = Syntax.tyInt Syntax.w64 ∷ (Syntax.tyStruct (102 ∷ 114 ∷ 97 ∷ 103 ∷ 109 ∷ 101 ∷ 110 ∷ 116 ∷ 115 ∷ 58 ∷ 58 ∷ 84 ∷ 97 ∷ 105 ∷ 108 ∷ []) (Syntax.tcons
-    Syntax.tyBool (Syntax.tcons Syntax.tyBool (Syntax.tcons (Syntax.tyStruct (114 ∷ 101 ∷ 115 ∷ 105 ∷ 100 ∷ 117 ∷ 101 ∷ 58 ∷ 58 ∷ 82 ∷ 101 ∷ 115 ∷ 105 ∷ 100 ∷
-    117 ∷ 101 ∷ []) (Syntax.tcons (Syntax.tyStruct (110 ∷ 97 ∷ 109 ∷ 101 ∷ 115 ∷ 58 ∷ 58 ∷ 84 ∷ 104 ∷ 114 ∷ 101 ∷ 101 ∷ []) (Syntax.tcons (Syntax.tyInt
-    Syntax.w8) (Syntax.tcons (Syntax.tyInt Syntax.w8) (Syntax.tcons (Syntax.tyInt Syntax.w8) Syntax.tnil)))) (Syntax.tcons (Syntax.tyInt Syntax.w8)
-    (Syntax.tcons (Syntax.tyStruct (102 ∷ 105 ∷ 101 ∷ 108 ∷ 100 ∷ 115 ∷ 58 ∷ 58 ∷ 82 ∷ 101 ∷ 115 ∷ 105 ∷ 100 ∷ 117 ∷ 101 ∷ 78 ∷ 117 ∷ 109 ∷ 98 ∷ 101 ∷ 114 ∷
-    []) (Syntax.tcons (Syntax.tyInt Syntax.w32) Syntax.tnil)) (Syntax.tcons (Syntax.tyInt Syntax.w8) Syntax.tnil))))) (Syntax.tcons (Syntax.tyInt Syntax.w8)
-    (Syntax.tcons (Syntax.tyInt Syntax.w64) (Syntax.tcons Syntax.tyBool Syntax.tnil))))))) ∷ Syntax.tyInt Syntax.w8 ∷ SlotAs.ty ∷ Syntax.tyBool ∷ Syntax.tyInt
-    Syntax.w64 ∷ Syntax.tyPtr ∷ SlotAs.ty ∷ []
+    Syntax.tyBool (Syntax.tcons Syntax.tyBool (Syntax.tcons (Syntax.tyInt Syntax.w32) (Syntax.tcons (Syntax.tyStruct (114 ∷ 101 ∷ 115 ∷ 105 ∷ 100 ∷ 117 ∷ 101 ∷
+    58 ∷ 58 ∷ 82 ∷ 101 ∷ 115 ∷ 105 ∷ 100 ∷ 117 ∷ 101 ∷ []) (Syntax.tcons (Syntax.tyStruct (110 ∷ 97 ∷ 109 ∷ 101 ∷ 115 ∷ 58 ∷ 58 ∷ 84 ∷ 104 ∷ 114 ∷ 101 ∷ 101 ∷
+    []) (Syntax.tcons (Syntax.tyInt Syntax.w8) (Syntax.tcons (Syntax.tyInt Syntax.w8) (Syntax.tcons (Syntax.tyInt Syntax.w8) Syntax.tnil)))) (Syntax.tcons
+    (Syntax.tyInt Syntax.w8) (Syntax.tcons (Syntax.tyStruct (102 ∷ 105 ∷ 101 ∷ 108 ∷ 100 ∷ 115 ∷ 58 ∷ 58 ∷ 82 ∷ 101 ∷ 115 ∷ 105 ∷ 100 ∷ 117 ∷ 101 ∷ 78 ∷ 117 ∷
+    109 ∷ 98 ∷ 101 ∷ 114 ∷ []) (Syntax.tcons (Syntax.tyInt Syntax.w32) Syntax.tnil)) (Syntax.tcons (Syntax.tyInt Syntax.w8) Syntax.tnil))))) (Syntax.tcons
+    (Syntax.tyInt Syntax.w8) (Syntax.tcons (Syntax.tyInt Syntax.w64) (Syntax.tcons Syntax.tyBool Syntax.tnil)))))))) ∷ Syntax.tyInt Syntax.w8 ∷ SlotAs.ty ∷
+    Syntax.tyBool ∷ Syntax.tyInt Syntax.w64 ∷ Syntax.tyPtr ∷ SlotAs.ty ∷ []
 
 abbrev pub m : Nat.ℕ
 m = 0
@@ -226,7 +226,7 @@ abbrev b7 : Syntax.Body
 b7 = Syntax.assign (Syntax.place 3 []) (Syntax.op2 (Syntax.sub Syntax.unsigned) (Syntax.copy (Syntax.place 3 [])) (Syntax.int Syntax.w64 1))
 
 abbrev b8 : Syntax.Body
-b8 = Syntax.assign (Syntax.place 8 []) (Syntax.op2 (Syntax.mul Syntax.unsigned) (Syntax.copy (Syntax.place 3 [])) (Syntax.int Syntax.w64 44))
+b8 = Syntax.assign (Syntax.place 8 []) (Syntax.op2 (Syntax.mul Syntax.unsigned) (Syntax.copy (Syntax.place 3 [])) (Syntax.int Syntax.w64 48))
 
 abbrev b9 : Syntax.Body
 b9 = Syntax.assign (Syntax.place 9 []) (Syntax.op2 Syntax.offset (Syntax.copy (Syntax.place 1 (Syntax.field 0 ∷ []))) (Syntax.copy (Syntax.place 8
@@ -310,20 +310,17 @@ t0 = (0, Rows'.any-gone (Syntax.tyInt Syntax.w8)) ∷ (1, Rows'.sslice SlotAs.ro
 ) ∷ (3, Rows'.any-gone (Syntax.tyInt Syntax.w64)) ∷ (
   4,
   Rows'.any-gone (Syntax.tyStruct (102 ∷ 114 ∷ 97 ∷ 103 ∷ 109 ∷ 101 ∷
-      110 ∷ 116 ∷ 115 ∷ 58 ∷ 58 ∷ 84 ∷ 97 ∷ 105 ∷ 108 ∷ []) (Syntax.tcons Syntax.tyBool (Syntax.tcons Syntax.tyBool (Syntax.tcons (Syntax.tyStruct (114 ∷ 101 ∷
-      115 ∷ 105 ∷ 100 ∷ 117 ∷ 101 ∷ 58 ∷ 58 ∷ 82 ∷ 101 ∷ 115 ∷ 105 ∷ 100 ∷ 117 ∷ 101 ∷ []) (Syntax.tcons (Syntax.tyStruct (110 ∷ 97 ∷ 109 ∷ 101 ∷ 115 ∷ 58 ∷ 58 ∷
-      84 ∷ 104 ∷ 114 ∷ 101 ∷ 101 ∷ []) (Syntax.tcons (Syntax.tyInt Syntax.w8) (Syntax.tcons (Syntax.tyInt Syntax.w8) (Syntax.tcons (Syntax.tyInt Syntax.w8)
-      Syntax.tnil)))) (Syntax.tcons (Syntax.tyInt Syntax.w8) (Syntax.tcons (Syntax.tyStruct (102 ∷ 105 ∷ 101 ∷ 108 ∷ 100 ∷ 115 ∷ 58 ∷ 58 ∷ 82 ∷ 101 ∷ 115 ∷ 105 ∷
-      100 ∷ 117 ∷ 101 ∷ 78 ∷ 117 ∷ 109 ∷ 98 ∷ 101 ∷ 114 ∷ []) (Syntax.tcons (Syntax.tyInt Syntax.w32) Syntax.tnil)) (Syntax.tcons (Syntax.tyInt Syntax.w8)
-      Syntax.tnil))))) (Syntax.tcons (Syntax.tyInt Syntax.w8) (Syntax.tcons (Syntax.tyInt Syntax.w64) (Syntax.tcons Syntax.tyBool Syntax.tnil))))))),
-) ∷ (
-  5,
-  Rows'.any-gone (Syntax.tyInt Syntax.w8),
-) ∷ (6, Rows'.any-gone SlotAs.ty) ∷ (7, Rows'.any-gone Syntax.tyBool) ∷ (
-  8,
-  Rows'.any-gone (Syntax.tyInt
-      Syntax.w64),
-) ∷ (9, Rows'.any-gone Syntax.tyPtr) ∷ (10, Rows'.any-gone SlotAs.ty) ∷ []
+      110 ∷ 116 ∷ 115 ∷ 58 ∷ 58 ∷ 84 ∷ 97 ∷ 105 ∷ 108 ∷ []) (Syntax.tcons Syntax.tyBool (Syntax.tcons Syntax.tyBool (Syntax.tcons (Syntax.tyInt Syntax.w32)
+      (Syntax.tcons (Syntax.tyStruct (114 ∷ 101 ∷ 115 ∷ 105 ∷ 100 ∷ 117 ∷ 101 ∷ 58 ∷ 58 ∷ 82 ∷ 101 ∷ 115 ∷ 105 ∷ 100 ∷ 117 ∷ 101 ∷ []) (Syntax.tcons
+      (Syntax.tyStruct (110 ∷ 97 ∷ 109 ∷ 101 ∷ 115 ∷ 58 ∷ 58 ∷ 84 ∷ 104 ∷ 114 ∷ 101 ∷ 101 ∷ []) (Syntax.tcons (Syntax.tyInt Syntax.w8) (Syntax.tcons
+      (Syntax.tyInt Syntax.w8) (Syntax.tcons (Syntax.tyInt Syntax.w8) Syntax.tnil)))) (Syntax.tcons (Syntax.tyInt Syntax.w8) (Syntax.tcons (Syntax.tyStruct (102
+      ∷ 105 ∷ 101 ∷ 108 ∷ 100 ∷ 115 ∷ 58 ∷ 58 ∷ 82 ∷ 101 ∷ 115 ∷ 105 ∷ 100 ∷ 117 ∷ 101 ∷ 78 ∷ 117 ∷ 109 ∷ 98 ∷ 101 ∷ 114 ∷ []) (Syntax.tcons (Syntax.tyInt
+      Syntax.w32) Syntax.tnil)) (Syntax.tcons (Syntax.tyInt Syntax.w8) Syntax.tnil))))) (Syntax.tcons (Syntax.tyInt Syntax.w8) (Syntax.tcons (Syntax.tyInt
+      Syntax.w64) (Syntax.tcons Syntax.tyBool Syntax.tnil)))))))),
+) ∷ (5, Rows'.any-gone (Syntax.tyInt Syntax.w8)) ∷ (6, Rows'.any-gone SlotAs.ty) ∷ (
+  7,
+  Rows'.any-gone Syntax.tyBool,
+) ∷ (8, Rows'.any-gone (Syntax.tyInt Syntax.w64)) ∷ (9, Rows'.any-gone Syntax.tyPtr) ∷ (10, Rows'.any-gone SlotAs.ty) ∷ []
 
 abbrev pub t1 : List.List Row.Entry
 t1 = (0, Rows'.sc-here (Row.sInt Syntax.w8)) ∷ (1, Rows'.sslice SlotAs.row (Syntax.tyRef (Syntax.named 0) Syntax.imm SlotAs.pointee) 0) ∷ (
@@ -334,18 +331,17 @@ t1 = (0, Rows'.sc-here (Row.sInt Syntax.w8)) ∷ (1, Rows'.sslice SlotAs.row (Sy
 ) ∷ (3, Rows'.any-gone (Syntax.tyInt Syntax.w64)) ∷ (
   4,
   Rows'.any-gone (Syntax.tyStruct (102 ∷ 114 ∷ 97 ∷ 103 ∷ 109
-      ∷ 101 ∷ 110 ∷ 116 ∷ 115 ∷ 58 ∷ 58 ∷ 84 ∷ 97 ∷ 105 ∷ 108 ∷ []) (Syntax.tcons Syntax.tyBool (Syntax.tcons Syntax.tyBool (Syntax.tcons (Syntax.tyStruct (114 ∷
-      101 ∷ 115 ∷ 105 ∷ 100 ∷ 117 ∷ 101 ∷ 58 ∷ 58 ∷ 82 ∷ 101 ∷ 115 ∷ 105 ∷ 100 ∷ 117 ∷ 101 ∷ []) (Syntax.tcons (Syntax.tyStruct (110 ∷ 97 ∷ 109 ∷ 101 ∷ 115 ∷ 58
-      ∷ 58 ∷ 84 ∷ 104 ∷ 114 ∷ 101 ∷ 101 ∷ []) (Syntax.tcons (Syntax.tyInt Syntax.w8) (Syntax.tcons (Syntax.tyInt Syntax.w8) (Syntax.tcons (Syntax.tyInt
-      Syntax.w8) Syntax.tnil)))) (Syntax.tcons (Syntax.tyInt Syntax.w8) (Syntax.tcons (Syntax.tyStruct (102 ∷ 105 ∷ 101 ∷ 108 ∷ 100 ∷ 115 ∷ 58 ∷ 58 ∷ 82 ∷ 101 ∷
-      115 ∷ 105 ∷ 100 ∷ 117 ∷ 101 ∷ 78 ∷ 117 ∷ 109 ∷ 98 ∷ 101 ∷ 114 ∷ []) (Syntax.tcons (Syntax.tyInt Syntax.w32) Syntax.tnil)) (Syntax.tcons (Syntax.tyInt
-      Syntax.w8) Syntax.tnil))))) (Syntax.tcons (Syntax.tyInt Syntax.w8) (Syntax.tcons (Syntax.tyInt Syntax.w64) (Syntax.tcons Syntax.tyBool Syntax.tnil))))))),
-)
-    ∷ (5, Rows'.any-gone (Syntax.tyInt Syntax.w8)) ∷ (6, Rows'.any-gone SlotAs.ty) ∷ (7, Rows'.any-gone Syntax.tyBool) ∷ (
-      8,
-      Rows'.any-gone (Syntax.tyInt
-          Syntax.w64),
-    ) ∷ (9, Rows'.any-gone Syntax.tyPtr) ∷ (10, Rows'.any-gone SlotAs.ty) ∷ []
+      ∷ 101 ∷ 110 ∷ 116 ∷ 115 ∷ 58 ∷ 58 ∷ 84 ∷ 97 ∷ 105 ∷ 108 ∷ []) (Syntax.tcons Syntax.tyBool (Syntax.tcons Syntax.tyBool (Syntax.tcons (Syntax.tyInt
+      Syntax.w32) (Syntax.tcons (Syntax.tyStruct (114 ∷ 101 ∷ 115 ∷ 105 ∷ 100 ∷ 117 ∷ 101 ∷ 58 ∷ 58 ∷ 82 ∷ 101 ∷ 115 ∷ 105 ∷ 100 ∷ 117 ∷ 101 ∷ []) (Syntax.tcons
+      (Syntax.tyStruct (110 ∷ 97 ∷ 109 ∷ 101 ∷ 115 ∷ 58 ∷ 58 ∷ 84 ∷ 104 ∷ 114 ∷ 101 ∷ 101 ∷ []) (Syntax.tcons (Syntax.tyInt Syntax.w8) (Syntax.tcons
+      (Syntax.tyInt Syntax.w8) (Syntax.tcons (Syntax.tyInt Syntax.w8) Syntax.tnil)))) (Syntax.tcons (Syntax.tyInt Syntax.w8) (Syntax.tcons (Syntax.tyStruct (102
+      ∷ 105 ∷ 101 ∷ 108 ∷ 100 ∷ 115 ∷ 58 ∷ 58 ∷ 82 ∷ 101 ∷ 115 ∷ 105 ∷ 100 ∷ 117 ∷ 101 ∷ 78 ∷ 117 ∷ 109 ∷ 98 ∷ 101 ∷ 114 ∷ []) (Syntax.tcons (Syntax.tyInt
+      Syntax.w32) Syntax.tnil)) (Syntax.tcons (Syntax.tyInt Syntax.w8) Syntax.tnil))))) (Syntax.tcons (Syntax.tyInt Syntax.w8) (Syntax.tcons (Syntax.tyInt
+      Syntax.w64) (Syntax.tcons Syntax.tyBool Syntax.tnil)))))))),
+) ∷ (5, Rows'.any-gone (Syntax.tyInt Syntax.w8)) ∷ (6, Rows'.any-gone SlotAs.ty) ∷ (
+  7,
+  Rows'.any-gone Syntax.tyBool,
+) ∷ (8, Rows'.any-gone (Syntax.tyInt Syntax.w64)) ∷ (9, Rows'.any-gone Syntax.tyPtr) ∷ (10, Rows'.any-gone SlotAs.ty) ∷ []
 
 abbrev pub t2 : List.List Row.Entry
 t2 = (0, Rows'.any-gone (Syntax.tyInt Syntax.w8)) ∷ (1, Rows'.sslice SlotAs.row (Syntax.tyRef (Syntax.named 0) Syntax.imm SlotAs.pointee) 0) ∷ (
@@ -355,20 +351,17 @@ t2 = (0, Rows'.any-gone (Syntax.tyInt Syntax.w8)) ∷ (1, Rows'.sslice SlotAs.ro
 ) ∷ (3, Rows'.sc-here (Row.sInt Syntax.w64)) ∷ (
   4,
   Rows'.any-gone (Syntax.tyStruct (102 ∷ 114 ∷ 97 ∷ 103 ∷ 109 ∷ 101 ∷ 110
-      ∷ 116 ∷ 115 ∷ 58 ∷ 58 ∷ 84 ∷ 97 ∷ 105 ∷ 108 ∷ []) (Syntax.tcons Syntax.tyBool (Syntax.tcons Syntax.tyBool (Syntax.tcons (Syntax.tyStruct (114 ∷ 101 ∷ 115 ∷
-      105 ∷ 100 ∷ 117 ∷ 101 ∷ 58 ∷ 58 ∷ 82 ∷ 101 ∷ 115 ∷ 105 ∷ 100 ∷ 117 ∷ 101 ∷ []) (Syntax.tcons (Syntax.tyStruct (110 ∷ 97 ∷ 109 ∷ 101 ∷ 115 ∷ 58 ∷ 58 ∷ 84 ∷
-      104 ∷ 114 ∷ 101 ∷ 101 ∷ []) (Syntax.tcons (Syntax.tyInt Syntax.w8) (Syntax.tcons (Syntax.tyInt Syntax.w8) (Syntax.tcons (Syntax.tyInt Syntax.w8)
-      Syntax.tnil)))) (Syntax.tcons (Syntax.tyInt Syntax.w8) (Syntax.tcons (Syntax.tyStruct (102 ∷ 105 ∷ 101 ∷ 108 ∷ 100 ∷ 115 ∷ 58 ∷ 58 ∷ 82 ∷ 101 ∷ 115 ∷ 105 ∷
-      100 ∷ 117 ∷ 101 ∷ 78 ∷ 117 ∷ 109 ∷ 98 ∷ 101 ∷ 114 ∷ []) (Syntax.tcons (Syntax.tyInt Syntax.w32) Syntax.tnil)) (Syntax.tcons (Syntax.tyInt Syntax.w8)
-      Syntax.tnil))))) (Syntax.tcons (Syntax.tyInt Syntax.w8) (Syntax.tcons (Syntax.tyInt Syntax.w64) (Syntax.tcons Syntax.tyBool Syntax.tnil))))))),
-) ∷ (
-  5,
-  Rows'.any-gone (Syntax.tyInt Syntax.w8),
-) ∷ (6, Rows'.any-gone SlotAs.ty) ∷ (7, Rows'.any-gone Syntax.tyBool) ∷ (
-  8,
-  Rows'.any-gone (Syntax.tyInt
-      Syntax.w64),
-) ∷ (9, Rows'.any-gone Syntax.tyPtr) ∷ (10, Rows'.any-gone SlotAs.ty) ∷ []
+      ∷ 116 ∷ 115 ∷ 58 ∷ 58 ∷ 84 ∷ 97 ∷ 105 ∷ 108 ∷ []) (Syntax.tcons Syntax.tyBool (Syntax.tcons Syntax.tyBool (Syntax.tcons (Syntax.tyInt Syntax.w32)
+      (Syntax.tcons (Syntax.tyStruct (114 ∷ 101 ∷ 115 ∷ 105 ∷ 100 ∷ 117 ∷ 101 ∷ 58 ∷ 58 ∷ 82 ∷ 101 ∷ 115 ∷ 105 ∷ 100 ∷ 117 ∷ 101 ∷ []) (Syntax.tcons
+      (Syntax.tyStruct (110 ∷ 97 ∷ 109 ∷ 101 ∷ 115 ∷ 58 ∷ 58 ∷ 84 ∷ 104 ∷ 114 ∷ 101 ∷ 101 ∷ []) (Syntax.tcons (Syntax.tyInt Syntax.w8) (Syntax.tcons
+      (Syntax.tyInt Syntax.w8) (Syntax.tcons (Syntax.tyInt Syntax.w8) Syntax.tnil)))) (Syntax.tcons (Syntax.tyInt Syntax.w8) (Syntax.tcons (Syntax.tyStruct (102
+      ∷ 105 ∷ 101 ∷ 108 ∷ 100 ∷ 115 ∷ 58 ∷ 58 ∷ 82 ∷ 101 ∷ 115 ∷ 105 ∷ 100 ∷ 117 ∷ 101 ∷ 78 ∷ 117 ∷ 109 ∷ 98 ∷ 101 ∷ 114 ∷ []) (Syntax.tcons (Syntax.tyInt
+      Syntax.w32) Syntax.tnil)) (Syntax.tcons (Syntax.tyInt Syntax.w8) Syntax.tnil))))) (Syntax.tcons (Syntax.tyInt Syntax.w8) (Syntax.tcons (Syntax.tyInt
+      Syntax.w64) (Syntax.tcons Syntax.tyBool Syntax.tnil)))))))),
+) ∷ (5, Rows'.any-gone (Syntax.tyInt Syntax.w8)) ∷ (6, Rows'.any-gone SlotAs.ty) ∷ (
+  7,
+  Rows'.any-gone Syntax.tyBool,
+) ∷ (8, Rows'.any-gone (Syntax.tyInt Syntax.w64)) ∷ (9, Rows'.any-gone Syntax.tyPtr) ∷ (10, Rows'.any-gone SlotAs.ty) ∷ []
 
 abbrev pub t3 : List.List Row.Entry
 t3 = (0, Rows'.any-gone (Syntax.tyInt Syntax.w8)) ∷ (1, Rows'.sslice SlotAs.row (Syntax.tyRef (Syntax.named 0) Syntax.imm SlotAs.pointee) 0) ∷ (
@@ -407,18 +400,18 @@ t5 = (0, Rows'.any-gone (Syntax.tyInt Syntax.w8)) ∷ (1, Rows'.sslice SlotAs.ro
 ) ∷ (3, Rows'.sc-here (Row.sInt Syntax.w64)) ∷ (
   4,
   Rows'.any-gone (Syntax.tyStruct (102 ∷ 114 ∷ 97 ∷
-      103 ∷ 109 ∷ 101 ∷ 110 ∷ 116 ∷ 115 ∷ 58 ∷ 58 ∷ 84 ∷ 97 ∷ 105 ∷ 108 ∷ []) (Syntax.tcons Syntax.tyBool (Syntax.tcons Syntax.tyBool (Syntax.tcons
-      (Syntax.tyStruct (114 ∷ 101 ∷ 115 ∷ 105 ∷ 100 ∷ 117 ∷ 101 ∷ 58 ∷ 58 ∷ 82 ∷ 101 ∷ 115 ∷ 105 ∷ 100 ∷ 117 ∷ 101 ∷ []) (Syntax.tcons (Syntax.tyStruct (110 ∷ 97
-      ∷ 109 ∷ 101 ∷ 115 ∷ 58 ∷ 58 ∷ 84 ∷ 104 ∷ 114 ∷ 101 ∷ 101 ∷ []) (Syntax.tcons (Syntax.tyInt Syntax.w8) (Syntax.tcons (Syntax.tyInt Syntax.w8) (Syntax.tcons
-      (Syntax.tyInt Syntax.w8) Syntax.tnil)))) (Syntax.tcons (Syntax.tyInt Syntax.w8) (Syntax.tcons (Syntax.tyStruct (102 ∷ 105 ∷ 101 ∷ 108 ∷ 100 ∷ 115 ∷ 58 ∷ 58
-      ∷ 82 ∷ 101 ∷ 115 ∷ 105 ∷ 100 ∷ 117 ∷ 101 ∷ 78 ∷ 117 ∷ 109 ∷ 98 ∷ 101 ∷ 114 ∷ []) (Syntax.tcons (Syntax.tyInt Syntax.w32) Syntax.tnil)) (Syntax.tcons
-      (Syntax.tyInt Syntax.w8) Syntax.tnil))))) (Syntax.tcons (Syntax.tyInt Syntax.w8) (Syntax.tcons (Syntax.tyInt Syntax.w64) (Syntax.tcons Syntax.tyBool
-      Syntax.tnil))))))),
-) ∷ (5, Rows'.sc-here (Row.sInt Syntax.w8)) ∷ (6, Rows'.any-gone SlotAs.ty) ∷ (7, Rows'.any-gone Syntax.tyBool) ∷ (
-  8,
+      103 ∷ 109 ∷ 101 ∷ 110 ∷ 116 ∷ 115 ∷ 58 ∷ 58 ∷ 84 ∷ 97 ∷ 105 ∷ 108 ∷ []) (Syntax.tcons Syntax.tyBool (Syntax.tcons Syntax.tyBool (Syntax.tcons (Syntax.tyInt
+      Syntax.w32) (Syntax.tcons (Syntax.tyStruct (114 ∷ 101 ∷ 115 ∷ 105 ∷ 100 ∷ 117 ∷ 101 ∷ 58 ∷ 58 ∷ 82 ∷ 101 ∷ 115 ∷ 105 ∷ 100 ∷ 117 ∷ 101 ∷ []) (Syntax.tcons
+      (Syntax.tyStruct (110 ∷ 97 ∷ 109 ∷ 101 ∷ 115 ∷ 58 ∷ 58 ∷ 84 ∷ 104 ∷ 114 ∷ 101 ∷ 101 ∷ []) (Syntax.tcons (Syntax.tyInt Syntax.w8) (Syntax.tcons
+      (Syntax.tyInt Syntax.w8) (Syntax.tcons (Syntax.tyInt Syntax.w8) Syntax.tnil)))) (Syntax.tcons (Syntax.tyInt Syntax.w8) (Syntax.tcons (Syntax.tyStruct (102
+      ∷ 105 ∷ 101 ∷ 108 ∷ 100 ∷ 115 ∷ 58 ∷ 58 ∷ 82 ∷ 101 ∷ 115 ∷ 105 ∷ 100 ∷ 117 ∷ 101 ∷ 78 ∷ 117 ∷ 109 ∷ 98 ∷ 101 ∷ 114 ∷ []) (Syntax.tcons (Syntax.tyInt
+      Syntax.w32) Syntax.tnil)) (Syntax.tcons (Syntax.tyInt Syntax.w8) Syntax.tnil))))) (Syntax.tcons (Syntax.tyInt Syntax.w8) (Syntax.tcons (Syntax.tyInt
+      Syntax.w64) (Syntax.tcons Syntax.tyBool Syntax.tnil)))))))),
+) ∷ (5, Rows'.sc-here (Row.sInt Syntax.w8)) ∷ (6, Rows'.any-gone SlotAs.ty) ∷ (
+  7,
   Rows'.any-gone
-      (Syntax.tyInt Syntax.w64),
-) ∷ (9, Rows'.any-gone Syntax.tyPtr) ∷ (10, Rows'.any-gone SlotAs.ty) ∷ []
+      Syntax.tyBool,
+) ∷ (8, Rows'.any-gone (Syntax.tyInt Syntax.w64)) ∷ (9, Rows'.any-gone Syntax.tyPtr) ∷ (10, Rows'.any-gone SlotAs.ty) ∷ []
 
 abbrev pub t6 : List.List Row.Entry
 t6 = (0, Rows'.any-gone (Syntax.tyInt Syntax.w8)) ∷ (1, Rows'.sslice SlotAs.row (Syntax.tyRef (Syntax.named 0) Syntax.imm SlotAs.pointee) 0) ∷ (
@@ -456,18 +449,18 @@ t8 = (0, Rows'.any-gone (Syntax.tyInt Syntax.w8)) ∷ (1, Rows'.sslice SlotAs.ro
 ) ∷ (3, Rows'.sc-here (Row.sInt Syntax.w64)) ∷ (
   4,
   Rows'.any-gone (Syntax.tyStruct (102 ∷ 114 ∷ 97 ∷
-      103 ∷ 109 ∷ 101 ∷ 110 ∷ 116 ∷ 115 ∷ 58 ∷ 58 ∷ 84 ∷ 97 ∷ 105 ∷ 108 ∷ []) (Syntax.tcons Syntax.tyBool (Syntax.tcons Syntax.tyBool (Syntax.tcons
-      (Syntax.tyStruct (114 ∷ 101 ∷ 115 ∷ 105 ∷ 100 ∷ 117 ∷ 101 ∷ 58 ∷ 58 ∷ 82 ∷ 101 ∷ 115 ∷ 105 ∷ 100 ∷ 117 ∷ 101 ∷ []) (Syntax.tcons (Syntax.tyStruct (110 ∷ 97
-      ∷ 109 ∷ 101 ∷ 115 ∷ 58 ∷ 58 ∷ 84 ∷ 104 ∷ 114 ∷ 101 ∷ 101 ∷ []) (Syntax.tcons (Syntax.tyInt Syntax.w8) (Syntax.tcons (Syntax.tyInt Syntax.w8) (Syntax.tcons
-      (Syntax.tyInt Syntax.w8) Syntax.tnil)))) (Syntax.tcons (Syntax.tyInt Syntax.w8) (Syntax.tcons (Syntax.tyStruct (102 ∷ 105 ∷ 101 ∷ 108 ∷ 100 ∷ 115 ∷ 58 ∷ 58
-      ∷ 82 ∷ 101 ∷ 115 ∷ 105 ∷ 100 ∷ 117 ∷ 101 ∷ 78 ∷ 117 ∷ 109 ∷ 98 ∷ 101 ∷ 114 ∷ []) (Syntax.tcons (Syntax.tyInt Syntax.w32) Syntax.tnil)) (Syntax.tcons
-      (Syntax.tyInt Syntax.w8) Syntax.tnil))))) (Syntax.tcons (Syntax.tyInt Syntax.w8) (Syntax.tcons (Syntax.tyInt Syntax.w64) (Syntax.tcons Syntax.tyBool
-      Syntax.tnil))))))),
-) ∷ (5, Rows'.sc-here (Row.sInt Syntax.w8)) ∷ (6, Rows'.any-gone SlotAs.ty) ∷ (7, Rows'.sc-here Row.sBool) ∷ (
-  8,
-  Rows'.any-gone
-      (Syntax.tyInt Syntax.w64),
-) ∷ (9, Rows'.any-gone Syntax.tyPtr) ∷ (10, Rows'.any-gone SlotAs.ty) ∷ []
+      103 ∷ 109 ∷ 101 ∷ 110 ∷ 116 ∷ 115 ∷ 58 ∷ 58 ∷ 84 ∷ 97 ∷ 105 ∷ 108 ∷ []) (Syntax.tcons Syntax.tyBool (Syntax.tcons Syntax.tyBool (Syntax.tcons (Syntax.tyInt
+      Syntax.w32) (Syntax.tcons (Syntax.tyStruct (114 ∷ 101 ∷ 115 ∷ 105 ∷ 100 ∷ 117 ∷ 101 ∷ 58 ∷ 58 ∷ 82 ∷ 101 ∷ 115 ∷ 105 ∷ 100 ∷ 117 ∷ 101 ∷ []) (Syntax.tcons
+      (Syntax.tyStruct (110 ∷ 97 ∷ 109 ∷ 101 ∷ 115 ∷ 58 ∷ 58 ∷ 84 ∷ 104 ∷ 114 ∷ 101 ∷ 101 ∷ []) (Syntax.tcons (Syntax.tyInt Syntax.w8) (Syntax.tcons
+      (Syntax.tyInt Syntax.w8) (Syntax.tcons (Syntax.tyInt Syntax.w8) Syntax.tnil)))) (Syntax.tcons (Syntax.tyInt Syntax.w8) (Syntax.tcons (Syntax.tyStruct (102
+      ∷ 105 ∷ 101 ∷ 108 ∷ 100 ∷ 115 ∷ 58 ∷ 58 ∷ 82 ∷ 101 ∷ 115 ∷ 105 ∷ 100 ∷ 117 ∷ 101 ∷ 78 ∷ 117 ∷ 109 ∷ 98 ∷ 101 ∷ 114 ∷ []) (Syntax.tcons (Syntax.tyInt
+      Syntax.w32) Syntax.tnil)) (Syntax.tcons (Syntax.tyInt Syntax.w8) Syntax.tnil))))) (Syntax.tcons (Syntax.tyInt Syntax.w8) (Syntax.tcons (Syntax.tyInt
+      Syntax.w64) (Syntax.tcons Syntax.tyBool Syntax.tnil)))))))),
+) ∷ (5, Rows'.sc-here (Row.sInt Syntax.w8)) ∷ (6, Rows'.any-gone SlotAs.ty) ∷ (
+  7,
+  Rows'.sc-here
+      Row.sBool,
+) ∷ (8, Rows'.any-gone (Syntax.tyInt Syntax.w64)) ∷ (9, Rows'.any-gone Syntax.tyPtr) ∷ (10, Rows'.any-gone SlotAs.ty) ∷ []
 
 abbrev pub t9 : List.List Row.Entry
 t9 = (0, Rows'.any-gone (Syntax.tyInt Syntax.w8)) ∷ (1, Rows'.sslice SlotAs.row (Syntax.tyRef (Syntax.named 0) Syntax.imm SlotAs.pointee) 0) ∷ (
@@ -571,17 +564,18 @@ t16 = (0, Rows'.sc-here (Row.sInt Syntax.w8)) ∷ (1, Rows'.sslice SlotAs.row (S
 ) ∷ (3, Rows'.sc-here (Row.sInt Syntax.w64)) ∷ (
   4,
   Rows'.any-gone (Syntax.tyStruct (102 ∷ 114 ∷ 97 ∷ 103 ∷ 109 ∷ 101
-      ∷ 110 ∷ 116 ∷ 115 ∷ 58 ∷ 58 ∷ 84 ∷ 97 ∷ 105 ∷ 108 ∷ []) (Syntax.tcons Syntax.tyBool (Syntax.tcons Syntax.tyBool (Syntax.tcons (Syntax.tyStruct (114 ∷ 101 ∷
-      115 ∷ 105 ∷ 100 ∷ 117 ∷ 101 ∷ 58 ∷ 58 ∷ 82 ∷ 101 ∷ 115 ∷ 105 ∷ 100 ∷ 117 ∷ 101 ∷ []) (Syntax.tcons (Syntax.tyStruct (110 ∷ 97 ∷ 109 ∷ 101 ∷ 115 ∷ 58 ∷ 58 ∷
-      84 ∷ 104 ∷ 114 ∷ 101 ∷ 101 ∷ []) (Syntax.tcons (Syntax.tyInt Syntax.w8) (Syntax.tcons (Syntax.tyInt Syntax.w8) (Syntax.tcons (Syntax.tyInt Syntax.w8)
-      Syntax.tnil)))) (Syntax.tcons (Syntax.tyInt Syntax.w8) (Syntax.tcons (Syntax.tyStruct (102 ∷ 105 ∷ 101 ∷ 108 ∷ 100 ∷ 115 ∷ 58 ∷ 58 ∷ 82 ∷ 101 ∷ 115 ∷ 105 ∷
-      100 ∷ 117 ∷ 101 ∷ 78 ∷ 117 ∷ 109 ∷ 98 ∷ 101 ∷ 114 ∷ []) (Syntax.tcons (Syntax.tyInt Syntax.w32) Syntax.tnil)) (Syntax.tcons (Syntax.tyInt Syntax.w8)
-      Syntax.tnil))))) (Syntax.tcons (Syntax.tyInt Syntax.w8) (Syntax.tcons (Syntax.tyInt Syntax.w64) (Syntax.tcons Syntax.tyBool Syntax.tnil))))))),
-) ∷ (
-  5,
-  Rows'.sc-here (Row.sInt Syntax.w8),
-) ∷ (6, Rows'.any-gone SlotAs.ty) ∷ (7, Rows'.any-gone Syntax.tyBool) ∷ (8, Rows'.any-gone (Syntax.tyInt Syntax.w64)) ∷
-    (9, Rows'.any-gone Syntax.tyPtr) ∷ (10, Rows'.any-gone SlotAs.ty) ∷ []
+      ∷ 110 ∷ 116 ∷ 115 ∷ 58 ∷ 58 ∷ 84 ∷ 97 ∷ 105 ∷ 108 ∷ []) (Syntax.tcons Syntax.tyBool (Syntax.tcons Syntax.tyBool (Syntax.tcons (Syntax.tyInt Syntax.w32)
+      (Syntax.tcons (Syntax.tyStruct (114 ∷ 101 ∷ 115 ∷ 105 ∷ 100 ∷ 117 ∷ 101 ∷ 58 ∷ 58 ∷ 82 ∷ 101 ∷ 115 ∷ 105 ∷ 100 ∷ 117 ∷ 101 ∷ []) (Syntax.tcons
+      (Syntax.tyStruct (110 ∷ 97 ∷ 109 ∷ 101 ∷ 115 ∷ 58 ∷ 58 ∷ 84 ∷ 104 ∷ 114 ∷ 101 ∷ 101 ∷ []) (Syntax.tcons (Syntax.tyInt Syntax.w8) (Syntax.tcons
+      (Syntax.tyInt Syntax.w8) (Syntax.tcons (Syntax.tyInt Syntax.w8) Syntax.tnil)))) (Syntax.tcons (Syntax.tyInt Syntax.w8) (Syntax.tcons (Syntax.tyStruct (102
+      ∷ 105 ∷ 101 ∷ 108 ∷ 100 ∷ 115 ∷ 58 ∷ 58 ∷ 82 ∷ 101 ∷ 115 ∷ 105 ∷ 100 ∷ 117 ∷ 101 ∷ 78 ∷ 117 ∷ 109 ∷ 98 ∷ 101 ∷ 114 ∷ []) (Syntax.tcons (Syntax.tyInt
+      Syntax.w32) Syntax.tnil)) (Syntax.tcons (Syntax.tyInt Syntax.w8) Syntax.tnil))))) (Syntax.tcons (Syntax.tyInt Syntax.w8) (Syntax.tcons (Syntax.tyInt
+      Syntax.w64) (Syntax.tcons Syntax.tyBool Syntax.tnil)))))))),
+) ∷ (5, Rows'.sc-here (Row.sInt Syntax.w8)) ∷ (6, Rows'.any-gone SlotAs.ty) ∷ (
+  7,
+  Rows'.any-gone
+      Syntax.tyBool,
+) ∷ (8, Rows'.any-gone (Syntax.tyInt Syntax.w64)) ∷ (9, Rows'.any-gone Syntax.tyPtr) ∷ (10, Rows'.any-gone SlotAs.ty) ∷ []
 
 abbrev pub t17 : List.List Row.Entry
 t17 = (0, Rows'.sc-here (Row.sInt Syntax.w8)) ∷ (1, Rows'.sslice SlotAs.row (Syntax.tyRef (Syntax.named 0) Syntax.imm SlotAs.pointee) 0) ∷ (
@@ -592,18 +586,18 @@ t17 = (0, Rows'.sc-here (Row.sInt Syntax.w8)) ∷ (1, Rows'.sslice SlotAs.row (S
 ) ∷ (3, Rows'.any-gone (Syntax.tyInt Syntax.w64)) ∷ (
   4,
   Rows'.any-gone (Syntax.tyStruct (102 ∷ 114 ∷ 97 ∷ 103 ∷ 109
-      ∷ 101 ∷ 110 ∷ 116 ∷ 115 ∷ 58 ∷ 58 ∷ 84 ∷ 97 ∷ 105 ∷ 108 ∷ []) (Syntax.tcons Syntax.tyBool (Syntax.tcons Syntax.tyBool (Syntax.tcons (Syntax.tyStruct (114 ∷
-      101 ∷ 115 ∷ 105 ∷ 100 ∷ 117 ∷ 101 ∷ 58 ∷ 58 ∷ 82 ∷ 101 ∷ 115 ∷ 105 ∷ 100 ∷ 117 ∷ 101 ∷ []) (Syntax.tcons (Syntax.tyStruct (110 ∷ 97 ∷ 109 ∷ 101 ∷ 115 ∷ 58
-      ∷ 58 ∷ 84 ∷ 104 ∷ 114 ∷ 101 ∷ 101 ∷ []) (Syntax.tcons (Syntax.tyInt Syntax.w8) (Syntax.tcons (Syntax.tyInt Syntax.w8) (Syntax.tcons (Syntax.tyInt
-      Syntax.w8) Syntax.tnil)))) (Syntax.tcons (Syntax.tyInt Syntax.w8) (Syntax.tcons (Syntax.tyStruct (102 ∷ 105 ∷ 101 ∷ 108 ∷ 100 ∷ 115 ∷ 58 ∷ 58 ∷ 82 ∷ 101 ∷
-      115 ∷ 105 ∷ 100 ∷ 117 ∷ 101 ∷ 78 ∷ 117 ∷ 109 ∷ 98 ∷ 101 ∷ 114 ∷ []) (Syntax.tcons (Syntax.tyInt Syntax.w32) Syntax.tnil)) (Syntax.tcons (Syntax.tyInt
-      Syntax.w8) Syntax.tnil))))) (Syntax.tcons (Syntax.tyInt Syntax.w8) (Syntax.tcons (Syntax.tyInt Syntax.w64) (Syntax.tcons Syntax.tyBool Syntax.tnil))))))),
-)
-    ∷ (5, Rows'.sc-here (Row.sInt Syntax.w8)) ∷ (6, Rows'.any-gone SlotAs.ty) ∷ (7, Rows'.any-gone Syntax.tyBool) ∷ (
-      8,
-      Rows'.any-gone (Syntax.tyInt
-          Syntax.w64),
-    ) ∷ (9, Rows'.any-gone Syntax.tyPtr) ∷ (10, Rows'.any-gone SlotAs.ty) ∷ []
+      ∷ 101 ∷ 110 ∷ 116 ∷ 115 ∷ 58 ∷ 58 ∷ 84 ∷ 97 ∷ 105 ∷ 108 ∷ []) (Syntax.tcons Syntax.tyBool (Syntax.tcons Syntax.tyBool (Syntax.tcons (Syntax.tyInt
+      Syntax.w32) (Syntax.tcons (Syntax.tyStruct (114 ∷ 101 ∷ 115 ∷ 105 ∷ 100 ∷ 117 ∷ 101 ∷ 58 ∷ 58 ∷ 82 ∷ 101 ∷ 115 ∷ 105 ∷ 100 ∷ 117 ∷ 101 ∷ []) (Syntax.tcons
+      (Syntax.tyStruct (110 ∷ 97 ∷ 109 ∷ 101 ∷ 115 ∷ 58 ∷ 58 ∷ 84 ∷ 104 ∷ 114 ∷ 101 ∷ 101 ∷ []) (Syntax.tcons (Syntax.tyInt Syntax.w8) (Syntax.tcons
+      (Syntax.tyInt Syntax.w8) (Syntax.tcons (Syntax.tyInt Syntax.w8) Syntax.tnil)))) (Syntax.tcons (Syntax.tyInt Syntax.w8) (Syntax.tcons (Syntax.tyStruct (102
+      ∷ 105 ∷ 101 ∷ 108 ∷ 100 ∷ 115 ∷ 58 ∷ 58 ∷ 82 ∷ 101 ∷ 115 ∷ 105 ∷ 100 ∷ 117 ∷ 101 ∷ 78 ∷ 117 ∷ 109 ∷ 98 ∷ 101 ∷ 114 ∷ []) (Syntax.tcons (Syntax.tyInt
+      Syntax.w32) Syntax.tnil)) (Syntax.tcons (Syntax.tyInt Syntax.w8) Syntax.tnil))))) (Syntax.tcons (Syntax.tyInt Syntax.w8) (Syntax.tcons (Syntax.tyInt
+      Syntax.w64) (Syntax.tcons Syntax.tyBool Syntax.tnil)))))))),
+) ∷ (5, Rows'.sc-here (Row.sInt Syntax.w8)) ∷ (6, Rows'.any-gone SlotAs.ty) ∷ (
+  7,
+  Rows'.any-gone
+      Syntax.tyBool,
+) ∷ (8, Rows'.any-gone (Syntax.tyInt Syntax.w64)) ∷ (9, Rows'.any-gone Syntax.tyPtr) ∷ (10, Rows'.any-gone SlotAs.ty) ∷ []
 
 abbrev pub T0 : Row.Cx
 T0 = record { locals = t0; slots = [] }
@@ -715,12 +709,13 @@ module _ (claims· : Claims) where
 
   abbrev s1 : Typed.Both T2 T3
   s1 = Call.callB ps·0 r·0 (claims· .0) (claims· .1) T2 tt 4 [] (Syntax.tyStruct (102 ∷ 114 ∷ 97 ∷ 103 ∷ 109 ∷ 101 ∷ 110 ∷ 116 ∷ 115 ∷ 58 ∷ 58 ∷ 84 ∷ 97 ∷
-      105 ∷ 108 ∷ []) (Syntax.tcons Syntax.tyBool (Syntax.tcons Syntax.tyBool (Syntax.tcons (Syntax.tyStruct (114 ∷ 101 ∷ 115 ∷ 105 ∷ 100 ∷ 117 ∷ 101 ∷ 58 ∷ 58
-      ∷ 82 ∷ 101 ∷ 115 ∷ 105 ∷ 100 ∷ 117 ∷ 101 ∷ []) (Syntax.tcons (Syntax.tyStruct (110 ∷ 97 ∷ 109 ∷ 101 ∷ 115 ∷ 58 ∷ 58 ∷ 84 ∷ 104 ∷ 114 ∷ 101 ∷ 101 ∷ [])
-      (Syntax.tcons (Syntax.tyInt Syntax.w8) (Syntax.tcons (Syntax.tyInt Syntax.w8) (Syntax.tcons (Syntax.tyInt Syntax.w8) Syntax.tnil)))) (Syntax.tcons
-      (Syntax.tyInt Syntax.w8) (Syntax.tcons (Syntax.tyStruct (102 ∷ 105 ∷ 101 ∷ 108 ∷ 100 ∷ 115 ∷ 58 ∷ 58 ∷ 82 ∷ 101 ∷ 115 ∷ 105 ∷ 100 ∷ 117 ∷ 101 ∷ 78 ∷ 117
-      ∷ 109 ∷ 98 ∷ 101 ∷ 114 ∷ []) (Syntax.tcons (Syntax.tyInt Syntax.w32) Syntax.tnil)) (Syntax.tcons (Syntax.tyInt Syntax.w8) Syntax.tnil))))) (Syntax.tcons
-      (Syntax.tyInt Syntax.w8) (Syntax.tcons (Syntax.tyInt Syntax.w64) (Syntax.tcons Syntax.tyBool Syntax.tnil)))))))
+      105 ∷ 108 ∷ []) (Syntax.tcons Syntax.tyBool (Syntax.tcons Syntax.tyBool (Syntax.tcons (Syntax.tyInt Syntax.w32) (Syntax.tcons (Syntax.tyStruct (114 ∷ 101
+      ∷ 115 ∷ 105 ∷ 100 ∷ 117 ∷ 101 ∷ 58 ∷ 58 ∷ 82 ∷ 101 ∷ 115 ∷ 105 ∷ 100 ∷ 117 ∷ 101 ∷ []) (Syntax.tcons (Syntax.tyStruct (110 ∷ 97 ∷ 109 ∷ 101 ∷ 115 ∷ 58 ∷
+      58 ∷ 84 ∷ 104 ∷ 114 ∷ 101 ∷ 101 ∷ []) (Syntax.tcons (Syntax.tyInt Syntax.w8) (Syntax.tcons (Syntax.tyInt Syntax.w8) (Syntax.tcons (Syntax.tyInt
+      Syntax.w8) Syntax.tnil)))) (Syntax.tcons (Syntax.tyInt Syntax.w8) (Syntax.tcons (Syntax.tyStruct (102 ∷ 105 ∷ 101 ∷ 108 ∷ 100 ∷ 115 ∷ 58 ∷ 58 ∷ 82 ∷ 101
+      ∷ 115 ∷ 105 ∷ 100 ∷ 117 ∷ 101 ∷ 78 ∷ 117 ∷ 109 ∷ 98 ∷ 101 ∷ 114 ∷ []) (Syntax.tcons (Syntax.tyInt Syntax.w32) Syntax.tnil)) (Syntax.tcons (Syntax.tyInt
+      Syntax.w8) Syntax.tnil))))) (Syntax.tcons (Syntax.tyInt Syntax.w8) (Syntax.tcons (Syntax.tyInt Syntax.w64) (Syntax.tcons Syntax.tyBool
+      Syntax.tnil))))))))
 
   abbrev s2 : Typed.Mo T3 → Typed.Mo T4
   s2 = Scalar.n-use T3 (Scalar.oInt Syntax.w8 0) 5 (Rows'.sc-here (Row.sInt Syntax.w8)) (Row.sInt Syntax.w8 .of)
@@ -738,12 +733,12 @@ module _ (claims· : Claims) where
 
   abbrev s6 : Typed.Mo T9 → Typed.Mo T10
   s6 = Scalar.n-room T9 4 (Syntax.tyStruct (102 ∷ 114 ∷ 97 ∷ 103 ∷ 109 ∷ 101 ∷ 110 ∷ 116 ∷ 115 ∷ 58 ∷ 58 ∷ 84 ∷ 97 ∷ 105 ∷ 108 ∷ []) (Syntax.tcons
-      Syntax.tyBool (Syntax.tcons Syntax.tyBool (Syntax.tcons (Syntax.tyStruct (114 ∷ 101 ∷ 115 ∷ 105 ∷ 100 ∷ 117 ∷ 101 ∷ 58 ∷ 58 ∷ 82 ∷ 101 ∷ 115 ∷ 105 ∷ 100
-      ∷ 117 ∷ 101 ∷ []) (Syntax.tcons (Syntax.tyStruct (110 ∷ 97 ∷ 109 ∷ 101 ∷ 115 ∷ 58 ∷ 58 ∷ 84 ∷ 104 ∷ 114 ∷ 101 ∷ 101 ∷ []) (Syntax.tcons (Syntax.tyInt
-      Syntax.w8) (Syntax.tcons (Syntax.tyInt Syntax.w8) (Syntax.tcons (Syntax.tyInt Syntax.w8) Syntax.tnil)))) (Syntax.tcons (Syntax.tyInt Syntax.w8)
-      (Syntax.tcons (Syntax.tyStruct (102 ∷ 105 ∷ 101 ∷ 108 ∷ 100 ∷ 115 ∷ 58 ∷ 58 ∷ 82 ∷ 101 ∷ 115 ∷ 105 ∷ 100 ∷ 117 ∷ 101 ∷ 78 ∷ 117 ∷ 109 ∷ 98 ∷ 101 ∷ 114 ∷
-      []) (Syntax.tcons (Syntax.tyInt Syntax.w32) Syntax.tnil)) (Syntax.tcons (Syntax.tyInt Syntax.w8) Syntax.tnil))))) (Syntax.tcons (Syntax.tyInt Syntax.w8)
-      (Syntax.tcons (Syntax.tyInt Syntax.w64) (Syntax.tcons Syntax.tyBool Syntax.tnil)))))))
+      Syntax.tyBool (Syntax.tcons Syntax.tyBool (Syntax.tcons (Syntax.tyInt Syntax.w32) (Syntax.tcons (Syntax.tyStruct (114 ∷ 101 ∷ 115 ∷ 105 ∷ 100 ∷ 117 ∷ 101
+      ∷ 58 ∷ 58 ∷ 82 ∷ 101 ∷ 115 ∷ 105 ∷ 100 ∷ 117 ∷ 101 ∷ []) (Syntax.tcons (Syntax.tyStruct (110 ∷ 97 ∷ 109 ∷ 101 ∷ 115 ∷ 58 ∷ 58 ∷ 84 ∷ 104 ∷ 114 ∷ 101 ∷
+      101 ∷ []) (Syntax.tcons (Syntax.tyInt Syntax.w8) (Syntax.tcons (Syntax.tyInt Syntax.w8) (Syntax.tcons (Syntax.tyInt Syntax.w8) Syntax.tnil))))
+      (Syntax.tcons (Syntax.tyInt Syntax.w8) (Syntax.tcons (Syntax.tyStruct (102 ∷ 105 ∷ 101 ∷ 108 ∷ 100 ∷ 115 ∷ 58 ∷ 58 ∷ 82 ∷ 101 ∷ 115 ∷ 105 ∷ 100 ∷ 117 ∷
+      101 ∷ 78 ∷ 117 ∷ 109 ∷ 98 ∷ 101 ∷ 114 ∷ []) (Syntax.tcons (Syntax.tyInt Syntax.w32) Syntax.tnil)) (Syntax.tcons (Syntax.tyInt Syntax.w8) Syntax.tnil)))))
+      (Syntax.tcons (Syntax.tyInt Syntax.w8) (Syntax.tcons (Syntax.tyInt Syntax.w64) (Syntax.tcons Syntax.tyBool Syntax.tnil))))))))
 
   abbrev s7 : Typed.Mo T10 → Typed.Mo T11
   s7 = Scalar.n-room T10 7 Syntax.tyBool
@@ -753,7 +748,7 @@ module _ (claims· : Claims) where
       (Rows'.sc-here (Row.sInt Syntax.w64)) (Row.sInt Syntax.w64 .of)
 
   abbrev s9 : Typed.Asks T12 T13
-  s9 = Scalar.k-op2 T12 (Syntax.mul Syntax.unsigned) (Scalar.oAt 3 (Syntax.tyInt Syntax.w64) (Row.valS (Row.sInt Syntax.w64))) (Scalar.oInt Syntax.w64 44) 8
+  s9 = Scalar.k-op2 T12 (Syntax.mul Syntax.unsigned) (Scalar.oAt 3 (Syntax.tyInt Syntax.w64) (Row.valS (Row.sInt Syntax.w64))) (Scalar.oInt Syntax.w64 48) 8
       (Rows'.sc-here (Row.sInt Syntax.w64)) (Row.sInt Syntax.w64 .of)
 
   abbrev s10 : Typed.Asks T13 T14
@@ -761,7 +756,7 @@ module _ (claims· : Claims) where
       (Scalar.oAt 8 (Syntax.tyInt Syntax.w64) (Row.valS (Row.sInt Syntax.w64))) 9 (Rows'.sc-here Row.sPtr) (Row.sPtr .of)
 
   abbrev s11 : Typed.Both T14 T15
-  s11 = Move.k-shs-copy-out SlotAs.row T14 1 9 10 0 (Syntax.tyRef (Syntax.named 0) Syntax.imm SlotAs.pointee) Row.off SlotAs.whole (Shared.bySize 44) (λ u. u
+  s11 = Move.k-shs-copy-out SlotAs.row T14 1 9 10 0 (Syntax.tyRef (Syntax.named 0) Syntax.imm SlotAs.pointee) Row.off SlotAs.whole (Shared.bySize 48) (λ u. u
       .1 .1 .1 .0) (λ x. x) SlotAs.none (λ x. Unit) (λ x. x) λ x. x
 
   abbrev s12 : Typed.Mo T15 → Typed.Mo T16
@@ -790,12 +785,12 @@ module _ (claims· : Claims) where
       tt,
     ),
   ) 4 [] (Syntax.tyStruct (102 ∷ 114 ∷ 97 ∷ 103 ∷ 109 ∷ 101 ∷ 110 ∷ 116 ∷ 115 ∷ 58 ∷ 58 ∷ 84 ∷ 97 ∷ 105 ∷ 108 ∷ []) (Syntax.tcons
-      Syntax.tyBool (Syntax.tcons Syntax.tyBool (Syntax.tcons (Syntax.tyStruct (114 ∷ 101 ∷ 115 ∷ 105 ∷ 100 ∷ 117 ∷ 101 ∷ 58 ∷ 58 ∷ 82 ∷ 101 ∷ 115 ∷ 105 ∷ 100
-      ∷ 117 ∷ 101 ∷ []) (Syntax.tcons (Syntax.tyStruct (110 ∷ 97 ∷ 109 ∷ 101 ∷ 115 ∷ 58 ∷ 58 ∷ 84 ∷ 104 ∷ 114 ∷ 101 ∷ 101 ∷ []) (Syntax.tcons (Syntax.tyInt
-      Syntax.w8) (Syntax.tcons (Syntax.tyInt Syntax.w8) (Syntax.tcons (Syntax.tyInt Syntax.w8) Syntax.tnil)))) (Syntax.tcons (Syntax.tyInt Syntax.w8)
-      (Syntax.tcons (Syntax.tyStruct (102 ∷ 105 ∷ 101 ∷ 108 ∷ 100 ∷ 115 ∷ 58 ∷ 58 ∷ 82 ∷ 101 ∷ 115 ∷ 105 ∷ 100 ∷ 117 ∷ 101 ∷ 78 ∷ 117 ∷ 109 ∷ 98 ∷ 101 ∷ 114 ∷
-      []) (Syntax.tcons (Syntax.tyInt Syntax.w32) Syntax.tnil)) (Syntax.tcons (Syntax.tyInt Syntax.w8) Syntax.tnil))))) (Syntax.tcons (Syntax.tyInt Syntax.w8)
-      (Syntax.tcons (Syntax.tyInt Syntax.w64) (Syntax.tcons Syntax.tyBool Syntax.tnil)))))))
+      Syntax.tyBool (Syntax.tcons Syntax.tyBool (Syntax.tcons (Syntax.tyInt Syntax.w32) (Syntax.tcons (Syntax.tyStruct (114 ∷ 101 ∷ 115 ∷ 105 ∷ 100 ∷ 117 ∷ 101
+      ∷ 58 ∷ 58 ∷ 82 ∷ 101 ∷ 115 ∷ 105 ∷ 100 ∷ 117 ∷ 101 ∷ []) (Syntax.tcons (Syntax.tyStruct (110 ∷ 97 ∷ 109 ∷ 101 ∷ 115 ∷ 58 ∷ 58 ∷ 84 ∷ 104 ∷ 114 ∷ 101 ∷
+      101 ∷ []) (Syntax.tcons (Syntax.tyInt Syntax.w8) (Syntax.tcons (Syntax.tyInt Syntax.w8) (Syntax.tcons (Syntax.tyInt Syntax.w8) Syntax.tnil))))
+      (Syntax.tcons (Syntax.tyInt Syntax.w8) (Syntax.tcons (Syntax.tyStruct (102 ∷ 105 ∷ 101 ∷ 108 ∷ 100 ∷ 115 ∷ 58 ∷ 58 ∷ 82 ∷ 101 ∷ 115 ∷ 105 ∷ 100 ∷ 117 ∷
+      101 ∷ 78 ∷ 117 ∷ 109 ∷ 98 ∷ 101 ∷ 114 ∷ []) (Syntax.tcons (Syntax.tyInt Syntax.w32) Syntax.tnil)) (Syntax.tcons (Syntax.tyInt Syntax.w8) Syntax.tnil)))))
+      (Syntax.tcons (Syntax.tyInt Syntax.w8) (Syntax.tcons (Syntax.tyInt Syntax.w64) (Syntax.tcons Syntax.tyBool Syntax.tnil))))))))
 
   abbrev s17 : Typed.Both T20 T21
   s17 = Call.callB ps·2 r·2 (claims· .4) (claims· .5) T20 (
@@ -1050,20 +1045,21 @@ module _ (claims· : Claims) where
 
             d4 : Typed.Typed 𝓤 H A 𝓣 E G9 b5 Δ4 at4
             d4 = Typed.g-pre 𝓤 H A W 𝓣 E G9 G10 b5 Δ4 (Typed.pass T9 T10 s6) at3 (Scalar.g-room 𝓤 H A W E G9 4 (Syntax.tyStruct (102 ∷ 114 ∷ 97 ∷ 103 ∷ 109 ∷ 101
-                ∷ 110 ∷ 116 ∷ 115 ∷ 58 ∷ 58 ∷ 84 ∷ 97 ∷ 105 ∷ 108 ∷ []) (Syntax.tcons Syntax.tyBool (Syntax.tcons Syntax.tyBool (Syntax.tcons (Syntax.tyStruct
-                (114 ∷ 101 ∷ 115 ∷ 105 ∷ 100 ∷ 117 ∷ 101 ∷ 58 ∷ 58 ∷ 82 ∷ 101 ∷ 115 ∷ 105 ∷ 100 ∷ 117 ∷ 101 ∷ []) (Syntax.tcons (Syntax.tyStruct (110 ∷ 97 ∷ 109
-                ∷ 101 ∷ 115 ∷ 58 ∷ 58 ∷ 84 ∷ 104 ∷ 114 ∷ 101 ∷ 101 ∷ []) (Syntax.tcons (Syntax.tyInt Syntax.w8) (Syntax.tcons (Syntax.tyInt Syntax.w8)
-                (Syntax.tcons (Syntax.tyInt Syntax.w8) Syntax.tnil)))) (Syntax.tcons (Syntax.tyInt Syntax.w8) (Syntax.tcons (Syntax.tyStruct (102 ∷ 105 ∷ 101 ∷
-                108 ∷ 100 ∷ 115 ∷ 58 ∷ 58 ∷ 82 ∷ 101 ∷ 115 ∷ 105 ∷ 100 ∷ 117 ∷ 101 ∷ 78 ∷ 117 ∷ 109 ∷ 98 ∷ 101 ∷ 114 ∷ []) (Syntax.tcons (Syntax.tyInt
-                Syntax.w32) Syntax.tnil)) (Syntax.tcons (Syntax.tyInt Syntax.w8) Syntax.tnil))))) (Syntax.tcons (Syntax.tyInt Syntax.w8) (Syntax.tcons
-                (Syntax.tyInt Syntax.w64) (Syntax.tcons Syntax.tyBool Syntax.tnil))))))) (Local.room-whole 𝓤 H A W (Declared.row Tail.the-type) (Syntax.tyStruct
-                (102 ∷ 114 ∷ 97 ∷ 103 ∷ 109 ∷ 101 ∷ 110 ∷ 116 ∷ 115 ∷ 58 ∷ 58 ∷ 84 ∷ 97 ∷ 105 ∷ 108 ∷ []) (Syntax.tcons Syntax.tyBool (Syntax.tcons Syntax.tyBool
-                (Syntax.tcons (Syntax.tyStruct (114 ∷ 101 ∷ 115 ∷ 105 ∷ 100 ∷ 117 ∷ 101 ∷ 58 ∷ 58 ∷ 82 ∷ 101 ∷ 115 ∷ 105 ∷ 100 ∷ 117 ∷ 101 ∷ []) (Syntax.tcons
-                (Syntax.tyStruct (110 ∷ 97 ∷ 109 ∷ 101 ∷ 115 ∷ 58 ∷ 58 ∷ 84 ∷ 104 ∷ 114 ∷ 101 ∷ 101 ∷ []) (Syntax.tcons (Syntax.tyInt Syntax.w8) (Syntax.tcons
-                (Syntax.tyInt Syntax.w8) (Syntax.tcons (Syntax.tyInt Syntax.w8) Syntax.tnil)))) (Syntax.tcons (Syntax.tyInt Syntax.w8) (Syntax.tcons
-                (Syntax.tyStruct (102 ∷ 105 ∷ 101 ∷ 108 ∷ 100 ∷ 115 ∷ 58 ∷ 58 ∷ 82 ∷ 101 ∷ 115 ∷ 105 ∷ 100 ∷ 117 ∷ 101 ∷ 78 ∷ 117 ∷ 109 ∷ 98 ∷ 101 ∷ 114 ∷ [])
-                (Syntax.tcons (Syntax.tyInt Syntax.w32) Syntax.tnil)) (Syntax.tcons (Syntax.tyInt Syntax.w8) Syntax.tnil))))) (Syntax.tcons (Syntax.tyInt
-                Syntax.w8) (Syntax.tcons (Syntax.tyInt Syntax.w64) (Syntax.tcons Syntax.tyBool Syntax.tnil))))))) Path'.refl)) d3
+                ∷ 110 ∷ 116 ∷ 115 ∷ 58 ∷ 58 ∷ 84 ∷ 97 ∷ 105 ∷ 108 ∷ []) (Syntax.tcons Syntax.tyBool (Syntax.tcons Syntax.tyBool (Syntax.tcons (Syntax.tyInt
+                Syntax.w32) (Syntax.tcons (Syntax.tyStruct (114 ∷ 101 ∷ 115 ∷ 105 ∷ 100 ∷ 117 ∷ 101 ∷ 58 ∷ 58 ∷ 82 ∷ 101 ∷ 115 ∷ 105 ∷ 100 ∷ 117 ∷ 101 ∷ [])
+                (Syntax.tcons (Syntax.tyStruct (110 ∷ 97 ∷ 109 ∷ 101 ∷ 115 ∷ 58 ∷ 58 ∷ 84 ∷ 104 ∷ 114 ∷ 101 ∷ 101 ∷ []) (Syntax.tcons (Syntax.tyInt Syntax.w8)
+                (Syntax.tcons (Syntax.tyInt Syntax.w8) (Syntax.tcons (Syntax.tyInt Syntax.w8) Syntax.tnil)))) (Syntax.tcons (Syntax.tyInt Syntax.w8)
+                (Syntax.tcons (Syntax.tyStruct (102 ∷ 105 ∷ 101 ∷ 108 ∷ 100 ∷ 115 ∷ 58 ∷ 58 ∷ 82 ∷ 101 ∷ 115 ∷ 105 ∷ 100 ∷ 117 ∷ 101 ∷ 78 ∷ 117 ∷ 109 ∷ 98 ∷ 101
+                ∷ 114 ∷ []) (Syntax.tcons (Syntax.tyInt Syntax.w32) Syntax.tnil)) (Syntax.tcons (Syntax.tyInt Syntax.w8) Syntax.tnil))))) (Syntax.tcons
+                (Syntax.tyInt Syntax.w8) (Syntax.tcons (Syntax.tyInt Syntax.w64) (Syntax.tcons Syntax.tyBool Syntax.tnil)))))))) (Local.room-whole 𝓤 H A W
+                (Declared.row Tail.the-type) (Syntax.tyStruct (102 ∷ 114 ∷ 97 ∷ 103 ∷ 109 ∷ 101 ∷ 110 ∷ 116 ∷ 115 ∷ 58 ∷ 58 ∷ 84 ∷ 97 ∷ 105 ∷ 108 ∷ [])
+                (Syntax.tcons Syntax.tyBool (Syntax.tcons Syntax.tyBool (Syntax.tcons (Syntax.tyInt Syntax.w32) (Syntax.tcons (Syntax.tyStruct (114 ∷ 101 ∷ 115 ∷
+                105 ∷ 100 ∷ 117 ∷ 101 ∷ 58 ∷ 58 ∷ 82 ∷ 101 ∷ 115 ∷ 105 ∷ 100 ∷ 117 ∷ 101 ∷ []) (Syntax.tcons (Syntax.tyStruct (110 ∷ 97 ∷ 109 ∷ 101 ∷ 115 ∷ 58 ∷
+                58 ∷ 84 ∷ 104 ∷ 114 ∷ 101 ∷ 101 ∷ []) (Syntax.tcons (Syntax.tyInt Syntax.w8) (Syntax.tcons (Syntax.tyInt Syntax.w8) (Syntax.tcons (Syntax.tyInt
+                Syntax.w8) Syntax.tnil)))) (Syntax.tcons (Syntax.tyInt Syntax.w8) (Syntax.tcons (Syntax.tyStruct (102 ∷ 105 ∷ 101 ∷ 108 ∷ 100 ∷ 115 ∷ 58 ∷ 58 ∷
+                82 ∷ 101 ∷ 115 ∷ 105 ∷ 100 ∷ 117 ∷ 101 ∷ 78 ∷ 117 ∷ 109 ∷ 98 ∷ 101 ∷ 114 ∷ []) (Syntax.tcons (Syntax.tyInt Syntax.w32) Syntax.tnil))
+                (Syntax.tcons (Syntax.tyInt Syntax.w8) Syntax.tnil))))) (Syntax.tcons (Syntax.tyInt Syntax.w8) (Syntax.tcons (Syntax.tyInt Syntax.w64)
+                (Syntax.tcons Syntax.tyBool Syntax.tnil)))))))) Path'.refl)) d3
 
             d5 : Typed.Typed 𝓤 H A 𝓣 E G6 b5 Δ4 at5
             d5 = Typed.g-pre 𝓤 H A W 𝓣 E G6 G9 b5 Δ4 (Typed.pass T6 T9 s5) at4 (Scalar.g-room 𝓤 H A W E G6 2 (Syntax.tyStruct (102 ∷ 114 ∷ 97 ∷ 103 ∷ 109 ∷ 101 ∷
@@ -1144,12 +1140,12 @@ module _ (claims· : Claims) where
                   ),
                 ) (Local.room-whole 𝓤 H A W (Declared.row Tail.the-type) (Syntax.tyStruct (102 ∷ 114 ∷ 97 ∷
                 103 ∷ 109 ∷ 101 ∷ 110 ∷ 116 ∷ 115 ∷ 58 ∷ 58 ∷ 84 ∷ 97 ∷ 105 ∷ 108 ∷ []) (Syntax.tcons Syntax.tyBool (Syntax.tcons Syntax.tyBool (Syntax.tcons
-                (Syntax.tyStruct (114 ∷ 101 ∷ 115 ∷ 105 ∷ 100 ∷ 117 ∷ 101 ∷ 58 ∷ 58 ∷ 82 ∷ 101 ∷ 115 ∷ 105 ∷ 100 ∷ 117 ∷ 101 ∷ []) (Syntax.tcons (Syntax.tyStruct
-                (110 ∷ 97 ∷ 109 ∷ 101 ∷ 115 ∷ 58 ∷ 58 ∷ 84 ∷ 104 ∷ 114 ∷ 101 ∷ 101 ∷ []) (Syntax.tcons (Syntax.tyInt Syntax.w8) (Syntax.tcons (Syntax.tyInt
-                Syntax.w8) (Syntax.tcons (Syntax.tyInt Syntax.w8) Syntax.tnil)))) (Syntax.tcons (Syntax.tyInt Syntax.w8) (Syntax.tcons (Syntax.tyStruct (102 ∷
-                105 ∷ 101 ∷ 108 ∷ 100 ∷ 115 ∷ 58 ∷ 58 ∷ 82 ∷ 101 ∷ 115 ∷ 105 ∷ 100 ∷ 117 ∷ 101 ∷ 78 ∷ 117 ∷ 109 ∷ 98 ∷ 101 ∷ 114 ∷ []) (Syntax.tcons
-                (Syntax.tyInt Syntax.w32) Syntax.tnil)) (Syntax.tcons (Syntax.tyInt Syntax.w8) Syntax.tnil))))) (Syntax.tcons (Syntax.tyInt Syntax.w8)
-                (Syntax.tcons (Syntax.tyInt Syntax.w64) (Syntax.tcons Syntax.tyBool Syntax.tnil))))))) Path'.refl) tt Path'.refl) d7
+                (Syntax.tyInt Syntax.w32) (Syntax.tcons (Syntax.tyStruct (114 ∷ 101 ∷ 115 ∷ 105 ∷ 100 ∷ 117 ∷ 101 ∷ 58 ∷ 58 ∷ 82 ∷ 101 ∷ 115 ∷ 105 ∷ 100 ∷ 117 ∷
+                101 ∷ []) (Syntax.tcons (Syntax.tyStruct (110 ∷ 97 ∷ 109 ∷ 101 ∷ 115 ∷ 58 ∷ 58 ∷ 84 ∷ 104 ∷ 114 ∷ 101 ∷ 101 ∷ []) (Syntax.tcons (Syntax.tyInt
+                Syntax.w8) (Syntax.tcons (Syntax.tyInt Syntax.w8) (Syntax.tcons (Syntax.tyInt Syntax.w8) Syntax.tnil)))) (Syntax.tcons (Syntax.tyInt Syntax.w8)
+                (Syntax.tcons (Syntax.tyStruct (102 ∷ 105 ∷ 101 ∷ 108 ∷ 100 ∷ 115 ∷ 58 ∷ 58 ∷ 82 ∷ 101 ∷ 115 ∷ 105 ∷ 100 ∷ 117 ∷ 101 ∷ 78 ∷ 117 ∷ 109 ∷ 98 ∷ 101
+                ∷ 114 ∷ []) (Syntax.tcons (Syntax.tyInt Syntax.w32) Syntax.tnil)) (Syntax.tcons (Syntax.tyInt Syntax.w8) Syntax.tnil))))) (Syntax.tcons
+                (Syntax.tyInt Syntax.w8) (Syntax.tcons (Syntax.tyInt Syntax.w64) (Syntax.tcons Syntax.tyBool Syntax.tnil)))))))) Path'.refl) tt Path'.refl) d7
 
             d9 : Typed.Typed 𝓤 H A 𝓣 E G18 b14 Δ3 at9
             d9 = Typed.g-pre 𝓤 H A W 𝓣 E G18 G19 b14 Δ3 (Typed.pass T18 T19 s15) at8 (Scalar.g-room 𝓤 H A W E G18 10 SlotAs.ty (SlotAs.room 𝓤 H A W)) d8
@@ -1172,8 +1168,8 @@ module _ (claims· : Claims) where
             d13 : Typed.Typed 𝓤 H A 𝓣 E G14 b16 Δ3 at13
             d13 = Typed.s-seq 𝓤 H A W 𝓣 E G14 G15 b10 b15 Δ3 (Typed.both s11) at12 (Move.t-shs-copy-out 𝓤 H A W E SlotAs.row 𝓣 Path'.refl (SlotAs.copies .copy 𝓤
                 H A W) (Copies.halved 𝓤 H A W SlotAs.copies) (λ ρ. Unit) G14 1 9 10 0 (Syntax.tyRef (Syntax.named 0) Syntax.imm SlotAs.pointee) (Row.lease (κs
-                .0) (qs .0)) SlotAs.ty SlotAs.ty SlotAs.whole (Shared.bySize 44) (λ u. u .1 .1 .1 .0) (λ x. x) SlotAs.none (λ x. Unit) (λ x. x) (λ x. x) (λ i o.
-                Elements.at-mul o 44 i) Path'.refl Path'.refl (Own.told-none 𝓤 H A (G14 .slots)) (DerefMove.learns-nothing 𝓤 H A SlotAs.row) (Reads.as-is 𝓤 H A
+                .0) (qs .0)) SlotAs.ty SlotAs.ty SlotAs.whole (Shared.bySize 48) (λ u. u .1 .1 .1 .0) (λ x. x) SlotAs.none (λ x. Unit) (λ x. x) (λ x. x) (λ i o.
+                Elements.at-mul o 48 i) Path'.refl Path'.refl (Own.told-none 𝓤 H A (G14 .slots)) (DerefMove.learns-nothing 𝓤 H A SlotAs.row) (Reads.as-is 𝓤 H A
                 (Rows'.sslice SlotAs.row (Syntax.tyRef (Syntax.named 0) Syntax.imm SlotAs.pointee) 0)) (Reads.as-is 𝓤 H A (Rows'.sc-here Row.sPtr))
                 (Reads.room-gone 𝓤 H A SlotAs.ty) (Yields.makes-mem 𝓤 H A W (λ ρ. Unit) SlotAs.row Path'.refl SlotAs.whole (λ x. x) λ ρ told. SlotAs.of-mem 𝓤 H A
                 W ρ) Path'.refl tt Path'.refl Path'.refl) d12
@@ -1190,7 +1186,7 @@ module _ (claims· : Claims) where
 
             d15 : Typed.Typed 𝓤 H A 𝓣 E G12 b18 Δ3 at15
             d15 = Typed.s-seq 𝓤 H A W 𝓣 E G12 G13 b8 b17 Δ3 (Typed.ask s9) at14 (Scalar.t-op2 𝓤 H A W E 𝓣 G12 (Syntax.mul Syntax.unsigned) (Scalar.oAt 3
-                (Syntax.tyInt Syntax.w64) (Row.valS (Row.sInt Syntax.w64))) (Scalar.oInt Syntax.w64 44) 8 (Rows'.sc-here (Row.sInt Syntax.w64)) (Syntax.tyInt
+                (Syntax.tyInt Syntax.w64) (Row.valS (Row.sInt Syntax.w64))) (Scalar.oInt Syntax.w64 48) 8 (Rows'.sc-here (Row.sInt Syntax.w64)) (Syntax.tyInt
                 Syntax.w64) (Row.valS (Row.sInt Syntax.w64)) (Row.sInt Syntax.w64 .of) (Scalar.reads-sc 𝓤 H A W (Row.sInt Syntax.w64), Path'.refl) tt
                 (Reads.room-gone 𝓤 H A (Syntax.tyInt Syntax.w64)) (Scalar.holds-sc 𝓤 H A W (Row.sInt Syntax.w64)) Path'.refl (λ u. Path'.refl) λ u. tt) d14
 
@@ -1246,12 +1242,13 @@ module _ (claims· : Claims) where
             d27 = Typed.s-seq 𝓤 H A W 𝓣 E G2 G3 b1 b28 Δ0 (Typed.both s1) at26 (Plain.t-call-plain 𝓤 H A W 𝓣 0 ps·0 r·0 (claims· .0) (claims· .1)
                 "fragments::end_tail" (known .0) E (λ pos β. β) G2 tt 4 [] (Call.sub-id 𝓤 H A W (G2 .slots)) tt (Reads.room-gone 𝓤 H A (Syntax.tyStruct (102
                 ∷ 114 ∷ 97 ∷ 103 ∷ 109 ∷ 101 ∷ 110 ∷ 116 ∷ 115 ∷ 58 ∷ 58 ∷ 84 ∷ 97 ∷ 105 ∷ 108 ∷ []) (Syntax.tcons Syntax.tyBool (Syntax.tcons Syntax.tyBool
-                (Syntax.tcons (Syntax.tyStruct (114 ∷ 101 ∷ 115 ∷ 105 ∷ 100 ∷ 117 ∷ 101 ∷ 58 ∷ 58 ∷ 82 ∷ 101 ∷ 115 ∷ 105 ∷ 100 ∷ 117 ∷ 101 ∷ []) (Syntax.tcons
-                (Syntax.tyStruct (110 ∷ 97 ∷ 109 ∷ 101 ∷ 115 ∷ 58 ∷ 58 ∷ 84 ∷ 104 ∷ 114 ∷ 101 ∷ 101 ∷ []) (Syntax.tcons (Syntax.tyInt Syntax.w8) (Syntax.tcons
-                (Syntax.tyInt Syntax.w8) (Syntax.tcons (Syntax.tyInt Syntax.w8) Syntax.tnil)))) (Syntax.tcons (Syntax.tyInt Syntax.w8) (Syntax.tcons
-                (Syntax.tyStruct (102 ∷ 105 ∷ 101 ∷ 108 ∷ 100 ∷ 115 ∷ 58 ∷ 58 ∷ 82 ∷ 101 ∷ 115 ∷ 105 ∷ 100 ∷ 117 ∷ 101 ∷ 78 ∷ 117 ∷ 109 ∷ 98 ∷ 101 ∷ 114 ∷ [])
-                (Syntax.tcons (Syntax.tyInt Syntax.w32) Syntax.tnil)) (Syntax.tcons (Syntax.tyInt Syntax.w8) Syntax.tnil))))) (Syntax.tcons (Syntax.tyInt
-                Syntax.w8) (Syntax.tcons (Syntax.tyInt Syntax.w64) (Syntax.tcons Syntax.tyBool Syntax.tnil)))))))) tt Path'.refl) d26
+                (Syntax.tcons (Syntax.tyInt Syntax.w32) (Syntax.tcons (Syntax.tyStruct (114 ∷ 101 ∷ 115 ∷ 105 ∷ 100 ∷ 117 ∷ 101 ∷ 58 ∷ 58 ∷ 82 ∷ 101 ∷ 115 ∷ 105
+                ∷ 100 ∷ 117 ∷ 101 ∷ []) (Syntax.tcons (Syntax.tyStruct (110 ∷ 97 ∷ 109 ∷ 101 ∷ 115 ∷ 58 ∷ 58 ∷ 84 ∷ 104 ∷ 114 ∷ 101 ∷ 101 ∷ []) (Syntax.tcons
+                (Syntax.tyInt Syntax.w8) (Syntax.tcons (Syntax.tyInt Syntax.w8) (Syntax.tcons (Syntax.tyInt Syntax.w8) Syntax.tnil)))) (Syntax.tcons
+                (Syntax.tyInt Syntax.w8) (Syntax.tcons (Syntax.tyStruct (102 ∷ 105 ∷ 101 ∷ 108 ∷ 100 ∷ 115 ∷ 58 ∷ 58 ∷ 82 ∷ 101 ∷ 115 ∷ 105 ∷ 100 ∷ 117 ∷ 101 ∷
+                78 ∷ 117 ∷ 109 ∷ 98 ∷ 101 ∷ 114 ∷ []) (Syntax.tcons (Syntax.tyInt Syntax.w32) Syntax.tnil)) (Syntax.tcons (Syntax.tyInt Syntax.w8)
+                Syntax.tnil))))) (Syntax.tcons (Syntax.tyInt Syntax.w8) (Syntax.tcons (Syntax.tyInt Syntax.w64) (Syntax.tcons Syntax.tyBool Syntax.tnil)))))))))
+                tt Path'.refl) d26
 
             d28 : Typed.Typed 𝓤 H A 𝓣 E G0 b30 Δ0 at28
             d28 = Typed.s-seq 𝓤 H A W 𝓣 E G0 G2 b0 b29 Δ0 (Typed.pass T0 T2 s0) at27 (Scalar.t-use 𝓤 H A W E 𝓣 G0 (Scalar.oFld 1 (Syntax.field 1 ∷ [])

@@ -71,13 +71,13 @@ r = Value.rVal record {
 
 abbrev pub xs : List.List Syntax.Ty
 xs = Syntax.tyInt Syntax.w64 ∷ (Syntax.tyStruct (102 ∷ 114 ∷ 97 ∷ 103 ∷ 109 ∷ 101 ∷ 110 ∷ 116 ∷ 115 ∷ 58 ∷ 58 ∷ 84 ∷ 97 ∷ 105 ∷ 108 ∷ []) (Syntax.tcons
-    Syntax.tyBool (Syntax.tcons Syntax.tyBool (Syntax.tcons (Syntax.tyStruct (114 ∷ 101 ∷ 115 ∷ 105 ∷ 100 ∷ 117 ∷ 101 ∷ 58 ∷ 58 ∷ 82 ∷ 101 ∷ 115 ∷ 105 ∷ 100 ∷
-    117 ∷ 101 ∷ []) (Syntax.tcons (Syntax.tyStruct (110 ∷ 97 ∷ 109 ∷ 101 ∷ 115 ∷ 58 ∷ 58 ∷ 84 ∷ 104 ∷ 114 ∷ 101 ∷ 101 ∷ []) (Syntax.tcons (Syntax.tyInt
-    Syntax.w8) (Syntax.tcons (Syntax.tyInt Syntax.w8) (Syntax.tcons (Syntax.tyInt Syntax.w8) Syntax.tnil)))) (Syntax.tcons (Syntax.tyInt Syntax.w8)
-    (Syntax.tcons (Syntax.tyStruct (102 ∷ 105 ∷ 101 ∷ 108 ∷ 100 ∷ 115 ∷ 58 ∷ 58 ∷ 82 ∷ 101 ∷ 115 ∷ 105 ∷ 100 ∷ 117 ∷ 101 ∷ 78 ∷ 117 ∷ 109 ∷ 98 ∷ 101 ∷ 114 ∷
-    []) (Syntax.tcons (Syntax.tyInt Syntax.w32) Syntax.tnil)) (Syntax.tcons (Syntax.tyInt Syntax.w8) Syntax.tnil))))) (Syntax.tcons (Syntax.tyInt Syntax.w8)
-    (Syntax.tcons (Syntax.tyInt Syntax.w64) (Syntax.tcons Syntax.tyBool Syntax.tnil))))))) ∷ SlotAs.ty ∷ Syntax.tyBool ∷ Syntax.tyInt Syntax.w64 ∷ Syntax.tyPtr
-    ∷ SlotAs.ty ∷ []
+    Syntax.tyBool (Syntax.tcons Syntax.tyBool (Syntax.tcons (Syntax.tyInt Syntax.w32) (Syntax.tcons (Syntax.tyStruct (114 ∷ 101 ∷ 115 ∷ 105 ∷ 100 ∷ 117 ∷ 101 ∷
+    58 ∷ 58 ∷ 82 ∷ 101 ∷ 115 ∷ 105 ∷ 100 ∷ 117 ∷ 101 ∷ []) (Syntax.tcons (Syntax.tyStruct (110 ∷ 97 ∷ 109 ∷ 101 ∷ 115 ∷ 58 ∷ 58 ∷ 84 ∷ 104 ∷ 114 ∷ 101 ∷ 101 ∷
+    []) (Syntax.tcons (Syntax.tyInt Syntax.w8) (Syntax.tcons (Syntax.tyInt Syntax.w8) (Syntax.tcons (Syntax.tyInt Syntax.w8) Syntax.tnil)))) (Syntax.tcons
+    (Syntax.tyInt Syntax.w8) (Syntax.tcons (Syntax.tyStruct (102 ∷ 105 ∷ 101 ∷ 108 ∷ 100 ∷ 115 ∷ 58 ∷ 58 ∷ 82 ∷ 101 ∷ 115 ∷ 105 ∷ 100 ∷ 117 ∷ 101 ∷ 78 ∷ 117 ∷
+    109 ∷ 98 ∷ 101 ∷ 114 ∷ []) (Syntax.tcons (Syntax.tyInt Syntax.w32) Syntax.tnil)) (Syntax.tcons (Syntax.tyInt Syntax.w8) Syntax.tnil))))) (Syntax.tcons
+    (Syntax.tyInt Syntax.w8) (Syntax.tcons (Syntax.tyInt Syntax.w64) (Syntax.tcons Syntax.tyBool Syntax.tnil)))))))) ∷ SlotAs.ty ∷ Syntax.tyBool ∷ Syntax.tyInt
+    Syntax.w64 ∷ Syntax.tyPtr ∷ SlotAs.ty ∷ []
 
 abbrev pub m : Nat.ℕ
 m = 0
@@ -177,7 +177,7 @@ abbrev b6 : Syntax.Body
 b6 = Syntax.assign (Syntax.place 2 []) (Syntax.op2 (Syntax.sub Syntax.unsigned) (Syntax.copy (Syntax.place 2 [])) (Syntax.int Syntax.w64 1))
 
 abbrev b7 : Syntax.Body
-b7 = Syntax.assign (Syntax.place 6 []) (Syntax.op2 (Syntax.mul Syntax.unsigned) (Syntax.copy (Syntax.place 2 [])) (Syntax.int Syntax.w64 44))
+b7 = Syntax.assign (Syntax.place 6 []) (Syntax.op2 (Syntax.mul Syntax.unsigned) (Syntax.copy (Syntax.place 2 [])) (Syntax.int Syntax.w64 48))
 
 abbrev b8 : Syntax.Body
 b8 = Syntax.assign (Syntax.place 7 []) (Syntax.op2 Syntax.offset (Syntax.copy (Syntax.place 1 (Syntax.field 0 ∷ []))) (Syntax.copy (Syntax.place 6
@@ -247,32 +247,31 @@ abbrev pub t0 : List.List Row.Entry
 t0 = (
   0,
   Rows'.any-gone (Syntax.tyStruct (102 ∷ 114 ∷ 97 ∷ 103 ∷ 109 ∷ 101 ∷ 110 ∷ 116 ∷ 115 ∷ 58 ∷ 58 ∷ 84 ∷ 97 ∷ 105 ∷ 108 ∷ []) (Syntax.tcons Syntax.tyBool
-      (Syntax.tcons Syntax.tyBool (Syntax.tcons (Syntax.tyStruct (114 ∷ 101 ∷ 115 ∷ 105 ∷ 100 ∷ 117 ∷ 101 ∷ 58 ∷ 58 ∷ 82 ∷ 101 ∷ 115 ∷ 105 ∷ 100 ∷ 117 ∷ 101 ∷
-      []) (Syntax.tcons (Syntax.tyStruct (110 ∷ 97 ∷ 109 ∷ 101 ∷ 115 ∷ 58 ∷ 58 ∷ 84 ∷ 104 ∷ 114 ∷ 101 ∷ 101 ∷ []) (Syntax.tcons (Syntax.tyInt Syntax.w8)
+      (Syntax.tcons Syntax.tyBool (Syntax.tcons (Syntax.tyInt Syntax.w32) (Syntax.tcons (Syntax.tyStruct (114 ∷ 101 ∷ 115 ∷ 105 ∷ 100 ∷ 117 ∷ 101 ∷ 58 ∷ 58 ∷ 82
+      ∷ 101 ∷ 115 ∷ 105 ∷ 100 ∷ 117 ∷ 101 ∷ []) (Syntax.tcons (Syntax.tyStruct (110 ∷ 97 ∷ 109 ∷ 101 ∷ 115 ∷ 58 ∷ 58 ∷ 84 ∷ 104 ∷ 114 ∷ 101 ∷ 101 ∷ [])
+      (Syntax.tcons (Syntax.tyInt Syntax.w8) (Syntax.tcons (Syntax.tyInt Syntax.w8) (Syntax.tcons (Syntax.tyInt Syntax.w8) Syntax.tnil)))) (Syntax.tcons
+      (Syntax.tyInt Syntax.w8) (Syntax.tcons (Syntax.tyStruct (102 ∷ 105 ∷ 101 ∷ 108 ∷ 100 ∷ 115 ∷ 58 ∷ 58 ∷ 82 ∷ 101 ∷ 115 ∷ 105 ∷ 100 ∷ 117 ∷ 101 ∷ 78 ∷ 117 ∷
+      109 ∷ 98 ∷ 101 ∷ 114 ∷ []) (Syntax.tcons (Syntax.tyInt Syntax.w32) Syntax.tnil)) (Syntax.tcons (Syntax.tyInt Syntax.w8) Syntax.tnil))))) (Syntax.tcons
+      (Syntax.tyInt Syntax.w8) (Syntax.tcons (Syntax.tyInt Syntax.w64) (Syntax.tcons Syntax.tyBool Syntax.tnil)))))))),
+) ∷ (
+  1,
+  Rows'.sslice SlotAs.row
+      (Syntax.tyRef (Syntax.named 0) Syntax.imm SlotAs.pointee) 0,
+) ∷ (2, Rows'.any-gone (Syntax.tyInt Syntax.w64)) ∷ (
+  3,
+  Rows'.any-gone (Syntax.tyStruct (102 ∷
+      114 ∷ 97 ∷ 103 ∷ 109 ∷ 101 ∷ 110 ∷ 116 ∷ 115 ∷ 58 ∷ 58 ∷ 84 ∷ 97 ∷ 105 ∷ 108 ∷ []) (Syntax.tcons Syntax.tyBool (Syntax.tcons Syntax.tyBool (Syntax.tcons
+      (Syntax.tyInt Syntax.w32) (Syntax.tcons (Syntax.tyStruct (114 ∷ 101 ∷ 115 ∷ 105 ∷ 100 ∷ 117 ∷ 101 ∷ 58 ∷ 58 ∷ 82 ∷ 101 ∷ 115 ∷ 105 ∷ 100 ∷ 117 ∷ 101 ∷ [])
+      (Syntax.tcons (Syntax.tyStruct (110 ∷ 97 ∷ 109 ∷ 101 ∷ 115 ∷ 58 ∷ 58 ∷ 84 ∷ 104 ∷ 114 ∷ 101 ∷ 101 ∷ []) (Syntax.tcons (Syntax.tyInt Syntax.w8)
       (Syntax.tcons (Syntax.tyInt Syntax.w8) (Syntax.tcons (Syntax.tyInt Syntax.w8) Syntax.tnil)))) (Syntax.tcons (Syntax.tyInt Syntax.w8) (Syntax.tcons
       (Syntax.tyStruct (102 ∷ 105 ∷ 101 ∷ 108 ∷ 100 ∷ 115 ∷ 58 ∷ 58 ∷ 82 ∷ 101 ∷ 115 ∷ 105 ∷ 100 ∷ 117 ∷ 101 ∷ 78 ∷ 117 ∷ 109 ∷ 98 ∷ 101 ∷ 114 ∷ [])
       (Syntax.tcons (Syntax.tyInt Syntax.w32) Syntax.tnil)) (Syntax.tcons (Syntax.tyInt Syntax.w8) Syntax.tnil))))) (Syntax.tcons (Syntax.tyInt Syntax.w8)
-      (Syntax.tcons (Syntax.tyInt Syntax.w64) (Syntax.tcons Syntax.tyBool Syntax.tnil))))))),
-) ∷ (
-  1,
-  Rows'.sslice SlotAs.row (Syntax.tyRef (Syntax.named 0)
-      Syntax.imm SlotAs.pointee) 0,
-) ∷ (2, Rows'.any-gone (Syntax.tyInt Syntax.w64)) ∷ (
-  3,
-  Rows'.any-gone (Syntax.tyStruct (102 ∷ 114 ∷ 97 ∷ 103 ∷ 109 ∷ 101 ∷ 110
-      ∷ 116 ∷ 115 ∷ 58 ∷ 58 ∷ 84 ∷ 97 ∷ 105 ∷ 108 ∷ []) (Syntax.tcons Syntax.tyBool (Syntax.tcons Syntax.tyBool (Syntax.tcons (Syntax.tyStruct (114 ∷ 101 ∷ 115 ∷
-      105 ∷ 100 ∷ 117 ∷ 101 ∷ 58 ∷ 58 ∷ 82 ∷ 101 ∷ 115 ∷ 105 ∷ 100 ∷ 117 ∷ 101 ∷ []) (Syntax.tcons (Syntax.tyStruct (110 ∷ 97 ∷ 109 ∷ 101 ∷ 115 ∷ 58 ∷ 58 ∷ 84 ∷
-      104 ∷ 114 ∷ 101 ∷ 101 ∷ []) (Syntax.tcons (Syntax.tyInt Syntax.w8) (Syntax.tcons (Syntax.tyInt Syntax.w8) (Syntax.tcons (Syntax.tyInt Syntax.w8)
-      Syntax.tnil)))) (Syntax.tcons (Syntax.tyInt Syntax.w8) (Syntax.tcons (Syntax.tyStruct (102 ∷ 105 ∷ 101 ∷ 108 ∷ 100 ∷ 115 ∷ 58 ∷ 58 ∷ 82 ∷ 101 ∷ 115 ∷ 105 ∷
-      100 ∷ 117 ∷ 101 ∷ 78 ∷ 117 ∷ 109 ∷ 98 ∷ 101 ∷ 114 ∷ []) (Syntax.tcons (Syntax.tyInt Syntax.w32) Syntax.tnil)) (Syntax.tcons (Syntax.tyInt Syntax.w8)
-      Syntax.tnil))))) (Syntax.tcons (Syntax.tyInt Syntax.w8) (Syntax.tcons (Syntax.tyInt Syntax.w64) (Syntax.tcons Syntax.tyBool Syntax.tnil))))))),
-) ∷ (
-  4,
-  Rows'.any-gone SlotAs.ty,
-) ∷ (5, Rows'.any-gone Syntax.tyBool) ∷ (6, Rows'.any-gone (Syntax.tyInt Syntax.w64)) ∷ (7, Rows'.any-gone Syntax.tyPtr) ∷ (
-  8,
-  Rows'.any-gone SlotAs.ty,
-) ∷ []
+      (Syntax.tcons (Syntax.tyInt Syntax.w64) (Syntax.tcons Syntax.tyBool Syntax.tnil)))))))),
+) ∷ (4, Rows'.any-gone SlotAs.ty) ∷ (
+  5,
+  Rows'.any-gone
+      Syntax.tyBool,
+) ∷ (6, Rows'.any-gone (Syntax.tyInt Syntax.w64)) ∷ (7, Rows'.any-gone Syntax.tyPtr) ∷ (8, Rows'.any-gone SlotAs.ty) ∷ []
 
 abbrev pub t1 : List.List Row.Entry
 t1 = (0, Rows'.whole (Declared.row Tail.the-type)) ∷ (1, Rows'.sslice SlotAs.row (Syntax.tyRef (Syntax.named 0) Syntax.imm SlotAs.pointee) 0) ∷ (
@@ -281,40 +280,12 @@ t1 = (0, Rows'.whole (Declared.row Tail.the-type)) ∷ (1, Rows'.sslice SlotAs.r
 ) ∷ (
   3,
   Rows'.any-gone (Syntax.tyStruct (102 ∷ 114 ∷ 97 ∷ 103 ∷ 109 ∷ 101 ∷ 110 ∷ 116 ∷ 115 ∷ 58 ∷ 58 ∷ 84 ∷ 97 ∷
-      105 ∷ 108 ∷ []) (Syntax.tcons Syntax.tyBool (Syntax.tcons Syntax.tyBool (Syntax.tcons (Syntax.tyStruct (114 ∷ 101 ∷ 115 ∷ 105 ∷ 100 ∷ 117 ∷ 101 ∷ 58 ∷ 58 ∷
-      82 ∷ 101 ∷ 115 ∷ 105 ∷ 100 ∷ 117 ∷ 101 ∷ []) (Syntax.tcons (Syntax.tyStruct (110 ∷ 97 ∷ 109 ∷ 101 ∷ 115 ∷ 58 ∷ 58 ∷ 84 ∷ 104 ∷ 114 ∷ 101 ∷ 101 ∷ [])
-      (Syntax.tcons (Syntax.tyInt Syntax.w8) (Syntax.tcons (Syntax.tyInt Syntax.w8) (Syntax.tcons (Syntax.tyInt Syntax.w8) Syntax.tnil)))) (Syntax.tcons
-      (Syntax.tyInt Syntax.w8) (Syntax.tcons (Syntax.tyStruct (102 ∷ 105 ∷ 101 ∷ 108 ∷ 100 ∷ 115 ∷ 58 ∷ 58 ∷ 82 ∷ 101 ∷ 115 ∷ 105 ∷ 100 ∷ 117 ∷ 101 ∷ 78 ∷ 117 ∷
-      109 ∷ 98 ∷ 101 ∷ 114 ∷ []) (Syntax.tcons (Syntax.tyInt Syntax.w32) Syntax.tnil)) (Syntax.tcons (Syntax.tyInt Syntax.w8) Syntax.tnil))))) (Syntax.tcons
-      (Syntax.tyInt Syntax.w8) (Syntax.tcons (Syntax.tyInt Syntax.w64) (Syntax.tcons Syntax.tyBool Syntax.tnil))))))),
-) ∷ (4, Rows'.any-gone SlotAs.ty) ∷ (
-  5,
-  Rows'.any-gone Syntax.tyBool,
-) ∷ (6, Rows'.any-gone (Syntax.tyInt Syntax.w64)) ∷ (7, Rows'.any-gone Syntax.tyPtr) ∷ (8, Rows'.any-gone SlotAs.ty) ∷ []
-
-abbrev pub t2 : List.List Row.Entry
-t2 = (
-  0,
-  Rows'.any-gone (Syntax.tyStruct (102 ∷ 114 ∷ 97 ∷ 103 ∷ 109 ∷ 101 ∷ 110 ∷ 116 ∷ 115 ∷ 58 ∷ 58 ∷ 84 ∷ 97 ∷ 105 ∷ 108 ∷ []) (Syntax.tcons Syntax.tyBool
-      (Syntax.tcons Syntax.tyBool (Syntax.tcons (Syntax.tyStruct (114 ∷ 101 ∷ 115 ∷ 105 ∷ 100 ∷ 117 ∷ 101 ∷ 58 ∷ 58 ∷ 82 ∷ 101 ∷ 115 ∷ 105 ∷ 100 ∷ 117 ∷ 101 ∷
-      []) (Syntax.tcons (Syntax.tyStruct (110 ∷ 97 ∷ 109 ∷ 101 ∷ 115 ∷ 58 ∷ 58 ∷ 84 ∷ 104 ∷ 114 ∷ 101 ∷ 101 ∷ []) (Syntax.tcons (Syntax.tyInt Syntax.w8)
-      (Syntax.tcons (Syntax.tyInt Syntax.w8) (Syntax.tcons (Syntax.tyInt Syntax.w8) Syntax.tnil)))) (Syntax.tcons (Syntax.tyInt Syntax.w8) (Syntax.tcons
-      (Syntax.tyStruct (102 ∷ 105 ∷ 101 ∷ 108 ∷ 100 ∷ 115 ∷ 58 ∷ 58 ∷ 82 ∷ 101 ∷ 115 ∷ 105 ∷ 100 ∷ 117 ∷ 101 ∷ 78 ∷ 117 ∷ 109 ∷ 98 ∷ 101 ∷ 114 ∷ [])
-      (Syntax.tcons (Syntax.tyInt Syntax.w32) Syntax.tnil)) (Syntax.tcons (Syntax.tyInt Syntax.w8) Syntax.tnil))))) (Syntax.tcons (Syntax.tyInt Syntax.w8)
-      (Syntax.tcons (Syntax.tyInt Syntax.w64) (Syntax.tcons Syntax.tyBool Syntax.tnil))))))),
-) ∷ (
-  1,
-  Rows'.sslice SlotAs.row (Syntax.tyRef (Syntax.named 0)
-      Syntax.imm SlotAs.pointee) 0,
-) ∷ (2, Rows'.sc-here (Row.sInt Syntax.w64)) ∷ (
-  3,
-  Rows'.any-gone (Syntax.tyStruct (102 ∷ 114 ∷ 97 ∷ 103 ∷ 109 ∷ 101 ∷ 110 ∷
-      116 ∷ 115 ∷ 58 ∷ 58 ∷ 84 ∷ 97 ∷ 105 ∷ 108 ∷ []) (Syntax.tcons Syntax.tyBool (Syntax.tcons Syntax.tyBool (Syntax.tcons (Syntax.tyStruct (114 ∷ 101 ∷ 115 ∷
-      105 ∷ 100 ∷ 117 ∷ 101 ∷ 58 ∷ 58 ∷ 82 ∷ 101 ∷ 115 ∷ 105 ∷ 100 ∷ 117 ∷ 101 ∷ []) (Syntax.tcons (Syntax.tyStruct (110 ∷ 97 ∷ 109 ∷ 101 ∷ 115 ∷ 58 ∷ 58 ∷ 84 ∷
-      104 ∷ 114 ∷ 101 ∷ 101 ∷ []) (Syntax.tcons (Syntax.tyInt Syntax.w8) (Syntax.tcons (Syntax.tyInt Syntax.w8) (Syntax.tcons (Syntax.tyInt Syntax.w8)
+      105 ∷ 108 ∷ []) (Syntax.tcons Syntax.tyBool (Syntax.tcons Syntax.tyBool (Syntax.tcons (Syntax.tyInt Syntax.w32) (Syntax.tcons (Syntax.tyStruct (114 ∷ 101 ∷
+      115 ∷ 105 ∷ 100 ∷ 117 ∷ 101 ∷ 58 ∷ 58 ∷ 82 ∷ 101 ∷ 115 ∷ 105 ∷ 100 ∷ 117 ∷ 101 ∷ []) (Syntax.tcons (Syntax.tyStruct (110 ∷ 97 ∷ 109 ∷ 101 ∷ 115 ∷ 58 ∷ 58 ∷
+      84 ∷ 104 ∷ 114 ∷ 101 ∷ 101 ∷ []) (Syntax.tcons (Syntax.tyInt Syntax.w8) (Syntax.tcons (Syntax.tyInt Syntax.w8) (Syntax.tcons (Syntax.tyInt Syntax.w8)
       Syntax.tnil)))) (Syntax.tcons (Syntax.tyInt Syntax.w8) (Syntax.tcons (Syntax.tyStruct (102 ∷ 105 ∷ 101 ∷ 108 ∷ 100 ∷ 115 ∷ 58 ∷ 58 ∷ 82 ∷ 101 ∷ 115 ∷ 105 ∷
       100 ∷ 117 ∷ 101 ∷ 78 ∷ 117 ∷ 109 ∷ 98 ∷ 101 ∷ 114 ∷ []) (Syntax.tcons (Syntax.tyInt Syntax.w32) Syntax.tnil)) (Syntax.tcons (Syntax.tyInt Syntax.w8)
-      Syntax.tnil))))) (Syntax.tcons (Syntax.tyInt Syntax.w8) (Syntax.tcons (Syntax.tyInt Syntax.w64) (Syntax.tcons Syntax.tyBool Syntax.tnil))))))),
+      Syntax.tnil))))) (Syntax.tcons (Syntax.tyInt Syntax.w8) (Syntax.tcons (Syntax.tyInt Syntax.w64) (Syntax.tcons Syntax.tyBool Syntax.tnil)))))))),
 ) ∷ (
   4,
   Rows'.any-gone SlotAs.ty,
@@ -323,162 +294,215 @@ t2 = (
   Rows'.any-gone SlotAs.ty,
 ) ∷ []
 
+abbrev pub t2 : List.List Row.Entry
+t2 = (
+  0,
+  Rows'.any-gone (Syntax.tyStruct (102 ∷ 114 ∷ 97 ∷ 103 ∷ 109 ∷ 101 ∷ 110 ∷ 116 ∷ 115 ∷ 58 ∷ 58 ∷ 84 ∷ 97 ∷ 105 ∷ 108 ∷ []) (Syntax.tcons Syntax.tyBool
+      (Syntax.tcons Syntax.tyBool (Syntax.tcons (Syntax.tyInt Syntax.w32) (Syntax.tcons (Syntax.tyStruct (114 ∷ 101 ∷ 115 ∷ 105 ∷ 100 ∷ 117 ∷ 101 ∷ 58 ∷ 58 ∷ 82
+      ∷ 101 ∷ 115 ∷ 105 ∷ 100 ∷ 117 ∷ 101 ∷ []) (Syntax.tcons (Syntax.tyStruct (110 ∷ 97 ∷ 109 ∷ 101 ∷ 115 ∷ 58 ∷ 58 ∷ 84 ∷ 104 ∷ 114 ∷ 101 ∷ 101 ∷ [])
+      (Syntax.tcons (Syntax.tyInt Syntax.w8) (Syntax.tcons (Syntax.tyInt Syntax.w8) (Syntax.tcons (Syntax.tyInt Syntax.w8) Syntax.tnil)))) (Syntax.tcons
+      (Syntax.tyInt Syntax.w8) (Syntax.tcons (Syntax.tyStruct (102 ∷ 105 ∷ 101 ∷ 108 ∷ 100 ∷ 115 ∷ 58 ∷ 58 ∷ 82 ∷ 101 ∷ 115 ∷ 105 ∷ 100 ∷ 117 ∷ 101 ∷ 78 ∷ 117 ∷
+      109 ∷ 98 ∷ 101 ∷ 114 ∷ []) (Syntax.tcons (Syntax.tyInt Syntax.w32) Syntax.tnil)) (Syntax.tcons (Syntax.tyInt Syntax.w8) Syntax.tnil))))) (Syntax.tcons
+      (Syntax.tyInt Syntax.w8) (Syntax.tcons (Syntax.tyInt Syntax.w64) (Syntax.tcons Syntax.tyBool Syntax.tnil)))))))),
+) ∷ (
+  1,
+  Rows'.sslice SlotAs.row
+      (Syntax.tyRef (Syntax.named 0) Syntax.imm SlotAs.pointee) 0,
+) ∷ (2, Rows'.sc-here (Row.sInt Syntax.w64)) ∷ (
+  3,
+  Rows'.any-gone (Syntax.tyStruct (102 ∷ 114 ∷
+      97 ∷ 103 ∷ 109 ∷ 101 ∷ 110 ∷ 116 ∷ 115 ∷ 58 ∷ 58 ∷ 84 ∷ 97 ∷ 105 ∷ 108 ∷ []) (Syntax.tcons Syntax.tyBool (Syntax.tcons Syntax.tyBool (Syntax.tcons
+      (Syntax.tyInt Syntax.w32) (Syntax.tcons (Syntax.tyStruct (114 ∷ 101 ∷ 115 ∷ 105 ∷ 100 ∷ 117 ∷ 101 ∷ 58 ∷ 58 ∷ 82 ∷ 101 ∷ 115 ∷ 105 ∷ 100 ∷ 117 ∷ 101 ∷ [])
+      (Syntax.tcons (Syntax.tyStruct (110 ∷ 97 ∷ 109 ∷ 101 ∷ 115 ∷ 58 ∷ 58 ∷ 84 ∷ 104 ∷ 114 ∷ 101 ∷ 101 ∷ []) (Syntax.tcons (Syntax.tyInt Syntax.w8)
+      (Syntax.tcons (Syntax.tyInt Syntax.w8) (Syntax.tcons (Syntax.tyInt Syntax.w8) Syntax.tnil)))) (Syntax.tcons (Syntax.tyInt Syntax.w8) (Syntax.tcons
+      (Syntax.tyStruct (102 ∷ 105 ∷ 101 ∷ 108 ∷ 100 ∷ 115 ∷ 58 ∷ 58 ∷ 82 ∷ 101 ∷ 115 ∷ 105 ∷ 100 ∷ 117 ∷ 101 ∷ 78 ∷ 117 ∷ 109 ∷ 98 ∷ 101 ∷ 114 ∷ [])
+      (Syntax.tcons (Syntax.tyInt Syntax.w32) Syntax.tnil)) (Syntax.tcons (Syntax.tyInt Syntax.w8) Syntax.tnil))))) (Syntax.tcons (Syntax.tyInt Syntax.w8)
+      (Syntax.tcons (Syntax.tyInt Syntax.w64) (Syntax.tcons Syntax.tyBool Syntax.tnil)))))))),
+) ∷ (4, Rows'.any-gone SlotAs.ty) ∷ (
+  5,
+  Rows'.any-gone
+      Syntax.tyBool,
+) ∷ (6, Rows'.any-gone (Syntax.tyInt Syntax.w64)) ∷ (7, Rows'.any-gone Syntax.tyPtr) ∷ (8, Rows'.any-gone SlotAs.ty) ∷ []
+
 abbrev pub t3 : List.List Row.Entry
 t3 = (
   0,
   Rows'.any-gone (Syntax.tyStruct (102 ∷ 114 ∷ 97 ∷ 103 ∷ 109 ∷ 101 ∷ 110 ∷ 116 ∷ 115 ∷ 58 ∷ 58 ∷ 84 ∷ 97 ∷ 105 ∷ 108 ∷ []) (Syntax.tcons Syntax.tyBool
-      (Syntax.tcons Syntax.tyBool (Syntax.tcons (Syntax.tyStruct (114 ∷ 101 ∷ 115 ∷ 105 ∷ 100 ∷ 117 ∷ 101 ∷ 58 ∷ 58 ∷ 82 ∷ 101 ∷ 115 ∷ 105 ∷ 100 ∷ 117 ∷ 101 ∷
-      []) (Syntax.tcons (Syntax.tyStruct (110 ∷ 97 ∷ 109 ∷ 101 ∷ 115 ∷ 58 ∷ 58 ∷ 84 ∷ 104 ∷ 114 ∷ 101 ∷ 101 ∷ []) (Syntax.tcons (Syntax.tyInt Syntax.w8)
-      (Syntax.tcons (Syntax.tyInt Syntax.w8) (Syntax.tcons (Syntax.tyInt Syntax.w8) Syntax.tnil)))) (Syntax.tcons (Syntax.tyInt Syntax.w8) (Syntax.tcons
-      (Syntax.tyStruct (102 ∷ 105 ∷ 101 ∷ 108 ∷ 100 ∷ 115 ∷ 58 ∷ 58 ∷ 82 ∷ 101 ∷ 115 ∷ 105 ∷ 100 ∷ 117 ∷ 101 ∷ 78 ∷ 117 ∷ 109 ∷ 98 ∷ 101 ∷ 114 ∷ [])
-      (Syntax.tcons (Syntax.tyInt Syntax.w32) Syntax.tnil)) (Syntax.tcons (Syntax.tyInt Syntax.w8) Syntax.tnil))))) (Syntax.tcons (Syntax.tyInt Syntax.w8)
-      (Syntax.tcons (Syntax.tyInt Syntax.w64) (Syntax.tcons Syntax.tyBool Syntax.tnil))))))),
+      (Syntax.tcons Syntax.tyBool (Syntax.tcons (Syntax.tyInt Syntax.w32) (Syntax.tcons (Syntax.tyStruct (114 ∷ 101 ∷ 115 ∷ 105 ∷ 100 ∷ 117 ∷ 101 ∷ 58 ∷ 58 ∷ 82
+      ∷ 101 ∷ 115 ∷ 105 ∷ 100 ∷ 117 ∷ 101 ∷ []) (Syntax.tcons (Syntax.tyStruct (110 ∷ 97 ∷ 109 ∷ 101 ∷ 115 ∷ 58 ∷ 58 ∷ 84 ∷ 104 ∷ 114 ∷ 101 ∷ 101 ∷ [])
+      (Syntax.tcons (Syntax.tyInt Syntax.w8) (Syntax.tcons (Syntax.tyInt Syntax.w8) (Syntax.tcons (Syntax.tyInt Syntax.w8) Syntax.tnil)))) (Syntax.tcons
+      (Syntax.tyInt Syntax.w8) (Syntax.tcons (Syntax.tyStruct (102 ∷ 105 ∷ 101 ∷ 108 ∷ 100 ∷ 115 ∷ 58 ∷ 58 ∷ 82 ∷ 101 ∷ 115 ∷ 105 ∷ 100 ∷ 117 ∷ 101 ∷ 78 ∷ 117 ∷
+      109 ∷ 98 ∷ 101 ∷ 114 ∷ []) (Syntax.tcons (Syntax.tyInt Syntax.w32) Syntax.tnil)) (Syntax.tcons (Syntax.tyInt Syntax.w8) Syntax.tnil))))) (Syntax.tcons
+      (Syntax.tyInt Syntax.w8) (Syntax.tcons (Syntax.tyInt Syntax.w64) (Syntax.tcons Syntax.tyBool Syntax.tnil)))))))),
 ) ∷ (
   1,
-  Rows'.sslice SlotAs.row (Syntax.tyRef (Syntax.named 0)
-      Syntax.imm SlotAs.pointee) 0,
-) ∷ (2, Rows'.sc-here (Row.sInt Syntax.w64)) ∷ (3, Rows'.whole (Declared.row Tail.the-type)) ∷ (4, Rows'.any-gone SlotAs.ty) ∷
-    (5, Rows'.any-gone Syntax.tyBool) ∷ (6, Rows'.any-gone (Syntax.tyInt Syntax.w64)) ∷ (7, Rows'.any-gone Syntax.tyPtr) ∷ (8, Rows'.any-gone SlotAs.ty) ∷ []
+  Rows'.sslice SlotAs.row
+      (Syntax.tyRef (Syntax.named 0) Syntax.imm SlotAs.pointee) 0,
+) ∷ (2, Rows'.sc-here (Row.sInt Syntax.w64)) ∷ (3, Rows'.whole (Declared.row Tail.the-type)) ∷
+    (4, Rows'.any-gone SlotAs.ty) ∷ (5, Rows'.any-gone Syntax.tyBool) ∷ (6, Rows'.any-gone (Syntax.tyInt Syntax.w64)) ∷ (7, Rows'.any-gone Syntax.tyPtr) ∷ (
+      8,
+      Rows'.any-gone SlotAs.ty,
+    ) ∷ []
 
 abbrev pub t4 : List.List Row.Entry
 t4 = (
   0,
   Rows'.any-gone (Syntax.tyStruct (102 ∷ 114 ∷ 97 ∷ 103 ∷ 109 ∷ 101 ∷ 110 ∷ 116 ∷ 115 ∷ 58 ∷ 58 ∷ 84 ∷ 97 ∷ 105 ∷ 108 ∷ []) (Syntax.tcons Syntax.tyBool
-      (Syntax.tcons Syntax.tyBool (Syntax.tcons (Syntax.tyStruct (114 ∷ 101 ∷ 115 ∷ 105 ∷ 100 ∷ 117 ∷ 101 ∷ 58 ∷ 58 ∷ 82 ∷ 101 ∷ 115 ∷ 105 ∷ 100 ∷ 117 ∷ 101 ∷
-      []) (Syntax.tcons (Syntax.tyStruct (110 ∷ 97 ∷ 109 ∷ 101 ∷ 115 ∷ 58 ∷ 58 ∷ 84 ∷ 104 ∷ 114 ∷ 101 ∷ 101 ∷ []) (Syntax.tcons (Syntax.tyInt Syntax.w8)
-      (Syntax.tcons (Syntax.tyInt Syntax.w8) (Syntax.tcons (Syntax.tyInt Syntax.w8) Syntax.tnil)))) (Syntax.tcons (Syntax.tyInt Syntax.w8) (Syntax.tcons
-      (Syntax.tyStruct (102 ∷ 105 ∷ 101 ∷ 108 ∷ 100 ∷ 115 ∷ 58 ∷ 58 ∷ 82 ∷ 101 ∷ 115 ∷ 105 ∷ 100 ∷ 117 ∷ 101 ∷ 78 ∷ 117 ∷ 109 ∷ 98 ∷ 101 ∷ 114 ∷ [])
-      (Syntax.tcons (Syntax.tyInt Syntax.w32) Syntax.tnil)) (Syntax.tcons (Syntax.tyInt Syntax.w8) Syntax.tnil))))) (Syntax.tcons (Syntax.tyInt Syntax.w8)
-      (Syntax.tcons (Syntax.tyInt Syntax.w64) (Syntax.tcons Syntax.tyBool Syntax.tnil))))))),
+      (Syntax.tcons Syntax.tyBool (Syntax.tcons (Syntax.tyInt Syntax.w32) (Syntax.tcons (Syntax.tyStruct (114 ∷ 101 ∷ 115 ∷ 105 ∷ 100 ∷ 117 ∷ 101 ∷ 58 ∷ 58 ∷ 82
+      ∷ 101 ∷ 115 ∷ 105 ∷ 100 ∷ 117 ∷ 101 ∷ []) (Syntax.tcons (Syntax.tyStruct (110 ∷ 97 ∷ 109 ∷ 101 ∷ 115 ∷ 58 ∷ 58 ∷ 84 ∷ 104 ∷ 114 ∷ 101 ∷ 101 ∷ [])
+      (Syntax.tcons (Syntax.tyInt Syntax.w8) (Syntax.tcons (Syntax.tyInt Syntax.w8) (Syntax.tcons (Syntax.tyInt Syntax.w8) Syntax.tnil)))) (Syntax.tcons
+      (Syntax.tyInt Syntax.w8) (Syntax.tcons (Syntax.tyStruct (102 ∷ 105 ∷ 101 ∷ 108 ∷ 100 ∷ 115 ∷ 58 ∷ 58 ∷ 82 ∷ 101 ∷ 115 ∷ 105 ∷ 100 ∷ 117 ∷ 101 ∷ 78 ∷ 117 ∷
+      109 ∷ 98 ∷ 101 ∷ 114 ∷ []) (Syntax.tcons (Syntax.tyInt Syntax.w32) Syntax.tnil)) (Syntax.tcons (Syntax.tyInt Syntax.w8) Syntax.tnil))))) (Syntax.tcons
+      (Syntax.tyInt Syntax.w8) (Syntax.tcons (Syntax.tyInt Syntax.w64) (Syntax.tcons Syntax.tyBool Syntax.tnil)))))))),
 ) ∷ (
   1,
-  Rows'.sslice SlotAs.row (Syntax.tyRef (Syntax.named 0)
-      Syntax.imm SlotAs.pointee) 0,
-) ∷ (2, Rows'.sc-here (Row.sInt Syntax.w64)) ∷ (3, Rows'.whole (Declared.row Tail.the-type)) ∷ (4, Rows'.any-gone SlotAs.ty) ∷
-    (5, Rows'.sc-here Row.sBool) ∷ (6, Rows'.any-gone (Syntax.tyInt Syntax.w64)) ∷ (7, Rows'.any-gone Syntax.tyPtr) ∷ (8, Rows'.any-gone SlotAs.ty) ∷ []
+  Rows'.sslice SlotAs.row
+      (Syntax.tyRef (Syntax.named 0) Syntax.imm SlotAs.pointee) 0,
+) ∷ (2, Rows'.sc-here (Row.sInt Syntax.w64)) ∷ (3, Rows'.whole (Declared.row Tail.the-type)) ∷
+    (4, Rows'.any-gone SlotAs.ty) ∷ (5, Rows'.sc-here Row.sBool) ∷ (6, Rows'.any-gone (Syntax.tyInt Syntax.w64)) ∷ (7, Rows'.any-gone Syntax.tyPtr) ∷ (
+      8,
+      Rows'.any-gone SlotAs.ty,
+    ) ∷ []
 
 abbrev pub t5 : List.List Row.Entry
 t5 = (
   0,
   Rows'.any-gone (Syntax.tyStruct (102 ∷ 114 ∷ 97 ∷ 103 ∷ 109 ∷ 101 ∷ 110 ∷ 116 ∷ 115 ∷ 58 ∷ 58 ∷ 84 ∷ 97 ∷ 105 ∷ 108 ∷ []) (Syntax.tcons Syntax.tyBool
-      (Syntax.tcons Syntax.tyBool (Syntax.tcons (Syntax.tyStruct (114 ∷ 101 ∷ 115 ∷ 105 ∷ 100 ∷ 117 ∷ 101 ∷ 58 ∷ 58 ∷ 82 ∷ 101 ∷ 115 ∷ 105 ∷ 100 ∷ 117 ∷ 101 ∷
-      []) (Syntax.tcons (Syntax.tyStruct (110 ∷ 97 ∷ 109 ∷ 101 ∷ 115 ∷ 58 ∷ 58 ∷ 84 ∷ 104 ∷ 114 ∷ 101 ∷ 101 ∷ []) (Syntax.tcons (Syntax.tyInt Syntax.w8)
-      (Syntax.tcons (Syntax.tyInt Syntax.w8) (Syntax.tcons (Syntax.tyInt Syntax.w8) Syntax.tnil)))) (Syntax.tcons (Syntax.tyInt Syntax.w8) (Syntax.tcons
-      (Syntax.tyStruct (102 ∷ 105 ∷ 101 ∷ 108 ∷ 100 ∷ 115 ∷ 58 ∷ 58 ∷ 82 ∷ 101 ∷ 115 ∷ 105 ∷ 100 ∷ 117 ∷ 101 ∷ 78 ∷ 117 ∷ 109 ∷ 98 ∷ 101 ∷ 114 ∷ [])
-      (Syntax.tcons (Syntax.tyInt Syntax.w32) Syntax.tnil)) (Syntax.tcons (Syntax.tyInt Syntax.w8) Syntax.tnil))))) (Syntax.tcons (Syntax.tyInt Syntax.w8)
-      (Syntax.tcons (Syntax.tyInt Syntax.w64) (Syntax.tcons Syntax.tyBool Syntax.tnil))))))),
+      (Syntax.tcons Syntax.tyBool (Syntax.tcons (Syntax.tyInt Syntax.w32) (Syntax.tcons (Syntax.tyStruct (114 ∷ 101 ∷ 115 ∷ 105 ∷ 100 ∷ 117 ∷ 101 ∷ 58 ∷ 58 ∷ 82
+      ∷ 101 ∷ 115 ∷ 105 ∷ 100 ∷ 117 ∷ 101 ∷ []) (Syntax.tcons (Syntax.tyStruct (110 ∷ 97 ∷ 109 ∷ 101 ∷ 115 ∷ 58 ∷ 58 ∷ 84 ∷ 104 ∷ 114 ∷ 101 ∷ 101 ∷ [])
+      (Syntax.tcons (Syntax.tyInt Syntax.w8) (Syntax.tcons (Syntax.tyInt Syntax.w8) (Syntax.tcons (Syntax.tyInt Syntax.w8) Syntax.tnil)))) (Syntax.tcons
+      (Syntax.tyInt Syntax.w8) (Syntax.tcons (Syntax.tyStruct (102 ∷ 105 ∷ 101 ∷ 108 ∷ 100 ∷ 115 ∷ 58 ∷ 58 ∷ 82 ∷ 101 ∷ 115 ∷ 105 ∷ 100 ∷ 117 ∷ 101 ∷ 78 ∷ 117 ∷
+      109 ∷ 98 ∷ 101 ∷ 114 ∷ []) (Syntax.tcons (Syntax.tyInt Syntax.w32) Syntax.tnil)) (Syntax.tcons (Syntax.tyInt Syntax.w8) Syntax.tnil))))) (Syntax.tcons
+      (Syntax.tyInt Syntax.w8) (Syntax.tcons (Syntax.tyInt Syntax.w64) (Syntax.tcons Syntax.tyBool Syntax.tnil)))))))),
 ) ∷ (
   1,
-  Rows'.sslice SlotAs.row (Syntax.tyRef (Syntax.named 0)
-      Syntax.imm SlotAs.pointee) 0,
-) ∷ (2, Rows'.sc-here (Row.sInt Syntax.w64)) ∷ (3, Rows'.whole (Declared.row Tail.the-type)) ∷ (4, Rows'.any-gone SlotAs.ty) ∷
-    (5, Rows'.any-gone Syntax.tyBool) ∷ (6, Rows'.sc-here (Row.sInt Syntax.w64)) ∷ (7, Rows'.any-gone Syntax.tyPtr) ∷ (8, Rows'.any-gone SlotAs.ty) ∷ []
+  Rows'.sslice SlotAs.row
+      (Syntax.tyRef (Syntax.named 0) Syntax.imm SlotAs.pointee) 0,
+) ∷ (2, Rows'.sc-here (Row.sInt Syntax.w64)) ∷ (3, Rows'.whole (Declared.row Tail.the-type)) ∷
+    (4, Rows'.any-gone SlotAs.ty) ∷ (5, Rows'.any-gone Syntax.tyBool) ∷ (6, Rows'.sc-here (Row.sInt Syntax.w64)) ∷ (7, Rows'.any-gone Syntax.tyPtr) ∷ (
+      8,
+      Rows'.any-gone SlotAs.ty,
+    ) ∷ []
 
 abbrev pub t6 : List.List Row.Entry
 t6 = (
   0,
   Rows'.any-gone (Syntax.tyStruct (102 ∷ 114 ∷ 97 ∷ 103 ∷ 109 ∷ 101 ∷ 110 ∷ 116 ∷ 115 ∷ 58 ∷ 58 ∷ 84 ∷ 97 ∷ 105 ∷ 108 ∷ []) (Syntax.tcons Syntax.tyBool
-      (Syntax.tcons Syntax.tyBool (Syntax.tcons (Syntax.tyStruct (114 ∷ 101 ∷ 115 ∷ 105 ∷ 100 ∷ 117 ∷ 101 ∷ 58 ∷ 58 ∷ 82 ∷ 101 ∷ 115 ∷ 105 ∷ 100 ∷ 117 ∷ 101 ∷
-      []) (Syntax.tcons (Syntax.tyStruct (110 ∷ 97 ∷ 109 ∷ 101 ∷ 115 ∷ 58 ∷ 58 ∷ 84 ∷ 104 ∷ 114 ∷ 101 ∷ 101 ∷ []) (Syntax.tcons (Syntax.tyInt Syntax.w8)
-      (Syntax.tcons (Syntax.tyInt Syntax.w8) (Syntax.tcons (Syntax.tyInt Syntax.w8) Syntax.tnil)))) (Syntax.tcons (Syntax.tyInt Syntax.w8) (Syntax.tcons
-      (Syntax.tyStruct (102 ∷ 105 ∷ 101 ∷ 108 ∷ 100 ∷ 115 ∷ 58 ∷ 58 ∷ 82 ∷ 101 ∷ 115 ∷ 105 ∷ 100 ∷ 117 ∷ 101 ∷ 78 ∷ 117 ∷ 109 ∷ 98 ∷ 101 ∷ 114 ∷ [])
-      (Syntax.tcons (Syntax.tyInt Syntax.w32) Syntax.tnil)) (Syntax.tcons (Syntax.tyInt Syntax.w8) Syntax.tnil))))) (Syntax.tcons (Syntax.tyInt Syntax.w8)
-      (Syntax.tcons (Syntax.tyInt Syntax.w64) (Syntax.tcons Syntax.tyBool Syntax.tnil))))))),
+      (Syntax.tcons Syntax.tyBool (Syntax.tcons (Syntax.tyInt Syntax.w32) (Syntax.tcons (Syntax.tyStruct (114 ∷ 101 ∷ 115 ∷ 105 ∷ 100 ∷ 117 ∷ 101 ∷ 58 ∷ 58 ∷ 82
+      ∷ 101 ∷ 115 ∷ 105 ∷ 100 ∷ 117 ∷ 101 ∷ []) (Syntax.tcons (Syntax.tyStruct (110 ∷ 97 ∷ 109 ∷ 101 ∷ 115 ∷ 58 ∷ 58 ∷ 84 ∷ 104 ∷ 114 ∷ 101 ∷ 101 ∷ [])
+      (Syntax.tcons (Syntax.tyInt Syntax.w8) (Syntax.tcons (Syntax.tyInt Syntax.w8) (Syntax.tcons (Syntax.tyInt Syntax.w8) Syntax.tnil)))) (Syntax.tcons
+      (Syntax.tyInt Syntax.w8) (Syntax.tcons (Syntax.tyStruct (102 ∷ 105 ∷ 101 ∷ 108 ∷ 100 ∷ 115 ∷ 58 ∷ 58 ∷ 82 ∷ 101 ∷ 115 ∷ 105 ∷ 100 ∷ 117 ∷ 101 ∷ 78 ∷ 117 ∷
+      109 ∷ 98 ∷ 101 ∷ 114 ∷ []) (Syntax.tcons (Syntax.tyInt Syntax.w32) Syntax.tnil)) (Syntax.tcons (Syntax.tyInt Syntax.w8) Syntax.tnil))))) (Syntax.tcons
+      (Syntax.tyInt Syntax.w8) (Syntax.tcons (Syntax.tyInt Syntax.w64) (Syntax.tcons Syntax.tyBool Syntax.tnil)))))))),
 ) ∷ (
   1,
-  Rows'.sslice SlotAs.row (Syntax.tyRef (Syntax.named 0)
-      Syntax.imm SlotAs.pointee) 0,
-) ∷ (2, Rows'.sc-here (Row.sInt Syntax.w64)) ∷ (3, Rows'.whole (Declared.row Tail.the-type)) ∷ (4, Rows'.any-gone SlotAs.ty) ∷
-    (5, Rows'.any-gone Syntax.tyBool) ∷ (6, Rows'.sc-here (Row.sInt Syntax.w64)) ∷ (7, Rows'.sc-here Row.sPtr) ∷ (8, Rows'.any-gone SlotAs.ty) ∷ []
+  Rows'.sslice SlotAs.row
+      (Syntax.tyRef (Syntax.named 0) Syntax.imm SlotAs.pointee) 0,
+) ∷ (2, Rows'.sc-here (Row.sInt Syntax.w64)) ∷ (3, Rows'.whole (Declared.row Tail.the-type)) ∷
+    (4, Rows'.any-gone SlotAs.ty) ∷ (5, Rows'.any-gone Syntax.tyBool) ∷ (6, Rows'.sc-here (Row.sInt Syntax.w64)) ∷ (7, Rows'.sc-here Row.sPtr) ∷ (
+      8,
+      Rows'.any-gone SlotAs.ty,
+    ) ∷ []
 
 abbrev pub t7 : List.List Row.Entry
 t7 = (
   0,
   Rows'.any-gone (Syntax.tyStruct (102 ∷ 114 ∷ 97 ∷ 103 ∷ 109 ∷ 101 ∷ 110 ∷ 116 ∷ 115 ∷ 58 ∷ 58 ∷ 84 ∷ 97 ∷ 105 ∷ 108 ∷ []) (Syntax.tcons Syntax.tyBool
-      (Syntax.tcons Syntax.tyBool (Syntax.tcons (Syntax.tyStruct (114 ∷ 101 ∷ 115 ∷ 105 ∷ 100 ∷ 117 ∷ 101 ∷ 58 ∷ 58 ∷ 82 ∷ 101 ∷ 115 ∷ 105 ∷ 100 ∷ 117 ∷ 101 ∷
-      []) (Syntax.tcons (Syntax.tyStruct (110 ∷ 97 ∷ 109 ∷ 101 ∷ 115 ∷ 58 ∷ 58 ∷ 84 ∷ 104 ∷ 114 ∷ 101 ∷ 101 ∷ []) (Syntax.tcons (Syntax.tyInt Syntax.w8)
-      (Syntax.tcons (Syntax.tyInt Syntax.w8) (Syntax.tcons (Syntax.tyInt Syntax.w8) Syntax.tnil)))) (Syntax.tcons (Syntax.tyInt Syntax.w8) (Syntax.tcons
-      (Syntax.tyStruct (102 ∷ 105 ∷ 101 ∷ 108 ∷ 100 ∷ 115 ∷ 58 ∷ 58 ∷ 82 ∷ 101 ∷ 115 ∷ 105 ∷ 100 ∷ 117 ∷ 101 ∷ 78 ∷ 117 ∷ 109 ∷ 98 ∷ 101 ∷ 114 ∷ [])
-      (Syntax.tcons (Syntax.tyInt Syntax.w32) Syntax.tnil)) (Syntax.tcons (Syntax.tyInt Syntax.w8) Syntax.tnil))))) (Syntax.tcons (Syntax.tyInt Syntax.w8)
-      (Syntax.tcons (Syntax.tyInt Syntax.w64) (Syntax.tcons Syntax.tyBool Syntax.tnil))))))),
+      (Syntax.tcons Syntax.tyBool (Syntax.tcons (Syntax.tyInt Syntax.w32) (Syntax.tcons (Syntax.tyStruct (114 ∷ 101 ∷ 115 ∷ 105 ∷ 100 ∷ 117 ∷ 101 ∷ 58 ∷ 58 ∷ 82
+      ∷ 101 ∷ 115 ∷ 105 ∷ 100 ∷ 117 ∷ 101 ∷ []) (Syntax.tcons (Syntax.tyStruct (110 ∷ 97 ∷ 109 ∷ 101 ∷ 115 ∷ 58 ∷ 58 ∷ 84 ∷ 104 ∷ 114 ∷ 101 ∷ 101 ∷ [])
+      (Syntax.tcons (Syntax.tyInt Syntax.w8) (Syntax.tcons (Syntax.tyInt Syntax.w8) (Syntax.tcons (Syntax.tyInt Syntax.w8) Syntax.tnil)))) (Syntax.tcons
+      (Syntax.tyInt Syntax.w8) (Syntax.tcons (Syntax.tyStruct (102 ∷ 105 ∷ 101 ∷ 108 ∷ 100 ∷ 115 ∷ 58 ∷ 58 ∷ 82 ∷ 101 ∷ 115 ∷ 105 ∷ 100 ∷ 117 ∷ 101 ∷ 78 ∷ 117 ∷
+      109 ∷ 98 ∷ 101 ∷ 114 ∷ []) (Syntax.tcons (Syntax.tyInt Syntax.w32) Syntax.tnil)) (Syntax.tcons (Syntax.tyInt Syntax.w8) Syntax.tnil))))) (Syntax.tcons
+      (Syntax.tyInt Syntax.w8) (Syntax.tcons (Syntax.tyInt Syntax.w64) (Syntax.tcons Syntax.tyBool Syntax.tnil)))))))),
 ) ∷ (
   1,
-  Rows'.sslice SlotAs.row (Syntax.tyRef (Syntax.named 0)
-      Syntax.imm SlotAs.pointee) 0,
-) ∷ (2, Rows'.sc-here (Row.sInt Syntax.w64)) ∷ (3, Rows'.whole (Declared.row Tail.the-type)) ∷ (4, Rows'.any-gone SlotAs.ty) ∷
-    (5, Rows'.any-gone Syntax.tyBool) ∷ (6, Rows'.sc-here (Row.sInt Syntax.w64)) ∷ (7, Rows'.sc-here Row.sPtr) ∷ (8, SlotAs.whole) ∷ []
+  Rows'.sslice SlotAs.row
+      (Syntax.tyRef (Syntax.named 0) Syntax.imm SlotAs.pointee) 0,
+) ∷ (2, Rows'.sc-here (Row.sInt Syntax.w64)) ∷ (3, Rows'.whole (Declared.row Tail.the-type)) ∷
+    (4, Rows'.any-gone SlotAs.ty) ∷ (5, Rows'.any-gone Syntax.tyBool) ∷ (6, Rows'.sc-here (Row.sInt Syntax.w64)) ∷ (7, Rows'.sc-here Row.sPtr) ∷ (
+      8,
+      SlotAs.whole,
+    ) ∷ []
 
 abbrev pub t8 : List.List Row.Entry
 t8 = (
   0,
   Rows'.any-gone (Syntax.tyStruct (102 ∷ 114 ∷ 97 ∷ 103 ∷ 109 ∷ 101 ∷ 110 ∷ 116 ∷ 115 ∷ 58 ∷ 58 ∷ 84 ∷ 97 ∷ 105 ∷ 108 ∷ []) (Syntax.tcons Syntax.tyBool
-      (Syntax.tcons Syntax.tyBool (Syntax.tcons (Syntax.tyStruct (114 ∷ 101 ∷ 115 ∷ 105 ∷ 100 ∷ 117 ∷ 101 ∷ 58 ∷ 58 ∷ 82 ∷ 101 ∷ 115 ∷ 105 ∷ 100 ∷ 117 ∷ 101 ∷
-      []) (Syntax.tcons (Syntax.tyStruct (110 ∷ 97 ∷ 109 ∷ 101 ∷ 115 ∷ 58 ∷ 58 ∷ 84 ∷ 104 ∷ 114 ∷ 101 ∷ 101 ∷ []) (Syntax.tcons (Syntax.tyInt Syntax.w8)
-      (Syntax.tcons (Syntax.tyInt Syntax.w8) (Syntax.tcons (Syntax.tyInt Syntax.w8) Syntax.tnil)))) (Syntax.tcons (Syntax.tyInt Syntax.w8) (Syntax.tcons
-      (Syntax.tyStruct (102 ∷ 105 ∷ 101 ∷ 108 ∷ 100 ∷ 115 ∷ 58 ∷ 58 ∷ 82 ∷ 101 ∷ 115 ∷ 105 ∷ 100 ∷ 117 ∷ 101 ∷ 78 ∷ 117 ∷ 109 ∷ 98 ∷ 101 ∷ 114 ∷ [])
-      (Syntax.tcons (Syntax.tyInt Syntax.w32) Syntax.tnil)) (Syntax.tcons (Syntax.tyInt Syntax.w8) Syntax.tnil))))) (Syntax.tcons (Syntax.tyInt Syntax.w8)
-      (Syntax.tcons (Syntax.tyInt Syntax.w64) (Syntax.tcons Syntax.tyBool Syntax.tnil))))))),
+      (Syntax.tcons Syntax.tyBool (Syntax.tcons (Syntax.tyInt Syntax.w32) (Syntax.tcons (Syntax.tyStruct (114 ∷ 101 ∷ 115 ∷ 105 ∷ 100 ∷ 117 ∷ 101 ∷ 58 ∷ 58 ∷ 82
+      ∷ 101 ∷ 115 ∷ 105 ∷ 100 ∷ 117 ∷ 101 ∷ []) (Syntax.tcons (Syntax.tyStruct (110 ∷ 97 ∷ 109 ∷ 101 ∷ 115 ∷ 58 ∷ 58 ∷ 84 ∷ 104 ∷ 114 ∷ 101 ∷ 101 ∷ [])
+      (Syntax.tcons (Syntax.tyInt Syntax.w8) (Syntax.tcons (Syntax.tyInt Syntax.w8) (Syntax.tcons (Syntax.tyInt Syntax.w8) Syntax.tnil)))) (Syntax.tcons
+      (Syntax.tyInt Syntax.w8) (Syntax.tcons (Syntax.tyStruct (102 ∷ 105 ∷ 101 ∷ 108 ∷ 100 ∷ 115 ∷ 58 ∷ 58 ∷ 82 ∷ 101 ∷ 115 ∷ 105 ∷ 100 ∷ 117 ∷ 101 ∷ 78 ∷ 117 ∷
+      109 ∷ 98 ∷ 101 ∷ 114 ∷ []) (Syntax.tcons (Syntax.tyInt Syntax.w32) Syntax.tnil)) (Syntax.tcons (Syntax.tyInt Syntax.w8) Syntax.tnil))))) (Syntax.tcons
+      (Syntax.tyInt Syntax.w8) (Syntax.tcons (Syntax.tyInt Syntax.w64) (Syntax.tcons Syntax.tyBool Syntax.tnil)))))))),
 ) ∷ (
   1,
-  Rows'.sslice SlotAs.row (Syntax.tyRef (Syntax.named 0)
-      Syntax.imm SlotAs.pointee) 0,
-) ∷ (2, Rows'.sc-here (Row.sInt Syntax.w64)) ∷ (3, Rows'.whole (Declared.row Tail.the-type)) ∷ (4, Rows'.any-gone SlotAs.ty) ∷
-    (5, Rows'.any-gone Syntax.tyBool) ∷ (6, Rows'.any-gone (Syntax.tyInt Syntax.w64)) ∷ (7, Rows'.sc-here Row.sPtr) ∷ (8, SlotAs.whole) ∷ []
+  Rows'.sslice SlotAs.row
+      (Syntax.tyRef (Syntax.named 0) Syntax.imm SlotAs.pointee) 0,
+) ∷ (2, Rows'.sc-here (Row.sInt Syntax.w64)) ∷ (3, Rows'.whole (Declared.row Tail.the-type)) ∷
+    (4, Rows'.any-gone SlotAs.ty) ∷ (5, Rows'.any-gone Syntax.tyBool) ∷ (6, Rows'.any-gone (Syntax.tyInt Syntax.w64)) ∷ (7, Rows'.sc-here Row.sPtr) ∷ (
+      8,
+      SlotAs.whole,
+    ) ∷ []
 
 abbrev pub t9 : List.List Row.Entry
 t9 = (
   0,
   Rows'.any-gone (Syntax.tyStruct (102 ∷ 114 ∷ 97 ∷ 103 ∷ 109 ∷ 101 ∷ 110 ∷ 116 ∷ 115 ∷ 58 ∷ 58 ∷ 84 ∷ 97 ∷ 105 ∷ 108 ∷ []) (Syntax.tcons Syntax.tyBool
-      (Syntax.tcons Syntax.tyBool (Syntax.tcons (Syntax.tyStruct (114 ∷ 101 ∷ 115 ∷ 105 ∷ 100 ∷ 117 ∷ 101 ∷ 58 ∷ 58 ∷ 82 ∷ 101 ∷ 115 ∷ 105 ∷ 100 ∷ 117 ∷ 101 ∷
-      []) (Syntax.tcons (Syntax.tyStruct (110 ∷ 97 ∷ 109 ∷ 101 ∷ 115 ∷ 58 ∷ 58 ∷ 84 ∷ 104 ∷ 114 ∷ 101 ∷ 101 ∷ []) (Syntax.tcons (Syntax.tyInt Syntax.w8)
-      (Syntax.tcons (Syntax.tyInt Syntax.w8) (Syntax.tcons (Syntax.tyInt Syntax.w8) Syntax.tnil)))) (Syntax.tcons (Syntax.tyInt Syntax.w8) (Syntax.tcons
-      (Syntax.tyStruct (102 ∷ 105 ∷ 101 ∷ 108 ∷ 100 ∷ 115 ∷ 58 ∷ 58 ∷ 82 ∷ 101 ∷ 115 ∷ 105 ∷ 100 ∷ 117 ∷ 101 ∷ 78 ∷ 117 ∷ 109 ∷ 98 ∷ 101 ∷ 114 ∷ [])
-      (Syntax.tcons (Syntax.tyInt Syntax.w32) Syntax.tnil)) (Syntax.tcons (Syntax.tyInt Syntax.w8) Syntax.tnil))))) (Syntax.tcons (Syntax.tyInt Syntax.w8)
-      (Syntax.tcons (Syntax.tyInt Syntax.w64) (Syntax.tcons Syntax.tyBool Syntax.tnil))))))),
+      (Syntax.tcons Syntax.tyBool (Syntax.tcons (Syntax.tyInt Syntax.w32) (Syntax.tcons (Syntax.tyStruct (114 ∷ 101 ∷ 115 ∷ 105 ∷ 100 ∷ 117 ∷ 101 ∷ 58 ∷ 58 ∷ 82
+      ∷ 101 ∷ 115 ∷ 105 ∷ 100 ∷ 117 ∷ 101 ∷ []) (Syntax.tcons (Syntax.tyStruct (110 ∷ 97 ∷ 109 ∷ 101 ∷ 115 ∷ 58 ∷ 58 ∷ 84 ∷ 104 ∷ 114 ∷ 101 ∷ 101 ∷ [])
+      (Syntax.tcons (Syntax.tyInt Syntax.w8) (Syntax.tcons (Syntax.tyInt Syntax.w8) (Syntax.tcons (Syntax.tyInt Syntax.w8) Syntax.tnil)))) (Syntax.tcons
+      (Syntax.tyInt Syntax.w8) (Syntax.tcons (Syntax.tyStruct (102 ∷ 105 ∷ 101 ∷ 108 ∷ 100 ∷ 115 ∷ 58 ∷ 58 ∷ 82 ∷ 101 ∷ 115 ∷ 105 ∷ 100 ∷ 117 ∷ 101 ∷ 78 ∷ 117 ∷
+      109 ∷ 98 ∷ 101 ∷ 114 ∷ []) (Syntax.tcons (Syntax.tyInt Syntax.w32) Syntax.tnil)) (Syntax.tcons (Syntax.tyInt Syntax.w8) Syntax.tnil))))) (Syntax.tcons
+      (Syntax.tyInt Syntax.w8) (Syntax.tcons (Syntax.tyInt Syntax.w64) (Syntax.tcons Syntax.tyBool Syntax.tnil)))))))),
 ) ∷ (
   1,
-  Rows'.sslice SlotAs.row (Syntax.tyRef (Syntax.named 0)
-      Syntax.imm SlotAs.pointee) 0,
-) ∷ (2, Rows'.sc-here (Row.sInt Syntax.w64)) ∷ (3, Rows'.whole (Declared.row Tail.the-type)) ∷ (4, Rows'.any-gone SlotAs.ty) ∷
-    (5, Rows'.any-gone Syntax.tyBool) ∷ (6, Rows'.any-gone (Syntax.tyInt Syntax.w64)) ∷ (7, Rows'.any-gone Syntax.tyPtr) ∷ (8, SlotAs.whole) ∷ []
+  Rows'.sslice SlotAs.row
+      (Syntax.tyRef (Syntax.named 0) Syntax.imm SlotAs.pointee) 0,
+) ∷ (2, Rows'.sc-here (Row.sInt Syntax.w64)) ∷ (3, Rows'.whole (Declared.row Tail.the-type)) ∷
+    (4, Rows'.any-gone SlotAs.ty) ∷ (5, Rows'.any-gone Syntax.tyBool) ∷ (6, Rows'.any-gone (Syntax.tyInt Syntax.w64)) ∷ (7, Rows'.any-gone Syntax.tyPtr) ∷ (
+      8,
+      SlotAs.whole,
+    ) ∷ []
 
 abbrev pub t10 : List.List Row.Entry
 t10 = (
   0,
   Rows'.any-gone (Syntax.tyStruct (102 ∷ 114 ∷ 97 ∷ 103 ∷ 109 ∷ 101 ∷ 110 ∷ 116 ∷ 115 ∷ 58 ∷ 58 ∷ 84 ∷ 97 ∷ 105 ∷ 108 ∷ []) (Syntax.tcons Syntax.tyBool
-      (Syntax.tcons Syntax.tyBool (Syntax.tcons (Syntax.tyStruct (114 ∷ 101 ∷ 115 ∷ 105 ∷ 100 ∷ 117 ∷ 101 ∷ 58 ∷ 58 ∷ 82 ∷ 101 ∷ 115 ∷ 105 ∷ 100 ∷ 117 ∷ 101 ∷
-      []) (Syntax.tcons (Syntax.tyStruct (110 ∷ 97 ∷ 109 ∷ 101 ∷ 115 ∷ 58 ∷ 58 ∷ 84 ∷ 104 ∷ 114 ∷ 101 ∷ 101 ∷ []) (Syntax.tcons (Syntax.tyInt Syntax.w8)
-      (Syntax.tcons (Syntax.tyInt Syntax.w8) (Syntax.tcons (Syntax.tyInt Syntax.w8) Syntax.tnil)))) (Syntax.tcons (Syntax.tyInt Syntax.w8) (Syntax.tcons
-      (Syntax.tyStruct (102 ∷ 105 ∷ 101 ∷ 108 ∷ 100 ∷ 115 ∷ 58 ∷ 58 ∷ 82 ∷ 101 ∷ 115 ∷ 105 ∷ 100 ∷ 117 ∷ 101 ∷ 78 ∷ 117 ∷ 109 ∷ 98 ∷ 101 ∷ 114 ∷ [])
-      (Syntax.tcons (Syntax.tyInt Syntax.w32) Syntax.tnil)) (Syntax.tcons (Syntax.tyInt Syntax.w8) Syntax.tnil))))) (Syntax.tcons (Syntax.tyInt Syntax.w8)
-      (Syntax.tcons (Syntax.tyInt Syntax.w64) (Syntax.tcons Syntax.tyBool Syntax.tnil))))))),
+      (Syntax.tcons Syntax.tyBool (Syntax.tcons (Syntax.tyInt Syntax.w32) (Syntax.tcons (Syntax.tyStruct (114 ∷ 101 ∷ 115 ∷ 105 ∷ 100 ∷ 117 ∷ 101 ∷ 58 ∷ 58 ∷ 82
+      ∷ 101 ∷ 115 ∷ 105 ∷ 100 ∷ 117 ∷ 101 ∷ []) (Syntax.tcons (Syntax.tyStruct (110 ∷ 97 ∷ 109 ∷ 101 ∷ 115 ∷ 58 ∷ 58 ∷ 84 ∷ 104 ∷ 114 ∷ 101 ∷ 101 ∷ [])
+      (Syntax.tcons (Syntax.tyInt Syntax.w8) (Syntax.tcons (Syntax.tyInt Syntax.w8) (Syntax.tcons (Syntax.tyInt Syntax.w8) Syntax.tnil)))) (Syntax.tcons
+      (Syntax.tyInt Syntax.w8) (Syntax.tcons (Syntax.tyStruct (102 ∷ 105 ∷ 101 ∷ 108 ∷ 100 ∷ 115 ∷ 58 ∷ 58 ∷ 82 ∷ 101 ∷ 115 ∷ 105 ∷ 100 ∷ 117 ∷ 101 ∷ 78 ∷ 117 ∷
+      109 ∷ 98 ∷ 101 ∷ 114 ∷ []) (Syntax.tcons (Syntax.tyInt Syntax.w32) Syntax.tnil)) (Syntax.tcons (Syntax.tyInt Syntax.w8) Syntax.tnil))))) (Syntax.tcons
+      (Syntax.tyInt Syntax.w8) (Syntax.tcons (Syntax.tyInt Syntax.w64) (Syntax.tcons Syntax.tyBool Syntax.tnil)))))))),
 ) ∷ (
   1,
-  Rows'.sslice SlotAs.row (Syntax.tyRef (Syntax.named 0)
-      Syntax.imm SlotAs.pointee) 0,
-) ∷ (2, Rows'.sc-here (Row.sInt Syntax.w64)) ∷ (3, Rows'.whole (Declared.row Tail.the-type)) ∷ (4, SlotAs.whole) ∷ (
-  5,
-  Rows'.any-gone Syntax.tyBool,
-) ∷ (6, Rows'.any-gone (Syntax.tyInt Syntax.w64)) ∷ (7, Rows'.any-gone Syntax.tyPtr) ∷ (8, SlotAs.whole) ∷ []
+  Rows'.sslice SlotAs.row
+      (Syntax.tyRef (Syntax.named 0) Syntax.imm SlotAs.pointee) 0,
+) ∷ (2, Rows'.sc-here (Row.sInt Syntax.w64)) ∷ (3, Rows'.whole (Declared.row Tail.the-type)) ∷
+    (4, SlotAs.whole) ∷ (5, Rows'.any-gone Syntax.tyBool) ∷ (6, Rows'.any-gone (Syntax.tyInt Syntax.w64)) ∷ (7, Rows'.any-gone Syntax.tyPtr) ∷ (
+      8,
+      SlotAs.whole,
+    ) ∷ []
 
 abbrev pub t11 : List.List Row.Entry
 t11 = (
   0,
   Rows'.any-gone (Syntax.tyStruct (102 ∷ 114 ∷ 97 ∷ 103 ∷ 109 ∷ 101 ∷ 110 ∷ 116 ∷ 115 ∷ 58 ∷ 58 ∷ 84 ∷ 97 ∷ 105 ∷ 108 ∷ []) (Syntax.tcons Syntax.tyBool
-      (Syntax.tcons Syntax.tyBool (Syntax.tcons (Syntax.tyStruct (114 ∷ 101 ∷ 115 ∷ 105 ∷ 100 ∷ 117 ∷ 101 ∷ 58 ∷ 58 ∷ 82 ∷ 101 ∷ 115 ∷ 105 ∷ 100 ∷ 117 ∷ 101 ∷
-      []) (Syntax.tcons (Syntax.tyStruct (110 ∷ 97 ∷ 109 ∷ 101 ∷ 115 ∷ 58 ∷ 58 ∷ 84 ∷ 104 ∷ 114 ∷ 101 ∷ 101 ∷ []) (Syntax.tcons (Syntax.tyInt Syntax.w8)
-      (Syntax.tcons (Syntax.tyInt Syntax.w8) (Syntax.tcons (Syntax.tyInt Syntax.w8) Syntax.tnil)))) (Syntax.tcons (Syntax.tyInt Syntax.w8) (Syntax.tcons
-      (Syntax.tyStruct (102 ∷ 105 ∷ 101 ∷ 108 ∷ 100 ∷ 115 ∷ 58 ∷ 58 ∷ 82 ∷ 101 ∷ 115 ∷ 105 ∷ 100 ∷ 117 ∷ 101 ∷ 78 ∷ 117 ∷ 109 ∷ 98 ∷ 101 ∷ 114 ∷ [])
-      (Syntax.tcons (Syntax.tyInt Syntax.w32) Syntax.tnil)) (Syntax.tcons (Syntax.tyInt Syntax.w8) Syntax.tnil))))) (Syntax.tcons (Syntax.tyInt Syntax.w8)
-      (Syntax.tcons (Syntax.tyInt Syntax.w64) (Syntax.tcons Syntax.tyBool Syntax.tnil))))))),
+      (Syntax.tcons Syntax.tyBool (Syntax.tcons (Syntax.tyInt Syntax.w32) (Syntax.tcons (Syntax.tyStruct (114 ∷ 101 ∷ 115 ∷ 105 ∷ 100 ∷ 117 ∷ 101 ∷ 58 ∷ 58 ∷ 82
+      ∷ 101 ∷ 115 ∷ 105 ∷ 100 ∷ 117 ∷ 101 ∷ []) (Syntax.tcons (Syntax.tyStruct (110 ∷ 97 ∷ 109 ∷ 101 ∷ 115 ∷ 58 ∷ 58 ∷ 84 ∷ 104 ∷ 114 ∷ 101 ∷ 101 ∷ [])
+      (Syntax.tcons (Syntax.tyInt Syntax.w8) (Syntax.tcons (Syntax.tyInt Syntax.w8) (Syntax.tcons (Syntax.tyInt Syntax.w8) Syntax.tnil)))) (Syntax.tcons
+      (Syntax.tyInt Syntax.w8) (Syntax.tcons (Syntax.tyStruct (102 ∷ 105 ∷ 101 ∷ 108 ∷ 100 ∷ 115 ∷ 58 ∷ 58 ∷ 82 ∷ 101 ∷ 115 ∷ 105 ∷ 100 ∷ 117 ∷ 101 ∷ 78 ∷ 117 ∷
+      109 ∷ 98 ∷ 101 ∷ 114 ∷ []) (Syntax.tcons (Syntax.tyInt Syntax.w32) Syntax.tnil)) (Syntax.tcons (Syntax.tyInt Syntax.w8) Syntax.tnil))))) (Syntax.tcons
+      (Syntax.tyInt Syntax.w8) (Syntax.tcons (Syntax.tyInt Syntax.w64) (Syntax.tcons Syntax.tyBool Syntax.tnil)))))))),
 ) ∷ (
   1,
-  Rows'.sslice SlotAs.row (Syntax.tyRef (Syntax.named 0)
-      Syntax.imm SlotAs.pointee) 0,
-) ∷ (2, Rows'.sc-here (Row.sInt Syntax.w64)) ∷ (3, Rows'.whole (Declared.row Tail.the-type)) ∷ (4, SlotAs.whole) ∷ (
-  5,
-  Rows'.any-gone Syntax.tyBool,
-) ∷ (6, Rows'.any-gone (Syntax.tyInt Syntax.w64)) ∷ (7, Rows'.any-gone Syntax.tyPtr) ∷ (8, Rows'.any-gone SlotAs.ty) ∷ []
+  Rows'.sslice SlotAs.row
+      (Syntax.tyRef (Syntax.named 0) Syntax.imm SlotAs.pointee) 0,
+) ∷ (2, Rows'.sc-here (Row.sInt Syntax.w64)) ∷ (3, Rows'.whole (Declared.row Tail.the-type)) ∷
+    (4, SlotAs.whole) ∷ (5, Rows'.any-gone Syntax.tyBool) ∷ (6, Rows'.any-gone (Syntax.tyInt Syntax.w64)) ∷ (7, Rows'.any-gone Syntax.tyPtr) ∷ (
+      8,
+      Rows'.any-gone SlotAs.ty,
+    ) ∷ []
 
 abbrev pub t12 : List.List Row.Entry
 t12 = (0, Rows'.whole (Declared.row Tail.the-type)) ∷ (1, Rows'.sslice SlotAs.row (Syntax.tyRef (Syntax.named 0) Syntax.imm SlotAs.pointee) 0) ∷ (
@@ -593,12 +617,13 @@ module _ (claims· : Claims) where
 
   abbrev s1 : Typed.Both T2 T3
   s1 = Call.callB ps·0 r·0 (claims· .0) (claims· .1) T2 tt 3 [] (Syntax.tyStruct (102 ∷ 114 ∷ 97 ∷ 103 ∷ 109 ∷ 101 ∷ 110 ∷ 116 ∷ 115 ∷ 58 ∷ 58 ∷ 84 ∷ 97 ∷
-      105 ∷ 108 ∷ []) (Syntax.tcons Syntax.tyBool (Syntax.tcons Syntax.tyBool (Syntax.tcons (Syntax.tyStruct (114 ∷ 101 ∷ 115 ∷ 105 ∷ 100 ∷ 117 ∷ 101 ∷ 58 ∷ 58
-      ∷ 82 ∷ 101 ∷ 115 ∷ 105 ∷ 100 ∷ 117 ∷ 101 ∷ []) (Syntax.tcons (Syntax.tyStruct (110 ∷ 97 ∷ 109 ∷ 101 ∷ 115 ∷ 58 ∷ 58 ∷ 84 ∷ 104 ∷ 114 ∷ 101 ∷ 101 ∷ [])
-      (Syntax.tcons (Syntax.tyInt Syntax.w8) (Syntax.tcons (Syntax.tyInt Syntax.w8) (Syntax.tcons (Syntax.tyInt Syntax.w8) Syntax.tnil)))) (Syntax.tcons
-      (Syntax.tyInt Syntax.w8) (Syntax.tcons (Syntax.tyStruct (102 ∷ 105 ∷ 101 ∷ 108 ∷ 100 ∷ 115 ∷ 58 ∷ 58 ∷ 82 ∷ 101 ∷ 115 ∷ 105 ∷ 100 ∷ 117 ∷ 101 ∷ 78 ∷ 117
-      ∷ 109 ∷ 98 ∷ 101 ∷ 114 ∷ []) (Syntax.tcons (Syntax.tyInt Syntax.w32) Syntax.tnil)) (Syntax.tcons (Syntax.tyInt Syntax.w8) Syntax.tnil))))) (Syntax.tcons
-      (Syntax.tyInt Syntax.w8) (Syntax.tcons (Syntax.tyInt Syntax.w64) (Syntax.tcons Syntax.tyBool Syntax.tnil)))))))
+      105 ∷ 108 ∷ []) (Syntax.tcons Syntax.tyBool (Syntax.tcons Syntax.tyBool (Syntax.tcons (Syntax.tyInt Syntax.w32) (Syntax.tcons (Syntax.tyStruct (114 ∷ 101
+      ∷ 115 ∷ 105 ∷ 100 ∷ 117 ∷ 101 ∷ 58 ∷ 58 ∷ 82 ∷ 101 ∷ 115 ∷ 105 ∷ 100 ∷ 117 ∷ 101 ∷ []) (Syntax.tcons (Syntax.tyStruct (110 ∷ 97 ∷ 109 ∷ 101 ∷ 115 ∷ 58 ∷
+      58 ∷ 84 ∷ 104 ∷ 114 ∷ 101 ∷ 101 ∷ []) (Syntax.tcons (Syntax.tyInt Syntax.w8) (Syntax.tcons (Syntax.tyInt Syntax.w8) (Syntax.tcons (Syntax.tyInt
+      Syntax.w8) Syntax.tnil)))) (Syntax.tcons (Syntax.tyInt Syntax.w8) (Syntax.tcons (Syntax.tyStruct (102 ∷ 105 ∷ 101 ∷ 108 ∷ 100 ∷ 115 ∷ 58 ∷ 58 ∷ 82 ∷ 101
+      ∷ 115 ∷ 105 ∷ 100 ∷ 117 ∷ 101 ∷ 78 ∷ 117 ∷ 109 ∷ 98 ∷ 101 ∷ 114 ∷ []) (Syntax.tcons (Syntax.tyInt Syntax.w32) Syntax.tnil)) (Syntax.tcons (Syntax.tyInt
+      Syntax.w8) Syntax.tnil))))) (Syntax.tcons (Syntax.tyInt Syntax.w8) (Syntax.tcons (Syntax.tyInt Syntax.w64) (Syntax.tcons Syntax.tyBool
+      Syntax.tnil))))))))
 
   abbrev s2 : Typed.Asks T3 T5
   s2 = Scalar.k-op2 T3 (Syntax.lt Syntax.unsigned) (Scalar.oInt Syntax.w64 0) (Scalar.oAt 2 (Syntax.tyInt Syntax.w64) (Row.valS (Row.sInt Syntax.w64))) 5
@@ -615,7 +640,7 @@ module _ (claims· : Claims) where
       (Rows'.sc-here (Row.sInt Syntax.w64)) (Row.sInt Syntax.w64 .of)
 
   abbrev s6 : Typed.Asks T9 T10
-  s6 = Scalar.k-op2 T9 (Syntax.mul Syntax.unsigned) (Scalar.oAt 2 (Syntax.tyInt Syntax.w64) (Row.valS (Row.sInt Syntax.w64))) (Scalar.oInt Syntax.w64 44) 6
+  s6 = Scalar.k-op2 T9 (Syntax.mul Syntax.unsigned) (Scalar.oAt 2 (Syntax.tyInt Syntax.w64) (Row.valS (Row.sInt Syntax.w64))) (Scalar.oInt Syntax.w64 48) 6
       (Rows'.sc-here (Row.sInt Syntax.w64)) (Row.sInt Syntax.w64 .of)
 
   abbrev s7 : Typed.Asks T10 T11
@@ -623,7 +648,7 @@ module _ (claims· : Claims) where
       (Scalar.oAt 6 (Syntax.tyInt Syntax.w64) (Row.valS (Row.sInt Syntax.w64))) 7 (Rows'.sc-here Row.sPtr) (Row.sPtr .of)
 
   abbrev s8 : Typed.Both T11 T12
-  s8 = Move.k-shs-copy-out SlotAs.row T11 1 7 8 0 (Syntax.tyRef (Syntax.named 0) Syntax.imm SlotAs.pointee) Row.off SlotAs.whole (Shared.bySize 44) (λ u. u .1
+  s8 = Move.k-shs-copy-out SlotAs.row T11 1 7 8 0 (Syntax.tyRef (Syntax.named 0) Syntax.imm SlotAs.pointee) Row.off SlotAs.whole (Shared.bySize 48) (λ u. u .1
       .1 .0) (λ x. x) SlotAs.none (λ x. Unit) (λ x. x) λ x. x
 
   abbrev s9 : Typed.Mo T12 → Typed.Mo T13
@@ -652,12 +677,12 @@ module _ (claims· : Claims) where
       tt,
     ),
   ) 3 [] (Syntax.tyStruct (102 ∷ 114 ∷ 97 ∷ 103 ∷ 109 ∷ 101 ∷ 110 ∷ 116 ∷ 115 ∷ 58 ∷ 58 ∷ 84 ∷ 97 ∷ 105 ∷ 108 ∷ []) (Syntax.tcons
-      Syntax.tyBool (Syntax.tcons Syntax.tyBool (Syntax.tcons (Syntax.tyStruct (114 ∷ 101 ∷ 115 ∷ 105 ∷ 100 ∷ 117 ∷ 101 ∷ 58 ∷ 58 ∷ 82 ∷ 101 ∷ 115 ∷ 105 ∷ 100
-      ∷ 117 ∷ 101 ∷ []) (Syntax.tcons (Syntax.tyStruct (110 ∷ 97 ∷ 109 ∷ 101 ∷ 115 ∷ 58 ∷ 58 ∷ 84 ∷ 104 ∷ 114 ∷ 101 ∷ 101 ∷ []) (Syntax.tcons (Syntax.tyInt
-      Syntax.w8) (Syntax.tcons (Syntax.tyInt Syntax.w8) (Syntax.tcons (Syntax.tyInt Syntax.w8) Syntax.tnil)))) (Syntax.tcons (Syntax.tyInt Syntax.w8)
-      (Syntax.tcons (Syntax.tyStruct (102 ∷ 105 ∷ 101 ∷ 108 ∷ 100 ∷ 115 ∷ 58 ∷ 58 ∷ 82 ∷ 101 ∷ 115 ∷ 105 ∷ 100 ∷ 117 ∷ 101 ∷ 78 ∷ 117 ∷ 109 ∷ 98 ∷ 101 ∷ 114 ∷
-      []) (Syntax.tcons (Syntax.tyInt Syntax.w32) Syntax.tnil)) (Syntax.tcons (Syntax.tyInt Syntax.w8) Syntax.tnil))))) (Syntax.tcons (Syntax.tyInt Syntax.w8)
-      (Syntax.tcons (Syntax.tyInt Syntax.w64) (Syntax.tcons Syntax.tyBool Syntax.tnil)))))))
+      Syntax.tyBool (Syntax.tcons Syntax.tyBool (Syntax.tcons (Syntax.tyInt Syntax.w32) (Syntax.tcons (Syntax.tyStruct (114 ∷ 101 ∷ 115 ∷ 105 ∷ 100 ∷ 117 ∷ 101
+      ∷ 58 ∷ 58 ∷ 82 ∷ 101 ∷ 115 ∷ 105 ∷ 100 ∷ 117 ∷ 101 ∷ []) (Syntax.tcons (Syntax.tyStruct (110 ∷ 97 ∷ 109 ∷ 101 ∷ 115 ∷ 58 ∷ 58 ∷ 84 ∷ 104 ∷ 114 ∷ 101 ∷
+      101 ∷ []) (Syntax.tcons (Syntax.tyInt Syntax.w8) (Syntax.tcons (Syntax.tyInt Syntax.w8) (Syntax.tcons (Syntax.tyInt Syntax.w8) Syntax.tnil))))
+      (Syntax.tcons (Syntax.tyInt Syntax.w8) (Syntax.tcons (Syntax.tyStruct (102 ∷ 105 ∷ 101 ∷ 108 ∷ 100 ∷ 115 ∷ 58 ∷ 58 ∷ 82 ∷ 101 ∷ 115 ∷ 105 ∷ 100 ∷ 117 ∷
+      101 ∷ 78 ∷ 117 ∷ 109 ∷ 98 ∷ 101 ∷ 114 ∷ []) (Syntax.tcons (Syntax.tyInt Syntax.w32) Syntax.tnil)) (Syntax.tcons (Syntax.tyInt Syntax.w8) Syntax.tnil)))))
+      (Syntax.tcons (Syntax.tyInt Syntax.w8) (Syntax.tcons (Syntax.tyInt Syntax.w64) (Syntax.tcons Syntax.tyBool Syntax.tnil))))))))
 
   abbrev s14 : Typed.Mo T17 → Typed.Mo T18
   s14 = Scalar.n-room T17 4 SlotAs.ty
@@ -671,12 +696,12 @@ module _ (claims· : Claims) where
 
   abbrev s17 : Typed.Mo T20 → Typed.Mo T21
   s17 = Scalar.n-room T20 3 (Syntax.tyStruct (102 ∷ 114 ∷ 97 ∷ 103 ∷ 109 ∷ 101 ∷ 110 ∷ 116 ∷ 115 ∷ 58 ∷ 58 ∷ 84 ∷ 97 ∷ 105 ∷ 108 ∷ []) (Syntax.tcons
-      Syntax.tyBool (Syntax.tcons Syntax.tyBool (Syntax.tcons (Syntax.tyStruct (114 ∷ 101 ∷ 115 ∷ 105 ∷ 100 ∷ 117 ∷ 101 ∷ 58 ∷ 58 ∷ 82 ∷ 101 ∷ 115 ∷ 105 ∷ 100
-      ∷ 117 ∷ 101 ∷ []) (Syntax.tcons (Syntax.tyStruct (110 ∷ 97 ∷ 109 ∷ 101 ∷ 115 ∷ 58 ∷ 58 ∷ 84 ∷ 104 ∷ 114 ∷ 101 ∷ 101 ∷ []) (Syntax.tcons (Syntax.tyInt
-      Syntax.w8) (Syntax.tcons (Syntax.tyInt Syntax.w8) (Syntax.tcons (Syntax.tyInt Syntax.w8) Syntax.tnil)))) (Syntax.tcons (Syntax.tyInt Syntax.w8)
-      (Syntax.tcons (Syntax.tyStruct (102 ∷ 105 ∷ 101 ∷ 108 ∷ 100 ∷ 115 ∷ 58 ∷ 58 ∷ 82 ∷ 101 ∷ 115 ∷ 105 ∷ 100 ∷ 117 ∷ 101 ∷ 78 ∷ 117 ∷ 109 ∷ 98 ∷ 101 ∷ 114 ∷
-      []) (Syntax.tcons (Syntax.tyInt Syntax.w32) Syntax.tnil)) (Syntax.tcons (Syntax.tyInt Syntax.w8) Syntax.tnil))))) (Syntax.tcons (Syntax.tyInt Syntax.w8)
-      (Syntax.tcons (Syntax.tyInt Syntax.w64) (Syntax.tcons Syntax.tyBool Syntax.tnil)))))))
+      Syntax.tyBool (Syntax.tcons Syntax.tyBool (Syntax.tcons (Syntax.tyInt Syntax.w32) (Syntax.tcons (Syntax.tyStruct (114 ∷ 101 ∷ 115 ∷ 105 ∷ 100 ∷ 117 ∷ 101
+      ∷ 58 ∷ 58 ∷ 82 ∷ 101 ∷ 115 ∷ 105 ∷ 100 ∷ 117 ∷ 101 ∷ []) (Syntax.tcons (Syntax.tyStruct (110 ∷ 97 ∷ 109 ∷ 101 ∷ 115 ∷ 58 ∷ 58 ∷ 84 ∷ 104 ∷ 114 ∷ 101 ∷
+      101 ∷ []) (Syntax.tcons (Syntax.tyInt Syntax.w8) (Syntax.tcons (Syntax.tyInt Syntax.w8) (Syntax.tcons (Syntax.tyInt Syntax.w8) Syntax.tnil))))
+      (Syntax.tcons (Syntax.tyInt Syntax.w8) (Syntax.tcons (Syntax.tyStruct (102 ∷ 105 ∷ 101 ∷ 108 ∷ 100 ∷ 115 ∷ 58 ∷ 58 ∷ 82 ∷ 101 ∷ 115 ∷ 105 ∷ 100 ∷ 117 ∷
+      101 ∷ 78 ∷ 117 ∷ 109 ∷ 98 ∷ 101 ∷ 114 ∷ []) (Syntax.tcons (Syntax.tyInt Syntax.w32) Syntax.tnil)) (Syntax.tcons (Syntax.tyInt Syntax.w8) Syntax.tnil)))))
+      (Syntax.tcons (Syntax.tyInt Syntax.w8) (Syntax.tcons (Syntax.tyInt Syntax.w64) (Syntax.tcons Syntax.tyBool Syntax.tnil))))))))
 
   abbrev put0 : Rows'.sc-here (Row.sInt Syntax.w64) .Mod × Rows'.whole (Declared.row Tail.the-type) .Mod → Typed.Mo T3 → Typed.Mo T3
   put0 = λ vs u. Row.set 3 (3, Rows'.whole (Declared.row Tail.the-type)) (vs .1) (T3 .locals) (Row.set 2 (2, Rows'.sc-here (Row.sInt Syntax.w64)) (vs .0) (T3
@@ -894,13 +919,14 @@ module _ (claims· : Claims) where
                   ),
                 )
                 (Local.room-whole 𝓤 H A W (Declared.row Tail.the-type) (Syntax.tyStruct (102 ∷ 114 ∷ 97 ∷ 103 ∷ 109 ∷ 101 ∷ 110 ∷ 116 ∷ 115 ∷ 58 ∷ 58 ∷ 84 ∷ 97 ∷
-                105 ∷ 108 ∷ []) (Syntax.tcons Syntax.tyBool (Syntax.tcons Syntax.tyBool (Syntax.tcons (Syntax.tyStruct (114 ∷ 101 ∷ 115 ∷ 105 ∷ 100 ∷ 117 ∷ 101 ∷
-                58 ∷ 58 ∷ 82 ∷ 101 ∷ 115 ∷ 105 ∷ 100 ∷ 117 ∷ 101 ∷ []) (Syntax.tcons (Syntax.tyStruct (110 ∷ 97 ∷ 109 ∷ 101 ∷ 115 ∷ 58 ∷ 58 ∷ 84 ∷ 104 ∷ 114 ∷
-                101 ∷ 101 ∷ []) (Syntax.tcons (Syntax.tyInt Syntax.w8) (Syntax.tcons (Syntax.tyInt Syntax.w8) (Syntax.tcons (Syntax.tyInt Syntax.w8)
-                Syntax.tnil)))) (Syntax.tcons (Syntax.tyInt Syntax.w8) (Syntax.tcons (Syntax.tyStruct (102 ∷ 105 ∷ 101 ∷ 108 ∷ 100 ∷ 115 ∷ 58 ∷ 58 ∷ 82 ∷ 101 ∷
-                115 ∷ 105 ∷ 100 ∷ 117 ∷ 101 ∷ 78 ∷ 117 ∷ 109 ∷ 98 ∷ 101 ∷ 114 ∷ []) (Syntax.tcons (Syntax.tyInt Syntax.w32) Syntax.tnil)) (Syntax.tcons
-                (Syntax.tyInt Syntax.w8) Syntax.tnil))))) (Syntax.tcons (Syntax.tyInt Syntax.w8) (Syntax.tcons (Syntax.tyInt Syntax.w64) (Syntax.tcons
-                Syntax.tyBool Syntax.tnil))))))) Path'.refl) tt Path'.refl) (Scalar.g-room 𝓤 H A W E G17 4 SlotAs.ty (SlotAs.room 𝓤 H A W)))
+                105 ∷ 108 ∷ []) (Syntax.tcons Syntax.tyBool (Syntax.tcons Syntax.tyBool (Syntax.tcons (Syntax.tyInt Syntax.w32) (Syntax.tcons (Syntax.tyStruct
+                (114 ∷ 101 ∷ 115 ∷ 105 ∷ 100 ∷ 117 ∷ 101 ∷ 58 ∷ 58 ∷ 82 ∷ 101 ∷ 115 ∷ 105 ∷ 100 ∷ 117 ∷ 101 ∷ []) (Syntax.tcons (Syntax.tyStruct (110 ∷ 97 ∷ 109
+                ∷ 101 ∷ 115 ∷ 58 ∷ 58 ∷ 84 ∷ 104 ∷ 114 ∷ 101 ∷ 101 ∷ []) (Syntax.tcons (Syntax.tyInt Syntax.w8) (Syntax.tcons (Syntax.tyInt Syntax.w8)
+                (Syntax.tcons (Syntax.tyInt Syntax.w8) Syntax.tnil)))) (Syntax.tcons (Syntax.tyInt Syntax.w8) (Syntax.tcons (Syntax.tyStruct (102 ∷ 105 ∷ 101 ∷
+                108 ∷ 100 ∷ 115 ∷ 58 ∷ 58 ∷ 82 ∷ 101 ∷ 115 ∷ 105 ∷ 100 ∷ 117 ∷ 101 ∷ 78 ∷ 117 ∷ 109 ∷ 98 ∷ 101 ∷ 114 ∷ []) (Syntax.tcons (Syntax.tyInt
+                Syntax.w32) Syntax.tnil)) (Syntax.tcons (Syntax.tyInt Syntax.w8) Syntax.tnil))))) (Syntax.tcons (Syntax.tyInt Syntax.w8) (Syntax.tcons
+                (Syntax.tyInt Syntax.w64) (Syntax.tcons Syntax.tyBool Syntax.tnil)))))))) Path'.refl) tt Path'.refl) (Scalar.g-room 𝓤 H A W E G17 4 SlotAs.ty
+                (SlotAs.room 𝓤 H A W)))
 
             d6 : Typed.Typed 𝓤 H A 𝓣 E G15 b11 Δ3 at6
             d6 = Typed.g-pre 𝓤 H A W 𝓣 E G15 G16 b11 Δ3 (Typed.pass T15 T16 s12) at5 (Scalar.g-room 𝓤 H A W E G15 8 SlotAs.ty (SlotAs.room 𝓤 H A W)) d5
@@ -923,8 +949,8 @@ module _ (claims· : Claims) where
             d10 : Typed.Typed 𝓤 H A 𝓣 E G11 b13 Δ3 at10
             d10 = Typed.s-seq 𝓤 H A W 𝓣 E G11 G12 b9 b12 Δ3 (Typed.both s8) at9 (Move.t-shs-copy-out 𝓤 H A W E SlotAs.row 𝓣 Path'.refl (SlotAs.copies .copy 𝓤 H A
                 W) (Copies.halved 𝓤 H A W SlotAs.copies) (λ ρ. Unit) G11 1 7 8 0 (Syntax.tyRef (Syntax.named 0) Syntax.imm SlotAs.pointee) (Row.lease (κs .0) (qs
-                .0)) SlotAs.ty SlotAs.ty SlotAs.whole (Shared.bySize 44) (λ u. u .1 .1 .0) (λ x. x) SlotAs.none (λ x. Unit) (λ x. x) (λ x. x) (λ i o.
-                Elements.at-mul o 44 i) Path'.refl Path'.refl (Own.told-none 𝓤 H A (G11 .slots)) (DerefMove.learns-nothing 𝓤 H A SlotAs.row) (Reads.as-is 𝓤 H A
+                .0)) SlotAs.ty SlotAs.ty SlotAs.whole (Shared.bySize 48) (λ u. u .1 .1 .0) (λ x. x) SlotAs.none (λ x. Unit) (λ x. x) (λ x. x) (λ i o.
+                Elements.at-mul o 48 i) Path'.refl Path'.refl (Own.told-none 𝓤 H A (G11 .slots)) (DerefMove.learns-nothing 𝓤 H A SlotAs.row) (Reads.as-is 𝓤 H A
                 (Rows'.sslice SlotAs.row (Syntax.tyRef (Syntax.named 0) Syntax.imm SlotAs.pointee) 0)) (Reads.as-is 𝓤 H A (Rows'.sc-here Row.sPtr))
                 (Reads.room-gone 𝓤 H A SlotAs.ty) (Yields.makes-mem 𝓤 H A W (λ ρ. Unit) SlotAs.row Path'.refl SlotAs.whole (λ x. x) λ ρ told. SlotAs.of-mem 𝓤 H A
                 W ρ) Path'.refl tt Path'.refl Path'.refl) d9
@@ -941,7 +967,7 @@ module _ (claims· : Claims) where
 
             d12 : Typed.Typed 𝓤 H A 𝓣 E G9 b15 Δ3 at12
             d12 = Typed.s-seq 𝓤 H A W 𝓣 E G9 G10 b7 b14 Δ3 (Typed.ask s6) at11 (Scalar.t-op2 𝓤 H A W E 𝓣 G9 (Syntax.mul Syntax.unsigned) (Scalar.oAt 2
-                (Syntax.tyInt Syntax.w64) (Row.valS (Row.sInt Syntax.w64))) (Scalar.oInt Syntax.w64 44) 6 (Rows'.sc-here (Row.sInt Syntax.w64)) (Syntax.tyInt
+                (Syntax.tyInt Syntax.w64) (Row.valS (Row.sInt Syntax.w64))) (Scalar.oInt Syntax.w64 48) 6 (Rows'.sc-here (Row.sInt Syntax.w64)) (Syntax.tyInt
                 Syntax.w64) (Row.valS (Row.sInt Syntax.w64)) (Row.sInt Syntax.w64 .of) (Scalar.reads-sc 𝓤 H A W (Row.sInt Syntax.w64), Path'.refl) tt
                 (Reads.room-gone 𝓤 H A (Syntax.tyInt Syntax.w64)) (Scalar.holds-sc 𝓤 H A W (Row.sInt Syntax.w64)) Path'.refl (λ u. Path'.refl) λ u. tt) d11
 
@@ -973,19 +999,20 @@ module _ (claims· : Claims) where
             d19 : Typed.Typed 𝓤 H A 𝓣 E G20 b22 Δ0 at19
             d19 = Typed.g-pre 𝓤 H A W 𝓣 E G20 G21 b22 Δ0 (Typed.pass T20 T21 s17) at18 (Scalar.g-room 𝓤 H A W E G20 3 (Syntax.tyStruct (102 ∷ 114 ∷ 97 ∷ 103 ∷
                 109 ∷ 101 ∷ 110 ∷ 116 ∷ 115 ∷ 58 ∷ 58 ∷ 84 ∷ 97 ∷ 105 ∷ 108 ∷ []) (Syntax.tcons Syntax.tyBool (Syntax.tcons Syntax.tyBool (Syntax.tcons
-                (Syntax.tyStruct (114 ∷ 101 ∷ 115 ∷ 105 ∷ 100 ∷ 117 ∷ 101 ∷ 58 ∷ 58 ∷ 82 ∷ 101 ∷ 115 ∷ 105 ∷ 100 ∷ 117 ∷ 101 ∷ []) (Syntax.tcons (Syntax.tyStruct
-                (110 ∷ 97 ∷ 109 ∷ 101 ∷ 115 ∷ 58 ∷ 58 ∷ 84 ∷ 104 ∷ 114 ∷ 101 ∷ 101 ∷ []) (Syntax.tcons (Syntax.tyInt Syntax.w8) (Syntax.tcons (Syntax.tyInt
-                Syntax.w8) (Syntax.tcons (Syntax.tyInt Syntax.w8) Syntax.tnil)))) (Syntax.tcons (Syntax.tyInt Syntax.w8) (Syntax.tcons (Syntax.tyStruct (102 ∷
-                105 ∷ 101 ∷ 108 ∷ 100 ∷ 115 ∷ 58 ∷ 58 ∷ 82 ∷ 101 ∷ 115 ∷ 105 ∷ 100 ∷ 117 ∷ 101 ∷ 78 ∷ 117 ∷ 109 ∷ 98 ∷ 101 ∷ 114 ∷ []) (Syntax.tcons
-                (Syntax.tyInt Syntax.w32) Syntax.tnil)) (Syntax.tcons (Syntax.tyInt Syntax.w8) Syntax.tnil))))) (Syntax.tcons (Syntax.tyInt Syntax.w8)
-                (Syntax.tcons (Syntax.tyInt Syntax.w64) (Syntax.tcons Syntax.tyBool Syntax.tnil))))))) (Local.room-whole 𝓤 H A W (Declared.row Tail.the-type)
-                (Syntax.tyStruct (102 ∷ 114 ∷ 97 ∷ 103 ∷ 109 ∷ 101 ∷ 110 ∷ 116 ∷ 115 ∷ 58 ∷ 58 ∷ 84 ∷ 97 ∷ 105 ∷ 108 ∷ []) (Syntax.tcons Syntax.tyBool
-                (Syntax.tcons Syntax.tyBool (Syntax.tcons (Syntax.tyStruct (114 ∷ 101 ∷ 115 ∷ 105 ∷ 100 ∷ 117 ∷ 101 ∷ 58 ∷ 58 ∷ 82 ∷ 101 ∷ 115 ∷ 105 ∷ 100 ∷ 117
-                ∷ 101 ∷ []) (Syntax.tcons (Syntax.tyStruct (110 ∷ 97 ∷ 109 ∷ 101 ∷ 115 ∷ 58 ∷ 58 ∷ 84 ∷ 104 ∷ 114 ∷ 101 ∷ 101 ∷ []) (Syntax.tcons (Syntax.tyInt
+                (Syntax.tyInt Syntax.w32) (Syntax.tcons (Syntax.tyStruct (114 ∷ 101 ∷ 115 ∷ 105 ∷ 100 ∷ 117 ∷ 101 ∷ 58 ∷ 58 ∷ 82 ∷ 101 ∷ 115 ∷ 105 ∷ 100 ∷ 117 ∷
+                101 ∷ []) (Syntax.tcons (Syntax.tyStruct (110 ∷ 97 ∷ 109 ∷ 101 ∷ 115 ∷ 58 ∷ 58 ∷ 84 ∷ 104 ∷ 114 ∷ 101 ∷ 101 ∷ []) (Syntax.tcons (Syntax.tyInt
                 Syntax.w8) (Syntax.tcons (Syntax.tyInt Syntax.w8) (Syntax.tcons (Syntax.tyInt Syntax.w8) Syntax.tnil)))) (Syntax.tcons (Syntax.tyInt Syntax.w8)
                 (Syntax.tcons (Syntax.tyStruct (102 ∷ 105 ∷ 101 ∷ 108 ∷ 100 ∷ 115 ∷ 58 ∷ 58 ∷ 82 ∷ 101 ∷ 115 ∷ 105 ∷ 100 ∷ 117 ∷ 101 ∷ 78 ∷ 117 ∷ 109 ∷ 98 ∷ 101
                 ∷ 114 ∷ []) (Syntax.tcons (Syntax.tyInt Syntax.w32) Syntax.tnil)) (Syntax.tcons (Syntax.tyInt Syntax.w8) Syntax.tnil))))) (Syntax.tcons
-                (Syntax.tyInt Syntax.w8) (Syntax.tcons (Syntax.tyInt Syntax.w64) (Syntax.tcons Syntax.tyBool Syntax.tnil))))))) Path'.refl)) d18
+                (Syntax.tyInt Syntax.w8) (Syntax.tcons (Syntax.tyInt Syntax.w64) (Syntax.tcons Syntax.tyBool Syntax.tnil)))))))) (Local.room-whole 𝓤 H A W
+                (Declared.row Tail.the-type) (Syntax.tyStruct (102 ∷ 114 ∷ 97 ∷ 103 ∷ 109 ∷ 101 ∷ 110 ∷ 116 ∷ 115 ∷ 58 ∷ 58 ∷ 84 ∷ 97 ∷ 105 ∷ 108 ∷ [])
+                (Syntax.tcons Syntax.tyBool (Syntax.tcons Syntax.tyBool (Syntax.tcons (Syntax.tyInt Syntax.w32) (Syntax.tcons (Syntax.tyStruct (114 ∷ 101 ∷ 115 ∷
+                105 ∷ 100 ∷ 117 ∷ 101 ∷ 58 ∷ 58 ∷ 82 ∷ 101 ∷ 115 ∷ 105 ∷ 100 ∷ 117 ∷ 101 ∷ []) (Syntax.tcons (Syntax.tyStruct (110 ∷ 97 ∷ 109 ∷ 101 ∷ 115 ∷ 58 ∷
+                58 ∷ 84 ∷ 104 ∷ 114 ∷ 101 ∷ 101 ∷ []) (Syntax.tcons (Syntax.tyInt Syntax.w8) (Syntax.tcons (Syntax.tyInt Syntax.w8) (Syntax.tcons (Syntax.tyInt
+                Syntax.w8) Syntax.tnil)))) (Syntax.tcons (Syntax.tyInt Syntax.w8) (Syntax.tcons (Syntax.tyStruct (102 ∷ 105 ∷ 101 ∷ 108 ∷ 100 ∷ 115 ∷ 58 ∷ 58 ∷
+                82 ∷ 101 ∷ 115 ∷ 105 ∷ 100 ∷ 117 ∷ 101 ∷ 78 ∷ 117 ∷ 109 ∷ 98 ∷ 101 ∷ 114 ∷ []) (Syntax.tcons (Syntax.tyInt Syntax.w32) Syntax.tnil))
+                (Syntax.tcons (Syntax.tyInt Syntax.w8) Syntax.tnil))))) (Syntax.tcons (Syntax.tyInt Syntax.w8) (Syntax.tcons (Syntax.tyInt Syntax.w64)
+                (Syntax.tcons Syntax.tyBool Syntax.tnil)))))))) Path'.refl)) d18
 
             d20 : Typed.Typed 𝓤 H A 𝓣 E G19 b22 Δ0 at20
             d20 = Typed.g-pre 𝓤 H A W 𝓣 E G19 G20 b22 Δ0 (Typed.pass T19 T20 s16) at19 (Scalar.g-room 𝓤 H A W E G19 2 (Syntax.tyInt Syntax.w64) (Scalar.room-sc 𝓤
@@ -994,31 +1021,32 @@ module _ (claims· : Claims) where
             d21 : Typed.Typed 𝓤 H A 𝓣 E G4 b23 Δ0 at21
             d21 = Typed.s-seq 𝓤 H A W 𝓣 E G4 G19 b21 b22 Δ0 (Typed.pass T4 T19 s15) at20 (LocalCopy.t-val-copy 𝓤 H A W E 𝓣 (λ ρ. Unit) G4 3 0 (Declared.row
                 Tail.the-type) (Syntax.tyStruct (102 ∷ 114 ∷ 97 ∷ 103 ∷ 109 ∷ 101 ∷ 110 ∷ 116 ∷ 115 ∷ 58 ∷ 58 ∷ 84 ∷ 97 ∷ 105 ∷ 108 ∷ []) (Syntax.tcons
-                Syntax.tyBool (Syntax.tcons Syntax.tyBool (Syntax.tcons (Syntax.tyStruct (114 ∷ 101 ∷ 115 ∷ 105 ∷ 100 ∷ 117 ∷ 101 ∷ 58 ∷ 58 ∷ 82 ∷ 101 ∷ 115 ∷
-                105 ∷ 100 ∷ 117 ∷ 101 ∷ []) (Syntax.tcons (Syntax.tyStruct (110 ∷ 97 ∷ 109 ∷ 101 ∷ 115 ∷ 58 ∷ 58 ∷ 84 ∷ 104 ∷ 114 ∷ 101 ∷ 101 ∷ []) (Syntax.tcons
-                (Syntax.tyInt Syntax.w8) (Syntax.tcons (Syntax.tyInt Syntax.w8) (Syntax.tcons (Syntax.tyInt Syntax.w8) Syntax.tnil)))) (Syntax.tcons
-                (Syntax.tyInt Syntax.w8) (Syntax.tcons (Syntax.tyStruct (102 ∷ 105 ∷ 101 ∷ 108 ∷ 100 ∷ 115 ∷ 58 ∷ 58 ∷ 82 ∷ 101 ∷ 115 ∷ 105 ∷ 100 ∷ 117 ∷ 101 ∷
-                78 ∷ 117 ∷ 109 ∷ 98 ∷ 101 ∷ 114 ∷ []) (Syntax.tcons (Syntax.tyInt Syntax.w32) Syntax.tnil)) (Syntax.tcons (Syntax.tyInt Syntax.w8)
-                Syntax.tnil))))) (Syntax.tcons (Syntax.tyInt Syntax.w8) (Syntax.tcons (Syntax.tyInt Syntax.w64) (Syntax.tcons Syntax.tyBool Syntax.tnil)))))))
-                (Syntax.tyStruct (102 ∷ 114 ∷ 97 ∷ 103 ∷ 109 ∷ 101 ∷ 110 ∷ 116 ∷ 115 ∷ 58 ∷ 58 ∷ 84 ∷ 97 ∷ 105 ∷ 108 ∷ []) (Syntax.tcons Syntax.tyBool
-                (Syntax.tcons Syntax.tyBool (Syntax.tcons (Syntax.tyStruct (114 ∷ 101 ∷ 115 ∷ 105 ∷ 100 ∷ 117 ∷ 101 ∷ 58 ∷ 58 ∷ 82 ∷ 101 ∷ 115 ∷ 105 ∷ 100 ∷ 117
-                ∷ 101 ∷ []) (Syntax.tcons (Syntax.tyStruct (110 ∷ 97 ∷ 109 ∷ 101 ∷ 115 ∷ 58 ∷ 58 ∷ 84 ∷ 104 ∷ 114 ∷ 101 ∷ 101 ∷ []) (Syntax.tcons (Syntax.tyInt
-                Syntax.w8) (Syntax.tcons (Syntax.tyInt Syntax.w8) (Syntax.tcons (Syntax.tyInt Syntax.w8) Syntax.tnil)))) (Syntax.tcons (Syntax.tyInt Syntax.w8)
-                (Syntax.tcons (Syntax.tyStruct (102 ∷ 105 ∷ 101 ∷ 108 ∷ 100 ∷ 115 ∷ 58 ∷ 58 ∷ 82 ∷ 101 ∷ 115 ∷ 105 ∷ 100 ∷ 117 ∷ 101 ∷ 78 ∷ 117 ∷ 109 ∷ 98 ∷ 101
-                ∷ 114 ∷ []) (Syntax.tcons (Syntax.tyInt Syntax.w32) Syntax.tnil)) (Syntax.tcons (Syntax.tyInt Syntax.w8) Syntax.tnil))))) (Syntax.tcons
-                (Syntax.tyInt Syntax.w8) (Syntax.tcons (Syntax.tyInt Syntax.w64) (Syntax.tcons Syntax.tyBool Syntax.tnil))))))) (Rows'.whole (Declared.row
-                Tail.the-type)) (Rows'.whole (Declared.row Tail.the-type)) (λ x. x) (λ x. x) (λ x. x) Path'.refl (Own.told-none 𝓤 H A (G4 .slots))
-                (Yields.yields-copy 𝓤 H A W (λ ρ. Unit) (Declared.row Tail.the-type) Path'.refl (Copies.cStruct Tail.the-type Laws.the-laws Laws.the-copy .copy 𝓤
-                H A W) (Rows'.whole (Declared.row Tail.the-type)) (λ x. x) (λ x. x) (λ ρ told. Local.mem-whole 𝓤 H A W (Declared.row Tail.the-type) ρ) λ ρ told.
-                Local.whole-mem 𝓤 H A W (Declared.row Tail.the-type) ρ) (Reads.room-gone 𝓤 H A (Syntax.tyStruct (102 ∷ 114 ∷ 97 ∷ 103 ∷ 109 ∷ 101 ∷ 110 ∷ 116 ∷
-                115 ∷ 58 ∷ 58 ∷ 84 ∷ 97 ∷ 105 ∷ 108 ∷ []) (Syntax.tcons Syntax.tyBool (Syntax.tcons Syntax.tyBool (Syntax.tcons (Syntax.tyStruct (114 ∷ 101 ∷ 115
-                ∷ 105 ∷ 100 ∷ 117 ∷ 101 ∷ 58 ∷ 58 ∷ 82 ∷ 101 ∷ 115 ∷ 105 ∷ 100 ∷ 117 ∷ 101 ∷ []) (Syntax.tcons (Syntax.tyStruct (110 ∷ 97 ∷ 109 ∷ 101 ∷ 115 ∷ 58
-                ∷ 58 ∷ 84 ∷ 104 ∷ 114 ∷ 101 ∷ 101 ∷ []) (Syntax.tcons (Syntax.tyInt Syntax.w8) (Syntax.tcons (Syntax.tyInt Syntax.w8) (Syntax.tcons (Syntax.tyInt
+                Syntax.tyBool (Syntax.tcons Syntax.tyBool (Syntax.tcons (Syntax.tyInt Syntax.w32) (Syntax.tcons (Syntax.tyStruct (114 ∷ 101 ∷ 115 ∷ 105 ∷ 100 ∷
+                117 ∷ 101 ∷ 58 ∷ 58 ∷ 82 ∷ 101 ∷ 115 ∷ 105 ∷ 100 ∷ 117 ∷ 101 ∷ []) (Syntax.tcons (Syntax.tyStruct (110 ∷ 97 ∷ 109 ∷ 101 ∷ 115 ∷ 58 ∷ 58 ∷ 84 ∷
+                104 ∷ 114 ∷ 101 ∷ 101 ∷ []) (Syntax.tcons (Syntax.tyInt Syntax.w8) (Syntax.tcons (Syntax.tyInt Syntax.w8) (Syntax.tcons (Syntax.tyInt Syntax.w8)
+                Syntax.tnil)))) (Syntax.tcons (Syntax.tyInt Syntax.w8) (Syntax.tcons (Syntax.tyStruct (102 ∷ 105 ∷ 101 ∷ 108 ∷ 100 ∷ 115 ∷ 58 ∷ 58 ∷ 82 ∷ 101 ∷
+                115 ∷ 105 ∷ 100 ∷ 117 ∷ 101 ∷ 78 ∷ 117 ∷ 109 ∷ 98 ∷ 101 ∷ 114 ∷ []) (Syntax.tcons (Syntax.tyInt Syntax.w32) Syntax.tnil)) (Syntax.tcons
+                (Syntax.tyInt Syntax.w8) Syntax.tnil))))) (Syntax.tcons (Syntax.tyInt Syntax.w8) (Syntax.tcons (Syntax.tyInt Syntax.w64) (Syntax.tcons
+                Syntax.tyBool Syntax.tnil)))))))) (Syntax.tyStruct (102 ∷ 114 ∷ 97 ∷ 103 ∷ 109 ∷ 101 ∷ 110 ∷ 116 ∷ 115 ∷ 58 ∷ 58 ∷ 84 ∷ 97 ∷ 105 ∷ 108 ∷ [])
+                (Syntax.tcons Syntax.tyBool (Syntax.tcons Syntax.tyBool (Syntax.tcons (Syntax.tyInt Syntax.w32) (Syntax.tcons (Syntax.tyStruct (114 ∷ 101 ∷ 115 ∷
+                105 ∷ 100 ∷ 117 ∷ 101 ∷ 58 ∷ 58 ∷ 82 ∷ 101 ∷ 115 ∷ 105 ∷ 100 ∷ 117 ∷ 101 ∷ []) (Syntax.tcons (Syntax.tyStruct (110 ∷ 97 ∷ 109 ∷ 101 ∷ 115 ∷ 58 ∷
+                58 ∷ 84 ∷ 104 ∷ 114 ∷ 101 ∷ 101 ∷ []) (Syntax.tcons (Syntax.tyInt Syntax.w8) (Syntax.tcons (Syntax.tyInt Syntax.w8) (Syntax.tcons (Syntax.tyInt
                 Syntax.w8) Syntax.tnil)))) (Syntax.tcons (Syntax.tyInt Syntax.w8) (Syntax.tcons (Syntax.tyStruct (102 ∷ 105 ∷ 101 ∷ 108 ∷ 100 ∷ 115 ∷ 58 ∷ 58 ∷
                 82 ∷ 101 ∷ 115 ∷ 105 ∷ 100 ∷ 117 ∷ 101 ∷ 78 ∷ 117 ∷ 109 ∷ 98 ∷ 101 ∷ 114 ∷ []) (Syntax.tcons (Syntax.tyInt Syntax.w32) Syntax.tnil))
                 (Syntax.tcons (Syntax.tyInt Syntax.w8) Syntax.tnil))))) (Syntax.tcons (Syntax.tyInt Syntax.w8) (Syntax.tcons (Syntax.tyInt Syntax.w64)
-                (Syntax.tcons Syntax.tyBool Syntax.tnil)))))))) (Yields.makes-mem 𝓤 H A W (λ ρ. Unit) (Declared.row Tail.the-type) Path'.refl (Rows'.whole
-                (Declared.row Tail.the-type)) (λ x. x) λ ρ told. Local.whole-mem 𝓤 H A W (Declared.row Tail.the-type) ρ) Path'.refl Path'.refl) d20
+                (Syntax.tcons Syntax.tyBool Syntax.tnil)))))))) (Rows'.whole (Declared.row Tail.the-type)) (Rows'.whole (Declared.row Tail.the-type)) (λ x. x) (λ
+                x. x) (λ x. x) Path'.refl (Own.told-none 𝓤 H A (G4 .slots)) (Yields.yields-copy 𝓤 H A W (λ ρ. Unit) (Declared.row Tail.the-type) Path'.refl
+                (Copies.cStruct Tail.the-type Laws.the-laws Laws.the-copy .copy 𝓤 H A W) (Rows'.whole (Declared.row Tail.the-type)) (λ x. x) (λ x. x) (λ ρ told.
+                Local.mem-whole 𝓤 H A W (Declared.row Tail.the-type) ρ) λ ρ told. Local.whole-mem 𝓤 H A W (Declared.row Tail.the-type) ρ) (Reads.room-gone 𝓤 H A
+                (Syntax.tyStruct (102 ∷ 114 ∷ 97 ∷ 103 ∷ 109 ∷ 101 ∷ 110 ∷ 116 ∷ 115 ∷ 58 ∷ 58 ∷ 84 ∷ 97 ∷ 105 ∷ 108 ∷ []) (Syntax.tcons Syntax.tyBool
+                (Syntax.tcons Syntax.tyBool (Syntax.tcons (Syntax.tyInt Syntax.w32) (Syntax.tcons (Syntax.tyStruct (114 ∷ 101 ∷ 115 ∷ 105 ∷ 100 ∷ 117 ∷ 101 ∷ 58
+                ∷ 58 ∷ 82 ∷ 101 ∷ 115 ∷ 105 ∷ 100 ∷ 117 ∷ 101 ∷ []) (Syntax.tcons (Syntax.tyStruct (110 ∷ 97 ∷ 109 ∷ 101 ∷ 115 ∷ 58 ∷ 58 ∷ 84 ∷ 104 ∷ 114 ∷ 101 ∷
+                101 ∷ []) (Syntax.tcons (Syntax.tyInt Syntax.w8) (Syntax.tcons (Syntax.tyInt Syntax.w8) (Syntax.tcons (Syntax.tyInt Syntax.w8) Syntax.tnil))))
+                (Syntax.tcons (Syntax.tyInt Syntax.w8) (Syntax.tcons (Syntax.tyStruct (102 ∷ 105 ∷ 101 ∷ 108 ∷ 100 ∷ 115 ∷ 58 ∷ 58 ∷ 82 ∷ 101 ∷ 115 ∷ 105 ∷ 100 ∷
+                117 ∷ 101 ∷ 78 ∷ 117 ∷ 109 ∷ 98 ∷ 101 ∷ 114 ∷ []) (Syntax.tcons (Syntax.tyInt Syntax.w32) Syntax.tnil)) (Syntax.tcons (Syntax.tyInt Syntax.w8)
+                Syntax.tnil))))) (Syntax.tcons (Syntax.tyInt Syntax.w8) (Syntax.tcons (Syntax.tyInt Syntax.w64) (Syntax.tcons Syntax.tyBool Syntax.tnil)))))))))
+                (Yields.makes-mem 𝓤 H A W (λ ρ. Unit) (Declared.row Tail.the-type) Path'.refl (Rows'.whole (Declared.row Tail.the-type)) (λ x. x) λ ρ told.
+                Local.whole-mem 𝓤 H A W (Declared.row Tail.the-type) ρ) Path'.refl Path'.refl) d20
 
             d22 : Typed.Typed 𝓤 H A 𝓣 E G3 b24 Δ0 at22
             d22 = Typed.t-seq 𝓤 H A W 𝓣 E G3 G4 b20 b23 Δ0 at17 at21 d17 d21
@@ -1027,12 +1055,13 @@ module _ (claims· : Claims) where
             d23 = Typed.s-seq 𝓤 H A W 𝓣 E G2 G3 b1 b24 Δ0 (Typed.both s1) at22 (Plain.t-call-plain 𝓤 H A W 𝓣 0 ps·0 r·0 (claims· .0) (claims· .1)
                 "fragments::end_tail" (known .0) E (λ pos β. β) G2 tt 3 [] (Call.sub-id 𝓤 H A W (G2 .slots)) tt (Reads.room-gone 𝓤 H A (Syntax.tyStruct (102
                 ∷ 114 ∷ 97 ∷ 103 ∷ 109 ∷ 101 ∷ 110 ∷ 116 ∷ 115 ∷ 58 ∷ 58 ∷ 84 ∷ 97 ∷ 105 ∷ 108 ∷ []) (Syntax.tcons Syntax.tyBool (Syntax.tcons Syntax.tyBool
-                (Syntax.tcons (Syntax.tyStruct (114 ∷ 101 ∷ 115 ∷ 105 ∷ 100 ∷ 117 ∷ 101 ∷ 58 ∷ 58 ∷ 82 ∷ 101 ∷ 115 ∷ 105 ∷ 100 ∷ 117 ∷ 101 ∷ []) (Syntax.tcons
-                (Syntax.tyStruct (110 ∷ 97 ∷ 109 ∷ 101 ∷ 115 ∷ 58 ∷ 58 ∷ 84 ∷ 104 ∷ 114 ∷ 101 ∷ 101 ∷ []) (Syntax.tcons (Syntax.tyInt Syntax.w8) (Syntax.tcons
-                (Syntax.tyInt Syntax.w8) (Syntax.tcons (Syntax.tyInt Syntax.w8) Syntax.tnil)))) (Syntax.tcons (Syntax.tyInt Syntax.w8) (Syntax.tcons
-                (Syntax.tyStruct (102 ∷ 105 ∷ 101 ∷ 108 ∷ 100 ∷ 115 ∷ 58 ∷ 58 ∷ 82 ∷ 101 ∷ 115 ∷ 105 ∷ 100 ∷ 117 ∷ 101 ∷ 78 ∷ 117 ∷ 109 ∷ 98 ∷ 101 ∷ 114 ∷ [])
-                (Syntax.tcons (Syntax.tyInt Syntax.w32) Syntax.tnil)) (Syntax.tcons (Syntax.tyInt Syntax.w8) Syntax.tnil))))) (Syntax.tcons (Syntax.tyInt
-                Syntax.w8) (Syntax.tcons (Syntax.tyInt Syntax.w64) (Syntax.tcons Syntax.tyBool Syntax.tnil)))))))) tt Path'.refl) d22
+                (Syntax.tcons (Syntax.tyInt Syntax.w32) (Syntax.tcons (Syntax.tyStruct (114 ∷ 101 ∷ 115 ∷ 105 ∷ 100 ∷ 117 ∷ 101 ∷ 58 ∷ 58 ∷ 82 ∷ 101 ∷ 115 ∷ 105
+                ∷ 100 ∷ 117 ∷ 101 ∷ []) (Syntax.tcons (Syntax.tyStruct (110 ∷ 97 ∷ 109 ∷ 101 ∷ 115 ∷ 58 ∷ 58 ∷ 84 ∷ 104 ∷ 114 ∷ 101 ∷ 101 ∷ []) (Syntax.tcons
+                (Syntax.tyInt Syntax.w8) (Syntax.tcons (Syntax.tyInt Syntax.w8) (Syntax.tcons (Syntax.tyInt Syntax.w8) Syntax.tnil)))) (Syntax.tcons
+                (Syntax.tyInt Syntax.w8) (Syntax.tcons (Syntax.tyStruct (102 ∷ 105 ∷ 101 ∷ 108 ∷ 100 ∷ 115 ∷ 58 ∷ 58 ∷ 82 ∷ 101 ∷ 115 ∷ 105 ∷ 100 ∷ 117 ∷ 101 ∷
+                78 ∷ 117 ∷ 109 ∷ 98 ∷ 101 ∷ 114 ∷ []) (Syntax.tcons (Syntax.tyInt Syntax.w32) Syntax.tnil)) (Syntax.tcons (Syntax.tyInt Syntax.w8)
+                Syntax.tnil))))) (Syntax.tcons (Syntax.tyInt Syntax.w8) (Syntax.tcons (Syntax.tyInt Syntax.w64) (Syntax.tcons Syntax.tyBool Syntax.tnil)))))))))
+                tt Path'.refl) d22
 
             d24 : Typed.Typed 𝓤 H A 𝓣 E G0 b26 Δ0 at24
             d24 = Typed.s-seq 𝓤 H A W 𝓣 E G0 G2 b0 b25 Δ0 (Typed.pass T0 T2 s0) at23 (Scalar.t-use 𝓤 H A W E 𝓣 G0 (Scalar.oFld 1 (Syntax.field 1 ∷ [])

@@ -317,7 +317,7 @@ abbrev b8 : Syntax.Body
 b8 = Syntax.call "store::seeking::slot_at" (Syntax.copy (Syntax.place 1 []) ∷ Syntax.copy (Syntax.place 8 []) ∷ []) (Syntax.place 9 [])
 
 abbrev b9 : Syntax.Body
-b9 = Syntax.call "bonds::serial_of" (Syntax.copy (Syntax.place 9 []) ∷ []) (Syntax.place 10 [])
+b9 = Syntax.call "store::seeking::rank_of" (Syntax.copy (Syntax.place 9 []) ∷ []) (Syntax.place 10 [])
 
 abbrev b10 : Syntax.Body
 b10 = Syntax.call "search::part" (Syntax.copy (Syntax.place 5 []) ∷ Syntax.copy (Syntax.place 8 []) ∷ Syntax.copy (Syntax.place 10 []) ∷
@@ -1160,9 +1160,9 @@ module _ (claims· : Claims) where
         abbrev pub Closed : Type 2
         Closed = (𝓤 : URA.URA M) (H : Wp.Heap 𝓤) (A : Atoms.Atoms 𝓤) (W : Kit.Given 𝓤 H A) (𝓣 : Wp.Tables 𝓤 H) (known0 : Plain.Known 𝓤 H A W 𝓣 0 ps·0 r·0
             (claims· .0) (claims· .1) "search::probe") (known1 : Plain.Known 𝓤 H A W 𝓣 1 ps·1 r·1 (claims· .2) (claims· .3) "store::seeking::slot_at") (known2 :
-            Plain.Known 𝓤 H A W 𝓣 0 ps·2 r·2 (claims· .4) (claims· .5) "bonds::serial_of") (known3 : Plain.Known 𝓤 H A W 𝓣 0 ps·3 r·3 (claims· .6) (claims· .7)
-            "search::part") (known4 : Plain.Known 𝓤 H A W 𝓣 0 ps·4 r·4 (claims· .8) (claims· .9) "search::counted") → Statement.Triple 𝓤 (Wp.WpFn 𝓤 H (𝓣 .C) (𝓣
-            .Λ) (Function.fnOf 1 ps r xs m hs body)) (Function.plainOf 𝓤 H A 1 ps r Pre· Post·)
+            Plain.Known 𝓤 H A W 𝓣 0 ps·2 r·2 (claims· .4) (claims· .5) "store::seeking::rank_of") (known3 : Plain.Known 𝓤 H A W 𝓣 0 ps·3 r·3 (claims· .6)
+            (claims· .7) "search::part") (known4 : Plain.Known 𝓤 H A W 𝓣 0 ps·4 r·4 (claims· .8) (claims· .9) "search::counted") → Statement.Triple 𝓤 (Wp.WpFn 𝓤
+            H (𝓣 .C) (𝓣 .Λ) (Function.fnOf 1 ps r xs m hs body)) (Function.plainOf 𝓤 H A 1 ps r Pre· Post·)
 
       module _ (Inv·0 : InvT-loop) (μ·0 : MeasureT-loop) where
         abbrev at0 : Typed.TF T11 O4
@@ -1270,7 +1270,7 @@ module _ (claims· : Claims) where
         module _ {M : Type 1} (𝓤 : URA.URA M) (H : Wp.Heap 𝓤) (A : Atoms.Atoms 𝓤) (W : Kit.Given 𝓤 H A) (𝓣 : Wp.Tables 𝓤 H) where
           abbrev Knowns : Type 1
           Knowns = Plain.Known 𝓤 H A W 𝓣 0 ps·0 r·0 (claims· .0) (claims· .1) "search::probe" × Plain.Known 𝓤 H A W 𝓣 1 ps·1 r·1 (claims· .2) (claims· .3)
-              "store::seeking::slot_at" × Plain.Known 𝓤 H A W 𝓣 0 ps·2 r·2 (claims· .4) (claims· .5) "bonds::serial_of" × Plain.Known 𝓤 H A W 𝓣 0 ps·3 r·3
+              "store::seeking::slot_at" × Plain.Known 𝓤 H A W 𝓣 0 ps·2 r·2 (claims· .4) (claims· .5) "store::seeking::rank_of" × Plain.Known 𝓤 H A W 𝓣 0 ps·3 r·3
               (claims· .6) (claims· .7) "search::part" × Plain.Known 𝓤 H A W 𝓣 0 ps·4 r·4 (claims· .8) (claims· .9) "search::counted"
 
         module _ (κs : Lifetimes.Lfts 1) (qs : Lifetimes.Shares 1) where
@@ -1512,9 +1512,9 @@ module _ (claims· : Claims) where
 
             d12 : Typed.Typed 𝓤 H A 𝓣 E G17 b15 Δ3 at12
             d12 = Typed.s-seq 𝓤 H A W 𝓣 E G17 G18 b9 b14 Δ3 (Typed.both s14) at11 (Plain.t-call-plain 𝓤 H A W 𝓣 0 ps·2 r·2 (claims· .4) (claims· .5)
-                "bonds::serial_of" (known .2) E (λ pos β. β) G17 (record { pos = 9; st = []; d = 0; at = λ x. x }, tt) 10 [] (Call.sub-id 𝓤 H A W (G17
-                .slots)) ((SlotAs.yields 𝓤 H A W, Path'.refl), tt) (Reads'.room-gone 𝓤 H A (Syntax.tyStruct (102 ∷ 105 ∷ 101 ∷ 108 ∷ 100 ∷ 115 ∷ 58 ∷ 58 ∷ 83 ∷
-                101 ∷ 114 ∷ 105 ∷ 97 ∷ 108 ∷ []) (Syntax.tcons (Syntax.tyInt Syntax.w32) Syntax.tnil))) tt Path'.refl) d11
+                "store::seeking::rank_of" (known .2) E (λ pos β. β) G17 (record { pos = 9; st = []; d = 0; at = λ x. x }, tt) 10 [] (Call.sub-id 𝓤 H A
+                W (G17 .slots)) ((SlotAs.yields 𝓤 H A W, Path'.refl), tt) (Reads'.room-gone 𝓤 H A (Syntax.tyStruct (102 ∷ 105 ∷ 101 ∷ 108 ∷ 100 ∷ 115 ∷ 58 ∷ 58 ∷
+                83 ∷ 101 ∷ 114 ∷ 105 ∷ 97 ∷ 108 ∷ []) (Syntax.tcons (Syntax.tyInt Syntax.w32) Syntax.tnil))) tt Path'.refl) d11
 
             d13 : Typed.Typed 𝓤 H A 𝓣 E G16 b16 Δ3 at13
             d13 = Typed.s-seq 𝓤 H A W 𝓣 E G16 G17 b8 b15 Δ3 (Typed.both s13) at12 (Plain.t-call-plain 𝓤 H A W 𝓣 1 ps·1 r·1 (claims· .2) (claims· .3)
@@ -1960,35 +1960,35 @@ module _ (claims· : Claims) where
           (Num.vAt 8 λ x. x, tt),
         ) (m14 (c .before .before) (After-probe·gave (c .before))) (c .slot-at)
 
-        abbrev pub Need-serial-of-requires : Type 0
-        Need-serial-of-requires = (c : After-slot-at) → s14 .asks (m15 (c .before) (After-slot-at·gave c))
+        abbrev pub Need-rank-of-requires : Type 0
+        Need-rank-of-requires = (c : After-slot-at) → s14 .asks (m15 (c .before) (After-slot-at·gave c))
 
         abbrev pub m16 : (before : After-slot-at) → (given : s14 .gives (m15 (before .before) (After-slot-at·gave before))) → Typed.Mo T18
         m16 = λ before given. s14 .next (m15 (before .before) (After-slot-at·gave before)) given
 
         module _ (before· : After-slot-at) where
-          abbrev pub After-serial-of·own : Type 0
-          After-serial-of·own = Called.Called ps·2 r·2 (claims· .5) T17 (record { pos = 9; st = []; d = 0; at = λ x. x }, tt) (m15 (before· .before)
+          abbrev pub After-rank-of·own : Type 0
+          After-rank-of·own = Called.Called ps·2 r·2 (claims· .5) T17 (record { pos = 9; st = []; d = 0; at = λ x. x }, tt) (m15 (before· .before)
               (After-slot-at·gave before·))
 
-        pub record After-serial-of : Type 0 where
+        pub record After-rank-of : Type 0 where
           pub before : After-slot-at
-          pub serial-of : After-serial-of·own before
+          pub rank-of : After-rank-of·own before
 
-        abbrev pub After-serial-of·gave : (c : After-serial-of) → s14 .gives (m15 (c .before .before) (After-slot-at·gave (c .before)))
-        After-serial-of·gave = λ c. Called.given ps·2 r·2 (claims· .5) T17 (record { pos = 9; st = []; d = 0; at = λ x. x }, tt) (m15 (c .before .before)
-            (After-slot-at·gave (c .before))) (c .serial-of)
+        abbrev pub After-rank-of·gave : (c : After-rank-of) → s14 .gives (m15 (c .before .before) (After-slot-at·gave (c .before)))
+        After-rank-of·gave = λ c. Called.given ps·2 r·2 (claims· .5) T17 (record { pos = 9; st = []; d = 0; at = λ x. x }, tt) (m15 (c .before .before)
+            (After-slot-at·gave (c .before))) (c .rank-of)
 
         abbrev pub m17 : (before : After-slot-at) → (given : s14 .gives (m15 (before .before) (After-slot-at·gave before))) → Typed.Mo T19
         m17 = λ before given. s15 (m16 before given)
 
         abbrev pub Need-part-requires : Type 0
-        Need-part-requires = (c : After-serial-of) → s16 .asks (m17 (c .before) (After-serial-of·gave c))
+        Need-part-requires = (c : After-rank-of) → s16 .asks (m17 (c .before) (After-rank-of·gave c))
 
-        abbrev pub m18 : (before : After-serial-of) → (given : s16 .gives (m17 (before .before) (After-serial-of·gave before))) → Typed.Mo T20
-        m18 = λ before given. s16 .next (m17 (before .before) (After-serial-of·gave before)) given
+        abbrev pub m18 : (before : After-rank-of) → (given : s16 .gives (m17 (before .before) (After-rank-of·gave before))) → Typed.Mo T20
+        m18 = λ before given. s16 .next (m17 (before .before) (After-rank-of·gave before)) given
 
-        module _ (before· : After-serial-of) where
+        module _ (before· : After-rank-of) where
           abbrev pub After-part·own : Type 0
           After-part·own = Called.Called ps·3 r·3 (claims· .7) T19 (
             record { pos = 5; st = []; d = 0; at = λ x. x },
@@ -2004,14 +2004,14 @@ module _ (claims· : Claims) where
                 (record { pos = 4; st = []; d = 0; at = λ x. x }, tt),
               ),
             ),
-          ) (m17 (before· .before) (After-serial-of·gave
+          ) (m17 (before· .before) (After-rank-of·gave
               before·))
 
         pub record After-part : Type 0 where
-          pub before : After-serial-of
+          pub before : After-rank-of
           pub part : After-part·own before
 
-        abbrev pub After-part·gave : (c : After-part) → s16 .gives (m17 (c .before .before) (After-serial-of·gave (c .before)))
+        abbrev pub After-part·gave : (c : After-part) → s16 .gives (m17 (c .before .before) (After-rank-of·gave (c .before)))
         After-part·gave = λ c. Called.given ps·3 r·3 (claims· .7) T19 (
           record { pos = 5; st = []; d = 0; at = λ x. x },
           (
@@ -2027,13 +2027,13 @@ module _ (claims· : Claims) where
               (record { pos = 4; st = []; d = 0; at = λ x. x }, tt),
             ),
           ),
-        ) (m17 (c .before .before) (After-serial-of·gave
-            (c .before))) (c .part)
+        ) (m17 (c .before .before) (After-rank-of·gave (c
+            .before))) (c .part)
 
-        abbrev pub m19 : (before : After-serial-of) → (given : s16 .gives (m17 (before .before) (After-serial-of·gave before))) → Typed.Mo T21
+        abbrev pub m19 : (before : After-rank-of) → (given : s16 .gives (m17 (before .before) (After-rank-of·gave before))) → Typed.Mo T21
         m19 = λ before given. s17 (m18 before given)
 
-        abbrev pub m20 : (before : After-serial-of) → (given : s16 .gives (m17 (before .before) (After-serial-of·gave before))) → Typed.Mo T22
+        abbrev pub m20 : (before : After-rank-of) → (given : s16 .gives (m17 (before .before) (After-rank-of·gave before))) → Typed.Mo T22
         m20 = λ before given. s18 (m19 before given)
 
         abbrev pub Need-counted-requires : Type 0
@@ -2109,8 +2109,8 @@ module _ (claims· : Claims) where
             (c .before .before .before .κs) (c .before .before .before .args)) (Enter.lastsP (c .before .before .before .κs) 1 ps xs (dens (c .before .before
             .before .κs) (c .before .before .before .args)) (m27 (c .before) .1)))
 
-        module _ (loop-holds : Need-loop-holds) (probe-requires : Need-probe-requires) (slot-at-requires : Need-slot-at-requires) (serial-of-requires :
-            Need-serial-of-requires) (part-requires : Need-part-requires) (counted-requires : Need-counted-requires) (loop-less : Need-loop-less) (loop-again :
+        module _ (loop-holds : Need-loop-holds) (probe-requires : Need-probe-requires) (slot-at-requires : Need-slot-at-requires) (rank-of-requires :
+            Need-rank-of-requires) (part-requires : Need-part-requires) (counted-requires : Need-counted-requires) (loop-less : Need-loop-less) (loop-again :
             Need-loop-again) (returns : Need-returns) where
           lay8 : (c : Else1) → at26 (W0 (c .before .before .before .κs) (c .before .before .before .args)) (m12 (c .before))
           lay8 = λ c. ((Path'.refl, (tt, (tt, (tt, tt)))), returns record { before = c .before; if1 = c .if1 })
@@ -2169,43 +2169,47 @@ module _ (claims· : Claims) where
             ),
           )
 
-          lay6 : (c : After-serial-of) → at11 (W3 (c .before .before .before .before .before .before) (c .before .before .before .before .before .loop .s) (c
-              .before .before .before .before .before .loop .near) (c .before .before .before .before .before .loop .looks)) (m16 (c .before)
-              (After-serial-of·gave c))
+          lay6 : (c : After-rank-of) → at11 (W3 (c .before .before .before .before .before .before) (c .before .before .before .before .before .loop .s) (c
+              .before .before .before .before .before .loop .near) (c .before .before .before .before .before .loop .looks)) (m16 (c .before) (After-rank-of·gave
+              c))
           lay6 = λ c. (
-            part-requires record { before = c .before; serial-of = c .serial-of },
+            part-requires record { before = c .before; rank-of = c .rank-of },
             λ g. lay7 record {
               before = record {
                 before = c .before;
-                serial-of
-                    = c .serial-of;
+                rank-of = c
+                    .rank-of;
               };
               part = Called.called ps·3 r·3 (claims· .7) T19 (
                 record { pos = 5; st = []; d = 0; at = λ x. x },
                 (
                   Num.vAt 8 λ x. x,
                   (
-                    record
-                        { pos = 10; st = []; d = 0; at = λ x. x },
+                    record {
+                      pos
+                          = 10;
+                      st = [];
+                      d = 0;
+                      at = λ x. x;
+                    },
                     (record { pos = 4; st = []; d = 0; at = λ x. x }, tt),
                   ),
                 ),
-              ) (m17 (c .before)
-                  (After-serial-of·gave c)) g;
+              ) (m17 (c .before) (After-rank-of·gave c)) g;
             },
           )
 
           lay5 : (c : After-slot-at) → at12 (W3 (c .before .before .before .before .before) (c .before .before .before .before .loop .s) (c .before .before
               .before .before .loop .near) (c .before .before .before .before .loop .looks)) (m15 (c .before) (After-slot-at·gave c))
           lay5 = λ c. (
-            serial-of-requires record { before = c .before; slot-at = c .slot-at },
+            rank-of-requires record { before = c .before; slot-at = c .slot-at },
             λ g. lay6 record {
               before = record {
                 before = c .before;
-                slot-at =
-                    c .slot-at;
+                slot-at = c
+                    .slot-at;
               };
-              serial-of = Called.called ps·2 r·2 (claims· .5) T17 (record { pos = 9; st = []; d = 0; at = λ x. x }, tt) (m15 (c .before)
+              rank-of = Called.called ps·2 r·2 (claims· .5) T17 (record { pos = 9; st = []; d = 0; at = λ x. x }, tt) (m15 (c .before)
                   (After-slot-at·gave c)) g;
             },
           )
@@ -2347,8 +2351,8 @@ module _ (claims· : Claims) where
 
           module _ {M : Type 1} (𝓤 : URA.URA M) (H : Wp.Heap 𝓤) (A : Atoms.Atoms 𝓤) (W : Kit.Given 𝓤 H A) (𝓣 : Wp.Tables 𝓤 H) (known0 : Plain.Known 𝓤 H A W 𝓣 0
               ps·0 r·0 (claims· .0) (claims· .1) "search::probe") (known1 : Plain.Known 𝓤 H A W 𝓣 1 ps·1 r·1 (claims· .2) (claims· .3) "store::seeking::slot_at")
-              (known2 : Plain.Known 𝓤 H A W 𝓣 0 ps·2 r·2 (claims· .4) (claims· .5) "bonds::serial_of") (known3 : Plain.Known 𝓤 H A W 𝓣 0 ps·3 r·3 (claims· .6)
-              (claims· .7) "search::part") (known4 : Plain.Known 𝓤 H A W 𝓣 0 ps·4 r·4 (claims· .8) (claims· .9) "search::counted") where
+              (known2 : Plain.Known 𝓤 H A W 𝓣 0 ps·2 r·2 (claims· .4) (claims· .5) "store::seeking::rank_of") (known3 : Plain.Known 𝓤 H A W 𝓣 0 ps·3 r·3 (claims·
+              .6) (claims· .7) "search::part") (known4 : Plain.Known 𝓤 H A W 𝓣 0 ps·4 r·4 (claims· .8) (claims· .9) "search::counted") where
             pub spec : Statement.Triple 𝓤 (Wp.WpFn 𝓤 H (𝓣 .C) (𝓣 .Λ) (Function.fnOf 1 ps r xs m hs body)) (Function.plainOf 𝓤 H A 1 ps r Pre· Post·)
             spec = Plain.t-fn-plain 𝓤 H A W 𝓣 1 ps r xs m hs body (λ κs qs bs. Φ) (λ κs qs bs bd. typed κs qs 𝓤 H A W 𝓣 (known0, known1, known2, known3, known4)
                 bs bd) Pre· Post· asked

@@ -69,7 +69,7 @@ b1 = Syntax.assign (Syntax.place 4 []) (Syntax.op2 (Syntax.lt Syntax.unsigned) (
     [])))
 
 abbrev b2 : Syntax.Body
-b2 = Syntax.assign (Syntax.place 6 []) (Syntax.op2 (Syntax.mul Syntax.unsigned) (Syntax.copy (Syntax.place 2 [])) (Syntax.int Syntax.w64 44))
+b2 = Syntax.assign (Syntax.place 6 []) (Syntax.op2 (Syntax.mul Syntax.unsigned) (Syntax.copy (Syntax.place 2 [])) (Syntax.int Syntax.w64 48))
 
 abbrev b3 : Syntax.Body
 b3 = Syntax.assign (Syntax.place 7 []) (Syntax.op2 Syntax.offset (Syntax.copy (Syntax.place 1 (Syntax.field 0 ∷ []))) (Syntax.copy (Syntax.place 6
@@ -346,7 +346,7 @@ module _ (claims· : Claims) where
   s3 = Scalar.n-room T5 4 Syntax.tyBool
 
   abbrev s4 : Typed.Asks T6 T7
-  s4 = Scalar.k-op2 T6 (Syntax.mul Syntax.unsigned) (Scalar.oAt 2 (Syntax.tyInt Syntax.w64) (Row.valS (Row.sInt Syntax.w64))) (Scalar.oInt Syntax.w64 44) 6
+  s4 = Scalar.k-op2 T6 (Syntax.mul Syntax.unsigned) (Scalar.oAt 2 (Syntax.tyInt Syntax.w64) (Row.valS (Row.sInt Syntax.w64))) (Scalar.oInt Syntax.w64 48) 6
       (Rows'.sc-here (Row.sInt Syntax.w64)) (Row.sInt Syntax.w64 .of)
 
   abbrev s5 : Typed.Asks T7 T8
@@ -354,7 +354,7 @@ module _ (claims· : Claims) where
       6 (Syntax.tyInt Syntax.w64) (Row.valS (Row.sInt Syntax.w64))) 7 (Rows'.sc-here Row.sPtr) (Row.sPtr .of)
 
   abbrev s6 : Typed.Both T8 T9
-  s6 = Move.k-shs-copy-out SlotAs.row T8 1 7 8 0 (Syntax.tyRef (Syntax.named 0) Syntax.imm SlotAs.pointee) Row.off SlotAs.whole (Shared.bySize 44) (λ u. u .1
+  s6 = Move.k-shs-copy-out SlotAs.row T8 1 7 8 0 (Syntax.tyRef (Syntax.named 0) Syntax.imm SlotAs.pointee) Row.off SlotAs.whole (Shared.bySize 48) (λ u. u .1
       .1 .0) (λ x. x) SlotAs.none (λ x. Unit) (λ x. x) λ x. x
 
   abbrev s7 : Typed.Mo T9 → Typed.Mo T10
@@ -542,8 +542,8 @@ module _ (claims· : Claims) where
             d3 : Typed.Typed 𝓤 H A 𝓣 E G8 b6 Δ1 at3
             d3 = Typed.s-seq 𝓤 H A W 𝓣 E G8 G9 b4 b5 Δ1 (Typed.both s6) at2 (Move.t-shs-copy-out 𝓤 H A W E SlotAs.row 𝓣 Path'.refl (SlotAs.copies .copy 𝓤 H A W)
                 (Copies.halved 𝓤 H A W SlotAs.copies) (λ ρ. Unit) G8 1 7 8 0 (Syntax.tyRef (Syntax.named 0) Syntax.imm SlotAs.pointee) (Row.lease (κs .0) (qs
-                .0)) SlotAs.ty SlotAs.ty SlotAs.whole (Shared.bySize 44) (λ u. u .1 .1 .0) (λ x. x) SlotAs.none (λ x. Unit) (λ x. x) (λ x. x) (λ i o.
-                Elements.at-mul o 44 i) Path'.refl Path'.refl (Own.told-none 𝓤 H A (G8 .slots)) (DerefMove.learns-nothing 𝓤 H A SlotAs.row) (Reads.as-is 𝓤 H A
+                .0)) SlotAs.ty SlotAs.ty SlotAs.whole (Shared.bySize 48) (λ u. u .1 .1 .0) (λ x. x) SlotAs.none (λ x. Unit) (λ x. x) (λ x. x) (λ i o.
+                Elements.at-mul o 48 i) Path'.refl Path'.refl (Own.told-none 𝓤 H A (G8 .slots)) (DerefMove.learns-nothing 𝓤 H A SlotAs.row) (Reads.as-is 𝓤 H A
                 (Rows'.sslice SlotAs.row (Syntax.tyRef (Syntax.named 0) Syntax.imm SlotAs.pointee) 0)) (Reads.as-is 𝓤 H A (Rows'.sc-here Row.sPtr))
                 (Reads.room-gone 𝓤 H A SlotAs.ty) (Yields.makes-mem 𝓤 H A W (λ ρ. Unit) SlotAs.row Path'.refl SlotAs.whole (λ x. x) λ ρ told. SlotAs.of-mem 𝓤 H A
                 W ρ) Path'.refl tt Path'.refl Path'.refl) d2
@@ -560,7 +560,7 @@ module _ (claims· : Claims) where
 
             d5 : Typed.Typed 𝓤 H A 𝓣 E G6 b8 Δ1 at5
             d5 = Typed.s-seq 𝓤 H A W 𝓣 E G6 G7 b2 b7 Δ1 (Typed.ask s4) at4 (Scalar.t-op2 𝓤 H A W E 𝓣 G6 (Syntax.mul Syntax.unsigned) (Scalar.oAt 2 (Syntax.tyInt
-                Syntax.w64) (Row.valS (Row.sInt Syntax.w64))) (Scalar.oInt Syntax.w64 44) 6 (Rows'.sc-here (Row.sInt Syntax.w64)) (Syntax.tyInt Syntax.w64)
+                Syntax.w64) (Row.valS (Row.sInt Syntax.w64))) (Scalar.oInt Syntax.w64 48) 6 (Rows'.sc-here (Row.sInt Syntax.w64)) (Syntax.tyInt Syntax.w64)
                 (Row.valS (Row.sInt Syntax.w64)) (Row.sInt Syntax.w64 .of) (Scalar.reads-sc 𝓤 H A W (Row.sInt Syntax.w64), Path'.refl) tt (Reads.room-gone 𝓤 H A
                 (Syntax.tyInt Syntax.w64)) (Scalar.holds-sc 𝓤 H A W (Row.sInt Syntax.w64)) Path'.refl (λ u. Path'.refl) λ u. tt) d4
 

@@ -11,9 +11,9 @@ use Rattle.facets.proofs.is_coord.Symbol as Symbol''
 use Rattle.marks.proofs.is_kept.Met as Met'3
 use Rattle.marks.proofs.is_kept.Reads as Reads'3
 use Rattle.marks.proofs.is_kept.Symbol as Symbol'3
-use Rattle.store.proofs.seeking.names_aside.Met as Met'4
-use Rattle.store.proofs.Walked.seeking.names_aside.Reads as Reads'4
-use Rattle.store.proofs.seeking.names_aside.Symbol as Symbol'4
+use Rattle.store.proofs.seeking.bond_in.Met as Met'4
+use Rattle.store.proofs.Walked.seeking.bond_in.Reads as Reads'4
+use Rattle.store.proofs.seeking.bond_in.Symbol as Symbol'4
 use Rattle.store.proofs.seeking.stays.Code
 use Rattle.store.proofs.seeking.stays.Key
 use Rattle.store.proofs.Walked.seeking.stays.Kinds
@@ -136,22 +136,8 @@ After-conect-in = Lts.After-conect-in (
   Reads'4.Learnt,
 ) Reads'5.Pre Reads'5.Post
 
-abbrev pub After-names-aside : Type 0
-After-names-aside = Lts.After-names-aside (
-  Reads''.Asked,
-  Reads''.Learnt,
-  Reads'3.Asked,
-  Reads'3.Learnt,
-  Reads'.Asked,
-  Reads'.Learnt,
-  Reads.Asked,
-  Reads.Learnt,
-  Reads'4.Asked,
-  Reads'4.Learnt,
-) Reads'5.Pre Reads'5.Post
-
-abbrev pub After-near : Type 0
-After-near = Lts.After-near (
+abbrev pub After-bond-in : Type 0
+After-bond-in = Lts.After-bond-in (
   Reads''.Asked,
   Reads''.Learnt,
   Reads'3.Asked,
@@ -248,8 +234,8 @@ Need-conect-in-requires = Lts.Need-conect-in-requires (
   Reads'4.Learnt,
 ) Reads'5.Pre Reads'5.Post
 
-abbrev pub Need-names-aside-requires : Type 0
-Need-names-aside-requires = Lts.Need-names-aside-requires (
+abbrev pub Need-bond-in-requires : Type 0
+Need-bond-in-requires = Lts.Need-bond-in-requires (
   Reads''.Asked,
   Reads''.Learnt,
   Reads'3.Asked,
@@ -292,7 +278,7 @@ Need-returns-3 = Lts.Need-returns-3 (
 
 module _ {M : Type 1} where
   pub spec : (answer : Need-is-coord-requires) → (answer : Need-is-kept-requires) → (answer : Need-returns) → (answer : Need-is-conect-requires) → (answer :
-      Need-conect-in-requires) → (answer : Need-names-aside-requires) → (answer : Need-returns-2) → (answer : Need-returns-3) → Lts.Closed (
+      Need-conect-in-requires) → (answer : Need-bond-in-requires) → (answer : Need-returns-2) → (answer : Need-returns-3) → Lts.Closed (
         Reads''.Asked,
         Reads''.Learnt,
         Reads'3.Asked,
@@ -340,4 +326,4 @@ module _ {M : Type 1} where
       Symbol'3.name Symbol'3.routine Code.calls-marks·is-kept (Met'3.met 𝓤 H 𝓜 𝓖 𝓡)) (Reads'.known record { M = M; 𝓤 = 𝓤; H = H; 𝓜 = 𝓜; 𝓖 = 𝓖; 𝓡 = 𝓡 } Code.env
       Symbol'.name Symbol'.routine Code.calls-bonds·is-conect (Met'.met 𝓤 H 𝓜 𝓖 𝓡)) (Reads.known record { M = M; 𝓤 = 𝓤; H = H; 𝓜 = 𝓜; 𝓖 = 𝓖; 𝓡 = 𝓡 } Code.env
       Symbol.name Symbol.routine Code.calls-bonds·conect-in (Met.met 𝓤 H 𝓜 𝓖 𝓡)) (Reads'4.known record { M = M; 𝓤 = 𝓤; H = H; 𝓜 = 𝓜; 𝓖 = 𝓖; 𝓡 = 𝓡 } Code.env
-      Symbol'4.name Symbol'4.routine Code.calls-store·seeking·names-aside (Met'4.met 𝓤 H 𝓜 𝓖 𝓡))
+      Symbol'4.name Symbol'4.routine Code.calls-store·seeking·bond-in (Met'4.met 𝓤 H 𝓜 𝓖 𝓡))
