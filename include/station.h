@@ -56,6 +56,12 @@ typedef struct {
  * the good lines in the order of station_tally. Returns the number as well: 0, 1 to 12, 21 or 22. */
 uint32_t station_check(const uint8_t *text, size_t n, uint64_t answer[12]);
 
+/* Checks a text and tells the column of a 6 as well. `answer` receives thirteen numbers in the order of the report: the
+ * number, the line refused (0 if none), the column (0 where the number is not 6), the good lines, and the nine counts
+ * over the good lines. Columns count from 1; it is the first one of the leftmost field of the line that is wrong.
+ * station_check is this without the column. Returns the number as well: 0, 1 to 12, 21 or 22. */
+uint32_t station_verdict(const uint8_t *text, size_t n, uint64_t answer[13]);
+
 /* Loads an accepted text: one slot for each ATOM, HETATM and TER line of all models, in order, all marked in. `count`
  * receives the slots filled, 0 if refused. 1 to 12, 21 and 22 for the text; 13 if `slots` is below what the text
  * needs. */
@@ -96,8 +102,12 @@ uint32_t station_tray(const uint8_t *text, size_t n, const station_slot *table, 
 uint32_t station_slot_of_line(const uint8_t *line, size_t n, station_slot *slot);
 
 /* Reads one line of the ten typed kinds (HELIX, SHEET, MODEL, ATOM, HETATM, TER, ENDMDL, CONECT, MASTER, END) by itself
- * (80 bytes, no newline) to its record and writes the record: the first 80 bytes of `out` are then the line. 1, 3, 4 (a
- * carried kind too), 6, 17. */
+ * (80 bytes, no newline) and keeps nothing. `column` receives, at every call, the first column of the leftmost field
+ * that is wrong if the line is refused with 6, else 0. 1, 3, 4 (a carried kind too), 6. */
+uint32_t station_read_line(const uint8_t *line, size_t n, uint64_t *column);
+
+/* Reads one line of the same kinds by itself (80 bytes, no newline) to its record and writes the record: the first 80
+ * bytes of `out` are then the line. 1, 3, 4 (a carried kind too), 6, 17. */
 uint32_t station_rewrite_line(const uint8_t *line, size_t n, uint8_t *out, size_t room);
 
 /* Jumps to an atom: returns the number of the first line that ends in its newline and reads by itself as an ATOM or

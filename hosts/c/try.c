@@ -1,4 +1,4 @@
-/* Calls each of the fifteen names of include/station.h, and holds what comes against docs/FORMAT.md.
+/* Calls each of the seventeen names of include/station.h, and holds what comes against docs/FORMAT.md.
  *
  *     cc -std=c11 -I include hosts/c/try.c LIBRARY/libstation.a -o try && ./try <crates/report/stdin
  *
@@ -6,6 +6,7 @@
  * bytes, and texts begin at an odd address. A line is printed for each thing tried; the last one is 'N passed, M
  * failed', and the exit status is 0 exactly if M is 0. */
 #include "calls.h"
+#include "columns.h"
 #include "jumps.h"
 #include "lent.h"
 #include "models.h"
@@ -293,6 +294,7 @@ int main(void)
     orders(&wrong);
     at_once(&wrong);
     lines(entry, &wrong);
+    columns(entry);
     jumps();
     models();
     feeds();

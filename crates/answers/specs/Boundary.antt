@@ -33,6 +33,7 @@ slotAnswer (Refused n) found = answered n found
 abbrev pub rewriteAnswer : Answer → List ℕ → List ℕ → Answered (List ℕ)
 rewriteAnswer (line.Read r) l found = pick (ltb (length found) 80) (answered 17 found) (answered 0 (l ++ drop 80 found))
 rewriteAnswer (line.Refused n) l found = answered n found
+rewriteAnswer (line.Wrong column) l found = answered 6 found
 
 -- 1: drawn; 0: nothing to draw, all as found
 abbrev pub dotAnswer : Drawn → List Float → Answered (List Float)

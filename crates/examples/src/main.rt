@@ -87,6 +87,13 @@ fn print_number(n: u8) {
     io::write_all(STDOUT_FILENO, b"\n");
 }
 
+// The line of a case with a wrong field: 6 and its column.
+fn print_wrong(column: u32) {
+    io::write_all(STDOUT_FILENO, b"6 ");
+    io::print_decimal(STDOUT_FILENO, column as u64);
+    io::write_all(STDOUT_FILENO, b"\n");
+}
+
 // The line of a case that reads.
 fn print_read(text: &[u8], r: Record) {
     if writes_back(text, r) {
@@ -105,6 +112,7 @@ fn print_case(text: &[u8]) {
     match a {
         Answer::Read(r) => print_read(text, r),
         Answer::Refused(n) => print_number(n),
+        Answer::Wrong(column) => print_wrong(column),
     }
 }
 

@@ -1,7 +1,9 @@
--- A format is lawful if what it writes reads back, and what it reads is what it would write. Formats built of lawful ones are lawful.
+-- A format that begins at an index is lawful if what it writes reads back, what it reads is what it would write, and what it blames is its leftmost
+-- wrong field. Formats built of lawful ones are lawful.
 -- Assumes nothing.
 use mathlib.Core.Path.{_≡_, refl, sym, _∙_, ap, ap₂, subst}
 use mathlib.Core.List.{List, _++_}
+use mathlib.Core.Logic.{_⊎_, inl, inr}
 use mathlib.Core.Bool.{Bool, true, false}
 use Prim.Native.Nat.{ℕ, zero, suc, _+_, _≤_, _<_}
 use native.Mathlib.Omega.{arith}
@@ -16,17 +18,18 @@ use Rattle.ascii.proofs.Clean.{Clean, clean-append, clean-literal, printed}
 use Rattle.columns.proofs.Faults.{first-split, first-join, blame-none, blame-good, blamed-none, blamed-good, left-split, left-join}
 use Rattle.columns.proofs.Spans.{cols-add, cols-left, cols-right, blanks-length, blanks-clean, gap-text, gap-back}
 use Rattle.numbers.proofs.Laws.{render-length, render-clean, number-text, number-back}
-use Rattle.ascii.specs.Tests.{pick}
-use Rattle.columns.specs.Columns.{gapOf, blanks, cols, blamedOf}
+use Rattle.ascii.specs.Tests.{pick, both}
+use Rattle.columns.specs.Columns.{gapOf, blanks, cols, blamedOf, firstOf, leftmost}
 use Rattle.numbers.specs.declared.Number.{Number}
 use Rattle.numbers.specs.Number.{render, numberOf}
 use Rattle.fields.specs.declared.Whole.{Whole}
 use Rattle.fields.specs.declared.Signed.{Signed}
 use Rattle.fields.specs.Field.{signedOf, isNeg, capOf, wholeIn, wrongWhole, integerIn, wrongSigned, rangedOf, spansOf}
-use Rattle.fields.specs.Format.{Format, rangedF, wholeF, wholeRealF, signedF, integerF, realF, rawF, noneF, _then_, after, held, under, shut}
+use Rattle.fields.specs.Format.{Field, leftmostWrong, SideBySide, blankFields, sameBytes, Format, sole, rangedF, wholeF, wholeRealF, signedF, integerF, realF, rawF, noneF, _then_, after, held, under, shut}
 use Rattle.fields.proofs.Caps.{cap-law}
+use Rattle.fields.proofs.Sides.{HasColumn, side-join, wrong-append, blank-side, blank-wrong, rule-side, rule-wrong, same-bytes, same-self, blame-first, first-of}
 
-pub record Lawful {A : Type 0} (F : Format A) : Type 0 where
+pub record Lawful {A : Type 0} (F : Format A) (begin : ℕ) : Type 0 where
   -- a value is written in all of the columns
   pub long : (a : A) → length (F .text a) ≡ F .width
   -- a value within its range is written in clean bytes
@@ -35,6 +38,48 @@ pub record Lawful {A : Type 0} (F : Format A) : Type 0 where
   pub back : (l : List ℕ) (at : ℕ) (a : A) → F .ok a ≡ true → cols l at (F .width) ≡ F .text a → (F .fault l at ≡ 0) × (F .value l at ≡ a)
   -- what reads is what would be written, and its value is within its range
   pub kept : (l : List ℕ) (at : ℕ) → at + F .width ≤ length l → F .fault l at ≡ 0 → (F .text (F .value l at) ≡ cols l at (F .width)) × (F .ok (F .value l at) ≡ true)
+  -- its fault is the column of the leftmost field that is wrong
+  pub named : (l : List ℕ) → begin + F .width ≤ length l → F .fault l begin ≡ leftmostWrong (F .fields l begin)
+  -- the fields fill its columns
+  pub filled : (l : List ℕ) → SideBySide (begin + 1) (F .fields l begin) (begin + 1 + F .width)
+
+-- ---- one field
+-- the laws of one field whose fault is at its first column: it has none exactly if it is what its value is written as
+pub record Single {A : Type 0} (F : Format A) : Type 0 where
+  pub long : (a : A) → length (F .text a) ≡ F .width
+  pub clean : (a : A) → F .ok a ≡ true → Clean (F .text a)
+  pub back : (l : List ℕ) (at : ℕ) (a : A) → F .ok a ≡ true → cols l at (F .width) ≡ F .text a → (F .fault l at ≡ 0) × (F .value l at ≡ a)
+  pub kept : (l : List ℕ) (at : ℕ) → at + F .width ≤ length l → F .fault l at ≡ 0 → (F .text (F .value l at) ≡ cols l at (F .width)) × (F .ok (F .value l at) ≡ true)
+  pub first : (l : List ℕ) (at : ℕ) → (F .fault l at ≡ 0) ⊎ (F .fault l at ≡ at + 1)
+  pub alone : (l : List ℕ) (at : ℕ) → F .fields l at ≡ sole (F .width) (F .fault) (F .value) (F .text) (F .ok) .fields l at
+
+single-named : {A : Type 0} (F : Format A) → Single F → (l : List ℕ) (at : ℕ) → at + F .width ≤ length l
+    → F .fault l at ≡ leftmostWrong (sole (F .width) (F .fault) (F .value) (F .text) (F .ok) .fields l at)
+unfolding leftmostWrong
+single-named F f l at h = go (f .first l at)
+  where
+    by-test : (b : Bool) → both (sameBytes (cols l at (F .width)) (F .text (F .value l at))) (F .ok (F .value l at)) ≡ b → F .fault l at ≡ at + 1 → F .fault l at ≡ pick b 0 (at + 1)
+    by-test true e z = let w = both-split _ (F .ok (F .value l at)) e in f .back l at (F .value l at) (w .1) (same-bytes _ _ (w .0)) .0
+    by-test false e z = z
+
+    go : (F .fault l at ≡ 0) ⊎ (F .fault l at ≡ at + 1) → F .fault l at ≡ pick (both (sameBytes (cols l at (F .width)) (F .text (F .value l at))) (F .ok (F .value l at))) 0 (at + 1)
+    go (inl z) =
+        let x = f .kept l at h z in
+        let r = both-join _ _ (ap (sameBytes (cols l at (F .width))) (x .0) ∙ same-self (cols l at (F .width))) (x .1) in
+        z ∙ rw r
+    go (inr z) = by-test _ refl z
+
+pub single-lawful : {A : Type 0} {F : Format A} {begin : ℕ} → Single F → Lawful F begin
+unfolding SideBySide
+single-lawful {A} {F} {begin} f =
+    record {
+      long = f .long;
+      clean = f .clean;
+      back = f .back;
+      kept = f .kept;
+      named = λ l h. single-named F f l begin h ∙ ap leftmostWrong (sym (f .alone l begin));
+      filled = λ l. subst (λ (xs : List Field). SideBySide (begin + 1) xs (begin + 1 + F .width)) (sym (f .alone l begin)) (refl, refl);
+    }
 
 -- ---- numbers
 whole-reads : (lo hi : ℕ) (h : Number) (at : ℕ) → (wholeIn lo hi h at) .column ≡ 0
@@ -58,9 +103,17 @@ whole-written : (lo hi v at : ℕ) → lo ≤ v → v ≤ hi → wholeIn lo hi (
 unfolding wholeIn
 whole-written lo hi v at a b = rw (le-ltb _ _ a, le-ltb _ _ b)
 
-pub ranged-lawful : (n e lo hi : ℕ) → T (ltb hi (capOf n e false)) → Lawful (rangedF n e lo hi)
+whole-first : (lo hi : ℕ) (h : Number) (at : ℕ) → ((wholeIn lo hi h at) .column ≡ 0) ⊎ ((wholeIn lo hi h at) .column ≡ at + 1)
+unfolding wholeIn
+whole-first lo hi h at =
+    picks P (h .good) _ _ (λ _. picks P (h .minus) _ _ (λ _. inr refl) (λ _. picks P (ltb (h .mag) lo) _ _ (λ _. inr refl) (λ _. picks P (ltb hi (h .mag)) _ _ (λ _. inr refl) (λ _. inl refl)))) (λ _. inr refl)
+  where
+    P : Whole → Type 0
+    P r = (r .column ≡ 0) ⊎ (r .column ≡ at + 1)
+
+pub ranged-single : (n e lo hi : ℕ) → T (ltb hi (capOf n e false)) → Single (rangedF n e lo hi)
 unfolding rangedOf
-ranged-lawful n e lo hi t =
+ranged-single n e lo hi t =
     record {
       long = λ v. render-length n e false v;
       clean = λ v k. render-clean n e false v;
@@ -77,13 +130,15 @@ ranged-lawful n e lo hi t =
             ap (λ x. render n e false x) (r .2) ∙ ap (λ m. render n e m ((numberOf l at n e) .mag)) (sym (r .1)) ∙ w .0,
             rw (r .2) (both-join _ _ (le-leb _ _ (r .3)) (le-leb _ _ (r .4))),
           );
+      first = λ l at. whole-first lo hi (numberOf l at n e) at;
+      alone = λ l at. refl;
     }
 
-pub whole-lawful : (n lo hi : ℕ) → T (ltb hi (capOf n 0 false)) → Lawful (wholeF n lo hi)
-whole-lawful n = ranged-lawful n 0
+pub whole-lawful : {begin : ℕ} (n lo hi : ℕ) → T (ltb hi (capOf n 0 false)) → Lawful (wholeF n lo hi) begin
+whole-lawful n lo hi t = single-lawful (ranged-single n 0 lo hi t)
 
-pub whole-real-lawful : (n d lo hi : ℕ) → T (ltb hi (capOf n (d + 1) false)) → Lawful (wholeRealF n d lo hi)
-whole-real-lawful n d = ranged-lawful n (d + 1)
+pub whole-real-lawful : {begin : ℕ} (n d lo hi : ℕ) → T (ltb hi (capOf n (d + 1) false)) → Lawful (wholeRealF n d lo hi) begin
+whole-real-lawful n d lo hi t = single-lawful (ranged-single n (d + 1) lo hi t)
 
 pub signed-neg : (m : Bool) (v : ℕ) → (m ≡ true → v ≡ 0 → ⊥) → isNeg (signedOf m v) ≡ m
 unfolding signedOf isNeg
@@ -122,9 +177,17 @@ span-cap : (n e low high : ℕ) → suc low ≡ capOf n e true → suc high ≡ 
 span-cap n e low high a b true = a
 span-cap n e low high a b false = b
 
-pub signed-lawful : (n e low high : ℕ) → suc low ≡ capOf n e true → suc high ≡ capOf n e false → Lawful (signedF n e low high)
+integer-first : (h : Number) (at : ℕ) → ((integerIn h at) .column ≡ 0) ⊎ ((integerIn h at) .column ≡ at + 1)
+unfolding integerIn
+integer-first h at =
+    picks P (h .good) _ _ (λ _. picks P (h .minus) _ _ (λ _. picks P (eqb (h .mag) 0) _ _ (λ _. inr refl) (λ _. inl refl)) (λ _. inl refl)) (λ _. inr refl)
+  where
+    P : Signed → Type 0
+    P r = (r .column ≡ 0) ⊎ (r .column ≡ at + 1)
+
+pub signed-single : (n e low high : ℕ) → suc low ≡ capOf n e true → suc high ≡ capOf n e false → Single (signedF n e low high)
 unfolding spansOf
-signed-lawful n e low high ca cb =
+signed-single n e low high ca cb =
     record {
       long = λ z. render-length n e (isNeg z) (natAbs z);
       clean = λ z k. render-clean n e (isNeg z) (natAbs z);
@@ -141,13 +204,15 @@ signed-lawful n e low high ca cb =
           let c : x .mag < capOf n e (x .minus) = cap-law n e (x .minus) (x .mag) .0 (w .1) in
           let d : suc (pick (x .minus) low high) ≡ capOf n e (x .minus) = span-cap n e low high ca cb (x .minus) in
           rw (r .1, m, v) (w .0, le-leb (x .mag) (pick (x .minus) low high) (omega arith));
+      first = λ l at. integer-first (numberOf l at n e) at;
+      alone = λ l at. refl;
     }
 
-pub integer-lawful : (n low high : ℕ) → suc low ≡ capOf n 0 true → suc high ≡ capOf n 0 false → Lawful (integerF n low high)
-integer-lawful n = signed-lawful n 0
+pub integer-lawful : {begin : ℕ} (n low high : ℕ) → suc low ≡ capOf n 0 true → suc high ≡ capOf n 0 false → Lawful (integerF n low high) begin
+integer-lawful n low high a b = single-lawful (signed-single n 0 low high a b)
 
-pub real-lawful : (n d low high : ℕ) → suc low ≡ capOf n (d + 1) true → suc high ≡ capOf n (d + 1) false → Lawful (realF n d low high)
-real-lawful n d = signed-lawful n (d + 1)
+pub real-lawful : {begin : ℕ} (n d low high : ℕ) → suc low ≡ capOf n (d + 1) true → suc high ≡ capOf n (d + 1) false → Lawful (realF n d low high) begin
+real-lawful n d low high a b = single-lawful (signed-single n (d + 1) low high a b)
 
 -- ---- bytes
 pub record Shape {A : Type 0} (n : ℕ) (value : List ℕ → ℕ → A) (text : A → List ℕ) : Type 0 where
@@ -155,21 +220,32 @@ pub record Shape {A : Type 0} (n : ℕ) (value : List ℕ → ℕ → A) (text :
   pub there : (l : List ℕ) (at : ℕ) → at + n ≤ length l → text (value l at) ≡ cols l at n
   pub same : (l : List ℕ) (at : ℕ) (a : A) → cols l at n ≡ text a → value l at ≡ a
 
-pub raw-lawful : {A : Type 0} (n : ℕ) (value : List ℕ → ℕ → A) (text : A → List ℕ) (test : A → Bool) → Shape n value text → ((a : A) → test a ≡ true → Clean (text a)) → Lawful (rawF n value text test)
+pub raw-lawful : {A : Type 0} {begin : ℕ} (n : ℕ) (value : List ℕ → ℕ → A) (text : A → List ℕ) (test : A → Bool) → Shape n value text → ((a : A) → test a ≡ true → Clean (text a)) → Lawful (rawF n value text test) begin
 raw-lawful n value text test s c =
-    record {
+    single-lawful (record {
       long = s .long;
       clean = c;
       back = λ l at a k q. let v = s .same l at a q in (blame-good _ at (ap test v ∙ k), v);
       kept = λ l at h q. (s .there l at h, blame-none _ at q);
-    }
+      first = λ l at. blame-first (test (value l at)) at;
+      alone = λ l at. refl;
+    })
 
 -- ---- combinations
-pub none-lawful : Lawful noneF
-none-lawful = record { long = λ a. refl; clean = λ a k. tt; back = λ l at a k q. (refl, refl); kept = λ l at h q. (refl, refl) }
+pub none-lawful : {begin : ℕ} → Lawful noneF begin
+unfolding leftmostWrong SideBySide
+none-lawful =
+    record {
+      long = λ a. refl;
+      clean = λ a k. tt;
+      back = λ l at a k q. (refl, refl);
+      kept = λ l at h q. (refl, refl);
+      named = λ l h. refl;
+      filled = λ l. omega arith;
+    }
 
-pub then-lawful : {A B : Type 0} {F : Format A} {G : Format B} → Lawful F → Lawful G → Lawful (F then G)
-then-lawful {F} {G} f g =
+pub then-lawful : {A B : Type 0} {F : Format A} {G : Format B} {begin : ℕ} → Lawful F begin → Lawful G (begin + F .width) → Lawful (F then G) begin
+then-lawful {F} {G} {begin} f g =
     record {
       long = λ a. length-append (F .text (a .0)) (G .text (a .1)) ∙ ap₂ _+_ (f .long (a .0)) (g .long (a .1));
       clean = λ a k.
@@ -185,10 +261,14 @@ then-lawful {F} {G} f g =
           let x = f .kept l at (omega arith) (w .0) in
           let y = g .kept l (at + F .width) (omega arith) (w .1) in
           (ap₂ _++_ (x .0) (y .0) ∙ sym (cols-add l at (F .width) (G .width)), both-join _ _ (x .1) (y .1));
+      named = λ l h.
+          ap₂ firstOf (f .named l (omega arith)) (g .named l (omega arith))
+          ∙ sym (wrong-append (begin + 1) (begin + 1 + F .width) (F .fields l begin) (G .fields l (begin + F .width)) (omega arith) (f .filled l));
+      filled = λ l. side-join begin (F .width) (G .width) (F .fields l begin) (G .fields l (begin + F .width)) (f .filled l) (g .filled l);
     }
 
-pub after-lawful : {A : Type 0} {F : Format A} (n : ℕ) → Lawful F → Lawful (after n F)
-after-lawful {F} n f =
+pub after-lawful : {A : Type 0} {F : Format A} {begin : ℕ} (n : ℕ) → Lawful F (begin + n) → Lawful (after n F) begin
+after-lawful {F} {begin} n f =
     record {
       long = λ a. length-append (blanks n) (F .text a) ∙ ap₂ _+_ (blanks-length n) (f .long a);
       clean = λ a k. clean-append (blanks n) (F .text a) (blanks-clean n) (f .clean a k);
@@ -199,22 +279,29 @@ after-lawful {F} n f =
           let w = first-split (gapOf l at n) (F .fault l (at + n)) q in
           let y = f .kept l (at + n) (omega arith) (w .1) in
           (ap₂ _++_ (gap-text l at n (omega arith) (w .0)) (y .0) ∙ sym (cols-add l at n (F .width)), y .1);
+      named = λ l h.
+          ap₂ firstOf (blank-wrong l begin n) (f .named l (omega arith))
+          ∙ sym (wrong-append (begin + 1) (begin + 1 + n) (blankFields l begin n) (F .fields l (begin + n)) (omega arith) (blank-side l begin n));
+      filled = λ l. side-join begin n (F .width) (blankFields l begin n) (F .fields l (begin + n)) (blank-side l begin n) (f .filled l);
     }
 
-pub shut-lawful : {A : Type 0} {F : Format A} {n : ℕ} → F .width ≡ n → Lawful F → Lawful (shut n F)
-shut-lawful {F} e f = subst (λ (n : ℕ). Lawful (shut n F)) e f
+pub shut-lawful : {A : Type 0} {F : Format A} {n begin : ℕ} → F .width ≡ n → Lawful F begin → Lawful (shut n F) begin
+shut-lawful {F} {begin} e f = subst (λ (n : ℕ). Lawful (shut n F) begin) e f
 
-pub held-lawful : {A B : Type 0} {F : Format A} (to : A → B) (from : B → A) → ((b : B) → to (from b) ≡ b) → ((a : A) → from (to a) ≡ a) → Lawful F → Lawful (held F to from)
+pub held-lawful : {A B : Type 0} {F : Format A} {begin : ℕ} (to : A → B) (from : B → A) → ((b : B) → to (from b) ≡ b) → ((a : A) → from (to a) ≡ a) → Lawful F begin → Lawful (held F to from) begin
 held-lawful {F} to from there here f =
     record {
       long = λ b. f .long (from b);
       clean = λ b k. f .clean (from b) k;
       back = λ l at b k q. let x = f .back l at (from b) k q in (x .0, ap to (x .1) ∙ there b);
       kept = λ l at h q. let x = f .kept l at h q in (ap (F .text) (here (F .value l at)) ∙ x .0, ap (F .ok) (here (F .value l at)) ∙ x .1);
+      named = f .named;
+      filled = f .filled;
     }
 
-pub under-lawful : {A : Type 0} {F : Format A} (test : A → Bool) (c : ℕ) → T (ltb 0 c) → Lawful F → Lawful (under F test c)
-under-lawful {F} test c t f =
+-- the column that is blamed is that of a field
+pub under-lawful : {A : Type 0} {F : Format A} {begin : ℕ} (test : A → Bool) (c : ℕ) → T (ltb 0 c) → ((l : List ℕ) → HasColumn c (F .fields l begin)) → Lawful F begin → Lawful (under F test c) begin
+under-lawful {F} {begin} test c t has f =
     record {
       long = f .long;
       clean = λ a k. f .clean a (both-split (F .ok a) (test a) k .0);
@@ -226,10 +313,18 @@ under-lawful {F} test c t f =
           let w = left-split (F .fault l at) (blamedOf (test (F .value l at)) c) q in
           let x = f .kept l at h (w .0) in
           (x .0, both-join _ _ (x .1) (blamed-none _ c t (w .1)));
+      named = λ l h.
+          ap (λ (x : ℕ). leftmost x (blamedOf (test (F .value l begin)) c)) (f .named l h)
+          ∙ rule-wrong c (begin + 1) (begin + 1 + F .width) (F .fields l begin) (test (F .value l begin)) (omega arith) (f .filled l) (has l);
+      filled = λ l. rule-side c (test (F .value l begin)) (begin + 1) (begin + 1 + F .width) (F .fields l begin) (f .filled l);
     }
 
+-- a lawful format with a column has a field that begins with it
+pub has-first : {A : Type 0} {F : Format A} {begin : ℕ} → Lawful F begin → 0 < F .width → (l : List ℕ) → HasColumn (begin + 1) (F .fields l begin)
+has-first {F} {begin} f h l = first-of (begin + 1) (F .width) (F .fields l begin) h (f .filled l)
+
 -- ---- THE THEOREM of a kind of line: a name of six columns, and a format of the other 74
-module _ {A : Type 0} (F : Format A) (f : Lawful F) (w : F .width ≡ 74) (name : List ℕ) (n : length name ≡ 6) where
+module _ {A : Type 0} (F : Format A) (f : Lawful F 6) (w : F .width ≡ 74) (name : List ℕ) (n : length name ≡ 6) where
   -- a line of that name in which nothing is wrong is what its value is written as, and the value is within its range
   pub line-kept : (l : List ℕ) → length l ≡ 80 → take 6 l ≡ name → F .fault l 6 ≡ 0 → (name ++ F .text (F .value l 6) ≡ l) × (F .ok (F .value l 6) ≡ true)
   line-kept l h e q =

@@ -39,7 +39,7 @@ use Rattle.rules.proofs.Laws.{judge-typed, judge-wrong}
 use Rattle.gate.specs.declared.Verdict.{Verdict}
 use Rattle.rows.specs.Text.{pieceAt, row, down}
 use Rattle.serials.specs.Known.{isSite, someOf, front, named, partnerKnown, bondKnown}
-use Rattle.gate.specs.Gate.{lookOf, refusedOf, finishOf, checkLines, checkOf}
+use Rattle.gate.specs.Gate.{columnOf, lookOf, refusedOf, finishOf, checkLines, checkOf}
 use Rattle.gate.specs.Promise.{PartnerBefore, Names, SixFields, OneModel, isShut, pastAt, linesOf, countsTo, Consequences}
 use Rattle.serials.specs.Search.{serialOf, baseOf}
 use Rattle.rows.proofs.Cut.{cut-done}
@@ -49,7 +49,8 @@ use Rattle.serials.proofs.Models.{coord-off}
 use Rattle.twins.specs.Twins.{sameAtom, isTwin}
 use Rattle.twins.proofs.Self.{atom-self}
 use Rattle.gate.proofs.Models.{numbered, held}
-use Rattle.gate.proofs.Runs.{stateAt, GoodTo, Reached, reached, unrolled, answered}
+use Rattle.gate.proofs.Columns.{column-read}
+use Rattle.gate.proofs.Runs.{stateAt, GoodTo, Reached, reached, unrolled, answered, no-column}
 
 -- ---- lines of one model
 -- line j stands after the last MODEL or ENDMDL before line k
@@ -264,5 +265,7 @@ consequences t =
       counts-true = A .counts ∙ counted t ((checkOf t) .good) (A .good-to);
       ends = λ z. let x = A .granted z in let y = end-last t ((checkOf t) .good) (A .good-to) (x .2) in (x .1, y .0, y .1);
       prefixes = λ n h. prefix-good t n (λ j l. A .good-to j (omega arith));
+      column-read = λ e. column-read t ((checkOf t) .good) ((checkOf t) .column) (A .six e) (A .column ∙ ap (λ (n : ℕ). columnOf n (row t ((checkOf t) .good))) e);
+      column-none = λ z. A .column ∙ no-column ((checkOf t) .number) (row t ((checkOf t) .good)) z;
       offends = A .refused;
     }

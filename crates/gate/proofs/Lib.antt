@@ -1,4 +1,5 @@
 pub mod Sofar
 pub mod Runs
 pub mod Models
+pub mod Columns
 pub mod Consequences

@@ -6,12 +6,13 @@ use mathlib.Core.Bool.{Bool, true, false}
 use mathlib.Core.Path.{_≡_, refl, sym, _∙_, ap}
 use native.Mathlib.Omega.{arith}
 use native.Mathlib.Numerals.{add-one}
-use borrow.Author.Tests.{eqb-true, eqb-false, eq-eqb, ltb-true, ltb-false}
+use borrow.Author.Tests.{eqb-true, eqb-false, eq-eqb, ne-eqb, ltb-true, ltb-false}
 use lib.Dec.{eqb, ltb}
 use lib.ListN.{length, drop, length-take, length-drop}
 use Rattle.ascii.specs.Tests.{pick}
 use Rattle.ascii.proofs.Choice.{picks}
 use Rattle.pieces.specs.declared.Line.{Line}
+use Rattle.pieces.specs.declared.Line.the-variants.{Bad, Wrong, Carried, Typed}
 use Rattle.pieces.specs.Pieces.{lineOf}
 use Rattle.rules.specs.declared.State.{State}
 use Rattle.places.specs.Places.{endPlace}
@@ -20,7 +21,7 @@ use Rattle.search.specs.declared.Span.{Span}
 use Rattle.search.specs.Search.{span}
 use Rattle.gate.specs.declared.Verdict.{Verdict}
 use Rattle.rows.specs.Text.{cut, pieceAt, row, down}
-use Rattle.gate.specs.Gate.{numberIn, refusedOf, finishOf, checkLines, checkOf}
+use Rattle.gate.specs.Gate.{columnOf, numberIn, refusedOf, finishOf, checkLines, checkOf}
 use Rattle.serials.specs.declared.Earlier.{Earlier}
 use Rattle.serials.specs.Search.{growOf, noEarlier, earlierOf, Block, Behind}
 use Rattle.rows.proofs.Cut.{cut-next, cut-done}
@@ -96,16 +97,27 @@ unrolled t (suc n) g =
 pub record Answered (t : List ℕ) (v : Verdict) : Type 0 where
   pub good-to : GoodTo (row t) (v .good)
   pub counts : v .counts ≡ (stateAt (row t) (v .good)) .counts
+  pub column : v .column ≡ columnOf (v .number) (row t (v .good))
+  pub six : v .number ≡ 6 → numberAt (row t) (v .good) ≡ 6
   pub granted : v .number ≡ 0 → (v .line ≡ 0) × (length t ≡ 81 * v .good) × ((stateAt (row t) (v .good)) .place ≡ endPlace)
   pub refused : (v .number ≡ 0 → ⊥) → v .line ≡ v .good + 1
 
-answered-refused : (t : List ℕ) (i n : ℕ) → GoodTo (row t) i → (n ≡ 0 → ⊥) → Answered t (refusedOf n (stateAt (row t) i))
+-- only 6 has a column
+pub no-column : (n : ℕ) (l : Line) → (n ≡ 6 → ⊥) → columnOf n l ≡ 0
+no-column n (Bad m) z = refl
+no-column n (Wrong k c) z = rw (ne-eqb n 6 z)
+no-column n (Carried k) z = refl
+no-column n (Typed r) z = refl
+
+answered-refused : (t : List ℕ) (i n c : ℕ) → GoodTo (row t) i → (n ≡ 0 → ⊥) → c ≡ columnOf n (row t i) → (n ≡ 6 → numberAt (row t) i ≡ 6) → Answered t (refusedOf n c (stateAt (row t) i))
 unfolding refusedOf
-answered-refused t i n g z =
+answered-refused t i n c g z q k =
     let e : (stateAt (row t) i) .lines ≡ i = reached t i g .lines in
     record {
       good-to = rw e g;
       counts = rw e;
+      column = q ∙ rw e;
+      six = rw e k;
       granted = λ y. absurd (z y);
       refused = λ _. refl;
     }
@@ -116,15 +128,17 @@ answered-finish t i g h =
     let R = reached t i g in
     let e : (stateAt (row t) i) .lines ≡ i = R .lines in
     let w : 81 * i ≤ length t = R .within in
-    picks (Answered t) (eqb ((stateAt (row t) i) .place) endPlace) _ (refusedOf 12 (stateAt (row t) i))
+    picks (Answered t) (eqb ((stateAt (row t) i) .place) endPlace) _ (refusedOf 12 0 (stateAt (row t) i))
     (λ p.
     record {
       good-to = rw e g;
       counts = rw e;
+      column = sym (no-column 0 (row t ((stateAt (row t) i) .lines)) (λ z. omega arith));
+      six = λ z. absurd (omega arith);
       granted = λ _. (refl, rw e (omega arith), rw e (eqb-true _ _ p));
       refused = λ z. absurd (z refl);
     })
-    (λ _. answered-refused t i 12 g (λ y. omega arith))
+    (λ _. answered-refused t i 12 0 g (λ y. omega arith) (sym (no-column 12 (row t i) (λ z. omega arith))) (λ z. absurd (omega arith)))
 
 good-more : (L : ℕ → Line) (i : ℕ) → GoodTo L i → numberAt L i ≡ 0 → GoodTo L (suc i)
 good-more L i g e j h = go (ltb j i) refl
@@ -149,14 +163,14 @@ answered-from (l ∷ ls) t i e g = go (answered-from ls t (suc i)) (ltb (81 * i)
     parts : 81 * i < length t → (row t i ≡ l) × (map lineOf (cut (drop (81 * suc i) t)) ≡ ls)
     parts h = let q : row t i ∷ map lineOf (cut (drop (81 * suc i) t)) ≡ l ∷ ls = sym (rest-next t i h) ∙ e in (cc, cc)
 
-    turn : (map lineOf (cut (drop (81 * suc i) t)) ≡ ls → GoodTo (row t) (suc i) → Answered t (checkLines (row t i ∷ down (row t) i) (nextOf (stateAt (row t) i) (row t i)) ls)) → (row t i ≡ l) × (map lineOf (cut (drop (81 * suc i) t)) ≡ ls) → Answered t (pick (eqb (numberIn (down (row t) i) (stateAt (row t) i) l) 0) (checkLines (l ∷ down (row t) i) (nextOf (stateAt (row t) i) l) ls) (refusedOf (numberIn (down (row t) i) (stateAt (row t) i) l) (stateAt (row t) i)))
+    turn : (map lineOf (cut (drop (81 * suc i) t)) ≡ ls → GoodTo (row t) (suc i) → Answered t (checkLines (row t i ∷ down (row t) i) (nextOf (stateAt (row t) i) (row t i)) ls)) → (row t i ≡ l) × (map lineOf (cut (drop (81 * suc i) t)) ≡ ls) → Answered t (pick (eqb (numberIn (down (row t) i) (stateAt (row t) i) l) 0) (checkLines (l ∷ down (row t) i) (nextOf (stateAt (row t) i) l) ls) (refusedOf (numberIn (down (row t) i) (stateAt (row t) i) l) (columnOf (numberIn (down (row t) i) (stateAt (row t) i) l) l) (stateAt (row t) i)))
     turn again p =
         rw (← p .0)
         (picks (Answered t) (eqb (numberAt (row t) i) 0) _ _
         (λ y. again (p .1) (good-more (row t) i g (eqb-true _ _ y)))
-        (λ z. answered-refused t i (numberAt (row t) i) g (eqb-false _ _ z)))
+        (λ z. answered-refused t i (numberAt (row t) i) _ g (eqb-false _ _ z) refl (λ e. e)))
 
-    go : (map lineOf (cut (drop (81 * suc i) t)) ≡ ls → GoodTo (row t) (suc i) → Answered t (checkLines (row t i ∷ down (row t) i) (nextOf (stateAt (row t) i) (row t i)) ls)) → (b : Bool) → ltb (81 * i) (length t) ≡ b → Answered t (pick (eqb (numberIn (down (row t) i) (stateAt (row t) i) l) 0) (checkLines (l ∷ down (row t) i) (nextOf (stateAt (row t) i) l) ls) (refusedOf (numberIn (down (row t) i) (stateAt (row t) i) l) (stateAt (row t) i)))
+    go : (map lineOf (cut (drop (81 * suc i) t)) ≡ ls → GoodTo (row t) (suc i) → Answered t (checkLines (row t i ∷ down (row t) i) (nextOf (stateAt (row t) i) (row t i)) ls)) → (b : Bool) → ltb (81 * i) (length t) ≡ b → Answered t (pick (eqb (numberIn (down (row t) i) (stateAt (row t) i) l) 0) (checkLines (l ∷ down (row t) i) (nextOf (stateAt (row t) i) l) ls) (refusedOf (numberIn (down (row t) i) (stateAt (row t) i) l) (columnOf (numberIn (down (row t) i) (stateAt (row t) i) l) l) (stateAt (row t) i)))
     go again true u = turn again (parts (ltb-true _ _ u))
     go again false u = absurd (nil-cons _ _ (ap (map lineOf) (sym (cut-done t i (ltb-false _ _ u))) ∙ e))
 

@@ -24,7 +24,7 @@ use Rattle.search.specs.Search.{span}
 use Rattle.facets.specs.Facets.{isCoord, isFence}
 use Rattle.gate.specs.declared.Verdict.{Verdict}
 use Rattle.rows.specs.Text.{cut, pieceAt, row, down}
-use Rattle.gate.specs.Gate.{lookOf, numberIn, checkLines, checkOf, refusedOf, finishOf}
+use Rattle.gate.specs.Gate.{columnOf, lookOf, numberIn, checkLines, checkOf, refusedOf, finishOf}
 use Rattle.serials.specs.declared.Earlier.{Earlier}
 use Rattle.serials.specs.declared.Past.{Past}
 use Rattle.serials.specs.Search.{growOf, noEarlier, earlierOf, baseOf, Block, Behind, Rising, Reached}
@@ -130,7 +130,7 @@ unfolding row
 rest-step t i p s S h = S .rest ∙ ap (λ (ls : List (List ℕ)). checkLines (down (row t) i) s (map lineOf ls)) (cut-next t i h)
 
 sofar-refused : (t : List ℕ) (i : ℕ) (p : Past) (s : State) → Sofar t i p s → 81 * i < length t
-    → (numberIn (down (row t) i) s (row t i) ≡ 0 → ⊥) → checkOf t ≡ refusedOf (numberIn (down (row t) i) s (row t i)) s
+    → (numberIn (down (row t) i) s (row t i) ≡ 0 → ⊥) → checkOf t ≡ refusedOf (numberIn (down (row t) i) s (row t i)) (columnOf (numberIn (down (row t) i) s (row t i)) (row t i)) s
 unfolding checkLines
 sofar-refused t i p s S h j = rest-step t i p s S h ∙ rw (ne-eqb (numberIn (down (row t) i) s (row t i)) 0 j)
 
@@ -224,8 +224,8 @@ module _ (t : List ℕ) (i : ℕ) (p : Past) (s : State) (S : Sofar t i p s) (h 
   turn-number : j ≡ numberIn (down (row t) i) s (row t i)
   turn-number = rw el at ej
 
-  pub turn-refused : (j ≡ 0 → ⊥) → refusedOf j s ≡ checkOf t
-  turn-refused n = rw turn-number (sym (sofar-refused t i p s S h (λ e. n (turn-number ∙ e))))
+  pub turn-refused : (j ≡ 0 → ⊥) → (c : ℕ) → c ≡ columnOf j l → refusedOf j c s ≡ checkOf t
+  turn-refused n c ec = rw (ec, el, turn-number) (sym (sofar-refused t i p s S h (λ e. n (turn-number ∙ e))))
 
   pub turn-next : j ≡ 0 → (q : Past) → After p i l q → (u : State) → u ≡ nextOf s l → Sofar t (i + 1) q u
   turn-next e q A u eu =

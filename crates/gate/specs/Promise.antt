@@ -8,7 +8,8 @@ use Rattle.places.specs.declared.{Counts.Counts}
 use Rattle.places.specs.Counts.{countAt, sameCounts}
 use Rattle.facets.specs.declared.{Fence.Fence, Fence.the-variants.Opens, Fence.the-variants.Shuts, Fence.the-variants.Unfenced}
 use Rattle.facets.specs.Facets.{lineKind, fenceIn, isCoord, isFence}
-use Rattle.rows.specs.Text.{row}
+use Rattle.line.specs.Lines.{readLine, answerColumn}
+use Rattle.rows.specs.Text.{pieceAt, row}
 use Rattle.serials.specs.Known.{isSite}
 use Rattle.serials.specs.Search.{serialOf}
 use Rattle.gate.specs.Gate.{checkOf}
@@ -116,5 +117,9 @@ pub record Consequences (t : List ℕ) : Type 0 where
   -- any first n of the good lines, by themselves, have no offence: they are granted, or over before END
   pub prefixes : (n : ℕ) → n ≤ checkOf t .good
       → (checkOf (take (81 * n) t) .good ≡ n) × ((checkOf (take (81 * n) t) .number ≡ 0) ⊎ (checkOf (take (81 * n) t) .number ≡ 12))
+  -- at 6 the column is what the offending line is answered where it is read by itself, and not 0; at any other number it is 0
+  pub column-read : checkOf t .number ≡ 6
+      → (checkOf t .column ≡ answerColumn (readLine (take 80 (pieceAt t (checkOf t .good))))) × (checkOf t .column ≡ 0 → ⊥)
+  pub column-none : (checkOf t .number ≡ 6 → ⊥) → checkOf t .column ≡ 0
   -- a refused text offends in the line after its good ones
   pub offends : (checkOf t .number ≡ 0 → ⊥) → checkOf t .line ≡ checkOf t .good + 1

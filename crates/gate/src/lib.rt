@@ -18,12 +18,14 @@ ghost use Rattle.rules.specs.Rules.{startOf, nextOf};
 ghost use Rattle.search.specs.Search.{span};
 ghost use Rattle.serials.specs.Search.{growOf, noEarlier, earlierOf, Block, Behind, Rising, Reached};
 ghost use Rattle.trail.specs.Trail.{Watched};
-ghost use Rattle.gate.specs.Gate.{refusedOf, finishOf, numberIn, checkOf};
+ghost use Rattle.gate.specs.Gate.{atSix, columnOf, refusedOf, finishOf, numberIn, checkOf};
 
-// The answer: the number of refusal, the offending line (0 if granted), the count of good lines, and the nine counts over those.
+// The answer: the number of refusal, the offending line (0 if granted), its column at 6 (else 0), the count of good lines, and the nine counts over
+// those.
 pub struct Verdict {
     pub number: u8,
     pub line: u64,
+    pub column: u32,
     pub good: u64,
     pub counts: Counts,
 }
@@ -53,7 +55,7 @@ pub fn check(text: &[u8]) -> Verdict
         let n = t.number;
         if n != 0 {
             let s = c.state;
-            return refused(n, s);
+            return refused(n, column_of(n, l), s);
         }
         c = t.course;
         i += 1;
@@ -119,14 +121,33 @@ pub fn turn(text: &[u8], i: usize, c: Course, l: Line) -> Onward
     }
 }
 
-fn refused(n: u8, s: State) -> Verdict
+// The column of a line that gets the number n.
+fn column_of(n: u8, l: Line) -> u32
+    ensures { λ r. ⌜ r ≡ columnOf n l ⌝ }
+{
+    match l {
+        Line::Bad(_) => 0,
+        Line::Wrong(_, column) => at_six(n, column),
+        Line::Carried(_) => 0,
+        Line::Typed(_) => 0,
+    }
+}
+
+fn at_six(n: u8, column: u32) -> u32
+    ensures { λ r. ⌜ r ≡ atSix n column ⌝ }
+{
+    if n == 6 { column } else { 0 }
+}
+
+fn refused(n: u8, column: u32, s: State) -> Verdict
     requires { ⌜ s .lines < 9223372036854775808 ⌝ }
-    ensures { λ r. ⌜ r ≡ refusedOf n s ⌝ }
+    ensures { λ r. ⌜ r ≡ refusedOf n column s ⌝ }
 {
     let c = s.counts;
     Verdict {
         number: n,
         line: s.lines + 1,
+        column: column,
         good: s.lines,
         counts: c,
     }
@@ -141,11 +162,12 @@ pub fn finish(s: State) -> Verdict
         Verdict {
             number: 0,
             line: 0,
+            column: 0,
             good: s.lines,
             counts: c,
         }
     } else {
-        refused(12, s)
+        refused(12, 0, s)
     }
 }
 

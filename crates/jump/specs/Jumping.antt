@@ -1,6 +1,6 @@
 -- The jump: the first line with a serial, in any text.
 use Rattle.ascii.specs.Library.{ℕ, _+_, _/_, List, [], _∷_, Bool, false, length, getD, take, eqb, both, byte, pick}
-use Rattle.line.specs.declared.{Answer.Answer, Answer.the-variants.Read, Answer.the-variants.Refused}
+use Rattle.line.specs.declared.{Answer.Answer, Answer.the-variants.Read, Answer.the-variants.Refused, Answer.the-variants.Wrong}
 use Rattle.line.specs.Lines.{readLine}
 use Rattle.facets.specs.Facets.{spotOf}
 use Rattle.rows.specs.Text.{cut}
@@ -11,6 +11,7 @@ use Rattle.jump.specs.declared.{Jump.Jump}
 abbrev pub readAtom : ℕ → Answer → Bool
 readAtom x (Read r) = isAtom x (spotOf r)
 readAtom x (Refused n) = false
+readAtom x (Wrong column) = false
 
 -- a piece of 81 bytes that ends in byte 10 and reads by itself as an ATOM or HETATM line with serial x
 unfoldable pub isHit : ℕ → List ℕ → Bool

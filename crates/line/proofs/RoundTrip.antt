@@ -41,7 +41,7 @@ use Rattle.line.specs.declared.Answer.the-variants.{Read, Refused}
 use Rattle.line.specs.Lines.{bareF, judged, readingOf, answerOf, readLine, answerNumber, recordOk, recordLine}
 use Rattle.line.specs.Promise.{RoundTrips}
 
-bare-lawful : Lawful bareF
+pub bare-lawful : Lawful bareF 6
 bare-lawful = after-lawful 74 none-lawful
 
 -- ---- what reads is what would be written
@@ -52,7 +52,7 @@ kept-untyped : (l : List ℕ) → Kept l Untyped
 kept-untyped l r e = let z : _≡_ {A = ℕ} 0 1 = cc in absurd (omega arith)
 
 -- a kind with its lawful format, whose values are wrapped into records
-kept-judged : {A : Type 0} (F : Format A) → Lawful F → F .width ≡ 74 → (k : Kind) → length (nameText k) ≡ 6 → (wrap : A → Record)
+kept-judged : {A : Type 0} (F : Format A) → Lawful F 6 → F .width ≡ 74 → (k : Kind) → length (nameText k) ≡ 6 → (wrap : A → Record)
     → ((a : A) → recordLine (wrap a) ≡ nameText k ++ F .text a) → ((a : A) → recordOk (wrap a) ≡ F .ok a)
     → (l : List ℕ) → length l ≡ 80 → take 6 l ≡ nameText k → Kept l (judged (F .fault l 6) (wrap (F .value l 6)))
 unfolding judged
@@ -122,7 +122,7 @@ granted l =
     typed Untyped e = absurd (omega arith)
 
 -- ---- what is written reads back
-back-judged : {A : Type 0} (F : Format A) → Lawful F → F .width ≡ 74 → (k : Kind) → length (nameText k) ≡ 6 → T (printed (nameText k)) → (wrap : A → Record)
+back-judged : {A : Type 0} (F : Format A) → Lawful F 6 → F .width ≡ 74 → (k : Kind) → length (nameText k) ≡ 6 → T (printed (nameText k)) → (wrap : A → Record)
     → ((l : List ℕ) → readingOf k l ≡ judged (F .fault l 6) (wrap (F .value l 6)))
     → (a : A) → F .ok a ≡ true → readLine (nameText k ++ F .text a) ≡ Read (wrap a)
 unfolding readLine judged

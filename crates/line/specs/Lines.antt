@@ -1,7 +1,7 @@
 -- A line by itself: the record that it reads to, and the line that a record is written as.
-use Rattle.ascii.specs.Library.{ℕ, List, _++_, Bool, true, false, length, eqb, pick}
+use Rattle.ascii.specs.Library.{ℕ, List, [], _++_, Bool, true, false, length, eqb, pick, either}
 use Rattle.columns.specs.Columns.{cleanAt}
-use Rattle.fields.specs.Format.{Format, noneF, after}
+use Rattle.fields.specs.Format.{Field, Format, noneF, after}
 use Rattle.kinds.specs.declared.{Kind.Kind}
 use Rattle.kinds.specs.declared.Kind.the-variants.{Atom, Hetatm, Ter, Helix, Sheet, Conect, Master, End, Model, Endmdl}
 use Rattle.kinds.specs.Kinds.{lineWith, is, kindOf}
@@ -13,7 +13,8 @@ use Rattle.conect.specs.Conects.{conectF}
 use Rattle.master.specs.Masters.{masterF}
 use Rattle.model.specs.Models.{modelF}
 use Rattle.words.specs.Words.{bytesOf}
-use Rattle.line.specs.declared.{Record.Record, Reading.Reading, Reading.the-variants.Typed, Reading.the-variants.Wrong, Reading.the-variants.Untyped, Answer.Answer, Answer.the-variants.Read, Answer.the-variants.Refused}
+use Rattle.line.specs.declared.{Record.Record, Reading.Reading, Reading.the-variants.Typed, Reading.the-variants.Wrong, Reading.the-variants.Untyped, Answer.Answer}
+use Rattle.line.specs.declared.Answer.the-variants as answer
 use Rattle.line.specs.declared.Record.the-variants as rec
 
 -- END and ENDMDL: columns 7 to 80 are blank
@@ -43,20 +44,39 @@ readingOf k l =
     (pick (is Endmdl k) (judged (bareF .fault l 6) rec.Endmdl)
     Untyped)))))))))
 
--- 4: a name that is unknown or carried; 6: a field or blank column wrong
+-- 4: a name that is unknown or carried; 6: a field or blank column wrong, with the first column of the leftmost one
 abbrev pub answerOf : Reading → Answer
-answerOf (Typed r) = Read r
-answerOf (Wrong column) = Refused 6
-answerOf Untyped = Refused 4
+answerOf (Typed r) = answer.Read r
+answerOf (Wrong column) = answer.Wrong column
+answerOf Untyped = answer.Refused 4
 
 -- reading one line: 1 where it has not 80 columns, 3 where one is outside 32-126, then 4, then 6
 unfoldable pub readLine : List ℕ → Answer
-readLine l = pick (eqb (length l) 80) (pick (cleanAt l 0 80) (answerOf (readingOf (kindOf l) l)) (Refused 3)) (Refused 1)
+readLine l = pick (eqb (length l) 80) (pick (cleanAt l 0 80) (answerOf (readingOf (kindOf l) l)) (answer.Refused 3)) (answer.Refused 1)
 
--- the number of an answer
+-- the number of an answer, and its column: 0 where the number is not 6
 abbrev pub answerNumber : Answer → ℕ
-answerNumber (Read r) = 0
-answerNumber (Refused n) = n
+answerNumber (answer.Read r) = 0
+answerNumber (answer.Refused n) = n
+answerNumber (answer.Wrong column) = 6
+
+abbrev pub answerColumn : Answer → ℕ
+answerColumn (answer.Read r) = 0
+answerColumn (answer.Refused n) = 0
+answerColumn (answer.Wrong column) = column
+
+-- the fields of a line of 80 columns, columns 7 to 80, by its kind
+unfoldable pub fieldsOf : Kind → List ℕ → List Field
+fieldsOf k l =
+    pick (either (is Atom k) (is Hetatm k)) (atomF .fields l 6)
+    (pick (is Ter k) (terF .fields l 6)
+    (pick (is Helix k) (helixF .fields l 6)
+    (pick (is Sheet k) (sheetF .fields l 6)
+    (pick (is Conect k) (conectF .fields l 6)
+    (pick (is Master k) (masterF .fields l 6)
+    (pick (is Model k) (modelF .fields l 6)
+    (pick (either (is End k) (is Endmdl k)) (bareF .fields l 6)
+    [])))))))
 
 -- whether each field of a record is within its range, and the 80 bytes that it is written as
 abbrev pub formOf : Record → (Bool × List ℕ)

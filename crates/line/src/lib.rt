@@ -19,7 +19,7 @@ ghost use Rattle.conect.specs.Conects.{conectF};
 ghost use Rattle.master.specs.Masters.{masterF};
 ghost use Rattle.model.specs.Models.{modelF};
 ghost use Rattle.line.specs.declared.Record.the-variants as rec;
-ghost use Rattle.line.specs.Lines.{bareF, bareLine, judged, readingOf, answerOf, readLine, recordOk, recordLine};
+ghost use Rattle.line.specs.Lines.{bareF, bareLine, judged, readingOf, answerOf, readLine, answerNumber, answerColumn, recordOk, recordLine};
 
 // The record of a typed line.
 pub enum Record {
@@ -48,9 +48,12 @@ pub enum Answer {
     Read(Record),
     // The number of the refusal.
     Refused(u8),
+    // 6, and the first column of the leftmost wrong field.
+    Wrong(u32),
 }
 
-// Reads one line: 1 where it has not 80 columns, 3 where one is outside 32-126, 4 for a name that is unknown or carried, 6 for a wrong field.
+// Reads one line: 1 where it has not 80 columns, 3 where one is outside 32-126, 4 for a name that is unknown or carried, 6 for a wrong field, with
+// its column.
 pub fn read_line(line: &[u8]) -> Answer
     ensures { λ r. ⌜ r ≡ readLine (now (line .entry)) ⌝ }
 {
@@ -61,6 +64,27 @@ pub fn read_line(line: &[u8]) -> Answer
         return Answer::Refused(3);
     }
     Answer::Refused(1)
+}
+
+// The number of an answer, and its column: 0 where the number is not 6.
+pub fn answer_number(a: Answer) -> u8
+    ensures { λ n. ⌜ n ≡ answerNumber a ⌝ }
+{
+    match a {
+        Answer::Read(_) => 0,
+        Answer::Refused(n) => n,
+        Answer::Wrong(_) => 6,
+    }
+}
+
+pub fn answer_column(a: Answer) -> u32
+    ensures { λ c. ⌜ c ≡ answerColumn a ⌝ }
+{
+    match a {
+        Answer::Read(_) => 0,
+        Answer::Refused(_) => 0,
+        Answer::Wrong(column) => column,
+    }
 }
 
 // Writes the line of a record, 80 bytes: 0; or leaves all as found: 6 where a field is out of its range, 17 where there is no room.
@@ -105,7 +129,7 @@ fn answered(r: Reading) -> Answer
 {
     match r {
         Reading::Typed(x) => Answer::Read(x),
-        Reading::Wrong(_) => Answer::Refused(6),
+        Reading::Wrong(column) => Answer::Wrong(column),
         Reading::Untyped => Answer::Refused(4),
     }
 }

@@ -9,10 +9,10 @@ use Rattle.master.specs.declared.Shape.{Shape}
 use Rattle.master.specs.declared.Atoms.{Atoms}
 use Rattle.master.specs.declared.Tally.{Tally}
 
-count : Lawful countF
+count : {begin : ℕ} → Lawful countF begin
 count = whole-lawful 5 0 99999 tt
 
-nil : Lawful nilF
+nil : {begin : ℕ} → Lawful nilF begin
 nil = fixed-lawful 5 0 tt
 
 abbrev toNotes : (ℕ × (Unit {0} × (ℕ × ℕ))) → Notes
@@ -21,7 +21,7 @@ toNotes = λ (remark, (nil, (het, helix))). record { remark = remark; het = het;
 abbrev fromNotes : Notes → (ℕ × (Unit {0} × (ℕ × ℕ)))
 fromNotes n = (n .remark, (tt, (n .het, n .helix)))
 
-notes-lawful : Lawful notesF
+notes-lawful : {begin : ℕ} → Lawful notesF begin
 unfolding notesColumns
 notes-lawful = held-lawful toNotes fromNotes (λ n. refl) (λ f. refl) (then-lawful count (then-lawful nil (then-lawful count count)))
 
@@ -31,7 +31,7 @@ toShape = λ (sheet, (turns, (sites, xform))). record { sheet = sheet; xform = x
 abbrev fromShape : Shape → (ℕ × (Unit {0} × (Unit {0} × ℕ)))
 fromShape s = (s .sheet, (tt, (tt, s .xform)))
 
-shape-lawful : Lawful shapeF
+shape-lawful : {begin : ℕ} → Lawful shapeF begin
 unfolding shapeColumns
 shape-lawful = held-lawful toShape fromShape (λ s. refl) (λ f. refl) (then-lawful count (then-lawful nil (then-lawful nil count)))
 
@@ -41,7 +41,7 @@ toAtoms = λ (coord, (ter, (conect, seq))). record { coord = coord; ter = ter; c
 abbrev fromAtoms : Atoms → (ℕ × (ℕ × (ℕ × ℕ)))
 fromAtoms a = (a .coord, (a .ter, (a .conect, a .seq)))
 
-atoms-lawful : Lawful atomsF
+atoms-lawful : {begin : ℕ} → Lawful atomsF begin
 unfolding atomsColumns
 atoms-lawful = held-lawful toAtoms fromAtoms (λ a. refl) (λ f. refl) (then-lawful count (then-lawful count (then-lawful count count)))
 
@@ -65,7 +65,7 @@ fromTally t = (
   (record { sheet = t .sheet; xform = t .xform }, (record { coord = t .coord; ter = t .ter; conect = t .conect; seq = t .seq }, tt)),
 )
 
-pub master-lawful : Lawful masterF
+pub master-lawful : Lawful masterF 6
 unfolding masterColumns
 master-lawful =
     held-lawful toTally fromTally (λ t. refl) (λ f. refl)

@@ -11,7 +11,7 @@ to = λ (number, none). record { number = number }
 abbrev from : Model → (ℕ × Unit {0})
 from m = (m .number, tt)
 
-pub model-lawful : Lawful modelF
+pub model-lawful : Lawful modelF 6
 unfolding modelColumns
 model-lawful =
     held-lawful to from (λ m. refl) (λ f. refl)

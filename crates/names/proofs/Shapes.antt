@@ -38,13 +38,13 @@ module _ (l : List ℕ) (at : ℕ) where
   byte0 : (n : ℕ) (x : List ℕ) → 0 < n → cols l at n ≡ x → getD l at 0 ≡ getD x 0 0
   byte0 n x h q = ap (λ i. getD l i 0) (sym (add-zero at)) ∙ byte n 0 x h q
 
-pub byte-lawful : (test : ℕ → Bool) → ((b : ℕ) → test b ≡ true → Fine b) → Lawful (byteF test)
+pub byte-lawful : {begin : ℕ} (test : ℕ → Bool) → ((b : ℕ) → test b ≡ true → Fine b) → Lawful (byteF test) begin
 byte-lawful test clean =
     raw-lawful 1 (λ l at. getD l at 0) (λ b. b ∷ []) test
     (record { long = λ b. refl; there = λ l at h. sym (one l at h); same = λ l at b q. byte0 l at 1 (b ∷ []) (lit< tt) q })
     (λ b k. (clean b k, tt))
 
-pub pair-lawful : (test : Pair → Bool) → ((p : Pair) → test p ≡ true → Fine (p .a) × Fine (p .b)) → Lawful (pairF test)
+pub pair-lawful : {begin : ℕ} (test : Pair → Bool) → ((p : Pair) → test p ≡ true → Fine (p .a) × Fine (p .b)) → Lawful (pairF test) begin
 pair-lawful test clean =
     raw-lawful 2 pairAt (λ p. p .a ∷ p .b ∷ []) test
     (record {
@@ -54,7 +54,7 @@ pair-lawful test clean =
     })
     (λ p k. let x = clean p k in (x .0, (x .1, tt)))
 
-pub three-lawful : (test : Three → Bool) → ((p : Three) → test p ≡ true → Fine (p .a) × Fine (p .b) × Fine (p .c)) → Lawful (threeF test)
+pub three-lawful : {begin : ℕ} (test : Three → Bool) → ((p : Three) → test p ≡ true → Fine (p .a) × Fine (p .b) × Fine (p .c)) → Lawful (threeF test) begin
 three-lawful test clean =
     raw-lawful 3 threeAt (λ p. p .a ∷ p .b ∷ p .c ∷ []) test
     (record {
@@ -66,7 +66,7 @@ three-lawful test clean =
     })
     (λ p k. let x = clean p k in (x .0, (x .1, (x .2, tt))))
 
-pub four-lawful : (test : Four → Bool) → ((p : Four) → test p ≡ true → Fine (p .a) × Fine (p .b) × Fine (p .c) × Fine (p .d)) → Lawful (fourF test)
+pub four-lawful : {begin : ℕ} (test : Four → Bool) → ((p : Four) → test p ≡ true → Fine (p .a) × Fine (p .b) × Fine (p .c) × Fine (p .d)) → Lawful (fourF test) begin
 four-lawful test clean =
     raw-lawful 4 fourAt (λ p. p .a ∷ p .b ∷ p .c ∷ p .d ∷ []) test
     (record {

@@ -1,5 +1,5 @@
 -- What the report program answers for its input, and the lines that it prints of an answer.
-use Rattle.ascii.specs.Library.{ℕ, String, List, [], _∷_, _++_, map, getD, drop, ltb, length, bytes, pick}
+use Rattle.ascii.specs.Library.{ℕ, String, List, [], _∷_, _++_, map, getD, take, drop, ltb, length, bytes, pick}
 use Rattle.places.specs.Counts.{noCounts}
 use Rattle.gate.specs.declared.{Verdict.Verdict}
 use Rattle.gate.specs.Gate.{checkOf}
@@ -11,7 +11,7 @@ mostBytes = 65529
 
 -- 20 above that, and all other values 0; else the answer of the check
 unfoldable pub reportOf : List ℕ → Verdict
-reportOf t = pick (ltb mostBytes (length t)) (record { number = 20; line = 0; good = 0; counts = noCounts }) (checkOf t)
+reportOf t = pick (ltb mostBytes (length t)) (record { number = 20; line = 0; column = 0; good = 0; counts = noCounts }) (checkOf t)
 
 -- ---- the lines
 -- a line of the report: its key, and which number of an answer stands behind it
@@ -27,6 +27,7 @@ abbrev pub listing : List Listed
 listing =
     listed "verdict=" (λ v. v .number)
     ∷ listed "line=" (λ v. v .line)
+    ∷ listed "column=" (λ v. v .column)
     ∷ listed "lines=" (λ v. v .good)
     ∷ listed "remark=" (λ v. v .counts .remark)
     ∷ listed "het=" (λ v. v .counts .het)
@@ -42,6 +43,10 @@ listing =
 -- the numbers of an answer, in that order; C is answered them so too
 abbrev pub numbersOf : Verdict → List ℕ
 numbersOf v = map (λ l. l .number v) listing
+
+-- the same without the column
+abbrev pub plainNumbersOf : Verdict → List ℕ
+plainNumbersOf v = take 2 (numbersOf v) ++ drop 3 (numbersOf v)
 
 -- what stands before each number
 abbrev pub keys : List (List ℕ)

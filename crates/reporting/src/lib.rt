@@ -3,10 +3,10 @@ use gate::Verdict;
 ghost use Prim.Native.Nat.{_<_, _≤_};
 ghost use mathlib.Core.Path.{_≡_};
 ghost use lib.ListN.{length, take};
-ghost use Rattle.reporting.specs.Report.{reportOf, numbersOf, keys, keyOf};
+ghost use Rattle.reporting.specs.Report.{reportOf, numbersOf, plainNumbersOf, keys, keyOf};
 
 // The lines of the report.
-pub const LINES: usize = 12;
+pub const LINES: usize = 13;
 
 // A text of up to eight bytes, and how many it has.
 pub struct Label(pub [u8; 8], pub usize);
@@ -19,6 +19,7 @@ pub fn report_on(text: &[u8]) -> Verdict
         return Verdict {
             number: 20,
             line: 0,
+            column: 0,
             good: 0,
             counts: places::no_counts(),
         };
@@ -26,17 +27,19 @@ pub fn report_on(text: &[u8]) -> Verdict
     gate::check(text)
 }
 
-// Number, offending line, good lines, then the nine counts.
+// Number, offending line, column, good lines, then the nine counts.
 pub fn numbers(v: Verdict) -> [u64; LINES]
     ensures { λ r. ⌜ r ≡ numbersOf v ⌝ }
 {
     let number = v.number as u64;
     let line = v.line;
+    let column = v.column as u64;
     let good = v.good;
     let c = v.counts;
     [
         number,
         line,
+        column,
         good,
         c.remark,
         c.het,
@@ -50,9 +53,34 @@ pub fn numbers(v: Verdict) -> [u64; LINES]
     ]
 }
 
+// The same without the column.
+pub fn plain_numbers(v: Verdict) -> [u64; 12]
+    ensures { λ r. ⌜ r ≡ plainNumbersOf v ⌝ }
+{
+    let number = v.number as u64;
+    let offending = v.line;
+    let lines = v.good;
+    let counts = v.counts;
+    [
+        number,
+        offending,
+        lines,
+        counts.remark,
+        counts.het,
+        counts.helix,
+        counts.sheet,
+        counts.xform,
+        counts.coord,
+        counts.ter,
+        counts.conect,
+        counts.seq,
+    ]
+}
+
 const KEYS: [Label; LINES] = [
     Label(*b"verdict=", 8),
     Label(*b"line=   ", 5),
+    Label(*b"column= ", 7),
     Label(*b"lines=  ", 6),
     Label(*b"remark= ", 7),
     Label(*b"het=    ", 4),

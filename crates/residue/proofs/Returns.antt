@@ -2,6 +2,7 @@
 use mathlib.Core.Path.{_≡_, refl, _∙_, subst}
 use mathlib.Core.List.{List, [], _∷_}
 use mathlib.Core.Bool.{Bool}
+use mathlib.Core.Logic.{inl, inr}
 use Prim.Native.Nat.{ℕ, _+_}
 use native.Mathlib.Omega.{arith}
 use lib.ListN.{getD}
@@ -21,6 +22,8 @@ use Rattle.names.specs.Names.{threeAt, sameThree, isResidue, isChain, isInserti
 use Rattle.residue.specs.Residues.{sameResidue, residueF, residueColumns}
 use Rattle.residue.specs.declared.Residue.{Residue}
 use Rattle.fields.proofs.Formats.{Lawful, shut-lawful, then-lawful, after-lawful, held-lawful, integer-lawful}
+use Rattle.fields.proofs.Sides.{HasColumn, has-right}
+use Rattle.fields.specs.Format.{blankFields}
 use Rattle.names.proofs.Shapes.{byte-lawful, three-lawful}
 use Rattle.names.proofs.Classes.{chain-fine, insertion-fine, residue-fine}
 
@@ -81,7 +84,7 @@ to = λ (name, (chain, (number, insertion))). record { name = name; chain = chai
 abbrev from : Residue → (Three × (ℕ × (ℤ × ℕ)))
 from r = (r .name, (r .chain, (r .number .0, r .insertion)))
 
-pub residue-lawful : (gap : ℕ) → Lawful (residueF gap)
+pub residue-lawful : {begin : ℕ} (gap : ℕ) → Lawful (residueF gap) begin
 unfolding residueColumns
 residue-lawful gap =
     shut-lawful (sum gap)
@@ -90,6 +93,11 @@ residue-lawful gap =
     (after-lawful 1
     (then-lawful (byte-lawful isChain chain-fine)
     (after-lawful gap (then-lawful (integer-lawful 4 999 9999 refl refl) (byte-lawful isInsertion insertion-fine)))))))
+
+-- its chain is a field
+pub chain-field : (gap at : ℕ) (l : List ℕ) → HasColumn (at + 3 + 1 + 1) (residueF gap .fields l at)
+unfolding residueColumns HasColumn
+chain-field gap at l = inr (has-right (at + 3 + 1 + 1) (blankFields l (at + 3) 1) _ (inl refl))
 
 pub equals : (a b : Residue) (name number rest tail r : Bool) → SFits w32 (a .number .0) → SFits w32 (b .number .0)
     → name ≡ sameThree (a .name) (b .name) → number ≡ sameInteger (toZ w32 (ofZ w32 (a .number .0))) (toZ w32 (ofZ w32 (b .number .0)))

@@ -9,8 +9,8 @@ ghost use mathlib.Core.Path.{_≡_};
 ghost use mathlib.Core.Bool.{false, not};
 ghost use lib.Dec.{eqb};
 ghost use Rattle.gate.specs.Gate.{checkOf};
-ghost use Rattle.reporting.specs.Report.{numbersOf};
-ghost use Rattle.line.specs.Lines.{readLine};
+ghost use Rattle.reporting.specs.Report.{numbersOf, plainNumbersOf};
+ghost use Rattle.line.specs.Lines.{readLine, answerNumber, answerColumn};
 ghost use Rattle.slots.specs.Slots.{slotLine};
 ghost use Rattle.table.specs.Table.{told, loadOf, orderOf, fragmentsOf, arrangeOf};
 ghost use Rattle.table.specs.Deal.{saveOf, trayOf};
@@ -23,6 +23,17 @@ ghost use Rattle.answers.specs.Boundary.{answered, fragmentNumber, asideOf, slo
 // The check of a text: 0, 1-12.
 #[no_mangle]
 pub extern "C" fn station_check(text: &[u8], answer: &mut [u64; 12]) -> u32
+    ensures { λ r. ⌜ r ≡ checkOf (now (text .entry)) .number ⌝ }
+    ensures { λ r. ⌜ now (answer .exit) ≡ plainNumbersOf (checkOf (now (text .entry))) ⌝ }
+{
+    let v = gate::check(text);
+    *answer = reporting::plain_numbers(v);
+    v.number as u32
+}
+
+// The same with the column, 0 where the number is not 6.
+#[no_mangle]
+pub extern "C" fn station_verdict(text: &[u8], answer: &mut [u64; 13]) -> u32
     ensures { λ r. ⌜ r ≡ checkOf (now (text .entry)) .number ⌝ }
     ensures { λ r. ⌜ now (answer .exit) ≡ numbersOf (checkOf (now (text .entry))) ⌝ }
 {
@@ -127,6 +138,17 @@ pub extern "C" fn station_slot_of_line(line: &[u8], slot: &mut Slot) -> u32
     answers::filled_number(f)
 }
 
+// Reads one typed line by itself: 0; or 1, 3, 4, 6; and the column, 0 where the number is not 6.
+#[no_mangle]
+pub extern "C" fn station_read_line(line: &[u8], column: &mut u64) -> u32
+    ensures { λ r. ⌜ r ≡ answerNumber (readLine (now (line .entry))) ⌝ }
+    ensures { λ r. ⌜ now (column .exit) ≡ answerColumn (readLine (now (line .entry))) ⌝ }
+{
+    let a = line::read_line(line);
+    *column = line::answer_column(a) as u64;
+    line::answer_number(a) as u32
+}
+
 // Reads one typed line and writes its record, which is the line again: 0; or 1, 3, 4, 6, 17 and all as found.
 #[no_mangle]
 pub extern "C" fn station_rewrite_line(line: &[u8], out: &mut [u8]) -> u32
@@ -135,6 +157,7 @@ pub extern "C" fn station_rewrite_line(line: &[u8], out: &mut [u8]) -> u32
     match line::read_line(line) {
         Answer::Read(x) => line::write_record(out, x) as u32,
         Answer::Refused(n) => n as u32,
+        Answer::Wrong(_) => 6,
     }
 }
 

@@ -23,21 +23,21 @@ abbrev pub Fine : List Line → State → List Line → Type 0
 Fine seen s [] = s .place ≡ endPlace
 Fine seen s (l ∷ ls) = Plain l × (numberIn seen s l ≡ 0) × Fine (l ∷ seen) (nextOf s l) ls
 
-end-place : (s : State) (v : Verdict) (b : Bool) → eqb (s .place) endPlace ≡ b → pick b v (refusedOf 12 s) .number ≡ 0 → s .place ≡ endPlace
+end-place : (s : State) (v : Verdict) (b : Bool) → eqb (s .place) endPlace ≡ b → pick b v (refusedOf 12 0 s) .number ≡ 0 → s .place ≡ endPlace
 unfolding refusedOf
 end-place s v true e q = eqb-true _ _ e
 end-place s v false e q = absurd (omega arith)
 
-step-good : (j : ℕ) (v : Verdict) (s : State) (b : Bool) → eqb j 0 ≡ b → pick b v (refusedOf j s) .number ≡ 0 → (j ≡ 0) × (v .number ≡ 0)
+step-good : (j c : ℕ) (v : Verdict) (s : State) (b : Bool) → eqb j 0 ≡ b → pick b v (refusedOf j c s) .number ≡ 0 → (j ≡ 0) × (v .number ≡ 0)
 unfolding refusedOf
-step-good j v s true e q = (eqb-true _ _ e, q)
-step-good j v s false e q = absurd (eqb-false j 0 e q)
+step-good j c v s true e q = (eqb-true _ _ e, q)
+step-good j c v s false e q = absurd (eqb-false j 0 e q)
 
 granted-fine : (seen : List Line) (s : State) (ps : List (List ℕ)) → checkLines seen s (map lineOf ps) .number ≡ 0 → Fine seen s (map lineOf ps)
 unfolding checkLines finishOf
 granted-fine seen s [] e = end-place s _ (eqb (s .place) endPlace) refl e
 granted-fine seen s (p ∷ ps) e =
-    let g = step-good (numberIn seen s (lineOf p)) _ s _ refl e in
+    let g = step-good (numberIn seen s (lineOf p)) _ _ s _ refl e in
     (piece-plain p, g .0, granted-fine (lineOf p ∷ seen) (nextOf s (lineOf p)) ps (g .1))
 
 pub accepted-fine : (t : List ℕ) → checkOf t .number ≡ 0 → Fine [] startOf (map lineOf (cut t))

@@ -13,7 +13,7 @@ to = λ (serial, (residue, none)). record { serial = record { 0 = serial }; resi
 abbrev from : Ter → (ℕ × (Residue × Unit {0}))
 from t = (t .serial .0, (t .residue, tt))
 
-pub ter-lawful : Lawful terF
+pub ter-lawful : Lawful terF 6
 unfolding terColumns
 ter-lawful =
     held-lawful to from (λ t. refl) (λ f. refl)

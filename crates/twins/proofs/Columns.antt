@@ -58,7 +58,7 @@ residue-fault l e =
 atom-home : (l : List ℕ) → 80 ≤ length l → atomF .fault l 6 ≡ 0 → wordAt l 21 6 ≡ homeOf ((atomF .value l 6) .identity .residue)
 unfolding homeOf atomColumns identityColumns
 atom-home l h e =
-    let k = residue-lawful 0 .kept l 17 (omega arith) (residue-fault l e) .0 in
+    let k = residue-lawful {begin = 17} 0 .kept l 17 (omega arith) (residue-fault l e) .0 in
     word-cols l 17 10 4 6 (omega arith) ∙ ap (λ (x : List ℕ). wordAt x 4 6) (sym k)
 
 atom-body : (l : List ℕ) → wordAt l 12 8 ≡ bodyOf ((atomF .value l 6) .identity)

@@ -12,7 +12,8 @@ use Rattle.ascii.proofs.Clean.{Clean, clean-append}
 use Rattle.columns.specs.Columns.{cols, cleanAt}
 use Rattle.columns.proofs.Faults.{blame-none, blame-good}
 use Rattle.columns.proofs.Spans.{cols-suc, cols-init, cols-last}
-use Rattle.fields.proofs.Formats.{Lawful}
+use Rattle.fields.proofs.Sides.{blame-first}
+use Rattle.fields.proofs.Formats.{Lawful, single-lawful}
 use Rattle.words.specs.Words.{wordAt, bytesOf, cleanOf, wordF}
 
 pub bytes-length : (n v : ℕ) → length (bytesOf n v) ≡ n
@@ -52,11 +53,13 @@ word-kept l at (suc n) h k =
     let m : (256 * wordAt l at n + getD l (at + n) 0) % 256 ≡ getD l (at + n) 0 = omega arith in
     rw (d, m) (ap (λ y. y ++ (getD l (at + n) 0 ∷ [])) (x .0) ∙ sym (cols-suc l at n h), both-join _ _ (x .1) (w .1))
 
-pub word-lawful : (n : ℕ) → Lawful (wordF n)
+pub word-lawful : {begin : ℕ} (n : ℕ) → Lawful (wordF n) begin
 word-lawful n =
-    record {
+    single-lawful (record {
       long = bytes-length n;
       clean = word-clean n;
       back = λ l at v k q. let x = word-back l at n v k q in (blame-good _ at (x .0), x .1);
       kept = λ l at h q. word-kept l at n h (blame-none _ at q);
-    }
+      first = λ l at. blame-first (cleanAt l at n) at;
+      alone = λ l at. refl;
+    })

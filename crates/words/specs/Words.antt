@@ -1,7 +1,7 @@
 -- Free text held as one number: its bytes to the base 256.
 use Rattle.ascii.specs.Library.{ℕ, zero, suc, _+_, _*_, _/_, _%_, List, [], _∷_, _++_, Bool, getD, eqb, byte, both, between}
 use Rattle.columns.specs.Columns.{blame, cleanAt}
-use Rattle.fields.specs.Format.{Format}
+use Rattle.fields.specs.Format.{Format, sole}
 
 -- the word in n columns from index `at`
 unfoldable pub wordAt : List ℕ → ℕ → ℕ → ℕ
@@ -20,4 +20,4 @@ cleanOf (suc n) v = both (cleanOf n (v / 256)) (between (byte " ") (byte "~") (v
 
 -- n free columns
 abbrev pub wordF : ℕ → Format ℕ
-wordF n = record { width = n; fault = λ l at. blame (cleanAt l at n) at; value = λ l at. wordAt l at n; text = bytesOf n; ok = cleanOf n }
+wordF n = sole n (λ l at. blame (cleanAt l at n) at) (λ l at. wordAt l at n) (bytesOf n) (cleanOf n)

@@ -11,6 +11,8 @@ use Rattle.kinds.specs.Kinds.{kindNamed, kindOf}
 use Rattle.residue.specs.Residues.{residueColumns, sameResidue}
 use Rattle.coordinate.specs.Atoms.{positionColumns, identityColumns, measureColumns, speciesColumns, leadsElement, atomColumns}
 use Rattle.ter.specs.Ters.{terColumns}
+use Rattle.helix.specs.Helices.{extentColumns, commentColumns, helixColumns}
+use Rattle.sheet.specs.Sheets.{isSense, senseFits, bondColumns, registrationColumns, strandColumns, sheetColumns}
 use Rattle.conect.specs.Conects.{partnerColumns, differs, unbroken, conectColumns, serialsColumns, partnersColumns}
 use Rattle.master.specs.Masters.{notesColumns, shapeColumns, atomsColumns, masterColumns}
 use Rattle.model.specs.Models.{modelColumns}
@@ -36,7 +38,7 @@ use Rattle.worked.specs.Texts.{nitrogenLine, nitrogenRecord, shortest, b
 use Rattle.worked.specs.Worked.{Worked, loaded, ordered, first, firstAndThird}
 
 pub worked : Worked
-unfolding nitrogenLine nitrogenRecord shortest beyond twice again alternates entry rest modelLine twofold models oneGone bothGone loaded ordered first firstAndThird both either between same firstOf blankAt gapOf cleanAt blame blamedOf leftmost blanks endsDigit leadOf furtherOf grownOf numberOf leader render signedOf isNeg wholeIn integerIn elements indexOf atomicOf wordAt kindNamed kindOf residueColumns positionColumns identityColumns measureColumns speciesColumns leadsElement atomColumns terColumns partnerColumns differs unbroken conectColumns serialsColumns partnersColumns notesColumns shapeColumns atomsColumns masterColumns modelColumns judged readingOf readLine columnsOf lineOf placeBad fenceBad raised sameCounts sameThree sameResidue siteBad closeBad siteNext unfinished typedBad judgeOf startOf carriedNext typedNext nextOf cutAtMost cut someOf front sameAtom refusedOf finishOf checkLines checkOf samePair sameFour samePosition sameMeasures sameNames sameSlot withMark joins stepTail tailOf markOf marked linesFrom slotsOf fits fitsFrom belongs tableOf orderOf ordersOf isIn standsIn stays counted masterPiece written share dealt outputOf boundsFrom takenIn isDrawn widened lower higher framedOf exactly
+unfolding nitrogenLine nitrogenRecord shortest beyond twice again alternates entry rest modelLine twofold models oneGone bothGone loaded ordered first firstAndThird both either between same firstOf blankAt gapOf cleanAt blame blamedOf leftmost blanks endsDigit leadOf furtherOf grownOf numberOf leader render signedOf isNeg wholeIn integerIn elements indexOf atomicOf wordAt kindNamed kindOf residueColumns positionColumns identityColumns measureColumns speciesColumns leadsElement atomColumns terColumns extentColumns commentColumns helixColumns isSense senseFits bondColumns registrationColumns strandColumns sheetColumns partnerColumns differs unbroken conectColumns serialsColumns partnersColumns notesColumns shapeColumns atomsColumns masterColumns modelColumns judged readingOf readLine columnsOf lineOf placeBad fenceBad raised sameCounts sameThree sameResidue siteBad closeBad siteNext unfinished typedBad judgeOf startOf carriedNext typedNext nextOf cutAtMost cut someOf front sameAtom refusedOf finishOf checkLines checkOf samePair sameFour samePosition sameMeasures sameNames sameSlot withMark joins stepTail tailOf markOf marked linesFrom slotsOf fits fitsFrom belongs tableOf orderOf ordersOf isIn standsIn stays counted masterPiece written share dealt outputOf boundsFrom takenIn isDrawn widened lower higher framedOf exactly
 worked =
     record {
       atom = refl;
@@ -49,6 +51,27 @@ worked =
       overfull = refl;
       last-serial = refl;
       zeroth-serial = refl;
+      column-x = refl;
+      column-zeros = refl;
+      column-left = refl;
+      column-point = refl;
+      column-occupancy = refl;
+      column-serial = refl;
+      column-two = refl;
+      column-blank = refl;
+      column-name = refl;
+      column-element = refl;
+      column-itself = refl;
+      column-first = refl;
+      column-gap = refl;
+      column-chain = refl;
+      column-sense = refl;
+      column-bond = refl;
+      column-partly = refl;
+      column-fixed = refl;
+      column-end = refl;
+      column-told = refl;
+      column-place = refl;
       empty = refl;
       same-serial = (refl, refl);
       same-atom = (refl, refl);

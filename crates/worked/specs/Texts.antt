@@ -1,5 +1,5 @@
 -- The lines, texts and slots of the worked examples.
-use Rattle.ascii.specs.Library.{ℕ, _-_, String, List, [], _∷_, _++_, ℤ, pos, negsuc, length, byte, bytes}
+use Rattle.ascii.specs.Library.{ℕ, _+_, _-_, String, List, [], _∷_, _++_, ℤ, pos, negsuc, length, take, drop, byte, bytes}
 use Rattle.columns.specs.Columns.{blanks}
 use Rattle.fields.specs.declared.{Whole.Whole, Signed.Signed}
 use Rattle.fields.specs.Field.{rangedNumber, signedNumber}
@@ -43,6 +43,14 @@ nitrogenRecord =
       measure = record { position = record { x = pos 11281; y = pos 86699; z = pos 94383 }; occupancy = 50; temperature = pos 3588 };
       species = record { element = record { a = byte " "; b = byte "N" }; charge = record { a = byte " "; b = byte " " } };
     }
+
+-- the ATOM line with other bytes from column c on
+abbrev pub nitrogenWith : ℕ → String → List ℕ
+nitrogenWith c s = take (c - 1) nitrogenLine ++ (bytes s ++ drop (c - 1 + length (bytes s)) nitrogenLine)
+
+-- a line, filled up with blanks
+abbrev pub columnsWith : String → List ℕ
+columnsWith s = bytes s ++ blanks (80 - length (bytes s))
 
 -- ---- texts
 -- lines, each filled up with blanks to 80 columns and closed by a newline

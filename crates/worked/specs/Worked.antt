@@ -1,7 +1,7 @@
 -- The worked examples of the format: one list, one statement. It is proved in proofs/Worked.antt.
-use Rattle.ascii.specs.Library.{ℕ, String, List, [], _∷_, map, true, false, _≡_, pos, negsuc}
+use Rattle.ascii.specs.Library.{ℕ, String, List, [], _∷_, _++_, map, true, false, _≡_, pos, negsuc, bytes}
 use Rattle.line.specs.declared.{Record.the-variants.Coordinate, Record.the-variants.Model, Answer.the-variants.Read}
-use Rattle.line.specs.Lines.{readLine, recordLine}
+use Rattle.line.specs.Lines.{readLine, answerNumber, answerColumn, recordLine}
 use Rattle.places.specs.Counts.{noCounts}
 use Rattle.gate.specs.Gate.{checkOf}
 use Rattle.slots.specs.declared.{Slot.Slot}
@@ -10,7 +10,7 @@ use Rattle.table.specs.Deal.{outputOf}
 use Rattle.feed.specs.declared.{Framed.the-variants.Around}
 use Rattle.feed.specs.Exact.{whole, half}
 use Rattle.feed.specs.Frame.{frameOf}
-use Rattle.worked.specs.Texts.{coordinate, occupancy, serial, nitrogenLine, nitrogenRecord, textOf, zeros, shortest, beyond, twice, again, alternates, chain, water7, entry, rest, model1, model2, endmdl, modelLine, twofold, inner7, innerBond, models, oneGone, bothGone, slotAt}
+use Rattle.worked.specs.Texts.{coordinate, occupancy, serial, nitrogenLine, nitrogenRecord, nitrogenWith, columnsWith, textOf, zeros, shortest, beyond, twice, again, alternates, chain, water7, entry, rest, model1, model2, endmdl, modelLine, twofold, inner7, innerBond, models, oneGone, bothGone, slotAt}
 
 -- the table of the entry just loaded, and with fragment 2 set aside
 unfoldable pub loaded : List Slot
@@ -30,6 +30,14 @@ first = orderOf models (loadedOf models) (record { 0 = 1 }) true .left
 unfoldable pub firstAndThird : List Slot
 firstAndThird = orderOf models first (record { 0 = 3 }) true .left
 
+-- the number and the column of a line that is read by itself
+abbrev pub blamed : List ℕ → (ℕ × ℕ)
+blamed l = (answerNumber (readLine l), answerColumn (readLine l))
+
+-- number, line and column of a text
+abbrev pub blamedIn : List ℕ → (ℕ × (ℕ × ℕ))
+blamedIn t = (checkOf t .number, (checkOf t .line, checkOf t .column))
+
 pub record Worked : Type 0 where
   -- the ATOM line: x 11281, occupancy 50, number -3
   pub atom : readLine nitrogenLine ≡ Read (Coordinate false nitrogenRecord)
@@ -45,8 +53,34 @@ pub record Worked : Type 0 where
   -- serial
   pub last-serial : serial "99999" ≡ record { column = 0; value = 99999 }
   pub zeroth-serial : serial "    0" .column ≡ 1
+  -- the ATOM line with a wrong field: its column; of two wrong fields the left one's; a blank column's own
+  pub column-x : blamed (nitrogenWith 31 "  -0.000") ≡ (6, 31)
+  pub column-zeros : blamed (nitrogenWith 31 " 011.281") ≡ (6, 31)
+  pub column-left : blamed (nitrogenWith 31 "11.281  ") ≡ (6, 31)
+  pub column-point : blamed (nitrogenWith 31 "    .281") ≡ (6, 31)
+  pub column-occupancy : blamed (nitrogenWith 55 "  1.01") ≡ (6, 55)
+  pub column-serial : blamed (nitrogenWith 7 "    0") ≡ (6, 7)
+  pub column-two : blamed (nitrogenWith 47 "  94.38   0.5") ≡ (6, 47)
+  pub column-blank : blamed (nitrogenWith 12 "X") ≡ (6, 12)
+  pub column-name : blamed (nitrogenWith 13 " N A") ≡ (6, 13)
+  pub column-element : blamed (nitrogenWith 77 "CA") ≡ (6, 77)
+  -- CONECT: the atom itself, a blank first partner, a partner right of a blank one
+  pub column-itself : blamed (columnsWith "CONECT    5    5") ≡ (6, 12)
+  pub column-first : blamed (columnsWith "CONECT    5         6") ≡ (6, 12)
+  pub column-gap : blamed (columnsWith "CONECT    5    6         7") ≡ (6, 22)
+  -- HELIX of two chains; SHEET: the sense of strand 2, the registration of strand 1 and of strand 2
+  pub column-chain : blamed (columnsWith "HELIX    1  HA GLY A   86  GLY B   94  1                                   9") ≡ (6, 32)
+  pub column-sense : blamed (columnsWith "SHEET    2   A 5 THR A 107  ARG A 110  0") ≡ (6, 39)
+  pub column-bond : blamed (columnsWith "SHEET    1   A 5 THR A 107  ARG A 110  0  N") ≡ (6, 43)
+  pub column-partly : blamed (columnsWith "SHEET    2   A 5 THR A 107  ARG A 110 -1        X") ≡ (6, 42)
+  -- MASTER's fixed number; END
+  pub column-fixed : blamed (columnsWith "MASTER        0    1    0    0    0    0    0    0    0    0    0    0") ≡ (6, 16)
+  pub column-end : blamed (columnsWith "END                                                                            X") ≡ (6, 80)
+  -- the check has the column of the line that it refuses with 6, and none at a wrong place
+  pub column-told : blamedIn (textOf ("HEADER" ∷ []) ++ (nitrogenWith 31 "  -0.000" ++ bytes "\n")) ≡ (6, (2, 31))
+  pub column-place : blamedIn (nitrogenWith 31 "  -0.000" ++ bytes "\n") ≡ (5, (1, 0))
   -- an empty text is over before END
-  pub empty : checkOf [] ≡ record { number = 12; line = 1; good = 0; counts = noCounts }
+  pub empty : checkOf [] ≡ record { number = 12; line = 1; column = 0; good = 0; counts = noCounts }
   -- ATOM serials 5, 5
   pub same-serial : (checkOf twice .number ≡ 7) × (checkOf twice .line ≡ 3)
   -- the same atom twice, and with alternate letters blank and A: that text is only over too soon

@@ -2,7 +2,6 @@ use Rattle.conect.proofs.Returns.{reads-column, reads-value}
 use borrow.Author.Needs.{needs}
 use Rattle.conect.proofs.read_conect.Statement.{statement}
 use Rattle.conect.proofs.read_conect.Tie as tie
-use Rattle.conect.proofs.read_conect.Reads as reads
 
 read-whole-requires : tie.Need-read-whole-requires
 read-whole-requires c κs = search needs

@@ -29,11 +29,14 @@ line-at-requires c κs = omega arith
 turn-requires : tie.Need-turn-requires Inv-loop μ-loop
 turn-requires c κs = ((c .before .loop-test .taken, c .line-at .ensures), ((sofar-rising _ _ _ _ (c .before .before .loop .inv .0), sofar-reached _ _ _ _ (c .before .before .loop .inv .0)), (c .before .before .loop .inv .1, (search needs, (omega (arith, c .before .before .loop .inv .0 .lines), omega (arith, c .before .before .loop .inv .0 .within))))))
 
+column-of-requires : tie.Need-column-of-requires Inv-loop μ-loop
+column-of-requires c κs = tt
+
 refused-requires : tie.Need-refused-requires Inv-loop μ-loop
 refused-requires c κs = omega arith
 
 returns : tie.Need-returns Inv-loop μ-loop
-returns c = c .refused .ensures ∙ turn-refused _ _ _ _ (c .before .before .before .before .before .before .loop .inv .0) (c .before .before .before .before .before .loop-test .taken) _ _ (c .before .before .before .before .line-at .ensures) (c .before .before .before .turn .ensures .0 _ _ (c .before .before .before .before .before .before .loop .inv .0 .block) (c .before .before .before .before .before .before .loop .inv .0 .behind)) (c .before .before .if1 .taken)
+returns c = c .refused .ensures ∙ turn-refused _ _ _ _ (c .before .before .before .before .before .before .before .loop .inv .0) (c .before .before .before .before .before .before .loop-test .taken) _ _ (c .before .before .before .before .before .line-at .ensures) (c .before .before .before .before .turn .ensures .0 _ _ (c .before .before .before .before .before .before .before .loop .inv .0 .block) (c .before .before .before .before .before .before .before .loop .inv .0 .behind)) (c .before .before .before .if1 .taken) _ (c .before .column-of .ensures)
 
 add-i : tie.Need-add-i Inv-loop μ-loop
 add-i c = omega arith
@@ -68,6 +71,7 @@ check-spec =
     mul-loop
     line-at-requires
     turn-requires
+    column-of-requires
     refused-requires
     returns
     add-i

@@ -2,7 +2,6 @@ use Rattle.master.proofs.Returns.{reads-column, reads-value}
 use borrow.Author.Needs.{needs}
 use Rattle.master.proofs.read_master.Statement.{statement}
 use Rattle.master.proofs.read_master.Tie as tie
-use Rattle.master.proofs.read_master.Reads as reads
 
 gap-requires : tie.Need-gap-requires
 gap-requires c κs = search needs

@@ -2,7 +2,6 @@ use Rattle.residue.proofs.Returns.{reads-column, reads-value}
 use borrow.Author.Needs.{needs}
 use Rattle.residue.proofs.read_residue.Statement.{statement}
 use Rattle.residue.proofs.read_residue.Tie as tie
-use Rattle.residue.proofs.read_residue.Reads as reads
 
 add-p : tie.Need-add-p
 add-p c = search needs

@@ -1,4 +1,4 @@
-use Rattle.reporting.specs.Report.{numbersOf}
+use Rattle.reporting.specs.Report.{plainNumbersOf}
 use mathlib.Core.Path.{ap, _∙_}
 use borrow.Author.Needs.{needs}
 use Rattle.station.proofs.station_check.Statement.{statement}
@@ -7,14 +7,14 @@ use Rattle.station.proofs.station_check.Tie as tie
 check-requires : tie.Need-check-requires
 check-requires c κs = search needs
 
-numbers-requires : tie.Need-numbers-requires
-numbers-requires c κs = search needs
+plain-numbers-requires : tie.Need-plain-numbers-requires
+plain-numbers-requires c κs = search needs
 
 cast-result : tie.Need-cast-result
 cast-result c = search needs
 
 returns : tie.Need-returns
-returns c = (ap (λ v. v .number) (c .before .before .check .ensures), c .before .numbers .ensures ∙ ap numbersOf (c .before .before .check .ensures))
+returns c = (ap (λ v. v .number) (c .before .before .check .ensures), c .before .plain-numbers .ensures ∙ ap plainNumbersOf (c .before .before .check .ensures))
 
 pub station-check-spec : {M : Type 1} → statement M
-station-check-spec = tie.close (tie.spec check-requires numbers-requires cast-result returns)
+station-check-spec = tie.close (tie.spec check-requires plain-numbers-requires cast-result returns)

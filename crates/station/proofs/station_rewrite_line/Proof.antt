@@ -22,6 +22,9 @@ enum-known-n c = search needs
 cast-result-2 : tie.Need-cast-result-2
 cast-result-2 c = search needs
 
+enum-told : tie.Need-enum-told
+enum-told c = search needs
+
 same-length : tie.Need-same-length
 same-length c = search needs
 
@@ -30,6 +33,9 @@ returns c = rewrite-read _ _ _ _ _ _ (c .before .before .before .before .before 
 
 returns-2 : tie.Need-returns-2
 returns-2 c = rw (← c .before .before .before .read-line .ensures, c .before .n .given .1) refl
+
+returns-3 : tie.Need-returns-3
+returns-3 c = rw (← c .before .before .read-line .ensures, c .enum-told .given .1) refl
 
 pub station-rewrite-line-spec : {M : Type 1} → statement M
 station-rewrite-line-spec =
@@ -41,6 +47,8 @@ station-rewrite-line-spec =
     cast-result
     enum-known-n
     cast-result-2
+    enum-told
     same-length
     returns
-    returns-2)
+    returns-2
+    returns-3)

@@ -2,7 +2,6 @@ use Rattle.ter.proofs.Returns.{reads-column, reads-value}
 use borrow.Author.Needs.{needs}
 use Rattle.ter.proofs.read_ter.Statement.{statement}
 use Rattle.ter.proofs.read_ter.Tie as tie
-use Rattle.ter.proofs.read_ter.Reads as reads
 
 read-whole-requires : tie.Need-read-whole-requires
 read-whole-requires c κs = search needs

@@ -55,9 +55,10 @@ const CHECK_HELP: &str = "\
 usage: station check FILE.. [--report]
 
 Checks each FILE, each file in a folder and its folders, or standard input (-), and says in words whether it is
-granted; the line that is refused is shown.
+granted; the line that is refused is shown. Where a field of it is wrong, it is marked, and its name, its columns, what
+stands there and what is allowed there are told.
 
-  --report  print the listing of the report program instead: twelve lines key=value. Like that program it takes
+  --report  print the listing of the report program instead: thirteen lines key=value. Like that program it takes
             at most 65529 bytes and answers verdict=20 above. With several files a line file=NAME comes first.
 
 examples:

@@ -3,8 +3,10 @@
 mod arguments;
 mod aside;
 mod check;
+mod column;
 mod counts;
 mod draw;
+mod fields;
 mod find;
 mod fragments;
 mod input;

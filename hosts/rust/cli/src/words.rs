@@ -5,7 +5,7 @@ use std::path::Path;
 
 use station::{piece, Refusal, Verdict};
 
-use crate::{counts, models, same_atom};
+use crate::{column, counts, models, same_atom};
 
 /// What the check found, in words: one line, and for a refusal the line that is refused and a cause.
 pub fn describe(name: &str, text: &[u8], verdict: &Verdict) -> String {
@@ -111,6 +111,7 @@ fn cause(text: &[u8], verdict: &Verdict, refusal: Refusal) -> Option<String> {
         Refusal::LENGTH | Refusal::NEWLINE | Refusal::BYTE => form(text, verdict, piece),
         Refusal::NAME => piece.get(..6).map(|name| format!("the name is \"{}\"", shown(name))),
         Refusal::PLACE => models::place(text, verdict.line),
+        Refusal::FIELD => column::wrong(piece.first_chunk()?, verdict.column),
         Refusal::MODEL => models::number(text, verdict.line),
         Refusal::SAME_ATOM => same_atom::above(text, verdict.line),
         Refusal::COUNT => counts::wrong(piece.first_chunk()?, &verdict.counts, models::count(text) > 0),

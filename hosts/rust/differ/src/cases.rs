@@ -12,6 +12,7 @@ use crate::jumping::some_jumps;
 use crate::lent::Sides;
 use crate::modelling::{self, list_of_one_serial};
 use crate::slots::to_reference;
+use crate::spoiling::some_faults;
 use crate::twinning;
 
 /// Runs the cases of a seed against a library, with guards round all buffers.
@@ -39,7 +40,7 @@ fn run_with(mut harness: Harness, seed: u64, cases: impl Iterator<Item = u64>, s
 /// One case.
 fn one(harness: &mut Harness, chance: &mut Chance) {
     harness.guard = chance.byte();
-    match chance.below(18) {
+    match chance.below(19) {
         0..=4 if chance.once_in(150) => a_large_text(harness, chance),
         0..=4 => a_text(harness, chance),
         5..=8 => a_table(harness, chance),
@@ -47,6 +48,7 @@ fn one(harness: &mut Harness, chance: &mut Chance) {
         13 => a_tally(harness, chance),
         14 => a_feed(harness, chance),
         15 | 16 => a_modelled_text(harness, chance),
+        17 => some_faults(harness, chance),
         _ => noise(harness, chance),
     }
 }
@@ -224,6 +226,7 @@ fn a_line(harness: &mut Harness, chance: &mut Chance) {
     harness.slot_of_line(&line, before);
     let room = if chance.once_in(2) { 80 } else { any_room(chance, 80) };
     harness.rewrite_line(&line, room);
+    harness.read_line(&line);
     if chance.once_in(16) {
         harness.check(&[&line[..], b"\n"].concat());
     }
@@ -287,6 +290,7 @@ fn noise(harness: &mut Harness, chance: &mut Chance) {
     let before = any_slot(chance);
     harness.slot_of_line(&bytes, before);
     harness.rewrite_line(&bytes, 80);
+    harness.read_line(&bytes);
     let mut table = vec![before; chance.below(3)];
     harness.load(&bytes, &mut table);
     harness.order(&bytes, &mut table, 1, 1);

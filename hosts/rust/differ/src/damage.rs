@@ -22,7 +22,7 @@ fn any_name(chance: &mut Chance) -> &'static str {
 
 /// What sort of text stands in a field.
 #[derive(Clone, Copy, Debug)]
-enum Sort {
+pub enum Sort {
     /// An integer of a range.
     Integer(i64, i64),
     /// A real with decimals, of a range of its last place.
@@ -43,7 +43,7 @@ const FIXED: Sort = Integer(0, 0);
 
 /// The fields of a typed line: first and last column, and sort.
 #[rustfmt::skip]
-fn fields(line: &Columns) -> &'static [(usize, usize, Sort)] {
+pub fn fields(line: &Columns) -> &'static [(usize, usize, Sort)] {
     match &line[..6] {
         b"ATOM  " | b"HETATM" => &[
             (7, 11, SERIAL), (13, 16, Bytes), (17, 17, Bytes), (18, 20, Bytes), (22, 22, Bytes), (23, 26, NUMBER),
@@ -117,7 +117,7 @@ fn number_text(chance: &mut Chance, number: i64, decimals: usize) -> String {
 }
 
 /// Puts something into a field that is right for it, or nearly so.
-fn put_nearly(chance: &mut Chance, line: &mut Columns, (from, to, sort): (usize, usize, Sort)) {
+pub fn put_nearly(chance: &mut Chance, line: &mut Columns, (from, to, sort): (usize, usize, Sort)) {
     let width = to + 1 - from;
     let (low, high, decimals) = match sort {
         Integer(low, high) => (low, high, 0),
@@ -310,7 +310,7 @@ pub fn recount(lines: &mut [Columns]) {
 pub fn damage_text(chance: &mut Chance, text: &mut Vec<u8>) {
     let at = chance.below(text.len());
     let lines = text.len() / 81;
-    match chance.below(10) {
+    match chance.below(11) {
         0 => text.truncate(at),
         1 => text.truncate(81 * chance.below(lines + 1)),
         2 => text.push(chance.byte()),
@@ -329,6 +329,7 @@ pub fn damage_text(chance: &mut Chance, text: &mut Vec<u8>) {
         8 if !text.is_empty() => {
             text.remove(at);
         }
+        9 => drop(text.pop()),
         _ if !text.is_empty() => text[at] = chance.byte(),
         _ => {}
     }

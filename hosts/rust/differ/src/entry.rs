@@ -4,6 +4,7 @@ use crate::chance::Chance;
 use crate::coordinates::coordinates;
 use crate::modelling::{in_models, model, serials};
 use crate::names::{put_name, right};
+use crate::rows::Row;
 use crate::twinning::nearly;
 
 /// A line of 80 columns.
@@ -339,34 +340,46 @@ pub fn text(lines: &[Columns]) -> Vec<u8> {
 
 /// A good line of any typed kind, by itself.
 pub fn typed_line(chance: &mut Chance) -> Columns {
+    let row = match chance.below(12) {
+        0..=2 => Row::Atom,
+        3 if chance.once_in(4) => Row::FirstStrand,
+        3 => Row::Strand,
+        _ => *chance.pick(&Row::ALL),
+    };
+    good_line(chance, row)
+}
+
+/// A good line of a row of the table of columns, by itself.
+pub fn good_line(chance: &mut Chance, row: Row) -> Columns {
     let chain = chain(chance);
     let place = residue(chance, chain);
     let serial = number(chance, 1, 99_999);
-    match chance.below(12) {
-        0..=2 => atom(chance, "ATOM", serial, &place),
-        3 => atom(chance, "HETATM", serial, &place),
-        4 => ter(serial, &place),
-        5 => {
+    match row {
+        Row::Atom => atom(chance, "ATOM", serial, &place),
+        Row::Hetatm => atom(chance, "HETATM", serial, &place),
+        Row::Ter => ter(serial, &place),
+        Row::Helix => {
             let serial = number(chance, 1, 999);
             helix(chance, serial)
         }
-        6 => {
-            let (identifier, number, strands) = (identifier(chance), number(chance, 1, 999), number(chance, 1, 99));
-            strand(chance, number, identifier, strands)
+        Row::FirstStrand | Row::Strand => {
+            let own = if row == Row::Strand { number(chance, 2, 999) } else { 1 };
+            let (identifier, strands) = (identifier(chance), number(chance, 1, 99));
+            strand(chance, own, identifier, strands)
         }
-        7 => {
+        Row::Conect => {
             let atoms: Vec<i64> = (0..5).map(|_| number(chance, 1, 99_999)).collect();
             conect(chance, serial, &atoms).unwrap_or(line("CONECT    1    2"))
         }
-        8 => {
+        Row::Master => {
             let mut line = master(&[]);
             for index in [0, 2, 3, 4, 7, 8, 9, 10, 11] {
                 put_number(&mut line, 11 + 5 * index, 15 + 5 * index, number(chance, 0, 99_999));
             }
             line
         }
-        9 => model(number(chance, 1, 9_999)),
-        10 => line("ENDMDL"),
-        _ => line("END"),
+        Row::Model => model(number(chance, 1, 9_999)),
+        Row::End => line("END"),
+        Row::Endmdl => line("ENDMDL"),
     }
 }

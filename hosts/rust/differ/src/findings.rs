@@ -3,13 +3,14 @@
 use std::collections::BTreeMap;
 
 use crate::names::Form;
-use crate::{jumps, models, twins};
+use crate::{faults, jumps, models, twins};
 
 /// Which call was made.
 #[derive(Clone, Copy, Debug, PartialEq, Eq, PartialOrd, Ord)]
 #[allow(missing_docs)]
 pub enum Call {
     Check,
+    Verdict,
     Load,
     Order,
     Arrange,
@@ -18,6 +19,7 @@ pub enum Call {
     Tray,
     SlotOfLine,
     RewriteLine,
+    ReadLine,
     Find,
     Dot,
     Stroke,
@@ -28,8 +30,9 @@ pub enum Call {
 
 impl Call {
     /// All calls.
-    pub const ALL: [Call; 15] = [
+    pub const ALL: [Call; 17] = [
         Call::Check,
+        Call::Verdict,
         Call::Load,
         Call::Order,
         Call::Arrange,
@@ -38,6 +41,7 @@ impl Call {
         Call::Tray,
         Call::SlotOfLine,
         Call::RewriteLine,
+        Call::ReadLine,
         Call::Find,
         Call::Dot,
         Call::Stroke,
@@ -49,17 +53,20 @@ impl Call {
     /// The calls in which every form of an atom's name has to be met.
     pub const NAMED: [Call; 2] = [Call::Check, Call::SlotOfLine];
 
+    /// The calls that tell the column of a wrong field.
+    pub const TELLING: [Call; 2] = [Call::Verdict, Call::ReadLine];
+
     /// The numbers that the call can answer. A jump can answer any line: 1 stands for them all.
     pub fn numbers(self) -> &'static [u64] {
         match self {
-            Call::Check => &[0, 1, 2, 3, 4, 5, 6, 7, 8, 9, 10, 11, 12, 21, 22],
+            Call::Check | Call::Verdict => &[0, 1, 2, 3, 4, 5, 6, 7, 8, 9, 10, 11, 12, 21, 22],
             Call::Load => &[0, 1, 2, 3, 4, 5, 6, 7, 8, 9, 10, 11, 12, 13, 21, 22],
             Call::Order => &[0, 1, 2, 3, 4, 5, 6, 7, 8, 9, 10, 11, 12, 13, 15, 16, 18, 21, 22],
             Call::Arrange => &[0, 1, 2, 3, 4, 5, 6, 7, 8, 9, 10, 11, 12, 13, 15, 18, 21, 22],
             Call::Fragments | Call::Save | Call::Tray => {
                 &[0, 1, 2, 3, 4, 5, 6, 7, 8, 9, 10, 11, 12, 13, 17, 18, 21, 22]
             }
-            Call::SlotOfLine => &[0, 1, 3, 4, 6],
+            Call::SlotOfLine | Call::ReadLine => &[0, 1, 3, 4, 6],
             Call::RewriteLine => &[0, 1, 3, 4, 6, 17],
             Call::Find | Call::Dot | Call::Stroke => &[0, 1],
             Call::Frame => &[0, 19],
@@ -97,6 +104,8 @@ pub struct Findings {
     pub models: Met<models::Kind>,
     /// How often a jump was of a kind.
     pub jumps: Met<jumps::Kind>,
+    /// How often a call that tells a column met a kind of wrong fields.
+    pub faults: Met<(Call, faults::Kind)>,
 }
 
 /// How often each of some things was met.
@@ -112,16 +121,20 @@ const SHOWN: usize = 20;
 
 impl Findings {
     /// What a run has to come across and this one never did, in words: a number that a call can answer, a form of an atom's
-    /// name, a kind of pairs of atoms, of models or of jumps.
+    /// name, a kind of pairs of atoms, of models, of jumps or of wrong fields.
     pub fn missing(&self) -> Vec<String> {
         let numbers = Call::ALL.into_iter().flat_map(|call| call.numbers().iter().map(move |&number| (call, number)));
         let forms = Call::NAMED.into_iter().flat_map(|call| Form::ALL.map(|form| (call, form)));
+        let faults = Call::TELLING
+            .into_iter()
+            .flat_map(|call| faults::Kind::all(call).into_iter().map(move |kind| (call, kind)));
         [
             unmet(numbers, &self.reached, |(call, number)| format!("{call:?} never answered {number}")),
             unmet(forms, &self.forms, |(call, form)| format!("{call:?} never met a name {form:?}")),
             unmet(twins::Kind::ALL, &self.twins, |kind| format!("Check never met a pair of atoms {kind:?}")),
             unmet(models::Kind::ALL.iter().copied(), &self.models, |kind| format!("No call met models {kind:?}")),
             unmet(jumps::Kind::ALL, &self.jumps, |kind| format!("Find never met a jump {kind:?}")),
+            unmet(faults, &self.faults, |(call, kind)| format!("{call:?} never met a wrong field {kind:?}")),
         ]
         .concat()
     }
@@ -130,6 +143,13 @@ impl Findings {
     pub fn note_models(&mut self, kinds: impl IntoIterator<Item = models::Kind>) {
         for kind in kinds {
             *self.models.entry(kind).or_insert(0) += 1;
+        }
+    }
+
+    /// Takes down kinds of wrong fields that a call met.
+    pub fn note_faults(&mut self, call: Call, kinds: impl IntoIterator<Item = faults::Kind>) {
+        for kind in kinds {
+            *self.faults.entry((call, kind)).or_insert(0) += 1;
         }
     }
 
@@ -142,10 +162,14 @@ impl Findings {
         if due == came && wrong.is_empty() {
             return;
         }
+        self.differ(case, &format!("{call:?}: reference {due}, library {came}; {}", wrong.join(", ")));
+    }
+
+    /// Takes down a difference in a case.
+    pub fn differ(&mut self, case: u64, words: &str) {
         self.differences += 1;
         if self.shown.len() < SHOWN {
-            let words = format!("case {case}, {call:?}: reference {due}, library {came}; {}", wrong.join(", "));
-            self.shown.push(words.trim_end_matches("; ").to_owned());
+            self.shown.push(format!("case {case}, {}", words.trim_end_matches("; ")));
         }
     }
 }

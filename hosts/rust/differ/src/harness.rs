@@ -7,10 +7,8 @@ use crate::findings::{Call, Findings};
 use crate::jumps;
 use crate::lent::{Lent, Sides};
 use crate::modelled;
-use crate::models;
 use crate::names::{put_name, Form};
 use crate::slots::{to_library, to_reference};
-use crate::twins::{self, Kind};
 
 /// The two sides of the comparison.
 pub struct Harness {
@@ -71,7 +69,7 @@ impl Harness {
     }
 
     /// A lent place for one count, holding anything before.
-    fn lend_count(&self) -> Lent<u64> {
+    pub(crate) fn lend_count(&self) -> Lent<u64> {
         self.lend(&[u64::from_ne_bytes([self.guard ^ 0x5a; 8])], u64::from_ne_bytes([self.guard; 8]))
     }
 
@@ -93,52 +91,13 @@ impl Harness {
     }
 
     /// Takes down the form of the atom's name in a line that was granted, or refused with 6.
-    fn note_form(&mut self, call: Call, line: &[u8], number: u32) {
+    pub(crate) fn note_form(&mut self, call: Call, line: &[u8], number: u32) {
         if let Some(form) = Form::of_line(line) {
             let met = if form.right() { number == 0 } else { number == 6 && wrong_by_name(line) };
             if met {
                 *self.findings.forms.entry((call, form)).or_insert(0) += 1;
             }
         }
-    }
-
-    /// Takes down the forms of all names in a text that was granted, or of the one in the line refused with 6.
-    fn note_forms(&mut self, text: &[u8], number: u32, line: u64) {
-        for (piece, at) in text.chunks(81).zip(1..) {
-            if number == 0 || (number == 6 && at == line) {
-                self.note_form(Call::Check, &piece[..piece.len().min(80)], number);
-            }
-        }
-    }
-
-    /// Takes down the kinds of pairs of atoms in a text.
-    fn note_twins(&mut self, text: &[u8], number: u32, line: u64) {
-        let mut met = twins::met(text, number, line);
-        let mended = (number == 21).then(|| reference::check(&twins::mended(text, line)));
-        if mended.is_some_and(|verdict| verdict.refusal == Some(Refusal::Bond)) {
-            met.insert(Kind::BondBelow);
-        }
-        for kind in met {
-            *self.findings.twins.entry(kind).or_insert(0) += 1;
-        }
-    }
-
-    /// Checks a text.
-    pub fn check(&mut self, text: &[u8]) -> u32 {
-        let lent = self.lend_text(text);
-        let mut answer = self.lend(&[u64::from(self.guard) + 1; 12], u64::from(self.guard));
-        // SAFETY: all that is lent is as long as said.
-        let came = unsafe { (self.library.check)(lent.start(), lent.len(), answer.start_mut()) };
-        let verdict = reference::check(text);
-        let due = verdict.refusal.map_or(0, Refusal::number);
-        let head = [u64::from(due), verdict.line, verdict.good_lines];
-        answer.due()[..3].copy_from_slice(&head);
-        answer.due()[3..].copy_from_slice(&verdict.tally.counts());
-        self.note(Call::Check, due, came, &[("text", lent.first_wrong()), ("answer", answer.first_wrong())]);
-        self.note_forms(text, due, verdict.line);
-        self.note_twins(text, due, verdict.line);
-        self.findings.note_models(models::met(text, due, verdict.line));
-        due
     }
 
     /// Loads a text into a table, which then holds what is due.

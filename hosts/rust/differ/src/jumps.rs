@@ -100,7 +100,7 @@ fn has(line: &[u8], serial: &str) -> bool {
 /// Why a whole line is passed over, if columns 7-11 have this serial.
 fn why(piece: &[u8], serial: &str) -> Option<Why> {
     let (columns, end) = piece.split_at_checked(PIECE - 1).filter(|_| has(piece, serial))?;
-    match (reference::read_line(columns), end == b"\n") {
+    match (reference::read_line(columns).map_err(|blame| blame.refusal), end == b"\n") {
         (Ok(Record::Atom(_) | Record::Hetatm(_)), false) => Some(Why::End),
         (Ok(Record::Ter(_)), true) => Some(Why::Ter),
         (Ok(Record::Conect(_)), true) => Some(Why::Conect),

@@ -76,6 +76,12 @@ impl<T: Copy + PartialEq> Lent<T> {
         &mut self.due[self.before..self.before + self.length]
     }
 
+    /// What the buffer holds.
+    pub fn held(&self) -> &[T] {
+        // SAFETY: so many values are lent, and any bytes are values of the types that are lent.
+        unsafe { std::slice::from_raw_parts(self.start(), self.length) }
+    }
+
     /// Where, counted from the buffer's start, the memory first is not what it has to be.
     pub fn first_wrong(&self) -> Option<isize> {
         // SAFETY: so many values were put there, and any bytes are values of the types that are lent.

@@ -4,7 +4,9 @@ use std::fmt::Debug;
 use std::process::ExitCode;
 use std::time::Instant;
 
+use differ::faults::Kind;
 use differ::names::Form;
+use differ::rows::Row;
 use differ::{jumps, models, twins, Call, Findings, Met};
 use station::raw::LINKED;
 
@@ -17,12 +19,12 @@ usage: differ [--cases N] [--seed S] [--only CASE]
   --seed S     the seed of the run (1)
   --only CASE  this one case of the seed, by its number
 
-The cases are followed by a sweep: every byte in every column of a line of each kind, every element, atoms' names over a few
-bytes, two atoms that differ in one column, MODEL and ENDMDL lines in a text, every narrow number, every length, every
+The cases are followed by a sweep: every byte in every column of a line of each kind, every two columns that are wrong, every
+stretch that is blank, every element, atoms' names over a few bytes, two atoms that differ in one column, MODEL and ENDMDL lines in a text, every narrow number, every length, every
 name, jumps to every serial.
 
 Exit status: 0 no difference, 1 a difference, or a number of refusal, a form of an atom's name, a kind of pairs of atoms, of
-models or of jumps that was not reached, 2 wrong arguments, 3 the library touched memory that was not lent to it.
+models, of jumps or of wrong fields that was not reached, 2 wrong arguments, 3 the library touched memory that was not lent to it.
 Runs of fewer than 5000 cases do not ask that every number, form and kind be reached.
 ";
 
@@ -73,9 +75,26 @@ fn print(findings: &Findings) {
     println!("{:12} pairs {}", "Check", counts(&twins::Kind::ALL, &findings.twins, |kind| *kind));
     println!("{:12} models {}", "All", counts(models::Kind::ALL, &findings.models, |kind| *kind));
     println!("{:12} jumps {}", "Find", counts(&jumps::Kind::ALL, &findings.jumps, |kind| *kind));
+    for call in Call::TELLING {
+        print_faults(findings, call);
+    }
     for difference in &findings.shown {
         println!("{difference}");
     }
+}
+
+/// How often each kind of wrong fields was met; of the columns, which there are many of, the one that was told least.
+fn print_faults(findings: &Findings, call: Call) {
+    let times = |kind: Kind| *findings.faults.get(&(call, kind)).unwrap_or(&0);
+    let least = |row: Row| row.columns().into_iter().map(|column| (times(Kind::Column(row, column)), column)).min();
+    let rarest = Row::ALL.map(|row| {
+        let (times, column) = least(row).unwrap_or_default();
+        format!("{row:?}({column}):{times}")
+    });
+    println!("{:12} columns, the rarest {}", format!("{call:?}"), rarest.join(" "));
+    let others = Kind::all(call).into_iter().filter(|kind| !matches!(kind, Kind::Column(..)));
+    let others: Vec<Kind> = others.collect();
+    println!("{:12} fields {}", format!("{call:?}"), counts(&others, &findings.faults, |kind| (call, *kind)));
 }
 
 fn main() -> ExitCode {

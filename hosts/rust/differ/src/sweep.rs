@@ -1,4 +1,5 @@
-//! What is few enough to be tried out in full: every byte in every column of a line of each kind, every element, every name
+//! What is few enough to be tried out in full: every byte in every column of a line of each kind, every two columns that are
+//! wrong, every stretch of columns that is blank, every element, every name
 //! of an atom over a few bytes, two atoms that differ in one column, MODEL and ENDMDL lines in a text, every number of the
 //! narrow fields, every length, every name of a line, jumps in lines with every byte in every column and to every serial.
 
@@ -46,6 +47,7 @@ pub fn sweep(library: Library) -> Findings {
     let mut harness = Harness::new(library);
     for base in LINES.map(line) {
         columns(&mut harness, base);
+        pairs(&mut harness, base);
         lengths(&mut harness, base);
     }
     elements(&mut harness);
@@ -61,6 +63,7 @@ pub fn sweep(library: Library) -> Findings {
 fn try_line(harness: &mut Harness, line: &[u8]) {
     harness.slot_of_line(line, Slot::default());
     harness.rewrite_line(line, 80);
+    harness.read_line(line);
 }
 
 /// Every byte in every column.
@@ -71,6 +74,19 @@ fn columns(harness: &mut Harness, base: Columns) {
             put(&mut line, at, &[byte]);
             try_line(harness, &line);
         }
+    }
+}
+
+/// Every two columns that hold a byte which hardly a field takes, and every stretch of columns that is blank.
+fn pairs(harness: &mut Harness, base: Columns) {
+    for (from, to) in (7..=80).flat_map(|from| (from..=80).map(move |to| (from, to))) {
+        let mut line = base;
+        put(&mut line, from, b"~");
+        put(&mut line, to, b"~");
+        harness.read_line(&line);
+        let mut line = base;
+        put(&mut line, from, &vec![b' '; to + 1 - from]);
+        harness.read_line(&line);
     }
 }
 

@@ -149,6 +149,12 @@ pub fn damage(chance: &mut Chance, lines: &mut [Columns]) -> Option<()> {
             let alternate = *chance.pick(b" AB0");
             put(&mut lines[to], 17, &[alternate]);
         }
+        4 => {
+            // A count that is wrong as well, further down.
+            if let Some(master) = lines.iter_mut().find(|line| named(&line[..], &[b"MASTER"])) {
+                put_number(master, 11, 15, 99_999);
+            }
+        }
         _ => {}
     }
     Some(())

@@ -1,6 +1,6 @@
 //! What is asked of an entry.
 
-use std::collections::BTreeMap;
+use std::collections::{BTreeMap, BTreeSet};
 use std::fmt::Display;
 
 use differ::chance::Chance;
@@ -8,8 +8,11 @@ use differ::entry::{named, COORDINATES};
 use differ::models::ENDS;
 use differ::slots::to_reference;
 use reference::{Mark, Serial, Slot};
-use station::{pieces, Entry, FragmentNumber, Jump, Line, Refusal, Table};
+use station::{pieces, FragmentNumber, Jump, Line, Table};
 
+use crate::answers::{
+    by_number, line_of_library, line_of_reference, of_library, of_reference, own_by_number, wrapped_alike, written,
+};
 use crate::entries::Listed;
 use crate::texts::{atoms, choices, damaged, with_twins};
 
@@ -27,46 +30,6 @@ fn columns(piece: &[u8]) -> &[u8] {
     piece.strip_suffix(b"\n").unwrap_or(piece)
 }
 
-/// What the check answers: number, line, good lines, nine counts.
-type Answer = [u64; 12];
-
-fn of_library(text: &[u8]) -> Answer {
-    let verdict = Entry::check(text);
-    let c = verdict.counts;
-    let number = u64::from(verdict.refusal.map_or(0, Refusal::number));
-    let (line, lines) = (verdict.line, verdict.good_lines);
-    [number, line, lines, c.remark, c.het, c.helix, c.sheet, c.xform, c.coord, c.ter, c.conect, c.seq]
-}
-
-fn of_reference(text: &[u8]) -> Answer {
-    let verdict = reference::check(text);
-    let mut answer = [0; 12];
-    answer[0] = u64::from(verdict.refusal.map_or(0, reference::Refusal::number));
-    (answer[1], answer[2]) = (verdict.line, verdict.good_lines);
-    answer[3..].copy_from_slice(&verdict.tally.counts());
-    answer
-}
-
-/// A result of either side by its number of refusal.
-fn by_number<T>(result: Result<T, Refusal>) -> Result<T, u32> {
-    result.map_err(Refusal::number)
-}
-
-fn own_by_number<T>(result: Result<T, reference::Refusal>) -> Result<T, u32> {
-    result.map_err(reference::Refusal::number)
-}
-
-/// Save or tray of the reference.
-type Write = fn(&[u8], &[Slot], &mut [u8]) -> Result<usize, reference::Refusal>;
-
-/// What the reference writes.
-fn written(text: &[u8], table: &[Slot], call: Write) -> Result<Vec<u8>, u32> {
-    let mut out = vec![0; text.len()];
-    let count = own_by_number(call(text, table, &mut out))?;
-    out.truncate(count);
-    Ok(out)
-}
-
 /// One entry under trial.
 pub struct Trial<'e> {
     listed: &'e Listed,
@@ -76,6 +39,8 @@ pub struct Trial<'e> {
     choices: usize,
     /// The numbers that the damaged texts were answered with.
     reached: BTreeMap<u64, usize>,
+    /// The columns that were told of them.
+    told: BTreeSet<u64>,
     /// What was found, in words.
     pub differences: Vec<String>,
 }
@@ -83,13 +48,22 @@ pub struct Trial<'e> {
 impl<'e> Trial<'e> {
     pub fn new(listed: &'e Listed, text: &'e [u8]) -> Trial<'e> {
         let chance = Chance::of_case(SEED, text.len() as u64);
-        Trial { listed, text, chance, choices: 0, reached: BTreeMap::new(), differences: Vec::new() }
+        Trial {
+            listed,
+            text,
+            chance,
+            choices: 0,
+            reached: BTreeMap::new(),
+            told: BTreeSet::new(),
+            differences: Vec::new(),
+        }
     }
 
     /// What was done, in words.
     pub fn summary(&self) -> String {
         let reached: Vec<String> = self.reached.iter().map(|(number, count)| format!("{number}:{count}")).collect();
-        format!("{:3} good lines, {} sets aside, damaged {}", self.listed.good_lines, self.choices, reached.join(" "))
+        let (good, told) = (self.listed.good_lines, self.told.len());
+        format!("{good:3} good lines, {} sets aside, damaged {}, {told} columns told", self.choices, reached.join(" "))
     }
 
     fn hold(&mut self, what: impl Display, holds: bool) {
@@ -115,9 +89,13 @@ impl<'e> Trial<'e> {
         let (library, reference) = (of_library(self.text), of_reference(self.text));
         self.hold(format_args!("check: library {library:?}, reference {reference:?}"), library == reference);
         let Listed { number, line, good_lines, accepted, .. } = *self.listed;
-        self.hold(format_args!("check: {library:?} is not as listed"), library[..3] == [number, line, good_lines]);
+        self.hold(
+            format_args!("check: {library:?} is not as listed"),
+            [library[0], library[1], library[3]] == [number, line, good_lines],
+        );
+        self.hold("check: the wrapper says otherwise", wrapped_alike(self.text, &library));
         if let Some((coordinates, _)) = accepted {
-            self.hold(format_args!("{} coordinates, not as listed", library[8]), library[8] == coordinates);
+            self.hold(format_args!("{} coordinates, not as listed", library[9]), library[9] == coordinates);
             self.hold("not all lines are good", good_lines == pieces(self.text).len() as u64);
         }
     }
@@ -127,6 +105,7 @@ impl<'e> Trial<'e> {
     fn single_lines(&mut self) {
         for (index, piece) in pieces(self.text).enumerate() {
             let (line, number) = (columns(piece), index + 1);
+            self.line_alike(line);
             let library = by_number(Line::read(line)).map(|line| *line.columns());
             let mut out = [0; 80];
             let reference = own_by_number(reference::rewrite_line(line, &mut out)).map(|()| out);
@@ -143,6 +122,13 @@ impl<'e> Trial<'e> {
             let reference = own_by_number(reference::slot_of_line(line));
             self.hold(format_args!("line {number}: slots differ"), library == reference);
         }
+    }
+
+    /// A line by itself is answered alike, with the same column.
+    fn line_alike(&mut self, line: &[u8]) -> (u32, u64) {
+        let (library, reference) = (line_of_library(line), line_of_reference(line));
+        self.hold(format_args!("read by itself: library {library:?}, reference {reference:?}"), library == reference);
+        library
     }
 
     /// Loads the entry, and tries the sets of fragments.
@@ -295,7 +281,7 @@ impl<'e> Trial<'e> {
             let made = (0..50).find_map(|_| with_twins(&mut self.chance, self.text));
             let Some((text, line)) = made else { return self.hold("there are no two atoms", false) };
             let (library, reference) = (of_library(&text), of_reference(&text));
-            let right = library == reference && library[..3] == [21, line, line - 1];
+            let right = library == reference && library[..4] == [21, line, 0, line - 1];
             self.hold(format_args!("twins at {line}: library {library:?}, reference {reference:?}"), right);
             *self.reached.entry(library[0]).or_default() += 1;
         }
@@ -340,7 +326,21 @@ impl<'e> Trial<'e> {
                 format_args!("damage {index}: library {library:?}, reference {reference:?}"),
                 library == reference,
             );
+            self.hold(format_args!("damage {index}: the wrapper says otherwise"), wrapped_alike(&text, &library));
+            self.refused_line(&text, library[0], library[1], library[2]);
             *self.reached.entry(library[0]).or_default() += 1;
         }
+    }
+
+    /// The line that a text is refused at: by itself it has the column that the text was told of, and no other text is told of
+    /// one.
+    fn refused_line(&mut self, text: &[u8], number: u64, line: u64, column: u64) {
+        let by_itself = match pieces(text).nth((line as usize).saturating_sub(1)) {
+            Some(piece) if line > 0 => self.line_alike(columns(piece)),
+            _ => (0, 0),
+        };
+        let right = if number == 6 { by_itself == (6, column) } else { column == 0 };
+        self.hold(format_args!("{number} and column {column} in line {line}, by itself {by_itself:?}"), right);
+        self.told.extend((column > 0).then_some(column));
     }
 }

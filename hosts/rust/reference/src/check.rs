@@ -8,7 +8,7 @@ use crate::models::Models;
 use crate::reading::read_fields;
 use crate::record::{Label, Record, Residue, Sheet};
 use crate::tally::{Counting, Tally};
-use crate::{ModelNumber, Refusal, Serial};
+use crate::{Blame, ModelNumber, Refusal, Serial};
 
 /// What the check answers.
 #[derive(Clone, Copy, Debug, PartialEq, Eq)]
@@ -17,6 +17,8 @@ pub struct Verdict {
     pub refusal: Option<Refusal>,
     /// The line that is refused, 0 if none is.
     pub line: u64,
+    /// The column of a wrong field, 0 if the refusal is none of a field.
+    pub column: u64,
     /// The good lines.
     pub good_lines: u64,
     /// The counts over the good lines, of the coordinates and TER lines those of the first model alone.
@@ -57,25 +59,31 @@ pub fn check(text: &[u8]) -> Verdict {
 pub fn walk(text: &[u8]) -> (Verdict, Vec<GoodLine<'_>>) {
     let mut above = Above::default();
     let mut good = Vec::new();
-    let mut refusal = None;
+    let mut blame = None;
     for piece in pieces(text) {
         match above.judge(piece) {
             Ok(line) => {
                 above.add(&line);
                 good.push(line);
             }
-            Err(number) => {
-                refusal = Some(number);
+            Err(first) => {
+                blame = Some(first);
                 break;
             }
         }
     }
-    if refusal.is_none() && above.name != Some(LineName::End) {
-        refusal = Some(Refusal::Over);
+    if blame.is_none() && above.name != Some(LineName::End) {
+        blame = Some(Refusal::Over.into());
     }
     let good_lines = good.len() as u64;
-    let line = refusal.map_or(0, |_| good_lines + 1);
-    (Verdict { refusal, line, good_lines, tally: above.counting.tally }, good)
+    let verdict = Verdict {
+        refusal: blame.map(|blame| blame.refusal),
+        line: blame.map_or(0, |_| good_lines + 1),
+        column: blame.map_or(0, |blame| blame.column),
+        good_lines,
+        tally: above.counting.tally,
+    };
+    (verdict, good)
 }
 
 /// What a line has to know of the lines above it.
@@ -118,22 +126,22 @@ struct Run {
 
 impl Above {
     /// Judges one line: the first number that applies, 22 being looked for between 6 and 7, and 21 between 8 and 9.
-    fn judge<'t>(&self, piece: &'t [u8]) -> Result<GoodLine<'t>, Refusal> {
+    fn judge<'t>(&self, piece: &'t [u8]) -> Result<GoodLine<'t>, Blame> {
         if piece.len() < 81 {
-            return Err(Refusal::Length);
+            return Err(Refusal::Length.into());
         }
         if piece[80] != b'\n' {
-            return Err(Refusal::Newline);
+            return Err(Refusal::Newline.into());
         }
         let columns: &Columns = piece[..80].try_into().map_err(|_| Refusal::Length)?;
         if !columns.iter().all(|byte| (32..=126).contains(byte)) {
-            return Err(Refusal::Byte);
+            return Err(Refusal::Byte.into());
         }
         let name = LineName::of(columns).ok_or(Refusal::Name)?;
         if !name.may_follow(self.name) || !self.models.allow(name) {
-            return Err(Refusal::Place);
+            return Err(Refusal::Place.into());
         }
-        let record = if name.carried() { None } else { Some(read_fields(name, columns).ok_or(Refusal::Field)?) };
+        let record = read_fields(name, columns)?;
         let rules = [
             (self.models.count_on(record), Refusal::Model),
             (self.serial_rises(record), Refusal::Serial),
@@ -144,7 +152,7 @@ impl Above {
             (self.counts_true(record), Refusal::Count),
         ];
         match rules.iter().find(|(obeyed, _)| !obeyed) {
-            Some((_, number)) => Err(*number),
+            Some((_, number)) => Err((*number).into()),
             None => Ok(GoodLine { name, record, model: self.models.number(), bytes: piece }),
         }
     }
@@ -268,7 +276,7 @@ mod tests {
     fn the_arginine_entry() {
         let entry = arginine_entry();
         let tally = Tally { coord: 1, ter: 1, ..Tally::default() };
-        assert_eq!(check(&entry), Verdict { refusal: None, line: 0, good_lines: 5, tally });
+        assert_eq!(check(&entry), Verdict { refusal: None, line: 0, column: 0, good_lines: 5, tally });
         assert_eq!(answer(&[&entry[..], b"x"].concat()), (1, 6, 5));
         assert_eq!(answer(&[&entry[..], b"\n"].concat()), (1, 6, 5));
         assert_eq!(answer(&entry[..entry.len() - 1]), (1, 5, 4));

@@ -144,9 +144,14 @@ pub fn charge(field: [u8; 2]) -> bool {
     field == *b"  " || ((b'1'..=b'9').contains(&field[0]) && matches!(field[1], b'+' | b'-'))
 }
 
+/// The last two columns of an atom's name, whatever its element is.
+pub fn ends_atom_name(end: [u8; 2]) -> bool {
+    then_blanks(&end, name_character)
+}
+
 /// The name of an atom of this element.
 pub fn atom_name(name: [u8; 4], element: [u8; 2]) -> bool {
-    let in_its_columns = name[..2] == element && then_blanks(&name[2..], name_character);
+    let in_its_columns = name[..2] == element && ends_atom_name([name[2], name[3]]);
     in_its_columns || from_column_13(name, element)
 }
 

@@ -15,6 +15,8 @@
 
 pub mod check;
 pub mod columns;
+#[cfg(test)]
+mod columns_told;
 pub mod element;
 pub mod feed;
 pub mod jump;
@@ -36,7 +38,7 @@ pub use jump::{find, Jump};
 pub use line::LineName;
 pub use reading::read_line;
 pub use record::Record;
-pub use refusal::Refusal;
+pub use refusal::{Blame, Refusal, WrongAt};
 pub use saved::{save, tray};
 pub use table::{arrange, fragment_numbers, fragments, load, order, slot_of_line, Mark, Slot};
 pub use tally::{count_line, count_line_past, Tally};

@@ -107,11 +107,6 @@ impl LineName {
         tied && placed
     }
 
-    /// Whether the line is carried: its columns from 7 on are free.
-    pub fn carried(self) -> bool {
-        !matches!(self, Helix | Sheet | Model | Atom | Hetatm | Ter | Endmdl | Conect | Master | End)
-    }
-
     /// Whether a table has a slot for the line.
     pub fn slotted(self) -> bool {
         matches!(self, Atom | Hetatm | Ter)

@@ -1,25 +1,32 @@
 //! One typed line, read to a record.
+//!
+//! Every reader takes the columns from left to right and stops at the first field that is wrong: its first column is the one
+//! that is told.
 
 use crate::columns::*;
 use crate::element::atomic_number;
 use crate::line::LineName;
 use crate::record::{Atom, Conect, Helix, Record, Register, Residue, Sheet, Ter};
+use crate::refusal::WrongAt;
 use crate::tally::Tally;
-use crate::{ModelNumber, Refusal, ResidueNumber, Serial};
+use crate::{Blame, ModelNumber, Refusal, ResidueNumber, Serial};
+
+/// What a field, or a line of them, holds, or the column that is wrong.
+type Held<T> = Result<T, WrongAt>;
 
 /// Reads one line by itself: 80 bytes, no newline.
-pub fn read_line(line: &[u8]) -> Result<Record, Refusal> {
+pub fn read_line(line: &[u8]) -> Result<Record, Blame> {
     let columns: &Columns = line.try_into().map_err(|_| Refusal::Length)?;
     if !columns.iter().all(|byte| (32..=126).contains(byte)) {
-        return Err(Refusal::Byte);
+        return Err(Refusal::Byte.into());
     }
-    let name = LineName::of(columns).filter(|name| !name.carried()).ok_or(Refusal::Name)?;
-    read_fields(name, columns).ok_or(Refusal::Field)
+    let name = LineName::of(columns).ok_or(Refusal::Name)?;
+    Ok(read_fields(name, columns)?.ok_or(Refusal::Name)?)
 }
 
-/// The record of a typed line, if its fields and blank columns are right.
-pub fn read_fields(name: LineName, line: &Columns) -> Option<Record> {
-    match name {
+/// The record of a line, if its fields and blank columns are right; none of a carried one, in which nothing is judged.
+pub fn read_fields(name: LineName, line: &Columns) -> Held<Option<Record>> {
+    let record = match name {
         LineName::Helix => read_helix(line).map(Record::Helix),
         LineName::Sheet => read_sheet(line).map(Record::Sheet),
         LineName::Atom => read_atom(line).map(Record::Atom),
@@ -27,165 +34,186 @@ pub fn read_fields(name: LineName, line: &Columns) -> Option<Record> {
         LineName::Ter => read_ter(line).map(Record::Ter),
         LineName::Conect => read_conect(line).map(Record::Conect),
         LineName::Master => read_master(line).map(Record::Master),
-        LineName::End => blank(field(line, 7, 80)).then_some(Record::End),
         LineName::Model => read_model(line).map(Record::Model),
-        LineName::Endmdl => blank(field(line, 7, 80)).then_some(Record::Endmdl),
-        _ => None,
-    }
+        LineName::Endmdl => blanks(line, 7, 80).map(|()| Record::Endmdl),
+        LineName::End => blanks(line, 7, 80).map(|()| Record::End),
+        _ => return Ok(None),
+    };
+    record.map(Some)
 }
 
-fn read_atom(line: &Columns) -> Option<Atom> {
-    blanks(line, &[(12, 12), (21, 21), (28, 30), (67, 76)])?;
-    let element = bytes(line, 77);
-    atomic_number(element)?;
-    let name = bytes(line, 13);
-    let place = |from| read_i32(real_in(field(line, from, from + 7), 3, -999_999, 9_999_999));
-    Some(Atom {
-        serial: read_serial(line, 7)?,
-        name: Some(name).filter(|&name| atom_name(name, element))?,
-        alternate: Some(column(line, 17)).filter(|&byte| alternate(byte))?,
-        residue: read_residue(line, 18, 22, 23)?,
-        position: [place(31)?, place(39)?, place(47)?],
-        occupancy: read_i32(real_in(field(line, 55, 60), 2, 0, 100))?,
-        temperature: read_i32(real_in(field(line, 61, 66), 2, -9_999, 99_999))?,
-        element,
-        charge: Some(bytes(line, 79)).filter(|&sign| charge(sign))?,
-    })
+fn read_atom(line: &Columns) -> Held<Atom> {
+    let serial = read_serial(line, 7)?;
+    blanks(line, 12, 12)?;
+    let (name, element) = (bytes(line, 13), bytes(line, 77));
+    // What 13-14 hold is for the element to say.
+    right(13, ends_atom_name(bytes(line, 15)))?;
+    let alternate = read_byte(line, 17, alternate)?;
+    let residue = read_residue(line, 18, 23, chain)?;
+    blanks(line, 28, 30)?;
+    let position = [read_place(line, 31)?, read_place(line, 39)?, read_place(line, 47)?];
+    let occupancy = read_i32(55, real_in(field(line, 55, 60), 2, 0, 100))?;
+    let temperature = read_i32(61, real_in(field(line, 61, 66), 2, -9_999, 99_999))?;
+    blanks(line, 67, 76)?;
+    right(77, atomic_number(element).is_some() && atom_name(name, element))?;
+    let charge = read_bytes(line, 79, |&sign| charge(sign))?;
+    Ok(Atom { serial, name, alternate, residue, position, occupancy, temperature, element, charge })
 }
 
-fn read_ter(line: &Columns) -> Option<Ter> {
-    blanks(line, &[(12, 17), (21, 21), (28, 80)])?;
-    Some(Ter { serial: read_serial(line, 7)?, residue: read_residue(line, 18, 22, 23)? })
+fn read_ter(line: &Columns) -> Held<Ter> {
+    let serial = read_serial(line, 7)?;
+    blanks(line, 12, 17)?;
+    let residue = read_residue(line, 18, 23, chain)?;
+    blanks(line, 28, 80)?;
+    Ok(Ter { serial, residue })
 }
 
-fn read_helix(line: &Columns) -> Option<Helix> {
-    let between = [7, 11, 15, 19, 21, 27, 31, 33, 71].map(|at| (at, at));
-    blanks(line, &between)?;
-    blanks(line, &[(77, 80)])?;
-    let ends = [read_residue(line, 16, 20, 22)?, read_residue(line, 28, 32, 34)?];
-    if ends[0].chain != ends[1].chain {
-        return None;
-    }
-    Some(Helix {
-        serial: read_i32(integer_in(field(line, 8, 10), 1, 999))?,
-        identifier: read_identifier(line)?,
-        ends,
-        class: read_i32(integer_in(field(line, 39, 40), 1, 10))?,
-        comment: bytes(line, 41),
-        length: read_i32(integer_in(field(line, 72, 76), 1, 99_999))?,
-    })
+fn read_helix(line: &Columns) -> Held<Helix> {
+    blanks(line, 7, 7)?;
+    let serial = read_i32(8, integer_in(field(line, 8, 10), 1, 999))?;
+    blanks(line, 11, 11)?;
+    let identifier = read_identifier(line)?;
+    blanks(line, 15, 15)?;
+    let first = read_residue(line, 16, 22, chain)?;
+    blanks(line, 27, 27)?;
+    let last = read_residue(line, 28, 34, |byte| byte == first.chain)?;
+    let class = read_i32(39, integer_in(field(line, 39, 40), 1, 10))?;
+    blanks(line, 71, 71)?;
+    let length = read_i32(72, integer_in(field(line, 72, 76), 1, 99_999))?;
+    blanks(line, 77, 80)?;
+    Ok(Helix { serial, identifier, ends: [first, last], class, comment: bytes(line, 41), length })
 }
 
-fn read_sheet(line: &Columns) -> Option<Sheet> {
-    let between = [7, 11, 17, 21, 28, 32, 41].map(|at| (at, at));
-    blanks(line, &between)?;
-    blanks(line, &[(71, 80)])?;
-    let strand = read_i32(integer_in(field(line, 8, 10), 1, 999))?;
-    let sense = read_i32(integer(field(line, 39, 40)))?;
-    let fitting: &[i32] = if strand == 1 { &[0] } else { &[1, -1] };
-    if !fitting.contains(&sense) {
-        return None;
-    }
-    let registration = if blank(field(line, 42, 70)) {
+fn read_sheet(line: &Columns) -> Held<Sheet> {
+    blanks(line, 7, 7)?;
+    let strand = read_i32(8, integer_in(field(line, 8, 10), 1, 999))?;
+    blanks(line, 11, 11)?;
+    let identifier = read_identifier(line)?;
+    let strands = read_i32(15, integer_in(field(line, 15, 16), 1, 99))?;
+    blanks(line, 17, 17)?;
+    let first = read_residue(line, 18, 23, chain)?;
+    blanks(line, 28, 28)?;
+    let last = read_residue(line, 29, 34, chain)?;
+    let fitting: &[i64] = if strand == 1 { &[0] } else { &[1, -1] };
+    let sense = read_i32(39, integer(field(line, 39, 40)).filter(|sense| fitting.contains(sense)))?;
+    blanks(line, 41, 41)?;
+    let registration = if strand == 1 {
+        blanks(line, 42, 70).map(|()| None)?
+    } else if blank(field(line, 42, 70)) {
         None
-    } else if strand == 1 {
-        return None;
     } else {
         Some(read_registration(line)?)
     };
-    Some(Sheet {
-        strand,
-        identifier: read_identifier(line)?,
-        strands: read_i32(integer_in(field(line, 15, 16), 1, 99))?,
-        ends: [read_residue(line, 18, 22, 23)?, read_residue(line, 29, 33, 34)?],
-        sense,
-        registration,
-    })
+    blanks(line, 71, 80)?;
+    Ok(Sheet { strand, identifier, strands, ends: [first, last], sense, registration })
 }
 
-fn read_registration(line: &Columns) -> Option<[Register; 2]> {
-    blanks(line, &[(49, 49), (56, 56), (64, 64)])?;
-    let register = |from| {
-        Some(Register {
-            atom: Some(bytes(line, from)).filter(|&name| registration_atom(name))?,
-            residue: read_residue(line, from + 4, from + 8, from + 9)?,
-        })
-    };
-    Some([register(42)?, register(57)?])
+fn read_registration(line: &Columns) -> Held<[Register; 2]> {
+    let here = read_register(line, 42)?;
+    blanks(line, 56, 56)?;
+    let before = read_register(line, 57)?;
+    Ok([here, before])
 }
 
-fn read_conect(line: &Columns) -> Option<Conect> {
-    blanks(line, &[(32, 80)])?;
+fn read_register(line: &Columns, from: usize) -> Held<Register> {
+    let atom = read_bytes(line, from, |&name| registration_atom(name))?;
+    let residue = read_residue(line, from + 4, from + 9, chain)?;
+    Ok(Register { atom, residue })
+}
+
+fn read_conect(line: &Columns) -> Held<Conect> {
     let serial = read_serial(line, 7)?;
-    let mut partners = [None; 4];
-    for (index, partner) in partners.iter_mut().enumerate() {
+    let mut partners = [Some(read_partner(line, 12, serial)?), None, None, None];
+    for index in 1..partners.len() {
         let from = 12 + 5 * index;
         if !blank(field(line, from, from + 4)) {
-            *partner = Some(read_serial(line, from)?);
+            right(from, partners[index - 1].is_some())?;
+            partners[index] = Some(read_partner(line, from, serial)?);
         }
     }
-    let there = partners.iter().flatten().count();
-    let from_the_left = partners[..there].iter().all(|partner| partner.is_some());
-    let other = !partners.contains(&Some(serial));
-    (there > 0 && from_the_left && other).then_some(Conect { serial, partners })
+    blanks(line, 32, 80)?;
+    Ok(Conect { serial, partners })
 }
 
-fn read_master(line: &Columns) -> Option<Tally> {
-    blanks(line, &[(7, 10), (71, 80)])?;
-    let number = |index: usize| {
+fn read_partner(line: &Columns, from: usize, atom: Serial) -> Held<Serial> {
+    let partner = read_serial(line, from)?;
+    right(from, partner != atom)?;
+    Ok(partner)
+}
+
+fn read_master(line: &Columns) -> Held<Tally> {
+    blanks(line, 7, 10)?;
+    let mut numbers = [0; 12];
+    for (index, number) in numbers.iter_mut().enumerate() {
         let from = 11 + 5 * index;
-        let count = integer_in(field(line, from, from + 4), 0, 99_999)?;
-        u64::try_from(count).ok()
-    };
-    if number(1)? != 0 || number(5)? != 0 || number(6)? != 0 {
-        return None;
+        let most = if matches!(from, 16 | 36 | 41) { 0 } else { 99_999 };
+        let count = integer_in(field(line, from, from + 4), 0, most);
+        *number = held(from, count.and_then(|count| u64::try_from(count).ok()))?;
     }
-    Some(Tally {
-        remark: number(0)?,
-        het: number(2)?,
-        helix: number(3)?,
-        sheet: number(4)?,
-        xform: number(7)?,
-        coord: number(8)?,
-        ter: number(9)?,
-        conect: number(10)?,
-        seq: number(11)?,
-    })
+    blanks(line, 71, 80)?;
+    let [remark, _, het, helix, sheet, _, _, xform, coord, ter, conect, seq] = numbers;
+    Ok(Tally { remark, het, helix, sheet, xform, coord, ter, conect, seq })
 }
 
-fn read_model(line: &Columns) -> Option<ModelNumber> {
-    blanks(line, &[(7, 10), (15, 80)])?;
-    let number = integer_in(field(line, 11, 14), 1, 9_999)?;
-    u32::try_from(number).ok().map(ModelNumber)
+fn read_model(line: &Columns) -> Held<ModelNumber> {
+    blanks(line, 7, 10)?;
+    let number = integer_in(field(line, 11, 14), 1, 9_999);
+    let number = held(11, number.and_then(|number| u32::try_from(number).ok()))?;
+    blanks(line, 15, 80)?;
+    Ok(ModelNumber(number))
 }
 
-/// Whether these columns, from and to, are blank.
-fn blanks(line: &Columns, ranges: &[(usize, usize)]) -> Option<()> {
-    ranges.iter().all(|&(from, to)| blank(field(line, from, to))).then_some(())
+/// The value of the field that begins in this column.
+fn held<T>(from: usize, value: Option<T>) -> Held<T> {
+    value.ok_or(WrongAt(from))
 }
 
-fn read_i32(value: Option<i64>) -> Option<i32> {
-    i32::try_from(value?).ok()
+/// Whether the field that begins in this column is right.
+fn right(from: usize, right: bool) -> Held<()> {
+    held(from, right.then_some(()))
 }
 
-fn read_serial(line: &Columns, from: usize) -> Option<Serial> {
-    let number = integer_in(field(line, from, from + 4), 1, 99_999)?;
-    u32::try_from(number).ok().map(Serial)
+/// Columns that have to be blank, each of them a field by itself.
+fn blanks(line: &Columns, from: usize, to: usize) -> Held<()> {
+    (from..=to).try_for_each(|at| right(at, column(line, at) == b' '))
 }
 
-fn read_identifier(line: &Columns) -> Option<[u8; 3]> {
-    Some(bytes(line, 12)).filter(|text: &[u8; 3]| identifier(text))
+fn read_i32(from: usize, value: Option<i64>) -> Held<i32> {
+    held(from, value.and_then(|value| i32::try_from(value).ok()))
 }
 
-/// A residue whose name, chain and number (with the insertion code behind it) begin at these columns.
-fn read_residue(line: &Columns, name_at: usize, chain_at: usize, number_at: usize) -> Option<Residue> {
-    let number = read_i32(integer_in(field(line, number_at, number_at + 3), -999, 9_999))?;
-    Some(Residue {
-        name: Some(bytes(line, name_at)).filter(|name: &[u8; 3]| residue_name(name))?,
-        chain: Some(column(line, chain_at)).filter(|&byte| chain(byte))?,
-        number: ResidueNumber(number),
-        insertion: Some(column(line, number_at + 4)).filter(|&byte| insertion(byte))?,
-    })
+fn read_place(line: &Columns, from: usize) -> Held<i32> {
+    read_i32(from, real_in(field(line, from, from + 7), 3, -999_999, 9_999_999))
+}
+
+fn read_byte(line: &Columns, at: usize, sort: impl Fn(u8) -> bool) -> Held<u8> {
+    held(at, Some(column(line, at)).filter(|&byte| sort(byte)))
+}
+
+fn read_bytes<const N: usize>(line: &Columns, from: usize, sort: impl Fn(&[u8; N]) -> bool) -> Held<[u8; N]> {
+    held(from, Some(bytes(line, from)).filter(sort))
+}
+
+fn read_serial(line: &Columns, from: usize) -> Held<Serial> {
+    let number = integer_in(field(line, from, from + 4), 1, 99_999);
+    held(from, number.and_then(|number| u32::try_from(number).ok()).map(Serial))
+}
+
+fn read_identifier(line: &Columns) -> Held<[u8; 3]> {
+    read_bytes(line, 12, |text| identifier(text))
+}
+
+/// A residue whose name and whose number begin at these columns. Its chain stands behind the name and a blank column, its
+/// insertion code right behind the number.
+fn read_residue(line: &Columns, name_at: usize, number_at: usize, chain: impl Fn(u8) -> bool) -> Held<Residue> {
+    let chain_at = name_at + 4;
+    let name = read_bytes(line, name_at, |name| residue_name(name))?;
+    blanks(line, chain_at - 1, chain_at - 1)?;
+    let chain = read_byte(line, chain_at, chain)?;
+    blanks(line, chain_at + 1, number_at - 1)?;
+    let number = read_i32(number_at, integer_in(field(line, number_at, number_at + 3), -999, 9_999))?;
+    let insertion = read_byte(line, number_at + 4, insertion)?;
+    Ok(Residue { name, chain, number: ResidueNumber(number), insertion })
 }
 
 #[cfg(test)]
@@ -193,8 +221,13 @@ mod tests {
     use super::*;
     use crate::samples::*;
 
+    /// What a line reads as, or its refusal alone.
+    fn read(line: &[u8]) -> Result<Record, Refusal> {
+        read_line(line).map_err(|blame| blame.refusal)
+    }
+
     fn refused(line: &[u8; 80], from: usize, bytes: &[u8]) -> bool {
-        read_line(&changed(line, from, bytes)) == Err(Refusal::Field)
+        read(&changed(line, from, bytes)) == Err(Refusal::Field)
     }
 
     #[test]
@@ -240,7 +273,7 @@ mod tests {
         ] {
             for kind in [b"ATOM  ", b"HETATM"] {
                 let line = changed(&changed(&changed(ARGININE, 1, kind), 13, name), 77, element);
-                match read_line(&line) {
+                match read(&line) {
                     Ok(Record::Atom(atom) | Record::Hetatm(atom)) => {
                         assert!(right && atom.name == *name && atom.element == *element)
                     }
@@ -252,11 +285,11 @@ mod tests {
 
     #[test]
     fn numbers_of_a_single_line() {
-        assert_eq!(read_line(&ARGININE[..79]), Err(Refusal::Length));
-        assert_eq!(read_line(&[ARGININE, &b"\n"[..]].concat()), Err(Refusal::Length));
-        assert_eq!(read_line(&changed(ARGININE, 40, b"\n")), Err(Refusal::Byte));
-        assert_eq!(read_line(&changed(ARGININE, 1, b"REMARK")), Err(Refusal::Name));
-        assert_eq!(read_line(&changed(ARGININE, 1, b"ANISOU")), Err(Refusal::Name));
+        assert_eq!(read(&ARGININE[..79]), Err(Refusal::Length));
+        assert_eq!(read(&[ARGININE, &b"\n"[..]].concat()), Err(Refusal::Length));
+        assert_eq!(read(&changed(ARGININE, 40, b"\n")), Err(Refusal::Byte));
+        assert_eq!(read(&changed(ARGININE, 1, b"REMARK")), Err(Refusal::Name));
+        assert_eq!(read(&changed(ARGININE, 1, b"ANISOU")), Err(Refusal::Name));
     }
 
     #[test]
@@ -278,15 +311,15 @@ mod tests {
     #[test]
     fn models() {
         for (number, text) in [(1, "MODEL        1"), (10, "MODEL       10"), (9_999, "MODEL     9999")] {
-            assert_eq!(read_line(&line(text)), Ok(Record::Model(ModelNumber(number))));
+            assert_eq!(read(&line(text)), Ok(Record::Model(ModelNumber(number))));
         }
         for wrong in
             ["MODEL", "MODEL        0", "MODEL     0001", "MODEL       -1", "MODEL    10000", "MODEL        1 1"]
         {
-            assert_eq!(read_line(&line(wrong)), Err(Refusal::Field), "{wrong}");
+            assert_eq!(read(&line(wrong)), Err(Refusal::Field), "{wrong}");
         }
         assert!(refused(&line("MODEL        1"), 11, b"1   ") && refused(&line("MODEL        1"), 10, b"1"));
-        assert_eq!(read_line(&line("ENDMDL")), Ok(Record::Endmdl));
+        assert_eq!(read(&line("ENDMDL")), Ok(Record::Endmdl));
         assert!((7..=80).all(|at| refused(&line("ENDMDL"), at, b"1") && refused(&line("END"), at, b"1")));
     }
 

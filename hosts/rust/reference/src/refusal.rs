@@ -54,3 +54,28 @@ impl Refusal {
         self as u32
     }
 }
+
+/// The first column of the leftmost field of a line that is wrong.
+#[derive(Clone, Copy, Debug, PartialEq, Eq)]
+pub struct WrongAt(pub usize);
+
+/// Why a line was refused, and where in it.
+#[derive(Clone, Copy, Debug, PartialEq, Eq)]
+pub struct Blame {
+    /// The refusal.
+    pub refusal: Refusal,
+    /// The column that is wrong, where the refusal is that of a field; otherwise 0.
+    pub column: u64,
+}
+
+impl From<Refusal> for Blame {
+    fn from(refusal: Refusal) -> Blame {
+        Blame { refusal, column: 0 }
+    }
+}
+
+impl From<WrongAt> for Blame {
+    fn from(WrongAt(column): WrongAt) -> Blame {
+        Blame { refusal: Refusal::Field, column: column as u64 }
+    }
+}

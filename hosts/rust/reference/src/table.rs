@@ -140,7 +140,7 @@ impl Mark {
 /// The slot of one line read by itself, marked "in".
 pub fn slot_of_line(line: &[u8]) -> Result<Slot, Refusal> {
     let taken = LineName::of(line).is_some_and(LineName::slotted);
-    match read_line(line) {
+    match read_line(line).map_err(|blame| blame.refusal) {
         Err(Refusal::Field) if !taken => Err(Refusal::Name),
         Err(number) => Err(number),
         Ok(record) => Slot::of_record(&record).ok_or(Refusal::Name),

@@ -144,7 +144,8 @@ impl Paper {
 
 /// Reads one typed line and writes its record.
 pub fn rewrite_line(line: &[u8], out: &mut [u8]) -> Result<(), Refusal> {
-    write_record(&read_line(line)?, out)
+    let record = read_line(line).map_err(|blame| blame.refusal)?;
+    write_record(&record, out)
 }
 
 #[cfg(test)]

@@ -32,33 +32,34 @@ fn lines(path: &Path) -> Vec<String> {
     text.lines().map(str::to_owned).collect()
 }
 
-/// The twelve numbers of the report.
-fn report(text: &[u8]) -> String {
+/// The thirteen numbers of the report.
+fn report(text: &[u8]) -> Vec<u64> {
     if text.len() > REPORT_LIMIT {
-        return "20 0 0 0 0 0 0 0 0 0 0 0".to_owned();
+        return [vec![20], vec![0; 12]].concat();
     }
     let verdict = check(text);
     let number = u64::from(verdict.refusal.map_or(0, Refusal::number));
-    let head = [number, verdict.line, verdict.good_lines];
-    let numbers: Vec<String> = head.iter().chain(&verdict.tally.counts()).map(u64::to_string).collect();
-    numbers.join(" ")
+    let head = [number, verdict.line, verdict.column, verdict.good_lines];
+    [&head[..], &verdict.tally.counts()].concat()
 }
 
-/// The number of a line read by itself.
-fn reading(line: &[u8]) -> String {
+/// The number of a line read by itself, and at 6 its column.
+fn reading(line: &[u8]) -> Vec<u64> {
     match read_line(line) {
         Ok(_) => {
             let mut out = [b'#'; 100];
             assert_eq!(rewrite_line(line, &mut out), Ok(()));
             assert_eq!(out[..80], *line);
             assert!(out[80..].iter().all(|&byte| byte == b'#'));
-            "0".to_owned()
+            vec![0]
         }
-        Err(refusal) => refusal.number().to_string(),
+        Err(blame) if blame.refusal.number() == 6 => vec![6, blame.column],
+        Err(blame) => vec![blame.refusal.number().into()],
     }
 }
 
-fn compare(folder: &Path, data: &str, width: usize, answer: fn(&[u8]) -> String) {
+/// Compares all cases.
+fn compare(folder: &Path, data: &str, width: usize, answer: fn(&[u8]) -> Vec<u64>) {
     let cases = cases(&folder.join("data").join(data), width);
     let labels = lines(&folder.join("labels"));
     let stored = lines(&folder.join("stdout"));
@@ -66,9 +67,10 @@ fn compare(folder: &Path, data: &str, width: usize, answer: fn(&[u8]) -> String)
     let mut differences = 0;
     for ((case, label), stored) in cases.iter().zip(&labels).zip(&stored) {
         let own = answer(case);
-        if own != *stored {
+        let numbers: Option<Vec<u64>> = stored.split(' ').map(|number| number.parse().ok()).collect();
+        if Some(&own) != numbers.as_ref() {
             differences += 1;
-            println!("{label}: stored {stored}, reference {own}");
+            println!("{label}: stored {stored}, reference {own:?}");
         }
     }
     println!("{}: {} cases, {differences} differences", folder.display(), cases.len());

@@ -2,7 +2,7 @@
 
 use std::fmt;
 
-use crate::raw::station_check;
+use crate::raw::station_verdict;
 use crate::{Jump, Refusal, Table};
 
 /// The bytes of a line with its newline.
@@ -38,6 +38,9 @@ pub struct Verdict {
     pub refusal: Option<Refusal>,
     /// The line that is refused, from 1; 0 if none is.
     pub line: u64,
+    /// The first column of the leftmost field of that line that is wrong, from 1; 0 if the refusal is not
+    /// [`Refusal::FIELD`].
+    pub column: u64,
     /// The good lines.
     pub good_lines: u64,
     /// The counts over the good lines.
@@ -55,14 +58,14 @@ impl Verdict {
         self.refusal.map_or(Ok(()), Err)
     }
 
-    /// The verdict as the report lists it: twelve lines of key and value.
+    /// The verdict as the report lists it: thirteen lines of key and value.
     pub fn report(&self) -> Report {
         Report(*self)
     }
 
     /// The verdict of the report on an input that is too long for it: it is not judged.
     pub fn too_long() -> Verdict {
-        Verdict { refusal: Some(Refusal::LONG_INPUT), line: 0, good_lines: 0, counts: Counts::default() }
+        Verdict { refusal: Some(Refusal::LONG_INPUT), line: 0, column: 0, good_lines: 0, counts: Counts::default() }
     }
 }
 
@@ -77,10 +80,11 @@ impl Report {
 
 impl fmt::Display for Report {
     fn fmt(&self, f: &mut fmt::Formatter<'_>) -> fmt::Result {
-        let Verdict { refusal, line, good_lines, counts } = self.0;
+        let Verdict { refusal, line, column, good_lines, counts } = self.0;
         let values = [
             ("verdict", u64::from(refusal.map_or(0, Refusal::number))),
             ("line", line),
+            ("column", column),
             ("lines", good_lines),
             ("remark", counts.remark),
             ("het", counts.het),
@@ -111,15 +115,18 @@ impl<'t> Entry<'t> {
     ///
     /// let verdict = Entry::check(b"");
     /// assert_eq!(verdict.refusal, Some(Refusal::OVER));
-    /// assert_eq!(verdict.line, 1);
+    /// assert_eq!((verdict.line, verdict.column), (1, 0));
+    /// let verdict = Entry::check(format!("{:80}\n{:80}\n", "HEADER", "TER      0").as_bytes());
+    /// assert_eq!(verdict.refusal, Some(Refusal::FIELD));
+    /// assert_eq!((verdict.line, verdict.column), (2, 7));
     /// ```
     pub fn check(text: &[u8]) -> Verdict {
-        let mut answer = [0; 12];
-        // SAFETY: the text is as long as said, and the answer has room for twelve numbers.
-        let number = unsafe { station_check(text.as_ptr(), text.len(), answer.as_mut_ptr()) };
-        let [_, line, good_lines, remark, het, helix, sheet, xform, coord, ter, conect, seq] = answer;
+        let mut answer = [0; 13];
+        // SAFETY: the text is as long as said, and the answer has room for thirteen numbers.
+        let number = unsafe { station_verdict(text.as_ptr(), text.len(), answer.as_mut_ptr()) };
+        let [_, line, column, good_lines, remark, het, helix, sheet, xform, coord, ter, conect, seq] = answer;
         let counts = Counts { remark, het, helix, sheet, xform, coord, ter, conect, seq };
-        Verdict { refusal: Refusal::of(number).err(), line, good_lines, counts }
+        Verdict { refusal: Refusal::of(number).err(), line, column, good_lines, counts }
     }
 
     /// Checks a text and takes it as an entry if it is granted.

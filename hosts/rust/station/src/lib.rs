@@ -27,7 +27,7 @@ pub use entry::{piece, pieces, Counts, Entry, Report, Verdict};
 pub use feed::{Dot, Frame, Stroke};
 pub use fragment::{Fragment, Fragments};
 pub use jump::Jump;
-pub use line::Line;
+pub use line::{Line, LineRefusal};
 pub use raw::{Slot, Tally};
 pub use refusal::Refusal;
 pub use table::{FragmentNumber, Kind, Mark, ModelNumber, Table};

@@ -1,7 +1,11 @@
 //! Single lines.
 
+use std::error::Error;
+use std::fmt;
+
 use crate::raw::{
-    station_count_line, station_count_line_past, station_rewrite_line, station_slot_of_line, Slot, Tally,
+    station_count_line, station_count_line_past, station_read_line, station_rewrite_line, station_slot_of_line, Slot,
+    Tally,
 };
 use crate::{ModelNumber, Refusal};
 
@@ -32,6 +36,22 @@ impl Line {
         let number = unsafe { station_rewrite_line(line.as_ptr(), line.len(), columns.as_mut_ptr(), columns.len()) };
         Refusal::of(number)?;
         Ok(Line { columns })
+    }
+
+    /// Judges a line of 80 bytes, without its newline, and keeps nothing of it. It is refused where [`Line::read`] refuses
+    /// it, and the refusal tells the column.
+    ///
+    /// ```
+    /// use station::{Line, LineRefusal, Refusal};
+    ///
+    /// let line = format!("{:80}", "CONECT    5    5");
+    /// assert_eq!(Line::judge(line.as_bytes()), Err(LineRefusal { refusal: Refusal::FIELD, column: 12 }));
+    /// ```
+    pub fn judge(line: &[u8]) -> Result<(), LineRefusal> {
+        let mut column = 0;
+        // SAFETY: the line is as long as said and does not overlap the column.
+        let number = unsafe { station_read_line(line.as_ptr(), line.len(), &mut column) };
+        Refusal::of(number).map_err(|refusal| LineRefusal { refusal, column })
     }
 
     /// The 80 columns.
@@ -78,6 +98,32 @@ impl Line {
     /// ```
     pub fn model(&self) -> Option<ModelNumber> {
         (self.name() == "MODEL").then(|| number(&self.columns[10..14])).flatten().map(ModelNumber)
+    }
+}
+
+/// Why a line by itself was refused, and where.
+#[derive(Clone, Copy, Debug, PartialEq, Eq)]
+pub struct LineRefusal {
+    /// The refusal.
+    pub refusal: Refusal,
+    /// The first column of the leftmost field that is wrong, from 1; 0 if the refusal is not [`Refusal::FIELD`].
+    pub column: u64,
+}
+
+impl fmt::Display for LineRefusal {
+    fn fmt(&self, f: &mut fmt::Formatter<'_>) -> fmt::Result {
+        match self.column {
+            0 => self.refusal.fmt(f),
+            column => write!(f, "column {column}: {}", self.refusal),
+        }
+    }
+}
+
+impl Error for LineRefusal {}
+
+impl From<LineRefusal> for Refusal {
+    fn from(line: LineRefusal) -> Refusal {
+        line.refusal
     }
 }
 

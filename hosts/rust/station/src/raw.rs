@@ -85,6 +85,8 @@ macro_rules! names {
 names! {
     /// Checks a text; `answer` has room for twelve numbers.
     fn station_check as check(text: *const u8, n: usize, answer: *mut u64) -> u32;
+    /// Checks a text; `answer` has room for thirteen numbers, the third the column of a wrong field.
+    fn station_verdict as verdict(text: *const u8, n: usize, answer: *mut u64) -> u32;
     /// Loads a text into a table.
     fn station_load as load(text: *const u8, n: usize, table: *mut Slot, slots: usize, count: *mut u64) -> u32;
     /// Sets a fragment aside, or puts it back.
@@ -111,6 +113,8 @@ names! {
     fn station_slot_of_line as slot_of_line(line: *const u8, n: usize, slot: *mut Slot) -> u32;
     /// Reads one line and writes its record.
     fn station_rewrite_line as rewrite_line(line: *const u8, n: usize, out: *mut u8, room: usize) -> u32;
+    /// Reads one line by itself and keeps nothing; tells the column of a wrong field.
+    fn station_read_line as read_line(line: *const u8, n: usize, column: *mut u64) -> u32;
     /// Jumps to an atom by its serial: its line, 0 if there is none. Tells how many lines were looked at.
     fn station_find as find(text: *const u8, n: usize, serial: u32, looked: *mut u64) -> u64;
     /// The dot of a slot; `out` has room for three doubles. 1 if there is one.

@@ -2,7 +2,9 @@
 
 use std::collections::BTreeSet;
 
-use station::{Dot, Entry, FragmentNumber, Frame, Jump, Kind, Line, Mark, Refusal, Slot, Stroke, Table, Tally};
+use station::{
+    Dot, Entry, FragmentNumber, Frame, Jump, Kind, Line, LineRefusal, Mark, Refusal, Slot, Stroke, Table, Tally,
+};
 
 fn line(text: &str) -> String {
     format!("{text:80}\n")
@@ -142,6 +144,42 @@ fn lines_by_themselves() -> Result<(), Refusal> {
     let mut tally = Tally { ter: 99_999, ..Tally::default() };
     assert_eq!(tally.count(b"TER   "), Err(Refusal::FULL));
     Ok(())
+}
+
+#[test]
+fn the_column_of_a_wrong_field() {
+    let text = entry();
+    let answer = |text: &str| {
+        let verdict = Entry::check(text.as_bytes());
+        (verdict.refusal, verdict.line, verdict.column, verdict.good_lines)
+    };
+    assert_eq!(answer(&text), (None, 0, 0, 11));
+    assert_eq!(answer(&text.replacen("  1.00  0.00", "  1.01  0.00", 1)), (Some(Refusal::FIELD), 2, 55, 1));
+    assert_eq!(answer(&text.replace("    5    6    9", "    5    5    9")), (Some(Refusal::FIELD), 9, 12, 8));
+    assert_eq!(answer(&text.replace("HETATM    9", "HETATM    6")), (Some(Refusal::SERIAL), 8, 0, 7));
+    assert_eq!(answer(&text[81..]), (Some(Refusal::PLACE), 1, 0, 0));
+    let report = Entry::check(text.replace("TER       4", "TER       0").as_bytes()).report().to_string();
+    assert!(report.starts_with("verdict=6\nline=5\ncolumn=7\nlines=4\n"), "{report}");
+    assert_eq!((report.lines().count(), station::Verdict::too_long().column), (13, 0));
+}
+
+#[test]
+fn lines_are_judged_by_themselves() {
+    let judged = |line: &[u8]| Line::judge(line).map_err(|LineRefusal { refusal, column }| (refusal, column));
+    for piece in entry().as_bytes().chunks(81) {
+        let due = if piece.starts_with(b"HEADER") { Err((Refusal::NAME, 0)) } else { Ok(()) };
+        assert_eq!(judged(&piece[..80]), due);
+    }
+    assert_eq!(judged(line("END").as_bytes()), Err((Refusal::LENGTH, 0)));
+    assert_eq!(judged(b""), Err((Refusal::LENGTH, 0)));
+    assert_eq!(judged(&[b'\t'; 80]), Err((Refusal::BYTE, 0)));
+    assert_eq!(judged(&line("TER").as_bytes()[..80]), Err((Refusal::FIELD, 7)));
+    assert_eq!(judged(&line("ENDMDL         1").as_bytes()[..80]), Err((Refusal::FIELD, 16)));
+    let refused = LineRefusal { refusal: Refusal::FIELD, column: 31 };
+    let error: Box<dyn std::error::Error> = Box::new(refused);
+    assert_eq!(error.to_string(), "column 31: refused with 6: a field or a blank column is wrong");
+    assert_eq!(LineRefusal { refusal: Refusal::NAME, column: 0 }.to_string(), Refusal::NAME.to_string());
+    assert_eq!(Refusal::from(refused), Refusal::FIELD);
 }
 
 #[test]

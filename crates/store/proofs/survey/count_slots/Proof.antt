@@ -1,5 +1,5 @@
 use borrow.Author.Needs.{needs}
-use mathlib.Core.Path.{_≡_, ap}
+use mathlib.Core.Path.{refl, _≡_, ap}
 use native.Mathlib.Omega.{arith}
 use Prim.Native.Nat.{_+_, _*_, _-_, _≤_}
 use lib.ListN.{length}
@@ -37,7 +37,7 @@ turn-requires c κs = ((c .before .loop-test .taken, c .line-at .ensures), ((sof
 returns : tie.Need-returns Inv-loop μ-loop
 unfolding refusedOf
 returns c = (
-  ap (λ (v : Verdict). v .number) (turn-refused _ _ _ _ (c .before .before .before .before .loop .inv .0) (c .before .before .before .loop-test .taken) _ _ (c .before .before .line-at .ensures) (c .before .turn .ensures .0 _ _ (c .before .before .before .before .loop .inv .0 .block) (c .before .before .before .before .loop .inv .0 .behind)) (c .if1 .taken)),
+  ap (λ (v : Verdict). v .number) (turn-refused _ _ _ _ (c .before .before .before .before .loop .inv .0) (c .before .before .before .loop-test .taken) _ _ (c .before .before .line-at .ensures) (c .before .turn .ensures .0 _ _ (c .before .before .before .before .loop .inv .0 .block) (c .before .before .before .before .loop .inv .0 .behind)) (c .if1 .taken) _ refl),
   λ z. absurd (c .if1 .taken z),
 )
 

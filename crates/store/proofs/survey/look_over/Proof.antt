@@ -3,7 +3,7 @@ use Rattle.gate.specs.declared.Verdict.{Verdict}
 use Prim.Native.Nat.{_*_, _-_}
 use lib.ListN.{length}
 use native.Mathlib.Omega.{arith}
-use mathlib.Core.Path.{ap, _∙_}
+use mathlib.Core.Path.{refl, ap, _∙_}
 use Rattle.gate.proofs.Sofar.{sofar-start, sofar-rising, sofar-reached, sofar-done, turn-refused, turn-next, turn-watched, watched-on}
 use Rattle.trail.specs.Trail.{Watched}
 use Rattle.store.proofs.Lines.{row-small, need-done, fits-done, kept-done, fences-done}
@@ -38,7 +38,7 @@ turn-requires c = λ κs. ((c .before .loop-test .taken, c .line-at .ensures), (
 
 returns : tie.Need-returns Inv-loop μ-loop
 unfolding refusedOf
-returns c = (ap (λ (v : Verdict). v .number) (turn-refused _ _ _ _ (c .before .before .before .before .before .loop .inv .0 .sofar) (c .before .before .before .before .loop-test .taken) _ _ (c .before .before .before .line-at .ensures) (c .before .before .turn .ensures .0 _ _ (c .before .before .before .before .before .loop .inv .0 .sofar .block) (c .before .before .before .before .before .loop .inv .0 .sofar .behind)) (c .if1 .taken)), λ z. absurd (c .if1 .taken z))
+returns c = (ap (λ (v : Verdict). v .number) (turn-refused _ _ _ _ (c .before .before .before .before .before .loop .inv .0 .sofar) (c .before .before .before .before .loop-test .taken) _ _ (c .before .before .before .line-at .ensures) (c .before .before .turn .ensures .0 _ _ (c .before .before .before .before .before .loop .inv .0 .sofar .block) (c .before .before .before .before .before .loop .inv .0 .sofar .behind)) (c .if1 .taken) _ refl), λ z. absurd (c .if1 .taken z))
 
 slot-at-requires : tie.Need-slot-at-requires Inv-loop μ-loop
 slot-at-requires c = search needs

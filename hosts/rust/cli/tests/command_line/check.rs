@@ -41,7 +41,7 @@ a.pdb: line 5: refused with 21: a line above has the same atom: name, alternate 
   |ATOM      1  C   ALA A   1       0.000   2.000   3.000  1.00  0.00           C  |
 ";
     assert_eq!((answer.status, answer.out.as_str()), (1, expected));
-    folder.station(&["check", "--report", "a.pdb"]).is(1, "verdict=21\nline=5\nlines=4\n");
+    folder.station(&["check", "--report", "a.pdb"]).is(1, "verdict=21\nline=5\ncolumn=0\nlines=4\n");
     let other = twins().replace("HETATM    4  C   ALA", "HETATM    4  C  AALA");
     folder.file("b.pdb", other.replace("CONECT    3    1", "CONECT    3    4"));
     folder.station(&["check", "b.pdb"]).is(0, "b.pdb: granted: 9 lines, 3 atoms");
@@ -53,11 +53,11 @@ fn check_lists_the_report() {
     folder.file("a.pdb", arginine());
     let answer = folder.station(&["check", "--report", "a.pdb"]);
     let listing =
-        "verdict=0\nline=0\nlines=5\nremark=0\nhet=0\nhelix=0\nsheet=0\nxform=0\ncoord=1\nter=1\nconect=0\nseq=0\n";
+        "verdict=0\nline=0\ncolumn=0\nlines=5\nremark=0\nhet=0\nhelix=0\nsheet=0\nxform=0\ncoord=1\nter=1\nconect=0\nseq=0\n";
     assert_eq!((answer.status, answer.out.as_str()), (0, listing));
     folder.file("long.pdb", vec![b' '; 65_530]);
     let answer = folder.station(&["check", "--report", "long.pdb"]);
-    answer.is(1, "verdict=20\nline=0\nlines=0\nremark=0\n");
+    answer.is(1, "verdict=20\nline=0\ncolumn=0\nlines=0\nremark=0\n");
     let answer = folder.station(&["check", "--report", "a.pdb", "long.pdb"]);
     answer.is(1, "file=long.pdb\nverdict=20\n");
 }

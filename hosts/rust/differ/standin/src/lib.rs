@@ -49,10 +49,18 @@ pub unsafe extern "C" fn station_check(text: *const u8, n: usize, answer: *mut u
     let verdict = reference::check(lent(text, n));
     let number = verdict.refusal.map_or(0, Refusal::number);
     let answer = lent_mut(answer, 12);
-    answer[0] = u64::from(number);
-    answer[1] = verdict.line;
-    answer[2] = verdict.good_lines;
+    answer[..3].copy_from_slice(&[u64::from(number), verdict.line, verdict.good_lines]);
     answer[3..].copy_from_slice(&verdict.tally.counts());
+    number
+}
+
+#[no_mangle]
+pub unsafe extern "C" fn station_verdict(text: *const u8, n: usize, answer: *mut u64) -> u32 {
+    let verdict = reference::check(lent(text, n));
+    let number = verdict.refusal.map_or(0, Refusal::number);
+    let answer = lent_mut(answer, 13);
+    answer[..4].copy_from_slice(&[u64::from(number), verdict.line, verdict.column, verdict.good_lines]);
+    answer[4..].copy_from_slice(&verdict.tally.counts());
     number
 }
 
@@ -144,6 +152,13 @@ pub unsafe extern "C" fn station_slot_of_line(line: *const u8, n: usize, slot: *
 #[no_mangle]
 pub unsafe extern "C" fn station_rewrite_line(line: *const u8, n: usize, out: *mut u8, room: usize) -> u32 {
     number(reference::rewrite_line(lent(line, n), lent_mut(out, room)))
+}
+
+#[no_mangle]
+pub unsafe extern "C" fn station_read_line(line: *const u8, n: usize, column: *mut u64) -> u32 {
+    let answer = reference::read_line(lent(line, n));
+    *column = answer.map_or_else(|blame| blame.column, |_| 0);
+    number(answer.map_err(|blame| blame.refusal))
 }
 
 #[no_mangle]

@@ -41,6 +41,10 @@ touching! {
         std::hint::black_box(text.add(n).read_volatile());
         (LINKED.check)(text, n, answer)
     }
+    line_read_past_its_end, reads_past_the_line: read_line(line: *const u8, n: usize, column: *mut u64) {
+        std::hint::black_box(line.add(n).read_volatile());
+        (LINKED.read_line)(line, n, column)
+    }
     table_read_before_its_start, reads_before_the_start: frame(table: *const Slot, slots: usize, out: *mut f64) {
         std::hint::black_box(table.sub(1).read_volatile());
         (LINKED.frame)(table, slots, out)

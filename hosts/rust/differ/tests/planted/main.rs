@@ -49,6 +49,7 @@ macro_rules! planted {
     };
 }
 
+mod columns;
 mod fences;
 mod fragments;
 mod jumps;

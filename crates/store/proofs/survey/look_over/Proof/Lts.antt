@@ -309,12 +309,12 @@ xs = Syntax.tyInt Syntax.w64 ∷ (Syntax.tyStruct (103 ∷ 97 ∷ 116 ∷ 101 �
     Syntax.w64) (Syntax.tcons (Syntax.tyInt Syntax.w64) (Syntax.tcons (Syntax.tyInt Syntax.w64) (Syntax.tcons (Syntax.tyInt Syntax.w64) (Syntax.tcons
     (Syntax.tyInt Syntax.w64) (Syntax.tcons (Syntax.tyInt Syntax.w64) (Syntax.tcons (Syntax.tyInt Syntax.w64) Syntax.tnil)))))))))) (Syntax.tcons (Syntax.tyInt
     Syntax.w64) Syntax.tnil)))))))))) ∷ (Syntax.tyStruct (103 ∷ 97 ∷ 116 ∷ 101 ∷ 58 ∷ 58 ∷ 86 ∷ 101 ∷ 114 ∷ 100 ∷ 105 ∷ 99 ∷ 116 ∷ []) (Syntax.tcons
-    (Syntax.tyInt Syntax.w8) (Syntax.tcons (Syntax.tyInt Syntax.w64) (Syntax.tcons (Syntax.tyInt Syntax.w64) (Syntax.tcons (Syntax.tyStruct (112 ∷ 108 ∷ 97 ∷
-    99 ∷ 101 ∷ 115 ∷ 58 ∷ 58 ∷ 67 ∷ 111 ∷ 117 ∷ 110 ∷ 116 ∷ 115 ∷ []) (Syntax.tcons (Syntax.tyInt Syntax.w64) (Syntax.tcons (Syntax.tyInt Syntax.w64)
+    (Syntax.tyInt Syntax.w8) (Syntax.tcons (Syntax.tyInt Syntax.w64) (Syntax.tcons (Syntax.tyInt Syntax.w32) (Syntax.tcons (Syntax.tyInt Syntax.w64)
+    (Syntax.tcons (Syntax.tyStruct (112 ∷ 108 ∷ 97 ∷ 99 ∷ 101 ∷ 115 ∷ 58 ∷ 58 ∷ 67 ∷ 111 ∷ 117 ∷ 110 ∷ 116 ∷ 115 ∷ []) (Syntax.tcons (Syntax.tyInt Syntax.w64)
     (Syntax.tcons (Syntax.tyInt Syntax.w64) (Syntax.tcons (Syntax.tyInt Syntax.w64) (Syntax.tcons (Syntax.tyInt Syntax.w64) (Syntax.tcons (Syntax.tyInt
-    Syntax.w64) (Syntax.tcons (Syntax.tyInt Syntax.w64) (Syntax.tcons (Syntax.tyInt Syntax.w64) (Syntax.tcons (Syntax.tyInt Syntax.w64) Syntax.tnil))))))))))
-    Syntax.tnil))))) ∷ Syntax.tyStruct (102 ∷ 105 ∷ 101 ∷ 108 ∷ 100 ∷ 115 ∷ 58 ∷ 58 ∷ 83 ∷ 101 ∷ 114 ∷ 105 ∷ 97 ∷ 108 ∷ []) (Syntax.tcons (Syntax.tyInt
-    Syntax.w32) Syntax.tnil) ∷ Syntax.tyInt Syntax.w64 ∷ Syntax.tyInt Syntax.w64 ∷ Syntax.tyBool ∷ []
+    Syntax.w64) (Syntax.tcons (Syntax.tyInt Syntax.w64) (Syntax.tcons (Syntax.tyInt Syntax.w64) (Syntax.tcons (Syntax.tyInt Syntax.w64) (Syntax.tcons
+    (Syntax.tyInt Syntax.w64) Syntax.tnil)))))))))) Syntax.tnil)))))) ∷ Syntax.tyStruct (102 ∷ 105 ∷ 101 ∷ 108 ∷ 100 ∷ 115 ∷ 58 ∷ 58 ∷ 83 ∷ 101 ∷ 114 ∷ 105 ∷
+    97 ∷ 108 ∷ []) (Syntax.tcons (Syntax.tyInt Syntax.w32) Syntax.tnil) ∷ Syntax.tyInt Syntax.w64 ∷ Syntax.tyInt Syntax.w64 ∷ Syntax.tyBool ∷ []
 
 abbrev pub m : Nat.ℕ
 m = 0
@@ -1180,19 +1180,20 @@ t1 = (
 ) ∷ (
   19,
   Rows'.any-gone (Syntax.tyStruct (103 ∷ 97 ∷ 116 ∷ 101 ∷ 58 ∷ 58 ∷ 86 ∷ 101 ∷ 114 ∷ 100 ∷ 105 ∷ 99 ∷ 116 ∷ []) (Syntax.tcons (Syntax.tyInt Syntax.w8)
-      (Syntax.tcons (Syntax.tyInt Syntax.w64) (Syntax.tcons (Syntax.tyInt Syntax.w64) (Syntax.tcons (Syntax.tyStruct (112 ∷ 108 ∷ 97 ∷ 99 ∷ 101 ∷ 115 ∷ 58 ∷ 58 ∷
-      67 ∷ 111 ∷ 117 ∷ 110 ∷ 116 ∷ 115 ∷ []) (Syntax.tcons (Syntax.tyInt Syntax.w64) (Syntax.tcons (Syntax.tyInt Syntax.w64) (Syntax.tcons (Syntax.tyInt
+      (Syntax.tcons (Syntax.tyInt Syntax.w64) (Syntax.tcons (Syntax.tyInt Syntax.w32) (Syntax.tcons (Syntax.tyInt Syntax.w64) (Syntax.tcons (Syntax.tyStruct (112
+      ∷ 108 ∷ 97 ∷ 99 ∷ 101 ∷ 115 ∷ 58 ∷ 58 ∷ 67 ∷ 111 ∷ 117 ∷ 110 ∷ 116 ∷ 115 ∷ []) (Syntax.tcons (Syntax.tyInt Syntax.w64) (Syntax.tcons (Syntax.tyInt
       Syntax.w64) (Syntax.tcons (Syntax.tyInt Syntax.w64) (Syntax.tcons (Syntax.tyInt Syntax.w64) (Syntax.tcons (Syntax.tyInt Syntax.w64) (Syntax.tcons
-      (Syntax.tyInt Syntax.w64) (Syntax.tcons (Syntax.tyInt Syntax.w64) (Syntax.tcons (Syntax.tyInt Syntax.w64) Syntax.tnil)))))))))) Syntax.tnil))))),
+      (Syntax.tyInt Syntax.w64) (Syntax.tcons (Syntax.tyInt Syntax.w64) (Syntax.tcons (Syntax.tyInt Syntax.w64) (Syntax.tcons (Syntax.tyInt Syntax.w64)
+      Syntax.tnil)))))))))) Syntax.tnil)))))),
 ) ∷ (
   20,
-  Rows'.any-gone (Syntax.tyStruct (102 ∷ 105 ∷ 101 ∷ 108 ∷ 100 ∷ 115 ∷ 58 ∷ 58 ∷ 83 ∷ 101 ∷ 114 ∷ 105 ∷ 97 ∷ 108 ∷ []) (Syntax.tcons (Syntax.tyInt
-      Syntax.w32) Syntax.tnil)),
-) ∷ (21, Rows'.any-gone (Syntax.tyInt Syntax.w64)) ∷ (22, Rows'.any-gone (Syntax.tyInt Syntax.w64)) ∷ (
-  23,
-  Rows'.any-gone
-      Syntax.tyBool,
-) ∷ []
+  Rows'.any-gone (Syntax.tyStruct (102 ∷ 105 ∷ 101 ∷ 108 ∷ 100 ∷ 115 ∷ 58 ∷ 58 ∷ 83 ∷ 101 ∷ 114 ∷ 105 ∷ 97 ∷
+      108 ∷ []) (Syntax.tcons (Syntax.tyInt Syntax.w32) Syntax.tnil)),
+) ∷ (21, Rows'.any-gone (Syntax.tyInt Syntax.w64)) ∷ (
+  22,
+  Rows'.any-gone (Syntax.tyInt
+      Syntax.w64),
+) ∷ (23, Rows'.any-gone Syntax.tyBool) ∷ []
 
 abbrev pub t2 : List.List Row.Entry
 t2 = (0, Rows'.whole (Declared'.row Findings.the-type)) ∷ (
@@ -2791,18 +2792,16 @@ t10 = (
 ) ∷ (
   19,
   Rows'.any-gone (Syntax.tyStruct (103 ∷ 97 ∷ 116 ∷ 101 ∷ 58 ∷ 58 ∷ 86 ∷ 101 ∷ 114 ∷ 100 ∷ 105 ∷ 99 ∷ 116 ∷ []) (Syntax.tcons (Syntax.tyInt Syntax.w8)
-      (Syntax.tcons (Syntax.tyInt Syntax.w64) (Syntax.tcons (Syntax.tyInt Syntax.w64) (Syntax.tcons (Syntax.tyStruct (112 ∷ 108 ∷ 97 ∷ 99 ∷ 101 ∷ 115 ∷ 58 ∷ 58 ∷
-      67 ∷ 111 ∷ 117 ∷ 110 ∷ 116 ∷ 115 ∷ []) (Syntax.tcons (Syntax.tyInt Syntax.w64) (Syntax.tcons (Syntax.tyInt Syntax.w64) (Syntax.tcons (Syntax.tyInt
+      (Syntax.tcons (Syntax.tyInt Syntax.w64) (Syntax.tcons (Syntax.tyInt Syntax.w32) (Syntax.tcons (Syntax.tyInt Syntax.w64) (Syntax.tcons (Syntax.tyStruct (112
+      ∷ 108 ∷ 97 ∷ 99 ∷ 101 ∷ 115 ∷ 58 ∷ 58 ∷ 67 ∷ 111 ∷ 117 ∷ 110 ∷ 116 ∷ 115 ∷ []) (Syntax.tcons (Syntax.tyInt Syntax.w64) (Syntax.tcons (Syntax.tyInt
       Syntax.w64) (Syntax.tcons (Syntax.tyInt Syntax.w64) (Syntax.tcons (Syntax.tyInt Syntax.w64) (Syntax.tcons (Syntax.tyInt Syntax.w64) (Syntax.tcons
-      (Syntax.tyInt Syntax.w64) (Syntax.tcons (Syntax.tyInt Syntax.w64) (Syntax.tcons (Syntax.tyInt Syntax.w64) Syntax.tnil)))))))))) Syntax.tnil))))),
-) ∷ (
-  20,
-  Rows'.whole (Declared'.row (Apart.apartT Serial.the-type)),
-) ∷ (21, Rows'.any-gone (Syntax.tyInt Syntax.w64)) ∷ (
-  22,
+      (Syntax.tyInt Syntax.w64) (Syntax.tcons (Syntax.tyInt Syntax.w64) (Syntax.tcons (Syntax.tyInt Syntax.w64) (Syntax.tcons (Syntax.tyInt Syntax.w64)
+      Syntax.tnil)))))))))) Syntax.tnil)))))),
+) ∷ (20, Rows'.whole (Declared'.row (Apart.apartT Serial.the-type))) ∷ (
+  21,
   Rows'.any-gone (Syntax.tyInt
       Syntax.w64),
-) ∷ (23, Rows'.any-gone Syntax.tyBool) ∷ []
+) ∷ (22, Rows'.any-gone (Syntax.tyInt Syntax.w64)) ∷ (23, Rows'.any-gone Syntax.tyBool) ∷ []
 
 abbrev pub t11 : List.List Row.Entry
 t11 = (
@@ -2839,17 +2838,15 @@ t11 = (
 ) ∷ (
   19,
   Rows'.any-gone (Syntax.tyStruct (103 ∷ 97 ∷ 116 ∷ 101 ∷ 58 ∷ 58 ∷ 86 ∷ 101 ∷ 114 ∷ 100 ∷ 105 ∷ 99 ∷ 116 ∷ []) (Syntax.tcons (Syntax.tyInt Syntax.w8)
-      (Syntax.tcons (Syntax.tyInt Syntax.w64) (Syntax.tcons (Syntax.tyInt Syntax.w64) (Syntax.tcons (Syntax.tyStruct (112 ∷ 108 ∷ 97 ∷ 99 ∷ 101 ∷ 115 ∷ 58 ∷ 58 ∷
-      67 ∷ 111 ∷ 117 ∷ 110 ∷ 116 ∷ 115 ∷ []) (Syntax.tcons (Syntax.tyInt Syntax.w64) (Syntax.tcons (Syntax.tyInt Syntax.w64) (Syntax.tcons (Syntax.tyInt
+      (Syntax.tcons (Syntax.tyInt Syntax.w64) (Syntax.tcons (Syntax.tyInt Syntax.w32) (Syntax.tcons (Syntax.tyInt Syntax.w64) (Syntax.tcons (Syntax.tyStruct (112
+      ∷ 108 ∷ 97 ∷ 99 ∷ 101 ∷ 115 ∷ 58 ∷ 58 ∷ 67 ∷ 111 ∷ 117 ∷ 110 ∷ 116 ∷ 115 ∷ []) (Syntax.tcons (Syntax.tyInt Syntax.w64) (Syntax.tcons (Syntax.tyInt
       Syntax.w64) (Syntax.tcons (Syntax.tyInt Syntax.w64) (Syntax.tcons (Syntax.tyInt Syntax.w64) (Syntax.tcons (Syntax.tyInt Syntax.w64) (Syntax.tcons
-      (Syntax.tyInt Syntax.w64) (Syntax.tcons (Syntax.tyInt Syntax.w64) (Syntax.tcons (Syntax.tyInt Syntax.w64) Syntax.tnil)))))))))) Syntax.tnil))))),
-) ∷ (
-  20,
-  Rows'.whole (Declared'.row Serial.the-type),
-) ∷ (21, Rows'.any-gone (Syntax.tyInt Syntax.w64)) ∷ (22, Rows'.any-gone (Syntax.tyInt Syntax.w64)) ∷ (
-  23,
-  Rows'.any-gone Syntax.tyBool,
-) ∷ []
+      (Syntax.tyInt Syntax.w64) (Syntax.tcons (Syntax.tyInt Syntax.w64) (Syntax.tcons (Syntax.tyInt Syntax.w64) (Syntax.tcons (Syntax.tyInt Syntax.w64)
+      Syntax.tnil)))))))))) Syntax.tnil)))))),
+) ∷ (20, Rows'.whole (Declared'.row Serial.the-type)) ∷ (21, Rows'.any-gone (Syntax.tyInt Syntax.w64)) ∷ (
+  22,
+  Rows'.any-gone (Syntax.tyInt Syntax.w64),
+) ∷ (23, Rows'.any-gone Syntax.tyBool) ∷ []
 
 abbrev pub t12 : List.List Row.Entry
 t12 = (
@@ -3252,19 +3249,20 @@ t14 = (
 ) ∷ (
   19,
   Rows'.any-gone (Syntax.tyStruct (103 ∷ 97 ∷ 116 ∷ 101 ∷ 58 ∷ 58 ∷ 86 ∷ 101 ∷ 114 ∷ 100 ∷ 105 ∷ 99 ∷ 116 ∷ []) (Syntax.tcons (Syntax.tyInt Syntax.w8)
-      (Syntax.tcons (Syntax.tyInt Syntax.w64) (Syntax.tcons (Syntax.tyInt Syntax.w64) (Syntax.tcons (Syntax.tyStruct (112 ∷ 108 ∷ 97 ∷ 99 ∷ 101 ∷ 115 ∷ 58 ∷ 58 ∷
-      67 ∷ 111 ∷ 117 ∷ 110 ∷ 116 ∷ 115 ∷ []) (Syntax.tcons (Syntax.tyInt Syntax.w64) (Syntax.tcons (Syntax.tyInt Syntax.w64) (Syntax.tcons (Syntax.tyInt
+      (Syntax.tcons (Syntax.tyInt Syntax.w64) (Syntax.tcons (Syntax.tyInt Syntax.w32) (Syntax.tcons (Syntax.tyInt Syntax.w64) (Syntax.tcons (Syntax.tyStruct (112
+      ∷ 108 ∷ 97 ∷ 99 ∷ 101 ∷ 115 ∷ 58 ∷ 58 ∷ 67 ∷ 111 ∷ 117 ∷ 110 ∷ 116 ∷ 115 ∷ []) (Syntax.tcons (Syntax.tyInt Syntax.w64) (Syntax.tcons (Syntax.tyInt
       Syntax.w64) (Syntax.tcons (Syntax.tyInt Syntax.w64) (Syntax.tcons (Syntax.tyInt Syntax.w64) (Syntax.tcons (Syntax.tyInt Syntax.w64) (Syntax.tcons
-      (Syntax.tyInt Syntax.w64) (Syntax.tcons (Syntax.tyInt Syntax.w64) (Syntax.tcons (Syntax.tyInt Syntax.w64) Syntax.tnil)))))))))) Syntax.tnil))))),
+      (Syntax.tyInt Syntax.w64) (Syntax.tcons (Syntax.tyInt Syntax.w64) (Syntax.tcons (Syntax.tyInt Syntax.w64) (Syntax.tcons (Syntax.tyInt Syntax.w64)
+      Syntax.tnil)))))))))) Syntax.tnil)))))),
 ) ∷ (
   20,
-  Rows'.any-gone (Syntax.tyStruct (102 ∷ 105 ∷ 101 ∷ 108 ∷ 100 ∷ 115 ∷ 58 ∷ 58 ∷ 83 ∷ 101 ∷ 114 ∷ 105 ∷ 97 ∷ 108 ∷ []) (Syntax.tcons (Syntax.tyInt
-      Syntax.w32) Syntax.tnil)),
-) ∷ (21, Rows'.sc-here (Row.sInt Syntax.w64)) ∷ (22, Rows'.any-gone (Syntax.tyInt Syntax.w64)) ∷ (
-  23,
-  Rows'.any-gone
-      Syntax.tyBool,
-) ∷ []
+  Rows'.any-gone (Syntax.tyStruct (102 ∷ 105 ∷ 101 ∷ 108 ∷ 100 ∷ 115 ∷ 58 ∷ 58 ∷ 83 ∷ 101 ∷ 114 ∷ 105 ∷ 97 ∷
+      108 ∷ []) (Syntax.tcons (Syntax.tyInt Syntax.w32) Syntax.tnil)),
+) ∷ (21, Rows'.sc-here (Row.sInt Syntax.w64)) ∷ (
+  22,
+  Rows'.any-gone (Syntax.tyInt
+      Syntax.w64),
+) ∷ (23, Rows'.any-gone Syntax.tyBool) ∷ []
 
 abbrev pub t15 : List.List Row.Entry
 t15 = (
@@ -3301,16 +3299,17 @@ t15 = (
 ) ∷ (
   19,
   Rows'.any-gone (Syntax.tyStruct (103 ∷ 97 ∷ 116 ∷ 101 ∷ 58 ∷ 58 ∷ 86 ∷ 101 ∷ 114 ∷ 100 ∷ 105 ∷ 99 ∷ 116 ∷ []) (Syntax.tcons (Syntax.tyInt Syntax.w8)
-      (Syntax.tcons (Syntax.tyInt Syntax.w64) (Syntax.tcons (Syntax.tyInt Syntax.w64) (Syntax.tcons (Syntax.tyStruct (112 ∷ 108 ∷ 97 ∷ 99 ∷ 101 ∷ 115 ∷ 58 ∷ 58 ∷
-      67 ∷ 111 ∷ 117 ∷ 110 ∷ 116 ∷ 115 ∷ []) (Syntax.tcons (Syntax.tyInt Syntax.w64) (Syntax.tcons (Syntax.tyInt Syntax.w64) (Syntax.tcons (Syntax.tyInt
+      (Syntax.tcons (Syntax.tyInt Syntax.w64) (Syntax.tcons (Syntax.tyInt Syntax.w32) (Syntax.tcons (Syntax.tyInt Syntax.w64) (Syntax.tcons (Syntax.tyStruct (112
+      ∷ 108 ∷ 97 ∷ 99 ∷ 101 ∷ 115 ∷ 58 ∷ 58 ∷ 67 ∷ 111 ∷ 117 ∷ 110 ∷ 116 ∷ 115 ∷ []) (Syntax.tcons (Syntax.tyInt Syntax.w64) (Syntax.tcons (Syntax.tyInt
       Syntax.w64) (Syntax.tcons (Syntax.tyInt Syntax.w64) (Syntax.tcons (Syntax.tyInt Syntax.w64) (Syntax.tcons (Syntax.tyInt Syntax.w64) (Syntax.tcons
-      (Syntax.tyInt Syntax.w64) (Syntax.tcons (Syntax.tyInt Syntax.w64) (Syntax.tcons (Syntax.tyInt Syntax.w64) Syntax.tnil)))))))))) Syntax.tnil))))),
+      (Syntax.tyInt Syntax.w64) (Syntax.tcons (Syntax.tyInt Syntax.w64) (Syntax.tcons (Syntax.tyInt Syntax.w64) (Syntax.tcons (Syntax.tyInt Syntax.w64)
+      Syntax.tnil)))))))))) Syntax.tnil)))))),
 ) ∷ (
   20,
-  Rows'.any-gone (Syntax.tyStruct (102 ∷ 105 ∷ 101 ∷ 108 ∷ 100 ∷ 115 ∷ 58 ∷ 58 ∷ 83 ∷ 101 ∷ 114 ∷ 105 ∷ 97 ∷ 108 ∷ []) (Syntax.tcons (Syntax.tyInt
-      Syntax.w32) Syntax.tnil)),
-) ∷ (21, Rows'.sc-here (Row.sInt Syntax.w64)) ∷ (22, Rows'.sc-here (Row.sInt Syntax.w64)) ∷ (23, Rows'.any-gone Syntax.tyBool) ∷
-    []
+  Rows'.any-gone (Syntax.tyStruct (102 ∷ 105 ∷ 101 ∷ 108 ∷ 100 ∷ 115 ∷ 58 ∷ 58 ∷ 83 ∷ 101 ∷ 114 ∷ 105 ∷ 97 ∷
+      108 ∷ []) (Syntax.tcons (Syntax.tyInt Syntax.w32) Syntax.tnil)),
+) ∷ (21, Rows'.sc-here (Row.sInt Syntax.w64)) ∷ (22, Rows'.sc-here (Row.sInt Syntax.w64)) ∷
+    (23, Rows'.any-gone Syntax.tyBool) ∷ []
 
 abbrev pub t16 : List.List Row.Entry
 t16 = (
@@ -3347,15 +3346,17 @@ t16 = (
 ) ∷ (
   19,
   Rows'.any-gone (Syntax.tyStruct (103 ∷ 97 ∷ 116 ∷ 101 ∷ 58 ∷ 58 ∷ 86 ∷ 101 ∷ 114 ∷ 100 ∷ 105 ∷ 99 ∷ 116 ∷ []) (Syntax.tcons (Syntax.tyInt Syntax.w8)
-      (Syntax.tcons (Syntax.tyInt Syntax.w64) (Syntax.tcons (Syntax.tyInt Syntax.w64) (Syntax.tcons (Syntax.tyStruct (112 ∷ 108 ∷ 97 ∷ 99 ∷ 101 ∷ 115 ∷ 58 ∷ 58 ∷
-      67 ∷ 111 ∷ 117 ∷ 110 ∷ 116 ∷ 115 ∷ []) (Syntax.tcons (Syntax.tyInt Syntax.w64) (Syntax.tcons (Syntax.tyInt Syntax.w64) (Syntax.tcons (Syntax.tyInt
+      (Syntax.tcons (Syntax.tyInt Syntax.w64) (Syntax.tcons (Syntax.tyInt Syntax.w32) (Syntax.tcons (Syntax.tyInt Syntax.w64) (Syntax.tcons (Syntax.tyStruct (112
+      ∷ 108 ∷ 97 ∷ 99 ∷ 101 ∷ 115 ∷ 58 ∷ 58 ∷ 67 ∷ 111 ∷ 117 ∷ 110 ∷ 116 ∷ 115 ∷ []) (Syntax.tcons (Syntax.tyInt Syntax.w64) (Syntax.tcons (Syntax.tyInt
       Syntax.w64) (Syntax.tcons (Syntax.tyInt Syntax.w64) (Syntax.tcons (Syntax.tyInt Syntax.w64) (Syntax.tcons (Syntax.tyInt Syntax.w64) (Syntax.tcons
-      (Syntax.tyInt Syntax.w64) (Syntax.tcons (Syntax.tyInt Syntax.w64) (Syntax.tcons (Syntax.tyInt Syntax.w64) Syntax.tnil)))))))))) Syntax.tnil))))),
+      (Syntax.tyInt Syntax.w64) (Syntax.tcons (Syntax.tyInt Syntax.w64) (Syntax.tcons (Syntax.tyInt Syntax.w64) (Syntax.tcons (Syntax.tyInt Syntax.w64)
+      Syntax.tnil)))))))))) Syntax.tnil)))))),
 ) ∷ (
   20,
-  Rows'.any-gone (Syntax.tyStruct (102 ∷ 105 ∷ 101 ∷ 108 ∷ 100 ∷ 115 ∷ 58 ∷ 58 ∷ 83 ∷ 101 ∷ 114 ∷ 105 ∷ 97 ∷ 108 ∷ []) (Syntax.tcons (Syntax.tyInt
-      Syntax.w32) Syntax.tnil)),
-) ∷ (21, Rows'.sc-here (Row.sInt Syntax.w64)) ∷ (22, Rows'.sc-here (Row.sInt Syntax.w64)) ∷ (23, Rows'.sc-here Row.sBool) ∷ []
+  Rows'.any-gone (Syntax.tyStruct (102 ∷ 105 ∷ 101 ∷ 108 ∷ 100 ∷ 115 ∷ 58 ∷ 58 ∷ 83 ∷ 101 ∷ 114 ∷ 105 ∷ 97 ∷
+      108 ∷ []) (Syntax.tcons (Syntax.tyInt Syntax.w32) Syntax.tnil)),
+) ∷ (21, Rows'.sc-here (Row.sInt Syntax.w64)) ∷ (22, Rows'.sc-here (Row.sInt Syntax.w64)) ∷
+    (23, Rows'.sc-here Row.sBool) ∷ []
 
 abbrev pub t17 : List.List Row.Entry
 t17 = (
@@ -3392,16 +3393,20 @@ t17 = (
 ) ∷ (
   19,
   Rows'.any-gone (Syntax.tyStruct (103 ∷ 97 ∷ 116 ∷ 101 ∷ 58 ∷ 58 ∷ 86 ∷ 101 ∷ 114 ∷ 100 ∷ 105 ∷ 99 ∷ 116 ∷ []) (Syntax.tcons (Syntax.tyInt Syntax.w8)
-      (Syntax.tcons (Syntax.tyInt Syntax.w64) (Syntax.tcons (Syntax.tyInt Syntax.w64) (Syntax.tcons (Syntax.tyStruct (112 ∷ 108 ∷ 97 ∷ 99 ∷ 101 ∷ 115 ∷ 58 ∷ 58 ∷
-      67 ∷ 111 ∷ 117 ∷ 110 ∷ 116 ∷ 115 ∷ []) (Syntax.tcons (Syntax.tyInt Syntax.w64) (Syntax.tcons (Syntax.tyInt Syntax.w64) (Syntax.tcons (Syntax.tyInt
+      (Syntax.tcons (Syntax.tyInt Syntax.w64) (Syntax.tcons (Syntax.tyInt Syntax.w32) (Syntax.tcons (Syntax.tyInt Syntax.w64) (Syntax.tcons (Syntax.tyStruct (112
+      ∷ 108 ∷ 97 ∷ 99 ∷ 101 ∷ 115 ∷ 58 ∷ 58 ∷ 67 ∷ 111 ∷ 117 ∷ 110 ∷ 116 ∷ 115 ∷ []) (Syntax.tcons (Syntax.tyInt Syntax.w64) (Syntax.tcons (Syntax.tyInt
       Syntax.w64) (Syntax.tcons (Syntax.tyInt Syntax.w64) (Syntax.tcons (Syntax.tyInt Syntax.w64) (Syntax.tcons (Syntax.tyInt Syntax.w64) (Syntax.tcons
-      (Syntax.tyInt Syntax.w64) (Syntax.tcons (Syntax.tyInt Syntax.w64) (Syntax.tcons (Syntax.tyInt Syntax.w64) Syntax.tnil)))))))))) Syntax.tnil))))),
+      (Syntax.tyInt Syntax.w64) (Syntax.tcons (Syntax.tyInt Syntax.w64) (Syntax.tcons (Syntax.tyInt Syntax.w64) (Syntax.tcons (Syntax.tyInt Syntax.w64)
+      Syntax.tnil)))))))))) Syntax.tnil)))))),
 ) ∷ (
   20,
-  Rows'.any-gone (Syntax.tyStruct (102 ∷ 105 ∷ 101 ∷ 108 ∷ 100 ∷ 115 ∷ 58 ∷ 58 ∷ 83 ∷ 101 ∷ 114 ∷ 105 ∷ 97 ∷ 108 ∷ []) (Syntax.tcons (Syntax.tyInt
-      Syntax.w32) Syntax.tnil)),
-) ∷ (21, Rows'.any-gone (Syntax.tyInt Syntax.w64)) ∷ (22, Rows'.sc-here (Row.sInt Syntax.w64)) ∷ (23, Rows'.sc-here Row.sBool) ∷
-    []
+  Rows'.any-gone (Syntax.tyStruct (102 ∷ 105 ∷ 101 ∷ 108 ∷ 100 ∷ 115 ∷ 58 ∷ 58 ∷ 83 ∷ 101 ∷ 114 ∷ 105 ∷ 97 ∷
+      108 ∷ []) (Syntax.tcons (Syntax.tyInt Syntax.w32) Syntax.tnil)),
+) ∷ (21, Rows'.any-gone (Syntax.tyInt Syntax.w64)) ∷ (
+  22,
+  Rows'.sc-here (Row.sInt
+      Syntax.w64),
+) ∷ (23, Rows'.sc-here Row.sBool) ∷ []
 
 abbrev pub t18 : List.List Row.Entry
 t18 = (
@@ -3438,19 +3443,20 @@ t18 = (
 ) ∷ (
   19,
   Rows'.any-gone (Syntax.tyStruct (103 ∷ 97 ∷ 116 ∷ 101 ∷ 58 ∷ 58 ∷ 86 ∷ 101 ∷ 114 ∷ 100 ∷ 105 ∷ 99 ∷ 116 ∷ []) (Syntax.tcons (Syntax.tyInt Syntax.w8)
-      (Syntax.tcons (Syntax.tyInt Syntax.w64) (Syntax.tcons (Syntax.tyInt Syntax.w64) (Syntax.tcons (Syntax.tyStruct (112 ∷ 108 ∷ 97 ∷ 99 ∷ 101 ∷ 115 ∷ 58 ∷ 58 ∷
-      67 ∷ 111 ∷ 117 ∷ 110 ∷ 116 ∷ 115 ∷ []) (Syntax.tcons (Syntax.tyInt Syntax.w64) (Syntax.tcons (Syntax.tyInt Syntax.w64) (Syntax.tcons (Syntax.tyInt
+      (Syntax.tcons (Syntax.tyInt Syntax.w64) (Syntax.tcons (Syntax.tyInt Syntax.w32) (Syntax.tcons (Syntax.tyInt Syntax.w64) (Syntax.tcons (Syntax.tyStruct (112
+      ∷ 108 ∷ 97 ∷ 99 ∷ 101 ∷ 115 ∷ 58 ∷ 58 ∷ 67 ∷ 111 ∷ 117 ∷ 110 ∷ 116 ∷ 115 ∷ []) (Syntax.tcons (Syntax.tyInt Syntax.w64) (Syntax.tcons (Syntax.tyInt
       Syntax.w64) (Syntax.tcons (Syntax.tyInt Syntax.w64) (Syntax.tcons (Syntax.tyInt Syntax.w64) (Syntax.tcons (Syntax.tyInt Syntax.w64) (Syntax.tcons
-      (Syntax.tyInt Syntax.w64) (Syntax.tcons (Syntax.tyInt Syntax.w64) (Syntax.tcons (Syntax.tyInt Syntax.w64) Syntax.tnil)))))))))) Syntax.tnil))))),
+      (Syntax.tyInt Syntax.w64) (Syntax.tcons (Syntax.tyInt Syntax.w64) (Syntax.tcons (Syntax.tyInt Syntax.w64) (Syntax.tcons (Syntax.tyInt Syntax.w64)
+      Syntax.tnil)))))))))) Syntax.tnil)))))),
 ) ∷ (
   20,
-  Rows'.any-gone (Syntax.tyStruct (102 ∷ 105 ∷ 101 ∷ 108 ∷ 100 ∷ 115 ∷ 58 ∷ 58 ∷ 83 ∷ 101 ∷ 114 ∷ 105 ∷ 97 ∷ 108 ∷ []) (Syntax.tcons (Syntax.tyInt
-      Syntax.w32) Syntax.tnil)),
-) ∷ (21, Rows'.any-gone (Syntax.tyInt Syntax.w64)) ∷ (22, Rows'.any-gone (Syntax.tyInt Syntax.w64)) ∷ (
-  23,
-  Rows'.sc-here
-      Row.sBool,
-) ∷ []
+  Rows'.any-gone (Syntax.tyStruct (102 ∷ 105 ∷ 101 ∷ 108 ∷ 100 ∷ 115 ∷ 58 ∷ 58 ∷ 83 ∷ 101 ∷ 114 ∷ 105 ∷ 97 ∷
+      108 ∷ []) (Syntax.tcons (Syntax.tyInt Syntax.w32) Syntax.tnil)),
+) ∷ (21, Rows'.any-gone (Syntax.tyInt Syntax.w64)) ∷ (
+  22,
+  Rows'.any-gone (Syntax.tyInt
+      Syntax.w64),
+) ∷ (23, Rows'.sc-here Row.sBool) ∷ []
 
 abbrev pub t19 : List.List Row.Entry
 t19 = (
@@ -6052,19 +6058,20 @@ t37 = (16, Rows'.whole (Declared'.row Sought.the-type)) ∷ (
 ) ∷ (
   19,
   Rows'.any-gone (Syntax.tyStruct (103 ∷ 97 ∷ 116 ∷ 101 ∷ 58 ∷ 58 ∷ 86 ∷ 101 ∷ 114 ∷ 100 ∷ 105 ∷ 99 ∷ 116 ∷ []) (Syntax.tcons (Syntax.tyInt Syntax.w8)
-      (Syntax.tcons (Syntax.tyInt Syntax.w64) (Syntax.tcons (Syntax.tyInt Syntax.w64) (Syntax.tcons (Syntax.tyStruct (112 ∷ 108 ∷ 97 ∷ 99 ∷ 101 ∷ 115 ∷ 58 ∷ 58 ∷
-      67 ∷ 111 ∷ 117 ∷ 110 ∷ 116 ∷ 115 ∷ []) (Syntax.tcons (Syntax.tyInt Syntax.w64) (Syntax.tcons (Syntax.tyInt Syntax.w64) (Syntax.tcons (Syntax.tyInt
+      (Syntax.tcons (Syntax.tyInt Syntax.w64) (Syntax.tcons (Syntax.tyInt Syntax.w32) (Syntax.tcons (Syntax.tyInt Syntax.w64) (Syntax.tcons (Syntax.tyStruct (112
+      ∷ 108 ∷ 97 ∷ 99 ∷ 101 ∷ 115 ∷ 58 ∷ 58 ∷ 67 ∷ 111 ∷ 117 ∷ 110 ∷ 116 ∷ 115 ∷ []) (Syntax.tcons (Syntax.tyInt Syntax.w64) (Syntax.tcons (Syntax.tyInt
       Syntax.w64) (Syntax.tcons (Syntax.tyInt Syntax.w64) (Syntax.tcons (Syntax.tyInt Syntax.w64) (Syntax.tcons (Syntax.tyInt Syntax.w64) (Syntax.tcons
-      (Syntax.tyInt Syntax.w64) (Syntax.tcons (Syntax.tyInt Syntax.w64) (Syntax.tcons (Syntax.tyInt Syntax.w64) Syntax.tnil)))))))))) Syntax.tnil))))),
+      (Syntax.tyInt Syntax.w64) (Syntax.tcons (Syntax.tyInt Syntax.w64) (Syntax.tcons (Syntax.tyInt Syntax.w64) (Syntax.tcons (Syntax.tyInt Syntax.w64)
+      Syntax.tnil)))))))))) Syntax.tnil)))))),
 ) ∷ (
   20,
-  Rows'.any-gone (Syntax.tyStruct (102 ∷ 105 ∷ 101 ∷ 108 ∷ 100 ∷ 115 ∷ 58 ∷ 58 ∷ 83 ∷ 101 ∷ 114 ∷ 105 ∷ 97 ∷ 108 ∷ []) (Syntax.tcons (Syntax.tyInt
-      Syntax.w32) Syntax.tnil)),
-) ∷ (21, Rows'.any-gone (Syntax.tyInt Syntax.w64)) ∷ (22, Rows'.any-gone (Syntax.tyInt Syntax.w64)) ∷ (
-  23,
-  Rows'.any-gone
-      Syntax.tyBool,
-) ∷ []
+  Rows'.any-gone (Syntax.tyStruct (102 ∷ 105 ∷ 101 ∷ 108 ∷ 100 ∷ 115 ∷ 58 ∷ 58 ∷ 83 ∷ 101 ∷ 114 ∷ 105 ∷ 97 ∷
+      108 ∷ []) (Syntax.tcons (Syntax.tyInt Syntax.w32) Syntax.tnil)),
+) ∷ (21, Rows'.any-gone (Syntax.tyInt Syntax.w64)) ∷ (
+  22,
+  Rows'.any-gone (Syntax.tyInt
+      Syntax.w64),
+) ∷ (23, Rows'.any-gone Syntax.tyBool) ∷ []
 
 abbrev pub t38 : List.List Row.Entry
 t38 = (
@@ -6272,19 +6279,20 @@ t40 = (16, Rows'.whole (Declared'.row Sought.the-type)) ∷ (17, Rows'.whole (De
 ) ∷ (
   19,
   Rows'.any-gone (Syntax.tyStruct (103 ∷ 97 ∷ 116 ∷ 101 ∷ 58 ∷ 58 ∷ 86 ∷ 101 ∷ 114 ∷ 100 ∷ 105 ∷ 99 ∷ 116 ∷ []) (Syntax.tcons (Syntax.tyInt Syntax.w8)
-      (Syntax.tcons (Syntax.tyInt Syntax.w64) (Syntax.tcons (Syntax.tyInt Syntax.w64) (Syntax.tcons (Syntax.tyStruct (112 ∷ 108 ∷ 97 ∷ 99 ∷ 101 ∷ 115 ∷ 58 ∷ 58 ∷
-      67 ∷ 111 ∷ 117 ∷ 110 ∷ 116 ∷ 115 ∷ []) (Syntax.tcons (Syntax.tyInt Syntax.w64) (Syntax.tcons (Syntax.tyInt Syntax.w64) (Syntax.tcons (Syntax.tyInt
+      (Syntax.tcons (Syntax.tyInt Syntax.w64) (Syntax.tcons (Syntax.tyInt Syntax.w32) (Syntax.tcons (Syntax.tyInt Syntax.w64) (Syntax.tcons (Syntax.tyStruct (112
+      ∷ 108 ∷ 97 ∷ 99 ∷ 101 ∷ 115 ∷ 58 ∷ 58 ∷ 67 ∷ 111 ∷ 117 ∷ 110 ∷ 116 ∷ 115 ∷ []) (Syntax.tcons (Syntax.tyInt Syntax.w64) (Syntax.tcons (Syntax.tyInt
       Syntax.w64) (Syntax.tcons (Syntax.tyInt Syntax.w64) (Syntax.tcons (Syntax.tyInt Syntax.w64) (Syntax.tcons (Syntax.tyInt Syntax.w64) (Syntax.tcons
-      (Syntax.tyInt Syntax.w64) (Syntax.tcons (Syntax.tyInt Syntax.w64) (Syntax.tcons (Syntax.tyInt Syntax.w64) Syntax.tnil)))))))))) Syntax.tnil))))),
+      (Syntax.tyInt Syntax.w64) (Syntax.tcons (Syntax.tyInt Syntax.w64) (Syntax.tcons (Syntax.tyInt Syntax.w64) (Syntax.tcons (Syntax.tyInt Syntax.w64)
+      Syntax.tnil)))))))))) Syntax.tnil)))))),
 ) ∷ (
   20,
-  Rows'.any-gone (Syntax.tyStruct (102 ∷ 105 ∷ 101 ∷ 108 ∷ 100 ∷ 115 ∷ 58 ∷ 58 ∷ 83 ∷ 101 ∷ 114 ∷ 105 ∷ 97 ∷ 108 ∷ []) (Syntax.tcons (Syntax.tyInt
-      Syntax.w32) Syntax.tnil)),
-) ∷ (21, Rows'.any-gone (Syntax.tyInt Syntax.w64)) ∷ (22, Rows'.any-gone (Syntax.tyInt Syntax.w64)) ∷ (
-  23,
-  Rows'.any-gone
-      Syntax.tyBool,
-) ∷ []
+  Rows'.any-gone (Syntax.tyStruct (102 ∷ 105 ∷ 101 ∷ 108 ∷ 100 ∷ 115 ∷ 58 ∷ 58 ∷ 83 ∷ 101 ∷ 114 ∷ 105 ∷ 97 ∷
+      108 ∷ []) (Syntax.tcons (Syntax.tyInt Syntax.w32) Syntax.tnil)),
+) ∷ (21, Rows'.any-gone (Syntax.tyInt Syntax.w64)) ∷ (
+  22,
+  Rows'.any-gone (Syntax.tyInt
+      Syntax.w64),
+) ∷ (23, Rows'.any-gone Syntax.tyBool) ∷ []
 
 abbrev pub t41 : List.List Row.Entry
 t41 = (
@@ -6402,19 +6410,20 @@ t42 = (16, Rows'.whole (Declared'.row Sought.the-type)) ∷ (
 ) ∷ (
   19,
   Rows'.any-gone (Syntax.tyStruct (103 ∷ 97 ∷ 116 ∷ 101 ∷ 58 ∷ 58 ∷ 86 ∷ 101 ∷ 114 ∷ 100 ∷ 105 ∷ 99 ∷ 116 ∷ []) (Syntax.tcons (Syntax.tyInt Syntax.w8)
-      (Syntax.tcons (Syntax.tyInt Syntax.w64) (Syntax.tcons (Syntax.tyInt Syntax.w64) (Syntax.tcons (Syntax.tyStruct (112 ∷ 108 ∷ 97 ∷ 99 ∷ 101 ∷ 115 ∷ 58 ∷ 58 ∷
-      67 ∷ 111 ∷ 117 ∷ 110 ∷ 116 ∷ 115 ∷ []) (Syntax.tcons (Syntax.tyInt Syntax.w64) (Syntax.tcons (Syntax.tyInt Syntax.w64) (Syntax.tcons (Syntax.tyInt
+      (Syntax.tcons (Syntax.tyInt Syntax.w64) (Syntax.tcons (Syntax.tyInt Syntax.w32) (Syntax.tcons (Syntax.tyInt Syntax.w64) (Syntax.tcons (Syntax.tyStruct (112
+      ∷ 108 ∷ 97 ∷ 99 ∷ 101 ∷ 115 ∷ 58 ∷ 58 ∷ 67 ∷ 111 ∷ 117 ∷ 110 ∷ 116 ∷ 115 ∷ []) (Syntax.tcons (Syntax.tyInt Syntax.w64) (Syntax.tcons (Syntax.tyInt
       Syntax.w64) (Syntax.tcons (Syntax.tyInt Syntax.w64) (Syntax.tcons (Syntax.tyInt Syntax.w64) (Syntax.tcons (Syntax.tyInt Syntax.w64) (Syntax.tcons
-      (Syntax.tyInt Syntax.w64) (Syntax.tcons (Syntax.tyInt Syntax.w64) (Syntax.tcons (Syntax.tyInt Syntax.w64) Syntax.tnil)))))))))) Syntax.tnil))))),
+      (Syntax.tyInt Syntax.w64) (Syntax.tcons (Syntax.tyInt Syntax.w64) (Syntax.tcons (Syntax.tyInt Syntax.w64) (Syntax.tcons (Syntax.tyInt Syntax.w64)
+      Syntax.tnil)))))))))) Syntax.tnil)))))),
 ) ∷ (
   20,
-  Rows'.any-gone (Syntax.tyStruct (102 ∷ 105 ∷ 101 ∷ 108 ∷ 100 ∷ 115 ∷ 58 ∷ 58 ∷ 83 ∷ 101 ∷ 114 ∷ 105 ∷ 97 ∷ 108 ∷ []) (Syntax.tcons (Syntax.tyInt
-      Syntax.w32) Syntax.tnil)),
-) ∷ (21, Rows'.sc-here (Row.sInt Syntax.w64)) ∷ (22, Rows'.any-gone (Syntax.tyInt Syntax.w64)) ∷ (
-  23,
-  Rows'.any-gone
-      Syntax.tyBool,
-) ∷ []
+  Rows'.any-gone (Syntax.tyStruct (102 ∷ 105 ∷ 101 ∷ 108 ∷ 100 ∷ 115 ∷ 58 ∷ 58 ∷ 83 ∷ 101 ∷ 114 ∷ 105 ∷ 97 ∷
+      108 ∷ []) (Syntax.tcons (Syntax.tyInt Syntax.w32) Syntax.tnil)),
+) ∷ (21, Rows'.sc-here (Row.sInt Syntax.w64)) ∷ (
+  22,
+  Rows'.any-gone (Syntax.tyInt
+      Syntax.w64),
+) ∷ (23, Rows'.any-gone Syntax.tyBool) ∷ []
 
 abbrev pub t43 : List.List Row.Entry
 t43 = (
@@ -6451,19 +6460,20 @@ t43 = (
 ) ∷ (
   19,
   Rows'.any-gone (Syntax.tyStruct (103 ∷ 97 ∷ 116 ∷ 101 ∷ 58 ∷ 58 ∷ 86 ∷ 101 ∷ 114 ∷ 100 ∷ 105 ∷ 99 ∷ 116 ∷ []) (Syntax.tcons (Syntax.tyInt Syntax.w8)
-      (Syntax.tcons (Syntax.tyInt Syntax.w64) (Syntax.tcons (Syntax.tyInt Syntax.w64) (Syntax.tcons (Syntax.tyStruct (112 ∷ 108 ∷ 97 ∷ 99 ∷ 101 ∷ 115 ∷ 58 ∷ 58 ∷
-      67 ∷ 111 ∷ 117 ∷ 110 ∷ 116 ∷ 115 ∷ []) (Syntax.tcons (Syntax.tyInt Syntax.w64) (Syntax.tcons (Syntax.tyInt Syntax.w64) (Syntax.tcons (Syntax.tyInt
+      (Syntax.tcons (Syntax.tyInt Syntax.w64) (Syntax.tcons (Syntax.tyInt Syntax.w32) (Syntax.tcons (Syntax.tyInt Syntax.w64) (Syntax.tcons (Syntax.tyStruct (112
+      ∷ 108 ∷ 97 ∷ 99 ∷ 101 ∷ 115 ∷ 58 ∷ 58 ∷ 67 ∷ 111 ∷ 117 ∷ 110 ∷ 116 ∷ 115 ∷ []) (Syntax.tcons (Syntax.tyInt Syntax.w64) (Syntax.tcons (Syntax.tyInt
       Syntax.w64) (Syntax.tcons (Syntax.tyInt Syntax.w64) (Syntax.tcons (Syntax.tyInt Syntax.w64) (Syntax.tcons (Syntax.tyInt Syntax.w64) (Syntax.tcons
-      (Syntax.tyInt Syntax.w64) (Syntax.tcons (Syntax.tyInt Syntax.w64) (Syntax.tcons (Syntax.tyInt Syntax.w64) Syntax.tnil)))))))))) Syntax.tnil))))),
+      (Syntax.tyInt Syntax.w64) (Syntax.tcons (Syntax.tyInt Syntax.w64) (Syntax.tcons (Syntax.tyInt Syntax.w64) (Syntax.tcons (Syntax.tyInt Syntax.w64)
+      Syntax.tnil)))))))))) Syntax.tnil)))))),
 ) ∷ (
   20,
-  Rows'.any-gone (Syntax.tyStruct (102 ∷ 105 ∷ 101 ∷ 108 ∷ 100 ∷ 115 ∷ 58 ∷ 58 ∷ 83 ∷ 101 ∷ 114 ∷ 105 ∷ 97 ∷ 108 ∷ []) (Syntax.tcons (Syntax.tyInt
-      Syntax.w32) Syntax.tnil)),
-) ∷ (21, Rows'.any-gone (Syntax.tyInt Syntax.w64)) ∷ (22, Rows'.sc-here (Row.sInt Syntax.w64)) ∷ (
-  23,
-  Rows'.any-gone
-      Syntax.tyBool,
-) ∷ []
+  Rows'.any-gone (Syntax.tyStruct (102 ∷ 105 ∷ 101 ∷ 108 ∷ 100 ∷ 115 ∷ 58 ∷ 58 ∷ 83 ∷ 101 ∷ 114 ∷ 105 ∷ 97 ∷
+      108 ∷ []) (Syntax.tcons (Syntax.tyInt Syntax.w32) Syntax.tnil)),
+) ∷ (21, Rows'.any-gone (Syntax.tyInt Syntax.w64)) ∷ (
+  22,
+  Rows'.sc-here (Row.sInt
+      Syntax.w64),
+) ∷ (23, Rows'.any-gone Syntax.tyBool) ∷ []
 
 abbrev pub t44 : List.List Row.Entry
 t44 = (
@@ -6664,19 +6674,19 @@ t45 = (
   19,
   Rows'.any-gone (Syntax.tyStruct (103 ∷ 97
       ∷ 116 ∷ 101 ∷ 58 ∷ 58 ∷ 86 ∷ 101 ∷ 114 ∷ 100 ∷ 105 ∷ 99 ∷ 116 ∷ []) (Syntax.tcons (Syntax.tyInt Syntax.w8) (Syntax.tcons (Syntax.tyInt Syntax.w64)
-      (Syntax.tcons (Syntax.tyInt Syntax.w64) (Syntax.tcons (Syntax.tyStruct (112 ∷ 108 ∷ 97 ∷ 99 ∷ 101 ∷ 115 ∷ 58 ∷ 58 ∷ 67 ∷ 111 ∷ 117 ∷ 110 ∷ 116 ∷ 115 ∷ [])
-      (Syntax.tcons (Syntax.tyInt Syntax.w64) (Syntax.tcons (Syntax.tyInt Syntax.w64) (Syntax.tcons (Syntax.tyInt Syntax.w64) (Syntax.tcons (Syntax.tyInt
+      (Syntax.tcons (Syntax.tyInt Syntax.w32) (Syntax.tcons (Syntax.tyInt Syntax.w64) (Syntax.tcons (Syntax.tyStruct (112 ∷ 108 ∷ 97 ∷ 99 ∷ 101 ∷ 115 ∷ 58 ∷ 58 ∷
+      67 ∷ 111 ∷ 117 ∷ 110 ∷ 116 ∷ 115 ∷ []) (Syntax.tcons (Syntax.tyInt Syntax.w64) (Syntax.tcons (Syntax.tyInt Syntax.w64) (Syntax.tcons (Syntax.tyInt
       Syntax.w64) (Syntax.tcons (Syntax.tyInt Syntax.w64) (Syntax.tcons (Syntax.tyInt Syntax.w64) (Syntax.tcons (Syntax.tyInt Syntax.w64) (Syntax.tcons
-      (Syntax.tyInt Syntax.w64) (Syntax.tcons (Syntax.tyInt Syntax.w64) Syntax.tnil)))))))))) Syntax.tnil))))),
+      (Syntax.tyInt Syntax.w64) (Syntax.tcons (Syntax.tyInt Syntax.w64) (Syntax.tcons (Syntax.tyInt Syntax.w64) Syntax.tnil)))))))))) Syntax.tnil)))))),
 ) ∷ (
   20,
-  Rows'.any-gone (Syntax.tyStruct (102 ∷ 105
-      ∷ 101 ∷ 108 ∷ 100 ∷ 115 ∷ 58 ∷ 58 ∷ 83 ∷ 101 ∷ 114 ∷ 105 ∷ 97 ∷ 108 ∷ []) (Syntax.tcons (Syntax.tyInt Syntax.w32) Syntax.tnil)),
-) ∷ (
-  21,
+  Rows'.any-gone (Syntax.tyStruct (102 ∷ 105 ∷ 101 ∷ 108 ∷ 100 ∷ 115 ∷ 58 ∷ 58 ∷ 83 ∷ 101 ∷ 114 ∷ 105 ∷ 97 ∷ 108 ∷ []) (Syntax.tcons (Syntax.tyInt
+      Syntax.w32) Syntax.tnil)),
+) ∷ (21, Rows'.any-gone (Syntax.tyInt Syntax.w64)) ∷ (22, Rows'.any-gone (Syntax.tyInt Syntax.w64)) ∷ (
+  23,
   Rows'.any-gone
-      (Syntax.tyInt Syntax.w64),
-) ∷ (22, Rows'.any-gone (Syntax.tyInt Syntax.w64)) ∷ (23, Rows'.any-gone Syntax.tyBool) ∷ []
+      Syntax.tyBool,
+) ∷ []
 
 abbrev pub t46 : List.List Row.Entry
 t46 = (
@@ -8081,10 +8091,11 @@ module _ (claims· : Claims) where
   abbrev s70 : (bs : List.List Nat.ℕ) → Typed.Both T74 T75
   s70 = λ bs. Call.callB ps·11 r·11 (claims· .22) (claims· .23) T74 (record { pos = 18; st = []; d = 0; at = λ x. x }, tt) 19 [] (Syntax.tyStruct
       (103 ∷ 97 ∷ 116 ∷ 101 ∷ 58 ∷ 58 ∷ 86 ∷ 101 ∷ 114 ∷ 100 ∷ 105 ∷ 99 ∷ 116 ∷ []) (Syntax.tcons (Syntax.tyInt Syntax.w8) (Syntax.tcons (Syntax.tyInt
-      Syntax.w64) (Syntax.tcons (Syntax.tyInt Syntax.w64) (Syntax.tcons (Syntax.tyStruct (112 ∷ 108 ∷ 97 ∷ 99 ∷ 101 ∷ 115 ∷ 58 ∷ 58 ∷ 67 ∷ 111 ∷ 117 ∷ 110 ∷
-      116 ∷ 115 ∷ []) (Syntax.tcons (Syntax.tyInt Syntax.w64) (Syntax.tcons (Syntax.tyInt Syntax.w64) (Syntax.tcons (Syntax.tyInt Syntax.w64) (Syntax.tcons
+      Syntax.w64) (Syntax.tcons (Syntax.tyInt Syntax.w32) (Syntax.tcons (Syntax.tyInt Syntax.w64) (Syntax.tcons (Syntax.tyStruct (112 ∷ 108 ∷ 97 ∷ 99 ∷ 101 ∷
+      115 ∷ 58 ∷ 58 ∷ 67 ∷ 111 ∷ 117 ∷ 110 ∷ 116 ∷ 115 ∷ []) (Syntax.tcons (Syntax.tyInt Syntax.w64) (Syntax.tcons (Syntax.tyInt Syntax.w64) (Syntax.tcons
       (Syntax.tyInt Syntax.w64) (Syntax.tcons (Syntax.tyInt Syntax.w64) (Syntax.tcons (Syntax.tyInt Syntax.w64) (Syntax.tcons (Syntax.tyInt Syntax.w64)
-      (Syntax.tcons (Syntax.tyInt Syntax.w64) (Syntax.tcons (Syntax.tyInt Syntax.w64) Syntax.tnil)))))))))) Syntax.tnil)))))
+      (Syntax.tcons (Syntax.tyInt Syntax.w64) (Syntax.tcons (Syntax.tyInt Syntax.w64) (Syntax.tcons (Syntax.tyInt Syntax.w64) Syntax.tnil))))))))))
+      Syntax.tnil))))))
 
   abbrev s71 : (bs : List.List Nat.ℕ) → Typed.Mo T75 → Typed.Mo T76
   s71 = λ bs. Scalar.n-room T75 18 (Syntax.tyStruct (114 ∷ 117 ∷ 108 ∷ 101 ∷ 115 ∷ 58 ∷ 58 ∷ 83 ∷ 116 ∷ 97 ∷ 116 ∷ 101 ∷ []) (Syntax.tcons (Syntax.tyInt
@@ -8133,11 +8144,11 @@ module _ (claims· : Claims) where
 
   abbrev s79 : (bs : List.List Nat.ℕ) → Typed.Mo T83 → Typed.Mo T84
   s79 = λ bs. Scalar.n-room T83 19 (Syntax.tyStruct (103 ∷ 97 ∷ 116 ∷ 101 ∷ 58 ∷ 58 ∷ 86 ∷ 101 ∷ 114 ∷ 100 ∷ 105 ∷ 99 ∷ 116 ∷ []) (Syntax.tcons (Syntax.tyInt
-      Syntax.w8) (Syntax.tcons (Syntax.tyInt Syntax.w64) (Syntax.tcons (Syntax.tyInt Syntax.w64) (Syntax.tcons (Syntax.tyStruct (112 ∷ 108 ∷ 97 ∷ 99 ∷ 101 ∷
-      115 ∷ 58 ∷ 58 ∷ 67 ∷ 111 ∷ 117 ∷ 110 ∷ 116 ∷ 115 ∷ []) (Syntax.tcons (Syntax.tyInt Syntax.w64) (Syntax.tcons (Syntax.tyInt Syntax.w64) (Syntax.tcons
-      (Syntax.tyInt Syntax.w64) (Syntax.tcons (Syntax.tyInt Syntax.w64) (Syntax.tcons (Syntax.tyInt Syntax.w64) (Syntax.tcons (Syntax.tyInt Syntax.w64)
-      (Syntax.tcons (Syntax.tyInt Syntax.w64) (Syntax.tcons (Syntax.tyInt Syntax.w64) (Syntax.tcons (Syntax.tyInt Syntax.w64) Syntax.tnil))))))))))
-      Syntax.tnil)))))
+      Syntax.w8) (Syntax.tcons (Syntax.tyInt Syntax.w64) (Syntax.tcons (Syntax.tyInt Syntax.w32) (Syntax.tcons (Syntax.tyInt Syntax.w64) (Syntax.tcons
+      (Syntax.tyStruct (112 ∷ 108 ∷ 97 ∷ 99 ∷ 101 ∷ 115 ∷ 58 ∷ 58 ∷ 67 ∷ 111 ∷ 117 ∷ 110 ∷ 116 ∷ 115 ∷ []) (Syntax.tcons (Syntax.tyInt Syntax.w64)
+      (Syntax.tcons (Syntax.tyInt Syntax.w64) (Syntax.tcons (Syntax.tyInt Syntax.w64) (Syntax.tcons (Syntax.tyInt Syntax.w64) (Syntax.tcons (Syntax.tyInt
+      Syntax.w64) (Syntax.tcons (Syntax.tyInt Syntax.w64) (Syntax.tcons (Syntax.tyInt Syntax.w64) (Syntax.tcons (Syntax.tyInt Syntax.w64) (Syntax.tcons
+      (Syntax.tyInt Syntax.w64) Syntax.tnil)))))))))) Syntax.tnil))))))
 
   abbrev s80 : (bs : List.List Nat.ℕ) → Typed.Mo T84 → Typed.Mo T85
   s80 = λ bs. AtSlots.n-as-by T84 0 (Rows'.whole (Declared'.row Findings.the-type)) λ v. Findings.struct .make v tt
@@ -10474,16 +10485,16 @@ module _ (claims· : Claims) where
             d68 : Typed.Typed 𝓤 H A 𝓣 E G83 b69 Δ0 (at68 bs)
             d68 = Typed.g-pre 𝓤 H A W 𝓣 E G83 G84 b69 Δ0 (Typed.pass T83 T84 (s79 bs)) (at67 bs) (Scalar.g-room 𝓤 H A W E G83 19 (Syntax.tyStruct (103 ∷ 97 ∷ 116
                 ∷ 101 ∷ 58 ∷ 58 ∷ 86 ∷ 101 ∷ 114 ∷ 100 ∷ 105 ∷ 99 ∷ 116 ∷ []) (Syntax.tcons (Syntax.tyInt Syntax.w8) (Syntax.tcons (Syntax.tyInt Syntax.w64)
+                (Syntax.tcons (Syntax.tyInt Syntax.w32) (Syntax.tcons (Syntax.tyInt Syntax.w64) (Syntax.tcons (Syntax.tyStruct (112 ∷ 108 ∷ 97 ∷ 99 ∷ 101 ∷ 115 ∷
+                58 ∷ 58 ∷ 67 ∷ 111 ∷ 117 ∷ 110 ∷ 116 ∷ 115 ∷ []) (Syntax.tcons (Syntax.tyInt Syntax.w64) (Syntax.tcons (Syntax.tyInt Syntax.w64) (Syntax.tcons
+                (Syntax.tyInt Syntax.w64) (Syntax.tcons (Syntax.tyInt Syntax.w64) (Syntax.tcons (Syntax.tyInt Syntax.w64) (Syntax.tcons (Syntax.tyInt Syntax.w64)
+                (Syntax.tcons (Syntax.tyInt Syntax.w64) (Syntax.tcons (Syntax.tyInt Syntax.w64) (Syntax.tcons (Syntax.tyInt Syntax.w64) Syntax.tnil))))))))))
+                Syntax.tnil)))))) (Local.room-whole 𝓤 H A W (Declared'.row Verdict.the-type) (Syntax.tyStruct (103 ∷ 97 ∷ 116 ∷ 101 ∷ 58 ∷ 58 ∷ 86 ∷ 101 ∷ 114 ∷
+                100 ∷ 105 ∷ 99 ∷ 116 ∷ []) (Syntax.tcons (Syntax.tyInt Syntax.w8) (Syntax.tcons (Syntax.tyInt Syntax.w64) (Syntax.tcons (Syntax.tyInt Syntax.w32)
                 (Syntax.tcons (Syntax.tyInt Syntax.w64) (Syntax.tcons (Syntax.tyStruct (112 ∷ 108 ∷ 97 ∷ 99 ∷ 101 ∷ 115 ∷ 58 ∷ 58 ∷ 67 ∷ 111 ∷ 117 ∷ 110 ∷ 116 ∷
                 115 ∷ []) (Syntax.tcons (Syntax.tyInt Syntax.w64) (Syntax.tcons (Syntax.tyInt Syntax.w64) (Syntax.tcons (Syntax.tyInt Syntax.w64) (Syntax.tcons
                 (Syntax.tyInt Syntax.w64) (Syntax.tcons (Syntax.tyInt Syntax.w64) (Syntax.tcons (Syntax.tyInt Syntax.w64) (Syntax.tcons (Syntax.tyInt Syntax.w64)
-                (Syntax.tcons (Syntax.tyInt Syntax.w64) (Syntax.tcons (Syntax.tyInt Syntax.w64) Syntax.tnil)))))))))) Syntax.tnil))))) (Local.room-whole 𝓤 H A W
-                (Declared'.row Verdict.the-type) (Syntax.tyStruct (103 ∷ 97 ∷ 116 ∷ 101 ∷ 58 ∷ 58 ∷ 86 ∷ 101 ∷ 114 ∷ 100 ∷ 105 ∷ 99 ∷ 116 ∷ []) (Syntax.tcons
-                (Syntax.tyInt Syntax.w8) (Syntax.tcons (Syntax.tyInt Syntax.w64) (Syntax.tcons (Syntax.tyInt Syntax.w64) (Syntax.tcons (Syntax.tyStruct (112 ∷
-                108 ∷ 97 ∷ 99 ∷ 101 ∷ 115 ∷ 58 ∷ 58 ∷ 67 ∷ 111 ∷ 117 ∷ 110 ∷ 116 ∷ 115 ∷ []) (Syntax.tcons (Syntax.tyInt Syntax.w64) (Syntax.tcons (Syntax.tyInt
-                Syntax.w64) (Syntax.tcons (Syntax.tyInt Syntax.w64) (Syntax.tcons (Syntax.tyInt Syntax.w64) (Syntax.tcons (Syntax.tyInt Syntax.w64) (Syntax.tcons
-                (Syntax.tyInt Syntax.w64) (Syntax.tcons (Syntax.tyInt Syntax.w64) (Syntax.tcons (Syntax.tyInt Syntax.w64) (Syntax.tcons (Syntax.tyInt Syntax.w64)
-                Syntax.tnil)))))))))) Syntax.tnil))))) Path'.refl)) d67
+                (Syntax.tcons (Syntax.tyInt Syntax.w64) (Syntax.tcons (Syntax.tyInt Syntax.w64) Syntax.tnil)))))))))) Syntax.tnil)))))) Path'.refl)) d67
 
             d69 : Typed.Typed 𝓤 H A 𝓣 E G82 b69 Δ0 (at69 bs)
             d69 = Typed.g-pre 𝓤 H A W 𝓣 E G82 G83 b69 Δ0 (Typed.pass T82 T83 (s78 bs)) (at68 bs) (Scalar.g-room 𝓤 H A W E G82 9 (Syntax.tyInt Syntax.w64)
@@ -10635,11 +10646,11 @@ module _ (claims· : Claims) where
                   tt,
                 ) (Reads'.room-gone 𝓤 H A (Syntax.tyStruct
                 (103 ∷ 97 ∷ 116 ∷ 101 ∷ 58 ∷ 58 ∷ 86 ∷ 101 ∷ 114 ∷ 100 ∷ 105 ∷ 99 ∷ 116 ∷ []) (Syntax.tcons (Syntax.tyInt Syntax.w8) (Syntax.tcons (Syntax.tyInt
-                Syntax.w64) (Syntax.tcons (Syntax.tyInt Syntax.w64) (Syntax.tcons (Syntax.tyStruct (112 ∷ 108 ∷ 97 ∷ 99 ∷ 101 ∷ 115 ∷ 58 ∷ 58 ∷ 67 ∷ 111 ∷ 117 ∷
-                110 ∷ 116 ∷ 115 ∷ []) (Syntax.tcons (Syntax.tyInt Syntax.w64) (Syntax.tcons (Syntax.tyInt Syntax.w64) (Syntax.tcons (Syntax.tyInt Syntax.w64)
+                Syntax.w64) (Syntax.tcons (Syntax.tyInt Syntax.w32) (Syntax.tcons (Syntax.tyInt Syntax.w64) (Syntax.tcons (Syntax.tyStruct (112 ∷ 108 ∷ 97 ∷ 99 ∷
+                101 ∷ 115 ∷ 58 ∷ 58 ∷ 67 ∷ 111 ∷ 117 ∷ 110 ∷ 116 ∷ 115 ∷ []) (Syntax.tcons (Syntax.tyInt Syntax.w64) (Syntax.tcons (Syntax.tyInt Syntax.w64)
                 (Syntax.tcons (Syntax.tyInt Syntax.w64) (Syntax.tcons (Syntax.tyInt Syntax.w64) (Syntax.tcons (Syntax.tyInt Syntax.w64) (Syntax.tcons
-                (Syntax.tyInt Syntax.w64) (Syntax.tcons (Syntax.tyInt Syntax.w64) (Syntax.tcons (Syntax.tyInt Syntax.w64) Syntax.tnil)))))))))) Syntax.tnil))))))
-                tt Path'.refl) d76
+                (Syntax.tyInt Syntax.w64) (Syntax.tcons (Syntax.tyInt Syntax.w64) (Syntax.tcons (Syntax.tyInt Syntax.w64) (Syntax.tcons (Syntax.tyInt Syntax.w64)
+                Syntax.tnil)))))))))) Syntax.tnil))))))) tt Path'.refl) d76
 
             d78 : Typed.Typed 𝓤 H A 𝓣 E G73 b71 Δ0 (at78 bs)
             d78 = Typed.g-pre 𝓤 H A W 𝓣 E G73 G74 b71 Δ0 (Typed.pass T73 T74 (s69 bs)) (at77 bs) (Scalar.g-room 𝓤 H A W E G73 4 (Syntax.tyStruct (103 ∷ 97 ∷ 116
