@@ -18,6 +18,68 @@
 extern "C" {
 #endif
 
+/* The numbers of refusal. station_words.h has words for each. */
+enum {
+    STATION_GRANTED = 0,
+    STATION_REFUSED_LENGTH = 1,            /* the length of a line */
+    STATION_REFUSED_NEWLINE = 2,           /* byte 81 of a line */
+    STATION_REFUSED_BYTE = 3,              /* a byte that no column may hold */
+    STATION_REFUSED_NAME = 4,              /* the name of a line */
+    STATION_REFUSED_PLACE = 5,             /* the place of a line */
+    STATION_REFUSED_FIELD = 6,             /* a field or blank column */
+    STATION_REFUSED_SERIAL = 7,            /* a serial that does not rise */
+    STATION_REFUSED_RUN = 8,               /* a run or its TER */
+    STATION_REFUSED_BOND = 9,              /* a CONECT line */
+    STATION_REFUSED_SEQUENCE = 10,         /* a helix or sheet */
+    STATION_REFUSED_COUNT = 11,            /* a count on MASTER */
+    STATION_REFUSED_OVER = 12,             /* the text is over too soon */
+    STATION_REFUSED_SHORT_TABLE = 13,      /* the table is too short */
+    STATION_REFUSED_FULL = 14,             /* a count of the tally is full */
+    STATION_REFUSED_NO_FRAGMENT = 15,      /* there is no such fragment */
+    STATION_REFUSED_ALREADY_THERE = 16,    /* the fragment is already there */
+    STATION_REFUSED_SHORT_OUTPUT = 17,     /* the output is too short */
+    STATION_REFUSED_OTHER_TABLE = 18,      /* the table is another text's */
+    STATION_REFUSED_NOTHING_TO_FRAME = 19, /* there is nothing to frame */
+    STATION_REFUSED_LONG_INPUT = 20,       /* the input is too long for the report program; no call gives it */
+    STATION_REFUSED_SAME_ATOM = 21,        /* an atom that a line above, in the same model, has already */
+    STATION_REFUSED_MODEL = 22             /* the number of a model */
+};
+
+/* What the numbers of the answer of station_check are, and how many there are. */
+enum {
+    STATION_CHECK_REFUSAL,
+    STATION_CHECK_LINE,
+    STATION_CHECK_GOOD_LINES,
+    STATION_CHECK_REMARK,
+    STATION_CHECK_HET,
+    STATION_CHECK_HELIX,
+    STATION_CHECK_SHEET,
+    STATION_CHECK_XFORM,
+    STATION_CHECK_COORD,
+    STATION_CHECK_TER,
+    STATION_CHECK_CONECT,
+    STATION_CHECK_SEQ,
+    STATION_CHECK_SIZE
+};
+
+/* The same of station_verdict. */
+enum {
+    STATION_VERDICT_REFUSAL,
+    STATION_VERDICT_LINE,
+    STATION_VERDICT_COLUMN,
+    STATION_VERDICT_GOOD_LINES,
+    STATION_VERDICT_REMARK,
+    STATION_VERDICT_HET,
+    STATION_VERDICT_HELIX,
+    STATION_VERDICT_SHEET,
+    STATION_VERDICT_XFORM,
+    STATION_VERDICT_COORD,
+    STATION_VERDICT_TER,
+    STATION_VERDICT_CONECT,
+    STATION_VERDICT_SEQ,
+    STATION_VERDICT_SIZE
+};
+
 /* Kinds of slots. A slot of any other kind is damaged: it is no text's and is never drawn. */
 enum { STATION_ATOM = 1, STATION_HETATM = 2, STATION_TER = 3 };
 
@@ -52,15 +114,16 @@ typedef struct {
     uint32_t ter, conect, seq;
 } station_tally;
 
-/* Checks a text. `answer` receives the number, the line refused (0 if none), the good lines, and the nine counts over
- * the good lines in the order of station_tally. Returns the number as well: 0, 1 to 12, 21 or 22. */
-uint32_t station_check(const uint8_t *text, size_t n, uint64_t answer[12]);
+/* Checks a text. `answer` receives twelve numbers: the number of refusal, the line refused (0 if none), the good lines,
+ * and the nine counts over the good lines in the order of station_tally. Returns the number as well: 0, 1 to 12, 21 or
+ * 22. */
+uint32_t station_check(const uint8_t *text, size_t n, uint64_t answer[STATION_CHECK_SIZE]);
 
 /* Checks a text and tells the column of a 6 as well. `answer` receives thirteen numbers in the order of the report: the
  * number, the line refused (0 if none), the column (0 where the number is not 6), the good lines, and the nine counts
  * over the good lines. Columns count from 1; it is the first one of the leftmost field of the line that is wrong.
  * station_check is this without the column. Returns the number as well: 0, 1 to 12, 21 or 22. */
-uint32_t station_verdict(const uint8_t *text, size_t n, uint64_t answer[13]);
+uint32_t station_verdict(const uint8_t *text, size_t n, uint64_t answer[STATION_VERDICT_SIZE]);
 
 /* Loads an accepted text: one slot for each ATOM, HETATM and TER line of all models, in order, all marked in. `count`
  * receives the slots filled, 0 if refused. 1 to 12, 21 and 22 for the text; 13 if `slots` is below what the text

@@ -10,15 +10,19 @@
 static void check(const char *what, const char *bytes, size_t n, uint64_t number, uint64_t line, uint64_t good,
                   uint64_t coord, uint64_t ter, uint64_t conect)
 {
-    const uint64_t due[12] = {number, line, good, 0, 0, 0, 0, 0, coord, ter, conect, 0};
+    const uint64_t due[STATION_CHECK_SIZE] = {
+        [STATION_CHECK_REFUSAL] = number, [STATION_CHECK_LINE] = line, [STATION_CHECK_GOOD_LINES] = good,
+        [STATION_CHECK_COORD] = coord,    [STATION_CHECK_TER] = ter,   [STATION_CHECK_CONECT] = conect,
+    };
     lent t = lend(bytes, n, 1), answer = lend(NULL, sizeof due, 0);
     uint32_t came = station_check(at(&t), n, at(&answer));
-    uint64_t a[12];
+    uint64_t a[STATION_CHECK_SIZE];
     memcpy(a, at(&answer), sizeof a);
     told(came == number && memcmp(a, due, sizeof due) == 0 && as_lent(&t) && guarded(&answer),
          "check: %s: %u, line %llu, %llu good, coord %llu, ter %llu, conect %llu", what, (unsigned)came,
-         (unsigned long long)a[1], (unsigned long long)a[2], (unsigned long long)a[8], (unsigned long long)a[9],
-         (unsigned long long)a[10]);
+         (unsigned long long)a[STATION_CHECK_LINE], (unsigned long long)a[STATION_CHECK_GOOD_LINES],
+         (unsigned long long)a[STATION_CHECK_COORD], (unsigned long long)a[STATION_CHECK_TER],
+         (unsigned long long)a[STATION_CHECK_CONECT]);
     give_back(&t), give_back(&answer);
 }
 

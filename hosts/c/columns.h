@@ -6,22 +6,36 @@
 #include "lent.h"
 #include "station.h"
 
+/* Whether a check answered what a verdict did, the column left out. */
+static int same_but_column(const uint64_t *check, const uint64_t *verdict)
+{
+    return memcmp(check, verdict, STATION_VERDICT_COLUMN * sizeof *check) == 0 &&
+           memcmp(check + STATION_VERDICT_COLUMN, verdict + STATION_VERDICT_COLUMN + 1,
+                  (STATION_CHECK_SIZE - STATION_VERDICT_COLUMN) * sizeof *check) == 0;
+}
+
 /* A check with its column, which gives this number, line, column and good lines, and these counts; all others are 0.
  * The check without the column answers the same. */
 static void verdict(const char *what, const char *bytes, size_t n, uint64_t number, uint64_t line, uint64_t column,
                     uint64_t good, uint64_t coord, uint64_t ter, uint64_t conect)
 {
-    const uint64_t due[13] = {number, line, column, good, 0, 0, 0, 0, 0, coord, ter, conect, 0};
-    lent t = lend(bytes, n, 1), answer = lend(NULL, sizeof due, 0), without = lend(NULL, 12 * sizeof *due, 0);
+    const uint64_t due[STATION_VERDICT_SIZE] = {
+        [STATION_VERDICT_REFUSAL] = number, [STATION_VERDICT_LINE] = line,
+        [STATION_VERDICT_COLUMN] = column,  [STATION_VERDICT_GOOD_LINES] = good,
+        [STATION_VERDICT_COORD] = coord,    [STATION_VERDICT_TER] = ter,
+        [STATION_VERDICT_CONECT] = conect,
+    };
+    uint64_t a[STATION_VERDICT_SIZE], c[STATION_CHECK_SIZE];
+    lent t = lend(bytes, n, 1), answer = lend(NULL, sizeof a, 0), without = lend(NULL, sizeof c, 0);
     uint32_t came = station_verdict(at(&t), n, at(&answer)), checked = station_check(at(&t), n, at(&without));
-    uint64_t a[13], c[12];
     memcpy(a, at(&answer), sizeof a);
     memcpy(c, at(&without), sizeof c);
     told(came == number && memcmp(a, due, sizeof due) == 0 && as_lent(&t) && guarded(&answer) && guarded(&without) &&
-             checked == came && memcmp(c, due, 2 * sizeof *c) == 0 && memcmp(c + 2, due + 3, 10 * sizeof *c) == 0,
+             checked == came && same_but_column(c, a),
          "verdict: %s: %u, line %llu, column %llu, %llu good, coord %llu, ter %llu, conect %llu", what, (unsigned)came,
-         (unsigned long long)a[1], (unsigned long long)a[2], (unsigned long long)a[3], (unsigned long long)a[9],
-         (unsigned long long)a[10], (unsigned long long)a[11]);
+         (unsigned long long)a[STATION_VERDICT_LINE], (unsigned long long)a[STATION_VERDICT_COLUMN],
+         (unsigned long long)a[STATION_VERDICT_GOOD_LINES], (unsigned long long)a[STATION_VERDICT_COORD],
+         (unsigned long long)a[STATION_VERDICT_TER], (unsigned long long)a[STATION_VERDICT_CONECT]);
     give_back(&t), give_back(&answer), give_back(&without);
 }
 
@@ -55,8 +69,8 @@ static void damaged(const damage *d)
     add(&t, d->line);
     memcpy(t.bytes + LINE + d->from - 1, d->bytes, strlen(d->bytes));
     if (d->more) memcpy(t.bytes + LINE + d->other - 1, d->more, strlen(d->more));
-    read_line(d->what, t.bytes + LINE, 80, 6, d->column);
-    verdict(d->what, t.bytes, t.size, 6, 2, d->column, 1, 0, 0, 0);
+    read_line(d->what, t.bytes + LINE, 80, STATION_REFUSED_FIELD, d->column);
+    verdict(d->what, t.bytes, t.size, STATION_REFUSED_FIELD, 2, d->column, 1, 0, 0, 0);
 }
 
 static const char ATOM[] = "ATOM     32  N  AARG A  -3      11.281  86.699  94.383  0.50 35.88           N";
@@ -121,25 +135,25 @@ static void no_column(const char *entry)
 {
     char byte[80], more[5 * LINE + 1];
     text t = three(), twins = three_with("B   7");
-    read_line("a carried kind", entry, 80, 4, 0);
+    read_line("a carried kind", entry, 80, STATION_REFUSED_NAME, 0);
     memcpy(byte, entry + LINE, 80);
     memcpy(byte + 30, "  -0.000", 8);
-    read_line("79 columns", byte, 79, 1, 0);
+    read_line("79 columns", byte, 79, STATION_REFUSED_LENGTH, 0);
     byte[79] = '\n';
-    read_line("a byte wrong, and a field", byte, 80, 3, 0);
-    read_line("81 columns", entry + LINE, LINE, 1, 0);
-    read_line("nothing", entry, 0, 1, 0);
+    read_line("a byte wrong, and a field", byte, 80, STATION_REFUSED_BYTE, 0);
+    read_line("81 columns", entry + LINE, LINE, STATION_REFUSED_LENGTH, 0);
+    read_line("nothing", entry, 0, STATION_REFUSED_LENGTH, 0);
     memcpy(more, entry, 5 * LINE);
     more[5 * LINE] = ' ';
     verdict("the example", entry, 5 * LINE, 0, 0, 0, 5, 1, 1, 0);
     verdict("three fragments", t.bytes, t.size, 0, 0, 0, 8, 3, 1, 1);
-    verdict("one byte more", more, 5 * LINE + 1, 1, 6, 0, 5, 1, 1, 0);
-    verdict("no END", entry, 4 * LINE, 12, 5, 0, 4, 1, 1, 0);
-    verdict("nothing", entry, 0, 12, 1, 0, 0, 0, 0, 0);
-    verdict("the same atom twice", twins.bytes, twins.size, 21, 5, 0, 4, 2, 1, 0);
+    verdict("one byte more", more, 5 * LINE + 1, STATION_REFUSED_LENGTH, 6, 0, 5, 1, 1, 0);
+    verdict("no END", entry, 4 * LINE, STATION_REFUSED_OVER, 5, 0, 4, 1, 1, 0);
+    verdict("nothing", entry, 0, STATION_REFUSED_OVER, 1, 0, 0, 0, 0, 0);
+    verdict("the same atom twice", twins.bytes, twins.size, STATION_REFUSED_SAME_ATOM, 5, 0, 4, 2, 1, 0);
     memcpy(more + LINE + 30, "  -0.000", 8);
-    verdict("a field wrong", more, 5 * LINE, 6, 2, 31, 1, 0, 0, 0);
-    verdict("a field wrong, and no HEADER", more + LINE, 4 * LINE, 5, 1, 0, 0, 0, 0, 0);
+    verdict("a field wrong", more, 5 * LINE, STATION_REFUSED_FIELD, 2, 31, 1, 0, 0, 0);
+    verdict("a field wrong, and no HEADER", more + LINE, 4 * LINE, STATION_REFUSED_PLACE, 1, 0, 0, 0, 0, 0);
 }
 
 /* A wrong field further down: the good lines and the counts are those above it. */
@@ -149,15 +163,15 @@ static void further_down(const char *entry)
     text t = three(), both;
     memcpy(end, entry, sizeof end);
     end[5 * LINE - 2] = 'X';
-    verdict("END and more", end, sizeof end, 6, 5, 80, 4, 1, 1, 0);
-    read_line("END and more", end + 4 * LINE, 80, 6, 80);
+    verdict("END and more", end, sizeof end, STATION_REFUSED_FIELD, 5, 80, 4, 1, 1, 0);
+    read_line("END and more", end + 4 * LINE, 80, STATION_REFUSED_FIELD, 80);
     memcpy(end + 4 * LINE, "ENDMDL", 6);
-    read_line("ENDMDL and more", end + 4 * LINE, 80, 6, 80);
+    read_line("ENDMDL and more", end + 4 * LINE, 80, STATION_REFUSED_FIELD, 80);
     memcpy(t.bytes + 5 * LINE + 11, "    3", 5);
-    verdict("CONECT to itself", t.bytes, t.size, 6, 6, 12, 5, 3, 1, 0);
+    verdict("CONECT to itself", t.bytes, t.size, STATION_REFUSED_FIELD, 6, 12, 5, 3, 1, 0);
     both = t;
     memcpy(both.bytes + 2 * LINE + 22, "   +", 4);
-    verdict("TER and CONECT", both.bytes, both.size, 6, 3, 23, 2, 1, 0, 0);
+    verdict("TER and CONECT", both.bytes, both.size, STATION_REFUSED_FIELD, 3, 23, 2, 1, 0, 0);
 }
 
 static void columns(const char *entry)

@@ -1,4 +1,5 @@
-/* Calls each of the seventeen names of include/station.h, and holds what comes against docs/FORMAT.md.
+/* Calls each of the seventeen names of include/station.h, and the words of include/station_words.h, and holds what
+ * comes against docs/FORMAT.md.
  *
  *     cc -std=c11 -I include hosts/c/try.c LIBRARY/libstation.a -o try && ./try <crates/report/stdin
  *
@@ -10,6 +11,7 @@
 #include "jumps.h"
 #include "lent.h"
 #include "models.h"
+#include "numbers.h"
 #include "station.h"
 
 /* ---- the layout */
@@ -42,17 +44,17 @@ static void checks(const char *entry, const text *wrong)
     more[5 * LINE] = ' ';
     check("the example", entry, 5 * LINE, 0, 0, 5, 1, 1, 0);
     check("three fragments", t.bytes, t.size, 0, 0, 8, 3, 1, 1);
-    check("a field wrong", wrong->bytes, wrong->size, 6, 2, 1, 0, 0, 0);
-    check("one byte more", more, 5 * LINE + 1, 1, 6, 5, 1, 1, 0);
-    check("no last newline", entry, 5 * LINE - 1, 1, 5, 4, 1, 1, 0);
-    check("no END", entry, 4 * LINE, 12, 5, 4, 1, 1, 0);
-    check("no HEADER", entry + LINE, 4 * LINE, 5, 1, 0, 0, 0, 0);
-    check("nothing", entry, 0, 12, 1, 0, 0, 0, 0);
-    check("the same atom twice", twins.bytes, twins.size, 21, 5, 4, 2, 1, 0);
+    check("a field wrong", wrong->bytes, wrong->size, STATION_REFUSED_FIELD, 2, 1, 0, 0, 0);
+    check("one byte more", more, 5 * LINE + 1, STATION_REFUSED_LENGTH, 6, 5, 1, 1, 0);
+    check("no last newline", entry, 5 * LINE - 1, STATION_REFUSED_LENGTH, 5, 4, 1, 1, 0);
+    check("no END", entry, 4 * LINE, STATION_REFUSED_OVER, 5, 4, 1, 1, 0);
+    check("no HEADER", entry + LINE, 4 * LINE, STATION_REFUSED_PLACE, 1, 0, 0, 0, 0);
+    check("nothing", entry, 0, STATION_REFUSED_OVER, 1, 0, 0, 0, 0);
+    check("the same atom twice", twins.bytes, twins.size, STATION_REFUSED_SAME_ATOM, 5, 4, 2, 1, 0);
     twins.bytes[4 * LINE + 16] = 'A';
     check("the same atom at two locations", twins.bytes, twins.size, 0, 0, 8, 3, 1, 1);
     memcpy(twins.bytes + 4 * LINE + 12, twins.bytes + LINE + 12, 68);
-    check("the same atom, ATOM and HETATM", twins.bytes, twins.size, 21, 5, 4, 2, 1, 0);
+    check("the same atom, ATOM and HETATM", twins.bytes, twins.size, STATION_REFUSED_SAME_ATOM, 5, 4, 2, 1, 0);
 }
 
 /* ---- the table */
@@ -92,27 +94,27 @@ static void orders(const text *wrong)
     tray.size = 2 * LINE;
 
     order("fragment 2 aside", &t, is, 4, 2, 1, 0, "0010");
-    order("fragment 2 aside again", &t, is, 4, 2, 1, 16, NULL);
-    order("fragment 0", &t, is, 4, 0, 1, 15, NULL);
-    order("fragment 4", &t, is, 4, 4, 1, 15, NULL);
-    order("a short table", &t, is, 3, 1, 1, 13, NULL);
-    order("a wrong text", wrong, is, 4, 1, 1, 6, NULL);
-    order("the same atom twice", &twins, is, 4, 1, 1, 21, NULL);
+    order("fragment 2 aside again", &t, is, 4, 2, 1, STATION_REFUSED_ALREADY_THERE, NULL);
+    order("fragment 0", &t, is, 4, 0, 1, STATION_REFUSED_NO_FRAGMENT, NULL);
+    order("fragment 4", &t, is, 4, 4, 1, STATION_REFUSED_NO_FRAGMENT, NULL);
+    order("a short table", &t, is, 3, 1, 1, STATION_REFUSED_SHORT_TABLE, NULL);
+    order("a wrong text", wrong, is, 4, 1, 1, STATION_REFUSED_FIELD, NULL);
+    order("the same atom twice", &twins, is, 4, 1, 1, STATION_REFUSED_SAME_ATOM, NULL);
     memcpy(other, is, sizeof other);
     other[3].x++;
-    order("another text's table", &t, other, 4, 1, 1, 18, NULL);
+    order("another text's table", &t, other, 4, 1, 1, STATION_REFUSED_OTHER_TABLE, NULL);
     write("save: with room to spare", station_save, &t, is, 4, t.size, 0, &saved);
     write("save: into just enough", station_save, &t, is, 4, saved.size, 0, &saved);
-    write("save: into a byte less", station_save, &t, is, 4, saved.size - 1, 17, &saved);
-    write("save: a short table", station_save, &t, is, 3, t.size, 13, &saved);
-    write("save: another text's table", station_save, &t, other, 4, t.size, 18, &saved);
-    write("save: a wrong text", station_save, wrong, is, 4, t.size, 6, &saved);
-    write("save: the same atom twice", station_save, &twins, is, 4, t.size, 21, &saved);
+    write("save: into a byte less", station_save, &t, is, 4, saved.size - 1, STATION_REFUSED_SHORT_OUTPUT, &saved);
+    write("save: a short table", station_save, &t, is, 3, t.size, STATION_REFUSED_SHORT_TABLE, &saved);
+    write("save: another text's table", station_save, &t, other, 4, t.size, STATION_REFUSED_OTHER_TABLE, &saved);
+    write("save: a wrong text", station_save, wrong, is, 4, t.size, STATION_REFUSED_FIELD, &saved);
+    write("save: the same atom twice", station_save, &twins, is, 4, t.size, STATION_REFUSED_SAME_ATOM, &saved);
     write("tray: with room to spare", station_tray, &t, is, 4, t.size, 0, &tray);
     write("tray: into just enough", station_tray, &t, is, 4, tray.size, 0, &tray);
-    write("tray: into a byte less", station_tray, &t, is, 4, tray.size - 1, 17, &tray);
-    write("tray: into nothing", station_tray, &t, is, 4, 0, 17, &tray);
-    write("tray: the same atom twice", station_tray, &twins, is, 4, t.size, 21, &tray);
+    write("tray: into a byte less", station_tray, &t, is, 4, tray.size - 1, STATION_REFUSED_SHORT_OUTPUT, &tray);
+    write("tray: into nothing", station_tray, &t, is, 4, 0, STATION_REFUSED_SHORT_OUTPUT, &tray);
+    write("tray: the same atom twice", station_tray, &twins, is, 4, t.size, STATION_REFUSED_SAME_ATOM, &tray);
     order("fragment 1 aside, by 255", &t, is, 4, 1, 255, 0, "1110");
     order("fragment 1 back", &t, is, 4, 1, 0, 0, "0010");
     order("fragment 2 back", &t, is, 4, 2, 0, 0, "0000");
@@ -166,26 +168,26 @@ static void at_once(const text *wrong)
     fragments("into just enough", &t, is, 4, 4, 0);
     fragments("with room to spare", &t, is, 4, 6, 0);
     fragments("a slot to spare", &t, is, 5, 4, 0);
-    fragments("into a number less", &t, is, 4, 3, 17);
-    fragments("into nothing", &t, is, 4, 0, 17);
-    fragments("a short table", &t, is, 3, 4, 13);
-    fragments("a fragment with two marks", &t, other, 4, 4, 18);
-    fragments("a wrong text", wrong, is, 4, 4, 6);
-    fragments("the same atom twice", &twins, is, 4, 4, 21);
+    fragments("into a number less", &t, is, 4, 3, STATION_REFUSED_SHORT_OUTPUT);
+    fragments("into nothing", &t, is, 4, 0, STATION_REFUSED_SHORT_OUTPUT);
+    fragments("a short table", &t, is, 3, 4, STATION_REFUSED_SHORT_TABLE);
+    fragments("a fragment with two marks", &t, other, 4, 4, STATION_REFUSED_OTHER_TABLE);
+    fragments("a wrong text", wrong, is, 4, 4, STATION_REFUSED_FIELD);
+    fragments("the same atom twice", &twins, is, 4, 4, STATION_REFUSED_SAME_ATOM);
     arrange("the second aside", &t, is, 4, second, 3, 0, "0010");
     arrange("the second aside again", &t, is, 4, second, 3, 0, "0010");
-    arrange("a byte too few", &t, is, 4, second, 2, 15, NULL);
-    arrange("a byte too many", &t, is, 4, second, 4, 15, NULL);
-    arrange("no byte", &t, is, 4, second, 0, 15, NULL);
-    arrange("a short table", &t, is, 3, others, 3, 13, NULL);
-    arrange("a fragment with two marks", &t, other, 4, others, 3, 18, NULL);
-    arrange("a wrong text", wrong, is, 4, others, 3, 6, NULL);
-    arrange("the same atom twice", &twins, is, 4, others, 3, 21, NULL);
+    arrange("a byte too few", &t, is, 4, second, 2, STATION_REFUSED_NO_FRAGMENT, NULL);
+    arrange("a byte too many", &t, is, 4, second, 4, STATION_REFUSED_NO_FRAGMENT, NULL);
+    arrange("no byte", &t, is, 4, second, 0, STATION_REFUSED_NO_FRAGMENT, NULL);
+    arrange("a short table", &t, is, 3, others, 3, STATION_REFUSED_SHORT_TABLE, NULL);
+    arrange("a fragment with two marks", &t, other, 4, others, 3, STATION_REFUSED_OTHER_TABLE, NULL);
+    arrange("a wrong text", wrong, is, 4, others, 3, STATION_REFUSED_FIELD, NULL);
+    arrange("the same atom twice", &twins, is, 4, others, 3, STATION_REFUSED_SAME_ATOM, NULL);
     arrange("the others aside, by 1 and 255", &t, is, 4, others, 3, 0, "1101");
     fragments("whatever is aside", &t, is, 5, 6, 0);
     is[4].mark = 7;
     arrange("all in, a slot to spare", &t, is, 5, none, 3, 0, "00007");
-    arrange("nothing to arrange", &(text){{0}, 0}, is, 5, none, 0, 12, NULL);
+    arrange("nothing to arrange", &(text){{0}, 0}, is, 5, none, 0, STATION_REFUSED_OVER, NULL);
 }
 
 /* ---- single lines */
@@ -211,26 +213,26 @@ static void lines(const char *entry, const text *wrong)
     memcpy(hydrogen + 12, "HH11", 4);
     memcpy(hydrogen + 76, " H", 2);
     slot("ATOM", entry + LINE, 80, 0);
-    slot("79 columns", entry + LINE, 79, 1);
-    slot("81 columns", entry + LINE, 81, 1);
-    slot("a byte wrong", byte, 80, 3);
-    slot("MASTER", entry + 3 * LINE, 80, 4);
-    slot("a field wrong", wrong->bytes + LINE, 80, 6);
-    for (i = 0; i < 5; i++) rewrite(names[i], entry + i * LINE, 80, 100, i ? 0 : 4);
-    rewrite("79 columns", entry + LINE, 79, 80, 1);
-    rewrite("a byte wrong", byte, 80, 80, 3);
-    rewrite("a field wrong", wrong->bytes + LINE, 80, 80, 6);
+    slot("79 columns", entry + LINE, 79, STATION_REFUSED_LENGTH);
+    slot("81 columns", entry + LINE, 81, STATION_REFUSED_LENGTH);
+    slot("a byte wrong", byte, 80, STATION_REFUSED_BYTE);
+    slot("MASTER", entry + 3 * LINE, 80, STATION_REFUSED_NAME);
+    slot("a field wrong", wrong->bytes + LINE, 80, STATION_REFUSED_FIELD);
+    for (i = 0; i < 5; i++) rewrite(names[i], entry + i * LINE, 80, 100, i ? 0 : STATION_REFUSED_NAME);
+    rewrite("79 columns", entry + LINE, 79, 80, STATION_REFUSED_LENGTH);
+    rewrite("a byte wrong", byte, 80, 80, STATION_REFUSED_BYTE);
+    rewrite("a field wrong", wrong->bytes + LINE, 80, 80, STATION_REFUSED_FIELD);
     rewrite("into just enough", entry + LINE, 80, 80, 0);
-    rewrite("into a byte less", entry + LINE, 80, 79, 17);
+    rewrite("into a byte less", entry + LINE, 80, 79, STATION_REFUSED_SHORT_OUTPUT);
     rewrite("a name of four columns, HH11", hydrogen, 80, 80, 0);
     hydrogen[15] = ' ';
-    rewrite("a name of three from column 13, HH1", hydrogen, 80, 80, 6);
+    rewrite("a name of three from column 13, HH1", hydrogen, 80, 80, STATION_REFUSED_FIELD);
     count("HETATM", "HETATM", -1, 9, 10, 0);
     count("END", "END   ", -1, 9, 9, 0);
-    count("three bytes", "END", -1, 9, 9, 4);
-    count("no name", "ATOMS ", -1, 9, 9, 4);
+    count("three bytes", "END", -1, 9, 9, STATION_REFUSED_NAME);
+    count("no name", "ATOMS ", -1, 9, 9, STATION_REFUSED_NAME);
     count("the last that fits", "ATOM  ", -1, 99998, 99999, 0);
-    count("one too many", "ATOM  ", -1, 99999, 99999, 14);
+    count("one too many", "ATOM  ", -1, 99999, 99999, STATION_REFUSED_FULL);
 }
 
 /* ---- the feed */
@@ -269,8 +271,8 @@ static void feeds(void)
     feed("stroke: of two atoms", STROKE, two, 2, 1, stroke);
     feed("stroke: of one in, one aside", STROKE, aside, 2, 0, NULL);
     feed("frame: of two atoms", FRAME, two, 2, 0, frame);
-    feed("frame: of a TER", FRAME, &ARGININE[1], 1, 19, NULL);
-    feed("frame: of nothing", FRAME, two, 0, 19, NULL);
+    feed("frame: of a TER", FRAME, &ARGININE[1], 1, STATION_REFUSED_NOTHING_TO_FRAME, NULL);
+    feed("frame: of nothing", FRAME, two, 0, STATION_REFUSED_NOTHING_TO_FRAME, NULL);
 }
 
 int main(void)
@@ -287,10 +289,10 @@ int main(void)
     checks(entry, &wrong);
     load("two slots", entry, 5 * LINE, 2, 0);
     load("a slot to spare", entry, 5 * LINE, 3, 0);
-    load("a slot too few", entry, 5 * LINE, 1, 13);
-    load("a wrong text", wrong.bytes, 5 * LINE, 2, 6);
-    load("the same atom twice", twins.bytes, twins.size, 4, 21);
-    load("the same atom twice, a short table", twins.bytes, twins.size, 1, 21);
+    load("a slot too few", entry, 5 * LINE, 1, STATION_REFUSED_SHORT_TABLE);
+    load("a wrong text", wrong.bytes, 5 * LINE, 2, STATION_REFUSED_FIELD);
+    load("the same atom twice", twins.bytes, twins.size, 4, STATION_REFUSED_SAME_ATOM);
+    load("the same atom twice, a short table", twins.bytes, twins.size, 1, STATION_REFUSED_SAME_ATOM);
     orders(&wrong);
     at_once(&wrong);
     lines(entry, &wrong);
@@ -298,6 +300,7 @@ int main(void)
     jumps();
     models();
     feeds();
+    numbers();
     printf("%u passed, %u failed\n", passed, failed);
     return failed != 0;
 }

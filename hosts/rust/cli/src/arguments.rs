@@ -6,17 +6,28 @@ use std::path::PathBuf;
 use station::ModelNumber;
 
 use crate::aside::Aside;
+use crate::check::Form;
 use crate::find;
+use crate::help;
+use crate::list::List;
 use crate::problem::Problem;
 use crate::words::path_name;
+
+/// What is to be done, and whether to say nothing of what goes well.
+pub struct Asked {
+    pub command: Command,
+    pub quiet: bool,
+}
 
 /// What is to be done.
 #[derive(Debug)]
 pub enum Command {
-    /// Show a text of help.
-    Help(&'static str),
+    /// Show a text: help, or the version.
+    Show(&'static str),
+    /// Cut an entry to the lines of known kinds.
+    Cut { file: PathBuf, out: PathBuf, force: bool },
     /// Check files and folders.
-    Check { files: Vec<PathBuf>, report: bool },
+    Check { files: Vec<PathBuf>, form: Form, all: bool },
     /// Show the lines of some atoms.
     Find { file: PathBuf, serials: Vec<u32> },
     /// List the fragments of an entry.
@@ -27,124 +38,18 @@ pub enum Command {
     Draw { file: PathBuf, aside: Aside, model: Option<ModelNumber>, svg: PathBuf, force: bool },
 }
 
-const HELP: &str = "\
-The station checks, lists, saves and draws PDB coordinate entries, and finds atoms in them.
-
-usage:
-  station check FILE.. [--report]
-  station find FILE SERIAL..
-  station fragments FILE [--aside LIST]
-  station save FILE [--aside LIST] --out FILE [--tray FILE] [--force]
-  station draw FILE --svg FILE [--aside LIST] [--model N] [--force]
-  station COMMAND --help
-
-A FILE that is read may be - for standard input, one that is written - for standard output.
-
-examples:
-  station check 1abc.pdb
-  station check incoming/ archive/2024/
-  station find 1abc.pdb 1179
-  station fragments 1abc.pdb
-  station save 1abc.pdb --aside 2,5 --out bare.pdb --tray tray.pdb
-  station draw 1abc.pdb --svg 1abc.svg
-
-Exit status: 0 granted and done, 1 refused or not found, 2 could not be read or written, or not understood.
-";
-
-const CHECK_HELP: &str = "\
-usage: station check FILE.. [--report]
-
-Checks each FILE, each file in a folder and its folders, or standard input (-), and says in words whether it is
-granted; the line that is refused is shown. Where a field of it is wrong, it is marked, and its name, its columns, what
-stands there and what is allowed there are told.
-
-  --report  print the listing of the report program instead: thirteen lines key=value. Like that program it takes
-            at most 65529 bytes and answers verdict=20 above. With several files a line file=NAME comes first.
-
-examples:
-  station check 1abc.pdb
-  station check incoming/
-  station check --report 1abc.pdb
-  zcat 1abc.pdb.gz | station check -
-
-Exit status: 0 all granted, 1 one or more refused, 2 one or more could not be read.
-";
-
-const FIND_HELP: &str = "\
-usage: station find FILE SERIAL..
-
-Shows the line of the atom with each SERIAL: its number, the line itself, and its fields by name. The file need not be an
-accepted entry: it is the first ATOM or HETATM line with the serial that reads by itself, so it is that of the first model that
-has it; lines that do not read are passed over.
-
-examples:
-  station find 1abc.pdb 1179
-  station find 1abc.pdb 1179 746 1184
-  zcat 1abc.pdb.gz | station find - 1179
-
-Exit status: 0 all found, 1 one or more stand on no line, 2 could not be read, or not understood.
-";
-
-const FRAGMENTS_HELP: &str = "\
-usage: station fragments FILE [--aside LIST]
-
-Lists the fragments of an accepted entry: number, model if the entry has models, chain, residues, atoms, first and last
-residue, and whether it is in or set aside. The numbers go through all models.
-
-  --aside LIST  set these fragments aside first: numbers and ranges, such as 2,5 or 2,7-9
-
-example:
-  station fragments 1abc.pdb --aside 2,5
-
-Exit status: 0 listed, 1 refused, 2 could not be read.
-";
-
-const SAVE_HELP: &str = "\
-usage: station save FILE [--aside LIST] --out FILE [--tray FILE] [--force]
-
-Saves an accepted entry without the fragments set aside, and what is left out of it to the tray. Both files are
-written whole or not at all. The input is never written to. Of an entry with models all MODEL and ENDMDL lines are saved, and
-copied to the tray; a CONECT line stays as long as each of its numbers has an atom in some model.
-
-  --aside LIST  the fragments to set aside: numbers and ranges, such as 2,5 or 2,7-9
-  --out FILE    where the entry goes; - is standard output
-  --tray FILE   where the lines go that are left out, likewise; needed if a fragment is set aside
-  --force       replace files that exist
-
-examples:
-  station save 1abc.pdb --aside 2,5 --out bare.pdb --tray tray.pdb
-  station save 1abc.pdb --aside 2,5 --out - --tray tray.pdb | station check -
-  station save 1abc.pdb --aside 2,5,9-25010 --out dry.pdb --tray water.pdb --force
-
-Exit status: 0 saved, 1 refused, 2 could not be read or written.
-";
-
-const DRAW_HELP: &str = "\
-usage: station draw FILE --svg FILE [--aside LIST] [--model N] [--force]
-
-Draws a dot for each atom and a stroke for each bond of a CONECT line, seen along z. Of a refused entry the good lines
-are drawn, and a note says so. Of an entry with models one is drawn.
-
-  --svg FILE    where the picture goes; a file is written whole or not at all, - is standard output
-  --aside LIST  fragments to leave out (of an accepted entry): numbers and ranges, such as 2,5 or 2,7-9
-  --model N     the model to draw; without it the first that has an atom to draw
-  --force       replace a file that exists
-
-examples:
-  station draw 1abc.pdb --aside 2 --svg 1abc.svg
-  station draw 2def.pdb --model 20 --svg last.svg
-
-Exit status: 0 drawn, 1 refused or nothing to draw, 2 could not be read or written.
-";
-
 /// The options of a command as they were given.
 #[derive(Default)]
 struct Given {
     files: Vec<PathBuf>,
     help: bool,
     report: bool,
+    json: bool,
+    all: bool,
     force: bool,
+    quiet: bool,
     aside: Option<OsString>,
+    keep: Option<OsString>,
     out: Option<OsString>,
     tray: Option<OsString>,
     svg: Option<OsString>,
@@ -158,34 +63,53 @@ fn usage<T>(words: impl Into<String>) -> Result<T, Problem> {
 /// The help of a command, and the options that it allows.
 fn about(command: &OsStr) -> Option<(&'static str, &'static [&'static str])> {
     match command.to_str()? {
-        "check" => Some((CHECK_HELP, &["--report"])),
-        "find" => Some((FIND_HELP, &[])),
-        "fragments" => Some((FRAGMENTS_HELP, &["--aside"])),
-        "save" => Some((SAVE_HELP, &["--aside", "--out", "--tray", "--force"])),
-        "draw" => Some((DRAW_HELP, &["--aside", "--model", "--svg", "--force"])),
+        "cut" => Some((help::CUT, &["--out", "--force", "-q"])),
+        "check" => Some((help::CHECK, &["--all", "--json", "--report", "-q"])),
+        "find" => Some((help::FIND, &[])),
+        "fragments" => Some((help::FRAGMENTS, &["--aside", "--keep"])),
+        "save" => Some((help::SAVE, &["--aside", "--keep", "--out", "--tray", "--force", "-q"])),
+        "draw" => Some((help::DRAW, &["--aside", "--keep", "--model", "--svg", "--force", "-q"])),
         _ => None,
     }
 }
 
 /// Reads the arguments.
-pub fn parse(mut arguments: impl Iterator<Item = OsString>) -> Result<Command, Problem> {
+pub fn parse(mut arguments: impl Iterator<Item = OsString>) -> Result<Asked, Problem> {
     let Some(command) = arguments.next() else {
         return usage("what is to be done?");
     };
-    if matches!(command.to_str(), Some("help" | "--help" | "-h")) {
-        let about = arguments.next().and_then(|command| about(&command));
-        return Ok(Command::Help(about.map_or(HELP, |(help, _)| help)));
+    let show = |text| Ok(Asked { command: Command::Show(text), quiet: false });
+    match command.to_str() {
+        Some("help" | "--help" | "-h") => {
+            let about = arguments.next().and_then(|command| about(&command));
+            return show(about.map_or(help::ALL, |(help, _)| help));
+        }
+        Some("--version") => return show(help::VERSION),
+        _ => {}
     }
     let Some((help, allowed)) = about(&command) else {
         return usage(format!("{}: no such command", command.to_string_lossy()));
     };
     let given = given(arguments, allowed)?;
     if given.help {
-        return Ok(Command::Help(help));
+        return show(help);
     }
+    let quiet = given.quiet;
+    Ok(Asked { command: asked(&command, given)?, quiet })
+}
+
+/// What a command is asked to do.
+fn asked(command: &OsStr, given: Given) -> Result<Command, Problem> {
     match command.to_str() {
+        Some("cut") => {
+            let (file, out) = (given.one_file("cut")?, needed(given.out, "cut needs --out FILE")?);
+            Ok(Command::Cut { file, out, force: given.force })
+        }
         Some("check") if given.files.is_empty() => usage("check needs one or more files, or - for standard input"),
-        Some("check") => Ok(Command::Check { files: given.files, report: given.report }),
+        Some("check") => {
+            let (form, all) = (given.form()?, given.all);
+            Ok(Command::Check { files: given.files, form, all })
+        }
         Some("find") => {
             let (file, serials) = given.file_and_serials()?;
             Ok(Command::Find { file, serials })
@@ -220,15 +144,12 @@ fn given(mut arguments: impl Iterator<Item = OsString>, allowed: &[&str]) -> Res
     let mut given = Given::default();
     let mut only_files = false;
     while let Some(argument) = arguments.next() {
-        let text = argument.to_str().unwrap_or_default();
         if only_files || argument == OsStr::new("-") || !argument.as_encoded_bytes().starts_with(b"-") {
             given.files.push(argument.into());
             continue;
         }
-        let (name, attached) = match text.split_once('=') {
-            Some((name, value)) => (name, Some(OsString::from(value))),
-            None => (text, None),
-        };
+        let (name, attached) = parts(&argument);
+        let name = name.to_str().unwrap_or_default();
         match name {
             "--" => only_files = true,
             "--help" | "-h" => {
@@ -239,8 +160,13 @@ fn given(mut arguments: impl Iterator<Item = OsString>, allowed: &[&str]) -> Res
             _ if !allowed.contains(&name) => {
                 return usage(format!("{}: no such option here", argument.to_string_lossy()));
             }
-            "--report" | "--force" if attached.is_some() => return usage(format!("{name} takes no value")),
+            "--all" | "--json" | "--report" | "--force" | "-q" if attached.is_some() => {
+                return usage(format!("{name} takes no value"));
+            }
+            "--all" => given.all = true,
+            "--json" => given.json = true,
             "--report" => given.report = true,
+            "-q" => given.quiet = true,
             "--force" => given.force = true,
             _ => {
                 let Some(value) = attached.or_else(|| arguments.next()) else {
@@ -248,6 +174,7 @@ fn given(mut arguments: impl Iterator<Item = OsString>, allowed: &[&str]) -> Res
                 };
                 let place = match name {
                     "--aside" => &mut given.aside,
+                    "--keep" => &mut given.keep,
                     "--out" => &mut given.out,
                     "--tray" => &mut given.tray,
                     "--model" => &mut given.model,
@@ -262,11 +189,32 @@ fn given(mut arguments: impl Iterator<Item = OsString>, allowed: &[&str]) -> Res
     Ok(given)
 }
 
+/// The name of an option, and the value behind its `=`, which may be any bytes.
+fn parts(argument: &OsStr) -> (&OsStr, Option<OsString>) {
+    let bytes = argument.as_encoded_bytes();
+    let Some(at) = bytes.iter().position(|&byte| byte == b'=') else {
+        return (argument, None);
+    };
+    // SAFETY: the bytes are those of an argument, parted beside a character of ASCII.
+    let part = |bytes| unsafe { OsStr::from_encoded_bytes_unchecked(bytes) };
+    (part(&bytes[..at]), Some(part(&bytes[at + 1..]).to_owned()))
+}
+
 impl Given {
     fn one_file(&self, command: &str) -> Result<PathBuf, Problem> {
         match &self.files[..] {
             [file] => Ok(file.clone()),
             _ => usage(format!("{command} needs one file")),
+        }
+    }
+
+    fn form(&self) -> Result<Form, Problem> {
+        match (self.json, self.report) {
+            (true, true) => usage("--json and --report are two forms of one answer; give one of them"),
+            (false, true) if self.all => usage("the listing of --report has no room for what --all finds; --json has"),
+            (true, false) => Ok(Form::Json),
+            (false, true) => Ok(Form::Report),
+            (false, false) => Ok(Form::Words),
         }
     }
 
@@ -292,10 +240,12 @@ impl Given {
     }
 
     fn aside(&self) -> Result<Aside, Problem> {
-        let Some(list) = &self.aside else {
-            return Ok(Aside::default());
+        let list = |option: &str, given: &Option<OsString>| {
+            let Some(list) = given.as_ref().map(|list| list.to_string_lossy()) else {
+                return Ok(None);
+            };
+            List::parse(&list).map(Some).or_else(|words| usage(format!("{option} {list}: {words}")))
         };
-        let list = list.to_string_lossy();
-        Aside::parse(&list).or_else(|words| usage(format!("--aside {list}: {words}")))
+        Ok(Aside { aside: list("--aside", &self.aside)?, keep: list("--keep", &self.keep)? })
     }
 }

@@ -1,9 +1,9 @@
 //! `station draw`.
 
-use std::collections::{BTreeMap, BTreeSet};
+use std::collections::BTreeSet;
 use std::path::Path;
 
-use station::{pieces, Entry, Frame, Line, ModelNumber, Slot, Stroke, Verdict};
+use station::{pieces, Entry, Frame, Line, ModelNumber, Slot, Verdict};
 
 use crate::aside::Aside;
 use crate::fragments;
@@ -11,6 +11,7 @@ use crate::input::{self, Input};
 use crate::models;
 use crate::output::{write_all, Console, Order};
 use crate::problem::{Problem, Status};
+use crate::scene::Scene;
 use crate::svg;
 use crate::words::{self, output_name, several};
 
@@ -43,14 +44,14 @@ pub fn run(
         let nothing = format!("{of_model}there is no atom among the good lines, so nothing is drawn");
         refused(&input, &verdict, &format!("{of_model}{refusal}"), &nothing)
     })?;
-    let strokes = strokes(&lines, &slots);
+    let scene = Scene::of(&slots, bonds(&lines).into_iter());
     let title = model.map_or(name.clone(), |model| format!("{name}, model {}", model.0));
-    let picture = svg::picture(&title, &slots, &strokes, &frame);
+    let picture = svg::picture(&title, &scene, &frame);
     let order = Order { option: "--svg", path: svg, bytes: picture.as_bytes() };
     write_all(&[order], input.identity.as_ref(), force, console)?;
-    let dots = slots.iter().filter(|slot| slot.dot().is_some()).count();
-    let drawn = [several(dots as u64, "dot"), several(strokes.len() as u64, "stroke")].join(", ");
-    console.say_line(format_args!("{}: {of_model}{drawn}", output_name(svg)))?;
+    let counts = [(scene.atoms.len(), "dot"), (scene.bonds.len(), "stroke"), (scene.sticks.len(), "stick")];
+    let drawn = counts.map(|(count, thing)| several(count as u64, thing)).join(", ");
+    console.say_done(format_args!("{}: {of_model}{drawn}", output_name(svg)))?;
     if !verdict.is_granted() {
         console.note(format_args!("only the good lines were drawn: {}", words::describe(name, &input.text, &verdict)));
     }
@@ -102,10 +103,8 @@ fn chosen(
     Err(refused(input, verdict, &words, &format!("there is no model {number} among the good lines")))
 }
 
-/// The strokes of the CONECT lines, each pair of atoms once.
-fn strokes(lines: &[&[u8]], slots: &[Slot]) -> Vec<Stroke> {
-    let atoms: BTreeMap<u32, &Slot> =
-        slots.iter().filter(|slot| slot.is_coordinate()).map(|slot| (slot.serial, slot)).collect();
+/// The bonds of the CONECT lines, each pair of serials once.
+fn bonds(lines: &[&[u8]]) -> BTreeSet<(u32, u32)> {
     let mut pairs = BTreeSet::new();
     for line in lines.iter().filter(|line| line.starts_with(b"CONECT")) {
         let serials = Line::read(line).map(|line| line.bonds()).unwrap_or_default();
@@ -113,5 +112,5 @@ fn strokes(lines: &[&[u8]], slots: &[Slot]) -> Vec<Stroke> {
             pairs.extend(partners.iter().map(|&partner| (atom.min(partner), atom.max(partner))));
         }
     }
-    pairs.iter().filter_map(|(a, b)| atoms.get(a)?.stroke(atoms.get(b)?)).collect()
+    pairs
 }

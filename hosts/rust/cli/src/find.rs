@@ -2,12 +2,12 @@
 
 use std::path::Path;
 
-use station::{Entry, Jump, Kind, Line, Slot};
+use station::{Entry, Hundredths, Jump, Kind, Line, Slot, Thousandths};
 
 use crate::input;
 use crate::output::Console;
 use crate::problem::{Problem, Status};
-use crate::words::{self, angstroms, several, shown, trimmed};
+use crate::words::{self, several, shown, trimmed};
 
 /// Reads a serial. One that no atom can have is as good as none: a jump would look over the whole text for it.
 pub fn serial(word: &str) -> Result<u32, String> {
@@ -67,7 +67,7 @@ fn passed_over(name: &str, text: &[u8], out: &mut Console) {
 /// The fields of an atom's line in the order of its columns, as a person writes them.
 fn fields(slot: &Slot) -> [(&'static str, String); 15] {
     let kind = if slot.kind() == Some(Kind::Hetatm) { "HETATM" } else { "ATOM" };
-    let place = |thousandths: i32| format!("{} angstroms", angstroms(f64::from(thousandths)));
+    let place = |thousandths: i32| format!("{} angstroms", Thousandths::of(thousandths));
     [
         ("kind", kind.to_owned()),
         ("serial", slot.serial.to_string()),
@@ -80,8 +80,8 @@ fn fields(slot: &Slot) -> [(&'static str, String); 15] {
         ("x", place(slot.x)),
         ("y", place(slot.y)),
         ("z", place(slot.z)),
-        ("occupancy", hundredths(slot.occupancy)),
-        ("temperature factor", format!("{} square angstroms", hundredths(slot.temperature))),
+        ("occupancy", Hundredths::of(slot.occupancy).to_string()),
+        ("temperature factor", format!("{} square angstroms", Hundredths::of(slot.temperature))),
         ("element", columns(&slot.element)),
         ("charge", columns(&slot.charge)),
     ]
@@ -95,11 +95,6 @@ fn columns(columns: &[u8]) -> String {
     } else {
         words
     }
-}
-
-/// Hundredths as a number.
-fn hundredths(value: i32) -> String {
-    format!("{:.2}", f64::from(value) / 100.0)
 }
 
 #[cfg(test)]
@@ -120,12 +115,9 @@ mod tests {
 
     #[test]
     fn values_have_all_their_places() {
-        assert_eq!(
-            [0, 5, 50, 100, -9_999, 99_999].map(hundredths),
-            ["0.00", "0.05", "0.50", "1.00", "-99.99", "999.99"]
-        );
-        let slot = Slot { x: -999_999, y: 9_999_999, z: -1, ..Slot::default() };
-        let places = fields(&slot).map(|(_, value)| value)[8..11].to_vec();
-        assert_eq!(places, ["-999.999 angstroms", "9999.999 angstroms", "-0.001 angstroms"]);
+        let slot = Slot { x: -999_999, y: 9_999_999, z: -1, occupancy: 5, temperature: -9_999, ..Slot::default() };
+        let values = fields(&slot).map(|(_, value)| value)[8..13].to_vec();
+        assert_eq!(values[..3], ["-999.999 angstroms", "9999.999 angstroms", "-0.001 angstroms"]);
+        assert_eq!(values[3..], ["0.05", "-99.99 square angstroms"]);
     }
 }

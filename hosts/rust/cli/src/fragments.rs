@@ -2,24 +2,19 @@
 
 use std::path::Path;
 
-use station::{Entry, Mark, Refusal, Slot, Table};
+use station::{Fragment, Mark, Refusal, Slot, Table};
 
 use crate::aside::Aside;
 use crate::input::{self, Input};
 use crate::output::Console;
 use crate::problem::{Problem, Status};
+use crate::word::Word;
 use crate::words;
 
 /// Loads an accepted entry and sets fragments aside.
 pub fn load<'t>(input: &'t Input, aside: &Aside) -> Result<Table<'t>, Problem> {
-    // The line that is refused is looked for only if there is one: the check would go over an accepted text once more.
-    let mut table = Table::load(&input.text).map_err(|refusal| {
-        let verdict = Entry::check(&input.text);
-        match verdict.refusal {
-            Some(_) => Problem::Refused(words::describe(&input.name, &input.text, &verdict)),
-            None => refused(input, refusal),
-        }
-    })?;
+    let mut table = Table::load(&input.text)
+        .map_err(|verdict| Problem::Refused(words::describe(&input.name, &input.text, &verdict)))?;
     if !aside.is_empty() {
         set_aside(input, &mut table, aside)?;
     }
@@ -28,12 +23,8 @@ pub fn load<'t>(input: &'t Input, aside: &Aside) -> Result<Table<'t>, Problem> {
 
 /// Sets fragments aside, all by one arrangement: an order for each would judge the whole text anew each time.
 fn set_aside(input: &Input, table: &mut Table, aside: &Aside) -> Result<(), Problem> {
-    let count = table.fragments().map_err(|refusal| refused(input, refusal))?.count();
-    let marks = aside.marks(count).map_err(|fragment| {
-        let there = words::several(count as u64, "fragment");
-        let words = format!("fragment {fragment}: {}", Refusal::NO_FRAGMENT);
-        Problem::Refused(format!("{}: {words}\n  the entry has {there}", input.name))
-    })?;
+    let fragments: Vec<Fragment> = table.fragments().map_err(|refusal| refused(input, refusal))?.collect();
+    let marks = aside.marks(&fragments).map_err(|vain| Problem::Refused(format!("{}: {vain}", input.name)))?;
     table.arrange(&marks).map_err(|refusal| refused(input, refusal))
 }
 
@@ -50,7 +41,7 @@ pub fn run(file: &Path, aside: &Aside, out: &mut Console) -> Result<Status, Prob
     let modelled = table.slots().iter().any(|slot| slot.model().is_some());
     let model = |words: String| if modelled { format!("{words:>5}  ") } else { String::new() };
     let heading = model("model".to_owned());
-    out.say_line(format_args!("fragment  {heading}chain  residues  atoms  first      last       where"))?;
+    out.say_line(format_args!("fragment  {heading}chain  residues  atoms  first      last       where  words"))?;
     for fragment in fragments {
         let place = match fragment.mark() {
             Some(Mark::In) => "in",
@@ -59,7 +50,7 @@ pub fn run(file: &Path, aside: &Aside, out: &mut Console) -> Result<Status, Prob
         };
         let (first, last) = (fragment.residues().next(), fragment.residues().last());
         out.say_line(format_args!(
-            "{:8}  {}{:5}  {:8}  {:5}  {:9}  {:9}  {place}",
+            "{:8}  {}{:5}  {:8}  {:5}  {:9}  {:9}  {place:5}  {}",
             fragment.number.0,
             model(fragment.model().map_or(String::new(), |model| model.0.to_string())),
             fragment.chain(),
@@ -67,6 +58,7 @@ pub fn run(file: &Path, aside: &Aside, out: &mut Console) -> Result<Status, Prob
             fragment.atoms(),
             first.map(residue).unwrap_or_default(),
             last.map(residue).unwrap_or_default(),
+            Word::of(&fragment).iter().map(Word::to_string).collect::<Vec<String>>().join(" "),
         ))?;
     }
     Ok(Status::Done)

@@ -85,7 +85,7 @@ fn read_all(source: impl Read) -> io::Result<Vec<u8>> {
     Ok(text)
 }
 
-/// The files that a path stands for: itself, or those in a folder and its folders, by name. What cannot be looked into is
+/// The files that a path stands for: itself, or the entries in a folder and its folders, by name. What cannot be looked into is
 /// told apart.
 pub fn files(path: &Path, problems: &mut Vec<Problem>) -> Vec<PathBuf> {
     if path == OsStr::new("-") || !path.is_dir() {
@@ -95,25 +95,35 @@ pub fn files(path: &Path, problems: &mut Vec<Problem>) -> Vec<PathBuf> {
     let mut found = Vec::new();
     walk(path, &mut found, problems);
     if found.is_empty() && problems.len() == before {
-        problems.push(Problem::Read(path.to_owned(), io::Error::other("there is no file in this folder")));
+        let words = "there is no file with a name in .pdb or .ent in this folder";
+        problems.push(Problem::Read(path.to_owned(), io::Error::other(words)));
     }
     found
 }
 
-/// Gathers the files of a folder. Links to folders are not followed, and what is no file (a pipe, a device) is left out.
+/// Gathers the entries of a folder. Hidden files and folders are passed over, links to folders are not followed, and what is no
+/// file (a pipe, a device) is left out.
 fn walk(folder: &Path, found: &mut Vec<PathBuf>, problems: &mut Vec<Problem>) {
     let listed = fs::read_dir(folder).and_then(|items| items.map(|item| item.map(|item| item.path())).collect());
     let mut inside: Vec<PathBuf> = match listed {
         Ok(inside) => inside,
         Err(error) => return problems.push(Problem::Read(folder.to_owned(), error)),
     };
+    inside.retain(|path| !path.file_name().is_some_and(|name| name.as_encoded_bytes().starts_with(b".")));
     inside.sort();
     for path in inside {
         let is_link = fs::symlink_metadata(&path).is_ok_and(|metadata| metadata.is_symlink());
-        if path.is_file() {
+        if path.is_file() && is_entry(&path) {
             found.push(path);
         } else if path.is_dir() && !is_link {
             walk(&path, found, problems);
         }
     }
+}
+
+/// Whether a file is an entry by its name: in .pdb or .ent, packed or not. What was packed is told to be.
+fn is_entry(path: &Path) -> bool {
+    let name = path.file_name().unwrap_or_default().to_string_lossy().to_ascii_lowercase();
+    let name = name.strip_suffix(".gz").unwrap_or(&name);
+    name.ends_with(".pdb") || name.ends_with(".ent")
 }

@@ -1,37 +1,60 @@
 //! The command line of the station: `station --help`.
 
+mod advice;
 mod arguments;
 mod aside;
+mod bonds;
 mod check;
 mod column;
 mod counts;
+mod cut;
 mod draw;
 mod fields;
 mod find;
 mod fragments;
+mod help;
 mod input;
+mod json;
+mod labels;
+mod legend;
+mod list;
+mod lock;
 mod models;
 mod output;
+mod paint;
+mod panel;
+mod place;
+mod placing;
 mod problem;
+mod runs;
 mod same_atom;
 mod save;
+mod scene;
+mod sequence;
+mod serials;
+mod signals;
+mod sticks;
 mod svg;
+mod word;
 mod words;
 
 use std::io::Write;
 use std::process::ExitCode;
 
-use arguments::Command;
+use arguments::{Asked, Command};
 use problem::{Problem, Status};
 
 fn run() -> Result<Status, Problem> {
     let mut out = output::Console::new();
-    let status = match arguments::parse(std::env::args_os().skip(1))? {
-        Command::Help(text) => {
+    let Asked { command, quiet } = arguments::parse(std::env::args_os().skip(1))?;
+    out.quiet = quiet;
+    let status = match command {
+        Command::Show(text) => {
             out.say(text)?;
             Status::Done
         }
-        Command::Check { files, report } => check::run(&files, report, &mut out)?,
+        Command::Cut { file, out: to, force } => cut::run(&file, &to, force, &mut out)?,
+        Command::Check { files, form, all } => check::run(&files, form, all, &mut out)?,
         Command::Find { file, serials } => find::run(&file, &serials, &mut out)?,
         Command::Fragments { file, aside } => fragments::run(&file, &aside, &mut out)?,
         Command::Save { file, aside, out: to, tray, force } => {

@@ -25,7 +25,7 @@ pub fn first_line(text: &[u8], line: u64) -> u64 {
 
 /// What stands above a line.
 #[derive(Default)]
-struct Above {
+pub struct Above {
     /// The last MODEL line, and how many there are.
     last: Option<u64>,
     count: u64,
@@ -36,7 +36,7 @@ struct Above {
 }
 
 impl Above {
-    fn of(text: &[u8], line: u64) -> Above {
+    pub fn of(text: &[u8], line: u64) -> Above {
         let mut above = Above::default();
         for (number, piece) in (1..line).zip(pieces(text)) {
             if begins(piece) {
@@ -51,9 +51,20 @@ impl Above {
         }
         above
     }
+
+    /// Whether a line of this name may stand here as far as models go.
+    pub fn allows(&self, name: &[u8]) -> bool {
+        let (begins, ends) = (begins(name), name.starts_with(ENDMDL));
+        match self.open {
+            Some(_) => ends || is_coordinate(name),
+            None if self.last.is_some() => !ends && !is_coordinate(name),
+            None => !ends && (!begins || self.bare.is_none()),
+        }
+    }
 }
 
-fn is_coordinate(piece: &[u8]) -> bool {
+/// Whether a line is an ATOM, HETATM or TER.
+pub fn is_coordinate(piece: &[u8]) -> bool {
     COORDINATES.iter().any(|name| piece.starts_with(name))
 }
 

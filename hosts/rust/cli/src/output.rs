@@ -1,17 +1,22 @@
 //! Writing: answers to the console, files whole or not at all.
 
-use std::fs::{self, File, OpenOptions};
+use std::fs::{self, OpenOptions};
 use std::io::{self, BufWriter, IsTerminal, StdoutLock, Write};
 use std::path::{is_separator, Path, PathBuf};
 
 use crate::input::Identity;
+use crate::lock::Lock;
+use crate::placing::{folder_of, Placed, Staged};
 use crate::problem::Problem;
+use crate::signals;
 use crate::words::{output_name, path_name};
 
 /// Where answers go.
 pub struct Console {
     out: BufWriter<StdoutLock<'static>>,
     progress: bool,
+    /// Whether nothing is said of what went well.
+    pub quiet: bool,
     /// Whether answers go to standard error, since standard output may have what was asked to be written.
     beside: bool,
 }
@@ -19,7 +24,8 @@ pub struct Console {
 impl Console {
     /// Standard output.
     pub fn new() -> Console {
-        Console { out: BufWriter::new(io::stdout().lock()), progress: io::stderr().is_terminal(), beside: false }
+        let progress = io::stderr().is_terminal();
+        Console { out: BufWriter::new(io::stdout().lock()), progress, quiet: false, beside: false }
     }
 
     /// Shows a text as it is.
@@ -36,6 +42,14 @@ impl Console {
         writeln!(self.out, "{line}").map_err(Problem::Console)
     }
 
+    /// Shows a line of what went well, unless that is not wanted.
+    pub fn say_done(&mut self, line: impl std::fmt::Display) -> Result<(), Problem> {
+        if self.quiet {
+            return Ok(());
+        }
+        self.say_line(line)
+    }
+
     /// Shows a line beside the answers.
     pub fn note(&mut self, line: impl std::fmt::Display) {
         // A note that cannot be shown changes nothing.
@@ -44,7 +58,7 @@ impl Console {
 
     /// Shows how far the work is, on a terminal.
     pub fn progress(&mut self, words: &str) {
-        if self.progress {
+        if self.shows_progress() {
             let width = 78;
             let words: String = words.chars().take(width).collect();
             let _ = write!(io::stderr(), "\r{words:width$}\r");
@@ -53,7 +67,7 @@ impl Console {
 
     /// Whether progress is shown.
     pub fn shows_progress(&self) -> bool {
-        self.progress
+        self.progress && !self.quiet
     }
 
     /// Clears the line of progress, so that what was said so far can be seen.
@@ -78,8 +92,9 @@ pub struct Order<'a> {
     pub bytes: &'a [u8],
 }
 
-/// Writes files: all of them whole, or none. Files that exist are replaced only with `force`, the input never. The answers
-/// of the command go beside what is written to standard output, or to anything else that is no file.
+/// Writes files: all of them whole, or none, and puts them in place in this sequence. Files that exist are replaced only with
+/// `force`, the input never. The answers of the command go beside what is written to standard output, or to anything else that is
+/// no file.
 pub fn write_all(
     orders: &[Order],
     input: Option<&Identity>,
@@ -95,29 +110,32 @@ pub fn write_all(
         targets.push(target);
     }
     console.beside |= targets.iter().any(|target| !target.is_file());
-    // Streams come last: what they were given cannot be taken back.
-    let mut waiting: Vec<(Target, &Order)> = targets.into_iter().zip(orders).collect();
-    waiting.sort_by_key(|(target, _)| !target.is_file());
-    let mut staged = Vec::new();
-    for (target, order) in waiting {
-        let output = matches!(target.kind, TargetKind::Output);
-        let failed = |error| match output {
-            true => Problem::Console(error),
-            false => Problem::Write(order.path.to_owned(), error),
-        };
-        staged.push((target.stage(order.bytes).map_err(failed)?, order.path));
+    signals::tidy_up();
+    let failed = |order: &Order, error| match order.path == Path::new("-") {
+        true => Problem::Console(error),
+        false => Problem::Write(order.path.to_owned(), error),
+    };
+    // All files are written before one is put in place or a stream is given what cannot be taken back.
+    let mut waiting = Vec::new();
+    for (target, order) in targets.iter().zip(orders) {
+        waiting.push((target.stage(order.bytes).map_err(|error| failed(order, error))?, target, order));
     }
+    let files = || targets.iter().filter(|target| target.is_file());
+    let pair = files().count() > 1;
+    let locked = pair.then(|| Lock::of(files().map(|target| folder_of(&target.resolved)))).transpose();
+    let _lock = locked.map_err(|error| failed(&orders[0], error))?;
+    let _hold = pair.then(signals::hold);
     let mut done: Vec<Placed> = Vec::new();
-    for (file, path) in staged {
-        match file.place() {
-            Ok(placed) => done.push(placed),
-            Err(error) => {
-                done.into_iter().rev().for_each(Placed::undo);
-                return Err(Problem::Write(path.to_owned(), error));
-            }
+    for (staged, target, order) in waiting {
+        let placed = match staged {
+            Some(file) => file.place(force).map(|placed| done.push(placed)),
+            None => target.stream(order.bytes),
+        };
+        if let Err(error) = placed {
+            done.into_iter().rev().for_each(Placed::undo);
+            return Err(failed(order, error));
         }
     }
-    done.into_iter().for_each(Placed::keep);
     Ok(())
 }
 
@@ -171,7 +189,7 @@ impl Target {
                 }
             }
             Err(error) if error.kind() == io::ErrorKind::NotFound => {
-                if fs::symlink_metadata(path).is_ok() {
+                if fs::symlink_metadata(path).is_ok_and(|found| found.is_symlink()) {
                     return refuse("this is a link to nothing");
                 }
                 if path.as_os_str().as_encoded_bytes().last().is_some_and(|&last| is_separator(char::from(last))) {
@@ -187,124 +205,22 @@ impl Target {
         }
     }
 
-    /// Writes the bytes beside the target, or straight to it if it is no file.
-    fn stage(self, bytes: &[u8]) -> io::Result<Staged> {
-        if !self.is_file() {
-            let mut stream: Box<dyn Write> = match self.kind {
-                TargetKind::Output => Box::new(io::stdout()),
-                _ => Box::new(OpenOptions::new().write(true).open(&self.resolved)?),
-            };
-            stream.write_all(bytes)?;
-            stream.flush()?;
-            return Ok(Staged { target: self, beside: None });
+    /// Writes the bytes beside the target if it is a file.
+    fn stage(&self, bytes: &[u8]) -> io::Result<Option<Staged>> {
+        match &self.kind {
+            TargetKind::New => Staged::write(&self.resolved, bytes, None).map(Some),
+            TargetKind::Replaced(permissions) => Staged::write(&self.resolved, bytes, Some(permissions)).map(Some),
+            TargetKind::Stream | TargetKind::Output => Ok(None),
         }
-        let (beside, mut file) = Beside::create(&self.resolved)?;
-        file.write_all(bytes)?;
-        if let TargetKind::Replaced(permissions) = &self.kind {
-            file.set_permissions(permissions.clone())?;
-        }
-        file.sync_all()?;
-        Ok(Staged { target: self, beside: Some(beside) })
-    }
-}
-
-fn folder_of(path: &Path) -> &Path {
-    match path.parent() {
-        Some(folder) if !folder.as_os_str().is_empty() => folder,
-        _ => Path::new("."),
-    }
-}
-
-/// A file beside a target, in the same folder. It is gone when this is dropped.
-struct Beside(PathBuf);
-
-impl Beside {
-    /// A name beside the target that no file has.
-    fn free_name(target: &Path, attempt: u32) -> PathBuf {
-        let mut name = std::ffi::OsString::from(".");
-        name.push(target.file_name().unwrap_or_default());
-        name.push(format!(".station-{}-{attempt}", std::process::id()));
-        folder_of(target).join(name)
     }
 
-    fn attempt<T>(target: &Path, make: impl Fn(&Path) -> io::Result<T>) -> io::Result<(Beside, T)> {
-        let mut last = io::Error::from(io::ErrorKind::AlreadyExists);
-        for attempt in 0..100 {
-            let path = Beside::free_name(target, attempt);
-            match make(&path) {
-                Ok(made) => return Ok((Beside(path), made)),
-                Err(error) if error.kind() == io::ErrorKind::AlreadyExists => last = error,
-                Err(error) => return Err(error),
-            }
-        }
-        Err(last)
-    }
-
-    fn create(target: &Path) -> io::Result<(Beside, File)> {
-        Beside::attempt(target, |path| OpenOptions::new().write(true).create_new(true).open(path))
-    }
-
-    /// A second name of the target, to have it back if need be.
-    fn second_name(target: &Path) -> io::Result<Beside> {
-        Beside::attempt(target, |path| fs::hard_link(target, path)).map(|(beside, ())| beside)
-    }
-}
-
-impl Drop for Beside {
-    fn drop(&mut self) {
-        // It may have been renamed, and is then not there.
-        let _ = fs::remove_file(&self.0);
-    }
-}
-
-/// A file that is written and waits to be put in its place.
-struct Staged {
-    target: Target,
-    beside: Option<Beside>,
-}
-
-impl Staged {
-    /// Puts the file in its place.
-    fn place(self) -> io::Result<Placed> {
-        let Some(beside) = self.beside else {
-            return Ok(Placed::Stream);
+    /// Writes the bytes straight to a target that is no file.
+    fn stream(&self, bytes: &[u8]) -> io::Result<()> {
+        let mut stream: Box<dyn Write> = match self.kind {
+            TargetKind::Output => Box::new(io::stdout()),
+            _ => Box::new(OpenOptions::new().write(true).open(&self.resolved)?),
         };
-        let path = self.target.resolved;
-        if let TargetKind::Replaced(_) = self.target.kind {
-            let before = Beside::second_name(&path).ok();
-            fs::rename(&beside.0, &path)?;
-            return Ok(Placed::Replaced { path, before });
-        }
-        // A link fails where a file has come to stand meanwhile; renaming would replace it.
-        match fs::hard_link(&beside.0, &path) {
-            Ok(()) => Ok(Placed::New { path }),
-            Err(error) if error.kind() == io::ErrorKind::AlreadyExists => Err(error),
-            Err(_) if !path.exists() => fs::rename(&beside.0, &path).map(|()| Placed::New { path }),
-            Err(error) => Err(error),
-        }
+        stream.write_all(bytes)?;
+        stream.flush()
     }
-}
-
-/// A file in its place, and how to undo that.
-enum Placed {
-    Stream,
-    New { path: PathBuf },
-    Replaced { path: PathBuf, before: Option<Beside> },
-}
-
-impl Placed {
-    fn undo(self) {
-        match self {
-            Placed::New { path } => {
-                let _ = fs::remove_file(path);
-            }
-            Placed::Replaced { path, before: Some(before) } => {
-                let _ = fs::rename(&before.0, path);
-            }
-            _ => {}
-        }
-    }
-
-    /// The files stay; second names go.
-    fn keep(self) {}
 }

@@ -25,15 +25,15 @@ pub fn run(
     let input = input::read(file)?;
     let table = fragments::load(&input, aside)?;
     let (saved, dropped) = parts(&table, tray.is_some()).map_err(|refusal| refused(&input, refusal))?;
-    let mut orders = vec![Order { option: "--out", path: out, bytes: &saved }];
-    if let Some(path) = tray {
-        orders.push(Order { option: "--tray", path, bytes: &dropped });
-    }
+    // The tray comes first: whoever has the saved entry has what was taken out of it, whenever the program is killed.
+    let mut orders: Vec<Order> = Vec::new();
+    orders.extend(tray.map(|path| Order { option: "--tray", path, bytes: &dropped }));
+    orders.push(Order { option: "--out", path: out, bytes: &saved });
     write_all(&orders, input.identity.as_ref(), force, console)?;
     let lines = |bytes: &[u8]| several(bytes.len() as u64 / 81, "line");
-    console.say_line(format_args!("{}: {}", output_name(out), lines(&saved)))?;
+    console.say_done(format_args!("{}: {}", output_name(out), lines(&saved)))?;
     if let Some(path) = tray {
-        console.say_line(format_args!("{}: {}", output_name(path), lines(&dropped)))?;
+        console.say_done(format_args!("{}: {}", output_name(path), lines(&dropped)))?;
     }
     Ok(Status::Done)
 }

@@ -5,10 +5,23 @@ use std::path::Path;
 
 use station::{piece, Refusal, Verdict};
 
-use crate::{column, counts, models, same_atom};
+use crate::{bonds, column, counts, models, place, runs, same_atom, sequence, serials};
+
+/// What the check found, and what may be done about it.
+pub fn describe(name: &str, text: &[u8], verdict: &Verdict) -> String {
+    let found = found(name, text, verdict);
+    match verdict.refusal {
+        Some(Refusal::LENGTH | Refusal::NEWLINE | Refusal::NAME) if !text.is_empty() && foreign(text).is_none() => {
+            format!("{found}\n  {CUT}")
+        }
+        _ => found,
+    }
+}
+
+const CUT: &str = "station cut FILE --out NEW drops lines of unknown kinds and fills short lines up";
 
 /// What the check found, in words: one line, and for a refusal the line that is refused and a cause.
-pub fn describe(name: &str, text: &[u8], verdict: &Verdict) -> String {
+pub fn found(name: &str, text: &[u8], verdict: &Verdict) -> String {
     let Some(refusal) = verdict.refusal else {
         let counts = &verdict.counts;
         let coordinates = [several(counts.coord, "atom"), several(counts.ter, "TER")].join(", ");
@@ -98,22 +111,31 @@ const FOREIGN: [(&[u8], &str); 7] = [
     (b"data_", "this looks like mmCIF; only the PDB format is read"),
 ];
 
+/// What a file is that is no PDB entry at all.
+pub fn foreign(text: &[u8]) -> Option<&'static str> {
+    FOREIGN.iter().find(|(start, _)| text.starts_with(start)).map(|(_, words)| *words)
+}
+
 /// What is likely behind a refusal, where the number alone does not say.
-fn cause(text: &[u8], verdict: &Verdict, refusal: Refusal) -> Option<String> {
+pub fn cause(text: &[u8], verdict: &Verdict, refusal: Refusal) -> Option<String> {
     if text.is_empty() {
         return Some("the file is empty".to_owned());
     }
-    if let Some((_, words)) = FOREIGN.iter().find(|(start, _)| text.starts_with(start)) {
-        return Some((*words).to_owned());
+    if let Some(words) = foreign(text) {
+        return Some(words.to_owned());
     }
     let piece = piece(text, verdict.line)?;
     match refusal {
         Refusal::LENGTH | Refusal::NEWLINE | Refusal::BYTE => form(text, verdict, piece),
         Refusal::NAME => piece.get(..6).map(|name| format!("the name is \"{}\"", shown(name))),
-        Refusal::PLACE => models::place(text, verdict.line),
+        Refusal::PLACE => place::why(text, verdict.line),
         Refusal::FIELD => column::wrong(piece.first_chunk()?, verdict.column),
         Refusal::MODEL => models::number(text, verdict.line),
+        Refusal::SERIAL => serials::why(text, verdict.line),
+        Refusal::RUN => runs::why(text, verdict.line),
         Refusal::SAME_ATOM => same_atom::above(text, verdict.line),
+        Refusal::BOND => bonds::why(text, verdict.line),
+        Refusal::SEQUENCE => sequence::why(text, verdict.line),
         Refusal::COUNT => counts::wrong(piece.first_chunk()?, &verdict.counts, models::count(text) > 0),
         _ => None,
     }
@@ -158,9 +180,17 @@ fn form(text: &[u8], verdict: &Verdict, piece: &[u8]) -> Option<String> {
 }
 
 #[cfg(test)]
-mod tests {
+pub mod tests {
     use super::*;
     use station::Entry;
+
+    /// A text of some lines that the library refuses with a number at the last of them, and that line.
+    pub fn refused(lines: &[&str], refusal: Refusal) -> (Vec<u8>, u64) {
+        let text = lines.iter().map(|line| format!("{line:80}\n")).collect::<String>().into_bytes();
+        let verdict = Entry::check(&text);
+        assert_eq!((verdict.refusal, verdict.line), (Some(refusal), lines.len() as u64), "{lines:?}");
+        (text, verdict.line)
+    }
 
     fn words(text: &[u8]) -> String {
         describe("f", text, &Entry::check(text))
@@ -203,5 +233,54 @@ mod tests {
                 assert!(words(&vec![byte; length]).starts_with("f: line 1: refused with "));
             }
         }
+    }
+    /// An accepted entry with lines of every kind, but for models.
+    pub fn every_kind() -> Vec<String> {
+        let atom = |name: &str, serial: u32, chain: char, number: u32| {
+            format!("{name:6}{serial:5}  C   ALA {chain}{number:4}       1.000   2.000   3.000  1.00  0.00           C")
+        };
+        let strand = |strand: u32, strands: u32, sheet: &str, sense: u32| {
+            format!("SHEET  {strand:3} {sheet}{strands:2} ALA A   1  ALA A   5 {sense:2}")
+        };
+        let helix = |serial: u32| format!("HELIX  {serial:3}   A ALA A    1  ALA A    5  1{:31}    5", "");
+        let mut lines: Vec<String> =
+            ["HEADER", "TITLE", "REMARK", "REMARK", "SEQRES", "HET"].map(str::to_owned).to_vec();
+        lines.extend([helix(1), helix(2), strand(1, 2, "  A", 0), strand(2, 2, "  A", 1), strand(1, 1, "  B", 0)]);
+        lines.extend(["CRYST1", "ORIGX1", "ORIGX2", "ORIGX3", "SCALE1", "SCALE2", "SCALE3"].map(str::to_owned));
+        lines.extend([atom("ATOM", 1, 'A', 1), atom("ATOM", 2, 'A', 2), "TER       3      ALA A   2".to_owned()]);
+        lines.extend([atom("ATOM", 4, 'B', 1), "TER       5      ALA B   1".to_owned(), atom("HETATM", 6, 'C', 1)]);
+        lines.extend(["CONECT    1    2    6", "CONECT    6    1"].map(str::to_owned));
+        lines.extend(
+            ["MASTER        2    0    1    2    3    0    0    6    4    2    2    1", "END"].map(str::to_owned),
+        );
+        lines
+    }
+
+    /// Every line of an entry left out, moved and doubled, everywhere: whatever is refused with 5, or 7 to 10, has words.
+    #[test]
+    fn rules_between_lines_have_words() {
+        let lines = every_kind();
+        let whole = |lines: &[String]| lines.iter().map(|line| format!("{line:80}\n")).collect::<String>().into_bytes();
+        assert!(Entry::check(&whole(&lines)).is_granted(), "{}", words(&whole(&lines)));
+        let mut met = std::collections::BTreeSet::new();
+        for from in 0..lines.len() {
+            for to in 0..=lines.len() {
+                let mut doubled = lines.clone();
+                doubled.insert(to, lines[from].clone());
+                let mut moved = doubled.clone();
+                moved.remove(if to <= from { from + 1 } else { from });
+                let mut short = lines.clone();
+                short.remove(from);
+                for text in [whole(&doubled), whole(&moved), whole(&short)] {
+                    let verdict = Entry::check(&text);
+                    let Some(refusal) = verdict.refusal else { continue };
+                    if matches!(refusal.number(), 5 | 7..=10) {
+                        met.insert(refusal.number());
+                        assert!(cause(&text, &verdict, refusal).is_some(), "{}", words(&text));
+                    }
+                }
+            }
+        }
+        assert_eq!(met.into_iter().collect::<Vec<_>>(), [5, 7, 8, 9, 10]);
     }
 }

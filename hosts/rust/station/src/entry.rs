@@ -1,5 +1,6 @@
 //! A whole text: the check.
 
+use std::error::Error;
 use std::fmt;
 
 use crate::raw::station_verdict;
@@ -31,7 +32,22 @@ pub struct Counts {
     pub seq: u64,
 }
 
-/// What the check answers.
+/// What the check answers. Shown, it says in one line whether the text is granted or where and why it is refused; so a
+/// refused one is an error that keeps the line.
+///
+/// ```
+/// # fn main() -> Result<(), Box<dyn std::error::Error>> {
+/// use station::{Entry, Verdict};
+///
+/// fn lines(text: &[u8]) -> Result<u64, Box<dyn std::error::Error>> {
+///     Ok(Entry::accept(text)?.verdict().good_lines)
+/// }
+///
+/// let error = lines(b"HEADER").expect_err("a short line");
+/// assert!(error.to_string().starts_with("line 1: refused with 1: the length of the line is wrong"));
+/// assert_eq!(error.downcast_ref::<Verdict>().map(|verdict| verdict.line), Some(1));
+/// # Ok(()) }
+/// ```
 #[derive(Clone, Copy, Debug, PartialEq, Eq)]
 pub struct Verdict {
     /// The refusal, if the text is refused.
@@ -54,29 +70,38 @@ impl Verdict {
     }
 
     /// The verdict as a result, for `?`.
-    pub fn granted(&self) -> Result<(), Refusal> {
-        self.refusal.map_or(Ok(()), Err)
+    pub fn granted(self) -> Result<(), Verdict> {
+        if self.is_granted() {
+            Ok(())
+        } else {
+            Err(self)
+        }
     }
 
     /// The verdict as the report lists it: thirteen lines of key and value.
     pub fn report(&self) -> Report {
         Report(*self)
     }
+}
 
-    /// The verdict of the report on an input that is too long for it: it is not judged.
-    pub fn too_long() -> Verdict {
-        Verdict { refusal: Some(Refusal::LONG_INPUT), line: 0, column: 0, good_lines: 0, counts: Counts::default() }
+impl fmt::Display for Verdict {
+    fn fmt(&self, f: &mut fmt::Formatter<'_>) -> fmt::Result {
+        let Some(refusal) = self.refusal else {
+            return f.write_str("granted");
+        };
+        match (self.line, self.column) {
+            (0, _) => refusal.fmt(f),
+            (line, 0) => write!(f, "line {line}: {refusal}"),
+            (line, column) => write!(f, "line {line}, column {column}: {refusal}"),
+        }
     }
 }
+
+impl Error for Verdict {}
 
 /// A verdict that shows itself as the report does.
 #[derive(Clone, Copy, Debug)]
 pub struct Report(Verdict);
-
-impl Report {
-    /// The longest input that the report program takes, in bytes.
-    pub const LIMIT: usize = 65_529;
-}
 
 impl fmt::Display for Report {
     fn fmt(&self, f: &mut fmt::Formatter<'_>) -> fmt::Result {
@@ -141,11 +166,7 @@ impl<'t> Entry<'t> {
     /// ```
     pub fn accept(text: &'t [u8]) -> Result<Entry<'t>, Verdict> {
         let verdict = Entry::check(text);
-        if verdict.is_granted() {
-            Ok(Entry { text, verdict })
-        } else {
-            Err(verdict)
-        }
+        verdict.granted().map(|()| Entry { text, verdict })
     }
 
     /// The text.
@@ -159,7 +180,7 @@ impl<'t> Entry<'t> {
     }
 
     /// The table of its coordinates.
-    pub fn load(&self) -> Result<Table<'t>, Refusal> {
+    pub fn load(&self) -> Result<Table<'t>, Verdict> {
         Table::load(self.text)
     }
 

@@ -59,6 +59,29 @@ impl Refusal {
     /// The number of a model.
     pub const MODEL: Refusal = Refusal(22);
 
+    /// All of them, by their numbers.
+    pub const ALL: [Refusal; 22] = {
+        let mut all = [Refusal(0); 22];
+        let mut number = 0;
+        while number < all.len() {
+            all[number] = Refusal(number as u32 + 1);
+            number += 1;
+        }
+        all
+    };
+
+    /// The refusal that a number of the library is; 0 is none. A number that is not listed here is one too.
+    ///
+    /// ```
+    /// use station::Refusal;
+    ///
+    /// assert_eq!(Refusal::numbered(21), Some(Refusal::SAME_ATOM));
+    /// assert_eq!(Refusal::numbered(0), None);
+    /// ```
+    pub fn numbered(number: u32) -> Option<Refusal> {
+        (number > 0).then_some(Refusal(number))
+    }
+
     /// The number.
     pub fn number(self) -> u32 {
         self.0
@@ -67,7 +90,7 @@ impl Refusal {
     /// What the number means.
     pub fn meaning(self) -> &'static str {
         match self.0 {
-            1 => "the line is too short (in a text 80 columns and a newline, by itself exactly 80 columns)",
+            1 => "the length of the line is wrong (in a text 80 columns and a newline, by itself exactly 80 columns)",
             2 => "the line has no newline behind its 80 columns",
             3 => "a column holds a byte that is not printable ASCII",
             4 => "the name in columns 1-6 is unknown or not taken here",
@@ -95,10 +118,7 @@ impl Refusal {
 
     /// What a number of the library says: granted, or refused.
     pub(crate) fn of(number: u32) -> Result<(), Refusal> {
-        match number {
-            0 => Ok(()),
-            _ => Err(Refusal(number)),
-        }
+        Refusal::numbered(number).map_or(Ok(()), Err)
     }
 }
 

@@ -1,86 +1,21 @@
 //! The table of an entry's coordinates: orders, arrangements, saving.
 
-use crate::feed::{Frame, Stroke};
+use std::borrow::Cow;
+use std::error::Error;
+use std::fmt;
+
 use crate::raw::{station_arrange, station_fragments, station_load, station_order, station_save, station_tray, Slot};
-use crate::{pieces, Dot, Fragments, Refusal};
+use crate::{pieces, Entry, Fragments, Frame, Mark, Refusal, Verdict};
 
 /// The number of a fragment, from 1.
 #[derive(Clone, Copy, Debug, PartialEq, Eq, PartialOrd, Ord, Hash)]
 pub struct FragmentNumber(pub u32);
 
-/// The number of a model, from 1.
-#[derive(Clone, Copy, Debug, PartialEq, Eq, PartialOrd, Ord, Hash)]
-pub struct ModelNumber(pub u32);
-
-/// The kind of line a slot was filled from.
-#[derive(Clone, Copy, Debug, PartialEq, Eq)]
-#[allow(missing_docs)]
-pub enum Kind {
-    Atom,
-    Hetatm,
-    Ter,
-}
-
-/// Where a fragment is.
-#[derive(Clone, Copy, Debug, PartialEq, Eq)]
-pub enum Mark {
-    /// In the entry.
-    In,
-    /// Set aside.
-    Aside,
-}
-
-impl Slot {
-    /// The kind of the slot, unless it is damaged.
-    pub fn kind(&self) -> Option<Kind> {
-        match self.kind {
-            1 => Some(Kind::Atom),
-            2 => Some(Kind::Hetatm),
-            3 => Some(Kind::Ter),
-            _ => None,
-        }
-    }
-
-    /// The mark of the slot, unless it is damaged.
-    pub fn mark(&self) -> Option<Mark> {
-        match self.mark {
-            0 => Some(Mark::In),
-            1 => Some(Mark::Aside),
-            _ => None,
-        }
-    }
-
-    /// The model of the slot, if the entry has models.
-    pub fn model(&self) -> Option<ModelNumber> {
-        (self.model > 0).then_some(ModelNumber(self.model))
-    }
-
-    /// Whether the slot is an ATOM or HETATM.
-    pub fn is_coordinate(&self) -> bool {
-        matches!(self.kind(), Some(Kind::Atom | Kind::Hetatm))
-    }
-
-    /// Whether two slots name the same residue: name, chain, number and insertion code.
-    pub fn same_residue(&self, other: &Slot) -> bool {
-        let residue = |slot: &Slot| (slot.residue, slot.chain, slot.number, slot.insertion);
-        residue(self) == residue(other)
-    }
-
-    /// The dot of the slot, if there is something to draw.
-    pub fn dot(&self) -> Option<Dot> {
-        Dot::of(self)
-    }
-
-    /// The stroke to another slot, if there is something to draw.
-    pub fn stroke(&self, other: &Slot) -> Option<Stroke> {
-        Stroke::between(self, other)
-    }
-}
-
-/// The coordinates of an accepted entry, a slot for each ATOM, HETATM and TER line.
+/// The coordinates of an accepted entry, a slot for each ATOM, HETATM and TER line, and the text that they are of, lent
+/// or its own.
 ///
 /// ```
-/// # fn main() -> Result<(), station::Refusal> {
+/// # fn main() -> Result<(), Box<dyn std::error::Error>> {
 /// use station::{FragmentNumber, Mark, Refusal, Table};
 ///
 /// let atom = |name: &str, serial: u32, chain: char, number: i32| {
@@ -109,25 +44,63 @@ impl Slot {
 /// ```
 #[derive(Clone, Debug)]
 pub struct Table<'t> {
-    text: &'t [u8],
+    text: Cow<'t, [u8]>,
     slots: Vec<Slot>,
 }
 
+/// A table that has its text for its own: it may outlive all else, be kept in a struct or go to another thread.
+pub type OwnedTable = Table<'static>;
+
+impl OwnedTable {
+    /// Loads a text that is given away, every fragment in. If it is refused, it comes back with the verdict.
+    ///
+    /// ```
+    /// # fn main() -> Result<(), Box<dyn std::error::Error>> {
+    /// use station::{OwnedTable, RefusedText, Table};
+    ///
+    /// struct Opened {
+    ///     table: OwnedTable,
+    /// }
+    ///
+    /// let zeros = format!("MASTER    {}", "    0".repeat(12));
+    /// let text = format!("{:80}\n{zeros:80}\n{:80}\n", "HEADER", "END").into_bytes();
+    /// let opened = Opened { table: Table::of(text)? };
+    /// assert_eq!(opened.table.text().len(), 3 * 81);
+    ///
+    /// let RefusedText { verdict, text } = Table::of(b"HEADER".to_vec()).expect_err("a short line");
+    /// assert_eq!((verdict.line, text.as_slice()), (1, &b"HEADER"[..]));
+    /// # Ok(()) }
+    /// ```
+    // The verdict is little beside the text that comes back with it.
+    #[allow(clippy::result_large_err)]
+    pub fn of(text: Vec<u8>) -> Result<OwnedTable, RefusedText> {
+        match loaded(&text) {
+            Ok(slots) => Ok(Table { text: Cow::Owned(text), slots }),
+            Err(verdict) => Err(RefusedText { verdict, text }),
+        }
+    }
+}
+
 impl<'t> Table<'t> {
-    /// Loads a text, every fragment in.
-    pub fn load(text: &'t [u8]) -> Result<Table<'t>, Refusal> {
-        let mut slots = vec![Slot::default(); slotted(text)];
-        let mut count = 0;
-        // SAFETY: text, table and count are as long as said, and no two of them overlap.
-        let number = unsafe { station_load(text.as_ptr(), text.len(), slots.as_mut_ptr(), slots.len(), &mut count) };
-        Refusal::of(number)?;
-        slots.truncate(usize::try_from(count).unwrap_or(slots.len()));
-        Ok(Table { text, slots })
+    /// Loads a text, every fragment in. If it is refused, the verdict tells its line and column.
+    ///
+    /// ```
+    /// let text = format!("{:80}\n{:80}\n", "HEADER", "TER      0");
+    /// let verdict = station::Table::load(text.as_bytes()).expect_err("a serial of 0");
+    /// assert_eq!(verdict.to_string(), "line 2, column 7: refused with 6: a field or a blank column is wrong");
+    /// ```
+    pub fn load(text: &'t [u8]) -> Result<Table<'t>, Verdict> {
+        Ok(Table { slots: loaded(text)?, text: Cow::Borrowed(text) })
+    }
+
+    /// The same table with a text of its own, copied if it was lent.
+    pub fn into_owned(self) -> OwnedTable {
+        Table { text: Cow::Owned(self.text.into_owned()), slots: self.slots }
     }
 
     /// The text it was loaded from.
-    pub fn text(&self) -> &'t [u8] {
-        self.text
+    pub fn text(&self) -> &[u8] {
+        &self.text
     }
 
     /// The slots.
@@ -143,7 +116,7 @@ impl<'t> Table<'t> {
 
     /// Marks one whole fragment.
     pub fn order(&mut self, fragment: FragmentNumber, mark: Mark) -> Result<(), Refusal> {
-        let (text, slots) = (self.text, &mut self.slots);
+        let (text, slots) = (&self.text, &mut self.slots);
         let aside = u8::from(mark == Mark::Aside);
         // SAFETY: text and table are as long as said and do not overlap.
         let number =
@@ -163,7 +136,7 @@ impl<'t> Table<'t> {
 
     /// Marks every fragment at once, from the first on. The list has a mark for each.
     pub fn arrange(&mut self, marks: &[Mark]) -> Result<(), Refusal> {
-        let (text, slots) = (self.text, &mut self.slots);
+        let (text, slots) = (&self.text, &mut self.slots);
         let aside: Vec<u8> = marks.iter().map(|&mark| u8::from(mark == Mark::Aside)).collect();
         // SAFETY: text, table and list are as long as said, and the table overlaps neither of the others.
         let number = unsafe {
@@ -175,7 +148,7 @@ impl<'t> Table<'t> {
 
     /// The number of its fragment, for each slot.
     pub fn fragment_numbers(&self) -> Result<Vec<FragmentNumber>, Refusal> {
-        let (text, slots) = (self.text, &self.slots);
+        let (text, slots) = (&self.text, &self.slots);
         let mut out = vec![0; slots.len()];
         let mut count = 0;
         // SAFETY: text, table, output and count are as long as said, and no two of them overlap.
@@ -206,7 +179,7 @@ impl<'t> Table<'t> {
 
     /// What one of the two calls writes. Neither writes more bytes than the text has.
     fn written(&self, call: Write) -> Result<Vec<u8>, Refusal> {
-        let (text, slots) = (self.text, &self.slots);
+        let (text, slots) = (&self.text, &self.slots);
         let mut out = vec![0; text.len()];
         let mut count = 0;
         // SAFETY: text, table, output and count are as long as said, and no two of them overlap.
@@ -226,9 +199,40 @@ impl<'t> Table<'t> {
 
 type Write = unsafe extern "C" fn(*const u8, usize, *const Slot, usize, *mut u8, usize, *mut u64) -> u32;
 
+/// The slots of a text, all in.
+fn loaded(text: &[u8]) -> Result<Vec<Slot>, Verdict> {
+    let mut slots = vec![Slot::default(); slotted(text)];
+    let mut count = 0;
+    // SAFETY: text, table and count are as long as said, and no two of them overlap.
+    let number = unsafe { station_load(text.as_ptr(), text.len(), slots.as_mut_ptr(), slots.len(), &mut count) };
+    // Loading answers a number alone; the check tells the line. It goes over a refused text only.
+    if let Some(refusal) = Refusal::numbered(number) {
+        return Err(Verdict { refusal: Some(refusal), ..Entry::check(text) });
+    }
+    slots.truncate(usize::try_from(count).unwrap_or(slots.len()));
+    Ok(slots)
+}
+
 /// How many lines have a name that a table has slots for. An accepted text needs so many slots; any other is refused
 /// before the table's length is looked at.
 fn slotted(text: &[u8]) -> usize {
     const NAMES: [&[u8]; 3] = [b"ATOM  ", b"HETATM", b"TER   "];
     pieces(text).filter(|piece| NAMES.iter().any(|name| piece.starts_with(name))).count()
 }
+
+/// A text that was given away to be loaded and is refused: it comes back.
+#[derive(Clone, Debug, PartialEq, Eq)]
+pub struct RefusedText {
+    /// Why, and where.
+    pub verdict: Verdict,
+    /// The text.
+    pub text: Vec<u8>,
+}
+
+impl fmt::Display for RefusedText {
+    fn fmt(&self, f: &mut fmt::Formatter<'_>) -> fmt::Result {
+        self.verdict.fmt(f)
+    }
+}
+
+impl Error for RefusedText {}

@@ -1,5 +1,7 @@
 //! Entries with models, through the safe wrapper.
 
+use std::error::Error;
+
 use station::{Entry, FragmentNumber, Line, ModelNumber, Refusal, Table, Tally};
 
 fn line(text: &str) -> String {
@@ -27,7 +29,7 @@ fn entry() -> String {
 }
 
 #[test]
-fn slots_and_fragments_tell_their_model() -> Result<(), Refusal> {
+fn slots_and_fragments_tell_their_model() -> Result<(), Box<dyn Error>> {
     let text = entry();
     let table = Table::load(text.as_bytes())?;
     let models = [1, 1, 3, 3].map(|number| Some(ModelNumber(number)));
@@ -43,7 +45,7 @@ fn slots_and_fragments_tell_their_model() -> Result<(), Refusal> {
 }
 
 #[test]
-fn a_bond_stays_while_a_model_has_its_atoms() -> Result<(), Refusal> {
+fn a_bond_stays_while_a_model_has_its_atoms() -> Result<(), Box<dyn Error>> {
     let text = entry();
     let mut table = Table::load(text.as_bytes())?;
     table.set_aside(FragmentNumber(1))?;
@@ -73,7 +75,7 @@ fn models_are_refused_by_number() {
 }
 
 #[test]
-fn lines_by_themselves() -> Result<(), Refusal> {
+fn lines_by_themselves() -> Result<(), Box<dyn Error>> {
     let model = Line::read(&line("MODEL     9999").as_bytes()[..80])?;
     assert_eq!((model.name(), model.model(), model.slot()), ("MODEL", Some(ModelNumber(9_999)), Err(Refusal::NAME)));
     let end = Line::read(&line("ENDMDL").as_bytes()[..80])?;

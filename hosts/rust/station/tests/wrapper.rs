@@ -1,9 +1,10 @@
 //! The safe wrapper, from outside.
 
-use std::collections::BTreeSet;
+use std::error::Error;
 
 use station::{
-    Dot, Entry, FragmentNumber, Frame, Jump, Kind, Line, LineRefusal, Mark, Refusal, Slot, Stroke, Table, Tally,
+    Dot, Entry, FragmentNumber, Frame, Jump, Kind, Line, LineRefusal, Mark, OwnedTable, Refusal, RefusedText, Slot,
+    Stroke, Table, Tally, Verdict,
 };
 
 fn line(text: &str) -> String {
@@ -38,7 +39,7 @@ fn entry() -> String {
 }
 
 #[test]
-fn fragments_are_a_view() -> Result<(), Refusal> {
+fn fragments_are_a_view() -> Result<(), Box<dyn Error>> {
     let text = entry();
     let mut table = Table::load(text.as_bytes())?;
     table.set_aside(FragmentNumber(2))?;
@@ -59,7 +60,7 @@ fn fragments_are_a_view() -> Result<(), Refusal> {
 }
 
 #[test]
-fn an_arrangement_is_orders_one_by_one() -> Result<(), Refusal> {
+fn an_arrangement_is_orders_one_by_one() -> Result<(), Box<dyn Error>> {
     let text = entry();
     let mut arranged = Table::load(text.as_bytes())?;
     for choice in 0..8u32 {
@@ -78,7 +79,7 @@ fn an_arrangement_is_orders_one_by_one() -> Result<(), Refusal> {
 }
 
 #[test]
-fn orders_are_refused_by_number() -> Result<(), Refusal> {
+fn orders_are_refused_by_number() -> Result<(), Box<dyn Error>> {
     let text = entry();
     let mut table = Table::load(text.as_bytes())?;
     assert_eq!(table.set_aside(FragmentNumber(0)), Err(Refusal::NO_FRAGMENT));
@@ -86,7 +87,51 @@ fn orders_are_refused_by_number() -> Result<(), Refusal> {
     assert_eq!(table.put_back(FragmentNumber(1)), Err(Refusal::ALREADY_THERE));
     assert_eq!(table.save()?, text.as_bytes());
     assert_eq!(table.tray()?, b"");
-    assert_eq!(Table::load(b"").map(|table| table.slots().len()), Err(Refusal::OVER));
+    Ok(())
+}
+
+/// A refusal of loading is the verdict of the check: its line, its column and all else.
+#[test]
+fn a_refused_load_tells_the_line() -> Result<(), Box<dyn Error>> {
+    let text = entry();
+    let field = text.replacen("  1.00  0.00", "  1.01  0.00", 1);
+    for (text, words) in [
+        (String::new(), "line 1: refused with 12: the text is over before END"),
+        (field, "line 2, column 55: refused with 6: a field or a blank column is wrong"),
+        (text.replace("HETATM    9", "HETATM    6"), "line 8: refused with 7: the serial is not above the one before"),
+    ] {
+        let verdict = Entry::check(text.as_bytes());
+        assert_eq!(Table::load(text.as_bytes()).map(|_| ()), Err(verdict));
+        assert_eq!(verdict.granted(), Err(verdict));
+        let error: Box<dyn Error> = Box::new(verdict);
+        assert_eq!(error.to_string(), words);
+        let returned = RefusedText { verdict, text: text.clone().into_bytes() };
+        assert_eq!((Table::of(text.into_bytes()).map(|_| ()), returned.to_string()), (Err(returned), words.to_owned()));
+    }
+    let verdict = Entry::check(text.as_bytes());
+    assert_eq!((verdict.granted(), verdict.to_string()), (Ok(()), "granted".to_owned()));
+    let of_no_line = Verdict { refusal: Some(Refusal::LONG_INPUT), ..verdict };
+    assert_eq!(of_no_line.to_string(), "refused with 20: the input is longer than the report takes");
+    assert_eq!(Entry::accept(text.as_bytes())?.load()?.slots().len(), 7);
+    Ok(())
+}
+
+/// A table with its own text is ordered and saved like one whose text is lent, also where no text is lent any more.
+#[test]
+fn a_table_may_own_its_text() -> Result<(), Box<dyn Error>> {
+    let text = entry();
+    let mut lent = Table::load(text.as_bytes())?;
+    lent.set_aside(FragmentNumber(2))?;
+    let (saved, tray) = (lent.save()?, lent.tray()?);
+    let mut owned = OwnedTable::of(text.clone().into_bytes())?;
+    let copied = lent.into_owned();
+    drop(text);
+    owned.set_aside(FragmentNumber(2))?;
+    assert_eq!((owned.text(), owned.slots()), (copied.text(), copied.slots()));
+    for table in [owned, copied] {
+        let written = std::thread::spawn(move || Ok::<_, Refusal>((table.save()?, table.tray()?)));
+        assert_eq!(written.join().expect("a thread"), Ok((saved.clone(), tray.clone())));
+    }
     Ok(())
 }
 
@@ -95,11 +140,11 @@ fn the_same_atom_twice() {
     let twins = entry().replace("  C2  HEM", "  C1  HEM");
     let verdict = Entry::check(twins.as_bytes());
     assert_eq!((verdict.refusal, verdict.line, verdict.good_lines), (Some(Refusal::SAME_ATOM), 7, 6));
-    assert_eq!(Table::load(twins.as_bytes()).map(|table| table.slots().len()), Err(Refusal::SAME_ATOM));
+    assert_eq!(Table::load(twins.as_bytes()).map(|table| table.slots().len()), Err(verdict));
 }
 
 #[test]
-fn whatever_is_set_aside_the_saved_entry_is_granted() -> Result<(), Refusal> {
+fn whatever_is_set_aside_the_saved_entry_is_granted() -> Result<(), Box<dyn Error>> {
     let text = entry();
     for choice in 0..8u32 {
         let mut table = Table::load(text.as_bytes())?;
@@ -117,7 +162,7 @@ fn whatever_is_set_aside_the_saved_entry_is_granted() -> Result<(), Refusal> {
 }
 
 #[test]
-fn the_feed() -> Result<(), Refusal> {
+fn the_feed() -> Result<(), Box<dyn Error>> {
     let text = entry();
     let mut table = Table::load(text.as_bytes())?;
     table.set_aside(FragmentNumber(3))?;
@@ -133,7 +178,7 @@ fn the_feed() -> Result<(), Refusal> {
 }
 
 #[test]
-fn lines_by_themselves() -> Result<(), Refusal> {
+fn lines_by_themselves() -> Result<(), Box<dyn Error>> {
     let conect = Line::read(&line("CONECT    5    6    9").as_bytes()[..80])?;
     assert_eq!((conect.name(), conect.bonds()), ("CONECT", vec![5, 6, 9]));
     assert_eq!(conect.slot(), Err(Refusal::NAME));
@@ -160,7 +205,7 @@ fn the_column_of_a_wrong_field() {
     assert_eq!(answer(&text[81..]), (Some(Refusal::PLACE), 1, 0, 0));
     let report = Entry::check(text.replace("TER       4", "TER       0").as_bytes()).report().to_string();
     assert!(report.starts_with("verdict=6\nline=5\ncolumn=7\nlines=4\n"), "{report}");
-    assert_eq!((report.lines().count(), station::Verdict::too_long().column), (13, 0));
+    assert_eq!(report.lines().count(), 13);
 }
 
 #[test]
@@ -176,16 +221,16 @@ fn lines_are_judged_by_themselves() {
     assert_eq!(judged(&line("TER").as_bytes()[..80]), Err((Refusal::FIELD, 7)));
     assert_eq!(judged(&line("ENDMDL         1").as_bytes()[..80]), Err((Refusal::FIELD, 16)));
     let refused = LineRefusal { refusal: Refusal::FIELD, column: 31 };
-    let error: Box<dyn std::error::Error> = Box::new(refused);
+    let error: Box<dyn Error> = Box::new(refused);
     assert_eq!(error.to_string(), "column 31: refused with 6: a field or a blank column is wrong");
     assert_eq!(LineRefusal { refusal: Refusal::NAME, column: 0 }.to_string(), Refusal::NAME.to_string());
     assert_eq!(Refusal::from(refused), Refusal::FIELD);
 }
 
 #[test]
-fn jumps() -> Result<(), Refusal> {
+fn jumps() -> Result<(), Box<dyn Error>> {
     let text = entry();
-    let entry = Entry::accept(text.as_bytes()).map_err(|verdict| verdict.refusal.expect("a refusal"))?;
+    let entry = Entry::accept(text.as_bytes())?;
     for (serial, line) in [(1, 2), (3, 4), (5, 6), (9, 8)] {
         let jump = entry.find(serial);
         assert_eq!(jump, Jump { line: Some(line), looked: line });
@@ -215,33 +260,7 @@ fn jumps_in_a_refused_text() {
 
 #[test]
 fn refusals_in_words() {
-    let all = [
-        Refusal::LENGTH,
-        Refusal::NEWLINE,
-        Refusal::BYTE,
-        Refusal::NAME,
-        Refusal::PLACE,
-        Refusal::FIELD,
-        Refusal::SERIAL,
-        Refusal::RUN,
-        Refusal::BOND,
-        Refusal::SEQUENCE,
-        Refusal::COUNT,
-        Refusal::OVER,
-        Refusal::SHORT_TABLE,
-        Refusal::FULL,
-        Refusal::NO_FRAGMENT,
-        Refusal::ALREADY_THERE,
-        Refusal::SHORT_OUTPUT,
-        Refusal::OTHER_TABLE,
-        Refusal::NOTHING_TO_FRAME,
-        Refusal::LONG_INPUT,
-        Refusal::SAME_ATOM,
-        Refusal::MODEL,
-    ];
-    assert!(all.iter().map(|refusal| refusal.number()).eq(1..=22));
-    assert_eq!(all.iter().map(|refusal| refusal.meaning()).collect::<BTreeSet<_>>().len(), 22);
-    let error: Box<dyn std::error::Error> = Box::new(Refusal::OVER);
+    let error: Box<dyn Error> = Box::new(Refusal::OVER);
     assert_eq!(error.to_string(), "refused with 12: the text is over before END");
     assert_eq!(format!("{:?}", Refusal::OVER), "Refusal(12: the text is over before END)");
 }

@@ -5,7 +5,7 @@ use std::os::unix::fs::symlink;
 use std::path::Path;
 
 use crate::folder::Folder;
-use crate::texts::{arginine, three, twins};
+use crate::texts::{arginine, atom, line, master, three, twins};
 
 #[test]
 fn check_grants() {
@@ -56,10 +56,34 @@ fn check_lists_the_report() {
         "verdict=0\nline=0\ncolumn=0\nlines=5\nremark=0\nhet=0\nhelix=0\nsheet=0\nxform=0\ncoord=1\nter=1\nconect=0\nseq=0\n";
     assert_eq!((answer.status, answer.out.as_str()), (0, listing));
     folder.file("long.pdb", vec![b' '; 65_530]);
-    let answer = folder.station(&["check", "--report", "long.pdb"]);
-    answer.is(1, "verdict=20\nline=0\ncolumn=0\nlines=0\nremark=0\n");
     let answer = folder.station(&["check", "--report", "a.pdb", "long.pdb"]);
-    answer.is(1, "file=long.pdb\nverdict=20\n");
+    answer.is(1, &format!("file=a.pdb\n{listing}file=long.pdb\nverdict=2\nline=1\n"));
+}
+
+/// The report program takes 809 lines; this command has no such limit.
+#[test]
+fn check_lists_long_entries() {
+    let folder = Folder::new("long");
+    let atoms: String = (1..=2_000).map(|serial| atom("HETATM", serial, 'A', serial as i32, "0.000")).collect();
+    folder.file("a.pdb", [line("HEADER"), atoms, master(2_000, 0, 0), line("END")].concat());
+    folder.station(&["check", "--report", "a.pdb"]).is(0, "verdict=0\nline=0\ncolumn=0\nlines=2003\n");
+    let json = "{\"file\":\"a.pdb\",\"verdict\":0,\"line\":0,\"column\":0,\"lines\":2003,\"remark\":0,\"het\":0,\"helix\":0,\
+                \"sheet\":0,\"xform\":0,\"coord\":2000,\"ter\":0,\"conect\":0,\"seq\":0,\"meaning\":\"granted\",\"cause\":null}\n";
+    assert_eq!(folder.station(&["check", "--json", "a.pdb"]).out, json);
+    assert_eq!(folder.station(&["check", "--json", "--all", "a.pdb"]).out, json);
+}
+
+#[test]
+fn check_prints_json() {
+    let folder = Folder::new("json");
+    folder.file("a\"b.pdb", arginine().replace("ARG A  -3 ", "ARG \\  -3 "));
+    let answer = folder.station(&["check", "--json", "a\"b.pdb", "none"]);
+    answer.is(2, "{\"file\":\"a\\\"b.pdb\",\"verdict\":6,\"line\":2,\"column\":22,\"lines\":1,");
+    answer.is(2, "\"cause\":\"column 22, chain: \\\"\\\\\\\" is no chain");
+    answer.is(2, "\n{\"file\":\"none\",\"error\":\"none: could not be read: ");
+    assert_eq!(answer.out.lines().count(), 2);
+    folder.station(&["check", "--json", "--report", "none"]).is(2, "give one of them");
+    folder.station(&["check", "--all", "--report", "none"]).is(2, "has no room for what --all finds; --json has");
 }
 
 #[test]
@@ -70,8 +94,8 @@ fn check_lists_what_the_report_program_prints() {
     let texts = [
         ("accepted", 0, stored("accepted.in")),
         ("refused", 1, stored("refused.in")),
+        ("wrong_field", 1, stored("wrong_field.in")),
         ("longest", 1, " ".repeat(65_529)),
-        ("too_long", 1, " ".repeat(65_530)),
     ];
     for (name, status, text) in texts {
         folder.file("a.pdb", text);
@@ -93,8 +117,28 @@ fn check_takes_folders_and_standard_input() {
     answer.is(2, "4 files: 2 granted, 1 refused, 1 not read");
     answer.is(2, "missing.pdb: could not be read");
     fs::create_dir(folder.0.join("empty")).expect("a folder");
-    folder.station(&["check", "empty"]).is(2, "there is no file in this folder");
+    folder.station(&["check", "empty"]).is(2, "there is no file with a name in .pdb or .ent in this folder");
     folder.shell("$S check - < in/a.pdb").is(0, "standard input: granted");
+}
+
+#[test]
+fn check_passes_over_hidden_and_foreign_files() {
+    let folder = Folder::new("foreign");
+    let foreign =
+        ["in/.b.pdb", "in/.out.pdb.station-7-0", "in/.git/c.pdb", "in/notes.txt", "in/a.svg", "in/pdb", "in/tray"];
+    for name in foreign {
+        folder.file(name, "no entry");
+    }
+    folder.station(&["check", "in"]).is(2, "there is no file with a name in .pdb or .ent in this folder");
+    for name in ["in/a.pdb", "in/B.ENT", "in/deep/pdb1abc.ent"] {
+        folder.file(name, arginine());
+    }
+    folder.file("in/packed.pdb.gz", b"\x1f\x8b\x08\x00rest");
+    let answer = folder.station(&["check", "in"]);
+    answer.is(1, "4 files: 3 granted, 1 refused, 0 not read");
+    assert_eq!(answer.err, "");
+    // What is named is read, whatever its name.
+    folder.station(&["check", "in/tray"]).is(1, "in/tray: line 1: refused with 1");
 }
 
 #[test]

@@ -124,7 +124,7 @@ fn every_column_of_the_format_has_its_words() {
         assert!(unlisted.is_empty(), "{kind}: {unlisted:?}");
         for &column in columns {
             let damaged = damaged(row, column);
-            let name = format!("in/{kind} {column:02}");
+            let name = format!("in/{kind} {column:02}.pdb");
             folder.file(&name, below(row.above, &damaged));
             expected.push((name, row.above.len() + 2, due(row, column, &damaged)));
         }

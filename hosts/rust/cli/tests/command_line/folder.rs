@@ -1,5 +1,6 @@
 //! A folder for a test, and the program run in it.
 
+use std::ffi::OsStr;
 use std::fs;
 use std::path::{Path, PathBuf};
 use std::process::{Command, Output, Stdio};
@@ -17,7 +18,7 @@ impl Folder {
         Folder(path)
     }
 
-    pub fn file(&self, name: &str, bytes: impl AsRef<[u8]>) -> PathBuf {
+    pub fn file(&self, name: impl AsRef<Path>, bytes: impl AsRef<[u8]>) -> PathBuf {
         let path = self.0.join(name);
         fs::create_dir_all(path.parent().expect("a folder")).expect("a folder");
         fs::write(&path, bytes).expect("a file");
@@ -32,12 +33,12 @@ impl Folder {
         names
     }
 
-    pub fn read(&self, name: &str) -> String {
+    pub fn read(&self, name: impl AsRef<Path>) -> String {
         fs::read_to_string(self.0.join(name)).expect("the file")
     }
 
     /// Runs the program in this folder.
-    pub fn station(&self, arguments: &[&str]) -> Answer {
+    pub fn station(&self, arguments: &[impl AsRef<OsStr>]) -> Answer {
         Answer::of(Command::new(STATION).args(arguments).current_dir(&self.0).stdin(Stdio::null()))
     }
 

@@ -11,6 +11,7 @@ fn help_and_wrong_arguments() {
     let folder = Folder::new("help");
     for command in [
         &["--help"][..],
+        &["cut", "--help"],
         &["check", "--help"],
         &["find", "-h"],
         &["fragments", "-h"],
@@ -24,7 +25,14 @@ fn help_and_wrong_arguments() {
     for wrong in [
         &[][..],
         &["frobnicate"],
+        &["cut"],
+        &["cut", "a"],
+        &["cut", "a", "b", "--out", "c"],
+        &["cut", "a", "--out="],
+        &["cut", "a", "--aside", "1", "--out", "b"],
+        &["-q"],
         &["check"],
+        &["check", "-q=1", "a"],
         &["check", "--force", "a"],
         &["check", "--report=1", "a"],
         &["find"],
@@ -36,6 +44,8 @@ fn help_and_wrong_arguments() {
         &["save", "a", "--out"],
         &["save", "a", "--out", "b", "--out", "c"],
         &["save", "a", "--out", ""],
+        &["save", "a", "--out", "b", "--tray", "c", "--keep", "x"],
+        &["fragments", "a", "--keep", "1", "--keep", "2"],
         &["draw", "a"],
         &["draw", "a", "--svg", "b", "--aside", "x"],
         &["draw", "a", "--svg", "b", "--model", "0"],
@@ -58,11 +68,48 @@ fn help_of_a_command() {
     let answer = folder.station(&["help", "frobnicate"]);
     answer.is(0, "station COMMAND --help");
     // The list of commands and the help of each say the same.
-    for command in ["check", "find", "fragments", "save", "draw"] {
+    for command in ["cut", "check", "find", "fragments", "save", "draw"] {
         let own = folder.station(&[command, "--help"]).out;
         let usage = own.lines().next().and_then(|line| line.strip_prefix("usage: ")).expect("a usage");
         assert!(answer.out.contains(&format!("\n  {usage}\n")), "{usage}");
     }
+}
+
+#[test]
+fn the_version() {
+    let folder = Folder::new("version");
+    let answer = folder.station(&["--version"]);
+    let version = concat!("station ", env!("CARGO_PKG_VERSION"), "\n");
+    assert_eq!((answer.status, answer.out.as_str(), answer.err.as_str()), (0, version, ""));
+}
+
+#[test]
+fn quiet() {
+    let folder = Folder::new("quiet");
+    folder.file("good.pdb", three());
+    folder.file("bad.pdb", arginine().replace("HEADER", "TITLE "));
+    let quiet = |arguments: &[&str]| {
+        let answer = folder.station(arguments);
+        assert_eq!((answer.status, answer.out.as_str(), answer.err.as_str()), (0, "", ""), "{arguments:?}");
+    };
+    quiet(&["check", "-q", "good.pdb", "good.pdb"]);
+    quiet(&["cut", "good.pdb", "--out", "a", "-q"]);
+    quiet(&["save", "good.pdb", "-q", "--aside", "1", "--out", "b", "--tray", "c"]);
+    quiet(&["draw", "-q", "good.pdb", "--svg", "d"]);
+    // What is refused is told all the same, and the files that were asked for are there.
+    let answer = folder.station(&["check", "-q", "good.pdb", "bad.pdb"]);
+    answer.is(1, "bad.pdb: line 1: refused with 5");
+    assert!(!answer.out.contains("granted"), "{answer:?}");
+    let answer = folder.station(&["check", "-q", "--json", "good.pdb", "bad.pdb"]);
+    assert!(
+        answer.out.starts_with("{\"file\":\"bad.pdb\",\"verdict\":5,") && answer.out.lines().count() == 1,
+        "{answer:?}"
+    );
+    folder.station(&["cut", "-q", "bad.pdb", "--out", "e"]).is(1, "e: line 1: refused with 5");
+    folder.station(&["save", "-q", "none", "--out", "f"]).is(2, "none: could not be read");
+    let answer = folder.station(&["save", "-q", "good.pdb", "--out", "-"]);
+    assert_eq!((answer.out, answer.err.as_str()), (three(), ""));
+    assert_eq!(folder.names(), ["a", "b", "bad.pdb", "c", "d", "e", "good.pdb"]);
 }
 
 #[test]
@@ -110,6 +157,7 @@ fn noise_of_a_hundred_megabytes() {
     folder.station(&["find", "noise", "1"]).is(1, "serial 1: no ATOM or HETATM line has it; looked at 1234567 lines");
     folder.station(&["fragments", "noise"]).is(1, "refused with 2");
     folder.station(&["draw", "noise", "--svg", "noise.svg"]).is(1, "nothing is drawn");
+    folder.station(&["cut", "noise", "--out", "out"]).is(1, "there is no line to keep, so nothing was written");
     folder.station(&["save", "noise", "--out", "out"]).is(1, "refused with 2");
     assert_eq!(folder.names(), ["noise"]);
 }

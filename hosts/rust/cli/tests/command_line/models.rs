@@ -50,11 +50,11 @@ fn fragments_tell_their_model() {
     folder.file("a.pdb", models());
     let answer = folder.station(&["fragments", "a.pdb", "--aside", "3"]);
     let expected = "\
-fragment  model  chain  residues  atoms  first      last       where
-       1      2  A             1      1  ALA 1      ALA 1      in
-       2      2  B             1      1  ALA 7      ALA 7      in
-       3      3  A             1      1  ALA 1      ALA 1      aside
-       4      3  B             1      1  ALA 7      ALA 7      in
+fragment  model  chain  residues  atoms  first      last       where  words
+       1      2  A             1      1  ALA 1      ALA 1      in     ALA chain:A residue:A:1
+       2      2  B             1      1  ALA 7      ALA 7      in     ALA ligands chain:B residue:B:7
+       3      3  A             1      1  ALA 1      ALA 1      aside  ALA chain:A residue:A:1
+       4      3  B             1      1  ALA 7      ALA 7      in     ALA ligands chain:B residue:B:7
 ";
     assert_eq!((answer.status, answer.out.as_str()), (0, expected));
 }

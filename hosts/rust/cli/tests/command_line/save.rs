@@ -12,10 +12,10 @@ fn fragments_are_listed() {
     folder.file("a.pdb", three());
     let answer = folder.station(&["fragments", "a.pdb", "--aside", "2"]);
     let expected = "\
-fragment  chain  residues  atoms  first      last       where
-       1  A             1      1  ALA 1      ALA 1      in
-       2  B             1      1  ALA 7      ALA 7      aside
-       3  B             1      1  ALA 8      ALA 8      in
+fragment  chain  residues  atoms  first      last       where  words
+       1  A             1      1  ALA 1      ALA 1      in     ALA chain:A residue:A:1
+       2  B             1      1  ALA 7      ALA 7      aside  ALA ligands chain:B residue:B:7
+       3  B             1      1  ALA 8      ALA 8      in     ALA ligands chain:B residue:B:8
 ";
     assert_eq!((answer.status, answer.out.as_str()), (0, expected));
     assert_eq!(folder.station(&["fragments", "a.pdb", "--aside", "2,2-2"]).out, expected);
@@ -35,7 +35,7 @@ fn fragments_that_cannot_be_set_aside() {
     aside("2-99999999999").is(2, "there is no fragment 99999999999; no entry has so many");
     aside("0").is(2, "--aside 0: there is no fragment 0; they count from 1 (see station --help)");
     aside("1,3-2").is(2, "--aside 1,3-2: the range 3-2 is the wrong way round; 2-3 would do");
-    aside("1;2").is(2, "\"1;2\" is no fragment number and no range; a list is such as 2,5 or 2,7-9");
+    aside("1;2").is(2, "\"1;2\" is no fragment number, no range and no word; a list is such as 2,7-9,HOH,chain:B");
     folder.file("bare.pdb", [line("HEADER"), master(0, 0, 0), line("END")].concat());
     folder.station(&["fragments", "bare.pdb"]).is(0, "fragment  chain");
     folder.station(&["fragments", "bare.pdb", "--aside", "1"]).is(1, "the entry has 0 fragments");

@@ -1,10 +1,10 @@
 //! The layout of slots and tallies, the same on both sides of the boundary.
 
 use std::mem::{align_of, offset_of, size_of};
-use std::path::Path;
-use std::process::Command;
 
 use station::{Slot, Tally};
+
+use crate::compiler::compiling;
 
 /// The offsets of the fields of a struct, with their names.
 macro_rules! offsets {
@@ -27,22 +27,17 @@ fn as_written_down() {
     assert_eq!(tally().map(|(_, at)| at), [0, 4, 8, 12, 16, 20, 24, 28, 32]);
 }
 
-/// Lets a C compiler hold the header against the Rust side, if there is one.
+/// A C compiler holds the header against the Rust side.
 #[test]
 fn as_in_c() {
-    let folder = Path::new(env!("CARGO_MANIFEST_DIR"));
-    let compiler = std::env::var("CC").unwrap_or_else(|_| "cc".to_owned());
-    let mut command = Command::new(&compiler);
-    command.args(["-std=c11", "-Wall", "-Wextra", "-Werror", "-fsyntax-only"]);
-    command.arg("-I").arg(folder.join("../../../include"));
+    let mut command = compiling("layout.c");
+    command.arg("-fsyntax-only");
     command.arg(format!("-DSLOT_SIZE={}", size_of::<Slot>()));
     command.arg(format!("-DSLOT_ALIGN={}", align_of::<Slot>()));
     command.arg(format!("-DTALLY_SIZE={}", size_of::<Tally>()));
     command.arg(format!("-DTALLY_ALIGN={}", align_of::<Tally>()));
     command.args(slot().map(|(field, at)| format!("-DSLOT_{field}={at}")));
     command.args(tally().map(|(field, at)| format!("-DTALLY_{field}={at}")));
-    match command.arg(folder.join("tests/layout.c")).status() {
-        Ok(status) => assert!(status.success(), "the header and the Rust side differ"),
-        Err(error) => eprintln!("skipped: {compiler}: {error}"),
-    }
+    let status = command.status().expect("a C compiler");
+    assert!(status.success(), "the header and the Rust side differ");
 }
