@@ -42,7 +42,9 @@ enum {
     STATION_REFUSED_NOTHING_TO_FRAME = 19, /* there is nothing to frame */
     STATION_REFUSED_LONG_INPUT = 20,       /* the input is too long for the report program; no call gives it */
     STATION_REFUSED_SAME_ATOM = 21,        /* an atom that a line above, in the same model, has already */
-    STATION_REFUSED_MODEL = 22             /* the number of a model */
+    STATION_REFUSED_MODEL = 22,            /* the number of a model */
+    STATION_REFUSED_NO_SCALE = 29,         /* there are no SCALE lines to tell a fractional place by */
+    STATION_REFUSED_COORDINATE = 33        /* a coordinate that no atom can have */
 };
 
 /* What the numbers of the answer of station_check are, and how many there are. */
@@ -80,6 +82,27 @@ enum {
     STATION_VERDICT_SIZE
 };
 
+/* What the numbers of a row of station_scale are; it tells three rows, SCALE1, SCALE2, SCALE3, one behind another. */
+enum {
+    STATION_ROW_OF_X,
+    STATION_ROW_OF_Y,
+    STATION_ROW_OF_Z,
+    STATION_ROW_SHIFT,
+    STATION_ROW_SIZE,
+    STATION_SCALE_SIZE = 3 * STATION_ROW_SIZE
+};
+
+/* What the numbers of a fractional place are: exact, in billionths, and rounded, in hundred-thousandths. */
+enum {
+    STATION_PLACE_X,
+    STATION_PLACE_Y,
+    STATION_PLACE_Z,
+    STATION_PLACE_ROUNDED_X,
+    STATION_PLACE_ROUNDED_Y,
+    STATION_PLACE_ROUNDED_Z,
+    STATION_PLACE_SIZE
+};
+
 /* Kinds of slots. A slot of any other kind is damaged: it is no text's and is never drawn. */
 enum { STATION_ATOM = 1, STATION_HETATM = 2, STATION_TER = 3 };
 
@@ -113,6 +136,21 @@ typedef struct {
     uint32_t coord;  /* ATOM and HETATM, with models those of the first alone; so is ter */
     uint32_t ter, conect, seq;
 } station_tally;
+
+/* The cell of a CRYST1 line: 40 bytes without padding. */
+typedef struct {
+    int32_t a, b, c;             /* the edges, in thousandths, 1 to 99,999,999 */
+    int32_t alpha, beta, gamma;  /* the angles, in hundredths of a degree, 1 to 17,999 */
+    uint32_t z;                  /* 1 to 9,999 */
+    uint8_t group[12];           /* the space group: columns 56-66 as they stand, then a byte 0 */
+} station_cell;
+
+/* The transformation of an ORIGX or SCALE line: 20 bytes without padding. */
+typedef struct {
+    int32_t m[3];  /* the coefficients of x, y, z, in millionths, -99,999,999 to 999,999,999 */
+    int32_t t;     /* the shift, in hundred-thousandths, -99,999,999 to 999,999,999 */
+    uint32_t row;  /* which line it is: 1 to 3 ORIGX1-3, 4 to 6 SCALE1-3 */
+} station_transform;
 
 /* Checks a text. `answer` receives twelve numbers: the number of refusal, the line refused (0 if none), the good lines,
  * and the nine counts over the good lines in the order of station_tally. Returns the number as well: 0, 1 to 12, 21 or
@@ -164,14 +202,36 @@ uint32_t station_tray(const uint8_t *text, size_t n, const station_slot *table, 
  * (another kind of line too), 6. */
 uint32_t station_slot_of_line(const uint8_t *line, size_t n, station_slot *slot);
 
-/* Reads one line of the ten typed kinds (HELIX, SHEET, MODEL, ATOM, HETATM, TER, ENDMDL, CONECT, MASTER, END) by itself
- * (80 bytes, no newline) and keeps nothing. `column` receives, at every call, the first column of the leftmost field
- * that is wrong if the line is refused with 6, else 0. 1, 3, 4 (a carried kind too), 6. */
+/* Reads one line of the seventeen typed kinds (HELIX, SHEET, CRYST1, ORIGX1-3, SCALE1-3, MODEL, ATOM, HETATM, TER,
+ * ENDMDL, CONECT, MASTER, END) by itself (80 bytes, no newline) and keeps nothing. `column` receives, at every call,
+ * the first column of the leftmost field that is wrong if the line is refused with 6, else 0. 1, 3, 4 (a carried kind
+ * too), 6. */
 uint32_t station_read_line(const uint8_t *line, size_t n, uint64_t *column);
 
 /* Reads one line of the same kinds by itself (80 bytes, no newline) to its record and writes the record: the first 80
  * bytes of `out` are then the line. 1, 3, 4 (a carried kind too), 6, 17. */
 uint32_t station_rewrite_line(const uint8_t *line, size_t n, uint8_t *out, size_t room);
+
+/* Fills a cell from one CRYST1 line by itself (80 bytes, no newline). 1, 3, 4 (another kind of line too), 6. */
+uint32_t station_cell_of_line(const uint8_t *line, size_t n, station_cell *cell);
+
+/* Fills a transformation from one ORIGX1-3 or SCALE1-3 line likewise. 1, 3, 4 (another kind of line too), 6. */
+uint32_t station_transform_of_line(const uint8_t *line, size_t n, station_transform *transform);
+
+/* Tells the SCALE lines of an accepted text: `rows` receives four numbers for each of SCALE1, SCALE2 and SCALE3, the
+ * coefficients of x, y, z in millionths and the shift in hundred-thousandths. 1 to 12, 21 and 22 for the text; 29 if it
+ * has no SCALE lines. */
+uint32_t station_scale(const uint8_t *text, size_t n, int32_t rows[STATION_SCALE_SIZE]);
+
+/* The fractional place of x, y, z, in thousandths, by such rows, which may be any numbers: nothing overflows. `out`
+ * receives three numbers, one for each row, in billionths, exact; then the same three in hundred-thousandths, rounded
+ * to the nearest, a half away from zero. 33 if a coordinate is not from -999,999 to 9,999,999. */
+uint32_t station_place(const int32_t rows[STATION_SCALE_SIZE], const int32_t at[3],
+                       int64_t out[STATION_PLACE_SIZE]);
+
+/* The fractional place of x, y, z by the SCALE lines of an accepted text: station_scale, and then station_place. 1 to
+ * 12, 21 and 22 for the text; 29; 33. */
+uint32_t station_fractional(const uint8_t *text, size_t n, const int32_t at[3], int64_t out[STATION_PLACE_SIZE]);
 
 /* Jumps to an atom: returns the number of the first line that ends in its newline and reads by itself as an ATOM or
  * HETATM line with this serial, 0 if there is none. Lines are pieces of 81 bytes and count from 1; the text need not be

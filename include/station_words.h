@@ -55,6 +55,10 @@ static inline const char *station_words(uint32_t number)
         return "a line above has the same atom: name, alternate location and residue";
     case STATION_REFUSED_MODEL:
         return "the models are not numbered 1, 2, 3 and so on";
+    case STATION_REFUSED_NO_SCALE:
+        return "the entry has no SCALE lines to tell a fractional place by";
+    case STATION_REFUSED_COORDINATE:
+        return "a coordinate is not from -999.999 to 9999.999";
     default:
         return "for a reason that this program does not know";
     }

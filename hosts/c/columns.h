@@ -14,8 +14,24 @@ static int same_but_column(const uint64_t *check, const uint64_t *verdict)
                   (STATION_CHECK_SIZE - STATION_VERDICT_COLUMN) * sizeof *check) == 0;
 }
 
-/* A check with its column, which gives this number, line, column and good lines, and these counts; all others are 0.
- * The check without the column answers the same. */
+/* A check with its column, which gives these numbers. The check without the column answers the same. */
+static void answers(const char *what, const char *bytes, size_t n, const uint64_t due[STATION_VERDICT_SIZE])
+{
+    uint64_t a[STATION_VERDICT_SIZE], c[STATION_CHECK_SIZE];
+    lent t = lend(bytes, n, 1), answer = lend(NULL, sizeof a, 0), without = lend(NULL, sizeof c, 0);
+    uint32_t came = station_verdict(at(&t), n, at(&answer)), checked = station_check(at(&t), n, at(&without));
+    memcpy(a, at(&answer), sizeof a);
+    memcpy(c, at(&without), sizeof c);
+    told(came == due[STATION_VERDICT_REFUSAL] && memcmp(a, due, sizeof a) == 0 && as_lent(&t) && guarded(&answer) &&
+             guarded(&without) && checked == came && same_but_column(c, a),
+         "verdict: %s: %u, line %llu, column %llu, %llu good, coord %llu, ter %llu, conect %llu", what, (unsigned)came,
+         (unsigned long long)a[STATION_VERDICT_LINE], (unsigned long long)a[STATION_VERDICT_COLUMN],
+         (unsigned long long)a[STATION_VERDICT_GOOD_LINES], (unsigned long long)a[STATION_VERDICT_COORD],
+         (unsigned long long)a[STATION_VERDICT_TER], (unsigned long long)a[STATION_VERDICT_CONECT]);
+    give_back(&t), give_back(&answer), give_back(&without);
+}
+
+/* One that gives this number, line, column and good lines, and these counts; all others are 0. */
 static void verdict(const char *what, const char *bytes, size_t n, uint64_t number, uint64_t line, uint64_t column,
                     uint64_t good, uint64_t coord, uint64_t ter, uint64_t conect)
 {
@@ -25,18 +41,7 @@ static void verdict(const char *what, const char *bytes, size_t n, uint64_t numb
         [STATION_VERDICT_COORD] = coord,    [STATION_VERDICT_TER] = ter,
         [STATION_VERDICT_CONECT] = conect,
     };
-    uint64_t a[STATION_VERDICT_SIZE], c[STATION_CHECK_SIZE];
-    lent t = lend(bytes, n, 1), answer = lend(NULL, sizeof a, 0), without = lend(NULL, sizeof c, 0);
-    uint32_t came = station_verdict(at(&t), n, at(&answer)), checked = station_check(at(&t), n, at(&without));
-    memcpy(a, at(&answer), sizeof a);
-    memcpy(c, at(&without), sizeof c);
-    told(came == number && memcmp(a, due, sizeof due) == 0 && as_lent(&t) && guarded(&answer) && guarded(&without) &&
-             checked == came && same_but_column(c, a),
-         "verdict: %s: %u, line %llu, column %llu, %llu good, coord %llu, ter %llu, conect %llu", what, (unsigned)came,
-         (unsigned long long)a[STATION_VERDICT_LINE], (unsigned long long)a[STATION_VERDICT_COLUMN],
-         (unsigned long long)a[STATION_VERDICT_GOOD_LINES], (unsigned long long)a[STATION_VERDICT_COORD],
-         (unsigned long long)a[STATION_VERDICT_TER], (unsigned long long)a[STATION_VERDICT_CONECT]);
-    give_back(&t), give_back(&answer), give_back(&without);
+    answers(what, bytes, n, due);
 }
 
 /* A line by itself, which gives this number and column. */

@@ -1,9 +1,11 @@
 /* What hosts/c/try.c asks of the constants of station.h and of station_words.h: each count is told where its constant
- * says, and every number has words of its own. The numbers of refusal themselves are held by all other parts. */
+ * says, and every number has words of its own. The numbers of refusal themselves, and the places of rows and fractional
+ * places, are held by all other parts. */
 #ifndef NUMBERS_H
 #define NUMBERS_H
 
 #include "columns.h"
+#include "crystal.h"
 #include "lent.h"
 #include "models.h"
 #include "station.h"
@@ -24,7 +26,7 @@ static const counted COUNTED_LINES[] = {
     COUNTED(NULL, NULL, "HET", HET),
     COUNTED(NULL, NULL, HELIX, HELIX),
     COUNTED(NULL, NULL, STRAND, SHEET),
-    COUNTED(NULL, NULL, "ORIGX1", XFORM),
+    COUNTED(NULL, NULL, SCALE1, XFORM),
     COUNTED(NULL, NULL, ATOM, COORD),
     COUNTED(ATOM, NULL, TER, TER),
     COUNTED(SEVEN, EIGHT, "CONECT    1    2", CONECT),
@@ -53,27 +55,36 @@ static void count_told(const counted *c)
 
 /* ---- words */
 
-/* Whether the words are one line, and those of no number below. */
+/* Whether station.h lists a number. */
+static int listed(uint32_t number)
+{
+    return number <= STATION_REFUSED_MODEL || number == STATION_REFUSED_NO_SCALE ||
+           number == STATION_REFUSED_COORDINATE;
+}
+
+/* Whether the words are one line, and those of no other number that station.h lists. */
 static int own_words(uint32_t number)
 {
     const char *words = station_words(number);
-    uint32_t below;
-    for (below = 0; below < number; below++)
-        if (strcmp(words, station_words(below)) == 0) return 0;
+    uint32_t other;
+    for (other = STATION_GRANTED; other <= STATION_REFUSED_COORDINATE; other++)
+        if (other != number && listed(other) && strcmp(words, station_words(other)) == 0) return 0;
     return *words && !strchr(words, '\n');
 }
 
 static void numbers(void)
 {
-    static const uint32_t unknown[] = {STATION_REFUSED_MODEL + 1, 99, 256, STATION_REFUSED_FIELD + 256, UINT32_MAX};
+    static const uint32_t unknown[] = {99, 256, STATION_REFUSED_FIELD + 256, UINT32_MAX};
+    const char *none = station_words(STATION_REFUSED_MODEL + 1);
     uint32_t number;
     size_t i;
     for (i = 0; i < sizeof COUNTED_LINES / sizeof *COUNTED_LINES; i++) count_told(&COUNTED_LINES[i]);
-    for (number = STATION_GRANTED; number <= STATION_REFUSED_MODEL; number++)
-        told(own_words(number), "words: %u: %s", (unsigned)number, station_words(number));
-    told(own_words(unknown[0]), "words: an unknown number: %s", station_words(unknown[0]));
-    for (i = 1; i < sizeof unknown / sizeof *unknown; i++)
-        told(strcmp(station_words(unknown[i]), station_words(unknown[0])) == 0, "words: %u: %s", (unsigned)unknown[i],
+    told(own_words(STATION_REFUSED_MODEL + 1), "words: an unknown number: %s", none);
+    for (number = STATION_GRANTED; number <= STATION_REFUSED_COORDINATE + 1; number++)
+        told(listed(number) ? own_words(number) : strcmp(station_words(number), none) == 0, "words: %u: %s",
+             (unsigned)number, station_words(number));
+    for (i = 0; i < sizeof unknown / sizeof *unknown; i++)
+        told(strcmp(station_words(unknown[i]), none) == 0, "words: %u: %s", (unsigned)unknown[i],
              station_words(unknown[i]));
 }
 

@@ -1,4 +1,4 @@
-/* Calls each of the seventeen names of include/station.h, and the words of include/station_words.h, and holds what
+/* Calls each of the twenty-two names of include/station.h, and the words of include/station_words.h, and holds what
  * comes against docs/FORMAT.md.
  *
  *     cc -std=c11 -I include hosts/c/try.c LIBRARY/libstation.a -o try && ./try <crates/report/stdin
@@ -8,6 +8,7 @@
  * failed', and the exit status is 0 exactly if M is 0. */
 #include "calls.h"
 #include "columns.h"
+#include "crystal.h"
 #include "jumps.h"
 #include "lent.h"
 #include "models.h"
@@ -299,6 +300,7 @@ int main(void)
     columns(entry);
     jumps();
     models();
+    crystals();
     feeds();
     numbers();
     printf("%u passed, %u failed\n", passed, failed);

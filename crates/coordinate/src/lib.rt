@@ -198,7 +198,7 @@ pub fn read_atom(line: &[u8]) -> ReadAtom
     }
 }
 
-fn position_is_good(p: Position) -> bool
+pub fn position_is_good(p: Position) -> bool
     ensures { λ r. ⌜ r ≡ positionF .ok p ⌝ }
 {
     let x = fields::spans(p.x, 999999, 9999999);

@@ -2,8 +2,9 @@
 use Rattle.ascii.specs.Library.{Bool, true, false}
 use Rattle.coordinate.specs.Atoms.{coordinateKind}
 use Rattle.kinds.specs.declared.{Kind.Kind}
+use Rattle.transform.specs.Transforms.{transformKind}
 use Rattle.line.specs.declared.{Record.Record}
-use Rattle.line.specs.declared.Record.the-variants.{Coordinate, Ter, Helix, Sheet, Conect, Master, End, Model, Endmdl}
+use Rattle.line.specs.declared.Record.the-variants.{Coordinate, Ter, Helix, Sheet, Conect, Master, End, Model, Endmdl, Cell, Transform}
 use Rattle.pieces.specs.declared.{Line.Line, Line.the-variants.Bad, Line.the-variants.Wrong, Line.the-variants.Carried, Line.the-variants.Typed}
 use Rattle.facets.specs.declared.{Spot.Spot, Spot.the-variants.Site, Spot.the-variants.Close, Spot.the-variants.Nowhere, Bond.Bond, Bond.the-variants.Bonds, Bond.the-variants.Loose, Fold.Fold, Fold.the-variants.Turn, Fold.the-variants.Rung, Fold.the-variants.Plain, Total.Total, Total.the-variants.Counted, Total.the-variants.Uncounted, Fence.Fence, Fence.the-variants.Opens, Fence.the-variants.Shuts, Fence.the-variants.Unfenced}
 use Rattle.kinds.specs.declared.Kind.the-variants as kind
@@ -30,6 +31,8 @@ facetsOf (Master t) = facets kind.Master Nowhere Loose Plain (Counted t) Unfence
 facetsOf End = facets kind.End Nowhere Loose Plain Uncounted Unfenced
 facetsOf (Model m) = facets kind.Model Nowhere Loose Plain Uncounted (Opens (m .number))
 facetsOf Endmdl = facets kind.Endmdl Nowhere Loose Plain Uncounted Shuts
+facetsOf (Cell c) = facets kind.Cryst1 Nowhere Loose Plain Uncounted Unfenced
+facetsOf (Transform scale axis t) = facets (transformKind scale axis) Nowhere Loose Plain Uncounted Unfenced
 
 -- one of them
 abbrev pub recordKind : Record → Kind

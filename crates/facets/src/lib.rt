@@ -62,6 +62,8 @@ pub fn record_kind(r: Record) -> Kind
         Record::End => Kind::End,
         Record::Model(_) => Kind::Model,
         Record::Endmdl => Kind::Endmdl,
+        Record::Cell(_) => Kind::Cryst1,
+        Record::Transform(scale, axis, _) => transform::kind_of(scale, axis),
     }
 }
 

@@ -19,10 +19,14 @@ pub struct ResidueNumber(pub i32);
 #[repr(C)]
 pub struct FragmentNumber(pub u32);
 
-// What stands for a point and two or three decimals in `read_number`.
+// What stands for a point and two, three, five or six decimals in `read_number`.
 pub const POINT_2: usize = 3;
 
 pub const POINT_3: usize = 4;
+
+pub const POINT_5: usize = 6;
+
+pub const POINT_6: usize = 7;
 
 // A read field: the column of its fault, or 0, and its value.
 pub struct Whole {
@@ -74,7 +78,7 @@ pub fn same_integer(a: i32, b: i32) -> bool
 
 // A number from lo to hi, e as in `read_number`.
 fn read_ranged(line: &[u8], at: usize, n: usize, e: usize, lo: u32, hi: u32) -> Whole
-    requires { ⌜ (at + n ≤ length (now line)) × (at + n ≤ 80) × (n ≤ 8) ⌝ }
+    requires { ⌜ (at + n ≤ length (now line)) × (at + n ≤ 80) × (n ≤ e + 8) × (e ≤ 9) ⌝ }
     ensures { λ r. ⌜ r ≡ rangedNumber n e lo hi (now (line .entry)) at ⌝ }
 {
     let h = numbers::read_number(line, at, n, e);
@@ -121,7 +125,7 @@ pub fn read_whole(line: &[u8], at: usize, n: usize, lo: u32, hi: u32) -> Whole
 
 // Real(n.d) from lo to hi.
 pub fn read_whole_real(line: &[u8], at: usize, n: usize, d: usize, lo: u32, hi: u32) -> Whole
-    requires { ⌜ (at + n ≤ length (now line)) × (at + n ≤ 80) × (n ≤ 8) × (d < n) ⌝ }
+    requires { ⌜ (at + n ≤ length (now line)) × (at + n ≤ 80) × (n ≤ d + 9) × (d ≤ 8) × (d < n) ⌝ }
     ensures { λ r. ⌜ r ≡ rangedNumber n (d + 1) lo hi (now (line .entry)) at ⌝ }
 {
     let e = d + 1;
@@ -130,7 +134,7 @@ pub fn read_whole_real(line: &[u8], at: usize, n: usize, d: usize, lo: u32, hi: 
 
 // A number of either sign, e as in `read_number`. (Readers call it as it is: a function of its own for reals is not inlined as well.)
 pub fn read_signed(line: &[u8], at: usize, n: usize, e: usize) -> Signed
-    requires { ⌜ (at + n ≤ length (now line)) × (at + n ≤ 80) × (n ≤ 8) × (capOf n e true ≤ 1000000000) × (capOf n e false ≤ 1000000000) ⌝ }
+    requires { ⌜ (at + n ≤ length (now line)) × (at + n ≤ 80) × (n ≤ e + 8) × (e ≤ 9) × (capOf n e true ≤ 1000000000) × (capOf n e false ≤ 1000000000) ⌝ }
     ensures { λ r. ⌜ r ≡ signedNumber n e (now (line .entry)) at ⌝ }
 {
     let h = numbers::read_number(line, at, n, e);

@@ -19,7 +19,10 @@ use Rattle.residue.specs.Residues.{sameResidue}
 use Rattle.master.specs.declared.Tally.{Tally}
 use Rattle.conect.specs.declared.Conect.{Conect as ConectOf}
 use Rattle.line.specs.declared.Record.{Record}
-use Rattle.line.specs.declared.Record.the-variants.{Coordinate, Ter, Helix, Sheet, Conect, Master, End, Model, Endmdl}
+use Rattle.transform.specs.declared.Axis.{Axis}
+use Rattle.transform.specs.Transforms.{transformKind}
+use Rattle.line.proofs.Crystal.{each-transform}
+use Rattle.line.specs.declared.Record.the-variants.{Coordinate, Ter, Helix, Sheet, Conect, Master, End, Model, Endmdl, Cell, Transform}
 use Rattle.pieces.specs.declared.Line.{Line}
 use Rattle.pieces.specs.declared.Line.the-variants.{Bad, Wrong, Carried, Typed}
 use Rattle.pieces.specs.Pieces.{lineOf}
@@ -178,6 +181,10 @@ master-totals t n i m g h e =
 
 -- ---- the last line is END
 
+transform-front : (scale : Bool) (axis : Axis) → rowOf (transformKind scale axis) .here ≡ endPlace → ⊥
+transform-front =
+    each-transform (λ k. rowOf k .here ≡ endPlace → ⊥) (λ x. omega arith) (λ x. omega arith) (λ x. omega arith) (λ x. omega arith) (λ x. omega arith) (λ x. omega arith)
+
 record-ends : (r : Record) → rowOf (recordKind r) .here ≡ endPlace → r ≡ End
 record-ends (Coordinate true a) e = absurd (omega arith)
 record-ends (Coordinate false a) e = absurd (omega arith)
@@ -189,6 +196,8 @@ record-ends (Master m) e = absurd (omega arith)
 record-ends End e = refl
 record-ends (Model m) e = absurd (omega arith)
 record-ends Endmdl e = absurd (omega arith)
+record-ends (Cell c) e = absurd (omega arith)
+record-ends (Transform scale axis t) e = absurd (transform-front scale axis e)
 
 line-ends : (t : List ℕ) (i : ℕ) (s : State) (look : Looked) (l : Line) → row t i ≡ l → judgeOf look s l ≡ 0 → (nextOf s l) .place ≡ endPlace → l ≡ Typed End
 unfolding nextOf carriedNext typedNext judgeOf

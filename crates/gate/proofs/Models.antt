@@ -11,6 +11,7 @@ use borrow.Author.Tests.{eqb-true, eq-eqb, ltb-true, ltb-false}
 use lib.Dec.{eqb, ltb}
 use Rattle.ascii.specs.Tests.{pick, either, both}
 use Rattle.ascii.proofs.Choice.{not-false}
+use Rattle.transform.specs.Transforms.{transformKind}
 use Rattle.kinds.specs.declared.Kind.the-variants as kind
 use Rattle.line.specs.declared.Record.{Record}
 use Rattle.line.specs.declared.Record.the-variants as rec
@@ -138,6 +139,9 @@ without-typed t n s look rec.End W e g = inl (without-on t n s _ W refl (rw e) (
 without-typed t n s look (rec.Model m) W e g =
     let c : (j : ℕ) → j < suc n → isCoord (row t j) ≡ false = no-more t n (opened t n s W (g .fence) (place-high (s .place) kind.Model (g .place)) (W .reach)) (rw e) in
     inr (record { held = λ j h k. absurd (false≢true (sym (c j h) ∙ k)); some = refl })
+without-typed t n s look (rec.Cell c) W e g = inl (without-on t n s _ W refl (rw e) (passed t n _ _ (rw e) (before-kind kind.Cryst1 (s .place) (g .place))))
+without-typed t n s look (rec.Transform scale axis x) W e g =
+    inl (without-on t n s _ W refl (rw e) (passed t n _ _ (rw e) (before-kind (transformKind scale axis) (s .place) (g .place))))
 without-typed t n s look rec.Endmdl W e g = absurd (never-shut (s .place) (s .models) (W .shut) (g .fence))
 
 -- ---- a coordinate line that stands in a model
@@ -168,6 +172,8 @@ slot-open s look (rec.Master x) g c h = absurd (false≢true c)
 slot-open s look rec.End g c h = absurd (false≢true c)
 slot-open s look (rec.Model x) g c h = absurd (false≢true c)
 slot-open s look rec.Endmdl g c h = absurd (false≢true c)
+slot-open s look (rec.Cell x) g c h = absurd (false≢true c)
+slot-open s look (rec.Transform scale axis x) g c h = absurd (false≢true c)
 
 -- ---- a good line more
 more : (t : List ℕ) (n : ℕ) (s : State) (look : Looked) → s .models .inside ≡ openAt t n → (l : Line) → row t n ≡ l → judgeOf look s l ≡ 0

@@ -31,13 +31,18 @@ use Rattle.master.specs.Masters.{masterF}
 use Rattle.master.proofs.Laws.{master-lawful}
 use Rattle.model.specs.Models.{modelF}
 use Rattle.model.proofs.Laws.{model-lawful}
+use Rattle.cell.specs.Cells.{cellF}
+use Rattle.cell.proofs.Laws.{cell-lawful}
+use Rattle.transform.specs.Transforms.{transformF}
+use Rattle.transform.proofs.Laws.{transform-lawful}
 use Rattle.line.specs.declared.Record.{Record}
 use Rattle.line.specs.declared.Reading.{Reading}
 use Rattle.line.specs.declared.Reading.the-variants.{Typed, Wrong, Untyped}
 use Rattle.line.specs.declared.Answer.{Answer}
 use Rattle.line.specs.declared.Answer.the-variants.{Refused}
-use Rattle.line.specs.Lines.{bareF, judged, readingOf, answerOf, readLine, answerNumber, answerColumn, fieldsOf}
+use Rattle.line.specs.Lines.{bareF, judged, crystalRead, readingOf, answerOf, readLine, answerNumber, answerColumn, fieldsOf}
 use Rattle.line.specs.Promise.{Columns}
+use Rattle.line.proofs.Crystal.{crystal-cases}
 use Rattle.line.proofs.RoundTrip.{bare-lawful}
 
 -- ---- by kind
@@ -51,7 +56,7 @@ module _ {A : Type 0} (F : Format A) (f : Lawful F 6) (w : F .width ≡ 74) (l :
   kind-column = (judged-column (F .fault l 6) r ∙ f .named l (omega arith), subst (λ (n : ℕ). SideBySide 7 (F .fields l 6) n) (omega arith) (f .filled l))
 
 by-kind : (l : List ℕ) → length l ≡ 80 → (k : Kind) → isTyped k ≡ true → (answerColumn (answerOf (readingOf k l)) ≡ leftmostWrong (fieldsOf k l)) × SideBySide 7 (fieldsOf k l) 81
-unfolding readingOf fieldsOf either
+unfolding readingOf crystalRead fieldsOf either
 by-kind l h kind.Atom t = kind-column atomF atom-lawful refl l h _
 by-kind l h kind.Hetatm t = kind-column atomF atom-lawful refl l h _
 by-kind l h kind.Ter t = kind-column terF ter-lawful refl l h _
@@ -62,6 +67,13 @@ by-kind l h kind.Master t = kind-column masterF master-lawful refl l h _
 by-kind l h kind.Model t = kind-column modelF model-lawful refl l h _
 by-kind l h kind.End t = kind-column bareF bare-lawful refl l h _
 by-kind l h kind.Endmdl t = kind-column bareF bare-lawful refl l h _
+by-kind l h kind.Cryst1 t = kind-column cellF cell-lawful refl l h _
+by-kind l h kind.Origx1 t = kind-column transformF transform-lawful refl l h _
+by-kind l h kind.Origx2 t = kind-column transformF transform-lawful refl l h _
+by-kind l h kind.Origx3 t = kind-column transformF transform-lawful refl l h _
+by-kind l h kind.Scale1 t = kind-column transformF transform-lawful refl l h _
+by-kind l h kind.Scale2 t = kind-column transformF transform-lawful refl l h _
+by-kind l h kind.Scale3 t = kind-column transformF transform-lawful refl l h _
 by-kind l h kind.Header t = absurd (false≢true t)
 by-kind l h kind.Title t = absurd (false≢true t)
 by-kind l h kind.Compnd t = absurd (false≢true t)
@@ -74,13 +86,6 @@ by-kind l h kind.Jrnl t = absurd (false≢true t)
 by-kind l h kind.Remark t = absurd (false≢true t)
 by-kind l h kind.Seqres t = absurd (false≢true t)
 by-kind l h kind.Het t = absurd (false≢true t)
-by-kind l h kind.Cryst1 t = absurd (false≢true t)
-by-kind l h kind.Origx1 t = absurd (false≢true t)
-by-kind l h kind.Origx2 t = absurd (false≢true t)
-by-kind l h kind.Origx3 t = absurd (false≢true t)
-by-kind l h kind.Scale1 t = absurd (false≢true t)
-by-kind l h kind.Scale2 t = absurd (false≢true t)
-by-kind l h kind.Scale3 t = absurd (false≢true t)
 by-kind l h kind.Unknown t = absurd (false≢true t)
 
 -- ---- 6 exactly if there is a column
@@ -108,7 +113,7 @@ reading-wrong k l =
     (λ _. picks AtColumn (is kind.End k) _ _ (λ _. judged-wrong _ _)
     (λ _. picks AtColumn (is kind.Model k) _ _ (λ _. judged-wrong _ _)
     (λ _. picks AtColumn (is kind.Endmdl k) _ _ (λ _. judged-wrong _ _)
-    (λ _. untyped-right))))))))))
+    (λ _. crystal-cases AtColumn k l (λ _. judged-wrong _ _) (λ _ _ _. judged-wrong _ _) untyped-right))))))))))
 
 pub six : (l : List ℕ) → answerNumber (readLine l) ≡ 6 → answerColumn (readLine l) ≡ 0 → ⊥
 unfolding readLine

@@ -1,8 +1,8 @@
--- The two round trips, over all ten typed kinds.
+-- The two round trips, over all typed kinds.
 -- Assumes nothing.
 use mathlib.Core.Path.{_≡_, refl, sym, _∙_}
 use mathlib.Core.List.{List, _++_}
-use mathlib.Core.Bool.{true, false}
+use mathlib.Core.Bool.{Bool, true, false}
 use Prim.Native.Nat.{ℕ, _≤_}
 use native.Mathlib.Omega.{arith}
 use lib.Dec.{T, eqb}
@@ -15,7 +15,7 @@ use Rattle.columns.proofs.Spans.{clean-cols, clean-fewer}
 use Rattle.fields.specs.Format.{Format, writeNumber, writeLine}
 use Rattle.fields.proofs.Formats.{Lawful, none-lawful, after-lawful, line-kept, line-back, line-clean, line-long}
 use Rattle.kinds.specs.declared.Kind.{Kind}
-use Rattle.kinds.specs.declared.Kind.the-variants.{Atom, Hetatm, Ter, Helix, Sheet, Conect, Master, End, Model, Endmdl}
+use Rattle.kinds.specs.declared.Kind.the-variants.{Cryst1, Atom, Hetatm, Ter, Helix, Sheet, Conect, Master, End, Model, Endmdl}
 use Rattle.kinds.specs.Kinds.{rowOf, nameText, is, isNamed, kindOf}
 use Rattle.kinds.proofs.First.{name-first, kind-first, same-name}
 use Rattle.coordinate.specs.Atoms.{atomF}
@@ -32,14 +32,21 @@ use Rattle.master.specs.Masters.{masterF}
 use Rattle.master.proofs.Laws.{master-lawful}
 use Rattle.model.specs.Models.{modelF}
 use Rattle.model.proofs.Laws.{model-lawful}
+use Rattle.cell.specs.Cells.{cellF}
+use Rattle.cell.proofs.Laws.{cell-lawful}
+use Rattle.transform.specs.declared.Axis.{Axis}
+use Rattle.transform.specs.declared.Axis.the-variants.{X, Y, Z}
+use Rattle.transform.specs.Transforms.{transformF, transformKind}
+use Rattle.transform.proofs.Laws.{transform-lawful}
 use Rattle.line.specs.declared.Record.{Record}
 use Rattle.line.specs.declared.Record.the-variants as rec
 use Rattle.line.specs.declared.Reading.{Reading}
 use Rattle.line.specs.declared.Reading.the-variants.{Typed, Wrong, Untyped}
 use Rattle.line.specs.declared.Answer.{Answer}
 use Rattle.line.specs.declared.Answer.the-variants.{Read, Refused}
-use Rattle.line.specs.Lines.{bareF, judged, readingOf, answerOf, readLine, answerNumber, recordOk, recordLine}
+use Rattle.line.specs.Lines.{bareF, judged, crystalRead, readingOf, answerOf, readLine, answerNumber, recordOk, recordLine}
 use Rattle.line.specs.Promise.{RoundTrips}
+use Rattle.line.proofs.Crystal.{crystal-cases, transform-name, transform-named, transform-printed}
 
 pub bare-lawful : Lawful bareF 6
 bare-lawful = after-lawful 74 none-lawful
@@ -77,7 +84,10 @@ kept-reading l h c k e =
     (λ _. picks (Kept l) (is End k) _ _ (λ t. kept-judged bareF bare-lawful refl End refl (λ a. rec.End) (λ a. refl) (λ a. refl) l h (first End refl t))
     (λ _. picks (Kept l) (is Model k) _ _ (λ t. kept-judged modelF model-lawful refl Model refl rec.Model (λ a. refl) (λ a. refl) l h (first Model refl t))
     (λ _. picks (Kept l) (is Endmdl k) _ _ (λ t. kept-judged bareF bare-lawful refl Endmdl refl (λ a. rec.Endmdl) (λ a. refl) (λ a. refl) l h (first Endmdl refl t))
-    (λ _. kept-untyped l))))))))))
+    (λ _. crystal-cases (Kept l) k l
+    (λ t. kept-judged cellF cell-lawful refl Cryst1 refl rec.Cell (λ a. refl) (λ a. refl) l h (first Cryst1 refl t))
+    (λ s x t. kept-judged transformF transform-lawful refl (transformKind s x) (transform-name s x) (rec.Transform s x) (λ a. refl) (λ a. refl) l h (first (transformKind s x) (transform-named s x) t))
+    (kept-untyped l)))))))))))
   where
     first : (a : Kind) → isNamed a ≡ true → is a k ≡ true → take 6 l ≡ nameText a
     first a known t =
@@ -132,9 +142,18 @@ back-judged F f w k n p wrap reads a ok =
     let x = line-back F f w (nameText k) n a ok in
     rw (long, clean-cols l (line-clean F f w (nameText k) n p a ok) 0 80 (omega arith), kind-first (F .text a) k, reads l, x .0, x .1)
 
+transform-reads : (s : Bool) (x : Axis) (l : List ℕ) → readingOf (transformKind s x) l ≡ judged (transformF .fault l 6) (rec.Transform s x (transformF .value l 6))
+unfolding readingOf crystalRead
+transform-reads false X l = refl
+transform-reads false Y l = refl
+transform-reads false Z l = refl
+transform-reads true X l = refl
+transform-reads true Y l = refl
+transform-reads true Z l = refl
+
 -- THE SECOND ROUND TRIP: a record within its ranges reads back from the line that it is written as
 pub back : (r : Record) → recordOk r ≡ true → readLine (recordLine r) ≡ Read r
-unfolding readingOf
+unfolding readingOf crystalRead
 back (rec.Coordinate true a) ok = back-judged atomF atom-lawful refl Hetatm refl tt (rec.Coordinate true) (λ l. refl) a ok
 back (rec.Coordinate false a) ok = back-judged atomF atom-lawful refl Atom refl tt (rec.Coordinate false) (λ l. refl) a ok
 back (rec.Ter t) ok = back-judged terF ter-lawful refl Ter refl tt rec.Ter (λ l. refl) t ok
@@ -144,6 +163,8 @@ back (rec.Conect c) ok = back-judged conectF conect-lawful refl Conect refl tt r
 back (rec.Master t) ok = back-judged masterF master-lawful refl Master refl tt rec.Master (λ l. refl) t ok
 back rec.End ok = back-judged bareF bare-lawful refl End refl tt (λ a. rec.End) (λ l. refl) tt ok
 back (rec.Model m) ok = back-judged modelF model-lawful refl Model refl tt rec.Model (λ l. refl) m ok
+back (rec.Cell c) ok = back-judged cellF cell-lawful refl Cryst1 refl tt rec.Cell (λ l. refl) c ok
+back (rec.Transform s x t) ok = back-judged transformF transform-lawful refl (transformKind s x) (transform-name s x) (transform-printed s x) (rec.Transform s x) (transform-reads s x) t ok
 back rec.Endmdl ok = back-judged bareF bare-lawful refl Endmdl refl tt (λ a. rec.Endmdl) (λ l. refl) tt ok
 
 -- ---- both, of what the functions promise

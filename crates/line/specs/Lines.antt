@@ -3,8 +3,8 @@ use Rattle.ascii.specs.Library.{ℕ, List, [], _++_, Bool, true, false, length,
 use Rattle.columns.specs.Columns.{cleanAt}
 use Rattle.fields.specs.Format.{Field, Format, noneF, after}
 use Rattle.kinds.specs.declared.{Kind.Kind}
-use Rattle.kinds.specs.declared.Kind.the-variants.{Atom, Hetatm, Ter, Helix, Sheet, Conect, Master, End, Model, Endmdl}
-use Rattle.kinds.specs.Kinds.{lineWith, is, kindOf}
+use Rattle.kinds.specs.declared.Kind.the-variants.{Helix, Sheet, Cryst1, Origx1, Origx2, Origx3, Scale1, Scale2, Scale3, Atom, Hetatm, Ter, Conect, Master, End, Model, Endmdl}
+use Rattle.kinds.specs.Kinds.{rowOf, lineWith, is, kindOf}
 use Rattle.coordinate.specs.Atoms.{atomF, coordinateKind}
 use Rattle.ter.specs.Ters.{terF}
 use Rattle.helix.specs.Helices.{helixF}
@@ -12,6 +12,9 @@ use Rattle.sheet.specs.Sheets.{sheetF}
 use Rattle.conect.specs.Conects.{conectF}
 use Rattle.master.specs.Masters.{masterF}
 use Rattle.model.specs.Models.{modelF}
+use Rattle.cell.specs.Cells.{cellF}
+use Rattle.transform.specs.declared.{Axis.Axis, Axis.the-variants.X, Axis.the-variants.Y, Axis.the-variants.Z}
+use Rattle.transform.specs.Transforms.{transformF, transformKind}
 use Rattle.words.specs.Words.{bytesOf}
 use Rattle.line.specs.declared.{Record.Record, Reading.Reading, Reading.the-variants.Typed, Reading.the-variants.Wrong, Reading.the-variants.Untyped, Answer.Answer}
 use Rattle.line.specs.declared.Answer.the-variants as answer
@@ -29,6 +32,22 @@ bareLine name = bytesOf 6 name ++ bareF .text tt
 unfoldable pub judged : ℕ → Record → Reading
 judged column r = pick (eqb column 0) (Typed r) (Wrong column)
 
+-- SCALE (true) or ORIGX, of an axis
+abbrev pub transformRead : List ℕ → Bool → Axis → Reading
+transformRead l scale axis = judged (transformF .fault l 6) (rec.Transform scale axis (transformF .value l 6))
+
+-- the lines of the crystal frame
+unfoldable pub crystalRead : Kind → List ℕ → Reading
+crystalRead k l =
+    pick (is Cryst1 k) (judged (cellF .fault l 6) (rec.Cell (cellF .value l 6)))
+    (pick (is Origx1 k) (transformRead l false X)
+    (pick (is Origx2 k) (transformRead l false Y)
+    (pick (is Origx3 k) (transformRead l false Z)
+    (pick (is Scale1 k) (transformRead l true X)
+    (pick (is Scale2 k) (transformRead l true Y)
+    (pick (is Scale3 k) (transformRead l true Z)
+    Untyped))))))
+
 -- what a line of 80 columns reads to, by its kind
 unfoldable pub readingOf : Kind → List ℕ → Reading
 readingOf k l =
@@ -42,7 +61,7 @@ readingOf k l =
     (pick (is End k) (judged (bareF .fault l 6) rec.End)
     (pick (is Model k) (judged (modelF .fault l 6) (rec.Model (modelF .value l 6)))
     (pick (is Endmdl k) (judged (bareF .fault l 6) rec.Endmdl)
-    Untyped)))))))))
+    (crystalRead k l))))))))))
 
 -- 4: a name that is unknown or carried; 6: a field or blank column wrong, with the first column of the leftmost one
 abbrev pub answerOf : Reading → Answer
@@ -65,6 +84,10 @@ answerColumn (answer.Read r) = 0
 answerColumn (answer.Refused n) = 0
 answerColumn (answer.Wrong column) = column
 
+-- ORIGX and SCALE: the lines that MASTER counts as transformations
+abbrev pub isTransform : Kind → Bool
+isTransform k = eqb (rowOf k .count) 5
+
 -- the fields of a line of 80 columns, columns 7 to 80, by its kind
 unfoldable pub fieldsOf : Kind → List ℕ → List Field
 fieldsOf k l =
@@ -76,7 +99,9 @@ fieldsOf k l =
     (pick (is Master k) (masterF .fields l 6)
     (pick (is Model k) (modelF .fields l 6)
     (pick (either (is End k) (is Endmdl k)) (bareF .fields l 6)
-    [])))))))
+    (pick (is Cryst1 k) (cellF .fields l 6)
+    (pick (isTransform k) (transformF .fields l 6)
+    [])))))))))
 
 -- whether each field of a record is within its range, and the 80 bytes that it is written as
 abbrev pub formOf : Record → (Bool × List ℕ)
@@ -89,6 +114,8 @@ formOf (rec.Master t) = (masterF .ok t, lineWith Master masterF t)
 formOf rec.End = (bareF .ok tt, lineWith End bareF tt)
 formOf (rec.Model m) = (modelF .ok m, lineWith Model modelF m)
 formOf rec.Endmdl = (bareF .ok tt, lineWith Endmdl bareF tt)
+formOf (rec.Cell c) = (cellF .ok c, lineWith Cryst1 cellF c)
+formOf (rec.Transform scale axis t) = (transformF .ok t, lineWith (transformKind scale axis) transformF t)
 
 abbrev pub recordOk : Record → Bool
 recordOk r = formOf r .0

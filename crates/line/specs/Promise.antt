@@ -1,4 +1,4 @@
--- What is promised of lines read by themselves, over all ten typed kinds: the two round trips with records, and what the column means. They are
+-- What is promised of lines read by themselves, over all typed kinds: the two round trips with records, and what the column means. They are
 -- proved in proofs/.
 use Rattle.ascii.specs.Library.{ℕ, _≤_, List, _++_, true, _≡_, length, drop}
 use Rattle.columns.specs.Columns.{cleanAt}

@@ -1,4 +1,5 @@
 // A line by itself, of any kind: read to a record, and written from one.
+use cell::Cell;
 use conect::Conect;
 use coordinate::Atom;
 use helix::Helix;
@@ -7,6 +8,8 @@ use master::Tally;
 use model::Model;
 use sheet::Sheet;
 use ter::Ter;
+use transform::Axis;
+use transform::Transform;
 ghost use mathlib.Core.Path.{_≡_};
 ghost use mathlib.Core.Bool.{true};
 ghost use lib.ListN.{length};
@@ -18,8 +21,9 @@ ghost use Rattle.sheet.specs.Sheets.{sheetF};
 ghost use Rattle.conect.specs.Conects.{conectF};
 ghost use Rattle.master.specs.Masters.{masterF};
 ghost use Rattle.model.specs.Models.{modelF};
+ghost use Rattle.cell.specs.Cells.{cellF};
 ghost use Rattle.line.specs.declared.Record.the-variants as rec;
-ghost use Rattle.line.specs.Lines.{bareF, bareLine, judged, readingOf, answerOf, readLine, answerNumber, answerColumn, recordOk, recordLine};
+ghost use Rattle.line.specs.Lines.{bareF, bareLine, judged, transformRead, readingOf, answerOf, readLine, answerNumber, answerColumn, recordOk, recordLine};
 
 // The record of a typed line.
 pub enum Record {
@@ -33,6 +37,9 @@ pub enum Record {
     End,
     Model(Model),
     Endmdl,
+    Cell(Cell),
+    // SCALE, or ORIGX.
+    Transform(bool, Axis, Transform),
 }
 
 // What a line of 80 columns reads to.
@@ -101,6 +108,8 @@ pub fn write_record(out: &mut [u8], r: Record) -> u8
         Record::End => write_bare(out, kinds::END),
         Record::Model(m) => model::write_model(out, m),
         Record::Endmdl => write_bare(out, kinds::ENDMDL),
+        Record::Cell(c) => cell::write_cell(out, c),
+        Record::Transform(scale, axis, t) => transform::write_transform(out, scale, axis, t),
     }
 }
 
@@ -120,6 +129,13 @@ pub fn read_kind(line: &[u8], k: Kind) -> Reading
         Kind::End => read_bare(line, Record::End),
         Kind::Model => read_model(line),
         Kind::Endmdl => read_bare(line, Record::Endmdl),
+        Kind::Cryst1 => read_cell(line),
+        Kind::Origx1 => read_transform(line, false, Axis::X),
+        Kind::Origx2 => read_transform(line, false, Axis::Y),
+        Kind::Origx3 => read_transform(line, false, Axis::Z),
+        Kind::Scale1 => read_transform(line, true, Axis::X),
+        Kind::Scale2 => read_transform(line, true, Axis::Y),
+        Kind::Scale3 => read_transform(line, true, Axis::Z),
         _ => Reading::Untyped,
     }
 }
@@ -221,6 +237,32 @@ fn read_model(line: &[u8]) -> Reading
     let column = r.column;
     if column == 0 {
         return Reading::Typed(Record::Model(value));
+    }
+    Reading::Wrong(column)
+}
+
+fn read_cell(line: &[u8]) -> Reading
+    requires { ⌜ length (now line) ≡ 80 ⌝ }
+    ensures { λ r. ⌜ r ≡ judged (cellF .fault (now (line .entry)) 6) (rec.Cell (cellF .value (now (line .entry)) 6)) ⌝ }
+{
+    let r = cell::read_cell(line);
+    let value = r.value;
+    let column = r.column;
+    if column == 0 {
+        return Reading::Typed(Record::Cell(value));
+    }
+    Reading::Wrong(column)
+}
+
+fn read_transform(line: &[u8], scale: bool, axis: Axis) -> Reading
+    requires { ⌜ length (now line) ≡ 80 ⌝ }
+    ensures { λ r. ⌜ r ≡ transformRead (now (line .entry)) scale axis ⌝ }
+{
+    let r = transform::read_transform(line);
+    let value = r.value;
+    let column = r.column;
+    if column == 0 {
+        return Reading::Typed(Record::Transform(scale, axis, value));
     }
     Reading::Wrong(column)
 }

@@ -10,7 +10,7 @@ use Rattle.ascii.proofs.Clean.{Fine, fine-within, fine-is, fine-blank, fine-upp
 use Rattle.names.specs.declared.Pair.{Pair}
 use Rattle.names.specs.declared.Three.{Three}
 use Rattle.names.specs.declared.Four.{Four}
-use Rattle.names.specs.Names.{isBlank, isChain, isInsertion, isAlternate, isFilled, isColumn, isNameByte, rightThree, isResidue, isIdentifier, isCharge, paddedTwo, paddedThree, isAtomName, isBondName}
+use Rattle.names.specs.Names.{isBlank, isChain, isInsertion, isAlternate, isFilled, isColumn, isNameByte, rightThree, isResidue, isIdentifier, isCharge, paddedTwo, paddedThree, isFreeThree, isFreeFour, isAtomName, isBondName}
 
 pub chain-fine : (b : ℕ) → isChain b ≡ true → Fine b
 chain-fine b = either-split (isCode b) _ (fine-code b) (fine-within 97 122 b (omega arith) (omega arith))
@@ -65,6 +65,19 @@ padded-three-fine b c d =
     either-split (both (isNameByte b) (paddedTwo c d)) (both (isBlank b) (both (isBlank c) (isBlank d)))
     (λ p. let q = both-split (isNameByte b) _ p in let r = padded-two-fine c d (q .1) in (name-byte-fine b (q .0), r .0, r .1))
     (λ p. let q = both-split (isBlank b) _ p in let r = both-split (isBlank c) _ (q .1) in (fine-blank b (q .0), fine-blank c (r .0), fine-blank d (r .1)))
+
+pub free-three-fine : (n : Three) → isFreeThree n ≡ true → Fine (n .a) × Fine (n .b) × Fine (n .c)
+free-three-fine n e =
+    let w = both-split (isColumn (n .a)) _ e in
+    let q = both-split (isColumn (n .b)) _ (w .1) in
+    (w .0, q .0, q .1)
+
+pub free-four-fine : (n : Four) → isFreeFour n ≡ true → Fine (n .a) × Fine (n .b) × Fine (n .c) × Fine (n .d)
+free-four-fine n e =
+    let w = both-split (both (isColumn (n .a)) (isColumn (n .b))) _ e in
+    let q = both-split (isColumn (n .a)) _ (w .0) in
+    let r = both-split (isColumn (n .c)) _ (w .1) in
+    (q .0, q .1, r .0, r .1)
 
 pub atom-name-fine : (n : Four) → isAtomName n ≡ true → Fine (n .a) × Fine (n .b) × Fine (n .c) × Fine (n .d)
 atom-name-fine n e =

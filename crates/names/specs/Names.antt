@@ -90,6 +90,13 @@ paddedThree b c d = either (both (isNameByte b) (paddedTwo c d)) (both (isBlank 
 abbrev pub isAtomName : Four → Bool
 isAtomName n = both (both (isColumn (n .a)) (isColumn (n .b))) (paddedTwo (n .c) (n .d))
 
+-- three columns, and four, of which each may hold anything
+abbrev pub isFreeThree : Three → Bool
+isFreeThree n = both (isColumn (n .a)) (both (isColumn (n .b)) (isColumn (n .c)))
+
+abbrev pub isFreeFour : Four → Bool
+isFreeFour n = both (both (isColumn (n .a)) (isColumn (n .b))) (both (isColumn (n .c)) (isColumn (n .d)))
+
 -- name characters in all four columns
 abbrev pub isFull : Four → Bool
 isFull n = both (both (isNameByte (n .a)) (isNameByte (n .b))) (both (isNameByte (n .c)) (isNameByte (n .d)))

@@ -4,7 +4,7 @@ ghost use Prim.Native.Nat.{_+_, _≤_};
 ghost use mathlib.Core.List.{_∷_, []};
 ghost use lib.ListN.{length};
 ghost use Rattle.columns.specs.Columns.{Put};
-ghost use Rattle.names.specs.Names.{pairAt, threeAt, fourAt, samePair, sameThree, sameFour, isBlank, isChain, isInsertion, isAlternate, isFilled, isColumn, isNameByte, rightThree, isResidue, isIdentifier, isCharge, paddedTwo, paddedThree, isFull, isAtomName, isBondName};
+ghost use Rattle.names.specs.Names.{pairAt, threeAt, fourAt, samePair, sameThree, sameFour, isBlank, isChain, isInsertion, isAlternate, isFilled, isColumn, isNameByte, rightThree, isResidue, isIdentifier, isCharge, paddedTwo, paddedThree, isFreeThree, isFreeFour, isFull, isAtomName, isBondName};
 
 #[repr(C)]
 pub struct Pair {
@@ -229,6 +229,25 @@ fn padded_three(b: u8, c: u8, d: u8) -> bool
     ascii::either_of(
         ascii::both_of(is_name_byte(b), padded_two(c, d)),
         ascii::both_of(is_blank(b), ascii::both_of(is_blank(c), is_blank(d))),
+    )
+}
+
+// Three columns, and four, of which each may hold anything.
+pub fn is_free_three(n: Three) -> bool
+    ensures { λ r. ⌜ r ≡ isFreeThree n ⌝ }
+{
+    ascii::both_of(
+        is_column(n.a),
+        ascii::both_of(is_column(n.b), is_column(n.c)),
+    )
+}
+
+pub fn is_free_four(n: Four) -> bool
+    ensures { λ r. ⌜ r ≡ isFreeFour n ⌝ }
+{
+    ascii::both_of(
+        ascii::both_of(is_column(n.a), is_column(n.b)),
+        ascii::both_of(is_column(n.c), is_column(n.d)),
     )
 }
 

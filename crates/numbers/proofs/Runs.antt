@@ -277,6 +277,88 @@ num-real l at n e s y g h d r z a p t b u q f =
     let x : numberOf l at n e ≡ numberOf l at (suc (n - 1)) (suc (e - 1)) = ap₂ (numberOf l at) j k in
     f ∙ rw (q, u, b, t, p) (sym (x ∙ decimals l at (n - e) (e - 1) (n - 1) i))
 
+-- ---- before and after the point by themselves
+-- the same decimals after nothing
+abbrev bare : Number → Number
+bare h = record { good = h .good; minus = h .minus; mag = 0 }
+
+record Apart (l : List ℕ) (at w : ℕ) (h : Number) (k : ℕ) : Type 0 where
+  good-same : (decimalsOf l at h k) .good ≡ (decimalsOf l at (bare h) k) .good
+  minus-same : (decimalsOf l at h k) .minus ≡ (decimalsOf l at (bare h) k) .minus
+  sum : decOf ((decimalsOf l at h k) .mag) (w + k) ≡ decOf (h .mag) w * 10 ^ k + decOf ((decimalsOf l at (bare h) k) .mag) k
+
+apart : (l : List ℕ) (at w : ℕ) (h : Number) (k : ℕ) → Apart l at w h k
+unfolding decimalsOf takenOf decOf
+apart l at w h zero = record { good-same = refl; minus-same = refl; sum = rw (add-zero w) (omega arith) }
+apart l at w h (suc k) =
+    let a = apart l at w h k in
+    let b : ℕ = getD l (at + k) 0 in
+    let p : ℕ = (decimalsOf l at h k) .mag in
+    let q : ℕ = (decimalsOf l at (bare h) k) .mag in
+    let x : decOf (16 * p + valueOf b) (w + suc k) ≡ 10 * decOf p (w + k) + valueOf b = rw (add-suc w k) (dec-step p (valueOf b) (w + k) (value-small b)) in
+    let y : decOf (16 * q + valueOf b) (suc k) ≡ 10 * decOf q k + valueOf b = dec-step q (valueOf b) k (value-small b) in
+    let z : decOf (h .mag) w * 10 ^ suc k ≡ 10 * (decOf (h .mag) w * 10 ^ k) = rw (pow-suc, ← mul-assoc (decOf (h .mag) w) (10 ^ k) 10) (mul-comm (decOf (h .mag) w * 10 ^ k) 10) in
+    record {
+      good-same = ap (λ (t : Bool). both t (isDigit b)) (a .good-same);
+      minus-same = a .minus-same;
+      sum = x ∙ omega (arith, a .sum, y, z);
+    }
+
+-- what is read of the two parts is the number
+pub num-parts : (l : List ℕ) (at w d : ℕ) (s : Scan) (y g : Bool) (h : Number) (x u v : ℕ) (r : Number)
+    → s ≡ scanOf l at w → y ≡ same (getD l (at + w) 0) 46 → g ≡ both (s .good) y
+    → h ≡ decimalsOf l (at + w + 1) (record { good = g; minus = s .minus; mag = 0 }) d
+    → x ≡ decOf (s .code) w → u ≡ x * 10 ^ d → v ≡ decOf (h .mag) d → r ≡ madeOf (h .good) (h .minus) (u + v)
+    → r ≡ numberOf l at (w + 1 + d) (d + 1)
+unfolding same
+num-parts l at w d s y g h x u v r p t b q ex eu ev f =
+    let a = apart l (at + w + 1) w (pointed l at w) d in
+    let i : w + 1 + d ≡ suc (w + d) = omega arith in
+    let j : d + 1 ≡ suc d = omega arith in
+    let n = ap₂ (numberOf l at) i j ∙ decimals l at w d (w + d) refl in
+    f ∙ rw (eu, ev, ex, q, b, t, p, n, a .good-same, a .minus-same, a .sum)
+
+pub num-long : (l : List ℕ) (at n e : ℕ) (r : Number) → e ≤ n → 9 < n → n ≤ e + 8 → r ≡ numberOf l at ((n - e) + 1 + (e - 1)) ((e - 1) + 1) → r ≡ numberOf l at n e
+num-long l at n e r a b c f =
+    let i : (n - e) + 1 + (e - 1) ≡ n = omega arith in
+    let j : (e - 1) + 1 ≡ e = omega arith in
+    f ∙ ap₂ (numberOf l at) i j
+
+-- ---- the zeros behind a number
+scale-down : (s n : ℕ) → (n ≡ 0 → ⊥) → (10 * s) * 10 ^ (n - 1) ≡ s * 10 ^ n
+scale-down s n z = sym (ap (λ m. s * 10 ^ m) (down n z) ∙ rw (pow-suc, mul-comm (10 ^ (n - 1)) 10, ← mul-assoc, mul-comm s 10))
+
+pub raise-none : (v n : ℕ) → n ≡ 0 → v ≡ v * 10 ^ n
+raise-none v n z = rw z (omega arith)
+
+pub raise-less : (v n : ℕ) → (n ≡ 0 → ⊥) → v * 10 ^ n ≤ 20000000000000000 → (10 * v) * 10 ^ (n - 1) ≤ 20000000000000000
+raise-less v n z b = rw (scale-down v n z) b
+
+pub raise-fits : (v n : ℕ) → (n ≡ 0 → ⊥) → v * 10 ^ n ≤ 20000000000000000 → Fits w64 (10 * v)
+raise-fits v n z b =
+    let t : 10 * v ≤ (10 * v) * 10 ^ (n - 1) = le-mul-of-pos-right (10 * v) (one-le-pow (n - 1) 10 (lit< tt)) in
+    let u = raise-less v n z b in
+    omega arith
+
+pub raise-some : (v n r : ℕ) → (n ≡ 0 → ⊥) → r ≡ (10 * v) * 10 ^ (n - 1) → r ≡ v * 10 ^ n
+raise-some v n r z e = e ∙ scale-down v n z
+
+-- both parts are small
+pub whole-small : (c w d x : ℕ) → w ≤ 8 → d ≤ 8 → x ≡ decOf c w → x * 10 ^ d ≤ 20000000000000000
+whole-small c w d x a b e =
+    let p : 10 ^ w ≤ 10 ^ 8 = pow-le-pow-right (lit< tt) a in
+    let q : 10 ^ d ≤ 10 ^ 8 = pow-le-pow-right (lit< tt) b in
+    let t : x ≤ 200000000 = omega (arith, dec-below c w) in
+    let m : x * 10 ^ d ≤ x * 100000000 = mul-le-mul-left x q in
+    omega arith
+
+pub parts-fit : (c w d m x u v : ℕ) → w ≤ 8 → d ≤ 8 → x ≡ decOf c w → u ≡ x * 10 ^ d → v ≡ decOf m d → Fits w64 (u + v)
+parts-fit c w d m x u v a b e f g =
+    let q : 10 ^ d ≤ 10 ^ 8 = pow-le-pow-right (lit< tt) b in
+    let s = whole-small c w d x a b e in
+    let t : v ≤ 200000000 = omega (arith, dec-below m d) in
+    omega arith
+
 -- ---- the small functions
 pub value-low : (b : ℕ) (d : Bool) → d ≡ isDigit b → d ≡ true → 48 ≤ b
 value-low b d e t = digit-low b (sym e ∙ t)
@@ -311,9 +393,6 @@ unfolding decOf
 dec-none w n z = rw z
 
 -- ---- a multiple of the number, by a sum
-scale-down : (s n : ℕ) → (n ≡ 0 → ⊥) → (10 * s) * 10 ^ (n - 1) ≡ s * 10 ^ n
-scale-down s n z = sym (ap (λ m. s * 10 ^ m) (down n z) ∙ rw (pow-suc, mul-comm (10 ^ (n - 1)) 10, ← mul-assoc, mul-comm s 10))
-
 pub scale-ten : (s n : ℕ) → (n ≡ 0 → ⊥) → s * 10 ^ n ≤ 100000000 → 10 * s ≤ 100000000
 scale-ten s n z b = le-trans (le-mul-of-pos-right (10 * s) (one-le-pow (n - 1) 10 (lit< tt))) (rw (scale-down s n z) b)
 

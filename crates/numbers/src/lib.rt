@@ -161,9 +161,45 @@ fn made(good: bool, minus: bool, mag: u64) -> Number
     }
 }
 
+// v with n zeros more.
+fn raised(v: u64, n: usize) -> u64
+    requires { ⌜ v * 10 ^ n ≤ 20000000000000000 ⌝ }
+    ensures { λ r. ⌜ r ≡ v * 10 ^ n ⌝ }
+{
+    if n == 0 {
+        return v;
+    }
+    raised(10 * v, n - 1)
+}
+
+// A number with w columns before the point and d decimals, each read by themselves, so that no more than eight digits are.
+fn parts(line: &[u8], at: usize, w: usize, d: usize) -> Number
+    requires { ⌜ (at + w + 1 + d ≤ length (now line)) × (at + w + 1 + d ≤ 80) × (w ≤ 8) × (d ≤ 8) ⌝ }
+    ensures { λ r. ⌜ r ≡ numberOf (now (line .entry)) at (w + 1 + d) (d + 1) ⌝ }
+{
+    let s = passed(line, at, w);
+    let p = at + w;
+    let b = line[p];
+    let good = ascii::both_of(s.good, ascii::is(b, b'.'));
+    let h = tail(
+        line,
+        p + 1,
+        d,
+        0,
+        Number {
+            good: good,
+            minus: s.minus,
+            mag: 0,
+        },
+    );
+    let whole = raised(digits(s.code, w), d);
+    let part = digits(h.mag, d);
+    made(h.good, h.minus, whole + part)
+}
+
 // The number in n columns from `at`. e is 0 where no point is to come, else one more than the number of decimals.
 pub fn read_number(line: &[u8], at: usize, n: usize, e: usize) -> Number
-    requires { ⌜ (at + n ≤ length (now line)) × (at + n ≤ 80) × (n ≤ 8) ⌝ }
+    requires { ⌜ (at + n ≤ length (now line)) × (at + n ≤ 80) × (n ≤ e + 8) × (e ≤ 9) ⌝ }
     ensures { λ r. ⌜ r ≡ numberOf (now (line .entry)) at n e ⌝ }
 {
     if n < e {
@@ -174,6 +210,9 @@ pub fn read_number(line: &[u8], at: usize, n: usize, e: usize) -> Number
         };
     }
     let w = n - e;
+    if 9 < n {
+        return parts(line, at, w, e - 1);
+    }
     let s = passed(line, at, w);
     if e == 0 {
         return made(s.good, s.minus, digits(s.code, w));

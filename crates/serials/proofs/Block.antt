@@ -13,6 +13,9 @@ use lib.Dec.{ltb}
 use Rattle.ascii.specs.Tests.{pick, either}
 use Rattle.ascii.proofs.Choice.{either-left, either-right}
 use Rattle.kinds.specs.declared.Kind.{Kind}
+use Rattle.transform.specs.declared.Axis.{Axis}
+use Rattle.transform.specs.Transforms.{transformKind}
+use Rattle.line.proofs.Crystal.{each-transform}
 use Rattle.kinds.specs.declared.Kind.the-variants.{Header, Title, Compnd, Source, Keywds, Expdta, Author, Revdat, Jrnl, Remark, Seqres, Het, Helix, Sheet, Cryst1, Origx1, Origx2, Origx3, Scale1, Scale2, Scale3, Atom, Hetatm, Ter, Conect, Master, End, Unknown, Model, Endmdl}
 use Rattle.kinds.specs.Kinds.{rowOf}
 use Rattle.line.specs.declared.Record.{Record}
@@ -190,6 +193,10 @@ pub grow-carried : (L : ℕ → Line) (n : ℕ) (b : Span) (s : State) (k : Kind
 unfolding carriedNext
 grow-carried L n b s k B c f p away = grow-other L n b s _ B c f refl away (before-kind k (s .place) p)
 
+transform-away : (scale : Bool) (axis : Axis) → rowOf (transformKind scale axis) .here ≡ coordinatePlace → ⊥
+transform-away =
+    each-transform (λ k. rowOf k .here ≡ coordinatePlace → ⊥) (λ x. omega arith) (λ x. omega arith) (λ x. omega arith) (λ x. omega arith) (λ x. omega arith) (λ x. omega arith)
+
 pub grow-typed : (L : ℕ → Line) (n : ℕ) (b : Span) (s : State) (r : Record) (look : Looked) → Block L n b s → L n ≡ Typed r → Good look s r
     → Block L (n + 1) (growOf b n (Typed r)) (typedNext s r)
 unfolding typedNext
@@ -206,6 +213,9 @@ grow-typed L n b s (rec.Master t) look B e g = grow-other L n b s _ B (ap isCoor
 grow-typed L n b s rec.End look B e g = grow-other L n b s _ B (ap isCoord e) (ap isFence e) refl (λ x. omega arith) (before-kind End (s .place) (g .place))
 grow-typed L n b s (rec.Model m) look B e g = grow-fence L n _ (ap isFence e)
 grow-typed L n b s rec.Endmdl look B e g = grow-fence L n _ (ap isFence e)
+grow-typed L n b s (rec.Cell c) look B e g = grow-other L n b s _ B (ap isCoord e) (ap isFence e) refl (λ x. omega arith) (before-kind Cryst1 (s .place) (g .place))
+grow-typed L n b s (rec.Transform scale axis t) look B e g =
+    grow-other L n b s _ B (ap isCoord e) (ap isFence e) refl (transform-away scale axis) (before-kind (transformKind scale axis) (s .place) (g .place))
 
 -- a test that one of the lines so far passes
 pub some-at : (f : Line → Bool) (L : ℕ → Line) (n j : ℕ) → j < n → f (L j) ≡ true → someOf f (down L n) ≡ true

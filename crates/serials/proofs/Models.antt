@@ -6,7 +6,7 @@ use native.Mathlib.Omega.{arith}
 use borrow.Author.Tests.{ltb-true, ltb-false}
 use lib.Dec.{ltb}
 use Rattle.ascii.specs.Tests.{pick, both}
-use Rattle.line.specs.declared.Record.the-variants.{Coordinate, Ter, Helix, Sheet, Conect, Master, End, Model, Endmdl}
+use Rattle.line.specs.declared.Record.the-variants.{Coordinate, Ter, Helix, Sheet, Conect, Master, End, Model, Endmdl, Cell, Transform}
 use Rattle.pieces.specs.declared.Line.{Line}
 use Rattle.pieces.specs.declared.Line.the-variants.{Bad, Wrong, Carried, Typed}
 use Rattle.facets.specs.Facets.{isCoord, isFence}
@@ -30,6 +30,8 @@ fence-off (Typed (Master t)) e = absurd (false≢true e)
 fence-off (Typed End) e = absurd (false≢true e)
 fence-off (Typed (Model m)) e = refl
 fence-off (Typed Endmdl) e = refl
+fence-off (Typed (Cell c)) e = absurd (false≢true e)
+fence-off (Typed (Transform scale axis t)) e = absurd (false≢true e)
 
 -- nor the other way round
 pub coord-off : (l : Line) → isCoord l ≡ true → isFence l ≡ false

@@ -19,7 +19,7 @@ use Rattle.kinds.specs.Kinds.{rowOf, kindOf}
 use Rattle.line.specs.declared.Record.{Record}
 use Rattle.line.specs.declared.Record.the-variants as rec
 use Rattle.line.specs.declared.Reading.the-variants as reading
-use Rattle.line.specs.Lines.{judged, readingOf}
+use Rattle.line.specs.Lines.{judged, crystalRead, readingOf}
 use Rattle.pieces.specs.declared.Line.{Line}
 use Rattle.pieces.specs.declared.Line.the-variants.{Bad, Wrong, Carried, Typed}
 use Rattle.pieces.specs.Pieces.{lineIn, columnsOf, lineOf}
@@ -77,7 +77,7 @@ carried : (l : List ℕ) (k : Kind) → (rowOf k .here ≡ coordinatePlace → �
 carried l k far late = record { serial = λ e. absurd (false≢true e); site = λ m e. absurd (false≢true e); away = λ k' e h. let q : k ≡ k' = cc in far (rw q h); ends = λ k' e h. let q : k ≡ k' = cc in late (rw q h); number = λ m e. let z : _≡_ {A = ℕ} 0 1 = cc in absurd (omega arith) }
 
 by-kind : (l : List ℕ) (k : Kind) → Reads l k (lineIn k (readingOf k l))
-unfolding readingOf atomColumns identityColumns terColumns both
+unfolding readingOf crystalRead atomColumns identityColumns terColumns both
 by-kind l Header = carried l Header (λ h. omega arith) (λ h. omega arith)
 by-kind l Title = carried l Title (λ h. omega arith) (λ h. omega arith)
 by-kind l Compnd = carried l Compnd (λ h. omega arith) (λ h. omega arith)
@@ -92,13 +92,13 @@ by-kind l Seqres = carried l Seqres (λ h. omega arith) (λ h. omega arith)
 by-kind l Het = carried l Het (λ h. omega arith) (λ h. omega arith)
 by-kind l Helix = other l Helix _ _ refl
 by-kind l Sheet = other l Sheet _ _ refl
-by-kind l Cryst1 = carried l Cryst1 (λ h. omega arith) (λ h. omega arith)
-by-kind l Origx1 = carried l Origx1 (λ h. omega arith) (λ h. omega arith)
-by-kind l Origx2 = carried l Origx2 (λ h. omega arith) (λ h. omega arith)
-by-kind l Origx3 = carried l Origx3 (λ h. omega arith) (λ h. omega arith)
-by-kind l Scale1 = carried l Scale1 (λ h. omega arith) (λ h. omega arith)
-by-kind l Scale2 = carried l Scale2 (λ h. omega arith) (λ h. omega arith)
-by-kind l Scale3 = carried l Scale3 (λ h. omega arith) (λ h. omega arith)
+by-kind l Cryst1 = other l Cryst1 _ _ refl
+by-kind l Origx1 = other l Origx1 _ _ refl
+by-kind l Origx2 = other l Origx2 _ _ refl
+by-kind l Origx3 = other l Origx3 _ _ refl
+by-kind l Scale1 = other l Scale1 _ _ refl
+by-kind l Scale2 = other l Scale2 _ _ refl
+by-kind l Scale3 = other l Scale3 _ _ refl
 by-kind l Atom = typed l Atom (atomF .fault l 6) (rec.Coordinate false (atomF .value l 6)) (λ e. refl) (λ n e. refl)
 by-kind l Hetatm = typed l Hetatm (atomF .fault l 6) (rec.Coordinate true (atomF .value l 6)) (λ e. refl) (λ n e. refl)
 by-kind l Ter = typed l Ter (terF .fault l 6) (rec.Ter (terF .value l 6)) (λ e. refl) (λ n e. refl)

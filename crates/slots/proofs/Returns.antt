@@ -22,6 +22,7 @@ use Rattle.coordinate.specs.declared.Atom.{Atom}
 use Rattle.coordinate.specs.declared.Position.{Position}
 use Rattle.coordinate.specs.Atoms.{atomF, atomColumns, measureColumns}
 use Rattle.kinds.specs.declared.Kind.{Kind}
+use Rattle.line.proofs.Crystal.{crystal-cases}
 use Rattle.kinds.specs.declared.Kind.the-variants.{Atom as AtomKind, Hetatm, Ter, Helix, Sheet, Conect, Master, End, Model, Endmdl}
 use Rattle.kinds.specs.Kinds.{is, isNamed, kindOf}
 use Rattle.line.specs.declared.Record.{Record}
@@ -98,7 +99,7 @@ by-kind k l =
     (λ _. picks Small (is End k) _ _ (λ _. judged-small _ _ tt)
     (λ _. picks Small (is Model k) _ _ (λ _. judged-small _ _ tt)
     (λ _. picks Small (is Endmdl k) _ _ (λ _. judged-small _ _ tt)
-    (λ _. tt))))))))))
+    (λ _. crystal-cases Small k l (λ _. judged-small _ _ tt) (λ _ _ _. judged-small _ _ tt) tt))))))))))
 
 pub reading-small : (k : Kind) (l : List ℕ) (x : Reading) → x ≡ readingOf k l → SmallSpot (spotRead x)
 reading-small k l x e = rw e (by-kind k l)

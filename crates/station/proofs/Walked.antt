@@ -1,6 +1,7 @@
 -- Machine-made by tools/walks; do not edit.
 pub mod feed
 pub mod station_arrange
+pub mod station_cell_of_line
 pub mod station_count_line
 pub mod station_count_line_past
 pub mod station_dot

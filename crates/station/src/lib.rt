@@ -1,5 +1,7 @@
 // The names that C calls. Each function is a thin cover over a proved one, and says the same.
 use answers::Filled;
+use answers::FilledCell;
+use crystal::CellRow;
 use fields::FragmentNumber;
 use fields::Serial;
 use line::Answer;
@@ -19,6 +21,10 @@ ghost use Rattle.feed.specs.Feed.{dotOf, strokeOf};
 ghost use Rattle.feed.specs.Frame.{frameOf};
 ghost use Rattle.jump.specs.Jumping.{jumpOf};
 ghost use Rattle.answers.specs.Boundary.{answered, fragmentNumber, asideOf, slotAnswer, rewriteAnswer, dotAnswer, strokeAnswer, frameAnswer};
+ghost use Rattle.crystal.specs.Crystal.{cellLine, transformLine};
+ghost use Rattle.fractional.specs.Scale.{scaleOf};
+ghost use Rattle.fractional.specs.Place.{placeOf, fractionalOf};
+ghost use Rattle.answers.specs.Frame.{cellAnswer, transformAnswer, rowsFrom, positionFrom, scaleAnswer, placeAnswer};
 
 // The check of a text: 0, 1-12.
 #[no_mangle]
@@ -200,4 +206,56 @@ pub extern "C" fn station_count_line_past(tally: &mut Tally, line: &[u8], past: 
 {
     let within = past == 0;
     tally::count_line(tally, line, !within) as u32
+}
+
+// The cell of a line, or the one that was found.
+fn fill_cell(line: &[u8], found: CellRow) -> FilledCell
+    ensures { λ r. ⌜ answered (r .number) (r .cell) ≡ cellAnswer (cellLine (now (line .entry))) found ⌝ }
+{
+    answers::cell_answer(crystal::cell_of_line(line), found)
+}
+
+// The cell of one CRYST1 line: 0; or 1, 3, 4, 6 and the cell as found.
+#[no_mangle]
+pub extern "C" fn station_cell_of_line(line: &[u8], cell: &mut CellRow) -> u32
+    ensures { λ r. ⌜ answered r (now (cell .exit)) ≡ cellAnswer (cellLine (now (line .entry))) (now (cell .entry)) ⌝ }
+{
+    let f = fill_cell(line, *cell);
+    *cell = answers::filled_cell(f);
+    answers::cell_number(f)
+}
+
+// The transformation of one ORIGX or SCALE line, three coefficients, the shift and which of the six lines it is: 0; or 1, 3, 4, 6 and all as found.
+#[no_mangle]
+pub extern "C" fn station_transform_of_line(line: &[u8], transform: &mut [i32; 5]) -> u32
+    ensures { λ r. ⌜ answered r (now (transform .exit)) ≡ transformAnswer (transformLine (now (line .entry))) (now (transform .entry)) ⌝ }
+{
+    answers::put_transform(crystal::transform_of_line(line), transform)
+}
+
+// The SCALE rows of a text, four numbers each: 0; or 1-12, 21, 22, 29 and all as found.
+#[no_mangle]
+pub extern "C" fn station_scale(text: &[u8], rows: &mut [i32; 12]) -> u32
+    ensures { λ r. ⌜ answered r (now (rows .exit)) ≡ scaleAnswer (scaleOf (now (text .entry))) (now (rows .entry)) ⌝ }
+{
+    answers::put_scale(fractional::scale_of(text), rows)
+}
+
+// The fractional place by rows, three billionths and three hundred-thousandths: 0; or 33 and all as found.
+#[no_mangle]
+pub extern "C" fn station_place(rows: &[i32; 12], at: &[i32; 3], out: &mut [i64; 6]) -> u32
+    ensures { λ r. ⌜ answered r (now (out .exit)) ≡ placeAnswer (placeOf (rowsFrom (now (rows .entry))) (positionFrom (now (at .entry)))) (now (out .entry)) ⌝ }
+{
+    let r = answers::rows_from(rows);
+    let p = answers::position_from(at);
+    answers::put_place(fractional::place(r, p), out)
+}
+
+// The fractional place by the rows of a text: 0; or 1-12, 21, 22, 29, 33 and all as found.
+#[no_mangle]
+pub extern "C" fn station_fractional(text: &[u8], at: &[i32; 3], out: &mut [i64; 6]) -> u32
+    ensures { λ r. ⌜ answered r (now (out .exit)) ≡ placeAnswer (fractionalOf (now (text .entry)) (positionFrom (now (at .entry)))) (now (out .entry)) ⌝ }
+{
+    let p = answers::position_from(at);
+    answers::put_place(fractional::fractional_of(text, p), out)
 }

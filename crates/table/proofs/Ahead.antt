@@ -13,7 +13,7 @@ use Rattle.ascii.proofs.Choice.{never, either-none}
 use Rattle.kinds.specs.declared.Kind.the-variants as kind
 use Rattle.kinds.specs.Kinds.{rowOf}
 use Rattle.line.specs.declared.Record.{Record}
-use Rattle.line.specs.declared.Record.the-variants.{Coordinate, Ter, Helix, Sheet, Conect, Master, End, Model, Endmdl}
+use Rattle.line.specs.declared.Record.the-variants.{Coordinate, Ter, Helix, Sheet, Conect, Master, End, Model, Endmdl, Cell, Transform}
 use Rattle.pieces.specs.declared.Line.{Line}
 use Rattle.pieces.specs.declared.Line.the-variants.{Bad, Wrong, Carried, Typed}
 use Rattle.rules.specs.declared.Run.{Run}
@@ -23,7 +23,7 @@ use Rattle.rules.specs.Rules.{noRun, siteNext, judgeOf, carriedNext, typedNext,
 use Rattle.places.proofs.Laws.{place-high}
 use Rattle.rules.proofs.Laws.{Good, judge-typed, judge-carried, judge-wrong}
 use Rattle.serials.specs.Search.{Before}
-use Rattle.table.proofs.Plain.{Plain}
+use Rattle.table.proofs.Plain.{Plain, cell-front, transform-front}
 use Rattle.table.proofs.Fine.{Fine}
 use Rattle.table.proofs.Paired.{closes}
 
@@ -66,6 +66,8 @@ sane-typed known s (Master t) S g = sane-after _ (omega arith) (omega arith) (g 
 sane-typed known s End S g = sane-after _ (omega arith) (omega arith) (g .run)
 sane-typed known s (Model m) S g = sane-here _ refl
 sane-typed known s Endmdl S g = sane-here _ refl
+sane-typed known s (Cell c) S g = sane-before _ (S .early (cell-front .after (s .place) (g .place)))
+sane-typed known s (Transform scale axis t) S g = sane-before _ (S .early (transform-front scale axis .after (s .place) (g .place)))
 
 pub sane-next : (known : Looked) (s : State) (l : Line) → Sane s → Plain l → judgeOf known s l ≡ 0 → Sane (nextOf s l)
 unfolding nextOf carriedNext judgeOf
@@ -92,6 +94,8 @@ no-close seen s (Typed (Master t) ∷ ls) f h g = no-close _ (nextOf s (Typed (M
 no-close seen s (Typed End ∷ ls) f h g = no-close _ (nextOf s (Typed End)) ls (f .2) (omega arith) (omega arith)
 no-close seen s (Typed (Model m) ∷ ls) f h g = refl
 no-close seen s (Typed Endmdl ∷ ls) f h g = refl
+no-close seen s (Typed (Cell c) ∷ ls) f h g = absurd (not-before (s .place) (omega arith) g (cell-front .after (s .place) (judge-typed _ s _ (f .1) .place)))
+no-close seen s (Typed (Transform scale axis t) ∷ ls) f h g = absurd (not-before (s .place) (omega arith) g (transform-front scale axis .after (s .place) (judge-typed _ s _ (f .1) .place)))
 
 -- ---- a run that is not closed holds no ATOM
 pub no-atom : (seen : List Line) (s : State) (ls : List Line) → Sane s → Fine seen s ls → closes ls ≡ false → s .run .atom ≡ false
@@ -110,6 +114,8 @@ no-atom seen s (Typed (Master t) ∷ ls) S f c = judge-typed _ s _ (f .1) .run
 no-atom seen s (Typed End ∷ ls) S f c = judge-typed _ s _ (f .1) .run
 no-atom seen s (Typed (Model m) ∷ ls) S f c = judge-typed _ s _ (f .1) .run
 no-atom seen s (Typed Endmdl ∷ ls) S f c = judge-typed _ s _ (f .1) .run
+no-atom seen s (Typed (Cell x) ∷ ls) S f c = judge-typed _ s _ (f .1) .run
+no-atom seen s (Typed (Transform scale axis x) ∷ ls) S f c = judge-typed _ s _ (f .1) .run
 
 -- in the open tail every coordinate line is a HETATM
 pub tail-het : (seen : List Line) (s : State) (r : Run) (het : Bool) (ls : List Line) → Sane s → Fine seen s ls → s .run .atom ≡ either (r .atom) (not het) → closes ls ≡ false → not het ≡ false

@@ -13,12 +13,13 @@ use Rattle.ascii.proofs.Choice.{never, not-false, either-none}
 use Rattle.kinds.specs.declared.Kind.{Kind}
 use Rattle.kinds.specs.declared.Kind.the-variants as kind
 use Rattle.kinds.specs.Kinds.{rowOf}
-use Rattle.line.specs.declared.Record.the-variants.{Coordinate, Ter, Helix, Sheet, Conect, Master, End, Model, Endmdl}
+use Rattle.line.specs.declared.Record.the-variants.{Coordinate, Ter, Helix, Sheet, Conect, Master, End, Model, Endmdl, Cell, Transform}
 use Rattle.pieces.specs.declared.Line.{Line}
 use Rattle.pieces.specs.declared.Line.the-variants.{Bad, Wrong, Carried, Typed}
 use Rattle.pieces.specs.Pieces.{lineOf}
 use Rattle.places.specs.declared.Models.{Models}
 use Rattle.places.specs.Places.{fenceBad}
+use Rattle.transform.specs.Transforms.{transformKind}
 use Rattle.facets.specs.Facets.{isCoord}
 use Rattle.rules.specs.declared.State.{State}
 use Rattle.rules.specs.Rules.{judgeOf, carriedNext, typedNext, nextOf, startOf}
@@ -29,6 +30,7 @@ use Rattle.gate.specs.Gate.{lookOf, checkOf}
 use Rattle.slots.specs.Slots.{noModel}
 use Rattle.table.specs.Table.{linesFrom, modelNext}
 use Rattle.table.proofs.Fine.{Fine, accepted-fine}
+use Rattle.table.proofs.Plain.{cell-front, transform-front}
 use Rattle.table.proofs.Ahead.{not-before}
 use Rattle.table.proofs.Paired.{Above, Fenced}
 
@@ -106,6 +108,13 @@ above seen s (Typed (Sheet h) ∷ ls) f c A = above-plain seen s (Typed (Sheet h
 above seen s (Typed (Conect d) ∷ ls) f c A = above-plain seen s (Typed (Conect d)) ls c (λ x. never x) refl refl (judge-typed _ s (Conect d) (f .1) .fence) A (above _ (nextOf s (Typed (Conect d))) ls (f .2) c)
 above seen s (Typed (Master t) ∷ ls) f c A = above-plain seen s (Typed (Master t)) ls c (λ x. never x) refl refl (judge-typed _ s (Master t) (f .1) .fence) A (above _ (nextOf s (Typed (Master t))) ls (f .2) c)
 above seen s (Typed End ∷ ls) f c A = above-plain seen s (Typed End) ls c (λ x. never x) refl refl (judge-typed _ s (End) (f .1) .fence) A (above _ (nextOf s (Typed End)) ls (f .2) c)
+above seen s (Typed (Cell d) ∷ ls) f c A =
+    above-plain seen s (Typed (Cell d)) ls c (λ x. never x) refl refl (sym (front-fence (s .place) (s .models) kind.Cryst1 (cell-front .here)) ∙ judge-typed _ s (Cell d) (f .1) .fence) A
+    (above _ (nextOf s (Typed (Cell d))) ls (f .2) c)
+above seen s (Typed (Transform scale axis d) ∷ ls) f c A =
+    above-plain seen s (Typed (Transform scale axis d)) ls c (λ x. never x) refl refl
+    (sym (front-fence (s .place) (s .models) (transformKind scale axis) (transform-front scale axis .here)) ∙ judge-typed _ s (Transform scale axis d) (f .1) .fence) A
+    (above _ (nextOf s (Typed (Transform scale axis d))) ls (f .2) c)
 above seen s (Typed (Model m) ∷ ls) f c A = (λ x. never x, above _ (nextOf s (Typed (Model m))) ls (f .2) c (opened A))
   where
     n : m .number ≡ s .models .number + 1
@@ -134,6 +143,8 @@ fenced seen s (Typed (Conect c) ∷ ls) f = (λ x. never x, fenced _ (nextOf s (
 fenced seen s (Typed (Master t) ∷ ls) f = (λ x. never x, fenced _ (nextOf s (Typed (Master t))) ls (f .2))
 fenced seen s (Typed End ∷ ls) f = (λ x. never x, fenced _ (nextOf s (Typed End)) ls (f .2))
 fenced seen s (Typed (Ter t) ∷ ls) f = (λ x. never x, fenced _ (nextOf s (Typed (Ter t))) ls (f .2))
+fenced seen s (Typed (Cell c) ∷ ls) f = (λ x. never x, fenced _ (nextOf s (Typed (Cell c))) ls (f .2))
+fenced seen s (Typed (Transform scale axis t) ∷ ls) f = (λ x. never x, fenced _ (nextOf s (Typed (Transform scale axis t))) ls (f .2))
 fenced seen s (Typed (Model m) ∷ ls) f = (λ _. rw out (above _ (nextOf s (Typed (Model m))) ls (f .2) 0 (inl (refl, omega (arith, n)))), fenced _ (nextOf s (Typed (Model m))) ls (f .2))
   where
     n : m .number ≡ s .models .number + 1

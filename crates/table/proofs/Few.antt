@@ -13,7 +13,7 @@ use Rattle.ascii.proofs.Choice.{never, picks, not-false}
 use native.Mathlib.Nat.{le-refl}
 use Rattle.slots.specs.Slots.{noModel}
 use Rattle.numbers.specs.Number.{numberOf}
-use Rattle.line.specs.declared.Record.the-variants.{Coordinate, Ter, Helix, Sheet, Conect, Master, End, Model, Endmdl}
+use Rattle.line.specs.declared.Record.the-variants.{Coordinate, Ter, Helix, Sheet, Conect, Master, End, Model, Endmdl, Cell, Transform}
 use Rattle.model.specs.declared.Model.{Model as ModelOf}
 use Rattle.pieces.specs.declared.Line.{Line}
 use Rattle.pieces.specs.declared.Line.the-variants.{Bad, Wrong, Carried, Typed}
@@ -120,6 +120,8 @@ climbs t n s look (Typed (Conect x)) e p w j h C = climbs-plain t n s _ C h (ap 
 climbs t n s look (Typed (Master x)) e p w j h C = climbs-plain t n s _ C h (ap isCoord e) refl refl
 climbs t n s look (Typed End) e p w j h C = climbs-plain t n s _ C h (ap isCoord e) refl refl
 climbs t n s look (Typed (Model m)) e p w j h C = climbs-model t n s m C h e (eqb-true _ _ (not-false _ (judge-typed look s (Model m) j .model))) w
+climbs t n s look (Typed (Cell x)) e p w j h C = climbs-plain t n s _ C h (ap isCoord e) refl refl
+climbs t n s look (Typed (Transform scale axis x)) e p w j h C = climbs-plain t n s _ C h (ap isCoord e) refl refl
 climbs t n s look (Typed Endmdl) e p w j h C = climbs-endmdl t n s C h e
 
 -- ---- after n good lines
@@ -214,6 +216,8 @@ onward s look (Typed (Model m)) p w k j A =
       site = λ x. never x;
       abreast = record { outside = λ e. absurd (true≢false e); small = omega arith; few = w };
     }
+onward s look (Typed (Cell x)) p w k j A = onward-plain s _ _ A refl refl refl refl
+onward s look (Typed (Transform scale axis x)) p w k j A = onward-plain s _ _ A refl refl refl refl
 onward s look (Typed Endmdl) p w k j A =
     record {
       model = refl;

@@ -19,8 +19,11 @@ use Rattle.sheet.specs.declared.Sheet.{Sheet as SheetOf}
 use Rattle.conect.specs.declared.Conect.{Conect as ConectOf}
 use Rattle.master.specs.declared.Tally.{Tally}
 use Rattle.model.specs.declared.Model.{Model as ModelOf}
+use Rattle.cell.specs.declared.Cell.{Cell as CellOf}
+use Rattle.transform.specs.declared.Axis.{Axis}
+use Rattle.transform.specs.declared.Transform.{Transform as TransformOf}
 use Rattle.places.specs.declared.Models.{Models}
-use Rattle.line.specs.declared.Record.the-variants.{Coordinate, Ter, Helix, Sheet, Conect, Master, End, Model, Endmdl}
+use Rattle.line.specs.declared.Record.the-variants.{Coordinate, Ter, Helix, Sheet, Conect, Master, End, Model, Endmdl, Cell, Transform}
 use Rattle.pieces.specs.declared.Line.{Line}
 use Rattle.pieces.specs.declared.Line.the-variants.{Bad, Wrong, Carried, Typed}
 use Rattle.rules.specs.declared.Run.{Run}
@@ -39,6 +42,7 @@ use Rattle.table.specs.Deal.{standsIn, stays, tallyOf}
 use Rattle.table.proofs.Fine.{Fine, granted-end, granted-step}
 use Rattle.table.proofs.Paired.{closes, inSlot, Paired}
 use Rattle.table.proofs.Named.{Held, held-in, held-out, held-skip, held-other, held-fence, held-bond}
+use Rattle.table.proofs.Plain.{cell-front, transform-front}
 use Rattle.table.proofs.Ahead.{Sane, sane-next, no-close}
 use Rattle.table.proofs.Saved.{savedLines, saved-in, saved-out, saved-stay, saved-skip, paired-site, paired-other}
 use Rattle.table.proofs.Trails.{behind-le, behind-one, behind-same, behind-before, place-behind, bond-split, bond-join, good-trails, master-trails, carried-trails}
@@ -101,6 +105,33 @@ module _ (xs : List Slot) (j : ℕ) (seen kept : List Line) (s k : State) (H : H
       (good-trails _ _ s k (Sheet h) T g (place-behind (k .place) (s .place) kind.Sheet refl (T .place) (g .place)) r refl refl refl)
       (front-next xs j s k (nextOf s (Typed (Sheet h))) (nextOf k (Typed (Sheet h))) (Typed (Sheet h)) ls S M b refl refl
       (record { place = inl refl; models = T .models; last = T .last; bond = T .bond; helix = T .helix; ladder = refl }))
+
+  -- CRYST1, ORIGX and SCALE
+  keep-cell : (c : CellOf) (ls : List Line) → Again xs j ls → Fine seen s (Typed (Cell c) ∷ ls) → Paired xs j (Typed (Cell c) ∷ ls)
+      → Follows xs j s k (Typed (Cell c) ∷ ls) → Kept xs j kept k (Typed (Cell c) ∷ ls)
+  unfolding nextOf typedNext stays
+  keep-cell c ls again f P M =
+      let g = judge-typed _ s (Cell c) (f .1) in
+      let b : Before (s .place) = cell-front .after (s .place) (g .place) in
+      let T = M .trails in
+      let r : k .run .atom ≡ false = ap (λ (y : Run). y .atom) (M .early b) in
+      stay (Typed (Cell c)) (Typed (Cell c)) ls again f P (other (Typed (Cell c)) (Typed (Cell c)) refl refl (λ a. refl)) refl (saved-stay xs j (k .models .past) (k .counts) (Typed (Cell c)) ls refl refl)
+      (good-trails _ _ s k (Cell c) T g (rw (behind-before (k .place) (s .place) (T .place) b) (g .place)) r refl refl refl)
+      (front-next xs j s k (nextOf s (Typed (Cell c))) (nextOf k (Typed (Cell c))) (Typed (Cell c)) ls S M b refl refl
+      (record { place = inl refl; models = T .models; last = T .last; bond = T .bond; helix = T .helix; ladder = T .ladder }))
+
+  keep-transform : (scale : Bool) (axis : Axis) (t : TransformOf) (ls : List Line) → Again xs j ls → Fine seen s (Typed (Transform scale axis t) ∷ ls) → Paired xs j (Typed (Transform scale axis t) ∷ ls)
+      → Follows xs j s k (Typed (Transform scale axis t) ∷ ls) → Kept xs j kept k (Typed (Transform scale axis t) ∷ ls)
+  unfolding nextOf typedNext stays
+  keep-transform scale axis t ls again f P M =
+      let g = judge-typed _ s (Transform scale axis t) (f .1) in
+      let b : Before (s .place) = transform-front scale axis .after (s .place) (g .place) in
+      let T = M .trails in
+      let r : k .run .atom ≡ false = ap (λ (y : Run). y .atom) (M .early b) in
+      stay (Typed (Transform scale axis t)) (Typed (Transform scale axis t)) ls again f P (other (Typed (Transform scale axis t)) (Typed (Transform scale axis t)) refl refl (λ a. refl)) refl (saved-stay xs j (k .models .past) (k .counts) (Typed (Transform scale axis t)) ls refl refl)
+      (good-trails _ _ s k (Transform scale axis t) T g (rw (behind-before (k .place) (s .place) (T .place) b) (g .place)) r refl refl refl)
+      (front-next xs j s k (nextOf s (Typed (Transform scale axis t))) (nextOf k (Typed (Transform scale axis t))) (Typed (Transform scale axis t)) ls S M b refl refl
+      (record { place = inl refl; models = T .models; last = T .last; bond = T .bond; helix = T .helix; ladder = T .ladder }))
 
   -- ATOM and HETATM
   keep-site : (het : Bool) (a : Atom) (ls : List Line) → Again xs (j + 1) ls → Fine seen s (Typed (Coordinate het a) ∷ ls) → Paired xs j (Typed (Coordinate het a) ∷ ls)
@@ -245,6 +276,8 @@ kept-granted xs j (Typed (Sheet h) ∷ ls) seen kept s k H S f P M = keep-sheet 
 kept-granted xs j (Typed (Conect c) ∷ ls) seen kept s k H S f P M = keep-bond xs j seen kept s k H S c ls (kept-granted xs j ls) f P M
 kept-granted xs j (Typed (Master t) ∷ ls) seen kept s k H S f P M = keep-master xs j seen kept s k H S t ls (kept-granted xs j ls) f P M
 kept-granted xs j (Typed End ∷ ls) seen kept s k H S f P M = keep-end xs j seen kept s k H S ls (kept-granted xs j ls) f P M
+kept-granted xs j (Typed (Cell c) ∷ ls) seen kept s k H S f P M = keep-cell xs j seen kept s k H S c ls (kept-granted xs j ls) f P M
+kept-granted xs j (Typed (Transform scale axis t) ∷ ls) seen kept s k H S f P M = keep-transform xs j seen kept s k H S scale axis t ls (kept-granted xs j ls) f P M
 kept-granted xs j (Typed (Model m) ∷ ls) seen kept s k H S f P M = keep-model xs j seen kept s k H S m ls (kept-granted xs j ls) f P M
 kept-granted xs j (Typed Endmdl ∷ ls) seen kept s k H S f P M = keep-endmdl xs j seen kept s k H S ls (kept-granted xs j ls) f P M
 

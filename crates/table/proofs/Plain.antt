@@ -2,7 +2,7 @@
 -- Assumes nothing.
 use Prim.Native.Nat.{ℕ, _≤_, _<_}
 use mathlib.Core.List.{List}
-use mathlib.Core.Bool.{true, false}
+use mathlib.Core.Bool.{Bool, true, false}
 use mathlib.Core.Path.{_≡_}
 use mathlib.Core.Logic.{inl, inr}
 use native.Mathlib.Omega.{arith}
@@ -22,13 +22,16 @@ use Rattle.ascii.proofs.Choice.{picks, both-split, both-join}
 use Rattle.columns.specs.Columns.{cleanAt}
 use Rattle.fields.specs.Field.{rangedOf}
 use Rattle.kinds.specs.declared.Kind.{Kind}
+use Rattle.transform.specs.declared.Axis.{Axis}
+use Rattle.transform.specs.Transforms.{transformKind}
+use Rattle.line.proofs.Crystal.{crystal-cases, each-transform}
 use Rattle.kinds.specs.declared.Kind.the-variants.{Header, Title, Compnd, Source, Keywds, Expdta, Author, Revdat, Jrnl, Remark, Seqres, Het, Helix, Sheet, Cryst1, Origx1, Origx2, Origx3, Scale1, Scale2, Scale3, Atom, Hetatm, Ter, Conect, Master, End, Unknown, Model, Endmdl}
 use Rattle.kinds.specs.Kinds.{rowOf, is, isNamed, kindOf}
 use Rattle.line.specs.declared.Record.{Record}
 use Rattle.line.specs.declared.Record.the-variants as rec
 use Rattle.line.specs.declared.Reading.{Reading}
 use Rattle.line.specs.declared.Reading.the-variants as reading
-use Rattle.line.specs.Lines.{judged, readingOf}
+use Rattle.line.specs.Lines.{judged, crystalRead, readingOf}
 use Rattle.master.specs.declared.Tally.{Tally}
 use Rattle.master.specs.Masters.{masterF, masterColumns, notesColumns, shapeColumns, atomsColumns}
 use Rattle.master.proofs.Laws.{master-lawful}
@@ -90,6 +93,15 @@ low-front k h b = record { after = λ p e. inl (omega (arith, place-high p k e))
 high-front : (k : Kind) → endPlace < rowOf k .low → Before (rowOf k .here) → Front k
 high-front k h b = record { after = λ p e. inr (omega (arith, place-low p k e)); here = b }
 
+pub cell-front : Front Cryst1
+cell-front = low-front Cryst1 (omega arith) (inl (omega arith))
+
+pub transform-front : (scale : Bool) (axis : Axis) → Front (transformKind scale axis)
+transform-front =
+    each-transform Front
+    (low-front Origx1 (omega arith) (inr (omega arith))) (high-front Origx2 (omega arith) (inr (omega arith))) (high-front Origx3 (omega arith) (inl (omega arith)))
+    (low-front Scale1 (omega arith) (inr (omega arith))) (high-front Scale2 (omega arith) (inr (omega arith))) (high-front Scale3 (omega arith) (inl (omega arith)))
+
 abbrev pub PlainTotal : Total → Type 0
 PlainTotal (Counted t) = FiveDigits t
 PlainTotal Uncounted = Unit {0}
@@ -106,7 +118,7 @@ judged-plain k c r f =
     picks (λ (x : Reading). Plain (lineIn k x)) (eqb c 0) (reading.Typed r) (reading.Wrong c) (λ t. f (eqb-true c 0 t)) (λ _. tt)
 
 by-kind : (l : List ℕ) → 80 ≤ length l → (k : Kind) → Plain (lineIn k (readingOf k l))
-unfolding readingOf
+unfolding readingOf crystalRead
 by-kind l h Header = low-front Header (omega arith) (inl (omega arith))
 by-kind l h Title = low-front Title (omega arith) (inl (omega arith))
 by-kind l h Compnd = low-front Compnd (omega arith) (inl (omega arith))
@@ -121,13 +133,13 @@ by-kind l h Seqres = low-front Seqres (omega arith) (inl (omega arith))
 by-kind l h Het = low-front Het (omega arith) (inl (omega arith))
 by-kind l h Helix = judged-plain Helix _ _ (λ _. tt)
 by-kind l h Sheet = judged-plain Sheet _ _ (λ _. tt)
-by-kind l h Cryst1 = low-front Cryst1 (omega arith) (inl (omega arith))
-by-kind l h Origx1 = low-front Origx1 (omega arith) (inr (omega arith))
-by-kind l h Origx2 = high-front Origx2 (omega arith) (inr (omega arith))
-by-kind l h Origx3 = high-front Origx3 (omega arith) (inl (omega arith))
-by-kind l h Scale1 = low-front Scale1 (omega arith) (inr (omega arith))
-by-kind l h Scale2 = high-front Scale2 (omega arith) (inr (omega arith))
-by-kind l h Scale3 = high-front Scale3 (omega arith) (inl (omega arith))
+by-kind l h Cryst1 = judged-plain Cryst1 _ _ (λ _. tt)
+by-kind l h Origx1 = judged-plain Origx1 _ _ (λ _. tt)
+by-kind l h Origx2 = judged-plain Origx2 _ _ (λ _. tt)
+by-kind l h Origx3 = judged-plain Origx3 _ _ (λ _. tt)
+by-kind l h Scale1 = judged-plain Scale1 _ _ (λ _. tt)
+by-kind l h Scale2 = judged-plain Scale2 _ _ (λ _. tt)
+by-kind l h Scale3 = judged-plain Scale3 _ _ (λ _. tt)
 by-kind l h Atom = judged-plain Atom _ _ (λ _. tt)
 by-kind l h Hetatm = judged-plain Hetatm _ _ (λ _. tt)
 by-kind l h Ter = judged-plain Ter _ _ (λ _. tt)
@@ -177,7 +189,8 @@ fence-kind l k =
     (λ _. picks P (is End k) _ _ (λ _. judged-fence k _ _ tt)
     (λ _. picks P (is Model k) _ _ (λ _. judged-fence k (modelF .fault l 6) (rec.Model (modelF .value l 6)) (model-small l))
     (λ _. picks P (is Endmdl k) _ _ (λ _. judged-fence k _ _ tt)
-    (λ _. picks PlainFence (isNamed k) (Carried k) (Bad 4) (λ _. tt) (λ _. tt)))))))))))
+    (λ _. crystal-cases P k l (λ _. judged-fence k _ _ tt) (λ _ _ _. judged-fence k _ _ tt)
+    (picks PlainFence (isNamed k) (Carried k) (Bad 4) (λ _. tt) (λ _. tt))))))))))))
   where
     P : Reading → Type 0
     P x = PlainFence (lineIn k x)

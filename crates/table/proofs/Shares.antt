@@ -9,7 +9,7 @@ use lib.ListN.{length, length-append}
 use Rattle.ascii.specs.Tests.{pick, either, alike}
 use Rattle.ascii.proofs.Choice.{picks}
 use Rattle.line.specs.declared.Record.{Record}
-use Rattle.line.specs.declared.Record.the-variants.{Coordinate, Ter, Helix, Sheet, Conect, Master, End, Model, Endmdl}
+use Rattle.line.specs.declared.Record.the-variants.{Coordinate, Ter, Helix, Sheet, Conect, Master, End, Model, Endmdl, Cell, Transform}
 use Rattle.pieces.specs.declared.Line.{Line}
 use Rattle.pieces.specs.declared.Line.the-variants.{Bad, Wrong, Carried, Typed}
 use Rattle.pieces.specs.Pieces.{lineOf}
@@ -91,6 +91,8 @@ record-stays xs k (Master t) e = absurd (true≢false e)
 record-stays xs k End e = (refl, refl)
 record-stays xs k (Model m) e = absurd (true≢false e)
 record-stays xs k Endmdl e = absurd (true≢false e)
+record-stays xs k (Cell c) e = (refl, refl)
+record-stays xs k (Transform scale axis t) e = (refl, refl)
 
 line-stays : (xs : List Slot) (k : ℕ) (l : Line) → stays xs k l ≡ false → (isMaster l ≡ false) × (isFence l ≡ false)
 line-stays xs k (Bad n) e = (refl, refl)
@@ -116,6 +118,8 @@ record-bound (Master t) e = absurd (true≢false (sym e))
 record-bound End e = refl
 record-bound (Model m) e = refl
 record-bound Endmdl e = refl
+record-bound (Cell c) e = refl
+record-bound (Transform scale axis t) e = refl
 
 bound-master : (l : Line) → isFence l ≡ true → isMaster l ≡ false
 bound-master (Bad n) e = refl

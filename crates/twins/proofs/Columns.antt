@@ -18,6 +18,7 @@ use Rattle.residue.proofs.Returns.{residue-lawful}
 use Rattle.coordinate.specs.declared.Identity.{Identity}
 use Rattle.coordinate.specs.Atoms.{atomF, atomColumns, identityF, identityColumns}
 use Rattle.kinds.specs.declared.Kind.{Kind}
+use Rattle.line.proofs.Crystal.{crystal-cases}
 use Rattle.kinds.specs.declared.Kind.the-variants.{Atom, Hetatm, Ter, Helix, Sheet, Conect, Master, End, Model, Endmdl}
 use Rattle.kinds.specs.Kinds.{is, isNamed, kindOf}
 use Rattle.line.specs.declared.Record.{Record}
@@ -95,7 +96,8 @@ module _ (l : List ℕ) (h : 80 ≤ length l) (k : Kind) where
       (λ _. picks WrittenAs (is End k) _ _ (λ _. judged-written _ _ (λ _. tt))
       (λ _. picks WrittenAs (is Model k) _ _ (λ _. judged-written _ _ (λ _. tt))
       (λ _. picks WrittenAs (is Endmdl k) _ _ (λ _. judged-written _ _ (λ _. tt))
-      (λ _. picks (λ (x : Line). Written l (spotIn x)) (isNamed k) (Carried k) (Bad 4) (λ _. tt) (λ _. tt)))))))))))
+      (λ _. crystal-cases WrittenAs k l (λ _. judged-written _ _ (λ _. tt)) (λ _ _ _. judged-written _ _ (λ _. tt))
+      (picks (λ (x : Line). Written l (spotIn x)) (isNamed k) (Carried k) (Bad 4) (λ _. tt) (λ _. tt))))))))))))
 
 piece-written : (p : List ℕ) → Written (take 80 p) (spotIn (lineOf p))
 unfolding lineOf columnsOf

@@ -17,7 +17,7 @@ use Rattle.coordinate.specs.Atoms.{positionColumns, identityColumns, measureCol
 use Rattle.ter.specs.Ters.{terColumns}
 use Rattle.conect.specs.Conects.{partnerColumns, differs, unbroken, conectColumns, serialsColumns, partnersColumns}
 use Rattle.master.specs.Masters.{notesColumns, shapeColumns, atomsColumns, masterColumns}
-use Rattle.line.specs.Lines.{judged, readingOf, readLine}
+use Rattle.line.specs.Lines.{judged, crystalRead, readingOf, readLine}
 use Rattle.pieces.specs.Pieces.{columnsOf, lineOf}
 use Rattle.places.specs.Places.{placeBad, fenceBad}
 use Rattle.places.specs.Counts.{raised, sameCounts}
@@ -57,7 +57,7 @@ pub record Further : Type 0 where
   pub no-atom : frameOf [] ≡ Refused 19
 
 pub further : Further
-unfolding parted bonded single entry rest loaded ordered both either between same firstOf blankAt gapOf cleanAt blame blamedOf leftmost blanks endsDigit leadOf furtherOf grownOf numberOf leader render signedOf isNeg wholeIn integerIn elements indexOf atomicOf wordAt kindNamed kindOf residueColumns positionColumns identityColumns measureColumns speciesColumns leadsElement atomColumns terColumns partnerColumns differs unbroken conectColumns serialsColumns partnersColumns notesColumns shapeColumns atomsColumns masterColumns judged readingOf readLine columnsOf lineOf placeBad fenceBad raised sameCounts sameThree sameResidue siteBad closeBad siteNext unfinished typedBad judgeOf startOf carriedNext typedNext nextOf cutAtMost cut someOf front sameAtom refusedOf finishOf checkLines checkOf samePair sameFour samePosition sameMeasures sameNames sameSlot withMark joins stepTail tailOf markOf marked linesFrom slotsOf fits fitsFrom belongs tableOf orderOf ordersOf isIn standsIn stays counted masterPiece written share dealt outputOf boundsFrom framedOf
+unfolding parted bonded single entry rest loaded ordered both either between same firstOf blankAt gapOf cleanAt blame blamedOf leftmost blanks endsDigit leadOf furtherOf grownOf numberOf leader render signedOf isNeg wholeIn integerIn elements indexOf atomicOf wordAt kindNamed kindOf residueColumns positionColumns identityColumns measureColumns speciesColumns leadsElement atomColumns terColumns partnerColumns differs unbroken conectColumns serialsColumns partnersColumns notesColumns shapeColumns atomsColumns masterColumns judged crystalRead readingOf readLine columnsOf lineOf placeBad fenceBad raised sameCounts sameThree sameResidue siteBad closeBad siteNext unfinished typedBad judgeOf startOf carriedNext typedNext nextOf cutAtMost cut someOf front sameAtom refusedOf finishOf checkLines checkOf samePair sameFour samePosition sameMeasures sameNames sameSlot withMark joins stepTail tailOf markOf marked linesFrom slotsOf fits fitsFrom belongs tableOf orderOf ordersOf isIn standsIn stays counted masterPiece written share dealt outputOf boundsFrom framedOf
 further =
     record {
       back = refl;

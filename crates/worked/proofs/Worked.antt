@@ -16,7 +16,7 @@ use Rattle.sheet.specs.Sheets.{isSense, senseFits, bondColumns, registrationCol
 use Rattle.conect.specs.Conects.{partnerColumns, differs, unbroken, conectColumns, serialsColumns, partnersColumns}
 use Rattle.master.specs.Masters.{notesColumns, shapeColumns, atomsColumns, masterColumns}
 use Rattle.model.specs.Models.{modelColumns}
-use Rattle.line.specs.Lines.{judged, readingOf, readLine}
+use Rattle.line.specs.Lines.{judged, crystalRead, readingOf, readLine}
 use Rattle.pieces.specs.Pieces.{columnsOf, lineOf}
 use Rattle.places.specs.Places.{placeBad, fenceBad}
 use Rattle.places.specs.Counts.{raised, sameCounts}
@@ -38,7 +38,7 @@ use Rattle.worked.specs.Texts.{nitrogenLine, nitrogenRecord, shortest, b
 use Rattle.worked.specs.Worked.{Worked, loaded, ordered, first, firstAndThird}
 
 pub worked : Worked
-unfolding nitrogenLine nitrogenRecord shortest beyond twice again alternates entry rest modelLine twofold models oneGone bothGone loaded ordered first firstAndThird both either between same firstOf blankAt gapOf cleanAt blame blamedOf leftmost blanks endsDigit leadOf furtherOf grownOf numberOf leader render signedOf isNeg wholeIn integerIn elements indexOf atomicOf wordAt kindNamed kindOf residueColumns positionColumns identityColumns measureColumns speciesColumns leadsElement atomColumns terColumns extentColumns commentColumns helixColumns isSense senseFits bondColumns registrationColumns strandColumns sheetColumns partnerColumns differs unbroken conectColumns serialsColumns partnersColumns notesColumns shapeColumns atomsColumns masterColumns modelColumns judged readingOf readLine columnsOf lineOf placeBad fenceBad raised sameCounts sameThree sameResidue siteBad closeBad siteNext unfinished typedBad judgeOf startOf carriedNext typedNext nextOf cutAtMost cut someOf front sameAtom refusedOf finishOf checkLines checkOf samePair sameFour samePosition sameMeasures sameNames sameSlot withMark joins stepTail tailOf markOf marked linesFrom slotsOf fits fitsFrom belongs tableOf orderOf ordersOf isIn standsIn stays counted masterPiece written share dealt outputOf boundsFrom takenIn isDrawn widened lower higher framedOf exactly
+unfolding nitrogenLine nitrogenRecord shortest beyond twice again alternates entry rest modelLine twofold models oneGone bothGone loaded ordered first firstAndThird both either between same firstOf blankAt gapOf cleanAt blame blamedOf leftmost blanks endsDigit leadOf furtherOf grownOf numberOf leader render signedOf isNeg wholeIn integerIn elements indexOf atomicOf wordAt kindNamed kindOf residueColumns positionColumns identityColumns measureColumns speciesColumns leadsElement atomColumns terColumns extentColumns commentColumns helixColumns isSense senseFits bondColumns registrationColumns strandColumns sheetColumns partnerColumns differs unbroken conectColumns serialsColumns partnersColumns notesColumns shapeColumns atomsColumns masterColumns modelColumns judged crystalRead readingOf readLine columnsOf lineOf placeBad fenceBad raised sameCounts sameThree sameResidue siteBad closeBad siteNext unfinished typedBad judgeOf startOf carriedNext typedNext nextOf cutAtMost cut someOf front sameAtom refusedOf finishOf checkLines checkOf samePair sameFour samePosition sameMeasures sameNames sameSlot withMark joins stepTail tailOf markOf marked linesFrom slotsOf fits fitsFrom belongs tableOf orderOf ordersOf isIn standsIn stays counted masterPiece written share dealt outputOf boundsFrom takenIn isDrawn widened lower higher framedOf exactly
 worked =
     record {
       atom = refl;

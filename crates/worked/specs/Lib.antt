@@ -1,2 +1,3 @@
 pub mod Texts
 pub mod Worked
+pub mod Crystal

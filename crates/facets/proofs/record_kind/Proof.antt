@@ -1,62 +1,78 @@
+use borrow.Author.Needs.{needs}
 use Rattle.facets.proofs.record_kind.Statement.{statement}
 use Rattle.facets.proofs.record_kind.Tie as tie
 
 enum-known-r : tie.Need-enum-known-r
-enum-known-r c = c .match .keys1
+enum-known-r c = search needs
 
 returns : tie.Need-returns
 returns c = rw (c .before .before .r .given .1, c .if1 .taken)
 
 enum-told : tie.Need-enum-told
-enum-told c = c .match .keys2
+enum-told c = search needs
 
 enum-told-2 : tie.Need-enum-told-2
-enum-told-2 c = c .match .keys3
+enum-told-2 c = search needs
 
 enum-told-3 : tie.Need-enum-told-3
-enum-told-3 c = c .match .keys4
+enum-told-3 c = search needs
 
 enum-told-4 : tie.Need-enum-told-4
-enum-told-4 c = c .match .keys5
+enum-told-4 c = search needs
 
 enum-told-5 : tie.Need-enum-told-5
-enum-told-5 c = c .match .keys6
+enum-told-5 c = search needs
 
 enum-told-6 : tie.Need-enum-told-6
-enum-told-6 c = c .match .keys7
+enum-told-6 c = search needs
 
 enum-told-7 : tie.Need-enum-told-7
-enum-told-7 c = c .match .keys8
+enum-told-7 c = search needs
 
 enum-told-8 : tie.Need-enum-told-8
-enum-told-8 c = c .match .keys9
+enum-told-8 c = search needs
+
+enum-told-9 : tie.Need-enum-told-9
+enum-told-9 c = search needs
+
+enum-known-r-2 : tie.Need-enum-known-r-2
+enum-known-r-2 c = search needs
+
+kind-of-requires : tie.Need-kind-of-requires
+kind-of-requires c κs = search needs
 
 returns-2 : tie.Need-returns-2
 returns-2 c = rw (c .before .before .r .given .1, c .if1 .left)
 
 returns-3 : tie.Need-returns-3
-returns-3 c = rw (c .enum-told .given .1)
+returns-3 c = search needs
 
 returns-4 : tie.Need-returns-4
-returns-4 c = rw (c .enum-told2 .given .1)
+returns-4 c = search needs
 
 returns-5 : tie.Need-returns-5
-returns-5 c = rw (c .enum-told3 .given .1)
+returns-5 c = search needs
 
 returns-6 : tie.Need-returns-6
-returns-6 c = rw (c .enum-told4 .given .1)
+returns-6 c = search needs
 
 returns-7 : tie.Need-returns-7
-returns-7 c = rw (c .enum-told5 .given .1)
+returns-7 c = search needs
 
 returns-8 : tie.Need-returns-8
-returns-8 c = rw (c .enum-told6 .given .1)
+returns-8 c = search needs
 
 returns-9 : tie.Need-returns-9
-returns-9 c = rw (c .enum-told7 .given .1)
+returns-9 c = search needs
 
 returns-10 : tie.Need-returns-10
-returns-10 c = rw (c .enum-told8 .given .1)
+returns-10 c = search needs
+
+returns-11 : tie.Need-returns-11
+returns-11 c = search needs
+
+returns-12 : tie.Need-returns-12
+returns-12 c = rw (c .before .before .r2 .given .1, c .kind-of .ensures)
 
 pub record-kind-spec : {M : Type 1} → statement M
 record-kind-spec =
@@ -72,6 +88,9 @@ record-kind-spec =
     enum-told-6
     enum-told-7
     enum-told-8
+    enum-told-9
+    enum-known-r-2
+    kind-of-requires
     returns-2
     returns-3
     returns-4
@@ -80,4 +99,6 @@ record-kind-spec =
     returns-7
     returns-8
     returns-9
-    returns-10)
+    returns-10
+    returns-11
+    returns-12)

@@ -89,44 +89,44 @@ typed-requires-2 c κs = search needs
 enum-told-15 : tie.Need-enum-told-15
 enum-told-15 c = search needs
 
-carried-requires-13 : tie.Need-carried-requires-13
-carried-requires-13 c κs = search needs
+typed-requires-3 : tie.Need-typed-requires-3
+typed-requires-3 c κs = search needs
 
 enum-told-16 : tie.Need-enum-told-16
 enum-told-16 c = search needs
 
-carried-requires-14 : tie.Need-carried-requires-14
-carried-requires-14 c κs = search needs
+typed-requires-4 : tie.Need-typed-requires-4
+typed-requires-4 c κs = search needs
 
 enum-told-17 : tie.Need-enum-told-17
 enum-told-17 c = search needs
 
-carried-requires-15 : tie.Need-carried-requires-15
-carried-requires-15 c κs = search needs
+typed-requires-5 : tie.Need-typed-requires-5
+typed-requires-5 c κs = search needs
 
 enum-told-18 : tie.Need-enum-told-18
 enum-told-18 c = search needs
 
-carried-requires-16 : tie.Need-carried-requires-16
-carried-requires-16 c κs = search needs
+typed-requires-6 : tie.Need-typed-requires-6
+typed-requires-6 c κs = search needs
 
 enum-told-19 : tie.Need-enum-told-19
 enum-told-19 c = search needs
 
-carried-requires-17 : tie.Need-carried-requires-17
-carried-requires-17 c κs = search needs
+typed-requires-7 : tie.Need-typed-requires-7
+typed-requires-7 c κs = search needs
 
 enum-told-20 : tie.Need-enum-told-20
 enum-told-20 c = search needs
 
-carried-requires-18 : tie.Need-carried-requires-18
-carried-requires-18 c κs = search needs
+typed-requires-8 : tie.Need-typed-requires-8
+typed-requires-8 c κs = search needs
 
 enum-told-21 : tie.Need-enum-told-21
 enum-told-21 c = search needs
 
-carried-requires-19 : tie.Need-carried-requires-19
-carried-requires-19 c κs = search needs
+typed-requires-9 : tie.Need-typed-requires-9
+typed-requires-9 c κs = search needs
 
 enum-told-22 : tie.Need-enum-told-22
 enum-told-22 c = search needs
@@ -149,38 +149,38 @@ slotted-requires-3 c κs = search needs
 enum-told-25 : tie.Need-enum-told-25
 enum-told-25 c = search needs
 
-typed-requires-3 : tie.Need-typed-requires-3
-typed-requires-3 c κs = search needs
+typed-requires-10 : tie.Need-typed-requires-10
+typed-requires-10 c κs = search needs
 
 enum-told-26 : tie.Need-enum-told-26
 enum-told-26 c = search needs
 
-typed-requires-4 : tie.Need-typed-requires-4
-typed-requires-4 c κs = search needs
+typed-requires-11 : tie.Need-typed-requires-11
+typed-requires-11 c κs = search needs
 
 enum-told-27 : tie.Need-enum-told-27
 enum-told-27 c = search needs
 
-typed-requires-5 : tie.Need-typed-requires-5
-typed-requires-5 c κs = search needs
+typed-requires-12 : tie.Need-typed-requires-12
+typed-requires-12 c κs = search needs
 
 enum-told-28 : tie.Need-enum-told-28
 enum-told-28 c = search needs
 
-carried-requires-20 : tie.Need-carried-requires-20
-carried-requires-20 c κs = search needs
+carried-requires-13 : tie.Need-carried-requires-13
+carried-requires-13 c κs = search needs
 
 enum-told-29 : tie.Need-enum-told-29
 enum-told-29 c = search needs
 
-typed-requires-6 : tie.Need-typed-requires-6
-typed-requires-6 c κs = search needs
+typed-requires-13 : tie.Need-typed-requires-13
+typed-requires-13 c κs = search needs
 
 enum-told-30 : tie.Need-enum-told-30
 enum-told-30 c = search needs
 
-typed-requires-7 : tie.Need-typed-requires-7
-typed-requires-7 c κs = search needs
+typed-requires-14 : tie.Need-typed-requires-14
+typed-requires-14 c κs = search needs
 
 returns : tie.Need-returns
 returns c = rw (c .before .enum-told .given .1, c .carried .ensures)
@@ -225,25 +225,25 @@ returns-14 : tie.Need-returns-14
 returns-14 c = rw (c .before .enum-told14 .given .1, c .typed2 .ensures)
 
 returns-15 : tie.Need-returns-15
-returns-15 c = rw (c .before .enum-told15 .given .1, c .carried13 .ensures)
+returns-15 c = rw (c .before .enum-told15 .given .1, c .typed3 .ensures)
 
 returns-16 : tie.Need-returns-16
-returns-16 c = rw (c .before .enum-told16 .given .1, c .carried14 .ensures)
+returns-16 c = rw (c .before .enum-told16 .given .1, c .typed4 .ensures)
 
 returns-17 : tie.Need-returns-17
-returns-17 c = rw (c .before .enum-told17 .given .1, c .carried15 .ensures)
+returns-17 c = rw (c .before .enum-told17 .given .1, c .typed5 .ensures)
 
 returns-18 : tie.Need-returns-18
-returns-18 c = rw (c .before .enum-told18 .given .1, c .carried16 .ensures)
+returns-18 c = rw (c .before .enum-told18 .given .1, c .typed6 .ensures)
 
 returns-19 : tie.Need-returns-19
-returns-19 c = rw (c .before .enum-told19 .given .1, c .carried17 .ensures)
+returns-19 c = rw (c .before .enum-told19 .given .1, c .typed7 .ensures)
 
 returns-20 : tie.Need-returns-20
-returns-20 c = rw (c .before .enum-told20 .given .1, c .carried18 .ensures)
+returns-20 c = rw (c .before .enum-told20 .given .1, c .typed8 .ensures)
 
 returns-21 : tie.Need-returns-21
-returns-21 c = rw (c .before .enum-told21 .given .1, c .carried19 .ensures)
+returns-21 c = rw (c .before .enum-told21 .given .1, c .typed9 .ensures)
 
 returns-22 : tie.Need-returns-22
 returns-22 c = rw (c .before .enum-told22 .given .1, c .slotted .ensures)
@@ -255,22 +255,22 @@ returns-24 : tie.Need-returns-24
 returns-24 c = rw (c .before .enum-told24 .given .1, c .slotted3 .ensures)
 
 returns-25 : tie.Need-returns-25
-returns-25 c = rw (c .before .enum-told25 .given .1, c .typed3 .ensures)
+returns-25 c = rw (c .before .enum-told25 .given .1, c .typed10 .ensures)
 
 returns-26 : tie.Need-returns-26
-returns-26 c = rw (c .before .enum-told26 .given .1, c .typed4 .ensures)
+returns-26 c = rw (c .before .enum-told26 .given .1, c .typed11 .ensures)
 
 returns-27 : tie.Need-returns-27
-returns-27 c = rw (c .before .enum-told27 .given .1, c .typed5 .ensures)
+returns-27 c = rw (c .before .enum-told27 .given .1, c .typed12 .ensures)
 
 returns-28 : tie.Need-returns-28
-returns-28 c = rw (c .before .enum-told28 .given .1, c .carried20 .ensures)
+returns-28 c = rw (c .before .enum-told28 .given .1, c .carried13 .ensures)
 
 returns-29 : tie.Need-returns-29
-returns-29 c = rw (c .before .enum-told29 .given .1, c .typed6 .ensures)
+returns-29 c = rw (c .before .enum-told29 .given .1, c .typed13 .ensures)
 
 returns-30 : tie.Need-returns-30
-returns-30 c = rw (c .before .enum-told30 .given .1, c .typed7 .ensures)
+returns-30 c = rw (c .before .enum-told30 .given .1, c .typed14 .ensures)
 
 pub row-of-spec : {M : Type 1} → statement M
 row-of-spec =
@@ -305,19 +305,19 @@ row-of-spec =
     enum-told-14
     typed-requires-2
     enum-told-15
-    carried-requires-13
+    typed-requires-3
     enum-told-16
-    carried-requires-14
+    typed-requires-4
     enum-told-17
-    carried-requires-15
+    typed-requires-5
     enum-told-18
-    carried-requires-16
+    typed-requires-6
     enum-told-19
-    carried-requires-17
+    typed-requires-7
     enum-told-20
-    carried-requires-18
+    typed-requires-8
     enum-told-21
-    carried-requires-19
+    typed-requires-9
     enum-told-22
     slotted-requires
     enum-told-23
@@ -325,17 +325,17 @@ row-of-spec =
     enum-told-24
     slotted-requires-3
     enum-told-25
-    typed-requires-3
+    typed-requires-10
     enum-told-26
-    typed-requires-4
+    typed-requires-11
     enum-told-27
-    typed-requires-5
+    typed-requires-12
     enum-told-28
-    carried-requires-20
+    carried-requires-13
     enum-told-29
-    typed-requires-6
+    typed-requires-13
     enum-told-30
-    typed-requires-7
+    typed-requires-14
     returns
     returns-2
     returns-3

@@ -57,6 +57,18 @@ enum-told-2 c = c .match .keys9
 write-bare-requires-2 : tie.Need-write-bare-requires-2
 write-bare-requires-2 c κs = tt
 
+enum-known-r-8 : tie.Need-enum-known-r-8
+enum-known-r-8 c = c .match .keys10
+
+write-cell-requires : tie.Need-write-cell-requires
+write-cell-requires c κs = tt
+
+enum-known-r-9 : tie.Need-enum-known-r-9
+enum-known-r-9 c = c .match .keys11
+
+write-transform-requires : tie.Need-write-transform-requires
+write-transform-requires c κs = tt
+
 same-length : tie.Need-same-length
 same-length c = search needs
 
@@ -111,6 +123,18 @@ same-length-9 c = search needs
 returns-9 : tie.Need-returns-9
 returns-9 c = record-written _ _ _ _ _ (c .before .before .before .before .enum-told2 .given .1) (endmdl-written _ _ _ (c .before .before .write-bare2 .ensures))
 
+same-length-10 : tie.Need-same-length-10
+same-length-10 c = search needs
+
+returns-10 : tie.Need-returns-10
+returns-10 c = record-written _ _ _ _ _ (c .before .before .before .before .before .r8 .given .1) (c .before .before .write-cell .ensures)
+
+same-length-11 : tie.Need-same-length-11
+same-length-11 c = search needs
+
+returns-11 : tie.Need-returns-11
+returns-11 c = record-written _ _ _ _ _ (c .before .before .before .before .before .r9 .given .1) (c .before .before .write-transform .ensures)
+
 pub write-record-spec : {M : Type 1} → statement M
 write-record-spec =
     tie.close
@@ -133,6 +157,10 @@ write-record-spec =
     write-model-requires
     enum-told-2
     write-bare-requires-2
+    enum-known-r-8
+    write-cell-requires
+    enum-known-r-9
+    write-transform-requires
     same-length
     returns
     same-length-2
@@ -150,4 +178,8 @@ write-record-spec =
     same-length-8
     returns-8
     same-length-9
-    returns-9)
+    returns-9
+    same-length-10
+    returns-10
+    same-length-11
+    returns-11)

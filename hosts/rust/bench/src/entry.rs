@@ -42,6 +42,15 @@ impl Entry {
         writer.finish(name)
     }
 
+    /// An entry of so many lines with CRYST1 and ORIGX lines, and with SCALE lines if asked.
+    pub fn of_crystal(lines: usize, scale: bool) -> Entry {
+        let name = format!("{} lines, {} SCALE", grouped(lines), if scale { "with" } else { "without" });
+        Entry::of_coordinates(lines, name, |writer, lines| {
+            writer.crystal(scale);
+            writer.coordinates(lines - 1 - writer.xform);
+        })
+    }
+
     /// An entry of so many atoms and CONECT lines.
     pub fn with_bonds(atoms: usize, bonds: usize) -> Entry {
         let mut writer = Writer::default();
@@ -87,6 +96,8 @@ pub struct Writer {
     /// Where places and orders come from.
     pub chance: Chance,
     remarks: usize,
+    /// ORIGX and SCALE lines.
+    xform: usize,
     serial: usize,
     /// The serials of the atoms.
     atoms: Vec<usize>,
@@ -108,6 +119,21 @@ impl Writer {
         self.line("HEADER    MADE UP FOR THE BENCHMARK");
         for _ in 0..remarks {
             self.line("REMARK   2 RESOLUTION.    1.74 ANGSTROMS.");
+        }
+    }
+
+    /// A cell and its transformations, with no zero in SCALE.
+    fn crystal(&mut self, scale: bool) {
+        self.line("CRYST1   52.000   58.600   61.900  78.10  84.20  69.30 P 1           1");
+        self.line("ORIGX1      1.000000  0.000000  0.000000        0.00000");
+        self.line("ORIGX2      0.000000  1.000000  0.000000        0.00000");
+        self.line("ORIGX3      0.000000  0.000000  1.000000        0.00000");
+        self.xform = 3;
+        if scale {
+            self.line("SCALE1      0.019231 -0.007266 -0.000705        0.25000");
+            self.line("SCALE2      0.001204  0.018242 -0.003498       -0.50000");
+            self.line("SCALE3     -0.000313  0.002011  0.016535        0.12345");
+            self.xform = 6;
         }
     }
 
@@ -187,10 +213,10 @@ impl Writer {
 
     /// What stands behind the coordinates and bonds.
     pub fn finish(mut self, name: String) -> Entry {
-        let zeros = "    0".repeat(7);
-        let (remarks, bonds) = (self.remarks, self.bonds);
+        let zeros = "    0".repeat(6);
+        let (remarks, xform, bonds) = (self.remarks, self.xform, self.bonds);
         let (atoms, ters) = self.counted();
-        self.line(&format!("MASTER    {remarks:5}{zeros}{atoms:5}{ters:5}{bonds:5}    0"));
+        self.line(&format!("MASTER    {remarks:5}{zeros}{xform:5}{atoms:5}{ters:5}{bonds:5}    0"));
         self.line("END");
         Entry { name, text: self.text.into_bytes(), atoms: self.atoms.len() }
     }
@@ -225,6 +251,15 @@ mod tests {
             let entry = Entry::of_lines(lines);
             assert_eq!(entry.lines(), lines);
             assert_eq!(reference::check(&entry.text).refusal, None);
+        }
+    }
+
+    #[test]
+    fn crystals_are_accepted_and_as_long_as_asked() {
+        for (scale, rows) in [(true, None), (false, Some(reference::Refusal::NoScale))] {
+            let entry = Entry::of_crystal(1_000, scale);
+            assert_eq!((entry.lines(), reference::check(&entry.text).refusal), (1_000, None));
+            assert_eq!(reference::crystal::rows(&entry.text).err(), rows);
         }
     }
 

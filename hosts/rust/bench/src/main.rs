@@ -1,6 +1,7 @@
 //! The benchmark: every call of the library against the check, the reference and the peers, as Markdown tables.
 
 mod clock;
+mod crystal;
 mod entry;
 mod measure;
 mod peers;
@@ -32,6 +33,12 @@ fn models() -> String {
     tables::models(&times)
 }
 
+/// The calls of the crystal frame, and the bars that they do not keep.
+fn frames() -> (String, Vec<String>) {
+    let times = crystal::times(100_000);
+    (tables::crystal(&times), tables::above(&times))
+}
+
 /// All other tables.
 fn all_calls() -> String {
     let lines = [1_000, 10_000, 100_000].map(Entry::of_lines);
@@ -47,20 +54,32 @@ fn all_calls() -> String {
 }
 
 const USAGE: &str = "\
-usage: bench [--models | --search]
+usage: bench [--crystal | --models | --search]
 
-  --models  only the table of entries with models
-  --search  only the table of texts that differ in how far the check looks back";
+  --crystal  only the tables of the crystal frame
+  --models   only the table of entries with models
+  --search   only the table of texts that differ in how far the check looks back
+
+Exit status: 1 a call of the crystal frame is above its bar, 2 wrong arguments.";
 
 fn main() {
     let words: Vec<String> = std::env::args().skip(1).collect();
-    match words.iter().map(String::as_str).collect::<Vec<_>>()[..] {
-        [] => print!("{}\n{}\n{}", all_calls(), models(), searches()),
-        ["--models"] => print!("{}", models()),
-        ["--search"] => print!("{}", searches()),
+    let (text, above) = match words.iter().map(String::as_str).collect::<Vec<_>>()[..] {
+        [] => {
+            let (frames, above) = frames();
+            ([all_calls(), frames, models(), searches()].join("\n"), above)
+        }
+        ["--crystal"] => frames(),
+        ["--models"] => (models(), Vec::new()),
+        ["--search"] => (searches(), Vec::new()),
         _ => {
             eprintln!("{USAGE}");
             std::process::exit(2);
         }
+    };
+    print!("{text}");
+    if !above.is_empty() {
+        eprintln!("{}", above.join("\n"));
+        std::process::exit(1);
     }
 }

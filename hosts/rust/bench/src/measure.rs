@@ -10,7 +10,7 @@ use crate::sides::{agree, Call, Library, Reference, Side};
 use crate::stack;
 
 /// Turns that each call has. Between two of them all others have one, so that a busy minute meets all alike.
-const ROUNDS: usize = 8;
+pub const ROUNDS: usize = 8;
 
 /// The times of one entry, in nanoseconds.
 pub struct Times {

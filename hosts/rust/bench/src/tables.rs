@@ -3,6 +3,7 @@
 use std::fmt::Write;
 
 use crate::clock::Best;
+use crate::crystal;
 use crate::entry::{grouped, Entry};
 use crate::measure::{Stacks, Times};
 use crate::sides::Call;
@@ -17,6 +18,10 @@ const FRAGMENTS_BAR: f64 = 1.3;
 /// A jump to the middle of a text may cost so much of a check of all of it, and has to do with less stack than this.
 const FIND_BAR: f64 = 0.25;
 const FIND_STACK_BAR: usize = 2_048;
+
+/// A fractional place by a text may cost so many checks of it, and a place by rows has to take less than so many nanoseconds.
+const FRACTIONAL_BAR: f64 = 1.1;
+const PLACE_BAR: f64 = 20.0;
 
 /// Each call against the check and the reference.
 pub fn calls(times: &[Times]) -> String {
@@ -114,15 +119,61 @@ pub fn stacks(stacks: &[Stacks]) -> String {
         Call::Find => format!("{} (below {})", call.name(), grouped(FIND_STACK_BAR)),
         _ => call.name(),
     });
+    of_stacks(&names, stacks.iter().map(|entry| (&entry.name, &entry.used[..])))
+}
+
+/// A row for each entry, a column for each call.
+fn of_stacks<'s>(names: &[String], stacks: impl Iterator<Item = (&'s String, &'s [Option<usize>])>) -> String {
     let head: Vec<&str> = ["Stack, bytes"].into_iter().chain(names.iter().map(String::as_str)).collect();
-    let bytes = |used: Option<usize>| used.map_or("-".into(), grouped);
-    let row = |entry: &Stacks| [entry.name.clone()].into_iter().chain(entry.used.map(bytes)).collect();
-    table(&head, &stacks.iter().map(row).collect::<Vec<_>>())
+    let bytes = |used: &Option<usize>| used.map_or("-".into(), grouped);
+    let row = |(name, used): (&String, &[Option<usize>])| {
+        [name.clone()].into_iter().chain(used.iter().map(bytes)).collect::<Vec<_>>()
+    };
+    table(&head, &stacks.map(row).collect::<Vec<_>>())
+}
+
+/// The calls of the crystal frame: their times, their bars and their stack.
+pub fn crystal(times: &[crystal::Times]) -> String {
+    use crystal::Call;
+    let row = |entry: &crystal::Times| {
+        let [check, scale, fractional] = [Call::Check, Call::Scale, Call::Fractional].map(|call| entry.of(call));
+        let mut row = vec![sized(&entry.name, entry.bytes)];
+        row.extend([check, scale, fractional].map(|time| number(time / entry.lines as f64)));
+        row.extend([scale, fractional].map(|time| ratio(Some(time), Some(check))));
+        row.push(number(entry.of(Call::Place)));
+        row
+    };
+    let fractional = format!("fractional / check (at most {FRACTIONAL_BAR})");
+    let place = format!("place, ns (below {PLACE_BAR})");
+    let head = ["Entry", "check, ns a line", "scale", "fractional", "scale / check", &fractional, &place];
+    let calls = table(&head, &times.iter().map(row).collect::<Vec<_>>());
+    let names = Call::ALL.map(Call::name);
+    let stacks = times.iter().map(|entry| (&entry.name, &entry.stack[..]));
+    [calls, of_stacks(&names, stacks)].join("\n")
+}
+
+/// The bars of the crystal frame that are not kept, a line for each.
+pub fn above(times: &[crystal::Times]) -> Vec<String> {
+    let mut above = Vec::new();
+    for entry in times {
+        let (fractional, place) = (entry.fractional(), entry.of(crystal::Call::Place));
+        if fractional > FRACTIONAL_BAR {
+            above.push(format!("{}: fractional / check is {fractional:.3}, above {FRACTIONAL_BAR}", entry.name));
+        }
+        if place >= PLACE_BAR {
+            above.push(format!("{}: a place takes {place:.1} ns, not below {PLACE_BAR}", entry.name));
+        }
+    }
+    above
 }
 
 /// An entry with its size.
 fn label(entry: &Times) -> String {
-    format!("{}, {} kB", entry.name, grouped(entry.bytes / 1_000))
+    sized(&entry.name, entry.bytes)
+}
+
+fn sized(name: &str, bytes: usize) -> String {
+    format!("{name}, {} kB", grouped(bytes / 1_000))
 }
 
 /// A ratio of two times, `-` where one was not taken.
@@ -161,6 +212,21 @@ mod tests {
         assert_eq!(ratio(Some(3.0), Some(2.0)), "1.50");
         assert_eq!(ratio(None, Some(2.0)), "-");
         assert_eq!([1.26, 123.4].map(number), ["1.3", "123"]);
+    }
+
+    #[test]
+    fn bars_that_are_not_kept_are_told() {
+        let of = |best: [f64; 4]| crystal::Times {
+            name: "a".to_owned(),
+            lines: 100,
+            bytes: 8_100,
+            best: best.map(Best),
+            stack: [Some(1_000); 4],
+        };
+        let kept = of([1_000.0, 1_000.0, 1_100.0, 19.9]);
+        assert_eq!(above(&[kept]), [""; 0]);
+        let told = above(&[of([1_000.0, 1_000.0, 1_101.0, 20.0])]);
+        assert_eq!(told, ["a: fractional / check is 1.101, above 1.1", "a: a place takes 20.0 ns, not below 20"]);
     }
 
     #[test]

@@ -109,17 +109,26 @@ impl Search {
                     let cause = words::cause(line, &Verdict { line: 1, ..alone }, refusal);
                     let alike = |group: &Offence| group.refusal == refusal && group.last + 1 == number;
                     self.list(number, refusal, 0, line, cause, alike);
+                    if let Some(row) = row_instead(line) {
+                        self.keep(&[&row[..], b"\n"].concat(), number);
+                        continue;
+                    }
                 }
                 _ => {
-                    self.kept.extend(line);
-                    self.blanked.extend(line);
-                    self.numbers.push(number);
+                    self.keep(line, number);
                     continue;
                 }
             }
             self.count_left_out(line, number);
             self.blanked.extend(BLANK);
         }
+    }
+
+    /// Keeps a line of full width for the checks.
+    fn keep(&mut self, line: &[u8], number: u64) {
+        self.kept.extend(line);
+        self.blanked.extend(line);
+        self.numbers.push(number);
     }
 
     /// Has the rest checked, again and again, without the line that is refused.
@@ -147,7 +156,7 @@ impl Search {
             if refusal != Refusal::COUNT || !self.counts_with_left_out(at, &verdict) {
                 self.offend(&verdict, refusal);
             }
-            if !self.mend_counts(at, &verdict) {
+            if !self.mend(at, &verdict) {
                 let more = if refusal == Refusal::FIELD { self.fields_below(at, &verdict) } else { 0 };
                 self.leave_out(at, 1 + more);
             }
@@ -215,18 +224,21 @@ impl Search {
         counts::master(&counts).is_some_and(|master| self.kept[81 * at..81 * at + 80] == master)
     }
 
-    /// Gives a MASTER line with wrong counts or fields the counts of the good lines, so that END may follow it.
-    fn mend_counts(&mut self, at: usize, verdict: &Verdict) -> bool {
+    /// Gives a MASTER line with wrong counts or fields the counts of the good lines, so that END may follow it, and an ORIGX or
+    /// SCALE line with wrong fields other numbers, so that its trio is whole.
+    fn mend(&mut self, at: usize, verdict: &Verdict) -> bool {
         let line = &mut self.kept[81 * at..81 * at + 80];
-        let mended = counts::master(&verdict.counts).filter(|_| line.starts_with(b"MASTER"));
-        match (verdict.refusal, mended) {
-            (Some(Refusal::COUNT | Refusal::FIELD), Some(master)) => {
-                line.copy_from_slice(&master);
-                self.overwrite(verdict.line, &master);
-                true
-            }
-            _ => false,
+        let master = || counts::master(&verdict.counts).filter(|_| line.starts_with(b"MASTER"));
+        let mended = match verdict.refusal {
+            Some(Refusal::COUNT) => master(),
+            Some(Refusal::FIELD) => master().or_else(|| row_instead(line)),
+            _ => None,
+        };
+        if let Some(mended) = mended {
+            line.copy_from_slice(&mended);
+            self.overwrite(verdict.line, &mended);
         }
+        mended.is_some()
     }
 
     /// Takes lines out.
@@ -259,6 +271,17 @@ impl Search {
     }
 }
 
+/// A right line with the name of an ORIGX or SCALE line that is wrong.
+fn row_instead(line: &[u8]) -> Option<[u8; 80]> {
+    let (name, row) = line.get(..6)?.split_at(5);
+    let numbers = b"      0.000000  0.000000  0.000000        0.00000";
+    let mut instead = [b' '; 80];
+    instead[..5].copy_from_slice(name);
+    instead[5] = row[0];
+    instead[6..6 + numbers.len()].copy_from_slice(numbers);
+    (matches!(name, b"ORIGX" | b"SCALE") && matches!(row, b"1" | b"2" | b"3")).then_some(instead)
+}
+
 /// A line left out, in the copy.
 const BLANK: [u8; 81] = {
     let mut blank = [b' '; 81];
@@ -280,13 +303,18 @@ mod tests {
     /// How many lines are refused one after the other, each looked for from the top, until only the counts may be wrong or
     /// the text is over.
     fn one_by_one(text: &[u8]) -> u64 {
-        let mut lines: Vec<&[u8]> = pieces(text).collect();
+        let mut lines: Vec<Vec<u8>> = pieces(text).map(<[u8]>::to_vec).collect();
         for count in 0.. {
             let verdict = Entry::check(&lines.concat());
             if matches!(verdict.refusal, None | Some(Refusal::COUNT | Refusal::OVER)) {
                 return count;
             }
-            lines.remove(verdict.good_lines as usize);
+            let at = verdict.good_lines as usize;
+            // Without an ORIGX or SCALE line the lines round it would be no trio.
+            match row_instead(&lines[at]).filter(|_| verdict.refusal == Some(Refusal::FIELD)) {
+                Some(row) => lines[at][..80].copy_from_slice(&row),
+                None => drop(lines.remove(at)),
+            }
         }
         unreachable!("a text has an end")
     }

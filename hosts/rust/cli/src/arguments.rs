@@ -7,11 +7,10 @@ use station::ModelNumber;
 
 use crate::aside::Aside;
 use crate::check::Form;
-use crate::find;
-use crate::help;
 use crate::list::List;
 use crate::problem::Problem;
 use crate::words::path_name;
+use crate::{find, fractional, help};
 
 /// What is to be done, and whether to say nothing of what goes well.
 pub struct Asked {
@@ -30,6 +29,10 @@ pub enum Command {
     Check { files: Vec<PathBuf>, form: Form, all: bool },
     /// Show the lines of some atoms.
     Find { file: PathBuf, serials: Vec<u32> },
+    /// Show the crystal frame of an entry.
+    Cell { file: PathBuf },
+    /// Tell the fractional places of some atoms, or of three coordinates.
+    Fractional { file: PathBuf, of: fractional::Of },
     /// List the fragments of an entry.
     Fragments { file: PathBuf, aside: Aside },
     /// Save an entry without some fragments.
@@ -48,6 +51,7 @@ struct Given {
     all: bool,
     force: bool,
     quiet: bool,
+    xyz: bool,
     aside: Option<OsString>,
     keep: Option<OsString>,
     out: Option<OsString>,
@@ -66,6 +70,8 @@ fn about(command: &OsStr) -> Option<(&'static str, &'static [&'static str])> {
         "cut" => Some((help::CUT, &["--out", "--force", "-q"])),
         "check" => Some((help::CHECK, &["--all", "--json", "--report", "-q"])),
         "find" => Some((help::FIND, &[])),
+        "cell" => Some((help::CELL, &[])),
+        "fractional" => Some((help::FRACTIONAL, &["--xyz"])),
         "fragments" => Some((help::FRAGMENTS, &["--aside", "--keep"])),
         "save" => Some((help::SAVE, &["--aside", "--keep", "--out", "--tray", "--force", "-q"])),
         "draw" => Some((help::DRAW, &["--aside", "--keep", "--model", "--svg", "--force", "-q"])),
@@ -111,8 +117,14 @@ fn asked(command: &OsStr, given: Given) -> Result<Command, Problem> {
             Ok(Command::Check { files: given.files, form, all })
         }
         Some("find") => {
-            let (file, serials) = given.file_and_serials()?;
-            Ok(Command::Find { file, serials })
+            let (file, words) = given.file_and_words("find needs a file and one or more serials")?;
+            let serials = words.iter().map(|word| find::serial(word)).collect::<Result<_, _>>();
+            Ok(Command::Find { file, serials: serials.or_else(usage)? })
+        }
+        Some("cell") => Ok(Command::Cell { file: given.one_file("cell")? }),
+        Some("fractional") => {
+            let (file, words) = given.file_and_words("fractional needs a file and serials, or a file and x, y, z")?;
+            Ok(Command::Fractional { file, of: fractional::Of::parse(&words, given.xyz).or_else(usage)? })
         }
         Some("fragments") => {
             let (file, aside) = (given.one_file("fragments")?, given.aside()?);
@@ -144,7 +156,8 @@ fn given(mut arguments: impl Iterator<Item = OsString>, allowed: &[&str]) -> Res
     let mut given = Given::default();
     let mut only_files = false;
     while let Some(argument) = arguments.next() {
-        if only_files || argument == OsStr::new("-") || !argument.as_encoded_bytes().starts_with(b"-") {
+        let coordinate = allowed.contains(&"--xyz") && is_below_zero(&argument);
+        if only_files || coordinate || argument == OsStr::new("-") || !argument.as_encoded_bytes().starts_with(b"-") {
             given.files.push(argument.into());
             continue;
         }
@@ -160,7 +173,7 @@ fn given(mut arguments: impl Iterator<Item = OsString>, allowed: &[&str]) -> Res
             _ if !allowed.contains(&name) => {
                 return usage(format!("{}: no such option here", argument.to_string_lossy()));
             }
-            "--all" | "--json" | "--report" | "--force" | "-q" if attached.is_some() => {
+            "--all" | "--json" | "--report" | "--force" | "--xyz" | "-q" if attached.is_some() => {
                 return usage(format!("{name} takes no value"));
             }
             "--all" => given.all = true,
@@ -168,6 +181,7 @@ fn given(mut arguments: impl Iterator<Item = OsString>, allowed: &[&str]) -> Res
             "--report" => given.report = true,
             "-q" => given.quiet = true,
             "--force" => given.force = true,
+            "--xyz" => given.xyz = true,
             _ => {
                 let Some(value) = attached.or_else(|| arguments.next()) else {
                     return usage(format!("{name} needs a value"));
@@ -200,6 +214,11 @@ fn parts(argument: &OsStr) -> (&OsStr, Option<OsString>) {
     (part(&bytes[..at]), Some(part(&bytes[at + 1..]).to_owned()))
 }
 
+/// Whether an argument is a number with a minus rather than an option.
+fn is_below_zero(argument: &OsStr) -> bool {
+    matches!(argument.as_encoded_bytes(), [b'-', b'0'..=b'9' | b'.', ..])
+}
+
 impl Given {
     fn one_file(&self, command: &str) -> Result<PathBuf, Problem> {
         match &self.files[..] {
@@ -218,13 +237,13 @@ impl Given {
         }
     }
 
-    fn file_and_serials(&self) -> Result<(PathBuf, Vec<u32>), Problem> {
+    /// The file, and one or more words behind it.
+    fn file_and_words(&self, needed: &str) -> Result<(PathBuf, Vec<String>), Problem> {
         match &self.files[..] {
             [file, words @ ..] if !words.is_empty() => {
-                let serials = words.iter().map(|word| find::serial(&path_name(word))).collect::<Result<_, _>>();
-                Ok((file.clone(), serials.or_else(usage)?))
+                Ok((file.clone(), words.iter().map(|word| path_name(word)).collect()))
             }
-            _ => usage("find needs a file and one or more serials"),
+            _ => usage(needed),
         }
     }
 

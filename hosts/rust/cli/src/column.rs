@@ -41,7 +41,24 @@ fn against(line: &[u8; 80], beside: &Beside) -> String {
 }
 
 fn blank(line: &[u8; 80], column: usize) -> String {
-    format!("column {column} must be blank, and {} stands there", quoted(line, column, column))
+    let words = format!("column {column} must be blank, and {} stands there", quoted(line, column, column));
+    if column == CODE && has_code(line) {
+        let stands = shown(&line[CODE - 1..]);
+        return format!("{words}: old entries have their code and a number in columns 73-80, here \"{stands}\"");
+    }
+    words
+}
+
+/// The first column of the code that old entries have at the end of each line.
+const CODE: usize = 73;
+
+/// Whether a line ends as those of old entries do: in the code of the entry, a digit first, and the number of the line.
+fn has_code(line: &[u8; 80]) -> bool {
+    let ([first, code @ ..], number) = line[CODE - 1..].split_at(4) else {
+        return false;
+    };
+    let right = |byte: &u8| byte.is_ascii_uppercase() || byte.is_ascii_digit();
+    first.is_ascii_digit() && code.iter().all(right) && number.iter().all(|byte| byte.is_ascii_digit() || *byte == b' ')
 }
 
 fn place(first: usize, last: usize) -> String {
@@ -82,13 +99,16 @@ mod tests {
     use station::Line;
 
     /// A right line of each kind.
-    const RIGHT: [&str; 11] = [
+    const RIGHT: [&str; 14] = [
         "ATOM     32  N  AARG A  -3      11.281  86.699  94.383  0.50 35.88           N",
         "HETATM   40 HH11 HEM b9999Z   -999.9999999.999   0.000  1.00-99.99           H3+",
         "TER      33      ARG A  -3",
         "HELIX    1   A ALA A    1  GLY A    9  1 and so on                         9",
         "SHEET    1   A 2 ALA A   1  GLY A   5  0",
         "SHEET    2   A 2 ALA A   7  GLY B   9 -1  N  ALA A   7   O  GLY A   5",
+        "CRYST1   52.000   58.600   61.900  90.00  90.00  90.00 P 21 21 21    8",
+        "ORIGX2      0.000000  1.000000  0.000000        0.00000",
+        "SCALE3     -0.000001-99.999999999.999999     -999.99999",
         "CONECT    5    6    7    8    9",
         "MASTER        0    0    0    0    0    0    0    0    0    0    0    0",
         "MODEL        1",
@@ -123,6 +143,9 @@ mod tests {
         }
         for column in [41, 42, 70] {
             assert_eq!(wrong(&columns(RIGHT[3]), column), None, "the comment of a helix is free: {column}");
+        }
+        for column in [56, 57, 66] {
+            assert_eq!(wrong(&columns(RIGHT[6]), column), None, "the space group is free: {column}");
         }
         assert_eq!(wrong(&columns("REMARK"), 7), None);
         assert_eq!(wrong(&columns(""), 7), None);

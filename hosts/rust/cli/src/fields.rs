@@ -148,6 +148,30 @@ static REGISTRATION: [Field; 10] = [
     field(70, 70, "registration, insertion code of the strand before", INSERTION),
 ];
 
+const EDGE: Allowed = Allowed::Real(9, 3, "0.001", "99999.999");
+const ANGLE: Allowed = Allowed::Real(7, 2, "0.01", "179.99");
+
+static CRYST1: [Field; 8] = [
+    field(7, 15, "edge a", EDGE),
+    field(16, 24, "edge b", EDGE),
+    field(25, 33, "edge c", EDGE),
+    field(34, 40, "angle alpha", ANGLE),
+    field(41, 47, "angle beta", ANGLE),
+    field(48, 54, "angle gamma", ANGLE),
+    field(56, 66, "space group", Allowed::Free),
+    field(67, 70, "Z", Allowed::Integer(1, 9_999)),
+];
+
+const COEFFICIENT: Allowed = Allowed::Real(10, 6, "-99.999999", "999.999999");
+
+/// The fields of ORIGX1-3 and SCALE1-3.
+static TRANSFORMATION: [Field; 4] = [
+    field(11, 20, "coefficient of x", COEFFICIENT),
+    field(21, 30, "coefficient of y", COEFFICIENT),
+    field(31, 40, "coefficient of z", COEFFICIENT),
+    field(46, 55, "shift", Allowed::Real(10, 5, "-999.99999", "9999.99999")),
+];
+
 const PARTNER: Allowed = Allowed::IntegerOrBlank(1, 99_999);
 const NOT_THE_ATOM: Beside = Beside::Earlier(7, "no partner is the atom itself");
 const NO_GAP: Beside = Beside::Earlier(7, "no partner is the atom itself, and none stands right of a blank one");
@@ -189,6 +213,8 @@ pub fn named(line: &[u8; 80], column: usize) -> Option<Named> {
         b"SHEET " if registration && first_strand => return Some(Named::NoRegistration),
         b"SHEET " if registration => &REGISTRATION,
         b"SHEET " => &SHEET,
+        b"CRYST1" => &CRYST1,
+        b"ORIGX1" | b"ORIGX2" | b"ORIGX3" | b"SCALE1" | b"SCALE2" | b"SCALE3" => &TRANSFORMATION,
         b"CONECT" => &CONECT,
         b"MASTER" => &MASTER,
         b"MODEL " => &MODEL,

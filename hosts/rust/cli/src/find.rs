@@ -32,10 +32,7 @@ pub fn run(file: &Path, serials: &[u32], out: &mut Console) -> Result<Status, Pr
                 show(piece, out)?;
             }
             None => {
-                let looked = several(jump.looked, "line");
-                out.say_line(format_args!(
-                    "{name}: serial {serial}: no ATOM or HETATM line has it; looked at {looked}"
-                ))?;
+                out.say_line(nowhere(name, *serial, &jump))?;
                 status = Status::Refused;
             }
         }
@@ -44,6 +41,12 @@ pub fn run(file: &Path, serials: &[u32], out: &mut Console) -> Result<Status, Pr
         passed_over(name, text, out);
     }
     Ok(status)
+}
+
+/// That a serial stands on no line, in words.
+pub fn nowhere(name: &str, serial: u32, jump: &Jump) -> String {
+    let looked = several(jump.looked, "line");
+    format!("{name}: serial {serial}: no ATOM or HETATM line has it; looked at {looked}")
 }
 
 /// Shows a line, and what stands in it.
@@ -88,7 +91,7 @@ fn fields(slot: &Slot) -> [(&'static str, String); 15] {
 }
 
 /// Some columns in words.
-fn columns(columns: &[u8]) -> String {
+pub fn columns(columns: &[u8]) -> String {
     let words = trimmed(columns);
     if words.is_empty() {
         "none".to_owned()

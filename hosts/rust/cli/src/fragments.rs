@@ -2,7 +2,7 @@
 
 use std::path::Path;
 
-use station::{Fragment, Mark, Refusal, Slot, Table};
+use station::{Fragment, Mark, Refusal, Slot, Table, Verdict};
 
 use crate::aside::Aside;
 use crate::input::{self, Input};
@@ -13,8 +13,7 @@ use crate::words;
 
 /// Loads an accepted entry and sets fragments aside.
 pub fn load<'t>(input: &'t Input, aside: &Aside) -> Result<Table<'t>, Problem> {
-    let mut table = Table::load(&input.text)
-        .map_err(|verdict| Problem::Refused(words::describe(&input.name, &input.text, &verdict)))?;
+    let mut table = Table::load(&input.text).map_err(|verdict| not_accepted(input, &verdict))?;
     if !aside.is_empty() {
         set_aside(input, &mut table, aside)?;
     }
@@ -26,6 +25,11 @@ fn set_aside(input: &Input, table: &mut Table, aside: &Aside) -> Result<(), Prob
     let fragments: Vec<Fragment> = table.fragments().map_err(|refusal| refused(input, refusal))?.collect();
     let marks = aside.marks(&fragments).map_err(|vain| Problem::Refused(format!("{}: {vain}", input.name)))?;
     table.arrange(&marks).map_err(|refusal| refused(input, refusal))
+}
+
+/// A refusal of a text that is no accepted entry.
+pub fn not_accepted(input: &Input, verdict: &Verdict) -> Problem {
+    Problem::Refused(words::describe(&input.name, &input.text, verdict))
 }
 
 /// A refusal of something in an entry.

@@ -3,12 +3,14 @@
 pub const VERSION: &str = concat!("station ", env!("CARGO_PKG_VERSION"), "\n");
 
 pub const ALL: &str = "\
-The station cuts, checks, lists, saves and draws PDB coordinate entries, and finds atoms in them.
+The station cuts, checks, lists, saves and draws PDB coordinate entries, finds atoms in them, and tells their fractional places.
 
 usage:
   station cut FILE --out FILE [--force] [-q]
   station check FILE.. [--all] [--json | --report] [-q]
   station find FILE SERIAL..
+  station cell FILE
+  station fractional FILE SERIAL.. | FILE [--xyz] X Y Z
   station fragments FILE [--aside LIST] [--keep LIST]
   station save FILE [--aside LIST] [--keep LIST] --out FILE [--tray FILE] [--force] [-q]
   station draw FILE --svg FILE [--aside LIST] [--keep LIST] [--model N] [--force] [-q]
@@ -26,6 +28,8 @@ examples:
   station check 1abc.pdb
   station check incoming/ archive/2024/
   station find 1abc.pdb 1179
+  station cell 1abc.pdb
+  station fractional 1abc.pdb 1179
   station fragments 1abc.pdb
   station save 1abc.pdb --aside waters,5 --out bare.pdb --tray tray.pdb
   station draw 1abc.pdb --svg 1abc.svg
@@ -93,6 +97,40 @@ examples:
   zcat 1abc.pdb.gz | station find - 1179
 
 Exit status: 0 all found, 1 one or more stand on no line, 2 could not be read, or not understood.
+";
+
+pub const CELL: &str = "\
+usage: station cell FILE
+
+Shows the crystal frame of an accepted entry: the edges and angles of its cell, the space group and Z (CRYST1), and the rows of
+its ORIGX and SCALE lines, each with the coefficients of x, y and z and the shift. An entry may have none or some of these lines;
+what it lacks is told.
+
+examples:
+  station cell 1abc.pdb
+  zcat 1abc.pdb.gz | station cell -
+
+Exit status: 0 shown, 1 refused, 2 could not be read.
+";
+
+pub const FRACTIONAL: &str = "\
+usage: station fractional FILE SERIAL.. | FILE [--xyz] X Y Z
+
+Tells the fractional places of atoms, or of one place, by the SCALE lines of an accepted entry: exactly, to nine decimals, and
+rounded to five, a half away from zero. An atom is that of the first model that has its serial.
+
+Whole numbers are serials. Three numbers of which one or more have a point are coordinates in angstroms, with up to three
+decimals, from -999.999 to 9999.999.
+
+  --xyz  the three numbers are coordinates, also where none has a point
+
+examples:
+  station fractional 1abc.pdb 1179
+  station fractional 1abc.pdb 1179 746 1184
+  station fractional 1abc.pdb 11.281 -0.5 0.007
+  station fractional 1abc.pdb --xyz 10 20 30
+
+Exit status: 0 told, 1 refused or not found, 2 could not be read, or not understood.
 ";
 
 pub const FRAGMENTS: &str = "\

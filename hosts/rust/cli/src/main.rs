@@ -4,13 +4,16 @@ mod advice;
 mod arguments;
 mod aside;
 mod bonds;
+mod cell;
 mod check;
 mod column;
+mod coordinate;
 mod counts;
 mod cut;
 mod draw;
 mod fields;
 mod find;
+mod fractional;
 mod fragments;
 mod help;
 mod input;
@@ -56,6 +59,8 @@ fn run() -> Result<Status, Problem> {
         Command::Cut { file, out: to, force } => cut::run(&file, &to, force, &mut out)?,
         Command::Check { files, form, all } => check::run(&files, form, all, &mut out)?,
         Command::Find { file, serials } => find::run(&file, &serials, &mut out)?,
+        Command::Cell { file } => cell::run(&file, &mut out)?,
+        Command::Fractional { file, of } => fractional::run(&file, &of, &mut out)?,
         Command::Fragments { file, aside } => fragments::run(&file, &aside, &mut out)?,
         Command::Save { file, aside, out: to, tray, force } => {
             save::run(&file, &aside, &to, tray.as_deref(), force, &mut out)?

@@ -115,14 +115,10 @@ fn could_stand(text: &[u8], line: u64, before: &[u8; 6]) -> String {
 #[cfg(test)]
 mod tests {
     use super::*;
-    use crate::words::tests::refused;
+    use crate::words::tests::{refused, text};
     use station::{Entry, Refusal};
 
     const WATER: &str = "HETATM    1  O   HOH A   7       1.000   2.000   3.000  1.00  0.00           O";
-
-    fn text(lines: &[&str]) -> Vec<u8> {
-        lines.iter().map(|line| format!("{line:80}\n")).collect::<String>().into_bytes()
-    }
 
     /// The words for the last of some lines.
     fn words(lines: &[&str]) -> String {

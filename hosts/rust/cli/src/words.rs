@@ -90,6 +90,13 @@ pub fn trimmed(columns: &[u8]) -> String {
     shown(columns).trim().to_owned()
 }
 
+/// Rows of words, each column as wide as its widest word and filled from the right.
+pub fn aligned(rows: &[Vec<String>]) -> Vec<String> {
+    let width = |column: usize| rows.iter().filter_map(|row| row.get(column)).map(String::len).max().unwrap_or(0);
+    let cell = |(column, word): (usize, &String)| format!("{word:>0$}", width(column));
+    rows.iter().map(|row| row.iter().enumerate().map(cell).collect::<Vec<_>>().join("  ")).collect()
+}
+
 /// Thousandths as a number of angstroms. Zero has no minus.
 pub fn angstroms(thousandths: f64) -> String {
     let text = format!("{:.3}", thousandths / 1_000.0);
@@ -184,9 +191,25 @@ pub mod tests {
     use super::*;
     use station::Entry;
 
+    /// A line of the crystal frame of which the name alone is given, with numbers; any other as it is.
+    pub fn filled(line: &str) -> String {
+        match line {
+            "CRYST1" => format!("CRYST1{}{} P 1           1", "    9.000".repeat(3), "  90.00".repeat(3)),
+            "ORIGX1" | "ORIGX2" | "ORIGX3" | "SCALE1" | "SCALE2" | "SCALE3" => {
+                format!("{line}    {}        0.00000", "  0.111111".repeat(3))
+            }
+            _ => line.to_owned(),
+        }
+    }
+
+    /// A text of some lines, those of the crystal frame filled.
+    pub fn text(lines: &[&str]) -> Vec<u8> {
+        lines.iter().map(|line| format!("{:80}\n", filled(line))).collect::<String>().into_bytes()
+    }
+
     /// A text of some lines that the library refuses with a number at the last of them, and that line.
     pub fn refused(lines: &[&str], refusal: Refusal) -> (Vec<u8>, u64) {
-        let text = lines.iter().map(|line| format!("{line:80}\n")).collect::<String>().into_bytes();
+        let text = text(lines);
         let verdict = Entry::check(&text);
         assert_eq!((verdict.refusal, verdict.line), (Some(refusal), lines.len() as u64), "{lines:?}");
         (text, verdict.line)
@@ -234,6 +257,7 @@ pub mod tests {
             }
         }
     }
+
     /// An accepted entry with lines of every kind, but for models.
     pub fn every_kind() -> Vec<String> {
         let atom = |name: &str, serial: u32, chain: char, number: u32| {
@@ -246,7 +270,7 @@ pub mod tests {
         let mut lines: Vec<String> =
             ["HEADER", "TITLE", "REMARK", "REMARK", "SEQRES", "HET"].map(str::to_owned).to_vec();
         lines.extend([helix(1), helix(2), strand(1, 2, "  A", 0), strand(2, 2, "  A", 1), strand(1, 1, "  B", 0)]);
-        lines.extend(["CRYST1", "ORIGX1", "ORIGX2", "ORIGX3", "SCALE1", "SCALE2", "SCALE3"].map(str::to_owned));
+        lines.extend(["CRYST1", "ORIGX1", "ORIGX2", "ORIGX3", "SCALE1", "SCALE2", "SCALE3"].map(filled));
         lines.extend([atom("ATOM", 1, 'A', 1), atom("ATOM", 2, 'A', 2), "TER       3      ALA A   2".to_owned()]);
         lines.extend([atom("ATOM", 4, 'B', 1), "TER       5      ALA B   1".to_owned(), atom("HETATM", 6, 'C', 1)]);
         lines.extend(["CONECT    1    2    6", "CONECT    6    1"].map(str::to_owned));

@@ -3,6 +3,7 @@
 use station::raw::{Library, Slot, Tally};
 
 use crate::chance::Chance;
+use crate::crystals::some_cells;
 use crate::damage::{damage_line, damage_lines, damage_table, damage_text, recount, rename};
 use crate::entry::{entry, large_entry, modelled_entry, named, text, typed_line, Columns, COORDINATES};
 use crate::fence;
@@ -11,6 +12,7 @@ use crate::harness::Harness;
 use crate::jumping::some_jumps;
 use crate::lent::Sides;
 use crate::modelling::{self, list_of_one_serial};
+use crate::placing::{a_place_in, some_places};
 use crate::slots::to_reference;
 use crate::spoiling::some_faults;
 use crate::twinning;
@@ -40,8 +42,8 @@ fn run_with(mut harness: Harness, seed: u64, cases: impl Iterator<Item = u64>, s
 /// One case.
 fn one(harness: &mut Harness, chance: &mut Chance) {
     harness.guard = chance.byte();
-    match chance.below(19) {
-        0..=4 if chance.once_in(150) => a_large_text(harness, chance),
+    match chance.below(21) {
+        0..=4 if chance.once_in(120) => a_large_text(harness, chance),
         0..=4 => a_text(harness, chance),
         5..=8 => a_table(harness, chance),
         9..=12 => some_lines(harness, chance),
@@ -49,6 +51,8 @@ fn one(harness: &mut Harness, chance: &mut Chance) {
         14 => a_feed(harness, chance),
         15 | 16 => a_modelled_text(harness, chance),
         17 => some_faults(harness, chance),
+        18 => some_cells(harness, chance),
+        19 => some_places(harness, chance),
         _ => noise(harness, chance),
     }
 }
@@ -118,6 +122,7 @@ fn in_every_call(harness: &mut Harness, chance: &mut Chance, bytes: &[u8], coord
         harness.fragments(bytes, &table, room);
     }
     some_jumps(harness, chance, bytes);
+    a_place_in(harness, chance, bytes);
 }
 
 /// A text with many atoms, mostly with one of them twice, and far apart.
@@ -133,6 +138,7 @@ fn a_large_text(harness: &mut Harness, chance: &mut Chance) {
     harness.load(&bytes, &mut table);
     harness.save(&bytes, &table, bytes.len());
     some_jumps(harness, chance, &bytes);
+    a_place_in(harness, chance, &bytes);
 }
 
 /// An accepted entry and its table: orders, arrangements, damage, saving, drawing.
@@ -181,6 +187,7 @@ fn a_table(harness: &mut Harness, chance: &mut Chance) {
         harness.frame(&table);
     }
     some_jumps(harness, chance, &bytes);
+    a_place_in(harness, chance, &bytes);
 }
 
 /// Sets aside what has one serial, in all models or in all but one: a bond may stay or go by it.
@@ -227,6 +234,8 @@ fn a_line(harness: &mut Harness, chance: &mut Chance) {
     let room = if chance.once_in(2) { 80 } else { any_room(chance, 80) };
     harness.rewrite_line(&line, room);
     harness.read_line(&line);
+    harness.cell_of_line(&line);
+    harness.transform_of_line(&line);
     if chance.once_in(16) {
         harness.check(&[&line[..], b"\n"].concat());
     }
@@ -291,6 +300,8 @@ fn noise(harness: &mut Harness, chance: &mut Chance) {
     harness.slot_of_line(&bytes, before);
     harness.rewrite_line(&bytes, 80);
     harness.read_line(&bytes);
+    harness.cell_of_line(&bytes);
+    harness.transform_of_line(&bytes);
     let mut table = vec![before; chance.below(3)];
     harness.load(&bytes, &mut table);
     harness.order(&bytes, &mut table, 1, 1);
@@ -299,6 +310,7 @@ fn noise(harness: &mut Harness, chance: &mut Chance) {
     harness.save(&bytes, &table, length);
     harness.tray(&bytes, &table, length);
     some_jumps(harness, chance, &bytes);
+    a_place_in(harness, chance, &bytes);
 }
 
 /// A slot of any content; often an atom that is in.

@@ -4,8 +4,10 @@ use station::raw::Slot;
 
 use crate::chance::Chance;
 use crate::entry::{line, master, named, put, put_number, Columns, ATOMS, COORDINATES, NAMES};
+use crate::fields::{fields, Sort};
 use crate::modelling;
 use crate::names::{nearly, put_name};
+use crate::rows::TRANSFORMS;
 use crate::twinning;
 
 /// Names that are nearly known.
@@ -18,58 +20,6 @@ const NEARLY: [&str; 17] = [
 fn any_name(chance: &mut Chance) -> &'static str {
     let at = chance.below(NAMES.len() + NEARLY.len());
     NAMES.get(at).unwrap_or_else(|| &NEARLY[at - NAMES.len()])
-}
-
-/// What sort of text stands in a field.
-#[derive(Clone, Copy, Debug)]
-pub enum Sort {
-    /// An integer of a range.
-    Integer(i64, i64),
-    /// A real with decimals, of a range of its last place.
-    Real(usize, i64, i64),
-    /// Some bytes, blank or not.
-    Bytes,
-    /// An element, which stands in two places.
-    Element,
-}
-
-use Sort::{Bytes, Element, Integer, Real};
-
-const SERIAL: Sort = Integer(1, 99_999);
-const NUMBER: Sort = Integer(-999, 9_999);
-const PLACE: Sort = Real(3, -999_999, 9_999_999);
-const COUNT: Sort = Integer(0, 99_999);
-const FIXED: Sort = Integer(0, 0);
-
-/// The fields of a typed line: first and last column, and sort.
-#[rustfmt::skip]
-pub fn fields(line: &Columns) -> &'static [(usize, usize, Sort)] {
-    match &line[..6] {
-        b"ATOM  " | b"HETATM" => &[
-            (7, 11, SERIAL), (13, 16, Bytes), (17, 17, Bytes), (18, 20, Bytes), (22, 22, Bytes), (23, 26, NUMBER),
-            (27, 27, Bytes), (31, 38, PLACE), (39, 46, PLACE), (47, 54, PLACE), (55, 60, Real(2, 0, 100)),
-            (61, 66, Real(2, -9_999, 99_999)), (77, 78, Element), (79, 80, Bytes),
-        ],
-        b"TER   " => &[(7, 11, SERIAL), (18, 20, Bytes), (22, 22, Bytes), (23, 26, NUMBER), (27, 27, Bytes)],
-        b"HELIX " => &[
-            (8, 10, Integer(1, 999)), (12, 14, Bytes), (16, 18, Bytes), (20, 20, Bytes), (22, 25, NUMBER),
-            (26, 26, Bytes), (28, 30, Bytes), (32, 32, Bytes), (34, 37, NUMBER), (38, 38, Bytes),
-            (39, 40, Integer(1, 10)), (41, 70, Bytes), (72, 76, Integer(1, 99_999)),
-        ],
-        b"SHEET " => &[
-            (8, 10, Integer(1, 999)), (12, 14, Bytes), (15, 16, Integer(1, 99)), (18, 20, Bytes), (22, 22, Bytes),
-            (23, 26, NUMBER), (27, 27, Bytes), (29, 31, Bytes), (33, 33, Bytes), (34, 37, NUMBER), (38, 38, Bytes),
-            (39, 40, Integer(-1, 1)), (42, 45, Bytes), (46, 48, Bytes), (50, 50, Bytes), (51, 54, NUMBER), (55, 55, Bytes),
-            (57, 60, Bytes), (61, 63, Bytes), (65, 65, Bytes), (66, 69, NUMBER), (70, 70, Bytes),
-        ],
-        b"MODEL " => &[(11, 14, Integer(1, 9_999))],
-        b"CONECT" => &[(7, 11, SERIAL), (12, 16, SERIAL), (17, 21, SERIAL), (22, 26, SERIAL), (27, 31, SERIAL)],
-        b"MASTER" => &[
-            (11, 15, COUNT), (16, 20, FIXED), (21, 25, COUNT), (26, 30, COUNT), (31, 35, COUNT), (36, 40, FIXED),
-            (41, 45, FIXED), (46, 50, COUNT), (51, 55, COUNT), (56, 60, COUNT), (61, 65, COUNT), (66, 70, COUNT),
-        ],
-        _ => &[],
-    }
 }
 
 /// Bytes at the edges of what fields take.
@@ -116,29 +66,29 @@ fn number_text(chance: &mut Chance, number: i64, decimals: usize) -> String {
     }
 }
 
+/// Puts something into a field that holds no number.
+fn put_bytes(chance: &mut Chance, line: &mut Columns, (from, to, sort): (usize, usize, Sort)) {
+    if matches!(sort, Sort::Element) {
+        let first = if chance.once_in(3) { b' ' } else { b'A' + chance.below(26) as u8 };
+        let pair = [first, b'A' + chance.below(26) as u8];
+        put(line, from, &pair);
+        if !chance.once_in(8) {
+            put(line, 13, &pair);
+        }
+        return;
+    }
+    // All of them, or one of them.
+    let (first, last) = if chance.once_in(2) { (from, to) } else { (from + chance.below(to + 1 - from), 0) };
+    for at in first..=last.max(first) {
+        put(line, at, &[edge(chance)]);
+    }
+}
+
 /// Puts something into a field that is right for it, or nearly so.
 pub fn put_nearly(chance: &mut Chance, line: &mut Columns, (from, to, sort): (usize, usize, Sort)) {
     let width = to + 1 - from;
-    let (low, high, decimals) = match sort {
-        Integer(low, high) => (low, high, 0),
-        Real(decimals, low, high) => (low, high, decimals),
-        Bytes => {
-            // All of them, or one of them.
-            let (first, last) = if chance.once_in(2) { (from, to) } else { (from + chance.below(width), 0) };
-            for at in first..=last.max(first) {
-                put(line, at, &[edge(chance)]);
-            }
-            return;
-        }
-        Element => {
-            let first = if chance.once_in(3) { b' ' } else { b'A' + chance.below(26) as u8 };
-            let pair = [first, b'A' + chance.below(26) as u8];
-            put(line, from, &pair);
-            if !chance.once_in(8) {
-                put(line, 13, &pair);
-            }
-            return;
-        }
+    let Some((decimals, low, high)) = sort.range() else {
+        return put_bytes(chance, line, (from, to, sort));
     };
     let number = near(chance, low, high);
     let mut text = number_text(chance, number, decimals).into_bytes();
@@ -157,7 +107,7 @@ pub fn rename(chance: &mut Chance, line: &mut Columns) {
 pub fn damage_line(chance: &mut Chance, line: &mut Columns) {
     let fields = fields(line);
     let any = 1 + chance.below(80);
-    let field = if fields.is_empty() { (7, 80, Bytes) } else { *chance.pick(fields) };
+    let field = if fields.is_empty() { (7, 80, Sort::Bytes) } else { *chance.pick(fields) };
     let (from, to, _) = field;
     match chance.below(16) {
         0 => put(line, any, &[chance.byte()]),
@@ -201,7 +151,7 @@ fn try_damage(chance: &mut Chance, lines: &mut Vec<Columns>) -> Option<()> {
     }
     let at = chance.below(lines.len());
     let other = chance.below(lines.len());
-    match chance.below(34) {
+    match chance.below(39) {
         0 => {
             lines.remove(at);
         }
@@ -260,8 +210,7 @@ fn try_damage(chance: &mut Chance, lines: &mut Vec<Columns>) -> Option<()> {
         }
         21 => {
             // One of those that stand once, once more, or one of a trio less.
-            let at =
-                one_of(chance, lines, &[b"CRYST1", b"ORIGX1", b"ORIGX2", b"ORIGX3", b"SCALE1", b"SCALE2", b"SCALE3"])?;
+            let at = one_of_crystal(chance, lines)?;
             if chance.once_in(2) {
                 repeat(lines, at, 1);
             } else {
@@ -271,6 +220,10 @@ fn try_damage(chance: &mut Chance, lines: &mut Vec<Columns>) -> Option<()> {
         22 | 23 => put_name(named_line(chance, lines, ATOMS)?, nearly(chance)),
         24..=29 => twinning::damage(chance, lines)?,
         30..=32 => modelling::damage(chance, lines)?,
+        33..=37 => {
+            let at = one_of_crystal(chance, lines)?;
+            damage_line(chance, &mut lines[at]);
+        }
         _ => damage_line(chance, &mut lines[at]),
     }
     Some(())
@@ -284,6 +237,12 @@ pub fn one_of(chance: &mut Chance, lines: &[Columns], names: &[&[u8; 6]]) -> Opt
     } else {
         Some(*chance.pick(&found))
     }
+}
+
+/// The CRYST1 line or one of the trios', if there is one.
+fn one_of_crystal(chance: &mut Chance, lines: &[Columns]) -> Option<usize> {
+    let names: &[&[u8; 6]] = if chance.once_in(3) { &[b"CRYST1"] } else { &TRANSFORMS };
+    one_of(chance, lines, names)
 }
 
 /// One of the lines with these names, to be changed.

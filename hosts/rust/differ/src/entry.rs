@@ -2,6 +2,7 @@
 
 use crate::chance::Chance;
 use crate::coordinates::coordinates;
+use crate::crystals::{cell, transform};
 use crate::modelling::{in_models, model, serials};
 use crate::names::{put_name, right};
 use crate::rows::Row;
@@ -69,13 +70,17 @@ pub fn put_number(line: &mut Columns, from: usize, to: usize, number: i64) {
     put(line, from, format!("{number:width$}").as_bytes());
 }
 
-/// Puts a real right-justified, from the whole number of its last place.
-pub fn put_real(line: &mut Columns, from: usize, to: usize, decimals: usize, value: i64) {
-    let width = to + 1 - from;
+/// The text of a real, from the whole number of its last place.
+pub fn real_text(decimals: usize, value: i64) -> String {
     let scale = 10i64.pow(decimals as u32);
     let (whole, rest) = (value.abs() / scale, value.abs() % scale);
     let minus = if value < 0 { "-" } else { "" };
-    let text = format!("{minus}{whole}.{rest:0decimals$}");
+    format!("{minus}{whole}.{rest:0decimals$}")
+}
+
+/// Puts a real right-justified, from the whole number of its last place.
+pub fn put_real(line: &mut Columns, from: usize, to: usize, decimals: usize, value: i64) {
+    let (text, width) = (real_text(decimals, value), to + 1 - from);
     put(line, from, format!("{text:>width$}").as_bytes());
 }
 
@@ -87,7 +92,7 @@ fn put_residue(line: &mut Columns, residue: &Residue, name: usize, chain: usize,
 }
 
 /// A number of a range: its ends, small ones, or any.
-fn number(chance: &mut Chance, low: i64, high: i64) -> i64 {
+pub fn number(chance: &mut Chance, low: i64, high: i64) -> i64 {
     match chance.below(8) {
         0 => low,
         1 => high,
@@ -273,12 +278,12 @@ fn head(chance: &mut Chance) -> Vec<Columns> {
             }
         }
     }
-    if chance.once_in(3) {
-        lines.push(carried(chance, "CRYST1"));
+    if chance.once_in(2) {
+        lines.push(cell(chance));
     }
-    for trio in ["ORIGX", "SCALE"] {
-        if chance.once_in(3) {
-            lines.extend((1..=3).map(|row| carried(chance, &format!("{trio}{row}"))));
+    for trio in [1..=3, 4..=6] {
+        if chance.once_in(2) {
+            lines.extend(trio.map(|row| transform(chance, row)));
         }
     }
     lines
@@ -367,6 +372,8 @@ pub fn good_line(chance: &mut Chance, row: Row) -> Columns {
             let (identifier, strands) = (identifier(chance), number(chance, 1, 99));
             strand(chance, own, identifier, strands)
         }
+        Row::Cryst1 => cell(chance),
+        Row::Transform(row) => transform(chance, row),
         Row::Conect => {
             let atoms: Vec<i64> = (0..5).map(|_| number(chance, 1, 99_999)).collect();
             conect(chance, serial, &atoms).unwrap_or(line("CONECT    1    2"))

@@ -4,12 +4,12 @@ use std::collections::BTreeSet;
 
 use reference::Refusal;
 
-use crate::damage::fields;
 use crate::entry::{line, put, Columns, PIECE};
+use crate::fields::fields;
 use crate::findings::Call;
 use crate::joints::{self, Joint};
 use crate::names::put_name;
-use crate::rows::{field, Row};
+use crate::rows::{field, Row, TRANSFORMS};
 
 /// What may be met.
 #[derive(Clone, Copy, Debug, PartialEq, Eq, PartialOrd, Ord)]
@@ -95,8 +95,8 @@ fn healed(line: &Columns) -> Columns {
 }
 
 /// A right line of a row, to mend others from.
-fn sample(row: Row) -> Columns {
-    line(match row {
+pub(crate) fn sample(row: Row) -> Columns {
+    let mut sample = line(match row {
         Row::Atom => "ATOM      1  N   ARG A   1       1.000   1.000   1.000  1.00  1.00           N",
         Row::Hetatm => "HETATM    1  N   ARG A   1       1.000   1.000   1.000  1.00  1.00           N",
         Row::Ter => "TER       1      ARG A   1",
@@ -105,10 +105,16 @@ fn sample(row: Row) -> Columns {
         Row::Strand => "SHEET    2   A 1 ARG A   1  ARG A   1  1  N  ARG A   1   O  ARG A   1",
         Row::Conect => "CONECT    1    2    2    2    2",
         Row::Master => "MASTER        0    0    0    0    0    0    0    0    0    0    0    0",
+        Row::Cryst1 => "CRYST1    1.000    1.000    1.000  90.00  90.00  90.00 P 1           1",
+        Row::Transform(_) => "            1.000000  1.000000  1.000000        1.00000",
         Row::Model => "MODEL        1",
         Row::End => "END",
         Row::Endmdl => "ENDMDL",
-    })
+    });
+    if let Row::Transform(row) = row {
+        put(&mut sample, 1, TRANSFORMS[usize::from(row) - 1]);
+    }
+    sample
 }
 
 /// The line with the field that is told made right, whatever else is wrong in it.

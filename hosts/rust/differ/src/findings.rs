@@ -3,7 +3,7 @@
 use std::collections::BTreeMap;
 
 use crate::names::Form;
-use crate::{faults, jumps, models, twins};
+use crate::{cells, faults, jumps, models, places, twins};
 
 /// Which call was made.
 #[derive(Clone, Copy, Debug, PartialEq, Eq, PartialOrd, Ord)]
@@ -20,6 +20,11 @@ pub enum Call {
     SlotOfLine,
     RewriteLine,
     ReadLine,
+    CellOfLine,
+    TransformOfLine,
+    Scale,
+    Place,
+    Fractional,
     Find,
     Dot,
     Stroke,
@@ -30,7 +35,7 @@ pub enum Call {
 
 impl Call {
     /// All calls.
-    pub const ALL: [Call; 17] = [
+    pub const ALL: [Call; 22] = [
         Call::Check,
         Call::Verdict,
         Call::Load,
@@ -42,6 +47,11 @@ impl Call {
         Call::SlotOfLine,
         Call::RewriteLine,
         Call::ReadLine,
+        Call::CellOfLine,
+        Call::TransformOfLine,
+        Call::Scale,
+        Call::Place,
+        Call::Fractional,
         Call::Find,
         Call::Dot,
         Call::Stroke,
@@ -56,6 +66,12 @@ impl Call {
     /// The calls that tell the column of a wrong field.
     pub const TELLING: [Call; 2] = [Call::Verdict, Call::ReadLine];
 
+    /// The calls in which every kind of CRYST1, ORIGX and SCALE lines has to be met, by themselves and in a text.
+    pub const FRAMING: [Call; 3] = [Call::CellOfLine, Call::TransformOfLine, Call::Verdict];
+
+    /// The calls that tell a fractional place.
+    pub const PLACING: [Call; 2] = [Call::Place, Call::Fractional];
+
     /// The numbers that the call can answer. A jump can answer any line: 1 stands for them all.
     pub fn numbers(self) -> &'static [u64] {
         match self {
@@ -66,7 +82,10 @@ impl Call {
             Call::Fragments | Call::Save | Call::Tray => {
                 &[0, 1, 2, 3, 4, 5, 6, 7, 8, 9, 10, 11, 12, 13, 17, 18, 21, 22]
             }
-            Call::SlotOfLine | Call::ReadLine => &[0, 1, 3, 4, 6],
+            Call::SlotOfLine | Call::ReadLine | Call::CellOfLine | Call::TransformOfLine => &[0, 1, 3, 4, 6],
+            Call::Scale => &[0, 1, 2, 3, 4, 5, 6, 7, 8, 9, 10, 11, 12, 21, 22, 29],
+            Call::Place => &[0, 33],
+            Call::Fractional => &[0, 1, 2, 3, 4, 5, 6, 7, 8, 9, 10, 11, 12, 21, 22, 29, 33],
             Call::RewriteLine => &[0, 1, 3, 4, 6, 17],
             Call::Find | Call::Dot | Call::Stroke => &[0, 1],
             Call::Frame => &[0, 19],
@@ -106,14 +125,30 @@ pub struct Findings {
     pub jumps: Met<jumps::Kind>,
     /// How often a call that tells a column met a kind of wrong fields.
     pub faults: Met<(Call, faults::Kind)>,
+    /// How often a call met a kind of CRYST1, ORIGX and SCALE lines.
+    pub cells: Met<(Call, cells::Kind)>,
+    /// How often a call met a kind of fractional places.
+    pub places: Met<(Call, places::Kind)>,
 }
 
 /// How often each of some things was met.
 pub type Met<K> = BTreeMap<K, u64>;
 
+/// Takes down some of them once more.
+fn raise<K: Ord>(met: &mut Met<K>, kinds: impl IntoIterator<Item = K>) {
+    for kind in kinds {
+        *met.entry(kind).or_insert(0) += 1;
+    }
+}
+
 /// Those that were never met, each in words.
 fn unmet<K: Ord>(all: impl IntoIterator<Item = K>, met: &Met<K>, words: impl Fn(K) -> String) -> Vec<String> {
     all.into_iter().filter(|one| !met.contains_key(one)).map(words).collect()
+}
+
+/// Some calls, each with all kinds that it has to meet.
+fn of_calls<K>(calls: &[Call], all: fn(Call) -> Vec<K>) -> Vec<(Call, K)> {
+    calls.iter().flat_map(|&call| all(call).into_iter().map(move |kind| (call, kind))).collect()
 }
 
 /// Differences that are kept in words.
@@ -121,13 +156,13 @@ const SHOWN: usize = 20;
 
 impl Findings {
     /// What a run has to come across and this one never did, in words: a number that a call can answer, a form of an atom's
-    /// name, a kind of pairs of atoms, of models, of jumps or of wrong fields.
+    /// name, a kind of pairs of atoms, of models, of jumps, of wrong fields, of crystal lines or of fractional places.
     pub fn missing(&self) -> Vec<String> {
         let numbers = Call::ALL.into_iter().flat_map(|call| call.numbers().iter().map(move |&number| (call, number)));
         let forms = Call::NAMED.into_iter().flat_map(|call| Form::ALL.map(|form| (call, form)));
-        let faults = Call::TELLING
-            .into_iter()
-            .flat_map(|call| faults::Kind::all(call).into_iter().map(move |kind| (call, kind)));
+        let faults = of_calls(&Call::TELLING, faults::Kind::all);
+        let cells = of_calls(&Call::FRAMING, cells::Kind::all);
+        let places = of_calls(&Call::PLACING, places::Kind::all);
         [
             unmet(numbers, &self.reached, |(call, number)| format!("{call:?} never answered {number}")),
             unmet(forms, &self.forms, |(call, form)| format!("{call:?} never met a name {form:?}")),
@@ -135,22 +170,30 @@ impl Findings {
             unmet(models::Kind::ALL.iter().copied(), &self.models, |kind| format!("No call met models {kind:?}")),
             unmet(jumps::Kind::ALL, &self.jumps, |kind| format!("Find never met a jump {kind:?}")),
             unmet(faults, &self.faults, |(call, kind)| format!("{call:?} never met a wrong field {kind:?}")),
+            unmet(cells, &self.cells, |(call, kind)| format!("{call:?} never met a line {kind:?}")),
+            unmet(places, &self.places, |(call, kind)| format!("{call:?} never met a place {kind:?}")),
         ]
         .concat()
     }
 
     /// Takes down kinds of models.
     pub fn note_models(&mut self, kinds: impl IntoIterator<Item = models::Kind>) {
-        for kind in kinds {
-            *self.models.entry(kind).or_insert(0) += 1;
-        }
+        raise(&mut self.models, kinds);
     }
 
     /// Takes down kinds of wrong fields that a call met.
     pub fn note_faults(&mut self, call: Call, kinds: impl IntoIterator<Item = faults::Kind>) {
-        for kind in kinds {
-            *self.faults.entry((call, kind)).or_insert(0) += 1;
-        }
+        raise(&mut self.faults, kinds.into_iter().map(|kind| (call, kind)));
+    }
+
+    /// Takes down kinds of CRYST1, ORIGX and SCALE lines that a call met.
+    pub fn note_cells(&mut self, call: Call, kinds: impl IntoIterator<Item = cells::Kind>) {
+        raise(&mut self.cells, kinds.into_iter().map(|kind| (call, kind)));
+    }
+
+    /// Takes down kinds of fractional places that a call met.
+    pub fn note_places(&mut self, call: Call, kinds: impl IntoIterator<Item = places::Kind>) {
+        raise(&mut self.places, kinds.into_iter().map(|kind| (call, kind)));
     }
 
     /// Takes down one call of a case: the number that is due, the number that came, and where memory is wrong.

@@ -7,7 +7,7 @@ use std::time::Instant;
 use differ::faults::Kind;
 use differ::names::Form;
 use differ::rows::Row;
-use differ::{jumps, models, twins, Call, Findings, Met};
+use differ::{cells, jumps, models, places, twins, Call, Findings, Met};
 use station::raw::LINKED;
 
 const HELP: &str = "\
@@ -21,10 +21,10 @@ usage: differ [--cases N] [--seed S] [--only CASE]
 
 The cases are followed by a sweep: every byte in every column of a line of each kind, every two columns that are wrong, every
 stretch that is blank, every element, atoms' names over a few bytes, two atoms that differ in one column, MODEL and ENDMDL lines in a text, every narrow number, every length, every
-name, jumps to every serial.
+name, jumps to every serial, every billionth round zero.
 
 Exit status: 0 no difference, 1 a difference, or a number of refusal, a form of an atom's name, a kind of pairs of atoms, of
-models, of jumps or of wrong fields that was not reached, 2 wrong arguments, 3 the library touched memory that was not lent to it.
+models, of jumps, of wrong fields, of crystal lines or of fractional places that was not reached, 2 wrong arguments, 3 the library touched memory that was not lent to it.
 Runs of fewer than 5000 cases do not ask that every number, form and kind be reached.
 ";
 
@@ -78,9 +78,26 @@ fn print(findings: &Findings) {
     for call in Call::TELLING {
         print_faults(findings, call);
     }
+    for call in Call::FRAMING {
+        print_cells(findings, call);
+    }
+    for call in Call::PLACING {
+        let kinds = counts(&places::Kind::all(call), &findings.places, |kind| (call, *kind));
+        println!("{:12} places {kinds}", format!("{call:?}"));
+    }
     for difference in &findings.shown {
         println!("{difference}");
     }
+}
+
+/// How often each kind of crystal lines was met; of what may stand in a number, the one that was met least.
+fn print_cells(findings: &Findings, call: Call) {
+    let (numbers, others): (Vec<cells::Kind>, Vec<cells::Kind>) =
+        cells::Kind::all(call).into_iter().partition(|kind| matches!(kind, cells::Kind::Number(..)));
+    let times = |kind: &cells::Kind| *findings.cells.get(&(call, *kind)).unwrap_or(&0);
+    let rarest: Vec<cells::Kind> = numbers.into_iter().min_by_key(times).into_iter().collect();
+    let of = |kinds: &[cells::Kind]| counts(kinds, &findings.cells, |kind| (call, *kind));
+    println!("{:12} lines {} numbers, the rarest {}", format!("{call:?}"), of(&others), of(&rarest));
 }
 
 /// How often each kind of wrong fields was met; of the columns, which there are many of, the one that was told least.

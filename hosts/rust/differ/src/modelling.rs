@@ -12,6 +12,7 @@ use crate::entry::{
 };
 use crate::jumps::serial_of;
 use crate::models::{bond, ENDMDL, ENDS, MODEL};
+use crate::rows::TRANSFORMS;
 use crate::twins::lines;
 
 /// A good MODEL line.
@@ -167,8 +168,9 @@ pub fn damage(chance: &mut Chance, lines: &mut Vec<Columns>) -> Option<()> {
             lines[at] = master_of_all(lines);
         }
         18 => {
-            // Strands are missing when the first model begins.
-            let at = one_of(chance, lines, &[MODEL])?;
+            // Strands are missing when the first model begins. Crystal lines above it would come first.
+            lines.retain(|line| !named(line, &[b"CRYST1"]) && !named(line, &TRANSFORMS));
+            let at = lines.iter().position(|line| named(line, &[MODEL]))?;
             lines.insert(at, line("SHEET    1   A 2 THR A 107  ARG A 110  0"));
         }
         19 => {

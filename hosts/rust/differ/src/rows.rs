@@ -16,16 +16,26 @@ pub enum Row {
     Strand,
     Conect,
     Master,
+    Cryst1,
+    /// ORIGX1 to ORIGX3 are 1 to 3, SCALE1 to SCALE3 are 4 to 6.
+    Transform(u8),
     Model,
     End,
     Endmdl,
 }
 
+/// The names of the lines of the two trios, in this sequence.
+pub const TRANSFORMS: [&[u8; 6]; 6] = [b"ORIGX1", b"ORIGX2", b"ORIGX3", b"SCALE1", b"SCALE2", b"SCALE3"];
+
 use Row::*;
 
 impl Row {
     /// All rows.
-    pub const ALL: [Row; 11] = [Atom, Hetatm, Ter, Helix, FirstStrand, Strand, Conect, Master, Model, End, Endmdl];
+    #[rustfmt::skip]
+    pub const ALL: [Row; 18] = [
+        Atom, Hetatm, Ter, Helix, FirstStrand, Strand, Conect, Master, Cryst1, Transform(1), Transform(2), Transform(3),
+        Transform(4), Transform(5), Transform(6), Model, End, Endmdl,
+    ];
 
     /// The row of a line. A line whose strand is wrong has that of the strand that its sense is right for.
     pub fn of(line: &Columns) -> Option<Row> {
@@ -38,10 +48,11 @@ impl Row {
             b"SHEET " => Strand,
             b"CONECT" => Conect,
             b"MASTER" => Master,
+            b"CRYST1" => Cryst1,
             b"MODEL " => Model,
             b"END   " => End,
             b"ENDMDL" => Endmdl,
-            _ => return None,
+            name => Transform((1..).zip(TRANSFORMS).find(|(_, own)| *own == name)?.0),
         })
     }
 
@@ -56,6 +67,8 @@ impl Row {
             Strand => &[STRANDS, "42, 46, 49, 50, 51, 55, 56, 57, 61, 64, 65, 66, 70", "71..80"],
             Conect => &["7, 12, 17, 22, 27, 32..80"],
             Master => &["7..10, 11, 16, 21, 26, 31, 36, 41, 46, 51, 56, 61, 66, 71..80"],
+            Cryst1 => &["7, 16, 25, 34, 41, 48, 55, 67, 71..80"],
+            Transform(_) => &["7..10, 11, 21, 31, 41..45, 46, 56..80"],
             Model => &["7..10, 11, 15..80"],
             End | Endmdl => &["7..80"],
         }
@@ -128,6 +141,8 @@ mod tests {
             ("SHEET, any other", strand),
             ("CONECT", row(Conect)),
             ("MASTER", row(Master)),
+            ("CRYST1", row(Cryst1)),
+            ("ORIGX, SCALE", row(Transform(1))),
             ("MODEL", row(Model)),
             ("END, ENDMDL", row(End)),
         ];
@@ -140,6 +155,10 @@ mod tests {
             ("ATOM", Some(Atom)),
             ("ENDMDL", Some(Endmdl)),
             ("REMARK", None),
+            ("CRYST1", Some(Cryst1)),
+            ("ORIGX1", Some(Transform(1))),
+            ("SCALE3", Some(Transform(6))),
+            ("SCALE4", None),
             ("SHEET    1", Some(FirstStrand)),
             ("SHEET   10", Some(Strand)),
             ("SHEET    2                             0", Some(Strand)),
@@ -149,6 +168,6 @@ mod tests {
             assert_eq!(Row::of(&line(text)), row, "{text}");
         }
         assert!(Row::ALL.iter().all(|row| row.columns().is_sorted()));
-        assert_eq!(Row::listed().len(), 2 * 29 + 65 + 25 + 58 + 42 + 54 + 26 + 71 + 2 * 74);
+        assert_eq!(Row::listed().len(), 2 * 29 + 65 + 25 + 58 + 42 + 54 + 26 + 18 + 6 * 38 + 71 + 2 * 74);
     }
 }

@@ -1,14 +1,16 @@
 //! Lines with wrong fields: one in every column that can be told, two at once, and fields that are judged together.
 
 use crate::chance::Chance;
-use crate::damage::{fields, put_nearly};
+use crate::crystals::transform;
+use crate::damage::put_nearly;
 use crate::entry::{good_line, line, master, put, put_number, text, Columns, PIECE};
+use crate::fields::fields;
 use crate::harness::Harness;
 use crate::names::{nearly, put_name};
 use crate::rows::{field, Row};
 
 /// How many lines a case has.
-const LINES: usize = 100;
+const LINES: usize = 120;
 
 /// Rows with fields that are judged together.
 const JOINED: [Row; 7] = [Row::Atom, Row::Hetatm, Row::Helix, Row::FirstStrand, Row::Strand, Row::Conect, Row::Master];
@@ -152,7 +154,7 @@ fn spoil_partners(chance: &mut Chance, line: &mut Columns) {
 }
 
 /// A text that has a line at its place, or at another one, and sometimes without its newline.
-fn in_a_text(chance: &mut Chance, row: Row, own: Columns) -> Vec<u8> {
+pub fn in_a_text(chance: &mut Chance, row: Row, own: Columns) -> Vec<u8> {
     let (header, zeros) = (line("HEADER"), master(&[]));
     let above = match (row, chance.below(12)) {
         (_, 0) => vec![],
@@ -161,6 +163,10 @@ fn in_a_text(chance: &mut Chance, row: Row, own: Columns) -> Vec<u8> {
         (Row::End, _) => vec![header, zeros],
         (_, 2) => vec![header, zeros],
         (Row::Endmdl, _) => vec![header, line("MODEL        1")],
+        (Row::Transform(last), _) => {
+            let first = if last > 3 { 4 } else { 1 };
+            [header].into_iter().chain((first..last).map(|row| transform(chance, row))).collect()
+        }
         _ => vec![header],
     };
     let at = PIECE * above.len();

@@ -1,18 +1,20 @@
 //! What is few enough to be tried out in full: every byte in every column of a line of each kind, every two columns that are
 //! wrong, every stretch of columns that is blank, every element, every name
 //! of an atom over a few bytes, two atoms that differ in one column, MODEL and ENDMDL lines in a text, every number of the
-//! narrow fields, every length, every name of a line, jumps in lines with every byte in every column and to every serial.
+//! narrow fields, every length, every name of a line, jumps in lines with every byte in every column and to every serial, every
+//! billionth round zero, every coordinate at the ends of its range.
 
 use station::raw::{Library, Slot, Tally};
 
-use crate::entry::{line, master, put, put_number, text, Columns, NAMES, PIECE};
+use crate::entry::{line, master, put, put_number, put_real, text, Columns, NAMES, PIECE};
 use crate::findings::Findings;
 use crate::harness::Harness;
 use crate::jumps::serial_of;
 use crate::names::put_name;
+use crate::places::RANGE;
 
 /// Good lines of the typed kinds.
-const LINES: [&str; 16] = [
+const LINES: [&str; 24] = [
     "ATOM     32  N  AARG A  -3      11.281  86.699  94.383  0.50 35.88           N",
     "HETATM99999 CA    CA b9999Z   -999.9999999.999  -0.001  1.00-99.99          CA2+",
     "ATOM      1  D1*  DG 0   0       0.000   0.000   0.000  0.00  0.00           D1-",
@@ -29,6 +31,14 @@ const LINES: [&str; 16] = [
     "MODEL        1",
     "MODEL     9999",
     "ENDMDL",
+    "CRYST1   52.000   58.600   61.900  90.00  90.00  90.00 P 21 21 21    8",
+    "CRYST199999.99999999.999    0.001 179.99   0.01 120.00 ~ any grp ~9999",
+    "ORIGX1      1.000000  0.000000  0.000000        0.00000",
+    "ORIGX2    -99.999999999.999999 -0.000001     -999.99999",
+    "ORIGX3    999.999999-99.999999 10.000000     9999.99999",
+    "SCALE1      0.019231  0.000000  0.000000        0.00000",
+    "SCALE2      0.000000  0.017065  0.000000        0.50000",
+    "SCALE3      0.000000  0.000000 -0.016155       -0.00001",
 ];
 
 /// An atom as ATOM and as HETATM, its TER, and once more.
@@ -57,6 +67,7 @@ pub fn sweep(library: Library) -> Findings {
     numbers(&mut harness);
     names(&mut harness);
     jumps(&mut harness);
+    places(&mut harness);
     harness.findings
 }
 
@@ -64,6 +75,8 @@ fn try_line(harness: &mut Harness, line: &[u8]) {
     harness.slot_of_line(line, Slot::default());
     harness.rewrite_line(line, 80);
     harness.read_line(line);
+    harness.cell_of_line(line);
+    harness.transform_of_line(line);
 }
 
 /// Every byte in every column.
@@ -179,6 +192,7 @@ fn numbers(harness: &mut Harness) {
         (10, 66, 70, -10, 2_000),
         (13, 11, 14, -999, 9_999),
         (13, 10, 14, 9_990, 10_010),
+        (16, 67, 70, -999, 9_999),
     ] {
         for number in low..=high {
             let mut line = line(LINES[base]);
@@ -186,10 +200,28 @@ fn numbers(harness: &mut Harness) {
             try_line(harness, &line);
         }
     }
-    for hundredths in 0..=1_000 {
-        let mut line = line(LINES[0]);
-        put(&mut line, 55, format!("{:3}.{:02}", hundredths / 100, hundredths % 100).as_bytes());
-        try_line(harness, &line);
+    for (base, from, to, high) in [(0, 55, 60, 1_000), (16, 34, 40, 18_100), (16, 41, 47, 18_100), (16, 48, 54, 18_100)]
+    {
+        for hundredths in 0..=high {
+            let mut line = line(LINES[base]);
+            put_real(&mut line, from, to, 2, hundredths);
+            try_line(harness, &line);
+        }
+    }
+}
+
+/// Every billionth from -30,000 to 30,000 on each axis, and every coordinate that is near an end of its range.
+fn places(harness: &mut Harness) {
+    let ones = [[1, 0, 0, 0], [0, -1, 0, 0], [0, 0, 1, 7]];
+    for billionths in -30_000..=30_000 {
+        harness.place(&ones, [billionths; 3]);
+    }
+    for (axis, end) in (0..3).flat_map(|axis| [RANGE.0, RANGE.1].map(|end| (axis, end))) {
+        for coordinate in end - 1_000..=end + 1_000 {
+            let mut at = [0; 3];
+            at[axis] = coordinate;
+            harness.place(&ones, at);
+        }
     }
 }
 

@@ -5,7 +5,7 @@ use reference::{Refusal, Verdict};
 use crate::findings::Call;
 use crate::harness::{number, Harness};
 use crate::twins::{self, Kind};
-use crate::{faults, models};
+use crate::{cells, faults, models};
 
 impl Harness {
     /// Takes down the forms of all names in a text that was granted, or of the one in the line refused with 6.
@@ -47,6 +47,7 @@ impl Harness {
         self.note_twins(text, due, line);
         self.findings.note_models(models::met(text, due, line));
         self.findings.note_faults(Call::Verdict, faults::of_text(text, due, line, column));
+        self.findings.note_cells(Call::Verdict, cells::of_text(text, due, line));
         due
     }
 

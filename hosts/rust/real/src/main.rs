@@ -1,11 +1,13 @@
 //! The real entries of `hosts/rust/entries`, through the library and through the reference.
 //!
 //! Each has to be answered as `entries.txt` says, on both sides. An accepted one is loaded, some of its fragments are set
-//! aside, it is saved, and they are put back. Some of the atoms of each are jumped to. Then each entry is damaged a few times:
+//! aside, it is saved, and they are put back. Some of the atoms of each are jumped to, and its first atoms are given their
+//! fractional places. Then each entry is damaged a few times:
 //! both sides have to answer alike, down to the column of a wrong field. The coordinates of each accepted one without models
 //! are also tried as those of two models that are alike.
 
 mod answers;
+mod crystal;
 mod entries;
 mod texts;
 mod trial;

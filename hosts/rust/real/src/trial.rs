@@ -6,12 +6,18 @@ use std::fmt::Display;
 use differ::chance::Chance;
 use differ::entry::{named, COORDINATES};
 use differ::models::ENDS;
+use differ::places::places;
+use differ::rows::TRANSFORMS;
 use differ::slots::to_reference;
 use reference::{Mark, Serial, Slot};
 use station::{pieces, FragmentNumber, Jump, Line, Table};
 
 use crate::answers::{
     by_number, line_of_library, line_of_reference, of_library, of_reference, own_by_number, wrapped_alike, written,
+};
+use crate::crystal::{
+    cell_of_library, cell_of_reference, place_by_rows, place_of_library, rows_of_library, transform_of_library,
+    transform_of_reference,
 };
 use crate::entries::Listed;
 use crate::texts::{atoms, choices, damaged, with_twins};
@@ -21,8 +27,12 @@ const SEED: u64 = 1;
 const DAMAGES: usize = 60;
 /// How many times an accepted entry is given one of its atoms twice.
 const TWINS: usize = 20;
+/// How many atoms get a fractional place.
+const PLACES: usize = 12;
 
-/// The other lines with typed columns.
+const CELL: &[&[u8; 6]] = &[b"CRYST1"];
+
+/// The other lines with typed columns, those of the crystal frame left out.
 const OTHER_TYPED: [&[u8; 6]; 7] = [b"HELIX ", b"SHEET ", b"MODEL ", b"ENDMDL", b"CONECT", b"MASTER", b"END   "];
 
 /// A line without its newline.
@@ -41,6 +51,8 @@ pub struct Trial<'e> {
     reached: BTreeMap<u64, usize>,
     /// The columns that were told of them.
     told: BTreeSet<u64>,
+    /// How many crystal lines were written as they were, and how many atoms were given a fractional place.
+    crystal: (usize, usize),
     /// What was found, in words.
     pub differences: Vec<String>,
 }
@@ -55,6 +67,7 @@ impl<'e> Trial<'e> {
             choices: 0,
             reached: BTreeMap::new(),
             told: BTreeSet::new(),
+            crystal: (0, 0),
             differences: Vec::new(),
         }
     }
@@ -62,8 +75,13 @@ impl<'e> Trial<'e> {
     /// What was done, in words.
     pub fn summary(&self) -> String {
         let reached: Vec<String> = self.reached.iter().map(|(number, count)| format!("{number}:{count}")).collect();
-        let (good, told) = (self.listed.good_lines, self.told.len());
-        format!("{good:3} good lines, {} sets aside, damaged {}, {told} columns told", self.choices, reached.join(" "))
+        let (good, told, (lines, places)) = (self.listed.good_lines, self.told.len(), self.crystal);
+        let crystal = format!("{lines} crystal lines, {places} places");
+        format!(
+            "{good:3} good lines, {crystal}, {} sets aside, damaged {}, {told} columns told",
+            self.choices,
+            reached.join(" ")
+        )
     }
 
     fn hold(&mut self, what: impl Display, holds: bool) {
@@ -80,6 +98,7 @@ impl<'e> Trial<'e> {
             self.fragments();
             self.twins();
         }
+        self.places();
         self.jumps();
         self.damage();
     }
@@ -110,7 +129,9 @@ impl<'e> Trial<'e> {
             let mut out = [0; 80];
             let reference = own_by_number(reference::rewrite_line(line, &mut out)).map(|()| out);
             self.hold(format_args!("line {number} rewritten: sides differ"), library == reference);
-            let typed = named(piece, COORDINATES) || named(piece, &OTHER_TYPED);
+            let crystal = named(piece, CELL) || named(piece, &TRANSFORMS);
+            self.crystal.0 += usize::from(crystal && library.is_ok());
+            let typed = crystal || named(piece, COORDINATES) || named(piece, &OTHER_TYPED);
             match library {
                 Ok(rewritten) => self.hold(format_args!("line {number}: rewritten otherwise"), rewritten == line),
                 Err(refused) => {
@@ -121,7 +142,31 @@ impl<'e> Trial<'e> {
             let library = by_number(Line::slot_of(line)).map(|slot| to_reference(&slot));
             let reference = own_by_number(reference::slot_of_line(line));
             self.hold(format_args!("line {number}: slots differ"), library == reference);
+            let (library, reference) = (cell_of_library(line), cell_of_reference(line));
+            self.hold(format_args!("line {number}: cells {library:?} and {reference:?}"), library == reference);
+            let (library, reference) = (transform_of_library(line), transform_of_reference(line));
+            self.hold(format_args!("line {number}: rows {library:?} and {reference:?}"), library == reference);
         }
+    }
+
+    /// The first atoms have the same fractional place on both sides, in one call and in two; an entry that is refused has none.
+    fn places(&mut self) {
+        let (rows, reference) = (rows_of_library(self.text), own_by_number(reference::rows(self.text)));
+        self.hold(format_args!("rows: library {rows:?}, reference {reference:?}"), rows == reference);
+        let atoms = places(self.text);
+        let due = atoms.len().min(PLACES);
+        self.hold("there are no atoms", due > 0 || self.listed.accepted.is_none());
+        for &at in atoms.iter().take(PLACES).chain([&[i32::MAX; 3]]) {
+            let library = place_of_library(self.text, at);
+            let reference = own_by_number(reference::fractional(self.text, at));
+            let by_rows = rows.and_then(|rows| place_by_rows(&rows, at));
+            let alike = library == reference && library == by_rows;
+            self.hold(format_args!("place of {at:?}: {library:?}, {by_rows:?} and {reference:?}"), alike);
+            self.crystal.1 += usize::from(library.is_ok());
+        }
+        let told = self.crystal.1;
+        let right = if self.listed.accepted.is_some() { told == due } else { told == 0 };
+        self.hold(format_args!("{told} of {due} atoms have a fractional place"), right);
     }
 
     /// A line by itself is answered alike, with the same column.

@@ -375,7 +375,8 @@ mod tests {
         let with = |more: &[[u8; 80]]| answer_of(&[&[line("HEADER")], more].concat());
         assert_eq!(with(&[*STRAND_1, master([0; 9])]), (10, 3));
         assert_eq!(with(&[*STRAND_1, *HELIX]), (5, 3));
-        assert_eq!(with(&[*STRAND_1, line("CRYST1")]), (10, 3));
+        assert_eq!(with(&[*STRAND_1, *CELL]), (10, 3));
+        assert_eq!(with(&[*STRAND_1, line("CRYST1")]), (6, 3));
         assert_eq!(with(&[*STRAND_1, line("CONECT    1    2")]), (9, 3));
         assert_eq!(with(&[*STRAND_1]), (12, 3));
         assert_eq!(with(&[*STRAND_2]), (10, 2));

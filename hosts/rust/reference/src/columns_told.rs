@@ -66,6 +66,22 @@ fn of_helices_and_sheets() {
 }
 
 #[test]
+fn of_cells_and_transformations() {
+    assert_eq!((with(CELL, 34, b" 180.00"), with(CELL, 41, b" 180.00"), with(CELL, 48, b" 180.00")), (34, 41, 48));
+    assert_eq!((with(CELL, 34, b" 179.99"), with(CELL, 55, b"X"), with(CELL, 80, b"X")), (0, 55, 80));
+    assert_eq!(told(&changed(&changed(CELL, 16, b"    0.000"), 67, b"   0")), 16);
+    assert_eq!(told(&changed(&changed(CELL, 55, b"X"), 67, b"   0")), 55);
+    assert_eq!(
+        (with(&shifted(5), 7, b"X"), with(&shifted(5), 45, b"-"), with(&shifted(5), 46, b"  -0.00000")),
+        (7, 45, 46)
+    );
+    assert_eq!(told(&changed(&changed(&shifted(2), 21, b"-100.00000"), 31, b"          ")), 21);
+    assert_eq!(verdict(&[line("HEADER"), changed(CELL, 48, b" 180.00")]), (6, 2, 48));
+    assert_eq!(verdict(&[line("HEADER"), shifted(4), changed(&shifted(5), 60, b"0")]), (6, 3, 60));
+    assert_eq!(verdict(&[line("HEADER"), changed(&shifted(5), 60, b"0")]), (5, 2, 0));
+}
+
+#[test]
 fn of_the_others() {
     assert_eq!(with(&master([0; 9]), 16, b"    1"), 16);
     assert_eq!(with(&master([0; 9]), 16, b"00000"), 16);
@@ -147,6 +163,12 @@ fn every_column_of_every_kind() {
     let registration = [42, 46, 49, 50, 51, 55, 56, 57, 61, 64, 65, 66, 70];
     assert_eq!(all_told(STRAND_2), listed(&[&STRAND[..], &registration].concat(), &[71..=80]));
     assert_eq!(all_told(&line("CONECT    5    6    7    8    9")), listed(&[7, 12, 17, 22, 27], &[32..=80]));
+    let cell = listed(&[7, 16, 25, 34, 41, 48, 55, 67], &[71..=80]);
+    assert_eq!((all_told(CELL), all_told(WIDE_CELL)), (cell.clone(), cell));
+    let transformation = listed(&[11, 21, 31, 46], &[7..=10, 41..=45, 56..=80]);
+    for row in 1..=6 {
+        assert_eq!((all_told(&shifted(row)), all_told(&wide(row))), (transformation.clone(), transformation.clone()));
+    }
     let numbers: Vec<u64> = (0..12).map(|index| 11 + 5 * index).collect();
     assert_eq!(all_told(&master([7; 9])), listed(&numbers, &[7..=10, 71..=80]));
     assert_eq!(all_told(&line("MODEL        1")), listed(&[11], &[7..=10, 15..=80]));

@@ -7,7 +7,7 @@
 //! One module for each part of the rules: [`columns`] (fields), [`element`], [`mod@line`] (names and places),
 //! [`record`] (what a line says), [`reading`] and [`writing`] (one line by itself), [`mod@check`] (a whole text, with
 //! `models` for where it stands among its models),
-//! [`table`] (slots, fragments, orders, arrangements), [`saved`] (saving and tray), [`jump`] (the line of an atom),
+//! [`crystal`] (cells, transformations, fractional places), [`table`] (slots, fragments, orders, arrangements), [`saved`] (saving and tray), [`jump`] (the line of an atom),
 //! [`tally`] and [`feed`] (dots, strokes, frame).
 
 #![forbid(unsafe_code)]
@@ -17,6 +17,7 @@ pub mod check;
 pub mod columns;
 #[cfg(test)]
 mod columns_told;
+pub mod crystal;
 pub mod element;
 pub mod feed;
 pub mod jump;
@@ -33,6 +34,7 @@ pub mod tally;
 pub mod writing;
 
 pub use check::{check, Verdict};
+pub use crystal::{cell_of_line, fractional, place, rows, transformation_of_line, Fractional, Rows};
 pub use feed::{dot, frame, stroke, Frame};
 pub use jump::{find, Jump};
 pub use line::LineName;

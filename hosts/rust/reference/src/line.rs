@@ -72,6 +72,9 @@ pub const NAMES: [(&[u8; 6], LineName); 29] = [
     (b"END   ", End),
 ];
 
+/// The lines of the two trios, in the sequence in which transformations are numbered, from 1.
+const TRANSFORMATIONS: [LineName; 6] = [Origx1, Origx2, Origx3, Scale1, Scale2, Scale3];
+
 /// Lines of which the second comes right after the first, and neither without the other.
 const TIED: [(LineName, LineName); 5] =
     [(Origx1, Origx2), (Origx2, Origx3), (Scale1, Scale2), (Scale2, Scale3), (Master, End)];
@@ -112,6 +115,16 @@ impl LineName {
         matches!(self, Atom | Hetatm | Ter)
     }
 
+    /// Which transformation a line of this name has, from 1.
+    pub fn transformation(self) -> Option<u32> {
+        (1..).zip(TRANSFORMATIONS).find(|(_, name)| *name == self).map(|(row, _)| row)
+    }
+
+    /// The six bytes of the line that has this transformation.
+    pub fn bytes_of_transformation(row: u32) -> Option<&'static [u8; 6]> {
+        NAMES.iter().find(|(_, name)| name.transformation() == Some(row)).map(|(bytes, _)| *bytes)
+    }
+
     /// The count of MASTER that a line of this name raises, if any. Past the first ENDMDL a line with a slot raises none.
     pub fn count(self, tally: &mut Tally, past: bool) -> Option<&mut u64> {
         match self {
@@ -120,7 +133,7 @@ impl LineName {
             Het => Some(&mut tally.het),
             Helix => Some(&mut tally.helix),
             Sheet => Some(&mut tally.sheet),
-            Origx1 | Origx2 | Origx3 | Scale1 | Scale2 | Scale3 => Some(&mut tally.xform),
+            _ if self.transformation().is_some() => Some(&mut tally.xform),
             Atom | Hetatm => Some(&mut tally.coord),
             Ter => Some(&mut tally.ter),
             Conect => Some(&mut tally.conect),
@@ -145,6 +158,19 @@ mod tests {
         for (index, (_, name)) in NAMES.iter().enumerate() {
             assert_eq!(*name as usize, index);
         }
+    }
+
+    #[test]
+    fn transformations_are_numbered() {
+        assert_eq!(
+            (Origx1.transformation(), Scale3.transformation(), Cryst1.transformation()),
+            (Some(1), Some(6), None)
+        );
+        assert_eq!(
+            (1..=6).filter_map(LineName::bytes_of_transformation).map(|bytes| bytes[5]).collect::<Vec<_>>(),
+            b"123123"
+        );
+        assert_eq!((LineName::bytes_of_transformation(0), LineName::bytes_of_transformation(7)), (None, None));
     }
 
     /// What may follow the last place before the coordinates, and a coordinate.

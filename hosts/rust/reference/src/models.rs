@@ -112,7 +112,7 @@ mod tests {
         assert_eq!(answer(&[model(1), end, line("REMARK")]), (5, 4));
         assert_eq!(answer(&[model(1), end, line("CONECT    5    6")]), (9, 4));
         assert_eq!(answer(&[model(1), heterogen, end, line("TER       6      ALA A   7")]), (5, 5));
-        assert_eq!(answer(&[line("ORIGX1"), model(1)]), (5, 3));
+        assert_eq!(answer(&[shifted(1), model(1)]), (5, 3));
         assert_eq!(answer(&[model(1), end, counts(0, 0, 0), model(2)]), (5, 5));
         assert_eq!(answer(&[model(1)]), (12, 3));
         assert_eq!(answer(&[model(1), end]), (12, 4));

@@ -6,7 +6,7 @@
 use crate::columns::*;
 use crate::element::atomic_number;
 use crate::line::LineName;
-use crate::record::{Atom, Conect, Helix, Record, Register, Residue, Sheet, Ter};
+use crate::record::{Atom, Cell, Conect, Helix, Record, Register, Residue, Sheet, Ter, Transformation};
 use crate::refusal::WrongAt;
 use crate::tally::Tally;
 use crate::{Blame, ModelNumber, Refusal, ResidueNumber, Serial};
@@ -24,11 +24,25 @@ pub fn read_line(line: &[u8]) -> Result<Record, Blame> {
     Ok(read_fields(name, columns)?.ok_or(Refusal::Name)?)
 }
 
+/// Reads one line by itself for a call that takes some kinds alone: one of another kind is refused for its name, whatever its
+/// fields are.
+pub fn read_taken(line: &[u8], taken: impl Fn(LineName) -> bool) -> Result<Record, Refusal> {
+    let taken = LineName::of(line).is_some_and(taken);
+    match read_line(line).map_err(|blame| blame.refusal) {
+        Ok(_) | Err(Refusal::Field) if !taken => Err(Refusal::Name),
+        answer => answer,
+    }
+}
+
 /// The record of a line, if its fields and blank columns are right; none of a carried one, in which nothing is judged.
 pub fn read_fields(name: LineName, line: &Columns) -> Held<Option<Record>> {
+    if let Some(row) = name.transformation() {
+        return Ok(Some(Record::Transformation(read_transformation(line, row)?)));
+    }
     let record = match name {
         LineName::Helix => read_helix(line).map(Record::Helix),
         LineName::Sheet => read_sheet(line).map(Record::Sheet),
+        LineName::Cryst1 => read_cell(line).map(Record::Cell),
         LineName::Atom => read_atom(line).map(Record::Atom),
         LineName::Hetatm => read_atom(line).map(Record::Hetatm),
         LineName::Ter => read_ter(line).map(Record::Ter),
@@ -52,8 +66,8 @@ fn read_atom(line: &Columns) -> Held<Atom> {
     let residue = read_residue(line, 18, 23, chain)?;
     blanks(line, 28, 30)?;
     let position = [read_place(line, 31)?, read_place(line, 39)?, read_place(line, 47)?];
-    let occupancy = read_i32(55, real_in(field(line, 55, 60), 2, 0, 100))?;
-    let temperature = read_i32(61, real_in(field(line, 61, 66), 2, -9_999, 99_999))?;
+    let occupancy = read_real(line, 55, 60, 2, 0, 100)?;
+    let temperature = read_real(line, 61, 66, 2, -9_999, 99_999)?;
     blanks(line, 67, 76)?;
     right(77, atomic_number(element).is_some() && atom_name(name, element))?;
     let charge = read_bytes(line, 79, |&sign| charge(sign))?;
@@ -121,6 +135,28 @@ fn read_register(line: &Columns, from: usize) -> Held<Register> {
     Ok(Register { atom, residue })
 }
 
+fn read_cell(line: &Columns) -> Held<Cell> {
+    let edge = |from| read_real(line, from, from + 8, 3, 1, 99_999_999);
+    let edges = [edge(7)?, edge(16)?, edge(25)?];
+    let angle = |from| read_real(line, from, from + 6, 2, 1, 17_999);
+    let angles = [angle(34)?, angle(41)?, angle(48)?];
+    blanks(line, 55, 55)?;
+    let group = bytes(line, 56);
+    let z = read_u32(67, integer_in(field(line, 67, 70), 1, 9_999))?;
+    blanks(line, 71, 80)?;
+    Ok(Cell { edges, angles, group, z })
+}
+
+fn read_transformation(line: &Columns, row: u32) -> Held<Transformation> {
+    blanks(line, 7, 10)?;
+    let coefficient = |from| read_real(line, from, from + 9, 6, -99_999_999, 999_999_999);
+    let coefficients = [coefficient(11)?, coefficient(21)?, coefficient(31)?];
+    blanks(line, 41, 45)?;
+    let shift = read_real(line, 46, 55, 5, -99_999_999, 999_999_999)?;
+    blanks(line, 56, 80)?;
+    Ok(Transformation { row, coefficients, shift })
+}
+
 fn read_conect(line: &Columns) -> Held<Conect> {
     let serial = read_serial(line, 7)?;
     let mut partners = [Some(read_partner(line, 12, serial)?), None, None, None];
@@ -157,8 +193,7 @@ fn read_master(line: &Columns) -> Held<Tally> {
 
 fn read_model(line: &Columns) -> Held<ModelNumber> {
     blanks(line, 7, 10)?;
-    let number = integer_in(field(line, 11, 14), 1, 9_999);
-    let number = held(11, number.and_then(|number| u32::try_from(number).ok()))?;
+    let number = read_u32(11, integer_in(field(line, 11, 14), 1, 9_999))?;
     blanks(line, 15, 80)?;
     Ok(ModelNumber(number))
 }
@@ -182,8 +217,17 @@ fn read_i32(from: usize, value: Option<i64>) -> Held<i32> {
     held(from, value.and_then(|value| i32::try_from(value).ok()))
 }
 
+fn read_u32(from: usize, value: Option<i64>) -> Held<u32> {
+    held(from, value.and_then(|value| u32::try_from(value).ok()))
+}
+
+/// A real in the columns `from` to `to`, within a range of its last place.
+fn read_real(line: &Columns, from: usize, to: usize, decimals: usize, low: i64, high: i64) -> Held<i32> {
+    read_i32(from, real_in(field(line, from, to), decimals, low, high))
+}
+
 fn read_place(line: &Columns, from: usize) -> Held<i32> {
-    read_i32(from, real_in(field(line, from, from + 7), 3, -999_999, 9_999_999))
+    read_real(line, from, from + 7, 3, -999_999, 9_999_999)
 }
 
 fn read_byte(line: &Columns, at: usize, sort: impl Fn(u8) -> bool) -> Held<u8> {
@@ -195,8 +239,7 @@ fn read_bytes<const N: usize>(line: &Columns, from: usize, sort: impl Fn(&[u8; N
 }
 
 fn read_serial(line: &Columns, from: usize) -> Held<Serial> {
-    let number = integer_in(field(line, from, from + 4), 1, 99_999);
-    held(from, number.and_then(|number| u32::try_from(number).ok()).map(Serial))
+    read_u32(from, integer_in(field(line, from, from + 4), 1, 99_999)).map(Serial)
 }
 
 fn read_identifier(line: &Columns) -> Held<[u8; 3]> {

@@ -122,12 +122,38 @@ impl Conect {
     }
 }
 
-/// A line of one of the ten typed kinds.
+/// A CRYST1 line: the cell of the crystal.
+#[derive(Clone, Copy, Debug, PartialEq, Eq)]
+pub struct Cell {
+    /// The edges a, b, c, in thousandths.
+    pub edges: [i32; 3],
+    /// The angles alpha, beta, gamma, in hundredths of a degree.
+    pub angles: [i32; 3],
+    /// The space group, its eleven columns.
+    pub group: [u8; 11],
+    /// Z.
+    pub z: u32,
+}
+
+/// An ORIGX or SCALE line: one row of a transformation.
+#[derive(Clone, Copy, Debug, PartialEq, Eq)]
+pub struct Transformation {
+    /// Which line it is: 1 to 3 for ORIGX1 to ORIGX3, 4 to 6 for SCALE1 to SCALE3.
+    pub row: u32,
+    /// The coefficients of x, y, z, in millionths.
+    pub coefficients: [i32; 3],
+    /// The shift, in hundred-thousandths.
+    pub shift: i32,
+}
+
+/// A line of one of the seventeen typed kinds.
 #[derive(Clone, Copy, Debug, PartialEq, Eq)]
 #[allow(missing_docs)]
 pub enum Record {
     Helix(Helix),
     Sheet(Sheet),
+    Cell(Cell),
+    Transformation(Transformation),
     Atom(Atom),
     Hetatm(Atom),
     Ter(Ter),

@@ -46,6 +46,10 @@ pub enum Refusal {
     SameAtom = 21,
     /// The number of a model is not one more than that of the model before.
     Model = 22,
+    /// A fractional place is asked of an entry without SCALE lines.
+    NoScale = 29,
+    /// A coordinate is out of the range of its columns.
+    Coordinate = 33,
 }
 
 impl Refusal {

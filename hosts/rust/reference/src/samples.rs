@@ -45,6 +45,26 @@ pub const HELIX: &[u8; 80] = b"HELIX    1  HA GLY A   86  GLY A   94  1         
 pub const STRAND_1: &[u8; 80] = b"SHEET    1   A 2 THR A 107  ARG A 110  0                                        ";
 pub const STRAND_2: &[u8; 80] = b"SHEET    2   A 2 ILE A  96  THR A  99 -1  N  LYS A  98   O  THR A 107           ";
 
+pub const CELL: &[u8; 80] = b"CRYST1   52.000   58.600   61.900  90.00  90.00  90.00 P 21 21 21    8          ";
+/// All columns of all numbers are filled that can be.
+pub const WIDE_CELL: &[u8; 80] = b"CRYST199999.99999999.999    0.001 179.99   0.01 120.00 ~ any grp ~9999          ";
+
+/// A line of a trio with 0.019231, -0.016155, 0.000000 and a shift of -0.00001.
+pub fn shifted(row: u32) -> [u8; 80] {
+    trio_line(row, ["0.019231", "-0.016155", "0.000000", "-0.00001"])
+}
+
+/// A line of a trio, all columns of its numbers filled.
+pub fn wide(row: u32) -> [u8; 80] {
+    trio_line(row, ["-99.999999", "999.999999", "-10.000001", "-999.99999"])
+}
+
+/// The line of a trio with these numbers.
+pub fn trio_line(row: u32, [x, y, z, shift]: [&str; 4]) -> [u8; 80] {
+    let trio = if row <= 3 { "ORIGX" } else { "SCALE" };
+    line(&format!("{trio}{}    {x:>10}{y:>10}{z:>10}     {shift:>10}", (row - 1) % 3 + 1))
+}
+
 /// HEADER, the arginine, its TER, MASTER and END.
 pub fn arginine_entry() -> Vec<u8> {
     text(&[

@@ -4,7 +4,7 @@ use std::ops::Range;
 
 use crate::check::{walk, GoodLine};
 use crate::line::LineName;
-use crate::reading::read_line;
+use crate::reading::read_taken;
 use crate::record::{Atom, Record, Residue, Ter};
 use crate::{FragmentNumber, Refusal, ResidueNumber};
 
@@ -139,12 +139,8 @@ impl Mark {
 
 /// The slot of one line read by itself, marked "in".
 pub fn slot_of_line(line: &[u8]) -> Result<Slot, Refusal> {
-    let taken = LineName::of(line).is_some_and(LineName::slotted);
-    match read_line(line).map_err(|blame| blame.refusal) {
-        Err(Refusal::Field) if !taken => Err(Refusal::Name),
-        Err(number) => Err(number),
-        Ok(record) => Slot::of_record(&record).ok_or(Refusal::Name),
-    }
+    let record = read_taken(line, LineName::slotted)?;
+    Slot::of_record(&record).ok_or(Refusal::Name)
 }
 
 /// The slots of an accepted text, all marked "in".

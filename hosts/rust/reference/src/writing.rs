@@ -1,8 +1,9 @@
 //! One typed line, written from its record.
 
 use crate::columns::Columns;
+use crate::line::LineName;
 use crate::reading::read_line;
-use crate::record::{Atom, Conect, Helix, Record, Residue, Sheet, Ter};
+use crate::record::{Atom, Cell, Conect, Helix, Record, Residue, Sheet, Ter, Transformation};
 use crate::tally::Tally;
 use crate::Refusal;
 
@@ -20,6 +21,8 @@ pub fn line_of(record: &Record) -> Option<Columns> {
     match record {
         Record::Helix(helix) => sheet.helix(helix),
         Record::Sheet(strand) => sheet.sheet(strand),
+        Record::Cell(cell) => sheet.cell(cell),
+        Record::Transformation(row) => sheet.transformation(row),
         Record::Atom(atom) => sheet.atom(b"ATOM", atom),
         Record::Hetatm(atom) => sheet.atom(b"HETATM", atom),
         Record::Ter(ter) => sheet.ter(ter),
@@ -122,6 +125,29 @@ impl Paper {
         }
     }
 
+    fn cell(&mut self, cell: &Cell) {
+        self.put(1, b"CRYST1");
+        for (index, &edge) in cell.edges.iter().enumerate() {
+            self.real(7 + 9 * index, 15 + 9 * index, 3, edge);
+        }
+        for (index, &angle) in cell.angles.iter().enumerate() {
+            self.real(34 + 7 * index, 40 + 7 * index, 2, angle);
+        }
+        self.put(56, &cell.group);
+        self.integer(67, 70, cell.z);
+    }
+
+    fn transformation(&mut self, transformation: &Transformation) {
+        match LineName::bytes_of_transformation(transformation.row) {
+            Some(name) => self.put(1, name),
+            None => self.fits = false,
+        }
+        for (index, &coefficient) in transformation.coefficients.iter().enumerate() {
+            self.real(11 + 10 * index, 20 + 10 * index, 6, coefficient);
+        }
+        self.real(46, 55, 5, transformation.shift);
+    }
+
     fn conect(&mut self, conect: &Conect) {
         self.put(1, b"CONECT");
         self.integer(7, 11, conect.serial.0);
@@ -164,7 +190,9 @@ mod tests {
     #[test]
     fn what_reads_writes_back() {
         let others = ["CONECT    5    6", "END", "MODEL        1", "MODEL     9999", "ENDMDL"].map(line);
-        for line in [*ARGININE, *HELIX, *STRAND_1, *STRAND_2, master([7; 9])].into_iter().chain(others) {
+        let crystal = [*CELL, *WIDE_CELL].into_iter().chain((1..=6).flat_map(|row| [shifted(row), wide(row)]));
+        let all = [*ARGININE, *HELIX, *STRAND_1, *STRAND_2, master([7; 9])].into_iter().chain(others).chain(crystal);
+        for line in all {
             let mut out = [b'?'; 90];
             assert_eq!(rewrite_line(&line, &mut out), Ok(()));
             assert_eq!(out[..80], line);

@@ -9,7 +9,7 @@ use crate::raw::{
 };
 use crate::{ModelNumber, Refusal};
 
-/// A line of one of the ten typed kinds, read by itself: 80 columns, all of them right.
+/// A line of one of the seventeen typed kinds, read by itself: 80 columns, all of them right.
 ///
 /// ```
 /// # fn main() -> Result<(), station::Refusal> {

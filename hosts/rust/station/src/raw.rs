@@ -64,6 +64,40 @@ pub struct Tally {
     pub seq: u32,
 }
 
+/// The cell of a CRYST1 line: 40 bytes without padding.
+#[derive(Clone, Copy, Debug, Default, PartialEq, Eq)]
+#[repr(C)]
+pub struct Cell {
+    /// An edge, in thousandths.
+    pub a: i32,
+    /// In thousandths.
+    pub b: i32,
+    /// In thousandths.
+    pub c: i32,
+    /// An angle, in hundredths of a degree.
+    pub alpha: i32,
+    /// In hundredths of a degree.
+    pub beta: i32,
+    /// In hundredths of a degree.
+    pub gamma: i32,
+    /// Z.
+    pub z: u32,
+    /// The space group, its eleven columns and a byte 0.
+    pub group: [u8; 12],
+}
+
+/// The transformation of an ORIGX or SCALE line: 20 bytes without padding.
+#[derive(Clone, Copy, Debug, Default, PartialEq, Eq)]
+#[repr(C)]
+pub struct Transform {
+    /// The coefficients of x, y, z, in millionths.
+    pub m: [i32; 3],
+    /// The shift, in hundred-thousandths.
+    pub t: i32,
+    /// 1 to 3 for ORIGX1 to ORIGX3, 4 to 6 for SCALE1 to SCALE3.
+    pub row: u32,
+}
+
 /// Declares the functions, and with them a struct that holds one function for each name.
 macro_rules! names {
     ($($(#[$doc:meta])* fn $name:ident as $field:ident ($($argument:ident: $kind:ty),* $(,)?) -> $answer:ty;)*) => {
@@ -115,6 +149,16 @@ names! {
     fn station_rewrite_line as rewrite_line(line: *const u8, n: usize, out: *mut u8, room: usize) -> u32;
     /// Reads one line by itself and keeps nothing; tells the column of a wrong field.
     fn station_read_line as read_line(line: *const u8, n: usize, column: *mut u64) -> u32;
+    /// Fills a cell from one CRYST1 line.
+    fn station_cell_of_line as cell_of_line(line: *const u8, n: usize, cell: *mut Cell) -> u32;
+    /// Fills a transformation from one ORIGX or SCALE line.
+    fn station_transform_of_line as transform_of_line(line: *const u8, n: usize, transform: *mut Transform) -> u32;
+    /// The SCALE rows of a text; `rows` has room for twelve numbers, four for each row.
+    fn station_scale as scale(text: *const u8, n: usize, rows: *mut i32) -> u32;
+    /// The fractional place of three coordinates by twelve numbers of rows; `out` has room for six numbers.
+    fn station_place as place(rows: *const i32, at: *const i32, out: *mut i64) -> u32;
+    /// The fractional place of three coordinates by the rows of a text; `out` has room for six numbers.
+    fn station_fractional as fractional(text: *const u8, n: usize, at: *const i32, out: *mut i64) -> u32;
     /// Jumps to an atom by its serial: its line, 0 if there is none. Tells how many lines were looked at.
     fn station_find as find(text: *const u8, n: usize, serial: u32, looked: *mut u64) -> u64;
     /// The dot of a slot; `out` has room for three doubles. 1 if there is one.

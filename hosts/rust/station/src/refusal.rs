@@ -58,15 +58,21 @@ impl Refusal {
     pub const SAME_ATOM: Refusal = Refusal(21);
     /// The number of a model.
     pub const MODEL: Refusal = Refusal(22);
+    /// There are no SCALE lines to tell a fractional place by.
+    pub const NO_SCALE: Refusal = Refusal(29);
+    /// A coordinate that no atom can have.
+    pub const COORDINATE: Refusal = Refusal(33);
 
     /// All of them, by their numbers.
-    pub const ALL: [Refusal; 22] = {
-        let mut all = [Refusal(0); 22];
+    pub const ALL: [Refusal; 24] = {
+        let mut all = [Refusal(0); 24];
         let mut number = 0;
-        while number < all.len() {
+        while number < 22 {
             all[number] = Refusal(number as u32 + 1);
             number += 1;
         }
+        all[22] = Refusal::NO_SCALE;
+        all[23] = Refusal::COORDINATE;
         all
     };
 
@@ -112,6 +118,8 @@ impl Refusal {
             20 => "the input is longer than the report takes",
             21 => "a line above has the same atom: name, alternate location and residue",
             22 => "the models are not numbered 1, 2, 3 and so on",
+            29 => "the entry has no SCALE lines to tell a fractional place by",
+            33 => "a coordinate is not from -999.999 to 9999.999",
             _ => "for a reason that this program does not know",
         }
     }

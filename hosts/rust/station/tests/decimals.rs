@@ -2,7 +2,7 @@
 
 use std::error::Error;
 
-use station::{Decimal, Hundredths, Line, Slot, Thousandths};
+use station::{Billionths, Decimal, HundredThousandths, Hundredths, Line, Slot, Thousandths};
 
 /// An atom's line with these columns of x, y, z, occupancy and temperature factor.
 fn line(place: [&str; 3], occupancy: &str, temperature: &str) -> Vec<u8> {
@@ -48,5 +48,20 @@ fn numbers_fill_their_columns() {
     assert_eq!(numbers.map(|number| format!("{number:8.1}")), columns);
     assert_eq!(format!("{:6}|{:<6}|", Hundredths::of(-9_999), Hundredths::of(5)), "-99.99|0.05  |");
     assert_eq!(Thousandths::of(i32::MIN).to_string(), "-2147483.648");
+    assert_eq!(HundredThousandths::of(-12).to_string(), "-0.00012");
+    let numbers = [216_944_911, -123_085, 30_009_996_969_990_003, i64::MAX, i64::MIN].map(Billionths::of);
+    let texts = ["0.216944911", "-0.000123085", "30009996.969990003", "9223372036.854775807", "-9223372036.854775808"];
+    assert_eq!(numbers.map(|number| number.to_string()), texts);
     assert!(Hundredths::of(-1) < Hundredths::of(0) && Hundredths::of(7).units() == 7);
+}
+
+/// Also where a double does not count every unit, its double is the one that the text reads as.
+#[test]
+fn the_double_is_the_next_one() -> Result<(), Box<dyn Error>> {
+    let edge = 1_i64 << f64::MANTISSA_DIGITS;
+    let numbers = (-3..=3).flat_map(|off| [edge + off, -edge + off, 3 * edge + off, i64::MAX - 3 + off]);
+    for number in numbers.chain([0, 1, -1, 999_999_999, 64_445_977_804_019_059, i64::MIN]).map(Billionths::of) {
+        assert_eq!(number.value(), number.to_string().parse::<f64>()?, "{number}");
+    }
+    Ok(())
 }

@@ -179,9 +179,25 @@ xs = (Syntax.tyStruct (115 ∷ 116 ∷ 111 ∷ 114 ∷ 101 ∷ 58 ∷ 58 ∷ 78 
     (Syntax.tyInt Syntax.w32) (Syntax.tcons (Syntax.tyInt Syntax.w32) (Syntax.tcons (Syntax.tyInt Syntax.w32) (Syntax.tcons (Syntax.tyInt Syntax.w32)
     (Syntax.tcons (Syntax.tyInt Syntax.w32) Syntax.tnil)))))))))) Syntax.tnil) (Syntax.ttcons Syntax.tnil (Syntax.ttcons (Syntax.tcons (Syntax.tyStruct (109 ∷
     111 ∷ 100 ∷ 101 ∷ 108 ∷ 58 ∷ 58 ∷ 77 ∷ 111 ∷ 100 ∷ 101 ∷ 108 ∷ []) (Syntax.tcons (Syntax.tyInt Syntax.w32) Syntax.tnil)) Syntax.tnil) (Syntax.ttcons
-    Syntax.tnil Syntax.ttnil)))))))))) Syntax.tnil) Syntax.ttnil))))) ∷ Syntax.tyBool ∷ Syntax.tyInt Syntax.w64 ∷ Syntax.tyInt Syntax.w64 ∷ Syntax.tyInt
-    Syntax.w64 ∷ Syntax.tyBool ∷ Syntax.tyRef Syntax.erased Syntax.mut SlotAs.pointee ∷ (Syntax.tyStruct (38 ∷ 91 ∷ 93 ∷ []) (Syntax.tcons (Syntax.tyRef
-    Syntax.erased Syntax.mut SlotAs.pointee) (Syntax.tcons (Syntax.tyInt Syntax.w64) Syntax.tnil))) ∷ []
+    Syntax.tnil (Syntax.ttcons (Syntax.tcons (Syntax.tyStruct (99 ∷ 101 ∷ 108 ∷ 108 ∷ 58 ∷ 58 ∷ 67 ∷ 101 ∷ 108 ∷ 108 ∷ []) (Syntax.tcons (Syntax.tyStruct (99 ∷
+    101 ∷ 108 ∷ 108 ∷ 58 ∷ 58 ∷ 69 ∷ 100 ∷ 103 ∷ 101 ∷ 115 ∷ []) (Syntax.tcons (Syntax.tyInt Syntax.w32) (Syntax.tcons (Syntax.tyInt Syntax.w32) (Syntax.tcons
+    (Syntax.tyInt Syntax.w32) Syntax.tnil)))) (Syntax.tcons (Syntax.tyStruct (99 ∷ 101 ∷ 108 ∷ 108 ∷ 58 ∷ 58 ∷ 65 ∷ 110 ∷ 103 ∷ 108 ∷ 101 ∷ 115 ∷ [])
+    (Syntax.tcons (Syntax.tyInt Syntax.w32) (Syntax.tcons (Syntax.tyInt Syntax.w32) (Syntax.tcons (Syntax.tyInt Syntax.w32) Syntax.tnil)))) (Syntax.tcons
+    (Syntax.tyStruct (99 ∷ 101 ∷ 108 ∷ 108 ∷ 58 ∷ 58 ∷ 71 ∷ 114 ∷ 111 ∷ 117 ∷ 112 ∷ []) (Syntax.tcons (Syntax.tyStruct (110 ∷ 97 ∷ 109 ∷ 101 ∷ 115 ∷ 58 ∷ 58 ∷
+    70 ∷ 111 ∷ 117 ∷ 114 ∷ []) (Syntax.tcons (Syntax.tyInt Syntax.w8) (Syntax.tcons (Syntax.tyInt Syntax.w8) (Syntax.tcons (Syntax.tyInt Syntax.w8)
+    (Syntax.tcons (Syntax.tyInt Syntax.w8) Syntax.tnil))))) (Syntax.tcons (Syntax.tyStruct (110 ∷ 97 ∷ 109 ∷ 101 ∷ 115 ∷ 58 ∷ 58 ∷ 70 ∷ 111 ∷ 117 ∷ 114 ∷ [])
+    (Syntax.tcons (Syntax.tyInt Syntax.w8) (Syntax.tcons (Syntax.tyInt Syntax.w8) (Syntax.tcons (Syntax.tyInt Syntax.w8) (Syntax.tcons (Syntax.tyInt Syntax.w8)
+    Syntax.tnil))))) (Syntax.tcons (Syntax.tyStruct (110 ∷ 97 ∷ 109 ∷ 101 ∷ 115 ∷ 58 ∷ 58 ∷ 84 ∷ 104 ∷ 114 ∷ 101 ∷ 101 ∷ []) (Syntax.tcons (Syntax.tyInt
+    Syntax.w8) (Syntax.tcons (Syntax.tyInt Syntax.w8) (Syntax.tcons (Syntax.tyInt Syntax.w8) Syntax.tnil)))) Syntax.tnil)))) (Syntax.tcons (Syntax.tyInt
+    Syntax.w32) Syntax.tnil))))) Syntax.tnil) (Syntax.ttcons (Syntax.tcons Syntax.tyBool (Syntax.tcons (Syntax.tyEnum (116 ∷ 114 ∷ 97 ∷ 110 ∷ 115 ∷ 102 ∷ 111 ∷
+    114 ∷ 109 ∷ 58 ∷ 58 ∷ 65 ∷ 120 ∷ 105 ∷ 115 ∷ []) (Syntax.ttcons Syntax.tnil (Syntax.ttcons Syntax.tnil (Syntax.ttcons Syntax.tnil Syntax.ttnil))))
+    (Syntax.tcons (Syntax.tyStruct (116 ∷ 114 ∷ 97 ∷ 110 ∷ 115 ∷ 102 ∷ 111 ∷ 114 ∷ 109 ∷ 58 ∷ 58 ∷ 84 ∷ 114 ∷ 97 ∷ 110 ∷ 115 ∷ 102 ∷ 111 ∷ 114 ∷ 109 ∷ [])
+    (Syntax.tcons (Syntax.tyStruct (116 ∷ 114 ∷ 97 ∷ 110 ∷ 115 ∷ 102 ∷ 111 ∷ 114 ∷ 109 ∷ 58 ∷ 58 ∷ 67 ∷ 111 ∷ 101 ∷ 102 ∷ 102 ∷ 105 ∷ 99 ∷ 105 ∷ 101 ∷ 110 ∷
+    116 ∷ 115 ∷ []) (Syntax.tcons (Syntax.tyInt Syntax.w32) (Syntax.tcons (Syntax.tyInt Syntax.w32) (Syntax.tcons (Syntax.tyInt Syntax.w32) Syntax.tnil))))
+    (Syntax.tcons (Syntax.tyInt Syntax.w32) Syntax.tnil))) Syntax.tnil))) Syntax.ttnil)))))))))))) Syntax.tnil) Syntax.ttnil))))) ∷ Syntax.tyBool ∷
+    Syntax.tyInt Syntax.w64 ∷ Syntax.tyInt Syntax.w64 ∷ Syntax.tyInt Syntax.w64 ∷ Syntax.tyBool ∷ Syntax.tyRef Syntax.erased Syntax.mut SlotAs.pointee ∷
+    (Syntax.tyStruct (38 ∷ 91 ∷ 93 ∷ []) (Syntax.tcons (Syntax.tyRef Syntax.erased Syntax.mut SlotAs.pointee) (Syntax.tcons (Syntax.tyInt Syntax.w64)
+    Syntax.tnil))) ∷ []
 
 abbrev pub m : Nat.ℕ
 m = 1
@@ -579,17 +595,36 @@ t0 = (
       (Syntax.tyInt Syntax.w32) (Syntax.tcons (Syntax.tyInt Syntax.w32) (Syntax.tcons (Syntax.tyInt Syntax.w32) (Syntax.tcons (Syntax.tyInt Syntax.w32)
       (Syntax.tcons (Syntax.tyInt Syntax.w32) Syntax.tnil)))))))))) Syntax.tnil) (Syntax.ttcons Syntax.tnil (Syntax.ttcons (Syntax.tcons (Syntax.tyStruct (109 ∷
       111 ∷ 100 ∷ 101 ∷ 108 ∷ 58 ∷ 58 ∷ 77 ∷ 111 ∷ 100 ∷ 101 ∷ 108 ∷ []) (Syntax.tcons (Syntax.tyInt Syntax.w32) Syntax.tnil)) Syntax.tnil) (Syntax.ttcons
-      Syntax.tnil Syntax.ttnil)))))))))) Syntax.tnil) Syntax.ttnil))))),
-) ∷ (9, Rows.any-gone Syntax.tyBool) ∷ (10, Rows.any-gone (Syntax.tyInt Syntax.w64)) ∷
-    (11, Rows.any-gone (Syntax.tyInt Syntax.w64)) ∷ (12, Rows.any-gone (Syntax.tyInt Syntax.w64)) ∷ (13, Rows.any-gone Syntax.tyBool) ∷ (
-      14,
-      Rows.any-gone
-          (Syntax.tyRef Syntax.erased Syntax.mut SlotAs.pointee),
-    ) ∷ (
-      15,
-      Rows.any-gone (Syntax.tyStruct (38 ∷ 91 ∷ 93 ∷ []) (Syntax.tcons (Syntax.tyRef Syntax.erased
-          Syntax.mut SlotAs.pointee) (Syntax.tcons (Syntax.tyInt Syntax.w64) Syntax.tnil))),
-    ) ∷ []
+      Syntax.tnil (Syntax.ttcons (Syntax.tcons (Syntax.tyStruct (99 ∷ 101 ∷ 108 ∷ 108 ∷ 58 ∷ 58 ∷ 67 ∷ 101 ∷ 108 ∷ 108 ∷ []) (Syntax.tcons (Syntax.tyStruct (99 ∷
+      101 ∷ 108 ∷ 108 ∷ 58 ∷ 58 ∷ 69 ∷ 100 ∷ 103 ∷ 101 ∷ 115 ∷ []) (Syntax.tcons (Syntax.tyInt Syntax.w32) (Syntax.tcons (Syntax.tyInt Syntax.w32) (Syntax.tcons
+      (Syntax.tyInt Syntax.w32) Syntax.tnil)))) (Syntax.tcons (Syntax.tyStruct (99 ∷ 101 ∷ 108 ∷ 108 ∷ 58 ∷ 58 ∷ 65 ∷ 110 ∷ 103 ∷ 108 ∷ 101 ∷ 115 ∷ [])
+      (Syntax.tcons (Syntax.tyInt Syntax.w32) (Syntax.tcons (Syntax.tyInt Syntax.w32) (Syntax.tcons (Syntax.tyInt Syntax.w32) Syntax.tnil)))) (Syntax.tcons
+      (Syntax.tyStruct (99 ∷ 101 ∷ 108 ∷ 108 ∷ 58 ∷ 58 ∷ 71 ∷ 114 ∷ 111 ∷ 117 ∷ 112 ∷ []) (Syntax.tcons (Syntax.tyStruct (110 ∷ 97 ∷ 109 ∷ 101 ∷ 115 ∷ 58 ∷ 58 ∷
+      70 ∷ 111 ∷ 117 ∷ 114 ∷ []) (Syntax.tcons (Syntax.tyInt Syntax.w8) (Syntax.tcons (Syntax.tyInt Syntax.w8) (Syntax.tcons (Syntax.tyInt Syntax.w8)
+      (Syntax.tcons (Syntax.tyInt Syntax.w8) Syntax.tnil))))) (Syntax.tcons (Syntax.tyStruct (110 ∷ 97 ∷ 109 ∷ 101 ∷ 115 ∷ 58 ∷ 58 ∷ 70 ∷ 111 ∷ 117 ∷ 114 ∷ [])
+      (Syntax.tcons (Syntax.tyInt Syntax.w8) (Syntax.tcons (Syntax.tyInt Syntax.w8) (Syntax.tcons (Syntax.tyInt Syntax.w8) (Syntax.tcons (Syntax.tyInt Syntax.w8)
+      Syntax.tnil))))) (Syntax.tcons (Syntax.tyStruct (110 ∷ 97 ∷ 109 ∷ 101 ∷ 115 ∷ 58 ∷ 58 ∷ 84 ∷ 104 ∷ 114 ∷ 101 ∷ 101 ∷ []) (Syntax.tcons (Syntax.tyInt
+      Syntax.w8) (Syntax.tcons (Syntax.tyInt Syntax.w8) (Syntax.tcons (Syntax.tyInt Syntax.w8) Syntax.tnil)))) Syntax.tnil)))) (Syntax.tcons (Syntax.tyInt
+      Syntax.w32) Syntax.tnil))))) Syntax.tnil) (Syntax.ttcons (Syntax.tcons Syntax.tyBool (Syntax.tcons (Syntax.tyEnum (116 ∷ 114 ∷ 97 ∷ 110 ∷ 115 ∷ 102 ∷ 111 ∷
+      114 ∷ 109 ∷ 58 ∷ 58 ∷ 65 ∷ 120 ∷ 105 ∷ 115 ∷ []) (Syntax.ttcons Syntax.tnil (Syntax.ttcons Syntax.tnil (Syntax.ttcons Syntax.tnil Syntax.ttnil))))
+      (Syntax.tcons (Syntax.tyStruct (116 ∷ 114 ∷ 97 ∷ 110 ∷ 115 ∷ 102 ∷ 111 ∷ 114 ∷ 109 ∷ 58 ∷ 58 ∷ 84 ∷ 114 ∷ 97 ∷ 110 ∷ 115 ∷ 102 ∷ 111 ∷ 114 ∷ 109 ∷ [])
+      (Syntax.tcons (Syntax.tyStruct (116 ∷ 114 ∷ 97 ∷ 110 ∷ 115 ∷ 102 ∷ 111 ∷ 114 ∷ 109 ∷ 58 ∷ 58 ∷ 67 ∷ 111 ∷ 101 ∷ 102 ∷ 102 ∷ 105 ∷ 99 ∷ 105 ∷ 101 ∷ 110 ∷
+      116 ∷ 115 ∷ []) (Syntax.tcons (Syntax.tyInt Syntax.w32) (Syntax.tcons (Syntax.tyInt Syntax.w32) (Syntax.tcons (Syntax.tyInt Syntax.w32) Syntax.tnil))))
+      (Syntax.tcons (Syntax.tyInt Syntax.w32) Syntax.tnil))) Syntax.tnil))) Syntax.ttnil)))))))))))) Syntax.tnil) Syntax.ttnil))))),
+) ∷ (
+  9,
+  Rows.any-gone
+      Syntax.tyBool,
+) ∷ (10, Rows.any-gone (Syntax.tyInt Syntax.w64)) ∷ (11, Rows.any-gone (Syntax.tyInt Syntax.w64)) ∷ (
+  12,
+  Rows.any-gone (Syntax.tyInt
+      Syntax.w64),
+) ∷ (13, Rows.any-gone Syntax.tyBool) ∷ (14, Rows.any-gone (Syntax.tyRef Syntax.erased Syntax.mut SlotAs.pointee)) ∷ (
+  15,
+  Rows.any-gone
+      (Syntax.tyStruct (38 ∷ 91 ∷ 93 ∷ []) (Syntax.tcons (Syntax.tyRef Syntax.erased Syntax.mut SlotAs.pointee) (Syntax.tcons (Syntax.tyInt Syntax.w64)
+      Syntax.tnil))),
+) ∷ []
 
 abbrev pub t1 : List.List Row.Entry
 t1 = (0, Rows.whole (Declared'.row Outcome.the-type)) ∷ (
@@ -700,20 +735,32 @@ t1 = (0, Rows.whole (Declared'.row Outcome.the-type)) ∷ (
       (Syntax.tcons (Syntax.tyInt Syntax.w32) (Syntax.tcons (Syntax.tyInt Syntax.w32) (Syntax.tcons (Syntax.tyInt Syntax.w32) (Syntax.tcons (Syntax.tyInt
       Syntax.w32) (Syntax.tcons (Syntax.tyInt Syntax.w32) Syntax.tnil)))))))))) Syntax.tnil) (Syntax.ttcons Syntax.tnil (Syntax.ttcons (Syntax.tcons
       (Syntax.tyStruct (109 ∷ 111 ∷ 100 ∷ 101 ∷ 108 ∷ 58 ∷ 58 ∷ 77 ∷ 111 ∷ 100 ∷ 101 ∷ 108 ∷ []) (Syntax.tcons (Syntax.tyInt Syntax.w32) Syntax.tnil))
-      Syntax.tnil) (Syntax.ttcons Syntax.tnil Syntax.ttnil)))))))))) Syntax.tnil) Syntax.ttnil))))),
-) ∷ (9, Rows.any-gone Syntax.tyBool) ∷ (
-  10,
-  Rows.any-gone
-      (Syntax.tyInt Syntax.w64),
-) ∷ (11, Rows.any-gone (Syntax.tyInt Syntax.w64)) ∷ (12, Rows.any-gone (Syntax.tyInt Syntax.w64)) ∷ (
-  13,
-  Rows.any-gone
-      Syntax.tyBool,
-) ∷ (14, Rows.any-gone (Syntax.tyRef Syntax.erased Syntax.mut SlotAs.pointee)) ∷ (
-  15,
-  Rows.any-gone (Syntax.tyStruct (38 ∷ 91 ∷ 93 ∷ [])
-      (Syntax.tcons (Syntax.tyRef Syntax.erased Syntax.mut SlotAs.pointee) (Syntax.tcons (Syntax.tyInt Syntax.w64) Syntax.tnil))),
-) ∷ []
+      Syntax.tnil) (Syntax.ttcons Syntax.tnil (Syntax.ttcons (Syntax.tcons (Syntax.tyStruct (99 ∷ 101 ∷ 108 ∷ 108 ∷ 58 ∷ 58 ∷ 67 ∷ 101 ∷ 108 ∷ 108 ∷ [])
+      (Syntax.tcons (Syntax.tyStruct (99 ∷ 101 ∷ 108 ∷ 108 ∷ 58 ∷ 58 ∷ 69 ∷ 100 ∷ 103 ∷ 101 ∷ 115 ∷ []) (Syntax.tcons (Syntax.tyInt Syntax.w32) (Syntax.tcons
+      (Syntax.tyInt Syntax.w32) (Syntax.tcons (Syntax.tyInt Syntax.w32) Syntax.tnil)))) (Syntax.tcons (Syntax.tyStruct (99 ∷ 101 ∷ 108 ∷ 108 ∷ 58 ∷ 58 ∷ 65 ∷ 110
+      ∷ 103 ∷ 108 ∷ 101 ∷ 115 ∷ []) (Syntax.tcons (Syntax.tyInt Syntax.w32) (Syntax.tcons (Syntax.tyInt Syntax.w32) (Syntax.tcons (Syntax.tyInt Syntax.w32)
+      Syntax.tnil)))) (Syntax.tcons (Syntax.tyStruct (99 ∷ 101 ∷ 108 ∷ 108 ∷ 58 ∷ 58 ∷ 71 ∷ 114 ∷ 111 ∷ 117 ∷ 112 ∷ []) (Syntax.tcons (Syntax.tyStruct (110 ∷ 97
+      ∷ 109 ∷ 101 ∷ 115 ∷ 58 ∷ 58 ∷ 70 ∷ 111 ∷ 117 ∷ 114 ∷ []) (Syntax.tcons (Syntax.tyInt Syntax.w8) (Syntax.tcons (Syntax.tyInt Syntax.w8) (Syntax.tcons
+      (Syntax.tyInt Syntax.w8) (Syntax.tcons (Syntax.tyInt Syntax.w8) Syntax.tnil))))) (Syntax.tcons (Syntax.tyStruct (110 ∷ 97 ∷ 109 ∷ 101 ∷ 115 ∷ 58 ∷ 58 ∷ 70
+      ∷ 111 ∷ 117 ∷ 114 ∷ []) (Syntax.tcons (Syntax.tyInt Syntax.w8) (Syntax.tcons (Syntax.tyInt Syntax.w8) (Syntax.tcons (Syntax.tyInt Syntax.w8) (Syntax.tcons
+      (Syntax.tyInt Syntax.w8) Syntax.tnil))))) (Syntax.tcons (Syntax.tyStruct (110 ∷ 97 ∷ 109 ∷ 101 ∷ 115 ∷ 58 ∷ 58 ∷ 84 ∷ 104 ∷ 114 ∷ 101 ∷ 101 ∷ [])
+      (Syntax.tcons (Syntax.tyInt Syntax.w8) (Syntax.tcons (Syntax.tyInt Syntax.w8) (Syntax.tcons (Syntax.tyInt Syntax.w8) Syntax.tnil)))) Syntax.tnil))))
+      (Syntax.tcons (Syntax.tyInt Syntax.w32) Syntax.tnil))))) Syntax.tnil) (Syntax.ttcons (Syntax.tcons Syntax.tyBool (Syntax.tcons (Syntax.tyEnum (116 ∷ 114 ∷
+      97 ∷ 110 ∷ 115 ∷ 102 ∷ 111 ∷ 114 ∷ 109 ∷ 58 ∷ 58 ∷ 65 ∷ 120 ∷ 105 ∷ 115 ∷ []) (Syntax.ttcons Syntax.tnil (Syntax.ttcons Syntax.tnil (Syntax.ttcons
+      Syntax.tnil Syntax.ttnil)))) (Syntax.tcons (Syntax.tyStruct (116 ∷ 114 ∷ 97 ∷ 110 ∷ 115 ∷ 102 ∷ 111 ∷ 114 ∷ 109 ∷ 58 ∷ 58 ∷ 84 ∷ 114 ∷ 97 ∷ 110 ∷ 115 ∷ 102
+      ∷ 111 ∷ 114 ∷ 109 ∷ []) (Syntax.tcons (Syntax.tyStruct (116 ∷ 114 ∷ 97 ∷ 110 ∷ 115 ∷ 102 ∷ 111 ∷ 114 ∷ 109 ∷ 58 ∷ 58 ∷ 67 ∷ 111 ∷ 101 ∷ 102 ∷ 102 ∷ 105 ∷
+      99 ∷ 105 ∷ 101 ∷ 110 ∷ 116 ∷ 115 ∷ []) (Syntax.tcons (Syntax.tyInt Syntax.w32) (Syntax.tcons (Syntax.tyInt Syntax.w32) (Syntax.tcons (Syntax.tyInt
+      Syntax.w32) Syntax.tnil)))) (Syntax.tcons (Syntax.tyInt Syntax.w32) Syntax.tnil))) Syntax.tnil))) Syntax.ttnil)))))))))))) Syntax.tnil) Syntax.ttnil))))),
+)
+    ∷ (9, Rows.any-gone Syntax.tyBool) ∷ (10, Rows.any-gone (Syntax.tyInt Syntax.w64)) ∷ (11, Rows.any-gone (Syntax.tyInt Syntax.w64)) ∷ (
+      12,
+      Rows.any-gone
+          (Syntax.tyInt Syntax.w64),
+    ) ∷ (13, Rows.any-gone Syntax.tyBool) ∷ (14, Rows.any-gone (Syntax.tyRef Syntax.erased Syntax.mut SlotAs.pointee)) ∷ (
+      15,
+      Rows.any-gone (Syntax.tyStruct (38 ∷ 91 ∷ 93 ∷ []) (Syntax.tcons (Syntax.tyRef Syntax.erased Syntax.mut SlotAs.pointee) (Syntax.tcons (Syntax.tyInt
+          Syntax.w64) Syntax.tnil))),
+    ) ∷ []
 
 abbrev pub t2 : List.List Row.Entry
 t2 = (
@@ -828,17 +875,36 @@ t2 = (
       (Syntax.tyInt Syntax.w32) (Syntax.tcons (Syntax.tyInt Syntax.w32) (Syntax.tcons (Syntax.tyInt Syntax.w32) (Syntax.tcons (Syntax.tyInt Syntax.w32)
       (Syntax.tcons (Syntax.tyInt Syntax.w32) Syntax.tnil)))))))))) Syntax.tnil) (Syntax.ttcons Syntax.tnil (Syntax.ttcons (Syntax.tcons (Syntax.tyStruct (109 ∷
       111 ∷ 100 ∷ 101 ∷ 108 ∷ 58 ∷ 58 ∷ 77 ∷ 111 ∷ 100 ∷ 101 ∷ 108 ∷ []) (Syntax.tcons (Syntax.tyInt Syntax.w32) Syntax.tnil)) Syntax.tnil) (Syntax.ttcons
-      Syntax.tnil Syntax.ttnil)))))))))) Syntax.tnil) Syntax.ttnil))))),
-) ∷ (9, Rows.any-gone Syntax.tyBool) ∷ (10, Rows.any-gone (Syntax.tyInt Syntax.w64)) ∷
-    (11, Rows.any-gone (Syntax.tyInt Syntax.w64)) ∷ (12, Rows.any-gone (Syntax.tyInt Syntax.w64)) ∷ (13, Rows.any-gone Syntax.tyBool) ∷ (
-      14,
-      Rows.any-gone
-          (Syntax.tyRef Syntax.erased Syntax.mut SlotAs.pointee),
-    ) ∷ (
-      15,
-      Rows.any-gone (Syntax.tyStruct (38 ∷ 91 ∷ 93 ∷ []) (Syntax.tcons (Syntax.tyRef Syntax.erased
-          Syntax.mut SlotAs.pointee) (Syntax.tcons (Syntax.tyInt Syntax.w64) Syntax.tnil))),
-    ) ∷ []
+      Syntax.tnil (Syntax.ttcons (Syntax.tcons (Syntax.tyStruct (99 ∷ 101 ∷ 108 ∷ 108 ∷ 58 ∷ 58 ∷ 67 ∷ 101 ∷ 108 ∷ 108 ∷ []) (Syntax.tcons (Syntax.tyStruct (99 ∷
+      101 ∷ 108 ∷ 108 ∷ 58 ∷ 58 ∷ 69 ∷ 100 ∷ 103 ∷ 101 ∷ 115 ∷ []) (Syntax.tcons (Syntax.tyInt Syntax.w32) (Syntax.tcons (Syntax.tyInt Syntax.w32) (Syntax.tcons
+      (Syntax.tyInt Syntax.w32) Syntax.tnil)))) (Syntax.tcons (Syntax.tyStruct (99 ∷ 101 ∷ 108 ∷ 108 ∷ 58 ∷ 58 ∷ 65 ∷ 110 ∷ 103 ∷ 108 ∷ 101 ∷ 115 ∷ [])
+      (Syntax.tcons (Syntax.tyInt Syntax.w32) (Syntax.tcons (Syntax.tyInt Syntax.w32) (Syntax.tcons (Syntax.tyInt Syntax.w32) Syntax.tnil)))) (Syntax.tcons
+      (Syntax.tyStruct (99 ∷ 101 ∷ 108 ∷ 108 ∷ 58 ∷ 58 ∷ 71 ∷ 114 ∷ 111 ∷ 117 ∷ 112 ∷ []) (Syntax.tcons (Syntax.tyStruct (110 ∷ 97 ∷ 109 ∷ 101 ∷ 115 ∷ 58 ∷ 58 ∷
+      70 ∷ 111 ∷ 117 ∷ 114 ∷ []) (Syntax.tcons (Syntax.tyInt Syntax.w8) (Syntax.tcons (Syntax.tyInt Syntax.w8) (Syntax.tcons (Syntax.tyInt Syntax.w8)
+      (Syntax.tcons (Syntax.tyInt Syntax.w8) Syntax.tnil))))) (Syntax.tcons (Syntax.tyStruct (110 ∷ 97 ∷ 109 ∷ 101 ∷ 115 ∷ 58 ∷ 58 ∷ 70 ∷ 111 ∷ 117 ∷ 114 ∷ [])
+      (Syntax.tcons (Syntax.tyInt Syntax.w8) (Syntax.tcons (Syntax.tyInt Syntax.w8) (Syntax.tcons (Syntax.tyInt Syntax.w8) (Syntax.tcons (Syntax.tyInt Syntax.w8)
+      Syntax.tnil))))) (Syntax.tcons (Syntax.tyStruct (110 ∷ 97 ∷ 109 ∷ 101 ∷ 115 ∷ 58 ∷ 58 ∷ 84 ∷ 104 ∷ 114 ∷ 101 ∷ 101 ∷ []) (Syntax.tcons (Syntax.tyInt
+      Syntax.w8) (Syntax.tcons (Syntax.tyInt Syntax.w8) (Syntax.tcons (Syntax.tyInt Syntax.w8) Syntax.tnil)))) Syntax.tnil)))) (Syntax.tcons (Syntax.tyInt
+      Syntax.w32) Syntax.tnil))))) Syntax.tnil) (Syntax.ttcons (Syntax.tcons Syntax.tyBool (Syntax.tcons (Syntax.tyEnum (116 ∷ 114 ∷ 97 ∷ 110 ∷ 115 ∷ 102 ∷ 111 ∷
+      114 ∷ 109 ∷ 58 ∷ 58 ∷ 65 ∷ 120 ∷ 105 ∷ 115 ∷ []) (Syntax.ttcons Syntax.tnil (Syntax.ttcons Syntax.tnil (Syntax.ttcons Syntax.tnil Syntax.ttnil))))
+      (Syntax.tcons (Syntax.tyStruct (116 ∷ 114 ∷ 97 ∷ 110 ∷ 115 ∷ 102 ∷ 111 ∷ 114 ∷ 109 ∷ 58 ∷ 58 ∷ 84 ∷ 114 ∷ 97 ∷ 110 ∷ 115 ∷ 102 ∷ 111 ∷ 114 ∷ 109 ∷ [])
+      (Syntax.tcons (Syntax.tyStruct (116 ∷ 114 ∷ 97 ∷ 110 ∷ 115 ∷ 102 ∷ 111 ∷ 114 ∷ 109 ∷ 58 ∷ 58 ∷ 67 ∷ 111 ∷ 101 ∷ 102 ∷ 102 ∷ 105 ∷ 99 ∷ 105 ∷ 101 ∷ 110 ∷
+      116 ∷ 115 ∷ []) (Syntax.tcons (Syntax.tyInt Syntax.w32) (Syntax.tcons (Syntax.tyInt Syntax.w32) (Syntax.tcons (Syntax.tyInt Syntax.w32) Syntax.tnil))))
+      (Syntax.tcons (Syntax.tyInt Syntax.w32) Syntax.tnil))) Syntax.tnil))) Syntax.ttnil)))))))))))) Syntax.tnil) Syntax.ttnil))))),
+) ∷ (
+  9,
+  Rows.any-gone
+      Syntax.tyBool,
+) ∷ (10, Rows.any-gone (Syntax.tyInt Syntax.w64)) ∷ (11, Rows.any-gone (Syntax.tyInt Syntax.w64)) ∷ (
+  12,
+  Rows.any-gone (Syntax.tyInt
+      Syntax.w64),
+) ∷ (13, Rows.any-gone Syntax.tyBool) ∷ (14, Rows.any-gone (Syntax.tyRef Syntax.erased Syntax.mut SlotAs.pointee)) ∷ (
+  15,
+  Rows.any-gone
+      (Syntax.tyStruct (38 ∷ 91 ∷ 93 ∷ []) (Syntax.tcons (Syntax.tyRef Syntax.erased Syntax.mut SlotAs.pointee) (Syntax.tcons (Syntax.tyInt Syntax.w64)
+      Syntax.tnil))),
+) ∷ []
 
 abbrev pub t3 : List.List Row.Entry
 t3 = (
@@ -953,19 +1019,32 @@ t3 = (
       (Syntax.tyInt Syntax.w32) (Syntax.tcons (Syntax.tyInt Syntax.w32) (Syntax.tcons (Syntax.tyInt Syntax.w32) (Syntax.tcons (Syntax.tyInt Syntax.w32)
       (Syntax.tcons (Syntax.tyInt Syntax.w32) Syntax.tnil)))))))))) Syntax.tnil) (Syntax.ttcons Syntax.tnil (Syntax.ttcons (Syntax.tcons (Syntax.tyStruct (109 ∷
       111 ∷ 100 ∷ 101 ∷ 108 ∷ 58 ∷ 58 ∷ 77 ∷ 111 ∷ 100 ∷ 101 ∷ 108 ∷ []) (Syntax.tcons (Syntax.tyInt Syntax.w32) Syntax.tnil)) Syntax.tnil) (Syntax.ttcons
-      Syntax.tnil Syntax.ttnil)))))))))) Syntax.tnil) Syntax.ttnil))))),
-) ∷ (9, Rows.sc-here Row.sBool) ∷ (10, Rows.any-gone (Syntax.tyInt Syntax.w64)) ∷ (
-  11,
-  Rows.any-gone (Syntax.tyInt Syntax.w64),
-) ∷ (12, Rows.any-gone (Syntax.tyInt Syntax.w64)) ∷ (13, Rows.any-gone Syntax.tyBool) ∷ (
-  14,
-  Rows.any-gone
-      (Syntax.tyRef Syntax.erased Syntax.mut SlotAs.pointee),
+      Syntax.tnil (Syntax.ttcons (Syntax.tcons (Syntax.tyStruct (99 ∷ 101 ∷ 108 ∷ 108 ∷ 58 ∷ 58 ∷ 67 ∷ 101 ∷ 108 ∷ 108 ∷ []) (Syntax.tcons (Syntax.tyStruct (99 ∷
+      101 ∷ 108 ∷ 108 ∷ 58 ∷ 58 ∷ 69 ∷ 100 ∷ 103 ∷ 101 ∷ 115 ∷ []) (Syntax.tcons (Syntax.tyInt Syntax.w32) (Syntax.tcons (Syntax.tyInt Syntax.w32) (Syntax.tcons
+      (Syntax.tyInt Syntax.w32) Syntax.tnil)))) (Syntax.tcons (Syntax.tyStruct (99 ∷ 101 ∷ 108 ∷ 108 ∷ 58 ∷ 58 ∷ 65 ∷ 110 ∷ 103 ∷ 108 ∷ 101 ∷ 115 ∷ [])
+      (Syntax.tcons (Syntax.tyInt Syntax.w32) (Syntax.tcons (Syntax.tyInt Syntax.w32) (Syntax.tcons (Syntax.tyInt Syntax.w32) Syntax.tnil)))) (Syntax.tcons
+      (Syntax.tyStruct (99 ∷ 101 ∷ 108 ∷ 108 ∷ 58 ∷ 58 ∷ 71 ∷ 114 ∷ 111 ∷ 117 ∷ 112 ∷ []) (Syntax.tcons (Syntax.tyStruct (110 ∷ 97 ∷ 109 ∷ 101 ∷ 115 ∷ 58 ∷ 58 ∷
+      70 ∷ 111 ∷ 117 ∷ 114 ∷ []) (Syntax.tcons (Syntax.tyInt Syntax.w8) (Syntax.tcons (Syntax.tyInt Syntax.w8) (Syntax.tcons (Syntax.tyInt Syntax.w8)
+      (Syntax.tcons (Syntax.tyInt Syntax.w8) Syntax.tnil))))) (Syntax.tcons (Syntax.tyStruct (110 ∷ 97 ∷ 109 ∷ 101 ∷ 115 ∷ 58 ∷ 58 ∷ 70 ∷ 111 ∷ 117 ∷ 114 ∷ [])
+      (Syntax.tcons (Syntax.tyInt Syntax.w8) (Syntax.tcons (Syntax.tyInt Syntax.w8) (Syntax.tcons (Syntax.tyInt Syntax.w8) (Syntax.tcons (Syntax.tyInt Syntax.w8)
+      Syntax.tnil))))) (Syntax.tcons (Syntax.tyStruct (110 ∷ 97 ∷ 109 ∷ 101 ∷ 115 ∷ 58 ∷ 58 ∷ 84 ∷ 104 ∷ 114 ∷ 101 ∷ 101 ∷ []) (Syntax.tcons (Syntax.tyInt
+      Syntax.w8) (Syntax.tcons (Syntax.tyInt Syntax.w8) (Syntax.tcons (Syntax.tyInt Syntax.w8) Syntax.tnil)))) Syntax.tnil)))) (Syntax.tcons (Syntax.tyInt
+      Syntax.w32) Syntax.tnil))))) Syntax.tnil) (Syntax.ttcons (Syntax.tcons Syntax.tyBool (Syntax.tcons (Syntax.tyEnum (116 ∷ 114 ∷ 97 ∷ 110 ∷ 115 ∷ 102 ∷ 111 ∷
+      114 ∷ 109 ∷ 58 ∷ 58 ∷ 65 ∷ 120 ∷ 105 ∷ 115 ∷ []) (Syntax.ttcons Syntax.tnil (Syntax.ttcons Syntax.tnil (Syntax.ttcons Syntax.tnil Syntax.ttnil))))
+      (Syntax.tcons (Syntax.tyStruct (116 ∷ 114 ∷ 97 ∷ 110 ∷ 115 ∷ 102 ∷ 111 ∷ 114 ∷ 109 ∷ 58 ∷ 58 ∷ 84 ∷ 114 ∷ 97 ∷ 110 ∷ 115 ∷ 102 ∷ 111 ∷ 114 ∷ 109 ∷ [])
+      (Syntax.tcons (Syntax.tyStruct (116 ∷ 114 ∷ 97 ∷ 110 ∷ 115 ∷ 102 ∷ 111 ∷ 114 ∷ 109 ∷ 58 ∷ 58 ∷ 67 ∷ 111 ∷ 101 ∷ 102 ∷ 102 ∷ 105 ∷ 99 ∷ 105 ∷ 101 ∷ 110 ∷
+      116 ∷ 115 ∷ []) (Syntax.tcons (Syntax.tyInt Syntax.w32) (Syntax.tcons (Syntax.tyInt Syntax.w32) (Syntax.tcons (Syntax.tyInt Syntax.w32) Syntax.tnil))))
+      (Syntax.tcons (Syntax.tyInt Syntax.w32) Syntax.tnil))) Syntax.tnil))) Syntax.ttnil)))))))))))) Syntax.tnil) Syntax.ttnil))))),
 ) ∷ (
-  15,
-  Rows.any-gone (Syntax.tyStruct (38 ∷ 91 ∷ 93 ∷ []) (Syntax.tcons (Syntax.tyRef Syntax.erased
-      Syntax.mut SlotAs.pointee) (Syntax.tcons (Syntax.tyInt Syntax.w64) Syntax.tnil))),
-) ∷ []
+  9,
+  Rows.sc-here
+      Row.sBool,
+) ∷ (10, Rows.any-gone (Syntax.tyInt Syntax.w64)) ∷ (11, Rows.any-gone (Syntax.tyInt Syntax.w64)) ∷ (12, Rows.any-gone (Syntax.tyInt Syntax.w64))
+    ∷ (13, Rows.any-gone Syntax.tyBool) ∷ (14, Rows.any-gone (Syntax.tyRef Syntax.erased Syntax.mut SlotAs.pointee)) ∷ (
+      15,
+      Rows.any-gone (Syntax.tyStruct (38
+          ∷ 91 ∷ 93 ∷ []) (Syntax.tcons (Syntax.tyRef Syntax.erased Syntax.mut SlotAs.pointee) (Syntax.tcons (Syntax.tyInt Syntax.w64) Syntax.tnil))),
+    ) ∷ []
 
 abbrev pub t4 : List.List Row.Entry
 t4 = (0, Rows.whole (Declared'.row (Apart.apartT Outcome.the-type))) ∷ (
@@ -1076,17 +1155,36 @@ t4 = (0, Rows.whole (Declared'.row (Apart.apartT Outcome.the-type))) ∷ (
       (Syntax.tyInt Syntax.w32) (Syntax.tcons (Syntax.tyInt Syntax.w32) (Syntax.tcons (Syntax.tyInt Syntax.w32) (Syntax.tcons (Syntax.tyInt Syntax.w32)
       (Syntax.tcons (Syntax.tyInt Syntax.w32) Syntax.tnil)))))))))) Syntax.tnil) (Syntax.ttcons Syntax.tnil (Syntax.ttcons (Syntax.tcons (Syntax.tyStruct (109 ∷
       111 ∷ 100 ∷ 101 ∷ 108 ∷ 58 ∷ 58 ∷ 77 ∷ 111 ∷ 100 ∷ 101 ∷ 108 ∷ []) (Syntax.tcons (Syntax.tyInt Syntax.w32) Syntax.tnil)) Syntax.tnil) (Syntax.ttcons
-      Syntax.tnil Syntax.ttnil)))))))))) Syntax.tnil) Syntax.ttnil))))),
-) ∷ (9, Rows.any-gone Syntax.tyBool) ∷ (10, Rows.any-gone (Syntax.tyInt Syntax.w64)) ∷
-    (11, Rows.any-gone (Syntax.tyInt Syntax.w64)) ∷ (12, Rows.any-gone (Syntax.tyInt Syntax.w64)) ∷ (13, Rows.any-gone Syntax.tyBool) ∷ (
-      14,
-      Rows.any-gone
-          (Syntax.tyRef Syntax.erased Syntax.mut SlotAs.pointee),
-    ) ∷ (
-      15,
-      Rows.any-gone (Syntax.tyStruct (38 ∷ 91 ∷ 93 ∷ []) (Syntax.tcons (Syntax.tyRef Syntax.erased
-          Syntax.mut SlotAs.pointee) (Syntax.tcons (Syntax.tyInt Syntax.w64) Syntax.tnil))),
-    ) ∷ []
+      Syntax.tnil (Syntax.ttcons (Syntax.tcons (Syntax.tyStruct (99 ∷ 101 ∷ 108 ∷ 108 ∷ 58 ∷ 58 ∷ 67 ∷ 101 ∷ 108 ∷ 108 ∷ []) (Syntax.tcons (Syntax.tyStruct (99 ∷
+      101 ∷ 108 ∷ 108 ∷ 58 ∷ 58 ∷ 69 ∷ 100 ∷ 103 ∷ 101 ∷ 115 ∷ []) (Syntax.tcons (Syntax.tyInt Syntax.w32) (Syntax.tcons (Syntax.tyInt Syntax.w32) (Syntax.tcons
+      (Syntax.tyInt Syntax.w32) Syntax.tnil)))) (Syntax.tcons (Syntax.tyStruct (99 ∷ 101 ∷ 108 ∷ 108 ∷ 58 ∷ 58 ∷ 65 ∷ 110 ∷ 103 ∷ 108 ∷ 101 ∷ 115 ∷ [])
+      (Syntax.tcons (Syntax.tyInt Syntax.w32) (Syntax.tcons (Syntax.tyInt Syntax.w32) (Syntax.tcons (Syntax.tyInt Syntax.w32) Syntax.tnil)))) (Syntax.tcons
+      (Syntax.tyStruct (99 ∷ 101 ∷ 108 ∷ 108 ∷ 58 ∷ 58 ∷ 71 ∷ 114 ∷ 111 ∷ 117 ∷ 112 ∷ []) (Syntax.tcons (Syntax.tyStruct (110 ∷ 97 ∷ 109 ∷ 101 ∷ 115 ∷ 58 ∷ 58 ∷
+      70 ∷ 111 ∷ 117 ∷ 114 ∷ []) (Syntax.tcons (Syntax.tyInt Syntax.w8) (Syntax.tcons (Syntax.tyInt Syntax.w8) (Syntax.tcons (Syntax.tyInt Syntax.w8)
+      (Syntax.tcons (Syntax.tyInt Syntax.w8) Syntax.tnil))))) (Syntax.tcons (Syntax.tyStruct (110 ∷ 97 ∷ 109 ∷ 101 ∷ 115 ∷ 58 ∷ 58 ∷ 70 ∷ 111 ∷ 117 ∷ 114 ∷ [])
+      (Syntax.tcons (Syntax.tyInt Syntax.w8) (Syntax.tcons (Syntax.tyInt Syntax.w8) (Syntax.tcons (Syntax.tyInt Syntax.w8) (Syntax.tcons (Syntax.tyInt Syntax.w8)
+      Syntax.tnil))))) (Syntax.tcons (Syntax.tyStruct (110 ∷ 97 ∷ 109 ∷ 101 ∷ 115 ∷ 58 ∷ 58 ∷ 84 ∷ 104 ∷ 114 ∷ 101 ∷ 101 ∷ []) (Syntax.tcons (Syntax.tyInt
+      Syntax.w8) (Syntax.tcons (Syntax.tyInt Syntax.w8) (Syntax.tcons (Syntax.tyInt Syntax.w8) Syntax.tnil)))) Syntax.tnil)))) (Syntax.tcons (Syntax.tyInt
+      Syntax.w32) Syntax.tnil))))) Syntax.tnil) (Syntax.ttcons (Syntax.tcons Syntax.tyBool (Syntax.tcons (Syntax.tyEnum (116 ∷ 114 ∷ 97 ∷ 110 ∷ 115 ∷ 102 ∷ 111 ∷
+      114 ∷ 109 ∷ 58 ∷ 58 ∷ 65 ∷ 120 ∷ 105 ∷ 115 ∷ []) (Syntax.ttcons Syntax.tnil (Syntax.ttcons Syntax.tnil (Syntax.ttcons Syntax.tnil Syntax.ttnil))))
+      (Syntax.tcons (Syntax.tyStruct (116 ∷ 114 ∷ 97 ∷ 110 ∷ 115 ∷ 102 ∷ 111 ∷ 114 ∷ 109 ∷ 58 ∷ 58 ∷ 84 ∷ 114 ∷ 97 ∷ 110 ∷ 115 ∷ 102 ∷ 111 ∷ 114 ∷ 109 ∷ [])
+      (Syntax.tcons (Syntax.tyStruct (116 ∷ 114 ∷ 97 ∷ 110 ∷ 115 ∷ 102 ∷ 111 ∷ 114 ∷ 109 ∷ 58 ∷ 58 ∷ 67 ∷ 111 ∷ 101 ∷ 102 ∷ 102 ∷ 105 ∷ 99 ∷ 105 ∷ 101 ∷ 110 ∷
+      116 ∷ 115 ∷ []) (Syntax.tcons (Syntax.tyInt Syntax.w32) (Syntax.tcons (Syntax.tyInt Syntax.w32) (Syntax.tcons (Syntax.tyInt Syntax.w32) Syntax.tnil))))
+      (Syntax.tcons (Syntax.tyInt Syntax.w32) Syntax.tnil))) Syntax.tnil))) Syntax.ttnil)))))))))))) Syntax.tnil) Syntax.ttnil))))),
+) ∷ (
+  9,
+  Rows.any-gone
+      Syntax.tyBool,
+) ∷ (10, Rows.any-gone (Syntax.tyInt Syntax.w64)) ∷ (11, Rows.any-gone (Syntax.tyInt Syntax.w64)) ∷ (
+  12,
+  Rows.any-gone (Syntax.tyInt
+      Syntax.w64),
+) ∷ (13, Rows.any-gone Syntax.tyBool) ∷ (14, Rows.any-gone (Syntax.tyRef Syntax.erased Syntax.mut SlotAs.pointee)) ∷ (
+  15,
+  Rows.any-gone
+      (Syntax.tyStruct (38 ∷ 91 ∷ 93 ∷ []) (Syntax.tcons (Syntax.tyRef Syntax.erased Syntax.mut SlotAs.pointee) (Syntax.tcons (Syntax.tyInt Syntax.w64)
+      Syntax.tnil))),
+) ∷ []
 
 abbrev pub t5 : List.List Row.Entry
 t5 = (0, Rows.whole (Declared'.row (Apart.apartT Outcome.the-type))) ∷ (
@@ -1198,17 +1296,36 @@ t5 = (0, Rows.whole (Declared'.row (Apart.apartT Outcome.the-type))) ∷ (
       (Syntax.tyInt Syntax.w32) (Syntax.tcons (Syntax.tyInt Syntax.w32) (Syntax.tcons (Syntax.tyInt Syntax.w32) (Syntax.tcons (Syntax.tyInt Syntax.w32)
       (Syntax.tcons (Syntax.tyInt Syntax.w32) Syntax.tnil)))))))))) Syntax.tnil) (Syntax.ttcons Syntax.tnil (Syntax.ttcons (Syntax.tcons (Syntax.tyStruct (109 ∷
       111 ∷ 100 ∷ 101 ∷ 108 ∷ 58 ∷ 58 ∷ 77 ∷ 111 ∷ 100 ∷ 101 ∷ 108 ∷ []) (Syntax.tcons (Syntax.tyInt Syntax.w32) Syntax.tnil)) Syntax.tnil) (Syntax.ttcons
-      Syntax.tnil Syntax.ttnil)))))))))) Syntax.tnil) Syntax.ttnil))))),
-) ∷ (9, Rows.any-gone Syntax.tyBool) ∷ (10, Rows.any-gone (Syntax.tyInt Syntax.w64)) ∷
-    (11, Rows.any-gone (Syntax.tyInt Syntax.w64)) ∷ (12, Rows.any-gone (Syntax.tyInt Syntax.w64)) ∷ (13, Rows.any-gone Syntax.tyBool) ∷ (
-      14,
-      Rows.any-gone
-          (Syntax.tyRef Syntax.erased Syntax.mut SlotAs.pointee),
-    ) ∷ (
-      15,
-      Rows.any-gone (Syntax.tyStruct (38 ∷ 91 ∷ 93 ∷ []) (Syntax.tcons (Syntax.tyRef Syntax.erased
-          Syntax.mut SlotAs.pointee) (Syntax.tcons (Syntax.tyInt Syntax.w64) Syntax.tnil))),
-    ) ∷ []
+      Syntax.tnil (Syntax.ttcons (Syntax.tcons (Syntax.tyStruct (99 ∷ 101 ∷ 108 ∷ 108 ∷ 58 ∷ 58 ∷ 67 ∷ 101 ∷ 108 ∷ 108 ∷ []) (Syntax.tcons (Syntax.tyStruct (99 ∷
+      101 ∷ 108 ∷ 108 ∷ 58 ∷ 58 ∷ 69 ∷ 100 ∷ 103 ∷ 101 ∷ 115 ∷ []) (Syntax.tcons (Syntax.tyInt Syntax.w32) (Syntax.tcons (Syntax.tyInt Syntax.w32) (Syntax.tcons
+      (Syntax.tyInt Syntax.w32) Syntax.tnil)))) (Syntax.tcons (Syntax.tyStruct (99 ∷ 101 ∷ 108 ∷ 108 ∷ 58 ∷ 58 ∷ 65 ∷ 110 ∷ 103 ∷ 108 ∷ 101 ∷ 115 ∷ [])
+      (Syntax.tcons (Syntax.tyInt Syntax.w32) (Syntax.tcons (Syntax.tyInt Syntax.w32) (Syntax.tcons (Syntax.tyInt Syntax.w32) Syntax.tnil)))) (Syntax.tcons
+      (Syntax.tyStruct (99 ∷ 101 ∷ 108 ∷ 108 ∷ 58 ∷ 58 ∷ 71 ∷ 114 ∷ 111 ∷ 117 ∷ 112 ∷ []) (Syntax.tcons (Syntax.tyStruct (110 ∷ 97 ∷ 109 ∷ 101 ∷ 115 ∷ 58 ∷ 58 ∷
+      70 ∷ 111 ∷ 117 ∷ 114 ∷ []) (Syntax.tcons (Syntax.tyInt Syntax.w8) (Syntax.tcons (Syntax.tyInt Syntax.w8) (Syntax.tcons (Syntax.tyInt Syntax.w8)
+      (Syntax.tcons (Syntax.tyInt Syntax.w8) Syntax.tnil))))) (Syntax.tcons (Syntax.tyStruct (110 ∷ 97 ∷ 109 ∷ 101 ∷ 115 ∷ 58 ∷ 58 ∷ 70 ∷ 111 ∷ 117 ∷ 114 ∷ [])
+      (Syntax.tcons (Syntax.tyInt Syntax.w8) (Syntax.tcons (Syntax.tyInt Syntax.w8) (Syntax.tcons (Syntax.tyInt Syntax.w8) (Syntax.tcons (Syntax.tyInt Syntax.w8)
+      Syntax.tnil))))) (Syntax.tcons (Syntax.tyStruct (110 ∷ 97 ∷ 109 ∷ 101 ∷ 115 ∷ 58 ∷ 58 ∷ 84 ∷ 104 ∷ 114 ∷ 101 ∷ 101 ∷ []) (Syntax.tcons (Syntax.tyInt
+      Syntax.w8) (Syntax.tcons (Syntax.tyInt Syntax.w8) (Syntax.tcons (Syntax.tyInt Syntax.w8) Syntax.tnil)))) Syntax.tnil)))) (Syntax.tcons (Syntax.tyInt
+      Syntax.w32) Syntax.tnil))))) Syntax.tnil) (Syntax.ttcons (Syntax.tcons Syntax.tyBool (Syntax.tcons (Syntax.tyEnum (116 ∷ 114 ∷ 97 ∷ 110 ∷ 115 ∷ 102 ∷ 111 ∷
+      114 ∷ 109 ∷ 58 ∷ 58 ∷ 65 ∷ 120 ∷ 105 ∷ 115 ∷ []) (Syntax.ttcons Syntax.tnil (Syntax.ttcons Syntax.tnil (Syntax.ttcons Syntax.tnil Syntax.ttnil))))
+      (Syntax.tcons (Syntax.tyStruct (116 ∷ 114 ∷ 97 ∷ 110 ∷ 115 ∷ 102 ∷ 111 ∷ 114 ∷ 109 ∷ 58 ∷ 58 ∷ 84 ∷ 114 ∷ 97 ∷ 110 ∷ 115 ∷ 102 ∷ 111 ∷ 114 ∷ 109 ∷ [])
+      (Syntax.tcons (Syntax.tyStruct (116 ∷ 114 ∷ 97 ∷ 110 ∷ 115 ∷ 102 ∷ 111 ∷ 114 ∷ 109 ∷ 58 ∷ 58 ∷ 67 ∷ 111 ∷ 101 ∷ 102 ∷ 102 ∷ 105 ∷ 99 ∷ 105 ∷ 101 ∷ 110 ∷
+      116 ∷ 115 ∷ []) (Syntax.tcons (Syntax.tyInt Syntax.w32) (Syntax.tcons (Syntax.tyInt Syntax.w32) (Syntax.tcons (Syntax.tyInt Syntax.w32) Syntax.tnil))))
+      (Syntax.tcons (Syntax.tyInt Syntax.w32) Syntax.tnil))) Syntax.tnil))) Syntax.ttnil)))))))))))) Syntax.tnil) Syntax.ttnil))))),
+) ∷ (
+  9,
+  Rows.any-gone
+      Syntax.tyBool,
+) ∷ (10, Rows.any-gone (Syntax.tyInt Syntax.w64)) ∷ (11, Rows.any-gone (Syntax.tyInt Syntax.w64)) ∷ (
+  12,
+  Rows.any-gone (Syntax.tyInt
+      Syntax.w64),
+) ∷ (13, Rows.any-gone Syntax.tyBool) ∷ (14, Rows.any-gone (Syntax.tyRef Syntax.erased Syntax.mut SlotAs.pointee)) ∷ (
+  15,
+  Rows.any-gone
+      (Syntax.tyStruct (38 ∷ 91 ∷ 93 ∷ []) (Syntax.tcons (Syntax.tyRef Syntax.erased Syntax.mut SlotAs.pointee) (Syntax.tcons (Syntax.tyInt Syntax.w64)
+      Syntax.tnil))),
+) ∷ []
 
 abbrev pub t6 : List.List Row.Entry
 t6 = (
@@ -1322,20 +1439,32 @@ t6 = (
       (Syntax.tcons (Syntax.tyInt Syntax.w32) (Syntax.tcons (Syntax.tyInt Syntax.w32) (Syntax.tcons (Syntax.tyInt Syntax.w32) (Syntax.tcons (Syntax.tyInt
       Syntax.w32) (Syntax.tcons (Syntax.tyInt Syntax.w32) Syntax.tnil)))))))))) Syntax.tnil) (Syntax.ttcons Syntax.tnil (Syntax.ttcons (Syntax.tcons
       (Syntax.tyStruct (109 ∷ 111 ∷ 100 ∷ 101 ∷ 108 ∷ 58 ∷ 58 ∷ 77 ∷ 111 ∷ 100 ∷ 101 ∷ 108 ∷ []) (Syntax.tcons (Syntax.tyInt Syntax.w32) Syntax.tnil))
-      Syntax.tnil) (Syntax.ttcons Syntax.tnil Syntax.ttnil)))))))))) Syntax.tnil) Syntax.ttnil))))),
-) ∷ (9, Rows.any-gone Syntax.tyBool) ∷ (
-  10,
-  Rows.any-gone
-      (Syntax.tyInt Syntax.w64),
-) ∷ (11, Rows.any-gone (Syntax.tyInt Syntax.w64)) ∷ (12, Rows.any-gone (Syntax.tyInt Syntax.w64)) ∷ (
-  13,
-  Rows.any-gone
-      Syntax.tyBool,
-) ∷ (14, Rows.any-gone (Syntax.tyRef Syntax.erased Syntax.mut SlotAs.pointee)) ∷ (
-  15,
-  Rows.any-gone (Syntax.tyStruct (38 ∷ 91 ∷ 93 ∷ [])
-      (Syntax.tcons (Syntax.tyRef Syntax.erased Syntax.mut SlotAs.pointee) (Syntax.tcons (Syntax.tyInt Syntax.w64) Syntax.tnil))),
-) ∷ []
+      Syntax.tnil) (Syntax.ttcons Syntax.tnil (Syntax.ttcons (Syntax.tcons (Syntax.tyStruct (99 ∷ 101 ∷ 108 ∷ 108 ∷ 58 ∷ 58 ∷ 67 ∷ 101 ∷ 108 ∷ 108 ∷ [])
+      (Syntax.tcons (Syntax.tyStruct (99 ∷ 101 ∷ 108 ∷ 108 ∷ 58 ∷ 58 ∷ 69 ∷ 100 ∷ 103 ∷ 101 ∷ 115 ∷ []) (Syntax.tcons (Syntax.tyInt Syntax.w32) (Syntax.tcons
+      (Syntax.tyInt Syntax.w32) (Syntax.tcons (Syntax.tyInt Syntax.w32) Syntax.tnil)))) (Syntax.tcons (Syntax.tyStruct (99 ∷ 101 ∷ 108 ∷ 108 ∷ 58 ∷ 58 ∷ 65 ∷ 110
+      ∷ 103 ∷ 108 ∷ 101 ∷ 115 ∷ []) (Syntax.tcons (Syntax.tyInt Syntax.w32) (Syntax.tcons (Syntax.tyInt Syntax.w32) (Syntax.tcons (Syntax.tyInt Syntax.w32)
+      Syntax.tnil)))) (Syntax.tcons (Syntax.tyStruct (99 ∷ 101 ∷ 108 ∷ 108 ∷ 58 ∷ 58 ∷ 71 ∷ 114 ∷ 111 ∷ 117 ∷ 112 ∷ []) (Syntax.tcons (Syntax.tyStruct (110 ∷ 97
+      ∷ 109 ∷ 101 ∷ 115 ∷ 58 ∷ 58 ∷ 70 ∷ 111 ∷ 117 ∷ 114 ∷ []) (Syntax.tcons (Syntax.tyInt Syntax.w8) (Syntax.tcons (Syntax.tyInt Syntax.w8) (Syntax.tcons
+      (Syntax.tyInt Syntax.w8) (Syntax.tcons (Syntax.tyInt Syntax.w8) Syntax.tnil))))) (Syntax.tcons (Syntax.tyStruct (110 ∷ 97 ∷ 109 ∷ 101 ∷ 115 ∷ 58 ∷ 58 ∷ 70
+      ∷ 111 ∷ 117 ∷ 114 ∷ []) (Syntax.tcons (Syntax.tyInt Syntax.w8) (Syntax.tcons (Syntax.tyInt Syntax.w8) (Syntax.tcons (Syntax.tyInt Syntax.w8) (Syntax.tcons
+      (Syntax.tyInt Syntax.w8) Syntax.tnil))))) (Syntax.tcons (Syntax.tyStruct (110 ∷ 97 ∷ 109 ∷ 101 ∷ 115 ∷ 58 ∷ 58 ∷ 84 ∷ 104 ∷ 114 ∷ 101 ∷ 101 ∷ [])
+      (Syntax.tcons (Syntax.tyInt Syntax.w8) (Syntax.tcons (Syntax.tyInt Syntax.w8) (Syntax.tcons (Syntax.tyInt Syntax.w8) Syntax.tnil)))) Syntax.tnil))))
+      (Syntax.tcons (Syntax.tyInt Syntax.w32) Syntax.tnil))))) Syntax.tnil) (Syntax.ttcons (Syntax.tcons Syntax.tyBool (Syntax.tcons (Syntax.tyEnum (116 ∷ 114 ∷
+      97 ∷ 110 ∷ 115 ∷ 102 ∷ 111 ∷ 114 ∷ 109 ∷ 58 ∷ 58 ∷ 65 ∷ 120 ∷ 105 ∷ 115 ∷ []) (Syntax.ttcons Syntax.tnil (Syntax.ttcons Syntax.tnil (Syntax.ttcons
+      Syntax.tnil Syntax.ttnil)))) (Syntax.tcons (Syntax.tyStruct (116 ∷ 114 ∷ 97 ∷ 110 ∷ 115 ∷ 102 ∷ 111 ∷ 114 ∷ 109 ∷ 58 ∷ 58 ∷ 84 ∷ 114 ∷ 97 ∷ 110 ∷ 115 ∷ 102
+      ∷ 111 ∷ 114 ∷ 109 ∷ []) (Syntax.tcons (Syntax.tyStruct (116 ∷ 114 ∷ 97 ∷ 110 ∷ 115 ∷ 102 ∷ 111 ∷ 114 ∷ 109 ∷ 58 ∷ 58 ∷ 67 ∷ 111 ∷ 101 ∷ 102 ∷ 102 ∷ 105 ∷
+      99 ∷ 105 ∷ 101 ∷ 110 ∷ 116 ∷ 115 ∷ []) (Syntax.tcons (Syntax.tyInt Syntax.w32) (Syntax.tcons (Syntax.tyInt Syntax.w32) (Syntax.tcons (Syntax.tyInt
+      Syntax.w32) Syntax.tnil)))) (Syntax.tcons (Syntax.tyInt Syntax.w32) Syntax.tnil))) Syntax.tnil))) Syntax.ttnil)))))))))))) Syntax.tnil) Syntax.ttnil))))),
+)
+    ∷ (9, Rows.any-gone Syntax.tyBool) ∷ (10, Rows.any-gone (Syntax.tyInt Syntax.w64)) ∷ (11, Rows.any-gone (Syntax.tyInt Syntax.w64)) ∷ (
+      12,
+      Rows.any-gone
+          (Syntax.tyInt Syntax.w64),
+    ) ∷ (13, Rows.any-gone Syntax.tyBool) ∷ (14, Rows.any-gone (Syntax.tyRef Syntax.erased Syntax.mut SlotAs.pointee)) ∷ (
+      15,
+      Rows.any-gone (Syntax.tyStruct (38 ∷ 91 ∷ 93 ∷ []) (Syntax.tcons (Syntax.tyRef Syntax.erased Syntax.mut SlotAs.pointee) (Syntax.tcons (Syntax.tyInt
+          Syntax.w64) Syntax.tnil))),
+    ) ∷ []
 
 abbrev pub t7 : List.List Row.Entry
 t7 = (
@@ -1451,17 +1580,36 @@ t7 = (
       (Syntax.tyInt Syntax.w32) (Syntax.tcons (Syntax.tyInt Syntax.w32) (Syntax.tcons (Syntax.tyInt Syntax.w32) (Syntax.tcons (Syntax.tyInt Syntax.w32)
       (Syntax.tcons (Syntax.tyInt Syntax.w32) Syntax.tnil)))))))))) Syntax.tnil) (Syntax.ttcons Syntax.tnil (Syntax.ttcons (Syntax.tcons (Syntax.tyStruct (109 ∷
       111 ∷ 100 ∷ 101 ∷ 108 ∷ 58 ∷ 58 ∷ 77 ∷ 111 ∷ 100 ∷ 101 ∷ 108 ∷ []) (Syntax.tcons (Syntax.tyInt Syntax.w32) Syntax.tnil)) Syntax.tnil) (Syntax.ttcons
-      Syntax.tnil Syntax.ttnil)))))))))) Syntax.tnil) Syntax.ttnil))))),
-) ∷ (9, Rows.any-gone Syntax.tyBool) ∷ (10, Rows.any-gone (Syntax.tyInt Syntax.w64)) ∷
-    (11, Rows.any-gone (Syntax.tyInt Syntax.w64)) ∷ (12, Rows.any-gone (Syntax.tyInt Syntax.w64)) ∷ (13, Rows.any-gone Syntax.tyBool) ∷ (
-      14,
-      Rows.any-gone
-          (Syntax.tyRef Syntax.erased Syntax.mut SlotAs.pointee),
-    ) ∷ (
-      15,
-      Rows.any-gone (Syntax.tyStruct (38 ∷ 91 ∷ 93 ∷ []) (Syntax.tcons (Syntax.tyRef Syntax.erased
-          Syntax.mut SlotAs.pointee) (Syntax.tcons (Syntax.tyInt Syntax.w64) Syntax.tnil))),
-    ) ∷ []
+      Syntax.tnil (Syntax.ttcons (Syntax.tcons (Syntax.tyStruct (99 ∷ 101 ∷ 108 ∷ 108 ∷ 58 ∷ 58 ∷ 67 ∷ 101 ∷ 108 ∷ 108 ∷ []) (Syntax.tcons (Syntax.tyStruct (99 ∷
+      101 ∷ 108 ∷ 108 ∷ 58 ∷ 58 ∷ 69 ∷ 100 ∷ 103 ∷ 101 ∷ 115 ∷ []) (Syntax.tcons (Syntax.tyInt Syntax.w32) (Syntax.tcons (Syntax.tyInt Syntax.w32) (Syntax.tcons
+      (Syntax.tyInt Syntax.w32) Syntax.tnil)))) (Syntax.tcons (Syntax.tyStruct (99 ∷ 101 ∷ 108 ∷ 108 ∷ 58 ∷ 58 ∷ 65 ∷ 110 ∷ 103 ∷ 108 ∷ 101 ∷ 115 ∷ [])
+      (Syntax.tcons (Syntax.tyInt Syntax.w32) (Syntax.tcons (Syntax.tyInt Syntax.w32) (Syntax.tcons (Syntax.tyInt Syntax.w32) Syntax.tnil)))) (Syntax.tcons
+      (Syntax.tyStruct (99 ∷ 101 ∷ 108 ∷ 108 ∷ 58 ∷ 58 ∷ 71 ∷ 114 ∷ 111 ∷ 117 ∷ 112 ∷ []) (Syntax.tcons (Syntax.tyStruct (110 ∷ 97 ∷ 109 ∷ 101 ∷ 115 ∷ 58 ∷ 58 ∷
+      70 ∷ 111 ∷ 117 ∷ 114 ∷ []) (Syntax.tcons (Syntax.tyInt Syntax.w8) (Syntax.tcons (Syntax.tyInt Syntax.w8) (Syntax.tcons (Syntax.tyInt Syntax.w8)
+      (Syntax.tcons (Syntax.tyInt Syntax.w8) Syntax.tnil))))) (Syntax.tcons (Syntax.tyStruct (110 ∷ 97 ∷ 109 ∷ 101 ∷ 115 ∷ 58 ∷ 58 ∷ 70 ∷ 111 ∷ 117 ∷ 114 ∷ [])
+      (Syntax.tcons (Syntax.tyInt Syntax.w8) (Syntax.tcons (Syntax.tyInt Syntax.w8) (Syntax.tcons (Syntax.tyInt Syntax.w8) (Syntax.tcons (Syntax.tyInt Syntax.w8)
+      Syntax.tnil))))) (Syntax.tcons (Syntax.tyStruct (110 ∷ 97 ∷ 109 ∷ 101 ∷ 115 ∷ 58 ∷ 58 ∷ 84 ∷ 104 ∷ 114 ∷ 101 ∷ 101 ∷ []) (Syntax.tcons (Syntax.tyInt
+      Syntax.w8) (Syntax.tcons (Syntax.tyInt Syntax.w8) (Syntax.tcons (Syntax.tyInt Syntax.w8) Syntax.tnil)))) Syntax.tnil)))) (Syntax.tcons (Syntax.tyInt
+      Syntax.w32) Syntax.tnil))))) Syntax.tnil) (Syntax.ttcons (Syntax.tcons Syntax.tyBool (Syntax.tcons (Syntax.tyEnum (116 ∷ 114 ∷ 97 ∷ 110 ∷ 115 ∷ 102 ∷ 111 ∷
+      114 ∷ 109 ∷ 58 ∷ 58 ∷ 65 ∷ 120 ∷ 105 ∷ 115 ∷ []) (Syntax.ttcons Syntax.tnil (Syntax.ttcons Syntax.tnil (Syntax.ttcons Syntax.tnil Syntax.ttnil))))
+      (Syntax.tcons (Syntax.tyStruct (116 ∷ 114 ∷ 97 ∷ 110 ∷ 115 ∷ 102 ∷ 111 ∷ 114 ∷ 109 ∷ 58 ∷ 58 ∷ 84 ∷ 114 ∷ 97 ∷ 110 ∷ 115 ∷ 102 ∷ 111 ∷ 114 ∷ 109 ∷ [])
+      (Syntax.tcons (Syntax.tyStruct (116 ∷ 114 ∷ 97 ∷ 110 ∷ 115 ∷ 102 ∷ 111 ∷ 114 ∷ 109 ∷ 58 ∷ 58 ∷ 67 ∷ 111 ∷ 101 ∷ 102 ∷ 102 ∷ 105 ∷ 99 ∷ 105 ∷ 101 ∷ 110 ∷
+      116 ∷ 115 ∷ []) (Syntax.tcons (Syntax.tyInt Syntax.w32) (Syntax.tcons (Syntax.tyInt Syntax.w32) (Syntax.tcons (Syntax.tyInt Syntax.w32) Syntax.tnil))))
+      (Syntax.tcons (Syntax.tyInt Syntax.w32) Syntax.tnil))) Syntax.tnil))) Syntax.ttnil)))))))))))) Syntax.tnil) Syntax.ttnil))))),
+) ∷ (
+  9,
+  Rows.any-gone
+      Syntax.tyBool,
+) ∷ (10, Rows.any-gone (Syntax.tyInt Syntax.w64)) ∷ (11, Rows.any-gone (Syntax.tyInt Syntax.w64)) ∷ (
+  12,
+  Rows.any-gone (Syntax.tyInt
+      Syntax.w64),
+) ∷ (13, Rows.any-gone Syntax.tyBool) ∷ (14, Rows.any-gone (Syntax.tyRef Syntax.erased Syntax.mut SlotAs.pointee)) ∷ (
+  15,
+  Rows.any-gone
+      (Syntax.tyStruct (38 ∷ 91 ∷ 93 ∷ []) (Syntax.tcons (Syntax.tyRef Syntax.erased Syntax.mut SlotAs.pointee) (Syntax.tcons (Syntax.tyInt Syntax.w64)
+      Syntax.tnil))),
+) ∷ []
 
 abbrev pub t8 : List.List Row.Entry
 t8 = (
@@ -1577,19 +1725,32 @@ t8 = (
       (Syntax.tyInt Syntax.w32) (Syntax.tcons (Syntax.tyInt Syntax.w32) (Syntax.tcons (Syntax.tyInt Syntax.w32) (Syntax.tcons (Syntax.tyInt Syntax.w32)
       (Syntax.tcons (Syntax.tyInt Syntax.w32) Syntax.tnil)))))))))) Syntax.tnil) (Syntax.ttcons Syntax.tnil (Syntax.ttcons (Syntax.tcons (Syntax.tyStruct (109 ∷
       111 ∷ 100 ∷ 101 ∷ 108 ∷ 58 ∷ 58 ∷ 77 ∷ 111 ∷ 100 ∷ 101 ∷ 108 ∷ []) (Syntax.tcons (Syntax.tyInt Syntax.w32) Syntax.tnil)) Syntax.tnil) (Syntax.ttcons
-      Syntax.tnil Syntax.ttnil)))))))))) Syntax.tnil) Syntax.ttnil))))),
-) ∷ (9, Rows.any-gone Syntax.tyBool) ∷ (10, Rows.sc-here (Row.sInt Syntax.w64)) ∷ (
-  11,
-  Rows.any-gone (Syntax.tyInt Syntax.w64),
-) ∷ (12, Rows.any-gone (Syntax.tyInt Syntax.w64)) ∷ (13, Rows.any-gone Syntax.tyBool) ∷ (
-  14,
-  Rows.any-gone
-      (Syntax.tyRef Syntax.erased Syntax.mut SlotAs.pointee),
+      Syntax.tnil (Syntax.ttcons (Syntax.tcons (Syntax.tyStruct (99 ∷ 101 ∷ 108 ∷ 108 ∷ 58 ∷ 58 ∷ 67 ∷ 101 ∷ 108 ∷ 108 ∷ []) (Syntax.tcons (Syntax.tyStruct (99 ∷
+      101 ∷ 108 ∷ 108 ∷ 58 ∷ 58 ∷ 69 ∷ 100 ∷ 103 ∷ 101 ∷ 115 ∷ []) (Syntax.tcons (Syntax.tyInt Syntax.w32) (Syntax.tcons (Syntax.tyInt Syntax.w32) (Syntax.tcons
+      (Syntax.tyInt Syntax.w32) Syntax.tnil)))) (Syntax.tcons (Syntax.tyStruct (99 ∷ 101 ∷ 108 ∷ 108 ∷ 58 ∷ 58 ∷ 65 ∷ 110 ∷ 103 ∷ 108 ∷ 101 ∷ 115 ∷ [])
+      (Syntax.tcons (Syntax.tyInt Syntax.w32) (Syntax.tcons (Syntax.tyInt Syntax.w32) (Syntax.tcons (Syntax.tyInt Syntax.w32) Syntax.tnil)))) (Syntax.tcons
+      (Syntax.tyStruct (99 ∷ 101 ∷ 108 ∷ 108 ∷ 58 ∷ 58 ∷ 71 ∷ 114 ∷ 111 ∷ 117 ∷ 112 ∷ []) (Syntax.tcons (Syntax.tyStruct (110 ∷ 97 ∷ 109 ∷ 101 ∷ 115 ∷ 58 ∷ 58 ∷
+      70 ∷ 111 ∷ 117 ∷ 114 ∷ []) (Syntax.tcons (Syntax.tyInt Syntax.w8) (Syntax.tcons (Syntax.tyInt Syntax.w8) (Syntax.tcons (Syntax.tyInt Syntax.w8)
+      (Syntax.tcons (Syntax.tyInt Syntax.w8) Syntax.tnil))))) (Syntax.tcons (Syntax.tyStruct (110 ∷ 97 ∷ 109 ∷ 101 ∷ 115 ∷ 58 ∷ 58 ∷ 70 ∷ 111 ∷ 117 ∷ 114 ∷ [])
+      (Syntax.tcons (Syntax.tyInt Syntax.w8) (Syntax.tcons (Syntax.tyInt Syntax.w8) (Syntax.tcons (Syntax.tyInt Syntax.w8) (Syntax.tcons (Syntax.tyInt Syntax.w8)
+      Syntax.tnil))))) (Syntax.tcons (Syntax.tyStruct (110 ∷ 97 ∷ 109 ∷ 101 ∷ 115 ∷ 58 ∷ 58 ∷ 84 ∷ 104 ∷ 114 ∷ 101 ∷ 101 ∷ []) (Syntax.tcons (Syntax.tyInt
+      Syntax.w8) (Syntax.tcons (Syntax.tyInt Syntax.w8) (Syntax.tcons (Syntax.tyInt Syntax.w8) Syntax.tnil)))) Syntax.tnil)))) (Syntax.tcons (Syntax.tyInt
+      Syntax.w32) Syntax.tnil))))) Syntax.tnil) (Syntax.ttcons (Syntax.tcons Syntax.tyBool (Syntax.tcons (Syntax.tyEnum (116 ∷ 114 ∷ 97 ∷ 110 ∷ 115 ∷ 102 ∷ 111 ∷
+      114 ∷ 109 ∷ 58 ∷ 58 ∷ 65 ∷ 120 ∷ 105 ∷ 115 ∷ []) (Syntax.ttcons Syntax.tnil (Syntax.ttcons Syntax.tnil (Syntax.ttcons Syntax.tnil Syntax.ttnil))))
+      (Syntax.tcons (Syntax.tyStruct (116 ∷ 114 ∷ 97 ∷ 110 ∷ 115 ∷ 102 ∷ 111 ∷ 114 ∷ 109 ∷ 58 ∷ 58 ∷ 84 ∷ 114 ∷ 97 ∷ 110 ∷ 115 ∷ 102 ∷ 111 ∷ 114 ∷ 109 ∷ [])
+      (Syntax.tcons (Syntax.tyStruct (116 ∷ 114 ∷ 97 ∷ 110 ∷ 115 ∷ 102 ∷ 111 ∷ 114 ∷ 109 ∷ 58 ∷ 58 ∷ 67 ∷ 111 ∷ 101 ∷ 102 ∷ 102 ∷ 105 ∷ 99 ∷ 105 ∷ 101 ∷ 110 ∷
+      116 ∷ 115 ∷ []) (Syntax.tcons (Syntax.tyInt Syntax.w32) (Syntax.tcons (Syntax.tyInt Syntax.w32) (Syntax.tcons (Syntax.tyInt Syntax.w32) Syntax.tnil))))
+      (Syntax.tcons (Syntax.tyInt Syntax.w32) Syntax.tnil))) Syntax.tnil))) Syntax.ttnil)))))))))))) Syntax.tnil) Syntax.ttnil))))),
 ) ∷ (
-  15,
-  Rows.any-gone (Syntax.tyStruct (38 ∷ 91 ∷ 93 ∷ []) (Syntax.tcons (Syntax.tyRef Syntax.erased
-      Syntax.mut SlotAs.pointee) (Syntax.tcons (Syntax.tyInt Syntax.w64) Syntax.tnil))),
-) ∷ []
+  9,
+  Rows.any-gone
+      Syntax.tyBool,
+) ∷ (10, Rows.sc-here (Row.sInt Syntax.w64)) ∷ (11, Rows.any-gone (Syntax.tyInt Syntax.w64)) ∷ (12, Rows.any-gone (Syntax.tyInt Syntax.w64)) ∷
+    (13, Rows.any-gone Syntax.tyBool) ∷ (14, Rows.any-gone (Syntax.tyRef Syntax.erased Syntax.mut SlotAs.pointee)) ∷ (
+      15,
+      Rows.any-gone (Syntax.tyStruct (38 ∷
+          91 ∷ 93 ∷ []) (Syntax.tcons (Syntax.tyRef Syntax.erased Syntax.mut SlotAs.pointee) (Syntax.tcons (Syntax.tyInt Syntax.w64) Syntax.tnil))),
+    ) ∷ []
 
 abbrev pub t9 : List.List Row.Entry
 t9 = (
@@ -1705,19 +1866,32 @@ t9 = (
       (Syntax.tyInt Syntax.w32) (Syntax.tcons (Syntax.tyInt Syntax.w32) (Syntax.tcons (Syntax.tyInt Syntax.w32) (Syntax.tcons (Syntax.tyInt Syntax.w32)
       (Syntax.tcons (Syntax.tyInt Syntax.w32) Syntax.tnil)))))))))) Syntax.tnil) (Syntax.ttcons Syntax.tnil (Syntax.ttcons (Syntax.tcons (Syntax.tyStruct (109 ∷
       111 ∷ 100 ∷ 101 ∷ 108 ∷ 58 ∷ 58 ∷ 77 ∷ 111 ∷ 100 ∷ 101 ∷ 108 ∷ []) (Syntax.tcons (Syntax.tyInt Syntax.w32) Syntax.tnil)) Syntax.tnil) (Syntax.ttcons
-      Syntax.tnil Syntax.ttnil)))))))))) Syntax.tnil) Syntax.ttnil))))),
-) ∷ (9, Rows.sc-here Row.sBool) ∷ (10, Rows.sc-here (Row.sInt Syntax.w64)) ∷ (
-  11,
-  Rows.any-gone (Syntax.tyInt Syntax.w64),
-) ∷ (12, Rows.any-gone (Syntax.tyInt Syntax.w64)) ∷ (13, Rows.any-gone Syntax.tyBool) ∷ (
-  14,
-  Rows.any-gone
-      (Syntax.tyRef Syntax.erased Syntax.mut SlotAs.pointee),
+      Syntax.tnil (Syntax.ttcons (Syntax.tcons (Syntax.tyStruct (99 ∷ 101 ∷ 108 ∷ 108 ∷ 58 ∷ 58 ∷ 67 ∷ 101 ∷ 108 ∷ 108 ∷ []) (Syntax.tcons (Syntax.tyStruct (99 ∷
+      101 ∷ 108 ∷ 108 ∷ 58 ∷ 58 ∷ 69 ∷ 100 ∷ 103 ∷ 101 ∷ 115 ∷ []) (Syntax.tcons (Syntax.tyInt Syntax.w32) (Syntax.tcons (Syntax.tyInt Syntax.w32) (Syntax.tcons
+      (Syntax.tyInt Syntax.w32) Syntax.tnil)))) (Syntax.tcons (Syntax.tyStruct (99 ∷ 101 ∷ 108 ∷ 108 ∷ 58 ∷ 58 ∷ 65 ∷ 110 ∷ 103 ∷ 108 ∷ 101 ∷ 115 ∷ [])
+      (Syntax.tcons (Syntax.tyInt Syntax.w32) (Syntax.tcons (Syntax.tyInt Syntax.w32) (Syntax.tcons (Syntax.tyInt Syntax.w32) Syntax.tnil)))) (Syntax.tcons
+      (Syntax.tyStruct (99 ∷ 101 ∷ 108 ∷ 108 ∷ 58 ∷ 58 ∷ 71 ∷ 114 ∷ 111 ∷ 117 ∷ 112 ∷ []) (Syntax.tcons (Syntax.tyStruct (110 ∷ 97 ∷ 109 ∷ 101 ∷ 115 ∷ 58 ∷ 58 ∷
+      70 ∷ 111 ∷ 117 ∷ 114 ∷ []) (Syntax.tcons (Syntax.tyInt Syntax.w8) (Syntax.tcons (Syntax.tyInt Syntax.w8) (Syntax.tcons (Syntax.tyInt Syntax.w8)
+      (Syntax.tcons (Syntax.tyInt Syntax.w8) Syntax.tnil))))) (Syntax.tcons (Syntax.tyStruct (110 ∷ 97 ∷ 109 ∷ 101 ∷ 115 ∷ 58 ∷ 58 ∷ 70 ∷ 111 ∷ 117 ∷ 114 ∷ [])
+      (Syntax.tcons (Syntax.tyInt Syntax.w8) (Syntax.tcons (Syntax.tyInt Syntax.w8) (Syntax.tcons (Syntax.tyInt Syntax.w8) (Syntax.tcons (Syntax.tyInt Syntax.w8)
+      Syntax.tnil))))) (Syntax.tcons (Syntax.tyStruct (110 ∷ 97 ∷ 109 ∷ 101 ∷ 115 ∷ 58 ∷ 58 ∷ 84 ∷ 104 ∷ 114 ∷ 101 ∷ 101 ∷ []) (Syntax.tcons (Syntax.tyInt
+      Syntax.w8) (Syntax.tcons (Syntax.tyInt Syntax.w8) (Syntax.tcons (Syntax.tyInt Syntax.w8) Syntax.tnil)))) Syntax.tnil)))) (Syntax.tcons (Syntax.tyInt
+      Syntax.w32) Syntax.tnil))))) Syntax.tnil) (Syntax.ttcons (Syntax.tcons Syntax.tyBool (Syntax.tcons (Syntax.tyEnum (116 ∷ 114 ∷ 97 ∷ 110 ∷ 115 ∷ 102 ∷ 111 ∷
+      114 ∷ 109 ∷ 58 ∷ 58 ∷ 65 ∷ 120 ∷ 105 ∷ 115 ∷ []) (Syntax.ttcons Syntax.tnil (Syntax.ttcons Syntax.tnil (Syntax.ttcons Syntax.tnil Syntax.ttnil))))
+      (Syntax.tcons (Syntax.tyStruct (116 ∷ 114 ∷ 97 ∷ 110 ∷ 115 ∷ 102 ∷ 111 ∷ 114 ∷ 109 ∷ 58 ∷ 58 ∷ 84 ∷ 114 ∷ 97 ∷ 110 ∷ 115 ∷ 102 ∷ 111 ∷ 114 ∷ 109 ∷ [])
+      (Syntax.tcons (Syntax.tyStruct (116 ∷ 114 ∷ 97 ∷ 110 ∷ 115 ∷ 102 ∷ 111 ∷ 114 ∷ 109 ∷ 58 ∷ 58 ∷ 67 ∷ 111 ∷ 101 ∷ 102 ∷ 102 ∷ 105 ∷ 99 ∷ 105 ∷ 101 ∷ 110 ∷
+      116 ∷ 115 ∷ []) (Syntax.tcons (Syntax.tyInt Syntax.w32) (Syntax.tcons (Syntax.tyInt Syntax.w32) (Syntax.tcons (Syntax.tyInt Syntax.w32) Syntax.tnil))))
+      (Syntax.tcons (Syntax.tyInt Syntax.w32) Syntax.tnil))) Syntax.tnil))) Syntax.ttnil)))))))))))) Syntax.tnil) Syntax.ttnil))))),
 ) ∷ (
-  15,
-  Rows.any-gone (Syntax.tyStruct (38 ∷ 91 ∷ 93 ∷ []) (Syntax.tcons (Syntax.tyRef Syntax.erased
-      Syntax.mut SlotAs.pointee) (Syntax.tcons (Syntax.tyInt Syntax.w64) Syntax.tnil))),
-) ∷ []
+  9,
+  Rows.sc-here
+      Row.sBool,
+) ∷ (10, Rows.sc-here (Row.sInt Syntax.w64)) ∷ (11, Rows.any-gone (Syntax.tyInt Syntax.w64)) ∷ (12, Rows.any-gone (Syntax.tyInt Syntax.w64)) ∷
+    (13, Rows.any-gone Syntax.tyBool) ∷ (14, Rows.any-gone (Syntax.tyRef Syntax.erased Syntax.mut SlotAs.pointee)) ∷ (
+      15,
+      Rows.any-gone (Syntax.tyStruct (38 ∷
+          91 ∷ 93 ∷ []) (Syntax.tcons (Syntax.tyRef Syntax.erased Syntax.mut SlotAs.pointee) (Syntax.tcons (Syntax.tyInt Syntax.w64) Syntax.tnil))),
+    ) ∷ []
 
 abbrev pub t10 : List.List Row.Entry
 t10 = (
@@ -1833,19 +2007,32 @@ t10 = (
       (Syntax.tyInt Syntax.w32) (Syntax.tcons (Syntax.tyInt Syntax.w32) (Syntax.tcons (Syntax.tyInt Syntax.w32) (Syntax.tcons (Syntax.tyInt Syntax.w32)
       (Syntax.tcons (Syntax.tyInt Syntax.w32) Syntax.tnil)))))))))) Syntax.tnil) (Syntax.ttcons Syntax.tnil (Syntax.ttcons (Syntax.tcons (Syntax.tyStruct (109 ∷
       111 ∷ 100 ∷ 101 ∷ 108 ∷ 58 ∷ 58 ∷ 77 ∷ 111 ∷ 100 ∷ 101 ∷ 108 ∷ []) (Syntax.tcons (Syntax.tyInt Syntax.w32) Syntax.tnil)) Syntax.tnil) (Syntax.ttcons
-      Syntax.tnil Syntax.ttnil)))))))))) Syntax.tnil) Syntax.ttnil))))),
-) ∷ (9, Rows.sc-here Row.sBool) ∷ (10, Rows.any-gone (Syntax.tyInt Syntax.w64)) ∷ (
-  11,
-  Rows.any-gone (Syntax.tyInt Syntax.w64),
-) ∷ (12, Rows.any-gone (Syntax.tyInt Syntax.w64)) ∷ (13, Rows.any-gone Syntax.tyBool) ∷ (
-  14,
-  Rows.any-gone
-      (Syntax.tyRef Syntax.erased Syntax.mut SlotAs.pointee),
+      Syntax.tnil (Syntax.ttcons (Syntax.tcons (Syntax.tyStruct (99 ∷ 101 ∷ 108 ∷ 108 ∷ 58 ∷ 58 ∷ 67 ∷ 101 ∷ 108 ∷ 108 ∷ []) (Syntax.tcons (Syntax.tyStruct (99 ∷
+      101 ∷ 108 ∷ 108 ∷ 58 ∷ 58 ∷ 69 ∷ 100 ∷ 103 ∷ 101 ∷ 115 ∷ []) (Syntax.tcons (Syntax.tyInt Syntax.w32) (Syntax.tcons (Syntax.tyInt Syntax.w32) (Syntax.tcons
+      (Syntax.tyInt Syntax.w32) Syntax.tnil)))) (Syntax.tcons (Syntax.tyStruct (99 ∷ 101 ∷ 108 ∷ 108 ∷ 58 ∷ 58 ∷ 65 ∷ 110 ∷ 103 ∷ 108 ∷ 101 ∷ 115 ∷ [])
+      (Syntax.tcons (Syntax.tyInt Syntax.w32) (Syntax.tcons (Syntax.tyInt Syntax.w32) (Syntax.tcons (Syntax.tyInt Syntax.w32) Syntax.tnil)))) (Syntax.tcons
+      (Syntax.tyStruct (99 ∷ 101 ∷ 108 ∷ 108 ∷ 58 ∷ 58 ∷ 71 ∷ 114 ∷ 111 ∷ 117 ∷ 112 ∷ []) (Syntax.tcons (Syntax.tyStruct (110 ∷ 97 ∷ 109 ∷ 101 ∷ 115 ∷ 58 ∷ 58 ∷
+      70 ∷ 111 ∷ 117 ∷ 114 ∷ []) (Syntax.tcons (Syntax.tyInt Syntax.w8) (Syntax.tcons (Syntax.tyInt Syntax.w8) (Syntax.tcons (Syntax.tyInt Syntax.w8)
+      (Syntax.tcons (Syntax.tyInt Syntax.w8) Syntax.tnil))))) (Syntax.tcons (Syntax.tyStruct (110 ∷ 97 ∷ 109 ∷ 101 ∷ 115 ∷ 58 ∷ 58 ∷ 70 ∷ 111 ∷ 117 ∷ 114 ∷ [])
+      (Syntax.tcons (Syntax.tyInt Syntax.w8) (Syntax.tcons (Syntax.tyInt Syntax.w8) (Syntax.tcons (Syntax.tyInt Syntax.w8) (Syntax.tcons (Syntax.tyInt Syntax.w8)
+      Syntax.tnil))))) (Syntax.tcons (Syntax.tyStruct (110 ∷ 97 ∷ 109 ∷ 101 ∷ 115 ∷ 58 ∷ 58 ∷ 84 ∷ 104 ∷ 114 ∷ 101 ∷ 101 ∷ []) (Syntax.tcons (Syntax.tyInt
+      Syntax.w8) (Syntax.tcons (Syntax.tyInt Syntax.w8) (Syntax.tcons (Syntax.tyInt Syntax.w8) Syntax.tnil)))) Syntax.tnil)))) (Syntax.tcons (Syntax.tyInt
+      Syntax.w32) Syntax.tnil))))) Syntax.tnil) (Syntax.ttcons (Syntax.tcons Syntax.tyBool (Syntax.tcons (Syntax.tyEnum (116 ∷ 114 ∷ 97 ∷ 110 ∷ 115 ∷ 102 ∷ 111 ∷
+      114 ∷ 109 ∷ 58 ∷ 58 ∷ 65 ∷ 120 ∷ 105 ∷ 115 ∷ []) (Syntax.ttcons Syntax.tnil (Syntax.ttcons Syntax.tnil (Syntax.ttcons Syntax.tnil Syntax.ttnil))))
+      (Syntax.tcons (Syntax.tyStruct (116 ∷ 114 ∷ 97 ∷ 110 ∷ 115 ∷ 102 ∷ 111 ∷ 114 ∷ 109 ∷ 58 ∷ 58 ∷ 84 ∷ 114 ∷ 97 ∷ 110 ∷ 115 ∷ 102 ∷ 111 ∷ 114 ∷ 109 ∷ [])
+      (Syntax.tcons (Syntax.tyStruct (116 ∷ 114 ∷ 97 ∷ 110 ∷ 115 ∷ 102 ∷ 111 ∷ 114 ∷ 109 ∷ 58 ∷ 58 ∷ 67 ∷ 111 ∷ 101 ∷ 102 ∷ 102 ∷ 105 ∷ 99 ∷ 105 ∷ 101 ∷ 110 ∷
+      116 ∷ 115 ∷ []) (Syntax.tcons (Syntax.tyInt Syntax.w32) (Syntax.tcons (Syntax.tyInt Syntax.w32) (Syntax.tcons (Syntax.tyInt Syntax.w32) Syntax.tnil))))
+      (Syntax.tcons (Syntax.tyInt Syntax.w32) Syntax.tnil))) Syntax.tnil))) Syntax.ttnil)))))))))))) Syntax.tnil) Syntax.ttnil))))),
 ) ∷ (
-  15,
-  Rows.any-gone (Syntax.tyStruct (38 ∷ 91 ∷ 93 ∷ []) (Syntax.tcons (Syntax.tyRef Syntax.erased
-      Syntax.mut SlotAs.pointee) (Syntax.tcons (Syntax.tyInt Syntax.w64) Syntax.tnil))),
-) ∷ []
+  9,
+  Rows.sc-here
+      Row.sBool,
+) ∷ (10, Rows.any-gone (Syntax.tyInt Syntax.w64)) ∷ (11, Rows.any-gone (Syntax.tyInt Syntax.w64)) ∷ (12, Rows.any-gone (Syntax.tyInt Syntax.w64))
+    ∷ (13, Rows.any-gone Syntax.tyBool) ∷ (14, Rows.any-gone (Syntax.tyRef Syntax.erased Syntax.mut SlotAs.pointee)) ∷ (
+      15,
+      Rows.any-gone (Syntax.tyStruct (38
+          ∷ 91 ∷ 93 ∷ []) (Syntax.tcons (Syntax.tyRef Syntax.erased Syntax.mut SlotAs.pointee) (Syntax.tcons (Syntax.tyInt Syntax.w64) Syntax.tnil))),
+    ) ∷ []
 
 abbrev pub t11 : List.List Row.Entry
 t11 = (0, Rows.whole (Declared'.row (Apart.apartT Outcome.the-type))) ∷ (
@@ -1957,17 +2144,36 @@ t11 = (0, Rows.whole (Declared'.row (Apart.apartT Outcome.the-type))) ∷ (
       (Syntax.tyInt Syntax.w32) (Syntax.tcons (Syntax.tyInt Syntax.w32) (Syntax.tcons (Syntax.tyInt Syntax.w32) (Syntax.tcons (Syntax.tyInt Syntax.w32)
       (Syntax.tcons (Syntax.tyInt Syntax.w32) Syntax.tnil)))))))))) Syntax.tnil) (Syntax.ttcons Syntax.tnil (Syntax.ttcons (Syntax.tcons (Syntax.tyStruct (109 ∷
       111 ∷ 100 ∷ 101 ∷ 108 ∷ 58 ∷ 58 ∷ 77 ∷ 111 ∷ 100 ∷ 101 ∷ 108 ∷ []) (Syntax.tcons (Syntax.tyInt Syntax.w32) Syntax.tnil)) Syntax.tnil) (Syntax.ttcons
-      Syntax.tnil Syntax.ttnil)))))))))) Syntax.tnil) Syntax.ttnil))))),
-) ∷ (9, Rows.any-gone Syntax.tyBool) ∷ (10, Rows.any-gone (Syntax.tyInt Syntax.w64)) ∷
-    (11, Rows.any-gone (Syntax.tyInt Syntax.w64)) ∷ (12, Rows.any-gone (Syntax.tyInt Syntax.w64)) ∷ (13, Rows.any-gone Syntax.tyBool) ∷ (
-      14,
-      Rows.any-gone
-          (Syntax.tyRef Syntax.erased Syntax.mut SlotAs.pointee),
-    ) ∷ (
-      15,
-      Rows.any-gone (Syntax.tyStruct (38 ∷ 91 ∷ 93 ∷ []) (Syntax.tcons (Syntax.tyRef Syntax.erased
-          Syntax.mut SlotAs.pointee) (Syntax.tcons (Syntax.tyInt Syntax.w64) Syntax.tnil))),
-    ) ∷ []
+      Syntax.tnil (Syntax.ttcons (Syntax.tcons (Syntax.tyStruct (99 ∷ 101 ∷ 108 ∷ 108 ∷ 58 ∷ 58 ∷ 67 ∷ 101 ∷ 108 ∷ 108 ∷ []) (Syntax.tcons (Syntax.tyStruct (99 ∷
+      101 ∷ 108 ∷ 108 ∷ 58 ∷ 58 ∷ 69 ∷ 100 ∷ 103 ∷ 101 ∷ 115 ∷ []) (Syntax.tcons (Syntax.tyInt Syntax.w32) (Syntax.tcons (Syntax.tyInt Syntax.w32) (Syntax.tcons
+      (Syntax.tyInt Syntax.w32) Syntax.tnil)))) (Syntax.tcons (Syntax.tyStruct (99 ∷ 101 ∷ 108 ∷ 108 ∷ 58 ∷ 58 ∷ 65 ∷ 110 ∷ 103 ∷ 108 ∷ 101 ∷ 115 ∷ [])
+      (Syntax.tcons (Syntax.tyInt Syntax.w32) (Syntax.tcons (Syntax.tyInt Syntax.w32) (Syntax.tcons (Syntax.tyInt Syntax.w32) Syntax.tnil)))) (Syntax.tcons
+      (Syntax.tyStruct (99 ∷ 101 ∷ 108 ∷ 108 ∷ 58 ∷ 58 ∷ 71 ∷ 114 ∷ 111 ∷ 117 ∷ 112 ∷ []) (Syntax.tcons (Syntax.tyStruct (110 ∷ 97 ∷ 109 ∷ 101 ∷ 115 ∷ 58 ∷ 58 ∷
+      70 ∷ 111 ∷ 117 ∷ 114 ∷ []) (Syntax.tcons (Syntax.tyInt Syntax.w8) (Syntax.tcons (Syntax.tyInt Syntax.w8) (Syntax.tcons (Syntax.tyInt Syntax.w8)
+      (Syntax.tcons (Syntax.tyInt Syntax.w8) Syntax.tnil))))) (Syntax.tcons (Syntax.tyStruct (110 ∷ 97 ∷ 109 ∷ 101 ∷ 115 ∷ 58 ∷ 58 ∷ 70 ∷ 111 ∷ 117 ∷ 114 ∷ [])
+      (Syntax.tcons (Syntax.tyInt Syntax.w8) (Syntax.tcons (Syntax.tyInt Syntax.w8) (Syntax.tcons (Syntax.tyInt Syntax.w8) (Syntax.tcons (Syntax.tyInt Syntax.w8)
+      Syntax.tnil))))) (Syntax.tcons (Syntax.tyStruct (110 ∷ 97 ∷ 109 ∷ 101 ∷ 115 ∷ 58 ∷ 58 ∷ 84 ∷ 104 ∷ 114 ∷ 101 ∷ 101 ∷ []) (Syntax.tcons (Syntax.tyInt
+      Syntax.w8) (Syntax.tcons (Syntax.tyInt Syntax.w8) (Syntax.tcons (Syntax.tyInt Syntax.w8) Syntax.tnil)))) Syntax.tnil)))) (Syntax.tcons (Syntax.tyInt
+      Syntax.w32) Syntax.tnil))))) Syntax.tnil) (Syntax.ttcons (Syntax.tcons Syntax.tyBool (Syntax.tcons (Syntax.tyEnum (116 ∷ 114 ∷ 97 ∷ 110 ∷ 115 ∷ 102 ∷ 111 ∷
+      114 ∷ 109 ∷ 58 ∷ 58 ∷ 65 ∷ 120 ∷ 105 ∷ 115 ∷ []) (Syntax.ttcons Syntax.tnil (Syntax.ttcons Syntax.tnil (Syntax.ttcons Syntax.tnil Syntax.ttnil))))
+      (Syntax.tcons (Syntax.tyStruct (116 ∷ 114 ∷ 97 ∷ 110 ∷ 115 ∷ 102 ∷ 111 ∷ 114 ∷ 109 ∷ 58 ∷ 58 ∷ 84 ∷ 114 ∷ 97 ∷ 110 ∷ 115 ∷ 102 ∷ 111 ∷ 114 ∷ 109 ∷ [])
+      (Syntax.tcons (Syntax.tyStruct (116 ∷ 114 ∷ 97 ∷ 110 ∷ 115 ∷ 102 ∷ 111 ∷ 114 ∷ 109 ∷ 58 ∷ 58 ∷ 67 ∷ 111 ∷ 101 ∷ 102 ∷ 102 ∷ 105 ∷ 99 ∷ 105 ∷ 101 ∷ 110 ∷
+      116 ∷ 115 ∷ []) (Syntax.tcons (Syntax.tyInt Syntax.w32) (Syntax.tcons (Syntax.tyInt Syntax.w32) (Syntax.tcons (Syntax.tyInt Syntax.w32) Syntax.tnil))))
+      (Syntax.tcons (Syntax.tyInt Syntax.w32) Syntax.tnil))) Syntax.tnil))) Syntax.ttnil)))))))))))) Syntax.tnil) Syntax.ttnil))))),
+) ∷ (
+  9,
+  Rows.any-gone
+      Syntax.tyBool,
+) ∷ (10, Rows.any-gone (Syntax.tyInt Syntax.w64)) ∷ (11, Rows.any-gone (Syntax.tyInt Syntax.w64)) ∷ (
+  12,
+  Rows.any-gone (Syntax.tyInt
+      Syntax.w64),
+) ∷ (13, Rows.any-gone Syntax.tyBool) ∷ (14, Rows.any-gone (Syntax.tyRef Syntax.erased Syntax.mut SlotAs.pointee)) ∷ (
+  15,
+  Rows.any-gone
+      (Syntax.tyStruct (38 ∷ 91 ∷ 93 ∷ []) (Syntax.tcons (Syntax.tyRef Syntax.erased Syntax.mut SlotAs.pointee) (Syntax.tcons (Syntax.tyInt Syntax.w64)
+      Syntax.tnil))),
+) ∷ []
 
 abbrev pub t12 : List.List Row.Entry
 t12 = (
@@ -2083,17 +2289,36 @@ t12 = (
       (Syntax.tyInt Syntax.w32) (Syntax.tcons (Syntax.tyInt Syntax.w32) (Syntax.tcons (Syntax.tyInt Syntax.w32) (Syntax.tcons (Syntax.tyInt Syntax.w32)
       (Syntax.tcons (Syntax.tyInt Syntax.w32) Syntax.tnil)))))))))) Syntax.tnil) (Syntax.ttcons Syntax.tnil (Syntax.ttcons (Syntax.tcons (Syntax.tyStruct (109 ∷
       111 ∷ 100 ∷ 101 ∷ 108 ∷ 58 ∷ 58 ∷ 77 ∷ 111 ∷ 100 ∷ 101 ∷ 108 ∷ []) (Syntax.tcons (Syntax.tyInt Syntax.w32) Syntax.tnil)) Syntax.tnil) (Syntax.ttcons
-      Syntax.tnil Syntax.ttnil)))))))))) Syntax.tnil) Syntax.ttnil))))),
-) ∷ (9, Rows.any-gone Syntax.tyBool) ∷ (10, Rows.any-gone (Syntax.tyInt Syntax.w64)) ∷
-    (11, Rows.any-gone (Syntax.tyInt Syntax.w64)) ∷ (12, Rows.any-gone (Syntax.tyInt Syntax.w64)) ∷ (13, Rows.any-gone Syntax.tyBool) ∷ (
-      14,
-      Rows.any-gone
-          (Syntax.tyRef Syntax.erased Syntax.mut SlotAs.pointee),
-    ) ∷ (
-      15,
-      Rows.any-gone (Syntax.tyStruct (38 ∷ 91 ∷ 93 ∷ []) (Syntax.tcons (Syntax.tyRef Syntax.erased
-          Syntax.mut SlotAs.pointee) (Syntax.tcons (Syntax.tyInt Syntax.w64) Syntax.tnil))),
-    ) ∷ []
+      Syntax.tnil (Syntax.ttcons (Syntax.tcons (Syntax.tyStruct (99 ∷ 101 ∷ 108 ∷ 108 ∷ 58 ∷ 58 ∷ 67 ∷ 101 ∷ 108 ∷ 108 ∷ []) (Syntax.tcons (Syntax.tyStruct (99 ∷
+      101 ∷ 108 ∷ 108 ∷ 58 ∷ 58 ∷ 69 ∷ 100 ∷ 103 ∷ 101 ∷ 115 ∷ []) (Syntax.tcons (Syntax.tyInt Syntax.w32) (Syntax.tcons (Syntax.tyInt Syntax.w32) (Syntax.tcons
+      (Syntax.tyInt Syntax.w32) Syntax.tnil)))) (Syntax.tcons (Syntax.tyStruct (99 ∷ 101 ∷ 108 ∷ 108 ∷ 58 ∷ 58 ∷ 65 ∷ 110 ∷ 103 ∷ 108 ∷ 101 ∷ 115 ∷ [])
+      (Syntax.tcons (Syntax.tyInt Syntax.w32) (Syntax.tcons (Syntax.tyInt Syntax.w32) (Syntax.tcons (Syntax.tyInt Syntax.w32) Syntax.tnil)))) (Syntax.tcons
+      (Syntax.tyStruct (99 ∷ 101 ∷ 108 ∷ 108 ∷ 58 ∷ 58 ∷ 71 ∷ 114 ∷ 111 ∷ 117 ∷ 112 ∷ []) (Syntax.tcons (Syntax.tyStruct (110 ∷ 97 ∷ 109 ∷ 101 ∷ 115 ∷ 58 ∷ 58 ∷
+      70 ∷ 111 ∷ 117 ∷ 114 ∷ []) (Syntax.tcons (Syntax.tyInt Syntax.w8) (Syntax.tcons (Syntax.tyInt Syntax.w8) (Syntax.tcons (Syntax.tyInt Syntax.w8)
+      (Syntax.tcons (Syntax.tyInt Syntax.w8) Syntax.tnil))))) (Syntax.tcons (Syntax.tyStruct (110 ∷ 97 ∷ 109 ∷ 101 ∷ 115 ∷ 58 ∷ 58 ∷ 70 ∷ 111 ∷ 117 ∷ 114 ∷ [])
+      (Syntax.tcons (Syntax.tyInt Syntax.w8) (Syntax.tcons (Syntax.tyInt Syntax.w8) (Syntax.tcons (Syntax.tyInt Syntax.w8) (Syntax.tcons (Syntax.tyInt Syntax.w8)
+      Syntax.tnil))))) (Syntax.tcons (Syntax.tyStruct (110 ∷ 97 ∷ 109 ∷ 101 ∷ 115 ∷ 58 ∷ 58 ∷ 84 ∷ 104 ∷ 114 ∷ 101 ∷ 101 ∷ []) (Syntax.tcons (Syntax.tyInt
+      Syntax.w8) (Syntax.tcons (Syntax.tyInt Syntax.w8) (Syntax.tcons (Syntax.tyInt Syntax.w8) Syntax.tnil)))) Syntax.tnil)))) (Syntax.tcons (Syntax.tyInt
+      Syntax.w32) Syntax.tnil))))) Syntax.tnil) (Syntax.ttcons (Syntax.tcons Syntax.tyBool (Syntax.tcons (Syntax.tyEnum (116 ∷ 114 ∷ 97 ∷ 110 ∷ 115 ∷ 102 ∷ 111 ∷
+      114 ∷ 109 ∷ 58 ∷ 58 ∷ 65 ∷ 120 ∷ 105 ∷ 115 ∷ []) (Syntax.ttcons Syntax.tnil (Syntax.ttcons Syntax.tnil (Syntax.ttcons Syntax.tnil Syntax.ttnil))))
+      (Syntax.tcons (Syntax.tyStruct (116 ∷ 114 ∷ 97 ∷ 110 ∷ 115 ∷ 102 ∷ 111 ∷ 114 ∷ 109 ∷ 58 ∷ 58 ∷ 84 ∷ 114 ∷ 97 ∷ 110 ∷ 115 ∷ 102 ∷ 111 ∷ 114 ∷ 109 ∷ [])
+      (Syntax.tcons (Syntax.tyStruct (116 ∷ 114 ∷ 97 ∷ 110 ∷ 115 ∷ 102 ∷ 111 ∷ 114 ∷ 109 ∷ 58 ∷ 58 ∷ 67 ∷ 111 ∷ 101 ∷ 102 ∷ 102 ∷ 105 ∷ 99 ∷ 105 ∷ 101 ∷ 110 ∷
+      116 ∷ 115 ∷ []) (Syntax.tcons (Syntax.tyInt Syntax.w32) (Syntax.tcons (Syntax.tyInt Syntax.w32) (Syntax.tcons (Syntax.tyInt Syntax.w32) Syntax.tnil))))
+      (Syntax.tcons (Syntax.tyInt Syntax.w32) Syntax.tnil))) Syntax.tnil))) Syntax.ttnil)))))))))))) Syntax.tnil) Syntax.ttnil))))),
+) ∷ (
+  9,
+  Rows.any-gone
+      Syntax.tyBool,
+) ∷ (10, Rows.any-gone (Syntax.tyInt Syntax.w64)) ∷ (11, Rows.any-gone (Syntax.tyInt Syntax.w64)) ∷ (
+  12,
+  Rows.any-gone (Syntax.tyInt
+      Syntax.w64),
+) ∷ (13, Rows.any-gone Syntax.tyBool) ∷ (14, Rows.any-gone (Syntax.tyRef Syntax.erased Syntax.mut SlotAs.pointee)) ∷ (
+  15,
+  Rows.any-gone
+      (Syntax.tyStruct (38 ∷ 91 ∷ 93 ∷ []) (Syntax.tcons (Syntax.tyRef Syntax.erased Syntax.mut SlotAs.pointee) (Syntax.tcons (Syntax.tyInt Syntax.w64)
+      Syntax.tnil))),
+) ∷ []
 
 abbrev pub t13 : List.List Row.Entry
 t13 = (
@@ -2208,20 +2433,32 @@ t13 = (
       (Syntax.tcons (Syntax.tyInt Syntax.w32) (Syntax.tcons (Syntax.tyInt Syntax.w32) (Syntax.tcons (Syntax.tyInt Syntax.w32) (Syntax.tcons (Syntax.tyInt
       Syntax.w32) (Syntax.tcons (Syntax.tyInt Syntax.w32) Syntax.tnil)))))))))) Syntax.tnil) (Syntax.ttcons Syntax.tnil (Syntax.ttcons (Syntax.tcons
       (Syntax.tyStruct (109 ∷ 111 ∷ 100 ∷ 101 ∷ 108 ∷ 58 ∷ 58 ∷ 77 ∷ 111 ∷ 100 ∷ 101 ∷ 108 ∷ []) (Syntax.tcons (Syntax.tyInt Syntax.w32) Syntax.tnil))
-      Syntax.tnil) (Syntax.ttcons Syntax.tnil Syntax.ttnil)))))))))) Syntax.tnil) Syntax.ttnil))))),
-) ∷ (9, Rows.any-gone Syntax.tyBool) ∷ (
-  10,
-  Rows.any-gone
-      (Syntax.tyInt Syntax.w64),
-) ∷ (11, Rows.any-gone (Syntax.tyInt Syntax.w64)) ∷ (12, Rows.any-gone (Syntax.tyInt Syntax.w64)) ∷ (
-  13,
-  Rows.any-gone
-      Syntax.tyBool,
-) ∷ (14, Rows.any-gone (Syntax.tyRef Syntax.erased Syntax.mut SlotAs.pointee)) ∷ (
-  15,
-  Rows.any-gone (Syntax.tyStruct (38 ∷ 91 ∷ 93 ∷ [])
-      (Syntax.tcons (Syntax.tyRef Syntax.erased Syntax.mut SlotAs.pointee) (Syntax.tcons (Syntax.tyInt Syntax.w64) Syntax.tnil))),
-) ∷ []
+      Syntax.tnil) (Syntax.ttcons Syntax.tnil (Syntax.ttcons (Syntax.tcons (Syntax.tyStruct (99 ∷ 101 ∷ 108 ∷ 108 ∷ 58 ∷ 58 ∷ 67 ∷ 101 ∷ 108 ∷ 108 ∷ [])
+      (Syntax.tcons (Syntax.tyStruct (99 ∷ 101 ∷ 108 ∷ 108 ∷ 58 ∷ 58 ∷ 69 ∷ 100 ∷ 103 ∷ 101 ∷ 115 ∷ []) (Syntax.tcons (Syntax.tyInt Syntax.w32) (Syntax.tcons
+      (Syntax.tyInt Syntax.w32) (Syntax.tcons (Syntax.tyInt Syntax.w32) Syntax.tnil)))) (Syntax.tcons (Syntax.tyStruct (99 ∷ 101 ∷ 108 ∷ 108 ∷ 58 ∷ 58 ∷ 65 ∷ 110
+      ∷ 103 ∷ 108 ∷ 101 ∷ 115 ∷ []) (Syntax.tcons (Syntax.tyInt Syntax.w32) (Syntax.tcons (Syntax.tyInt Syntax.w32) (Syntax.tcons (Syntax.tyInt Syntax.w32)
+      Syntax.tnil)))) (Syntax.tcons (Syntax.tyStruct (99 ∷ 101 ∷ 108 ∷ 108 ∷ 58 ∷ 58 ∷ 71 ∷ 114 ∷ 111 ∷ 117 ∷ 112 ∷ []) (Syntax.tcons (Syntax.tyStruct (110 ∷ 97
+      ∷ 109 ∷ 101 ∷ 115 ∷ 58 ∷ 58 ∷ 70 ∷ 111 ∷ 117 ∷ 114 ∷ []) (Syntax.tcons (Syntax.tyInt Syntax.w8) (Syntax.tcons (Syntax.tyInt Syntax.w8) (Syntax.tcons
+      (Syntax.tyInt Syntax.w8) (Syntax.tcons (Syntax.tyInt Syntax.w8) Syntax.tnil))))) (Syntax.tcons (Syntax.tyStruct (110 ∷ 97 ∷ 109 ∷ 101 ∷ 115 ∷ 58 ∷ 58 ∷ 70
+      ∷ 111 ∷ 117 ∷ 114 ∷ []) (Syntax.tcons (Syntax.tyInt Syntax.w8) (Syntax.tcons (Syntax.tyInt Syntax.w8) (Syntax.tcons (Syntax.tyInt Syntax.w8) (Syntax.tcons
+      (Syntax.tyInt Syntax.w8) Syntax.tnil))))) (Syntax.tcons (Syntax.tyStruct (110 ∷ 97 ∷ 109 ∷ 101 ∷ 115 ∷ 58 ∷ 58 ∷ 84 ∷ 104 ∷ 114 ∷ 101 ∷ 101 ∷ [])
+      (Syntax.tcons (Syntax.tyInt Syntax.w8) (Syntax.tcons (Syntax.tyInt Syntax.w8) (Syntax.tcons (Syntax.tyInt Syntax.w8) Syntax.tnil)))) Syntax.tnil))))
+      (Syntax.tcons (Syntax.tyInt Syntax.w32) Syntax.tnil))))) Syntax.tnil) (Syntax.ttcons (Syntax.tcons Syntax.tyBool (Syntax.tcons (Syntax.tyEnum (116 ∷ 114 ∷
+      97 ∷ 110 ∷ 115 ∷ 102 ∷ 111 ∷ 114 ∷ 109 ∷ 58 ∷ 58 ∷ 65 ∷ 120 ∷ 105 ∷ 115 ∷ []) (Syntax.ttcons Syntax.tnil (Syntax.ttcons Syntax.tnil (Syntax.ttcons
+      Syntax.tnil Syntax.ttnil)))) (Syntax.tcons (Syntax.tyStruct (116 ∷ 114 ∷ 97 ∷ 110 ∷ 115 ∷ 102 ∷ 111 ∷ 114 ∷ 109 ∷ 58 ∷ 58 ∷ 84 ∷ 114 ∷ 97 ∷ 110 ∷ 115 ∷ 102
+      ∷ 111 ∷ 114 ∷ 109 ∷ []) (Syntax.tcons (Syntax.tyStruct (116 ∷ 114 ∷ 97 ∷ 110 ∷ 115 ∷ 102 ∷ 111 ∷ 114 ∷ 109 ∷ 58 ∷ 58 ∷ 67 ∷ 111 ∷ 101 ∷ 102 ∷ 102 ∷ 105 ∷
+      99 ∷ 105 ∷ 101 ∷ 110 ∷ 116 ∷ 115 ∷ []) (Syntax.tcons (Syntax.tyInt Syntax.w32) (Syntax.tcons (Syntax.tyInt Syntax.w32) (Syntax.tcons (Syntax.tyInt
+      Syntax.w32) Syntax.tnil)))) (Syntax.tcons (Syntax.tyInt Syntax.w32) Syntax.tnil))) Syntax.tnil))) Syntax.ttnil)))))))))))) Syntax.tnil) Syntax.ttnil))))),
+)
+    ∷ (9, Rows.any-gone Syntax.tyBool) ∷ (10, Rows.any-gone (Syntax.tyInt Syntax.w64)) ∷ (11, Rows.any-gone (Syntax.tyInt Syntax.w64)) ∷ (
+      12,
+      Rows.any-gone
+          (Syntax.tyInt Syntax.w64),
+    ) ∷ (13, Rows.any-gone Syntax.tyBool) ∷ (14, Rows.any-gone (Syntax.tyRef Syntax.erased Syntax.mut SlotAs.pointee)) ∷ (
+      15,
+      Rows.any-gone (Syntax.tyStruct (38 ∷ 91 ∷ 93 ∷ []) (Syntax.tcons (Syntax.tyRef Syntax.erased Syntax.mut SlotAs.pointee) (Syntax.tcons (Syntax.tyInt
+          Syntax.w64) Syntax.tnil))),
+    ) ∷ []
 
 abbrev pub t14 : List.List Row.Entry
 t14 = (
@@ -2336,20 +2573,32 @@ t14 = (
       (Syntax.tcons (Syntax.tyInt Syntax.w32) (Syntax.tcons (Syntax.tyInt Syntax.w32) (Syntax.tcons (Syntax.tyInt Syntax.w32) (Syntax.tcons (Syntax.tyInt
       Syntax.w32) (Syntax.tcons (Syntax.tyInt Syntax.w32) Syntax.tnil)))))))))) Syntax.tnil) (Syntax.ttcons Syntax.tnil (Syntax.ttcons (Syntax.tcons
       (Syntax.tyStruct (109 ∷ 111 ∷ 100 ∷ 101 ∷ 108 ∷ 58 ∷ 58 ∷ 77 ∷ 111 ∷ 100 ∷ 101 ∷ 108 ∷ []) (Syntax.tcons (Syntax.tyInt Syntax.w32) Syntax.tnil))
-      Syntax.tnil) (Syntax.ttcons Syntax.tnil Syntax.ttnil)))))))))) Syntax.tnil) Syntax.ttnil))))),
-) ∷ (9, Rows.any-gone Syntax.tyBool) ∷ (
-  10,
-  Rows.any-gone
-      (Syntax.tyInt Syntax.w64),
-) ∷ (11, Rows.any-gone (Syntax.tyInt Syntax.w64)) ∷ (12, Rows.any-gone (Syntax.tyInt Syntax.w64)) ∷ (
-  13,
-  Rows.any-gone
-      Syntax.tyBool,
-) ∷ (14, Rows.any-gone (Syntax.tyRef Syntax.erased Syntax.mut SlotAs.pointee)) ∷ (
-  15,
-  Rows.any-gone (Syntax.tyStruct (38 ∷ 91 ∷ 93 ∷ [])
-      (Syntax.tcons (Syntax.tyRef Syntax.erased Syntax.mut SlotAs.pointee) (Syntax.tcons (Syntax.tyInt Syntax.w64) Syntax.tnil))),
-) ∷ []
+      Syntax.tnil) (Syntax.ttcons Syntax.tnil (Syntax.ttcons (Syntax.tcons (Syntax.tyStruct (99 ∷ 101 ∷ 108 ∷ 108 ∷ 58 ∷ 58 ∷ 67 ∷ 101 ∷ 108 ∷ 108 ∷ [])
+      (Syntax.tcons (Syntax.tyStruct (99 ∷ 101 ∷ 108 ∷ 108 ∷ 58 ∷ 58 ∷ 69 ∷ 100 ∷ 103 ∷ 101 ∷ 115 ∷ []) (Syntax.tcons (Syntax.tyInt Syntax.w32) (Syntax.tcons
+      (Syntax.tyInt Syntax.w32) (Syntax.tcons (Syntax.tyInt Syntax.w32) Syntax.tnil)))) (Syntax.tcons (Syntax.tyStruct (99 ∷ 101 ∷ 108 ∷ 108 ∷ 58 ∷ 58 ∷ 65 ∷ 110
+      ∷ 103 ∷ 108 ∷ 101 ∷ 115 ∷ []) (Syntax.tcons (Syntax.tyInt Syntax.w32) (Syntax.tcons (Syntax.tyInt Syntax.w32) (Syntax.tcons (Syntax.tyInt Syntax.w32)
+      Syntax.tnil)))) (Syntax.tcons (Syntax.tyStruct (99 ∷ 101 ∷ 108 ∷ 108 ∷ 58 ∷ 58 ∷ 71 ∷ 114 ∷ 111 ∷ 117 ∷ 112 ∷ []) (Syntax.tcons (Syntax.tyStruct (110 ∷ 97
+      ∷ 109 ∷ 101 ∷ 115 ∷ 58 ∷ 58 ∷ 70 ∷ 111 ∷ 117 ∷ 114 ∷ []) (Syntax.tcons (Syntax.tyInt Syntax.w8) (Syntax.tcons (Syntax.tyInt Syntax.w8) (Syntax.tcons
+      (Syntax.tyInt Syntax.w8) (Syntax.tcons (Syntax.tyInt Syntax.w8) Syntax.tnil))))) (Syntax.tcons (Syntax.tyStruct (110 ∷ 97 ∷ 109 ∷ 101 ∷ 115 ∷ 58 ∷ 58 ∷ 70
+      ∷ 111 ∷ 117 ∷ 114 ∷ []) (Syntax.tcons (Syntax.tyInt Syntax.w8) (Syntax.tcons (Syntax.tyInt Syntax.w8) (Syntax.tcons (Syntax.tyInt Syntax.w8) (Syntax.tcons
+      (Syntax.tyInt Syntax.w8) Syntax.tnil))))) (Syntax.tcons (Syntax.tyStruct (110 ∷ 97 ∷ 109 ∷ 101 ∷ 115 ∷ 58 ∷ 58 ∷ 84 ∷ 104 ∷ 114 ∷ 101 ∷ 101 ∷ [])
+      (Syntax.tcons (Syntax.tyInt Syntax.w8) (Syntax.tcons (Syntax.tyInt Syntax.w8) (Syntax.tcons (Syntax.tyInt Syntax.w8) Syntax.tnil)))) Syntax.tnil))))
+      (Syntax.tcons (Syntax.tyInt Syntax.w32) Syntax.tnil))))) Syntax.tnil) (Syntax.ttcons (Syntax.tcons Syntax.tyBool (Syntax.tcons (Syntax.tyEnum (116 ∷ 114 ∷
+      97 ∷ 110 ∷ 115 ∷ 102 ∷ 111 ∷ 114 ∷ 109 ∷ 58 ∷ 58 ∷ 65 ∷ 120 ∷ 105 ∷ 115 ∷ []) (Syntax.ttcons Syntax.tnil (Syntax.ttcons Syntax.tnil (Syntax.ttcons
+      Syntax.tnil Syntax.ttnil)))) (Syntax.tcons (Syntax.tyStruct (116 ∷ 114 ∷ 97 ∷ 110 ∷ 115 ∷ 102 ∷ 111 ∷ 114 ∷ 109 ∷ 58 ∷ 58 ∷ 84 ∷ 114 ∷ 97 ∷ 110 ∷ 115 ∷ 102
+      ∷ 111 ∷ 114 ∷ 109 ∷ []) (Syntax.tcons (Syntax.tyStruct (116 ∷ 114 ∷ 97 ∷ 110 ∷ 115 ∷ 102 ∷ 111 ∷ 114 ∷ 109 ∷ 58 ∷ 58 ∷ 67 ∷ 111 ∷ 101 ∷ 102 ∷ 102 ∷ 105 ∷
+      99 ∷ 105 ∷ 101 ∷ 110 ∷ 116 ∷ 115 ∷ []) (Syntax.tcons (Syntax.tyInt Syntax.w32) (Syntax.tcons (Syntax.tyInt Syntax.w32) (Syntax.tcons (Syntax.tyInt
+      Syntax.w32) Syntax.tnil)))) (Syntax.tcons (Syntax.tyInt Syntax.w32) Syntax.tnil))) Syntax.tnil))) Syntax.ttnil)))))))))))) Syntax.tnil) Syntax.ttnil))))),
+)
+    ∷ (9, Rows.any-gone Syntax.tyBool) ∷ (10, Rows.any-gone (Syntax.tyInt Syntax.w64)) ∷ (11, Rows.any-gone (Syntax.tyInt Syntax.w64)) ∷ (
+      12,
+      Rows.any-gone
+          (Syntax.tyInt Syntax.w64),
+    ) ∷ (13, Rows.any-gone Syntax.tyBool) ∷ (14, Rows.any-gone (Syntax.tyRef Syntax.erased Syntax.mut SlotAs.pointee)) ∷ (
+      15,
+      Rows.any-gone (Syntax.tyStruct (38 ∷ 91 ∷ 93 ∷ []) (Syntax.tcons (Syntax.tyRef Syntax.erased Syntax.mut SlotAs.pointee) (Syntax.tcons (Syntax.tyInt
+          Syntax.w64) Syntax.tnil))),
+    ) ∷ []
 
 abbrev pub t15 : List.List Row.Entry
 t15 = (
@@ -2464,16 +2713,31 @@ t15 = (
       (Syntax.tcons (Syntax.tyInt Syntax.w32) (Syntax.tcons (Syntax.tyInt Syntax.w32) (Syntax.tcons (Syntax.tyInt Syntax.w32) (Syntax.tcons (Syntax.tyInt
       Syntax.w32) (Syntax.tcons (Syntax.tyInt Syntax.w32) Syntax.tnil)))))))))) Syntax.tnil) (Syntax.ttcons Syntax.tnil (Syntax.ttcons (Syntax.tcons
       (Syntax.tyStruct (109 ∷ 111 ∷ 100 ∷ 101 ∷ 108 ∷ 58 ∷ 58 ∷ 77 ∷ 111 ∷ 100 ∷ 101 ∷ 108 ∷ []) (Syntax.tcons (Syntax.tyInt Syntax.w32) Syntax.tnil))
-      Syntax.tnil) (Syntax.ttcons Syntax.tnil Syntax.ttnil)))))))))) Syntax.tnil) Syntax.ttnil))))),
-) ∷ (9, Rows.any-gone Syntax.tyBool) ∷ (
-  10,
-  Rows.any-gone
-      (Syntax.tyInt Syntax.w64),
-) ∷ (11, Rows.sc-here (Row.sInt Syntax.w64)) ∷ (12, Rows.any-gone (Syntax.tyInt Syntax.w64)) ∷ (13, Rows.any-gone Syntax.tyBool) ∷
-    (14, Rows.any-gone (Syntax.tyRef Syntax.erased Syntax.mut SlotAs.pointee)) ∷ (
+      Syntax.tnil) (Syntax.ttcons Syntax.tnil (Syntax.ttcons (Syntax.tcons (Syntax.tyStruct (99 ∷ 101 ∷ 108 ∷ 108 ∷ 58 ∷ 58 ∷ 67 ∷ 101 ∷ 108 ∷ 108 ∷ [])
+      (Syntax.tcons (Syntax.tyStruct (99 ∷ 101 ∷ 108 ∷ 108 ∷ 58 ∷ 58 ∷ 69 ∷ 100 ∷ 103 ∷ 101 ∷ 115 ∷ []) (Syntax.tcons (Syntax.tyInt Syntax.w32) (Syntax.tcons
+      (Syntax.tyInt Syntax.w32) (Syntax.tcons (Syntax.tyInt Syntax.w32) Syntax.tnil)))) (Syntax.tcons (Syntax.tyStruct (99 ∷ 101 ∷ 108 ∷ 108 ∷ 58 ∷ 58 ∷ 65 ∷ 110
+      ∷ 103 ∷ 108 ∷ 101 ∷ 115 ∷ []) (Syntax.tcons (Syntax.tyInt Syntax.w32) (Syntax.tcons (Syntax.tyInt Syntax.w32) (Syntax.tcons (Syntax.tyInt Syntax.w32)
+      Syntax.tnil)))) (Syntax.tcons (Syntax.tyStruct (99 ∷ 101 ∷ 108 ∷ 108 ∷ 58 ∷ 58 ∷ 71 ∷ 114 ∷ 111 ∷ 117 ∷ 112 ∷ []) (Syntax.tcons (Syntax.tyStruct (110 ∷ 97
+      ∷ 109 ∷ 101 ∷ 115 ∷ 58 ∷ 58 ∷ 70 ∷ 111 ∷ 117 ∷ 114 ∷ []) (Syntax.tcons (Syntax.tyInt Syntax.w8) (Syntax.tcons (Syntax.tyInt Syntax.w8) (Syntax.tcons
+      (Syntax.tyInt Syntax.w8) (Syntax.tcons (Syntax.tyInt Syntax.w8) Syntax.tnil))))) (Syntax.tcons (Syntax.tyStruct (110 ∷ 97 ∷ 109 ∷ 101 ∷ 115 ∷ 58 ∷ 58 ∷ 70
+      ∷ 111 ∷ 117 ∷ 114 ∷ []) (Syntax.tcons (Syntax.tyInt Syntax.w8) (Syntax.tcons (Syntax.tyInt Syntax.w8) (Syntax.tcons (Syntax.tyInt Syntax.w8) (Syntax.tcons
+      (Syntax.tyInt Syntax.w8) Syntax.tnil))))) (Syntax.tcons (Syntax.tyStruct (110 ∷ 97 ∷ 109 ∷ 101 ∷ 115 ∷ 58 ∷ 58 ∷ 84 ∷ 104 ∷ 114 ∷ 101 ∷ 101 ∷ [])
+      (Syntax.tcons (Syntax.tyInt Syntax.w8) (Syntax.tcons (Syntax.tyInt Syntax.w8) (Syntax.tcons (Syntax.tyInt Syntax.w8) Syntax.tnil)))) Syntax.tnil))))
+      (Syntax.tcons (Syntax.tyInt Syntax.w32) Syntax.tnil))))) Syntax.tnil) (Syntax.ttcons (Syntax.tcons Syntax.tyBool (Syntax.tcons (Syntax.tyEnum (116 ∷ 114 ∷
+      97 ∷ 110 ∷ 115 ∷ 102 ∷ 111 ∷ 114 ∷ 109 ∷ 58 ∷ 58 ∷ 65 ∷ 120 ∷ 105 ∷ 115 ∷ []) (Syntax.ttcons Syntax.tnil (Syntax.ttcons Syntax.tnil (Syntax.ttcons
+      Syntax.tnil Syntax.ttnil)))) (Syntax.tcons (Syntax.tyStruct (116 ∷ 114 ∷ 97 ∷ 110 ∷ 115 ∷ 102 ∷ 111 ∷ 114 ∷ 109 ∷ 58 ∷ 58 ∷ 84 ∷ 114 ∷ 97 ∷ 110 ∷ 115 ∷ 102
+      ∷ 111 ∷ 114 ∷ 109 ∷ []) (Syntax.tcons (Syntax.tyStruct (116 ∷ 114 ∷ 97 ∷ 110 ∷ 115 ∷ 102 ∷ 111 ∷ 114 ∷ 109 ∷ 58 ∷ 58 ∷ 67 ∷ 111 ∷ 101 ∷ 102 ∷ 102 ∷ 105 ∷
+      99 ∷ 105 ∷ 101 ∷ 110 ∷ 116 ∷ 115 ∷ []) (Syntax.tcons (Syntax.tyInt Syntax.w32) (Syntax.tcons (Syntax.tyInt Syntax.w32) (Syntax.tcons (Syntax.tyInt
+      Syntax.w32) Syntax.tnil)))) (Syntax.tcons (Syntax.tyInt Syntax.w32) Syntax.tnil))) Syntax.tnil))) Syntax.ttnil)))))))))))) Syntax.tnil) Syntax.ttnil))))),
+)
+    ∷ (9, Rows.any-gone Syntax.tyBool) ∷ (10, Rows.any-gone (Syntax.tyInt Syntax.w64)) ∷ (11, Rows.sc-here (Row.sInt Syntax.w64)) ∷ (
+      12,
+      Rows.any-gone
+          (Syntax.tyInt Syntax.w64),
+    ) ∷ (13, Rows.any-gone Syntax.tyBool) ∷ (14, Rows.any-gone (Syntax.tyRef Syntax.erased Syntax.mut SlotAs.pointee)) ∷ (
       15,
-      Rows.any-gone (Syntax.tyStruct (38 ∷ 91 ∷ 93 ∷ []) (Syntax.tcons
-          (Syntax.tyRef Syntax.erased Syntax.mut SlotAs.pointee) (Syntax.tcons (Syntax.tyInt Syntax.w64) Syntax.tnil))),
+      Rows.any-gone (Syntax.tyStruct (38 ∷ 91 ∷ 93 ∷ []) (Syntax.tcons (Syntax.tyRef Syntax.erased Syntax.mut SlotAs.pointee) (Syntax.tcons (Syntax.tyInt
+          Syntax.w64) Syntax.tnil))),
     ) ∷ []
 
 abbrev pub t16 : List.List Row.Entry
@@ -2589,19 +2853,33 @@ t16 = (
       (Syntax.tcons (Syntax.tyInt Syntax.w32) (Syntax.tcons (Syntax.tyInt Syntax.w32) (Syntax.tcons (Syntax.tyInt Syntax.w32) (Syntax.tcons (Syntax.tyInt
       Syntax.w32) (Syntax.tcons (Syntax.tyInt Syntax.w32) Syntax.tnil)))))))))) Syntax.tnil) (Syntax.ttcons Syntax.tnil (Syntax.ttcons (Syntax.tcons
       (Syntax.tyStruct (109 ∷ 111 ∷ 100 ∷ 101 ∷ 108 ∷ 58 ∷ 58 ∷ 77 ∷ 111 ∷ 100 ∷ 101 ∷ 108 ∷ []) (Syntax.tcons (Syntax.tyInt Syntax.w32) Syntax.tnil))
-      Syntax.tnil) (Syntax.ttcons Syntax.tnil Syntax.ttnil)))))))))) Syntax.tnil) Syntax.ttnil))))),
-) ∷ (9, Rows.any-gone Syntax.tyBool) ∷ (
-  10,
-  Rows.any-gone
-      (Syntax.tyInt Syntax.w64),
-) ∷ (11, Rows.sc-here (Row.sInt Syntax.w64)) ∷ (12, Rows.sc-here (Row.sInt Syntax.w64)) ∷ (13, Rows.any-gone Syntax.tyBool) ∷ (
-  14,
-  Rows.any-gone (Syntax.tyRef Syntax.erased Syntax.mut SlotAs.pointee),
-) ∷ (
-  15,
-  Rows.any-gone (Syntax.tyStruct (38 ∷ 91 ∷ 93 ∷ []) (Syntax.tcons (Syntax.tyRef
-      Syntax.erased Syntax.mut SlotAs.pointee) (Syntax.tcons (Syntax.tyInt Syntax.w64) Syntax.tnil))),
-) ∷ []
+      Syntax.tnil) (Syntax.ttcons Syntax.tnil (Syntax.ttcons (Syntax.tcons (Syntax.tyStruct (99 ∷ 101 ∷ 108 ∷ 108 ∷ 58 ∷ 58 ∷ 67 ∷ 101 ∷ 108 ∷ 108 ∷ [])
+      (Syntax.tcons (Syntax.tyStruct (99 ∷ 101 ∷ 108 ∷ 108 ∷ 58 ∷ 58 ∷ 69 ∷ 100 ∷ 103 ∷ 101 ∷ 115 ∷ []) (Syntax.tcons (Syntax.tyInt Syntax.w32) (Syntax.tcons
+      (Syntax.tyInt Syntax.w32) (Syntax.tcons (Syntax.tyInt Syntax.w32) Syntax.tnil)))) (Syntax.tcons (Syntax.tyStruct (99 ∷ 101 ∷ 108 ∷ 108 ∷ 58 ∷ 58 ∷ 65 ∷ 110
+      ∷ 103 ∷ 108 ∷ 101 ∷ 115 ∷ []) (Syntax.tcons (Syntax.tyInt Syntax.w32) (Syntax.tcons (Syntax.tyInt Syntax.w32) (Syntax.tcons (Syntax.tyInt Syntax.w32)
+      Syntax.tnil)))) (Syntax.tcons (Syntax.tyStruct (99 ∷ 101 ∷ 108 ∷ 108 ∷ 58 ∷ 58 ∷ 71 ∷ 114 ∷ 111 ∷ 117 ∷ 112 ∷ []) (Syntax.tcons (Syntax.tyStruct (110 ∷ 97
+      ∷ 109 ∷ 101 ∷ 115 ∷ 58 ∷ 58 ∷ 70 ∷ 111 ∷ 117 ∷ 114 ∷ []) (Syntax.tcons (Syntax.tyInt Syntax.w8) (Syntax.tcons (Syntax.tyInt Syntax.w8) (Syntax.tcons
+      (Syntax.tyInt Syntax.w8) (Syntax.tcons (Syntax.tyInt Syntax.w8) Syntax.tnil))))) (Syntax.tcons (Syntax.tyStruct (110 ∷ 97 ∷ 109 ∷ 101 ∷ 115 ∷ 58 ∷ 58 ∷ 70
+      ∷ 111 ∷ 117 ∷ 114 ∷ []) (Syntax.tcons (Syntax.tyInt Syntax.w8) (Syntax.tcons (Syntax.tyInt Syntax.w8) (Syntax.tcons (Syntax.tyInt Syntax.w8) (Syntax.tcons
+      (Syntax.tyInt Syntax.w8) Syntax.tnil))))) (Syntax.tcons (Syntax.tyStruct (110 ∷ 97 ∷ 109 ∷ 101 ∷ 115 ∷ 58 ∷ 58 ∷ 84 ∷ 104 ∷ 114 ∷ 101 ∷ 101 ∷ [])
+      (Syntax.tcons (Syntax.tyInt Syntax.w8) (Syntax.tcons (Syntax.tyInt Syntax.w8) (Syntax.tcons (Syntax.tyInt Syntax.w8) Syntax.tnil)))) Syntax.tnil))))
+      (Syntax.tcons (Syntax.tyInt Syntax.w32) Syntax.tnil))))) Syntax.tnil) (Syntax.ttcons (Syntax.tcons Syntax.tyBool (Syntax.tcons (Syntax.tyEnum (116 ∷ 114 ∷
+      97 ∷ 110 ∷ 115 ∷ 102 ∷ 111 ∷ 114 ∷ 109 ∷ 58 ∷ 58 ∷ 65 ∷ 120 ∷ 105 ∷ 115 ∷ []) (Syntax.ttcons Syntax.tnil (Syntax.ttcons Syntax.tnil (Syntax.ttcons
+      Syntax.tnil Syntax.ttnil)))) (Syntax.tcons (Syntax.tyStruct (116 ∷ 114 ∷ 97 ∷ 110 ∷ 115 ∷ 102 ∷ 111 ∷ 114 ∷ 109 ∷ 58 ∷ 58 ∷ 84 ∷ 114 ∷ 97 ∷ 110 ∷ 115 ∷ 102
+      ∷ 111 ∷ 114 ∷ 109 ∷ []) (Syntax.tcons (Syntax.tyStruct (116 ∷ 114 ∷ 97 ∷ 110 ∷ 115 ∷ 102 ∷ 111 ∷ 114 ∷ 109 ∷ 58 ∷ 58 ∷ 67 ∷ 111 ∷ 101 ∷ 102 ∷ 102 ∷ 105 ∷
+      99 ∷ 105 ∷ 101 ∷ 110 ∷ 116 ∷ 115 ∷ []) (Syntax.tcons (Syntax.tyInt Syntax.w32) (Syntax.tcons (Syntax.tyInt Syntax.w32) (Syntax.tcons (Syntax.tyInt
+      Syntax.w32) Syntax.tnil)))) (Syntax.tcons (Syntax.tyInt Syntax.w32) Syntax.tnil))) Syntax.tnil))) Syntax.ttnil)))))))))))) Syntax.tnil) Syntax.ttnil))))),
+)
+    ∷ (9, Rows.any-gone Syntax.tyBool) ∷ (10, Rows.any-gone (Syntax.tyInt Syntax.w64)) ∷ (11, Rows.sc-here (Row.sInt Syntax.w64)) ∷ (
+      12,
+      Rows.sc-here (Row.sInt
+          Syntax.w64),
+    ) ∷ (13, Rows.any-gone Syntax.tyBool) ∷ (14, Rows.any-gone (Syntax.tyRef Syntax.erased Syntax.mut SlotAs.pointee)) ∷ (
+      15,
+      Rows.any-gone
+          (Syntax.tyStruct (38 ∷ 91 ∷ 93 ∷ []) (Syntax.tcons (Syntax.tyRef Syntax.erased Syntax.mut SlotAs.pointee) (Syntax.tcons (Syntax.tyInt Syntax.w64)
+          Syntax.tnil))),
+    ) ∷ []
 
 abbrev pub t17 : List.List Row.Entry
 t17 = (
@@ -2716,19 +2994,33 @@ t17 = (
       (Syntax.tcons (Syntax.tyInt Syntax.w32) (Syntax.tcons (Syntax.tyInt Syntax.w32) (Syntax.tcons (Syntax.tyInt Syntax.w32) (Syntax.tcons (Syntax.tyInt
       Syntax.w32) (Syntax.tcons (Syntax.tyInt Syntax.w32) Syntax.tnil)))))))))) Syntax.tnil) (Syntax.ttcons Syntax.tnil (Syntax.ttcons (Syntax.tcons
       (Syntax.tyStruct (109 ∷ 111 ∷ 100 ∷ 101 ∷ 108 ∷ 58 ∷ 58 ∷ 77 ∷ 111 ∷ 100 ∷ 101 ∷ 108 ∷ []) (Syntax.tcons (Syntax.tyInt Syntax.w32) Syntax.tnil))
-      Syntax.tnil) (Syntax.ttcons Syntax.tnil Syntax.ttnil)))))))))) Syntax.tnil) Syntax.ttnil))))),
-) ∷ (9, Rows.any-gone Syntax.tyBool) ∷ (
-  10,
-  Rows.any-gone
-      (Syntax.tyInt Syntax.w64),
-) ∷ (11, Rows.sc-here (Row.sInt Syntax.w64)) ∷ (12, Rows.sc-here (Row.sInt Syntax.w64)) ∷ (13, Rows.sc-here Row.sBool) ∷ (
-  14,
-  Rows.any-gone (Syntax.tyRef Syntax.erased Syntax.mut SlotAs.pointee),
-) ∷ (
-  15,
-  Rows.any-gone (Syntax.tyStruct (38 ∷ 91 ∷ 93 ∷ []) (Syntax.tcons (Syntax.tyRef
-      Syntax.erased Syntax.mut SlotAs.pointee) (Syntax.tcons (Syntax.tyInt Syntax.w64) Syntax.tnil))),
-) ∷ []
+      Syntax.tnil) (Syntax.ttcons Syntax.tnil (Syntax.ttcons (Syntax.tcons (Syntax.tyStruct (99 ∷ 101 ∷ 108 ∷ 108 ∷ 58 ∷ 58 ∷ 67 ∷ 101 ∷ 108 ∷ 108 ∷ [])
+      (Syntax.tcons (Syntax.tyStruct (99 ∷ 101 ∷ 108 ∷ 108 ∷ 58 ∷ 58 ∷ 69 ∷ 100 ∷ 103 ∷ 101 ∷ 115 ∷ []) (Syntax.tcons (Syntax.tyInt Syntax.w32) (Syntax.tcons
+      (Syntax.tyInt Syntax.w32) (Syntax.tcons (Syntax.tyInt Syntax.w32) Syntax.tnil)))) (Syntax.tcons (Syntax.tyStruct (99 ∷ 101 ∷ 108 ∷ 108 ∷ 58 ∷ 58 ∷ 65 ∷ 110
+      ∷ 103 ∷ 108 ∷ 101 ∷ 115 ∷ []) (Syntax.tcons (Syntax.tyInt Syntax.w32) (Syntax.tcons (Syntax.tyInt Syntax.w32) (Syntax.tcons (Syntax.tyInt Syntax.w32)
+      Syntax.tnil)))) (Syntax.tcons (Syntax.tyStruct (99 ∷ 101 ∷ 108 ∷ 108 ∷ 58 ∷ 58 ∷ 71 ∷ 114 ∷ 111 ∷ 117 ∷ 112 ∷ []) (Syntax.tcons (Syntax.tyStruct (110 ∷ 97
+      ∷ 109 ∷ 101 ∷ 115 ∷ 58 ∷ 58 ∷ 70 ∷ 111 ∷ 117 ∷ 114 ∷ []) (Syntax.tcons (Syntax.tyInt Syntax.w8) (Syntax.tcons (Syntax.tyInt Syntax.w8) (Syntax.tcons
+      (Syntax.tyInt Syntax.w8) (Syntax.tcons (Syntax.tyInt Syntax.w8) Syntax.tnil))))) (Syntax.tcons (Syntax.tyStruct (110 ∷ 97 ∷ 109 ∷ 101 ∷ 115 ∷ 58 ∷ 58 ∷ 70
+      ∷ 111 ∷ 117 ∷ 114 ∷ []) (Syntax.tcons (Syntax.tyInt Syntax.w8) (Syntax.tcons (Syntax.tyInt Syntax.w8) (Syntax.tcons (Syntax.tyInt Syntax.w8) (Syntax.tcons
+      (Syntax.tyInt Syntax.w8) Syntax.tnil))))) (Syntax.tcons (Syntax.tyStruct (110 ∷ 97 ∷ 109 ∷ 101 ∷ 115 ∷ 58 ∷ 58 ∷ 84 ∷ 104 ∷ 114 ∷ 101 ∷ 101 ∷ [])
+      (Syntax.tcons (Syntax.tyInt Syntax.w8) (Syntax.tcons (Syntax.tyInt Syntax.w8) (Syntax.tcons (Syntax.tyInt Syntax.w8) Syntax.tnil)))) Syntax.tnil))))
+      (Syntax.tcons (Syntax.tyInt Syntax.w32) Syntax.tnil))))) Syntax.tnil) (Syntax.ttcons (Syntax.tcons Syntax.tyBool (Syntax.tcons (Syntax.tyEnum (116 ∷ 114 ∷
+      97 ∷ 110 ∷ 115 ∷ 102 ∷ 111 ∷ 114 ∷ 109 ∷ 58 ∷ 58 ∷ 65 ∷ 120 ∷ 105 ∷ 115 ∷ []) (Syntax.ttcons Syntax.tnil (Syntax.ttcons Syntax.tnil (Syntax.ttcons
+      Syntax.tnil Syntax.ttnil)))) (Syntax.tcons (Syntax.tyStruct (116 ∷ 114 ∷ 97 ∷ 110 ∷ 115 ∷ 102 ∷ 111 ∷ 114 ∷ 109 ∷ 58 ∷ 58 ∷ 84 ∷ 114 ∷ 97 ∷ 110 ∷ 115 ∷ 102
+      ∷ 111 ∷ 114 ∷ 109 ∷ []) (Syntax.tcons (Syntax.tyStruct (116 ∷ 114 ∷ 97 ∷ 110 ∷ 115 ∷ 102 ∷ 111 ∷ 114 ∷ 109 ∷ 58 ∷ 58 ∷ 67 ∷ 111 ∷ 101 ∷ 102 ∷ 102 ∷ 105 ∷
+      99 ∷ 105 ∷ 101 ∷ 110 ∷ 116 ∷ 115 ∷ []) (Syntax.tcons (Syntax.tyInt Syntax.w32) (Syntax.tcons (Syntax.tyInt Syntax.w32) (Syntax.tcons (Syntax.tyInt
+      Syntax.w32) Syntax.tnil)))) (Syntax.tcons (Syntax.tyInt Syntax.w32) Syntax.tnil))) Syntax.tnil))) Syntax.ttnil)))))))))))) Syntax.tnil) Syntax.ttnil))))),
+)
+    ∷ (9, Rows.any-gone Syntax.tyBool) ∷ (10, Rows.any-gone (Syntax.tyInt Syntax.w64)) ∷ (11, Rows.sc-here (Row.sInt Syntax.w64)) ∷ (
+      12,
+      Rows.sc-here (Row.sInt
+          Syntax.w64),
+    ) ∷ (13, Rows.sc-here Row.sBool) ∷ (14, Rows.any-gone (Syntax.tyRef Syntax.erased Syntax.mut SlotAs.pointee)) ∷ (
+      15,
+      Rows.any-gone
+          (Syntax.tyStruct (38 ∷ 91 ∷ 93 ∷ []) (Syntax.tcons (Syntax.tyRef Syntax.erased Syntax.mut SlotAs.pointee) (Syntax.tcons (Syntax.tyInt Syntax.w64)
+          Syntax.tnil))),
+    ) ∷ []
 
 abbrev pub t18 : List.List Row.Entry
 t18 = (
@@ -2843,19 +3135,33 @@ t18 = (
       (Syntax.tcons (Syntax.tyInt Syntax.w32) (Syntax.tcons (Syntax.tyInt Syntax.w32) (Syntax.tcons (Syntax.tyInt Syntax.w32) (Syntax.tcons (Syntax.tyInt
       Syntax.w32) (Syntax.tcons (Syntax.tyInt Syntax.w32) Syntax.tnil)))))))))) Syntax.tnil) (Syntax.ttcons Syntax.tnil (Syntax.ttcons (Syntax.tcons
       (Syntax.tyStruct (109 ∷ 111 ∷ 100 ∷ 101 ∷ 108 ∷ 58 ∷ 58 ∷ 77 ∷ 111 ∷ 100 ∷ 101 ∷ 108 ∷ []) (Syntax.tcons (Syntax.tyInt Syntax.w32) Syntax.tnil))
-      Syntax.tnil) (Syntax.ttcons Syntax.tnil Syntax.ttnil)))))))))) Syntax.tnil) Syntax.ttnil))))),
-) ∷ (9, Rows.any-gone Syntax.tyBool) ∷ (
-  10,
-  Rows.any-gone
-      (Syntax.tyInt Syntax.w64),
-) ∷ (11, Rows.any-gone (Syntax.tyInt Syntax.w64)) ∷ (12, Rows.sc-here (Row.sInt Syntax.w64)) ∷ (13, Rows.sc-here Row.sBool) ∷ (
-  14,
-  Rows.any-gone (Syntax.tyRef Syntax.erased Syntax.mut SlotAs.pointee),
-) ∷ (
-  15,
-  Rows.any-gone (Syntax.tyStruct (38 ∷ 91 ∷ 93 ∷ []) (Syntax.tcons (Syntax.tyRef
-      Syntax.erased Syntax.mut SlotAs.pointee) (Syntax.tcons (Syntax.tyInt Syntax.w64) Syntax.tnil))),
-) ∷ []
+      Syntax.tnil) (Syntax.ttcons Syntax.tnil (Syntax.ttcons (Syntax.tcons (Syntax.tyStruct (99 ∷ 101 ∷ 108 ∷ 108 ∷ 58 ∷ 58 ∷ 67 ∷ 101 ∷ 108 ∷ 108 ∷ [])
+      (Syntax.tcons (Syntax.tyStruct (99 ∷ 101 ∷ 108 ∷ 108 ∷ 58 ∷ 58 ∷ 69 ∷ 100 ∷ 103 ∷ 101 ∷ 115 ∷ []) (Syntax.tcons (Syntax.tyInt Syntax.w32) (Syntax.tcons
+      (Syntax.tyInt Syntax.w32) (Syntax.tcons (Syntax.tyInt Syntax.w32) Syntax.tnil)))) (Syntax.tcons (Syntax.tyStruct (99 ∷ 101 ∷ 108 ∷ 108 ∷ 58 ∷ 58 ∷ 65 ∷ 110
+      ∷ 103 ∷ 108 ∷ 101 ∷ 115 ∷ []) (Syntax.tcons (Syntax.tyInt Syntax.w32) (Syntax.tcons (Syntax.tyInt Syntax.w32) (Syntax.tcons (Syntax.tyInt Syntax.w32)
+      Syntax.tnil)))) (Syntax.tcons (Syntax.tyStruct (99 ∷ 101 ∷ 108 ∷ 108 ∷ 58 ∷ 58 ∷ 71 ∷ 114 ∷ 111 ∷ 117 ∷ 112 ∷ []) (Syntax.tcons (Syntax.tyStruct (110 ∷ 97
+      ∷ 109 ∷ 101 ∷ 115 ∷ 58 ∷ 58 ∷ 70 ∷ 111 ∷ 117 ∷ 114 ∷ []) (Syntax.tcons (Syntax.tyInt Syntax.w8) (Syntax.tcons (Syntax.tyInt Syntax.w8) (Syntax.tcons
+      (Syntax.tyInt Syntax.w8) (Syntax.tcons (Syntax.tyInt Syntax.w8) Syntax.tnil))))) (Syntax.tcons (Syntax.tyStruct (110 ∷ 97 ∷ 109 ∷ 101 ∷ 115 ∷ 58 ∷ 58 ∷ 70
+      ∷ 111 ∷ 117 ∷ 114 ∷ []) (Syntax.tcons (Syntax.tyInt Syntax.w8) (Syntax.tcons (Syntax.tyInt Syntax.w8) (Syntax.tcons (Syntax.tyInt Syntax.w8) (Syntax.tcons
+      (Syntax.tyInt Syntax.w8) Syntax.tnil))))) (Syntax.tcons (Syntax.tyStruct (110 ∷ 97 ∷ 109 ∷ 101 ∷ 115 ∷ 58 ∷ 58 ∷ 84 ∷ 104 ∷ 114 ∷ 101 ∷ 101 ∷ [])
+      (Syntax.tcons (Syntax.tyInt Syntax.w8) (Syntax.tcons (Syntax.tyInt Syntax.w8) (Syntax.tcons (Syntax.tyInt Syntax.w8) Syntax.tnil)))) Syntax.tnil))))
+      (Syntax.tcons (Syntax.tyInt Syntax.w32) Syntax.tnil))))) Syntax.tnil) (Syntax.ttcons (Syntax.tcons Syntax.tyBool (Syntax.tcons (Syntax.tyEnum (116 ∷ 114 ∷
+      97 ∷ 110 ∷ 115 ∷ 102 ∷ 111 ∷ 114 ∷ 109 ∷ 58 ∷ 58 ∷ 65 ∷ 120 ∷ 105 ∷ 115 ∷ []) (Syntax.ttcons Syntax.tnil (Syntax.ttcons Syntax.tnil (Syntax.ttcons
+      Syntax.tnil Syntax.ttnil)))) (Syntax.tcons (Syntax.tyStruct (116 ∷ 114 ∷ 97 ∷ 110 ∷ 115 ∷ 102 ∷ 111 ∷ 114 ∷ 109 ∷ 58 ∷ 58 ∷ 84 ∷ 114 ∷ 97 ∷ 110 ∷ 115 ∷ 102
+      ∷ 111 ∷ 114 ∷ 109 ∷ []) (Syntax.tcons (Syntax.tyStruct (116 ∷ 114 ∷ 97 ∷ 110 ∷ 115 ∷ 102 ∷ 111 ∷ 114 ∷ 109 ∷ 58 ∷ 58 ∷ 67 ∷ 111 ∷ 101 ∷ 102 ∷ 102 ∷ 105 ∷
+      99 ∷ 105 ∷ 101 ∷ 110 ∷ 116 ∷ 115 ∷ []) (Syntax.tcons (Syntax.tyInt Syntax.w32) (Syntax.tcons (Syntax.tyInt Syntax.w32) (Syntax.tcons (Syntax.tyInt
+      Syntax.w32) Syntax.tnil)))) (Syntax.tcons (Syntax.tyInt Syntax.w32) Syntax.tnil))) Syntax.tnil))) Syntax.ttnil)))))))))))) Syntax.tnil) Syntax.ttnil))))),
+)
+    ∷ (9, Rows.any-gone Syntax.tyBool) ∷ (10, Rows.any-gone (Syntax.tyInt Syntax.w64)) ∷ (11, Rows.any-gone (Syntax.tyInt Syntax.w64)) ∷ (
+      12,
+      Rows.sc-here
+          (Row.sInt Syntax.w64),
+    ) ∷ (13, Rows.sc-here Row.sBool) ∷ (14, Rows.any-gone (Syntax.tyRef Syntax.erased Syntax.mut SlotAs.pointee)) ∷ (
+      15,
+      Rows.any-gone
+          (Syntax.tyStruct (38 ∷ 91 ∷ 93 ∷ []) (Syntax.tcons (Syntax.tyRef Syntax.erased Syntax.mut SlotAs.pointee) (Syntax.tcons (Syntax.tyInt Syntax.w64)
+          Syntax.tnil))),
+    ) ∷ []
 
 abbrev pub t19 : List.List Row.Entry
 t19 = (
@@ -2970,16 +3276,32 @@ t19 = (
       (Syntax.tcons (Syntax.tyInt Syntax.w32) (Syntax.tcons (Syntax.tyInt Syntax.w32) (Syntax.tcons (Syntax.tyInt Syntax.w32) (Syntax.tcons (Syntax.tyInt
       Syntax.w32) (Syntax.tcons (Syntax.tyInt Syntax.w32) Syntax.tnil)))))))))) Syntax.tnil) (Syntax.ttcons Syntax.tnil (Syntax.ttcons (Syntax.tcons
       (Syntax.tyStruct (109 ∷ 111 ∷ 100 ∷ 101 ∷ 108 ∷ 58 ∷ 58 ∷ 77 ∷ 111 ∷ 100 ∷ 101 ∷ 108 ∷ []) (Syntax.tcons (Syntax.tyInt Syntax.w32) Syntax.tnil))
-      Syntax.tnil) (Syntax.ttcons Syntax.tnil Syntax.ttnil)))))))))) Syntax.tnil) Syntax.ttnil))))),
-) ∷ (9, Rows.any-gone Syntax.tyBool) ∷ (
-  10,
-  Rows.any-gone
-      (Syntax.tyInt Syntax.w64),
-) ∷ (11, Rows.any-gone (Syntax.tyInt Syntax.w64)) ∷ (12, Rows.any-gone (Syntax.tyInt Syntax.w64)) ∷ (13, Rows.sc-here Row.sBool) ∷
-    (14, Rows.any-gone (Syntax.tyRef Syntax.erased Syntax.mut SlotAs.pointee)) ∷ (
+      Syntax.tnil) (Syntax.ttcons Syntax.tnil (Syntax.ttcons (Syntax.tcons (Syntax.tyStruct (99 ∷ 101 ∷ 108 ∷ 108 ∷ 58 ∷ 58 ∷ 67 ∷ 101 ∷ 108 ∷ 108 ∷ [])
+      (Syntax.tcons (Syntax.tyStruct (99 ∷ 101 ∷ 108 ∷ 108 ∷ 58 ∷ 58 ∷ 69 ∷ 100 ∷ 103 ∷ 101 ∷ 115 ∷ []) (Syntax.tcons (Syntax.tyInt Syntax.w32) (Syntax.tcons
+      (Syntax.tyInt Syntax.w32) (Syntax.tcons (Syntax.tyInt Syntax.w32) Syntax.tnil)))) (Syntax.tcons (Syntax.tyStruct (99 ∷ 101 ∷ 108 ∷ 108 ∷ 58 ∷ 58 ∷ 65 ∷ 110
+      ∷ 103 ∷ 108 ∷ 101 ∷ 115 ∷ []) (Syntax.tcons (Syntax.tyInt Syntax.w32) (Syntax.tcons (Syntax.tyInt Syntax.w32) (Syntax.tcons (Syntax.tyInt Syntax.w32)
+      Syntax.tnil)))) (Syntax.tcons (Syntax.tyStruct (99 ∷ 101 ∷ 108 ∷ 108 ∷ 58 ∷ 58 ∷ 71 ∷ 114 ∷ 111 ∷ 117 ∷ 112 ∷ []) (Syntax.tcons (Syntax.tyStruct (110 ∷ 97
+      ∷ 109 ∷ 101 ∷ 115 ∷ 58 ∷ 58 ∷ 70 ∷ 111 ∷ 117 ∷ 114 ∷ []) (Syntax.tcons (Syntax.tyInt Syntax.w8) (Syntax.tcons (Syntax.tyInt Syntax.w8) (Syntax.tcons
+      (Syntax.tyInt Syntax.w8) (Syntax.tcons (Syntax.tyInt Syntax.w8) Syntax.tnil))))) (Syntax.tcons (Syntax.tyStruct (110 ∷ 97 ∷ 109 ∷ 101 ∷ 115 ∷ 58 ∷ 58 ∷ 70
+      ∷ 111 ∷ 117 ∷ 114 ∷ []) (Syntax.tcons (Syntax.tyInt Syntax.w8) (Syntax.tcons (Syntax.tyInt Syntax.w8) (Syntax.tcons (Syntax.tyInt Syntax.w8) (Syntax.tcons
+      (Syntax.tyInt Syntax.w8) Syntax.tnil))))) (Syntax.tcons (Syntax.tyStruct (110 ∷ 97 ∷ 109 ∷ 101 ∷ 115 ∷ 58 ∷ 58 ∷ 84 ∷ 104 ∷ 114 ∷ 101 ∷ 101 ∷ [])
+      (Syntax.tcons (Syntax.tyInt Syntax.w8) (Syntax.tcons (Syntax.tyInt Syntax.w8) (Syntax.tcons (Syntax.tyInt Syntax.w8) Syntax.tnil)))) Syntax.tnil))))
+      (Syntax.tcons (Syntax.tyInt Syntax.w32) Syntax.tnil))))) Syntax.tnil) (Syntax.ttcons (Syntax.tcons Syntax.tyBool (Syntax.tcons (Syntax.tyEnum (116 ∷ 114 ∷
+      97 ∷ 110 ∷ 115 ∷ 102 ∷ 111 ∷ 114 ∷ 109 ∷ 58 ∷ 58 ∷ 65 ∷ 120 ∷ 105 ∷ 115 ∷ []) (Syntax.ttcons Syntax.tnil (Syntax.ttcons Syntax.tnil (Syntax.ttcons
+      Syntax.tnil Syntax.ttnil)))) (Syntax.tcons (Syntax.tyStruct (116 ∷ 114 ∷ 97 ∷ 110 ∷ 115 ∷ 102 ∷ 111 ∷ 114 ∷ 109 ∷ 58 ∷ 58 ∷ 84 ∷ 114 ∷ 97 ∷ 110 ∷ 115 ∷ 102
+      ∷ 111 ∷ 114 ∷ 109 ∷ []) (Syntax.tcons (Syntax.tyStruct (116 ∷ 114 ∷ 97 ∷ 110 ∷ 115 ∷ 102 ∷ 111 ∷ 114 ∷ 109 ∷ 58 ∷ 58 ∷ 67 ∷ 111 ∷ 101 ∷ 102 ∷ 102 ∷ 105 ∷
+      99 ∷ 105 ∷ 101 ∷ 110 ∷ 116 ∷ 115 ∷ []) (Syntax.tcons (Syntax.tyInt Syntax.w32) (Syntax.tcons (Syntax.tyInt Syntax.w32) (Syntax.tcons (Syntax.tyInt
+      Syntax.w32) Syntax.tnil)))) (Syntax.tcons (Syntax.tyInt Syntax.w32) Syntax.tnil))) Syntax.tnil))) Syntax.ttnil)))))))))))) Syntax.tnil) Syntax.ttnil))))),
+)
+    ∷ (9, Rows.any-gone Syntax.tyBool) ∷ (10, Rows.any-gone (Syntax.tyInt Syntax.w64)) ∷ (11, Rows.any-gone (Syntax.tyInt Syntax.w64)) ∷ (
+      12,
+      Rows.any-gone
+          (Syntax.tyInt Syntax.w64),
+    ) ∷ (13, Rows.sc-here Row.sBool) ∷ (14, Rows.any-gone (Syntax.tyRef Syntax.erased Syntax.mut SlotAs.pointee)) ∷ (
       15,
-      Rows.any-gone (Syntax.tyStruct (38 ∷ 91 ∷ 93 ∷ []) (Syntax.tcons
-          (Syntax.tyRef Syntax.erased Syntax.mut SlotAs.pointee) (Syntax.tcons (Syntax.tyInt Syntax.w64) Syntax.tnil))),
+      Rows.any-gone
+          (Syntax.tyStruct (38 ∷ 91 ∷ 93 ∷ []) (Syntax.tcons (Syntax.tyRef Syntax.erased Syntax.mut SlotAs.pointee) (Syntax.tcons (Syntax.tyInt Syntax.w64)
+          Syntax.tnil))),
     ) ∷ []
 
 abbrev pub t20 : List.List Row.Entry
@@ -3211,20 +3533,32 @@ t24 = (0, Rows.whole (Declared'.row (Apart.apartT Outcome.the-type))) ∷ (
       (Syntax.tcons (Syntax.tyInt Syntax.w32) (Syntax.tcons (Syntax.tyInt Syntax.w32) (Syntax.tcons (Syntax.tyInt Syntax.w32) (Syntax.tcons (Syntax.tyInt
       Syntax.w32) (Syntax.tcons (Syntax.tyInt Syntax.w32) Syntax.tnil)))))))))) Syntax.tnil) (Syntax.ttcons Syntax.tnil (Syntax.ttcons (Syntax.tcons
       (Syntax.tyStruct (109 ∷ 111 ∷ 100 ∷ 101 ∷ 108 ∷ 58 ∷ 58 ∷ 77 ∷ 111 ∷ 100 ∷ 101 ∷ 108 ∷ []) (Syntax.tcons (Syntax.tyInt Syntax.w32) Syntax.tnil))
-      Syntax.tnil) (Syntax.ttcons Syntax.tnil Syntax.ttnil)))))))))) Syntax.tnil) Syntax.ttnil))))),
-) ∷ (9, Rows.any-gone Syntax.tyBool) ∷ (
-  10,
-  Rows.any-gone
-      (Syntax.tyInt Syntax.w64),
-) ∷ (11, Rows.any-gone (Syntax.tyInt Syntax.w64)) ∷ (12, Rows.any-gone (Syntax.tyInt Syntax.w64)) ∷ (
-  13,
-  Rows.any-gone
-      Syntax.tyBool,
-) ∷ (14, Rows.any-gone (Syntax.tyRef Syntax.erased Syntax.mut SlotAs.pointee)) ∷ (
-  15,
-  Rows.any-gone (Syntax.tyStruct (38 ∷ 91 ∷ 93 ∷ [])
-      (Syntax.tcons (Syntax.tyRef Syntax.erased Syntax.mut SlotAs.pointee) (Syntax.tcons (Syntax.tyInt Syntax.w64) Syntax.tnil))),
-) ∷ []
+      Syntax.tnil) (Syntax.ttcons Syntax.tnil (Syntax.ttcons (Syntax.tcons (Syntax.tyStruct (99 ∷ 101 ∷ 108 ∷ 108 ∷ 58 ∷ 58 ∷ 67 ∷ 101 ∷ 108 ∷ 108 ∷ [])
+      (Syntax.tcons (Syntax.tyStruct (99 ∷ 101 ∷ 108 ∷ 108 ∷ 58 ∷ 58 ∷ 69 ∷ 100 ∷ 103 ∷ 101 ∷ 115 ∷ []) (Syntax.tcons (Syntax.tyInt Syntax.w32) (Syntax.tcons
+      (Syntax.tyInt Syntax.w32) (Syntax.tcons (Syntax.tyInt Syntax.w32) Syntax.tnil)))) (Syntax.tcons (Syntax.tyStruct (99 ∷ 101 ∷ 108 ∷ 108 ∷ 58 ∷ 58 ∷ 65 ∷ 110
+      ∷ 103 ∷ 108 ∷ 101 ∷ 115 ∷ []) (Syntax.tcons (Syntax.tyInt Syntax.w32) (Syntax.tcons (Syntax.tyInt Syntax.w32) (Syntax.tcons (Syntax.tyInt Syntax.w32)
+      Syntax.tnil)))) (Syntax.tcons (Syntax.tyStruct (99 ∷ 101 ∷ 108 ∷ 108 ∷ 58 ∷ 58 ∷ 71 ∷ 114 ∷ 111 ∷ 117 ∷ 112 ∷ []) (Syntax.tcons (Syntax.tyStruct (110 ∷ 97
+      ∷ 109 ∷ 101 ∷ 115 ∷ 58 ∷ 58 ∷ 70 ∷ 111 ∷ 117 ∷ 114 ∷ []) (Syntax.tcons (Syntax.tyInt Syntax.w8) (Syntax.tcons (Syntax.tyInt Syntax.w8) (Syntax.tcons
+      (Syntax.tyInt Syntax.w8) (Syntax.tcons (Syntax.tyInt Syntax.w8) Syntax.tnil))))) (Syntax.tcons (Syntax.tyStruct (110 ∷ 97 ∷ 109 ∷ 101 ∷ 115 ∷ 58 ∷ 58 ∷ 70
+      ∷ 111 ∷ 117 ∷ 114 ∷ []) (Syntax.tcons (Syntax.tyInt Syntax.w8) (Syntax.tcons (Syntax.tyInt Syntax.w8) (Syntax.tcons (Syntax.tyInt Syntax.w8) (Syntax.tcons
+      (Syntax.tyInt Syntax.w8) Syntax.tnil))))) (Syntax.tcons (Syntax.tyStruct (110 ∷ 97 ∷ 109 ∷ 101 ∷ 115 ∷ 58 ∷ 58 ∷ 84 ∷ 104 ∷ 114 ∷ 101 ∷ 101 ∷ [])
+      (Syntax.tcons (Syntax.tyInt Syntax.w8) (Syntax.tcons (Syntax.tyInt Syntax.w8) (Syntax.tcons (Syntax.tyInt Syntax.w8) Syntax.tnil)))) Syntax.tnil))))
+      (Syntax.tcons (Syntax.tyInt Syntax.w32) Syntax.tnil))))) Syntax.tnil) (Syntax.ttcons (Syntax.tcons Syntax.tyBool (Syntax.tcons (Syntax.tyEnum (116 ∷ 114 ∷
+      97 ∷ 110 ∷ 115 ∷ 102 ∷ 111 ∷ 114 ∷ 109 ∷ 58 ∷ 58 ∷ 65 ∷ 120 ∷ 105 ∷ 115 ∷ []) (Syntax.ttcons Syntax.tnil (Syntax.ttcons Syntax.tnil (Syntax.ttcons
+      Syntax.tnil Syntax.ttnil)))) (Syntax.tcons (Syntax.tyStruct (116 ∷ 114 ∷ 97 ∷ 110 ∷ 115 ∷ 102 ∷ 111 ∷ 114 ∷ 109 ∷ 58 ∷ 58 ∷ 84 ∷ 114 ∷ 97 ∷ 110 ∷ 115 ∷ 102
+      ∷ 111 ∷ 114 ∷ 109 ∷ []) (Syntax.tcons (Syntax.tyStruct (116 ∷ 114 ∷ 97 ∷ 110 ∷ 115 ∷ 102 ∷ 111 ∷ 114 ∷ 109 ∷ 58 ∷ 58 ∷ 67 ∷ 111 ∷ 101 ∷ 102 ∷ 102 ∷ 105 ∷
+      99 ∷ 105 ∷ 101 ∷ 110 ∷ 116 ∷ 115 ∷ []) (Syntax.tcons (Syntax.tyInt Syntax.w32) (Syntax.tcons (Syntax.tyInt Syntax.w32) (Syntax.tcons (Syntax.tyInt
+      Syntax.w32) Syntax.tnil)))) (Syntax.tcons (Syntax.tyInt Syntax.w32) Syntax.tnil))) Syntax.tnil))) Syntax.ttnil)))))))))))) Syntax.tnil) Syntax.ttnil))))),
+)
+    ∷ (9, Rows.any-gone Syntax.tyBool) ∷ (10, Rows.any-gone (Syntax.tyInt Syntax.w64)) ∷ (11, Rows.any-gone (Syntax.tyInt Syntax.w64)) ∷ (
+      12,
+      Rows.any-gone
+          (Syntax.tyInt Syntax.w64),
+    ) ∷ (13, Rows.any-gone Syntax.tyBool) ∷ (14, Rows.any-gone (Syntax.tyRef Syntax.erased Syntax.mut SlotAs.pointee)) ∷ (
+      15,
+      Rows.any-gone (Syntax.tyStruct (38 ∷ 91 ∷ 93 ∷ []) (Syntax.tcons (Syntax.tyRef Syntax.erased Syntax.mut SlotAs.pointee) (Syntax.tcons (Syntax.tyInt
+          Syntax.w64) Syntax.tnil))),
+    ) ∷ []
 
 abbrev pub t25 : List.List Row.Entry
 t25 = (0, Rows.whole (Declared'.row (Apart.apartT Outcome.the-type))) ∷ (
@@ -3335,20 +3669,32 @@ t25 = (0, Rows.whole (Declared'.row (Apart.apartT Outcome.the-type))) ∷ (
       (Syntax.tcons (Syntax.tyInt Syntax.w32) (Syntax.tcons (Syntax.tyInt Syntax.w32) (Syntax.tcons (Syntax.tyInt Syntax.w32) (Syntax.tcons (Syntax.tyInt
       Syntax.w32) (Syntax.tcons (Syntax.tyInt Syntax.w32) Syntax.tnil)))))))))) Syntax.tnil) (Syntax.ttcons Syntax.tnil (Syntax.ttcons (Syntax.tcons
       (Syntax.tyStruct (109 ∷ 111 ∷ 100 ∷ 101 ∷ 108 ∷ 58 ∷ 58 ∷ 77 ∷ 111 ∷ 100 ∷ 101 ∷ 108 ∷ []) (Syntax.tcons (Syntax.tyInt Syntax.w32) Syntax.tnil))
-      Syntax.tnil) (Syntax.ttcons Syntax.tnil Syntax.ttnil)))))))))) Syntax.tnil) Syntax.ttnil))))),
-) ∷ (9, Rows.any-gone Syntax.tyBool) ∷ (
-  10,
-  Rows.any-gone
-      (Syntax.tyInt Syntax.w64),
-) ∷ (11, Rows.any-gone (Syntax.tyInt Syntax.w64)) ∷ (12, Rows.any-gone (Syntax.tyInt Syntax.w64)) ∷ (
-  13,
-  Rows.any-gone
-      Syntax.tyBool,
-) ∷ (14, Rows.any-gone (Syntax.tyRef Syntax.erased Syntax.mut SlotAs.pointee)) ∷ (
-  15,
-  Rows.any-gone (Syntax.tyStruct (38 ∷ 91 ∷ 93 ∷ [])
-      (Syntax.tcons (Syntax.tyRef Syntax.erased Syntax.mut SlotAs.pointee) (Syntax.tcons (Syntax.tyInt Syntax.w64) Syntax.tnil))),
-) ∷ []
+      Syntax.tnil) (Syntax.ttcons Syntax.tnil (Syntax.ttcons (Syntax.tcons (Syntax.tyStruct (99 ∷ 101 ∷ 108 ∷ 108 ∷ 58 ∷ 58 ∷ 67 ∷ 101 ∷ 108 ∷ 108 ∷ [])
+      (Syntax.tcons (Syntax.tyStruct (99 ∷ 101 ∷ 108 ∷ 108 ∷ 58 ∷ 58 ∷ 69 ∷ 100 ∷ 103 ∷ 101 ∷ 115 ∷ []) (Syntax.tcons (Syntax.tyInt Syntax.w32) (Syntax.tcons
+      (Syntax.tyInt Syntax.w32) (Syntax.tcons (Syntax.tyInt Syntax.w32) Syntax.tnil)))) (Syntax.tcons (Syntax.tyStruct (99 ∷ 101 ∷ 108 ∷ 108 ∷ 58 ∷ 58 ∷ 65 ∷ 110
+      ∷ 103 ∷ 108 ∷ 101 ∷ 115 ∷ []) (Syntax.tcons (Syntax.tyInt Syntax.w32) (Syntax.tcons (Syntax.tyInt Syntax.w32) (Syntax.tcons (Syntax.tyInt Syntax.w32)
+      Syntax.tnil)))) (Syntax.tcons (Syntax.tyStruct (99 ∷ 101 ∷ 108 ∷ 108 ∷ 58 ∷ 58 ∷ 71 ∷ 114 ∷ 111 ∷ 117 ∷ 112 ∷ []) (Syntax.tcons (Syntax.tyStruct (110 ∷ 97
+      ∷ 109 ∷ 101 ∷ 115 ∷ 58 ∷ 58 ∷ 70 ∷ 111 ∷ 117 ∷ 114 ∷ []) (Syntax.tcons (Syntax.tyInt Syntax.w8) (Syntax.tcons (Syntax.tyInt Syntax.w8) (Syntax.tcons
+      (Syntax.tyInt Syntax.w8) (Syntax.tcons (Syntax.tyInt Syntax.w8) Syntax.tnil))))) (Syntax.tcons (Syntax.tyStruct (110 ∷ 97 ∷ 109 ∷ 101 ∷ 115 ∷ 58 ∷ 58 ∷ 70
+      ∷ 111 ∷ 117 ∷ 114 ∷ []) (Syntax.tcons (Syntax.tyInt Syntax.w8) (Syntax.tcons (Syntax.tyInt Syntax.w8) (Syntax.tcons (Syntax.tyInt Syntax.w8) (Syntax.tcons
+      (Syntax.tyInt Syntax.w8) Syntax.tnil))))) (Syntax.tcons (Syntax.tyStruct (110 ∷ 97 ∷ 109 ∷ 101 ∷ 115 ∷ 58 ∷ 58 ∷ 84 ∷ 104 ∷ 114 ∷ 101 ∷ 101 ∷ [])
+      (Syntax.tcons (Syntax.tyInt Syntax.w8) (Syntax.tcons (Syntax.tyInt Syntax.w8) (Syntax.tcons (Syntax.tyInt Syntax.w8) Syntax.tnil)))) Syntax.tnil))))
+      (Syntax.tcons (Syntax.tyInt Syntax.w32) Syntax.tnil))))) Syntax.tnil) (Syntax.ttcons (Syntax.tcons Syntax.tyBool (Syntax.tcons (Syntax.tyEnum (116 ∷ 114 ∷
+      97 ∷ 110 ∷ 115 ∷ 102 ∷ 111 ∷ 114 ∷ 109 ∷ 58 ∷ 58 ∷ 65 ∷ 120 ∷ 105 ∷ 115 ∷ []) (Syntax.ttcons Syntax.tnil (Syntax.ttcons Syntax.tnil (Syntax.ttcons
+      Syntax.tnil Syntax.ttnil)))) (Syntax.tcons (Syntax.tyStruct (116 ∷ 114 ∷ 97 ∷ 110 ∷ 115 ∷ 102 ∷ 111 ∷ 114 ∷ 109 ∷ 58 ∷ 58 ∷ 84 ∷ 114 ∷ 97 ∷ 110 ∷ 115 ∷ 102
+      ∷ 111 ∷ 114 ∷ 109 ∷ []) (Syntax.tcons (Syntax.tyStruct (116 ∷ 114 ∷ 97 ∷ 110 ∷ 115 ∷ 102 ∷ 111 ∷ 114 ∷ 109 ∷ 58 ∷ 58 ∷ 67 ∷ 111 ∷ 101 ∷ 102 ∷ 102 ∷ 105 ∷
+      99 ∷ 105 ∷ 101 ∷ 110 ∷ 116 ∷ 115 ∷ []) (Syntax.tcons (Syntax.tyInt Syntax.w32) (Syntax.tcons (Syntax.tyInt Syntax.w32) (Syntax.tcons (Syntax.tyInt
+      Syntax.w32) Syntax.tnil)))) (Syntax.tcons (Syntax.tyInt Syntax.w32) Syntax.tnil))) Syntax.tnil))) Syntax.ttnil)))))))))))) Syntax.tnil) Syntax.ttnil))))),
+)
+    ∷ (9, Rows.any-gone Syntax.tyBool) ∷ (10, Rows.any-gone (Syntax.tyInt Syntax.w64)) ∷ (11, Rows.any-gone (Syntax.tyInt Syntax.w64)) ∷ (
+      12,
+      Rows.any-gone
+          (Syntax.tyInt Syntax.w64),
+    ) ∷ (13, Rows.any-gone Syntax.tyBool) ∷ (14, Rows.any-gone (Syntax.tyRef Syntax.erased Syntax.mut SlotAs.pointee)) ∷ (
+      15,
+      Rows.any-gone (Syntax.tyStruct (38 ∷ 91 ∷ 93 ∷ []) (Syntax.tcons (Syntax.tyRef Syntax.erased Syntax.mut SlotAs.pointee) (Syntax.tcons (Syntax.tyInt
+          Syntax.w64) Syntax.tnil))),
+    ) ∷ []
 
 abbrev pub t26 : List.List Row.Entry
 t26 = (0, Rows.whole (Declared'.row (Apart.apartT Outcome.the-type))) ∷ (
@@ -3459,20 +3805,32 @@ t26 = (0, Rows.whole (Declared'.row (Apart.apartT Outcome.the-type))) ∷ (
       (Syntax.tcons (Syntax.tyInt Syntax.w32) (Syntax.tcons (Syntax.tyInt Syntax.w32) (Syntax.tcons (Syntax.tyInt Syntax.w32) (Syntax.tcons (Syntax.tyInt
       Syntax.w32) (Syntax.tcons (Syntax.tyInt Syntax.w32) Syntax.tnil)))))))))) Syntax.tnil) (Syntax.ttcons Syntax.tnil (Syntax.ttcons (Syntax.tcons
       (Syntax.tyStruct (109 ∷ 111 ∷ 100 ∷ 101 ∷ 108 ∷ 58 ∷ 58 ∷ 77 ∷ 111 ∷ 100 ∷ 101 ∷ 108 ∷ []) (Syntax.tcons (Syntax.tyInt Syntax.w32) Syntax.tnil))
-      Syntax.tnil) (Syntax.ttcons Syntax.tnil Syntax.ttnil)))))))))) Syntax.tnil) Syntax.ttnil))))),
-) ∷ (9, Rows.any-gone Syntax.tyBool) ∷ (
-  10,
-  Rows.any-gone
-      (Syntax.tyInt Syntax.w64),
-) ∷ (11, Rows.any-gone (Syntax.tyInt Syntax.w64)) ∷ (12, Rows.any-gone (Syntax.tyInt Syntax.w64)) ∷ (
-  13,
-  Rows.any-gone
-      Syntax.tyBool,
-) ∷ (14, Rows.any-gone (Syntax.tyRef Syntax.erased Syntax.mut SlotAs.pointee)) ∷ (
-  15,
-  Rows.any-gone (Syntax.tyStruct (38 ∷ 91 ∷ 93 ∷ [])
-      (Syntax.tcons (Syntax.tyRef Syntax.erased Syntax.mut SlotAs.pointee) (Syntax.tcons (Syntax.tyInt Syntax.w64) Syntax.tnil))),
-) ∷ []
+      Syntax.tnil) (Syntax.ttcons Syntax.tnil (Syntax.ttcons (Syntax.tcons (Syntax.tyStruct (99 ∷ 101 ∷ 108 ∷ 108 ∷ 58 ∷ 58 ∷ 67 ∷ 101 ∷ 108 ∷ 108 ∷ [])
+      (Syntax.tcons (Syntax.tyStruct (99 ∷ 101 ∷ 108 ∷ 108 ∷ 58 ∷ 58 ∷ 69 ∷ 100 ∷ 103 ∷ 101 ∷ 115 ∷ []) (Syntax.tcons (Syntax.tyInt Syntax.w32) (Syntax.tcons
+      (Syntax.tyInt Syntax.w32) (Syntax.tcons (Syntax.tyInt Syntax.w32) Syntax.tnil)))) (Syntax.tcons (Syntax.tyStruct (99 ∷ 101 ∷ 108 ∷ 108 ∷ 58 ∷ 58 ∷ 65 ∷ 110
+      ∷ 103 ∷ 108 ∷ 101 ∷ 115 ∷ []) (Syntax.tcons (Syntax.tyInt Syntax.w32) (Syntax.tcons (Syntax.tyInt Syntax.w32) (Syntax.tcons (Syntax.tyInt Syntax.w32)
+      Syntax.tnil)))) (Syntax.tcons (Syntax.tyStruct (99 ∷ 101 ∷ 108 ∷ 108 ∷ 58 ∷ 58 ∷ 71 ∷ 114 ∷ 111 ∷ 117 ∷ 112 ∷ []) (Syntax.tcons (Syntax.tyStruct (110 ∷ 97
+      ∷ 109 ∷ 101 ∷ 115 ∷ 58 ∷ 58 ∷ 70 ∷ 111 ∷ 117 ∷ 114 ∷ []) (Syntax.tcons (Syntax.tyInt Syntax.w8) (Syntax.tcons (Syntax.tyInt Syntax.w8) (Syntax.tcons
+      (Syntax.tyInt Syntax.w8) (Syntax.tcons (Syntax.tyInt Syntax.w8) Syntax.tnil))))) (Syntax.tcons (Syntax.tyStruct (110 ∷ 97 ∷ 109 ∷ 101 ∷ 115 ∷ 58 ∷ 58 ∷ 70
+      ∷ 111 ∷ 117 ∷ 114 ∷ []) (Syntax.tcons (Syntax.tyInt Syntax.w8) (Syntax.tcons (Syntax.tyInt Syntax.w8) (Syntax.tcons (Syntax.tyInt Syntax.w8) (Syntax.tcons
+      (Syntax.tyInt Syntax.w8) Syntax.tnil))))) (Syntax.tcons (Syntax.tyStruct (110 ∷ 97 ∷ 109 ∷ 101 ∷ 115 ∷ 58 ∷ 58 ∷ 84 ∷ 104 ∷ 114 ∷ 101 ∷ 101 ∷ [])
+      (Syntax.tcons (Syntax.tyInt Syntax.w8) (Syntax.tcons (Syntax.tyInt Syntax.w8) (Syntax.tcons (Syntax.tyInt Syntax.w8) Syntax.tnil)))) Syntax.tnil))))
+      (Syntax.tcons (Syntax.tyInt Syntax.w32) Syntax.tnil))))) Syntax.tnil) (Syntax.ttcons (Syntax.tcons Syntax.tyBool (Syntax.tcons (Syntax.tyEnum (116 ∷ 114 ∷
+      97 ∷ 110 ∷ 115 ∷ 102 ∷ 111 ∷ 114 ∷ 109 ∷ 58 ∷ 58 ∷ 65 ∷ 120 ∷ 105 ∷ 115 ∷ []) (Syntax.ttcons Syntax.tnil (Syntax.ttcons Syntax.tnil (Syntax.ttcons
+      Syntax.tnil Syntax.ttnil)))) (Syntax.tcons (Syntax.tyStruct (116 ∷ 114 ∷ 97 ∷ 110 ∷ 115 ∷ 102 ∷ 111 ∷ 114 ∷ 109 ∷ 58 ∷ 58 ∷ 84 ∷ 114 ∷ 97 ∷ 110 ∷ 115 ∷ 102
+      ∷ 111 ∷ 114 ∷ 109 ∷ []) (Syntax.tcons (Syntax.tyStruct (116 ∷ 114 ∷ 97 ∷ 110 ∷ 115 ∷ 102 ∷ 111 ∷ 114 ∷ 109 ∷ 58 ∷ 58 ∷ 67 ∷ 111 ∷ 101 ∷ 102 ∷ 102 ∷ 105 ∷
+      99 ∷ 105 ∷ 101 ∷ 110 ∷ 116 ∷ 115 ∷ []) (Syntax.tcons (Syntax.tyInt Syntax.w32) (Syntax.tcons (Syntax.tyInt Syntax.w32) (Syntax.tcons (Syntax.tyInt
+      Syntax.w32) Syntax.tnil)))) (Syntax.tcons (Syntax.tyInt Syntax.w32) Syntax.tnil))) Syntax.tnil))) Syntax.ttnil)))))))))))) Syntax.tnil) Syntax.ttnil))))),
+)
+    ∷ (9, Rows.any-gone Syntax.tyBool) ∷ (10, Rows.any-gone (Syntax.tyInt Syntax.w64)) ∷ (11, Rows.any-gone (Syntax.tyInt Syntax.w64)) ∷ (
+      12,
+      Rows.any-gone
+          (Syntax.tyInt Syntax.w64),
+    ) ∷ (13, Rows.any-gone Syntax.tyBool) ∷ (14, Rows.any-gone (Syntax.tyRef Syntax.erased Syntax.mut SlotAs.pointee)) ∷ (
+      15,
+      Rows.any-gone (Syntax.tyStruct (38 ∷ 91 ∷ 93 ∷ []) (Syntax.tcons (Syntax.tyRef Syntax.erased Syntax.mut SlotAs.pointee) (Syntax.tcons (Syntax.tyInt
+          Syntax.w64) Syntax.tnil))),
+    ) ∷ []
 
 abbrev pub t27 : List.List Row.Entry
 t27 = (0, Rows.whole (Declared'.row (Apart.apartT Outcome.the-type))) ∷ (
@@ -3583,20 +3941,32 @@ t27 = (0, Rows.whole (Declared'.row (Apart.apartT Outcome.the-type))) ∷ (
       (Syntax.tcons (Syntax.tyInt Syntax.w32) (Syntax.tcons (Syntax.tyInt Syntax.w32) (Syntax.tcons (Syntax.tyInt Syntax.w32) (Syntax.tcons (Syntax.tyInt
       Syntax.w32) (Syntax.tcons (Syntax.tyInt Syntax.w32) Syntax.tnil)))))))))) Syntax.tnil) (Syntax.ttcons Syntax.tnil (Syntax.ttcons (Syntax.tcons
       (Syntax.tyStruct (109 ∷ 111 ∷ 100 ∷ 101 ∷ 108 ∷ 58 ∷ 58 ∷ 77 ∷ 111 ∷ 100 ∷ 101 ∷ 108 ∷ []) (Syntax.tcons (Syntax.tyInt Syntax.w32) Syntax.tnil))
-      Syntax.tnil) (Syntax.ttcons Syntax.tnil Syntax.ttnil)))))))))) Syntax.tnil) Syntax.ttnil))))),
-) ∷ (9, Rows.any-gone Syntax.tyBool) ∷ (
-  10,
-  Rows.any-gone
-      (Syntax.tyInt Syntax.w64),
-) ∷ (11, Rows.any-gone (Syntax.tyInt Syntax.w64)) ∷ (12, Rows.any-gone (Syntax.tyInt Syntax.w64)) ∷ (
-  13,
-  Rows.any-gone
-      Syntax.tyBool,
-) ∷ (14, Rows.any-gone (Syntax.tyRef Syntax.erased Syntax.mut SlotAs.pointee)) ∷ (
-  15,
-  Rows.any-gone (Syntax.tyStruct (38 ∷ 91 ∷ 93 ∷ [])
-      (Syntax.tcons (Syntax.tyRef Syntax.erased Syntax.mut SlotAs.pointee) (Syntax.tcons (Syntax.tyInt Syntax.w64) Syntax.tnil))),
-) ∷ []
+      Syntax.tnil) (Syntax.ttcons Syntax.tnil (Syntax.ttcons (Syntax.tcons (Syntax.tyStruct (99 ∷ 101 ∷ 108 ∷ 108 ∷ 58 ∷ 58 ∷ 67 ∷ 101 ∷ 108 ∷ 108 ∷ [])
+      (Syntax.tcons (Syntax.tyStruct (99 ∷ 101 ∷ 108 ∷ 108 ∷ 58 ∷ 58 ∷ 69 ∷ 100 ∷ 103 ∷ 101 ∷ 115 ∷ []) (Syntax.tcons (Syntax.tyInt Syntax.w32) (Syntax.tcons
+      (Syntax.tyInt Syntax.w32) (Syntax.tcons (Syntax.tyInt Syntax.w32) Syntax.tnil)))) (Syntax.tcons (Syntax.tyStruct (99 ∷ 101 ∷ 108 ∷ 108 ∷ 58 ∷ 58 ∷ 65 ∷ 110
+      ∷ 103 ∷ 108 ∷ 101 ∷ 115 ∷ []) (Syntax.tcons (Syntax.tyInt Syntax.w32) (Syntax.tcons (Syntax.tyInt Syntax.w32) (Syntax.tcons (Syntax.tyInt Syntax.w32)
+      Syntax.tnil)))) (Syntax.tcons (Syntax.tyStruct (99 ∷ 101 ∷ 108 ∷ 108 ∷ 58 ∷ 58 ∷ 71 ∷ 114 ∷ 111 ∷ 117 ∷ 112 ∷ []) (Syntax.tcons (Syntax.tyStruct (110 ∷ 97
+      ∷ 109 ∷ 101 ∷ 115 ∷ 58 ∷ 58 ∷ 70 ∷ 111 ∷ 117 ∷ 114 ∷ []) (Syntax.tcons (Syntax.tyInt Syntax.w8) (Syntax.tcons (Syntax.tyInt Syntax.w8) (Syntax.tcons
+      (Syntax.tyInt Syntax.w8) (Syntax.tcons (Syntax.tyInt Syntax.w8) Syntax.tnil))))) (Syntax.tcons (Syntax.tyStruct (110 ∷ 97 ∷ 109 ∷ 101 ∷ 115 ∷ 58 ∷ 58 ∷ 70
+      ∷ 111 ∷ 117 ∷ 114 ∷ []) (Syntax.tcons (Syntax.tyInt Syntax.w8) (Syntax.tcons (Syntax.tyInt Syntax.w8) (Syntax.tcons (Syntax.tyInt Syntax.w8) (Syntax.tcons
+      (Syntax.tyInt Syntax.w8) Syntax.tnil))))) (Syntax.tcons (Syntax.tyStruct (110 ∷ 97 ∷ 109 ∷ 101 ∷ 115 ∷ 58 ∷ 58 ∷ 84 ∷ 104 ∷ 114 ∷ 101 ∷ 101 ∷ [])
+      (Syntax.tcons (Syntax.tyInt Syntax.w8) (Syntax.tcons (Syntax.tyInt Syntax.w8) (Syntax.tcons (Syntax.tyInt Syntax.w8) Syntax.tnil)))) Syntax.tnil))))
+      (Syntax.tcons (Syntax.tyInt Syntax.w32) Syntax.tnil))))) Syntax.tnil) (Syntax.ttcons (Syntax.tcons Syntax.tyBool (Syntax.tcons (Syntax.tyEnum (116 ∷ 114 ∷
+      97 ∷ 110 ∷ 115 ∷ 102 ∷ 111 ∷ 114 ∷ 109 ∷ 58 ∷ 58 ∷ 65 ∷ 120 ∷ 105 ∷ 115 ∷ []) (Syntax.ttcons Syntax.tnil (Syntax.ttcons Syntax.tnil (Syntax.ttcons
+      Syntax.tnil Syntax.ttnil)))) (Syntax.tcons (Syntax.tyStruct (116 ∷ 114 ∷ 97 ∷ 110 ∷ 115 ∷ 102 ∷ 111 ∷ 114 ∷ 109 ∷ 58 ∷ 58 ∷ 84 ∷ 114 ∷ 97 ∷ 110 ∷ 115 ∷ 102
+      ∷ 111 ∷ 114 ∷ 109 ∷ []) (Syntax.tcons (Syntax.tyStruct (116 ∷ 114 ∷ 97 ∷ 110 ∷ 115 ∷ 102 ∷ 111 ∷ 114 ∷ 109 ∷ 58 ∷ 58 ∷ 67 ∷ 111 ∷ 101 ∷ 102 ∷ 102 ∷ 105 ∷
+      99 ∷ 105 ∷ 101 ∷ 110 ∷ 116 ∷ 115 ∷ []) (Syntax.tcons (Syntax.tyInt Syntax.w32) (Syntax.tcons (Syntax.tyInt Syntax.w32) (Syntax.tcons (Syntax.tyInt
+      Syntax.w32) Syntax.tnil)))) (Syntax.tcons (Syntax.tyInt Syntax.w32) Syntax.tnil))) Syntax.tnil))) Syntax.ttnil)))))))))))) Syntax.tnil) Syntax.ttnil))))),
+)
+    ∷ (9, Rows.any-gone Syntax.tyBool) ∷ (10, Rows.any-gone (Syntax.tyInt Syntax.w64)) ∷ (11, Rows.any-gone (Syntax.tyInt Syntax.w64)) ∷ (
+      12,
+      Rows.any-gone
+          (Syntax.tyInt Syntax.w64),
+    ) ∷ (13, Rows.any-gone Syntax.tyBool) ∷ (14, Rows.any-gone (Syntax.tyRef Syntax.erased Syntax.mut SlotAs.pointee)) ∷ (
+      15,
+      Rows.any-gone (Syntax.tyStruct (38 ∷ 91 ∷ 93 ∷ []) (Syntax.tcons (Syntax.tyRef Syntax.erased Syntax.mut SlotAs.pointee) (Syntax.tcons (Syntax.tyInt
+          Syntax.w64) Syntax.tnil))),
+    ) ∷ []
 
 abbrev pub T0 : Row.Cx
 T0 = record { locals = t0; slots = [] }
@@ -3985,7 +4355,23 @@ module _ (claims· : Claims) where
       (Syntax.tcons (Syntax.tyInt Syntax.w32) (Syntax.tcons (Syntax.tyInt Syntax.w32) (Syntax.tcons (Syntax.tyInt Syntax.w32) (Syntax.tcons (Syntax.tyInt
       Syntax.w32) (Syntax.tcons (Syntax.tyInt Syntax.w32) Syntax.tnil)))))))))) Syntax.tnil) (Syntax.ttcons Syntax.tnil (Syntax.ttcons (Syntax.tcons
       (Syntax.tyStruct (109 ∷ 111 ∷ 100 ∷ 101 ∷ 108 ∷ 58 ∷ 58 ∷ 77 ∷ 111 ∷ 100 ∷ 101 ∷ 108 ∷ []) (Syntax.tcons (Syntax.tyInt Syntax.w32) Syntax.tnil))
-      Syntax.tnil) (Syntax.ttcons Syntax.tnil Syntax.ttnil)))))))))) Syntax.tnil) Syntax.ttnil)))))
+      Syntax.tnil) (Syntax.ttcons Syntax.tnil (Syntax.ttcons (Syntax.tcons (Syntax.tyStruct (99 ∷ 101 ∷ 108 ∷ 108 ∷ 58 ∷ 58 ∷ 67 ∷ 101 ∷ 108 ∷ 108 ∷ [])
+      (Syntax.tcons (Syntax.tyStruct (99 ∷ 101 ∷ 108 ∷ 108 ∷ 58 ∷ 58 ∷ 69 ∷ 100 ∷ 103 ∷ 101 ∷ 115 ∷ []) (Syntax.tcons (Syntax.tyInt Syntax.w32) (Syntax.tcons
+      (Syntax.tyInt Syntax.w32) (Syntax.tcons (Syntax.tyInt Syntax.w32) Syntax.tnil)))) (Syntax.tcons (Syntax.tyStruct (99 ∷ 101 ∷ 108 ∷ 108 ∷ 58 ∷ 58 ∷ 65 ∷
+      110 ∷ 103 ∷ 108 ∷ 101 ∷ 115 ∷ []) (Syntax.tcons (Syntax.tyInt Syntax.w32) (Syntax.tcons (Syntax.tyInt Syntax.w32) (Syntax.tcons (Syntax.tyInt Syntax.w32)
+      Syntax.tnil)))) (Syntax.tcons (Syntax.tyStruct (99 ∷ 101 ∷ 108 ∷ 108 ∷ 58 ∷ 58 ∷ 71 ∷ 114 ∷ 111 ∷ 117 ∷ 112 ∷ []) (Syntax.tcons (Syntax.tyStruct (110 ∷
+      97 ∷ 109 ∷ 101 ∷ 115 ∷ 58 ∷ 58 ∷ 70 ∷ 111 ∷ 117 ∷ 114 ∷ []) (Syntax.tcons (Syntax.tyInt Syntax.w8) (Syntax.tcons (Syntax.tyInt Syntax.w8) (Syntax.tcons
+      (Syntax.tyInt Syntax.w8) (Syntax.tcons (Syntax.tyInt Syntax.w8) Syntax.tnil))))) (Syntax.tcons (Syntax.tyStruct (110 ∷ 97 ∷ 109 ∷ 101 ∷ 115 ∷ 58 ∷ 58 ∷
+      70 ∷ 111 ∷ 117 ∷ 114 ∷ []) (Syntax.tcons (Syntax.tyInt Syntax.w8) (Syntax.tcons (Syntax.tyInt Syntax.w8) (Syntax.tcons (Syntax.tyInt Syntax.w8)
+      (Syntax.tcons (Syntax.tyInt Syntax.w8) Syntax.tnil))))) (Syntax.tcons (Syntax.tyStruct (110 ∷ 97 ∷ 109 ∷ 101 ∷ 115 ∷ 58 ∷ 58 ∷ 84 ∷ 104 ∷ 114 ∷ 101 ∷ 101
+      ∷ []) (Syntax.tcons (Syntax.tyInt Syntax.w8) (Syntax.tcons (Syntax.tyInt Syntax.w8) (Syntax.tcons (Syntax.tyInt Syntax.w8) Syntax.tnil))))
+      Syntax.tnil)))) (Syntax.tcons (Syntax.tyInt Syntax.w32) Syntax.tnil))))) Syntax.tnil) (Syntax.ttcons (Syntax.tcons Syntax.tyBool (Syntax.tcons
+      (Syntax.tyEnum (116 ∷ 114 ∷ 97 ∷ 110 ∷ 115 ∷ 102 ∷ 111 ∷ 114 ∷ 109 ∷ 58 ∷ 58 ∷ 65 ∷ 120 ∷ 105 ∷ 115 ∷ []) (Syntax.ttcons Syntax.tnil (Syntax.ttcons
+      Syntax.tnil (Syntax.ttcons Syntax.tnil Syntax.ttnil)))) (Syntax.tcons (Syntax.tyStruct (116 ∷ 114 ∷ 97 ∷ 110 ∷ 115 ∷ 102 ∷ 111 ∷ 114 ∷ 109 ∷ 58 ∷ 58 ∷ 84
+      ∷ 114 ∷ 97 ∷ 110 ∷ 115 ∷ 102 ∷ 111 ∷ 114 ∷ 109 ∷ []) (Syntax.tcons (Syntax.tyStruct (116 ∷ 114 ∷ 97 ∷ 110 ∷ 115 ∷ 102 ∷ 111 ∷ 114 ∷ 109 ∷ 58 ∷ 58 ∷ 67 ∷
+      111 ∷ 101 ∷ 102 ∷ 102 ∷ 105 ∷ 99 ∷ 105 ∷ 101 ∷ 110 ∷ 116 ∷ 115 ∷ []) (Syntax.tcons (Syntax.tyInt Syntax.w32) (Syntax.tcons (Syntax.tyInt Syntax.w32)
+      (Syntax.tcons (Syntax.tyInt Syntax.w32) Syntax.tnil)))) (Syntax.tcons (Syntax.tyInt Syntax.w32) Syntax.tnil))) Syntax.tnil))) Syntax.ttnil))))))))))))
+      Syntax.tnil) Syntax.ttnil)))))
 
   abbrev s31 : Typed.Gives T35 T37
   s31 = Relend.k-sl-relend SlotAs.row T35 2 14 1 2 (Syntax.tyRef (Syntax.named 1) Syntax.mut SlotAs.pointee) (Syntax.tyRef Syntax.erased Syntax.mut
@@ -4104,7 +4490,22 @@ module _ (claims· : Claims) where
       Syntax.w32) (Syntax.tcons (Syntax.tyInt Syntax.w32) (Syntax.tcons (Syntax.tyInt Syntax.w32) (Syntax.tcons (Syntax.tyInt Syntax.w32) (Syntax.tcons
       (Syntax.tyInt Syntax.w32) Syntax.tnil)))))))))) Syntax.tnil) (Syntax.ttcons Syntax.tnil (Syntax.ttcons (Syntax.tcons (Syntax.tyStruct (109 ∷ 111 ∷ 100 ∷
       101 ∷ 108 ∷ 58 ∷ 58 ∷ 77 ∷ 111 ∷ 100 ∷ 101 ∷ 108 ∷ []) (Syntax.tcons (Syntax.tyInt Syntax.w32) Syntax.tnil)) Syntax.tnil) (Syntax.ttcons Syntax.tnil
-      Syntax.ttnil)))))))))) Syntax.tnil) Syntax.ttnil)))))
+      (Syntax.ttcons (Syntax.tcons (Syntax.tyStruct (99 ∷ 101 ∷ 108 ∷ 108 ∷ 58 ∷ 58 ∷ 67 ∷ 101 ∷ 108 ∷ 108 ∷ []) (Syntax.tcons (Syntax.tyStruct (99 ∷ 101 ∷ 108
+      ∷ 108 ∷ 58 ∷ 58 ∷ 69 ∷ 100 ∷ 103 ∷ 101 ∷ 115 ∷ []) (Syntax.tcons (Syntax.tyInt Syntax.w32) (Syntax.tcons (Syntax.tyInt Syntax.w32) (Syntax.tcons
+      (Syntax.tyInt Syntax.w32) Syntax.tnil)))) (Syntax.tcons (Syntax.tyStruct (99 ∷ 101 ∷ 108 ∷ 108 ∷ 58 ∷ 58 ∷ 65 ∷ 110 ∷ 103 ∷ 108 ∷ 101 ∷ 115 ∷ [])
+      (Syntax.tcons (Syntax.tyInt Syntax.w32) (Syntax.tcons (Syntax.tyInt Syntax.w32) (Syntax.tcons (Syntax.tyInt Syntax.w32) Syntax.tnil)))) (Syntax.tcons
+      (Syntax.tyStruct (99 ∷ 101 ∷ 108 ∷ 108 ∷ 58 ∷ 58 ∷ 71 ∷ 114 ∷ 111 ∷ 117 ∷ 112 ∷ []) (Syntax.tcons (Syntax.tyStruct (110 ∷ 97 ∷ 109 ∷ 101 ∷ 115 ∷ 58 ∷ 58
+      ∷ 70 ∷ 111 ∷ 117 ∷ 114 ∷ []) (Syntax.tcons (Syntax.tyInt Syntax.w8) (Syntax.tcons (Syntax.tyInt Syntax.w8) (Syntax.tcons (Syntax.tyInt Syntax.w8)
+      (Syntax.tcons (Syntax.tyInt Syntax.w8) Syntax.tnil))))) (Syntax.tcons (Syntax.tyStruct (110 ∷ 97 ∷ 109 ∷ 101 ∷ 115 ∷ 58 ∷ 58 ∷ 70 ∷ 111 ∷ 117 ∷ 114 ∷ [])
+      (Syntax.tcons (Syntax.tyInt Syntax.w8) (Syntax.tcons (Syntax.tyInt Syntax.w8) (Syntax.tcons (Syntax.tyInt Syntax.w8) (Syntax.tcons (Syntax.tyInt
+      Syntax.w8) Syntax.tnil))))) (Syntax.tcons (Syntax.tyStruct (110 ∷ 97 ∷ 109 ∷ 101 ∷ 115 ∷ 58 ∷ 58 ∷ 84 ∷ 104 ∷ 114 ∷ 101 ∷ 101 ∷ []) (Syntax.tcons
+      (Syntax.tyInt Syntax.w8) (Syntax.tcons (Syntax.tyInt Syntax.w8) (Syntax.tcons (Syntax.tyInt Syntax.w8) Syntax.tnil)))) Syntax.tnil)))) (Syntax.tcons
+      (Syntax.tyInt Syntax.w32) Syntax.tnil))))) Syntax.tnil) (Syntax.ttcons (Syntax.tcons Syntax.tyBool (Syntax.tcons (Syntax.tyEnum (116 ∷ 114 ∷ 97 ∷ 110 ∷
+      115 ∷ 102 ∷ 111 ∷ 114 ∷ 109 ∷ 58 ∷ 58 ∷ 65 ∷ 120 ∷ 105 ∷ 115 ∷ []) (Syntax.ttcons Syntax.tnil (Syntax.ttcons Syntax.tnil (Syntax.ttcons Syntax.tnil
+      Syntax.ttnil)))) (Syntax.tcons (Syntax.tyStruct (116 ∷ 114 ∷ 97 ∷ 110 ∷ 115 ∷ 102 ∷ 111 ∷ 114 ∷ 109 ∷ 58 ∷ 58 ∷ 84 ∷ 114 ∷ 97 ∷ 110 ∷ 115 ∷ 102 ∷ 111 ∷
+      114 ∷ 109 ∷ []) (Syntax.tcons (Syntax.tyStruct (116 ∷ 114 ∷ 97 ∷ 110 ∷ 115 ∷ 102 ∷ 111 ∷ 114 ∷ 109 ∷ 58 ∷ 58 ∷ 67 ∷ 111 ∷ 101 ∷ 102 ∷ 102 ∷ 105 ∷ 99 ∷
+      105 ∷ 101 ∷ 110 ∷ 116 ∷ 115 ∷ []) (Syntax.tcons (Syntax.tyInt Syntax.w32) (Syntax.tcons (Syntax.tyInt Syntax.w32) (Syntax.tcons (Syntax.tyInt Syntax.w32)
+      Syntax.tnil)))) (Syntax.tcons (Syntax.tyInt Syntax.w32) Syntax.tnil))) Syntax.tnil))) Syntax.ttnil)))))))))))) Syntax.tnil) Syntax.ttnil)))))
 
   abbrev s39 : Typed.Asks T44 T45
   s39 = Scalar.k-op2 T44 (Syntax.add Syntax.unsigned) (Scalar.oAt 5 (Syntax.tyInt Syntax.w64) (Row.valS (Row.sInt Syntax.w64))) (Scalar.oInt Syntax.w64 1) 5
@@ -4847,108 +5248,140 @@ module _ (claims· : Claims) where
                 (Syntax.tyInt Syntax.w32) (Syntax.tcons (Syntax.tyInt Syntax.w32) (Syntax.tcons (Syntax.tyInt Syntax.w32) (Syntax.tcons (Syntax.tyInt Syntax.w32)
                 Syntax.tnil)))))))))) Syntax.tnil) (Syntax.ttcons Syntax.tnil (Syntax.ttcons (Syntax.tcons (Syntax.tyStruct (109 ∷ 111 ∷ 100 ∷ 101 ∷ 108 ∷ 58 ∷
                 58 ∷ 77 ∷ 111 ∷ 100 ∷ 101 ∷ 108 ∷ []) (Syntax.tcons (Syntax.tyInt Syntax.w32) Syntax.tnil)) Syntax.tnil) (Syntax.ttcons Syntax.tnil
-                Syntax.ttnil)))))))))) Syntax.tnil) Syntax.ttnil))))) (Local.room-whole 𝓤 H A W (Declared.row Line.the-type) (Syntax.tyEnum (112 ∷ 105 ∷ 101 ∷ 99
-                ∷ 101 ∷ 115 ∷ 58 ∷ 58 ∷ 76 ∷ 105 ∷ 110 ∷ 101 ∷ []) (Syntax.ttcons (Syntax.tcons (Syntax.tyInt Syntax.w8) Syntax.tnil) (Syntax.ttcons
-                (Syntax.tcons (Syntax.tyEnum (107 ∷ 105 ∷ 110 ∷ 100 ∷ 115 ∷ 58 ∷ 58 ∷ 75 ∷ 105 ∷ 110 ∷ 100 ∷ []) (Syntax.ttcons Syntax.tnil (Syntax.ttcons
-                Syntax.tnil (Syntax.ttcons Syntax.tnil (Syntax.ttcons Syntax.tnil (Syntax.ttcons Syntax.tnil (Syntax.ttcons Syntax.tnil (Syntax.ttcons
-                Syntax.tnil (Syntax.ttcons Syntax.tnil (Syntax.ttcons Syntax.tnil (Syntax.ttcons Syntax.tnil (Syntax.ttcons Syntax.tnil (Syntax.ttcons
-                Syntax.tnil (Syntax.ttcons Syntax.tnil (Syntax.ttcons Syntax.tnil (Syntax.ttcons Syntax.tnil (Syntax.ttcons Syntax.tnil (Syntax.ttcons
-                Syntax.tnil (Syntax.ttcons Syntax.tnil (Syntax.ttcons Syntax.tnil (Syntax.ttcons Syntax.tnil (Syntax.ttcons Syntax.tnil (Syntax.ttcons
-                Syntax.tnil (Syntax.ttcons Syntax.tnil (Syntax.ttcons Syntax.tnil (Syntax.ttcons Syntax.tnil (Syntax.ttcons Syntax.tnil (Syntax.ttcons
-                Syntax.tnil (Syntax.ttcons Syntax.tnil (Syntax.ttcons Syntax.tnil (Syntax.ttcons Syntax.tnil Syntax.ttnil)))))))))))))))))))))))))))))))
-                (Syntax.tcons (Syntax.tyInt Syntax.w32) Syntax.tnil)) (Syntax.ttcons (Syntax.tcons (Syntax.tyEnum (107 ∷ 105 ∷ 110 ∷ 100 ∷ 115 ∷ 58 ∷ 58 ∷ 75 ∷
-                105 ∷ 110 ∷ 100 ∷ []) (Syntax.ttcons Syntax.tnil (Syntax.ttcons Syntax.tnil (Syntax.ttcons Syntax.tnil (Syntax.ttcons Syntax.tnil (Syntax.ttcons
-                Syntax.tnil (Syntax.ttcons Syntax.tnil (Syntax.ttcons Syntax.tnil (Syntax.ttcons Syntax.tnil (Syntax.ttcons Syntax.tnil (Syntax.ttcons
-                Syntax.tnil (Syntax.ttcons Syntax.tnil (Syntax.ttcons Syntax.tnil (Syntax.ttcons Syntax.tnil (Syntax.ttcons Syntax.tnil (Syntax.ttcons
-                Syntax.tnil (Syntax.ttcons Syntax.tnil (Syntax.ttcons Syntax.tnil (Syntax.ttcons Syntax.tnil (Syntax.ttcons Syntax.tnil (Syntax.ttcons
-                Syntax.tnil (Syntax.ttcons Syntax.tnil (Syntax.ttcons Syntax.tnil (Syntax.ttcons Syntax.tnil (Syntax.ttcons Syntax.tnil (Syntax.ttcons
-                Syntax.tnil (Syntax.ttcons Syntax.tnil (Syntax.ttcons Syntax.tnil (Syntax.ttcons Syntax.tnil (Syntax.ttcons Syntax.tnil (Syntax.ttcons
-                Syntax.tnil Syntax.ttnil))))))))))))))))))))))))))))))) Syntax.tnil) (Syntax.ttcons (Syntax.tcons (Syntax.tyEnum (108 ∷ 105 ∷ 110 ∷ 101 ∷ 58 ∷ 58
-                ∷ 82 ∷ 101 ∷ 99 ∷ 111 ∷ 114 ∷ 100 ∷ []) (Syntax.ttcons (Syntax.tcons Syntax.tyBool (Syntax.tcons (Syntax.tyStruct (99 ∷ 111 ∷ 111 ∷ 114 ∷ 100 ∷
-                105 ∷ 110 ∷ 97 ∷ 116 ∷ 101 ∷ 58 ∷ 58 ∷ 65 ∷ 116 ∷ 111 ∷ 109 ∷ []) (Syntax.tcons (Syntax.tyStruct (99 ∷ 111 ∷ 111 ∷ 114 ∷ 100 ∷ 105 ∷ 110 ∷ 97 ∷
-                116 ∷ 101 ∷ 58 ∷ 58 ∷ 73 ∷ 100 ∷ 101 ∷ 110 ∷ 116 ∷ 105 ∷ 116 ∷ 121 ∷ []) (Syntax.tcons (Syntax.tyStruct (102 ∷ 105 ∷ 101 ∷ 108 ∷ 100 ∷ 115 ∷ 58 ∷
-                58 ∷ 83 ∷ 101 ∷ 114 ∷ 105 ∷ 97 ∷ 108 ∷ []) (Syntax.tcons (Syntax.tyInt Syntax.w32) Syntax.tnil)) (Syntax.tcons (Syntax.tyStruct (110 ∷ 97 ∷ 109 ∷
+                (Syntax.ttcons (Syntax.tcons (Syntax.tyStruct (99 ∷ 101 ∷ 108 ∷ 108 ∷ 58 ∷ 58 ∷ 67 ∷ 101 ∷ 108 ∷ 108 ∷ []) (Syntax.tcons (Syntax.tyStruct (99 ∷
+                101 ∷ 108 ∷ 108 ∷ 58 ∷ 58 ∷ 69 ∷ 100 ∷ 103 ∷ 101 ∷ 115 ∷ []) (Syntax.tcons (Syntax.tyInt Syntax.w32) (Syntax.tcons (Syntax.tyInt Syntax.w32)
+                (Syntax.tcons (Syntax.tyInt Syntax.w32) Syntax.tnil)))) (Syntax.tcons (Syntax.tyStruct (99 ∷ 101 ∷ 108 ∷ 108 ∷ 58 ∷ 58 ∷ 65 ∷ 110 ∷ 103 ∷ 108 ∷
+                101 ∷ 115 ∷ []) (Syntax.tcons (Syntax.tyInt Syntax.w32) (Syntax.tcons (Syntax.tyInt Syntax.w32) (Syntax.tcons (Syntax.tyInt Syntax.w32)
+                Syntax.tnil)))) (Syntax.tcons (Syntax.tyStruct (99 ∷ 101 ∷ 108 ∷ 108 ∷ 58 ∷ 58 ∷ 71 ∷ 114 ∷ 111 ∷ 117 ∷ 112 ∷ []) (Syntax.tcons (Syntax.tyStruct
+                (110 ∷ 97 ∷ 109 ∷ 101 ∷ 115 ∷ 58 ∷ 58 ∷ 70 ∷ 111 ∷ 117 ∷ 114 ∷ []) (Syntax.tcons (Syntax.tyInt Syntax.w8) (Syntax.tcons (Syntax.tyInt Syntax.w8)
+                (Syntax.tcons (Syntax.tyInt Syntax.w8) (Syntax.tcons (Syntax.tyInt Syntax.w8) Syntax.tnil))))) (Syntax.tcons (Syntax.tyStruct (110 ∷ 97 ∷ 109 ∷
                 101 ∷ 115 ∷ 58 ∷ 58 ∷ 70 ∷ 111 ∷ 117 ∷ 114 ∷ []) (Syntax.tcons (Syntax.tyInt Syntax.w8) (Syntax.tcons (Syntax.tyInt Syntax.w8) (Syntax.tcons
-                (Syntax.tyInt Syntax.w8) (Syntax.tcons (Syntax.tyInt Syntax.w8) Syntax.tnil))))) (Syntax.tcons (Syntax.tyInt Syntax.w8) (Syntax.tcons
+                (Syntax.tyInt Syntax.w8) (Syntax.tcons (Syntax.tyInt Syntax.w8) Syntax.tnil))))) (Syntax.tcons (Syntax.tyStruct (110 ∷ 97 ∷ 109 ∷ 101 ∷ 115 ∷ 58
+                ∷ 58 ∷ 84 ∷ 104 ∷ 114 ∷ 101 ∷ 101 ∷ []) (Syntax.tcons (Syntax.tyInt Syntax.w8) (Syntax.tcons (Syntax.tyInt Syntax.w8) (Syntax.tcons (Syntax.tyInt
+                Syntax.w8) Syntax.tnil)))) Syntax.tnil)))) (Syntax.tcons (Syntax.tyInt Syntax.w32) Syntax.tnil))))) Syntax.tnil) (Syntax.ttcons (Syntax.tcons
+                Syntax.tyBool (Syntax.tcons (Syntax.tyEnum (116 ∷ 114 ∷ 97 ∷ 110 ∷ 115 ∷ 102 ∷ 111 ∷ 114 ∷ 109 ∷ 58 ∷ 58 ∷ 65 ∷ 120 ∷ 105 ∷ 115 ∷ [])
+                (Syntax.ttcons Syntax.tnil (Syntax.ttcons Syntax.tnil (Syntax.ttcons Syntax.tnil Syntax.ttnil)))) (Syntax.tcons (Syntax.tyStruct (116 ∷ 114 ∷ 97
+                ∷ 110 ∷ 115 ∷ 102 ∷ 111 ∷ 114 ∷ 109 ∷ 58 ∷ 58 ∷ 84 ∷ 114 ∷ 97 ∷ 110 ∷ 115 ∷ 102 ∷ 111 ∷ 114 ∷ 109 ∷ []) (Syntax.tcons (Syntax.tyStruct (116 ∷ 114
+                ∷ 97 ∷ 110 ∷ 115 ∷ 102 ∷ 111 ∷ 114 ∷ 109 ∷ 58 ∷ 58 ∷ 67 ∷ 111 ∷ 101 ∷ 102 ∷ 102 ∷ 105 ∷ 99 ∷ 105 ∷ 101 ∷ 110 ∷ 116 ∷ 115 ∷ []) (Syntax.tcons
+                (Syntax.tyInt Syntax.w32) (Syntax.tcons (Syntax.tyInt Syntax.w32) (Syntax.tcons (Syntax.tyInt Syntax.w32) Syntax.tnil)))) (Syntax.tcons
+                (Syntax.tyInt Syntax.w32) Syntax.tnil))) Syntax.tnil))) Syntax.ttnil)))))))))))) Syntax.tnil) Syntax.ttnil))))) (Local.room-whole 𝓤 H A W
+                (Declared.row Line.the-type) (Syntax.tyEnum (112 ∷ 105 ∷ 101 ∷ 99 ∷ 101 ∷ 115 ∷ 58 ∷ 58 ∷ 76 ∷ 105 ∷ 110 ∷ 101 ∷ []) (Syntax.ttcons (Syntax.tcons
+                (Syntax.tyInt Syntax.w8) Syntax.tnil) (Syntax.ttcons (Syntax.tcons (Syntax.tyEnum (107 ∷ 105 ∷ 110 ∷ 100 ∷ 115 ∷ 58 ∷ 58 ∷ 75 ∷ 105 ∷ 110 ∷ 100 ∷
+                []) (Syntax.ttcons Syntax.tnil (Syntax.ttcons Syntax.tnil (Syntax.ttcons Syntax.tnil (Syntax.ttcons Syntax.tnil (Syntax.ttcons Syntax.tnil
+                (Syntax.ttcons Syntax.tnil (Syntax.ttcons Syntax.tnil (Syntax.ttcons Syntax.tnil (Syntax.ttcons Syntax.tnil (Syntax.ttcons Syntax.tnil
+                (Syntax.ttcons Syntax.tnil (Syntax.ttcons Syntax.tnil (Syntax.ttcons Syntax.tnil (Syntax.ttcons Syntax.tnil (Syntax.ttcons Syntax.tnil
+                (Syntax.ttcons Syntax.tnil (Syntax.ttcons Syntax.tnil (Syntax.ttcons Syntax.tnil (Syntax.ttcons Syntax.tnil (Syntax.ttcons Syntax.tnil
+                (Syntax.ttcons Syntax.tnil (Syntax.ttcons Syntax.tnil (Syntax.ttcons Syntax.tnil (Syntax.ttcons Syntax.tnil (Syntax.ttcons Syntax.tnil
+                (Syntax.ttcons Syntax.tnil (Syntax.ttcons Syntax.tnil (Syntax.ttcons Syntax.tnil (Syntax.ttcons Syntax.tnil (Syntax.ttcons Syntax.tnil
+                Syntax.ttnil))))))))))))))))))))))))))))))) (Syntax.tcons (Syntax.tyInt Syntax.w32) Syntax.tnil)) (Syntax.ttcons (Syntax.tcons (Syntax.tyEnum
+                (107 ∷ 105 ∷ 110 ∷ 100 ∷ 115 ∷ 58 ∷ 58 ∷ 75 ∷ 105 ∷ 110 ∷ 100 ∷ []) (Syntax.ttcons Syntax.tnil (Syntax.ttcons Syntax.tnil (Syntax.ttcons
+                Syntax.tnil (Syntax.ttcons Syntax.tnil (Syntax.ttcons Syntax.tnil (Syntax.ttcons Syntax.tnil (Syntax.ttcons Syntax.tnil (Syntax.ttcons
+                Syntax.tnil (Syntax.ttcons Syntax.tnil (Syntax.ttcons Syntax.tnil (Syntax.ttcons Syntax.tnil (Syntax.ttcons Syntax.tnil (Syntax.ttcons
+                Syntax.tnil (Syntax.ttcons Syntax.tnil (Syntax.ttcons Syntax.tnil (Syntax.ttcons Syntax.tnil (Syntax.ttcons Syntax.tnil (Syntax.ttcons
+                Syntax.tnil (Syntax.ttcons Syntax.tnil (Syntax.ttcons Syntax.tnil (Syntax.ttcons Syntax.tnil (Syntax.ttcons Syntax.tnil (Syntax.ttcons
+                Syntax.tnil (Syntax.ttcons Syntax.tnil (Syntax.ttcons Syntax.tnil (Syntax.ttcons Syntax.tnil (Syntax.ttcons Syntax.tnil (Syntax.ttcons
+                Syntax.tnil (Syntax.ttcons Syntax.tnil (Syntax.ttcons Syntax.tnil Syntax.ttnil))))))))))))))))))))))))))))))) Syntax.tnil) (Syntax.ttcons
+                (Syntax.tcons (Syntax.tyEnum (108 ∷ 105 ∷ 110 ∷ 101 ∷ 58 ∷ 58 ∷ 82 ∷ 101 ∷ 99 ∷ 111 ∷ 114 ∷ 100 ∷ []) (Syntax.ttcons (Syntax.tcons Syntax.tyBool
+                (Syntax.tcons (Syntax.tyStruct (99 ∷ 111 ∷ 111 ∷ 114 ∷ 100 ∷ 105 ∷ 110 ∷ 97 ∷ 116 ∷ 101 ∷ 58 ∷ 58 ∷ 65 ∷ 116 ∷ 111 ∷ 109 ∷ []) (Syntax.tcons
+                (Syntax.tyStruct (99 ∷ 111 ∷ 111 ∷ 114 ∷ 100 ∷ 105 ∷ 110 ∷ 97 ∷ 116 ∷ 101 ∷ 58 ∷ 58 ∷ 73 ∷ 100 ∷ 101 ∷ 110 ∷ 116 ∷ 105 ∷ 116 ∷ 121 ∷ [])
+                (Syntax.tcons (Syntax.tyStruct (102 ∷ 105 ∷ 101 ∷ 108 ∷ 100 ∷ 115 ∷ 58 ∷ 58 ∷ 83 ∷ 101 ∷ 114 ∷ 105 ∷ 97 ∷ 108 ∷ []) (Syntax.tcons (Syntax.tyInt
+                Syntax.w32) Syntax.tnil)) (Syntax.tcons (Syntax.tyStruct (110 ∷ 97 ∷ 109 ∷ 101 ∷ 115 ∷ 58 ∷ 58 ∷ 70 ∷ 111 ∷ 117 ∷ 114 ∷ []) (Syntax.tcons
+                (Syntax.tyInt Syntax.w8) (Syntax.tcons (Syntax.tyInt Syntax.w8) (Syntax.tcons (Syntax.tyInt Syntax.w8) (Syntax.tcons (Syntax.tyInt Syntax.w8)
+                Syntax.tnil))))) (Syntax.tcons (Syntax.tyInt Syntax.w8) (Syntax.tcons (Syntax.tyStruct (114 ∷ 101 ∷ 115 ∷ 105 ∷ 100 ∷ 117 ∷ 101 ∷ 58 ∷ 58 ∷ 82 ∷
+                101 ∷ 115 ∷ 105 ∷ 100 ∷ 117 ∷ 101 ∷ []) (Syntax.tcons (Syntax.tyStruct (110 ∷ 97 ∷ 109 ∷ 101 ∷ 115 ∷ 58 ∷ 58 ∷ 84 ∷ 104 ∷ 114 ∷ 101 ∷ 101 ∷ [])
+                (Syntax.tcons (Syntax.tyInt Syntax.w8) (Syntax.tcons (Syntax.tyInt Syntax.w8) (Syntax.tcons (Syntax.tyInt Syntax.w8) Syntax.tnil))))
+                (Syntax.tcons (Syntax.tyInt Syntax.w8) (Syntax.tcons (Syntax.tyStruct (102 ∷ 105 ∷ 101 ∷ 108 ∷ 100 ∷ 115 ∷ 58 ∷ 58 ∷ 82 ∷ 101 ∷ 115 ∷ 105 ∷ 100 ∷
+                117 ∷ 101 ∷ 78 ∷ 117 ∷ 109 ∷ 98 ∷ 101 ∷ 114 ∷ []) (Syntax.tcons (Syntax.tyInt Syntax.w32) Syntax.tnil)) (Syntax.tcons (Syntax.tyInt Syntax.w8)
+                Syntax.tnil))))) Syntax.tnil))))) (Syntax.tcons (Syntax.tyStruct (99 ∷ 111 ∷ 111 ∷ 114 ∷ 100 ∷ 105 ∷ 110 ∷ 97 ∷ 116 ∷ 101 ∷ 58 ∷ 58 ∷ 77 ∷ 101 ∷
+                97 ∷ 115 ∷ 117 ∷ 114 ∷ 101 ∷ []) (Syntax.tcons (Syntax.tyStruct (99 ∷ 111 ∷ 111 ∷ 114 ∷ 100 ∷ 105 ∷ 110 ∷ 97 ∷ 116 ∷ 101 ∷ 58 ∷ 58 ∷ 80 ∷ 111 ∷
+                115 ∷ 105 ∷ 116 ∷ 105 ∷ 111 ∷ 110 ∷ []) (Syntax.tcons (Syntax.tyInt Syntax.w32) (Syntax.tcons (Syntax.tyInt Syntax.w32) (Syntax.tcons
+                (Syntax.tyInt Syntax.w32) Syntax.tnil)))) (Syntax.tcons (Syntax.tyInt Syntax.w32) (Syntax.tcons (Syntax.tyInt Syntax.w32) Syntax.tnil))))
+                (Syntax.tcons (Syntax.tyStruct (99 ∷ 111 ∷ 111 ∷ 114 ∷ 100 ∷ 105 ∷ 110 ∷ 97 ∷ 116 ∷ 101 ∷ 58 ∷ 58 ∷ 83 ∷ 112 ∷ 101 ∷ 99 ∷ 105 ∷ 101 ∷ 115 ∷ [])
+                (Syntax.tcons (Syntax.tyStruct (110 ∷ 97 ∷ 109 ∷ 101 ∷ 115 ∷ 58 ∷ 58 ∷ 80 ∷ 97 ∷ 105 ∷ 114 ∷ []) (Syntax.tcons (Syntax.tyInt Syntax.w8)
+                (Syntax.tcons (Syntax.tyInt Syntax.w8) Syntax.tnil))) (Syntax.tcons (Syntax.tyStruct (110 ∷ 97 ∷ 109 ∷ 101 ∷ 115 ∷ 58 ∷ 58 ∷ 80 ∷ 97 ∷ 105 ∷ 114
+                ∷ []) (Syntax.tcons (Syntax.tyInt Syntax.w8) (Syntax.tcons (Syntax.tyInt Syntax.w8) Syntax.tnil))) Syntax.tnil))) Syntax.tnil)))) Syntax.tnil))
+                (Syntax.ttcons (Syntax.tcons (Syntax.tyStruct (116 ∷ 101 ∷ 114 ∷ 58 ∷ 58 ∷ 84 ∷ 101 ∷ 114 ∷ []) (Syntax.tcons (Syntax.tyStruct (102 ∷ 105 ∷ 101 ∷
+                108 ∷ 100 ∷ 115 ∷ 58 ∷ 58 ∷ 83 ∷ 101 ∷ 114 ∷ 105 ∷ 97 ∷ 108 ∷ []) (Syntax.tcons (Syntax.tyInt Syntax.w32) Syntax.tnil)) (Syntax.tcons
                 (Syntax.tyStruct (114 ∷ 101 ∷ 115 ∷ 105 ∷ 100 ∷ 117 ∷ 101 ∷ 58 ∷ 58 ∷ 82 ∷ 101 ∷ 115 ∷ 105 ∷ 100 ∷ 117 ∷ 101 ∷ []) (Syntax.tcons (Syntax.tyStruct
                 (110 ∷ 97 ∷ 109 ∷ 101 ∷ 115 ∷ 58 ∷ 58 ∷ 84 ∷ 104 ∷ 114 ∷ 101 ∷ 101 ∷ []) (Syntax.tcons (Syntax.tyInt Syntax.w8) (Syntax.tcons (Syntax.tyInt
                 Syntax.w8) (Syntax.tcons (Syntax.tyInt Syntax.w8) Syntax.tnil)))) (Syntax.tcons (Syntax.tyInt Syntax.w8) (Syntax.tcons (Syntax.tyStruct (102 ∷
                 105 ∷ 101 ∷ 108 ∷ 100 ∷ 115 ∷ 58 ∷ 58 ∷ 82 ∷ 101 ∷ 115 ∷ 105 ∷ 100 ∷ 117 ∷ 101 ∷ 78 ∷ 117 ∷ 109 ∷ 98 ∷ 101 ∷ 114 ∷ []) (Syntax.tcons
-                (Syntax.tyInt Syntax.w32) Syntax.tnil)) (Syntax.tcons (Syntax.tyInt Syntax.w8) Syntax.tnil))))) Syntax.tnil))))) (Syntax.tcons (Syntax.tyStruct
-                (99 ∷ 111 ∷ 111 ∷ 114 ∷ 100 ∷ 105 ∷ 110 ∷ 97 ∷ 116 ∷ 101 ∷ 58 ∷ 58 ∷ 77 ∷ 101 ∷ 97 ∷ 115 ∷ 117 ∷ 114 ∷ 101 ∷ []) (Syntax.tcons (Syntax.tyStruct
-                (99 ∷ 111 ∷ 111 ∷ 114 ∷ 100 ∷ 105 ∷ 110 ∷ 97 ∷ 116 ∷ 101 ∷ 58 ∷ 58 ∷ 80 ∷ 111 ∷ 115 ∷ 105 ∷ 116 ∷ 105 ∷ 111 ∷ 110 ∷ []) (Syntax.tcons
-                (Syntax.tyInt Syntax.w32) (Syntax.tcons (Syntax.tyInt Syntax.w32) (Syntax.tcons (Syntax.tyInt Syntax.w32) Syntax.tnil)))) (Syntax.tcons
-                (Syntax.tyInt Syntax.w32) (Syntax.tcons (Syntax.tyInt Syntax.w32) Syntax.tnil)))) (Syntax.tcons (Syntax.tyStruct (99 ∷ 111 ∷ 111 ∷ 114 ∷ 100 ∷
-                105 ∷ 110 ∷ 97 ∷ 116 ∷ 101 ∷ 58 ∷ 58 ∷ 83 ∷ 112 ∷ 101 ∷ 99 ∷ 105 ∷ 101 ∷ 115 ∷ []) (Syntax.tcons (Syntax.tyStruct (110 ∷ 97 ∷ 109 ∷ 101 ∷ 115 ∷
-                58 ∷ 58 ∷ 80 ∷ 97 ∷ 105 ∷ 114 ∷ []) (Syntax.tcons (Syntax.tyInt Syntax.w8) (Syntax.tcons (Syntax.tyInt Syntax.w8) Syntax.tnil))) (Syntax.tcons
-                (Syntax.tyStruct (110 ∷ 97 ∷ 109 ∷ 101 ∷ 115 ∷ 58 ∷ 58 ∷ 80 ∷ 97 ∷ 105 ∷ 114 ∷ []) (Syntax.tcons (Syntax.tyInt Syntax.w8) (Syntax.tcons
-                (Syntax.tyInt Syntax.w8) Syntax.tnil))) Syntax.tnil))) Syntax.tnil)))) Syntax.tnil)) (Syntax.ttcons (Syntax.tcons (Syntax.tyStruct (116 ∷ 101 ∷
-                114 ∷ 58 ∷ 58 ∷ 84 ∷ 101 ∷ 114 ∷ []) (Syntax.tcons (Syntax.tyStruct (102 ∷ 105 ∷ 101 ∷ 108 ∷ 100 ∷ 115 ∷ 58 ∷ 58 ∷ 83 ∷ 101 ∷ 114 ∷ 105 ∷ 97 ∷
-                108 ∷ []) (Syntax.tcons (Syntax.tyInt Syntax.w32) Syntax.tnil)) (Syntax.tcons (Syntax.tyStruct (114 ∷ 101 ∷ 115 ∷ 105 ∷ 100 ∷ 117 ∷ 101 ∷ 58 ∷ 58
-                ∷ 82 ∷ 101 ∷ 115 ∷ 105 ∷ 100 ∷ 117 ∷ 101 ∷ []) (Syntax.tcons (Syntax.tyStruct (110 ∷ 97 ∷ 109 ∷ 101 ∷ 115 ∷ 58 ∷ 58 ∷ 84 ∷ 104 ∷ 114 ∷ 101 ∷ 101
-                ∷ []) (Syntax.tcons (Syntax.tyInt Syntax.w8) (Syntax.tcons (Syntax.tyInt Syntax.w8) (Syntax.tcons (Syntax.tyInt Syntax.w8) Syntax.tnil))))
+                (Syntax.tyInt Syntax.w32) Syntax.tnil)) (Syntax.tcons (Syntax.tyInt Syntax.w8) Syntax.tnil))))) Syntax.tnil))) Syntax.tnil) (Syntax.ttcons
+                (Syntax.tcons (Syntax.tyStruct (104 ∷ 101 ∷ 108 ∷ 105 ∷ 120 ∷ 58 ∷ 58 ∷ 72 ∷ 101 ∷ 108 ∷ 105 ∷ 120 ∷ []) (Syntax.tcons (Syntax.tyStruct (104 ∷
+                101 ∷ 108 ∷ 105 ∷ 120 ∷ 58 ∷ 58 ∷ 69 ∷ 120 ∷ 116 ∷ 101 ∷ 110 ∷ 116 ∷ []) (Syntax.tcons (Syntax.tyInt Syntax.w32) (Syntax.tcons (Syntax.tyStruct
+                (110 ∷ 97 ∷ 109 ∷ 101 ∷ 115 ∷ 58 ∷ 58 ∷ 84 ∷ 104 ∷ 114 ∷ 101 ∷ 101 ∷ []) (Syntax.tcons (Syntax.tyInt Syntax.w8) (Syntax.tcons (Syntax.tyInt
+                Syntax.w8) (Syntax.tcons (Syntax.tyInt Syntax.w8) Syntax.tnil)))) (Syntax.tcons (Syntax.tyStruct (114 ∷ 101 ∷ 115 ∷ 105 ∷ 100 ∷ 117 ∷ 101 ∷ 58 ∷
+                58 ∷ 82 ∷ 101 ∷ 115 ∷ 105 ∷ 100 ∷ 117 ∷ 101 ∷ []) (Syntax.tcons (Syntax.tyStruct (110 ∷ 97 ∷ 109 ∷ 101 ∷ 115 ∷ 58 ∷ 58 ∷ 84 ∷ 104 ∷ 114 ∷ 101 ∷
+                101 ∷ []) (Syntax.tcons (Syntax.tyInt Syntax.w8) (Syntax.tcons (Syntax.tyInt Syntax.w8) (Syntax.tcons (Syntax.tyInt Syntax.w8) Syntax.tnil))))
                 (Syntax.tcons (Syntax.tyInt Syntax.w8) (Syntax.tcons (Syntax.tyStruct (102 ∷ 105 ∷ 101 ∷ 108 ∷ 100 ∷ 115 ∷ 58 ∷ 58 ∷ 82 ∷ 101 ∷ 115 ∷ 105 ∷ 100 ∷
                 117 ∷ 101 ∷ 78 ∷ 117 ∷ 109 ∷ 98 ∷ 101 ∷ 114 ∷ []) (Syntax.tcons (Syntax.tyInt Syntax.w32) Syntax.tnil)) (Syntax.tcons (Syntax.tyInt Syntax.w8)
-                Syntax.tnil))))) Syntax.tnil))) Syntax.tnil) (Syntax.ttcons (Syntax.tcons (Syntax.tyStruct (104 ∷ 101 ∷ 108 ∷ 105 ∷ 120 ∷ 58 ∷ 58 ∷ 72 ∷ 101 ∷
-                108 ∷ 105 ∷ 120 ∷ []) (Syntax.tcons (Syntax.tyStruct (104 ∷ 101 ∷ 108 ∷ 105 ∷ 120 ∷ 58 ∷ 58 ∷ 69 ∷ 120 ∷ 116 ∷ 101 ∷ 110 ∷ 116 ∷ [])
-                (Syntax.tcons (Syntax.tyInt Syntax.w32) (Syntax.tcons (Syntax.tyStruct (110 ∷ 97 ∷ 109 ∷ 101 ∷ 115 ∷ 58 ∷ 58 ∷ 84 ∷ 104 ∷ 114 ∷ 101 ∷ 101 ∷ [])
-                (Syntax.tcons (Syntax.tyInt Syntax.w8) (Syntax.tcons (Syntax.tyInt Syntax.w8) (Syntax.tcons (Syntax.tyInt Syntax.w8) Syntax.tnil))))
-                (Syntax.tcons (Syntax.tyStruct (114 ∷ 101 ∷ 115 ∷ 105 ∷ 100 ∷ 117 ∷ 101 ∷ 58 ∷ 58 ∷ 82 ∷ 101 ∷ 115 ∷ 105 ∷ 100 ∷ 117 ∷ 101 ∷ []) (Syntax.tcons
-                (Syntax.tyStruct (110 ∷ 97 ∷ 109 ∷ 101 ∷ 115 ∷ 58 ∷ 58 ∷ 84 ∷ 104 ∷ 114 ∷ 101 ∷ 101 ∷ []) (Syntax.tcons (Syntax.tyInt Syntax.w8) (Syntax.tcons
-                (Syntax.tyInt Syntax.w8) (Syntax.tcons (Syntax.tyInt Syntax.w8) Syntax.tnil)))) (Syntax.tcons (Syntax.tyInt Syntax.w8) (Syntax.tcons
-                (Syntax.tyStruct (102 ∷ 105 ∷ 101 ∷ 108 ∷ 100 ∷ 115 ∷ 58 ∷ 58 ∷ 82 ∷ 101 ∷ 115 ∷ 105 ∷ 100 ∷ 117 ∷ 101 ∷ 78 ∷ 117 ∷ 109 ∷ 98 ∷ 101 ∷ 114 ∷ [])
-                (Syntax.tcons (Syntax.tyInt Syntax.w32) Syntax.tnil)) (Syntax.tcons (Syntax.tyInt Syntax.w8) Syntax.tnil))))) (Syntax.tcons (Syntax.tyStruct (114
-                ∷ 101 ∷ 115 ∷ 105 ∷ 100 ∷ 117 ∷ 101 ∷ 58 ∷ 58 ∷ 82 ∷ 101 ∷ 115 ∷ 105 ∷ 100 ∷ 117 ∷ 101 ∷ []) (Syntax.tcons (Syntax.tyStruct (110 ∷ 97 ∷ 109 ∷ 101
-                ∷ 115 ∷ 58 ∷ 58 ∷ 84 ∷ 104 ∷ 114 ∷ 101 ∷ 101 ∷ []) (Syntax.tcons (Syntax.tyInt Syntax.w8) (Syntax.tcons (Syntax.tyInt Syntax.w8) (Syntax.tcons
-                (Syntax.tyInt Syntax.w8) Syntax.tnil)))) (Syntax.tcons (Syntax.tyInt Syntax.w8) (Syntax.tcons (Syntax.tyStruct (102 ∷ 105 ∷ 101 ∷ 108 ∷ 100 ∷ 115
-                ∷ 58 ∷ 58 ∷ 82 ∷ 101 ∷ 115 ∷ 105 ∷ 100 ∷ 117 ∷ 101 ∷ 78 ∷ 117 ∷ 109 ∷ 98 ∷ 101 ∷ 114 ∷ []) (Syntax.tcons (Syntax.tyInt Syntax.w32) Syntax.tnil))
-                (Syntax.tcons (Syntax.tyInt Syntax.w8) Syntax.tnil))))) Syntax.tnil))))) (Syntax.tcons (Syntax.tyInt Syntax.w32) (Syntax.tcons (Syntax.tyStruct
-                (104 ∷ 101 ∷ 108 ∷ 105 ∷ 120 ∷ 58 ∷ 58 ∷ 67 ∷ 111 ∷ 109 ∷ 109 ∷ 101 ∷ 110 ∷ 116 ∷ []) (Syntax.tcons (Syntax.tyInt Syntax.w64) (Syntax.tcons
-                (Syntax.tyInt Syntax.w64) (Syntax.tcons (Syntax.tyInt Syntax.w64) (Syntax.tcons (Syntax.tyInt Syntax.w64) Syntax.tnil))))) (Syntax.tcons
-                (Syntax.tyInt Syntax.w32) Syntax.tnil))))) Syntax.tnil) (Syntax.ttcons (Syntax.tcons (Syntax.tyStruct (115 ∷ 104 ∷ 101 ∷ 101 ∷ 116 ∷ 58 ∷ 58 ∷ 83
-                ∷ 104 ∷ 101 ∷ 101 ∷ 116 ∷ []) (Syntax.tcons (Syntax.tyStruct (115 ∷ 104 ∷ 101 ∷ 101 ∷ 116 ∷ 58 ∷ 58 ∷ 83 ∷ 116 ∷ 114 ∷ 97 ∷ 110 ∷ 100 ∷ [])
-                (Syntax.tcons (Syntax.tyInt Syntax.w32) (Syntax.tcons (Syntax.tyStruct (110 ∷ 97 ∷ 109 ∷ 101 ∷ 115 ∷ 58 ∷ 58 ∷ 84 ∷ 104 ∷ 114 ∷ 101 ∷ 101 ∷ [])
-                (Syntax.tcons (Syntax.tyInt Syntax.w8) (Syntax.tcons (Syntax.tyInt Syntax.w8) (Syntax.tcons (Syntax.tyInt Syntax.w8) Syntax.tnil))))
-                (Syntax.tcons (Syntax.tyInt Syntax.w32) (Syntax.tcons (Syntax.tyStruct (114 ∷ 101 ∷ 115 ∷ 105 ∷ 100 ∷ 117 ∷ 101 ∷ 58 ∷ 58 ∷ 82 ∷ 101 ∷ 115 ∷ 105
-                ∷ 100 ∷ 117 ∷ 101 ∷ []) (Syntax.tcons (Syntax.tyStruct (110 ∷ 97 ∷ 109 ∷ 101 ∷ 115 ∷ 58 ∷ 58 ∷ 84 ∷ 104 ∷ 114 ∷ 101 ∷ 101 ∷ []) (Syntax.tcons
-                (Syntax.tyInt Syntax.w8) (Syntax.tcons (Syntax.tyInt Syntax.w8) (Syntax.tcons (Syntax.tyInt Syntax.w8) Syntax.tnil)))) (Syntax.tcons
-                (Syntax.tyInt Syntax.w8) (Syntax.tcons (Syntax.tyStruct (102 ∷ 105 ∷ 101 ∷ 108 ∷ 100 ∷ 115 ∷ 58 ∷ 58 ∷ 82 ∷ 101 ∷ 115 ∷ 105 ∷ 100 ∷ 117 ∷ 101 ∷
-                78 ∷ 117 ∷ 109 ∷ 98 ∷ 101 ∷ 114 ∷ []) (Syntax.tcons (Syntax.tyInt Syntax.w32) Syntax.tnil)) (Syntax.tcons (Syntax.tyInt Syntax.w8)
                 Syntax.tnil))))) (Syntax.tcons (Syntax.tyStruct (114 ∷ 101 ∷ 115 ∷ 105 ∷ 100 ∷ 117 ∷ 101 ∷ 58 ∷ 58 ∷ 82 ∷ 101 ∷ 115 ∷ 105 ∷ 100 ∷ 117 ∷ 101 ∷ [])
                 (Syntax.tcons (Syntax.tyStruct (110 ∷ 97 ∷ 109 ∷ 101 ∷ 115 ∷ 58 ∷ 58 ∷ 84 ∷ 104 ∷ 114 ∷ 101 ∷ 101 ∷ []) (Syntax.tcons (Syntax.tyInt Syntax.w8)
                 (Syntax.tcons (Syntax.tyInt Syntax.w8) (Syntax.tcons (Syntax.tyInt Syntax.w8) Syntax.tnil)))) (Syntax.tcons (Syntax.tyInt Syntax.w8)
                 (Syntax.tcons (Syntax.tyStruct (102 ∷ 105 ∷ 101 ∷ 108 ∷ 100 ∷ 115 ∷ 58 ∷ 58 ∷ 82 ∷ 101 ∷ 115 ∷ 105 ∷ 100 ∷ 117 ∷ 101 ∷ 78 ∷ 117 ∷ 109 ∷ 98 ∷ 101
-                ∷ 114 ∷ []) (Syntax.tcons (Syntax.tyInt Syntax.w32) Syntax.tnil)) (Syntax.tcons (Syntax.tyInt Syntax.w8) Syntax.tnil))))) (Syntax.tcons
-                (Syntax.tyInt Syntax.w32) Syntax.tnil))))))) (Syntax.tcons (Syntax.tyEnum (115 ∷ 104 ∷ 101 ∷ 101 ∷ 116 ∷ 58 ∷ 58 ∷ 82 ∷ 101 ∷ 103 ∷ 105 ∷ 115 ∷
-                116 ∷ 114 ∷ 97 ∷ 116 ∷ 105 ∷ 111 ∷ 110 ∷ []) (Syntax.ttcons Syntax.tnil (Syntax.ttcons (Syntax.tcons (Syntax.tyStruct (115 ∷ 104 ∷ 101 ∷ 101 ∷
-                116 ∷ 58 ∷ 58 ∷ 66 ∷ 111 ∷ 110 ∷ 100 ∷ []) (Syntax.tcons (Syntax.tyStruct (110 ∷ 97 ∷ 109 ∷ 101 ∷ 115 ∷ 58 ∷ 58 ∷ 70 ∷ 111 ∷ 117 ∷ 114 ∷ [])
-                (Syntax.tcons (Syntax.tyInt Syntax.w8) (Syntax.tcons (Syntax.tyInt Syntax.w8) (Syntax.tcons (Syntax.tyInt Syntax.w8) (Syntax.tcons (Syntax.tyInt
-                Syntax.w8) Syntax.tnil))))) (Syntax.tcons (Syntax.tyStruct (114 ∷ 101 ∷ 115 ∷ 105 ∷ 100 ∷ 117 ∷ 101 ∷ 58 ∷ 58 ∷ 82 ∷ 101 ∷ 115 ∷ 105 ∷ 100 ∷ 117
-                ∷ 101 ∷ []) (Syntax.tcons (Syntax.tyStruct (110 ∷ 97 ∷ 109 ∷ 101 ∷ 115 ∷ 58 ∷ 58 ∷ 84 ∷ 104 ∷ 114 ∷ 101 ∷ 101 ∷ []) (Syntax.tcons (Syntax.tyInt
-                Syntax.w8) (Syntax.tcons (Syntax.tyInt Syntax.w8) (Syntax.tcons (Syntax.tyInt Syntax.w8) Syntax.tnil)))) (Syntax.tcons (Syntax.tyInt Syntax.w8)
-                (Syntax.tcons (Syntax.tyStruct (102 ∷ 105 ∷ 101 ∷ 108 ∷ 100 ∷ 115 ∷ 58 ∷ 58 ∷ 82 ∷ 101 ∷ 115 ∷ 105 ∷ 100 ∷ 117 ∷ 101 ∷ 78 ∷ 117 ∷ 109 ∷ 98 ∷ 101
-                ∷ 114 ∷ []) (Syntax.tcons (Syntax.tyInt Syntax.w32) Syntax.tnil)) (Syntax.tcons (Syntax.tyInt Syntax.w8) Syntax.tnil))))) (Syntax.tcons
-                (Syntax.tyStruct (110 ∷ 97 ∷ 109 ∷ 101 ∷ 115 ∷ 58 ∷ 58 ∷ 70 ∷ 111 ∷ 117 ∷ 114 ∷ []) (Syntax.tcons (Syntax.tyInt Syntax.w8) (Syntax.tcons
-                (Syntax.tyInt Syntax.w8) (Syntax.tcons (Syntax.tyInt Syntax.w8) (Syntax.tcons (Syntax.tyInt Syntax.w8) Syntax.tnil))))) (Syntax.tcons
-                (Syntax.tyStruct (114 ∷ 101 ∷ 115 ∷ 105 ∷ 100 ∷ 117 ∷ 101 ∷ 58 ∷ 58 ∷ 82 ∷ 101 ∷ 115 ∷ 105 ∷ 100 ∷ 117 ∷ 101 ∷ []) (Syntax.tcons (Syntax.tyStruct
-                (110 ∷ 97 ∷ 109 ∷ 101 ∷ 115 ∷ 58 ∷ 58 ∷ 84 ∷ 104 ∷ 114 ∷ 101 ∷ 101 ∷ []) (Syntax.tcons (Syntax.tyInt Syntax.w8) (Syntax.tcons (Syntax.tyInt
-                Syntax.w8) (Syntax.tcons (Syntax.tyInt Syntax.w8) Syntax.tnil)))) (Syntax.tcons (Syntax.tyInt Syntax.w8) (Syntax.tcons (Syntax.tyStruct (102 ∷
-                105 ∷ 101 ∷ 108 ∷ 100 ∷ 115 ∷ 58 ∷ 58 ∷ 82 ∷ 101 ∷ 115 ∷ 105 ∷ 100 ∷ 117 ∷ 101 ∷ 78 ∷ 117 ∷ 109 ∷ 98 ∷ 101 ∷ 114 ∷ []) (Syntax.tcons
-                (Syntax.tyInt Syntax.w32) Syntax.tnil)) (Syntax.tcons (Syntax.tyInt Syntax.w8) Syntax.tnil))))) Syntax.tnil))))) Syntax.tnil) Syntax.ttnil)))
-                Syntax.tnil))) Syntax.tnil) (Syntax.ttcons (Syntax.tcons (Syntax.tyStruct (99 ∷ 111 ∷ 110 ∷ 101 ∷ 99 ∷ 116 ∷ 58 ∷ 58 ∷ 67 ∷ 111 ∷ 110 ∷ 101 ∷ 99
-                ∷ 116 ∷ []) (Syntax.tcons (Syntax.tyStruct (102 ∷ 105 ∷ 101 ∷ 108 ∷ 100 ∷ 115 ∷ 58 ∷ 58 ∷ 83 ∷ 101 ∷ 114 ∷ 105 ∷ 97 ∷ 108 ∷ []) (Syntax.tcons
-                (Syntax.tyInt Syntax.w32) Syntax.tnil)) (Syntax.tcons (Syntax.tyStruct (102 ∷ 105 ∷ 101 ∷ 108 ∷ 100 ∷ 115 ∷ 58 ∷ 58 ∷ 83 ∷ 101 ∷ 114 ∷ 105 ∷ 97 ∷
-                108 ∷ []) (Syntax.tcons (Syntax.tyInt Syntax.w32) Syntax.tnil)) (Syntax.tcons (Syntax.tyStruct (102 ∷ 105 ∷ 101 ∷ 108 ∷ 100 ∷ 115 ∷ 58 ∷ 58 ∷ 83
-                ∷ 101 ∷ 114 ∷ 105 ∷ 97 ∷ 108 ∷ []) (Syntax.tcons (Syntax.tyInt Syntax.w32) Syntax.tnil)) (Syntax.tcons (Syntax.tyStruct (102 ∷ 105 ∷ 101 ∷ 108 ∷
-                100 ∷ 115 ∷ 58 ∷ 58 ∷ 83 ∷ 101 ∷ 114 ∷ 105 ∷ 97 ∷ 108 ∷ []) (Syntax.tcons (Syntax.tyInt Syntax.w32) Syntax.tnil)) (Syntax.tcons (Syntax.tyStruct
-                (102 ∷ 105 ∷ 101 ∷ 108 ∷ 100 ∷ 115 ∷ 58 ∷ 58 ∷ 83 ∷ 101 ∷ 114 ∷ 105 ∷ 97 ∷ 108 ∷ []) (Syntax.tcons (Syntax.tyInt Syntax.w32) Syntax.tnil))
-                Syntax.tnil)))))) Syntax.tnil) (Syntax.ttcons (Syntax.tcons (Syntax.tyStruct (109 ∷ 97 ∷ 115 ∷ 116 ∷ 101 ∷ 114 ∷ 58 ∷ 58 ∷ 84 ∷ 97 ∷ 108 ∷ 108 ∷
-                121 ∷ []) (Syntax.tcons (Syntax.tyInt Syntax.w32) (Syntax.tcons (Syntax.tyInt Syntax.w32) (Syntax.tcons (Syntax.tyInt Syntax.w32) (Syntax.tcons
-                (Syntax.tyInt Syntax.w32) (Syntax.tcons (Syntax.tyInt Syntax.w32) (Syntax.tcons (Syntax.tyInt Syntax.w32) (Syntax.tcons (Syntax.tyInt Syntax.w32)
-                (Syntax.tcons (Syntax.tyInt Syntax.w32) (Syntax.tcons (Syntax.tyInt Syntax.w32) Syntax.tnil)))))))))) Syntax.tnil) (Syntax.ttcons Syntax.tnil
-                (Syntax.ttcons (Syntax.tcons (Syntax.tyStruct (109 ∷ 111 ∷ 100 ∷ 101 ∷ 108 ∷ 58 ∷ 58 ∷ 77 ∷ 111 ∷ 100 ∷ 101 ∷ 108 ∷ []) (Syntax.tcons
-                (Syntax.tyInt Syntax.w32) Syntax.tnil)) Syntax.tnil) (Syntax.ttcons Syntax.tnil Syntax.ttnil)))))))))) Syntax.tnil) Syntax.ttnil)))))
-                Path'.refl)) d24
+                ∷ 114 ∷ []) (Syntax.tcons (Syntax.tyInt Syntax.w32) Syntax.tnil)) (Syntax.tcons (Syntax.tyInt Syntax.w8) Syntax.tnil))))) Syntax.tnil)))))
+                (Syntax.tcons (Syntax.tyInt Syntax.w32) (Syntax.tcons (Syntax.tyStruct (104 ∷ 101 ∷ 108 ∷ 105 ∷ 120 ∷ 58 ∷ 58 ∷ 67 ∷ 111 ∷ 109 ∷ 109 ∷ 101 ∷ 110
+                ∷ 116 ∷ []) (Syntax.tcons (Syntax.tyInt Syntax.w64) (Syntax.tcons (Syntax.tyInt Syntax.w64) (Syntax.tcons (Syntax.tyInt Syntax.w64) (Syntax.tcons
+                (Syntax.tyInt Syntax.w64) Syntax.tnil))))) (Syntax.tcons (Syntax.tyInt Syntax.w32) Syntax.tnil))))) Syntax.tnil) (Syntax.ttcons (Syntax.tcons
+                (Syntax.tyStruct (115 ∷ 104 ∷ 101 ∷ 101 ∷ 116 ∷ 58 ∷ 58 ∷ 83 ∷ 104 ∷ 101 ∷ 101 ∷ 116 ∷ []) (Syntax.tcons (Syntax.tyStruct (115 ∷ 104 ∷ 101 ∷ 101
+                ∷ 116 ∷ 58 ∷ 58 ∷ 83 ∷ 116 ∷ 114 ∷ 97 ∷ 110 ∷ 100 ∷ []) (Syntax.tcons (Syntax.tyInt Syntax.w32) (Syntax.tcons (Syntax.tyStruct (110 ∷ 97 ∷ 109 ∷
+                101 ∷ 115 ∷ 58 ∷ 58 ∷ 84 ∷ 104 ∷ 114 ∷ 101 ∷ 101 ∷ []) (Syntax.tcons (Syntax.tyInt Syntax.w8) (Syntax.tcons (Syntax.tyInt Syntax.w8)
+                (Syntax.tcons (Syntax.tyInt Syntax.w8) Syntax.tnil)))) (Syntax.tcons (Syntax.tyInt Syntax.w32) (Syntax.tcons (Syntax.tyStruct (114 ∷ 101 ∷ 115 ∷
+                105 ∷ 100 ∷ 117 ∷ 101 ∷ 58 ∷ 58 ∷ 82 ∷ 101 ∷ 115 ∷ 105 ∷ 100 ∷ 117 ∷ 101 ∷ []) (Syntax.tcons (Syntax.tyStruct (110 ∷ 97 ∷ 109 ∷ 101 ∷ 115 ∷ 58 ∷
+                58 ∷ 84 ∷ 104 ∷ 114 ∷ 101 ∷ 101 ∷ []) (Syntax.tcons (Syntax.tyInt Syntax.w8) (Syntax.tcons (Syntax.tyInt Syntax.w8) (Syntax.tcons (Syntax.tyInt
+                Syntax.w8) Syntax.tnil)))) (Syntax.tcons (Syntax.tyInt Syntax.w8) (Syntax.tcons (Syntax.tyStruct (102 ∷ 105 ∷ 101 ∷ 108 ∷ 100 ∷ 115 ∷ 58 ∷ 58 ∷
+                82 ∷ 101 ∷ 115 ∷ 105 ∷ 100 ∷ 117 ∷ 101 ∷ 78 ∷ 117 ∷ 109 ∷ 98 ∷ 101 ∷ 114 ∷ []) (Syntax.tcons (Syntax.tyInt Syntax.w32) Syntax.tnil))
+                (Syntax.tcons (Syntax.tyInt Syntax.w8) Syntax.tnil))))) (Syntax.tcons (Syntax.tyStruct (114 ∷ 101 ∷ 115 ∷ 105 ∷ 100 ∷ 117 ∷ 101 ∷ 58 ∷ 58 ∷ 82 ∷
+                101 ∷ 115 ∷ 105 ∷ 100 ∷ 117 ∷ 101 ∷ []) (Syntax.tcons (Syntax.tyStruct (110 ∷ 97 ∷ 109 ∷ 101 ∷ 115 ∷ 58 ∷ 58 ∷ 84 ∷ 104 ∷ 114 ∷ 101 ∷ 101 ∷ [])
+                (Syntax.tcons (Syntax.tyInt Syntax.w8) (Syntax.tcons (Syntax.tyInt Syntax.w8) (Syntax.tcons (Syntax.tyInt Syntax.w8) Syntax.tnil))))
+                (Syntax.tcons (Syntax.tyInt Syntax.w8) (Syntax.tcons (Syntax.tyStruct (102 ∷ 105 ∷ 101 ∷ 108 ∷ 100 ∷ 115 ∷ 58 ∷ 58 ∷ 82 ∷ 101 ∷ 115 ∷ 105 ∷ 100 ∷
+                117 ∷ 101 ∷ 78 ∷ 117 ∷ 109 ∷ 98 ∷ 101 ∷ 114 ∷ []) (Syntax.tcons (Syntax.tyInt Syntax.w32) Syntax.tnil)) (Syntax.tcons (Syntax.tyInt Syntax.w8)
+                Syntax.tnil))))) (Syntax.tcons (Syntax.tyInt Syntax.w32) Syntax.tnil))))))) (Syntax.tcons (Syntax.tyEnum (115 ∷ 104 ∷ 101 ∷ 101 ∷ 116 ∷ 58 ∷ 58 ∷
+                82 ∷ 101 ∷ 103 ∷ 105 ∷ 115 ∷ 116 ∷ 114 ∷ 97 ∷ 116 ∷ 105 ∷ 111 ∷ 110 ∷ []) (Syntax.ttcons Syntax.tnil (Syntax.ttcons (Syntax.tcons
+                (Syntax.tyStruct (115 ∷ 104 ∷ 101 ∷ 101 ∷ 116 ∷ 58 ∷ 58 ∷ 66 ∷ 111 ∷ 110 ∷ 100 ∷ []) (Syntax.tcons (Syntax.tyStruct (110 ∷ 97 ∷ 109 ∷ 101 ∷ 115 ∷
+                58 ∷ 58 ∷ 70 ∷ 111 ∷ 117 ∷ 114 ∷ []) (Syntax.tcons (Syntax.tyInt Syntax.w8) (Syntax.tcons (Syntax.tyInt Syntax.w8) (Syntax.tcons (Syntax.tyInt
+                Syntax.w8) (Syntax.tcons (Syntax.tyInt Syntax.w8) Syntax.tnil))))) (Syntax.tcons (Syntax.tyStruct (114 ∷ 101 ∷ 115 ∷ 105 ∷ 100 ∷ 117 ∷ 101 ∷ 58 ∷
+                58 ∷ 82 ∷ 101 ∷ 115 ∷ 105 ∷ 100 ∷ 117 ∷ 101 ∷ []) (Syntax.tcons (Syntax.tyStruct (110 ∷ 97 ∷ 109 ∷ 101 ∷ 115 ∷ 58 ∷ 58 ∷ 84 ∷ 104 ∷ 114 ∷ 101 ∷
+                101 ∷ []) (Syntax.tcons (Syntax.tyInt Syntax.w8) (Syntax.tcons (Syntax.tyInt Syntax.w8) (Syntax.tcons (Syntax.tyInt Syntax.w8) Syntax.tnil))))
+                (Syntax.tcons (Syntax.tyInt Syntax.w8) (Syntax.tcons (Syntax.tyStruct (102 ∷ 105 ∷ 101 ∷ 108 ∷ 100 ∷ 115 ∷ 58 ∷ 58 ∷ 82 ∷ 101 ∷ 115 ∷ 105 ∷ 100 ∷
+                117 ∷ 101 ∷ 78 ∷ 117 ∷ 109 ∷ 98 ∷ 101 ∷ 114 ∷ []) (Syntax.tcons (Syntax.tyInt Syntax.w32) Syntax.tnil)) (Syntax.tcons (Syntax.tyInt Syntax.w8)
+                Syntax.tnil))))) (Syntax.tcons (Syntax.tyStruct (110 ∷ 97 ∷ 109 ∷ 101 ∷ 115 ∷ 58 ∷ 58 ∷ 70 ∷ 111 ∷ 117 ∷ 114 ∷ []) (Syntax.tcons (Syntax.tyInt
+                Syntax.w8) (Syntax.tcons (Syntax.tyInt Syntax.w8) (Syntax.tcons (Syntax.tyInt Syntax.w8) (Syntax.tcons (Syntax.tyInt Syntax.w8) Syntax.tnil)))))
+                (Syntax.tcons (Syntax.tyStruct (114 ∷ 101 ∷ 115 ∷ 105 ∷ 100 ∷ 117 ∷ 101 ∷ 58 ∷ 58 ∷ 82 ∷ 101 ∷ 115 ∷ 105 ∷ 100 ∷ 117 ∷ 101 ∷ []) (Syntax.tcons
+                (Syntax.tyStruct (110 ∷ 97 ∷ 109 ∷ 101 ∷ 115 ∷ 58 ∷ 58 ∷ 84 ∷ 104 ∷ 114 ∷ 101 ∷ 101 ∷ []) (Syntax.tcons (Syntax.tyInt Syntax.w8) (Syntax.tcons
+                (Syntax.tyInt Syntax.w8) (Syntax.tcons (Syntax.tyInt Syntax.w8) Syntax.tnil)))) (Syntax.tcons (Syntax.tyInt Syntax.w8) (Syntax.tcons
+                (Syntax.tyStruct (102 ∷ 105 ∷ 101 ∷ 108 ∷ 100 ∷ 115 ∷ 58 ∷ 58 ∷ 82 ∷ 101 ∷ 115 ∷ 105 ∷ 100 ∷ 117 ∷ 101 ∷ 78 ∷ 117 ∷ 109 ∷ 98 ∷ 101 ∷ 114 ∷ [])
+                (Syntax.tcons (Syntax.tyInt Syntax.w32) Syntax.tnil)) (Syntax.tcons (Syntax.tyInt Syntax.w8) Syntax.tnil))))) Syntax.tnil))))) Syntax.tnil)
+                Syntax.ttnil))) Syntax.tnil))) Syntax.tnil) (Syntax.ttcons (Syntax.tcons (Syntax.tyStruct (99 ∷ 111 ∷ 110 ∷ 101 ∷ 99 ∷ 116 ∷ 58 ∷ 58 ∷ 67 ∷ 111 ∷
+                110 ∷ 101 ∷ 99 ∷ 116 ∷ []) (Syntax.tcons (Syntax.tyStruct (102 ∷ 105 ∷ 101 ∷ 108 ∷ 100 ∷ 115 ∷ 58 ∷ 58 ∷ 83 ∷ 101 ∷ 114 ∷ 105 ∷ 97 ∷ 108 ∷ [])
+                (Syntax.tcons (Syntax.tyInt Syntax.w32) Syntax.tnil)) (Syntax.tcons (Syntax.tyStruct (102 ∷ 105 ∷ 101 ∷ 108 ∷ 100 ∷ 115 ∷ 58 ∷ 58 ∷ 83 ∷ 101 ∷
+                114 ∷ 105 ∷ 97 ∷ 108 ∷ []) (Syntax.tcons (Syntax.tyInt Syntax.w32) Syntax.tnil)) (Syntax.tcons (Syntax.tyStruct (102 ∷ 105 ∷ 101 ∷ 108 ∷ 100 ∷
+                115 ∷ 58 ∷ 58 ∷ 83 ∷ 101 ∷ 114 ∷ 105 ∷ 97 ∷ 108 ∷ []) (Syntax.tcons (Syntax.tyInt Syntax.w32) Syntax.tnil)) (Syntax.tcons (Syntax.tyStruct (102 ∷
+                105 ∷ 101 ∷ 108 ∷ 100 ∷ 115 ∷ 58 ∷ 58 ∷ 83 ∷ 101 ∷ 114 ∷ 105 ∷ 97 ∷ 108 ∷ []) (Syntax.tcons (Syntax.tyInt Syntax.w32) Syntax.tnil)) (Syntax.tcons
+                (Syntax.tyStruct (102 ∷ 105 ∷ 101 ∷ 108 ∷ 100 ∷ 115 ∷ 58 ∷ 58 ∷ 83 ∷ 101 ∷ 114 ∷ 105 ∷ 97 ∷ 108 ∷ []) (Syntax.tcons (Syntax.tyInt Syntax.w32)
+                Syntax.tnil)) Syntax.tnil)))))) Syntax.tnil) (Syntax.ttcons (Syntax.tcons (Syntax.tyStruct (109 ∷ 97 ∷ 115 ∷ 116 ∷ 101 ∷ 114 ∷ 58 ∷ 58 ∷ 84 ∷ 97
+                ∷ 108 ∷ 108 ∷ 121 ∷ []) (Syntax.tcons (Syntax.tyInt Syntax.w32) (Syntax.tcons (Syntax.tyInt Syntax.w32) (Syntax.tcons (Syntax.tyInt Syntax.w32)
+                (Syntax.tcons (Syntax.tyInt Syntax.w32) (Syntax.tcons (Syntax.tyInt Syntax.w32) (Syntax.tcons (Syntax.tyInt Syntax.w32) (Syntax.tcons
+                (Syntax.tyInt Syntax.w32) (Syntax.tcons (Syntax.tyInt Syntax.w32) (Syntax.tcons (Syntax.tyInt Syntax.w32) Syntax.tnil)))))))))) Syntax.tnil)
+                (Syntax.ttcons Syntax.tnil (Syntax.ttcons (Syntax.tcons (Syntax.tyStruct (109 ∷ 111 ∷ 100 ∷ 101 ∷ 108 ∷ 58 ∷ 58 ∷ 77 ∷ 111 ∷ 100 ∷ 101 ∷ 108 ∷
+                []) (Syntax.tcons (Syntax.tyInt Syntax.w32) Syntax.tnil)) Syntax.tnil) (Syntax.ttcons Syntax.tnil (Syntax.ttcons (Syntax.tcons (Syntax.tyStruct
+                (99 ∷ 101 ∷ 108 ∷ 108 ∷ 58 ∷ 58 ∷ 67 ∷ 101 ∷ 108 ∷ 108 ∷ []) (Syntax.tcons (Syntax.tyStruct (99 ∷ 101 ∷ 108 ∷ 108 ∷ 58 ∷ 58 ∷ 69 ∷ 100 ∷ 103 ∷
+                101 ∷ 115 ∷ []) (Syntax.tcons (Syntax.tyInt Syntax.w32) (Syntax.tcons (Syntax.tyInt Syntax.w32) (Syntax.tcons (Syntax.tyInt Syntax.w32)
+                Syntax.tnil)))) (Syntax.tcons (Syntax.tyStruct (99 ∷ 101 ∷ 108 ∷ 108 ∷ 58 ∷ 58 ∷ 65 ∷ 110 ∷ 103 ∷ 108 ∷ 101 ∷ 115 ∷ []) (Syntax.tcons
+                (Syntax.tyInt Syntax.w32) (Syntax.tcons (Syntax.tyInt Syntax.w32) (Syntax.tcons (Syntax.tyInt Syntax.w32) Syntax.tnil)))) (Syntax.tcons
+                (Syntax.tyStruct (99 ∷ 101 ∷ 108 ∷ 108 ∷ 58 ∷ 58 ∷ 71 ∷ 114 ∷ 111 ∷ 117 ∷ 112 ∷ []) (Syntax.tcons (Syntax.tyStruct (110 ∷ 97 ∷ 109 ∷ 101 ∷ 115 ∷
+                58 ∷ 58 ∷ 70 ∷ 111 ∷ 117 ∷ 114 ∷ []) (Syntax.tcons (Syntax.tyInt Syntax.w8) (Syntax.tcons (Syntax.tyInt Syntax.w8) (Syntax.tcons (Syntax.tyInt
+                Syntax.w8) (Syntax.tcons (Syntax.tyInt Syntax.w8) Syntax.tnil))))) (Syntax.tcons (Syntax.tyStruct (110 ∷ 97 ∷ 109 ∷ 101 ∷ 115 ∷ 58 ∷ 58 ∷ 70 ∷
+                111 ∷ 117 ∷ 114 ∷ []) (Syntax.tcons (Syntax.tyInt Syntax.w8) (Syntax.tcons (Syntax.tyInt Syntax.w8) (Syntax.tcons (Syntax.tyInt Syntax.w8)
+                (Syntax.tcons (Syntax.tyInt Syntax.w8) Syntax.tnil))))) (Syntax.tcons (Syntax.tyStruct (110 ∷ 97 ∷ 109 ∷ 101 ∷ 115 ∷ 58 ∷ 58 ∷ 84 ∷ 104 ∷ 114 ∷
+                101 ∷ 101 ∷ []) (Syntax.tcons (Syntax.tyInt Syntax.w8) (Syntax.tcons (Syntax.tyInt Syntax.w8) (Syntax.tcons (Syntax.tyInt Syntax.w8)
+                Syntax.tnil)))) Syntax.tnil)))) (Syntax.tcons (Syntax.tyInt Syntax.w32) Syntax.tnil))))) Syntax.tnil) (Syntax.ttcons (Syntax.tcons Syntax.tyBool
+                (Syntax.tcons (Syntax.tyEnum (116 ∷ 114 ∷ 97 ∷ 110 ∷ 115 ∷ 102 ∷ 111 ∷ 114 ∷ 109 ∷ 58 ∷ 58 ∷ 65 ∷ 120 ∷ 105 ∷ 115 ∷ []) (Syntax.ttcons
+                Syntax.tnil (Syntax.ttcons Syntax.tnil (Syntax.ttcons Syntax.tnil Syntax.ttnil)))) (Syntax.tcons (Syntax.tyStruct (116 ∷ 114 ∷ 97 ∷ 110 ∷ 115 ∷
+                102 ∷ 111 ∷ 114 ∷ 109 ∷ 58 ∷ 58 ∷ 84 ∷ 114 ∷ 97 ∷ 110 ∷ 115 ∷ 102 ∷ 111 ∷ 114 ∷ 109 ∷ []) (Syntax.tcons (Syntax.tyStruct (116 ∷ 114 ∷ 97 ∷ 110 ∷
+                115 ∷ 102 ∷ 111 ∷ 114 ∷ 109 ∷ 58 ∷ 58 ∷ 67 ∷ 111 ∷ 101 ∷ 102 ∷ 102 ∷ 105 ∷ 99 ∷ 105 ∷ 101 ∷ 110 ∷ 116 ∷ 115 ∷ []) (Syntax.tcons (Syntax.tyInt
+                Syntax.w32) (Syntax.tcons (Syntax.tyInt Syntax.w32) (Syntax.tcons (Syntax.tyInt Syntax.w32) Syntax.tnil)))) (Syntax.tcons (Syntax.tyInt
+                Syntax.w32) Syntax.tnil))) Syntax.tnil))) Syntax.ttnil)))))))))))) Syntax.tnil) Syntax.ttnil))))) Path'.refl)) d24
 
             d26 : Typed.Typed 𝓤 H A 𝓣 E G42 b30 Δ5 at26
             d26 = Typed.s-seq 𝓤 H A W 𝓣 E G42 G43 b28 b29 Δ5 (Typed.both s37) at25 (Plain.t-call-plain 𝓤 H A W 𝓣 0 ps·3 r·3 (claims· .6) (claims· .7)
@@ -5183,8 +5616,24 @@ module _ (claims· : Claims) where
                 (Syntax.tcons (Syntax.tyInt Syntax.w32) (Syntax.tcons (Syntax.tyInt Syntax.w32) (Syntax.tcons (Syntax.tyInt Syntax.w32) (Syntax.tcons
                 (Syntax.tyInt Syntax.w32) (Syntax.tcons (Syntax.tyInt Syntax.w32) (Syntax.tcons (Syntax.tyInt Syntax.w32) Syntax.tnil)))))))))) Syntax.tnil)
                 (Syntax.ttcons Syntax.tnil (Syntax.ttcons (Syntax.tcons (Syntax.tyStruct (109 ∷ 111 ∷ 100 ∷ 101 ∷ 108 ∷ 58 ∷ 58 ∷ 77 ∷ 111 ∷ 100 ∷ 101 ∷ 108 ∷
-                []) (Syntax.tcons (Syntax.tyInt Syntax.w32) Syntax.tnil)) Syntax.tnil) (Syntax.ttcons Syntax.tnil Syntax.ttnil)))))))))) Syntax.tnil)
-                Syntax.ttnil)))))) (tt, tt) Path'.refl) d33
+                []) (Syntax.tcons (Syntax.tyInt Syntax.w32) Syntax.tnil)) Syntax.tnil) (Syntax.ttcons Syntax.tnil (Syntax.ttcons (Syntax.tcons (Syntax.tyStruct
+                (99 ∷ 101 ∷ 108 ∷ 108 ∷ 58 ∷ 58 ∷ 67 ∷ 101 ∷ 108 ∷ 108 ∷ []) (Syntax.tcons (Syntax.tyStruct (99 ∷ 101 ∷ 108 ∷ 108 ∷ 58 ∷ 58 ∷ 69 ∷ 100 ∷ 103 ∷
+                101 ∷ 115 ∷ []) (Syntax.tcons (Syntax.tyInt Syntax.w32) (Syntax.tcons (Syntax.tyInt Syntax.w32) (Syntax.tcons (Syntax.tyInt Syntax.w32)
+                Syntax.tnil)))) (Syntax.tcons (Syntax.tyStruct (99 ∷ 101 ∷ 108 ∷ 108 ∷ 58 ∷ 58 ∷ 65 ∷ 110 ∷ 103 ∷ 108 ∷ 101 ∷ 115 ∷ []) (Syntax.tcons
+                (Syntax.tyInt Syntax.w32) (Syntax.tcons (Syntax.tyInt Syntax.w32) (Syntax.tcons (Syntax.tyInt Syntax.w32) Syntax.tnil)))) (Syntax.tcons
+                (Syntax.tyStruct (99 ∷ 101 ∷ 108 ∷ 108 ∷ 58 ∷ 58 ∷ 71 ∷ 114 ∷ 111 ∷ 117 ∷ 112 ∷ []) (Syntax.tcons (Syntax.tyStruct (110 ∷ 97 ∷ 109 ∷ 101 ∷ 115 ∷
+                58 ∷ 58 ∷ 70 ∷ 111 ∷ 117 ∷ 114 ∷ []) (Syntax.tcons (Syntax.tyInt Syntax.w8) (Syntax.tcons (Syntax.tyInt Syntax.w8) (Syntax.tcons (Syntax.tyInt
+                Syntax.w8) (Syntax.tcons (Syntax.tyInt Syntax.w8) Syntax.tnil))))) (Syntax.tcons (Syntax.tyStruct (110 ∷ 97 ∷ 109 ∷ 101 ∷ 115 ∷ 58 ∷ 58 ∷ 70 ∷
+                111 ∷ 117 ∷ 114 ∷ []) (Syntax.tcons (Syntax.tyInt Syntax.w8) (Syntax.tcons (Syntax.tyInt Syntax.w8) (Syntax.tcons (Syntax.tyInt Syntax.w8)
+                (Syntax.tcons (Syntax.tyInt Syntax.w8) Syntax.tnil))))) (Syntax.tcons (Syntax.tyStruct (110 ∷ 97 ∷ 109 ∷ 101 ∷ 115 ∷ 58 ∷ 58 ∷ 84 ∷ 104 ∷ 114 ∷
+                101 ∷ 101 ∷ []) (Syntax.tcons (Syntax.tyInt Syntax.w8) (Syntax.tcons (Syntax.tyInt Syntax.w8) (Syntax.tcons (Syntax.tyInt Syntax.w8)
+                Syntax.tnil)))) Syntax.tnil)))) (Syntax.tcons (Syntax.tyInt Syntax.w32) Syntax.tnil))))) Syntax.tnil) (Syntax.ttcons (Syntax.tcons Syntax.tyBool
+                (Syntax.tcons (Syntax.tyEnum (116 ∷ 114 ∷ 97 ∷ 110 ∷ 115 ∷ 102 ∷ 111 ∷ 114 ∷ 109 ∷ 58 ∷ 58 ∷ 65 ∷ 120 ∷ 105 ∷ 115 ∷ []) (Syntax.ttcons
+                Syntax.tnil (Syntax.ttcons Syntax.tnil (Syntax.ttcons Syntax.tnil Syntax.ttnil)))) (Syntax.tcons (Syntax.tyStruct (116 ∷ 114 ∷ 97 ∷ 110 ∷ 115 ∷
+                102 ∷ 111 ∷ 114 ∷ 109 ∷ 58 ∷ 58 ∷ 84 ∷ 114 ∷ 97 ∷ 110 ∷ 115 ∷ 102 ∷ 111 ∷ 114 ∷ 109 ∷ []) (Syntax.tcons (Syntax.tyStruct (116 ∷ 114 ∷ 97 ∷ 110 ∷
+                115 ∷ 102 ∷ 111 ∷ 114 ∷ 109 ∷ 58 ∷ 58 ∷ 67 ∷ 111 ∷ 101 ∷ 102 ∷ 102 ∷ 105 ∷ 99 ∷ 105 ∷ 101 ∷ 110 ∷ 116 ∷ 115 ∷ []) (Syntax.tcons (Syntax.tyInt
+                Syntax.w32) (Syntax.tcons (Syntax.tyInt Syntax.w32) (Syntax.tcons (Syntax.tyInt Syntax.w32) Syntax.tnil)))) (Syntax.tcons (Syntax.tyInt
+                Syntax.w32) Syntax.tnil))) Syntax.tnil))) Syntax.ttnil)))))))))))) Syntax.tnil) Syntax.ttnil)))))) (tt, tt) Path'.refl) d33
 
             d35 : Typed.Typed 𝓤 H A 𝓣 E G29 b35 Δ5 at35
             d35 = Typed.t-seq 𝓤 H A W 𝓣 E G29 G30 b23 b34 Δ5 at23 at34 d23 d34

@@ -304,12 +304,30 @@ t1 = (0, Rows'.sc-here (Row.sInt Syntax.w64)) ∷ (1, Mut.mslice SlotAs.row (Syn
       (Syntax.tyInt Syntax.w32) (Syntax.tcons (Syntax.tyInt Syntax.w32) (Syntax.tcons (Syntax.tyInt Syntax.w32) (Syntax.tcons (Syntax.tyInt Syntax.w32)
       (Syntax.tcons (Syntax.tyInt Syntax.w32) Syntax.tnil)))))))))) Syntax.tnil) (Syntax.ttcons Syntax.tnil (Syntax.ttcons (Syntax.tcons (Syntax.tyStruct (109 ∷
       111 ∷ 100 ∷ 101 ∷ 108 ∷ 58 ∷ 58 ∷ 77 ∷ 111 ∷ 100 ∷ 101 ∷ 108 ∷ []) (Syntax.tcons (Syntax.tyInt Syntax.w32) Syntax.tnil)) Syntax.tnil) (Syntax.ttcons
-      Syntax.tnil Syntax.ttnil)))))))))) Syntax.tnil) Syntax.ttnil))))),
-) ∷ (5, Rows'.any-gone SlotAs.ty) ∷ (6, Rows'.any-gone Syntax.tyBool) ∷ (
-  7,
+      Syntax.tnil (Syntax.ttcons (Syntax.tcons (Syntax.tyStruct (99 ∷ 101 ∷ 108 ∷ 108 ∷ 58 ∷ 58 ∷ 67 ∷ 101 ∷ 108 ∷ 108 ∷ []) (Syntax.tcons (Syntax.tyStruct (99 ∷
+      101 ∷ 108 ∷ 108 ∷ 58 ∷ 58 ∷ 69 ∷ 100 ∷ 103 ∷ 101 ∷ 115 ∷ []) (Syntax.tcons (Syntax.tyInt Syntax.w32) (Syntax.tcons (Syntax.tyInt Syntax.w32) (Syntax.tcons
+      (Syntax.tyInt Syntax.w32) Syntax.tnil)))) (Syntax.tcons (Syntax.tyStruct (99 ∷ 101 ∷ 108 ∷ 108 ∷ 58 ∷ 58 ∷ 65 ∷ 110 ∷ 103 ∷ 108 ∷ 101 ∷ 115 ∷ [])
+      (Syntax.tcons (Syntax.tyInt Syntax.w32) (Syntax.tcons (Syntax.tyInt Syntax.w32) (Syntax.tcons (Syntax.tyInt Syntax.w32) Syntax.tnil)))) (Syntax.tcons
+      (Syntax.tyStruct (99 ∷ 101 ∷ 108 ∷ 108 ∷ 58 ∷ 58 ∷ 71 ∷ 114 ∷ 111 ∷ 117 ∷ 112 ∷ []) (Syntax.tcons (Syntax.tyStruct (110 ∷ 97 ∷ 109 ∷ 101 ∷ 115 ∷ 58 ∷ 58 ∷
+      70 ∷ 111 ∷ 117 ∷ 114 ∷ []) (Syntax.tcons (Syntax.tyInt Syntax.w8) (Syntax.tcons (Syntax.tyInt Syntax.w8) (Syntax.tcons (Syntax.tyInt Syntax.w8)
+      (Syntax.tcons (Syntax.tyInt Syntax.w8) Syntax.tnil))))) (Syntax.tcons (Syntax.tyStruct (110 ∷ 97 ∷ 109 ∷ 101 ∷ 115 ∷ 58 ∷ 58 ∷ 70 ∷ 111 ∷ 117 ∷ 114 ∷ [])
+      (Syntax.tcons (Syntax.tyInt Syntax.w8) (Syntax.tcons (Syntax.tyInt Syntax.w8) (Syntax.tcons (Syntax.tyInt Syntax.w8) (Syntax.tcons (Syntax.tyInt Syntax.w8)
+      Syntax.tnil))))) (Syntax.tcons (Syntax.tyStruct (110 ∷ 97 ∷ 109 ∷ 101 ∷ 115 ∷ 58 ∷ 58 ∷ 84 ∷ 104 ∷ 114 ∷ 101 ∷ 101 ∷ []) (Syntax.tcons (Syntax.tyInt
+      Syntax.w8) (Syntax.tcons (Syntax.tyInt Syntax.w8) (Syntax.tcons (Syntax.tyInt Syntax.w8) Syntax.tnil)))) Syntax.tnil)))) (Syntax.tcons (Syntax.tyInt
+      Syntax.w32) Syntax.tnil))))) Syntax.tnil) (Syntax.ttcons (Syntax.tcons Syntax.tyBool (Syntax.tcons (Syntax.tyEnum (116 ∷ 114 ∷ 97 ∷ 110 ∷ 115 ∷ 102 ∷ 111 ∷
+      114 ∷ 109 ∷ 58 ∷ 58 ∷ 65 ∷ 120 ∷ 105 ∷ 115 ∷ []) (Syntax.ttcons Syntax.tnil (Syntax.ttcons Syntax.tnil (Syntax.ttcons Syntax.tnil Syntax.ttnil))))
+      (Syntax.tcons (Syntax.tyStruct (116 ∷ 114 ∷ 97 ∷ 110 ∷ 115 ∷ 102 ∷ 111 ∷ 114 ∷ 109 ∷ 58 ∷ 58 ∷ 84 ∷ 114 ∷ 97 ∷ 110 ∷ 115 ∷ 102 ∷ 111 ∷ 114 ∷ 109 ∷ [])
+      (Syntax.tcons (Syntax.tyStruct (116 ∷ 114 ∷ 97 ∷ 110 ∷ 115 ∷ 102 ∷ 111 ∷ 114 ∷ 109 ∷ 58 ∷ 58 ∷ 67 ∷ 111 ∷ 101 ∷ 102 ∷ 102 ∷ 105 ∷ 99 ∷ 105 ∷ 101 ∷ 110 ∷
+      116 ∷ 115 ∷ []) (Syntax.tcons (Syntax.tyInt Syntax.w32) (Syntax.tcons (Syntax.tyInt Syntax.w32) (Syntax.tcons (Syntax.tyInt Syntax.w32) Syntax.tnil))))
+      (Syntax.tcons (Syntax.tyInt Syntax.w32) Syntax.tnil))) Syntax.tnil))) Syntax.ttnil)))))))))))) Syntax.tnil) Syntax.ttnil))))),
+) ∷ (
+  5,
   Rows'.any-gone
-      (Syntax.tyInt Syntax.w64),
-) ∷ (8, Rows'.any-gone (Syntax.tyInt Syntax.w64)) ∷ (9, Rows'.any-gone Syntax.tyPtr) ∷ []
+      SlotAs.ty,
+) ∷ (6, Rows'.any-gone Syntax.tyBool) ∷ (7, Rows'.any-gone (Syntax.tyInt Syntax.w64)) ∷ (8, Rows'.any-gone (Syntax.tyInt Syntax.w64)) ∷ (
+  9,
+  Rows'.any-gone Syntax.tyPtr,
+) ∷ []
 
 abbrev pub t2 : List.List Row.Entry
 t2 = (0, Rows'.any-gone (Syntax.tyInt Syntax.w64)) ∷ (1, Mut.mslice SlotAs.row (Syntax.tyRef (Syntax.named 0) Syntax.mut SlotAs.pointee) 0) ∷ (
@@ -422,12 +440,28 @@ t3 = (0, Rows'.any-gone (Syntax.tyInt Syntax.w64)) ∷ (1, Mut.mslice SlotAs.row
       (Syntax.tcons (Syntax.tyInt Syntax.w32) (Syntax.tcons (Syntax.tyInt Syntax.w32) (Syntax.tcons (Syntax.tyInt Syntax.w32) (Syntax.tcons (Syntax.tyInt
       Syntax.w32) (Syntax.tcons (Syntax.tyInt Syntax.w32) Syntax.tnil)))))))))) Syntax.tnil) (Syntax.ttcons Syntax.tnil (Syntax.ttcons (Syntax.tcons
       (Syntax.tyStruct (109 ∷ 111 ∷ 100 ∷ 101 ∷ 108 ∷ 58 ∷ 58 ∷ 77 ∷ 111 ∷ 100 ∷ 101 ∷ 108 ∷ []) (Syntax.tcons (Syntax.tyInt Syntax.w32) Syntax.tnil))
-      Syntax.tnil) (Syntax.ttcons Syntax.tnil Syntax.ttnil)))))))))) Syntax.tnil) Syntax.ttnil))))),
-) ∷ (5, Rows'.any-gone SlotAs.ty) ∷ (
-  6,
-  Rows'.any-gone
-      Syntax.tyBool,
-) ∷ (7, Rows'.sc-here (Row.sInt Syntax.w64)) ∷ (8, Rows'.any-gone (Syntax.tyInt Syntax.w64)) ∷ (9, Rows'.any-gone Syntax.tyPtr) ∷ []
+      Syntax.tnil) (Syntax.ttcons Syntax.tnil (Syntax.ttcons (Syntax.tcons (Syntax.tyStruct (99 ∷ 101 ∷ 108 ∷ 108 ∷ 58 ∷ 58 ∷ 67 ∷ 101 ∷ 108 ∷ 108 ∷ [])
+      (Syntax.tcons (Syntax.tyStruct (99 ∷ 101 ∷ 108 ∷ 108 ∷ 58 ∷ 58 ∷ 69 ∷ 100 ∷ 103 ∷ 101 ∷ 115 ∷ []) (Syntax.tcons (Syntax.tyInt Syntax.w32) (Syntax.tcons
+      (Syntax.tyInt Syntax.w32) (Syntax.tcons (Syntax.tyInt Syntax.w32) Syntax.tnil)))) (Syntax.tcons (Syntax.tyStruct (99 ∷ 101 ∷ 108 ∷ 108 ∷ 58 ∷ 58 ∷ 65 ∷ 110
+      ∷ 103 ∷ 108 ∷ 101 ∷ 115 ∷ []) (Syntax.tcons (Syntax.tyInt Syntax.w32) (Syntax.tcons (Syntax.tyInt Syntax.w32) (Syntax.tcons (Syntax.tyInt Syntax.w32)
+      Syntax.tnil)))) (Syntax.tcons (Syntax.tyStruct (99 ∷ 101 ∷ 108 ∷ 108 ∷ 58 ∷ 58 ∷ 71 ∷ 114 ∷ 111 ∷ 117 ∷ 112 ∷ []) (Syntax.tcons (Syntax.tyStruct (110 ∷ 97
+      ∷ 109 ∷ 101 ∷ 115 ∷ 58 ∷ 58 ∷ 70 ∷ 111 ∷ 117 ∷ 114 ∷ []) (Syntax.tcons (Syntax.tyInt Syntax.w8) (Syntax.tcons (Syntax.tyInt Syntax.w8) (Syntax.tcons
+      (Syntax.tyInt Syntax.w8) (Syntax.tcons (Syntax.tyInt Syntax.w8) Syntax.tnil))))) (Syntax.tcons (Syntax.tyStruct (110 ∷ 97 ∷ 109 ∷ 101 ∷ 115 ∷ 58 ∷ 58 ∷ 70
+      ∷ 111 ∷ 117 ∷ 114 ∷ []) (Syntax.tcons (Syntax.tyInt Syntax.w8) (Syntax.tcons (Syntax.tyInt Syntax.w8) (Syntax.tcons (Syntax.tyInt Syntax.w8) (Syntax.tcons
+      (Syntax.tyInt Syntax.w8) Syntax.tnil))))) (Syntax.tcons (Syntax.tyStruct (110 ∷ 97 ∷ 109 ∷ 101 ∷ 115 ∷ 58 ∷ 58 ∷ 84 ∷ 104 ∷ 114 ∷ 101 ∷ 101 ∷ [])
+      (Syntax.tcons (Syntax.tyInt Syntax.w8) (Syntax.tcons (Syntax.tyInt Syntax.w8) (Syntax.tcons (Syntax.tyInt Syntax.w8) Syntax.tnil)))) Syntax.tnil))))
+      (Syntax.tcons (Syntax.tyInt Syntax.w32) Syntax.tnil))))) Syntax.tnil) (Syntax.ttcons (Syntax.tcons Syntax.tyBool (Syntax.tcons (Syntax.tyEnum (116 ∷ 114 ∷
+      97 ∷ 110 ∷ 115 ∷ 102 ∷ 111 ∷ 114 ∷ 109 ∷ 58 ∷ 58 ∷ 65 ∷ 120 ∷ 105 ∷ 115 ∷ []) (Syntax.ttcons Syntax.tnil (Syntax.ttcons Syntax.tnil (Syntax.ttcons
+      Syntax.tnil Syntax.ttnil)))) (Syntax.tcons (Syntax.tyStruct (116 ∷ 114 ∷ 97 ∷ 110 ∷ 115 ∷ 102 ∷ 111 ∷ 114 ∷ 109 ∷ 58 ∷ 58 ∷ 84 ∷ 114 ∷ 97 ∷ 110 ∷ 115 ∷ 102
+      ∷ 111 ∷ 114 ∷ 109 ∷ []) (Syntax.tcons (Syntax.tyStruct (116 ∷ 114 ∷ 97 ∷ 110 ∷ 115 ∷ 102 ∷ 111 ∷ 114 ∷ 109 ∷ 58 ∷ 58 ∷ 67 ∷ 111 ∷ 101 ∷ 102 ∷ 102 ∷ 105 ∷
+      99 ∷ 105 ∷ 101 ∷ 110 ∷ 116 ∷ 115 ∷ []) (Syntax.tcons (Syntax.tyInt Syntax.w32) (Syntax.tcons (Syntax.tyInt Syntax.w32) (Syntax.tcons (Syntax.tyInt
+      Syntax.w32) Syntax.tnil)))) (Syntax.tcons (Syntax.tyInt Syntax.w32) Syntax.tnil))) Syntax.tnil))) Syntax.ttnil)))))))))))) Syntax.tnil) Syntax.ttnil))))),
+)
+    ∷ (5, Rows'.any-gone SlotAs.ty) ∷ (6, Rows'.any-gone Syntax.tyBool) ∷ (7, Rows'.sc-here (Row.sInt Syntax.w64)) ∷ (
+      8,
+      Rows'.any-gone (Syntax.tyInt
+          Syntax.w64),
+    ) ∷ (9, Rows'.any-gone Syntax.tyPtr) ∷ []
 
 abbrev pub t4 : List.List Row.Entry
 t4 = (0, Rows'.any-gone (Syntax.tyInt Syntax.w64)) ∷ (1, Mut.mslice SlotAs.row (Syntax.tyRef (Syntax.named 0) Syntax.mut SlotAs.pointee) 0) ∷ (
@@ -540,9 +574,25 @@ t5 = (0, Rows'.any-gone (Syntax.tyInt Syntax.w64)) ∷ (1, Mut.mslice SlotAs.row
       (Syntax.tcons (Syntax.tyInt Syntax.w32) (Syntax.tcons (Syntax.tyInt Syntax.w32) (Syntax.tcons (Syntax.tyInt Syntax.w32) (Syntax.tcons (Syntax.tyInt
       Syntax.w32) (Syntax.tcons (Syntax.tyInt Syntax.w32) Syntax.tnil)))))))))) Syntax.tnil) (Syntax.ttcons Syntax.tnil (Syntax.ttcons (Syntax.tcons
       (Syntax.tyStruct (109 ∷ 111 ∷ 100 ∷ 101 ∷ 108 ∷ 58 ∷ 58 ∷ 77 ∷ 111 ∷ 100 ∷ 101 ∷ 108 ∷ []) (Syntax.tcons (Syntax.tyInt Syntax.w32) Syntax.tnil))
-      Syntax.tnil) (Syntax.ttcons Syntax.tnil Syntax.ttnil)))))))))) Syntax.tnil) Syntax.ttnil))))),
-) ∷ (5, SlotAs.whole) ∷ (6, Rows'.any-gone Syntax.tyBool) ∷
-    (7, Rows'.any-gone (Syntax.tyInt Syntax.w64)) ∷ (8, Rows'.any-gone (Syntax.tyInt Syntax.w64)) ∷ (9, Rows'.any-gone Syntax.tyPtr) ∷ []
+      Syntax.tnil) (Syntax.ttcons Syntax.tnil (Syntax.ttcons (Syntax.tcons (Syntax.tyStruct (99 ∷ 101 ∷ 108 ∷ 108 ∷ 58 ∷ 58 ∷ 67 ∷ 101 ∷ 108 ∷ 108 ∷ [])
+      (Syntax.tcons (Syntax.tyStruct (99 ∷ 101 ∷ 108 ∷ 108 ∷ 58 ∷ 58 ∷ 69 ∷ 100 ∷ 103 ∷ 101 ∷ 115 ∷ []) (Syntax.tcons (Syntax.tyInt Syntax.w32) (Syntax.tcons
+      (Syntax.tyInt Syntax.w32) (Syntax.tcons (Syntax.tyInt Syntax.w32) Syntax.tnil)))) (Syntax.tcons (Syntax.tyStruct (99 ∷ 101 ∷ 108 ∷ 108 ∷ 58 ∷ 58 ∷ 65 ∷ 110
+      ∷ 103 ∷ 108 ∷ 101 ∷ 115 ∷ []) (Syntax.tcons (Syntax.tyInt Syntax.w32) (Syntax.tcons (Syntax.tyInt Syntax.w32) (Syntax.tcons (Syntax.tyInt Syntax.w32)
+      Syntax.tnil)))) (Syntax.tcons (Syntax.tyStruct (99 ∷ 101 ∷ 108 ∷ 108 ∷ 58 ∷ 58 ∷ 71 ∷ 114 ∷ 111 ∷ 117 ∷ 112 ∷ []) (Syntax.tcons (Syntax.tyStruct (110 ∷ 97
+      ∷ 109 ∷ 101 ∷ 115 ∷ 58 ∷ 58 ∷ 70 ∷ 111 ∷ 117 ∷ 114 ∷ []) (Syntax.tcons (Syntax.tyInt Syntax.w8) (Syntax.tcons (Syntax.tyInt Syntax.w8) (Syntax.tcons
+      (Syntax.tyInt Syntax.w8) (Syntax.tcons (Syntax.tyInt Syntax.w8) Syntax.tnil))))) (Syntax.tcons (Syntax.tyStruct (110 ∷ 97 ∷ 109 ∷ 101 ∷ 115 ∷ 58 ∷ 58 ∷ 70
+      ∷ 111 ∷ 117 ∷ 114 ∷ []) (Syntax.tcons (Syntax.tyInt Syntax.w8) (Syntax.tcons (Syntax.tyInt Syntax.w8) (Syntax.tcons (Syntax.tyInt Syntax.w8) (Syntax.tcons
+      (Syntax.tyInt Syntax.w8) Syntax.tnil))))) (Syntax.tcons (Syntax.tyStruct (110 ∷ 97 ∷ 109 ∷ 101 ∷ 115 ∷ 58 ∷ 58 ∷ 84 ∷ 104 ∷ 114 ∷ 101 ∷ 101 ∷ [])
+      (Syntax.tcons (Syntax.tyInt Syntax.w8) (Syntax.tcons (Syntax.tyInt Syntax.w8) (Syntax.tcons (Syntax.tyInt Syntax.w8) Syntax.tnil)))) Syntax.tnil))))
+      (Syntax.tcons (Syntax.tyInt Syntax.w32) Syntax.tnil))))) Syntax.tnil) (Syntax.ttcons (Syntax.tcons Syntax.tyBool (Syntax.tcons (Syntax.tyEnum (116 ∷ 114 ∷
+      97 ∷ 110 ∷ 115 ∷ 102 ∷ 111 ∷ 114 ∷ 109 ∷ 58 ∷ 58 ∷ 65 ∷ 120 ∷ 105 ∷ 115 ∷ []) (Syntax.ttcons Syntax.tnil (Syntax.ttcons Syntax.tnil (Syntax.ttcons
+      Syntax.tnil Syntax.ttnil)))) (Syntax.tcons (Syntax.tyStruct (116 ∷ 114 ∷ 97 ∷ 110 ∷ 115 ∷ 102 ∷ 111 ∷ 114 ∷ 109 ∷ 58 ∷ 58 ∷ 84 ∷ 114 ∷ 97 ∷ 110 ∷ 115 ∷ 102
+      ∷ 111 ∷ 114 ∷ 109 ∷ []) (Syntax.tcons (Syntax.tyStruct (116 ∷ 114 ∷ 97 ∷ 110 ∷ 115 ∷ 102 ∷ 111 ∷ 114 ∷ 109 ∷ 58 ∷ 58 ∷ 67 ∷ 111 ∷ 101 ∷ 102 ∷ 102 ∷ 105 ∷
+      99 ∷ 105 ∷ 101 ∷ 110 ∷ 116 ∷ 115 ∷ []) (Syntax.tcons (Syntax.tyInt Syntax.w32) (Syntax.tcons (Syntax.tyInt Syntax.w32) (Syntax.tcons (Syntax.tyInt
+      Syntax.w32) Syntax.tnil)))) (Syntax.tcons (Syntax.tyInt Syntax.w32) Syntax.tnil))) Syntax.tnil))) Syntax.ttnil)))))))))))) Syntax.tnil) Syntax.ttnil))))),
+)
+    ∷ (5, SlotAs.whole) ∷ (6, Rows'.any-gone Syntax.tyBool) ∷ (7, Rows'.any-gone (Syntax.tyInt Syntax.w64)) ∷ (8, Rows'.any-gone (Syntax.tyInt Syntax.w64)) ∷
+    (9, Rows'.any-gone Syntax.tyPtr) ∷ []
 
 abbrev pub t6 : List.List Row.Entry
 t6 = (0, Rows'.any-gone (Syntax.tyInt Syntax.w64)) ∷ (1, Mut.mslice SlotAs.row (Syntax.tyRef (Syntax.named 0) Syntax.mut SlotAs.pointee) 0) ∷ (
@@ -644,9 +694,27 @@ t6 = (0, Rows'.any-gone (Syntax.tyInt Syntax.w64)) ∷ (1, Mut.mslice SlotAs.row
       (Syntax.tcons (Syntax.tyInt Syntax.w32) (Syntax.tcons (Syntax.tyInt Syntax.w32) (Syntax.tcons (Syntax.tyInt Syntax.w32) (Syntax.tcons (Syntax.tyInt
       Syntax.w32) (Syntax.tcons (Syntax.tyInt Syntax.w32) Syntax.tnil)))))))))) Syntax.tnil) (Syntax.ttcons Syntax.tnil (Syntax.ttcons (Syntax.tcons
       (Syntax.tyStruct (109 ∷ 111 ∷ 100 ∷ 101 ∷ 108 ∷ 58 ∷ 58 ∷ 77 ∷ 111 ∷ 100 ∷ 101 ∷ 108 ∷ []) (Syntax.tcons (Syntax.tyInt Syntax.w32) Syntax.tnil))
-      Syntax.tnil) (Syntax.ttcons Syntax.tnil Syntax.ttnil)))))))))) Syntax.tnil) Syntax.ttnil))))),
-) ∷ (5, SlotAs.whole) ∷ (6, Rows'.any-gone Syntax.tyBool) ∷
-    (7, Rows'.any-gone (Syntax.tyInt Syntax.w64)) ∷ (8, Rows'.sc-here (Row.sInt Syntax.w64)) ∷ (9, Rows'.any-gone Syntax.tyPtr) ∷ []
+      Syntax.tnil) (Syntax.ttcons Syntax.tnil (Syntax.ttcons (Syntax.tcons (Syntax.tyStruct (99 ∷ 101 ∷ 108 ∷ 108 ∷ 58 ∷ 58 ∷ 67 ∷ 101 ∷ 108 ∷ 108 ∷ [])
+      (Syntax.tcons (Syntax.tyStruct (99 ∷ 101 ∷ 108 ∷ 108 ∷ 58 ∷ 58 ∷ 69 ∷ 100 ∷ 103 ∷ 101 ∷ 115 ∷ []) (Syntax.tcons (Syntax.tyInt Syntax.w32) (Syntax.tcons
+      (Syntax.tyInt Syntax.w32) (Syntax.tcons (Syntax.tyInt Syntax.w32) Syntax.tnil)))) (Syntax.tcons (Syntax.tyStruct (99 ∷ 101 ∷ 108 ∷ 108 ∷ 58 ∷ 58 ∷ 65 ∷ 110
+      ∷ 103 ∷ 108 ∷ 101 ∷ 115 ∷ []) (Syntax.tcons (Syntax.tyInt Syntax.w32) (Syntax.tcons (Syntax.tyInt Syntax.w32) (Syntax.tcons (Syntax.tyInt Syntax.w32)
+      Syntax.tnil)))) (Syntax.tcons (Syntax.tyStruct (99 ∷ 101 ∷ 108 ∷ 108 ∷ 58 ∷ 58 ∷ 71 ∷ 114 ∷ 111 ∷ 117 ∷ 112 ∷ []) (Syntax.tcons (Syntax.tyStruct (110 ∷ 97
+      ∷ 109 ∷ 101 ∷ 115 ∷ 58 ∷ 58 ∷ 70 ∷ 111 ∷ 117 ∷ 114 ∷ []) (Syntax.tcons (Syntax.tyInt Syntax.w8) (Syntax.tcons (Syntax.tyInt Syntax.w8) (Syntax.tcons
+      (Syntax.tyInt Syntax.w8) (Syntax.tcons (Syntax.tyInt Syntax.w8) Syntax.tnil))))) (Syntax.tcons (Syntax.tyStruct (110 ∷ 97 ∷ 109 ∷ 101 ∷ 115 ∷ 58 ∷ 58 ∷ 70
+      ∷ 111 ∷ 117 ∷ 114 ∷ []) (Syntax.tcons (Syntax.tyInt Syntax.w8) (Syntax.tcons (Syntax.tyInt Syntax.w8) (Syntax.tcons (Syntax.tyInt Syntax.w8) (Syntax.tcons
+      (Syntax.tyInt Syntax.w8) Syntax.tnil))))) (Syntax.tcons (Syntax.tyStruct (110 ∷ 97 ∷ 109 ∷ 101 ∷ 115 ∷ 58 ∷ 58 ∷ 84 ∷ 104 ∷ 114 ∷ 101 ∷ 101 ∷ [])
+      (Syntax.tcons (Syntax.tyInt Syntax.w8) (Syntax.tcons (Syntax.tyInt Syntax.w8) (Syntax.tcons (Syntax.tyInt Syntax.w8) Syntax.tnil)))) Syntax.tnil))))
+      (Syntax.tcons (Syntax.tyInt Syntax.w32) Syntax.tnil))))) Syntax.tnil) (Syntax.ttcons (Syntax.tcons Syntax.tyBool (Syntax.tcons (Syntax.tyEnum (116 ∷ 114 ∷
+      97 ∷ 110 ∷ 115 ∷ 102 ∷ 111 ∷ 114 ∷ 109 ∷ 58 ∷ 58 ∷ 65 ∷ 120 ∷ 105 ∷ 115 ∷ []) (Syntax.ttcons Syntax.tnil (Syntax.ttcons Syntax.tnil (Syntax.ttcons
+      Syntax.tnil Syntax.ttnil)))) (Syntax.tcons (Syntax.tyStruct (116 ∷ 114 ∷ 97 ∷ 110 ∷ 115 ∷ 102 ∷ 111 ∷ 114 ∷ 109 ∷ 58 ∷ 58 ∷ 84 ∷ 114 ∷ 97 ∷ 110 ∷ 115 ∷ 102
+      ∷ 111 ∷ 114 ∷ 109 ∷ []) (Syntax.tcons (Syntax.tyStruct (116 ∷ 114 ∷ 97 ∷ 110 ∷ 115 ∷ 102 ∷ 111 ∷ 114 ∷ 109 ∷ 58 ∷ 58 ∷ 67 ∷ 111 ∷ 101 ∷ 102 ∷ 102 ∷ 105 ∷
+      99 ∷ 105 ∷ 101 ∷ 110 ∷ 116 ∷ 115 ∷ []) (Syntax.tcons (Syntax.tyInt Syntax.w32) (Syntax.tcons (Syntax.tyInt Syntax.w32) (Syntax.tcons (Syntax.tyInt
+      Syntax.w32) Syntax.tnil)))) (Syntax.tcons (Syntax.tyInt Syntax.w32) Syntax.tnil))) Syntax.tnil))) Syntax.ttnil)))))))))))) Syntax.tnil) Syntax.ttnil))))),
+)
+    ∷ (5, SlotAs.whole) ∷ (6, Rows'.any-gone Syntax.tyBool) ∷ (7, Rows'.any-gone (Syntax.tyInt Syntax.w64)) ∷ (8, Rows'.sc-here (Row.sInt Syntax.w64)) ∷ (
+      9,
+      Rows'.any-gone Syntax.tyPtr,
+    ) ∷ []
 
 abbrev pub t7 : List.List Row.Entry
 t7 = (0, Rows'.any-gone (Syntax.tyInt Syntax.w64)) ∷ (1, Mut.mslice SlotAs.row (Syntax.tyRef (Syntax.named 0) Syntax.mut SlotAs.pointee) 0) ∷ (
@@ -748,9 +816,27 @@ t7 = (0, Rows'.any-gone (Syntax.tyInt Syntax.w64)) ∷ (1, Mut.mslice SlotAs.row
       (Syntax.tcons (Syntax.tyInt Syntax.w32) (Syntax.tcons (Syntax.tyInt Syntax.w32) (Syntax.tcons (Syntax.tyInt Syntax.w32) (Syntax.tcons (Syntax.tyInt
       Syntax.w32) (Syntax.tcons (Syntax.tyInt Syntax.w32) Syntax.tnil)))))))))) Syntax.tnil) (Syntax.ttcons Syntax.tnil (Syntax.ttcons (Syntax.tcons
       (Syntax.tyStruct (109 ∷ 111 ∷ 100 ∷ 101 ∷ 108 ∷ 58 ∷ 58 ∷ 77 ∷ 111 ∷ 100 ∷ 101 ∷ 108 ∷ []) (Syntax.tcons (Syntax.tyInt Syntax.w32) Syntax.tnil))
-      Syntax.tnil) (Syntax.ttcons Syntax.tnil Syntax.ttnil)))))))))) Syntax.tnil) Syntax.ttnil))))),
-) ∷ (5, SlotAs.whole) ∷ (6, Rows'.any-gone Syntax.tyBool) ∷
-    (7, Rows'.any-gone (Syntax.tyInt Syntax.w64)) ∷ (8, Rows'.sc-here (Row.sInt Syntax.w64)) ∷ (9, Rows'.sc-here Row.sPtr) ∷ []
+      Syntax.tnil) (Syntax.ttcons Syntax.tnil (Syntax.ttcons (Syntax.tcons (Syntax.tyStruct (99 ∷ 101 ∷ 108 ∷ 108 ∷ 58 ∷ 58 ∷ 67 ∷ 101 ∷ 108 ∷ 108 ∷ [])
+      (Syntax.tcons (Syntax.tyStruct (99 ∷ 101 ∷ 108 ∷ 108 ∷ 58 ∷ 58 ∷ 69 ∷ 100 ∷ 103 ∷ 101 ∷ 115 ∷ []) (Syntax.tcons (Syntax.tyInt Syntax.w32) (Syntax.tcons
+      (Syntax.tyInt Syntax.w32) (Syntax.tcons (Syntax.tyInt Syntax.w32) Syntax.tnil)))) (Syntax.tcons (Syntax.tyStruct (99 ∷ 101 ∷ 108 ∷ 108 ∷ 58 ∷ 58 ∷ 65 ∷ 110
+      ∷ 103 ∷ 108 ∷ 101 ∷ 115 ∷ []) (Syntax.tcons (Syntax.tyInt Syntax.w32) (Syntax.tcons (Syntax.tyInt Syntax.w32) (Syntax.tcons (Syntax.tyInt Syntax.w32)
+      Syntax.tnil)))) (Syntax.tcons (Syntax.tyStruct (99 ∷ 101 ∷ 108 ∷ 108 ∷ 58 ∷ 58 ∷ 71 ∷ 114 ∷ 111 ∷ 117 ∷ 112 ∷ []) (Syntax.tcons (Syntax.tyStruct (110 ∷ 97
+      ∷ 109 ∷ 101 ∷ 115 ∷ 58 ∷ 58 ∷ 70 ∷ 111 ∷ 117 ∷ 114 ∷ []) (Syntax.tcons (Syntax.tyInt Syntax.w8) (Syntax.tcons (Syntax.tyInt Syntax.w8) (Syntax.tcons
+      (Syntax.tyInt Syntax.w8) (Syntax.tcons (Syntax.tyInt Syntax.w8) Syntax.tnil))))) (Syntax.tcons (Syntax.tyStruct (110 ∷ 97 ∷ 109 ∷ 101 ∷ 115 ∷ 58 ∷ 58 ∷ 70
+      ∷ 111 ∷ 117 ∷ 114 ∷ []) (Syntax.tcons (Syntax.tyInt Syntax.w8) (Syntax.tcons (Syntax.tyInt Syntax.w8) (Syntax.tcons (Syntax.tyInt Syntax.w8) (Syntax.tcons
+      (Syntax.tyInt Syntax.w8) Syntax.tnil))))) (Syntax.tcons (Syntax.tyStruct (110 ∷ 97 ∷ 109 ∷ 101 ∷ 115 ∷ 58 ∷ 58 ∷ 84 ∷ 104 ∷ 114 ∷ 101 ∷ 101 ∷ [])
+      (Syntax.tcons (Syntax.tyInt Syntax.w8) (Syntax.tcons (Syntax.tyInt Syntax.w8) (Syntax.tcons (Syntax.tyInt Syntax.w8) Syntax.tnil)))) Syntax.tnil))))
+      (Syntax.tcons (Syntax.tyInt Syntax.w32) Syntax.tnil))))) Syntax.tnil) (Syntax.ttcons (Syntax.tcons Syntax.tyBool (Syntax.tcons (Syntax.tyEnum (116 ∷ 114 ∷
+      97 ∷ 110 ∷ 115 ∷ 102 ∷ 111 ∷ 114 ∷ 109 ∷ 58 ∷ 58 ∷ 65 ∷ 120 ∷ 105 ∷ 115 ∷ []) (Syntax.ttcons Syntax.tnil (Syntax.ttcons Syntax.tnil (Syntax.ttcons
+      Syntax.tnil Syntax.ttnil)))) (Syntax.tcons (Syntax.tyStruct (116 ∷ 114 ∷ 97 ∷ 110 ∷ 115 ∷ 102 ∷ 111 ∷ 114 ∷ 109 ∷ 58 ∷ 58 ∷ 84 ∷ 114 ∷ 97 ∷ 110 ∷ 115 ∷ 102
+      ∷ 111 ∷ 114 ∷ 109 ∷ []) (Syntax.tcons (Syntax.tyStruct (116 ∷ 114 ∷ 97 ∷ 110 ∷ 115 ∷ 102 ∷ 111 ∷ 114 ∷ 109 ∷ 58 ∷ 58 ∷ 67 ∷ 111 ∷ 101 ∷ 102 ∷ 102 ∷ 105 ∷
+      99 ∷ 105 ∷ 101 ∷ 110 ∷ 116 ∷ 115 ∷ []) (Syntax.tcons (Syntax.tyInt Syntax.w32) (Syntax.tcons (Syntax.tyInt Syntax.w32) (Syntax.tcons (Syntax.tyInt
+      Syntax.w32) Syntax.tnil)))) (Syntax.tcons (Syntax.tyInt Syntax.w32) Syntax.tnil))) Syntax.tnil))) Syntax.ttnil)))))))))))) Syntax.tnil) Syntax.ttnil))))),
+)
+    ∷ (5, SlotAs.whole) ∷ (6, Rows'.any-gone Syntax.tyBool) ∷ (7, Rows'.any-gone (Syntax.tyInt Syntax.w64)) ∷ (8, Rows'.sc-here (Row.sInt Syntax.w64)) ∷ (
+      9,
+      Rows'.sc-here Row.sPtr,
+    ) ∷ []
 
 abbrev pub t8 : List.List Row.Entry
 t8 = (0, Rows'.any-gone (Syntax.tyInt Syntax.w64)) ∷ (1, Mut.mslice SlotAs.row (Syntax.tyRef (Syntax.named 0) Syntax.mut SlotAs.pointee) 0) ∷ (
@@ -852,12 +938,28 @@ t8 = (0, Rows'.any-gone (Syntax.tyInt Syntax.w64)) ∷ (1, Mut.mslice SlotAs.row
       (Syntax.tcons (Syntax.tyInt Syntax.w32) (Syntax.tcons (Syntax.tyInt Syntax.w32) (Syntax.tcons (Syntax.tyInt Syntax.w32) (Syntax.tcons (Syntax.tyInt
       Syntax.w32) (Syntax.tcons (Syntax.tyInt Syntax.w32) Syntax.tnil)))))))))) Syntax.tnil) (Syntax.ttcons Syntax.tnil (Syntax.ttcons (Syntax.tcons
       (Syntax.tyStruct (109 ∷ 111 ∷ 100 ∷ 101 ∷ 108 ∷ 58 ∷ 58 ∷ 77 ∷ 111 ∷ 100 ∷ 101 ∷ 108 ∷ []) (Syntax.tcons (Syntax.tyInt Syntax.w32) Syntax.tnil))
-      Syntax.tnil) (Syntax.ttcons Syntax.tnil Syntax.ttnil)))))))))) Syntax.tnil) Syntax.ttnil))))),
-) ∷ (5, Rows'.any-gone SlotAs.ty) ∷ (
-  6,
-  Rows'.any-gone
-      Syntax.tyBool,
-) ∷ (7, Rows'.any-gone (Syntax.tyInt Syntax.w64)) ∷ (8, Rows'.sc-here (Row.sInt Syntax.w64)) ∷ (9, Rows'.sc-here Row.sPtr) ∷ []
+      Syntax.tnil) (Syntax.ttcons Syntax.tnil (Syntax.ttcons (Syntax.tcons (Syntax.tyStruct (99 ∷ 101 ∷ 108 ∷ 108 ∷ 58 ∷ 58 ∷ 67 ∷ 101 ∷ 108 ∷ 108 ∷ [])
+      (Syntax.tcons (Syntax.tyStruct (99 ∷ 101 ∷ 108 ∷ 108 ∷ 58 ∷ 58 ∷ 69 ∷ 100 ∷ 103 ∷ 101 ∷ 115 ∷ []) (Syntax.tcons (Syntax.tyInt Syntax.w32) (Syntax.tcons
+      (Syntax.tyInt Syntax.w32) (Syntax.tcons (Syntax.tyInt Syntax.w32) Syntax.tnil)))) (Syntax.tcons (Syntax.tyStruct (99 ∷ 101 ∷ 108 ∷ 108 ∷ 58 ∷ 58 ∷ 65 ∷ 110
+      ∷ 103 ∷ 108 ∷ 101 ∷ 115 ∷ []) (Syntax.tcons (Syntax.tyInt Syntax.w32) (Syntax.tcons (Syntax.tyInt Syntax.w32) (Syntax.tcons (Syntax.tyInt Syntax.w32)
+      Syntax.tnil)))) (Syntax.tcons (Syntax.tyStruct (99 ∷ 101 ∷ 108 ∷ 108 ∷ 58 ∷ 58 ∷ 71 ∷ 114 ∷ 111 ∷ 117 ∷ 112 ∷ []) (Syntax.tcons (Syntax.tyStruct (110 ∷ 97
+      ∷ 109 ∷ 101 ∷ 115 ∷ 58 ∷ 58 ∷ 70 ∷ 111 ∷ 117 ∷ 114 ∷ []) (Syntax.tcons (Syntax.tyInt Syntax.w8) (Syntax.tcons (Syntax.tyInt Syntax.w8) (Syntax.tcons
+      (Syntax.tyInt Syntax.w8) (Syntax.tcons (Syntax.tyInt Syntax.w8) Syntax.tnil))))) (Syntax.tcons (Syntax.tyStruct (110 ∷ 97 ∷ 109 ∷ 101 ∷ 115 ∷ 58 ∷ 58 ∷ 70
+      ∷ 111 ∷ 117 ∷ 114 ∷ []) (Syntax.tcons (Syntax.tyInt Syntax.w8) (Syntax.tcons (Syntax.tyInt Syntax.w8) (Syntax.tcons (Syntax.tyInt Syntax.w8) (Syntax.tcons
+      (Syntax.tyInt Syntax.w8) Syntax.tnil))))) (Syntax.tcons (Syntax.tyStruct (110 ∷ 97 ∷ 109 ∷ 101 ∷ 115 ∷ 58 ∷ 58 ∷ 84 ∷ 104 ∷ 114 ∷ 101 ∷ 101 ∷ [])
+      (Syntax.tcons (Syntax.tyInt Syntax.w8) (Syntax.tcons (Syntax.tyInt Syntax.w8) (Syntax.tcons (Syntax.tyInt Syntax.w8) Syntax.tnil)))) Syntax.tnil))))
+      (Syntax.tcons (Syntax.tyInt Syntax.w32) Syntax.tnil))))) Syntax.tnil) (Syntax.ttcons (Syntax.tcons Syntax.tyBool (Syntax.tcons (Syntax.tyEnum (116 ∷ 114 ∷
+      97 ∷ 110 ∷ 115 ∷ 102 ∷ 111 ∷ 114 ∷ 109 ∷ 58 ∷ 58 ∷ 65 ∷ 120 ∷ 105 ∷ 115 ∷ []) (Syntax.ttcons Syntax.tnil (Syntax.ttcons Syntax.tnil (Syntax.ttcons
+      Syntax.tnil Syntax.ttnil)))) (Syntax.tcons (Syntax.tyStruct (116 ∷ 114 ∷ 97 ∷ 110 ∷ 115 ∷ 102 ∷ 111 ∷ 114 ∷ 109 ∷ 58 ∷ 58 ∷ 84 ∷ 114 ∷ 97 ∷ 110 ∷ 115 ∷ 102
+      ∷ 111 ∷ 114 ∷ 109 ∷ []) (Syntax.tcons (Syntax.tyStruct (116 ∷ 114 ∷ 97 ∷ 110 ∷ 115 ∷ 102 ∷ 111 ∷ 114 ∷ 109 ∷ 58 ∷ 58 ∷ 67 ∷ 111 ∷ 101 ∷ 102 ∷ 102 ∷ 105 ∷
+      99 ∷ 105 ∷ 101 ∷ 110 ∷ 116 ∷ 115 ∷ []) (Syntax.tcons (Syntax.tyInt Syntax.w32) (Syntax.tcons (Syntax.tyInt Syntax.w32) (Syntax.tcons (Syntax.tyInt
+      Syntax.w32) Syntax.tnil)))) (Syntax.tcons (Syntax.tyInt Syntax.w32) Syntax.tnil))) Syntax.tnil))) Syntax.ttnil)))))))))))) Syntax.tnil) Syntax.ttnil))))),
+)
+    ∷ (5, Rows'.any-gone SlotAs.ty) ∷ (6, Rows'.any-gone Syntax.tyBool) ∷ (7, Rows'.any-gone (Syntax.tyInt Syntax.w64)) ∷ (
+      8,
+      Rows'.sc-here (Row.sInt
+          Syntax.w64),
+    ) ∷ (9, Rows'.sc-here Row.sPtr) ∷ []
 
 abbrev pub t9 : List.List Row.Entry
 t9 = (0, Rows'.any-gone (Syntax.tyInt Syntax.w64)) ∷ (1, Mut.mslice SlotAs.row (Syntax.tyRef (Syntax.named 0) Syntax.mut SlotAs.pointee) 0) ∷ (
@@ -959,12 +1061,28 @@ t9 = (0, Rows'.any-gone (Syntax.tyInt Syntax.w64)) ∷ (1, Mut.mslice SlotAs.row
       (Syntax.tcons (Syntax.tyInt Syntax.w32) (Syntax.tcons (Syntax.tyInt Syntax.w32) (Syntax.tcons (Syntax.tyInt Syntax.w32) (Syntax.tcons (Syntax.tyInt
       Syntax.w32) (Syntax.tcons (Syntax.tyInt Syntax.w32) Syntax.tnil)))))))))) Syntax.tnil) (Syntax.ttcons Syntax.tnil (Syntax.ttcons (Syntax.tcons
       (Syntax.tyStruct (109 ∷ 111 ∷ 100 ∷ 101 ∷ 108 ∷ 58 ∷ 58 ∷ 77 ∷ 111 ∷ 100 ∷ 101 ∷ 108 ∷ []) (Syntax.tcons (Syntax.tyInt Syntax.w32) Syntax.tnil))
-      Syntax.tnil) (Syntax.ttcons Syntax.tnil Syntax.ttnil)))))))))) Syntax.tnil) Syntax.ttnil))))),
-) ∷ (5, Rows'.any-gone SlotAs.ty) ∷ (
-  6,
-  Rows'.any-gone
-      Syntax.tyBool,
-) ∷ (7, Rows'.any-gone (Syntax.tyInt Syntax.w64)) ∷ (8, Rows'.any-gone (Syntax.tyInt Syntax.w64)) ∷ (9, Rows'.sc-here Row.sPtr) ∷ []
+      Syntax.tnil) (Syntax.ttcons Syntax.tnil (Syntax.ttcons (Syntax.tcons (Syntax.tyStruct (99 ∷ 101 ∷ 108 ∷ 108 ∷ 58 ∷ 58 ∷ 67 ∷ 101 ∷ 108 ∷ 108 ∷ [])
+      (Syntax.tcons (Syntax.tyStruct (99 ∷ 101 ∷ 108 ∷ 108 ∷ 58 ∷ 58 ∷ 69 ∷ 100 ∷ 103 ∷ 101 ∷ 115 ∷ []) (Syntax.tcons (Syntax.tyInt Syntax.w32) (Syntax.tcons
+      (Syntax.tyInt Syntax.w32) (Syntax.tcons (Syntax.tyInt Syntax.w32) Syntax.tnil)))) (Syntax.tcons (Syntax.tyStruct (99 ∷ 101 ∷ 108 ∷ 108 ∷ 58 ∷ 58 ∷ 65 ∷ 110
+      ∷ 103 ∷ 108 ∷ 101 ∷ 115 ∷ []) (Syntax.tcons (Syntax.tyInt Syntax.w32) (Syntax.tcons (Syntax.tyInt Syntax.w32) (Syntax.tcons (Syntax.tyInt Syntax.w32)
+      Syntax.tnil)))) (Syntax.tcons (Syntax.tyStruct (99 ∷ 101 ∷ 108 ∷ 108 ∷ 58 ∷ 58 ∷ 71 ∷ 114 ∷ 111 ∷ 117 ∷ 112 ∷ []) (Syntax.tcons (Syntax.tyStruct (110 ∷ 97
+      ∷ 109 ∷ 101 ∷ 115 ∷ 58 ∷ 58 ∷ 70 ∷ 111 ∷ 117 ∷ 114 ∷ []) (Syntax.tcons (Syntax.tyInt Syntax.w8) (Syntax.tcons (Syntax.tyInt Syntax.w8) (Syntax.tcons
+      (Syntax.tyInt Syntax.w8) (Syntax.tcons (Syntax.tyInt Syntax.w8) Syntax.tnil))))) (Syntax.tcons (Syntax.tyStruct (110 ∷ 97 ∷ 109 ∷ 101 ∷ 115 ∷ 58 ∷ 58 ∷ 70
+      ∷ 111 ∷ 117 ∷ 114 ∷ []) (Syntax.tcons (Syntax.tyInt Syntax.w8) (Syntax.tcons (Syntax.tyInt Syntax.w8) (Syntax.tcons (Syntax.tyInt Syntax.w8) (Syntax.tcons
+      (Syntax.tyInt Syntax.w8) Syntax.tnil))))) (Syntax.tcons (Syntax.tyStruct (110 ∷ 97 ∷ 109 ∷ 101 ∷ 115 ∷ 58 ∷ 58 ∷ 84 ∷ 104 ∷ 114 ∷ 101 ∷ 101 ∷ [])
+      (Syntax.tcons (Syntax.tyInt Syntax.w8) (Syntax.tcons (Syntax.tyInt Syntax.w8) (Syntax.tcons (Syntax.tyInt Syntax.w8) Syntax.tnil)))) Syntax.tnil))))
+      (Syntax.tcons (Syntax.tyInt Syntax.w32) Syntax.tnil))))) Syntax.tnil) (Syntax.ttcons (Syntax.tcons Syntax.tyBool (Syntax.tcons (Syntax.tyEnum (116 ∷ 114 ∷
+      97 ∷ 110 ∷ 115 ∷ 102 ∷ 111 ∷ 114 ∷ 109 ∷ 58 ∷ 58 ∷ 65 ∷ 120 ∷ 105 ∷ 115 ∷ []) (Syntax.ttcons Syntax.tnil (Syntax.ttcons Syntax.tnil (Syntax.ttcons
+      Syntax.tnil Syntax.ttnil)))) (Syntax.tcons (Syntax.tyStruct (116 ∷ 114 ∷ 97 ∷ 110 ∷ 115 ∷ 102 ∷ 111 ∷ 114 ∷ 109 ∷ 58 ∷ 58 ∷ 84 ∷ 114 ∷ 97 ∷ 110 ∷ 115 ∷ 102
+      ∷ 111 ∷ 114 ∷ 109 ∷ []) (Syntax.tcons (Syntax.tyStruct (116 ∷ 114 ∷ 97 ∷ 110 ∷ 115 ∷ 102 ∷ 111 ∷ 114 ∷ 109 ∷ 58 ∷ 58 ∷ 67 ∷ 111 ∷ 101 ∷ 102 ∷ 102 ∷ 105 ∷
+      99 ∷ 105 ∷ 101 ∷ 110 ∷ 116 ∷ 115 ∷ []) (Syntax.tcons (Syntax.tyInt Syntax.w32) (Syntax.tcons (Syntax.tyInt Syntax.w32) (Syntax.tcons (Syntax.tyInt
+      Syntax.w32) Syntax.tnil)))) (Syntax.tcons (Syntax.tyInt Syntax.w32) Syntax.tnil))) Syntax.tnil))) Syntax.ttnil)))))))))))) Syntax.tnil) Syntax.ttnil))))),
+)
+    ∷ (5, Rows'.any-gone SlotAs.ty) ∷ (6, Rows'.any-gone Syntax.tyBool) ∷ (7, Rows'.any-gone (Syntax.tyInt Syntax.w64)) ∷ (
+      8,
+      Rows'.any-gone (Syntax.tyInt
+          Syntax.w64),
+    ) ∷ (9, Rows'.sc-here Row.sPtr) ∷ []
 
 abbrev pub t10 : List.List Row.Entry
 t10 = (0, Rows'.any-gone (Syntax.tyInt Syntax.w64)) ∷ (1, Mut.mslice SlotAs.row (Syntax.tyRef (Syntax.named 0) Syntax.mut SlotAs.pointee) 0) ∷ (
@@ -1066,12 +1184,30 @@ t10 = (0, Rows'.any-gone (Syntax.tyInt Syntax.w64)) ∷ (1, Mut.mslice SlotAs.ro
       (Syntax.tyInt Syntax.w32) (Syntax.tcons (Syntax.tyInt Syntax.w32) (Syntax.tcons (Syntax.tyInt Syntax.w32) (Syntax.tcons (Syntax.tyInt Syntax.w32)
       (Syntax.tcons (Syntax.tyInt Syntax.w32) Syntax.tnil)))))))))) Syntax.tnil) (Syntax.ttcons Syntax.tnil (Syntax.ttcons (Syntax.tcons (Syntax.tyStruct (109 ∷
       111 ∷ 100 ∷ 101 ∷ 108 ∷ 58 ∷ 58 ∷ 77 ∷ 111 ∷ 100 ∷ 101 ∷ 108 ∷ []) (Syntax.tcons (Syntax.tyInt Syntax.w32) Syntax.tnil)) Syntax.tnil) (Syntax.ttcons
-      Syntax.tnil Syntax.ttnil)))))))))) Syntax.tnil) Syntax.ttnil))))),
-) ∷ (5, Rows'.any-gone SlotAs.ty) ∷ (6, Rows'.any-gone Syntax.tyBool) ∷ (
-  7,
+      Syntax.tnil (Syntax.ttcons (Syntax.tcons (Syntax.tyStruct (99 ∷ 101 ∷ 108 ∷ 108 ∷ 58 ∷ 58 ∷ 67 ∷ 101 ∷ 108 ∷ 108 ∷ []) (Syntax.tcons (Syntax.tyStruct (99 ∷
+      101 ∷ 108 ∷ 108 ∷ 58 ∷ 58 ∷ 69 ∷ 100 ∷ 103 ∷ 101 ∷ 115 ∷ []) (Syntax.tcons (Syntax.tyInt Syntax.w32) (Syntax.tcons (Syntax.tyInt Syntax.w32) (Syntax.tcons
+      (Syntax.tyInt Syntax.w32) Syntax.tnil)))) (Syntax.tcons (Syntax.tyStruct (99 ∷ 101 ∷ 108 ∷ 108 ∷ 58 ∷ 58 ∷ 65 ∷ 110 ∷ 103 ∷ 108 ∷ 101 ∷ 115 ∷ [])
+      (Syntax.tcons (Syntax.tyInt Syntax.w32) (Syntax.tcons (Syntax.tyInt Syntax.w32) (Syntax.tcons (Syntax.tyInt Syntax.w32) Syntax.tnil)))) (Syntax.tcons
+      (Syntax.tyStruct (99 ∷ 101 ∷ 108 ∷ 108 ∷ 58 ∷ 58 ∷ 71 ∷ 114 ∷ 111 ∷ 117 ∷ 112 ∷ []) (Syntax.tcons (Syntax.tyStruct (110 ∷ 97 ∷ 109 ∷ 101 ∷ 115 ∷ 58 ∷ 58 ∷
+      70 ∷ 111 ∷ 117 ∷ 114 ∷ []) (Syntax.tcons (Syntax.tyInt Syntax.w8) (Syntax.tcons (Syntax.tyInt Syntax.w8) (Syntax.tcons (Syntax.tyInt Syntax.w8)
+      (Syntax.tcons (Syntax.tyInt Syntax.w8) Syntax.tnil))))) (Syntax.tcons (Syntax.tyStruct (110 ∷ 97 ∷ 109 ∷ 101 ∷ 115 ∷ 58 ∷ 58 ∷ 70 ∷ 111 ∷ 117 ∷ 114 ∷ [])
+      (Syntax.tcons (Syntax.tyInt Syntax.w8) (Syntax.tcons (Syntax.tyInt Syntax.w8) (Syntax.tcons (Syntax.tyInt Syntax.w8) (Syntax.tcons (Syntax.tyInt Syntax.w8)
+      Syntax.tnil))))) (Syntax.tcons (Syntax.tyStruct (110 ∷ 97 ∷ 109 ∷ 101 ∷ 115 ∷ 58 ∷ 58 ∷ 84 ∷ 104 ∷ 114 ∷ 101 ∷ 101 ∷ []) (Syntax.tcons (Syntax.tyInt
+      Syntax.w8) (Syntax.tcons (Syntax.tyInt Syntax.w8) (Syntax.tcons (Syntax.tyInt Syntax.w8) Syntax.tnil)))) Syntax.tnil)))) (Syntax.tcons (Syntax.tyInt
+      Syntax.w32) Syntax.tnil))))) Syntax.tnil) (Syntax.ttcons (Syntax.tcons Syntax.tyBool (Syntax.tcons (Syntax.tyEnum (116 ∷ 114 ∷ 97 ∷ 110 ∷ 115 ∷ 102 ∷ 111 ∷
+      114 ∷ 109 ∷ 58 ∷ 58 ∷ 65 ∷ 120 ∷ 105 ∷ 115 ∷ []) (Syntax.ttcons Syntax.tnil (Syntax.ttcons Syntax.tnil (Syntax.ttcons Syntax.tnil Syntax.ttnil))))
+      (Syntax.tcons (Syntax.tyStruct (116 ∷ 114 ∷ 97 ∷ 110 ∷ 115 ∷ 102 ∷ 111 ∷ 114 ∷ 109 ∷ 58 ∷ 58 ∷ 84 ∷ 114 ∷ 97 ∷ 110 ∷ 115 ∷ 102 ∷ 111 ∷ 114 ∷ 109 ∷ [])
+      (Syntax.tcons (Syntax.tyStruct (116 ∷ 114 ∷ 97 ∷ 110 ∷ 115 ∷ 102 ∷ 111 ∷ 114 ∷ 109 ∷ 58 ∷ 58 ∷ 67 ∷ 111 ∷ 101 ∷ 102 ∷ 102 ∷ 105 ∷ 99 ∷ 105 ∷ 101 ∷ 110 ∷
+      116 ∷ 115 ∷ []) (Syntax.tcons (Syntax.tyInt Syntax.w32) (Syntax.tcons (Syntax.tyInt Syntax.w32) (Syntax.tcons (Syntax.tyInt Syntax.w32) Syntax.tnil))))
+      (Syntax.tcons (Syntax.tyInt Syntax.w32) Syntax.tnil))) Syntax.tnil))) Syntax.ttnil)))))))))))) Syntax.tnil) Syntax.ttnil))))),
+) ∷ (
+  5,
   Rows'.any-gone
-      (Syntax.tyInt Syntax.w64),
-) ∷ (8, Rows'.any-gone (Syntax.tyInt Syntax.w64)) ∷ (9, Rows'.any-gone Syntax.tyPtr) ∷ []
+      SlotAs.ty,
+) ∷ (6, Rows'.any-gone Syntax.tyBool) ∷ (7, Rows'.any-gone (Syntax.tyInt Syntax.w64)) ∷ (8, Rows'.any-gone (Syntax.tyInt Syntax.w64)) ∷ (
+  9,
+  Rows'.any-gone Syntax.tyPtr,
+) ∷ []
 
 abbrev pub t11 : List.List Row.Entry
 t11 = (0, Rows'.any-gone (Syntax.tyInt Syntax.w64)) ∷ (1, Mut.mslice SlotAs.row (Syntax.tyRef (Syntax.named 0) Syntax.mut SlotAs.pointee) 0) ∷ (
@@ -1173,12 +1309,30 @@ t11 = (0, Rows'.any-gone (Syntax.tyInt Syntax.w64)) ∷ (1, Mut.mslice SlotAs.ro
       (Syntax.tyInt Syntax.w32) (Syntax.tcons (Syntax.tyInt Syntax.w32) (Syntax.tcons (Syntax.tyInt Syntax.w32) (Syntax.tcons (Syntax.tyInt Syntax.w32)
       (Syntax.tcons (Syntax.tyInt Syntax.w32) Syntax.tnil)))))))))) Syntax.tnil) (Syntax.ttcons Syntax.tnil (Syntax.ttcons (Syntax.tcons (Syntax.tyStruct (109 ∷
       111 ∷ 100 ∷ 101 ∷ 108 ∷ 58 ∷ 58 ∷ 77 ∷ 111 ∷ 100 ∷ 101 ∷ 108 ∷ []) (Syntax.tcons (Syntax.tyInt Syntax.w32) Syntax.tnil)) Syntax.tnil) (Syntax.ttcons
-      Syntax.tnil Syntax.ttnil)))))))))) Syntax.tnil) Syntax.ttnil))))),
-) ∷ (5, Rows'.any-gone SlotAs.ty) ∷ (6, Rows'.sc-here Row.sBool) ∷ (
-  7,
+      Syntax.tnil (Syntax.ttcons (Syntax.tcons (Syntax.tyStruct (99 ∷ 101 ∷ 108 ∷ 108 ∷ 58 ∷ 58 ∷ 67 ∷ 101 ∷ 108 ∷ 108 ∷ []) (Syntax.tcons (Syntax.tyStruct (99 ∷
+      101 ∷ 108 ∷ 108 ∷ 58 ∷ 58 ∷ 69 ∷ 100 ∷ 103 ∷ 101 ∷ 115 ∷ []) (Syntax.tcons (Syntax.tyInt Syntax.w32) (Syntax.tcons (Syntax.tyInt Syntax.w32) (Syntax.tcons
+      (Syntax.tyInt Syntax.w32) Syntax.tnil)))) (Syntax.tcons (Syntax.tyStruct (99 ∷ 101 ∷ 108 ∷ 108 ∷ 58 ∷ 58 ∷ 65 ∷ 110 ∷ 103 ∷ 108 ∷ 101 ∷ 115 ∷ [])
+      (Syntax.tcons (Syntax.tyInt Syntax.w32) (Syntax.tcons (Syntax.tyInt Syntax.w32) (Syntax.tcons (Syntax.tyInt Syntax.w32) Syntax.tnil)))) (Syntax.tcons
+      (Syntax.tyStruct (99 ∷ 101 ∷ 108 ∷ 108 ∷ 58 ∷ 58 ∷ 71 ∷ 114 ∷ 111 ∷ 117 ∷ 112 ∷ []) (Syntax.tcons (Syntax.tyStruct (110 ∷ 97 ∷ 109 ∷ 101 ∷ 115 ∷ 58 ∷ 58 ∷
+      70 ∷ 111 ∷ 117 ∷ 114 ∷ []) (Syntax.tcons (Syntax.tyInt Syntax.w8) (Syntax.tcons (Syntax.tyInt Syntax.w8) (Syntax.tcons (Syntax.tyInt Syntax.w8)
+      (Syntax.tcons (Syntax.tyInt Syntax.w8) Syntax.tnil))))) (Syntax.tcons (Syntax.tyStruct (110 ∷ 97 ∷ 109 ∷ 101 ∷ 115 ∷ 58 ∷ 58 ∷ 70 ∷ 111 ∷ 117 ∷ 114 ∷ [])
+      (Syntax.tcons (Syntax.tyInt Syntax.w8) (Syntax.tcons (Syntax.tyInt Syntax.w8) (Syntax.tcons (Syntax.tyInt Syntax.w8) (Syntax.tcons (Syntax.tyInt Syntax.w8)
+      Syntax.tnil))))) (Syntax.tcons (Syntax.tyStruct (110 ∷ 97 ∷ 109 ∷ 101 ∷ 115 ∷ 58 ∷ 58 ∷ 84 ∷ 104 ∷ 114 ∷ 101 ∷ 101 ∷ []) (Syntax.tcons (Syntax.tyInt
+      Syntax.w8) (Syntax.tcons (Syntax.tyInt Syntax.w8) (Syntax.tcons (Syntax.tyInt Syntax.w8) Syntax.tnil)))) Syntax.tnil)))) (Syntax.tcons (Syntax.tyInt
+      Syntax.w32) Syntax.tnil))))) Syntax.tnil) (Syntax.ttcons (Syntax.tcons Syntax.tyBool (Syntax.tcons (Syntax.tyEnum (116 ∷ 114 ∷ 97 ∷ 110 ∷ 115 ∷ 102 ∷ 111 ∷
+      114 ∷ 109 ∷ 58 ∷ 58 ∷ 65 ∷ 120 ∷ 105 ∷ 115 ∷ []) (Syntax.ttcons Syntax.tnil (Syntax.ttcons Syntax.tnil (Syntax.ttcons Syntax.tnil Syntax.ttnil))))
+      (Syntax.tcons (Syntax.tyStruct (116 ∷ 114 ∷ 97 ∷ 110 ∷ 115 ∷ 102 ∷ 111 ∷ 114 ∷ 109 ∷ 58 ∷ 58 ∷ 84 ∷ 114 ∷ 97 ∷ 110 ∷ 115 ∷ 102 ∷ 111 ∷ 114 ∷ 109 ∷ [])
+      (Syntax.tcons (Syntax.tyStruct (116 ∷ 114 ∷ 97 ∷ 110 ∷ 115 ∷ 102 ∷ 111 ∷ 114 ∷ 109 ∷ 58 ∷ 58 ∷ 67 ∷ 111 ∷ 101 ∷ 102 ∷ 102 ∷ 105 ∷ 99 ∷ 105 ∷ 101 ∷ 110 ∷
+      116 ∷ 115 ∷ []) (Syntax.tcons (Syntax.tyInt Syntax.w32) (Syntax.tcons (Syntax.tyInt Syntax.w32) (Syntax.tcons (Syntax.tyInt Syntax.w32) Syntax.tnil))))
+      (Syntax.tcons (Syntax.tyInt Syntax.w32) Syntax.tnil))) Syntax.tnil))) Syntax.ttnil)))))))))))) Syntax.tnil) Syntax.ttnil))))),
+) ∷ (
+  5,
   Rows'.any-gone
-      (Syntax.tyInt Syntax.w64),
-) ∷ (8, Rows'.any-gone (Syntax.tyInt Syntax.w64)) ∷ (9, Rows'.any-gone Syntax.tyPtr) ∷ []
+      SlotAs.ty,
+) ∷ (6, Rows'.sc-here Row.sBool) ∷ (7, Rows'.any-gone (Syntax.tyInt Syntax.w64)) ∷ (8, Rows'.any-gone (Syntax.tyInt Syntax.w64)) ∷ (
+  9,
+  Rows'.any-gone Syntax.tyPtr,
+) ∷ []
 
 abbrev pub t12 : List.List Row.Entry
 t12 = (0, Rows'.sc-here (Row.sInt Syntax.w64)) ∷ (1, Mut.mslice SlotAs.row (Syntax.tyRef (Syntax.named 0) Syntax.mut SlotAs.pointee) 0) ∷ (
@@ -1280,12 +1434,28 @@ t12 = (0, Rows'.sc-here (Row.sInt Syntax.w64)) ∷ (1, Mut.mslice SlotAs.row (Sy
       (Syntax.tcons (Syntax.tyInt Syntax.w32) (Syntax.tcons (Syntax.tyInt Syntax.w32) (Syntax.tcons (Syntax.tyInt Syntax.w32) (Syntax.tcons (Syntax.tyInt
       Syntax.w32) (Syntax.tcons (Syntax.tyInt Syntax.w32) Syntax.tnil)))))))))) Syntax.tnil) (Syntax.ttcons Syntax.tnil (Syntax.ttcons (Syntax.tcons
       (Syntax.tyStruct (109 ∷ 111 ∷ 100 ∷ 101 ∷ 108 ∷ 58 ∷ 58 ∷ 77 ∷ 111 ∷ 100 ∷ 101 ∷ 108 ∷ []) (Syntax.tcons (Syntax.tyInt Syntax.w32) Syntax.tnil))
-      Syntax.tnil) (Syntax.ttcons Syntax.tnil Syntax.ttnil)))))))))) Syntax.tnil) Syntax.ttnil))))),
-) ∷ (5, Rows'.any-gone SlotAs.ty) ∷ (
-  6,
-  Rows'.any-gone
-      Syntax.tyBool,
-) ∷ (7, Rows'.sc-here (Row.sInt Syntax.w64)) ∷ (8, Rows'.any-gone (Syntax.tyInt Syntax.w64)) ∷ (9, Rows'.any-gone Syntax.tyPtr) ∷ []
+      Syntax.tnil) (Syntax.ttcons Syntax.tnil (Syntax.ttcons (Syntax.tcons (Syntax.tyStruct (99 ∷ 101 ∷ 108 ∷ 108 ∷ 58 ∷ 58 ∷ 67 ∷ 101 ∷ 108 ∷ 108 ∷ [])
+      (Syntax.tcons (Syntax.tyStruct (99 ∷ 101 ∷ 108 ∷ 108 ∷ 58 ∷ 58 ∷ 69 ∷ 100 ∷ 103 ∷ 101 ∷ 115 ∷ []) (Syntax.tcons (Syntax.tyInt Syntax.w32) (Syntax.tcons
+      (Syntax.tyInt Syntax.w32) (Syntax.tcons (Syntax.tyInt Syntax.w32) Syntax.tnil)))) (Syntax.tcons (Syntax.tyStruct (99 ∷ 101 ∷ 108 ∷ 108 ∷ 58 ∷ 58 ∷ 65 ∷ 110
+      ∷ 103 ∷ 108 ∷ 101 ∷ 115 ∷ []) (Syntax.tcons (Syntax.tyInt Syntax.w32) (Syntax.tcons (Syntax.tyInt Syntax.w32) (Syntax.tcons (Syntax.tyInt Syntax.w32)
+      Syntax.tnil)))) (Syntax.tcons (Syntax.tyStruct (99 ∷ 101 ∷ 108 ∷ 108 ∷ 58 ∷ 58 ∷ 71 ∷ 114 ∷ 111 ∷ 117 ∷ 112 ∷ []) (Syntax.tcons (Syntax.tyStruct (110 ∷ 97
+      ∷ 109 ∷ 101 ∷ 115 ∷ 58 ∷ 58 ∷ 70 ∷ 111 ∷ 117 ∷ 114 ∷ []) (Syntax.tcons (Syntax.tyInt Syntax.w8) (Syntax.tcons (Syntax.tyInt Syntax.w8) (Syntax.tcons
+      (Syntax.tyInt Syntax.w8) (Syntax.tcons (Syntax.tyInt Syntax.w8) Syntax.tnil))))) (Syntax.tcons (Syntax.tyStruct (110 ∷ 97 ∷ 109 ∷ 101 ∷ 115 ∷ 58 ∷ 58 ∷ 70
+      ∷ 111 ∷ 117 ∷ 114 ∷ []) (Syntax.tcons (Syntax.tyInt Syntax.w8) (Syntax.tcons (Syntax.tyInt Syntax.w8) (Syntax.tcons (Syntax.tyInt Syntax.w8) (Syntax.tcons
+      (Syntax.tyInt Syntax.w8) Syntax.tnil))))) (Syntax.tcons (Syntax.tyStruct (110 ∷ 97 ∷ 109 ∷ 101 ∷ 115 ∷ 58 ∷ 58 ∷ 84 ∷ 104 ∷ 114 ∷ 101 ∷ 101 ∷ [])
+      (Syntax.tcons (Syntax.tyInt Syntax.w8) (Syntax.tcons (Syntax.tyInt Syntax.w8) (Syntax.tcons (Syntax.tyInt Syntax.w8) Syntax.tnil)))) Syntax.tnil))))
+      (Syntax.tcons (Syntax.tyInt Syntax.w32) Syntax.tnil))))) Syntax.tnil) (Syntax.ttcons (Syntax.tcons Syntax.tyBool (Syntax.tcons (Syntax.tyEnum (116 ∷ 114 ∷
+      97 ∷ 110 ∷ 115 ∷ 102 ∷ 111 ∷ 114 ∷ 109 ∷ 58 ∷ 58 ∷ 65 ∷ 120 ∷ 105 ∷ 115 ∷ []) (Syntax.ttcons Syntax.tnil (Syntax.ttcons Syntax.tnil (Syntax.ttcons
+      Syntax.tnil Syntax.ttnil)))) (Syntax.tcons (Syntax.tyStruct (116 ∷ 114 ∷ 97 ∷ 110 ∷ 115 ∷ 102 ∷ 111 ∷ 114 ∷ 109 ∷ 58 ∷ 58 ∷ 84 ∷ 114 ∷ 97 ∷ 110 ∷ 115 ∷ 102
+      ∷ 111 ∷ 114 ∷ 109 ∷ []) (Syntax.tcons (Syntax.tyStruct (116 ∷ 114 ∷ 97 ∷ 110 ∷ 115 ∷ 102 ∷ 111 ∷ 114 ∷ 109 ∷ 58 ∷ 58 ∷ 67 ∷ 111 ∷ 101 ∷ 102 ∷ 102 ∷ 105 ∷
+      99 ∷ 105 ∷ 101 ∷ 110 ∷ 116 ∷ 115 ∷ []) (Syntax.tcons (Syntax.tyInt Syntax.w32) (Syntax.tcons (Syntax.tyInt Syntax.w32) (Syntax.tcons (Syntax.tyInt
+      Syntax.w32) Syntax.tnil)))) (Syntax.tcons (Syntax.tyInt Syntax.w32) Syntax.tnil))) Syntax.tnil))) Syntax.ttnil)))))))))))) Syntax.tnil) Syntax.ttnil))))),
+)
+    ∷ (5, Rows'.any-gone SlotAs.ty) ∷ (6, Rows'.any-gone Syntax.tyBool) ∷ (7, Rows'.sc-here (Row.sInt Syntax.w64)) ∷ (
+      8,
+      Rows'.any-gone (Syntax.tyInt
+          Syntax.w64),
+    ) ∷ (9, Rows'.any-gone Syntax.tyPtr) ∷ []
 
 abbrev pub t13 : List.List Row.Entry
 t13 = (0, Rows'.sc-here (Row.sInt Syntax.w64)) ∷ (1, Mut.mslice SlotAs.row (Syntax.tyRef (Syntax.named 0) Syntax.mut SlotAs.pointee) 0) ∷ (
@@ -1387,12 +1557,28 @@ t13 = (0, Rows'.sc-here (Row.sInt Syntax.w64)) ∷ (1, Mut.mslice SlotAs.row (Sy
       (Syntax.tcons (Syntax.tyInt Syntax.w32) (Syntax.tcons (Syntax.tyInt Syntax.w32) (Syntax.tcons (Syntax.tyInt Syntax.w32) (Syntax.tcons (Syntax.tyInt
       Syntax.w32) (Syntax.tcons (Syntax.tyInt Syntax.w32) Syntax.tnil)))))))))) Syntax.tnil) (Syntax.ttcons Syntax.tnil (Syntax.ttcons (Syntax.tcons
       (Syntax.tyStruct (109 ∷ 111 ∷ 100 ∷ 101 ∷ 108 ∷ 58 ∷ 58 ∷ 77 ∷ 111 ∷ 100 ∷ 101 ∷ 108 ∷ []) (Syntax.tcons (Syntax.tyInt Syntax.w32) Syntax.tnil))
-      Syntax.tnil) (Syntax.ttcons Syntax.tnil Syntax.ttnil)))))))))) Syntax.tnil) Syntax.ttnil))))),
-) ∷ (5, Rows'.any-gone SlotAs.ty) ∷ (
-  6,
-  Rows'.any-gone
-      Syntax.tyBool,
-) ∷ (7, Rows'.any-gone (Syntax.tyInt Syntax.w64)) ∷ (8, Rows'.any-gone (Syntax.tyInt Syntax.w64)) ∷ (9, Rows'.any-gone Syntax.tyPtr) ∷ []
+      Syntax.tnil) (Syntax.ttcons Syntax.tnil (Syntax.ttcons (Syntax.tcons (Syntax.tyStruct (99 ∷ 101 ∷ 108 ∷ 108 ∷ 58 ∷ 58 ∷ 67 ∷ 101 ∷ 108 ∷ 108 ∷ [])
+      (Syntax.tcons (Syntax.tyStruct (99 ∷ 101 ∷ 108 ∷ 108 ∷ 58 ∷ 58 ∷ 69 ∷ 100 ∷ 103 ∷ 101 ∷ 115 ∷ []) (Syntax.tcons (Syntax.tyInt Syntax.w32) (Syntax.tcons
+      (Syntax.tyInt Syntax.w32) (Syntax.tcons (Syntax.tyInt Syntax.w32) Syntax.tnil)))) (Syntax.tcons (Syntax.tyStruct (99 ∷ 101 ∷ 108 ∷ 108 ∷ 58 ∷ 58 ∷ 65 ∷ 110
+      ∷ 103 ∷ 108 ∷ 101 ∷ 115 ∷ []) (Syntax.tcons (Syntax.tyInt Syntax.w32) (Syntax.tcons (Syntax.tyInt Syntax.w32) (Syntax.tcons (Syntax.tyInt Syntax.w32)
+      Syntax.tnil)))) (Syntax.tcons (Syntax.tyStruct (99 ∷ 101 ∷ 108 ∷ 108 ∷ 58 ∷ 58 ∷ 71 ∷ 114 ∷ 111 ∷ 117 ∷ 112 ∷ []) (Syntax.tcons (Syntax.tyStruct (110 ∷ 97
+      ∷ 109 ∷ 101 ∷ 115 ∷ 58 ∷ 58 ∷ 70 ∷ 111 ∷ 117 ∷ 114 ∷ []) (Syntax.tcons (Syntax.tyInt Syntax.w8) (Syntax.tcons (Syntax.tyInt Syntax.w8) (Syntax.tcons
+      (Syntax.tyInt Syntax.w8) (Syntax.tcons (Syntax.tyInt Syntax.w8) Syntax.tnil))))) (Syntax.tcons (Syntax.tyStruct (110 ∷ 97 ∷ 109 ∷ 101 ∷ 115 ∷ 58 ∷ 58 ∷ 70
+      ∷ 111 ∷ 117 ∷ 114 ∷ []) (Syntax.tcons (Syntax.tyInt Syntax.w8) (Syntax.tcons (Syntax.tyInt Syntax.w8) (Syntax.tcons (Syntax.tyInt Syntax.w8) (Syntax.tcons
+      (Syntax.tyInt Syntax.w8) Syntax.tnil))))) (Syntax.tcons (Syntax.tyStruct (110 ∷ 97 ∷ 109 ∷ 101 ∷ 115 ∷ 58 ∷ 58 ∷ 84 ∷ 104 ∷ 114 ∷ 101 ∷ 101 ∷ [])
+      (Syntax.tcons (Syntax.tyInt Syntax.w8) (Syntax.tcons (Syntax.tyInt Syntax.w8) (Syntax.tcons (Syntax.tyInt Syntax.w8) Syntax.tnil)))) Syntax.tnil))))
+      (Syntax.tcons (Syntax.tyInt Syntax.w32) Syntax.tnil))))) Syntax.tnil) (Syntax.ttcons (Syntax.tcons Syntax.tyBool (Syntax.tcons (Syntax.tyEnum (116 ∷ 114 ∷
+      97 ∷ 110 ∷ 115 ∷ 102 ∷ 111 ∷ 114 ∷ 109 ∷ 58 ∷ 58 ∷ 65 ∷ 120 ∷ 105 ∷ 115 ∷ []) (Syntax.ttcons Syntax.tnil (Syntax.ttcons Syntax.tnil (Syntax.ttcons
+      Syntax.tnil Syntax.ttnil)))) (Syntax.tcons (Syntax.tyStruct (116 ∷ 114 ∷ 97 ∷ 110 ∷ 115 ∷ 102 ∷ 111 ∷ 114 ∷ 109 ∷ 58 ∷ 58 ∷ 84 ∷ 114 ∷ 97 ∷ 110 ∷ 115 ∷ 102
+      ∷ 111 ∷ 114 ∷ 109 ∷ []) (Syntax.tcons (Syntax.tyStruct (116 ∷ 114 ∷ 97 ∷ 110 ∷ 115 ∷ 102 ∷ 111 ∷ 114 ∷ 109 ∷ 58 ∷ 58 ∷ 67 ∷ 111 ∷ 101 ∷ 102 ∷ 102 ∷ 105 ∷
+      99 ∷ 105 ∷ 101 ∷ 110 ∷ 116 ∷ 115 ∷ []) (Syntax.tcons (Syntax.tyInt Syntax.w32) (Syntax.tcons (Syntax.tyInt Syntax.w32) (Syntax.tcons (Syntax.tyInt
+      Syntax.w32) Syntax.tnil)))) (Syntax.tcons (Syntax.tyInt Syntax.w32) Syntax.tnil))) Syntax.tnil))) Syntax.ttnil)))))))))))) Syntax.tnil) Syntax.ttnil))))),
+)
+    ∷ (5, Rows'.any-gone SlotAs.ty) ∷ (6, Rows'.any-gone Syntax.tyBool) ∷ (7, Rows'.any-gone (Syntax.tyInt Syntax.w64)) ∷ (
+      8,
+      Rows'.any-gone (Syntax.tyInt
+          Syntax.w64),
+    ) ∷ (9, Rows'.any-gone Syntax.tyPtr) ∷ []
 
 abbrev pub t14 : List.List Row.Entry
 t14 = (0, Rows'.sc-here (Row.sInt Syntax.w64)) ∷ (1, Mut.mslice SlotAs.row (Syntax.tyRef (Syntax.named 0) Syntax.mut SlotAs.pointee) 0) ∷ (
@@ -1495,12 +1681,30 @@ t14 = (0, Rows'.sc-here (Row.sInt Syntax.w64)) ∷ (1, Mut.mslice SlotAs.row (Sy
       (Syntax.tyInt Syntax.w32) (Syntax.tcons (Syntax.tyInt Syntax.w32) (Syntax.tcons (Syntax.tyInt Syntax.w32) (Syntax.tcons (Syntax.tyInt Syntax.w32)
       (Syntax.tcons (Syntax.tyInt Syntax.w32) Syntax.tnil)))))))))) Syntax.tnil) (Syntax.ttcons Syntax.tnil (Syntax.ttcons (Syntax.tcons (Syntax.tyStruct (109 ∷
       111 ∷ 100 ∷ 101 ∷ 108 ∷ 58 ∷ 58 ∷ 77 ∷ 111 ∷ 100 ∷ 101 ∷ 108 ∷ []) (Syntax.tcons (Syntax.tyInt Syntax.w32) Syntax.tnil)) Syntax.tnil) (Syntax.ttcons
-      Syntax.tnil Syntax.ttnil)))))))))) Syntax.tnil) Syntax.ttnil))))),
-) ∷ (5, Rows'.any-gone SlotAs.ty) ∷ (6, Rows'.any-gone Syntax.tyBool) ∷ (
-  7,
+      Syntax.tnil (Syntax.ttcons (Syntax.tcons (Syntax.tyStruct (99 ∷ 101 ∷ 108 ∷ 108 ∷ 58 ∷ 58 ∷ 67 ∷ 101 ∷ 108 ∷ 108 ∷ []) (Syntax.tcons (Syntax.tyStruct (99 ∷
+      101 ∷ 108 ∷ 108 ∷ 58 ∷ 58 ∷ 69 ∷ 100 ∷ 103 ∷ 101 ∷ 115 ∷ []) (Syntax.tcons (Syntax.tyInt Syntax.w32) (Syntax.tcons (Syntax.tyInt Syntax.w32) (Syntax.tcons
+      (Syntax.tyInt Syntax.w32) Syntax.tnil)))) (Syntax.tcons (Syntax.tyStruct (99 ∷ 101 ∷ 108 ∷ 108 ∷ 58 ∷ 58 ∷ 65 ∷ 110 ∷ 103 ∷ 108 ∷ 101 ∷ 115 ∷ [])
+      (Syntax.tcons (Syntax.tyInt Syntax.w32) (Syntax.tcons (Syntax.tyInt Syntax.w32) (Syntax.tcons (Syntax.tyInt Syntax.w32) Syntax.tnil)))) (Syntax.tcons
+      (Syntax.tyStruct (99 ∷ 101 ∷ 108 ∷ 108 ∷ 58 ∷ 58 ∷ 71 ∷ 114 ∷ 111 ∷ 117 ∷ 112 ∷ []) (Syntax.tcons (Syntax.tyStruct (110 ∷ 97 ∷ 109 ∷ 101 ∷ 115 ∷ 58 ∷ 58 ∷
+      70 ∷ 111 ∷ 117 ∷ 114 ∷ []) (Syntax.tcons (Syntax.tyInt Syntax.w8) (Syntax.tcons (Syntax.tyInt Syntax.w8) (Syntax.tcons (Syntax.tyInt Syntax.w8)
+      (Syntax.tcons (Syntax.tyInt Syntax.w8) Syntax.tnil))))) (Syntax.tcons (Syntax.tyStruct (110 ∷ 97 ∷ 109 ∷ 101 ∷ 115 ∷ 58 ∷ 58 ∷ 70 ∷ 111 ∷ 117 ∷ 114 ∷ [])
+      (Syntax.tcons (Syntax.tyInt Syntax.w8) (Syntax.tcons (Syntax.tyInt Syntax.w8) (Syntax.tcons (Syntax.tyInt Syntax.w8) (Syntax.tcons (Syntax.tyInt Syntax.w8)
+      Syntax.tnil))))) (Syntax.tcons (Syntax.tyStruct (110 ∷ 97 ∷ 109 ∷ 101 ∷ 115 ∷ 58 ∷ 58 ∷ 84 ∷ 104 ∷ 114 ∷ 101 ∷ 101 ∷ []) (Syntax.tcons (Syntax.tyInt
+      Syntax.w8) (Syntax.tcons (Syntax.tyInt Syntax.w8) (Syntax.tcons (Syntax.tyInt Syntax.w8) Syntax.tnil)))) Syntax.tnil)))) (Syntax.tcons (Syntax.tyInt
+      Syntax.w32) Syntax.tnil))))) Syntax.tnil) (Syntax.ttcons (Syntax.tcons Syntax.tyBool (Syntax.tcons (Syntax.tyEnum (116 ∷ 114 ∷ 97 ∷ 110 ∷ 115 ∷ 102 ∷ 111 ∷
+      114 ∷ 109 ∷ 58 ∷ 58 ∷ 65 ∷ 120 ∷ 105 ∷ 115 ∷ []) (Syntax.ttcons Syntax.tnil (Syntax.ttcons Syntax.tnil (Syntax.ttcons Syntax.tnil Syntax.ttnil))))
+      (Syntax.tcons (Syntax.tyStruct (116 ∷ 114 ∷ 97 ∷ 110 ∷ 115 ∷ 102 ∷ 111 ∷ 114 ∷ 109 ∷ 58 ∷ 58 ∷ 84 ∷ 114 ∷ 97 ∷ 110 ∷ 115 ∷ 102 ∷ 111 ∷ 114 ∷ 109 ∷ [])
+      (Syntax.tcons (Syntax.tyStruct (116 ∷ 114 ∷ 97 ∷ 110 ∷ 115 ∷ 102 ∷ 111 ∷ 114 ∷ 109 ∷ 58 ∷ 58 ∷ 67 ∷ 111 ∷ 101 ∷ 102 ∷ 102 ∷ 105 ∷ 99 ∷ 105 ∷ 101 ∷ 110 ∷
+      116 ∷ 115 ∷ []) (Syntax.tcons (Syntax.tyInt Syntax.w32) (Syntax.tcons (Syntax.tyInt Syntax.w32) (Syntax.tcons (Syntax.tyInt Syntax.w32) Syntax.tnil))))
+      (Syntax.tcons (Syntax.tyInt Syntax.w32) Syntax.tnil))) Syntax.tnil))) Syntax.ttnil)))))))))))) Syntax.tnil) Syntax.ttnil))))),
+) ∷ (
+  5,
   Rows'.any-gone
-      (Syntax.tyInt Syntax.w64),
-) ∷ (8, Rows'.any-gone (Syntax.tyInt Syntax.w64)) ∷ (9, Rows'.any-gone Syntax.tyPtr) ∷ []
+      SlotAs.ty,
+) ∷ (6, Rows'.any-gone Syntax.tyBool) ∷ (7, Rows'.any-gone (Syntax.tyInt Syntax.w64)) ∷ (8, Rows'.any-gone (Syntax.tyInt Syntax.w64)) ∷ (
+  9,
+  Rows'.any-gone Syntax.tyPtr,
+) ∷ []
 
 abbrev pub T0 : Row.Cx
 T0 = record { locals = t0; slots = [] }
@@ -1676,7 +1880,22 @@ module _ (claims· : Claims) where
       Syntax.w32) (Syntax.tcons (Syntax.tyInt Syntax.w32) (Syntax.tcons (Syntax.tyInt Syntax.w32) (Syntax.tcons (Syntax.tyInt Syntax.w32) (Syntax.tcons
       (Syntax.tyInt Syntax.w32) Syntax.tnil)))))))))) Syntax.tnil) (Syntax.ttcons Syntax.tnil (Syntax.ttcons (Syntax.tcons (Syntax.tyStruct (109 ∷ 111 ∷ 100 ∷
       101 ∷ 108 ∷ 58 ∷ 58 ∷ 77 ∷ 111 ∷ 100 ∷ 101 ∷ 108 ∷ []) (Syntax.tcons (Syntax.tyInt Syntax.w32) Syntax.tnil)) Syntax.tnil) (Syntax.ttcons Syntax.tnil
-      Syntax.ttnil)))))))))) Syntax.tnil) Syntax.ttnil)))))
+      (Syntax.ttcons (Syntax.tcons (Syntax.tyStruct (99 ∷ 101 ∷ 108 ∷ 108 ∷ 58 ∷ 58 ∷ 67 ∷ 101 ∷ 108 ∷ 108 ∷ []) (Syntax.tcons (Syntax.tyStruct (99 ∷ 101 ∷ 108
+      ∷ 108 ∷ 58 ∷ 58 ∷ 69 ∷ 100 ∷ 103 ∷ 101 ∷ 115 ∷ []) (Syntax.tcons (Syntax.tyInt Syntax.w32) (Syntax.tcons (Syntax.tyInt Syntax.w32) (Syntax.tcons
+      (Syntax.tyInt Syntax.w32) Syntax.tnil)))) (Syntax.tcons (Syntax.tyStruct (99 ∷ 101 ∷ 108 ∷ 108 ∷ 58 ∷ 58 ∷ 65 ∷ 110 ∷ 103 ∷ 108 ∷ 101 ∷ 115 ∷ [])
+      (Syntax.tcons (Syntax.tyInt Syntax.w32) (Syntax.tcons (Syntax.tyInt Syntax.w32) (Syntax.tcons (Syntax.tyInt Syntax.w32) Syntax.tnil)))) (Syntax.tcons
+      (Syntax.tyStruct (99 ∷ 101 ∷ 108 ∷ 108 ∷ 58 ∷ 58 ∷ 71 ∷ 114 ∷ 111 ∷ 117 ∷ 112 ∷ []) (Syntax.tcons (Syntax.tyStruct (110 ∷ 97 ∷ 109 ∷ 101 ∷ 115 ∷ 58 ∷ 58
+      ∷ 70 ∷ 111 ∷ 117 ∷ 114 ∷ []) (Syntax.tcons (Syntax.tyInt Syntax.w8) (Syntax.tcons (Syntax.tyInt Syntax.w8) (Syntax.tcons (Syntax.tyInt Syntax.w8)
+      (Syntax.tcons (Syntax.tyInt Syntax.w8) Syntax.tnil))))) (Syntax.tcons (Syntax.tyStruct (110 ∷ 97 ∷ 109 ∷ 101 ∷ 115 ∷ 58 ∷ 58 ∷ 70 ∷ 111 ∷ 117 ∷ 114 ∷ [])
+      (Syntax.tcons (Syntax.tyInt Syntax.w8) (Syntax.tcons (Syntax.tyInt Syntax.w8) (Syntax.tcons (Syntax.tyInt Syntax.w8) (Syntax.tcons (Syntax.tyInt
+      Syntax.w8) Syntax.tnil))))) (Syntax.tcons (Syntax.tyStruct (110 ∷ 97 ∷ 109 ∷ 101 ∷ 115 ∷ 58 ∷ 58 ∷ 84 ∷ 104 ∷ 114 ∷ 101 ∷ 101 ∷ []) (Syntax.tcons
+      (Syntax.tyInt Syntax.w8) (Syntax.tcons (Syntax.tyInt Syntax.w8) (Syntax.tcons (Syntax.tyInt Syntax.w8) Syntax.tnil)))) Syntax.tnil)))) (Syntax.tcons
+      (Syntax.tyInt Syntax.w32) Syntax.tnil))))) Syntax.tnil) (Syntax.ttcons (Syntax.tcons Syntax.tyBool (Syntax.tcons (Syntax.tyEnum (116 ∷ 114 ∷ 97 ∷ 110 ∷
+      115 ∷ 102 ∷ 111 ∷ 114 ∷ 109 ∷ 58 ∷ 58 ∷ 65 ∷ 120 ∷ 105 ∷ 115 ∷ []) (Syntax.ttcons Syntax.tnil (Syntax.ttcons Syntax.tnil (Syntax.ttcons Syntax.tnil
+      Syntax.ttnil)))) (Syntax.tcons (Syntax.tyStruct (116 ∷ 114 ∷ 97 ∷ 110 ∷ 115 ∷ 102 ∷ 111 ∷ 114 ∷ 109 ∷ 58 ∷ 58 ∷ 84 ∷ 114 ∷ 97 ∷ 110 ∷ 115 ∷ 102 ∷ 111 ∷
+      114 ∷ 109 ∷ []) (Syntax.tcons (Syntax.tyStruct (116 ∷ 114 ∷ 97 ∷ 110 ∷ 115 ∷ 102 ∷ 111 ∷ 114 ∷ 109 ∷ 58 ∷ 58 ∷ 67 ∷ 111 ∷ 101 ∷ 102 ∷ 102 ∷ 105 ∷ 99 ∷
+      105 ∷ 101 ∷ 110 ∷ 116 ∷ 115 ∷ []) (Syntax.tcons (Syntax.tyInt Syntax.w32) (Syntax.tcons (Syntax.tyInt Syntax.w32) (Syntax.tcons (Syntax.tyInt Syntax.w32)
+      Syntax.tnil)))) (Syntax.tcons (Syntax.tyInt Syntax.w32) Syntax.tnil))) Syntax.tnil))) Syntax.ttnil)))))))))))) Syntax.tnil) Syntax.ttnil)))))
 
   abbrev s4 : Typed.Asks T6 T7
   s4 = Scalar.k-op2 T6 (Syntax.mul Syntax.unsigned) (Scalar.oAt 2 (Syntax.tyInt Syntax.w64) (Row.valS (Row.sInt Syntax.w64))) (Scalar.oInt Syntax.w64 48) 8
@@ -1798,7 +2017,22 @@ module _ (claims· : Claims) where
       Syntax.w32) (Syntax.tcons (Syntax.tyInt Syntax.w32) (Syntax.tcons (Syntax.tyInt Syntax.w32) (Syntax.tcons (Syntax.tyInt Syntax.w32) (Syntax.tcons
       (Syntax.tyInt Syntax.w32) Syntax.tnil)))))))))) Syntax.tnil) (Syntax.ttcons Syntax.tnil (Syntax.ttcons (Syntax.tcons (Syntax.tyStruct (109 ∷ 111 ∷ 100 ∷
       101 ∷ 108 ∷ 58 ∷ 58 ∷ 77 ∷ 111 ∷ 100 ∷ 101 ∷ 108 ∷ []) (Syntax.tcons (Syntax.tyInt Syntax.w32) Syntax.tnil)) Syntax.tnil) (Syntax.ttcons Syntax.tnil
-      Syntax.ttnil)))))))))) Syntax.tnil) Syntax.ttnil)))))
+      (Syntax.ttcons (Syntax.tcons (Syntax.tyStruct (99 ∷ 101 ∷ 108 ∷ 108 ∷ 58 ∷ 58 ∷ 67 ∷ 101 ∷ 108 ∷ 108 ∷ []) (Syntax.tcons (Syntax.tyStruct (99 ∷ 101 ∷ 108
+      ∷ 108 ∷ 58 ∷ 58 ∷ 69 ∷ 100 ∷ 103 ∷ 101 ∷ 115 ∷ []) (Syntax.tcons (Syntax.tyInt Syntax.w32) (Syntax.tcons (Syntax.tyInt Syntax.w32) (Syntax.tcons
+      (Syntax.tyInt Syntax.w32) Syntax.tnil)))) (Syntax.tcons (Syntax.tyStruct (99 ∷ 101 ∷ 108 ∷ 108 ∷ 58 ∷ 58 ∷ 65 ∷ 110 ∷ 103 ∷ 108 ∷ 101 ∷ 115 ∷ [])
+      (Syntax.tcons (Syntax.tyInt Syntax.w32) (Syntax.tcons (Syntax.tyInt Syntax.w32) (Syntax.tcons (Syntax.tyInt Syntax.w32) Syntax.tnil)))) (Syntax.tcons
+      (Syntax.tyStruct (99 ∷ 101 ∷ 108 ∷ 108 ∷ 58 ∷ 58 ∷ 71 ∷ 114 ∷ 111 ∷ 117 ∷ 112 ∷ []) (Syntax.tcons (Syntax.tyStruct (110 ∷ 97 ∷ 109 ∷ 101 ∷ 115 ∷ 58 ∷ 58
+      ∷ 70 ∷ 111 ∷ 117 ∷ 114 ∷ []) (Syntax.tcons (Syntax.tyInt Syntax.w8) (Syntax.tcons (Syntax.tyInt Syntax.w8) (Syntax.tcons (Syntax.tyInt Syntax.w8)
+      (Syntax.tcons (Syntax.tyInt Syntax.w8) Syntax.tnil))))) (Syntax.tcons (Syntax.tyStruct (110 ∷ 97 ∷ 109 ∷ 101 ∷ 115 ∷ 58 ∷ 58 ∷ 70 ∷ 111 ∷ 117 ∷ 114 ∷ [])
+      (Syntax.tcons (Syntax.tyInt Syntax.w8) (Syntax.tcons (Syntax.tyInt Syntax.w8) (Syntax.tcons (Syntax.tyInt Syntax.w8) (Syntax.tcons (Syntax.tyInt
+      Syntax.w8) Syntax.tnil))))) (Syntax.tcons (Syntax.tyStruct (110 ∷ 97 ∷ 109 ∷ 101 ∷ 115 ∷ 58 ∷ 58 ∷ 84 ∷ 104 ∷ 114 ∷ 101 ∷ 101 ∷ []) (Syntax.tcons
+      (Syntax.tyInt Syntax.w8) (Syntax.tcons (Syntax.tyInt Syntax.w8) (Syntax.tcons (Syntax.tyInt Syntax.w8) Syntax.tnil)))) Syntax.tnil)))) (Syntax.tcons
+      (Syntax.tyInt Syntax.w32) Syntax.tnil))))) Syntax.tnil) (Syntax.ttcons (Syntax.tcons Syntax.tyBool (Syntax.tcons (Syntax.tyEnum (116 ∷ 114 ∷ 97 ∷ 110 ∷
+      115 ∷ 102 ∷ 111 ∷ 114 ∷ 109 ∷ 58 ∷ 58 ∷ 65 ∷ 120 ∷ 105 ∷ 115 ∷ []) (Syntax.ttcons Syntax.tnil (Syntax.ttcons Syntax.tnil (Syntax.ttcons Syntax.tnil
+      Syntax.ttnil)))) (Syntax.tcons (Syntax.tyStruct (116 ∷ 114 ∷ 97 ∷ 110 ∷ 115 ∷ 102 ∷ 111 ∷ 114 ∷ 109 ∷ 58 ∷ 58 ∷ 84 ∷ 114 ∷ 97 ∷ 110 ∷ 115 ∷ 102 ∷ 111 ∷
+      114 ∷ 109 ∷ []) (Syntax.tcons (Syntax.tyStruct (116 ∷ 114 ∷ 97 ∷ 110 ∷ 115 ∷ 102 ∷ 111 ∷ 114 ∷ 109 ∷ 58 ∷ 58 ∷ 67 ∷ 111 ∷ 101 ∷ 102 ∷ 102 ∷ 105 ∷ 99 ∷
+      105 ∷ 101 ∷ 110 ∷ 116 ∷ 115 ∷ []) (Syntax.tcons (Syntax.tyInt Syntax.w32) (Syntax.tcons (Syntax.tyInt Syntax.w32) (Syntax.tcons (Syntax.tyInt Syntax.w32)
+      Syntax.tnil)))) (Syntax.tcons (Syntax.tyInt Syntax.w32) Syntax.tnil))) Syntax.tnil))) Syntax.ttnil)))))))))))) Syntax.tnil) Syntax.ttnil)))))
 
   abbrev s12 : Typed.Mo T14 → Typed.Mo T15
   s12 = Scalar.n-room T14 6 Syntax.tyBool
@@ -2117,108 +2351,140 @@ module _ (claims· : Claims) where
                 (Syntax.tyInt Syntax.w32) (Syntax.tcons (Syntax.tyInt Syntax.w32) (Syntax.tcons (Syntax.tyInt Syntax.w32) (Syntax.tcons (Syntax.tyInt Syntax.w32)
                 Syntax.tnil)))))))))) Syntax.tnil) (Syntax.ttcons Syntax.tnil (Syntax.ttcons (Syntax.tcons (Syntax.tyStruct (109 ∷ 111 ∷ 100 ∷ 101 ∷ 108 ∷ 58 ∷
                 58 ∷ 77 ∷ 111 ∷ 100 ∷ 101 ∷ 108 ∷ []) (Syntax.tcons (Syntax.tyInt Syntax.w32) Syntax.tnil)) Syntax.tnil) (Syntax.ttcons Syntax.tnil
-                Syntax.ttnil)))))))))) Syntax.tnil) Syntax.ttnil))))) (Local.room-whole 𝓤 H A W (Declared.row Line.the-type) (Syntax.tyEnum (112 ∷ 105 ∷ 101 ∷ 99
-                ∷ 101 ∷ 115 ∷ 58 ∷ 58 ∷ 76 ∷ 105 ∷ 110 ∷ 101 ∷ []) (Syntax.ttcons (Syntax.tcons (Syntax.tyInt Syntax.w8) Syntax.tnil) (Syntax.ttcons
-                (Syntax.tcons (Syntax.tyEnum (107 ∷ 105 ∷ 110 ∷ 100 ∷ 115 ∷ 58 ∷ 58 ∷ 75 ∷ 105 ∷ 110 ∷ 100 ∷ []) (Syntax.ttcons Syntax.tnil (Syntax.ttcons
-                Syntax.tnil (Syntax.ttcons Syntax.tnil (Syntax.ttcons Syntax.tnil (Syntax.ttcons Syntax.tnil (Syntax.ttcons Syntax.tnil (Syntax.ttcons
-                Syntax.tnil (Syntax.ttcons Syntax.tnil (Syntax.ttcons Syntax.tnil (Syntax.ttcons Syntax.tnil (Syntax.ttcons Syntax.tnil (Syntax.ttcons
-                Syntax.tnil (Syntax.ttcons Syntax.tnil (Syntax.ttcons Syntax.tnil (Syntax.ttcons Syntax.tnil (Syntax.ttcons Syntax.tnil (Syntax.ttcons
-                Syntax.tnil (Syntax.ttcons Syntax.tnil (Syntax.ttcons Syntax.tnil (Syntax.ttcons Syntax.tnil (Syntax.ttcons Syntax.tnil (Syntax.ttcons
-                Syntax.tnil (Syntax.ttcons Syntax.tnil (Syntax.ttcons Syntax.tnil (Syntax.ttcons Syntax.tnil (Syntax.ttcons Syntax.tnil (Syntax.ttcons
-                Syntax.tnil (Syntax.ttcons Syntax.tnil (Syntax.ttcons Syntax.tnil (Syntax.ttcons Syntax.tnil Syntax.ttnil)))))))))))))))))))))))))))))))
-                (Syntax.tcons (Syntax.tyInt Syntax.w32) Syntax.tnil)) (Syntax.ttcons (Syntax.tcons (Syntax.tyEnum (107 ∷ 105 ∷ 110 ∷ 100 ∷ 115 ∷ 58 ∷ 58 ∷ 75 ∷
-                105 ∷ 110 ∷ 100 ∷ []) (Syntax.ttcons Syntax.tnil (Syntax.ttcons Syntax.tnil (Syntax.ttcons Syntax.tnil (Syntax.ttcons Syntax.tnil (Syntax.ttcons
-                Syntax.tnil (Syntax.ttcons Syntax.tnil (Syntax.ttcons Syntax.tnil (Syntax.ttcons Syntax.tnil (Syntax.ttcons Syntax.tnil (Syntax.ttcons
-                Syntax.tnil (Syntax.ttcons Syntax.tnil (Syntax.ttcons Syntax.tnil (Syntax.ttcons Syntax.tnil (Syntax.ttcons Syntax.tnil (Syntax.ttcons
-                Syntax.tnil (Syntax.ttcons Syntax.tnil (Syntax.ttcons Syntax.tnil (Syntax.ttcons Syntax.tnil (Syntax.ttcons Syntax.tnil (Syntax.ttcons
-                Syntax.tnil (Syntax.ttcons Syntax.tnil (Syntax.ttcons Syntax.tnil (Syntax.ttcons Syntax.tnil (Syntax.ttcons Syntax.tnil (Syntax.ttcons
-                Syntax.tnil (Syntax.ttcons Syntax.tnil (Syntax.ttcons Syntax.tnil (Syntax.ttcons Syntax.tnil (Syntax.ttcons Syntax.tnil (Syntax.ttcons
-                Syntax.tnil Syntax.ttnil))))))))))))))))))))))))))))))) Syntax.tnil) (Syntax.ttcons (Syntax.tcons (Syntax.tyEnum (108 ∷ 105 ∷ 110 ∷ 101 ∷ 58 ∷ 58
-                ∷ 82 ∷ 101 ∷ 99 ∷ 111 ∷ 114 ∷ 100 ∷ []) (Syntax.ttcons (Syntax.tcons Syntax.tyBool (Syntax.tcons (Syntax.tyStruct (99 ∷ 111 ∷ 111 ∷ 114 ∷ 100 ∷
-                105 ∷ 110 ∷ 97 ∷ 116 ∷ 101 ∷ 58 ∷ 58 ∷ 65 ∷ 116 ∷ 111 ∷ 109 ∷ []) (Syntax.tcons (Syntax.tyStruct (99 ∷ 111 ∷ 111 ∷ 114 ∷ 100 ∷ 105 ∷ 110 ∷ 97 ∷
-                116 ∷ 101 ∷ 58 ∷ 58 ∷ 73 ∷ 100 ∷ 101 ∷ 110 ∷ 116 ∷ 105 ∷ 116 ∷ 121 ∷ []) (Syntax.tcons (Syntax.tyStruct (102 ∷ 105 ∷ 101 ∷ 108 ∷ 100 ∷ 115 ∷ 58 ∷
-                58 ∷ 83 ∷ 101 ∷ 114 ∷ 105 ∷ 97 ∷ 108 ∷ []) (Syntax.tcons (Syntax.tyInt Syntax.w32) Syntax.tnil)) (Syntax.tcons (Syntax.tyStruct (110 ∷ 97 ∷ 109 ∷
+                (Syntax.ttcons (Syntax.tcons (Syntax.tyStruct (99 ∷ 101 ∷ 108 ∷ 108 ∷ 58 ∷ 58 ∷ 67 ∷ 101 ∷ 108 ∷ 108 ∷ []) (Syntax.tcons (Syntax.tyStruct (99 ∷
+                101 ∷ 108 ∷ 108 ∷ 58 ∷ 58 ∷ 69 ∷ 100 ∷ 103 ∷ 101 ∷ 115 ∷ []) (Syntax.tcons (Syntax.tyInt Syntax.w32) (Syntax.tcons (Syntax.tyInt Syntax.w32)
+                (Syntax.tcons (Syntax.tyInt Syntax.w32) Syntax.tnil)))) (Syntax.tcons (Syntax.tyStruct (99 ∷ 101 ∷ 108 ∷ 108 ∷ 58 ∷ 58 ∷ 65 ∷ 110 ∷ 103 ∷ 108 ∷
+                101 ∷ 115 ∷ []) (Syntax.tcons (Syntax.tyInt Syntax.w32) (Syntax.tcons (Syntax.tyInt Syntax.w32) (Syntax.tcons (Syntax.tyInt Syntax.w32)
+                Syntax.tnil)))) (Syntax.tcons (Syntax.tyStruct (99 ∷ 101 ∷ 108 ∷ 108 ∷ 58 ∷ 58 ∷ 71 ∷ 114 ∷ 111 ∷ 117 ∷ 112 ∷ []) (Syntax.tcons (Syntax.tyStruct
+                (110 ∷ 97 ∷ 109 ∷ 101 ∷ 115 ∷ 58 ∷ 58 ∷ 70 ∷ 111 ∷ 117 ∷ 114 ∷ []) (Syntax.tcons (Syntax.tyInt Syntax.w8) (Syntax.tcons (Syntax.tyInt Syntax.w8)
+                (Syntax.tcons (Syntax.tyInt Syntax.w8) (Syntax.tcons (Syntax.tyInt Syntax.w8) Syntax.tnil))))) (Syntax.tcons (Syntax.tyStruct (110 ∷ 97 ∷ 109 ∷
                 101 ∷ 115 ∷ 58 ∷ 58 ∷ 70 ∷ 111 ∷ 117 ∷ 114 ∷ []) (Syntax.tcons (Syntax.tyInt Syntax.w8) (Syntax.tcons (Syntax.tyInt Syntax.w8) (Syntax.tcons
-                (Syntax.tyInt Syntax.w8) (Syntax.tcons (Syntax.tyInt Syntax.w8) Syntax.tnil))))) (Syntax.tcons (Syntax.tyInt Syntax.w8) (Syntax.tcons
+                (Syntax.tyInt Syntax.w8) (Syntax.tcons (Syntax.tyInt Syntax.w8) Syntax.tnil))))) (Syntax.tcons (Syntax.tyStruct (110 ∷ 97 ∷ 109 ∷ 101 ∷ 115 ∷ 58
+                ∷ 58 ∷ 84 ∷ 104 ∷ 114 ∷ 101 ∷ 101 ∷ []) (Syntax.tcons (Syntax.tyInt Syntax.w8) (Syntax.tcons (Syntax.tyInt Syntax.w8) (Syntax.tcons (Syntax.tyInt
+                Syntax.w8) Syntax.tnil)))) Syntax.tnil)))) (Syntax.tcons (Syntax.tyInt Syntax.w32) Syntax.tnil))))) Syntax.tnil) (Syntax.ttcons (Syntax.tcons
+                Syntax.tyBool (Syntax.tcons (Syntax.tyEnum (116 ∷ 114 ∷ 97 ∷ 110 ∷ 115 ∷ 102 ∷ 111 ∷ 114 ∷ 109 ∷ 58 ∷ 58 ∷ 65 ∷ 120 ∷ 105 ∷ 115 ∷ [])
+                (Syntax.ttcons Syntax.tnil (Syntax.ttcons Syntax.tnil (Syntax.ttcons Syntax.tnil Syntax.ttnil)))) (Syntax.tcons (Syntax.tyStruct (116 ∷ 114 ∷ 97
+                ∷ 110 ∷ 115 ∷ 102 ∷ 111 ∷ 114 ∷ 109 ∷ 58 ∷ 58 ∷ 84 ∷ 114 ∷ 97 ∷ 110 ∷ 115 ∷ 102 ∷ 111 ∷ 114 ∷ 109 ∷ []) (Syntax.tcons (Syntax.tyStruct (116 ∷ 114
+                ∷ 97 ∷ 110 ∷ 115 ∷ 102 ∷ 111 ∷ 114 ∷ 109 ∷ 58 ∷ 58 ∷ 67 ∷ 111 ∷ 101 ∷ 102 ∷ 102 ∷ 105 ∷ 99 ∷ 105 ∷ 101 ∷ 110 ∷ 116 ∷ 115 ∷ []) (Syntax.tcons
+                (Syntax.tyInt Syntax.w32) (Syntax.tcons (Syntax.tyInt Syntax.w32) (Syntax.tcons (Syntax.tyInt Syntax.w32) Syntax.tnil)))) (Syntax.tcons
+                (Syntax.tyInt Syntax.w32) Syntax.tnil))) Syntax.tnil))) Syntax.ttnil)))))))))))) Syntax.tnil) Syntax.ttnil))))) (Local.room-whole 𝓤 H A W
+                (Declared.row Line.the-type) (Syntax.tyEnum (112 ∷ 105 ∷ 101 ∷ 99 ∷ 101 ∷ 115 ∷ 58 ∷ 58 ∷ 76 ∷ 105 ∷ 110 ∷ 101 ∷ []) (Syntax.ttcons (Syntax.tcons
+                (Syntax.tyInt Syntax.w8) Syntax.tnil) (Syntax.ttcons (Syntax.tcons (Syntax.tyEnum (107 ∷ 105 ∷ 110 ∷ 100 ∷ 115 ∷ 58 ∷ 58 ∷ 75 ∷ 105 ∷ 110 ∷ 100 ∷
+                []) (Syntax.ttcons Syntax.tnil (Syntax.ttcons Syntax.tnil (Syntax.ttcons Syntax.tnil (Syntax.ttcons Syntax.tnil (Syntax.ttcons Syntax.tnil
+                (Syntax.ttcons Syntax.tnil (Syntax.ttcons Syntax.tnil (Syntax.ttcons Syntax.tnil (Syntax.ttcons Syntax.tnil (Syntax.ttcons Syntax.tnil
+                (Syntax.ttcons Syntax.tnil (Syntax.ttcons Syntax.tnil (Syntax.ttcons Syntax.tnil (Syntax.ttcons Syntax.tnil (Syntax.ttcons Syntax.tnil
+                (Syntax.ttcons Syntax.tnil (Syntax.ttcons Syntax.tnil (Syntax.ttcons Syntax.tnil (Syntax.ttcons Syntax.tnil (Syntax.ttcons Syntax.tnil
+                (Syntax.ttcons Syntax.tnil (Syntax.ttcons Syntax.tnil (Syntax.ttcons Syntax.tnil (Syntax.ttcons Syntax.tnil (Syntax.ttcons Syntax.tnil
+                (Syntax.ttcons Syntax.tnil (Syntax.ttcons Syntax.tnil (Syntax.ttcons Syntax.tnil (Syntax.ttcons Syntax.tnil (Syntax.ttcons Syntax.tnil
+                Syntax.ttnil))))))))))))))))))))))))))))))) (Syntax.tcons (Syntax.tyInt Syntax.w32) Syntax.tnil)) (Syntax.ttcons (Syntax.tcons (Syntax.tyEnum
+                (107 ∷ 105 ∷ 110 ∷ 100 ∷ 115 ∷ 58 ∷ 58 ∷ 75 ∷ 105 ∷ 110 ∷ 100 ∷ []) (Syntax.ttcons Syntax.tnil (Syntax.ttcons Syntax.tnil (Syntax.ttcons
+                Syntax.tnil (Syntax.ttcons Syntax.tnil (Syntax.ttcons Syntax.tnil (Syntax.ttcons Syntax.tnil (Syntax.ttcons Syntax.tnil (Syntax.ttcons
+                Syntax.tnil (Syntax.ttcons Syntax.tnil (Syntax.ttcons Syntax.tnil (Syntax.ttcons Syntax.tnil (Syntax.ttcons Syntax.tnil (Syntax.ttcons
+                Syntax.tnil (Syntax.ttcons Syntax.tnil (Syntax.ttcons Syntax.tnil (Syntax.ttcons Syntax.tnil (Syntax.ttcons Syntax.tnil (Syntax.ttcons
+                Syntax.tnil (Syntax.ttcons Syntax.tnil (Syntax.ttcons Syntax.tnil (Syntax.ttcons Syntax.tnil (Syntax.ttcons Syntax.tnil (Syntax.ttcons
+                Syntax.tnil (Syntax.ttcons Syntax.tnil (Syntax.ttcons Syntax.tnil (Syntax.ttcons Syntax.tnil (Syntax.ttcons Syntax.tnil (Syntax.ttcons
+                Syntax.tnil (Syntax.ttcons Syntax.tnil (Syntax.ttcons Syntax.tnil Syntax.ttnil))))))))))))))))))))))))))))))) Syntax.tnil) (Syntax.ttcons
+                (Syntax.tcons (Syntax.tyEnum (108 ∷ 105 ∷ 110 ∷ 101 ∷ 58 ∷ 58 ∷ 82 ∷ 101 ∷ 99 ∷ 111 ∷ 114 ∷ 100 ∷ []) (Syntax.ttcons (Syntax.tcons Syntax.tyBool
+                (Syntax.tcons (Syntax.tyStruct (99 ∷ 111 ∷ 111 ∷ 114 ∷ 100 ∷ 105 ∷ 110 ∷ 97 ∷ 116 ∷ 101 ∷ 58 ∷ 58 ∷ 65 ∷ 116 ∷ 111 ∷ 109 ∷ []) (Syntax.tcons
+                (Syntax.tyStruct (99 ∷ 111 ∷ 111 ∷ 114 ∷ 100 ∷ 105 ∷ 110 ∷ 97 ∷ 116 ∷ 101 ∷ 58 ∷ 58 ∷ 73 ∷ 100 ∷ 101 ∷ 110 ∷ 116 ∷ 105 ∷ 116 ∷ 121 ∷ [])
+                (Syntax.tcons (Syntax.tyStruct (102 ∷ 105 ∷ 101 ∷ 108 ∷ 100 ∷ 115 ∷ 58 ∷ 58 ∷ 83 ∷ 101 ∷ 114 ∷ 105 ∷ 97 ∷ 108 ∷ []) (Syntax.tcons (Syntax.tyInt
+                Syntax.w32) Syntax.tnil)) (Syntax.tcons (Syntax.tyStruct (110 ∷ 97 ∷ 109 ∷ 101 ∷ 115 ∷ 58 ∷ 58 ∷ 70 ∷ 111 ∷ 117 ∷ 114 ∷ []) (Syntax.tcons
+                (Syntax.tyInt Syntax.w8) (Syntax.tcons (Syntax.tyInt Syntax.w8) (Syntax.tcons (Syntax.tyInt Syntax.w8) (Syntax.tcons (Syntax.tyInt Syntax.w8)
+                Syntax.tnil))))) (Syntax.tcons (Syntax.tyInt Syntax.w8) (Syntax.tcons (Syntax.tyStruct (114 ∷ 101 ∷ 115 ∷ 105 ∷ 100 ∷ 117 ∷ 101 ∷ 58 ∷ 58 ∷ 82 ∷
+                101 ∷ 115 ∷ 105 ∷ 100 ∷ 117 ∷ 101 ∷ []) (Syntax.tcons (Syntax.tyStruct (110 ∷ 97 ∷ 109 ∷ 101 ∷ 115 ∷ 58 ∷ 58 ∷ 84 ∷ 104 ∷ 114 ∷ 101 ∷ 101 ∷ [])
+                (Syntax.tcons (Syntax.tyInt Syntax.w8) (Syntax.tcons (Syntax.tyInt Syntax.w8) (Syntax.tcons (Syntax.tyInt Syntax.w8) Syntax.tnil))))
+                (Syntax.tcons (Syntax.tyInt Syntax.w8) (Syntax.tcons (Syntax.tyStruct (102 ∷ 105 ∷ 101 ∷ 108 ∷ 100 ∷ 115 ∷ 58 ∷ 58 ∷ 82 ∷ 101 ∷ 115 ∷ 105 ∷ 100 ∷
+                117 ∷ 101 ∷ 78 ∷ 117 ∷ 109 ∷ 98 ∷ 101 ∷ 114 ∷ []) (Syntax.tcons (Syntax.tyInt Syntax.w32) Syntax.tnil)) (Syntax.tcons (Syntax.tyInt Syntax.w8)
+                Syntax.tnil))))) Syntax.tnil))))) (Syntax.tcons (Syntax.tyStruct (99 ∷ 111 ∷ 111 ∷ 114 ∷ 100 ∷ 105 ∷ 110 ∷ 97 ∷ 116 ∷ 101 ∷ 58 ∷ 58 ∷ 77 ∷ 101 ∷
+                97 ∷ 115 ∷ 117 ∷ 114 ∷ 101 ∷ []) (Syntax.tcons (Syntax.tyStruct (99 ∷ 111 ∷ 111 ∷ 114 ∷ 100 ∷ 105 ∷ 110 ∷ 97 ∷ 116 ∷ 101 ∷ 58 ∷ 58 ∷ 80 ∷ 111 ∷
+                115 ∷ 105 ∷ 116 ∷ 105 ∷ 111 ∷ 110 ∷ []) (Syntax.tcons (Syntax.tyInt Syntax.w32) (Syntax.tcons (Syntax.tyInt Syntax.w32) (Syntax.tcons
+                (Syntax.tyInt Syntax.w32) Syntax.tnil)))) (Syntax.tcons (Syntax.tyInt Syntax.w32) (Syntax.tcons (Syntax.tyInt Syntax.w32) Syntax.tnil))))
+                (Syntax.tcons (Syntax.tyStruct (99 ∷ 111 ∷ 111 ∷ 114 ∷ 100 ∷ 105 ∷ 110 ∷ 97 ∷ 116 ∷ 101 ∷ 58 ∷ 58 ∷ 83 ∷ 112 ∷ 101 ∷ 99 ∷ 105 ∷ 101 ∷ 115 ∷ [])
+                (Syntax.tcons (Syntax.tyStruct (110 ∷ 97 ∷ 109 ∷ 101 ∷ 115 ∷ 58 ∷ 58 ∷ 80 ∷ 97 ∷ 105 ∷ 114 ∷ []) (Syntax.tcons (Syntax.tyInt Syntax.w8)
+                (Syntax.tcons (Syntax.tyInt Syntax.w8) Syntax.tnil))) (Syntax.tcons (Syntax.tyStruct (110 ∷ 97 ∷ 109 ∷ 101 ∷ 115 ∷ 58 ∷ 58 ∷ 80 ∷ 97 ∷ 105 ∷ 114
+                ∷ []) (Syntax.tcons (Syntax.tyInt Syntax.w8) (Syntax.tcons (Syntax.tyInt Syntax.w8) Syntax.tnil))) Syntax.tnil))) Syntax.tnil)))) Syntax.tnil))
+                (Syntax.ttcons (Syntax.tcons (Syntax.tyStruct (116 ∷ 101 ∷ 114 ∷ 58 ∷ 58 ∷ 84 ∷ 101 ∷ 114 ∷ []) (Syntax.tcons (Syntax.tyStruct (102 ∷ 105 ∷ 101 ∷
+                108 ∷ 100 ∷ 115 ∷ 58 ∷ 58 ∷ 83 ∷ 101 ∷ 114 ∷ 105 ∷ 97 ∷ 108 ∷ []) (Syntax.tcons (Syntax.tyInt Syntax.w32) Syntax.tnil)) (Syntax.tcons
                 (Syntax.tyStruct (114 ∷ 101 ∷ 115 ∷ 105 ∷ 100 ∷ 117 ∷ 101 ∷ 58 ∷ 58 ∷ 82 ∷ 101 ∷ 115 ∷ 105 ∷ 100 ∷ 117 ∷ 101 ∷ []) (Syntax.tcons (Syntax.tyStruct
                 (110 ∷ 97 ∷ 109 ∷ 101 ∷ 115 ∷ 58 ∷ 58 ∷ 84 ∷ 104 ∷ 114 ∷ 101 ∷ 101 ∷ []) (Syntax.tcons (Syntax.tyInt Syntax.w8) (Syntax.tcons (Syntax.tyInt
                 Syntax.w8) (Syntax.tcons (Syntax.tyInt Syntax.w8) Syntax.tnil)))) (Syntax.tcons (Syntax.tyInt Syntax.w8) (Syntax.tcons (Syntax.tyStruct (102 ∷
                 105 ∷ 101 ∷ 108 ∷ 100 ∷ 115 ∷ 58 ∷ 58 ∷ 82 ∷ 101 ∷ 115 ∷ 105 ∷ 100 ∷ 117 ∷ 101 ∷ 78 ∷ 117 ∷ 109 ∷ 98 ∷ 101 ∷ 114 ∷ []) (Syntax.tcons
-                (Syntax.tyInt Syntax.w32) Syntax.tnil)) (Syntax.tcons (Syntax.tyInt Syntax.w8) Syntax.tnil))))) Syntax.tnil))))) (Syntax.tcons (Syntax.tyStruct
-                (99 ∷ 111 ∷ 111 ∷ 114 ∷ 100 ∷ 105 ∷ 110 ∷ 97 ∷ 116 ∷ 101 ∷ 58 ∷ 58 ∷ 77 ∷ 101 ∷ 97 ∷ 115 ∷ 117 ∷ 114 ∷ 101 ∷ []) (Syntax.tcons (Syntax.tyStruct
-                (99 ∷ 111 ∷ 111 ∷ 114 ∷ 100 ∷ 105 ∷ 110 ∷ 97 ∷ 116 ∷ 101 ∷ 58 ∷ 58 ∷ 80 ∷ 111 ∷ 115 ∷ 105 ∷ 116 ∷ 105 ∷ 111 ∷ 110 ∷ []) (Syntax.tcons
-                (Syntax.tyInt Syntax.w32) (Syntax.tcons (Syntax.tyInt Syntax.w32) (Syntax.tcons (Syntax.tyInt Syntax.w32) Syntax.tnil)))) (Syntax.tcons
-                (Syntax.tyInt Syntax.w32) (Syntax.tcons (Syntax.tyInt Syntax.w32) Syntax.tnil)))) (Syntax.tcons (Syntax.tyStruct (99 ∷ 111 ∷ 111 ∷ 114 ∷ 100 ∷
-                105 ∷ 110 ∷ 97 ∷ 116 ∷ 101 ∷ 58 ∷ 58 ∷ 83 ∷ 112 ∷ 101 ∷ 99 ∷ 105 ∷ 101 ∷ 115 ∷ []) (Syntax.tcons (Syntax.tyStruct (110 ∷ 97 ∷ 109 ∷ 101 ∷ 115 ∷
-                58 ∷ 58 ∷ 80 ∷ 97 ∷ 105 ∷ 114 ∷ []) (Syntax.tcons (Syntax.tyInt Syntax.w8) (Syntax.tcons (Syntax.tyInt Syntax.w8) Syntax.tnil))) (Syntax.tcons
-                (Syntax.tyStruct (110 ∷ 97 ∷ 109 ∷ 101 ∷ 115 ∷ 58 ∷ 58 ∷ 80 ∷ 97 ∷ 105 ∷ 114 ∷ []) (Syntax.tcons (Syntax.tyInt Syntax.w8) (Syntax.tcons
-                (Syntax.tyInt Syntax.w8) Syntax.tnil))) Syntax.tnil))) Syntax.tnil)))) Syntax.tnil)) (Syntax.ttcons (Syntax.tcons (Syntax.tyStruct (116 ∷ 101 ∷
-                114 ∷ 58 ∷ 58 ∷ 84 ∷ 101 ∷ 114 ∷ []) (Syntax.tcons (Syntax.tyStruct (102 ∷ 105 ∷ 101 ∷ 108 ∷ 100 ∷ 115 ∷ 58 ∷ 58 ∷ 83 ∷ 101 ∷ 114 ∷ 105 ∷ 97 ∷
-                108 ∷ []) (Syntax.tcons (Syntax.tyInt Syntax.w32) Syntax.tnil)) (Syntax.tcons (Syntax.tyStruct (114 ∷ 101 ∷ 115 ∷ 105 ∷ 100 ∷ 117 ∷ 101 ∷ 58 ∷ 58
-                ∷ 82 ∷ 101 ∷ 115 ∷ 105 ∷ 100 ∷ 117 ∷ 101 ∷ []) (Syntax.tcons (Syntax.tyStruct (110 ∷ 97 ∷ 109 ∷ 101 ∷ 115 ∷ 58 ∷ 58 ∷ 84 ∷ 104 ∷ 114 ∷ 101 ∷ 101
-                ∷ []) (Syntax.tcons (Syntax.tyInt Syntax.w8) (Syntax.tcons (Syntax.tyInt Syntax.w8) (Syntax.tcons (Syntax.tyInt Syntax.w8) Syntax.tnil))))
+                (Syntax.tyInt Syntax.w32) Syntax.tnil)) (Syntax.tcons (Syntax.tyInt Syntax.w8) Syntax.tnil))))) Syntax.tnil))) Syntax.tnil) (Syntax.ttcons
+                (Syntax.tcons (Syntax.tyStruct (104 ∷ 101 ∷ 108 ∷ 105 ∷ 120 ∷ 58 ∷ 58 ∷ 72 ∷ 101 ∷ 108 ∷ 105 ∷ 120 ∷ []) (Syntax.tcons (Syntax.tyStruct (104 ∷
+                101 ∷ 108 ∷ 105 ∷ 120 ∷ 58 ∷ 58 ∷ 69 ∷ 120 ∷ 116 ∷ 101 ∷ 110 ∷ 116 ∷ []) (Syntax.tcons (Syntax.tyInt Syntax.w32) (Syntax.tcons (Syntax.tyStruct
+                (110 ∷ 97 ∷ 109 ∷ 101 ∷ 115 ∷ 58 ∷ 58 ∷ 84 ∷ 104 ∷ 114 ∷ 101 ∷ 101 ∷ []) (Syntax.tcons (Syntax.tyInt Syntax.w8) (Syntax.tcons (Syntax.tyInt
+                Syntax.w8) (Syntax.tcons (Syntax.tyInt Syntax.w8) Syntax.tnil)))) (Syntax.tcons (Syntax.tyStruct (114 ∷ 101 ∷ 115 ∷ 105 ∷ 100 ∷ 117 ∷ 101 ∷ 58 ∷
+                58 ∷ 82 ∷ 101 ∷ 115 ∷ 105 ∷ 100 ∷ 117 ∷ 101 ∷ []) (Syntax.tcons (Syntax.tyStruct (110 ∷ 97 ∷ 109 ∷ 101 ∷ 115 ∷ 58 ∷ 58 ∷ 84 ∷ 104 ∷ 114 ∷ 101 ∷
+                101 ∷ []) (Syntax.tcons (Syntax.tyInt Syntax.w8) (Syntax.tcons (Syntax.tyInt Syntax.w8) (Syntax.tcons (Syntax.tyInt Syntax.w8) Syntax.tnil))))
                 (Syntax.tcons (Syntax.tyInt Syntax.w8) (Syntax.tcons (Syntax.tyStruct (102 ∷ 105 ∷ 101 ∷ 108 ∷ 100 ∷ 115 ∷ 58 ∷ 58 ∷ 82 ∷ 101 ∷ 115 ∷ 105 ∷ 100 ∷
                 117 ∷ 101 ∷ 78 ∷ 117 ∷ 109 ∷ 98 ∷ 101 ∷ 114 ∷ []) (Syntax.tcons (Syntax.tyInt Syntax.w32) Syntax.tnil)) (Syntax.tcons (Syntax.tyInt Syntax.w8)
-                Syntax.tnil))))) Syntax.tnil))) Syntax.tnil) (Syntax.ttcons (Syntax.tcons (Syntax.tyStruct (104 ∷ 101 ∷ 108 ∷ 105 ∷ 120 ∷ 58 ∷ 58 ∷ 72 ∷ 101 ∷
-                108 ∷ 105 ∷ 120 ∷ []) (Syntax.tcons (Syntax.tyStruct (104 ∷ 101 ∷ 108 ∷ 105 ∷ 120 ∷ 58 ∷ 58 ∷ 69 ∷ 120 ∷ 116 ∷ 101 ∷ 110 ∷ 116 ∷ [])
-                (Syntax.tcons (Syntax.tyInt Syntax.w32) (Syntax.tcons (Syntax.tyStruct (110 ∷ 97 ∷ 109 ∷ 101 ∷ 115 ∷ 58 ∷ 58 ∷ 84 ∷ 104 ∷ 114 ∷ 101 ∷ 101 ∷ [])
-                (Syntax.tcons (Syntax.tyInt Syntax.w8) (Syntax.tcons (Syntax.tyInt Syntax.w8) (Syntax.tcons (Syntax.tyInt Syntax.w8) Syntax.tnil))))
-                (Syntax.tcons (Syntax.tyStruct (114 ∷ 101 ∷ 115 ∷ 105 ∷ 100 ∷ 117 ∷ 101 ∷ 58 ∷ 58 ∷ 82 ∷ 101 ∷ 115 ∷ 105 ∷ 100 ∷ 117 ∷ 101 ∷ []) (Syntax.tcons
-                (Syntax.tyStruct (110 ∷ 97 ∷ 109 ∷ 101 ∷ 115 ∷ 58 ∷ 58 ∷ 84 ∷ 104 ∷ 114 ∷ 101 ∷ 101 ∷ []) (Syntax.tcons (Syntax.tyInt Syntax.w8) (Syntax.tcons
-                (Syntax.tyInt Syntax.w8) (Syntax.tcons (Syntax.tyInt Syntax.w8) Syntax.tnil)))) (Syntax.tcons (Syntax.tyInt Syntax.w8) (Syntax.tcons
-                (Syntax.tyStruct (102 ∷ 105 ∷ 101 ∷ 108 ∷ 100 ∷ 115 ∷ 58 ∷ 58 ∷ 82 ∷ 101 ∷ 115 ∷ 105 ∷ 100 ∷ 117 ∷ 101 ∷ 78 ∷ 117 ∷ 109 ∷ 98 ∷ 101 ∷ 114 ∷ [])
-                (Syntax.tcons (Syntax.tyInt Syntax.w32) Syntax.tnil)) (Syntax.tcons (Syntax.tyInt Syntax.w8) Syntax.tnil))))) (Syntax.tcons (Syntax.tyStruct (114
-                ∷ 101 ∷ 115 ∷ 105 ∷ 100 ∷ 117 ∷ 101 ∷ 58 ∷ 58 ∷ 82 ∷ 101 ∷ 115 ∷ 105 ∷ 100 ∷ 117 ∷ 101 ∷ []) (Syntax.tcons (Syntax.tyStruct (110 ∷ 97 ∷ 109 ∷ 101
-                ∷ 115 ∷ 58 ∷ 58 ∷ 84 ∷ 104 ∷ 114 ∷ 101 ∷ 101 ∷ []) (Syntax.tcons (Syntax.tyInt Syntax.w8) (Syntax.tcons (Syntax.tyInt Syntax.w8) (Syntax.tcons
-                (Syntax.tyInt Syntax.w8) Syntax.tnil)))) (Syntax.tcons (Syntax.tyInt Syntax.w8) (Syntax.tcons (Syntax.tyStruct (102 ∷ 105 ∷ 101 ∷ 108 ∷ 100 ∷ 115
-                ∷ 58 ∷ 58 ∷ 82 ∷ 101 ∷ 115 ∷ 105 ∷ 100 ∷ 117 ∷ 101 ∷ 78 ∷ 117 ∷ 109 ∷ 98 ∷ 101 ∷ 114 ∷ []) (Syntax.tcons (Syntax.tyInt Syntax.w32) Syntax.tnil))
-                (Syntax.tcons (Syntax.tyInt Syntax.w8) Syntax.tnil))))) Syntax.tnil))))) (Syntax.tcons (Syntax.tyInt Syntax.w32) (Syntax.tcons (Syntax.tyStruct
-                (104 ∷ 101 ∷ 108 ∷ 105 ∷ 120 ∷ 58 ∷ 58 ∷ 67 ∷ 111 ∷ 109 ∷ 109 ∷ 101 ∷ 110 ∷ 116 ∷ []) (Syntax.tcons (Syntax.tyInt Syntax.w64) (Syntax.tcons
-                (Syntax.tyInt Syntax.w64) (Syntax.tcons (Syntax.tyInt Syntax.w64) (Syntax.tcons (Syntax.tyInt Syntax.w64) Syntax.tnil))))) (Syntax.tcons
-                (Syntax.tyInt Syntax.w32) Syntax.tnil))))) Syntax.tnil) (Syntax.ttcons (Syntax.tcons (Syntax.tyStruct (115 ∷ 104 ∷ 101 ∷ 101 ∷ 116 ∷ 58 ∷ 58 ∷ 83
-                ∷ 104 ∷ 101 ∷ 101 ∷ 116 ∷ []) (Syntax.tcons (Syntax.tyStruct (115 ∷ 104 ∷ 101 ∷ 101 ∷ 116 ∷ 58 ∷ 58 ∷ 83 ∷ 116 ∷ 114 ∷ 97 ∷ 110 ∷ 100 ∷ [])
-                (Syntax.tcons (Syntax.tyInt Syntax.w32) (Syntax.tcons (Syntax.tyStruct (110 ∷ 97 ∷ 109 ∷ 101 ∷ 115 ∷ 58 ∷ 58 ∷ 84 ∷ 104 ∷ 114 ∷ 101 ∷ 101 ∷ [])
-                (Syntax.tcons (Syntax.tyInt Syntax.w8) (Syntax.tcons (Syntax.tyInt Syntax.w8) (Syntax.tcons (Syntax.tyInt Syntax.w8) Syntax.tnil))))
-                (Syntax.tcons (Syntax.tyInt Syntax.w32) (Syntax.tcons (Syntax.tyStruct (114 ∷ 101 ∷ 115 ∷ 105 ∷ 100 ∷ 117 ∷ 101 ∷ 58 ∷ 58 ∷ 82 ∷ 101 ∷ 115 ∷ 105
-                ∷ 100 ∷ 117 ∷ 101 ∷ []) (Syntax.tcons (Syntax.tyStruct (110 ∷ 97 ∷ 109 ∷ 101 ∷ 115 ∷ 58 ∷ 58 ∷ 84 ∷ 104 ∷ 114 ∷ 101 ∷ 101 ∷ []) (Syntax.tcons
-                (Syntax.tyInt Syntax.w8) (Syntax.tcons (Syntax.tyInt Syntax.w8) (Syntax.tcons (Syntax.tyInt Syntax.w8) Syntax.tnil)))) (Syntax.tcons
-                (Syntax.tyInt Syntax.w8) (Syntax.tcons (Syntax.tyStruct (102 ∷ 105 ∷ 101 ∷ 108 ∷ 100 ∷ 115 ∷ 58 ∷ 58 ∷ 82 ∷ 101 ∷ 115 ∷ 105 ∷ 100 ∷ 117 ∷ 101 ∷
-                78 ∷ 117 ∷ 109 ∷ 98 ∷ 101 ∷ 114 ∷ []) (Syntax.tcons (Syntax.tyInt Syntax.w32) Syntax.tnil)) (Syntax.tcons (Syntax.tyInt Syntax.w8)
                 Syntax.tnil))))) (Syntax.tcons (Syntax.tyStruct (114 ∷ 101 ∷ 115 ∷ 105 ∷ 100 ∷ 117 ∷ 101 ∷ 58 ∷ 58 ∷ 82 ∷ 101 ∷ 115 ∷ 105 ∷ 100 ∷ 117 ∷ 101 ∷ [])
                 (Syntax.tcons (Syntax.tyStruct (110 ∷ 97 ∷ 109 ∷ 101 ∷ 115 ∷ 58 ∷ 58 ∷ 84 ∷ 104 ∷ 114 ∷ 101 ∷ 101 ∷ []) (Syntax.tcons (Syntax.tyInt Syntax.w8)
                 (Syntax.tcons (Syntax.tyInt Syntax.w8) (Syntax.tcons (Syntax.tyInt Syntax.w8) Syntax.tnil)))) (Syntax.tcons (Syntax.tyInt Syntax.w8)
                 (Syntax.tcons (Syntax.tyStruct (102 ∷ 105 ∷ 101 ∷ 108 ∷ 100 ∷ 115 ∷ 58 ∷ 58 ∷ 82 ∷ 101 ∷ 115 ∷ 105 ∷ 100 ∷ 117 ∷ 101 ∷ 78 ∷ 117 ∷ 109 ∷ 98 ∷ 101
-                ∷ 114 ∷ []) (Syntax.tcons (Syntax.tyInt Syntax.w32) Syntax.tnil)) (Syntax.tcons (Syntax.tyInt Syntax.w8) Syntax.tnil))))) (Syntax.tcons
-                (Syntax.tyInt Syntax.w32) Syntax.tnil))))))) (Syntax.tcons (Syntax.tyEnum (115 ∷ 104 ∷ 101 ∷ 101 ∷ 116 ∷ 58 ∷ 58 ∷ 82 ∷ 101 ∷ 103 ∷ 105 ∷ 115 ∷
-                116 ∷ 114 ∷ 97 ∷ 116 ∷ 105 ∷ 111 ∷ 110 ∷ []) (Syntax.ttcons Syntax.tnil (Syntax.ttcons (Syntax.tcons (Syntax.tyStruct (115 ∷ 104 ∷ 101 ∷ 101 ∷
-                116 ∷ 58 ∷ 58 ∷ 66 ∷ 111 ∷ 110 ∷ 100 ∷ []) (Syntax.tcons (Syntax.tyStruct (110 ∷ 97 ∷ 109 ∷ 101 ∷ 115 ∷ 58 ∷ 58 ∷ 70 ∷ 111 ∷ 117 ∷ 114 ∷ [])
-                (Syntax.tcons (Syntax.tyInt Syntax.w8) (Syntax.tcons (Syntax.tyInt Syntax.w8) (Syntax.tcons (Syntax.tyInt Syntax.w8) (Syntax.tcons (Syntax.tyInt
-                Syntax.w8) Syntax.tnil))))) (Syntax.tcons (Syntax.tyStruct (114 ∷ 101 ∷ 115 ∷ 105 ∷ 100 ∷ 117 ∷ 101 ∷ 58 ∷ 58 ∷ 82 ∷ 101 ∷ 115 ∷ 105 ∷ 100 ∷ 117
-                ∷ 101 ∷ []) (Syntax.tcons (Syntax.tyStruct (110 ∷ 97 ∷ 109 ∷ 101 ∷ 115 ∷ 58 ∷ 58 ∷ 84 ∷ 104 ∷ 114 ∷ 101 ∷ 101 ∷ []) (Syntax.tcons (Syntax.tyInt
-                Syntax.w8) (Syntax.tcons (Syntax.tyInt Syntax.w8) (Syntax.tcons (Syntax.tyInt Syntax.w8) Syntax.tnil)))) (Syntax.tcons (Syntax.tyInt Syntax.w8)
-                (Syntax.tcons (Syntax.tyStruct (102 ∷ 105 ∷ 101 ∷ 108 ∷ 100 ∷ 115 ∷ 58 ∷ 58 ∷ 82 ∷ 101 ∷ 115 ∷ 105 ∷ 100 ∷ 117 ∷ 101 ∷ 78 ∷ 117 ∷ 109 ∷ 98 ∷ 101
-                ∷ 114 ∷ []) (Syntax.tcons (Syntax.tyInt Syntax.w32) Syntax.tnil)) (Syntax.tcons (Syntax.tyInt Syntax.w8) Syntax.tnil))))) (Syntax.tcons
-                (Syntax.tyStruct (110 ∷ 97 ∷ 109 ∷ 101 ∷ 115 ∷ 58 ∷ 58 ∷ 70 ∷ 111 ∷ 117 ∷ 114 ∷ []) (Syntax.tcons (Syntax.tyInt Syntax.w8) (Syntax.tcons
-                (Syntax.tyInt Syntax.w8) (Syntax.tcons (Syntax.tyInt Syntax.w8) (Syntax.tcons (Syntax.tyInt Syntax.w8) Syntax.tnil))))) (Syntax.tcons
-                (Syntax.tyStruct (114 ∷ 101 ∷ 115 ∷ 105 ∷ 100 ∷ 117 ∷ 101 ∷ 58 ∷ 58 ∷ 82 ∷ 101 ∷ 115 ∷ 105 ∷ 100 ∷ 117 ∷ 101 ∷ []) (Syntax.tcons (Syntax.tyStruct
-                (110 ∷ 97 ∷ 109 ∷ 101 ∷ 115 ∷ 58 ∷ 58 ∷ 84 ∷ 104 ∷ 114 ∷ 101 ∷ 101 ∷ []) (Syntax.tcons (Syntax.tyInt Syntax.w8) (Syntax.tcons (Syntax.tyInt
-                Syntax.w8) (Syntax.tcons (Syntax.tyInt Syntax.w8) Syntax.tnil)))) (Syntax.tcons (Syntax.tyInt Syntax.w8) (Syntax.tcons (Syntax.tyStruct (102 ∷
-                105 ∷ 101 ∷ 108 ∷ 100 ∷ 115 ∷ 58 ∷ 58 ∷ 82 ∷ 101 ∷ 115 ∷ 105 ∷ 100 ∷ 117 ∷ 101 ∷ 78 ∷ 117 ∷ 109 ∷ 98 ∷ 101 ∷ 114 ∷ []) (Syntax.tcons
-                (Syntax.tyInt Syntax.w32) Syntax.tnil)) (Syntax.tcons (Syntax.tyInt Syntax.w8) Syntax.tnil))))) Syntax.tnil))))) Syntax.tnil) Syntax.ttnil)))
-                Syntax.tnil))) Syntax.tnil) (Syntax.ttcons (Syntax.tcons (Syntax.tyStruct (99 ∷ 111 ∷ 110 ∷ 101 ∷ 99 ∷ 116 ∷ 58 ∷ 58 ∷ 67 ∷ 111 ∷ 110 ∷ 101 ∷ 99
-                ∷ 116 ∷ []) (Syntax.tcons (Syntax.tyStruct (102 ∷ 105 ∷ 101 ∷ 108 ∷ 100 ∷ 115 ∷ 58 ∷ 58 ∷ 83 ∷ 101 ∷ 114 ∷ 105 ∷ 97 ∷ 108 ∷ []) (Syntax.tcons
-                (Syntax.tyInt Syntax.w32) Syntax.tnil)) (Syntax.tcons (Syntax.tyStruct (102 ∷ 105 ∷ 101 ∷ 108 ∷ 100 ∷ 115 ∷ 58 ∷ 58 ∷ 83 ∷ 101 ∷ 114 ∷ 105 ∷ 97 ∷
-                108 ∷ []) (Syntax.tcons (Syntax.tyInt Syntax.w32) Syntax.tnil)) (Syntax.tcons (Syntax.tyStruct (102 ∷ 105 ∷ 101 ∷ 108 ∷ 100 ∷ 115 ∷ 58 ∷ 58 ∷ 83
-                ∷ 101 ∷ 114 ∷ 105 ∷ 97 ∷ 108 ∷ []) (Syntax.tcons (Syntax.tyInt Syntax.w32) Syntax.tnil)) (Syntax.tcons (Syntax.tyStruct (102 ∷ 105 ∷ 101 ∷ 108 ∷
-                100 ∷ 115 ∷ 58 ∷ 58 ∷ 83 ∷ 101 ∷ 114 ∷ 105 ∷ 97 ∷ 108 ∷ []) (Syntax.tcons (Syntax.tyInt Syntax.w32) Syntax.tnil)) (Syntax.tcons (Syntax.tyStruct
-                (102 ∷ 105 ∷ 101 ∷ 108 ∷ 100 ∷ 115 ∷ 58 ∷ 58 ∷ 83 ∷ 101 ∷ 114 ∷ 105 ∷ 97 ∷ 108 ∷ []) (Syntax.tcons (Syntax.tyInt Syntax.w32) Syntax.tnil))
-                Syntax.tnil)))))) Syntax.tnil) (Syntax.ttcons (Syntax.tcons (Syntax.tyStruct (109 ∷ 97 ∷ 115 ∷ 116 ∷ 101 ∷ 114 ∷ 58 ∷ 58 ∷ 84 ∷ 97 ∷ 108 ∷ 108 ∷
-                121 ∷ []) (Syntax.tcons (Syntax.tyInt Syntax.w32) (Syntax.tcons (Syntax.tyInt Syntax.w32) (Syntax.tcons (Syntax.tyInt Syntax.w32) (Syntax.tcons
-                (Syntax.tyInt Syntax.w32) (Syntax.tcons (Syntax.tyInt Syntax.w32) (Syntax.tcons (Syntax.tyInt Syntax.w32) (Syntax.tcons (Syntax.tyInt Syntax.w32)
-                (Syntax.tcons (Syntax.tyInt Syntax.w32) (Syntax.tcons (Syntax.tyInt Syntax.w32) Syntax.tnil)))))))))) Syntax.tnil) (Syntax.ttcons Syntax.tnil
-                (Syntax.ttcons (Syntax.tcons (Syntax.tyStruct (109 ∷ 111 ∷ 100 ∷ 101 ∷ 108 ∷ 58 ∷ 58 ∷ 77 ∷ 111 ∷ 100 ∷ 101 ∷ 108 ∷ []) (Syntax.tcons
-                (Syntax.tyInt Syntax.w32) Syntax.tnil)) Syntax.tnil) (Syntax.ttcons Syntax.tnil Syntax.ttnil)))))))))) Syntax.tnil) Syntax.ttnil)))))
-                Path'.refl)) d6
+                ∷ 114 ∷ []) (Syntax.tcons (Syntax.tyInt Syntax.w32) Syntax.tnil)) (Syntax.tcons (Syntax.tyInt Syntax.w8) Syntax.tnil))))) Syntax.tnil)))))
+                (Syntax.tcons (Syntax.tyInt Syntax.w32) (Syntax.tcons (Syntax.tyStruct (104 ∷ 101 ∷ 108 ∷ 105 ∷ 120 ∷ 58 ∷ 58 ∷ 67 ∷ 111 ∷ 109 ∷ 109 ∷ 101 ∷ 110
+                ∷ 116 ∷ []) (Syntax.tcons (Syntax.tyInt Syntax.w64) (Syntax.tcons (Syntax.tyInt Syntax.w64) (Syntax.tcons (Syntax.tyInt Syntax.w64) (Syntax.tcons
+                (Syntax.tyInt Syntax.w64) Syntax.tnil))))) (Syntax.tcons (Syntax.tyInt Syntax.w32) Syntax.tnil))))) Syntax.tnil) (Syntax.ttcons (Syntax.tcons
+                (Syntax.tyStruct (115 ∷ 104 ∷ 101 ∷ 101 ∷ 116 ∷ 58 ∷ 58 ∷ 83 ∷ 104 ∷ 101 ∷ 101 ∷ 116 ∷ []) (Syntax.tcons (Syntax.tyStruct (115 ∷ 104 ∷ 101 ∷ 101
+                ∷ 116 ∷ 58 ∷ 58 ∷ 83 ∷ 116 ∷ 114 ∷ 97 ∷ 110 ∷ 100 ∷ []) (Syntax.tcons (Syntax.tyInt Syntax.w32) (Syntax.tcons (Syntax.tyStruct (110 ∷ 97 ∷ 109 ∷
+                101 ∷ 115 ∷ 58 ∷ 58 ∷ 84 ∷ 104 ∷ 114 ∷ 101 ∷ 101 ∷ []) (Syntax.tcons (Syntax.tyInt Syntax.w8) (Syntax.tcons (Syntax.tyInt Syntax.w8)
+                (Syntax.tcons (Syntax.tyInt Syntax.w8) Syntax.tnil)))) (Syntax.tcons (Syntax.tyInt Syntax.w32) (Syntax.tcons (Syntax.tyStruct (114 ∷ 101 ∷ 115 ∷
+                105 ∷ 100 ∷ 117 ∷ 101 ∷ 58 ∷ 58 ∷ 82 ∷ 101 ∷ 115 ∷ 105 ∷ 100 ∷ 117 ∷ 101 ∷ []) (Syntax.tcons (Syntax.tyStruct (110 ∷ 97 ∷ 109 ∷ 101 ∷ 115 ∷ 58 ∷
+                58 ∷ 84 ∷ 104 ∷ 114 ∷ 101 ∷ 101 ∷ []) (Syntax.tcons (Syntax.tyInt Syntax.w8) (Syntax.tcons (Syntax.tyInt Syntax.w8) (Syntax.tcons (Syntax.tyInt
+                Syntax.w8) Syntax.tnil)))) (Syntax.tcons (Syntax.tyInt Syntax.w8) (Syntax.tcons (Syntax.tyStruct (102 ∷ 105 ∷ 101 ∷ 108 ∷ 100 ∷ 115 ∷ 58 ∷ 58 ∷
+                82 ∷ 101 ∷ 115 ∷ 105 ∷ 100 ∷ 117 ∷ 101 ∷ 78 ∷ 117 ∷ 109 ∷ 98 ∷ 101 ∷ 114 ∷ []) (Syntax.tcons (Syntax.tyInt Syntax.w32) Syntax.tnil))
+                (Syntax.tcons (Syntax.tyInt Syntax.w8) Syntax.tnil))))) (Syntax.tcons (Syntax.tyStruct (114 ∷ 101 ∷ 115 ∷ 105 ∷ 100 ∷ 117 ∷ 101 ∷ 58 ∷ 58 ∷ 82 ∷
+                101 ∷ 115 ∷ 105 ∷ 100 ∷ 117 ∷ 101 ∷ []) (Syntax.tcons (Syntax.tyStruct (110 ∷ 97 ∷ 109 ∷ 101 ∷ 115 ∷ 58 ∷ 58 ∷ 84 ∷ 104 ∷ 114 ∷ 101 ∷ 101 ∷ [])
+                (Syntax.tcons (Syntax.tyInt Syntax.w8) (Syntax.tcons (Syntax.tyInt Syntax.w8) (Syntax.tcons (Syntax.tyInt Syntax.w8) Syntax.tnil))))
+                (Syntax.tcons (Syntax.tyInt Syntax.w8) (Syntax.tcons (Syntax.tyStruct (102 ∷ 105 ∷ 101 ∷ 108 ∷ 100 ∷ 115 ∷ 58 ∷ 58 ∷ 82 ∷ 101 ∷ 115 ∷ 105 ∷ 100 ∷
+                117 ∷ 101 ∷ 78 ∷ 117 ∷ 109 ∷ 98 ∷ 101 ∷ 114 ∷ []) (Syntax.tcons (Syntax.tyInt Syntax.w32) Syntax.tnil)) (Syntax.tcons (Syntax.tyInt Syntax.w8)
+                Syntax.tnil))))) (Syntax.tcons (Syntax.tyInt Syntax.w32) Syntax.tnil))))))) (Syntax.tcons (Syntax.tyEnum (115 ∷ 104 ∷ 101 ∷ 101 ∷ 116 ∷ 58 ∷ 58 ∷
+                82 ∷ 101 ∷ 103 ∷ 105 ∷ 115 ∷ 116 ∷ 114 ∷ 97 ∷ 116 ∷ 105 ∷ 111 ∷ 110 ∷ []) (Syntax.ttcons Syntax.tnil (Syntax.ttcons (Syntax.tcons
+                (Syntax.tyStruct (115 ∷ 104 ∷ 101 ∷ 101 ∷ 116 ∷ 58 ∷ 58 ∷ 66 ∷ 111 ∷ 110 ∷ 100 ∷ []) (Syntax.tcons (Syntax.tyStruct (110 ∷ 97 ∷ 109 ∷ 101 ∷ 115 ∷
+                58 ∷ 58 ∷ 70 ∷ 111 ∷ 117 ∷ 114 ∷ []) (Syntax.tcons (Syntax.tyInt Syntax.w8) (Syntax.tcons (Syntax.tyInt Syntax.w8) (Syntax.tcons (Syntax.tyInt
+                Syntax.w8) (Syntax.tcons (Syntax.tyInt Syntax.w8) Syntax.tnil))))) (Syntax.tcons (Syntax.tyStruct (114 ∷ 101 ∷ 115 ∷ 105 ∷ 100 ∷ 117 ∷ 101 ∷ 58 ∷
+                58 ∷ 82 ∷ 101 ∷ 115 ∷ 105 ∷ 100 ∷ 117 ∷ 101 ∷ []) (Syntax.tcons (Syntax.tyStruct (110 ∷ 97 ∷ 109 ∷ 101 ∷ 115 ∷ 58 ∷ 58 ∷ 84 ∷ 104 ∷ 114 ∷ 101 ∷
+                101 ∷ []) (Syntax.tcons (Syntax.tyInt Syntax.w8) (Syntax.tcons (Syntax.tyInt Syntax.w8) (Syntax.tcons (Syntax.tyInt Syntax.w8) Syntax.tnil))))
+                (Syntax.tcons (Syntax.tyInt Syntax.w8) (Syntax.tcons (Syntax.tyStruct (102 ∷ 105 ∷ 101 ∷ 108 ∷ 100 ∷ 115 ∷ 58 ∷ 58 ∷ 82 ∷ 101 ∷ 115 ∷ 105 ∷ 100 ∷
+                117 ∷ 101 ∷ 78 ∷ 117 ∷ 109 ∷ 98 ∷ 101 ∷ 114 ∷ []) (Syntax.tcons (Syntax.tyInt Syntax.w32) Syntax.tnil)) (Syntax.tcons (Syntax.tyInt Syntax.w8)
+                Syntax.tnil))))) (Syntax.tcons (Syntax.tyStruct (110 ∷ 97 ∷ 109 ∷ 101 ∷ 115 ∷ 58 ∷ 58 ∷ 70 ∷ 111 ∷ 117 ∷ 114 ∷ []) (Syntax.tcons (Syntax.tyInt
+                Syntax.w8) (Syntax.tcons (Syntax.tyInt Syntax.w8) (Syntax.tcons (Syntax.tyInt Syntax.w8) (Syntax.tcons (Syntax.tyInt Syntax.w8) Syntax.tnil)))))
+                (Syntax.tcons (Syntax.tyStruct (114 ∷ 101 ∷ 115 ∷ 105 ∷ 100 ∷ 117 ∷ 101 ∷ 58 ∷ 58 ∷ 82 ∷ 101 ∷ 115 ∷ 105 ∷ 100 ∷ 117 ∷ 101 ∷ []) (Syntax.tcons
+                (Syntax.tyStruct (110 ∷ 97 ∷ 109 ∷ 101 ∷ 115 ∷ 58 ∷ 58 ∷ 84 ∷ 104 ∷ 114 ∷ 101 ∷ 101 ∷ []) (Syntax.tcons (Syntax.tyInt Syntax.w8) (Syntax.tcons
+                (Syntax.tyInt Syntax.w8) (Syntax.tcons (Syntax.tyInt Syntax.w8) Syntax.tnil)))) (Syntax.tcons (Syntax.tyInt Syntax.w8) (Syntax.tcons
+                (Syntax.tyStruct (102 ∷ 105 ∷ 101 ∷ 108 ∷ 100 ∷ 115 ∷ 58 ∷ 58 ∷ 82 ∷ 101 ∷ 115 ∷ 105 ∷ 100 ∷ 117 ∷ 101 ∷ 78 ∷ 117 ∷ 109 ∷ 98 ∷ 101 ∷ 114 ∷ [])
+                (Syntax.tcons (Syntax.tyInt Syntax.w32) Syntax.tnil)) (Syntax.tcons (Syntax.tyInt Syntax.w8) Syntax.tnil))))) Syntax.tnil))))) Syntax.tnil)
+                Syntax.ttnil))) Syntax.tnil))) Syntax.tnil) (Syntax.ttcons (Syntax.tcons (Syntax.tyStruct (99 ∷ 111 ∷ 110 ∷ 101 ∷ 99 ∷ 116 ∷ 58 ∷ 58 ∷ 67 ∷ 111 ∷
+                110 ∷ 101 ∷ 99 ∷ 116 ∷ []) (Syntax.tcons (Syntax.tyStruct (102 ∷ 105 ∷ 101 ∷ 108 ∷ 100 ∷ 115 ∷ 58 ∷ 58 ∷ 83 ∷ 101 ∷ 114 ∷ 105 ∷ 97 ∷ 108 ∷ [])
+                (Syntax.tcons (Syntax.tyInt Syntax.w32) Syntax.tnil)) (Syntax.tcons (Syntax.tyStruct (102 ∷ 105 ∷ 101 ∷ 108 ∷ 100 ∷ 115 ∷ 58 ∷ 58 ∷ 83 ∷ 101 ∷
+                114 ∷ 105 ∷ 97 ∷ 108 ∷ []) (Syntax.tcons (Syntax.tyInt Syntax.w32) Syntax.tnil)) (Syntax.tcons (Syntax.tyStruct (102 ∷ 105 ∷ 101 ∷ 108 ∷ 100 ∷
+                115 ∷ 58 ∷ 58 ∷ 83 ∷ 101 ∷ 114 ∷ 105 ∷ 97 ∷ 108 ∷ []) (Syntax.tcons (Syntax.tyInt Syntax.w32) Syntax.tnil)) (Syntax.tcons (Syntax.tyStruct (102 ∷
+                105 ∷ 101 ∷ 108 ∷ 100 ∷ 115 ∷ 58 ∷ 58 ∷ 83 ∷ 101 ∷ 114 ∷ 105 ∷ 97 ∷ 108 ∷ []) (Syntax.tcons (Syntax.tyInt Syntax.w32) Syntax.tnil)) (Syntax.tcons
+                (Syntax.tyStruct (102 ∷ 105 ∷ 101 ∷ 108 ∷ 100 ∷ 115 ∷ 58 ∷ 58 ∷ 83 ∷ 101 ∷ 114 ∷ 105 ∷ 97 ∷ 108 ∷ []) (Syntax.tcons (Syntax.tyInt Syntax.w32)
+                Syntax.tnil)) Syntax.tnil)))))) Syntax.tnil) (Syntax.ttcons (Syntax.tcons (Syntax.tyStruct (109 ∷ 97 ∷ 115 ∷ 116 ∷ 101 ∷ 114 ∷ 58 ∷ 58 ∷ 84 ∷ 97
+                ∷ 108 ∷ 108 ∷ 121 ∷ []) (Syntax.tcons (Syntax.tyInt Syntax.w32) (Syntax.tcons (Syntax.tyInt Syntax.w32) (Syntax.tcons (Syntax.tyInt Syntax.w32)
+                (Syntax.tcons (Syntax.tyInt Syntax.w32) (Syntax.tcons (Syntax.tyInt Syntax.w32) (Syntax.tcons (Syntax.tyInt Syntax.w32) (Syntax.tcons
+                (Syntax.tyInt Syntax.w32) (Syntax.tcons (Syntax.tyInt Syntax.w32) (Syntax.tcons (Syntax.tyInt Syntax.w32) Syntax.tnil)))))))))) Syntax.tnil)
+                (Syntax.ttcons Syntax.tnil (Syntax.ttcons (Syntax.tcons (Syntax.tyStruct (109 ∷ 111 ∷ 100 ∷ 101 ∷ 108 ∷ 58 ∷ 58 ∷ 77 ∷ 111 ∷ 100 ∷ 101 ∷ 108 ∷
+                []) (Syntax.tcons (Syntax.tyInt Syntax.w32) Syntax.tnil)) Syntax.tnil) (Syntax.ttcons Syntax.tnil (Syntax.ttcons (Syntax.tcons (Syntax.tyStruct
+                (99 ∷ 101 ∷ 108 ∷ 108 ∷ 58 ∷ 58 ∷ 67 ∷ 101 ∷ 108 ∷ 108 ∷ []) (Syntax.tcons (Syntax.tyStruct (99 ∷ 101 ∷ 108 ∷ 108 ∷ 58 ∷ 58 ∷ 69 ∷ 100 ∷ 103 ∷
+                101 ∷ 115 ∷ []) (Syntax.tcons (Syntax.tyInt Syntax.w32) (Syntax.tcons (Syntax.tyInt Syntax.w32) (Syntax.tcons (Syntax.tyInt Syntax.w32)
+                Syntax.tnil)))) (Syntax.tcons (Syntax.tyStruct (99 ∷ 101 ∷ 108 ∷ 108 ∷ 58 ∷ 58 ∷ 65 ∷ 110 ∷ 103 ∷ 108 ∷ 101 ∷ 115 ∷ []) (Syntax.tcons
+                (Syntax.tyInt Syntax.w32) (Syntax.tcons (Syntax.tyInt Syntax.w32) (Syntax.tcons (Syntax.tyInt Syntax.w32) Syntax.tnil)))) (Syntax.tcons
+                (Syntax.tyStruct (99 ∷ 101 ∷ 108 ∷ 108 ∷ 58 ∷ 58 ∷ 71 ∷ 114 ∷ 111 ∷ 117 ∷ 112 ∷ []) (Syntax.tcons (Syntax.tyStruct (110 ∷ 97 ∷ 109 ∷ 101 ∷ 115 ∷
+                58 ∷ 58 ∷ 70 ∷ 111 ∷ 117 ∷ 114 ∷ []) (Syntax.tcons (Syntax.tyInt Syntax.w8) (Syntax.tcons (Syntax.tyInt Syntax.w8) (Syntax.tcons (Syntax.tyInt
+                Syntax.w8) (Syntax.tcons (Syntax.tyInt Syntax.w8) Syntax.tnil))))) (Syntax.tcons (Syntax.tyStruct (110 ∷ 97 ∷ 109 ∷ 101 ∷ 115 ∷ 58 ∷ 58 ∷ 70 ∷
+                111 ∷ 117 ∷ 114 ∷ []) (Syntax.tcons (Syntax.tyInt Syntax.w8) (Syntax.tcons (Syntax.tyInt Syntax.w8) (Syntax.tcons (Syntax.tyInt Syntax.w8)
+                (Syntax.tcons (Syntax.tyInt Syntax.w8) Syntax.tnil))))) (Syntax.tcons (Syntax.tyStruct (110 ∷ 97 ∷ 109 ∷ 101 ∷ 115 ∷ 58 ∷ 58 ∷ 84 ∷ 104 ∷ 114 ∷
+                101 ∷ 101 ∷ []) (Syntax.tcons (Syntax.tyInt Syntax.w8) (Syntax.tcons (Syntax.tyInt Syntax.w8) (Syntax.tcons (Syntax.tyInt Syntax.w8)
+                Syntax.tnil)))) Syntax.tnil)))) (Syntax.tcons (Syntax.tyInt Syntax.w32) Syntax.tnil))))) Syntax.tnil) (Syntax.ttcons (Syntax.tcons Syntax.tyBool
+                (Syntax.tcons (Syntax.tyEnum (116 ∷ 114 ∷ 97 ∷ 110 ∷ 115 ∷ 102 ∷ 111 ∷ 114 ∷ 109 ∷ 58 ∷ 58 ∷ 65 ∷ 120 ∷ 105 ∷ 115 ∷ []) (Syntax.ttcons
+                Syntax.tnil (Syntax.ttcons Syntax.tnil (Syntax.ttcons Syntax.tnil Syntax.ttnil)))) (Syntax.tcons (Syntax.tyStruct (116 ∷ 114 ∷ 97 ∷ 110 ∷ 115 ∷
+                102 ∷ 111 ∷ 114 ∷ 109 ∷ 58 ∷ 58 ∷ 84 ∷ 114 ∷ 97 ∷ 110 ∷ 115 ∷ 102 ∷ 111 ∷ 114 ∷ 109 ∷ []) (Syntax.tcons (Syntax.tyStruct (116 ∷ 114 ∷ 97 ∷ 110 ∷
+                115 ∷ 102 ∷ 111 ∷ 114 ∷ 109 ∷ 58 ∷ 58 ∷ 67 ∷ 111 ∷ 101 ∷ 102 ∷ 102 ∷ 105 ∷ 99 ∷ 105 ∷ 101 ∷ 110 ∷ 116 ∷ 115 ∷ []) (Syntax.tcons (Syntax.tyInt
+                Syntax.w32) (Syntax.tcons (Syntax.tyInt Syntax.w32) (Syntax.tcons (Syntax.tyInt Syntax.w32) Syntax.tnil)))) (Syntax.tcons (Syntax.tyInt
+                Syntax.w32) Syntax.tnil))) Syntax.tnil))) Syntax.ttnil)))))))))))) Syntax.tnil) Syntax.ttnil))))) Path'.refl)) d6
 
             d8 : Typed.Typed 𝓤 H A 𝓣 E G4 b9 Δ1 at8
             d8 = Typed.s-seq 𝓤 H A W 𝓣 E G4 G5 b1 b8 Δ1 (Typed.both s2) at7 (Plain.t-call-plain 𝓤 H A W 𝓣 0 ps·1 r·1 (claims· .2) (claims· .3) "slots::line_slot"
@@ -2350,108 +2616,140 @@ module _ (claims· : Claims) where
                 (Syntax.tyInt Syntax.w32) (Syntax.tcons (Syntax.tyInt Syntax.w32) (Syntax.tcons (Syntax.tyInt Syntax.w32) (Syntax.tcons (Syntax.tyInt Syntax.w32)
                 Syntax.tnil)))))))))) Syntax.tnil) (Syntax.ttcons Syntax.tnil (Syntax.ttcons (Syntax.tcons (Syntax.tyStruct (109 ∷ 111 ∷ 100 ∷ 101 ∷ 108 ∷ 58 ∷
                 58 ∷ 77 ∷ 111 ∷ 100 ∷ 101 ∷ 108 ∷ []) (Syntax.tcons (Syntax.tyInt Syntax.w32) Syntax.tnil)) Syntax.tnil) (Syntax.ttcons Syntax.tnil
-                Syntax.ttnil)))))))))) Syntax.tnil) Syntax.ttnil))))) (Local.room-whole 𝓤 H A W (Declared.row Line.the-type) (Syntax.tyEnum (112 ∷ 105 ∷ 101 ∷ 99
-                ∷ 101 ∷ 115 ∷ 58 ∷ 58 ∷ 76 ∷ 105 ∷ 110 ∷ 101 ∷ []) (Syntax.ttcons (Syntax.tcons (Syntax.tyInt Syntax.w8) Syntax.tnil) (Syntax.ttcons
-                (Syntax.tcons (Syntax.tyEnum (107 ∷ 105 ∷ 110 ∷ 100 ∷ 115 ∷ 58 ∷ 58 ∷ 75 ∷ 105 ∷ 110 ∷ 100 ∷ []) (Syntax.ttcons Syntax.tnil (Syntax.ttcons
-                Syntax.tnil (Syntax.ttcons Syntax.tnil (Syntax.ttcons Syntax.tnil (Syntax.ttcons Syntax.tnil (Syntax.ttcons Syntax.tnil (Syntax.ttcons
-                Syntax.tnil (Syntax.ttcons Syntax.tnil (Syntax.ttcons Syntax.tnil (Syntax.ttcons Syntax.tnil (Syntax.ttcons Syntax.tnil (Syntax.ttcons
-                Syntax.tnil (Syntax.ttcons Syntax.tnil (Syntax.ttcons Syntax.tnil (Syntax.ttcons Syntax.tnil (Syntax.ttcons Syntax.tnil (Syntax.ttcons
-                Syntax.tnil (Syntax.ttcons Syntax.tnil (Syntax.ttcons Syntax.tnil (Syntax.ttcons Syntax.tnil (Syntax.ttcons Syntax.tnil (Syntax.ttcons
-                Syntax.tnil (Syntax.ttcons Syntax.tnil (Syntax.ttcons Syntax.tnil (Syntax.ttcons Syntax.tnil (Syntax.ttcons Syntax.tnil (Syntax.ttcons
-                Syntax.tnil (Syntax.ttcons Syntax.tnil (Syntax.ttcons Syntax.tnil (Syntax.ttcons Syntax.tnil Syntax.ttnil)))))))))))))))))))))))))))))))
-                (Syntax.tcons (Syntax.tyInt Syntax.w32) Syntax.tnil)) (Syntax.ttcons (Syntax.tcons (Syntax.tyEnum (107 ∷ 105 ∷ 110 ∷ 100 ∷ 115 ∷ 58 ∷ 58 ∷ 75 ∷
-                105 ∷ 110 ∷ 100 ∷ []) (Syntax.ttcons Syntax.tnil (Syntax.ttcons Syntax.tnil (Syntax.ttcons Syntax.tnil (Syntax.ttcons Syntax.tnil (Syntax.ttcons
-                Syntax.tnil (Syntax.ttcons Syntax.tnil (Syntax.ttcons Syntax.tnil (Syntax.ttcons Syntax.tnil (Syntax.ttcons Syntax.tnil (Syntax.ttcons
-                Syntax.tnil (Syntax.ttcons Syntax.tnil (Syntax.ttcons Syntax.tnil (Syntax.ttcons Syntax.tnil (Syntax.ttcons Syntax.tnil (Syntax.ttcons
-                Syntax.tnil (Syntax.ttcons Syntax.tnil (Syntax.ttcons Syntax.tnil (Syntax.ttcons Syntax.tnil (Syntax.ttcons Syntax.tnil (Syntax.ttcons
-                Syntax.tnil (Syntax.ttcons Syntax.tnil (Syntax.ttcons Syntax.tnil (Syntax.ttcons Syntax.tnil (Syntax.ttcons Syntax.tnil (Syntax.ttcons
-                Syntax.tnil (Syntax.ttcons Syntax.tnil (Syntax.ttcons Syntax.tnil (Syntax.ttcons Syntax.tnil (Syntax.ttcons Syntax.tnil (Syntax.ttcons
-                Syntax.tnil Syntax.ttnil))))))))))))))))))))))))))))))) Syntax.tnil) (Syntax.ttcons (Syntax.tcons (Syntax.tyEnum (108 ∷ 105 ∷ 110 ∷ 101 ∷ 58 ∷ 58
-                ∷ 82 ∷ 101 ∷ 99 ∷ 111 ∷ 114 ∷ 100 ∷ []) (Syntax.ttcons (Syntax.tcons Syntax.tyBool (Syntax.tcons (Syntax.tyStruct (99 ∷ 111 ∷ 111 ∷ 114 ∷ 100 ∷
-                105 ∷ 110 ∷ 97 ∷ 116 ∷ 101 ∷ 58 ∷ 58 ∷ 65 ∷ 116 ∷ 111 ∷ 109 ∷ []) (Syntax.tcons (Syntax.tyStruct (99 ∷ 111 ∷ 111 ∷ 114 ∷ 100 ∷ 105 ∷ 110 ∷ 97 ∷
-                116 ∷ 101 ∷ 58 ∷ 58 ∷ 73 ∷ 100 ∷ 101 ∷ 110 ∷ 116 ∷ 105 ∷ 116 ∷ 121 ∷ []) (Syntax.tcons (Syntax.tyStruct (102 ∷ 105 ∷ 101 ∷ 108 ∷ 100 ∷ 115 ∷ 58 ∷
-                58 ∷ 83 ∷ 101 ∷ 114 ∷ 105 ∷ 97 ∷ 108 ∷ []) (Syntax.tcons (Syntax.tyInt Syntax.w32) Syntax.tnil)) (Syntax.tcons (Syntax.tyStruct (110 ∷ 97 ∷ 109 ∷
+                (Syntax.ttcons (Syntax.tcons (Syntax.tyStruct (99 ∷ 101 ∷ 108 ∷ 108 ∷ 58 ∷ 58 ∷ 67 ∷ 101 ∷ 108 ∷ 108 ∷ []) (Syntax.tcons (Syntax.tyStruct (99 ∷
+                101 ∷ 108 ∷ 108 ∷ 58 ∷ 58 ∷ 69 ∷ 100 ∷ 103 ∷ 101 ∷ 115 ∷ []) (Syntax.tcons (Syntax.tyInt Syntax.w32) (Syntax.tcons (Syntax.tyInt Syntax.w32)
+                (Syntax.tcons (Syntax.tyInt Syntax.w32) Syntax.tnil)))) (Syntax.tcons (Syntax.tyStruct (99 ∷ 101 ∷ 108 ∷ 108 ∷ 58 ∷ 58 ∷ 65 ∷ 110 ∷ 103 ∷ 108 ∷
+                101 ∷ 115 ∷ []) (Syntax.tcons (Syntax.tyInt Syntax.w32) (Syntax.tcons (Syntax.tyInt Syntax.w32) (Syntax.tcons (Syntax.tyInt Syntax.w32)
+                Syntax.tnil)))) (Syntax.tcons (Syntax.tyStruct (99 ∷ 101 ∷ 108 ∷ 108 ∷ 58 ∷ 58 ∷ 71 ∷ 114 ∷ 111 ∷ 117 ∷ 112 ∷ []) (Syntax.tcons (Syntax.tyStruct
+                (110 ∷ 97 ∷ 109 ∷ 101 ∷ 115 ∷ 58 ∷ 58 ∷ 70 ∷ 111 ∷ 117 ∷ 114 ∷ []) (Syntax.tcons (Syntax.tyInt Syntax.w8) (Syntax.tcons (Syntax.tyInt Syntax.w8)
+                (Syntax.tcons (Syntax.tyInt Syntax.w8) (Syntax.tcons (Syntax.tyInt Syntax.w8) Syntax.tnil))))) (Syntax.tcons (Syntax.tyStruct (110 ∷ 97 ∷ 109 ∷
                 101 ∷ 115 ∷ 58 ∷ 58 ∷ 70 ∷ 111 ∷ 117 ∷ 114 ∷ []) (Syntax.tcons (Syntax.tyInt Syntax.w8) (Syntax.tcons (Syntax.tyInt Syntax.w8) (Syntax.tcons
-                (Syntax.tyInt Syntax.w8) (Syntax.tcons (Syntax.tyInt Syntax.w8) Syntax.tnil))))) (Syntax.tcons (Syntax.tyInt Syntax.w8) (Syntax.tcons
+                (Syntax.tyInt Syntax.w8) (Syntax.tcons (Syntax.tyInt Syntax.w8) Syntax.tnil))))) (Syntax.tcons (Syntax.tyStruct (110 ∷ 97 ∷ 109 ∷ 101 ∷ 115 ∷ 58
+                ∷ 58 ∷ 84 ∷ 104 ∷ 114 ∷ 101 ∷ 101 ∷ []) (Syntax.tcons (Syntax.tyInt Syntax.w8) (Syntax.tcons (Syntax.tyInt Syntax.w8) (Syntax.tcons (Syntax.tyInt
+                Syntax.w8) Syntax.tnil)))) Syntax.tnil)))) (Syntax.tcons (Syntax.tyInt Syntax.w32) Syntax.tnil))))) Syntax.tnil) (Syntax.ttcons (Syntax.tcons
+                Syntax.tyBool (Syntax.tcons (Syntax.tyEnum (116 ∷ 114 ∷ 97 ∷ 110 ∷ 115 ∷ 102 ∷ 111 ∷ 114 ∷ 109 ∷ 58 ∷ 58 ∷ 65 ∷ 120 ∷ 105 ∷ 115 ∷ [])
+                (Syntax.ttcons Syntax.tnil (Syntax.ttcons Syntax.tnil (Syntax.ttcons Syntax.tnil Syntax.ttnil)))) (Syntax.tcons (Syntax.tyStruct (116 ∷ 114 ∷ 97
+                ∷ 110 ∷ 115 ∷ 102 ∷ 111 ∷ 114 ∷ 109 ∷ 58 ∷ 58 ∷ 84 ∷ 114 ∷ 97 ∷ 110 ∷ 115 ∷ 102 ∷ 111 ∷ 114 ∷ 109 ∷ []) (Syntax.tcons (Syntax.tyStruct (116 ∷ 114
+                ∷ 97 ∷ 110 ∷ 115 ∷ 102 ∷ 111 ∷ 114 ∷ 109 ∷ 58 ∷ 58 ∷ 67 ∷ 111 ∷ 101 ∷ 102 ∷ 102 ∷ 105 ∷ 99 ∷ 105 ∷ 101 ∷ 110 ∷ 116 ∷ 115 ∷ []) (Syntax.tcons
+                (Syntax.tyInt Syntax.w32) (Syntax.tcons (Syntax.tyInt Syntax.w32) (Syntax.tcons (Syntax.tyInt Syntax.w32) Syntax.tnil)))) (Syntax.tcons
+                (Syntax.tyInt Syntax.w32) Syntax.tnil))) Syntax.tnil))) Syntax.ttnil)))))))))))) Syntax.tnil) Syntax.ttnil))))) (Local.room-whole 𝓤 H A W
+                (Declared.row Line.the-type) (Syntax.tyEnum (112 ∷ 105 ∷ 101 ∷ 99 ∷ 101 ∷ 115 ∷ 58 ∷ 58 ∷ 76 ∷ 105 ∷ 110 ∷ 101 ∷ []) (Syntax.ttcons (Syntax.tcons
+                (Syntax.tyInt Syntax.w8) Syntax.tnil) (Syntax.ttcons (Syntax.tcons (Syntax.tyEnum (107 ∷ 105 ∷ 110 ∷ 100 ∷ 115 ∷ 58 ∷ 58 ∷ 75 ∷ 105 ∷ 110 ∷ 100 ∷
+                []) (Syntax.ttcons Syntax.tnil (Syntax.ttcons Syntax.tnil (Syntax.ttcons Syntax.tnil (Syntax.ttcons Syntax.tnil (Syntax.ttcons Syntax.tnil
+                (Syntax.ttcons Syntax.tnil (Syntax.ttcons Syntax.tnil (Syntax.ttcons Syntax.tnil (Syntax.ttcons Syntax.tnil (Syntax.ttcons Syntax.tnil
+                (Syntax.ttcons Syntax.tnil (Syntax.ttcons Syntax.tnil (Syntax.ttcons Syntax.tnil (Syntax.ttcons Syntax.tnil (Syntax.ttcons Syntax.tnil
+                (Syntax.ttcons Syntax.tnil (Syntax.ttcons Syntax.tnil (Syntax.ttcons Syntax.tnil (Syntax.ttcons Syntax.tnil (Syntax.ttcons Syntax.tnil
+                (Syntax.ttcons Syntax.tnil (Syntax.ttcons Syntax.tnil (Syntax.ttcons Syntax.tnil (Syntax.ttcons Syntax.tnil (Syntax.ttcons Syntax.tnil
+                (Syntax.ttcons Syntax.tnil (Syntax.ttcons Syntax.tnil (Syntax.ttcons Syntax.tnil (Syntax.ttcons Syntax.tnil (Syntax.ttcons Syntax.tnil
+                Syntax.ttnil))))))))))))))))))))))))))))))) (Syntax.tcons (Syntax.tyInt Syntax.w32) Syntax.tnil)) (Syntax.ttcons (Syntax.tcons (Syntax.tyEnum
+                (107 ∷ 105 ∷ 110 ∷ 100 ∷ 115 ∷ 58 ∷ 58 ∷ 75 ∷ 105 ∷ 110 ∷ 100 ∷ []) (Syntax.ttcons Syntax.tnil (Syntax.ttcons Syntax.tnil (Syntax.ttcons
+                Syntax.tnil (Syntax.ttcons Syntax.tnil (Syntax.ttcons Syntax.tnil (Syntax.ttcons Syntax.tnil (Syntax.ttcons Syntax.tnil (Syntax.ttcons
+                Syntax.tnil (Syntax.ttcons Syntax.tnil (Syntax.ttcons Syntax.tnil (Syntax.ttcons Syntax.tnil (Syntax.ttcons Syntax.tnil (Syntax.ttcons
+                Syntax.tnil (Syntax.ttcons Syntax.tnil (Syntax.ttcons Syntax.tnil (Syntax.ttcons Syntax.tnil (Syntax.ttcons Syntax.tnil (Syntax.ttcons
+                Syntax.tnil (Syntax.ttcons Syntax.tnil (Syntax.ttcons Syntax.tnil (Syntax.ttcons Syntax.tnil (Syntax.ttcons Syntax.tnil (Syntax.ttcons
+                Syntax.tnil (Syntax.ttcons Syntax.tnil (Syntax.ttcons Syntax.tnil (Syntax.ttcons Syntax.tnil (Syntax.ttcons Syntax.tnil (Syntax.ttcons
+                Syntax.tnil (Syntax.ttcons Syntax.tnil (Syntax.ttcons Syntax.tnil Syntax.ttnil))))))))))))))))))))))))))))))) Syntax.tnil) (Syntax.ttcons
+                (Syntax.tcons (Syntax.tyEnum (108 ∷ 105 ∷ 110 ∷ 101 ∷ 58 ∷ 58 ∷ 82 ∷ 101 ∷ 99 ∷ 111 ∷ 114 ∷ 100 ∷ []) (Syntax.ttcons (Syntax.tcons Syntax.tyBool
+                (Syntax.tcons (Syntax.tyStruct (99 ∷ 111 ∷ 111 ∷ 114 ∷ 100 ∷ 105 ∷ 110 ∷ 97 ∷ 116 ∷ 101 ∷ 58 ∷ 58 ∷ 65 ∷ 116 ∷ 111 ∷ 109 ∷ []) (Syntax.tcons
+                (Syntax.tyStruct (99 ∷ 111 ∷ 111 ∷ 114 ∷ 100 ∷ 105 ∷ 110 ∷ 97 ∷ 116 ∷ 101 ∷ 58 ∷ 58 ∷ 73 ∷ 100 ∷ 101 ∷ 110 ∷ 116 ∷ 105 ∷ 116 ∷ 121 ∷ [])
+                (Syntax.tcons (Syntax.tyStruct (102 ∷ 105 ∷ 101 ∷ 108 ∷ 100 ∷ 115 ∷ 58 ∷ 58 ∷ 83 ∷ 101 ∷ 114 ∷ 105 ∷ 97 ∷ 108 ∷ []) (Syntax.tcons (Syntax.tyInt
+                Syntax.w32) Syntax.tnil)) (Syntax.tcons (Syntax.tyStruct (110 ∷ 97 ∷ 109 ∷ 101 ∷ 115 ∷ 58 ∷ 58 ∷ 70 ∷ 111 ∷ 117 ∷ 114 ∷ []) (Syntax.tcons
+                (Syntax.tyInt Syntax.w8) (Syntax.tcons (Syntax.tyInt Syntax.w8) (Syntax.tcons (Syntax.tyInt Syntax.w8) (Syntax.tcons (Syntax.tyInt Syntax.w8)
+                Syntax.tnil))))) (Syntax.tcons (Syntax.tyInt Syntax.w8) (Syntax.tcons (Syntax.tyStruct (114 ∷ 101 ∷ 115 ∷ 105 ∷ 100 ∷ 117 ∷ 101 ∷ 58 ∷ 58 ∷ 82 ∷
+                101 ∷ 115 ∷ 105 ∷ 100 ∷ 117 ∷ 101 ∷ []) (Syntax.tcons (Syntax.tyStruct (110 ∷ 97 ∷ 109 ∷ 101 ∷ 115 ∷ 58 ∷ 58 ∷ 84 ∷ 104 ∷ 114 ∷ 101 ∷ 101 ∷ [])
+                (Syntax.tcons (Syntax.tyInt Syntax.w8) (Syntax.tcons (Syntax.tyInt Syntax.w8) (Syntax.tcons (Syntax.tyInt Syntax.w8) Syntax.tnil))))
+                (Syntax.tcons (Syntax.tyInt Syntax.w8) (Syntax.tcons (Syntax.tyStruct (102 ∷ 105 ∷ 101 ∷ 108 ∷ 100 ∷ 115 ∷ 58 ∷ 58 ∷ 82 ∷ 101 ∷ 115 ∷ 105 ∷ 100 ∷
+                117 ∷ 101 ∷ 78 ∷ 117 ∷ 109 ∷ 98 ∷ 101 ∷ 114 ∷ []) (Syntax.tcons (Syntax.tyInt Syntax.w32) Syntax.tnil)) (Syntax.tcons (Syntax.tyInt Syntax.w8)
+                Syntax.tnil))))) Syntax.tnil))))) (Syntax.tcons (Syntax.tyStruct (99 ∷ 111 ∷ 111 ∷ 114 ∷ 100 ∷ 105 ∷ 110 ∷ 97 ∷ 116 ∷ 101 ∷ 58 ∷ 58 ∷ 77 ∷ 101 ∷
+                97 ∷ 115 ∷ 117 ∷ 114 ∷ 101 ∷ []) (Syntax.tcons (Syntax.tyStruct (99 ∷ 111 ∷ 111 ∷ 114 ∷ 100 ∷ 105 ∷ 110 ∷ 97 ∷ 116 ∷ 101 ∷ 58 ∷ 58 ∷ 80 ∷ 111 ∷
+                115 ∷ 105 ∷ 116 ∷ 105 ∷ 111 ∷ 110 ∷ []) (Syntax.tcons (Syntax.tyInt Syntax.w32) (Syntax.tcons (Syntax.tyInt Syntax.w32) (Syntax.tcons
+                (Syntax.tyInt Syntax.w32) Syntax.tnil)))) (Syntax.tcons (Syntax.tyInt Syntax.w32) (Syntax.tcons (Syntax.tyInt Syntax.w32) Syntax.tnil))))
+                (Syntax.tcons (Syntax.tyStruct (99 ∷ 111 ∷ 111 ∷ 114 ∷ 100 ∷ 105 ∷ 110 ∷ 97 ∷ 116 ∷ 101 ∷ 58 ∷ 58 ∷ 83 ∷ 112 ∷ 101 ∷ 99 ∷ 105 ∷ 101 ∷ 115 ∷ [])
+                (Syntax.tcons (Syntax.tyStruct (110 ∷ 97 ∷ 109 ∷ 101 ∷ 115 ∷ 58 ∷ 58 ∷ 80 ∷ 97 ∷ 105 ∷ 114 ∷ []) (Syntax.tcons (Syntax.tyInt Syntax.w8)
+                (Syntax.tcons (Syntax.tyInt Syntax.w8) Syntax.tnil))) (Syntax.tcons (Syntax.tyStruct (110 ∷ 97 ∷ 109 ∷ 101 ∷ 115 ∷ 58 ∷ 58 ∷ 80 ∷ 97 ∷ 105 ∷ 114
+                ∷ []) (Syntax.tcons (Syntax.tyInt Syntax.w8) (Syntax.tcons (Syntax.tyInt Syntax.w8) Syntax.tnil))) Syntax.tnil))) Syntax.tnil)))) Syntax.tnil))
+                (Syntax.ttcons (Syntax.tcons (Syntax.tyStruct (116 ∷ 101 ∷ 114 ∷ 58 ∷ 58 ∷ 84 ∷ 101 ∷ 114 ∷ []) (Syntax.tcons (Syntax.tyStruct (102 ∷ 105 ∷ 101 ∷
+                108 ∷ 100 ∷ 115 ∷ 58 ∷ 58 ∷ 83 ∷ 101 ∷ 114 ∷ 105 ∷ 97 ∷ 108 ∷ []) (Syntax.tcons (Syntax.tyInt Syntax.w32) Syntax.tnil)) (Syntax.tcons
                 (Syntax.tyStruct (114 ∷ 101 ∷ 115 ∷ 105 ∷ 100 ∷ 117 ∷ 101 ∷ 58 ∷ 58 ∷ 82 ∷ 101 ∷ 115 ∷ 105 ∷ 100 ∷ 117 ∷ 101 ∷ []) (Syntax.tcons (Syntax.tyStruct
                 (110 ∷ 97 ∷ 109 ∷ 101 ∷ 115 ∷ 58 ∷ 58 ∷ 84 ∷ 104 ∷ 114 ∷ 101 ∷ 101 ∷ []) (Syntax.tcons (Syntax.tyInt Syntax.w8) (Syntax.tcons (Syntax.tyInt
                 Syntax.w8) (Syntax.tcons (Syntax.tyInt Syntax.w8) Syntax.tnil)))) (Syntax.tcons (Syntax.tyInt Syntax.w8) (Syntax.tcons (Syntax.tyStruct (102 ∷
                 105 ∷ 101 ∷ 108 ∷ 100 ∷ 115 ∷ 58 ∷ 58 ∷ 82 ∷ 101 ∷ 115 ∷ 105 ∷ 100 ∷ 117 ∷ 101 ∷ 78 ∷ 117 ∷ 109 ∷ 98 ∷ 101 ∷ 114 ∷ []) (Syntax.tcons
-                (Syntax.tyInt Syntax.w32) Syntax.tnil)) (Syntax.tcons (Syntax.tyInt Syntax.w8) Syntax.tnil))))) Syntax.tnil))))) (Syntax.tcons (Syntax.tyStruct
-                (99 ∷ 111 ∷ 111 ∷ 114 ∷ 100 ∷ 105 ∷ 110 ∷ 97 ∷ 116 ∷ 101 ∷ 58 ∷ 58 ∷ 77 ∷ 101 ∷ 97 ∷ 115 ∷ 117 ∷ 114 ∷ 101 ∷ []) (Syntax.tcons (Syntax.tyStruct
-                (99 ∷ 111 ∷ 111 ∷ 114 ∷ 100 ∷ 105 ∷ 110 ∷ 97 ∷ 116 ∷ 101 ∷ 58 ∷ 58 ∷ 80 ∷ 111 ∷ 115 ∷ 105 ∷ 116 ∷ 105 ∷ 111 ∷ 110 ∷ []) (Syntax.tcons
-                (Syntax.tyInt Syntax.w32) (Syntax.tcons (Syntax.tyInt Syntax.w32) (Syntax.tcons (Syntax.tyInt Syntax.w32) Syntax.tnil)))) (Syntax.tcons
-                (Syntax.tyInt Syntax.w32) (Syntax.tcons (Syntax.tyInt Syntax.w32) Syntax.tnil)))) (Syntax.tcons (Syntax.tyStruct (99 ∷ 111 ∷ 111 ∷ 114 ∷ 100 ∷
-                105 ∷ 110 ∷ 97 ∷ 116 ∷ 101 ∷ 58 ∷ 58 ∷ 83 ∷ 112 ∷ 101 ∷ 99 ∷ 105 ∷ 101 ∷ 115 ∷ []) (Syntax.tcons (Syntax.tyStruct (110 ∷ 97 ∷ 109 ∷ 101 ∷ 115 ∷
-                58 ∷ 58 ∷ 80 ∷ 97 ∷ 105 ∷ 114 ∷ []) (Syntax.tcons (Syntax.tyInt Syntax.w8) (Syntax.tcons (Syntax.tyInt Syntax.w8) Syntax.tnil))) (Syntax.tcons
-                (Syntax.tyStruct (110 ∷ 97 ∷ 109 ∷ 101 ∷ 115 ∷ 58 ∷ 58 ∷ 80 ∷ 97 ∷ 105 ∷ 114 ∷ []) (Syntax.tcons (Syntax.tyInt Syntax.w8) (Syntax.tcons
-                (Syntax.tyInt Syntax.w8) Syntax.tnil))) Syntax.tnil))) Syntax.tnil)))) Syntax.tnil)) (Syntax.ttcons (Syntax.tcons (Syntax.tyStruct (116 ∷ 101 ∷
-                114 ∷ 58 ∷ 58 ∷ 84 ∷ 101 ∷ 114 ∷ []) (Syntax.tcons (Syntax.tyStruct (102 ∷ 105 ∷ 101 ∷ 108 ∷ 100 ∷ 115 ∷ 58 ∷ 58 ∷ 83 ∷ 101 ∷ 114 ∷ 105 ∷ 97 ∷
-                108 ∷ []) (Syntax.tcons (Syntax.tyInt Syntax.w32) Syntax.tnil)) (Syntax.tcons (Syntax.tyStruct (114 ∷ 101 ∷ 115 ∷ 105 ∷ 100 ∷ 117 ∷ 101 ∷ 58 ∷ 58
-                ∷ 82 ∷ 101 ∷ 115 ∷ 105 ∷ 100 ∷ 117 ∷ 101 ∷ []) (Syntax.tcons (Syntax.tyStruct (110 ∷ 97 ∷ 109 ∷ 101 ∷ 115 ∷ 58 ∷ 58 ∷ 84 ∷ 104 ∷ 114 ∷ 101 ∷ 101
-                ∷ []) (Syntax.tcons (Syntax.tyInt Syntax.w8) (Syntax.tcons (Syntax.tyInt Syntax.w8) (Syntax.tcons (Syntax.tyInt Syntax.w8) Syntax.tnil))))
+                (Syntax.tyInt Syntax.w32) Syntax.tnil)) (Syntax.tcons (Syntax.tyInt Syntax.w8) Syntax.tnil))))) Syntax.tnil))) Syntax.tnil) (Syntax.ttcons
+                (Syntax.tcons (Syntax.tyStruct (104 ∷ 101 ∷ 108 ∷ 105 ∷ 120 ∷ 58 ∷ 58 ∷ 72 ∷ 101 ∷ 108 ∷ 105 ∷ 120 ∷ []) (Syntax.tcons (Syntax.tyStruct (104 ∷
+                101 ∷ 108 ∷ 105 ∷ 120 ∷ 58 ∷ 58 ∷ 69 ∷ 120 ∷ 116 ∷ 101 ∷ 110 ∷ 116 ∷ []) (Syntax.tcons (Syntax.tyInt Syntax.w32) (Syntax.tcons (Syntax.tyStruct
+                (110 ∷ 97 ∷ 109 ∷ 101 ∷ 115 ∷ 58 ∷ 58 ∷ 84 ∷ 104 ∷ 114 ∷ 101 ∷ 101 ∷ []) (Syntax.tcons (Syntax.tyInt Syntax.w8) (Syntax.tcons (Syntax.tyInt
+                Syntax.w8) (Syntax.tcons (Syntax.tyInt Syntax.w8) Syntax.tnil)))) (Syntax.tcons (Syntax.tyStruct (114 ∷ 101 ∷ 115 ∷ 105 ∷ 100 ∷ 117 ∷ 101 ∷ 58 ∷
+                58 ∷ 82 ∷ 101 ∷ 115 ∷ 105 ∷ 100 ∷ 117 ∷ 101 ∷ []) (Syntax.tcons (Syntax.tyStruct (110 ∷ 97 ∷ 109 ∷ 101 ∷ 115 ∷ 58 ∷ 58 ∷ 84 ∷ 104 ∷ 114 ∷ 101 ∷
+                101 ∷ []) (Syntax.tcons (Syntax.tyInt Syntax.w8) (Syntax.tcons (Syntax.tyInt Syntax.w8) (Syntax.tcons (Syntax.tyInt Syntax.w8) Syntax.tnil))))
                 (Syntax.tcons (Syntax.tyInt Syntax.w8) (Syntax.tcons (Syntax.tyStruct (102 ∷ 105 ∷ 101 ∷ 108 ∷ 100 ∷ 115 ∷ 58 ∷ 58 ∷ 82 ∷ 101 ∷ 115 ∷ 105 ∷ 100 ∷
                 117 ∷ 101 ∷ 78 ∷ 117 ∷ 109 ∷ 98 ∷ 101 ∷ 114 ∷ []) (Syntax.tcons (Syntax.tyInt Syntax.w32) Syntax.tnil)) (Syntax.tcons (Syntax.tyInt Syntax.w8)
-                Syntax.tnil))))) Syntax.tnil))) Syntax.tnil) (Syntax.ttcons (Syntax.tcons (Syntax.tyStruct (104 ∷ 101 ∷ 108 ∷ 105 ∷ 120 ∷ 58 ∷ 58 ∷ 72 ∷ 101 ∷
-                108 ∷ 105 ∷ 120 ∷ []) (Syntax.tcons (Syntax.tyStruct (104 ∷ 101 ∷ 108 ∷ 105 ∷ 120 ∷ 58 ∷ 58 ∷ 69 ∷ 120 ∷ 116 ∷ 101 ∷ 110 ∷ 116 ∷ [])
-                (Syntax.tcons (Syntax.tyInt Syntax.w32) (Syntax.tcons (Syntax.tyStruct (110 ∷ 97 ∷ 109 ∷ 101 ∷ 115 ∷ 58 ∷ 58 ∷ 84 ∷ 104 ∷ 114 ∷ 101 ∷ 101 ∷ [])
-                (Syntax.tcons (Syntax.tyInt Syntax.w8) (Syntax.tcons (Syntax.tyInt Syntax.w8) (Syntax.tcons (Syntax.tyInt Syntax.w8) Syntax.tnil))))
-                (Syntax.tcons (Syntax.tyStruct (114 ∷ 101 ∷ 115 ∷ 105 ∷ 100 ∷ 117 ∷ 101 ∷ 58 ∷ 58 ∷ 82 ∷ 101 ∷ 115 ∷ 105 ∷ 100 ∷ 117 ∷ 101 ∷ []) (Syntax.tcons
-                (Syntax.tyStruct (110 ∷ 97 ∷ 109 ∷ 101 ∷ 115 ∷ 58 ∷ 58 ∷ 84 ∷ 104 ∷ 114 ∷ 101 ∷ 101 ∷ []) (Syntax.tcons (Syntax.tyInt Syntax.w8) (Syntax.tcons
-                (Syntax.tyInt Syntax.w8) (Syntax.tcons (Syntax.tyInt Syntax.w8) Syntax.tnil)))) (Syntax.tcons (Syntax.tyInt Syntax.w8) (Syntax.tcons
-                (Syntax.tyStruct (102 ∷ 105 ∷ 101 ∷ 108 ∷ 100 ∷ 115 ∷ 58 ∷ 58 ∷ 82 ∷ 101 ∷ 115 ∷ 105 ∷ 100 ∷ 117 ∷ 101 ∷ 78 ∷ 117 ∷ 109 ∷ 98 ∷ 101 ∷ 114 ∷ [])
-                (Syntax.tcons (Syntax.tyInt Syntax.w32) Syntax.tnil)) (Syntax.tcons (Syntax.tyInt Syntax.w8) Syntax.tnil))))) (Syntax.tcons (Syntax.tyStruct (114
-                ∷ 101 ∷ 115 ∷ 105 ∷ 100 ∷ 117 ∷ 101 ∷ 58 ∷ 58 ∷ 82 ∷ 101 ∷ 115 ∷ 105 ∷ 100 ∷ 117 ∷ 101 ∷ []) (Syntax.tcons (Syntax.tyStruct (110 ∷ 97 ∷ 109 ∷ 101
-                ∷ 115 ∷ 58 ∷ 58 ∷ 84 ∷ 104 ∷ 114 ∷ 101 ∷ 101 ∷ []) (Syntax.tcons (Syntax.tyInt Syntax.w8) (Syntax.tcons (Syntax.tyInt Syntax.w8) (Syntax.tcons
-                (Syntax.tyInt Syntax.w8) Syntax.tnil)))) (Syntax.tcons (Syntax.tyInt Syntax.w8) (Syntax.tcons (Syntax.tyStruct (102 ∷ 105 ∷ 101 ∷ 108 ∷ 100 ∷ 115
-                ∷ 58 ∷ 58 ∷ 82 ∷ 101 ∷ 115 ∷ 105 ∷ 100 ∷ 117 ∷ 101 ∷ 78 ∷ 117 ∷ 109 ∷ 98 ∷ 101 ∷ 114 ∷ []) (Syntax.tcons (Syntax.tyInt Syntax.w32) Syntax.tnil))
-                (Syntax.tcons (Syntax.tyInt Syntax.w8) Syntax.tnil))))) Syntax.tnil))))) (Syntax.tcons (Syntax.tyInt Syntax.w32) (Syntax.tcons (Syntax.tyStruct
-                (104 ∷ 101 ∷ 108 ∷ 105 ∷ 120 ∷ 58 ∷ 58 ∷ 67 ∷ 111 ∷ 109 ∷ 109 ∷ 101 ∷ 110 ∷ 116 ∷ []) (Syntax.tcons (Syntax.tyInt Syntax.w64) (Syntax.tcons
-                (Syntax.tyInt Syntax.w64) (Syntax.tcons (Syntax.tyInt Syntax.w64) (Syntax.tcons (Syntax.tyInt Syntax.w64) Syntax.tnil))))) (Syntax.tcons
-                (Syntax.tyInt Syntax.w32) Syntax.tnil))))) Syntax.tnil) (Syntax.ttcons (Syntax.tcons (Syntax.tyStruct (115 ∷ 104 ∷ 101 ∷ 101 ∷ 116 ∷ 58 ∷ 58 ∷ 83
-                ∷ 104 ∷ 101 ∷ 101 ∷ 116 ∷ []) (Syntax.tcons (Syntax.tyStruct (115 ∷ 104 ∷ 101 ∷ 101 ∷ 116 ∷ 58 ∷ 58 ∷ 83 ∷ 116 ∷ 114 ∷ 97 ∷ 110 ∷ 100 ∷ [])
-                (Syntax.tcons (Syntax.tyInt Syntax.w32) (Syntax.tcons (Syntax.tyStruct (110 ∷ 97 ∷ 109 ∷ 101 ∷ 115 ∷ 58 ∷ 58 ∷ 84 ∷ 104 ∷ 114 ∷ 101 ∷ 101 ∷ [])
-                (Syntax.tcons (Syntax.tyInt Syntax.w8) (Syntax.tcons (Syntax.tyInt Syntax.w8) (Syntax.tcons (Syntax.tyInt Syntax.w8) Syntax.tnil))))
-                (Syntax.tcons (Syntax.tyInt Syntax.w32) (Syntax.tcons (Syntax.tyStruct (114 ∷ 101 ∷ 115 ∷ 105 ∷ 100 ∷ 117 ∷ 101 ∷ 58 ∷ 58 ∷ 82 ∷ 101 ∷ 115 ∷ 105
-                ∷ 100 ∷ 117 ∷ 101 ∷ []) (Syntax.tcons (Syntax.tyStruct (110 ∷ 97 ∷ 109 ∷ 101 ∷ 115 ∷ 58 ∷ 58 ∷ 84 ∷ 104 ∷ 114 ∷ 101 ∷ 101 ∷ []) (Syntax.tcons
-                (Syntax.tyInt Syntax.w8) (Syntax.tcons (Syntax.tyInt Syntax.w8) (Syntax.tcons (Syntax.tyInt Syntax.w8) Syntax.tnil)))) (Syntax.tcons
-                (Syntax.tyInt Syntax.w8) (Syntax.tcons (Syntax.tyStruct (102 ∷ 105 ∷ 101 ∷ 108 ∷ 100 ∷ 115 ∷ 58 ∷ 58 ∷ 82 ∷ 101 ∷ 115 ∷ 105 ∷ 100 ∷ 117 ∷ 101 ∷
-                78 ∷ 117 ∷ 109 ∷ 98 ∷ 101 ∷ 114 ∷ []) (Syntax.tcons (Syntax.tyInt Syntax.w32) Syntax.tnil)) (Syntax.tcons (Syntax.tyInt Syntax.w8)
                 Syntax.tnil))))) (Syntax.tcons (Syntax.tyStruct (114 ∷ 101 ∷ 115 ∷ 105 ∷ 100 ∷ 117 ∷ 101 ∷ 58 ∷ 58 ∷ 82 ∷ 101 ∷ 115 ∷ 105 ∷ 100 ∷ 117 ∷ 101 ∷ [])
                 (Syntax.tcons (Syntax.tyStruct (110 ∷ 97 ∷ 109 ∷ 101 ∷ 115 ∷ 58 ∷ 58 ∷ 84 ∷ 104 ∷ 114 ∷ 101 ∷ 101 ∷ []) (Syntax.tcons (Syntax.tyInt Syntax.w8)
                 (Syntax.tcons (Syntax.tyInt Syntax.w8) (Syntax.tcons (Syntax.tyInt Syntax.w8) Syntax.tnil)))) (Syntax.tcons (Syntax.tyInt Syntax.w8)
                 (Syntax.tcons (Syntax.tyStruct (102 ∷ 105 ∷ 101 ∷ 108 ∷ 100 ∷ 115 ∷ 58 ∷ 58 ∷ 82 ∷ 101 ∷ 115 ∷ 105 ∷ 100 ∷ 117 ∷ 101 ∷ 78 ∷ 117 ∷ 109 ∷ 98 ∷ 101
-                ∷ 114 ∷ []) (Syntax.tcons (Syntax.tyInt Syntax.w32) Syntax.tnil)) (Syntax.tcons (Syntax.tyInt Syntax.w8) Syntax.tnil))))) (Syntax.tcons
-                (Syntax.tyInt Syntax.w32) Syntax.tnil))))))) (Syntax.tcons (Syntax.tyEnum (115 ∷ 104 ∷ 101 ∷ 101 ∷ 116 ∷ 58 ∷ 58 ∷ 82 ∷ 101 ∷ 103 ∷ 105 ∷ 115 ∷
-                116 ∷ 114 ∷ 97 ∷ 116 ∷ 105 ∷ 111 ∷ 110 ∷ []) (Syntax.ttcons Syntax.tnil (Syntax.ttcons (Syntax.tcons (Syntax.tyStruct (115 ∷ 104 ∷ 101 ∷ 101 ∷
-                116 ∷ 58 ∷ 58 ∷ 66 ∷ 111 ∷ 110 ∷ 100 ∷ []) (Syntax.tcons (Syntax.tyStruct (110 ∷ 97 ∷ 109 ∷ 101 ∷ 115 ∷ 58 ∷ 58 ∷ 70 ∷ 111 ∷ 117 ∷ 114 ∷ [])
-                (Syntax.tcons (Syntax.tyInt Syntax.w8) (Syntax.tcons (Syntax.tyInt Syntax.w8) (Syntax.tcons (Syntax.tyInt Syntax.w8) (Syntax.tcons (Syntax.tyInt
-                Syntax.w8) Syntax.tnil))))) (Syntax.tcons (Syntax.tyStruct (114 ∷ 101 ∷ 115 ∷ 105 ∷ 100 ∷ 117 ∷ 101 ∷ 58 ∷ 58 ∷ 82 ∷ 101 ∷ 115 ∷ 105 ∷ 100 ∷ 117
-                ∷ 101 ∷ []) (Syntax.tcons (Syntax.tyStruct (110 ∷ 97 ∷ 109 ∷ 101 ∷ 115 ∷ 58 ∷ 58 ∷ 84 ∷ 104 ∷ 114 ∷ 101 ∷ 101 ∷ []) (Syntax.tcons (Syntax.tyInt
-                Syntax.w8) (Syntax.tcons (Syntax.tyInt Syntax.w8) (Syntax.tcons (Syntax.tyInt Syntax.w8) Syntax.tnil)))) (Syntax.tcons (Syntax.tyInt Syntax.w8)
-                (Syntax.tcons (Syntax.tyStruct (102 ∷ 105 ∷ 101 ∷ 108 ∷ 100 ∷ 115 ∷ 58 ∷ 58 ∷ 82 ∷ 101 ∷ 115 ∷ 105 ∷ 100 ∷ 117 ∷ 101 ∷ 78 ∷ 117 ∷ 109 ∷ 98 ∷ 101
-                ∷ 114 ∷ []) (Syntax.tcons (Syntax.tyInt Syntax.w32) Syntax.tnil)) (Syntax.tcons (Syntax.tyInt Syntax.w8) Syntax.tnil))))) (Syntax.tcons
-                (Syntax.tyStruct (110 ∷ 97 ∷ 109 ∷ 101 ∷ 115 ∷ 58 ∷ 58 ∷ 70 ∷ 111 ∷ 117 ∷ 114 ∷ []) (Syntax.tcons (Syntax.tyInt Syntax.w8) (Syntax.tcons
-                (Syntax.tyInt Syntax.w8) (Syntax.tcons (Syntax.tyInt Syntax.w8) (Syntax.tcons (Syntax.tyInt Syntax.w8) Syntax.tnil))))) (Syntax.tcons
-                (Syntax.tyStruct (114 ∷ 101 ∷ 115 ∷ 105 ∷ 100 ∷ 117 ∷ 101 ∷ 58 ∷ 58 ∷ 82 ∷ 101 ∷ 115 ∷ 105 ∷ 100 ∷ 117 ∷ 101 ∷ []) (Syntax.tcons (Syntax.tyStruct
-                (110 ∷ 97 ∷ 109 ∷ 101 ∷ 115 ∷ 58 ∷ 58 ∷ 84 ∷ 104 ∷ 114 ∷ 101 ∷ 101 ∷ []) (Syntax.tcons (Syntax.tyInt Syntax.w8) (Syntax.tcons (Syntax.tyInt
-                Syntax.w8) (Syntax.tcons (Syntax.tyInt Syntax.w8) Syntax.tnil)))) (Syntax.tcons (Syntax.tyInt Syntax.w8) (Syntax.tcons (Syntax.tyStruct (102 ∷
-                105 ∷ 101 ∷ 108 ∷ 100 ∷ 115 ∷ 58 ∷ 58 ∷ 82 ∷ 101 ∷ 115 ∷ 105 ∷ 100 ∷ 117 ∷ 101 ∷ 78 ∷ 117 ∷ 109 ∷ 98 ∷ 101 ∷ 114 ∷ []) (Syntax.tcons
-                (Syntax.tyInt Syntax.w32) Syntax.tnil)) (Syntax.tcons (Syntax.tyInt Syntax.w8) Syntax.tnil))))) Syntax.tnil))))) Syntax.tnil) Syntax.ttnil)))
-                Syntax.tnil))) Syntax.tnil) (Syntax.ttcons (Syntax.tcons (Syntax.tyStruct (99 ∷ 111 ∷ 110 ∷ 101 ∷ 99 ∷ 116 ∷ 58 ∷ 58 ∷ 67 ∷ 111 ∷ 110 ∷ 101 ∷ 99
-                ∷ 116 ∷ []) (Syntax.tcons (Syntax.tyStruct (102 ∷ 105 ∷ 101 ∷ 108 ∷ 100 ∷ 115 ∷ 58 ∷ 58 ∷ 83 ∷ 101 ∷ 114 ∷ 105 ∷ 97 ∷ 108 ∷ []) (Syntax.tcons
-                (Syntax.tyInt Syntax.w32) Syntax.tnil)) (Syntax.tcons (Syntax.tyStruct (102 ∷ 105 ∷ 101 ∷ 108 ∷ 100 ∷ 115 ∷ 58 ∷ 58 ∷ 83 ∷ 101 ∷ 114 ∷ 105 ∷ 97 ∷
-                108 ∷ []) (Syntax.tcons (Syntax.tyInt Syntax.w32) Syntax.tnil)) (Syntax.tcons (Syntax.tyStruct (102 ∷ 105 ∷ 101 ∷ 108 ∷ 100 ∷ 115 ∷ 58 ∷ 58 ∷ 83
-                ∷ 101 ∷ 114 ∷ 105 ∷ 97 ∷ 108 ∷ []) (Syntax.tcons (Syntax.tyInt Syntax.w32) Syntax.tnil)) (Syntax.tcons (Syntax.tyStruct (102 ∷ 105 ∷ 101 ∷ 108 ∷
-                100 ∷ 115 ∷ 58 ∷ 58 ∷ 83 ∷ 101 ∷ 114 ∷ 105 ∷ 97 ∷ 108 ∷ []) (Syntax.tcons (Syntax.tyInt Syntax.w32) Syntax.tnil)) (Syntax.tcons (Syntax.tyStruct
-                (102 ∷ 105 ∷ 101 ∷ 108 ∷ 100 ∷ 115 ∷ 58 ∷ 58 ∷ 83 ∷ 101 ∷ 114 ∷ 105 ∷ 97 ∷ 108 ∷ []) (Syntax.tcons (Syntax.tyInt Syntax.w32) Syntax.tnil))
-                Syntax.tnil)))))) Syntax.tnil) (Syntax.ttcons (Syntax.tcons (Syntax.tyStruct (109 ∷ 97 ∷ 115 ∷ 116 ∷ 101 ∷ 114 ∷ 58 ∷ 58 ∷ 84 ∷ 97 ∷ 108 ∷ 108 ∷
-                121 ∷ []) (Syntax.tcons (Syntax.tyInt Syntax.w32) (Syntax.tcons (Syntax.tyInt Syntax.w32) (Syntax.tcons (Syntax.tyInt Syntax.w32) (Syntax.tcons
-                (Syntax.tyInt Syntax.w32) (Syntax.tcons (Syntax.tyInt Syntax.w32) (Syntax.tcons (Syntax.tyInt Syntax.w32) (Syntax.tcons (Syntax.tyInt Syntax.w32)
-                (Syntax.tcons (Syntax.tyInt Syntax.w32) (Syntax.tcons (Syntax.tyInt Syntax.w32) Syntax.tnil)))))))))) Syntax.tnil) (Syntax.ttcons Syntax.tnil
-                (Syntax.ttcons (Syntax.tcons (Syntax.tyStruct (109 ∷ 111 ∷ 100 ∷ 101 ∷ 108 ∷ 58 ∷ 58 ∷ 77 ∷ 111 ∷ 100 ∷ 101 ∷ 108 ∷ []) (Syntax.tcons
-                (Syntax.tyInt Syntax.w32) Syntax.tnil)) Syntax.tnil) (Syntax.ttcons Syntax.tnil Syntax.ttnil)))))))))) Syntax.tnil) Syntax.ttnil)))))
-                Path'.refl)) d11
+                ∷ 114 ∷ []) (Syntax.tcons (Syntax.tyInt Syntax.w32) Syntax.tnil)) (Syntax.tcons (Syntax.tyInt Syntax.w8) Syntax.tnil))))) Syntax.tnil)))))
+                (Syntax.tcons (Syntax.tyInt Syntax.w32) (Syntax.tcons (Syntax.tyStruct (104 ∷ 101 ∷ 108 ∷ 105 ∷ 120 ∷ 58 ∷ 58 ∷ 67 ∷ 111 ∷ 109 ∷ 109 ∷ 101 ∷ 110
+                ∷ 116 ∷ []) (Syntax.tcons (Syntax.tyInt Syntax.w64) (Syntax.tcons (Syntax.tyInt Syntax.w64) (Syntax.tcons (Syntax.tyInt Syntax.w64) (Syntax.tcons
+                (Syntax.tyInt Syntax.w64) Syntax.tnil))))) (Syntax.tcons (Syntax.tyInt Syntax.w32) Syntax.tnil))))) Syntax.tnil) (Syntax.ttcons (Syntax.tcons
+                (Syntax.tyStruct (115 ∷ 104 ∷ 101 ∷ 101 ∷ 116 ∷ 58 ∷ 58 ∷ 83 ∷ 104 ∷ 101 ∷ 101 ∷ 116 ∷ []) (Syntax.tcons (Syntax.tyStruct (115 ∷ 104 ∷ 101 ∷ 101
+                ∷ 116 ∷ 58 ∷ 58 ∷ 83 ∷ 116 ∷ 114 ∷ 97 ∷ 110 ∷ 100 ∷ []) (Syntax.tcons (Syntax.tyInt Syntax.w32) (Syntax.tcons (Syntax.tyStruct (110 ∷ 97 ∷ 109 ∷
+                101 ∷ 115 ∷ 58 ∷ 58 ∷ 84 ∷ 104 ∷ 114 ∷ 101 ∷ 101 ∷ []) (Syntax.tcons (Syntax.tyInt Syntax.w8) (Syntax.tcons (Syntax.tyInt Syntax.w8)
+                (Syntax.tcons (Syntax.tyInt Syntax.w8) Syntax.tnil)))) (Syntax.tcons (Syntax.tyInt Syntax.w32) (Syntax.tcons (Syntax.tyStruct (114 ∷ 101 ∷ 115 ∷
+                105 ∷ 100 ∷ 117 ∷ 101 ∷ 58 ∷ 58 ∷ 82 ∷ 101 ∷ 115 ∷ 105 ∷ 100 ∷ 117 ∷ 101 ∷ []) (Syntax.tcons (Syntax.tyStruct (110 ∷ 97 ∷ 109 ∷ 101 ∷ 115 ∷ 58 ∷
+                58 ∷ 84 ∷ 104 ∷ 114 ∷ 101 ∷ 101 ∷ []) (Syntax.tcons (Syntax.tyInt Syntax.w8) (Syntax.tcons (Syntax.tyInt Syntax.w8) (Syntax.tcons (Syntax.tyInt
+                Syntax.w8) Syntax.tnil)))) (Syntax.tcons (Syntax.tyInt Syntax.w8) (Syntax.tcons (Syntax.tyStruct (102 ∷ 105 ∷ 101 ∷ 108 ∷ 100 ∷ 115 ∷ 58 ∷ 58 ∷
+                82 ∷ 101 ∷ 115 ∷ 105 ∷ 100 ∷ 117 ∷ 101 ∷ 78 ∷ 117 ∷ 109 ∷ 98 ∷ 101 ∷ 114 ∷ []) (Syntax.tcons (Syntax.tyInt Syntax.w32) Syntax.tnil))
+                (Syntax.tcons (Syntax.tyInt Syntax.w8) Syntax.tnil))))) (Syntax.tcons (Syntax.tyStruct (114 ∷ 101 ∷ 115 ∷ 105 ∷ 100 ∷ 117 ∷ 101 ∷ 58 ∷ 58 ∷ 82 ∷
+                101 ∷ 115 ∷ 105 ∷ 100 ∷ 117 ∷ 101 ∷ []) (Syntax.tcons (Syntax.tyStruct (110 ∷ 97 ∷ 109 ∷ 101 ∷ 115 ∷ 58 ∷ 58 ∷ 84 ∷ 104 ∷ 114 ∷ 101 ∷ 101 ∷ [])
+                (Syntax.tcons (Syntax.tyInt Syntax.w8) (Syntax.tcons (Syntax.tyInt Syntax.w8) (Syntax.tcons (Syntax.tyInt Syntax.w8) Syntax.tnil))))
+                (Syntax.tcons (Syntax.tyInt Syntax.w8) (Syntax.tcons (Syntax.tyStruct (102 ∷ 105 ∷ 101 ∷ 108 ∷ 100 ∷ 115 ∷ 58 ∷ 58 ∷ 82 ∷ 101 ∷ 115 ∷ 105 ∷ 100 ∷
+                117 ∷ 101 ∷ 78 ∷ 117 ∷ 109 ∷ 98 ∷ 101 ∷ 114 ∷ []) (Syntax.tcons (Syntax.tyInt Syntax.w32) Syntax.tnil)) (Syntax.tcons (Syntax.tyInt Syntax.w8)
+                Syntax.tnil))))) (Syntax.tcons (Syntax.tyInt Syntax.w32) Syntax.tnil))))))) (Syntax.tcons (Syntax.tyEnum (115 ∷ 104 ∷ 101 ∷ 101 ∷ 116 ∷ 58 ∷ 58 ∷
+                82 ∷ 101 ∷ 103 ∷ 105 ∷ 115 ∷ 116 ∷ 114 ∷ 97 ∷ 116 ∷ 105 ∷ 111 ∷ 110 ∷ []) (Syntax.ttcons Syntax.tnil (Syntax.ttcons (Syntax.tcons
+                (Syntax.tyStruct (115 ∷ 104 ∷ 101 ∷ 101 ∷ 116 ∷ 58 ∷ 58 ∷ 66 ∷ 111 ∷ 110 ∷ 100 ∷ []) (Syntax.tcons (Syntax.tyStruct (110 ∷ 97 ∷ 109 ∷ 101 ∷ 115 ∷
+                58 ∷ 58 ∷ 70 ∷ 111 ∷ 117 ∷ 114 ∷ []) (Syntax.tcons (Syntax.tyInt Syntax.w8) (Syntax.tcons (Syntax.tyInt Syntax.w8) (Syntax.tcons (Syntax.tyInt
+                Syntax.w8) (Syntax.tcons (Syntax.tyInt Syntax.w8) Syntax.tnil))))) (Syntax.tcons (Syntax.tyStruct (114 ∷ 101 ∷ 115 ∷ 105 ∷ 100 ∷ 117 ∷ 101 ∷ 58 ∷
+                58 ∷ 82 ∷ 101 ∷ 115 ∷ 105 ∷ 100 ∷ 117 ∷ 101 ∷ []) (Syntax.tcons (Syntax.tyStruct (110 ∷ 97 ∷ 109 ∷ 101 ∷ 115 ∷ 58 ∷ 58 ∷ 84 ∷ 104 ∷ 114 ∷ 101 ∷
+                101 ∷ []) (Syntax.tcons (Syntax.tyInt Syntax.w8) (Syntax.tcons (Syntax.tyInt Syntax.w8) (Syntax.tcons (Syntax.tyInt Syntax.w8) Syntax.tnil))))
+                (Syntax.tcons (Syntax.tyInt Syntax.w8) (Syntax.tcons (Syntax.tyStruct (102 ∷ 105 ∷ 101 ∷ 108 ∷ 100 ∷ 115 ∷ 58 ∷ 58 ∷ 82 ∷ 101 ∷ 115 ∷ 105 ∷ 100 ∷
+                117 ∷ 101 ∷ 78 ∷ 117 ∷ 109 ∷ 98 ∷ 101 ∷ 114 ∷ []) (Syntax.tcons (Syntax.tyInt Syntax.w32) Syntax.tnil)) (Syntax.tcons (Syntax.tyInt Syntax.w8)
+                Syntax.tnil))))) (Syntax.tcons (Syntax.tyStruct (110 ∷ 97 ∷ 109 ∷ 101 ∷ 115 ∷ 58 ∷ 58 ∷ 70 ∷ 111 ∷ 117 ∷ 114 ∷ []) (Syntax.tcons (Syntax.tyInt
+                Syntax.w8) (Syntax.tcons (Syntax.tyInt Syntax.w8) (Syntax.tcons (Syntax.tyInt Syntax.w8) (Syntax.tcons (Syntax.tyInt Syntax.w8) Syntax.tnil)))))
+                (Syntax.tcons (Syntax.tyStruct (114 ∷ 101 ∷ 115 ∷ 105 ∷ 100 ∷ 117 ∷ 101 ∷ 58 ∷ 58 ∷ 82 ∷ 101 ∷ 115 ∷ 105 ∷ 100 ∷ 117 ∷ 101 ∷ []) (Syntax.tcons
+                (Syntax.tyStruct (110 ∷ 97 ∷ 109 ∷ 101 ∷ 115 ∷ 58 ∷ 58 ∷ 84 ∷ 104 ∷ 114 ∷ 101 ∷ 101 ∷ []) (Syntax.tcons (Syntax.tyInt Syntax.w8) (Syntax.tcons
+                (Syntax.tyInt Syntax.w8) (Syntax.tcons (Syntax.tyInt Syntax.w8) Syntax.tnil)))) (Syntax.tcons (Syntax.tyInt Syntax.w8) (Syntax.tcons
+                (Syntax.tyStruct (102 ∷ 105 ∷ 101 ∷ 108 ∷ 100 ∷ 115 ∷ 58 ∷ 58 ∷ 82 ∷ 101 ∷ 115 ∷ 105 ∷ 100 ∷ 117 ∷ 101 ∷ 78 ∷ 117 ∷ 109 ∷ 98 ∷ 101 ∷ 114 ∷ [])
+                (Syntax.tcons (Syntax.tyInt Syntax.w32) Syntax.tnil)) (Syntax.tcons (Syntax.tyInt Syntax.w8) Syntax.tnil))))) Syntax.tnil))))) Syntax.tnil)
+                Syntax.ttnil))) Syntax.tnil))) Syntax.tnil) (Syntax.ttcons (Syntax.tcons (Syntax.tyStruct (99 ∷ 111 ∷ 110 ∷ 101 ∷ 99 ∷ 116 ∷ 58 ∷ 58 ∷ 67 ∷ 111 ∷
+                110 ∷ 101 ∷ 99 ∷ 116 ∷ []) (Syntax.tcons (Syntax.tyStruct (102 ∷ 105 ∷ 101 ∷ 108 ∷ 100 ∷ 115 ∷ 58 ∷ 58 ∷ 83 ∷ 101 ∷ 114 ∷ 105 ∷ 97 ∷ 108 ∷ [])
+                (Syntax.tcons (Syntax.tyInt Syntax.w32) Syntax.tnil)) (Syntax.tcons (Syntax.tyStruct (102 ∷ 105 ∷ 101 ∷ 108 ∷ 100 ∷ 115 ∷ 58 ∷ 58 ∷ 83 ∷ 101 ∷
+                114 ∷ 105 ∷ 97 ∷ 108 ∷ []) (Syntax.tcons (Syntax.tyInt Syntax.w32) Syntax.tnil)) (Syntax.tcons (Syntax.tyStruct (102 ∷ 105 ∷ 101 ∷ 108 ∷ 100 ∷
+                115 ∷ 58 ∷ 58 ∷ 83 ∷ 101 ∷ 114 ∷ 105 ∷ 97 ∷ 108 ∷ []) (Syntax.tcons (Syntax.tyInt Syntax.w32) Syntax.tnil)) (Syntax.tcons (Syntax.tyStruct (102 ∷
+                105 ∷ 101 ∷ 108 ∷ 100 ∷ 115 ∷ 58 ∷ 58 ∷ 83 ∷ 101 ∷ 114 ∷ 105 ∷ 97 ∷ 108 ∷ []) (Syntax.tcons (Syntax.tyInt Syntax.w32) Syntax.tnil)) (Syntax.tcons
+                (Syntax.tyStruct (102 ∷ 105 ∷ 101 ∷ 108 ∷ 100 ∷ 115 ∷ 58 ∷ 58 ∷ 83 ∷ 101 ∷ 114 ∷ 105 ∷ 97 ∷ 108 ∷ []) (Syntax.tcons (Syntax.tyInt Syntax.w32)
+                Syntax.tnil)) Syntax.tnil)))))) Syntax.tnil) (Syntax.ttcons (Syntax.tcons (Syntax.tyStruct (109 ∷ 97 ∷ 115 ∷ 116 ∷ 101 ∷ 114 ∷ 58 ∷ 58 ∷ 84 ∷ 97
+                ∷ 108 ∷ 108 ∷ 121 ∷ []) (Syntax.tcons (Syntax.tyInt Syntax.w32) (Syntax.tcons (Syntax.tyInt Syntax.w32) (Syntax.tcons (Syntax.tyInt Syntax.w32)
+                (Syntax.tcons (Syntax.tyInt Syntax.w32) (Syntax.tcons (Syntax.tyInt Syntax.w32) (Syntax.tcons (Syntax.tyInt Syntax.w32) (Syntax.tcons
+                (Syntax.tyInt Syntax.w32) (Syntax.tcons (Syntax.tyInt Syntax.w32) (Syntax.tcons (Syntax.tyInt Syntax.w32) Syntax.tnil)))))))))) Syntax.tnil)
+                (Syntax.ttcons Syntax.tnil (Syntax.ttcons (Syntax.tcons (Syntax.tyStruct (109 ∷ 111 ∷ 100 ∷ 101 ∷ 108 ∷ 58 ∷ 58 ∷ 77 ∷ 111 ∷ 100 ∷ 101 ∷ 108 ∷
+                []) (Syntax.tcons (Syntax.tyInt Syntax.w32) Syntax.tnil)) Syntax.tnil) (Syntax.ttcons Syntax.tnil (Syntax.ttcons (Syntax.tcons (Syntax.tyStruct
+                (99 ∷ 101 ∷ 108 ∷ 108 ∷ 58 ∷ 58 ∷ 67 ∷ 101 ∷ 108 ∷ 108 ∷ []) (Syntax.tcons (Syntax.tyStruct (99 ∷ 101 ∷ 108 ∷ 108 ∷ 58 ∷ 58 ∷ 69 ∷ 100 ∷ 103 ∷
+                101 ∷ 115 ∷ []) (Syntax.tcons (Syntax.tyInt Syntax.w32) (Syntax.tcons (Syntax.tyInt Syntax.w32) (Syntax.tcons (Syntax.tyInt Syntax.w32)
+                Syntax.tnil)))) (Syntax.tcons (Syntax.tyStruct (99 ∷ 101 ∷ 108 ∷ 108 ∷ 58 ∷ 58 ∷ 65 ∷ 110 ∷ 103 ∷ 108 ∷ 101 ∷ 115 ∷ []) (Syntax.tcons
+                (Syntax.tyInt Syntax.w32) (Syntax.tcons (Syntax.tyInt Syntax.w32) (Syntax.tcons (Syntax.tyInt Syntax.w32) Syntax.tnil)))) (Syntax.tcons
+                (Syntax.tyStruct (99 ∷ 101 ∷ 108 ∷ 108 ∷ 58 ∷ 58 ∷ 71 ∷ 114 ∷ 111 ∷ 117 ∷ 112 ∷ []) (Syntax.tcons (Syntax.tyStruct (110 ∷ 97 ∷ 109 ∷ 101 ∷ 115 ∷
+                58 ∷ 58 ∷ 70 ∷ 111 ∷ 117 ∷ 114 ∷ []) (Syntax.tcons (Syntax.tyInt Syntax.w8) (Syntax.tcons (Syntax.tyInt Syntax.w8) (Syntax.tcons (Syntax.tyInt
+                Syntax.w8) (Syntax.tcons (Syntax.tyInt Syntax.w8) Syntax.tnil))))) (Syntax.tcons (Syntax.tyStruct (110 ∷ 97 ∷ 109 ∷ 101 ∷ 115 ∷ 58 ∷ 58 ∷ 70 ∷
+                111 ∷ 117 ∷ 114 ∷ []) (Syntax.tcons (Syntax.tyInt Syntax.w8) (Syntax.tcons (Syntax.tyInt Syntax.w8) (Syntax.tcons (Syntax.tyInt Syntax.w8)
+                (Syntax.tcons (Syntax.tyInt Syntax.w8) Syntax.tnil))))) (Syntax.tcons (Syntax.tyStruct (110 ∷ 97 ∷ 109 ∷ 101 ∷ 115 ∷ 58 ∷ 58 ∷ 84 ∷ 104 ∷ 114 ∷
+                101 ∷ 101 ∷ []) (Syntax.tcons (Syntax.tyInt Syntax.w8) (Syntax.tcons (Syntax.tyInt Syntax.w8) (Syntax.tcons (Syntax.tyInt Syntax.w8)
+                Syntax.tnil)))) Syntax.tnil)))) (Syntax.tcons (Syntax.tyInt Syntax.w32) Syntax.tnil))))) Syntax.tnil) (Syntax.ttcons (Syntax.tcons Syntax.tyBool
+                (Syntax.tcons (Syntax.tyEnum (116 ∷ 114 ∷ 97 ∷ 110 ∷ 115 ∷ 102 ∷ 111 ∷ 114 ∷ 109 ∷ 58 ∷ 58 ∷ 65 ∷ 120 ∷ 105 ∷ 115 ∷ []) (Syntax.ttcons
+                Syntax.tnil (Syntax.ttcons Syntax.tnil (Syntax.ttcons Syntax.tnil Syntax.ttnil)))) (Syntax.tcons (Syntax.tyStruct (116 ∷ 114 ∷ 97 ∷ 110 ∷ 115 ∷
+                102 ∷ 111 ∷ 114 ∷ 109 ∷ 58 ∷ 58 ∷ 84 ∷ 114 ∷ 97 ∷ 110 ∷ 115 ∷ 102 ∷ 111 ∷ 114 ∷ 109 ∷ []) (Syntax.tcons (Syntax.tyStruct (116 ∷ 114 ∷ 97 ∷ 110 ∷
+                115 ∷ 102 ∷ 111 ∷ 114 ∷ 109 ∷ 58 ∷ 58 ∷ 67 ∷ 111 ∷ 101 ∷ 102 ∷ 102 ∷ 105 ∷ 99 ∷ 105 ∷ 101 ∷ 110 ∷ 116 ∷ 115 ∷ []) (Syntax.tcons (Syntax.tyInt
+                Syntax.w32) (Syntax.tcons (Syntax.tyInt Syntax.w32) (Syntax.tcons (Syntax.tyInt Syntax.w32) Syntax.tnil)))) (Syntax.tcons (Syntax.tyInt
+                Syntax.w32) Syntax.tnil))) Syntax.tnil))) Syntax.ttnil)))))))))))) Syntax.tnil) Syntax.ttnil))))) Path'.refl)) d11
 
             d13 : Typed.Typed 𝓤 H A 𝓣 E G2 b11 Δ1 at13
             d13 = Scalar.t-cond 𝓤 H A W E 𝓣 G2 6 (λ x. x) b9 b10 Δ1 at9 at12 (Scalar.reads-sc 𝓤 H A W Row.sBool) Path'.refl d9 d12

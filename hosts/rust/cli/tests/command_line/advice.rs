@@ -2,6 +2,7 @@
 
 use std::time::{Duration, Instant};
 
+use crate::fields::{CRYST1, SCALES};
 use crate::folder::Folder;
 use crate::texts::{atom, line, master, three};
 
@@ -63,6 +64,33 @@ fn lines_left_out_are_counted() {
     answer.is(1, "line 11: refused with 11: a count on MASTER is not the true one");
     answer.is(1, "In all 4 offences");
     assert!(!answer.out.contains("line 12"), "{answer:?}");
+}
+
+/// A wrong line of a trio does not make all below it offend.
+#[test]
+fn trios_stay_whole() {
+    let folder = Folder::new("all-trios");
+    let atoms: String = (1..50).map(|serial| atom("HETATM", serial, 'A', serial as i32, "0.000")).collect();
+    let mut master = master(49, 0, 0);
+    master.replace_range(45..50, "    3");
+    let entry =
+        |lines: &[String]| [&[line("HEADER")], lines, &[atoms.clone(), master.clone(), line("END")]].concat().concat();
+    let right: Vec<String> = [&[CRYST1][..], &SCALES].concat().into_iter().map(line).collect();
+    folder.file("a.pdb", entry(&right));
+    folder.station(&["check", "--all", "a.pdb"]).is(0, "granted: 56 lines");
+    for (wrong, number) in [("SCALE2\n".to_owned(), 2), (line("SCALE2"), 6), (right[2].replace("0.0", "0\t0"), 3)] {
+        let mut lines = right.clone();
+        lines[2] = wrong;
+        folder.file("a.pdb", entry(&lines));
+        let answer = folder.station(&["check", "--all", "a.pdb"]);
+        answer.is(1, &format!("a.pdb: line 4: refused with {number}: "));
+        answer.is(1, "In all 1 offence, and 0 lines");
+    }
+    let all: Vec<String> = right.iter().map(|line| line.replace('.', ",")).collect();
+    folder.file("a.pdb", entry(&all));
+    let answer = folder.station(&["check", "--all", "a.pdb"]);
+    answer.is(1, "lines 4 to 5, 2 of them: refused with 6");
+    answer.is(1, "In all 4 offences, and 0 lines");
 }
 
 #[test]

@@ -95,6 +95,7 @@ fn check_lists_what_the_report_program_prints() {
         ("accepted", 0, stored("accepted.in")),
         ("refused", 1, stored("refused.in")),
         ("wrong_field", 1, stored("wrong_field.in")),
+        ("wrong_scale", 1, stored("wrong_scale.in")),
         ("longest", 1, " ".repeat(65_529)),
     ];
     for (name, status, text) in texts {

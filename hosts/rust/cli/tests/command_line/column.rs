@@ -5,7 +5,7 @@ use std::fs;
 use std::path::Path;
 
 use crate::fields::{
-    Field, Row, ARGININE, ATOM, CHAIN, INSERTION, PARTNER, RESIDUE, ROWS, SECOND, STRAND, TURN, ZEROS,
+    Field, Row, ARGININE, ATOM, CHAIN, CRYST1, INSERTION, PARTNER, RESIDUE, ROWS, SCALES, SECOND, STRAND, TURN, ZEROS,
 };
 use crate::folder::{Answer, Folder};
 use crate::texts::{arginine, line, master};
@@ -82,19 +82,25 @@ fn due(row: &Row, column: usize, damaged: &str) -> [String; 3] {
     [format!("  |{}|", damaged.trim_end_matches('\n')), format!("   {marks}"), words]
 }
 
-/// The fields that are due below stand in the columns that the format gives them: those of HELIX without its comment, which is free, and
-/// those of SHEET with the parts of the registration.
+/// The fields that are due below stand in the columns that the format gives them: those of HELIX without its comment and those of CRYST1
+/// without the space group, which are free, and those of SHEET with the parts of the registration.
 #[test]
 fn the_fields_are_those_of_the_format() {
     let range = |part: &str| {
         let (first, last) = part.split_once('-').unwrap_or((part, part));
         (first.parse::<usize>().expect("a column"), last.parse::<usize>().expect("a column"))
     };
-    for row in ROWS.iter().filter(|row| !matches!(row.kind, "SHEET, strand 1" | "HETATM" | "END" | "ENDMDL")) {
-        let kind = if row.kind == "ATOM" { "ATOM, HETATM" } else { row.kind.trim_end_matches(", any other") };
+    for row in ROWS.iter().filter(|row| !matches!(row.kind, "SHEET, strand 1" | "HETATM" | "SCALE" | "END" | "ENDMDL"))
+    {
+        let kind = match row.kind {
+            "ATOM" => "ATOM, HETATM",
+            "ORIGX" => "ORIGX1-3, SCALE1-3",
+            kind => kind.trim_end_matches(", any other"),
+        };
         let cells = rows_below(&format!("| {kind} | Field |"));
         let listed = cells.iter().flat_map(|cells| cells.split(" | ").next().expect("a cell").split(", ")).map(range);
-        let listed: BTreeSet<(usize, usize)> = listed.filter(|range| !matches!(range, (41 | 42, 70))).collect();
+        let listed: BTreeSet<(usize, usize)> =
+            listed.filter(|range| !matches!(range, (41 | 42, 70) | (56, 66))).collect();
         assert_eq!(listed, row.fields().map(|field| (field.0, field.1)).collect(), "{kind}");
     }
 }
@@ -171,6 +177,10 @@ a.pdb: line 2: refused with 6: a field or a blank column is wrong
   column 12 must be blank, and \"\"\" stands there
 ";
     assert_eq!((answer.status, answer.out.as_str()), (1, expected));
+    let answer = said(&folder, &[], &with(CRYST1, 34, " 180.00"));
+    answer.is(1, "\n                                    ^^^^^^^\n  columns 34-40, angle alpha: \" 180.00\" is no Real(7.2) from 0.01 to 179.99 (");
+    let answer = said(&folder, &SCALES[..2], &with(SCALES[2], 31, " -0.000000"));
+    answer.is(1, "columns 31-40, coefficient of z: \" -0.000000\" is no Real(10.6) from -99.999999 to 999.999999 (");
     let answer = said(&folder, &[], &with("TER", 7, "00001"));
     answer.is(1, "\n         ^^^^^\n  columns 7-11, serial: \"00001\" is no Integer from 1 to 99999 (filled from the right, without");
     let answer = folder.station(&["draw", "a.pdb", "--svg", "a.svg"]);
@@ -271,6 +281,9 @@ fn the_report_has_the_column() {
     listed(&[STRAND], with(&SECOND[..40], 49, "X"), 42);
     listed(&[], with(ZEROS, 16, "    1"), 16);
     listed(&[ZEROS], with("END", 80, "X"), 80);
+    listed(&[], with(CRYST1, 41, " 180.00"), 41);
+    listed(&[], with(CRYST1, 55, "X"), 55);
+    listed(&[CRYST1, SCALES[0]], with(SCALES[1], 46, "  -0.00000"), 46);
     folder.file("a.pdb", atom(31, "  -0.000") + &line("HEADER"));
     folder.station(&["check", "--report", "a.pdb"]).is(1, "verdict=5\nline=1\ncolumn=0\nlines=0\n");
     folder.file("a.pdb", line("HEADER") + &master(0, 0, 0));

@@ -2,6 +2,7 @@
 
 use std::fs;
 
+use crate::fields::{CRYST1, SCALES};
 use crate::folder::Folder;
 use crate::texts::{arginine, line, master, models, three};
 
@@ -58,6 +59,27 @@ fn what_is_still_refused_is_written_all_the_same() {
     assert!(!answer.out.contains("station cut"), "{answer:?}");
     assert!(folder.read("long.pdb").starts_with(&format!("HEADER{:80}x\nATOM", "")));
     folder.station(&["cut", "-q", "long.ent", "--out", "-"]).is(1, "standard output: line 1: refused with 2");
+}
+
+/// The lines of the crystal frame keep their columns: the code that old entries have behind them is not for a program to drop.
+#[test]
+fn the_crystal_frame_is_kept() {
+    let folder = Folder::new("cut-crystal");
+    let lines = [&[CRYST1][..], &SCALES].concat();
+    let frame: String = lines.iter().copied().map(line).collect();
+    let public = public().replace("HEADER\n", &format!("HEADER\n{}\n", lines.join("\n")));
+    folder.file("a.ent", &public);
+    folder.station(&["cut", "a.ent", "--out", "a.pdb"]).is(0, "a.pdb: granted: 13 lines");
+    assert!(folder.read("a.pdb").starts_with(&(line("HEADER") + &frame)));
+    let old = format!("{CRYST1:72}1ABC 123");
+    folder.file("old.ent", public.replace(CRYST1, &old));
+    let answer = folder.station(&["cut", "old.ent", "--out", "old.pdb"]);
+    answer.is(1, "old.pdb: line 2: refused with 6: a field or a blank column is wrong\n  |CRYST1 ");
+    answer.is(1, "column 73 must be blank, and \"1\" stands there: old entries have their code and a number in columns 73-80, here \"1ABC 123\"");
+    assert!(folder.read("old.pdb").contains(&old));
+    // A segment is no code.
+    folder.file("old.ent", public.replace(CRYST1, &format!("{CRYST1:72}SEG1")));
+    folder.station(&["cut", "old.ent", "--out", "old.pdb", "--force"]).is(1, "and \"S\" stands there\n");
 }
 
 #[test]

@@ -124,6 +124,27 @@ const MASTER: &[Field] = &[
     (66, 70, "SEQRES lines", COUNT),
 ];
 
+const EDGE: &str = "no Real(9.3) from 0.001 to 99999.999 ";
+const ANGLE: &str = "no Real(7.2) from 0.01 to 179.99 ";
+const COEFFICIENT: &str = "no Real(10.6) from -99.999999 to 999.999999 ";
+
+const CELL: &[Field] = &[
+    (7, 15, "edge a", EDGE),
+    (16, 24, "edge b", EDGE),
+    (25, 33, "edge c", EDGE),
+    (34, 40, "angle alpha", ANGLE),
+    (41, 47, "angle beta", ANGLE),
+    (48, 54, "angle gamma", ANGLE),
+    (67, 70, "Z", "no Integer from 1 to 9999 "),
+];
+
+const TRANSFORMATION: &[Field] = &[
+    (11, 20, "coefficient of x", COEFFICIENT),
+    (21, 30, "coefficient of y", COEFFICIENT),
+    (31, 40, "coefficient of z", COEFFICIENT),
+    (46, 55, "shift", "no Real(10.5) from -999.99999 to 9999.99999 "),
+];
+
 pub const ARGININE: &str = "ATOM     32  N  AARG A  -3      11.281  86.699  94.383  0.50 35.88           N";
 const HEME: &str = "HETATM   40 FE   HEM b9999Z   -999.9999999.999   0.000  1.00-99.99          FE3+";
 pub const TURN: &str = "HELIX    1   A ALA A    1  GLY A    9  1 and so on                         9";
@@ -131,7 +152,15 @@ pub const STRAND: &str = "SHEET    1   A 2 ALA A   1  GLY A   5  0";
 pub const SECOND: &str = "SHEET    2   A 2 ALA A   7  GLY B   9 -1  N  ALA A   7   O  GLY A   5";
 pub const ZEROS: &str = "MASTER        0    0    0    0    0    0    0    0    0    0    0    0";
 
-pub const ROWS: [Row; 11] = [
+pub const CRYST1: &str = "CRYST1   52.000   58.600   61.900  90.00  90.00  90.00 P 21 21 21    8";
+pub const SCALES: [&str; 3] = [
+    "SCALE1      0.019231  0.000000  0.000000        0.00000",
+    "SCALE2      0.000000  0.017065  0.000000        0.50000",
+    "SCALE3      0.000000  0.000000 -0.016155       -0.00001",
+];
+const ORIGX: &str = "ORIGX1      1.000000-99.999999999.999999     9999.99999";
+
+pub const ROWS: [Row; 14] = [
     Row { kind: "ATOM", line: ARGININE, above: &[], fields: &[COORDINATE] },
     Row { kind: "HETATM", line: HEME, above: &[], fields: &[COORDINATE] },
     Row { kind: "TER", line: "TER      33      ARG A  -3", above: &[ARGININE], fields: &[TER] },
@@ -140,6 +169,9 @@ pub const ROWS: [Row; 11] = [
     Row { kind: "SHEET, any other", line: SECOND, above: &[STRAND], fields: &[SHEET, REGISTRATION] },
     Row { kind: "CONECT", line: "CONECT    5    6    7    8    9", above: &[], fields: &[CONECT] },
     Row { kind: "MASTER", line: ZEROS, above: &[], fields: &[MASTER] },
+    Row { kind: "CRYST1", line: CRYST1, above: &[], fields: &[CELL] },
+    Row { kind: "ORIGX", line: ORIGX, above: &[], fields: &[TRANSFORMATION] },
+    Row { kind: "SCALE", line: SCALES[2], above: &[SCALES[0], SCALES[1]], fields: &[TRANSFORMATION] },
     Row {
         kind: "MODEL",
         line: "MODEL        1",

@@ -4,6 +4,7 @@ mod advice;
 mod check;
 mod choosing;
 mod column;
+mod crystal;
 mod cut;
 mod draw;
 mod fields;

@@ -14,6 +14,8 @@ fn help_and_wrong_arguments() {
         &["cut", "--help"],
         &["check", "--help"],
         &["find", "-h"],
+        &["cell", "--help"],
+        &["fractional", "-h"],
         &["fragments", "-h"],
         &["save", "--help"],
         &["draw", "--help"],
@@ -39,6 +41,18 @@ fn help_and_wrong_arguments() {
         &["find", "a"],
         &["find", "a", "1", "b"],
         &["find", "a", "--aside", "1", "1"],
+        &["cell"],
+        &["cell", "a", "b"],
+        &["cell", "a", "--xyz"],
+        &["fractional"],
+        &["fractional", "a"],
+        &["fractional", "a", "x"],
+        &["fractional", "a", "0"],
+        &["fractional", "a", "-1"],
+        &["fractional", "a", "-x"],
+        &["fractional", "a", "1.0", "2.0"],
+        &["fractional", "a", "1", "2", "--xyz"],
+        &["fractional", "a", "--xyz=1", "2", "3", "4"],
         &["save", "a"],
         &["save", "a", "b", "--out", "c"],
         &["save", "a", "--out"],
@@ -68,7 +82,7 @@ fn help_of_a_command() {
     let answer = folder.station(&["help", "frobnicate"]);
     answer.is(0, "station COMMAND --help");
     // The list of commands and the help of each say the same.
-    for command in ["cut", "check", "find", "fragments", "save", "draw"] {
+    for command in ["cut", "check", "find", "cell", "fractional", "fragments", "save", "draw"] {
         let own = folder.station(&[command, "--help"]).out;
         let usage = own.lines().next().and_then(|line| line.strip_prefix("usage: ")).expect("a usage");
         assert!(answer.out.contains(&format!("\n  {usage}\n")), "{usage}");
@@ -155,6 +169,8 @@ fn noise_of_a_hundred_megabytes() {
     folder.file("noise", &noise);
     folder.station(&["check", "noise"]).is(1, "noise: line 1: refused with 2");
     folder.station(&["find", "noise", "1"]).is(1, "serial 1: no ATOM or HETATM line has it; looked at 1234567 lines");
+    folder.station(&["cell", "noise"]).is(1, "refused with 2");
+    folder.station(&["fractional", "noise", "1"]).is(1, "refused with 2");
     folder.station(&["fragments", "noise"]).is(1, "refused with 2");
     folder.station(&["draw", "noise", "--svg", "noise.svg"]).is(1, "nothing is drawn");
     folder.station(&["cut", "noise", "--out", "out"]).is(1, "there is no line to keep, so nothing was written");
@@ -173,6 +189,7 @@ fn a_full_disk_leaves_nothing() {
     folder.station(&["draw", "a.pdb", "--svg", "/dev/full"]).is(2, "No space left on device");
     folder.shell("$S check a.pdb > /dev/full").is(2, "standard output could not be written to");
     folder.shell("$S find a.pdb 1 > /dev/full").is(2, "standard output could not be written to");
+    folder.shell("$S cell a.pdb > /dev/full").is(2, "standard output could not be written to");
     folder.shell("$S fragments a.pdb > /dev/full").is(2, "standard output could not be written to");
     folder.shell("$S save a.pdb --aside 1 --out - --tray tray > /dev/full").is(2, "standard output could not be");
     folder.shell("$S --help > /dev/full").is(2, "standard output could not be written to");

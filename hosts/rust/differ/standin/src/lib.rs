@@ -3,6 +3,8 @@
 
 #![allow(clippy::missing_safety_doc)]
 
+mod crystal;
+
 use reference::{Mark, Refusal, Slot, Tally};
 
 /// The tally as it is lent.

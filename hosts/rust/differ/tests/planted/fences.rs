@@ -49,6 +49,16 @@ touching! {
         std::hint::black_box(table.sub(1).read_volatile());
         (LINKED.frame)(table, slots, out)
     }
+    rows_read_past_their_end, reads_past_the_rows: place(rows: *const i32, at: *const i32, out: *mut i64) {
+        std::hint::black_box(rows.add(12).read_volatile());
+        (LINKED.place)(rows, at, out)
+    }
+    coordinates_read_before_their_start, reads_before_the_coordinates: fractional(
+        text: *const u8, n: usize, at: *const i32, out: *mut i64
+    ) {
+        std::hint::black_box(at.sub(1).read_volatile());
+        (LINKED.fractional)(text, n, at, out)
+    }
     list_read_past_its_end, reads_past_the_list: arrange(
         text: *const u8, n: usize, table: *mut Slot, slots: usize, aside: *const u8, fragments: usize
     ) {

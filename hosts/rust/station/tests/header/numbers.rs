@@ -13,15 +13,16 @@ macro_rules! constants {
     ($($name:ident)*) => { [$((stringify!($name), Refusal::$name)),*] };
 }
 
-fn constants() -> [(&'static str, Refusal); 22] {
+fn constants() -> [(&'static str, Refusal); 24] {
     constants!(
         LENGTH NEWLINE BYTE NAME PLACE FIELD SERIAL RUN BOND SEQUENCE COUNT OVER SHORT_TABLE FULL NO_FRAGMENT
-        ALREADY_THERE SHORT_OUTPUT OTHER_TABLE NOTHING_TO_FRAME LONG_INPUT SAME_ATOM MODEL
+        ALREADY_THERE SHORT_OUTPUT OTHER_TABLE NOTHING_TO_FRAME LONG_INPUT SAME_ATOM MODEL NO_SCALE
+        COORDINATE
     )
 }
 
-/// What the row of a number in `docs/FORMAT.md` and its words have in common, from 1 on.
-const COMMON: [&str; 22] = [
+/// What the row of a number in `docs/FORMAT.md` and its words have in common, in the order of the numbers.
+const COMMON: [&str; 24] = [
     "length of the line",
     "newline",
     "byte",
@@ -44,6 +45,8 @@ const COMMON: [&str; 22] = [
     "report",
     "same atom",
     "1, 2, 3 and so on",
+    "SCALE lines",
+    "a coordinate is",
 ];
 
 fn read(path: &str) -> String {
@@ -62,12 +65,17 @@ fn in_header(prefix: &str) -> Vec<(String, Option<u32>)> {
     .collect()
 }
 
+/// Their names alone.
+fn named(prefix: &str) -> Vec<String> {
+    in_header(prefix).into_iter().map(|(name, _)| name).collect()
+}
+
 #[test]
 fn constants_are_the_same_in_c() {
     let due = constants().map(|(name, refusal)| (name.to_owned(), Some(refusal.number())));
     assert_eq!(in_header("REFUSED_"), due);
     assert!(constants().iter().map(|(_, refusal)| *refusal).eq(Refusal::ALL));
-    assert!(Refusal::ALL.iter().map(|refusal| refusal.number()).eq(1..=22));
+    assert!(Refusal::ALL.iter().map(|refusal| refusal.number()).eq((1..=22).chain([29, 33])));
     assert_eq!((Refusal::numbered(0), Refusal::numbered(6)), (None, Some(Refusal::FIELD)));
 }
 
@@ -80,10 +88,16 @@ fn answers_are_in_the_order_of_the_report() {
     keys[0] = "REFUSAL".to_owned();
     keys[3] = "GOOD_LINES".to_owned();
     keys.push("SIZE".to_owned());
-    let named = |prefix| in_header(prefix).into_iter().map(|(name, _)| name).collect::<Vec<_>>();
     assert_eq!(named("VERDICT_"), keys);
     keys.retain(|key| key != "COLUMN");
     assert_eq!(named("CHECK_"), keys);
+}
+
+/// A row has its three coefficients and the shift; a place is told exactly and then rounded.
+#[test]
+fn rows_and_places_are_in_order() {
+    assert_eq!(named("ROW_"), ["OF_X", "OF_Y", "OF_Z", "SHIFT", "SIZE"]);
+    assert_eq!(named("PLACE_"), ["X", "Y", "Z", "ROUNDED_X", "ROUNDED_Y", "ROUNDED_Z", "SIZE"]);
 }
 
 /// The words that C has for some numbers.
@@ -119,12 +133,12 @@ fn rows() -> Vec<(u32, String)> {
 #[test]
 fn words_are_those_of_the_format() {
     let rows = rows();
-    assert!(rows.iter().map(|(number, _)| *number).eq(0..=22));
+    assert!(rows.iter().map(|(number, _)| *number).eq((0..=22).chain([29, 33])));
     assert_eq!(rows[0].1, "granted");
     for ((number, row), common) in rows[1..].iter().zip(COMMON) {
         let words = Refusal::numbered(*number).map_or("", Refusal::meaning);
         assert!(row.contains(common) && words.contains(common), "{number}: {common}: {row}: {words}");
     }
     let words: std::collections::BTreeSet<_> = Refusal::ALL.map(Refusal::meaning).into();
-    assert_eq!(words.len(), 22);
+    assert_eq!(words.len(), Refusal::ALL.len());
 }
