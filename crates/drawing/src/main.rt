@@ -1,5 +1,6 @@
 // Reads an entry from standard input and prints what the renderer is handed for the lines before its first offence: a dot for each atom and the
 // frame, in thousandths.
+#![tactic(auto)]
 ghost use Rattle.std.specs.Prelude.{◌*◌, ◌≤◌, length};
 
 use coordinate::Position;

@@ -1,4 +1,5 @@
 // The elements by their symbols in two columns.
+#![tactic(auto)]
 mod table;
 
 ghost use Rattle.std.specs.Prelude.{◌≡◌};

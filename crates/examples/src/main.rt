@@ -1,6 +1,7 @@
 // Reads the cases of each file that its arguments name and prints the number of each; then writes records at the edges of their fields' ranges.
 //
 // A case is its length in two bytes, the low one first, and then its bytes.
+#![tactic(auto)]
 ghost use Rattle.std.specs.Prelude.{◌≤◌};
 
 use conect::Conect;

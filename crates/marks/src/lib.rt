@@ -1,4 +1,5 @@
 // What one slot and one line are to each other, by value.
+#![tactic(auto)]
 mod counting;
 mod models;
 

@@ -1,4 +1,5 @@
 // Where each kind of line may stand, and which of MASTER's counts it is counted in.
+#![tactic(auto)]
 mod counting;
 mod order;
 

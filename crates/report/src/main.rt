@@ -1,4 +1,5 @@
 // Reads standard input and prints the report on it: key=value lines.
+#![tactic(auto)]
 ghost use Rattle.std.specs.Prelude.{◌<◌, length};
 ghost use Rattle.reporting.specs.Report.{keys};
 

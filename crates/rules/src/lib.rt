@@ -1,4 +1,5 @@
 // The rules between lines: a line is judged against what the good lines before it left.
+#![tactic(auto)]
 mod logic;
 mod steps;
 mod tests;

@@ -1,5 +1,6 @@
 // A sitting at the station: an entry from standard input is loaded, drawn, parted, saved and put together again. Every answer is printed, those to what
 // has to be refused too.
+#![tactic(auto)]
 ghost use Rattle.std.specs.Prelude.{◌≤◌};
 
 use feed::{Drawn, Framed};

@@ -1,6 +1,7 @@
 // Reads the texts of each file that its arguments name and prints the numbers of the report on each, on one line.
 //
 // A text is its length in three bytes, the low one first, and then its bytes.
+#![tactic(auto)]
 ghost use Rattle.std.specs.Prelude.{◌≤◌};
 
 use gate::Verdict;

@@ -1,0 +1,5 @@
+use borrow.Author.Rules.{rules}
+use Rattle.ascii.proofs.is_code.Goals as goal
+
+pub returns : goal.returns
+returns c = cc

@@ -1,0 +1,17 @@
+use borrow.Author.Rules.{rules}
+use Rattle.columns.proofs.Loops.{blanks_start, blanks_next, blanks_end}
+use Rattle.columns.specs.Columns.{blanks, Put}
+use native.Mathlib.Omega.{arith}
+use lib.ListN.{length}
+use mathlib.Core.Path.{◌≡◌}
+use Prim.Native.Nat.{◌≤◌, ◌-◌}
+use Rattle.columns.proofs.put_blanks.Goals as goal
+
+pub loop-i-init : goal.loop-i-init
+loop-i-init c = search (blanks_start, arith)
+
+pub loop-i-preserved : goal.loop-i-preserved
+loop-i-preserved c = blanks_next _ _ _ _ _ c.requires c.loop-i-test.true c.loop-i.invariant
+
+pub returns : goal.returns
+returns c = search (blanks_end, arith)
