@@ -1,0 +1,28 @@
+use Prim.Native.Nat.{◌<◌}
+use borrow.Author.Rules.{rules}
+use Rattle.numbers.proofs.Puts.{render_none, render_point, render_one, render_more, render_decimal}
+use Prim.Native.Nat.{ℕ}
+use Rattle.numbers.proofs.+put_number.Goals as goal
+
+abbrev put-number-at : ℕ → In 1 put-number-kinds.ps
+put-number-at t =
+    and 1 put-number-kinds.ps (is 1 put-number-kinds.ps μ-put-number t) put-number.Pre
+
+abbrev put-number-below : ℕ → In 1 put-number-kinds.ps
+put-number-below t =
+    and 1 put-number-kinds.ps (falls 1 put-number-kinds.ps ◌<◌ μ-put-number t) put-number.Pre
+
+pub returns-then-n-eq0 : goal.returns-then-n-eq0
+returns-then-n-eq0 t c = search render_none
+
+pub returns-then-e-eq1 : goal.returns-then-e-eq1
+returns-then-e-eq1 t c = search render_point
+
+pub returns-then-v-lt10 : goal.returns-then-v-lt10
+returns-then-v-lt10 t c = search render_one
+
+pub returns-then-e-eq0 : goal.returns-then-e-eq0
+returns-then-e-eq0 t c = search render_more
+
+pub returns : goal.returns
+returns t c = search render_decimal

@@ -1,0 +1,6 @@
+use Rattle.numbers.proofs.Runs.{scale_one}
+use borrow.Author.Rules.{rules}
+use Rattle.numbers.proofs.digits.Goals as goal
+
+pub scaled-requires : goal.scaled-requires
+scaled-requires c = search scale_one

@@ -1,0 +1,12 @@
+use Rattle.numbers.proofs.Runs.{whole_small, parts_fit, num_parts}
+use borrow.Author.Rules.{rules}
+use Rattle.numbers.proofs.parts.Goals as goal
+
+pub raised-whole-requires : goal.raised-whole-requires
+raised-whole-requires c = search whole_small
+
+pub overflow_add-whole : goal.overflow_add-whole
+overflow_add-whole c = search parts_fit
+
+pub returns : goal.returns
+returns c = search num_parts

@@ -1,0 +1,10 @@
+use Rattle.numbers.proofs.Runs.{value_under, step_made}
+use native.Mathlib.Omega.{arith}
+use borrow.Author.Rules.{rules}
+use Rattle.numbers.proofs.step.Goals as goal
+
+pub overflow_add-result : goal.overflow_add-result
+overflow_add-result c = omega (arith, value_under _ _ c.value-v.ensures)
+
+pub returns : goal.returns
+returns c = search step_made

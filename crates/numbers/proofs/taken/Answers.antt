@@ -1,0 +1,10 @@
+use Rattle.numbers.proofs.Runs.{value_under, take_made}
+use native.Mathlib.Omega.{arith}
+use borrow.Author.Rules.{rules}
+use Rattle.numbers.proofs.taken.Goals as goal
+
+pub overflow_add-result : goal.overflow_add-result
+overflow_add-result c = omega (arith, value_under _ _ c.value-v.ensures)
+
+pub returns : goal.returns
+returns c = search take_made
