@@ -4,14 +4,6 @@ use Rattle.numbers.proofs.Puts.{render_none, render_point, render_one, render_mo
 use Prim.Native.Nat.{ℕ}
 use Rattle.numbers.proofs.+put_number.Goals as goal
 
-abbrev put-number-at : ℕ → In 1 put-number-kinds.ps
-put-number-at t =
-    and 1 put-number-kinds.ps (is 1 put-number-kinds.ps μ-put-number t) put-number.Pre
-
-abbrev put-number-below : ℕ → In 1 put-number-kinds.ps
-put-number-below t =
-    and 1 put-number-kinds.ps (falls 1 put-number-kinds.ps ◌<◌ μ-put-number t) put-number.Pre
-
 pub returns-then-n-eq0 : goal.returns-then-n-eq0
 returns-then-n-eq0 t c = search render_none
 
