@@ -1,0 +1,6 @@
+use Rattle.fields.proofs.Returns.{integer_passed}
+use borrow.Author.Rules.{rules}
+use Rattle.fields.proofs.put_integer.Goals as goal
+
+pub returns : goal.returns
+returns c = search integer_passed
