@@ -1,5 +1,6 @@
 // Tests of bytes without a branch: what calls them is straight-line code.
 #![tactic(auto)]
+
 ghost use Rattle.std.specs.Prelude.{◌≡◌, not};
 ghost use Rattle.ascii.specs.Tests.{pick, both, either, alike, same, between, is_digit, is_upper, is_code};
 

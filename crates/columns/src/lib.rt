@@ -1,5 +1,6 @@
 // Columns of a line: faults, blanks, clean bytes, and writing from left to right.
 #![tactic(auto)]
+
 ghost use Rattle.std.specs.Prelude.{◌≡◌, ◌+◌, ◌≤◌, ◌<◌, ◌∷◌, [], length, set};
 ghost use Rattle.columns.specs.Columns.{blame, blamed_of, first_of, leftmost, blank_at, gap_of, clean_at, blanks, Put};
 

@@ -1,5 +1,6 @@
 // Fields: numbers within their ranges, and names.
 #![tactic(auto)]
+
 ghost use Rattle.std.specs.Prelude.{◌≡◌, ◌+◌, ◌≤◌, ◌<◌, true, false, length, nat_abs};
 ghost use Rattle.columns.specs.Columns.{Put};
 ghost use Rattle.fields.specs.Field.{signed_of, is_neg, same_integer, ranged_number, signed_number, cap_of, ranged_of, spans_of};

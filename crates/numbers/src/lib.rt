@@ -1,5 +1,6 @@
 // Numbers in columns: blanks, perhaps a minus, digits, and where the field has decimals a point and those digits.
 #![tactic(auto)]
+
 ghost use Rattle.std.specs.Prelude.{◌≡◌, ◌+◌, ◌*◌, ◌^◌, ◌≤◌, ◌<◌, true, false, length, set, eqb};
 ghost use Rattle.ascii.specs.Tests.{pick};
 ghost use Rattle.columns.specs.Columns.{Put};

@@ -1,6 +1,5 @@
 use Rattle.columns.specs.Columns.{blank_at}
 use borrow.Author.Tests.{eq-eqb, ne_eqb}
-use borrow.Author.Rules.{rules}
 use Rattle.columns.proofs.blank.Goals as goal
 
 pub returns-then-b-eq32 : goal.returns-then-b-eq32

@@ -1,9 +1,6 @@
 use Prim.Native.Nat.{◌≤◌, ◌-◌}
 use mathlib.Core.Path.{◌≡◌}
-use borrow.Author.Rules.{rules}
-use native.Mathlib.Omega.{arith}
 use Rattle.columns.specs.Columns.{gap_of}
-use Rattle.columns.proofs.Loops.{gap_start, gap_next, gap_end}
 use Rattle.columns.proofs.gap.Given as goal
 
 abbrev pub invariant-loop-i : goal.invariant-loop-i

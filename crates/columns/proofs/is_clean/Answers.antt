@@ -1,9 +1,5 @@
-use borrow.Author.Rules.{rules}
 use Rattle.columns.proofs.Loops.{clean_start, clean_next, clean_end}
-use Rattle.columns.specs.Columns.{clean_at}
 use native.Mathlib.Omega.{arith}
-use mathlib.Core.Path.{◌≡◌}
-use Prim.Native.Nat.{◌≤◌, ◌-◌}
 use Rattle.columns.proofs.is_clean.Goals as goal
 
 pub loop-i-init : goal.loop-i-init

@@ -1,7 +1,4 @@
-use borrow.Author.Rules.{rules}
-use Rattle.columns.proofs.Loops.{clean_start, clean_next, clean_end}
 use Rattle.columns.specs.Columns.{clean_at}
-use native.Mathlib.Omega.{arith}
 use mathlib.Core.Path.{◌≡◌}
 use Prim.Native.Nat.{◌≤◌, ◌-◌}
 use Rattle.columns.proofs.is_clean.Given as goal

@@ -1,5 +1,4 @@
 use Rattle.columns.specs.Columns.{blame}
-use borrow.Author.Rules.{rules}
 use Rattle.columns.proofs.judged.Goals as goal
 
 pub returns-then-right : goal.returns-then-right

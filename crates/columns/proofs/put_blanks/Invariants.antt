@@ -1,7 +1,4 @@
-use borrow.Author.Rules.{rules}
-use Rattle.columns.proofs.Loops.{blanks_start, blanks_next, blanks_end}
 use Rattle.columns.specs.Columns.{blanks, Put}
-use native.Mathlib.Omega.{arith}
 use lib.ListN.{length}
 use mathlib.Core.Path.{◌≡◌}
 use Prim.Native.Nat.{◌≤◌, ◌-◌}

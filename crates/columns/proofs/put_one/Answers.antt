@@ -1,5 +1,4 @@
 use Rattle.columns.proofs.Puts.{one_put}
-use borrow.Author.Rules.{rules}
 use Rattle.columns.proofs.put_one.Goals as goal
 
 pub returns : goal.returns

@@ -1,5 +1,4 @@
 use Rattle.fields.proofs.Signs.{joined_fits, joined_minus, joined_plus}
-use borrow.Author.Rules.{rules}
 use Rattle.fields.proofs.joined.Goals as goal
 
 pub overflow_sub-result : goal.overflow_sub-result

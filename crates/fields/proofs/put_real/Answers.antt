@@ -1,5 +1,4 @@
 use Rattle.fields.proofs.Returns.{integer_passed}
-use borrow.Author.Rules.{rules}
 use Rattle.fields.proofs.put_real.Goals as goal
 
 pub returns : goal.returns

@@ -1,5 +1,4 @@
 use Rattle.fields.proofs.Returns.{integer_put}
-use borrow.Author.Rules.{rules}
 use Rattle.fields.proofs.put_signed.Goals as goal
 
 pub returns : goal.returns

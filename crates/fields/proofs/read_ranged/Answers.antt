@@ -1,5 +1,4 @@
 use Rattle.fields.proofs.Returns.{whole_bad, whole_minus, whole_low, whole_high, whole_good}
-use borrow.Author.Rules.{rules}
 use Rattle.fields.proofs.read_ranged.Goals as goal
 
 pub returns-then-m : goal.returns-then-m

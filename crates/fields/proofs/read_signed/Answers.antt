@@ -1,6 +1,5 @@
 use Rattle.fields.proofs.Caps.{small}
 use Rattle.fields.proofs.Returns.{integer_bad, integer_zero, integer_minus, integer_plus}
-use borrow.Author.Rules.{rules}
 use Rattle.fields.proofs.read_signed.Goals as goal
 
 pub returns-then-v-eq0 : goal.returns-then-v-eq0

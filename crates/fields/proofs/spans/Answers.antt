@@ -1,5 +1,4 @@
 use Rattle.fields.proofs.Returns.{spans_minus, spans_plus}
-use borrow.Author.Rules.{rules}
 use Rattle.fields.proofs.spans.Goals as goal
 
 pub returns-then-m : goal.returns-then-m

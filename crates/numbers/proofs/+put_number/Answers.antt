@@ -1,7 +1,4 @@
-use Prim.Native.Nat.{◌<◌}
-use borrow.Author.Rules.{rules}
 use Rattle.numbers.proofs.Puts.{render_none, render_point, render_one, render_more, render_decimal}
-use Prim.Native.Nat.{ℕ}
 use Rattle.numbers.proofs.+put_number.Goals as goal
 
 pub returns-then-n-eq0 : goal.returns-then-n-eq0

@@ -1,7 +1,5 @@
-use borrow.Author.Rules.{rules}
 use native.Mathlib.Omega.{arith}
 use Rattle.numbers.proofs.Runs.{raise_none, raise_less, raise_fits, raise_some}
-use Prim.Native.Nat.{ℕ, ◌<◌}
 use Rattle.numbers.proofs.+raised.Goals as goal
 
 pub returns-then-n-eq0 : goal.returns-then-n-eq0

@@ -1,5 +1,4 @@
 use Rattle.numbers.proofs.Runs.{scale_one}
-use borrow.Author.Rules.{rules}
 use Rattle.numbers.proofs.digits.Goals as goal
 
 pub scaled-requires : goal.scaled-requires

@@ -1,5 +1,4 @@
 use Rattle.numbers.proofs.Runs.{whole_small, parts_fit, num_parts}
-use borrow.Author.Rules.{rules}
 use Rattle.numbers.proofs.parts.Goals as goal
 
 pub raised-whole-requires : goal.raised-whole-requires

@@ -1,9 +1,5 @@
-use Prim.Native.Nat.{◌≤◌, ◌-◌}
-use mathlib.Core.Path.{◌≡◌}
-use Rattle.numbers.specs.Runs.{scan_of}
 use Rattle.numbers.proofs.Runs.{scan_small, scan_start, scan_next, scan_end}
 use native.Mathlib.Omega.{arith}
-use borrow.Author.Rules.{rules}
 use Rattle.numbers.proofs.passed.Goals as goal
 
 pub loop-i-init : goal.loop-i-init

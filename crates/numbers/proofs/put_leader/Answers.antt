@@ -1,5 +1,4 @@
 use Rattle.numbers.proofs.Puts.{leader_none, leader_minus, leader_blank}
-use borrow.Author.Rules.{rules}
 use Rattle.numbers.proofs.put_leader.Goals as goal
 
 pub returns-then-n-eq0 : goal.returns-then-n-eq0

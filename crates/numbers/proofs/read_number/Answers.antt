@@ -1,6 +1,5 @@
 use native.Mathlib.Omega.{arith}
 use Rattle.numbers.proofs.Runs.{scan_below, num_short, num_whole, num_long, num_real}
-use borrow.Author.Rules.{rules}
 use Rattle.numbers.proofs.read_number.Goals as goal
 
 pub returns-then-n-e : goal.returns-then-n-e

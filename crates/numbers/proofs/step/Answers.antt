@@ -1,6 +1,5 @@
 use Rattle.numbers.proofs.Runs.{value_under, step_made}
 use native.Mathlib.Omega.{arith}
-use borrow.Author.Rules.{rules}
 use Rattle.numbers.proofs.step.Goals as goal
 
 pub overflow_add-result : goal.overflow_add-result

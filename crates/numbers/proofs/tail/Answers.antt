@@ -1,9 +1,5 @@
-use Prim.Native.Nat.{◌≤◌, ◌-◌}
-use mathlib.Core.Path.{◌≡◌}
-use Rattle.numbers.specs.Runs.{decimals_of}
 use Rattle.numbers.proofs.Runs.{tail_small, tail_start, tail_next, tail_end}
 use native.Mathlib.Omega.{arith}
-use borrow.Author.Rules.{rules}
 use Rattle.numbers.proofs.tail.Goals as goal
 
 pub loop-i-init : goal.loop-i-init

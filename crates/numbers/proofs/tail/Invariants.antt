@@ -1,9 +1,6 @@
 use Prim.Native.Nat.{◌≤◌, ◌-◌}
 use mathlib.Core.Path.{◌≡◌}
 use Rattle.numbers.specs.Runs.{decimals_of}
-use Rattle.numbers.proofs.Runs.{tail_small, tail_start, tail_next, tail_end}
-use native.Mathlib.Omega.{arith}
-use borrow.Author.Rules.{rules}
 use Rattle.numbers.proofs.tail.Given as goal
 
 abbrev pub invariant-loop-i : goal.invariant-loop-i

@@ -1,6 +1,5 @@
 use Rattle.numbers.proofs.Runs.{value_low, value_yes, value_no}
 use native.Mathlib.Omega.{arith}
-use borrow.Author.Rules.{rules}
 use Rattle.numbers.proofs.value.Goals as goal
 
 pub overflow_sub-result : goal.overflow_sub-result
