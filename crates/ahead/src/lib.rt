@@ -5,7 +5,7 @@ ghost use Rattle.ahead.specs.Ahead.{Clear};
 ghost use Rattle.ahead.specs.Stamps.{pair_at, quad_at, stamp_at, place_of, tag_of, put_of, marks, Marked, Without, Parted};
 
 // No line from a up to b has the columns of a line from b up to c.
-#[derive(Drop)]
+#[derive(Clone, Copy)]
 pub struct Ahead {
     pub a: usize,
     pub b: usize,

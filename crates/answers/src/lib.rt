@@ -12,7 +12,7 @@ use slots::{Filling, Slot};
 use transform::{Coefficients, Transform};
 
 // What filling a slot answers, and what the slot then holds.
-#[derive(Drop)]
+#[derive(Clone, Copy)]
 pub struct Filled {
     pub number: u32,
     pub slot: Slot,
@@ -89,7 +89,7 @@ pub fn put_frame(f: Framed, out: &mut [f64; 9]) -> u32
 }
 
 // What filling a cell answers, and what the cell then holds.
-#[derive(Drop)]
+#[derive(Clone, Copy)]
 pub struct FilledCell {
     pub number: u32,
     pub cell: CellRow,

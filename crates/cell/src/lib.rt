@@ -11,7 +11,7 @@ use names::{Four, Three};
 
 // Columns 7 to 33: the edges of the cell, in thousandths.
 #[repr(C)]
-#[derive(Drop)]
+#[derive(Clone, Copy)]
 pub struct Edges {
     pub a: u32,
     pub b: u32,
@@ -20,7 +20,7 @@ pub struct Edges {
 
 // Columns 34 to 54: its angles, in hundredths of a degree.
 #[repr(C)]
-#[derive(Drop)]
+#[derive(Clone, Copy)]
 pub struct Angles {
     pub alpha: u32,
     pub beta: u32,
@@ -29,14 +29,14 @@ pub struct Angles {
 
 // Columns 56 to 66: the space group, as it stands there.
 #[repr(C)]
-#[derive(Drop)]
+#[derive(Clone, Copy)]
 pub struct Group {
     pub a: Four,
     pub b: Four,
     pub c: Three,
 }
 
-#[derive(Drop)]
+#[derive(Clone, Copy)]
 pub struct Cell {
     pub edges: Edges,
     pub angles: Angles,
@@ -44,25 +44,25 @@ pub struct Cell {
     pub z: u32,
 }
 
-#[derive(Drop)]
+#[derive(Clone, Copy)]
 pub struct ReadEdges {
     pub column: u32,
     pub value: Edges,
 }
 
-#[derive(Drop)]
+#[derive(Clone, Copy)]
 pub struct ReadAngles {
     pub column: u32,
     pub value: Angles,
 }
 
-#[derive(Drop)]
+#[derive(Clone, Copy)]
 pub struct ReadGroup {
     pub column: u32,
     pub value: Group,
 }
 
-#[derive(Drop)]
+#[derive(Clone, Copy)]
 pub struct ReadCell {
     pub column: u32,
     pub value: Cell,

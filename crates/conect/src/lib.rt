@@ -9,7 +9,7 @@ ghost use Rattle.conect.specs.Conects.{partner_f, partners_f, differs, unbroken,
 
 use fields::{Serial, Whole};
 
-#[derive(Drop)]
+#[derive(Clone, Copy)]
 pub struct Conect {
     pub serial: Serial,
     pub a: Serial,
@@ -18,7 +18,7 @@ pub struct Conect {
     pub d: Serial,
 }
 
-#[derive(Drop)]
+#[derive(Clone, Copy)]
 pub struct ReadConect {
     pub column: u32,
     pub value: Conect,

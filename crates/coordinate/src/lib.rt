@@ -12,7 +12,7 @@ use residue::Residue;
 
 // Coordinates, in thousandths.
 #[repr(C)]
-#[derive(Drop)]
+#[derive(Clone, Copy)]
 pub struct Position {
     pub x: i32,
     pub y: i32,
@@ -20,7 +20,7 @@ pub struct Position {
 }
 
 // Columns 7 to 27.
-#[derive(Drop)]
+#[derive(Clone, Copy)]
 pub struct Identity {
     pub serial: Serial,
     pub name: Four,
@@ -29,7 +29,7 @@ pub struct Identity {
 }
 
 // Columns 31 to 66.
-#[derive(Drop)]
+#[derive(Clone, Copy)]
 pub struct Measure {
     pub position: Position,
     pub occupancy: u32,
@@ -37,44 +37,44 @@ pub struct Measure {
 }
 
 // Columns 77 to 80.
-#[derive(Drop)]
+#[derive(Clone, Copy)]
 pub struct Species {
     pub element: Pair,
     pub charge: Pair,
 }
 
-#[derive(Drop)]
+#[derive(Clone, Copy)]
 pub struct Atom {
     pub identity: Identity,
     pub measure: Measure,
     pub species: Species,
 }
 
-#[derive(Drop)]
+#[derive(Clone, Copy)]
 pub struct ReadPosition {
     pub column: u32,
     pub value: Position,
 }
 
-#[derive(Drop)]
+#[derive(Clone, Copy)]
 pub struct ReadIdentity {
     pub column: u32,
     pub value: Identity,
 }
 
-#[derive(Drop)]
+#[derive(Clone, Copy)]
 pub struct ReadMeasure {
     pub column: u32,
     pub value: Measure,
 }
 
-#[derive(Drop)]
+#[derive(Clone, Copy)]
 pub struct ReadSpecies {
     pub column: u32,
     pub value: Species,
 }
 
-#[derive(Drop)]
+#[derive(Clone, Copy)]
 pub struct ReadAtom {
     pub column: u32,
     pub value: Atom,

@@ -11,7 +11,7 @@ use transform::Transform;
 
 // 40 bytes, no padding. The byte at the end is 0.
 #[repr(C)]
-#[derive(Drop)]
+#[derive(Clone, Copy)]
 pub struct CellRow {
     pub edges: Edges,
     pub angles: Angles,
@@ -20,7 +20,7 @@ pub struct CellRow {
     pub end: u8,
 }
 
-#[derive(Drop)]
+#[derive(Clone, Copy)]
 pub enum CellFilling {
     Filled(CellRow),
     // The number of the refusal.
@@ -28,7 +28,7 @@ pub enum CellFilling {
 }
 
 // Which of the six lines, 1 to 6, and its numbers.
-#[derive(Drop)]
+#[derive(Clone, Copy)]
 pub enum TransformFilling {
     Filled(u8, Transform),
     // The number of the refusal.

@@ -13,7 +13,7 @@ use sheet::Strand;
 use ter::Ter;
 
 // A line with a slot: ATOM or HETATM (true), or TER.
-#[derive(Drop)]
+#[derive(Clone, Copy)]
 pub enum Spot {
     Site(bool, Atom),
     Close(Ter),
@@ -21,14 +21,14 @@ pub enum Spot {
 }
 
 // CONECT.
-#[derive(Drop)]
+#[derive(Clone, Copy)]
 pub enum Bond {
     Bonds(Conect),
     Loose,
 }
 
 // HELIX by its serial, or SHEET by its strand.
-#[derive(Drop)]
+#[derive(Clone, Copy)]
 pub enum Fold {
     Turn(u32),
     Rung(Strand),
@@ -36,14 +36,14 @@ pub enum Fold {
 }
 
 // MASTER.
-#[derive(Drop)]
+#[derive(Clone, Copy)]
 pub enum Total {
     Counted(Tally),
     Uncounted,
 }
 
 // What a model stands between: MODEL by its number, or ENDMDL.
-#[derive(Drop)]
+#[derive(Clone, Copy)]
 pub enum Fence {
     Opens(u32),
     Shuts,

@@ -12,7 +12,7 @@ pub use framing::{frame_of, no_bounds, take_in};
 use slots::Slot;
 
 // What the renderer is handed, in thousandths.
-#[derive(Drop)]
+#[derive(Clone, Copy)]
 pub enum Drawn {
     Dot(f64, f64, f64),
     // From the first atom to the second.
@@ -21,14 +21,14 @@ pub enum Drawn {
 }
 
 // Lowest and highest thousandths on one axis.
-#[derive(Drop)]
+#[derive(Clone, Copy)]
 pub struct Span {
     pub low: i32,
     pub high: i32,
 }
 
 // The spans of the atoms drawn so far; `any` is false before the first.
-#[derive(Drop)]
+#[derive(Clone, Copy)]
 pub struct Bounds {
     pub any: bool,
     pub x: Span,
@@ -38,7 +38,7 @@ pub struct Bounds {
 
 // The frame: lowest, highest and middle on each axis.
 #[repr(C)]
-#[derive(Drop)]
+#[derive(Clone, Copy)]
 pub struct Extent {
     pub lx: f64,
     pub ly: f64,
@@ -51,7 +51,7 @@ pub struct Extent {
     pub mz: f64,
 }
 
-#[derive(Drop)]
+#[derive(Clone, Copy)]
 pub enum Framed {
     Around(Extent),
     // The number of the refusal.

@@ -10,15 +10,15 @@ use numbers::Number;
 
 // Serials, residue numbers and fragment numbers are types of their own, so that none lands where another belongs.
 #[repr(C)]
-#[derive(Drop)]
+#[derive(Clone, Copy)]
 pub struct Serial(pub u32);
 
 #[repr(C)]
-#[derive(Drop)]
+#[derive(Clone, Copy)]
 pub struct ResidueNumber(pub i32);
 
 #[repr(C)]
-#[derive(Drop)]
+#[derive(Clone, Copy)]
 pub struct FragmentNumber(pub u32);
 
 // What stands for a point and two, three, five or six decimals in `read_number`.
@@ -31,13 +31,13 @@ pub const POINT_5: usize = 6;
 pub const POINT_6: usize = 7;
 
 // A read field: the column of its fault, or 0, and its value.
-#[derive(Drop)]
+#[derive(Clone, Copy)]
 pub struct Whole {
     pub column: u32,
     pub value: u32,
 }
 
-#[derive(Drop)]
+#[derive(Clone, Copy)]
 pub struct Signed {
     pub column: u32,
     pub value: i32,

@@ -8,21 +8,21 @@ ghost use Rattle.fractional.specs.Place.{billionths, nearest, exact_of, near_of,
 use coordinate::Position;
 use transform::Transform;
 
-#[derive(Drop)]
+#[derive(Clone, Copy)]
 pub struct Rows {
     pub x: Transform,
     pub y: Transform,
     pub z: Transform,
 }
 
-#[derive(Drop)]
+#[derive(Clone, Copy)]
 pub enum Scale {
     Rows(Rows),
     // The number of the refusal.
     Refused(u8),
 }
 
-#[derive(Drop)]
+#[derive(Clone, Copy)]
 pub struct Fraction {
     pub x: i64,
     pub y: i64,
@@ -30,13 +30,13 @@ pub struct Fraction {
 }
 
 // Billionths, and the nearest hundred-thousandths.
-#[derive(Drop)]
+#[derive(Clone, Copy)]
 pub struct Fractional {
     pub exact: Fraction,
     pub near: Fraction,
 }
 
-#[derive(Drop)]
+#[derive(Clone, Copy)]
 pub enum Placed {
     At(Fractional),
     // The number of the refusal.

@@ -10,7 +10,7 @@ use slots::Slot;
 
 // What a stretch of slots is to the slot before it: whether there is one, whether a TER is among those of the first one's model, the model, residue and mark of the first,
 // how many fragments they are, and whether marks agree inside each.
-#[derive(Drop)]
+#[derive(Clone, Copy)]
 pub struct Tail {
     pub some: bool,
     pub closed: bool,
@@ -22,7 +22,7 @@ pub struct Tail {
 }
 
 // The number of a fragment, counted from the last one as 1.
-#[derive(Drop)]
+#[derive(Clone, Copy)]
 pub struct FromLast(pub u64);
 
 // Whether the slot is that of a TER line.

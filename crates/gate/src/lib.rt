@@ -19,7 +19,7 @@ use trail::Watch;
 
 // The answer: the number of refusal, the offending line (0 if granted), its column at 6 (else 0), the count of good lines, and the nine counts over
 // those.
-#[derive(Drop)]
+#[derive(Clone, Copy)]
 pub struct Verdict {
     pub number: u8,
     pub line: u64,
@@ -29,7 +29,7 @@ pub struct Verdict {
 }
 
 // What is carried from line to line: the state, and what is remembered to look back by, for serials and for atoms.
-#[derive(Drop)]
+#[derive(Clone, Copy)]
 pub struct Course {
     pub state: State,
     pub past: Past,
@@ -37,7 +37,7 @@ pub struct Course {
 }
 
 // What a line gives: its number, and where that is 0 how it goes on.
-#[derive(Drop)]
+#[derive(Clone, Copy)]
 pub struct Onward {
     pub number: u8,
     pub course: Course,

@@ -11,7 +11,7 @@ use names::Three;
 use residue::Residue;
 
 // Columns 7 to 38.
-#[derive(Drop)]
+#[derive(Clone, Copy)]
 pub struct Extent {
     pub serial: u32,
     pub id: Three,
@@ -20,7 +20,7 @@ pub struct Extent {
 }
 
 // Columns 41 to 70, as words of 8, 8, 7 and 7 columns.
-#[derive(Drop)]
+#[derive(Clone, Copy)]
 pub struct Comment {
     pub a: u64,
     pub b: u64,
@@ -28,7 +28,7 @@ pub struct Comment {
     pub d: u64,
 }
 
-#[derive(Drop)]
+#[derive(Clone, Copy)]
 pub struct Helix {
     pub extent: Extent,
     pub class: u32,
@@ -36,19 +36,19 @@ pub struct Helix {
     pub length: u32,
 }
 
-#[derive(Drop)]
+#[derive(Clone, Copy)]
 pub struct ReadExtent {
     pub column: u32,
     pub value: Extent,
 }
 
-#[derive(Drop)]
+#[derive(Clone, Copy)]
 pub struct ReadComment {
     pub column: u32,
     pub value: Comment,
 }
 
-#[derive(Drop)]
+#[derive(Clone, Copy)]
 pub struct ReadHelix {
     pub column: u32,
     pub value: Helix,

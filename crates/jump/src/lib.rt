@@ -6,7 +6,7 @@ ghost use Rattle.jump.specs.Jumping.{jump_of};
 use fields::Serial;
 
 // The number of the line, 0 if there is none, and how many lines were looked at.
-#[derive(Drop)]
+#[derive(Clone, Copy)]
 pub struct Jump {
     pub line: u64,
     pub looked: u64,

@@ -3,7 +3,7 @@
 ghost use Rattle.std.specs.Prelude.{true, false, ◌≡◌};
 ghost use Rattle.kinds.specs.Kinds.{row_with, row_of, is_named, kind_named, kind_of};
 
-#[derive(Drop)]
+#[derive(Clone, Copy)]
 pub enum Kind {
     Header,
     Title,
@@ -38,7 +38,7 @@ pub enum Kind {
 }
 
 // What the rules say of a kind.
-#[derive(Drop)]
+#[derive(Clone, Copy)]
 pub struct Row {
     // Its name as one number.
     pub name: u64,

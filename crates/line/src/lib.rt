@@ -25,7 +25,7 @@ use ter::Ter;
 use transform::{Axis, Transform};
 
 // The record of a typed line.
-#[derive(Drop)]
+#[derive(Clone, Copy)]
 pub enum Record {
     // HETATM, or ATOM.
     Coordinate(bool, Atom),
@@ -43,7 +43,7 @@ pub enum Record {
 }
 
 // What a line of 80 columns reads to.
-#[derive(Drop)]
+#[derive(Clone, Copy)]
 pub enum Reading {
     Typed(Record),
     // The first column of the leftmost wrong field.
@@ -52,7 +52,7 @@ pub enum Reading {
     Untyped,
 }
 
-#[derive(Drop)]
+#[derive(Clone, Copy)]
 pub enum Answer {
     Read(Record),
     // The number of the refusal.

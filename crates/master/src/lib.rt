@@ -9,7 +9,7 @@ ghost use Rattle.master.specs.Masters.{notes_f, shape_f, atoms_f, master_f};
 
 // The nine counts of an entry: what MASTER holds.
 #[repr(C)]
-#[derive(Drop)]
+#[derive(Clone, Copy)]
 pub struct Tally {
     pub remark: u32,
     pub het: u32,
@@ -23,7 +23,7 @@ pub struct Tally {
 }
 
 // Columns 11 to 30.
-#[derive(Drop)]
+#[derive(Clone, Copy)]
 pub struct Notes {
     pub remark: u32,
     pub het: u32,
@@ -31,14 +31,14 @@ pub struct Notes {
 }
 
 // Columns 31 to 50.
-#[derive(Drop)]
+#[derive(Clone, Copy)]
 pub struct Shape {
     pub sheet: u32,
     pub xform: u32,
 }
 
 // Columns 51 to 70.
-#[derive(Drop)]
+#[derive(Clone, Copy)]
 pub struct Atoms {
     pub coord: u32,
     pub ter: u32,
@@ -46,25 +46,25 @@ pub struct Atoms {
     pub seq: u32,
 }
 
-#[derive(Drop)]
+#[derive(Clone, Copy)]
 pub struct ReadNotes {
     pub column: u32,
     pub value: Notes,
 }
 
-#[derive(Drop)]
+#[derive(Clone, Copy)]
 pub struct ReadShape {
     pub column: u32,
     pub value: Shape,
 }
 
-#[derive(Drop)]
+#[derive(Clone, Copy)]
 pub struct ReadAtoms {
     pub column: u32,
     pub value: Atoms,
 }
 
-#[derive(Drop)]
+#[derive(Clone, Copy)]
 pub struct ReadMaster {
     pub column: u32,
     pub value: Tally,

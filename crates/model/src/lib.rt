@@ -7,12 +7,12 @@ ghost use Rattle.fields.specs.Format.{write_number, write_line};
 ghost use Rattle.kinds.specs.Kinds.{line_with};
 ghost use Rattle.kinds.specs.declared.Kind.TheVariants as kind;
 
-#[derive(Drop)]
+#[derive(Clone, Copy)]
 pub struct Model {
     pub number: u32,
 }
 
-#[derive(Drop)]
+#[derive(Clone, Copy)]
 pub struct ReadModel {
     pub column: u32,
     pub value: Model,

@@ -5,14 +5,14 @@ ghost use Rattle.columns.specs.Columns.{Put};
 ghost use Rattle.names.specs.Names.{pair_at, three_at, four_at, same_pair, same_three, same_four, is_blank, is_chain, is_insertion, is_alternate, is_filled, is_column, is_name_byte, right_three, is_residue, is_identifier, is_charge, padded_two, padded_three, is_free_three, is_free_four, is_full, is_atom_name, is_bond_name};
 
 #[repr(C)]
-#[derive(Drop)]
+#[derive(Clone, Copy)]
 pub struct Pair {
     pub a: u8,
     pub b: u8,
 }
 
 #[repr(C)]
-#[derive(Drop)]
+#[derive(Clone, Copy)]
 pub struct Three {
     pub a: u8,
     pub b: u8,
@@ -20,7 +20,7 @@ pub struct Three {
 }
 
 #[repr(C)]
-#[derive(Drop)]
+#[derive(Clone, Copy)]
 pub struct Four {
     pub a: u8,
     pub b: u8,

@@ -8,7 +8,7 @@ ghost use Rattle.numbers.specs.Number.{number_of, digit_of, leader, render};
 ghost use Rattle.numbers.specs.Runs.{value_of, dec_of, step_of, scan_of, taken_of, decimals_of, made_of};
 
 // A number as it stands in its columns. All is 0 and false where the columns hold none.
-#[derive(Drop)]
+#[derive(Clone, Copy)]
 pub struct Number {
     pub good: bool,
     pub minus: bool,
@@ -57,7 +57,7 @@ fn digits(w: u64, n: usize) -> u64
 
 // Columns passed from the left: all blank; blank but perhaps for a minus at their end; a minus among them; ending in a digit;
 // a number without a point; and what their digits are.
-#[derive(Drop)]
+#[derive(Clone, Copy)]
 struct Scan {
     blank: bool,
     lead: bool,

@@ -6,7 +6,7 @@ ghost use Rattle.pieces.specs.Pieces.{line_in, columns_of, line_of};
 use kinds::Kind;
 use line::{Reading, Record};
 
-#[derive(Drop)]
+#[derive(Clone, Copy)]
 pub enum Line {
     // Refused by itself: 1, 2, 3 or 4.
     Bad(u8),

@@ -7,7 +7,7 @@ pub use counting::{count_at, count_of, no_counts, raise, same_counts};
 pub use order::{fence_bad, place_bad};
 
 // Where the models stand: whether one is open, whether the first is past, and the number of the last MODEL line.
-#[derive(Drop)]
+#[derive(Clone, Copy)]
 pub struct Models {
     pub inside: bool,
     pub past: bool,
@@ -15,7 +15,7 @@ pub struct Models {
 }
 
 // The nine counts of MASTER, without the limit of its columns.
-#[derive(Drop)]
+#[derive(Clone, Copy)]
 pub struct Counts {
     pub remark: u64,
     pub het: u64,

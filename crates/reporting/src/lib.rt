@@ -9,7 +9,7 @@ use gate::Verdict;
 pub const LINES: usize = 13;
 
 // A text of up to eight bytes, and how many it has.
-#[derive(Drop)]
+#[derive(Clone, Copy)]
 pub struct Label(pub [u8; 8], pub usize);
 
 // 20 above 65,529 bytes, and all other values 0; else the answer of the check.

@@ -7,7 +7,7 @@ ghost use Rattle.residue.specs.Residues.{no_residue, same_residue, residue_f};
 use fields::ResidueNumber;
 use names::Three;
 
-#[derive(Drop)]
+#[derive(Clone, Copy)]
 pub struct Residue {
     pub name: Three,
     pub chain: u8,
@@ -15,7 +15,7 @@ pub struct Residue {
     pub insertion: u8,
 }
 
-#[derive(Drop)]
+#[derive(Clone, Copy)]
 pub struct ReadResidue {
     pub column: u32,
     pub value: Residue,

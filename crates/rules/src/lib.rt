@@ -23,7 +23,7 @@ use steps::{bond_next, helix_next, ladder_next, last_next, models_next, no_run, 
 use tests::{bond_bad, count_bad, fold_bad, model_bad, run_bad, serial_bad, unfinished};
 
 // The coordinate lines since the last TER: whether there is one, whether all have one chain, whether one is an ATOM, and the last one's residue.
-#[derive(Drop)]
+#[derive(Clone, Copy)]
 pub struct Run {
     pub some: bool,
     pub same: bool,
@@ -32,7 +32,7 @@ pub struct Run {
 }
 
 // The last SHEET line: its sheet, its strand, and how many strands the sheet has.
-#[derive(Drop)]
+#[derive(Clone, Copy)]
 pub struct Ladder {
     pub id: Three,
     pub strand: u32,
@@ -41,14 +41,14 @@ pub struct Ladder {
 
 // What a look back over the lines before a line says: each number on a CONECT line is the serial of an atom; the atom of an ATOM or HETATM
 // line stands on one of them.
-#[derive(Drop)]
+#[derive(Clone, Copy)]
 pub struct Looked {
     pub known: bool,
     pub twin: bool,
 }
 
 // What the good lines so far leave to judge the next by.
-#[derive(Drop)]
+#[derive(Clone, Copy)]
 pub struct State {
     // The place of the last line.
     pub place: u8,

@@ -6,28 +6,28 @@ ghost use Rattle.search.specs.Search.{part_of};
 use fields::Serial;
 
 // The places from lo up to hi.
-#[derive(Drop)]
+#[derive(Clone, Copy)]
 pub struct Span {
     pub lo: usize,
     pub hi: usize,
 }
 
 // A serial that was met, and where.
-#[derive(Drop)]
+#[derive(Clone, Copy)]
 pub struct Near {
     pub place: usize,
     pub serial: Serial,
 }
 
 // Where the search for a serial ended, and what was asked of it. (In this order a copy of the place is one move.)
-#[derive(Drop)]
+#[derive(Clone, Copy)]
 pub struct Sought {
     pub near: Near,
     pub yes: bool,
 }
 
 // Where a serial stands.
-#[derive(Drop)]
+#[derive(Clone, Copy)]
 pub enum Found {
     At(usize),
     Nowhere,

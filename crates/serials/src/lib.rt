@@ -18,7 +18,7 @@ use pieces::Line;
 use search::{Found, Near, Sought, Span};
 
 // The coordinate lines of the models that are shut: those of the first one that has any, and where the last of them ends.
-#[derive(Drop)]
+#[derive(Clone, Copy)]
 pub struct Earlier {
     pub first: Span,
     pub end: usize,
@@ -26,7 +26,7 @@ pub struct Earlier {
 
 // What is remembered of the lines so far, to look back by: the block of the coordinate lines, of the model where there are models; those of
 // the models that are shut; and where the last serial was found.
-#[derive(Drop)]
+#[derive(Clone, Copy)]
 pub struct Past {
     pub block: Span,
     pub earlier: Earlier,

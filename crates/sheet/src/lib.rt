@@ -11,7 +11,7 @@ use names::{Four, Three};
 use residue::Residue;
 
 // Columns 42 to 70.
-#[derive(Drop)]
+#[derive(Clone, Copy)]
 pub struct Bond {
     pub atom: Four,
     pub residue: Residue,
@@ -19,14 +19,14 @@ pub struct Bond {
     pub other: Residue,
 }
 
-#[derive(Drop)]
+#[derive(Clone, Copy)]
 pub enum Registration {
     Absent,
     Filled(Bond),
 }
 
 // Columns 8 to 40.
-#[derive(Drop)]
+#[derive(Clone, Copy)]
 pub struct Strand {
     pub strand: u32,
     pub id: Three,
@@ -36,31 +36,31 @@ pub struct Strand {
     pub sense: i32,
 }
 
-#[derive(Drop)]
+#[derive(Clone, Copy)]
 pub struct Sheet {
     pub strand: Strand,
     pub registration: Registration,
 }
 
-#[derive(Drop)]
+#[derive(Clone, Copy)]
 pub struct ReadBond {
     pub column: u32,
     pub value: Bond,
 }
 
-#[derive(Drop)]
+#[derive(Clone, Copy)]
 pub struct ReadStrand {
     pub column: u32,
     pub value: Strand,
 }
 
-#[derive(Drop)]
+#[derive(Clone, Copy)]
 pub struct ReadRegistration {
     pub column: u32,
     pub value: Registration,
 }
 
-#[derive(Drop)]
+#[derive(Clone, Copy)]
 pub struct ReadSheet {
     pub column: u32,
     pub value: Sheet,

@@ -86,7 +86,7 @@ fn count_lines() {
 
 // ---- a stage of the sitting
 // What a stage has told: of loading, of two orders, of the frame, of slots 2 and 3 drawn (1 for a dot, 2 for a stroke), of saving and of the tray.
-#[derive(Drop)]
+#[derive(Clone, Copy)]
 struct Told {
     load: Outcome,
     first: u8,
@@ -96,7 +96,7 @@ struct Told {
     tray: Outcome,
 }
 
-#[derive(Drop)]
+#[derive(Clone, Copy)]
 struct Looks {
     frame: u8,
     dot: u8,

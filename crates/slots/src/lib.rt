@@ -17,7 +17,7 @@ use ter::Ter;
 
 // 48 bytes, no padding. Model 0 is none. Kind 1 ATOM, 2 HETATM, 3 TER; mark 0 in, 1 aside; any other byte is damage.
 #[repr(C)]
-#[derive(Drop)]
+#[derive(Clone, Copy)]
 pub struct Slot {
     pub serial: Serial,
     pub number: ResidueNumber,
@@ -37,7 +37,7 @@ pub struct Slot {
 }
 
 // What filling a slot from one line answers.
-#[derive(Drop)]
+#[derive(Clone, Copy)]
 pub enum Filling {
     Filled(Slot),
     // The number of the refusal.

@@ -22,14 +22,14 @@ use slots::Slot;
 use survey::{count_slots, look_over};
 
 // What is answered: 0 or the number of a refusal, and how many slots or bytes were written.
-#[derive(Drop)]
+#[derive(Clone, Copy)]
 pub struct Outcome {
     pub number: u8,
     pub count: usize,
 }
 
 // The number of a text, and if that is 0 how many slots it needs.
-#[derive(Drop)]
+#[derive(Clone, Copy)]
 pub struct Needs {
     pub number: u8,
     pub need: usize,
@@ -37,7 +37,7 @@ pub struct Needs {
 
 // What one pass over the text says of text and table: the number of the text, and if that is 0 how many slots it needs, whether the slots
 // fit it, how many lines stay, how many are MODEL and ENDMDL, and how many there are.
-#[derive(Drop)]
+#[derive(Clone, Copy)]
 pub struct Findings {
     pub number: u8,
     pub need: usize,
@@ -49,7 +49,7 @@ pub struct Findings {
 
 // What text and table get together: a number, and if that is 0 how many slots, fragments, lines that stay, MODEL and ENDMDL lines and lines
 // there are.
-#[derive(Drop)]
+#[derive(Clone, Copy)]
 pub struct Held {
     pub number: u8,
     pub need: usize,

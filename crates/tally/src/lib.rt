@@ -7,7 +7,7 @@ ghost use Rattle.tally.specs.Tally.{count_in, raised_tally, told_tally, tally_st
 use master::Tally;
 
 // What a line is answered, 0 or the number of the refusal, and what the tally then holds.
-#[derive(Drop)]
+#[derive(Clone, Copy)]
 pub struct Counted {
     pub number: u8,
     pub tally: Tally,

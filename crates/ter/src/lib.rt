@@ -10,13 +10,13 @@ ghost use Rattle.kinds.specs.declared.Kind.TheVariants as kind;
 use fields::Serial;
 use residue::Residue;
 
-#[derive(Drop)]
+#[derive(Clone, Copy)]
 pub struct Ter {
     pub serial: Serial,
     pub residue: Residue,
 }
 
-#[derive(Drop)]
+#[derive(Clone, Copy)]
 pub struct ReadTer {
     pub column: u32,
     pub value: Ter,

@@ -17,7 +17,7 @@ use sight::Sight;
 // What is known of the coordinate lines so far. Columns 22-27 of a line, as one number, are its residue here. No line before `from` is in
 // the residue `key`, that of the last line; no line is in a residue between `low` and it, or between it and `limit`. Residues do not fall
 // before the line `top`, nor rise above `peak` there.
-#[derive(Drop)]
+#[derive(Clone, Copy)]
 pub struct Watch {
     pub from: usize,
     pub top: usize,
@@ -29,7 +29,7 @@ pub struct Watch {
 }
 
 // The line from which on it has to be looked for, and what is known once the line is taken in.
-#[derive(Drop)]
+#[derive(Clone, Copy)]
 pub struct Step {
     pub start: usize,
     pub watch: Watch,

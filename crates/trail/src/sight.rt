@@ -3,7 +3,7 @@ ghost use Rattle.std.specs.Prelude.{◌≡◌, ℕ, ◌≤◌, ◌<◌, max, min
 ghost use Rattle.trail.specs.Trail.{Seen};
 
 // Of some lines: none before `from` is in the residue, and none in a residue between `low` and it, or between it and `limit`.
-#[derive(Drop)]
+#[derive(Clone, Copy)]
 pub struct Sight {
     pub from: usize,
     pub low: u64,

@@ -9,7 +9,7 @@ ghost use Rattle.kinds.specs.Kinds.{row_of, line_with};
 use kinds::Kind;
 
 // Which of the three lines.
-#[derive(Drop)]
+#[derive(Clone, Copy)]
 pub enum Axis {
     X,
     Y,
@@ -18,7 +18,7 @@ pub enum Axis {
 
 // Columns 11 to 40, in millionths.
 #[repr(C)]
-#[derive(Drop)]
+#[derive(Clone, Copy)]
 pub struct Coefficients {
     pub x: i32,
     pub y: i32,
@@ -27,19 +27,19 @@ pub struct Coefficients {
 
 // One line; the shift in hundred-thousandths.
 #[repr(C)]
-#[derive(Drop)]
+#[derive(Clone, Copy)]
 pub struct Transform {
     pub by: Coefficients,
     pub shift: i32,
 }
 
-#[derive(Drop)]
+#[derive(Clone, Copy)]
 pub struct ReadCoefficients {
     pub column: u32,
     pub value: Coefficients,
 }
 
-#[derive(Drop)]
+#[derive(Clone, Copy)]
 pub struct ReadTransform {
     pub column: u32,
     pub value: Transform,

@@ -23,7 +23,7 @@ use search::Span;
 use trail::Watch;
 
 // What is known for the next line if this one is good, and whether the atom of this one stands above.
-#[derive(Drop)]
+#[derive(Clone, Copy)]
 pub struct Glance {
     pub watch: Watch,
     pub twin: bool,

@@ -1,5 +1,6 @@
 // Free text in up to eight columns, held as one number: its bytes to the base 256.
 #![tactic(auto)]
+
 ghost use Rattle.std.specs.Prelude.{◌≡◌, ◌+◌, ◌≤◌, ◌<◌, length};
 ghost use Rattle.columns.specs.Columns.{Put};
 ghost use Rattle.words.specs.Words.{word_at, bytes_of, clean_of};

@@ -1,6 +1,4 @@
-use borrow.Author.Rules.{rules}
 use Rattle.words.proofs.Returns.{number_none, number_some}
-use Prim.Native.Nat.{ℕ, ◌<◌}
 use Rattle.words.proofs.+is_word.Goals as goal
 
 pub returns-then-n-eq0 : goal.returns-then-n-eq0

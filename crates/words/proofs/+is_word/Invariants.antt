@@ -1,6 +1,3 @@
-use borrow.Author.Rules.{rules}
-use Rattle.words.proofs.Returns.{number_none, number_some}
-use Prim.Native.Nat.{ℕ, ◌<◌}
 use Rattle.words.proofs.+is_word.Given as goal
 
 abbrev pub decreases-is_word : goal.decreases-is_word

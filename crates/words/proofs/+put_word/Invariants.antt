@@ -1,6 +1,3 @@
-use borrow.Author.Rules.{rules}
-use Rattle.words.proofs.Returns.{bytes_none, bytes_some}
-use Prim.Native.Nat.{ℕ, ◌<◌}
 use Rattle.words.proofs.+put_word.Given as goal
 
 abbrev pub decreases-put_word : goal.decreases-put_word

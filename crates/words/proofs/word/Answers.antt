@@ -1,9 +1,6 @@
-use borrow.Author.Rules.{rules}
-use Rattle.words.specs.Words.{word_at}
 use lib.Dec.{lit<}
 use native.Mathlib.Omega.{arith}
-use mathlib.Core.Path.{◌≡◌}
-use Prim.Native.Nat.{◌+◌, ◌^◌, ◌<◌, ◌≤◌, ◌-◌}
+use Prim.Native.Nat.{◌+◌}
 use Rattle.words.proofs.Returns.{word_room, word_more, word_start, word_next, word_end}
 use Rattle.words.proofs.word.Goals as goal
 
