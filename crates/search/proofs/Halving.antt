@@ -7,7 +7,6 @@ use native.Mathlib.Nat.{lt_trans, lt_of_lt_of_le, le_of_lt, le_trans, le_refl, l
 use borrow.Author.Count.{below_more}
 use borrow.Author.Tests.{ltb-true, ltb-false, eqb-true}
 use lib.Dec.{ltb, eqb}
-use Rattle.ascii.specs.Tests.{pick}
 use Rattle.ascii.proofs.Choice.{picks}
 use Rattle.search.specs.declared.Span.{Span}
 use Rattle.search.specs.Search.{span, part_of, Rises, Bracket}

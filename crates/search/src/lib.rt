@@ -1,5 +1,6 @@
 // A search among serials that rise, by value: a text and a table are searched alike.
 #![tactic(auto)]
+
 ghost use Rattle.std.specs.Prelude.{◌≡◌, ◌≤◌, ◌<◌};
 ghost use Rattle.search.specs.Search.{part_of};
 
