@@ -1,5 +1,6 @@
 // Names: bytes of certain classes, alone or a few together.
 #![tactic(auto)]
+
 ghost use Rattle.std.specs.Prelude.{◌≡◌, ◌+◌, ◌≤◌, ◌∷◌, [], length};
 ghost use Rattle.columns.specs.Columns.{Put};
 ghost use Rattle.names.specs.Names.{pair_at, three_at, four_at, same_pair, same_three, same_four, is_blank, is_chain, is_insertion, is_alternate, is_filled, is_column, is_name_byte, right_three, is_residue, is_identifier, is_charge, padded_two, padded_three, is_free_three, is_free_four, is_full, is_atom_name, is_bond_name};
