@@ -76,12 +76,13 @@ def scope(f, text):  # the names that a file means as the repository's own
 
 
 def turned(f, text, table):
-    mine = {n: table[n] for n in scope(f, text) if n in table}
+    # a name that is spelled as it should be already may be a function's in code and in edits
+    mine = {n: table[n] for n in scope(f, text) if n in table and (f.endswith(".antt") or re.search("[A-Z-]", n))}
     def one(m):
         word = m[0]
         if word.startswith('"'): return word
         if word in mine: return mine[word]
-        if text[m.start() - 1:m.start()] == "." and word in table and (word in fields or "-" not in word): return table[word]
+        if text[m.start() - 1:m.start()] == "." and word in table and (word in fields or "-" not in word) and (f.endswith(".antt") or re.search("[A-Z-]", word)): return table[word]
         bare = word.strip("`'")
         if bare != word and bare in mine: return word.replace(bare, mine[bare])
         return word

@@ -97,7 +97,7 @@ pub fn spot_of(r: Record) -> Spot
     Spot::Nowhere
 }
 
-pub fn spot_in_lem(l: Line) -> Spot
+pub fn spot_in(l: Line) -> Spot
     ensures { result ≡ spot_in l }
 {
     if let Line::Typed(r) = l {
@@ -190,7 +190,7 @@ fn is_spot(p: Spot) -> bool
 pub fn is_coord(l: Line) -> bool
     ensures { result ≡ is_coord l }
 {
-    is_spot(spot_in_lem(l))
+    is_spot(spot_in(l))
 }
 
 fn is_bound(e: Fence) -> bool

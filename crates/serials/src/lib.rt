@@ -99,7 +99,7 @@ pub fn find(text: &[u8], b: Span, n: Near, x: Serial) -> Found
 fn is_site(l: Line, x: Serial) -> bool
     ensures { result ≡ is_site x.0 l }
 {
-    let spot = facets::spot_in_lem(l);
+    let spot = facets::spot_in(l);
     match spot {
         Spot::Site(_, a) => a.identity.serial.0 == x.0,
         Spot::Close(_) => false,

@@ -212,7 +212,7 @@ pub fn line_slot(model: u32, l: Line) -> Slot
     requires { SmallSpot (spot_in l) }
     ensures { result ≡ line_slot model l }
 {
-    with_model(spot_slot(facets::spot_in_lem(l)), model)
+    with_model(spot_slot(facets::spot_in(l)), model)
 }
 
 // The slot, of another model.

@@ -46,7 +46,7 @@ pub fn write_all(text: &[u8], table: &[Slot], out: &mut [u8], saving: bool)
         near = ended;
         at = writing::put_share(text, i, l, saving, stay, q, out, at);
         q = writing::count_line(stay, past, q, l);
-        past = writing::past_next_lem(past, l);
+        past = writing::past_next(past, l);
         k += marks::one_of(l);
         i += 1;
     }

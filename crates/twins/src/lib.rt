@@ -48,7 +48,7 @@ fn same_atom(a: Identity, b: Identity) -> bool
 fn is_twin(a: Identity, l: Line) -> bool
     ensures { result ≡ is_twin a l }
 {
-    let spot = facets::spot_in_lem(l);
+    let spot = facets::spot_in(l);
     match spot {
         Spot::Site(_, s) => {
             let b = s.identity;
@@ -122,7 +122,7 @@ fn met(text: &[u8], from: usize, hi: usize, i: usize, l: Line) -> bool
     ensures { (het : Bool) (a : AtomOf) → spot_in l ≡ Site het a → Stands a.identity (row text.now) from hi result }
 {
     if from < hi {
-        let spot = facets::spot_in_lem(l);
+        let spot = facets::spot_in(l);
         match spot {
             Spot::Site(_, a) => {
                 let d = a.identity;
@@ -153,7 +153,7 @@ pub fn look(text: &[u8], b: Span, w: Watch, i: usize, l: Line) -> Glance
     ensures by_index { (n : ℕ) (s : StateOf) → Block (row text.now) n b s → result.twin ≡ twin_of (down (row text.now) n) (spot_in l) }
     ensures watched_2 { (is_coord l ≡ true → b.lo < b.hi → b.hi ≡ i) → Watched text.now (grow_of b i l) result.watch }
 {
-    let spot = facets::spot_in_lem(l);
+    let spot = facets::spot_in(l);
     match spot {
         Spot::Site(_, _) => {
             let s = trail::follow(text, b, w, i);

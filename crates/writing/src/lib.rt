@@ -25,7 +25,7 @@ fn past_after(past: bool, e: Fence) -> bool
 }
 
 // Whether the first model is past, once this line is.
-pub fn past_next_lem(past: bool, l: Line) -> bool
+pub fn past_next(past: bool, l: Line) -> bool
     ensures { result ≡ past_next past l }
 {
     past_after(past, facets::fence_in(l))
