@@ -1,5 +1,6 @@
 // The elements by their symbols in two columns.
 #![tactic(auto)]
+
 mod table;
 
 ghost use Rattle.std.specs.Prelude.{◌≡◌};
