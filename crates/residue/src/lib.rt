@@ -1,5 +1,6 @@
 // A residue: name, a blank, chain, number, insertion code. In HELIX a blank stands between chain and number: `gap` is 1 there, else 0.
 #![tactic(auto)]
+
 ghost use Rattle.std.specs.Prelude.{◌≡◌, ◌+◌, ◌≤◌, ◌<◌, length};
 ghost use Rattle.columns.specs.Columns.{Put};
 ghost use Rattle.residue.specs.Residues.{no_residue, same_residue, residue_f};
