@@ -1,5 +1,6 @@
 // The kinds of line, by their names in columns 1 to 6: one table of all that the rules say of each.
 #![tactic(auto)]
+
 ghost use Rattle.std.specs.Prelude.{true, false, ◌≡◌};
 ghost use Rattle.kinds.specs.Kinds.{row_with, row_of, is_named, kind_named, kind_of};
 

@@ -120,7 +120,7 @@ returns-in-76202455680076 c = rw c.in-76202455680076.is
 
 pub returns-in_default : goal.returns-in_default
 unfolding kind_named
-returns-in_default c = let r = c.in_default-own.rest in
+returns-in_default c = let r = c.in_default.in_default-own.rest in
     simp (
       ne_eqb _ _ r.0.0.0.0.0.0.0.0.0.0.0.0.0.0.0.0.0.0.0.0.0.0.0.0.0.0.0.0.1,
       ne_eqb _ _ r.0.0.0.0.0.0.0.0.0.0.0.0.0.0.0.0.0.0.0.0.0.0.0.0.0.0.0.1,

@@ -1,5 +1,4 @@
 use Rattle.kinds.proofs.Returns.{no_name, by_name}
-use borrow.Author.Rules.{rules}
 use Rattle.kinds.proofs.kind_of.Goals as goal
 
 pub returns-then-line-lt6 : goal.returns-then-line-lt6
