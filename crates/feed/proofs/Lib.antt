@@ -3,8 +3,6 @@ pub mod Alike
 pub mod Exactness
 pub mod Order
 mod Returns
-pub mod SlotAs
 pub mod Tightness
 mod Walk
-pub mod Walked
 pub mod Promised

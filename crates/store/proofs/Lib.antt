@@ -5,5 +5,3 @@ pub mod Standing
 pub mod Looking
 pub mod Answers
 pub mod Written
-pub mod SlotAs
-pub mod Walked

@@ -1,5 +1,0 @@
--- Machine-made by tools/walks; do not edit.
-pub mod load
-pub mod order
-pub mod save
-pub mod tray

@@ -1,3 +1,0 @@
--- Machine-made by tools/walks; do not edit.
-pub mod Kinds
-pub mod Reads
