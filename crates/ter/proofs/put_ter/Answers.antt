@@ -1,0 +1,10 @@
+use Rattle.ter.proofs.Returns.{writes}
+use Rattle.ter.proofs.put_ter.Goals as goal
+
+pub returns : goal.returns
+returns c = writes _ _ _ _ _ _ _
+    c.put_word.ensures
+    c.put_whole.ensures
+    c.put_blanks.ensures
+    c.put_residue.ensures
+    c.put_blanks-2.ensures
