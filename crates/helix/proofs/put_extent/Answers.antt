@@ -4,7 +4,7 @@ use borrow.Author.Rules.{rules}
 use Rattle.helix.proofs.put_extent.Goals as goal
 
 pub put_residue-requires-2 : goal.put_residue-requires-2
-put_residue-requires-2 c = omega (arith, c.requires, c.put_blanks-4.auto.0, c.put_residue.auto.0, c.put_blanks-3.auto.0, c.put_three.auto.0, c.put_blanks-2.auto.0, c.put_whole.auto.0, c.put_blanks.auto.0)
+put_residue-requires-2 c = omega (arith, c.requires, c.put_blanks-4.auto.line, c.put_residue.auto.line, c.put_blanks-3.auto.line, c.put_three.auto.line, c.put_blanks-2.auto.line, c.put_whole.auto.line, c.put_blanks.auto.line)
 
 pub returns : goal.returns
 returns c = extent_writes _ _ _ _ _ _ _ _ _ _
