@@ -1,5 +1,6 @@
 // SHEET: read and written.
 #![tactic(auto)]
+
 ghost use Rattle.std.specs.Prelude.{◌≡◌, ◌+◌, ◌≤◌, ◌<◌, length};
 ghost use Rattle.columns.specs.Columns.{Put};
 ghost use Rattle.sheet.specs.Sheets.{is_sense, sense_fits, bond_f, strand_f, registration_f, sheet_f};
