@@ -1,5 +1,6 @@
 // HELIX: read and written.
 #![tactic(auto)]
+
 ghost use Rattle.std.specs.Prelude.{◌≡◌, ◌≤◌, length};
 ghost use Rattle.columns.specs.Columns.{Put};
 ghost use Rattle.helix.specs.Helices.{extent_f, comment_f, helix_f};
