@@ -1,5 +1,6 @@
 // MASTER: read and written.
 #![tactic(auto)]
+
 ghost use Rattle.std.specs.Prelude.{◌≡◌, ◌≤◌, length};
 ghost use Rattle.columns.specs.Columns.{Put};
 ghost use Rattle.fields.specs.Format.{write_number, write_line};

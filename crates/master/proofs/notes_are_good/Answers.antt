@@ -1,0 +1,6 @@
+use Rattle.master.proofs.Returns.{notes_judges}
+use borrow.Author.Rules.{rules}
+use Rattle.master.proofs.notes_are_good.Goals as goal
+
+pub returns : goal.returns
+returns c = search notes_judges

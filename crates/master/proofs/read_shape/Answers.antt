@@ -1,0 +1,6 @@
+use Rattle.master.proofs.Returns.{shape_column, shape_value}
+use borrow.Author.Rules.{rules}
+use Rattle.master.proofs.read_shape.Goals as goal
+
+pub returns : goal.returns
+returns c = (search shape_column, search shape_value)

@@ -1,0 +1,6 @@
+use Rattle.master.proofs.Returns.{shape_judges}
+use borrow.Author.Rules.{rules}
+use Rattle.master.proofs.shape_is_good.Goals as goal
+
+pub returns : goal.returns
+returns c = search shape_judges
