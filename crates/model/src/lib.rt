@@ -1,5 +1,6 @@
 // MODEL: read and written.
 #![tactic(auto)]
+
 ghost use Rattle.std.specs.Prelude.{◌≡◌, ◌≤◌, length};
 ghost use Rattle.columns.specs.Columns.{Put};
 ghost use Rattle.model.specs.Models.{model_f};
