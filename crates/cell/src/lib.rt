@@ -1,5 +1,6 @@
 // CRYST1: read and written.
 #![tactic(auto)]
+
 ghost use Rattle.std.specs.Prelude.{◌≡◌, ◌≤◌, length};
 ghost use Rattle.columns.specs.Columns.{Put};
 ghost use Rattle.cell.specs.Cells.{edges_f, angles_f, group_f, cell_f};

@@ -1,0 +1,6 @@
+use Rattle.cell.proofs.Returns.{angles_judged}
+use borrow.Author.Rules.{rules}
+use Rattle.cell.proofs.angles_are_good.Goals as goal
+
+pub returns : goal.returns
+returns c = search angles_judged

@@ -1,0 +1,6 @@
+use Rattle.cell.proofs.Returns.{edges_judged}
+use borrow.Author.Rules.{rules}
+use Rattle.cell.proofs.edges_are_good.Goals as goal
+
+pub returns : goal.returns
+returns c = search edges_judged

@@ -1,0 +1,6 @@
+use Rattle.cell.proofs.Returns.{cell_judged}
+use borrow.Author.Rules.{rules}
+use Rattle.cell.proofs.is_good.Goals as goal
+
+pub returns : goal.returns
+returns c = search cell_judged
