@@ -1,5 +1,6 @@
 // ORIGX1-3 and SCALE1-3: read and written.
 #![tactic(auto)]
+
 ghost use Rattle.std.specs.Prelude.{◌≡◌, ◌≤◌, length};
 ghost use Rattle.columns.specs.Columns.{Put};
 ghost use Rattle.transform.specs.Transforms.{coefficients_f, transform_f, transform_kind};

@@ -1,0 +1,6 @@
+use Rattle.transform.proofs.Returns.{transform_judged}
+use borrow.Author.Rules.{rules}
+use Rattle.transform.proofs.is_good.Goals as goal
+
+pub returns : goal.returns
+returns c = search transform_judged
