@@ -1,5 +1,6 @@
 // Where each kind of line may stand, and which of MASTER's counts it is counted in.
 #![tactic(auto)]
+
 mod counting;
 mod order;
 
