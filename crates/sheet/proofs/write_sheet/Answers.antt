@@ -1,0 +1,15 @@
+use Rattle.fields.proofs.Writes.{write_bad, write_short, write_done}
+use borrow.Author.Rules.{rules}
+use Rattle.sheet.proofs.write_sheet.Goals as goal
+
+pub is_good-ok-requires : goal.is_good-ok-requires
+is_good-ok-requires c = tt
+
+pub returns-then-line-lt80 : goal.returns-then-line-lt80
+returns-then-line-lt80 c = write_short _ _ c.is_good-ok.ensures _ _ c.if-ok.true c.if-line-lt80.true
+
+pub returns-then-ok : goal.returns-then-ok
+returns-then-ok c = write_done _ _ c.is_good-ok.ensures _ _ _ c.if-ok.true c.if-line-lt80.false c.put_sheet.ensures
+
+pub returns : goal.returns
+returns c = write_bad _ _ c.is_good-ok.ensures _ _ c.if-ok.false
