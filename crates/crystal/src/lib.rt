@@ -1,5 +1,6 @@
 // A line of the crystal frame read by itself: the cell of CRYST1, and the transformation of ORIGX or SCALE.
 #![tactic(auto)]
+
 ghost use Rattle.std.specs.Prelude.{◌≡◌};
 ghost use Rattle.kinds.specs.Kinds.{is};
 ghost use Rattle.kinds.specs.declared.Kind.TheVariants as kind;

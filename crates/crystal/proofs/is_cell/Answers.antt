@@ -1,0 +1,6 @@
+use Rattle.crystal.proofs.Returns.{cell_is}
+use borrow.Author.Rules.{rules}
+use Rattle.crystal.proofs.is_cell.Goals as goal
+
+pub returns : goal.returns
+returns c = cell_is c.args.k _ c.row_of-r.ensures
