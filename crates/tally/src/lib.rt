@@ -1,5 +1,6 @@
 // The tally: nine counts, lent and brought up to date in place, one line at a time.
 #![tactic(auto)]
+
 ghost use Rattle.std.specs.Prelude.{◌≡◌, ◌<◌};
 ghost use Rattle.places.specs.Counts.{one_more};
 ghost use Rattle.tally.specs.Tally.{count_in, raised_tally, told_tally, tally_step, tally_line};
