@@ -1,0 +1,59 @@
+use borrow.Author.Tests.{ne_eqb}
+use Rattle.tally.specs.Tally.{count_in}
+use Rattle.tally.proofs.count_in.Statement.{statement}
+use Rattle.tally.proofs.count_in.Tie as tie
+
+returns : tie.Need-returns
+unfolding count_in
+returns c = rw c.match.keys1
+
+returns-2 : tie.Need-returns-2
+unfolding count_in
+returns-2 c = rw c.match.keys2
+
+returns-3 : tie.Need-returns-3
+unfolding count_in
+returns-3 c = rw c.match.keys3
+
+returns-4 : tie.Need-returns-4
+unfolding count_in
+returns-4 c = rw c.match.keys4
+
+returns-5 : tie.Need-returns-5
+unfolding count_in
+returns-5 c = rw c.match.keys5
+
+returns-6 : tie.Need-returns-6
+unfolding count_in
+returns-6 c = rw c.match.keys6
+
+returns-7 : tie.Need-returns-7
+unfolding count_in
+returns-7 c = rw c.match.keys7
+
+returns-8 : tie.Need-returns-8
+unfolding count_in
+returns-8 c = rw c.match.keys8
+
+returns-9 : tie.Need-returns-9
+unfolding count_in
+returns-9 c = rw c.match.keys9
+
+returns-10 : tie.Need-returns-10
+unfolding count_in
+returns-10 c = let r = c.match.rest in rw (ne_eqb _ _ r.0.0.0.0.0.0.0.0.1, ne_eqb _ _ r.0.0.0.0.0.0.0.1, ne_eqb _ _ r.0.0.0.0.0.0.1, ne_eqb _ _ r.0.0.0.0.0.1, ne_eqb _ _ r.0.0.0.0.1, ne_eqb _ _ r.0.0.0.1, ne_eqb _ _ r.0.0.1, ne_eqb _ _ r.0.1, ne_eqb _ _ r.1)
+
+pub count-in-spec : {M : Type 1} → statement M
+count-in-spec =
+    tie.close
+    (tie.spec
+    returns
+    returns-2
+    returns-3
+    returns-4
+    returns-5
+    returns-6
+    returns-7
+    returns-8
+    returns-9
+    returns-10)
