@@ -1,5 +1,6 @@
 // A line by itself, of any kind: read to a record, and written from one.
 #![tactic(auto)]
+
 ghost use Rattle.std.specs.Prelude.{◌≡◌, true, length};
 ghost use Rattle.fields.specs.Format.{write_number, write_line};
 ghost use Rattle.coordinate.specs.Atoms.{atom_f};
