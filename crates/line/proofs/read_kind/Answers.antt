@@ -122,4 +122,4 @@ unfolding reading_of crystal_read
 returns-in-Scale3 c = rw c.in-Scale3.is c.read_transform-in-Scale3.ensures
 
 pub returns-in_default : goal.returns-in_default
-returns-in_default c = rw (untyped c.args.k _ c.in_default.is)
+returns-in_default c = rw (untyped c.args.k _ c.in_default.in_default-own.keys18)
