@@ -1,5 +1,6 @@
 // A piece of the text by itself: what line it is.
 #![tactic(auto)]
+
 ghost use Rattle.std.specs.Prelude.{◌≡◌, length};
 ghost use Rattle.pieces.specs.Pieces.{line_in, columns_of, line_of};
 
