@@ -1,5 +1,6 @@
 // What a line is to the rules between lines: its kind; as a coordinate or TER line; as a bond; as a fold; as a total; as a fence.
 #![tactic(auto)]
+
 ghost use Rattle.std.specs.Prelude.{◌≡◌};
 ghost use Rattle.facets.specs.Facets.{record_kind, line_kind, spot_of, spot_in, bond_of, bond_in, fold_of, total_of, total_in, fence_of, fence_in, is_spot, is_coord, is_bound, is_fence};
 

@@ -1,0 +1,11 @@
+use Rattle.facets.proofs.Others.{spot_others}
+use Rattle.facets.proofs.spot_of.Goals as goal
+
+pub returns-in-Coordinate : goal.returns-in-Coordinate
+returns-in-Coordinate c = rw c.in-Coordinate.is
+
+pub returns-in-Ter : goal.returns-in-Ter
+returns-in-Ter c = rw c.in-Ter.is
+
+pub returns : goal.returns
+returns c = rw (spot_others c.args.r c.in_default.in_default-own.keys3)
