@@ -5,4 +5,4 @@ pub returns-in-Conect : goal.returns-in-Conect
 returns-in-Conect c = rw c.in-Conect.is
 
 pub returns : goal.returns
-returns c = rw (bond_others c.args.r c.in_default.in_default-own.keys2)
+returns c = rw (bond_others c.args.r c.in_default.not-Conect)

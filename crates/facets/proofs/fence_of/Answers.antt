@@ -8,4 +8,4 @@ pub returns-in-Endmdl : goal.returns-in-Endmdl
 returns-in-Endmdl c = rw c.in-Endmdl.is
 
 pub returns : goal.returns
-returns c = rw (fence_others c.args.r c.in_default.in_default-own.keys3)
+returns c = rw (fence_others c.args.r c.in_default.not-Model c.in_default.not-Endmdl)

@@ -8,4 +8,4 @@ pub returns-in-Sheet : goal.returns-in-Sheet
 returns-in-Sheet c = rw c.in-Sheet.is
 
 pub returns : goal.returns
-returns c = rw (fold_others c.args.r c.in_default.in_default-own.keys3)
+returns c = rw (fold_others c.args.r c.in_default.not-Helix c.in_default.not-Sheet)

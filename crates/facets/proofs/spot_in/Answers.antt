@@ -7,7 +7,7 @@ pub spot_of-requires : goal.spot_of-requires
 spot_of-requires c = tt
 
 pub returns-in-Typed : goal.returns-in-Typed
-returns-in-Typed c = rw c.in-Typed.is c.spot_of_lem.ensures
+returns-in-Typed c = rw c.in-Typed.is c.spot_of.ensures
 
 pub returns : goal.returns
-returns c = rw (line_others Nowhere spot_of c.args.l c.in_default.in_default-own.keys2)
+returns c = rw (line_others Nowhere spot_of c.args.l c.in_default.not-Typed)

@@ -8,4 +8,4 @@ pub returns-in-Ter : goal.returns-in-Ter
 returns-in-Ter c = rw c.in-Ter.is
 
 pub returns : goal.returns
-returns c = rw (spot_others c.args.r c.in_default.in_default-own.keys3)
+returns c = rw (spot_others c.args.r c.in_default.not-Coordinate c.in_default.not-Ter)

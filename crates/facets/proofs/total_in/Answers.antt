@@ -10,4 +10,4 @@ pub returns-in-Typed : goal.returns-in-Typed
 returns-in-Typed c = rw c.in-Typed.is c.total_of.ensures
 
 pub returns : goal.returns
-returns c = rw (line_others Uncounted total_of c.args.l c.in_default.in_default-own.keys2)
+returns c = rw (line_others Uncounted total_of c.args.l c.in_default.not-Typed)

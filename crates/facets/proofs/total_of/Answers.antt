@@ -5,4 +5,4 @@ pub returns-in-Master : goal.returns-in-Master
 returns-in-Master c = rw c.in-Master.is
 
 pub returns : goal.returns
-returns c = rw (total_others c.args.r c.in_default.in_default-own.keys2)
+returns c = rw (total_others c.args.r c.in_default.not-Master)
