@@ -1,5 +1,6 @@
 // The columns that name an atom, as two numbers. They are compared before a line is read.
 #![tactic(auto)]
+
 ghost use Rattle.std.specs.Prelude.{◌≡◌, ◌+◌, ◌*◌, ◌≤◌, length};
 ghost use Rattle.keys.specs.Keys.{home_at, body_at};
 

@@ -1,0 +1,12 @@
+use Prim.Native.Nat.{ℕ}
+use mathlib.Core.List.{List}
+use mathlib.Core.Path.{◌∙◌, ap}
+use Rattle.words.specs.Words.{word_at}
+use Rattle.rows.proofs.Cut.{part_columns}
+use Rattle.keys.specs.Keys.{body_at}
+use borrow.Author.Rules.{rules}
+use Rattle.keys.proofs.body.Goals as goal
+
+pub returns : goal.returns
+unfolding body_at
+returns c = c.word.ensures ∙ ap (λ (p : List ℕ). word_at p 12 8) (part_columns c.args.text.now c.args.i)
