@@ -1,5 +1,6 @@
 // A slot of the table: the fields of an ATOM, HETATM or TER line, its model, and a mark.
 #![tactic(auto)]
+
 ghost use Rattle.std.specs.Prelude.{◌≡◌, not, ◌≤◌, length};
 ghost use Rattle.ascii.specs.Tests.{pick};
 ghost use Rattle.facets.specs.Facets.{spot_in};

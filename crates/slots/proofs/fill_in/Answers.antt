@@ -1,0 +1,6 @@
+use Rattle.slots.proofs.Returns.{typed_small}
+use borrow.Author.Rules.{rules}
+use Rattle.slots.proofs.fill_in.Goals as goal
+
+pub filling_of-requires : goal.filling_of-requires
+filling_of-requires c = typed_small _ _ _ c.in-Typed.is c.spot_of.ensures c.requires

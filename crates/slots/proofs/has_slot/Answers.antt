@@ -1,0 +1,5 @@
+use borrow.Author.Rules.{rules}
+use Rattle.slots.proofs.has_slot.Goals as goal
+
+pub returns : goal.returns
+returns c = rw c.row_of-r.ensures

@@ -1,0 +1,6 @@
+use Rattle.slots.proofs.Returns.{atom_slot}
+use borrow.Author.Rules.{rules}
+use Rattle.slots.proofs.slot_of_atom.Goals as goal
+
+pub returns : goal.returns
+returns c = search atom_slot

@@ -1,0 +1,4 @@
+use Rattle.slots.proofs.with_model.Goals as goal
+
+pub returns : goal.returns
+returns c = cc
