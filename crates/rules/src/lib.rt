@@ -1,5 +1,6 @@
 // The rules between lines: a line is judged against what the good lines before it left.
 #![tactic(auto)]
+
 mod logic;
 mod steps;
 mod tests;

@@ -1,0 +1,7 @@
+use Rattle.rules.specs.Rules.{start_of}
+use borrow.Author.Rules.{rules}
+use Rattle.rules.proofs.start.Goals as goal
+
+pub returns : goal.returns
+unfolding start_of
+returns c = rw (c.no_counts-counts.ensures, c.no_run-run.ensures)
