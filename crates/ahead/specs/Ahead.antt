@@ -1,5 +1,6 @@
 -- What a look at the lines to come says. (Nothing here is part of an answer.)
-use Rattle.ascii.specs.Library.{ℕ, ◌≤◌, ◌<◌, List, ◌≡◌}
+use Rattle.std.specs.Prelude.{◌≤◌, ◌<◌, ◌≡◌}
+use Rattle.ascii.specs.Library.{ℕ, List}
 use Rattle.keys.specs.Keys.{home_at, body_at}
 use Rattle.ahead.specs.declared.{Ahead.Ahead}
 

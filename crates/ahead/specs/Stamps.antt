@@ -1,5 +1,6 @@
 -- Stamps of lines, and a filter of stamps. (Nothing here is part of an answer.)
-use Rattle.ascii.specs.Library.{ℕ, ◌+◌, ◌*◌, ◌/◌, ◌%◌, ◌≤◌, ◌<◌, List, Bool, true, ◌≡◌, get_or, eqb, either, pick}
+use Rattle.std.specs.Prelude.{◌+◌, ◌*◌, ◌/◌, ◌%◌, ◌≤◌, ◌<◌, ◌≡◌}
+use Rattle.ascii.specs.Library.{ℕ, List, Bool, true, get_or, eqb, either, pick}
 
 -- the bytes at two and at four indices of line i from k on, as a number: the first is the lowest, so that it is one load
 unfoldable pub pair_at : List ℕ → ℕ → ℕ → ℕ

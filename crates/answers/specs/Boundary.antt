@@ -1,6 +1,6 @@
 -- What the C functions answer, and what they leave in the memory that is lent to them.
-use Rattle.ascii.specs.Library.{ℕ, List, [], ◌∷◌, ◌++◌, Bool, not, eqb, ltb, length, drop, pick}
-use Rattle.std.specs.Prelude.{Float}
+use Rattle.ascii.specs.Library.{ℕ, List, [], Bool, not, eqb, ltb, length, drop, pick}
+use Rattle.std.specs.Prelude.{◌∷◌, ◌++◌, Float}
 use Rattle.fields.specs.declared.{FragmentNumber.FragmentNumber}
 use Rattle.line.specs.declared.{Answer.Answer}
 use Rattle.slots.specs.declared.{Slot.Slot, Filling.Filling, Filling.TheVariants.Filled, Filling.TheVariants.Refused}

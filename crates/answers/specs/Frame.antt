@@ -1,5 +1,6 @@
 -- The crystal frame as C has it: what is answered, and what is left in the memory that is lent. Rows are twelve numbers, four for each of three lines.
-use Rattle.ascii.specs.Library.{ℕ, List, [], ◌∷◌, get_or, ℤ, pos}
+use Rattle.std.specs.Prelude.{◌∷◌}
+use Rattle.ascii.specs.Library.{ℕ, List, [], get_or, ℤ, pos}
 use Rattle.coordinate.specs.declared.{Position.Position}
 use Rattle.transform.specs.declared.{Transform.Transform}
 use Rattle.crystal.specs.declared.{CellRow.CellRow, CellFilling.CellFilling, TransformFilling.TransformFilling}

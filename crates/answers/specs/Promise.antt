@@ -1,5 +1,6 @@
 -- A fractional place of a text is its rows and then the place by them: the statement. It is proved in proofs/.
-use Rattle.ascii.specs.Library.{ℕ, List, ◌≡◌, ℤ}
+use Rattle.std.specs.Prelude.{◌≡◌}
+use Rattle.ascii.specs.Library.{ℕ, List, ℤ}
 use Rattle.coordinate.specs.declared.{Position.Position}
 use Rattle.fractional.specs.Scale.{scale_of}
 use Rattle.fractional.specs.Place.{place_of, fractional_of}

@@ -1,5 +1,6 @@
 -- Columns of a line. A line is its list of bytes, and `at` is an index: column `at + 1`. A fault is a column, and 0 is none.
-use Rattle.ascii.specs.Library.{ℕ, zero, suc, ◌+◌, min, ◌≡◌, List, [], ◌∷◌, ◌++◌, Bool, true, get_or, take, drop, eqb, byte, pick, both, between}
+use Rattle.std.specs.Prelude.{◌+◌, ◌≡◌, ◌∷◌, ◌++◌}
+use Rattle.ascii.specs.Library.{ℕ, zero, suc, min, List, [], Bool, true, get_or, take, drop, eqb, byte, pick, both, between}
 
 -- the n columns from index `at`
 abbrev pub cols : List ℕ → ℕ → ℕ → List ℕ

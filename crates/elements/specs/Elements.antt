@@ -1,5 +1,6 @@
 -- The elements: the atomic number of each pair of a blank or a letter, and a letter.
-use Rattle.ascii.specs.Library.{ℕ, ◌+◌, ◌*◌, ◌-◌, List, [], ◌∷◌, ◌++◌, Bool, get_or, ltb, eqb, byte, bytes, pick, both, either, same, is_upper}
+use Rattle.std.specs.Prelude.{◌+◌, ◌*◌, ◌-◌, ◌∷◌, ◌++◌}
+use Rattle.ascii.specs.Library.{ℕ, List, [], Bool, get_or, ltb, eqb, byte, bytes, pick, both, either, same, is_upper}
 use Rattle.names.specs.declared.{Pair.Pair}
 use Rattle.names.specs.Names.{pair_at}
 

@@ -1,5 +1,6 @@
 -- The rule of the table of elements: which pairs have a number, and which share one. It is proved in proofs/.
-use Rattle.ascii.specs.Library.{ℕ, suc, ◌<◌, ◌≡◌, ◌⊎◌, true, length}
+use Rattle.std.specs.Prelude.{◌<◌, ◌≡◌, ◌⊎◌}
+use Rattle.ascii.specs.Library.{ℕ, suc, true, length}
 use Rattle.names.specs.declared.{Pair.Pair}
 use Rattle.elements.specs.Elements.{elements, atomic_of, is_element, symbol_of, hydrogen, deuterium}
 

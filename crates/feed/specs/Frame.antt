@@ -1,6 +1,6 @@
 -- The frame of the drawn atoms among some slots: lowest, highest and middle on each axis.
-use Rattle.ascii.specs.Library.{true, false, List, [], ◌∷◌, ℤ, pos, ◌+ℤ◌, lt_z, pick}
-use Rattle.std.specs.Prelude.{Float}
+use Rattle.ascii.specs.Library.{true, false, List, [], ℤ, pos, lt_z, pick}
+use Rattle.std.specs.Prelude.{◌∷◌, ◌+ℤ◌, Float}
 use Rattle.coordinate.specs.declared.{Position.Position}
 use Rattle.slots.specs.declared.{Slot.Slot}
 use Rattle.feed.specs.declared.{Span.Span, Bounds.Bounds, Extent.Extent, Framed.Framed, Framed.TheVariants.Around, Framed.TheVariants.Refused}

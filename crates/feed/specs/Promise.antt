@@ -1,6 +1,6 @@
 -- What is promised of drawings and frames beyond their definitions: the statements. They are proved in proofs/.
-use Rattle.ascii.specs.Library.{ℕ, ◌<◌, ◌≤◌, ◌≡◌, ◌⊎◌, true, false, List, [], ◌∷◌, ℤ, nat_abs, ◌≤ℤ◌}
-use Rattle.std.specs.Prelude.{◌^◌, T, Float}
+use Rattle.ascii.specs.Library.{ℕ, true, false, List, [], ℤ, nat_abs}
+use Rattle.std.specs.Prelude.{◌<◌, ◌≤◌, ◌≡◌, ◌⊎◌, ◌∷◌, ◌≤ℤ◌, ◌^◌, T, Float}
 use Rattle.std.specs.Float.{binary64}
 use Rattle.std.specs.Float.Ieee.{fits}
 use Rattle.std.specs.Float.Ieee.Exact.{HasValue}

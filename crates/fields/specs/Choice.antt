@@ -1,5 +1,6 @@
 -- Formats with a choice: a field with a further test, columns that may be blank, columns that depend on what stands before them.
-use Rattle.ascii.specs.Library.{ℕ, ◌+◌, List, ◌++◌, map, Bool, true, false, eqb, pick, both}
+use Rattle.std.specs.Prelude.{◌+◌, ◌++◌}
+use Rattle.ascii.specs.Library.{ℕ, List, map, Bool, true, false, eqb, pick, both}
 use Rattle.columns.specs.Columns.{first_of, gap_of, blanks, blame}
 use Rattle.numbers.specs.Number.{render}
 use Rattle.fields.specs.Field.{ranged_number}

@@ -1,5 +1,6 @@
 -- Numbers in fields: with a range, and with a sign.
-use Rattle.ascii.specs.Library.{ℕ, zero, suc, ◌+◌, ◌*◌, max, List, Bool, true, false, leb, ltb, eqb, ℤ, pos, negsuc, nat_abs, pick, both, alike}
+use Rattle.std.specs.Prelude.{◌+◌, ◌*◌}
+use Rattle.ascii.specs.Library.{ℕ, zero, suc, max, List, Bool, true, false, leb, ltb, eqb, ℤ, pos, negsuc, nat_abs, pick, both, alike}
 use Rattle.numbers.specs.declared.{Number.Number}
 use Rattle.numbers.specs.Number.{number_of}
 use Rattle.fields.specs.declared.{Whole.Whole, Signed.Signed}

@@ -1,5 +1,6 @@
 -- Formats: a run of columns, with its fields, what it means and how it is written. l is a line, and `at` the index of the format's first column.
-use Rattle.ascii.specs.Library.{ℕ, zero, suc, ◌+◌, ◌<◌, ◌⊎◌, List, [], ◌∷◌, ◌++◌, map, Bool, true, false, ◌≡◌, length, get_or, drop, eqb, ltb, ℤ, nat_abs, byte, pick, both}
+use Rattle.std.specs.Prelude.{◌+◌, ◌<◌, ◌⊎◌, ◌∷◌, ◌++◌, ◌≡◌}
+use Rattle.ascii.specs.Library.{ℕ, zero, suc, List, [], map, Bool, true, false, length, get_or, drop, eqb, ltb, ℤ, nat_abs, byte, pick, both}
 use Rattle.columns.specs.Columns.{cols, blame, blamed_of, leftmost, first_of, gap_of, blanks}
 use Rattle.numbers.specs.Number.{render}
 use Rattle.fields.specs.Field.{is_neg, ranged_number, signed_number, ranged_of, spans_of}

@@ -1,6 +1,6 @@
 -- The fractional place of three coordinates.
-use Rattle.ascii.specs.Library.{ℕ, ◌+◌, ◌/◌, List, ℤ, pos, nat_abs, pick}
-use Rattle.std.specs.Prelude.{◌+ℤ◌, ◌*ℤ◌}
+use Rattle.ascii.specs.Library.{ℕ, List, ℤ, pos, nat_abs, pick}
+use Rattle.std.specs.Prelude.{◌+◌, ◌/◌, ◌+ℤ◌, ◌*ℤ◌}
 use Rattle.fields.specs.Field.{signed_of, is_neg}
 use Rattle.coordinate.specs.declared.{Position.Position}
 use Rattle.coordinate.specs.Atoms.{position_f}

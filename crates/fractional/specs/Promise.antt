@@ -1,6 +1,6 @@
 -- What the rows of a text and a fractional place are, beyond their definitions: the statements. They are proved in proofs/.
-use Rattle.ascii.specs.Library.{ℕ, ◌+◌, ◌*◌, ◌%◌, ◌≤◌, List, true, false, ◌≡◌, ℤ, pos, nat_abs}
-use Rattle.std.specs.Prelude.{◌-ℤ◌, ◌*ℤ◌}
+use Rattle.ascii.specs.Library.{ℕ, List, true, false, ℤ, pos, nat_abs}
+use Rattle.std.specs.Prelude.{◌+◌, ◌*◌, ◌%◌, ◌≤◌, ◌≡◌, ◌-ℤ◌, ◌*ℤ◌}
 use Rattle.fields.specs.Field.{is_neg}
 use Rattle.kinds.specs.Kinds.{is}
 use Rattle.coordinate.specs.declared.{Position.Position}

@@ -1,5 +1,6 @@
 -- The SCALE rows of a text.
-use Rattle.ascii.specs.Library.{ℕ, zero, suc, ◌+◌, ◌*◌, ◌/◌, List, Bool, length, take, eqb, leb, pick}
+use Rattle.std.specs.Prelude.{◌+◌, ◌*◌, ◌/◌}
+use Rattle.ascii.specs.Library.{ℕ, zero, suc, List, Bool, length, take, eqb, leb, pick}
 use Rattle.words.specs.Words.{word_at}
 use Rattle.kinds.specs.declared.Kind.TheVariants.{Scale1}
 use Rattle.kinds.specs.Kinds.{row_of}

@@ -1,6 +1,7 @@
 -- Fragments: a closed run with its TER is one; in the unclosed tail each longest stretch of lines of one residue is one.
 -- Whether a slot goes with the next depends on what follows, so the slots are taken from the last one on.
-use Rattle.ascii.specs.Library.{ℕ, ◌+◌, ◌-◌, List, [], ◌∷◌, Bool, true, false, not, eqb, pick, both, either}
+use Rattle.std.specs.Prelude.{◌+◌, ◌-◌, ◌∷◌}
+use Rattle.ascii.specs.Library.{ℕ, List, [], Bool, true, false, not, eqb, pick, both, either}
 use Rattle.residue.specs.Residues.{no_residue, same_residue}
 use Rattle.slots.specs.declared.{Slot.Slot}
 use Rattle.fragments.specs.declared.{Tail.Tail}

@@ -1,5 +1,6 @@
 -- The gate over a whole text: each line is judged against what the good lines before it left.
-use Rattle.ascii.specs.Library.{ℕ, ◌+◌, List, [], ◌∷◌, map, eqb, pick}
+use Rattle.std.specs.Prelude.{◌+◌, ◌∷◌}
+use Rattle.ascii.specs.Library.{ℕ, List, [], map, eqb, pick}
 use Rattle.pieces.specs.declared.{Line.Line, Line.TheVariants.Bad, Line.TheVariants.Wrong, Line.TheVariants.Carried, Line.TheVariants.Typed}
 use Rattle.pieces.specs.Pieces.{line_of}
 use Rattle.facets.specs.Facets.{spot_in, bond_in}

@@ -1,5 +1,6 @@
 -- What follows of any text from the answer of the check, in plain words: the statement. It is proved in proofs/.
-use Rattle.ascii.specs.Library.{ℕ, zero, suc, ◌+◌, ◌*◌, ◌-◌, ◌≤◌, ◌<◌, List, Bool, true, false, ◌≡◌, ◌⊎◌, length, take, eqb, pick, either}
+use Rattle.std.specs.Prelude.{◌+◌, ◌*◌, ◌-◌, ◌≤◌, ◌<◌, ◌≡◌, ◌⊎◌}
+use Rattle.ascii.specs.Library.{ℕ, zero, suc, List, Bool, true, false, length, take, eqb, pick, either}
 use Rattle.coordinate.specs.declared.{Identity.Identity, Atom.Atom}
 use Rattle.conect.specs.declared.{Conect.Conect}
 use Rattle.master.specs.declared.{Tally.Tally}

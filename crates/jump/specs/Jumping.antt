@@ -1,5 +1,6 @@
 -- The jump: the first line with a serial, in any text.
-use Rattle.ascii.specs.Library.{ℕ, ◌+◌, ◌/◌, List, [], ◌∷◌, Bool, false, length, get_or, take, eqb, both, byte, pick}
+use Rattle.std.specs.Prelude.{◌+◌, ◌/◌, ◌∷◌}
+use Rattle.ascii.specs.Library.{ℕ, List, [], Bool, false, length, get_or, take, eqb, both, byte, pick}
 use Rattle.line.specs.declared.{Answer.Answer, Answer.TheVariants.Read, Answer.TheVariants.Refused, Answer.TheVariants.Wrong}
 use Rattle.line.specs.Lines.{read_line}
 use Rattle.facets.specs.Facets.{spot_of}

@@ -1,5 +1,6 @@
 -- What the answer of the jump means, in any text and in an accepted one: the statement. It is proved in proofs/.
-use Rattle.ascii.specs.Library.{ℕ, ◌+◌, ◌/◌, ◌<◌, List, true, false, ◌≡◌, length}
+use Rattle.std.specs.Prelude.{◌+◌, ◌/◌, ◌<◌, ◌≡◌}
+use Rattle.ascii.specs.Library.{ℕ, List, true, false, length}
 use Rattle.facets.specs.Facets.{is_fence}
 use Rattle.rows.specs.Text.{piece_at, row}
 use Rattle.serials.specs.Known.{is_site}

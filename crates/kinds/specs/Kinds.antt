@@ -1,5 +1,6 @@
 -- The kinds of line, by their names in columns 1 to 6: one table of all that the rules say of each.
-use Rattle.ascii.specs.Library.{ℕ, zero, suc, ◌+◌, ◌*◌, ◌/◌, ◌%◌, String, List, [], ◌∷◌, ◌++◌, Bool, true, false, length, eqb, ltb, bytes, pick}
+use Rattle.std.specs.Prelude.{◌+◌, ◌*◌, ◌/◌, ◌%◌, ◌∷◌, ◌++◌}
+use Rattle.ascii.specs.Library.{ℕ, zero, suc, String, List, [], Bool, true, false, length, eqb, ltb, bytes, pick}
 use Rattle.fields.specs.Format.{Format}
 use Rattle.words.specs.Words.{word_at}
 use Rattle.kinds.specs.declared.{Kind.Kind, Row.Row}

@@ -1,5 +1,6 @@
 -- A line by itself: the record that it reads to, and the line that a record is written as.
-use Rattle.ascii.specs.Library.{ℕ, List, [], ◌++◌, Bool, true, false, length, eqb, pick, either}
+use Rattle.std.specs.Prelude.{◌++◌}
+use Rattle.ascii.specs.Library.{ℕ, List, [], Bool, true, false, length, eqb, pick, either}
 use Rattle.columns.specs.Columns.{clean_at}
 use Rattle.fields.specs.Format.{Field, Format, none_f, after}
 use Rattle.kinds.specs.declared.{Kind.Kind}

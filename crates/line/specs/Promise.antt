@@ -1,6 +1,7 @@
 -- What is promised of lines read by themselves, over all typed kinds: the two round trips with records, and what the column means. They are
 -- proved in proofs/.
-use Rattle.ascii.specs.Library.{ℕ, ◌≤◌, List, ◌++◌, true, ◌≡◌, length, drop}
+use Rattle.std.specs.Prelude.{◌≤◌, ◌++◌, ◌≡◌}
+use Rattle.ascii.specs.Library.{ℕ, List, true, length, drop}
 use Rattle.columns.specs.Columns.{clean_at}
 use Rattle.fields.specs.Format.{SideBySide, Leftmost, write_number, write_line}
 use Rattle.kinds.specs.Kinds.{is_typed, kind_of}

@@ -1,5 +1,6 @@
 -- Names: bytes of certain classes, alone or a few together.
-use Rattle.ascii.specs.Library.{ℕ, ◌+◌, List, [], ◌∷◌, Bool, get_or, eqb, byte, both, either, same, between, is_upper, is_code}
+use Rattle.std.specs.Prelude.{◌+◌, ◌∷◌}
+use Rattle.ascii.specs.Library.{ℕ, List, [], Bool, get_or, eqb, byte, both, either, same, between, is_upper, is_code}
 use Rattle.fields.specs.Format.{Format, raw_f}
 use Rattle.names.specs.declared.{Pair.Pair, Three.Three, Four.Four}
 

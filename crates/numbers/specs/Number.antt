@@ -1,6 +1,7 @@
 -- Numbers in columns. A number stands in n columns from index `at`, right-justified: blanks, perhaps a minus, digits,
 -- and where it has decimals a point and those digits.
-use Rattle.ascii.specs.Library.{ℕ, zero, suc, ◌+◌, ◌*◌, ◌-◌, ◌/◌, ◌%◌, List, [], ◌∷◌, ◌++◌, Bool, true, false, get_or, ltb, eqb, byte, pick, is_digit}
+use Rattle.std.specs.Prelude.{◌+◌, ◌*◌, ◌-◌, ◌/◌, ◌%◌, ◌∷◌, ◌++◌}
+use Rattle.ascii.specs.Library.{ℕ, zero, suc, List, [], Bool, true, false, get_or, ltb, eqb, byte, pick, is_digit}
 use Rattle.columns.specs.Columns.{gap_of, blanks}
 use Rattle.numbers.specs.declared.{Number.Number}
 

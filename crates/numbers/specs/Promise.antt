@@ -1,5 +1,6 @@
 -- The one law of numbers in columns, over every width and every number of decimals: the statement. It is proved in proofs/.
-use Rattle.ascii.specs.Library.{ℕ, ◌+◌, ◌≤◌, List, Bool, true, ◌≡◌, length}
+use Rattle.std.specs.Prelude.{◌+◌, ◌≤◌, ◌≡◌}
+use Rattle.ascii.specs.Library.{ℕ, List, Bool, true, length}
 use Rattle.columns.specs.Columns.{cols}
 use Rattle.numbers.specs.Number.{number_of, render, room}
 

@@ -1,5 +1,6 @@
 -- How the code reads a number from the left. (Nothing here says what a number is: `Number` does, and the two agree.)
-use Rattle.ascii.specs.Library.{ℕ, zero, suc, ◌+◌, ◌*◌, ◌-◌, ◌/◌, ◌%◌, List, Bool, true, false, get_or, eqb, byte, pick, both, is_digit}
+use Rattle.std.specs.Prelude.{◌+◌, ◌*◌, ◌-◌, ◌/◌, ◌%◌}
+use Rattle.ascii.specs.Library.{ℕ, zero, suc, List, Bool, true, false, get_or, eqb, byte, pick, both, is_digit}
 use Rattle.numbers.specs.declared.{Number.Number, Scan.Scan}
 use Rattle.numbers.specs.Number.{none}
 

@@ -1,5 +1,6 @@
 -- The nine counts of MASTER.
-use Rattle.ascii.specs.Library.{ℕ, ◌+◌, Bool, eqb, pick, both}
+use Rattle.std.specs.Prelude.{◌+◌}
+use Rattle.ascii.specs.Library.{ℕ, Bool, eqb, pick, both}
 use Rattle.kinds.specs.declared.{Kind.Kind}
 use Rattle.kinds.specs.Kinds.{row_of}
 use Rattle.master.specs.declared.{Tally.Tally}

@@ -1,5 +1,5 @@
 -- Counts that one more line cannot carry past a number of 64 bits.
-use Rattle.ascii.specs.Library.{◌<◌}
+use Rattle.std.specs.Prelude.{◌<◌}
 use Rattle.places.specs.declared.{Counts.Counts}
 
 pub record Room (c : Counts) : Type 0 where

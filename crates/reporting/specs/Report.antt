@@ -1,5 +1,6 @@
 -- What the report program answers for its input, and the lines that it prints of an answer.
-use Rattle.ascii.specs.Library.{ℕ, String, List, [], ◌∷◌, ◌++◌, map, get_or, take, drop, ltb, length, bytes, pick}
+use Rattle.std.specs.Prelude.{◌∷◌, ◌++◌}
+use Rattle.ascii.specs.Library.{ℕ, String, List, [], map, get_or, take, drop, ltb, length, bytes, pick}
 use Rattle.places.specs.Counts.{no_counts}
 use Rattle.gate.specs.declared.{Verdict.Verdict}
 use Rattle.gate.specs.Gate.{check_of}

@@ -1,5 +1,6 @@
 -- A residue: name, a blank, chain, number, insertion code. In HELIX a blank stands between chain and number: `gap` is 1 there, else 0.
-use Rattle.ascii.specs.Library.{ℕ, ◌+◌, Bool, eqb, pos, both}
+use Rattle.std.specs.Prelude.{◌+◌}
+use Rattle.ascii.specs.Library.{ℕ, Bool, eqb, pos, both}
 use Rattle.fields.specs.Field.{same_integer}
 use Rattle.fields.specs.Format.{Format, integer_f, byte_f, ◌then◌, after, held, shut}
 use Rattle.names.specs.Names.{three_f, same_three, is_residue, is_chain, is_insertion}

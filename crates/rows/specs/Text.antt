@@ -1,5 +1,6 @@
 -- A text and its lines: cut every 81 bytes; a shorter last piece counts as a line.
-use Rattle.ascii.specs.Library.{ℕ, zero, suc, ◌*◌, List, [], ◌∷◌, length, take, drop}
+use Rattle.std.specs.Prelude.{◌*◌, ◌∷◌}
+use Rattle.ascii.specs.Library.{ℕ, zero, suc, List, [], length, take, drop}
 use Rattle.pieces.specs.declared.{Line.Line}
 use Rattle.pieces.specs.Pieces.{line_of}
 

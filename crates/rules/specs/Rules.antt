@@ -1,5 +1,6 @@
 -- The rules between lines: a line is judged against what the good lines before it left.
-use Rattle.ascii.specs.Library.{ℕ, ◌+◌, Bool, true, false, not, ltb, leb, eqb, pick, both, either}
+use Rattle.std.specs.Prelude.{◌+◌}
+use Rattle.ascii.specs.Library.{ℕ, Bool, true, false, not, ltb, leb, eqb, pick, both, either}
 use Rattle.fields.specs.declared.{Serial.Serial}
 use Rattle.names.specs.Names.{same_three}
 use Rattle.residue.specs.declared.{Residue.Residue}

@@ -1,5 +1,6 @@
 -- A search among serials that rise. (Nothing here is part of an answer.)
-use Rattle.ascii.specs.Library.{ℕ, ◌+◌, ◌≤◌, ◌<◌, ltb, eqb, pick}
+use Rattle.std.specs.Prelude.{◌+◌, ◌≤◌, ◌<◌}
+use Rattle.ascii.specs.Library.{ℕ, ltb, eqb, pick}
 use Rattle.search.specs.declared.{Span.Span}
 
 abbrev pub span : ℕ → ℕ → Span

@@ -1,5 +1,6 @@
 -- What a look back over the lines seen says: whether the numbers on a CONECT line are the serials of atoms.
-use Rattle.ascii.specs.Library.{ℕ, List, [], ◌∷◌, Bool, true, false, eqb, pick, both, either}
+use Rattle.std.specs.Prelude.{◌∷◌}
+use Rattle.ascii.specs.Library.{ℕ, List, [], Bool, true, false, eqb, pick, both, either}
 use Rattle.pieces.specs.declared.{Line.Line}
 use Rattle.facets.specs.declared.{Spot.Spot, Spot.TheVariants.Site, Spot.TheVariants.Close, Spot.TheVariants.Nowhere, Bond.Bond, Bond.TheVariants.Bonds, Bond.TheVariants.Loose}
 use Rattle.facets.specs.Facets.{spot_in, is_fence}

@@ -1,5 +1,6 @@
 -- Where the coordinate lines of a text stand, and what a search among them says. (Nothing here is part of the answer.)
-use Rattle.ascii.specs.Library.{ℕ, zero, suc, ◌*◌, ◌≤◌, ◌<◌, List, Bool, true, false, not, ◌⊎◌, ◌≡◌, length, ltb, both, pick}
+use Rattle.std.specs.Prelude.{◌*◌, ◌≤◌, ◌<◌, ◌⊎◌, ◌≡◌}
+use Rattle.ascii.specs.Library.{ℕ, zero, suc, List, Bool, true, false, not, length, ltb, both, pick}
 use Rattle.pieces.specs.declared.{Line.Line}
 use Rattle.facets.specs.declared.{Spot.Spot, Spot.TheVariants.Site, Spot.TheVariants.Close, Spot.TheVariants.Nowhere}
 use Rattle.facets.specs.Facets.{spot_in, is_coord, is_fence}

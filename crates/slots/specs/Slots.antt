@@ -1,5 +1,6 @@
 -- A slot of the table: the fields of an ATOM, HETATM or TER line, its model, and a mark.
-use Rattle.ascii.specs.Library.{ℕ, ◌≤◌, List, Bool, length, eqb, ℤ, pos, byte, pick, both}
+use Rattle.std.specs.Prelude.{◌≤◌}
+use Rattle.ascii.specs.Library.{ℕ, List, Bool, length, eqb, ℤ, pos, byte, pick, both}
 use Rattle.columns.specs.Columns.{clean_at}
 use Rattle.fields.specs.declared.{Serial.Serial}
 use Rattle.fields.specs.Field.{same_integer}

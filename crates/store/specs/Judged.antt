@@ -1,5 +1,6 @@
 -- What the functions over a lent table say of it to one another. (Nothing here is part of an answer.)
-use Rattle.ascii.specs.Library.{ℕ, ◌+◌, ◌*◌, ◌-◌, ◌≤◌, ◌<◌, List, [], ◌∷◌, Bool, true, false, ◌≡◌, length, take, get_or, leb, pick, both}
+use Rattle.std.specs.Prelude.{◌+◌, ◌*◌, ◌-◌, ◌≤◌, ◌<◌, ◌∷◌, ◌≡◌}
+use Rattle.ascii.specs.Library.{ℕ, List, [], Bool, true, false, length, take, get_or, leb, pick, both}
 use Rattle.pieces.specs.declared.{Line.Line}
 use Rattle.facets.specs.Facets.{is_fence}
 use Rattle.gate.specs.Gate.{check_of}

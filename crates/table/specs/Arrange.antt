@@ -1,5 +1,6 @@
 -- All fragments at once: what their numbers are, and that arranging them is giving orders. It is proved in proofs/.
-use Rattle.ascii.specs.Library.{ℕ, ◌+◌, ◌<◌, List, [], ◌∷◌, not, ◌≡◌, length, get_or, eqb}
+use Rattle.std.specs.Prelude.{◌+◌, ◌<◌, ◌∷◌, ◌≡◌}
+use Rattle.ascii.specs.Library.{ℕ, List, [], not, length, get_or, eqb}
 use Rattle.slots.specs.declared.{Slot.Slot}
 use Rattle.table.specs.Table.{loaded_of, fragments_of, arrange_of}
 use Rattle.table.specs.Orders.{Order, order, orders_of}

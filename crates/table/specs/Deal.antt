@@ -1,5 +1,6 @@
 -- Saving and the tray: each line of a text goes to the one or to the other.
-use Rattle.ascii.specs.Library.{ℕ, ◌+◌, List, [], ◌∷◌, ◌++◌, Bool, true, false, not, length, take, get_or, eqb, ltb, bytes, pick, both, either, alike}
+use Rattle.std.specs.Prelude.{◌+◌, ◌∷◌, ◌++◌}
+use Rattle.ascii.specs.Library.{ℕ, List, [], Bool, true, false, not, length, take, get_or, eqb, ltb, bytes, pick, both, either, alike}
 use Rattle.conect.specs.declared.{Conect.Conect}
 use Rattle.master.specs.declared.{Tally.Tally}
 use Rattle.master.specs.Masters.{master_f}

@@ -1,5 +1,5 @@
 -- Counts that MASTER's five columns hold.
-use Rattle.ascii.specs.Library.{◌≤◌}
+use Rattle.std.specs.Prelude.{◌≤◌}
 use Rattle.master.specs.declared.{Tally.Tally}
 
 pub record FiveDigits (t : Tally) : Type 0 where

@@ -1,5 +1,6 @@
 -- Orders one after the other, granted and refused.
-use Rattle.ascii.specs.Library.{ℕ, List, [], ◌∷◌, Bool, eqb, pick, both}
+use Rattle.std.specs.Prelude.{◌∷◌}
+use Rattle.ascii.specs.Library.{ℕ, List, [], Bool, eqb, pick, both}
 use Rattle.fields.specs.declared.{FragmentNumber.FragmentNumber}
 use Rattle.slots.specs.declared.{Slot.Slot}
 use Rattle.table.specs.Table.{order_of}

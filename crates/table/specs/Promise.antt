@@ -1,5 +1,6 @@
 -- What is promised of loading, orders, saving and the tray beyond their definitions: the statements. They are proved in proofs/.
-use Rattle.ascii.specs.Library.{ℕ, ◌+◌, ◌<◌, ◌≤◌, List, [], ◌∷◌, map, Bool, true, false, not, ◌≡◌, length, take, drop, get_or, pick, either}
+use Rattle.std.specs.Prelude.{◌+◌, ◌<◌, ◌≤◌, ◌∷◌, ◌≡◌}
+use Rattle.ascii.specs.Library.{ℕ, List, [], map, Bool, true, false, not, length, take, drop, get_or, pick, either}
 use Rattle.fields.specs.declared.{FragmentNumber.FragmentNumber}
 use Rattle.pieces.specs.declared.{Line.Line}
 use Rattle.pieces.specs.Pieces.{line_of}

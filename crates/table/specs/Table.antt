@@ -1,5 +1,6 @@
 -- The table of a text: loading it, whether a table belongs to a text, and orders.
-use Rattle.ascii.specs.Library.{ℕ, ◌+◌, ◌*◌, ◌-◌, List, [], ◌∷◌, ◌++◌, map, Bool, true, not, length, take, drop, get_or, eqb, ltb, leb, pick, both, either}
+use Rattle.std.specs.Prelude.{◌+◌, ◌*◌, ◌-◌, ◌∷◌, ◌++◌}
+use Rattle.ascii.specs.Library.{ℕ, List, [], map, Bool, true, not, length, take, drop, get_or, eqb, ltb, leb, pick, both, either}
 use Rattle.fields.specs.declared.{FragmentNumber.FragmentNumber}
 use Rattle.pieces.specs.declared.{Line.Line}
 use Rattle.pieces.specs.Pieces.{line_of}

@@ -1,5 +1,6 @@
 -- What is promised of the tally beyond its definitions: the statement. It is proved in proofs/.
-use Rattle.ascii.specs.Library.{ℕ, ◌+◌, ◌<◌, ◌≤◌, List, Bool, true, false, ◌≡◌, length}
+use Rattle.std.specs.Prelude.{◌+◌, ◌<◌, ◌≤◌, ◌≡◌}
+use Rattle.ascii.specs.Library.{ℕ, List, Bool, true, false, length}
 use Rattle.kinds.specs.Kinds.{row_of, is_named, kind_of}
 use Rattle.master.specs.declared.{Tally.Tally}
 use Rattle.places.specs.Counts.{count_of}

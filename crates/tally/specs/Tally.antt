@@ -1,5 +1,6 @@
 -- The tally: nine counts, brought up to date one line at a time.
-use Rattle.ascii.specs.Library.{◌≡◌, ℕ, List, [], ◌∷◌, Bool, eqb, ltb, pick}
+use Rattle.std.specs.Prelude.{◌≡◌, ◌∷◌}
+use Rattle.ascii.specs.Library.{ℕ, List, [], Bool, eqb, ltb, pick}
 use Rattle.kinds.specs.Kinds.{is_named, kind_of}
 use Rattle.master.specs.declared.{Tally.Tally}
 use Rattle.places.specs.Counts.{count_at, one_more}

@@ -1,5 +1,6 @@
 -- What is known of the coordinate lines so far. (Nothing here is part of an answer.)
-use Rattle.ascii.specs.Library.{ℕ, ◌+◌, ◌≤◌, ◌<◌, List, ◌≡◌, ◌⊎◌, ltb, pick}
+use Rattle.std.specs.Prelude.{◌+◌, ◌≤◌, ◌<◌, ◌≡◌, ◌⊎◌}
+use Rattle.ascii.specs.Library.{ℕ, List, ltb, pick}
 use Rattle.keys.specs.Keys.{home_at, body_at}
 use Rattle.ahead.specs.Ahead.{Clear}
 use Rattle.search.specs.declared.{Span.Span}

@@ -1,5 +1,6 @@
 -- What a look through some lines for an atom says. (Nothing here is part of an answer.)
-use Rattle.ascii.specs.Library.{ℕ, ◌≤◌, ◌<◌, Bool, true, false, ◌≡◌}
+use Rattle.std.specs.Prelude.{◌≤◌, ◌<◌, ◌≡◌}
+use Rattle.ascii.specs.Library.{ℕ, Bool, true, false}
 use Rattle.coordinate.specs.declared.{Identity.Identity}
 use Rattle.pieces.specs.declared.{Line.Line}
 use Rattle.twins.specs.Twins.{is_twin}

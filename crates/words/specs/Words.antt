@@ -1,5 +1,6 @@
 -- Free text held as one number: its bytes to the base 256.
-use Rattle.ascii.specs.Library.{ℕ, zero, suc, ◌+◌, ◌*◌, ◌/◌, ◌%◌, List, [], ◌∷◌, ◌++◌, Bool, get_or, eqb, byte, both, between}
+use Rattle.std.specs.Prelude.{◌+◌, ◌*◌, ◌/◌, ◌%◌, ◌∷◌, ◌++◌}
+use Rattle.ascii.specs.Library.{ℕ, zero, suc, List, [], Bool, get_or, eqb, byte, both, between}
 use Rattle.columns.specs.Columns.{blame, clean_at}
 use Rattle.fields.specs.Format.{Format, sole}
 

@@ -1,5 +1,6 @@
 -- The worked examples of the crystal frame. They are proved in proofs/Crystal.antt.
-use Rattle.ascii.specs.Library.{ℕ, List, [], ◌∷◌, ◌≡◌, ℤ, pos, negsuc, byte}
+use Rattle.std.specs.Prelude.{◌∷◌, ◌≡◌}
+use Rattle.ascii.specs.Library.{ℕ, List, [], ℤ, pos, negsuc, byte}
 use Rattle.coordinate.specs.declared.{Position.Position}
 use Rattle.cell.specs.declared.{Cell.Cell}
 use Rattle.transform.specs.declared.{Transform.Transform}

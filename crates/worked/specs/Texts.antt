@@ -1,5 +1,6 @@
 -- The lines, texts and slots of the worked examples.
-use Rattle.ascii.specs.Library.{ℕ, ◌+◌, ◌-◌, String, List, [], ◌∷◌, ◌++◌, ℤ, pos, negsuc, length, take, drop, byte, bytes}
+use Rattle.std.specs.Prelude.{◌+◌, ◌-◌, ◌∷◌, ◌++◌}
+use Rattle.ascii.specs.Library.{ℕ, String, List, [], ℤ, pos, negsuc, length, take, drop, byte, bytes}
 use Rattle.columns.specs.Columns.{blanks}
 use Rattle.fields.specs.declared.{Whole.Whole, Signed.Signed}
 use Rattle.fields.specs.Field.{ranged_number, signed_number}

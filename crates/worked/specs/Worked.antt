@@ -1,5 +1,6 @@
 -- The worked examples of the format: one list, one statement. It is proved in proofs/Worked.antt.
-use Rattle.ascii.specs.Library.{ℕ, String, List, [], ◌∷◌, ◌++◌, map, true, false, ◌≡◌, pos, negsuc, bytes}
+use Rattle.std.specs.Prelude.{◌∷◌, ◌++◌, ◌≡◌}
+use Rattle.ascii.specs.Library.{ℕ, String, List, [], map, true, false, pos, negsuc, bytes}
 use Rattle.line.specs.declared.{Record.TheVariants.Coordinate, Record.TheVariants.Model, Answer.TheVariants.Read}
 use Rattle.line.specs.Lines.{read_line, answer_number, answer_column, record_line}
 use Rattle.places.specs.Counts.{no_counts}
