@@ -1,8 +1,8 @@
 #!/usr/bin/env python3
-"""Prints the figures of the repository, a row for each crate: functions, lines of code, definitions, laws, lines of proof written and made, wrong programs.
+"""Prints the figures of the repository, a row for each crate: functions, lines of code, definitions, laws, lines of proof, wrong programs.
 
 Definitions are the names that specs/ declares, and laws the names that proofs/ declares outside the files of single functions. Lines are counted without blank
-lines and comments. Files that tools/walks wrote say so in their first line and count as made; all other proof files count as written."""
+lines and comments."""
 import glob, os, re
 
 def lines(text, comment):
@@ -18,26 +18,25 @@ def declared(text):  # names with a type of their own at the left margin, record
 
 rows = []
 for line in open("crates.txt"):
-    name = line.split("#")[0].split(":")[0].strip()
+    name = line.split("#")[0].split(":")[0].split()[:1]
     if not name:
         continue
+    name = name[0]
     here = f"crates/{name}"
     code = read(glob.glob(f"{here}/src/**/*.rt", recursive=True))
     specs = read(glob.glob(f"{here}/specs/*.antt"))
     files = glob.glob(f"{here}/proofs/**/*.antt", recursive=True)
     texts = dict(zip(files, read(files)))
-    made = {p for p, t in texts.items() if t.startswith("-- Machine-made by tools/walks")}
-    laws = [t for p, t in texts.items() if p not in made and os.path.basename(p) not in ("Proof.antt", "Lib.antt")]
+    laws = [t for p, t in texts.items() if os.path.basename(p) not in ("Proof.antt", "Invariants.antt", "Answers.antt", "Lib.antt")]
     rows.append((name,
                  sum(len(re.findall(r"(?m)^\s*(?:pub )?(?:extern \"C\" )?fn ", t)) for t in code),
                  sum(lines(t, "//") for t in code),
                  sum(declared(t) for t in specs), sum(lines(t, "--") for t in specs),
                  sum(declared(t) for t in laws),
-                 sum(lines(t, "--") for p, t in texts.items() if p not in made),
-                 sum(lines(texts[p], "--") for p in made),
+                 sum(lines(t, "--") for t in texts.values()),
                  sum(len(glob.glob(f"{here}/{folder}/*.edit")) for folder in ("must-fail", "wrong"))))
 
-heads = ("Crate", "Functions", "Lines of code", "Definitions", "Lines", "Laws", "Lines of proof", "Machine-made", "Wrong programs")
+heads = ("Crate", "Functions", "Lines of code", "Definitions", "Lines", "Laws", "Lines of proof", "Wrong programs")
 print("| " + " | ".join(heads) + " |")
 print("|" + "---|" * len(heads))
 for r in rows:

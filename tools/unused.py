@@ -2,8 +2,10 @@
 """unused.py: names that the crates' specs/ and proofs/ define and nothing else in the repository names. A place to look, not a verdict."""
 import glob, re
 
-TOKEN = re.compile(r"[^\s(){}.,;\"«»\[\]]+")
-files = {f: open(f, encoding="utf-8").read() for f in glob.glob("crates/**/*.antt", recursive=True) + glob.glob("crates/**/*.rt", recursive=True)}
+TOKEN = re.compile(r"[^\s(){}.,;\"«»\[\]]+")  # in code and proofs
+OWN = ("Proof.antt", "Invariants.antt", "Answers.antt")  # the files of a function's proof: what they define is asked for by name
+PATHS = glob.glob("crates/*/src/**/*.rt", recursive=True) + [p for d in ("specs", "proofs") for p in glob.glob(f"crates/*/{d}/**/*.antt", recursive=True)]
+files = {f: open(f, encoding="utf-8").read() for f in PATHS}
 count = {}
 for text in files.values():
     for line in text.split("\n"):
@@ -12,7 +14,7 @@ for text in files.values():
         for t in TOKEN.findall(line):
             count[t] = count.get(t, 0) + 1
 for f, text in sorted(files.items()):
-    if not f.endswith(".antt") or f.endswith("Proof.antt") or "/Walked/" in f or "/Proof/" in f:
+    if not f.endswith(".antt") or f.endswith(OWN):
         continue
     for m in re.finditer(r"(?m)^ *((?:abbrev |unfoldable )?(?:pub )?)([^\s:]+)(?: \{ℓ\})? : ", text):
         name = m.group(2)

@@ -1,30 +1,33 @@
 //! `tools/station`, which proves and builds the program before it runs it: tried in a repository that has no proofs, with a toolchain that does nothing.
 
 use std::fs;
-use std::os::unix::fs::{symlink, PermissionsExt};
+use std::io::Write;
+use std::os::unix::fs::symlink;
 use std::path::{Path, PathBuf};
+use std::process::{Command, Stdio};
 
 use crate::folder::{Answer, Folder};
 
 /// What the scripts call beside the toolchains.
-const COMMANDS: [&str; 19] = [
-    "sh", "awk", "basename", "cat", "chmod", "dirname", "find", "grep", "head", "ls", "mkdir", "readlink", "rm", "sed",
-    "seq", "sleep", "sort", "touch", "tr",
+const COMMANDS: [&str; 18] = [
+    "sh", "awk", "cat", "chmod", "dirname", "find", "grep", "head", "mkdir", "mv", "readlink", "sed", "seq", "sleep",
+    "sort", "tail", "touch", "tr",
 ];
 
-/// Proves two crates, each until it has been told, and makes the archive.
+/// Proves two crates in the folder of the second, each until it has been told, and makes the archive.
 const RT: &str = "\
-mkdir -p target/log target/staticlib
+[ \"$1 ${PWD##*/}\" = 'lib station' ] || exit 1
 for crate in ascii station; do
     sleep 0.1
-    : >target/log/$crate.say
+    echo \"rt: chose --jobs 2 for $crate\"
     for wait in $(seq 100); do
-        ! grep -q \"^proving $crate;\" ../told || break
+        ! grep -q \"^proving $crate;\" ../../../told || break
         sleep 0.2
     done
-    echo \"rt: $crate proved (1 s)\"
+    echo \"fn $crate::f: proved\"
 done
-: >target/staticlib/libstation.a
+mkdir out
+: >out/libstation.a
 ";
 
 /// Names what the archive has to define.
@@ -39,6 +42,17 @@ printf '#!/bin/sh\\necho \"built: $*\"\\n' >\"$folder/station\"
 chmod +x \"$folder/station\"
 ";
 
+/// Writes a script by another process: what this one has open for writing a child that another test starts would have open too for a moment, and a script
+/// that is open for writing does not run.
+fn write(path: &Path, script: &str) {
+    fs::create_dir_all(path.parent().expect("a folder")).expect("a folder");
+    let shell =
+        Command::new("sh").args(["-c", "cat >\"$0\" && chmod +x \"$0\""]).arg(path).stdin(Stdio::piped()).spawn();
+    let mut shell = shell.expect("sh");
+    shell.stdin.take().expect("a pipe").write_all(script.as_bytes()).expect("a script");
+    assert!(shell.wait().expect("sh").success());
+}
+
 /// A repository with the scripts, and a folder of commands.
 struct Bench(Folder);
 
@@ -47,10 +61,10 @@ impl Bench {
         let folder = Folder::new(test);
         let tools = Path::new(env!("CARGO_MANIFEST_DIR")).join("../../../tools");
         for script in ["station", "archive", "present"] {
-            let path = folder.file(format!("repository/tools/{script}"), "");
-            fs::copy(tools.join(script), path).expect("a script");
+            let text = fs::read_to_string(tools.join(script)).expect("a script");
+            write(&folder.0.join("repository/tools").join(script), &text);
         }
-        folder.file("repository/crates.txt", "# one\nascii:\nstation: ascii io\nreport: station\n");
+        folder.file("repository/crates.txt", "# one\nascii:\nstation staticlib: ascii std_io\nreport: ascii\n");
         folder.file("repository/crates/station/src/lib.rt", "");
         folder.file("repository/hosts/rust/Cargo.toml", "");
         let bench = Bench(folder);
@@ -70,8 +84,7 @@ impl Bench {
 
     /// A command that does this.
     fn add(&self, command: &str, script: &str) {
-        let path = self.0.file(self.command(command), format!("#!/bin/sh\nset -eu\n{script}"));
-        fs::set_permissions(path, fs::Permissions::from_mode(0o755)).expect("a script");
+        write(&self.command(command), &format!("#!/bin/sh\nset -eu\n{script}"));
     }
 
     fn command(&self, name: &str) -> PathBuf {
