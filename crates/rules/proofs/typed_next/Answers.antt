@@ -6,8 +6,8 @@ use Rattle.rules.proofs.typed_next.Goals as goal
 pub raise-c-requires : goal.raise-c-requires
 raise-c-requires c = c.requires.room
 
-pub add-t21 : goal.add-t21
-add-t21 c = omega (arith, c.requires)
+pub overflow_add-result : goal.overflow_add-result
+overflow_add-result c = omega (arith, c.requires)
 
 pub returns : goal.returns
 unfolding typed_next
