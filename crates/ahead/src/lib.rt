@@ -1,5 +1,6 @@
 // A look at the lines to come: which of them have the columns of an atom above. One pass over the lines above serves many lines.
 #![tactic(auto)]
+
 ghost use Rattle.std.specs.Prelude.{◌≡◌, true, ℕ, ◌*◌, ◌+◌, ◌≤◌, ◌<◌, length};
 ghost use Rattle.ahead.specs.Ahead.{Clear};
 ghost use Rattle.ahead.specs.Stamps.{pair_at, quad_at, stamp_at, place_of, tag_of, put_of, marks, Marked, Without, Parted};

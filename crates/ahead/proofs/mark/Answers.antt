@@ -1,0 +1,6 @@
+use borrow.Author.Rules.{rules}
+use Rattle.ahead.proofs.Filter.{put_in}
+use Rattle.ahead.proofs.mark.Goals as goal
+
+pub returns : goal.returns
+returns c = put_in c.args.filter.now _ _ _ c.requires c.place_of-at.ensures.0 (rw c.tag_of.ensures at c.put.ensures)

@@ -1,0 +1,14 @@
+use Prim.Native.Nat.{◌-◌, ◌≤◌}
+use mathlib.Core.Path.{◌≡◌}
+use lib.ListN.{length}
+use native.Mathlib.Nat.{lt_of_lt_of_le}
+use native.Mathlib.Omega.{arith}
+use Rattle.ahead.specs.Stamps.{Marked}
+use Rattle.ahead.proofs.Filter.{marked_none, marked_more}
+use Rattle.ahead.proofs.mark_all.Given as goal
+
+abbrev pub invariant-loop-p : goal.invariant-loop-p
+invariant-loop-p l = (l.b ≤ l.p) × (l.p ≤ l.e) × Marked l.text l.b l.p l.filter × (length l.filter ≡ 512)
+
+abbrev pub decreases-loop-p : goal.decreases-loop-p
+decreases-loop-p l = l.e - l.p
