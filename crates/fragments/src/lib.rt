@@ -1,5 +1,6 @@
 // Fragments, from the last slot on.
 #![tactic(auto)]
+
 ghost use Rattle.std.specs.Prelude.{◌≡◌, not, ◌+◌, ◌≤◌, ◌<◌, eqb};
 ghost use Rattle.ascii.specs.Tests.{pick, either};
 ghost use Rattle.slots.specs.Slots.{with_mark};
