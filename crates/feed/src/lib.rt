@@ -1,5 +1,6 @@
 // The feed to the renderer: a dot, a stroke and a frame, in doubles that are the thousandths exactly.
 #![tactic(auto)]
+
 mod doubles;
 mod framing;
 

@@ -1,0 +1,6 @@
+use Rattle.feed.proofs.Returns.{extent_made}
+use borrow.Author.Rules.{rules}
+use Rattle.feed.proofs.framing.extent.Goals as goal
+
+pub returns : goal.returns
+returns c = search extent_made

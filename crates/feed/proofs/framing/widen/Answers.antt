@@ -1,0 +1,6 @@
+use Rattle.feed.proofs.Returns.{span_widened}
+use borrow.Author.Rules.{rules}
+use Rattle.feed.proofs.framing.widen.Goals as goal
+
+pub returns : goal.returns
+returns c = search span_widened

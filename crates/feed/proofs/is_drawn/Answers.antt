@@ -1,0 +1,6 @@
+use Rattle.feed.proofs.Returns.{drawn_is}
+use borrow.Author.Rules.{rules}
+use Rattle.feed.proofs.is_drawn.Goals as goal
+
+pub returns : goal.returns
+returns c = search drawn_is
