@@ -1,5 +1,6 @@
 // Looking back over the lines before a line: whether the numbers on a CONECT line are those of atoms, and where these stand.
 #![tactic(auto)]
+
 ghost use Rattle.std.specs.Prelude.{◌≡◌, true, ℕ, ◌+◌, ◌*◌, ◌≤◌, ◌<◌, length, take};
 ghost use Rattle.fields.specs.Field.{ranged_number};
 ghost use Rattle.facets.specs.declared.Bond.TheVariants as bond;

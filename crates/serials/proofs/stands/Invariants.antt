@@ -1,0 +1,14 @@
+use Rattle.serials.specs.Known.{is_site}
+use Rattle.rows.specs.Text.{row}
+use borrow.Author.Count.{below_more}
+use native.Mathlib.Omega.{arith}
+use mathlib.Core.Bool.{false}
+use mathlib.Core.Path.{◌≡◌, sym, ◌∙◌}
+use Prim.Native.Nat.{ℕ, ◌-◌, ◌≤◌, ◌<◌}
+use Rattle.serials.proofs.stands.Given as goal
+
+abbrev pub invariant-loop-j : goal.invariant-loop-j
+invariant-loop-j l = (l.lo ≤ l.j) × ((i : ℕ) → l.lo ≤ i → i < l.j → is_site l.x.0 (row l.text i) ≡ false)
+
+abbrev pub decreases-loop-j : goal.decreases-loop-j
+decreases-loop-j l = l.hi - l.j
