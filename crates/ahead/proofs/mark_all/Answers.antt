@@ -23,7 +23,7 @@ pub loop-p-smaller : goal.loop-p-smaller
 loop-p-smaller c = omega arith
 
 pub loop-p-preserved : goal.loop-p-preserved
-loop-p-preserved c = (omega arith, omega arith, marked_more _ _ _ _ _ c.loop-p.invariant.2 c.mark.ensures.z_after.1 (rw c.stamp_at.ensures at c.mark.ensures.z_after.0), c.mark.ensures.filter_len)
+loop-p-preserved c = (omega arith, omega arith, marked_more _ _ _ _ _ c.loop-p.invariant.2 c.mark.ensures.by_index (rw c.stamp_at.ensures at c.mark.ensures.z_after), c.mark.ensures.filter_len)
 
 pub returns : goal.returns
-returns c = c.loop-p.invariant.2 p l (lt_of_lt_of_le s c.loop-p-test.false)
+returns c p l s = c.loop-p.invariant.2 p l (lt_of_lt_of_le s c.loop-p-test.false)

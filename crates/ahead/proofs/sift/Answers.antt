@@ -24,4 +24,4 @@ pub loop-j-preserved : goal.loop-j-preserved
 loop-j-preserved c = (omega arith, omega arith, omega arith, omega arith, parted_more _ _ _ _ _ _ c.sieve-c.ensures.1 c.loop-j.invariant.4 (rw c.stamp_at.ensures at c.sieve-c.ensures.2))
 
 pub returns : goal.returns
-returns c = c.loop-j.invariant.4 i l (lt_of_lt_of_le s c.loop-j-test.false)
+returns c i l s = c.loop-j.invariant.4 i l (lt_of_lt_of_le s c.loop-j-test.false)
