@@ -1,5 +1,6 @@
 // Where above a coordinate line its atom could stand again: what is known of the lines so far rules out most of them.
 #![tactic(auto)]
+
 mod cover;
 mod looking;
 mod sight;

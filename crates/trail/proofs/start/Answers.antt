@@ -1,8 +1,7 @@
 use native.Mathlib.Omega.{arith}
-use Rattle.trail.proofs.start.Statement.{statement}
-use Rattle.trail.proofs.start.Tie as tie
+use Rattle.trail.proofs.start.Goals as goal
 
-returns : tie.Need-returns
+pub returns : goal.returns
 returns c = λ t.
     record {
       seen =
@@ -17,6 +16,3 @@ returns c = λ t.
       run = record { top-lo = omega arith; top-hi = omega arith; rises = λ j k a b z. absurd (omega arith); peak = λ j a b. absurd (omega arith) };
       ahead = λ j p a b. absurd (omega arith);
     }
-
-pub start_spec : {M : Type 1} → statement M
-start_spec = tie.close (tie.spec returns)
