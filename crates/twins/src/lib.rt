@@ -1,5 +1,6 @@
 // Whether an ATOM or HETATM line is the same atom as one above it.
 #![tactic(auto)]
+
 ghost use Rattle.std.specs.Prelude.{◌≡◌, Bool, true, false, ℕ, ◌+◌, ◌*◌, ◌≤◌, ◌<◌, length, List};
 ghost use Rattle.coordinate.specs.declared.Atom.{Atom as AtomOf};
 ghost use Rattle.facets.specs.declared.Spot.TheVariants.{Site};
