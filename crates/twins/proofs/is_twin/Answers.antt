@@ -2,7 +2,7 @@ use borrow.Author.Rules.{rules}
 use Rattle.twins.proofs.is_twin.Goals as goal
 
 pub returns-in-Site : goal.returns-in-Site
-returns-in-Site c = rw (← c.spot_in-spot.ensures, c.in-Site.is) c.atom_is_same.ensures
+returns-in-Site c = rw (← c.spot_in-spot.ensures, c.in-Site.is) c.same_atom.ensures
 
 pub returns-in-Close : goal.returns-in-Close
 returns-in-Close c = rw (← c.spot_in-spot.ensures, c.in-Close.is)

@@ -27,16 +27,16 @@ follow-s-requires-in-Close c = record {
 
 pub returns-in-Site : goal.returns-in-Site
 returns-in-Site c = let t = c.args.text.now in
-    let e = sym c.spot_in-spot.ensures ∙ c.in-Site.is in (
-      λ n s B. rw (← c.spot_in-spot.ensures, c.in-Site.is) (stands_told t n c.args.b s B _ _ (twin_self t _ _ _ _ _ c.requires.i_in_bounds.1 c.spot_in-spot.ensures c.in-Site.is) _ (omega (arith, c.follow-s.ensures.lo_le_start.0, c.suspect-from.ensures.0)) (apart_join t _ _ _ _ c.follow-s.ensures.lo_le_start.2 c.suspect-from.ensures.1) _ (c.met-t.ensures _ _ e)),
-      λ h. watched_coord t c.args.b c.args.i c.args.l _ (ap is_spot e) (c.follow-s.ensures.watched_2 (h (ap is_spot e))),
-    )
+    let e = sym c.spot_in-spot.ensures ∙ c.in-Site.is in record {
+      by_index = λ n s B. rw (← c.spot_in-spot.ensures, c.in-Site.is) (stands_told t n c.args.b s B _ _ (twin_self t _ _ _ _ _ c.requires.i_in_bounds.1 c.spot_in-spot.ensures c.in-Site.is) _ (omega (arith, c.follow-s.ensures.lo_le_start.0, c.suspect-from.ensures.0)) (apart_join t _ _ _ _ c.follow-s.ensures.lo_le_start.2 c.suspect-from.ensures.1) _ (c.met-t.ensures _ _ e));
+      watched_2 = λ h. watched_coord t c.args.b c.args.i c.args.l _ (ap is_spot e) (c.follow-s.ensures.watched_2 (h (ap is_spot e)));
+    }
 
 pub returns-in-Close : goal.returns-in-Close
-returns-in-Close c = let e = sym c.spot_in-spot.ensures ∙ c.in-Close.is in (
-  λ n s B. rw (← c.spot_in-spot.ensures, c.in-Close.is),
-  λ h. watched_coord c.args.text.now c.args.b c.args.i c.args.l _ (ap is_spot e) (c.follow-s-in-Close.ensures.watched_2 (h (ap is_spot e))),
-)
+returns-in-Close c = let e = sym c.spot_in-spot.ensures ∙ c.in-Close.is in record {
+  by_index = λ n s B. rw (← c.spot_in-spot.ensures, c.in-Close.is);
+  watched_2 = λ h. watched_coord c.args.text.now c.args.b c.args.i c.args.l _ (ap is_spot e) (c.follow-s-in-Close.ensures.watched_2 (h (ap is_spot e)));
+}
 
 pub returns-in-Nowhere : goal.returns-in-Nowhere
 returns-in-Nowhere c = record {
