@@ -1,5 +1,6 @@
 // The gate over a whole text.
 #![tactic(auto)]
+
 ghost use Rattle.std.specs.Prelude.{◌≡◌, List, ℕ, ◌*◌, ◌<◌, length, true};
 ghost use Rattle.places.specs.Room.{Room};
 ghost use Rattle.facets.specs.Facets.{is_coord};
