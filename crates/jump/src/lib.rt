@@ -1,5 +1,6 @@
 // The jump: the first line with a serial, in any text, accepted or not.
 #![tactic(auto)]
+
 ghost use Rattle.std.specs.Prelude.{◌≡◌};
 ghost use Rattle.jump.specs.Jumping.{jump_of};
 
