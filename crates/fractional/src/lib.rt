@@ -1,5 +1,6 @@
 // The crystal frame: the SCALE rows of a text, and the fractional place of three coordinates.
 #![tactic(auto)]
+
 ghost use Rattle.std.specs.Prelude.{◌≡◌, ◌+◌, ◌*◌, ◌≤◌, length, nat_abs, ◌+ℤ◌, ◌*ℤ◌};
 ghost use Rattle.fields.specs.Field.{signed_of, is_neg};
 ghost use Rattle.fractional.specs.Scale.{is_scale, scale_at, row_at, rows_at, scale_of};
