@@ -1,5 +1,6 @@
 // What one slot and one line are to each other, by value.
 #![tactic(auto)]
+
 mod counting;
 mod models;
 

@@ -1,0 +1,7 @@
+use Rattle.table.specs.Table.{model_after}
+use mathlib.Core.Path.{◌∙◌, ap}
+use borrow.Author.Rules.{rules}
+use Rattle.marks.proofs.models.model_next.Goals as goal
+
+pub returns : goal.returns
+returns c = c.model_after.ensures ∙ ap (model_after c.args.m) c.fence_in.ensures
