@@ -1,5 +1,6 @@
 // CONECT lines: whether a line is one, the numbers on it, and whether a slot is an atom that one of these names.
 #![tactic(auto)]
+
 ghost use Rattle.std.specs.Prelude.{◌≡◌};
 ghost use Rattle.table.specs.Deal.{is_in};
 ghost use Rattle.bonds.specs.Bonds.{is_bond, is_conect, numbers_of, conect_in};
