@@ -161,6 +161,7 @@ line_place look s (Typed r) j b = ((judge_typed look s r j).place, refl)
 -- a kind by the place that it follows, and by its own: tests that are computed of every kind
 told : (b : Bool) → T b → b ≡ true
 told true h = refl
+told false h = elim h [ ]
 
 right_of : (a b : Bool) → a ≡ false → either a b ≡ true → b ≡ true
 right_of a b e = either_split a b (λ t. never (sym e ∙ t)) (λ t. t)
