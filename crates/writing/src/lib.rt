@@ -1,5 +1,6 @@
 // What one line of an accepted text gives to the saved entry or to the tray, written where it is to stand.
 #![tactic(auto)]
+
 ghost use Rattle.std.specs.Prelude.{◌≡◌, true, ◌++◌, ◌+◌, ◌*◌, ◌≤◌, length, take, drop};
 ghost use Rattle.columns.specs.Columns.{Put};
 ghost use Rattle.places.specs.Room.{Room};
