@@ -13,7 +13,7 @@ use mir.Val.{SFits, to_z, of_z}
 use mir.Facts.{to_z-of_z}
 use lib.Pow.{pow_pos, pow_mono, shl_lt}
 use lib.Count.{count_trailing_zeros}
-use lib.Ieee.{Float, fin, Format, binary64, prec, emax, low, up, down, unlike, minus, odd, round, sum, add, mul, of_bits, of_int, fits}
+use lib.Ieee.{Float, nan, inf, fin, Format, binary64, prec, emax, low, up, down, unlike, minus, odd, round, sum, add, mul, of_bits, of_int, fits}
 use lib.Ieee.Fits.{odd-fits, of_int-fits, mul-fits, and_l, up_pos, down_pos}
 use lib.Ieee.Exact.{HasValue, odd_sign, round_exact}
 use lib.Ieee.Back.{round_whole}
@@ -82,6 +82,12 @@ not_zero : (m : ℕ) (e d : ℤ) → suc m * up e * down d ≡ zero * up d * dow
 not_zero m e d h = lt_irrefl 0 (subst (λ (x : ℕ). 0 < x) (h ∙ ap (λ (x : ℕ). x * down e) (zero-mul (up d)) ∙ zero-mul (down e)) (mul-pos (mul-pos (zero-lt-suc m) (up_pos e)) (down_pos d)))
 
 pub value_only : (f : Format) (x y : Float) (s : Bool) (a c : ℕ) → 0 < c → T (fits f x) → T (fits f y) → HasValue x s a c → HasValue y s a c → x ≡ y
+value_only f nan y s a c C p q v w = absurd v
+value_only f (inf _) y s a c C p q v w = absurd v
+value_only f (fin t zero e) nan s a c C p q v w = absurd w
+value_only f (fin t zero e) (inf _) s a c C p q v w = absurd w
+value_only f (fin t (suc m) e) nan s a c C p q v w = absurd w
+value_only f (fin t (suc m) e) (inf _) s a c C p q v w = absurd w
 value_only f (fin t zero e) (fin u zero g) s a c C p q v w = λ i. fin ((v.0 ∙ sym w.0) i) zero ((zero_exp f t e p ∙ sym (zero_exp f u g q)) i)
 value_only f (fin t zero e) (fin u (suc n) g) s a c C p q v w = absurd (not_zero n g e (sym (cross (zero * up e) (down e) (suc n * up g) (down g) a c C v.1 w.1)))
 value_only f (fin t (suc m) e) (fin u zero g) s a c C p q v w = absurd (not_zero m e g (cross (suc m * up e) (down e) (zero * up g) (down g) a c C v.1 w.1))
@@ -198,6 +204,10 @@ sum_scale f s a t b c C =
 
 add_at : (f : Format) (x y : Float) (s t : Bool) (a b : ℕ) → HasValue x s a 1 → HasValue y t b 1 → add f x y ≡ sum f s a t b 1
 unfolding add
+add_at f nan y s t a b v w = absurd v
+add_at f (inf _) y s t a b v w = absurd v
+add_at f (fin s' m e) nan s t a b v w = absurd w
+add_at f (fin s' m e) (inf _) s t a b v w = absurd w
 add_at f (fin s' m e) (fin t' n d) s t a b v w =
     let c = down e * down d in
     let h : m * up e * down d ≡ a * c = ap (λ (x : ℕ). x * down d) (sym (mul-one (m * up e)) ∙ v.1) ∙ mul_assoc a (down e) (down d) in
@@ -269,6 +279,8 @@ one_half = refl
 
 halved : (f : Format) (x : Float) (s : Bool) (a : ℕ) → HasValue x s a 1 → mul f x (fin false 1 (negsuc 0)) ≡ round f s a 2
 unfolding mul
+halved f nan s a v = absurd v
+halved f (inf _) s a v = absurd v
 halved f (fin t m e) s a v =
     ap (λ (u : Bool). round f u (m * up e * 1) (down e * 2)) (beq_false t ∙ v.0)
     ∙ round_same f s (m * up e * 1) (down e * 2) a 2 (mul-pos (down_pos e) (zero-lt-suc 1)) (zero-lt-suc 1) (ap (λ (x : ℕ). x * 2) v.1 ∙ mul_assoc a (down e) 2)

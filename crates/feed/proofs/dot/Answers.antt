@@ -1,5 +1,4 @@
 use Rattle.feed.proofs.Returns.{dot_drawn, dot_none}
-use borrow.Author.Rules.{rules}
 use Rattle.feed.proofs.dot.Goals as goal
 
 pub returns-then-is_drawn : goal.returns-then-is_drawn

@@ -1,5 +1,4 @@
 use Rattle.feed.proofs.Returns.{drawn_is}
-use borrow.Author.Rules.{rules}
 use Rattle.feed.proofs.is_drawn.Goals as goal
 
 pub returns : goal.returns

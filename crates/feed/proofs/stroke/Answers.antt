@@ -1,5 +1,4 @@
 use Rattle.feed.proofs.Returns.{stroke_drawn, stroke_none}
-use borrow.Author.Rules.{rules}
 use Rattle.feed.proofs.stroke.Goals as goal
 
 pub returns-then-both_of : goal.returns-then-both_of

@@ -1,5 +1,4 @@
 use Rattle.feed.proofs.Exactness.{i32_exact}
-use borrow.Author.Rules.{rules}
 use Rattle.feed.proofs.doubles.exact.Goals as goal
 
 pub returns : goal.returns

@@ -1,5 +1,4 @@
 use Rattle.feed.proofs.Returns.{span_middle}
-use borrow.Author.Rules.{rules}
 use Rattle.feed.proofs.doubles.middle.Goals as goal
 
 pub returns : goal.returns

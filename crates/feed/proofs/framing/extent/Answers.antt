@@ -1,5 +1,4 @@
 use Rattle.feed.proofs.Returns.{extent_made}
-use borrow.Author.Rules.{rules}
 use Rattle.feed.proofs.framing.extent.Goals as goal
 
 pub returns : goal.returns

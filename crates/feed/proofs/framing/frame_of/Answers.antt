@@ -1,5 +1,4 @@
 use Rattle.feed.proofs.Returns.{frame_some, frame_none}
-use borrow.Author.Rules.{rules}
 use Rattle.feed.proofs.framing.frame_of.Goals as goal
 
 pub returns-then-b : goal.returns-then-b

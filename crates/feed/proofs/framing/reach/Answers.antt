@@ -1,5 +1,4 @@
 use Rattle.feed.proofs.Returns.{reach_more, reach_first}
-use borrow.Author.Rules.{rules}
 use Rattle.feed.proofs.framing.reach.Goals as goal
 
 pub returns-then-b : goal.returns-then-b

@@ -1,5 +1,4 @@
 use Rattle.feed.proofs.Returns.{take_drawn, take_none}
-use borrow.Author.Rules.{rules}
 use Rattle.feed.proofs.framing.take_in.Goals as goal
 
 pub returns-then-is_drawn : goal.returns-then-is_drawn

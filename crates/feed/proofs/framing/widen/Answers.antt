@@ -1,5 +1,4 @@
 use Rattle.feed.proofs.Returns.{span_widened}
-use borrow.Author.Rules.{rules}
 use Rattle.feed.proofs.framing.widen.Goals as goal
 
 pub returns : goal.returns
