@@ -1,5 +1,6 @@
 // The report on a text, and the lines that it is printed as.
 #![tactic(auto)]
+
 ghost use Rattle.std.specs.Prelude.{◌<◌, ◌≤◌, ◌≡◌, length, take};
 ghost use Rattle.reporting.specs.Report.{report_of, numbers_of, plain_numbers_of, keys, key_of};
 
