@@ -1,5 +1,6 @@
 // What C passes and is answered, by value: bytes and arrays for what the library says in enums and structs.
 #![tactic(auto)]
+
 ghost use Rattle.std.specs.Prelude.{◌≡◌};
 ghost use Rattle.answers.specs.Boundary.{answered, aside_of, slot_answer, dot_answer, stroke_answer, frame_answer};
 ghost use Rattle.answers.specs.Frame.{cell_answer, transform_answer, rows_from, position_from, scale_answer, place_answer};
