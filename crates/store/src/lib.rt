@@ -1,5 +1,6 @@
 // A text with a lent table of slots: loading, orders, saving and the tray. The text and the table are judged anew at each call.
 #![tactic(auto)]
+
 mod dealing;
 mod marking;
 mod seeking;

@@ -1,0 +1,16 @@
+use native.Mathlib.Omega.{arith}
+use mathlib.Core.Path.{refl}
+use Rattle.fragments.specs.Fragments.{tail_of, marked}
+use Rattle.store.proofs.Tails.{Marking, marking_start, marking_done, one_next}
+use borrow.Author.Rules.{rules}
+use Rattle.store.proofs.marking.mark_all.Goals as goal
+
+pub loop-k-init : goal.loop-k-init
+unfolding tail_of marked
+loop-k-init c = marking_start _ _ _ refl c.end_tail-t.ensures
+
+pub loop-k-preserved : goal.loop-k-preserved
+loop-k-preserved c = let at = c.before in one_next _ _ _ _ _ (omega arith) _ _ c.step_tail-t.ensures _ _ at.loop.invariant c.mark_slot-u.ensures
+
+pub returns : goal.returns
+returns c = marking_done _ _ _ _ _ c.loop-k.invariant (omega arith)

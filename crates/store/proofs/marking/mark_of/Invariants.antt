@@ -1,0 +1,14 @@
+use mathlib.Core.Path.{◌≡◌, refl, ◌∙◌}
+use native.Mathlib.Omega.{arith}
+use Prim.Native.Nat.{◌≤◌, ◌+◌}
+use lib.ListN.{length, drop, drop_of_length-le}
+use Rattle.fragments.specs.Fragments.{tail_of, mark_of}
+use Rattle.store.proofs.Tails.{tail_step, mark_step, tail_count}
+use borrow.Author.Rules.{rules}
+use Rattle.store.proofs.marking.mark_of.Given as goal
+
+abbrev pub invariant-loop-k : goal.invariant-loop-k
+invariant-loop-k l = (l.k ≤ length l.table) × (l.t.count + l.k ≤ length l.table) × (l.t ≡ tail_of (drop l.k l.table)) × (l.m ≡ mark_of l.b.0 (drop l.k l.table))
+
+abbrev pub decreases-loop-k : goal.decreases-loop-k
+decreases-loop-k l = l.k

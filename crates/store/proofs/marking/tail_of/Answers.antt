@@ -1,0 +1,21 @@
+use mathlib.Core.Path.{◌≡◌, refl, ◌∙◌}
+use native.Mathlib.Omega.{arith}
+use Prim.Native.Nat.{◌≤◌, ◌+◌}
+use lib.ListN.{length, drop, drop_of_length-le}
+use Rattle.fragments.specs.Fragments.{tail_of}
+use Rattle.store.proofs.Tails.{tail_step, tail_count}
+use borrow.Author.Rules.{rules}
+use Rattle.store.proofs.marking.tail_of.Goals as goal
+
+pub loop-k-init : goal.loop-k-init
+unfolding tail_of
+loop-k-init c = let z = drop_of_length-le c.args.table.now {i = length c.args.table.now} (omega arith) in (omega arith, rw c.end_tail-t.ensures (omega arith), rw (z, c.end_tail-t.ensures))
+
+pub loop-k-preserved : goal.loop-k-preserved
+loop-k-preserved c = let at = c.before in let xs = at.before.before.args.table.now in (omega arith, omega (arith, tail_count _ _ _ c.step_tail-t.ensures), tail_step xs at.loop.k _ (omega arith) (omega arith) _ _ at.loop.invariant.2 c.step_tail-t.ensures)
+
+pub returns : goal.returns
+returns c = let z : c.loop-k.k ≡ 0 = omega arith in record {
+  value = c.loop-k.invariant.2 ∙ rw z refl;
+  count_in_bounds = omega (arith, c.loop-k.invariant.1);
+}

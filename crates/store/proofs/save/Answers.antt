@@ -1,0 +1,5 @@
+use borrow.Author.Rules.{rules}
+use Rattle.store.proofs.save.Goals as goal
+
+pub returns : goal.returns
+returns c = c.deal.ensures
