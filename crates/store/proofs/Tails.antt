@@ -8,6 +8,7 @@ use native.Mathlib.Omega.{arith}
 use native.Mathlib.Nat.{not-suc-le-zero, le_of_suc-le-suc}
 use native.Mathlib.Numerals.{add-one}
 use lib.Dec.{eqb}
+use Rattle.std.proofs.lemmas.List.{get_or_default}
 use lib.ListN.{length, get_or, set, take, drop, length-set, length-take, drop_of_length-le, take-append-drop, get_or-append}
 use lib.Seq.{drop-cons, get_or-take, take_all}
 use Rattle.ascii.specs.Tests.{pick}
@@ -18,6 +19,10 @@ use Rattle.table.proofs.Aside.{count_within, count_least}
 use Rattle.table.proofs.AllMarks.{marked_by_step}
 use Rattle.table.proofs.Numbers.{numbered_step}
 use Rattle.fragments.specs.Fragments.{joins, step_tail, tail_of, mark_of, marked, marked_by, turned, numbered}
+
+-- a slot that is read inside the table is the same whatever would be read past its end
+pub read : (xs : List Slot) (j : ℕ) (d : Slot) → j < length xs → get_or xs j d ≡ get_or xs j no_slot
+read xs j d h = get_or_default xs j d no_slot h
 
 module _ (xs : List Slot) (k j : ℕ) (e : k ≡ j + 1) (h : j < length xs) where
   rest : drop j xs ≡ get_or xs j no_slot ∷ drop k xs

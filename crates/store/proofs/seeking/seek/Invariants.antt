@@ -9,7 +9,7 @@ use borrow.Author.Rules.{rules}
 use Rattle.store.proofs.seeking.seek.Given as goal
 
 abbrev pub invariant-loop-s : goal.invariant-loop-s
-invariant-loop-s l = (l.s.l.hi ≤ l.hi) × (Rises l.table l.hi → Bracket (rank_at l.table) 0 l.hi l.x.0 l.s.lo l.s.l.hi)
+invariant-loop-s l = (l.s.hi ≤ l.hi) × (Rises l.table l.hi → Bracket (rank_at l.table) 0 l.hi l.x.0 l.s.lo l.s.hi)
 
 abbrev pub decreases-loop-s : goal.decreases-loop-s
-decreases-loop-s l = l.s.l.hi - l.s.lo
+decreases-loop-s l = l.s.hi - l.s.lo

@@ -65,7 +65,7 @@ loop-i-preserved c = let S = c.loop-i.invariant.0 in
     let z = c.if-t-ne0.false in
     let e = c.turn-t.ensures.state_value z in
     let fit = c.both_of-fit.ensures in (
-      rw (fit, c.one_if-kept.ensures.value, c.one_if-fences.ensures.value, c.one_of-k.ensures.value) (seen_next _ _ _ _ _ _ _ _ _ _ S h _ el _ _ (turn_next _ _ _ _ S.sofar h _ _ el n z _ (record { block = e.1; earlier = e.2 }) _ e.0) (seen_onward _ _ _ _ _ _ _ _ _ _ S _ el _ n z _ e.0) _ c.slot_at-here.ensures _ c.fits2.ensures _ (λ g r. c.stays_if-stay.ensures (fit ∙ g) r) _ c.is_fence.ensures _ c.model_next-model.ensures),
+      rw (fit, c.one_if-kept.ensures.value, c.one_if-fences.ensures.value, c.one_of-k.ensures.value) (seen_next _ _ _ _ _ _ _ _ _ _ S h _ el _ _ (turn_next _ _ _ _ S.sofar h _ _ el n z _ (record { block = e.1; earlier = e.2 }) _ e.0) (seen_onward _ _ _ _ _ _ _ _ _ _ S _ el _ n z _ e.0) _ c.slot_at-here.ensures _ c.fits-good.ensures _ (λ g r. c.stays_if-stay.ensures (fit ∙ g) r) _ c.is_fence.ensures _ c.model_next-model.ensures),
       turn_watched _ _ _ _ S.sofar h _ _ el n z _ (c.turn-t.ensures.watched_2 z) _ e.1,
     )
 
