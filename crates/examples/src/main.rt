@@ -2,18 +2,22 @@
 //
 // A case is its length in two bytes, the low one first, and then its bytes.
 #![tactic(auto)]
+
 ghost use Rattle.std.specs.Prelude.{◌≤◌};
 
 use conect::Conect;
 use coordinate::{Atom, Identity, Measure, Position, Species};
 use fields::{ResidueNumber, Serial};
 use helix::{Comment, Extent, Helix};
-use libc::STDOUT_FILENO;
 use line::{Answer, Record};
 use master::Tally;
 use names::{Four, Pair, Three};
 use residue::Residue;
 use sheet::{Registration, Sheet, Strand};
+use std::alloc::Global;
+use std::fs::File;
+use std::io::{BufWriter, Read, Write};
+use std::{env, io};
 use ter::Ter;
 
 // What fills a buffer before a record is written into it, to show what the writing changed.
@@ -22,14 +26,15 @@ const FOUND: u8 = b'#';
 // More cases than a file has: a loop over a file has to end, and nothing says that a file does.
 const MOST_CASES: u32 = 100000;
 
+// The bytes that there is room for in a case.
+const ROOM: usize = 4096;
+
 // Whether `out` is as found from `from` on.
 fn is_found(out: &[u8; 100], from: usize) -> bool {
-    let mut i = from;
-    while i < 100 {
+    for i in from..100 {
         if out[i] != FOUND {
             return false;
         }
-        i += 1;
     }
     true
 }
@@ -39,12 +44,10 @@ fn begins_with(out: &[u8; 100], text: &[u8]) -> bool {
     if text.len() != 80 {
         return false;
     }
-    let mut i = 0;
-    while i < 80 {
+    for i in 0..80 {
         if out[i] != text[i] {
             return false;
         }
-        i += 1;
     }
     true
 }
@@ -72,37 +75,32 @@ fn needs_room(r: Record) -> bool {
     false
 }
 
-fn print_number(n: u8) {
-    io::print_decimal(STDOUT_FILENO, n as u64);
-    io::write_all(STDOUT_FILENO, b"\n");
+fn print_number(to: &mut impl Write, n: u8) -> io::Result<()> {
+    writeln!(to, "{n}")
 }
 
 // The line of a case with a wrong field: 6 and its column.
-fn print_wrong(column: u32) {
-    io::write_all(STDOUT_FILENO, b"6 ");
-    io::print_decimal(STDOUT_FILENO, column as u64);
-    io::write_all(STDOUT_FILENO, b"\n");
+fn print_wrong(to: &mut impl Write, column: u32) -> io::Result<()> {
+    writeln!(to, "6 {column}")
 }
 
 // The line of a case that reads.
-fn print_read(text: &[u8], r: Record) {
+fn print_read(to: &mut impl Write, text: &[u8], r: Record) -> io::Result<()> {
     if writes_back(text, r) {
         if needs_room(r) {
-            io::write_all(STDOUT_FILENO, b"0\n");
-            return;
+            return writeln!(to, "0");
         }
-        io::write_all(STDOUT_FILENO, b"0 short\n");
-        return;
+        return writeln!(to, "0 short");
     }
-    io::write_all(STDOUT_FILENO, b"0 differs\n");
+    writeln!(to, "0 differs")
 }
 
-fn print_case(text: &[u8]) {
+fn print_case(to: &mut impl Write, text: &[u8]) -> io::Result<()> {
     let a = line::read_line(text);
     match a {
-        Answer::Read(r) => print_read(text, r),
-        Answer::Refused(n) => print_number(n),
-        Answer::Wrong(column) => print_wrong(column),
+        Answer::Read(r) => print_read(to, text, r),
+        Answer::Refused(n) => print_number(to, n),
+        Answer::Wrong(column) => print_wrong(to, column),
     }
 }
 
@@ -116,72 +114,81 @@ fn length_of(head: &[u8; 2]) -> usize {
     wide(head[0]) + 256 * wide(head[1])
 }
 
-// Reads a case that fills `case`, and prints its line; answers whether it was whole.
-fn whole_case(fd: i32, case: &mut [u8]) -> bool {
-    let got = io::read_full(fd, case);
-    if got != case.len() {
-        return false;
+// Reads a case of `n` bytes, and prints its line; answers whether it was whole.
+fn whole_case(
+    alloc: Global,
+    file: &mut impl Read,
+    to: &mut impl Write,
+    n: usize,
+) -> io::Result<bool> {
+    let mut case = Vec::new(alloc);
+    let got = file.by_ref().take(n as u64).read_to_end(&mut case)?;
+    if got != n {
+        return Ok(false);
     }
-    print_case(&case[..got]);
-    true
+    print_case(to, &case)?;
+    Ok(true)
 }
 
-// Reads a case of `n` bytes into `space`, and prints its line; answers whether there was room for it, and it was whole.
-fn one_case(fd: i32, n: usize, space: &mut [u8]) -> bool {
-    if space.len() < n {
-        return false;
+// The same; answers whether there was room for the case, and it was whole.
+fn one_case(
+    alloc: Global,
+    file: &mut impl Read,
+    to: &mut impl Write,
+    n: usize,
+) -> io::Result<bool> {
+    if ROOM < n {
+        return Ok(false);
     }
-    whole_case(fd, &mut space[..n])
+    whole_case(alloc, file, to, n)
 }
 
 // Reads the length of a case and then the case, and answers whether to go on.
-fn next_case(fd: i32) -> bool {
-    let mut head = [0u8; 2];
-    let got = io::read_full(fd, &mut head);
+fn next_case(alloc: Global, file: &mut impl Read, to: &mut impl Write) -> io::Result<bool> {
+    let mut head = Vec::new(alloc);
+    let got = file.by_ref().take(2).read_to_end(&mut head)?;
     if got == 0 {
-        return false;
+        return Ok(false);
     }
-    let n = length_of(&head);
-    let mut space = io::buffer();
-    if got == 2 && one_case(fd, n, &mut space) {
-        return true;
+    if let Ok(head) = <&[u8; 2]>::try_from(head.as_slice()) {
+        if one_case(alloc, file, to, length_of(head))? {
+            return Ok(true);
+        }
     }
-    io::write_all(STDOUT_FILENO, b"bad length\n");
-    false
+    writeln!(to, "bad length")?;
+    Ok(false)
 }
 
-fn all_cases(fd: i32) {
-    let mut left = MOST_CASES;
-    while left > 0 && next_case(fd) {
-        left -= 1;
+fn all_cases(alloc: Global, file: &mut impl Read, to: &mut impl Write) -> io::Result<()> {
+    for _ in 0..MOST_CASES {
+        if !next_case(alloc, file, to)? {
+            break;
+        }
     }
+    Ok(())
 }
 
-// The cases of the file that an argument names.
-fn one_file(i: usize) {
-    let mut path = io::buffer();
-    let n = os::arg(i, &mut path);
-    let fd = os::open_read(&path[..n]);
-    if fd < 0 {
-        os::fail(&path[..n]);
-        return;
+// The cases of the file at a path. One that does not open is named on standard error, and left out.
+fn one_file(rt: &HostRuntime, to: &mut impl Write, path: &str) -> io::Result<()> {
+    match File::open(rt, path) {
+        Ok(mut file) => all_cases(rt.alloc(), &mut file, to),
+        Err(e) => {
+            to.flush()?;
+            eprintln!(rt; "{path}: {e}")
+        }
     }
-    all_cases(fd);
-    libc::close(fd);
 }
 
 // Writes a record and prints the number, and ` written` unless the record is refused with 6 and the buffer is as found.
-fn print_write(r: Record) {
+fn print_write(to: &mut impl Write, r: Record) -> io::Result<()> {
     let mut out = [FOUND; 100];
     let n = line::write_record(&mut out, r);
     if n == 6 {
         if is_found(&out, 0) {
-            io::write_all(STDOUT_FILENO, b"6\n");
-            return;
+            return writeln!(to, "6");
         }
     }
-    io::print_decimal(STDOUT_FILENO, n as u64);
-    io::write_all(STDOUT_FILENO, b" written\n");
+    writeln!(to, "{n} written")
 }
 
 fn glycine() -> Residue {
@@ -197,16 +204,25 @@ fn glycine() -> Residue {
     }
 }
 
-fn print_ter(serial: u32) {
+fn print_ter(to: &mut impl Write, serial: u32) -> io::Result<()> {
     let r = glycine();
-    print_write(Record::Ter(Ter {
-        serial: Serial(serial),
-        residue: r,
-    }));
+    print_write(
+        to,
+        Record::Ter(Ter {
+            serial: Serial(serial),
+            residue: r,
+        }),
+    )
 }
 
 // The alpha carbon of a glycine.
-fn print_carbon(x: i32, occupancy: u32, temperature: i32, name: Four) {
+fn print_carbon(
+    to: &mut impl Write,
+    x: i32,
+    occupancy: u32,
+    temperature: i32,
+    name: Four,
+) -> io::Result<()> {
     let r = glycine();
     let identity = Identity {
         serial: Serial(1),
@@ -223,17 +239,20 @@ fn print_carbon(x: i32, occupancy: u32, temperature: i32, name: Four) {
         element: Pair { a: b' ', b: b'C' },
         charge: Pair { a: b' ', b: b' ' },
     };
-    print_write(Record::Coordinate(
-        false,
-        Atom {
-            identity: identity,
-            measure: measure,
-            species: species,
-        },
-    ));
+    print_write(
+        to,
+        Record::Coordinate(
+            false,
+            Atom {
+                identity: identity,
+                measure: measure,
+                species: species,
+            },
+        ),
+    )
 }
 
-fn print_helix(class: u32) {
+fn print_helix(to: &mut impl Write, class: u32) -> io::Result<()> {
     let first = glycine();
     let last = glycine();
     let extent = Extent {
@@ -252,15 +271,18 @@ fn print_helix(class: u32) {
         c: 0x20202020202020,
         d: 0x20202020202020,
     };
-    print_write(Record::Helix(Helix {
-        extent: extent,
-        class: class,
-        comment: blank,
-        length: 1,
-    }));
+    print_write(
+        to,
+        Record::Helix(Helix {
+            extent: extent,
+            class: class,
+            comment: blank,
+            length: 1,
+        }),
+    )
 }
 
-fn print_sheet(strand: u32, sense: i32) {
+fn print_sheet(to: &mut impl Write, strand: u32, sense: i32) -> io::Result<()> {
     let first = glycine();
     let last = glycine();
     let s = Strand {
@@ -275,46 +297,55 @@ fn print_sheet(strand: u32, sense: i32) {
         last: last,
         sense: sense,
     };
-    print_write(Record::Sheet(Sheet {
-        strand: s,
-        registration: Registration::Absent,
-    }));
+    print_write(
+        to,
+        Record::Sheet(Sheet {
+            strand: s,
+            registration: Registration::Absent,
+        }),
+    )
 }
 
 // 0 for a partner is none.
-fn print_conect(serial: u32, a: u32, b: u32, c: u32) {
-    print_write(Record::Conect(Conect {
-        serial: Serial(serial),
-        a: Serial(a),
-        b: Serial(b),
-        c: Serial(c),
-        d: Serial(0),
-    }));
+fn print_conect(to: &mut impl Write, serial: u32, a: u32, b: u32, c: u32) -> io::Result<()> {
+    print_write(
+        to,
+        Record::Conect(Conect {
+            serial: Serial(serial),
+            a: Serial(a),
+            b: Serial(b),
+            c: Serial(c),
+            d: Serial(0),
+        }),
+    )
 }
 
-fn print_master(remark: u32, seq: u32) {
-    print_write(Record::Master(Tally {
-        remark: remark,
-        het: 0,
-        helix: 0,
-        sheet: 0,
-        xform: 0,
-        coord: 0,
-        ter: 0,
-        conect: 0,
-        seq: seq,
-    }));
+fn print_master(to: &mut impl Write, remark: u32, seq: u32) -> io::Result<()> {
+    print_write(
+        to,
+        Record::Master(Tally {
+            remark: remark,
+            het: 0,
+            helix: 0,
+            sheet: 0,
+            xform: 0,
+            coord: 0,
+            ter: 0,
+            conect: 0,
+            seq: seq,
+        }),
+    )
 }
 
 // Serials on both sides of each end of the range.
-fn ters() {
-    print_ter(0);
-    print_ter(1);
-    print_ter(99999);
-    print_ter(100000);
+fn ters(to: &mut impl Write) -> io::Result<()> {
+    print_ter(to, 0)?;
+    print_ter(to, 1)?;
+    print_ter(to, 99999)?;
+    print_ter(to, 100000)
 }
 
-fn coordinates() {
+fn coordinates(to: &mut impl Write) -> io::Result<()> {
     let alpha = Four {
         a: b' ',
         b: b'C',
@@ -327,64 +358,63 @@ fn coordinates() {
         c: b' ',
         d: b' ',
     };
-    print_carbon(0, 100, 0, alpha);
-    print_carbon(0, 101, 0, alpha);
+    print_carbon(to, 0, 100, 0, alpha)?;
+    print_carbon(to, 0, 101, 0, alpha)?;
     // A name that does not begin with its element.
-    print_carbon(0, 100, 0, calcium);
-    print_carbon(9999999, 100, 0, alpha);
-    print_carbon(10000000, 100, 0, alpha);
-    print_carbon(-999999, 100, 0, alpha);
-    print_carbon(-1000000, 100, 0, alpha);
-    print_carbon(0, 100, 99999, alpha);
-    print_carbon(0, 100, 100000, alpha);
-    print_carbon(0, 100, -9999, alpha);
-    print_carbon(0, 100, -10000, alpha);
+    print_carbon(to, 0, 100, 0, calcium)?;
+    print_carbon(to, 9999999, 100, 0, alpha)?;
+    print_carbon(to, 10000000, 100, 0, alpha)?;
+    print_carbon(to, -999999, 100, 0, alpha)?;
+    print_carbon(to, -1000000, 100, 0, alpha)?;
+    print_carbon(to, 0, 100, 99999, alpha)?;
+    print_carbon(to, 0, 100, 100000, alpha)?;
+    print_carbon(to, 0, 100, -9999, alpha)?;
+    print_carbon(to, 0, 100, -10000, alpha)
 }
 
-fn helices() {
-    print_helix(0);
-    print_helix(1);
-    print_helix(10);
-    print_helix(11);
+fn helices(to: &mut impl Write) -> io::Result<()> {
+    print_helix(to, 0)?;
+    print_helix(to, 1)?;
+    print_helix(to, 10)?;
+    print_helix(to, 11)
 }
 
 // The sense is 0 for strand 1, and only for it.
-fn sheets() {
-    print_sheet(1, 0);
-    print_sheet(1, 1);
-    print_sheet(2, 1);
-    print_sheet(2, 0);
+fn sheets(to: &mut impl Write) -> io::Result<()> {
+    print_sheet(to, 1, 0)?;
+    print_sheet(to, 1, 1)?;
+    print_sheet(to, 2, 1)?;
+    print_sheet(to, 2, 0)
 }
 
-fn bonds() {
-    print_conect(1, 2, 3, 4);
+fn bonds(to: &mut impl Write) -> io::Result<()> {
+    print_conect(to, 1, 2, 3, 4)?;
     // A partner that is the atom itself.
-    print_conect(1, 1, 0, 0);
-    print_conect(1, 2, 1, 0);
+    print_conect(to, 1, 1, 0, 0)?;
+    print_conect(to, 1, 2, 1, 0)?;
     // A partner right of a blank one.
-    print_conect(1, 2, 0, 3);
-    print_conect(1, 0, 2, 3);
-    print_conect(1, 100000, 0, 0);
+    print_conect(to, 1, 2, 0, 3)?;
+    print_conect(to, 1, 0, 2, 3)?;
+    print_conect(to, 1, 100000, 0, 0)
 }
 
-fn tallies() {
-    print_master(0, 99999);
-    print_master(100000, 0);
-    print_master(0, 100000);
+fn tallies(to: &mut impl Write) -> io::Result<()> {
+    print_master(to, 0, 99999)?;
+    print_master(to, 100000, 0)?;
+    print_master(to, 0, 100000)
 }
 
-fn main() {
-    let count = os::arg_count();
-    let mut i = 1;
-    while i < count {
-        one_file(i);
-        i += 1;
+fn main(rt: HostRuntime) -> io::Result<()> {
+    let mut to = BufWriter::new(rt.alloc(), io::writer(&rt))?;
+    for path in env::args(&rt)?.skip(1) {
+        one_file(&rt, &mut to, path.as_str())?;
     }
-    ters();
-    coordinates();
-    helices();
-    sheets();
-    bonds();
-    tallies();
-    print_write(Record::End);
+    ters(&mut to)?;
+    coordinates(&mut to)?;
+    helices(&mut to)?;
+    sheets(&mut to)?;
+    bonds(&mut to)?;
+    tallies(&mut to)?;
+    print_write(&mut to, Record::End)?;
+    to.flush()
 }

@@ -1,33 +1,39 @@
 // Reads standard input and prints the report on it: key=value lines.
 #![tactic(auto)]
+
 ghost use Rattle.std.specs.Prelude.{◌<◌, length};
 ghost use Rattle.reporting.specs.Report.{keys};
 
 use gate::Verdict;
-use libc::{STDIN_FILENO, STDOUT_FILENO};
 use reporting::LINES;
+use std::io;
+use std::io::{BufWriter, Read, Write};
 
-fn print_line(i: usize, number: u64)
+// More bytes than are judged, so that an input that is too long is seen.
+const MOST_READ: u64 = 65536;
+
+fn print_line(to: &mut impl Write, i: usize, number: u64) -> io::Result<()>
     requires { i < length keys }
 {
     let label = reporting::key(i);
     let text = label.0;
     let width = label.1;
-    io::write_all(STDOUT_FILENO, &text[..width]);
-    io::print_decimal(STDOUT_FILENO, number);
-    io::write_all(STDOUT_FILENO, b"\n");
+    to.write_all(&text[..width])?;
+    writeln!(to, "{number}")
 }
 
-fn print_report(v: Verdict) {
+fn print_report(to: &mut impl Write, v: Verdict) -> io::Result<()> {
     let numbers = reporting::numbers(v);
     for i in 0..LINES {
-        print_line(i, numbers[i]);
+        print_line(to, i, numbers[i])?;
     }
+    Ok(())
 }
 
-// The buffer has 65,536 bytes, more than are judged, so that an input that is too long is seen.
-fn main() {
-    let mut buf = io::large_buffer();
-    let n = io::read_full(STDIN_FILENO, &mut buf);
-    print_report(reporting::report_on(&buf[..n]));
+fn main(rt: HostRuntime) -> io::Result<()> {
+    let mut text = Vec::new(rt.alloc());
+    rt.reader().take(MOST_READ).read_to_end(&mut text)?;
+    let mut to = BufWriter::new(rt.alloc(), io::writer(&rt))?;
+    print_report(&mut to, reporting::report_on(&text))?;
+    to.flush()
 }

@@ -1,49 +1,56 @@
 // A sitting at the station: an entry from standard input is loaded, drawn, parted, saved and put together again. Every answer is printed, those to what
 // has to be refused too.
 #![tactic(auto)]
+
 ghost use Rattle.std.specs.Prelude.{◌≤◌};
 
 use feed::{Drawn, Framed};
 use fields::FragmentNumber;
-use libc::{STDIN_FILENO, STDOUT_FILENO};
 use master::Tally;
 use slots::Slot;
+use std::io;
+use std::io::{BufWriter, Read, Write};
 use store::Outcome;
 use tally::Counted;
 
-fn say(text: &[u8]) {
-    io::write_all(STDOUT_FILENO, text);
+// The most bytes of an entry that are read.
+const MOST_READ: u64 = 65536;
+
+// The bytes that what is saved, and the tray, have room for.
+const ROOM: usize = 65536;
+
+fn say(to: &mut impl Write, text: &[u8]) -> io::Result<()> {
+    to.write_all(text)
 }
 
-fn put(n: u64) {
-    say(b" ");
-    io::print_decimal(STDOUT_FILENO, n);
+fn put(to: &mut impl Write, n: u64) -> io::Result<()> {
+    write!(to, " {n}")
 }
 
-fn print_number(n: u8) {
-    put(n as u64);
-    say(b"\n");
+fn print_number(to: &mut impl Write, n: u8) -> io::Result<()> {
+    put(to, n as u64)?;
+    say(to, b"\n")
 }
 
 // The number, and how many slots or bytes were written.
-fn print_outcome(o: Outcome) {
-    put(o.number as u64);
-    put(o.count as u64);
-    say(b"\n");
+fn print_outcome(to: &mut impl Write, o: Outcome) -> io::Result<()> {
+    put(to, o.number as u64)?;
+    put(to, o.count as u64)?;
+    say(to, b"\n")
 }
 
 // The first n bytes, if there are as many.
-fn print_first(out: &[u8], n: usize) {
+fn print_first(to: &mut impl Write, out: &[u8], n: usize) -> io::Result<()> {
     if out.len() < n {
-        return;
+        return Ok(());
     }
-    say(&out[..n]);
+    say(to, &out[..n])
 }
 
 // The same, and the bytes.
-fn print_written(o: Outcome, out: &[u8]) {
-    print_outcome(o);
-    print_first(out, o.count);
+fn print_written(to: &mut impl Write, o: Outcome, out: &[u8]) -> io::Result<()> {
+    print_outcome(to, o)?;
+    print_first(to, out, o.count)
 }
 
 // ---- the tally
@@ -62,26 +69,27 @@ fn nearly_full() -> Tally {
     }
 }
 
-fn count(t: Tally, line: &[u8], past: bool) -> Tally {
+fn count(to: &mut impl Write, t: Tally, line: &[u8], past: bool) -> io::Result<Tally> {
     let c = tally::tally_after(t, line, past);
     let u = c.tally;
-    say(b"tally");
-    put(c.number as u64);
-    put(u.coord as u64);
-    put(u.ter as u64);
-    say(b"\n");
-    u
+    say(to, b"tally")?;
+    put(to, c.number as u64)?;
+    put(to, u.coord as u64)?;
+    put(to, u.ter as u64)?;
+    say(to, b"\n")?;
+    Ok(u)
 }
 
 // A line whose count is full, one that has no name, one that is counted, one that is not once the first model is past, and one that MASTER does
 // not count.
-fn count_lines() {
+fn count_lines(to: &mut impl Write) -> io::Result<()> {
     let t = nearly_full();
-    let u = count(t, b"TER   ", false);
-    let v = count(u, b"TER", false);
-    let w = count(v, b"HETATM", false);
-    let x = count(w, b"HETATM", true);
-    count(x, b"ENDMDL", false);
+    let u = count(to, t, b"TER   ", false)?;
+    let v = count(to, u, b"TER", false)?;
+    let w = count(to, v, b"HETATM", false)?;
+    let x = count(to, w, b"HETATM", true)?;
+    count(to, x, b"ENDMDL", false)?;
+    Ok(())
 }
 
 // ---- a stage of the sitting
@@ -224,75 +232,83 @@ fn bytes_at(k: u8, n: usize) -> usize
     }
 }
 
-fn print_load(k: u8, o: Outcome) {
+fn print_load(to: &mut impl Write, k: u8, o: Outcome) -> io::Result<()> {
     if k < 2 {
-        say(b"load");
-        print_outcome(o);
+        say(to, b"load")?;
+        print_outcome(to, o)?;
     }
+    Ok(())
 }
 
-fn print_order(f: FragmentNumber, number: u8) {
-    put(f.0 as u64);
-    say(b":");
-    print_number(number);
+fn print_order(to: &mut impl Write, f: FragmentNumber, number: u8) -> io::Result<()> {
+    put(to, f.0 as u64)?;
+    say(to, b":")?;
+    print_number(to, number)
 }
 
-fn print_orders(k: u8, first: u8, second: u8) {
+fn print_orders(to: &mut impl Write, k: u8, first: u8, second: u8) -> io::Result<()> {
     match k {
         2 => {
-            say(b"set aside");
-            print_order(first_at(k), first);
+            say(to, b"set aside")?;
+            print_order(to, first_at(k), first)
         }
         3 | 4 => {
-            say(b"set aside");
-            print_order(second_at(k), second);
+            say(to, b"set aside")?;
+            print_order(to, second_at(k), second)
         }
         6 => {
-            say(b"put back");
-            print_order(second_at(k), second);
+            say(to, b"put back")?;
+            print_order(to, second_at(k), second)
         }
-        _ => {}
+        _ => Ok(()),
     }
 }
 
-fn print_drawn(d: u8) {
+fn print_drawn(to: &mut impl Write, d: u8) -> io::Result<()> {
     match d {
-        1 => say(b"dot\n"),
-        2 => say(b"stroke\n"),
-        _ => say(b"nothing to draw\n"),
+        1 => say(to, b"dot\n"),
+        2 => say(to, b"stroke\n"),
+        _ => say(to, b"nothing to draw\n"),
     }
 }
 
-fn print_looks(k: u8, l: Looks) {
+fn print_looks(to: &mut impl Write, k: u8, l: Looks) -> io::Result<()> {
     match k {
         0 | 1 | 4 => {
-            say(b"frame");
-            print_number(l.frame);
-            print_drawn(l.dot);
-            print_drawn(l.stroke);
+            say(to, b"frame")?;
+            print_number(to, l.frame)?;
+            print_drawn(to, l.dot)?;
+            print_drawn(to, l.stroke)
         }
-        _ => {}
+        _ => Ok(()),
     }
 }
 
-fn print_save(k: u8, o: Outcome, out: &[u8]) {
+fn print_save(to: &mut impl Write, k: u8, o: Outcome, out: &[u8]) -> io::Result<()> {
     if 3 < k {
-        say(b"save");
-        print_written(o, out);
+        say(to, b"save")?;
+        print_written(to, o, out)?;
     }
+    Ok(())
 }
 
-fn print_tray(k: u8, o: Outcome, set: &[u8]) {
+fn print_tray(to: &mut impl Write, k: u8, o: Outcome, set: &[u8]) -> io::Result<()> {
     match k {
         5 | 7 | 9 => {
-            say(b"tray");
-            print_written(o, set);
+            say(to, b"tray")?;
+            print_written(to, o, set)
         }
-        _ => {}
+        _ => Ok(()),
     }
 }
 
-fn go_on(text: &[u8], out: &mut [u8], set: &mut [u8], k: u8) {
+fn go_on(
+    to: &mut impl Write,
+    text: &[u8],
+    out: &mut [u8],
+    set: &mut [u8],
+    k: u8,
+) -> io::Result<()> {
     let n = bytes_at(k, out.len());
     let t = stage(
         text,
@@ -305,50 +321,52 @@ fn go_on(text: &[u8], out: &mut [u8], set: &mut [u8], k: u8) {
         spoiled_at(k),
     );
     let load = t.load;
-    print_load(k, load);
-    print_orders(k, t.first, t.second);
+    print_load(to, k, load)?;
+    print_orders(to, k, t.first, t.second)?;
     let looks = t.looks;
-    print_looks(k, looks);
+    print_looks(to, k, looks)?;
     let save = t.save;
-    print_save(k, save, out);
+    print_save(to, k, save, out)?;
     let tray = t.tray;
-    print_tray(k, tray, set);
+    print_tray(to, k, tray, set)
 }
 
-fn open(text: &[u8], out: &mut [u8], set: &mut [u8]) {
-    go_on(text, out, set, 0);
-    go_on(text, out, set, 1);
+fn open(to: &mut impl Write, text: &[u8], out: &mut [u8], set: &mut [u8]) -> io::Result<()> {
+    go_on(to, text, out, set, 0)?;
+    go_on(to, text, out, set, 1)
 }
 
-fn part(text: &[u8], out: &mut [u8], set: &mut [u8]) {
-    go_on(text, out, set, 2);
-    go_on(text, out, set, 3);
-    go_on(text, out, set, 4);
-    go_on(text, out, set, 5);
+fn part(to: &mut impl Write, text: &[u8], out: &mut [u8], set: &mut [u8]) -> io::Result<()> {
+    go_on(to, text, out, set, 2)?;
+    go_on(to, text, out, set, 3)?;
+    go_on(to, text, out, set, 4)?;
+    go_on(to, text, out, set, 5)
 }
 
-fn join(text: &[u8], out: &mut [u8], set: &mut [u8]) {
-    go_on(text, out, set, 6);
-    go_on(text, out, set, 7);
+fn join(to: &mut impl Write, text: &[u8], out: &mut [u8], set: &mut [u8]) -> io::Result<()> {
+    go_on(to, text, out, set, 6)?;
+    go_on(to, text, out, set, 7)
 }
 
-fn damage(text: &[u8], out: &mut [u8], set: &mut [u8]) {
-    go_on(text, out, set, 8);
-    go_on(text, out, set, 9);
+fn damage(to: &mut impl Write, text: &[u8], out: &mut [u8], set: &mut [u8]) -> io::Result<()> {
+    go_on(to, text, out, set, 8)?;
+    go_on(to, text, out, set, 9)
 }
 
-fn sit(text: &[u8], out: &mut [u8], set: &mut [u8]) {
-    open(text, out, set);
-    part(text, out, set);
-    join(text, out, set);
-    damage(text, out, set);
+fn sit(to: &mut impl Write, text: &[u8], out: &mut [u8], set: &mut [u8]) -> io::Result<()> {
+    open(to, text, out, set)?;
+    part(to, text, out, set)?;
+    join(to, text, out, set)?;
+    damage(to, text, out, set)
 }
 
-fn main() {
-    let mut buf = io::large_buffer();
-    let n = io::read_full(STDIN_FILENO, &mut buf);
-    let mut out = io::large_buffer();
-    let mut set = io::large_buffer();
-    sit(&buf[..n], &mut out, &mut set);
-    count_lines();
+fn main(rt: HostRuntime) -> io::Result<()> {
+    let mut text = Vec::new(rt.alloc());
+    rt.reader().take(MOST_READ).read_to_end(&mut text)?;
+    let mut out = vec![in rt.alloc(); 0; ROOM]?;
+    let mut set = vec![in rt.alloc(); 0; ROOM]?;
+    let mut to = BufWriter::new(rt.alloc(), io::writer(&rt))?;
+    sit(&mut to, &text, &mut out, &mut set)?;
+    count_lines(&mut to)?;
+    to.flush()
 }

@@ -2,31 +2,38 @@
 //
 // A text is its length in three bytes, the low one first, and then its bytes.
 #![tactic(auto)]
+
 ghost use Rattle.std.specs.Prelude.{◌≤◌};
 
 use gate::Verdict;
-use libc::STDOUT_FILENO;
 use reporting::LINES;
+use std::alloc::Global;
+use std::fs::File;
+use std::io::{BufWriter, Read, Write};
+use std::{env, io};
 
 // More texts than a file has: a loop over a file has to end, and nothing says that a file does.
 const MOST_TEXTS: u32 = 100000;
 
-fn put_next(number: u64) {
-    io::write_all(STDOUT_FILENO, b" ");
-    io::print_decimal(STDOUT_FILENO, number);
+// The bytes that there is room for in a text: more than are judged, so that a text that is too long is seen.
+const ROOM: usize = 65536;
+
+fn put_next(to: &mut impl Write, number: u64) -> io::Result<()> {
+    write!(to, " {number}")
 }
 
-fn end_line() {
-    io::write_all(STDOUT_FILENO, b"\n");
+fn end_line(to: &mut impl Write) -> io::Result<()> {
+    writeln!(to)
 }
 
-fn print_verdict(v: Verdict) {
+fn print_verdict(to: &mut impl Write, v: Verdict) -> io::Result<()> {
     let numbers = reporting::numbers(v);
-    io::print_decimal(STDOUT_FILENO, numbers[0]);
+    let first = numbers[0];
+    write!(to, "{first}")?;
     for i in 1..LINES {
-        put_next(numbers[i]);
+        put_next(to, numbers[i])?;
     }
-    end_line();
+    end_line(to)
 }
 
 fn wide(b: u8) -> usize
@@ -39,69 +46,75 @@ fn length_of(head: &[u8; 3]) -> usize {
     wide(head[0]) + 256 * wide(head[1]) + 65536 * wide(head[2])
 }
 
-// Reads a text that fills `text`, and prints its answer; answers whether it was whole.
-fn whole_text(fd: i32, text: &mut [u8]) -> bool {
-    let got = io::read_full(fd, text);
-    if got != text.len() {
-        return false;
+// Reads a text of `n` bytes, and prints its answer; answers whether it was whole.
+fn whole_text(
+    alloc: Global,
+    file: &mut impl Read,
+    to: &mut impl Write,
+    n: usize,
+) -> io::Result<bool> {
+    let mut text = Vec::new(alloc);
+    let got = file.by_ref().take(n as u64).read_to_end(&mut text)?;
+    if got != n {
+        return Ok(false);
     }
-    print_verdict(reporting::report_on(&text[..got]));
-    true
+    print_verdict(to, reporting::report_on(&text))?;
+    Ok(true)
 }
 
-// Reads a text of `n` bytes into `space`; answers whether there was room for it, and it was whole.
-fn one_text(fd: i32, n: usize, space: &mut [u8]) -> bool {
-    if space.len() < n {
-        return false;
+// The same; answers whether there was room for the text, and it was whole.
+fn one_text(
+    alloc: Global,
+    file: &mut impl Read,
+    to: &mut impl Write,
+    n: usize,
+) -> io::Result<bool> {
+    if ROOM < n {
+        return Ok(false);
     }
-    whole_text(fd, &mut space[..n])
+    whole_text(alloc, file, to, n)
 }
 
 // Reads the length of a text and then the text, and answers whether to go on.
-fn next_text(fd: i32) -> bool {
-    let mut head = [0u8; 3];
-    let got = io::read_full(fd, &mut head);
+fn next_text(alloc: Global, file: &mut impl Read, to: &mut impl Write) -> io::Result<bool> {
+    let mut head = Vec::new(alloc);
+    let got = file.by_ref().take(3).read_to_end(&mut head)?;
     if got == 0 {
-        return false;
+        return Ok(false);
     }
-    let mut space = io::large_buffer();
-    if got == 3 {
-        if one_text(fd, length_of(&head), &mut space) {
-            return true;
+    if let Ok(head) = <&[u8; 3]>::try_from(head.as_slice()) {
+        if one_text(alloc, file, to, length_of(head))? {
+            return Ok(true);
         }
     }
-    io::write_all(STDOUT_FILENO, b"bad length\n");
-    false
+    writeln!(to, "bad length")?;
+    Ok(false)
 }
 
-fn all_texts(fd: i32) {
-    let mut left = MOST_TEXTS;
-    while left > 0 {
-        if next_text(fd) {
-            left -= 1;
-        } else {
-            return;
+fn all_texts(alloc: Global, file: &mut impl Read, to: &mut impl Write) -> io::Result<()> {
+    for _ in 0..MOST_TEXTS {
+        if !next_text(alloc, file, to)? {
+            break;
+        }
+    }
+    Ok(())
+}
+
+// The texts of the file at a path. One that does not open is named on standard error, and left out.
+fn one_file(rt: &HostRuntime, to: &mut impl Write, path: &str) -> io::Result<()> {
+    match File::open(rt, path) {
+        Ok(mut file) => all_texts(rt.alloc(), &mut file, to),
+        Err(e) => {
+            to.flush()?;
+            eprintln!(rt; "{path}: {e}")
         }
     }
 }
 
-fn one_file(i: usize) {
-    let mut path = io::buffer();
-    let n = os::arg(i, &mut path);
-    let fd = os::open_read(&path[..n]);
-    if fd < 0 {
-        os::fail(&path[..n]);
-        return;
+fn main(rt: HostRuntime) -> io::Result<()> {
+    let mut to = BufWriter::new(rt.alloc(), io::writer(&rt))?;
+    for path in env::args(&rt)?.skip(1) {
+        one_file(&rt, &mut to, path.as_str())?;
     }
-    all_texts(fd);
-    libc::close(fd);
-}
-
-fn main() {
-    let count = os::arg_count();
-    let mut i = 1;
-    while i < count {
-        one_file(i);
-        i += 1;
-    }
+    to.flush()
 }
