@@ -1,8 +1,10 @@
 // Reads standard input and prints the report on it: key=value lines.
 #![tactic(auto)]
 
-ghost use Rattle.std.specs.Prelude.{◌<◌, length};
+ghost use Rattle.std.specs.Prelude.{◌<◌, [], length, slice_index_or, OnOk};
+ghost use Rattle.std.specs.Io.KnownBytes.{Appends};
 ghost use Rattle.reporting.specs.Report.{keys};
+ghost use Rattle.report.specs.Printed.{line_of, printed};
 
 use gate::Verdict;
 use reporting::LINES;
@@ -12,8 +14,9 @@ use std::io::{BufWriter, Read, Write};
 // More bytes than are judged, so that an input that is too long is seen.
 const MOST_READ: u64 = 65536;
 
-fn print_line(to: &mut impl Write, i: usize, number: u64) -> io::Result<()>
+fn print_line<W: Write>(to: &mut W, i: usize, number: u64) -> io::Result<()>
     requires { i < length keys }
+    ensures { OnOk result (Appends (W.contents to.old) (W.contents to.new) (line_of (slice_index_or keys i []) number)) }
 {
     let label = reporting::key(i);
     let text = label.0;
@@ -22,7 +25,9 @@ fn print_line(to: &mut impl Write, i: usize, number: u64) -> io::Result<()>
     writeln!(to, "{number}")
 }
 
-fn print_report(to: &mut impl Write, v: Verdict) -> io::Result<()> {
+fn print_report<W: Write>(to: &mut W, v: Verdict) -> io::Result<()>
+    ensures { OnOk result (Appends (W.contents to.old) (W.contents to.new) (printed v)) }
+{
     let numbers = reporting::numbers(v);
     for i in 0..LINES {
         print_line(to, i, numbers[i])?;

@@ -3,7 +3,9 @@
 // A text is its length in three bytes, the low one first, and then its bytes.
 #![tactic(auto)]
 
-ghost use Rattle.std.specs.Prelude.{◌≤◌};
+ghost use Rattle.std.specs.Prelude.{◌≤◌, [], ◌∷◌, OnOk};
+ghost use Rattle.std.specs.Io.KnownBytes.{Appends};
+ghost use Rattle.verdicts.specs.Printed.{spaced, printed};
 
 use gate::Verdict;
 use reporting::LINES;
@@ -18,15 +20,21 @@ const MOST_TEXTS: u32 = 100000;
 // The bytes that there is room for in a text: more than are judged, so that a text that is too long is seen.
 const ROOM: usize = 65536;
 
-fn put_next(to: &mut impl Write, number: u64) -> io::Result<()> {
+fn put_next<W: Write>(to: &mut W, number: u64) -> io::Result<()>
+    ensures { OnOk result (Appends (W.contents to.old) (W.contents to.new) (spaced number)) }
+{
     write!(to, " {number}")
 }
 
-fn end_line(to: &mut impl Write) -> io::Result<()> {
+fn end_line<W: Write>(to: &mut W) -> io::Result<()>
+    ensures { OnOk result (Appends (W.contents to.old) (W.contents to.new) (10 ∷ [])) }
+{
     writeln!(to)
 }
 
-fn print_verdict(to: &mut impl Write, v: Verdict) -> io::Result<()> {
+fn print_verdict<W: Write>(to: &mut W, v: Verdict) -> io::Result<()>
+    ensures { OnOk result (Appends (W.contents to.old) (W.contents to.new) (printed v)) }
+{
     let numbers = reporting::numbers(v);
     let first = numbers[0];
     write!(to, "{first}")?;
