@@ -1,5 +1,4 @@
 use Rattle.cell.proofs.Returns.{angles_judged}
-use borrow.Author.Rules.{rules}
 use Rattle.cell.proofs.angles_are_good.Goals as goal
 
 pub returns : goal.returns

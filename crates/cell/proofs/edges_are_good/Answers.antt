@@ -1,5 +1,4 @@
 use Rattle.cell.proofs.Returns.{edges_judged}
-use borrow.Author.Rules.{rules}
 use Rattle.cell.proofs.edges_are_good.Goals as goal
 
 pub returns : goal.returns

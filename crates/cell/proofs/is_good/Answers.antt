@@ -1,5 +1,4 @@
 use Rattle.cell.proofs.Returns.{cell_judged}
-use borrow.Author.Rules.{rules}
 use Rattle.cell.proofs.is_good.Goals as goal
 
 pub returns : goal.returns

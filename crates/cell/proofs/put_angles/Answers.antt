@@ -1,5 +1,4 @@
 use Rattle.cell.proofs.Returns.{angles_written}
-use borrow.Author.Rules.{rules}
 use Rattle.cell.proofs.put_angles.Goals as goal
 
 pub returns : goal.returns

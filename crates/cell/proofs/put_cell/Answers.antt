@@ -1,5 +1,4 @@
 use Rattle.cell.proofs.Returns.{cell_written}
-use borrow.Author.Rules.{rules}
 use Rattle.cell.proofs.put_cell.Goals as goal
 
 pub returns : goal.returns

@@ -1,5 +1,4 @@
 use Rattle.cell.proofs.Returns.{edges_written}
-use borrow.Author.Rules.{rules}
 use Rattle.cell.proofs.put_edges.Goals as goal
 
 pub returns : goal.returns

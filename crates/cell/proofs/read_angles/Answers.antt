@@ -1,5 +1,4 @@
 use Rattle.cell.proofs.Returns.{angles_column, angles_value}
-use borrow.Author.Rules.{rules}
 use Rattle.cell.proofs.read_angles.Goals as goal
 
 pub returns : goal.returns

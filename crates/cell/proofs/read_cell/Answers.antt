@@ -1,5 +1,4 @@
 use Rattle.cell.proofs.Returns.{cell_column, cell_value}
-use borrow.Author.Rules.{rules}
 use Rattle.cell.proofs.read_cell.Goals as goal
 
 pub returns : goal.returns

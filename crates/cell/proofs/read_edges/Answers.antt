@@ -1,5 +1,4 @@
 use Rattle.cell.proofs.Returns.{edges_column, edges_value}
-use borrow.Author.Rules.{rules}
 use Rattle.cell.proofs.read_edges.Goals as goal
 
 pub returns : goal.returns

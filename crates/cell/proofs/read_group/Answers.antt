@@ -1,5 +1,4 @@
 use Rattle.cell.proofs.Returns.{group_column, group_value}
-use borrow.Author.Rules.{rules}
 use Rattle.cell.proofs.read_group.Goals as goal
 
 pub returns : goal.returns

@@ -1,5 +1,4 @@
 use Rattle.conect.proofs.Returns.{writes}
-use borrow.Author.Rules.{rules}
 use Rattle.conect.proofs.put_conect.Goals as goal
 
 pub returns : goal.returns

@@ -1,5 +1,4 @@
 use Rattle.conect.proofs.Returns.{partner_none, partner_some}
-use borrow.Author.Rules.{rules}
 use Rattle.conect.proofs.put_partner.Goals as goal
 
 pub returns-then-v-eq0 : goal.returns-then-v-eq0

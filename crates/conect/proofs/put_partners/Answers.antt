@@ -1,5 +1,4 @@
 use Rattle.conect.proofs.Returns.{partners_write}
-use borrow.Author.Rules.{rules}
 use Rattle.conect.proofs.put_partners.Goals as goal
 
 pub returns : goal.returns

@@ -1,5 +1,4 @@
 use Rattle.conect.proofs.Returns.{reads_column, reads_value}
-use borrow.Author.Rules.{rules}
 use Rattle.conect.proofs.read_conect.Goals as goal
 
 pub returns : goal.returns

@@ -1,5 +1,4 @@
 use Rattle.conect.proofs.Returns.{partner_blank, partner_filled}
-use borrow.Author.Rules.{rules}
 use Rattle.conect.proofs.read_partner.Goals as goal
 
 pub returns-then-g-eq0 : goal.returns-then-g-eq0

@@ -1,5 +1,4 @@
 use Rattle.conect.proofs.Returns.{serials_judge}
-use borrow.Author.Rules.{rules}
 use Rattle.conect.proofs.serials_are_good.Goals as goal
 
 pub returns : goal.returns

@@ -1,5 +1,4 @@
 use Rattle.helix.proofs.Returns.{comment_writes}
-use borrow.Author.Rules.{rules}
 use Rattle.helix.proofs.put_comment.Goals as goal
 
 pub returns : goal.returns

@@ -1,6 +1,5 @@
 use native.Mathlib.Omega.{arith}
 use Rattle.helix.proofs.Returns.{extent_writes}
-use borrow.Author.Rules.{rules}
 use Rattle.helix.proofs.put_extent.Goals as goal
 
 pub put_residue-requires-2 : goal.put_residue-requires-2

@@ -1,5 +1,4 @@
 use Rattle.helix.proofs.Returns.{helix_writes}
-use borrow.Author.Rules.{rules}
 use Rattle.helix.proofs.put_helix.Goals as goal
 
 pub returns : goal.returns

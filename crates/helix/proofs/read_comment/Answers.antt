@@ -1,5 +1,4 @@
 use Rattle.helix.proofs.Returns.{comment_column, comment_value}
-use borrow.Author.Rules.{rules}
 use Rattle.helix.proofs.read_comment.Goals as goal
 
 pub first-requires : goal.first-requires

@@ -1,5 +1,4 @@
 use Rattle.helix.proofs.Returns.{extent_column, extent_value}
-use borrow.Author.Rules.{rules}
 use Rattle.helix.proofs.read_extent.Goals as goal
 
 pub is_identifier-requires : goal.is_identifier-requires

@@ -1,5 +1,4 @@
 use Rattle.helix.proofs.Returns.{helix_column, helix_value}
-use borrow.Author.Rules.{rules}
 use Rattle.helix.proofs.read_helix.Goals as goal
 
 pub first-requires : goal.first-requires

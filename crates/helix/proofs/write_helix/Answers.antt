@@ -1,5 +1,4 @@
 use Rattle.fields.proofs.Writes.{write_bad, write_short, write_done}
-use borrow.Author.Rules.{rules}
 use Rattle.helix.proofs.write_helix.Goals as goal
 
 pub is_good-ok-requires : goal.is_good-ok-requires

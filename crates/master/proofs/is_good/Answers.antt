@@ -1,5 +1,4 @@
 use Rattle.master.proofs.Returns.{judges}
-use borrow.Author.Rules.{rules}
 use Rattle.master.proofs.is_good.Goals as goal
 
 pub returns : goal.returns

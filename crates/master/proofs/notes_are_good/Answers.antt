@@ -1,5 +1,4 @@
 use Rattle.master.proofs.Returns.{notes_judges}
-use borrow.Author.Rules.{rules}
 use Rattle.master.proofs.notes_are_good.Goals as goal
 
 pub returns : goal.returns

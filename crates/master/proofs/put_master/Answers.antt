@@ -1,5 +1,4 @@
 use Rattle.master.proofs.Returns.{writes}
-use borrow.Author.Rules.{rules}
 use Rattle.master.proofs.put_master.Goals as goal
 
 pub returns : goal.returns

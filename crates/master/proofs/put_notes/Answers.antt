@@ -1,5 +1,4 @@
 use Rattle.master.proofs.Returns.{notes_writes}
-use borrow.Author.Rules.{rules}
 use Rattle.master.proofs.put_notes.Goals as goal
 
 pub returns : goal.returns

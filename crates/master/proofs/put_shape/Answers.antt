@@ -1,5 +1,4 @@
 use Rattle.master.proofs.Returns.{shape_writes}
-use borrow.Author.Rules.{rules}
 use Rattle.master.proofs.put_shape.Goals as goal
 
 pub returns : goal.returns

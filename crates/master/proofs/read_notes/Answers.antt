@@ -1,5 +1,4 @@
 use Rattle.master.proofs.Returns.{notes_column, notes_value}
-use borrow.Author.Rules.{rules}
 use Rattle.master.proofs.read_notes.Goals as goal
 
 pub returns : goal.returns

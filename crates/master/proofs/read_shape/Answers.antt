@@ -1,5 +1,4 @@
 use Rattle.master.proofs.Returns.{shape_column, shape_value}
-use borrow.Author.Rules.{rules}
 use Rattle.master.proofs.read_shape.Goals as goal
 
 pub returns : goal.returns

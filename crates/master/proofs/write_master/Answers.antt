@@ -1,5 +1,4 @@
 use Rattle.fields.proofs.Writes.{write_bad, write_short, write_done}
-use borrow.Author.Rules.{rules}
 use Rattle.master.proofs.write_master.Goals as goal
 
 pub returns-then-line-lt80 : goal.returns-then-line-lt80

@@ -1,5 +1,4 @@
 use Rattle.model.proofs.Returns.{judges}
-use borrow.Author.Rules.{rules}
 use Rattle.model.proofs.is_good.Goals as goal
 
 pub returns : goal.returns

@@ -1,5 +1,4 @@
 use Rattle.model.proofs.Returns.{writes}
-use borrow.Author.Rules.{rules}
 use Rattle.model.proofs.put_model.Goals as goal
 
 pub returns : goal.returns

@@ -1,5 +1,4 @@
 use Rattle.sheet.proofs.Returns.{bond_writes}
-use borrow.Author.Rules.{rules}
 use Rattle.sheet.proofs.put_bond.Goals as goal
 
 pub returns : goal.returns

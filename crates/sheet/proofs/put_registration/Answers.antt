@@ -1,5 +1,4 @@
 use Rattle.sheet.proofs.Returns.{registration_first, registration_none, registration_put}
-use borrow.Author.Rules.{rules}
 use Rattle.sheet.proofs.put_registration.Goals as goal
 
 pub returns-then-strand-eq1 : goal.returns-then-strand-eq1

@@ -1,5 +1,4 @@
 use Rattle.sheet.proofs.Returns.{sheet_writes}
-use borrow.Author.Rules.{rules}
 use Rattle.sheet.proofs.put_sheet.Goals as goal
 
 pub returns : goal.returns

@@ -1,6 +1,5 @@
 use Rattle.sheet.proofs.Returns.{strand_writes}
 use native.Mathlib.Omega.{arith}
-use borrow.Author.Rules.{rules}
 use Rattle.sheet.proofs.put_strand.Goals as goal
 
 pub put_blanks-requires-4 : goal.put_blanks-requires-4

@@ -1,5 +1,4 @@
 use Rattle.sheet.proofs.Returns.{bond_column, bond_value}
-use borrow.Author.Rules.{rules}
 use Rattle.sheet.proofs.read_bond.Goals as goal
 
 pub is_bond_name-requires : goal.is_bond_name-requires

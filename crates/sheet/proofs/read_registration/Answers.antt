@@ -1,5 +1,4 @@
 use Rattle.sheet.proofs.Returns.{registration_one, registration_blank, registration_filled}
-use borrow.Author.Rules.{rules}
 use Rattle.sheet.proofs.read_registration.Goals as goal
 
 pub returns-then-strand-eq1 : goal.returns-then-strand-eq1

@@ -1,5 +1,4 @@
 use Rattle.sheet.proofs.Returns.{sheet_column, sheet_value}
-use borrow.Author.Rules.{rules}
 use Rattle.sheet.proofs.read_sheet.Goals as goal
 
 pub first-requires : goal.first-requires

@@ -1,6 +1,5 @@
 use native.Mathlib.Omega.{arith}
 use Rattle.sheet.proofs.Returns.{strand_column, strand_value}
-use borrow.Author.Rules.{rules}
 use Rattle.sheet.proofs.read_strand.Goals as goal
 
 pub is_identifier-requires : goal.is_identifier-requires
