@@ -1,5 +1,6 @@
 // The names that C calls. Each function is a thin cover over a proved one, and says the same.
 #![tactic(auto)]
+
 ghost use Rattle.std.specs.Prelude.{◌≡◌, false, not, eqb};
 ghost use Rattle.gate.specs.Gate.{check_of};
 ghost use Rattle.reporting.specs.Report.{numbers_of, plain_numbers_of};

@@ -1,0 +1,9 @@
+use mathlib.Core.Path.{ap}
+use borrow.Author.Rules.{rules}
+use Rattle.station.proofs.station_find.Goals as goal
+
+pub returns : goal.returns
+returns c = record {
+  value = ap (λ j. j.line) c.find-j.ensures;
+  looked_after = ap (λ j. j.looked) c.find-j.ensures;
+}
