@@ -1,5 +1,4 @@
 use Rattle.crystal.proofs.Returns.{cell_short, cell_odd, cell_other, cell_wrong, cell_filled}
-use borrow.Author.Rules.{rules}
 use Rattle.crystal.proofs.cell_of_line.Goals as goal
 
 pub returns-then-column-eq0 : goal.returns-then-column-eq0

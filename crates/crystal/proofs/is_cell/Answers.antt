@@ -1,5 +1,4 @@
 use Rattle.crystal.proofs.Returns.{cell_is}
-use borrow.Author.Rules.{rules}
 use Rattle.crystal.proofs.is_cell.Goals as goal
 
 pub returns : goal.returns

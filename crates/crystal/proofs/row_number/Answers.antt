@@ -1,5 +1,4 @@
 use Rattle.crystal.proofs.Returns.{row_1, row_2, row_3, row_4, row_5, row_6, row_none}
-use borrow.Author.Rules.{rules}
 use Rattle.crystal.proofs.row_number.Goals as goal
 
 pub returns-then-name-eq-ORIGX1 : goal.returns-then-name-eq-ORIGX1

@@ -1,5 +1,4 @@
 use Rattle.crystal.proofs.Returns.{transform_short, transform_odd, transform_other, transform_wrong, transform_filled}
-use borrow.Author.Rules.{rules}
 use Rattle.crystal.proofs.transform_of_line.Goals as goal
 
 pub returns-then-n-eq0 : goal.returns-then-n-eq0

@@ -1,4 +1,3 @@
-use borrow.Author.Rules.{rules}
 use Rattle.facets.proofs.record_kind.Goals as goal
 
 pub returns-then-het : goal.returns-then-het

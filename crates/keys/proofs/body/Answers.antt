@@ -4,7 +4,6 @@ use mathlib.Core.Path.{◌∙◌, ap}
 use Rattle.words.specs.Words.{word_at}
 use Rattle.rows.proofs.Cut.{part_columns}
 use Rattle.keys.specs.Keys.{body_at}
-use borrow.Author.Rules.{rules}
 use Rattle.keys.proofs.body.Goals as goal
 
 pub returns : goal.returns

@@ -1,4 +1,3 @@
-use borrow.Author.Rules.{rules}
 use Rattle.line.proofs.answered.Goals as goal
 
 pub returns-in-Typed : goal.returns-in-Typed

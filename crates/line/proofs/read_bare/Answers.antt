@@ -1,6 +1,5 @@
 use mathlib.Core.Path.{refl}
 use Rattle.line.proofs.Returns.{judged_good, judged_wrong, bare_column}
-use borrow.Author.Rules.{rules}
 use Rattle.line.proofs.read_bare.Goals as goal
 
 pub first-column-requires : goal.first-column-requires

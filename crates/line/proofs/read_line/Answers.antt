@@ -1,5 +1,4 @@
 use Rattle.line.proofs.Returns.{line_read, line_odd, line_short}
-use borrow.Author.Rules.{rules}
 use Rattle.line.proofs.read_line.Goals as goal
 
 pub kind_of-requires : goal.kind_of-requires

@@ -1,5 +1,4 @@
 use Rattle.line.proofs.Returns.{bare_short, bare_done}
-use borrow.Author.Rules.{rules}
 use Rattle.line.proofs.write_bare.Goals as goal
 
 pub returns-then-out-lt80 : goal.returns-then-out-lt80

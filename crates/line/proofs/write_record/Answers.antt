@@ -1,5 +1,4 @@
 use Rattle.line.proofs.Returns.{record_written, end_written, endmdl_written}
-use borrow.Author.Rules.{rules}
 use Rattle.line.proofs.write_record.Goals as goal
 
 pub write_atom-requires : goal.write_atom-requires

@@ -1,5 +1,4 @@
 use mathlib.Core.Path.{sym, ◌∙◌}
-use borrow.Author.Rules.{rules}
 use Rattle.pieces.proofs.line_in.Goals as goal
 
 pub returns-then-is_named : goal.returns-then-is_named

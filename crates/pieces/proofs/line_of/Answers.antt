@@ -1,5 +1,4 @@
 use Rattle.pieces.proofs.Returns.{piece_short, piece_open, piece_read, columns_long}
-use borrow.Author.Rules.{rules}
 use Rattle.pieces.proofs.line_of.Goals as goal
 
 pub returns-then-p-lt81 : goal.returns-then-p-lt81

@@ -1,5 +1,4 @@
 use Rattle.pieces.proofs.Returns.{columns_odd, columns_read}
-use borrow.Author.Rules.{rules}
 use Rattle.pieces.proofs.line_of_columns.Goals as goal
 
 pub returns-then-is_clean : goal.returns-then-is_clean

@@ -3,7 +3,6 @@ use native.Mathlib.Omega.{arith}
 use mathlib.Core.Path.{◌∙◌, ap}
 use Rattle.rows.specs.Text.{row}
 use Rattle.rows.proofs.Cut.{part_short, part_full}
-use borrow.Author.Rules.{rules}
 use Rattle.rows.proofs.line_at.Goals as goal
 
 pub returns-then-left-lt81 : goal.returns-then-left-lt81

@@ -1,5 +1,4 @@
 use Rattle.rules.proofs.Laws.{pick_either}
-use borrow.Author.Rules.{rules}
 use Rattle.rules.proofs.carried_bad.Goals as goal
 
 pub returns : goal.returns

@@ -1,5 +1,4 @@
 use Rattle.rules.specs.Rules.{carried_next}
-use borrow.Author.Rules.{rules}
 use Rattle.rules.proofs.carried_next.Goals as goal
 
 pub raise-c-requires : goal.raise-c-requires

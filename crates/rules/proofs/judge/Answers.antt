@@ -1,6 +1,5 @@
 use Rattle.rules.proofs.Laws.{pick_either}
 use Rattle.rules.specs.Rules.{judge_of}
-use borrow.Author.Rules.{rules}
 use Rattle.rules.proofs.judge.Goals as goal
 
 pub returns-in-Bad : goal.returns-in-Bad

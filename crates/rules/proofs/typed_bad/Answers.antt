@@ -1,6 +1,5 @@
 use Rattle.rules.proofs.Laws.{pick_either}
 use Rattle.rules.specs.Rules.{typed_bad}
-use borrow.Author.Rules.{rules}
 use Rattle.rules.proofs.typed_bad.Goals as goal
 
 pub returns : goal.returns

@@ -1,6 +1,5 @@
 use native.Mathlib.Omega.{arith}
 use Rattle.rules.specs.Rules.{typed_next}
-use borrow.Author.Rules.{rules}
 use Rattle.rules.proofs.typed_next.Goals as goal
 
 pub raise-c-requires : goal.raise-c-requires

@@ -1,5 +1,4 @@
 use Rattle.tally.proofs.Laws.{line_named, line_unknown}
-use borrow.Author.Rules.{rules}
 use Rattle.tally.proofs.tally_after.Goals as goal
 
 pub returns-then-is_named : goal.returns-then-is_named

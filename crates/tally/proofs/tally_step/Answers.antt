@@ -1,5 +1,4 @@
 use Rattle.tally.proofs.Laws.{step_raised, step_full}
-use borrow.Author.Rules.{rules}
 use Rattle.tally.proofs.tally_step.Goals as goal
 
 pub returns-then-count_in-lt-MOST : goal.returns-then-count_in-lt-MOST

@@ -1,5 +1,4 @@
 use Rattle.transform.proofs.Returns.{coefficients_judged}
-use borrow.Author.Rules.{rules}
 use Rattle.transform.proofs.coefficients_are_good.Goals as goal
 
 pub returns : goal.returns

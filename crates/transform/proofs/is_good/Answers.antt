@@ -1,5 +1,4 @@
 use Rattle.transform.proofs.Returns.{transform_judged}
-use borrow.Author.Rules.{rules}
 use Rattle.transform.proofs.is_good.Goals as goal
 
 pub returns : goal.returns

@@ -1,5 +1,4 @@
 use Rattle.transform.proofs.Returns.{coefficients_written}
-use borrow.Author.Rules.{rules}
 use Rattle.transform.proofs.put_coefficients.Goals as goal
 
 pub returns : goal.returns

@@ -1,5 +1,4 @@
 use Rattle.transform.proofs.Returns.{transform_written}
-use borrow.Author.Rules.{rules}
 use Rattle.transform.proofs.put_transform.Goals as goal
 
 pub returns : goal.returns

@@ -1,5 +1,4 @@
 use Rattle.transform.proofs.Returns.{coefficients_column, coefficients_value}
-use borrow.Author.Rules.{rules}
 use Rattle.transform.proofs.read_coefficients.Goals as goal
 
 pub returns : goal.returns

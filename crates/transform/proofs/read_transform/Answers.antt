@@ -1,5 +1,4 @@
 use Rattle.transform.proofs.Returns.{transform_column, transform_value}
-use borrow.Author.Rules.{rules}
 use Rattle.transform.proofs.read_transform.Goals as goal
 
 pub returns : goal.returns

@@ -1,5 +1,4 @@
 use Rattle.fields.proofs.Writes.{write_bad, write_short, write_done}
-use borrow.Author.Rules.{rules}
 use Rattle.transform.proofs.write_transform.Goals as goal
 
 pub returns-then-line-lt80 : goal.returns-then-line-lt80

@@ -1,5 +1,4 @@
 use borrow.Author.Tests.{eq-eqb, ne_eqb}
-use borrow.Author.Rules.{rules}
 use Rattle.places.proofs.counting.one_more.Goals as goal
 
 pub returns-then-which-n : goal.returns-then-which-n

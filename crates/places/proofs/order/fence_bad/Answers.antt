@@ -1,5 +1,4 @@
 use Rattle.places.specs.Places.{fence_bad}
-use borrow.Author.Rules.{rules}
 use Rattle.places.proofs.order.fence_bad.Goals as goal
 
 pub returns : goal.returns

@@ -1,4 +1,3 @@
-use borrow.Author.Rules.{rules}
 use Rattle.rules.proofs.steps.ladder_next.Goals as goal
 
 pub returns-in-Turn : goal.returns-in-Turn

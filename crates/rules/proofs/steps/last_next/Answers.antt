@@ -1,4 +1,3 @@
-use borrow.Author.Rules.{rules}
 use Rattle.rules.proofs.steps.last_next.Goals as goal
 
 pub returns-in-Opens : goal.returns-in-Opens

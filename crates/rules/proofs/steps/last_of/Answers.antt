@@ -1,4 +1,3 @@
-use borrow.Author.Rules.{rules}
 use Rattle.rules.proofs.steps.last_of.Goals as goal
 
 pub returns-in-Site : goal.returns-in-Site

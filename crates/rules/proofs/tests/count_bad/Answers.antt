@@ -1,4 +1,3 @@
-use borrow.Author.Rules.{rules}
 use Rattle.rules.proofs.tests.count_bad.Goals as goal
 
 pub returns-in-Counted : goal.returns-in-Counted

@@ -1,4 +1,3 @@
-use borrow.Author.Rules.{rules}
 use Rattle.rules.proofs.tests.fold_bad.Goals as goal
 
 pub returns-in-Turn : goal.returns-in-Turn

@@ -1,4 +1,3 @@
-use borrow.Author.Rules.{rules}
 use Rattle.rules.proofs.tests.helix_bad.Goals as goal
 
 pub returns : goal.returns

@@ -1,4 +1,3 @@
-use borrow.Author.Rules.{rules}
 use Rattle.rules.proofs.tests.model_bad.Goals as goal
 
 pub returns-in-Opens : goal.returns-in-Opens

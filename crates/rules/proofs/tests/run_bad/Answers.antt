@@ -1,4 +1,3 @@
-use borrow.Author.Rules.{rules}
 use Rattle.rules.proofs.tests.run_bad.Goals as goal
 
 pub returns-in-Site : goal.returns-in-Site

@@ -1,5 +1,4 @@
 use Rattle.rules.specs.Rules.{strand_bad}
-use borrow.Author.Rules.{rules}
 use Rattle.rules.proofs.tests.strand_bad.Goals as goal
 
 pub returns : goal.returns
