@@ -1,6 +1,4 @@
-use Prim.Native.Nat.{◌-◌, ◌≤◌}
 use native.Mathlib.Omega.{arith}
-use Rattle.ahead.specs.Stamps.{Without}
 use Rattle.ahead.proofs.Filter.{without_none, without_more, without_fewer}
 use Rattle.ahead.proofs.first.Goals as goal
 

@@ -1,4 +1,3 @@
-use borrow.Author.Rules.{rules}
 use Rattle.ahead.proofs.Filter.{put_in}
 use Rattle.ahead.proofs.mark.Goals as goal
 

@@ -1,9 +1,5 @@
-use Prim.Native.Nat.{◌-◌, ◌≤◌}
-use mathlib.Core.Path.{◌≡◌}
-use lib.ListN.{length}
 use native.Mathlib.Nat.{lt_of_lt_of_le}
 use native.Mathlib.Omega.{arith}
-use Rattle.ahead.specs.Stamps.{Marked}
 use Rattle.ahead.proofs.Filter.{marked_none, marked_more}
 use Rattle.ahead.proofs.mark_all.Goals as goal
 

@@ -1,4 +1,3 @@
-use borrow.Author.Rules.{rules}
 use native.Mathlib.Omega.{arith}
 use Rattle.ahead.specs.Stamps.{quad_at}
 use Rattle.ahead.proofs.quad_at.Goals as goal

@@ -1,4 +1,3 @@
-use borrow.Author.Rules.{rules}
 use native.Mathlib.Omega.{arith}
 use Rattle.ahead.proofs.Filter.{unmarked, untold}
 use Rattle.ahead.proofs.sieve.Goals as goal

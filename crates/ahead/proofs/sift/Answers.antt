@@ -1,7 +1,5 @@
-use Prim.Native.Nat.{◌-◌, ◌≤◌}
 use native.Mathlib.Nat.{lt_of_lt_of_le}
 use native.Mathlib.Omega.{arith}
-use Rattle.ahead.specs.Stamps.{Parted}
 use Rattle.ahead.proofs.Filter.{marked_fewer, parted_none, parted_more}
 use Rattle.ahead.proofs.sift.Goals as goal
 

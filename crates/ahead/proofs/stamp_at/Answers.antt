@@ -1,4 +1,3 @@
-use borrow.Author.Rules.{rules}
 use Rattle.ahead.specs.Stamps.{stamp_at}
 use Rattle.ahead.proofs.stamp_at.Goals as goal
 

@@ -1,4 +1,3 @@
-use borrow.Author.Rules.{rules}
 use mathlib.Core.Path.{refl}
 use Rattle.ahead.proofs.Filter.{stamp_same}
 use Rattle.ahead.proofs.survey.Goals as goal

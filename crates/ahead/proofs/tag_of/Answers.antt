@@ -1,4 +1,3 @@
-use borrow.Author.Rules.{rules}
 use mathlib.Core.Path.{refl}
 use Rattle.ahead.specs.Stamps.{tag_of}
 use Rattle.ahead.proofs.tag_of.Goals as goal

@@ -1,5 +1,4 @@
 use Rattle.fragments.specs.Fragments.{joins}
-use borrow.Author.Rules.{rules}
 use Rattle.fragments.proofs.joins.Goals as goal
 
 pub returns : goal.returns

@@ -1,4 +1,3 @@
-use borrow.Author.Rules.{rules}
 use Rattle.fragments.proofs.one_more_unless.Goals as goal
 
 pub returns : goal.returns

@@ -1,5 +1,4 @@
 use Rattle.fragments.specs.Fragments.{step_tail}
-use borrow.Author.Rules.{rules}
 use Rattle.fragments.proofs.step_tail.Goals as goal
 
 pub returns : goal.returns

@@ -1,10 +1,7 @@
 use borrow.Author.Rules.{rules}
 use mathlib.Core.Path.{◌∙◌}
 use native.Mathlib.Omega.{arith}
-use Prim.Native.Nat.{◌-◌, ◌*◌}
-use lib.ListN.{length}
-use Rattle.gate.proofs.Sofar.{Sofar, sofar_start, sofar_rising, sofar_reached, sofar_done, turn_refused, turn_next, turn_watched, watched_on}
-use Rattle.trail.specs.Trail.{Watched}
+use Rattle.gate.proofs.Sofar.{sofar_start, sofar_rising, sofar_reached, sofar_done, turn_refused, turn_next, turn_watched, watched_on}
 use Rattle.gate.proofs.check.Goals as goal
 
 pub loop-i-init : goal.loop-i-init

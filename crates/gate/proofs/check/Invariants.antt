@@ -1,9 +1,6 @@
-use borrow.Author.Rules.{rules}
-use mathlib.Core.Path.{◌∙◌}
-use native.Mathlib.Omega.{arith}
 use Prim.Native.Nat.{◌-◌, ◌*◌}
 use lib.ListN.{length}
-use Rattle.gate.proofs.Sofar.{Sofar, sofar_start, sofar_rising, sofar_reached, sofar_done, turn_refused, turn_next, turn_watched, watched_on}
+use Rattle.gate.proofs.Sofar.{Sofar}
 use Rattle.trail.specs.Trail.{Watched}
 use Rattle.gate.proofs.check.Given as goal
 

@@ -1,4 +1,3 @@
-use borrow.Author.Rules.{rules}
 use Rattle.gate.proofs.column_of.Goals as goal
 
 pub returns-in-Wrong : goal.returns-in-Wrong

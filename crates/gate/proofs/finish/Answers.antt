@@ -1,6 +1,5 @@
 use borrow.Author.Tests.{eq-eqb, ne_eqb}
 use Rattle.gate.specs.Gate.{finish_of}
-use borrow.Author.Rules.{rules}
 use Rattle.gate.proofs.finish.Goals as goal
 
 pub returns-then-s-eq-END_PLACE : goal.returns-then-s-eq-END_PLACE

@@ -1,5 +1,4 @@
 use Rattle.serials.proofs.Finding.{conect_known}
-use borrow.Author.Rules.{rules}
 use Rattle.serials.proofs.conect_known.Goals as goal
 
 pub spoken-k0-requires : goal.spoken-k0-requires

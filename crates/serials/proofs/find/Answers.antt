@@ -1,7 +1,6 @@
 use mathlib.Core.Path.{sym, ◌∙◌}
 use Rattle.rows.specs.Text.{row}
 use Rattle.serials.proofs.Finding.{finds_not, finds_none}
-use borrow.Author.Rules.{rules}
 use Rattle.serials.proofs.find.Goals as goal
 
 pub returns-then-site_at : goal.returns-then-site_at

@@ -1,5 +1,4 @@
 use borrow.Author.Tests.{lt-ltb, le-ltb}
-use borrow.Author.Rules.{rules}
 use Rattle.serials.proofs.grow.Goals as goal
 
 pub returns-then-is_fence : goal.returns-then-is_fence

@@ -1,4 +1,3 @@
-use borrow.Author.Rules.{rules}
 use Rattle.serials.proofs.is_site.Goals as goal
 
 pub returns-in-Site : goal.returns-in-Site

@@ -1,4 +1,3 @@
-use borrow.Author.Rules.{rules}
 use Rattle.serials.proofs.known.Goals as goal
 
 pub returns-in-Bonds : goal.returns-in-Bonds

@@ -1,5 +1,4 @@
 use Rattle.serials.proofs.Finding.{partner_absent, partner_there}
-use borrow.Author.Rules.{rules}
 use Rattle.serials.proofs.partner_spoken.Goals as goal
 
 pub returns-then-x-eq0 : goal.returns-then-x-eq0

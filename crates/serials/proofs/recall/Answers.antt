@@ -1,4 +1,3 @@
-use borrow.Author.Rules.{rules}
 use Rattle.serials.proofs.recall.Goals as goal
 
 pub returns-then-is_fence : goal.returns-then-is_fence

@@ -1,9 +1,5 @@
-use Prim.Native.Nat.{◌-◌}
 use native.Mathlib.Omega.{arith}
-use Rattle.rows.specs.Text.{row}
-use Rattle.search.specs.Search.{Bracket}
 use Rattle.search.proofs.Halving.{bracket_start, bracket_met, part_less}
-use Rattle.serials.specs.Search.{serial_of}
 use Rattle.serials.proofs.Finding.{look_held}
 use Rattle.serials.proofs.seek.Goals as goal
 

@@ -4,7 +4,6 @@ use Prim.Native.Nat.{ℕ}
 use mathlib.Core.List.{List}
 use mathlib.Core.Path.{◌∙◌, ap}
 use Rattle.rows.proofs.Cut.{part_columns}
-use borrow.Author.Rules.{rules}
 use Rattle.serials.proofs.serial_at.Goals as goal
 
 pub returns : goal.returns

@@ -1,6 +1,5 @@
 use Rattle.ascii.specs.Tests.{both}
 use mathlib.Core.Path.{sym, ◌∙◌}
-use borrow.Author.Rules.{rules}
 use Rattle.serials.proofs.shut.Goals as goal
 
 pub returns-then-has_line-2 : goal.returns-then-has_line-2

@@ -2,7 +2,6 @@ use mathlib.Core.Path.{◌∙◌, ap}
 use Rattle.kinds.specs.Kinds.{kind_of}
 use Rattle.rows.proofs.Cut.{part_columns}
 use Rattle.serials.proofs.Rows.{site_told}
-use borrow.Author.Rules.{rules}
 use Rattle.serials.proofs.site_at.Goals as goal
 
 pub returns : goal.returns

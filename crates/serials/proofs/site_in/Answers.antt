@@ -1,7 +1,6 @@
 use Rattle.serials.proofs.Finding.{other_site}
 use Rattle.serials.specs.Known.{is_site}
 use mathlib.Core.Path.{ap, ◌∙◌}
-use borrow.Author.Rules.{rules}
 use Rattle.serials.proofs.site_in.Goals as goal
 
 pub returns-then-serial-x : goal.returns-then-serial-x

@@ -1,6 +1,5 @@
 use Rattle.rows.specs.Text.{row}
 use Rattle.serials.proofs.Finding.{found_named, rest_named}
-use borrow.Author.Rules.{rules}
 use Rattle.serials.proofs.spoken.Goals as goal
 
 pub returns-in-At : goal.returns-in-At

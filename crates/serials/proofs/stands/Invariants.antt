@@ -1,9 +1,7 @@
 use Rattle.serials.specs.Known.{is_site}
 use Rattle.rows.specs.Text.{row}
-use borrow.Author.Count.{below_more}
-use native.Mathlib.Omega.{arith}
 use mathlib.Core.Bool.{false}
-use mathlib.Core.Path.{◌≡◌, sym, ◌∙◌}
+use mathlib.Core.Path.{◌≡◌}
 use Prim.Native.Nat.{ℕ, ◌-◌, ◌≤◌, ◌<◌}
 use Rattle.serials.proofs.stands.Given as goal
 

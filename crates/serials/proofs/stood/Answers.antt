@@ -1,6 +1,5 @@
 use Rattle.rows.specs.Text.{row}
 use Rattle.serials.proofs.Finding.{stood_first, stood_rest}
-use borrow.Author.Rules.{rules}
 use Rattle.serials.proofs.stood.Goals as goal
 
 pub returns-in-At : goal.returns-in-At

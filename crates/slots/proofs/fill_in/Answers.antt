@@ -1,5 +1,4 @@
 use Rattle.slots.proofs.Returns.{typed_small}
-use borrow.Author.Rules.{rules}
 use Rattle.slots.proofs.fill_in.Goals as goal
 
 pub filling_of-requires : goal.filling_of-requires

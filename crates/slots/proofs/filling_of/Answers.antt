@@ -1,5 +1,4 @@
 use Rattle.slots.proofs.Returns.{site_small}
-use borrow.Author.Rules.{rules}
 use Rattle.slots.proofs.filling_of.Goals as goal
 
 pub slot_of_atom-requires : goal.slot_of_atom-requires

@@ -1,4 +1,3 @@
-use borrow.Author.Rules.{rules}
 use Rattle.slots.proofs.has_slot.Goals as goal
 
 pub returns : goal.returns

@@ -1,6 +1,5 @@
 use Rattle.slots.specs.Slots.{with_model, spot_slot}
 use mathlib.Core.Path.{◌∙◌, ap}
-use borrow.Author.Rules.{rules}
 use Rattle.slots.proofs.line_slot.Goals as goal
 
 pub spot_slot-requires : goal.spot_slot-requires

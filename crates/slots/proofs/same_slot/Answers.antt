@@ -1,5 +1,4 @@
 use Rattle.slots.specs.Slots.{same_slot}
-use borrow.Author.Rules.{rules}
 use Rattle.slots.proofs.same_slot.Goals as goal
 
 pub returns : goal.returns

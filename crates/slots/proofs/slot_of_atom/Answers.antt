@@ -1,5 +1,4 @@
 use Rattle.slots.proofs.Returns.{atom_slot}
-use borrow.Author.Rules.{rules}
 use Rattle.slots.proofs.slot_of_atom.Goals as goal
 
 pub returns : goal.returns

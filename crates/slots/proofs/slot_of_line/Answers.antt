@@ -1,5 +1,4 @@
 use Rattle.slots.proofs.Returns.{reading_small, slot_read, slot_none, slot_odd, slot_short}
-use borrow.Author.Rules.{rules}
 use Rattle.slots.proofs.slot_of_line.Goals as goal
 
 pub fill_in-requires : goal.fill_in-requires

@@ -1,5 +1,4 @@
 use mathlib.Core.Path.{sym}
-use borrow.Author.Rules.{rules}
 use Rattle.trail.proofs.attend.Goals as goal
 
 pub returns-then-x-w : goal.returns-then-x-w

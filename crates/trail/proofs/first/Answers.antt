@@ -1,6 +1,5 @@
 use native.Mathlib.Omega.{arith}
 use Rattle.trail.proofs.Watching.{seen_first, run_first}
-use borrow.Author.Rules.{rules}
 use Rattle.trail.proofs.first.Goals as goal
 
 pub returns : goal.returns

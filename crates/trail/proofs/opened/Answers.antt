@@ -1,6 +1,5 @@
 use mathlib.Core.Path.{refl, ◌∙◌, sym}
 use native.Mathlib.Nat.{le_trans}
-use borrow.Author.Rules.{rules}
 use Rattle.trail.proofs.opened.Goals as goal
 
 pub returns-then-b-from-le-FEW : goal.returns-then-b-from-le-FEW

@@ -1,5 +1,4 @@
 use Rattle.trail.proofs.Watching.{seen_next, run_next_lem, run_longer}
-use borrow.Author.Rules.{rules}
 use Rattle.trail.proofs.taken.Goals as goal
 
 pub returns-then-w : goal.returns-then-w

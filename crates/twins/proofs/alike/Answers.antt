@@ -1,6 +1,5 @@
 use mathlib.Core.Path.{◌∙◌, sym}
 use borrow.Author.Tests.{eqb-false}
-use borrow.Author.Rules.{rules}
 use Rattle.twins.proofs.alike.Goals as goal
 
 pub body-requires : goal.body-requires

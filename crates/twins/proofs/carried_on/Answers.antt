@@ -3,7 +3,6 @@ use Rattle.search.specs.Search.{span}
 use Rattle.ascii.specs.Tests.{pick}
 use mathlib.Core.Bool.{Bool}
 use mathlib.Core.Path.{sym, ◌∙◌, subst}
-use borrow.Author.Rules.{rules}
 use Rattle.twins.proofs.carried_on.Goals as goal
 
 pub returns-then-is_fence : goal.returns-then-is_fence

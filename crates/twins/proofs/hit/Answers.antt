@@ -1,7 +1,6 @@
 use mathlib.Core.Path.{◌∙◌, ap}
 use Rattle.twins.specs.Twins.{is_twin}
 use Rattle.twins.proofs.Standing.{ruled_out}
-use borrow.Author.Rules.{rules}
 use Rattle.twins.proofs.hit.Goals as goal
 
 pub alike-requires : goal.alike-requires

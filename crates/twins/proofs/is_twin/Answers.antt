@@ -1,4 +1,3 @@
-use borrow.Author.Rules.{rules}
 use Rattle.twins.proofs.is_twin.Goals as goal
 
 pub returns-in-Site : goal.returns-in-Site

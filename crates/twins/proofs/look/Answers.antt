@@ -2,7 +2,6 @@ use mathlib.Core.Path.{◌∙◌, sym, ap}
 use native.Mathlib.Omega.{arith}
 use Rattle.facets.specs.Facets.{is_spot}
 use Rattle.twins.proofs.Standing.{coord_long, watched_coord, watched_other, twin_self, stands_told, apart_join}
-use borrow.Author.Rules.{rules}
 use Rattle.twins.proofs.look.Goals as goal
 
 pub follow-s-requires : goal.follow-s-requires

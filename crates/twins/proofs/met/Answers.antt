@@ -1,6 +1,5 @@
 use mathlib.Core.Path.{◌∙◌, ap}
 use native.Mathlib.Omega.{arith}
-use borrow.Author.Rules.{rules}
 use Rattle.rows.specs.Text.{row}
 use Rattle.twins.proofs.Standing.{twin_self, is_spot_site, stands_site, no_site}
 use Rattle.twins.proofs.met.Goals as goal

@@ -1,5 +1,4 @@
 use Rattle.twins.specs.Twins.{same_atom}
-use borrow.Author.Rules.{rules}
 use Rattle.twins.proofs.same_atom.Goals as goal
 
 pub returns : goal.returns

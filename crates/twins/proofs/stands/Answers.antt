@@ -1,10 +1,7 @@
-use Prim.Native.Nat.{◌≤◌, ◌-◌}
-use mathlib.Core.Bool.{false}
 use mathlib.Core.Path.{◌∙◌, sym}
 use native.Mathlib.Omega.{arith}
 use native.Mathlib.Nat.{le_refl}
 use Rattle.rows.specs.Text.{row}
-use Rattle.twins.specs.Standing.{Stands}
 use Rattle.twins.proofs.Columns.{twin_columns}
 use Rattle.twins.proofs.Standing.{stands_more}
 use Rattle.twins.proofs.stands.Goals as goal

@@ -1,9 +1,5 @@
 use Prim.Native.Nat.{◌≤◌, ◌-◌}
-use mathlib.Core.Path.{◌∙◌, sym}
-use native.Mathlib.Omega.{arith}
-use native.Mathlib.Nat.{le_refl}
 use Rattle.trail.specs.Trail.{Apart}
-use Rattle.twins.proofs.Standing.{apart_more}
 use Rattle.twins.proofs.suspect.Given as goal
 
 abbrev pub invariant-loop-k : goal.invariant-loop-k

@@ -1,5 +1,4 @@
 use borrow.Author.Tests.{lt-ltb, le-ltb}
-use borrow.Author.Rules.{rules}
 use Rattle.trail.proofs.looking.half.Goals as goal
 
 pub returns-then-w-x : goal.returns-then-w-x

@@ -1,9 +1,6 @@
 use Prim.Native.Nat.{◌≤◌}
-use native.Mathlib.Omega.{arith}
-use native.Mathlib.Nat.{le_refl}
 use Rattle.keys.specs.Keys.{home_at}
 use Rattle.trail.specs.Trail.{Seen}
-use Rattle.trail.proofs.Sights.{seen_none, seen_more, seen_met}
 use Rattle.trail.proofs.looking.passed.Given as goal
 
 abbrev pub invariant-loop-j : goal.invariant-loop-j

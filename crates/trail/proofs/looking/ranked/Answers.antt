@@ -1,6 +1,5 @@
 use native.Mathlib.Omega.{arith}
 use Rattle.trail.proofs.Halves.{ranked_seen}
-use borrow.Author.Rules.{rules}
 use Rattle.trail.proofs.looking.ranked.Goals as goal
 
 pub seek-q-requires : goal.seek-q-requires

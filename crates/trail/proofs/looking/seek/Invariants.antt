@@ -1,9 +1,6 @@
 use Prim.Native.Nat.{◌-◌}
-use native.Mathlib.Omega.{arith}
 use Rattle.keys.specs.Keys.{home_at}
 use Rattle.search.specs.Search.{Bracket}
-use Rattle.search.proofs.Halving.{bracket_start, bracket_met}
-use Rattle.trail.proofs.Halves.{half_held, half_less}
 use Rattle.trail.proofs.looking.seek.Given as goal
 
 abbrev pub invariant-loop-s : goal.invariant-loop-s
