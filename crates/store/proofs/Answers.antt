@@ -20,7 +20,7 @@ use Rattle.slots.specs.declared.Slot.{Slot}
 use Rattle.slots.specs.Slots.{no_model}
 use Rattle.fragments.specs.declared.Tail.{Tail}
 use Rattle.fragments.specs.Fragments.{tail_of, mark_of, marked, marked_by, numbered}
-use Rattle.table.specs.Table.{told, over, lines_from, loaded_of, load_of, fits_from, one_of, belongs, table_of, fragments, mark_byte, order_of, fragments_of, mark_at, arrange_of}
+use Rattle.table.specs.Table.{told, over, lines_from, loaded_of, load_of, fits_from, one_of, belongs, table_of, mark_byte, order_of, fragments_of, mark_at, arrange_of}
 use Rattle.table.specs.Deal.{stays, past_next, counted, written, output_of, put_of}
 use Rattle.table.proofs.Joined.{cut_size}
 use Rattle.table.proofs.Marks.{marked_size}

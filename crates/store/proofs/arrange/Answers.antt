@@ -1,6 +1,5 @@
 use mathlib.Core.Path.{refl}
 use Rattle.store.proofs.Answers.{take_size, arrange_bad, arrange_other, arrange_done, arrange_count}
-use borrow.Author.Rules.{rules}
 use Rattle.store.proofs.arrange.Goals as goal
 
 pub returns-then-h-ne0 : goal.returns-then-h-ne0

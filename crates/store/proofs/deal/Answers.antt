@@ -4,7 +4,6 @@ use native.Mathlib.Omega.{arith}
 use mathlib.Core.Path.{◌≡◌, sym, ◌∙◌}
 use Rattle.table.proofs.Ready.{ready}
 use Rattle.store.proofs.Answers.{put_bad, put_short, put_good, kept_few, size_dealt}
-use borrow.Author.Rules.{rules}
 use Rattle.store.proofs.deal.Goals as goal
 
 pub returns-then-h-ne0 : goal.returns-then-h-ne0

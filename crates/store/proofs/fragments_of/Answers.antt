@@ -1,6 +1,5 @@
 use native.Mathlib.Omega.{arith}
 use Rattle.store.proofs.Answers.{take_size, numbers_bad, numbers_short, numbers_done, numbers_fit}
-use borrow.Author.Rules.{rules}
 use Rattle.store.proofs.fragments_of.Goals as goal
 
 pub returns-then-h-ne0 : goal.returns-then-h-ne0

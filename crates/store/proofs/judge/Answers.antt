@@ -2,7 +2,6 @@ use native.Mathlib.Omega.{arith}
 use borrow.Author.Tests.{not-true, not-false}
 use mathlib.Core.Path.{sym, ◌∙◌}
 use Rattle.store.proofs.Answers.{take_size, table_bad, table_short, table_other, table_torn, table_good, held_good}
-use borrow.Author.Rules.{rules}
 use Rattle.store.proofs.judge.Goals as goal
 
 pub returns-then-v-ne0 : goal.returns-then-v-ne0

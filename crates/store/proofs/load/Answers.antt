@@ -1,10 +1,7 @@
-use Prim.Native.Nat.{◌≤◌, ◌+◌, ◌*◌, ◌-◌}
-use lib.ListN.{length}
 use native.Mathlib.Omega.{arith}
 use Rattle.store.proofs.Lines.{row_small}
-use Rattle.store.proofs.Filling.{Filled, filled_start, filled_next, filled_done, filled_more}
+use Rattle.store.proofs.Filling.{filled_start, filled_next, filled_done, filled_more}
 use Rattle.store.proofs.Answers.{load_bad, load_short, load_good}
-use borrow.Author.Rules.{rules}
 use Rattle.store.proofs.load.Goals as goal
 
 pub returns-then-v-ne0 : goal.returns-then-v-ne0

@@ -1,7 +1,6 @@
 use native.Mathlib.Omega.{arith}
 use mathlib.Core.Path.{refl}
 use Rattle.store.proofs.Answers.{take_size, order_bad, order_zero, order_past, order_there, order_done}
-use borrow.Author.Rules.{rules}
 use Rattle.store.proofs.order.Goals as goal
 
 pub returns-then-h-ne0 : goal.returns-then-h-ne0

@@ -1,4 +1,3 @@
-use borrow.Author.Rules.{rules}
 use Rattle.store.proofs.tray.Goals as goal
 
 pub returns : goal.returns

@@ -1,4 +1,3 @@
-use borrow.Author.Rules.{rules}
 use Rattle.store.proofs.dealing.size_of.Goals as goal
 
 pub returns-then-saving : goal.returns-then-saving

@@ -1,8 +1,5 @@
-use Prim.Native.Nat.{◌*◌, ◌+◌, ◌-◌}
-use lib.ListN.{length}
 use native.Mathlib.Omega.{arith}
-use Rattle.store.proofs.Written.{Written, written_start, written_next, written_done, whole_line, rises_here, room_here, small_here, room_left}
-use borrow.Author.Rules.{rules}
+use Rattle.store.proofs.Written.{written_start, written_next, written_done, whole_line, rises_here, room_here, small_here, room_left}
 use Rattle.store.proofs.dealing.write_all.Goals as goal
 
 pub loop-i-init : goal.loop-i-init

@@ -3,8 +3,7 @@ use lib.ListN.{length}
 use native.Mathlib.Omega.{arith}
 use mathlib.Core.Path.{refl}
 use Rattle.fragments.specs.Fragments.{tail_of, marked}
-use Rattle.store.proofs.Tails.{Marking, marking_start, marking_done, one_next, read}
-use borrow.Author.Rules.{rules}
+use Rattle.store.proofs.Tails.{marking_start, marking_done, one_next, read}
 use Rattle.store.proofs.marking.mark_all.Goals as goal
 
 pub loop-k-init : goal.loop-k-init

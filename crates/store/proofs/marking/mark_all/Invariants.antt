@@ -1,8 +1,5 @@
-use native.Mathlib.Omega.{arith}
-use mathlib.Core.Path.{refl}
-use Rattle.fragments.specs.Fragments.{tail_of, marked}
-use Rattle.store.proofs.Tails.{Marking, marking_start, marking_done, one_next}
-use borrow.Author.Rules.{rules}
+use Rattle.fragments.specs.Fragments.{marked}
+use Rattle.store.proofs.Tails.{Marking}
 use Rattle.store.proofs.marking.mark_all.Given as goal
 
 abbrev pub invariant-loop-k : goal.invariant-loop-k

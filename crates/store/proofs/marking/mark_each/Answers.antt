@@ -3,9 +3,7 @@ use lib.ListN.{length}
 use native.Mathlib.Omega.{arith}
 use mathlib.Core.Path.{refl}
 use Rattle.fragments.specs.Fragments.{tail_of, marked_by}
-use Rattle.table.specs.Table.{mark_at}
-use Rattle.store.proofs.Tails.{Marking, marking_start, marking_done, marking_within, each_next, read}
-use borrow.Author.Rules.{rules}
+use Rattle.store.proofs.Tails.{marking_start, marking_done, marking_within, each_next, read}
 use Rattle.store.proofs.marking.mark_each.Goals as goal
 
 pub loop-k-init : goal.loop-k-init

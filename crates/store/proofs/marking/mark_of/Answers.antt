@@ -1,10 +1,9 @@
 use mathlib.Core.Path.{◌≡◌, refl, ◌∙◌}
 use native.Mathlib.Omega.{arith}
-use Prim.Native.Nat.{◌≤◌, ◌+◌, ◌-◌, ◌<◌}
-use lib.ListN.{length, drop, drop_of_length-le}
+use Prim.Native.Nat.{◌-◌, ◌<◌}
+use lib.ListN.{length, drop_of_length-le}
 use Rattle.fragments.specs.Fragments.{tail_of, mark_of}
 use Rattle.store.proofs.Tails.{tail_step, mark_step, tail_count, read}
-use borrow.Author.Rules.{rules}
 use Rattle.store.proofs.marking.mark_of.Goals as goal
 
 pub loop-k-init : goal.loop-k-init

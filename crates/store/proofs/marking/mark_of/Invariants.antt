@@ -1,10 +1,7 @@
-use mathlib.Core.Path.{◌≡◌, refl, ◌∙◌}
-use native.Mathlib.Omega.{arith}
+use mathlib.Core.Path.{◌≡◌}
 use Prim.Native.Nat.{◌≤◌, ◌+◌}
-use lib.ListN.{length, drop, drop_of_length-le}
+use lib.ListN.{length, drop}
 use Rattle.fragments.specs.Fragments.{tail_of, mark_of}
-use Rattle.store.proofs.Tails.{tail_step, mark_step, tail_count}
-use borrow.Author.Rules.{rules}
 use Rattle.store.proofs.marking.mark_of.Given as goal
 
 abbrev pub invariant-loop-k : goal.invariant-loop-k

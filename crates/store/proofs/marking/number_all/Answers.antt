@@ -2,8 +2,7 @@ use Prim.Native.Nat.{◌-◌, ◌<◌}
 use lib.ListN.{length}
 use native.Mathlib.Omega.{arith}
 use Rattle.fragments.specs.Fragments.{tail_of}
-use Rattle.store.proofs.Tails.{Numbering, numbering_start, numbering_next, numbering_within, numbering_done, read}
-use borrow.Author.Rules.{rules}
+use Rattle.store.proofs.Tails.{numbering_start, numbering_next, numbering_within, numbering_done, read}
 use Rattle.store.proofs.marking.number_all.Goals as goal
 
 pub loop-k-init : goal.loop-k-init

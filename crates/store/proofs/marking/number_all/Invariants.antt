@@ -1,7 +1,4 @@
-use native.Mathlib.Omega.{arith}
-use Rattle.fragments.specs.Fragments.{tail_of}
-use Rattle.store.proofs.Tails.{Numbering, numbering_start, numbering_next, numbering_within, numbering_done}
-use borrow.Author.Rules.{rules}
+use Rattle.store.proofs.Tails.{Numbering}
 use Rattle.store.proofs.marking.number_all.Given as goal
 
 abbrev pub invariant-loop-k : goal.invariant-loop-k

@@ -1,5 +1,4 @@
 use Rattle.store.proofs.Standing.{bond_found}
-use borrow.Author.Rules.{rules}
 use Rattle.store.proofs.seeking.bond_in.Goals as goal
 
 pub returns : goal.returns

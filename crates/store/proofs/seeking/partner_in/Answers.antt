@@ -1,5 +1,4 @@
 use Rattle.store.proofs.Standing.{partner_none, partner_found}
-use borrow.Author.Rules.{rules}
 use Rattle.store.proofs.seeking.partner_in.Goals as goal
 
 pub returns-then-x-eq0 : goal.returns-then-x-eq0

@@ -1,6 +1,5 @@
 use mathlib.Core.Path.{sym, ◌∙◌}
 use native.Mathlib.Omega.{arith}
-use borrow.Author.Rules.{rules}
 use Rattle.store.proofs.Standing.{small_parts, rank_small, rank_none}
 use Rattle.store.proofs.seeking.rank_of.Goals as goal
 

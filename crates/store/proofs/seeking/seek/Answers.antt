@@ -1,11 +1,7 @@
 use native.Mathlib.Omega.{arith}
 use native.Mathlib.Nat.{le_trans}
-use Prim.Native.Nat.{◌≤◌, ◌-◌}
-use Rattle.search.specs.Search.{Bracket}
 use Rattle.search.proofs.Halving.{bracket_start, bracket_met, part_less, part_within}
-use Rattle.store.specs.Judged.{rank_at, Rises}
 use Rattle.store.proofs.Standing.{slot_held}
-use borrow.Author.Rules.{rules}
 use Rattle.store.proofs.seeking.seek.Goals as goal
 
 pub loop-s-init : goal.loop-s-init

@@ -1,9 +1,6 @@
-use Prim.Native.Nat.{◌-◌, ◌≤◌}
 use mathlib.Core.Path.{sym, ◌∙◌}
 use native.Mathlib.Omega.{arith}
-use Rattle.store.specs.Judged.{Rises}
-use Rattle.store.proofs.Standing.{NoneBefore, none_start, none_next, none_done, none_large, none_yet, stands_yes, stands_no}
-use borrow.Author.Rules.{rules}
+use Rattle.store.proofs.Standing.{none_start, none_next, none_done, none_large, none_yet, stands_yes, stands_no}
 use Rattle.store.proofs.seeking.stands_in.Goals as goal
 
 pub returns-then-x-gt-LAST_SERIAL : goal.returns-then-x-gt-LAST_SERIAL

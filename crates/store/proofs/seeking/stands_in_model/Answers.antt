@@ -1,5 +1,4 @@
 use Rattle.store.proofs.Standing.{stands_as}
-use borrow.Author.Rules.{rules}
 use Rattle.store.proofs.seeking.stands_in_model.Goals as goal
 
 pub returns : goal.returns

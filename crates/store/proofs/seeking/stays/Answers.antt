@@ -1,5 +1,4 @@
 use Rattle.store.proofs.Standing.{stays_spot, stays_bond, stays_other}
-use borrow.Author.Rules.{rules}
 use Rattle.store.proofs.seeking.stays.Goals as goal
 
 pub returns-then-is_coord : goal.returns-then-is_coord

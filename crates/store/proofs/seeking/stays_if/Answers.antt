@@ -1,6 +1,5 @@
 use mathlib.Core.Path.{sym, ◌∙◌}
 use mathlib.Core.Bool.{true≢false}
-use borrow.Author.Rules.{rules}
 use Rattle.store.proofs.seeking.stays_if.Goals as goal
 
 pub returns-then-fit : goal.returns-then-fit

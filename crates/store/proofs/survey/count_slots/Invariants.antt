@@ -1,15 +1,10 @@
-use borrow.Author.Rules.{rules}
-use mathlib.Core.Path.{refl, ◌≡◌, ap}
-use native.Mathlib.Omega.{arith}
+use mathlib.Core.Path.{◌≡◌}
 use Prim.Native.Nat.{◌+◌, ◌*◌, ◌-◌, ◌≤◌}
 use lib.ListN.{length}
-use Rattle.gate.specs.declared.Verdict.{Verdict}
-use Rattle.gate.specs.Gate.{refused_of}
-use Rattle.gate.proofs.Sofar.{Sofar, sofar_start, sofar_rising, sofar_reached, sofar_done, turn_refused, turn_next, turn_watched, watched_on}
+use Rattle.gate.proofs.Sofar.{Sofar}
 use Rattle.trail.specs.Trail.{Watched}
 use Rattle.slots.specs.Slots.{no_model}
 use Rattle.table.specs.Table.{lines_from, slots_of, loaded_of}
-use Rattle.store.proofs.Lines.{need_step, need_done}
 use Rattle.store.proofs.survey.count_slots.Given as goal
 
 abbrev pub invariant-loop-i : goal.invariant-loop-i
