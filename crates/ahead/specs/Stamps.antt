@@ -1,17 +1,22 @@
 -- Stamps of lines, and a filter of stamps. (Nothing here is part of an answer.)
 use Rattle.std.specs.Prelude.{◌+◌, ◌*◌, ◌/◌, ◌%◌, ◌≤◌, ◌<◌, ◌≡◌}
 use Rattle.ascii.specs.Library.{ℕ, List, Bool, true, get_or, eqb, either, pick}
+use Rattle.rows.specs.Text.{piece_at}
 
--- the bytes at two and at four indices of line i from k on, as a number: the first is the lowest, so that it is one load
-unfoldable pub pair_at : List ℕ → ℕ → ℕ → ℕ
-pair_at t i k = get_or t (81 * i + k) 0 + 256 * get_or t (81 * i + (k + 1)) 0
+-- the bytes at two and at four indices of a piece from k on, as a number: the first is the lowest, so that it is one load
+unfoldable pub pair_of : List ℕ → ℕ → ℕ
+pair_of p k = get_or p k 0 + 256 * get_or p (k + 1) 0
 
-unfoldable pub quad_at : List ℕ → ℕ → ℕ → ℕ
-quad_at t i k = pair_at t i k + 65536 * pair_at t i (k + 2)
+unfoldable pub quad_of : List ℕ → ℕ → ℕ
+quad_of p k = pair_of p k + 65536 * pair_of p (k + 2)
 
--- columns 13-20 and 22-27 of line i drawn into one number: lines with other columns are not likely to share it
-unfoldable pub stamp_at : List ℕ → ℕ → ℕ
-stamp_at t i = quad_at t i 23 * 430894887 + pair_at t i 21 * 870773345 + quad_at t i 16 * 1033687299 + quad_at t i 12 * 973642215
+-- columns 13-20 and 22-27 of a piece drawn into one number: pieces with other columns are not likely to share it
+unfoldable pub stamp_of : List ℕ → ℕ
+stamp_of p = quad_of p 23 * 430894887 + pair_of p 21 * 870773345 + quad_of p 16 * 1033687299 + quad_of p 12 * 973642215
+
+-- of line i
+abbrev pub stamp_at : List ℕ → ℕ → ℕ
+stamp_at t i = stamp_of (piece_at t i)
 
 -- the place of a stamp in the filter
 unfoldable pub place_of : ℕ → ℕ

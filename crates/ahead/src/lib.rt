@@ -3,7 +3,7 @@
 
 ghost use Rattle.std.specs.Prelude.{◌≡◌, true, ℕ, ◌*◌, ◌+◌, ◌≤◌, ◌<◌, length};
 ghost use Rattle.ahead.specs.Ahead.{Clear};
-ghost use Rattle.ahead.specs.Stamps.{pair_at, quad_at, stamp_at, place_of, tag_of, put_of, marks, Marked, Without, Parted};
+ghost use Rattle.ahead.specs.Stamps.{pair_of, quad_of, stamp_of, stamp_at, place_of, tag_of, put_of, marks, Marked, Without, Parted};
 
 // No line from a up to b has the columns of a line from b up to c.
 #[derive(Clone, Copy)]
@@ -13,36 +13,30 @@ pub struct Ahead {
     pub c: usize,
 }
 
-// The bytes of line i at indices k and k + 1, the first the lowest.
-fn pair_at(text: &[u8], i: usize, k: usize) -> u64
-    requires { (81 * i + 81 ≤ length text.now) × (k + 2 ≤ 81) }
-    ensures { (result ≡ pair_at text.now i k) × (result < 65536) }
+// The bytes of a piece at indices k and k + 1, the first the lowest.
+fn pair_of(piece: &[u8; 81], k: usize) -> u64
+    requires { k + 2 ≤ 81 }
+    ensures { (result ≡ pair_of piece.now k) × (result < 65536) }
 {
-    let at = 81 * i + k;
-    let low = text[at] as u64;
-    let high = text[at + 1] as u64;
-    low + 256 * high
+    piece[k] as u64 + 256 * piece[k + 1] as u64
 }
 
 // The same of four.
-fn quad_at(text: &[u8], i: usize, k: usize) -> u64
-    requires { (81 * i + 81 ≤ length text.now) × (k + 4 ≤ 81) }
-    ensures { (result ≡ quad_at text.now i k) × (result < 4294967296) }
+fn quad_of(piece: &[u8; 81], k: usize) -> u64
+    requires { k + 4 ≤ 81 }
+    ensures { (result ≡ quad_of piece.now k) × (result < 4294967296) }
 {
-    let low = pair_at(text, i, k);
-    let high = pair_at(text, i, k + 2);
-    low + 65536 * high
+    pair_of(piece, k) + 65536 * pair_of(piece, k + 2)
 }
 
-// The stamp of line i.
-fn stamp_at(text: &[u8], i: usize) -> u64
-    requires { 81 * i + 81 ≤ length text.now }
-    ensures { result ≡ stamp_at text.now i }
+// The stamp of a piece.
+fn stamp_of(piece: &[u8; 81]) -> u64
+    ensures { result ≡ stamp_of piece.now }
 {
-    let number = quad_at(text, i, 23);
-    let chain = pair_at(text, i, 21);
-    let residue = quad_at(text, i, 16);
-    let atom = quad_at(text, i, 12);
+    let number = quad_of(piece, 23);
+    let chain = pair_of(piece, 21);
+    let residue = quad_of(piece, 16);
+    let atom = quad_of(piece, 12);
     number * 430894887 + chain * 870773345 + residue * 1033687299 + atom * 973642215
 }
 
@@ -64,19 +58,11 @@ fn tag_of(z: u64) -> u8
 fn put(v: u8, tag: u8) -> u8
     ensures { result ≡ put_of v tag }
 {
-    if v == 0 {
-        return tag;
-    }
-    if v == tag {
-        return tag;
-    }
-    255
+    if v == 0 || v == tag { tag } else { 255 }
 }
 
 // Puts a stamp into the filter.
 fn mark(filter: &mut [u8; 512], z: u64)
-    requires { length filter.old ≡ 512 }
-    ensures filter_len { length filter.new ≡ 512 }
     ensures z_after { marks filter.new z ≡ true }
     ensures by_index { (x : ℕ) → marks filter.old x ≡ true → marks filter.new x ≡ true }
 {
@@ -86,13 +72,11 @@ fn mark(filter: &mut [u8; 512], z: u64)
 
 // Puts the stamps of the lines from b up to e into the filter.
 fn mark_all(text: &[u8], b: usize, e: usize, filter: &mut [u8; 512])
-    requires { (b ≤ e) × (81 * e ≤ length text.now) × (length filter.old ≡ 512) }
+    requires { (b ≤ e) × (81 * e ≤ length text.now) }
     ensures { Marked text.now b e filter.new }
 {
-    let mut p = b;
-    while p < e {
-        mark(filter, stamp_at(text, p));
-        p += 1;
+    for p in b..e {
+        mark(filter, stamp_of(rows::piece_at(text, p)));
     }
 }
 
@@ -101,12 +85,11 @@ fn first(text: &[u8], b: usize, c: usize, z: u64) -> usize
     requires { (b ≤ c) × (81 * c ≤ length text.now) }
     ensures { (b ≤ result) × (result ≤ c) × Without text.now b result z }
 {
-    let mut p = b;
-    while p < c {
-        if stamp_at(text, p) == z {
+    // `position` takes a closure: a call for each line of the block
+    for p in b..c {
+        if stamp_of(rows::piece_at(text, p)) == z {
             return p;
         }
-        p += 1;
     }
     c
 }
@@ -118,10 +101,7 @@ fn sieve(text: &[u8], b: usize, c: usize, filter: &[u8; 512], z: u64) -> usize
 {
     let at = place_of(z);
     let v = filter[at];
-    if v == tag_of(z) {
-        return first(text, b, c, z);
-    }
-    if v == 255 {
+    if v == 255 || v == tag_of(z) {
         return first(text, b, c, z);
     }
     c
@@ -133,10 +113,8 @@ fn sift(text: &[u8], a: usize, b: usize, e: usize, filter: &[u8; 512]) -> usize
     ensures { Parted text.now a b b result }
 {
     let mut c = e;
-    let mut j = a;
-    while j < b {
-        c = sieve(text, b, c, filter, stamp_at(text, j));
-        j += 1;
+    for j in a..b {
+        c = sieve(text, b, c, filter, stamp_of(rows::piece_at(text, j)));
     }
     c
 }
@@ -146,10 +124,7 @@ fn block_end(b: usize, n: usize) -> usize
     requires { b ≤ n }
     ensures { (b ≤ result) × (result ≤ n) }
 {
-    if BLOCK < n - b {
-        return b + BLOCK;
-    }
-    n
+    b + BLOCK.min(n - b)
 }
 
 const BLOCK: usize = 96;
@@ -163,5 +138,5 @@ pub fn survey(text: &[u8], a: usize, b: usize) -> Ahead
     let e = block_end(b, text.len() / 81);
     mark_all(text, b, e, &mut filter);
     let c = sift(text, a, b, e, &filter);
-    Ahead { a: a, b: b, c: c }
+    Ahead { a, b, c }
 }

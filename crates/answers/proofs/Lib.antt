@@ -1,3 +1,3 @@
 pub mod Rewriting
-pub mod Numbers
 pub mod Steps
+pub mod Filled

@@ -8,18 +8,17 @@ use lib.ListN.{length}
 use Rattle.ascii.proofs.Choice.{picks}
 use Rattle.fields.specs.Format.{write_number, write_line}
 use Rattle.line.specs.declared.Record.{Record}
-use Rattle.line.specs.declared.Answer.{Answer}
-use Rattle.line.specs.declared.Answer.TheVariants.{Read}
-use Rattle.line.specs.Lines.{read_line, record_ok, record_line}
+use Rattle.line.specs.Lines.{Answer, read_line, record_ok, record_line}
+use Rattle.std.specs.Prelude.{Ok}
 use Rattle.line.proofs.RoundTrip.{kept}
 use Rattle.answers.specs.Boundary.{answered, rewrite_answer}
 
-pub rewrite_read : (l found left : List ℕ) (n : ℕ) (a : Answer) (r : Record) → a ≡ read_line l → a ≡ Read r
+pub rewrite_read : (l found left : List ℕ) (n : ℕ) (a : Answer) (r : Record) → a ≡ read_line l → a ≡ Ok r
     → n ≡ write_number (record_ok r) found → left ≡ write_line (record_ok r) (record_line r) found
     → answered n left ≡ rewrite_answer (read_line l) l found
 unfolding write_number write_line
 rewrite_read l found left n a r e q p w =
-    let h : read_line l ≡ Read r = sym e ∙ q in
+    let h : read_line l ≡ Ok r = sym e ∙ q in
     let x = kept l r h in
     rw h
     (picks (λ z. answered n left ≡ z) (ltb (length found) 80) _ _

@@ -1,25 +1,21 @@
 -- The crystal frame as C has it: what is answered, and what is left in the memory that is lent. Rows are twelve numbers, four for each of three lines.
-use Rattle.std.specs.Prelude.{◌∷◌}
+use Rattle.std.specs.Prelude.{◌∷◌, Result, Ok, Err}
 use Rattle.ascii.specs.Library.{ℕ, List, [], get_or, ℤ, pos}
 use Rattle.coordinate.specs.declared.{Position.Position}
 use Rattle.transform.specs.declared.{Transform.Transform}
-use Rattle.crystal.specs.declared.{CellRow.CellRow, CellFilling.CellFilling, TransformFilling.TransformFilling}
-use Rattle.fractional.specs.declared.{Rows.Rows, Scale.Scale, Placed.Placed}
+use Rattle.crystal.specs.declared.{CellRow.CellRow}
+use Rattle.fractional.specs.declared.{Rows.Rows, Fractional.Fractional}
 use Rattle.answers.specs.Boundary.{Answered, answered}
-use Rattle.crystal.specs.declared.CellFilling.TheVariants as cell
-use Rattle.crystal.specs.declared.TransformFilling.TheVariants as transform
-use Rattle.fractional.specs.declared.Scale.TheVariants as scale
-use Rattle.fractional.specs.declared.Placed.TheVariants as placed
 
 -- a refused line leaves the cell as found
-abbrev pub cell_answer : CellFilling → CellRow → Answered CellRow
-cell_answer (cell.Filled c) found = answered 0 c
-cell_answer (cell.Refused n) found = answered n found
+abbrev pub cell_answer : Result CellRow ℕ → CellRow → Answered CellRow
+cell_answer (Ok c) found = answered 0 c
+cell_answer (Err n) found = answered n found
 
 -- the numbers of a transformation, and which of the six lines it is; a refused line leaves all as found
-abbrev pub transform_answer : TransformFilling → List ℤ → Answered (List ℤ)
-transform_answer (transform.Filled n t) found = answered 0 (t.by.x ∷ t.by.y ∷ t.by.z ∷ t.shift ∷ pos n ∷ [])
-transform_answer (transform.Refused n) found = answered n found
+abbrev pub transform_answer : Result (ℕ × Transform) ℕ → List ℤ → Answered (List ℤ)
+transform_answer (Ok (n, t)) found = answered 0 (t.by.x ∷ t.by.y ∷ t.by.z ∷ t.shift ∷ pos n ∷ [])
+transform_answer (Err n) found = answered n found
 
 -- rows as twelve numbers, and twelve numbers as rows
 abbrev pub rows_list : Rows → List ℤ
@@ -38,11 +34,11 @@ abbrev pub position_from : List ℤ → Position
 position_from l = record { x = get_or l 0 (pos 0); y = get_or l 1 (pos 0); z = get_or l 2 (pos 0) }
 
 -- a refusal leaves all as found
-abbrev pub scale_answer : Scale → List ℤ → Answered (List ℤ)
-scale_answer (scale.Rows r) found = answered 0 (rows_list r)
-scale_answer (scale.Refused n) found = answered n found
+abbrev pub scale_answer : Result Rows ℕ → List ℤ → Answered (List ℤ)
+scale_answer (Ok r) found = answered 0 (rows_list r)
+scale_answer (Err n) found = answered n found
 
 -- three billionths, then three hundred-thousandths; a refusal leaves all as found
-abbrev pub place_answer : Placed → List ℤ → Answered (List ℤ)
-place_answer (placed.At f) found = answered 0 (f.exact.x ∷ f.exact.y ∷ f.exact.z ∷ f.near.x ∷ f.near.y ∷ f.near.z ∷ [])
-place_answer (placed.Refused n) found = answered n found
+abbrev pub place_answer : Result Fractional ℕ → List ℤ → Answered (List ℤ)
+place_answer (Ok f) found = answered 0 (f.exact.x ∷ f.exact.y ∷ f.exact.z ∷ f.near.x ∷ f.near.y ∷ f.near.z ∷ [])
+place_answer (Err n) found = answered n found

@@ -1,50 +1,8 @@
 // Tests of bytes without a branch: what calls them is straight-line code.
 #![tactic(auto)]
 
-ghost use Rattle.std.specs.Prelude.{◌≡◌, not};
-ghost use Rattle.ascii.specs.Tests.{pick, both, either, alike, same, between, is_digit, is_upper, is_code};
-
-pub fn both_of(a: bool, b: bool) -> bool
-    ensures { result ≡ both a b }
-{
-    if a {
-        return b;
-    }
-    false
-}
-
-pub fn either_of(a: bool, b: bool) -> bool
-    ensures { result ≡ either a b }
-{
-    if a {
-        return true;
-    }
-    b
-}
-
-pub fn not_of(a: bool) -> bool
-    ensures { result ≡ not a }
-{
-    !a
-}
-
-pub fn alike_of(a: bool, b: bool) -> bool
-    ensures { result ≡ alike a b }
-{
-    if a {
-        return b;
-    }
-    !b
-}
-
-pub fn choose(t: bool, a: bool, b: bool) -> bool
-    ensures { result ≡ pick t a b }
-{
-    if t {
-        return a;
-    }
-    b
-}
+ghost use Rattle.std.specs.Prelude.{◌≡◌};
+ghost use Rattle.ascii.specs.Tests.{same, between, is_digit, is_upper, is_code};
 
 pub fn is(b: u8, x: u8) -> bool
     ensures { result ≡ same b x }
@@ -79,5 +37,5 @@ pub fn is_upper(b: u8) -> bool
 pub fn is_code(b: u8) -> bool
     ensures { result ≡ is_code b }
 {
-    either_of(is_upper(b), is_digit(b))
+    is_upper(b) | is_digit(b)
 }

@@ -3,50 +3,31 @@
 
 ghost use Rattle.std.specs.Prelude.{◌≡◌};
 ghost use Rattle.table.specs.Deal.{is_in};
-ghost use Rattle.bonds.specs.Bonds.{is_bond, is_conect, numbers_of, conect_in};
+ghost use Rattle.bonds.specs.Bonds.{is_conect, conect_in};
 
 use conect::Conect;
-use facets::Bond;
 use fields::Serial;
 use pieces::Line;
 use slots::Slot;
-
-fn is_bond(b: Bond) -> bool
-    ensures { result ≡ is_bond b }
-{
-    match b {
-        Bond::Bonds(_) => true,
-        Bond::Loose => false,
-    }
-}
 
 // Whether the line is a CONECT line.
 pub fn is_conect(l: Line) -> bool
     ensures { result ≡ is_conect l }
 {
-    is_bond(facets::bond_in(l))
-}
-
-fn numbers_of(b: Bond) -> Conect
-    ensures { result ≡ numbers_of b }
-{
-    match b {
-        Bond::Bonds(c) => c,
-        Bond::Loose => Conect {
-            serial: Serial(0),
-            a: Serial(0),
-            b: Serial(0),
-            c: Serial(0),
-            d: Serial(0),
-        },
-    }
+    facets::bond_in(l).is_some()
 }
 
 // The numbers on a CONECT line; zeros on another.
 pub fn conect_in(l: Line) -> Conect
     ensures { result ≡ conect_in l }
 {
-    numbers_of(facets::bond_in(l))
+    facets::bond_in(l).unwrap_or(Conect {
+        serial: Serial(0),
+        a: Serial(0),
+        b: Serial(0),
+        c: Serial(0),
+        d: Serial(0),
+    })
 }
 
 // The serial of the slot.
@@ -60,9 +41,5 @@ pub fn serial_of(s: Slot) -> Serial
 pub fn is_in(n: Serial, s: Slot) -> bool
     ensures { result ≡ is_in n.0 s }
 {
-    let serial = s.serial;
-    let e = fragments::is_ter(s);
-    let a = ascii::both_of(!e, serial.0 == n.0);
-    let aside = s.mark == slots::MARK_ASIDE;
-    ascii::both_of(!aside, a)
+    (s.mark != slots::MARK_ASIDE) & !fragments::is_ter(s) & (s.serial == n)
 }

@@ -1,12 +1,11 @@
 -- CRYST1 is lawful. Assumes nothing.
 use mathlib.Core.Path.{refl}
+use mathlib.Core.List.{List}
 use Prim.Native.Nat.{ℕ}
 use Rattle.fields.proofs.Formats.{Lawful, whole_lawful, whole_real_lawful, none_lawful, then_lawful, after_lawful, held_lawful}
-use Rattle.names.specs.declared.Three.{Three}
-use Rattle.names.specs.declared.Four.{Four}
-use Rattle.names.specs.Names.{is_free_three, is_free_four}
-use Rattle.names.proofs.Shapes.{three_lawful, four_lawful}
-use Rattle.names.proofs.Classes.{free_three_fine, free_four_fine}
+use Rattle.names.specs.Names.{is_free}
+use Rattle.names.proofs.Shapes.{name_lawful}
+use Rattle.names.proofs.Classes.{free_fine}
 use Rattle.cell.specs.declared.Edges.{Edges}
 use Rattle.cell.specs.declared.Angles.{Angles}
 use Rattle.cell.specs.declared.Group.{Group}
@@ -37,17 +36,17 @@ angles_lawful =
     held_lawful to_angles from_angles (λ e. refl) (λ f. refl)
     (then_lawful (whole_real_lawful 7 2 1 17999 tt) (then_lawful (whole_real_lawful 7 2 1 17999 tt) (whole_real_lawful 7 2 1 17999 tt)))
 
-abbrev to_group : (Four × (Four × Three)) → Group
+abbrev to_group : (List ℕ × (List ℕ × List ℕ)) → Group
 to_group = λ (a, (b, c)). record { a = a; b = b; c = c }
 
-abbrev from_group : Group → (Four × (Four × Three))
+abbrev from_group : Group → (List ℕ × (List ℕ × List ℕ))
 from_group g = (g.a, (g.b, g.c))
 
 group_lawful : {begin : ℕ} → Lawful group_f begin
 unfolding group_columns
 group_lawful =
     held_lawful to_group from_group (λ g. refl) (λ f. refl)
-    (then_lawful (four_lawful is_free_four free_four_fine) (then_lawful (four_lawful is_free_four free_four_fine) (three_lawful is_free_three free_three_fine)))
+    (then_lawful (name_lawful 4 (is_free 4) (free_fine 4)) (then_lawful (name_lawful 4 (is_free 4) (free_fine 4)) (name_lawful 3 (is_free 3) (free_fine 3))))
 
 abbrev to_cell : (Edges × (Angles × (Group × (ℕ × Unit {0})))) → Cell
 to_cell = λ (edges, (angles, (group, (z, none)))). record { edges = edges; angles = angles; group = group; z = z }

@@ -1,7 +1,7 @@
 -- CRYST1: its columns 7 to 80.
 use Rattle.ascii.specs.Library.{ℕ}
 use Rattle.fields.specs.Format.{Format, whole_f, whole_real_f, none_f, ◌then◌, after, held, shut}
-use Rattle.names.specs.Names.{three_f, four_f, is_free_three, is_free_four}
+use Rattle.names.specs.Names.{name_f, is_free}
 use Rattle.cell.specs.declared.{Edges.Edges, Angles.Angles, Group.Group, Cell.Cell}
 
 -- ---- columns 7 to 33: the edges a 7-15, b 16-24, c 25-33, each Real(9.3) above zero, in thousandths
@@ -29,7 +29,7 @@ angles_f = shut 21 angles_columns
 -- ---- columns 56 to 66: the space group, free
 unfoldable pub group_columns : Format Group
 group_columns =
-    held (four_f is_free_four then four_f is_free_four then three_f is_free_three)
+    held (name_f 4 (is_free 4) then name_f 4 (is_free 4) then name_f 3 (is_free 3))
     (λ (a, (b, c)). record { a = a; b = b; c = c }) (λ g. (g.a, (g.b, g.c)))
 
 abbrev pub group_f : Format Group

@@ -2,9 +2,12 @@
 -- Assumes nothing.
 use mathlib.Core.Path.{◌≡◌, refl}
 use mathlib.Core.Bool.{Bool, true, false}
-use Prim.Native.Nat.{ℕ, zero, suc, min, ◌≤◌, ◌<◌}
+use Prim.Native.Nat.{ℕ, zero, suc, min, ◌+◌, ◌≤◌, ◌<◌}
 use native.Mathlib.Omega.{arith}
 use lib.Dec.{T, ltb, ltb→lt}
+use Rattle.std.specs.Prelude.{Err}
+use Rattle.columns.specs.Answers.{read_as}
+use Rattle.columns.proofs.Readers.{read_wrong}
 use Rattle.columns.specs.Columns.{blame, blamed_of, first_of, leftmost}
 
 pub blame_none : (t : Bool) (at : ℕ) → blame t at ≡ 0 → t ≡ true
@@ -15,6 +18,10 @@ blame_none false at e = absurd (omega arith)
 pub blame_good : (t : Bool) (at : ℕ) → t ≡ true → blame t at ≡ 0
 unfolding blame
 blame_good t at e = rw e
+
+pub blame_bad : {A : Type 0} (t : Bool) (at : ℕ) (v : A) → t ≡ false → Err (record { 0 = at + 1 }) ≡ read_as (blame t at) v
+unfolding blame
+blame_bad t at v e = rw e (read_wrong (at + 1) v (omega arith))
 
 pub blamed_none : (t : Bool) (c : ℕ) → T (ltb 0 c) → blamed_of t c ≡ 0 → t ≡ true
 unfolding blamed_of

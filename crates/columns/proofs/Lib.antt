@@ -2,3 +2,5 @@ pub mod Faults
 pub mod Spans
 pub mod Loops
 pub mod Puts
+pub mod Readers
+pub mod Rules

@@ -2,13 +2,16 @@
 -- Assumes nothing.
 use mathlib.Core.Path.{◌≡◌, refl, sym, ◌∙◌, ap, subst}
 use mathlib.Core.List.{List, [], ◌∷◌, ◌++◌, append_assoc, append-nil}
-use Prim.Native.Nat.{ℕ, suc, ◌+◌, ◌-◌, ◌≤◌}
+use Prim.Native.Nat.{ℕ, zero, suc, ◌+◌, ◌-◌, ◌≤◌}
 use native.Mathlib.Omega.{arith}
 use native.Mathlib.Nat.{add-suc, add-zero, add_assoc}
 use native.Mathlib.Numerals.{add-one}
-use lib.ListN.{length, take, drop, set}
-use lib.Seq.{take-suc-set, drop-set-lt, drop-drop}
-use Rattle.columns.specs.Columns.{Put}
+use lib.ListN.{length, take, drop, set, length-append, length-drop}
+use lib.Seq.{take-suc-set, drop-set-lt, drop-drop, take_at, length-take-le}
+use borrow.Rule.Slice.PartMut.{put_mid, drop_put}
+use Rattle.std.specs.Prelude.{replicate}
+use Rattle.columns.specs.Columns.{Put, blanks}
+use Rattle.columns.proofs.Spans.{blanks_length}
 
 pub none_put : (l : List ℕ) (at : ℕ) → Put l at 0 [] l
 none_put l at = record { front = rw add-zero (sym (append-nil (take at l))); rest = refl }
@@ -43,3 +46,30 @@ put_then {l} {l1} {l2} {at} {m} {n} {x} {y} p q =
           ap (λ i. drop i l2) (sym (add_assoc at m n)) ∙ q.rest ∙ ap (λ i. drop i l1) (add_assoc at m n)
           ∙ drop_more l l1 (at + m) (at + (m + n)) (omega arith) p.rest;
     }
+
+-- a run of columns written over with as many bytes
+pub mid_put : (n : ℕ) (l x : List ℕ) (at : ℕ) → at + n ≤ length l → length x ≡ n → Put l at n x (put_mid at (at + n - at) l x)
+mid_put n l x at h e =
+    record {
+      front =
+          ap (take (at + n)) (sym (append_assoc (take at l) x _))
+          ∙ take_at (take at l ++ x) _ (at + n) (length-append (take at l) x ∙ omega (arith, length-take-le at l (omega arith)));
+      rest = drop_put at (at + n) l x (omega arith) h (omega arith);
+    }
+
+-- as many blanks
+blanks_more : (n : ℕ) → replicate {A = ℕ} (suc n) 32 ≡ replicate {A = ℕ} n 32 ++ (32 ∷ [])
+blanks_more zero = refl
+blanks_more (suc n) = ap (λ (x : List ℕ). 32 ∷ x) (blanks_more n)
+
+pub blanks_alike : (n : ℕ) → replicate {A = ℕ} n 32 ≡ blanks n
+unfolding blanks
+blanks_alike zero = refl
+blanks_alike (suc n) = blanks_more n ∙ ap (λ (x : List ℕ). x ++ (32 ∷ [])) (blanks_alike n)
+
+pub blanks_put : (n : ℕ) (l x : List ℕ) (at k : ℕ) → at + n ≤ length l → k ≡ n → x ≡ replicate {A = ℕ} k 32 → Put l at n (blanks n) (put_mid at (at + n - at) l x)
+blanks_put n l x at k h z e = rw (e, z, blanks_alike n) (mid_put n l (blanks n) at h (blanks_length n))
+
+-- as long as the run is what is written over
+pub part_long : (n : ℕ) (l : List ℕ) (at : ℕ) → at + n ≤ length l → length (take (at + n - at) (drop at l)) ≡ n
+part_long n l at h = length-take-le (at + n - at) (drop at l) (omega (arith, length-drop at l)) ∙ omega arith

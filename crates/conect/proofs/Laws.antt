@@ -22,7 +22,7 @@ use Rattle.fields.proofs.Choices.{maybe_named, maybe_filled}
 use Rattle.conect.specs.declared.Conect.{Conect}
 use Rattle.conect.specs.Conects.{serial_f, partner_f, partner_columns, partners_f, partners_columns, serials_f, serials_columns, differs, unbroken, conect_f, conect_columns}
 
-serial_single : Single serial_f
+pub serial_single : Single serial_f
 serial_single = ranged_single 5 0 1 99999 tt
 
 serial_lawful : {begin : ℕ} → Lawful serial_f begin

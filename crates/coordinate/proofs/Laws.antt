@@ -7,10 +7,8 @@ use lib.Dec.{lit<}
 use Rattle.fields.proofs.Sides.{HasColumn, has_right}
 use Rattle.fields.specs.Format.{blank_fields, ◌then◌, after}
 use Rattle.fields.proofs.Formats.{Lawful, whole_lawful, whole_real_lawful, real_lawful, then_lawful, after_lawful, held_lawful, under_lawful, has_first}
-use Rattle.names.specs.declared.Four.{Four}
-use Rattle.names.specs.declared.Pair.{Pair}
 use Rattle.names.specs.Names.{is_atom_name, is_alternate, is_charge}
-use Rattle.names.proofs.Shapes.{byte_lawful, pair_lawful, four_lawful}
+use Rattle.names.proofs.Shapes.{byte_lawful, name_lawful}
 use Rattle.names.proofs.Classes.{atom_name_fine, alternate_fine, charge_fine}
 use Rattle.elements.specs.Elements.{is_element}
 use Rattle.elements.proofs.Rule.{element_fine}
@@ -36,19 +34,19 @@ position_lawful : {begin : ℕ} → Lawful position_f begin
 unfolding position_columns
 position_lawful = held_lawful to_position from_position (λ p. refl) (λ f. refl) (then_lawful coordinate_lawful (then_lawful coordinate_lawful coordinate_lawful))
 
-abbrev to_identity : (ℕ × (Four × (ℕ × Residue))) → Identity
+abbrev to_identity : (ℕ × (List ℕ × (ℕ × Residue))) → Identity
 to_identity = λ (serial, (name, (alternate, residue))).
     record { serial = record { 0 = serial }; name = name; alternate = alternate; residue = residue }
 
-abbrev from_identity : Identity → (ℕ × (Four × (ℕ × Residue)))
+abbrev from_identity : Identity → (ℕ × (List ℕ × (ℕ × Residue)))
 from_identity w = (w.serial.0, (w.name, (w.alternate, w.residue)))
 
-identity_lawful : {begin : ℕ} → Lawful identity_f begin
+pub identity_lawful : {begin : ℕ} → Lawful identity_f begin
 unfolding identity_columns
 identity_lawful =
     held_lawful to_identity from_identity (λ p. refl) (λ f. refl)
     (then_lawful (whole_lawful 5 1 99999 tt)
-    (after_lawful 1 (then_lawful (four_lawful is_atom_name atom_name_fine) (then_lawful (byte_lawful is_alternate alternate_fine) (residue_lawful 0)))))
+    (after_lawful 1 (then_lawful (name_lawful 4 is_atom_name atom_name_fine) (then_lawful (byte_lawful is_alternate alternate_fine) (residue_lawful 0)))))
 
 abbrev to_measure : (Position × (ℕ × ℤ)) → Measure
 to_measure = λ (position, (occupancy, temperature)). record { position = position; occupancy = occupancy; temperature = temperature }
@@ -56,22 +54,22 @@ to_measure = λ (position, (occupancy, temperature)). record { position = positi
 abbrev from_measure : Measure → (Position × (ℕ × ℤ))
 from_measure s = (s.position, (s.occupancy, s.temperature))
 
-measure_lawful : {begin : ℕ} → Lawful measure_f begin
+pub measure_lawful : {begin : ℕ} → Lawful measure_f begin
 unfolding measure_columns
 measure_lawful =
     held_lawful to_measure from_measure (λ p. refl) (λ f. refl)
     (then_lawful position_lawful (then_lawful (whole_real_lawful 6 2 0 100 tt) (real_lawful 6 2 9999 99999 refl refl)))
 
-abbrev to_species : (Pair × Pair) → Species
+abbrev to_species : (List ℕ × List ℕ) → Species
 to_species = λ (element, charge). record { element = element; charge = charge }
 
-abbrev from_species : Species → (Pair × Pair)
+abbrev from_species : Species → (List ℕ × List ℕ)
 from_species t = (t.element, t.charge)
 
 species_lawful : {begin : ℕ} → Lawful species_f begin
 unfolding species_columns
 species_lawful =
-    held_lawful to_species from_species (λ p. refl) (λ f. refl) (then_lawful (pair_lawful is_element element_fine) (pair_lawful is_charge charge_fine))
+    held_lawful to_species from_species (λ p. refl) (λ f. refl) (then_lawful (name_lawful 2 is_element element_fine) (name_lawful 2 is_charge charge_fine))
 
 abbrev to_atom : (Identity × (Measure × Species)) → Atom
 to_atom = λ (identity, (measure, species)). record { identity = identity; measure = measure; species = species }

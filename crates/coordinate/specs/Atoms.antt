@@ -1,8 +1,7 @@
 -- ATOM and HETATM: their columns 7 to 80.
-use Rattle.ascii.specs.Library.{Bool, ℤ, pick, both, either, same}
+use Rattle.ascii.specs.Library.{ℕ, List, Bool, get_or, ℤ, pick, both, either, same}
 use Rattle.fields.specs.Format.{Format, whole_f, whole_real_f, real_f, byte_f, ◌then◌, after, held, under, shut}
-use Rattle.names.specs.declared.{Four.Four, Pair.Pair}
-use Rattle.names.specs.Names.{pair_f, four_f, is_blank, is_full, is_atom_name, is_alternate, is_charge}
+use Rattle.names.specs.Names.{name_f, is_blank, is_full, is_atom_name, is_alternate, is_charge}
 use Rattle.elements.specs.Elements.{is_element}
 use Rattle.kinds.specs.declared.{Kind.Kind}
 use Rattle.residue.specs.Residues.{residue_f}
@@ -23,7 +22,7 @@ position_f = shut 24 position_columns
 -- ---- columns 7 to 27: serial 7-11, name 13-16, alternate location 17, residue 18-27
 unfoldable pub identity_columns : Format Identity
 identity_columns =
-    held (whole_f 5 1 99999 then after 1 (four_f is_atom_name then byte_f is_alternate then residue_f 0))
+    held (whole_f 5 1 99999 then after 1 (name_f 4 is_atom_name then byte_f is_alternate then residue_f 0))
     (λ (serial, (name, (alternate, residue))).
     record { serial = record { 0 = serial }; name = name; alternate = alternate; residue = residue })
     (λ w. (w.serial.0, (w.name, (w.alternate, w.residue))))
@@ -44,7 +43,7 @@ measure_f = shut 36 measure_columns
 -- ---- columns 77 to 80: element 77-78, charge 79-80
 unfoldable pub species_columns : Format Species
 species_columns =
-    held (pair_f is_element then pair_f is_charge)
+    held (name_f 2 is_element then name_f 2 is_charge)
     (λ (element, charge). record { element = element; charge = charge }) (λ t. (t.element, t.charge))
 
 abbrev pub species_f : Format Species
@@ -52,10 +51,14 @@ species_f = shut 4 species_columns
 
 -- ---- columns 7 to 80. Columns 77 and 78 are blamed where the name in columns 13 to 16 is not one of the element
 -- an atom's name begins with its element; one of a single letter may also stand in column 13 of a name that fills all four columns
-unfoldable pub leads_element : Four → Pair → Bool
+unfoldable pub leads_element : List ℕ → List ℕ → Bool
 leads_element n e =
-    either (both (same n.a e.a) (same n.b e.b))
-    (both (both (is_blank e.a) (same n.a e.b)) (is_full n))
+    either (both (same (get_or n 0 0) (get_or e 0 0)) (same (get_or n 1 0) (get_or e 1 0)))
+    (both (both (is_blank (get_or e 0 0)) (same (get_or n 0 0) (get_or e 1 0))) (is_full n))
+
+-- columns 77 to 80 behind an atom's name
+abbrev pub named_species_f : List ℕ → Format Species
+named_species_f n = under species_f (λ t. leads_element n t.element) 77
 
 unfoldable pub atom_columns : Format Atom
 atom_columns =

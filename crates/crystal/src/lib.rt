@@ -2,17 +2,17 @@
 #![tactic(auto)]
 
 ghost use Rattle.std.specs.Prelude.{◌≡◌};
-ghost use Rattle.kinds.specs.Kinds.{is};
-ghost use Rattle.kinds.specs.declared.Kind.TheVariants as kind;
+ghost use Rattle.refusals.specs.Numbers.{numbered};
 ghost use Rattle.crystal.specs.Crystal.{cell_row, cell_line, row_number, transform_line};
 
 use cell::{Angles, Cell, Edges, Group};
-use kinds::Kind;
+use kinds::{Kind, Layout};
+use refusals::Refusal;
 use transform::Transform;
 
-// 40 bytes, no padding. The byte at the end is 0.
+// The row as C has it: 40 bytes, no padding. The byte at the end is 0.
 #[repr(C)]
-#[derive(Clone, Copy)]
+#[derive(Clone, Copy, Debug, PartialEq, Eq)]
 pub struct CellRow {
     pub edges: Edges,
     pub angles: Angles,
@@ -21,111 +21,67 @@ pub struct CellRow {
     pub end: u8,
 }
 
-#[derive(Clone, Copy)]
-pub enum CellFilling {
-    Filled(CellRow),
-    // The number of the refusal.
-    Refused(u8),
-}
-
-// Which of the six lines, 1 to 6, and its numbers.
-#[derive(Clone, Copy)]
-pub enum TransformFilling {
-    Filled(u8, Transform),
-    // The number of the refusal.
-    Refused(u8),
-}
-
 fn cell_row(c: Cell) -> CellRow
     ensures { result ≡ cell_row c }
 {
-    let edges = c.edges;
-    let angles = c.angles;
-    let group = c.group;
     CellRow {
-        edges: edges,
-        angles: angles,
+        edges: c.edges,
+        angles: c.angles,
         z: c.z,
-        group: group,
+        group: c.group,
         end: 0,
     }
 }
 
-fn is_cell(k: Kind) -> bool
-    ensures { result ≡ is kind.Cryst1 k }
-{
-    let r = kinds::row_of(k);
-    kinds::CRYST1 == r.name
-}
-
 // The cell of one line read by itself: 1, 3, 4 for any other kind, 6.
-pub fn cell_of_line(line: &[u8]) -> CellFilling
-    ensures { result ≡ cell_line line.now }
+pub fn cell_of_line(line: &[u8]) -> Result<CellRow, Refusal>
+    ensures { numbered result ≡ cell_line line.now }
 {
-    if line.len() == 80 {
-        if columns::is_clean(line, 0, 80) {
-            if is_cell(kinds::kind_of(line)) {
-                let r = cell::read_cell(line);
-                let value = r.value;
-                let column = r.column;
-                if column == 0 {
-                    return CellFilling::Filled(cell_row(value));
-                }
-                return CellFilling::Refused(6);
-            }
-            return CellFilling::Refused(4);
-        }
-        return CellFilling::Refused(3);
+    let Some(line) = line.as_array::<80>() else {
+        return Err(Refusal::Length);
+    };
+    if !columns::is_clean(line, 0, 80) {
+        return Err(Refusal::Byte);
     }
-    CellFilling::Refused(1)
+    let Kind::Cryst1 = kinds::kind_of(line) else {
+        return Err(Refusal::Name);
+    };
+    let Ok(cell) = Cell::read(line) else {
+        return Err(Refusal::Field);
+    };
+    Ok(cell_row(cell))
 }
 
-// Which of the six lines a kind is, 0 for none.
-fn row_number(k: Kind) -> u8
+// Which of the six lines a kind is, 1 to 6.
+fn row_number(k: Kind) -> Option<u8>
     ensures { result ≡ row_number k }
 {
-    let r = kinds::row_of(k);
-    let name = r.name;
-    if kinds::ORIGX1 == name {
-        return 1;
+    match k {
+        Kind::Origx1 => Some(1),
+        Kind::Origx2 => Some(2),
+        Kind::Origx3 => Some(3),
+        Kind::Scale1 => Some(4),
+        Kind::Scale2 => Some(5),
+        Kind::Scale3 => Some(6),
+        _ => None,
     }
-    if kinds::ORIGX2 == name {
-        return 2;
-    }
-    if kinds::ORIGX3 == name {
-        return 3;
-    }
-    if kinds::SCALE1 == name {
-        return 4;
-    }
-    if kinds::SCALE2 == name {
-        return 5;
-    }
-    if kinds::SCALE3 == name {
-        return 6;
-    }
-    0
 }
 
-// The transformation of one line read by itself: 1, 3, 4 for any other kind, 6.
-pub fn transform_of_line(line: &[u8]) -> TransformFilling
-    ensures { result ≡ transform_line line.now }
+// The transformation of one line read by itself, and which of the six lines it is: 1, 3, 4 for any other kind, 6.
+pub fn transform_of_line(line: &[u8]) -> Result<(u8, Transform), Refusal>
+    ensures { numbered result ≡ transform_line line.now }
 {
-    if line.len() == 80 {
-        if columns::is_clean(line, 0, 80) {
-            let n = row_number(kinds::kind_of(line));
-            if n == 0 {
-                return TransformFilling::Refused(4);
-            }
-            let r = transform::read_transform(line);
-            let value = r.value;
-            let column = r.column;
-            if column == 0 {
-                return TransformFilling::Filled(n, value);
-            }
-            return TransformFilling::Refused(6);
-        }
-        return TransformFilling::Refused(3);
+    let Some(line) = line.as_array::<80>() else {
+        return Err(Refusal::Length);
+    };
+    if !columns::is_clean(line, 0, 80) {
+        return Err(Refusal::Byte);
     }
-    TransformFilling::Refused(1)
+    let Some(n) = row_number(kinds::kind_of(line)) else {
+        return Err(Refusal::Name);
+    };
+    let Ok(transform) = Transform::read(line) else {
+        return Err(Refusal::Field);
+    };
+    Ok((n, transform))
 }

@@ -5,8 +5,8 @@
 ghost use Rattle.std.specs.Prelude.{◌*◌, ◌≤◌, length};
 
 use coordinate::Position;
-use feed::{Bounds, Drawn, Extent, Framed, Span};
-use slots::{Filling, Slot};
+use feed::{Bounds, Extent, Point, Span};
+use slots::Slot;
 use std::io;
 use std::io::{BufWriter, Read, Write};
 
@@ -21,15 +21,8 @@ fn end_line(to: &mut impl Write) -> io::Result<()> {
     say(to, b"\n")
 }
 
-fn put_sign(to: &mut impl Write, below: bool) -> io::Result<()> {
-    if below { say(to, b" -") } else { say(to, b" ") }
-}
-
-// A number of either sign.
 fn put(to: &mut impl Write, n: i32) -> io::Result<()> {
-    put_sign(to, fields::negative(n))?;
-    let size = fields::magnitude(n);
-    write!(to, "{size}")
+    write!(to, " {n}")
 }
 
 // The number that a double was made from, printed only if the double is that very number.
@@ -51,52 +44,42 @@ fn put_middle(to: &mut impl Write, d: f64, s: Span) -> io::Result<()> {
     }
 }
 
-fn print_dot(to: &mut impl Write, x: f64, y: f64, z: f64, p: Position) -> io::Result<()> {
+fn print_dot(to: &mut impl Write, d: Point, p: Position) -> io::Result<()> {
     say(to, b"dot")?;
-    put_axis(to, x, p.x)?;
-    put_axis(to, y, p.y)?;
-    put_axis(to, z, p.z)?;
+    put_axis(to, d.x, p.x)?;
+    put_axis(to, d.y, p.y)?;
+    put_axis(to, d.z, p.z)?;
     end_line(to)
 }
 
-fn print_drawn(to: &mut impl Write, d: Drawn, p: Position) -> io::Result<()> {
+fn print_drawn(to: &mut impl Write, d: Option<Point>, p: Position) -> io::Result<()> {
     match d {
-        Drawn::Dot(x, y, z) => print_dot(to, x, y, z, p),
-        Drawn::Stroke(_, _, _, _, _, _) => end_line(to),
-        Drawn::Nothing => say(to, b"nothing\n"),
+        Some(d) => print_dot(to, d, p),
+        None => say(to, b"nothing\n"),
     }
 }
 
 fn print_lowest(to: &mut impl Write, e: Extent, b: Bounds) -> io::Result<()> {
-    let x = b.x;
-    let y = b.y;
-    let z = b.z;
     say(to, b"lowest")?;
-    put_axis(to, e.lx, x.low)?;
-    put_axis(to, e.ly, y.low)?;
-    put_axis(to, e.lz, z.low)?;
+    put_axis(to, e.lx, b.x.low)?;
+    put_axis(to, e.ly, b.y.low)?;
+    put_axis(to, e.lz, b.z.low)?;
     end_line(to)
 }
 
 fn print_highest(to: &mut impl Write, e: Extent, b: Bounds) -> io::Result<()> {
-    let x = b.x;
-    let y = b.y;
-    let z = b.z;
     say(to, b"highest")?;
-    put_axis(to, e.hx, x.high)?;
-    put_axis(to, e.hy, y.high)?;
-    put_axis(to, e.hz, z.high)?;
+    put_axis(to, e.hx, b.x.high)?;
+    put_axis(to, e.hy, b.y.high)?;
+    put_axis(to, e.hz, b.z.high)?;
     end_line(to)
 }
 
 fn print_middle(to: &mut impl Write, e: Extent, b: Bounds) -> io::Result<()> {
-    let x = b.x;
-    let y = b.y;
-    let z = b.z;
     say(to, b"in the middle of")?;
-    put_middle(to, e.mx, x)?;
-    put_middle(to, e.my, y)?;
-    put_middle(to, e.mz, z)?;
+    put_middle(to, e.mx, b.x)?;
+    put_middle(to, e.my, b.y)?;
+    put_middle(to, e.mz, b.z)?;
     end_line(to)
 }
 
@@ -112,24 +95,25 @@ fn print_number(to: &mut impl Write, n: u8) -> io::Result<()> {
     end_line(to)
 }
 
-fn print_frame(to: &mut impl Write, f: Framed, b: Bounds) -> io::Result<()> {
-    match f {
-        Framed::Around(e) => print_extent(to, e, b),
-        Framed::Refused(n) => print_number(to, n),
+// The frame of bounds, or the number that refuses it.
+fn print_frame(to: &mut impl Write, bounds: Option<Bounds>) -> io::Result<()> {
+    match (feed::frame_of(bounds), bounds) {
+        (Ok(e), Some(b)) => print_extent(to, e, b),
+        (Err(r), _) => print_number(to, r.number()),
+        (Ok(_), None) => Ok(()),
     }
 }
 
-fn draw_slot(to: &mut impl Write, b: Bounds, s: Slot) -> io::Result<Bounds> {
-    let p = s.position;
-    print_drawn(to, feed::dot(s), p)?;
+fn draw_slot(to: &mut impl Write, b: Option<Bounds>, s: Slot) -> io::Result<Option<Bounds>> {
+    print_drawn(to, feed::dot(s), s.position)?;
     Ok(feed::take_in(b, s))
 }
 
 // A line without a slot draws nothing.
-fn draw_line(to: &mut impl Write, b: Bounds, line: &[u8]) -> io::Result<Bounds> {
+fn draw_line(to: &mut impl Write, b: Option<Bounds>, line: &[u8]) -> io::Result<Option<Bounds>> {
     match slots::slot_of_line(line) {
-        Filling::Filled(s) => draw_slot(to, b, s),
-        Filling::Refused(_) => Ok(b),
+        Ok(s) => draw_slot(to, b, s),
+        Err(_) => Ok(b),
     }
 }
 
@@ -137,18 +121,17 @@ fn draw_line(to: &mut impl Write, b: Bounds, line: &[u8]) -> io::Result<Bounds> 
 fn draw(to: &mut impl Write, text: &[u8], n: usize) -> io::Result<()>
     requires { 81 * n ≤ length text.now }
 {
-    let mut b = feed::no_bounds();
+    let mut b = None;
     for i in 0..n {
         let at = 81 * i;
-        let e = at + 80;
-        b = draw_line(to, b, &text[at..e])?;
+        b = draw_line(to, b, &text[at..at + 80])?;
     }
-    print_frame(to, feed::frame_of(b), b)
+    print_frame(to, b)
 }
 
 fn draw_good(to: &mut impl Write, text: &[u8]) -> io::Result<()> {
     let v = gate::check(text);
-    print_number(to, v.number)?;
+    print_number(to, v.number())?;
     draw(to, text, v.good as usize)
 }
 

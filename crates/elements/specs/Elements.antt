@@ -1,8 +1,7 @@
 -- The elements: the atomic number of each pair of a blank or a letter, and a letter.
 use Rattle.std.specs.Prelude.{◌+◌, ◌*◌, ◌-◌, ◌∷◌, ◌++◌}
-use Rattle.ascii.specs.Library.{ℕ, List, [], Bool, get_or, ltb, eqb, byte, bytes, pick, both, either, same, is_upper}
-use Rattle.names.specs.declared.{Pair.Pair}
-use Rattle.names.specs.Names.{pair_at}
+use Rattle.ascii.specs.Library.{ℕ, List, [], Bool, length, get_or, ltb, eqb, byte, bytes, pick, both, either, same, is_upper}
+use Rattle.names.specs.Names.{name_at, sized}
 
 -- the symbols of IUPAC in the order of their atomic numbers, two columns each
 unfoldable pub symbols : List ℕ
@@ -11,15 +10,15 @@ symbols =
     ++ bytes "NDPMSMEUGDTBDYHOERTMYBLUHFTA WREOSIRPTAUHGTLPBBIPOATRNFRRAACTHPA UNPPUAMCMBKCFESFMMDNOLRRFDBSGBHHSMTDSRGCNNHFLMCLVTSOG"
 
 -- the symbol of the atomic number n
-unfoldable pub symbol_of : ℕ → Pair
-symbol_of n = pair_at symbols (2 * (n - 1))
+unfoldable pub symbol_of : ℕ → List ℕ
+symbol_of n = name_at 2 symbols (2 * (n - 1))
 
 -- hydrogen, and its heavy isotope, which shares its number
-abbrev pub hydrogen : Pair
-hydrogen = record { a = byte " "; b = byte "H" }
+abbrev pub hydrogen : List ℕ
+hydrogen = bytes " H"
 
-abbrev pub deuterium : Pair
-deuterium = record { a = byte " "; b = byte "D" }
+abbrev pub deuterium : List ℕ
+deuterium = bytes " D"
 
 -- the table: a row for a blank, then one for each letter, in the first column of the pair; 26 places in a row for the letter in the second
 unfoldable pub elements : List ℕ
@@ -53,22 +52,26 @@ elements =
     0 ∷ 0 ∷ 0 ∷ 0 ∷ 0 ∷ 0 ∷ 0 ∷ 0 ∷ 0 ∷ 0 ∷ 0 ∷ 0 ∷ 0 ∷ 30 ∷ 0 ∷ 0 ∷ 0 ∷ 40 ∷ 0 ∷ 0 ∷ 0 ∷ 0 ∷ 0 ∷ 0 ∷ 0 ∷ 0 ∷ []
 
 -- the index of a pair in the table, 702 where it is no such pair
-unfoldable pub index_of : Pair → ℕ
+unfoldable pub index_of : List ℕ → ℕ
 index_of p =
-    pick (is_upper p.b)
-    (pick (eqb p.a (byte " ")) (p.b - byte "A") (pick (is_upper p.a) (26 * (p.a - byte "@") + (p.b - byte "A")) 702))
+    pick (eqb (length p) 2)
+    (pick (is_upper (get_or p 1 0))
+    (pick (eqb (get_or p 0 0) (byte " ")) (get_or p 1 0 - byte "A")
+    (pick (is_upper (get_or p 0 0)) (26 * (get_or p 0 0 - byte "@") + (get_or p 1 0 - byte "A")) 702))
+    702)
     702
 
 -- the atomic number, 0 for no element
-unfoldable pub atomic_of : Pair → ℕ
+unfoldable pub atomic_of : List ℕ → ℕ
 atomic_of p = get_or elements (index_of p) 0
 
-abbrev pub is_element : Pair → Bool
+abbrev pub is_element : List ℕ → Bool
 is_element p = ltb 0 (atomic_of p)
 
 -- the elements of nearly all atoms: C, N, O, H, S, P
-unfoldable pub usual_of : Pair → Bool
+unfoldable pub usual_of : List ℕ → Bool
 usual_of p =
-    both (same p.a (byte " "))
-    (either (either (same p.b (byte "C")) (either (same p.b (byte "N")) (same p.b (byte "O"))))
-    (either (same p.b (byte "H")) (either (same p.b (byte "S")) (same p.b (byte "P")))))
+    sized 2 p
+    (both (same (get_or p 0 0) (byte " "))
+    (either (either (same (get_or p 1 0) (byte "C")) (either (same (get_or p 1 0) (byte "N")) (same (get_or p 1 0) (byte "O"))))
+    (either (same (get_or p 1 0) (byte "H")) (either (same (get_or p 1 0) (byte "S")) (same (get_or p 1 0) (byte "P"))))))

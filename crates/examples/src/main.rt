@@ -3,17 +3,15 @@
 // A case is its length in two bytes, the low one first, and then its bytes.
 #![tactic(auto)]
 
-ghost use Rattle.std.specs.Prelude.{◌≤◌};
-
 use conect::Conect;
 use coordinate::{Atom, Identity, Measure, Position, Species};
 use fields::{ResidueNumber, Serial};
 use helix::{Comment, Extent, Helix};
-use line::{Answer, Record};
+use line::{Misread, Record};
 use master::Tally;
-use names::{Four, Pair, Three};
+use refusals::Refusal;
 use residue::Residue;
-use sheet::{Registration, Sheet, Strand};
+use sheet::{Sheet, Strand};
 use std::alloc::Global;
 use std::fs::File;
 use std::io::{BufWriter, Read, Write};
@@ -55,8 +53,7 @@ fn begins_with(out: &[u8; 100], text: &[u8]) -> bool {
 // Whether a record is written as the line that it was read from, and the buffer past the line is as found.
 fn writes_back(text: &[u8], r: Record) -> bool {
     let mut out = [FOUND; 100];
-    let n = line::write_record(&mut out, r);
-    if n != 0 {
+    if line::write_record(&mut out, r).is_err() {
         return false;
     }
     if begins_with(&out, text) {
@@ -68,11 +65,7 @@ fn writes_back(text: &[u8], r: Record) -> bool {
 // Whether a record that reading gave is refused with 17 where there is room for 79 bytes only, and the buffer is as found.
 fn needs_room(r: Record) -> bool {
     let mut out = [FOUND; 100];
-    let n = line::write_record(&mut out[..79], r);
-    if n == 17 {
-        return is_found(&out, 0);
-    }
-    false
+    line::write_record(&mut out[..79], r) == Err(Refusal::Room) && out == [FOUND; 100]
 }
 
 fn print_number(to: &mut impl Write, n: u8) -> io::Result<()> {
@@ -96,22 +89,15 @@ fn print_read(to: &mut impl Write, text: &[u8], r: Record) -> io::Result<()> {
 }
 
 fn print_case(to: &mut impl Write, text: &[u8]) -> io::Result<()> {
-    let a = line::read_line(text);
-    match a {
-        Answer::Read(r) => print_read(to, text, r),
-        Answer::Refused(n) => print_number(to, n),
-        Answer::Wrong(column) => print_wrong(to, column),
+    match line::read_line(text) {
+        Ok(r) => print_read(to, text, r),
+        Err(Misread::Refused(r)) => print_number(to, r.number()),
+        Err(Misread::Wrong(column)) => print_wrong(to, column.0),
     }
 }
 
-fn wide(b: u8) -> usize
-    ensures { result ≤ 255 }
-{
-    b as usize
-}
-
 fn length_of(head: &[u8; 2]) -> usize {
-    wide(head[0]) + 256 * wide(head[1])
+    u16::from_le_bytes(*head) as usize
 }
 
 // Reads a case of `n` bytes, and prints its line; answers whether it was whole.
@@ -182,22 +168,19 @@ fn one_file(rt: &HostRuntime, to: &mut impl Write, path: &str) -> io::Result<()>
 // Writes a record and prints the number, and ` written` unless the record is refused with 6 and the buffer is as found.
 fn print_write(to: &mut impl Write, r: Record) -> io::Result<()> {
     let mut out = [FOUND; 100];
-    let n = line::write_record(&mut out, r);
-    if n == 6 {
-        if is_found(&out, 0) {
-            return writeln!(to, "6");
-        }
+    let answer = line::write_record(&mut out, r);
+    if answer == Err(Refusal::Field) && out == [FOUND; 100] {
+        return writeln!(to, "6");
     }
-    writeln!(to, "{n} written")
+    match answer {
+        Ok(()) => writeln!(to, "0 written"),
+        Err(refused) => writeln!(to, "{} written", refused.number()),
+    }
 }
 
 fn glycine() -> Residue {
     Residue {
-        name: Three {
-            a: b'G',
-            b: b'L',
-            c: b'Y',
-        },
+        name: *b"GLY",
         chain: b'A',
         number: ResidueNumber(1),
         insertion: b' ',
@@ -205,12 +188,11 @@ fn glycine() -> Residue {
 }
 
 fn print_ter(to: &mut impl Write, serial: u32) -> io::Result<()> {
-    let r = glycine();
     print_write(
         to,
         Record::Ter(Ter {
             serial: Serial(serial),
-            residue: r,
+            residue: glycine(),
         }),
     )
 }
@@ -221,51 +203,44 @@ fn print_carbon(
     x: i32,
     occupancy: u32,
     temperature: i32,
-    name: Four,
+    name: [u8; 4],
 ) -> io::Result<()> {
-    let r = glycine();
     let identity = Identity {
         serial: Serial(1),
-        name: name,
+        name,
         alternate: b' ',
-        residue: r,
+        residue: glycine(),
     };
     let measure = Measure {
-        position: Position { x: x, y: 0, z: 0 },
-        occupancy: occupancy,
-        temperature: temperature,
+        position: Position { x, y: 0, z: 0 },
+        occupancy,
+        temperature,
     };
     let species = Species {
-        element: Pair { a: b' ', b: b'C' },
-        charge: Pair { a: b' ', b: b' ' },
+        element: *b" C",
+        charge: *b"  ",
     };
     print_write(
         to,
         Record::Coordinate(
             false,
             Atom {
-                identity: identity,
-                measure: measure,
-                species: species,
+                identity,
+                measure,
+                species,
             },
         ),
     )
 }
 
 fn print_helix(to: &mut impl Write, class: u32) -> io::Result<()> {
-    let first = glycine();
-    let last = glycine();
     let extent = Extent {
         serial: 1,
-        id: Three {
-            a: b' ',
-            b: b' ',
-            c: b'1',
-        },
-        first: first,
-        last: last,
+        id: *b"  1",
+        first: glycine(),
+        last: glycine(),
     };
-    let blank = Comment {
+    let comment = Comment {
         a: 0x2020202020202020,
         b: 0x2020202020202020,
         c: 0x20202020202020,
@@ -274,34 +249,28 @@ fn print_helix(to: &mut impl Write, class: u32) -> io::Result<()> {
     print_write(
         to,
         Record::Helix(Helix {
-            extent: extent,
-            class: class,
-            comment: blank,
+            extent,
+            class,
+            comment,
             length: 1,
         }),
     )
 }
 
 fn print_sheet(to: &mut impl Write, strand: u32, sense: i32) -> io::Result<()> {
-    let first = glycine();
-    let last = glycine();
-    let s = Strand {
-        strand: strand,
-        id: Three {
-            a: b' ',
-            b: b' ',
-            c: b'A',
-        },
+    let strand = Strand {
+        strand,
+        id: *b"  A",
         strands: 2,
-        first: first,
-        last: last,
-        sense: sense,
+        first: glycine(),
+        last: glycine(),
+        sense,
     };
     print_write(
         to,
         Record::Sheet(Sheet {
-            strand: s,
-            registration: Registration::Absent,
+            strand,
+            registration: None,
         }),
     )
 }
@@ -324,7 +293,7 @@ fn print_master(to: &mut impl Write, remark: u32, seq: u32) -> io::Result<()> {
     print_write(
         to,
         Record::Master(Tally {
-            remark: remark,
+            remark,
             het: 0,
             helix: 0,
             sheet: 0,
@@ -332,7 +301,7 @@ fn print_master(to: &mut impl Write, remark: u32, seq: u32) -> io::Result<()> {
             coord: 0,
             ter: 0,
             conect: 0,
-            seq: seq,
+            seq,
         }),
     )
 }
@@ -346,18 +315,8 @@ fn ters(to: &mut impl Write) -> io::Result<()> {
 }
 
 fn coordinates(to: &mut impl Write) -> io::Result<()> {
-    let alpha = Four {
-        a: b' ',
-        b: b'C',
-        c: b'A',
-        d: b' ',
-    };
-    let calcium = Four {
-        a: b'C',
-        b: b'A',
-        c: b' ',
-        d: b' ',
-    };
+    let alpha = *b" CA ";
+    let calcium = *b"CA  ";
     print_carbon(to, 0, 100, 0, alpha)?;
     print_carbon(to, 0, 101, 0, alpha)?;
     // A name that does not begin with its element.

@@ -1,4 +1,5 @@
 -- What the facets say of the records and the lines that they are not about: of each such one the same. Assumes nothing.
+use Rattle.std.proofs.Common.{None}
 use mathlib.Core.Path.{◌≡◌, refl}
 use mathlib.Core.Bool.{Bool}
 use Rattle.coordinate.specs.declared.Atom.{Atom}
@@ -12,15 +13,10 @@ use Rattle.line.specs.declared.Record.{Record}
 use Rattle.line.specs.declared.Record.TheVariants.{Coordinate, Ter, Helix, Sheet, Conect, Master, End, Model, Endmdl, Cell, Transform}
 use Rattle.pieces.specs.declared.Line.{Line}
 use Rattle.pieces.specs.declared.Line.TheVariants.{Bad, Wrong, Carried, Typed}
-use Rattle.facets.specs.declared.Spot.TheVariants.{Nowhere}
-use Rattle.facets.specs.declared.Bond.TheVariants.{Loose}
-use Rattle.facets.specs.declared.Fold.TheVariants.{Plain}
-use Rattle.facets.specs.declared.Total.TheVariants.{Uncounted}
-use Rattle.facets.specs.declared.Fence.TheVariants.{Unfenced}
 use Rattle.facets.specs.Facets.{spot_of, bond_of, fold_of, total_of, fence_of, of_line}
 
 -- all but coordinate lines and TER
-pub spot_others : (r : Record) → ((het : Bool) (a : Atom) → r ≡ Coordinate het a → ⊥) → ((t : ter.Ter) → r ≡ Ter t → ⊥) → spot_of r ≡ Nowhere
+pub spot_others : (r : Record) → ((het : Bool) (a : Atom) → r ≡ Coordinate het a → ⊥) → ((t : ter.Ter) → r ≡ Ter t → ⊥) → spot_of r ≡ None
 spot_others (Coordinate het a) e1 e2 = absurd (e1 het a refl)
 spot_others (Ter t) e1 e2 = absurd (e2 t refl)
 spot_others (Helix h) e1 e2 = refl
@@ -34,7 +30,7 @@ spot_others (Cell c) e1 e2 = refl
 spot_others (Transform scale axis t) e1 e2 = refl
 
 -- all but CONECT
-pub bond_others : (r : Record) → ((c : conect.Conect) → r ≡ Conect c → ⊥) → bond_of r ≡ Loose
+pub bond_others : (r : Record) → ((c : conect.Conect) → r ≡ Conect c → ⊥) → bond_of r ≡ None
 bond_others (Coordinate het a) e = refl
 bond_others (Ter t) e = refl
 bond_others (Helix h) e = refl
@@ -48,7 +44,7 @@ bond_others (Cell c) e = refl
 bond_others (Transform scale axis t) e = refl
 
 -- all but HELIX and SHEET
-pub fold_others : (r : Record) → ((h : helix.Helix) → r ≡ Helix h → ⊥) → ((s : sheet.Sheet) → r ≡ Sheet s → ⊥) → fold_of r ≡ Plain
+pub fold_others : (r : Record) → ((h : helix.Helix) → r ≡ Helix h → ⊥) → ((s : sheet.Sheet) → r ≡ Sheet s → ⊥) → fold_of r ≡ None
 fold_others (Coordinate het a) e1 e2 = refl
 fold_others (Ter t) e1 e2 = refl
 fold_others (Helix h) e1 e2 = absurd (e1 h refl)
@@ -62,7 +58,7 @@ fold_others (Cell c) e1 e2 = refl
 fold_others (Transform scale axis t) e1 e2 = refl
 
 -- all but MASTER
-pub total_others : (r : Record) → ((t : Tally) → r ≡ Master t → ⊥) → total_of r ≡ Uncounted
+pub total_others : (r : Record) → ((t : Tally) → r ≡ Master t → ⊥) → total_of r ≡ None
 total_others (Coordinate het a) e = refl
 total_others (Ter t) e = refl
 total_others (Helix h) e = refl
@@ -76,7 +72,7 @@ total_others (Cell c) e = refl
 total_others (Transform scale axis t) e = refl
 
 -- all but MODEL and ENDMDL
-pub fence_others : (r : Record) → ((m : model.Model) → r ≡ Model m → ⊥) → (r ≡ Endmdl → ⊥) → fence_of r ≡ Unfenced
+pub fence_others : (r : Record) → ((m : model.Model) → r ≡ Model m → ⊥) → (r ≡ Endmdl → ⊥) → fence_of r ≡ None
 fence_others (Coordinate het a) e1 e2 = refl
 fence_others (Ter t) e1 e2 = refl
 fence_others (Helix h) e1 e2 = refl

@@ -2,7 +2,7 @@
 #![tactic(auto)]
 
 ghost use Rattle.std.specs.Prelude.{◌≡◌};
-ghost use Rattle.facets.specs.Facets.{record_kind, line_kind, spot_of, spot_in, bond_of, bond_in, fold_of, total_of, total_in, fence_of, fence_in, is_spot, is_coord, is_bound, is_fence};
+ghost use Rattle.facets.specs.Facets.{record_kind, line_kind, spot_of, spot_in, bond_of, bond_in, fold_of, total_of, total_in, fence_of, fence_in, is_coord, is_fence};
 
 use conect::Conect;
 use coordinate::Atom;
@@ -18,14 +18,6 @@ use ter::Ter;
 pub enum Spot {
     Site(bool, Atom),
     Close(Ter),
-    Nowhere,
-}
-
-// CONECT.
-#[derive(Clone, Copy)]
-pub enum Bond {
-    Bonds(Conect),
-    Loose,
 }
 
 // HELIX by its serial, or SHEET by its strand.
@@ -33,14 +25,6 @@ pub enum Bond {
 pub enum Fold {
     Turn(u32),
     Rung(Strand),
-    Plain,
-}
-
-// MASTER.
-#[derive(Clone, Copy)]
-pub enum Total {
-    Counted(Tally),
-    Uncounted,
 }
 
 // What a model stands between: MODEL by its number, or ENDMDL.
@@ -48,7 +32,6 @@ pub enum Total {
 pub enum Fence {
     Opens(u32),
     Shuts,
-    Unfenced,
 }
 
 // The kind of a record's line.
@@ -87,126 +70,98 @@ pub fn line_kind(l: Line) -> Kind
     }
 }
 
-pub fn spot_of(r: Record) -> Spot
+// ATOM, HETATM or TER.
+pub fn spot_of(r: Record) -> Option<Spot>
     ensures { result ≡ spot_of r }
 {
     match r {
-        Record::Coordinate(het, a) => return Spot::Site(het, a),
-        Record::Ter(t) => return Spot::Close(t),
-        _ => (),
+        Record::Coordinate(het, a) => Some(Spot::Site(het, a)),
+        Record::Ter(t) => Some(Spot::Close(t)),
+        _ => None,
     }
-    Spot::Nowhere
 }
 
-pub fn spot_in(l: Line) -> Spot
+// The same of a line: one that is not typed has none.
+pub fn spot_in(l: Line) -> Option<Spot>
     ensures { result ≡ spot_in l }
 {
-    if let Line::Typed(r) = l {
-        return spot_of(r);
-    }
-    Spot::Nowhere
+    let Line::Typed(r) = l else { return None };
+    spot_of(r)
 }
 
-pub fn bond_of(r: Record) -> Bond
+// CONECT.
+pub fn bond_of(r: Record) -> Option<Conect>
     ensures { result ≡ bond_of r }
 {
-    if let Record::Conect(c) = r {
-        return Bond::Bonds(c);
+    match r {
+        Record::Conect(c) => Some(c),
+        _ => None,
     }
-    Bond::Loose
 }
 
-pub fn bond_in(l: Line) -> Bond
+pub fn bond_in(l: Line) -> Option<Conect>
     ensures { result ≡ bond_in l }
 {
-    if let Line::Typed(r) = l {
-        return bond_of(r);
-    }
-    Bond::Loose
+    let Line::Typed(r) = l else { return None };
+    bond_of(r)
 }
 
-pub fn fold_of(r: Record) -> Fold
+// HELIX or SHEET.
+pub fn fold_of(r: Record) -> Option<Fold>
     ensures { result ≡ fold_of r }
 {
     match r {
-        Record::Helix(h) => return Fold::Turn(h.extent.serial),
-        Record::Sheet(s) => {
-            let strand = s.strand;
-            return Fold::Rung(strand);
-        }
-        _ => (),
+        Record::Helix(h) => Some(Fold::Turn(h.extent.serial)),
+        Record::Sheet(s) => Some(Fold::Rung(s.strand)),
+        _ => None,
     }
-    Fold::Plain
 }
 
-pub fn total_of(r: Record) -> Total
+// MASTER.
+pub fn total_of(r: Record) -> Option<Tally>
     ensures { result ≡ total_of r }
 {
-    if let Record::Master(t) = r {
-        return Total::Counted(t);
+    match r {
+        Record::Master(t) => Some(t),
+        _ => None,
     }
-    Total::Uncounted
 }
 
-pub fn total_in(l: Line) -> Total
+pub fn total_in(l: Line) -> Option<Tally>
     ensures { result ≡ total_in l }
 {
-    if let Line::Typed(r) = l {
-        return total_of(r);
-    }
-    Total::Uncounted
+    let Line::Typed(r) = l else { return None };
+    total_of(r)
 }
 
-pub fn fence_of(r: Record) -> Fence
+// MODEL or ENDMDL.
+pub fn fence_of(r: Record) -> Option<Fence>
     ensures { result ≡ fence_of r }
 {
     match r {
-        Record::Model(m) => return Fence::Opens(m.number),
-        Record::Endmdl => return Fence::Shuts,
-        _ => (),
+        Record::Model(m) => Some(Fence::Opens(m.number)),
+        Record::Endmdl => Some(Fence::Shuts),
+        _ => None,
     }
-    Fence::Unfenced
 }
 
-pub fn fence_in(l: Line) -> Fence
+pub fn fence_in(l: Line) -> Option<Fence>
     ensures { result ≡ fence_in l }
 {
-    if let Line::Typed(r) = l {
-        return fence_of(r);
-    }
-    Fence::Unfenced
-}
-
-fn is_spot(p: Spot) -> bool
-    ensures { result ≡ is_spot p }
-{
-    match p {
-        Spot::Site(_, _) => true,
-        Spot::Close(_) => true,
-        Spot::Nowhere => false,
-    }
+    let Line::Typed(r) = l else { return None };
+    fence_of(r)
 }
 
 // Whether the line is an ATOM, HETATM or TER line.
 pub fn is_coord(l: Line) -> bool
     ensures { result ≡ is_coord l }
 {
-    is_spot(spot_in(l))
-}
-
-fn is_bound(e: Fence) -> bool
-    ensures { result ≡ is_bound e }
-{
-    match e {
-        Fence::Opens(_) => true,
-        Fence::Shuts => true,
-        Fence::Unfenced => false,
-    }
+    spot_in(l).is_some()
 }
 
 // Whether the line is a MODEL or ENDMDL line.
 pub fn is_fence(l: Line) -> bool
     ensures { result ≡ is_fence l }
 {
-    is_bound(fence_in(l))
+    fence_in(l).is_some()
 }

@@ -313,12 +313,3 @@ i32_middle {a} {b} h k =
     let small : nat_abs a + nat_abs b < 2 ^ 53 = lt_of_le_of_lt (add-le-add (i32_size h) (i32_size k)) (lit< tt) in
     ap (λ (x : Float). mul binary64 x (of_bits binary64 0x3fe0_0000_0000_0000)) (sum_exact a b small)
     ∙ half_exact (a +ℤ b) (abs_sum a b (2 ^ 53) small)
-
--- no other double has the value of an i32, nor that of half the sum of two
-pub i32_only : (x : Float) (z : ℤ) → SFits w32 z → T (fits binary64 x) → HasValue x (is_neg z) (nat_abs z) 1 → x ≡ exactly z 0
-i32_only x z h p v = exactly_only x z 0 (lt_of_le_of_lt (i32_size h) (lit< tt)) (lit≤ tt) p v
-
-pub middle_only : (x : Float) (a b : ℤ) → SFits w32 a → SFits w32 b → T (fits binary64 x)
-    → HasValue x (is_neg (a +ℤ b)) (nat_abs (a +ℤ b)) 2 → x ≡ exactly (a +ℤ b) 1
-middle_only x a b h k p v =
-    exactly_only x (a +ℤ b) 1 (abs_sum a b (2 ^ 53) (lt_of_le_of_lt (add-le-add (i32_size h) (i32_size k)) (lit< tt))) (lit≤ tt) p v

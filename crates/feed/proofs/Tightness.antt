@@ -2,10 +2,8 @@
 -- Assumes nothing.
 use mathlib.Core.Path.{◌≡◌, refl, sym, ap, ◌∙◌}
 use mathlib.Core.Logic.{◌⊎◌, inl, inr, ⊎_elim}
-use mathlib.Core.Bool.{Bool, true, false}
+use mathlib.Core.Bool.{true}
 use mathlib.Core.List.{List, [], ◌∷◌}
-use Prim.Native.Nat.{ℕ}
-use native.Mathlib.Omega.{arith}
 use lib.IntN.{ℤ}
 use lib.Signed.{lt_z, ◌≤ℤ◌, ≤ℤ_refl}
 use Rattle.ascii.proofs.Choice.{picks, never}
@@ -13,13 +11,11 @@ use Rattle.slots.specs.declared.Slot.{Slot}
 use Rattle.feed.specs.declared.Span.{Span}
 use Rattle.feed.specs.declared.Bounds.{Bounds}
 use Rattle.feed.specs.declared.Extent.{Extent}
-use Rattle.feed.specs.declared.Framed.{Framed}
-use Rattle.feed.specs.declared.Framed.TheVariants.{Around, Refused}
+use Rattle.std.specs.Prelude.{Option, Some, None, Ok, Err}
 use Rattle.feed.specs.Feed.{is_drawn}
-use Rattle.feed.specs.Frame.{lower, higher, at, widened, no_bounds, around, taken_in, bounds_from, extent_of, framed_of, frame_of}
-use Rattle.feed.specs.Promise.{Among, DrawnAmong, at_x, at_y, at_z, Reached, Tight, Bounding, Framing}
+use Rattle.feed.specs.Frame.{lower, higher, at, widened, no_bounds, around, taken_in, bounds_from, framed_of, frame_of}
+use Rattle.feed.specs.Promise.{Among, DrawnAmong, at_x, at_y, at_z, Reached, Tight, TightAll, Bounding, Framing}
 use Rattle.feed.proofs.Order.{le_through, le_same, low_left, low_right, high_left, high_right}
-use Rattle.feed.proofs.Returns.{frame_none}
 
 abbrev Slots : Type 1
 Slots = Slot → Type 0
@@ -37,13 +33,9 @@ module _ (P Q : Slots) (f : (a : Slot) → P a → Q a) (g : (a : Slot) → Q a 
     highest = reached_of axis s.high t.highest;
   }
 
-  bounding_of : (b : Bounds) → Bounding P b → Bounding Q b
-  bounding_of b h = record {
-    none = λ e a q. h.none e a (g a q);
-    x = λ e. tight_of at_x b.x (h.x e);
-    y = λ e. tight_of at_y b.y (h.y e);
-    z = λ e. tight_of at_z b.z (h.z e);
-  }
+  bounding_of : (b : Option Bounds) → Bounding P b → Bounding Q b
+  bounding_of None h = λ a q. h a (g a q)
+  bounding_of (Some b) h = record { x = tight_of at_x b.x h.x; y = tight_of at_y b.y h.y; z = tight_of at_z b.z h.z }
 
 -- ---- one slot more
 abbrev With : Slots → Slot → Slots
@@ -77,31 +69,29 @@ module _ (P : Slots) (axis : Slot → ℤ) (s : Slot) where
     highest = picks (Reached (With P s) axis) (lt_z r.high (axis s)) (axis s) r.high (λ _. itself) (λ _. earlier r.high t.highest);
   }
 
-bounding_around : (P : Slots) (b : Bounds) (s : Slot) → Bounding P b → Bounding (With P s) (around b s.position)
-bounding_around P b s h =
-    picks (Bounding (With P s)) b.any _ _
-    (λ e. record { none = λ f. never (sym f); x = λ _. tight_more P at_x s b.x (h.x e); y = λ _. tight_more P at_y s b.y (h.y e); z = λ _. tight_more P at_z s b.z (h.z e) })
-    (λ e. record { none = λ f. never (sym f); x = λ _. tight_first P at_x s (h.none e); y = λ _. tight_first P at_y s (h.none e); z = λ _. tight_first P at_z s (h.none e) })
+bounding_around : (P : Slots) (b : Option Bounds) (s : Slot) → Bounding P b → TightAll (With P s) (around b s.position)
+bounding_around P None s h = record { x = tight_first P at_x s h; y = tight_first P at_y s h; z = tight_first P at_z s h }
+bounding_around P (Some b) s h = record { x = tight_more P at_x s b.x h.x; y = tight_more P at_y s b.y h.y; z = tight_more P at_z s b.z h.z }
 
 -- ---- one slot more, if it is drawn
 abbrev Plus : Slots → Slot → Slots
 Plus P s a = ((a ≡ s) × (is_drawn a ≡ true)) ⊎ P a
 
-bounding_taken : (P : Slots) (b : Bounds) (s : Slot) → Bounding P b → Bounding (Plus P s) (taken_in b s)
+bounding_taken : (P : Slots) (b : Option Bounds) (s : Slot) → Bounding P b → Bounding (Plus P s) (taken_in b s)
 unfolding taken_in
 bounding_taken P b s h =
-    picks (Bounding (Plus P s)) (is_drawn s) (around b s.position) b
+    picks (Bounding (Plus P s)) (is_drawn s) (Some (around b s.position)) b
     (λ e. bounding_of (With P s) (Plus P s)
     (λ a w. ⊎_elim (λ (q : a ≡ s). inl (q, rw q e)) (λ p. inr p) w)
     (λ a w. ⊎_elim (λ (q : (a ≡ s) × (is_drawn a ≡ true)). inl q.0) (λ p. inr p) w)
-    (around b s.position) (bounding_around P b s h))
+    (Some (around b s.position)) (bounding_around P b s h))
     (λ e. bounding_of P (Plus P s)
     (λ a p. inr p)
     (λ a w. ⊎_elim (λ (q : (a ≡ s) × (is_drawn a ≡ true)). never (sym e ∙ sym (ap is_drawn q.0) ∙ q.1)) (λ p. p) w)
     b h)
 
 -- ---- some slots more
-bounding_from : (P : Slots) (b : Bounds) (ss : List Slot) → Bounding P b → Bounding (λ a. P a ⊎ DrawnAmong ss a) (bounds_from b ss)
+bounding_from : (P : Slots) (b : Option Bounds) (ss : List Slot) → Bounding P b → Bounding (λ a. P a ⊎ DrawnAmong ss a) (bounds_from b ss)
 unfolding bounds_from
 bounding_from P b [] h = bounding_of P (λ a. P a ⊎ DrawnAmong [] a) (λ a p. inl p) (λ a w. ⊎_elim (λ p. p) (λ (q : DrawnAmong [] a). absurd q.0) w) b h
 bounding_from P b (s ∷ ss) h =
@@ -122,36 +112,33 @@ bounding_from P b (s ∷ ss) h =
 pub bounding : (ss : List Slot) → Bounding (DrawnAmong ss) (bounds_from no_bounds ss)
 bounding ss =
     bounding_of (λ a. ⊥ ⊎ DrawnAmong ss a) (DrawnAmong ss) (λ a w. ⊎_elim (λ (p : ⊥). absurd p) (λ d. d) w) (λ a d. inr d) (bounds_from no_bounds ss)
-    (bounding_from (λ a. ⊥) no_bounds ss (record { none = λ _ a p. p; x = λ e. never e; y = λ e. never e; z = λ e. never e }))
+    (bounding_from (λ a. ⊥) no_bounds ss (λ a p. p))
 
 -- ---- the frame
-pub frame_bounds : (ss : List Slot) (e : Extent) → frame_of ss ≡ Around e → Framing ss e
+pub frame_bounds : (ss : List Slot) (e : Extent) → frame_of ss ≡ Ok e → Framing ss e
 unfolding framed_of
 frame_bounds ss e h = go (bounds_from no_bounds ss) (bounding ss) h
   where
-    go : (b : Bounds) → Bounding (DrawnAmong ss) b → framed_of b ≡ Around e → Framing ss e
-    go b k = picks (λ (r : Framed). r ≡ Around e → Framing ss e) b.any (Around (extent_of b)) (Refused 19)
-        (λ t q. record { bounds = b; made = (cc); any = t; bounding = k })
-        (λ _ q. let z : ◌≡◌ {A = ℕ} 0 1 = cc in absurd (omega arith))
+    go : (b : Option Bounds) → Bounding (DrawnAmong ss) b → framed_of b ≡ Ok e → Framing ss e
+    go None k q = cc
+    go (Some b) k q = record { bounds = b; made = (cc); bounding = k }
 
 -- 19 exactly where no slot is drawn
-pub frame_refused : (ss : List Slot) → frame_of ss ≡ Refused 19 → (a : Slot) → DrawnAmong ss a → ⊥
+pub frame_refused : (ss : List Slot) → frame_of ss ≡ Err 19 → (a : Slot) → DrawnAmong ss a → ⊥
 unfolding framed_of
 frame_refused ss h = go (bounds_from no_bounds ss) (bounding ss) h
   where
-    go : (b : Bounds) → Bounding (DrawnAmong ss) b → framed_of b ≡ Refused 19 → (a : Slot) → DrawnAmong ss a → ⊥
-    go b k = picks (λ (r : Framed). r ≡ Refused 19 → (a : Slot) → DrawnAmong ss a → ⊥) b.any (Around (extent_of b)) (Refused 19)
-        (λ _ q. let z : ◌≡◌ {A = ℕ} 0 1 = cc in absurd (omega arith))
-        (λ t _. k.none t)
+    go : (b : Option Bounds) → Bounding (DrawnAmong ss) b → framed_of b ≡ Err 19 → (a : Slot) → DrawnAmong ss a → ⊥
+    go None k q = k
+    go (Some b) k q = λ a d. cc
 
-pub refused_frame : (ss : List Slot) → ((a : Slot) → DrawnAmong ss a → ⊥) → frame_of ss ≡ Refused 19
+pub refused_frame : (ss : List Slot) → ((a : Slot) → DrawnAmong ss a → ⊥) → frame_of ss ≡ Err 19
 unfolding framed_of
 refused_frame ss none = go (bounds_from no_bounds ss) (bounding ss)
   where
-    go : (b : Bounds) → Bounding (DrawnAmong ss) b → framed_of b ≡ Refused 19
-    go b k = picks (λ (r : Framed). r ≡ Refused 19) b.any (Around (extent_of b)) (Refused 19)
-        (λ t. let r = (k.x t).lowest in absurd (none r.slot r.one))
-        (λ _. refl)
+    go : (b : Option Bounds) → Bounding (DrawnAmong ss) b → framed_of b ≡ Err 19
+    go None k = refl
+    go (Some b) k = absurd (none k.x.lowest.slot k.x.lowest.one)
 
 -- ---- there is one such frame
 module _ (P : Slots) (axis : Slot → ℤ) (s t : Span) (h : Tight P axis s) (k : Tight P axis t) where
@@ -167,20 +154,16 @@ tight_one P axis s t h k =
     let q = le_same s.high t.high (high_over P axis t s k h) (high_over P axis s t h k) in
     λ i. record { low = p i; high = q i }
 
-same_frame : (P : Slots) (b c : Bounds) → Bounding P b → Bounding P c → framed_of b ≡ framed_of c
-same_frame P b c h k = go b.any c.any refl refl
-  where
-    go : (t u : Bool) → b.any ≡ t → c.any ≡ u → framed_of b ≡ framed_of c
-    go true true e f =
-        ap framed_of (λ i. record {
-          any = (e ∙ sym f) i;
-          x = tight_one P at_x b.x c.x (h.x e) (k.x f) i;
-          y = tight_one P at_y b.y c.y (h.y e) (k.y f) i;
-          z = tight_one P at_z b.z c.z (h.z e) (k.z f) i;
-        })
-    go true false e f = let r = (h.x e).lowest in absurd (k.none f r.slot r.one)
-    go false true e f = let r = (k.x f).lowest in absurd (h.none e r.slot r.one)
-    go false false e f = sym (frame_none b e) ∙ frame_none c f
+same_frame : (P : Slots) (b c : Option Bounds) → Bounding P b → Bounding P c → framed_of b ≡ framed_of c
+same_frame P None None h k = refl
+same_frame P None (Some c) h k = absurd (h k.x.lowest.slot k.x.lowest.one)
+same_frame P (Some b) None h k = absurd (k h.x.lowest.slot h.x.lowest.one)
+same_frame P (Some b) (Some c) h k =
+    ap (λ (d : Bounds). framed_of (Some d)) (λ i. record {
+      x = tight_one P at_x b.x c.x h.x k.x i;
+      y = tight_one P at_y b.y c.y h.y k.y i;
+      z = tight_one P at_z b.z c.z h.z k.z i;
+    })
 
 -- slots in another order, or written twice, have the same frame
 pub order_free : (xs ys : List Slot) → ((a : Slot) → Among xs a → Among ys a) → ((a : Slot) → Among ys a → Among xs a) → frame_of xs ≡ frame_of ys

@@ -1,9 +1,9 @@
 -- The frame of the drawn atoms among some slots: lowest, highest and middle on each axis.
-use Rattle.ascii.specs.Library.{true, false, List, [], ℤ, pos, lt_z, pick}
-use Rattle.std.specs.Prelude.{◌∷◌, ◌+ℤ◌, Float}
+use Rattle.ascii.specs.Library.{ℕ, List, [], ℤ, lt_z, pick}
+use Rattle.std.specs.Prelude.{◌∷◌, ◌+ℤ◌, Float, Option, Some, None, Result, Ok, Err}
 use Rattle.coordinate.specs.declared.{Position.Position}
 use Rattle.slots.specs.declared.{Slot.Slot}
-use Rattle.feed.specs.declared.{Span.Span, Bounds.Bounds, Extent.Extent, Framed.Framed, Framed.TheVariants.Around, Framed.TheVariants.Refused}
+use Rattle.feed.specs.declared.{Span.Span, Bounds.Bounds, Extent.Extent}
 use Rattle.feed.specs.Exact.{whole, half}
 use Rattle.feed.specs.Feed.{is_drawn}
 
@@ -29,22 +29,20 @@ middle_of s = half (s.low +ℤ s.high)
 
 -- ---- three axes
 -- nothing drawn so far
-abbrev pub no_bounds : Bounds
-no_bounds = record { any = false; x = at (pos 0); y = at (pos 0); z = at (pos 0) }
+abbrev pub no_bounds : Option Bounds
+no_bounds = None
 
 -- the bounds with one atom more
-abbrev pub around : Bounds → Position → Bounds
-around b p =
-    pick b.any
-    (record { any = true; x = widened b.x p.x; y = widened b.y p.y; z = widened b.z p.z })
-    (record { any = true; x = at p.x; y = at p.y; z = at p.z })
+abbrev pub around : Option Bounds → Position → Bounds
+around None p = record { x = at p.x; y = at p.y; z = at p.z }
+around (Some b) p = record { x = widened b.x p.x; y = widened b.y p.y; z = widened b.z p.z }
 
 -- a slot that is not drawn changes nothing
-unfoldable pub taken_in : Bounds → Slot → Bounds
-taken_in b s = pick (is_drawn s) (around b s.position) b
+unfoldable pub taken_in : Option Bounds → Slot → Option Bounds
+taken_in b s = pick (is_drawn s) (Some (around b s.position)) b
 
 -- the slots taken in from the first on
-unfoldable pub bounds_from : Bounds → List Slot → Bounds
+unfoldable pub bounds_from : Option Bounds → List Slot → Option Bounds
 bounds_from b [] = b
 bounds_from b (s ∷ ss) = bounds_from (taken_in b s) ss
 
@@ -64,9 +62,10 @@ extent_of b =
     }
 
 -- 19: no atom is drawn
-unfoldable pub framed_of : Bounds → Framed
-framed_of b = pick b.any (Around (extent_of b)) (Refused 19)
+unfoldable pub framed_of : Option Bounds → Result Extent ℕ
+framed_of None = Err 19
+framed_of (Some b) = Ok (extent_of b)
 
 -- the frame of some slots
-abbrev pub frame_of : List Slot → Framed
+abbrev pub frame_of : List Slot → Result Extent ℕ
 frame_of ss = framed_of (bounds_from no_bounds ss)

@@ -1,12 +1,12 @@
 -- What is promised of drawings and frames beyond their definitions: the statements. They are proved in proofs/.
-use Rattle.ascii.specs.Library.{ℕ, true, false, List, [], ℤ, nat_abs}
-use Rattle.std.specs.Prelude.{◌<◌, ◌≤◌, ◌≡◌, ◌⊎◌, ◌∷◌, ◌≤ℤ◌, ◌^◌, T, Float}
+use Rattle.ascii.specs.Library.{ℕ, true, List, [], ℤ, nat_abs}
+use Rattle.std.specs.Prelude.{◌<◌, ◌≤◌, ◌≡◌, ◌⊎◌, ◌∷◌, ◌≤ℤ◌, ◌^◌, T, Float, Option, Some, None, Ok, Err}
 use Rattle.std.specs.Float.{binary64}
 use Rattle.std.specs.Float.Ieee.{fits}
 use Rattle.std.specs.Float.Ieee.Exact.{HasValue}
 use Rattle.fields.specs.Field.{is_neg}
 use Rattle.slots.specs.declared.{Slot.Slot}
-use Rattle.feed.specs.declared.{Span.Span, Bounds.Bounds, Extent.Extent, Framed.TheVariants.Around, Framed.TheVariants.Refused}
+use Rattle.feed.specs.declared.{Span.Span, Bounds.Bounds, Extent.Extent}
 use Rattle.feed.specs.Exact.{exactly}
 use Rattle.feed.specs.Feed.{is_drawn, dot_of, stroke_of}
 use Rattle.feed.specs.Frame.{extent_of, frame_of}
@@ -49,19 +49,22 @@ pub record Tight (P : Slot → Type 0) (axis : Slot → ℤ) (s : Span) : Type 0
   pub lowest : Reached P axis s.low
   pub highest : Reached P axis s.high
 
--- so on all three axes, where there is a slot at all
-pub record Bounding (P : Slot → Type 0) (b : Bounds) : Type 0 where
-  pub none : b.any ≡ false → (a : Slot) → P a → ⊥
-  pub x : b.any ≡ true → Tight P at_x b.x
-  pub y : b.any ≡ true → Tight P at_y b.y
-  pub z : b.any ≡ true → Tight P at_z b.z
+-- so on all three axes
+pub record TightAll (P : Slot → Type 0) (b : Bounds) : Type 0 where
+  pub x : Tight P at_x b.x
+  pub y : Tight P at_y b.y
+  pub z : Tight P at_z b.z
+
+-- where there is a slot at all
+abbrev pub Bounding : (P : Slot → Type 0) → Option Bounds → Type 0
+Bounding P None = (a : Slot) → P a → ⊥
+Bounding P (Some b) = TightAll P b
 
 -- the frame is of such bounds
 pub record Framing (ss : List Slot) (e : Extent) : Type 0 where
   pub bounds : Bounds
   pub made : e ≡ extent_of bounds
-  pub any : bounds.any ≡ true
-  pub bounding : Bounding (DrawnAmong ss) bounds
+  pub bounding : Bounding (DrawnAmong ss) (Some bounds)
 
 -- ---- all of it
 pub record Promises : Type 0 where
@@ -73,10 +76,10 @@ pub record Promises : Type 0 where
   pub only : (x : Float) (z : ℤ) (l : ℕ) → nat_abs z < 2 ^ 53 → l ≤ 1074 → T (fits binary64 x) → HasValue x (is_neg z) (nat_abs z) (2 ^ l)
       → x ≡ exactly z l
   -- lowest and highest bound every atom that is drawn, and each is reached by one
-  pub framed : (ss : List Slot) (e : Extent) → frame_of ss ≡ Around e → Framing ss e
+  pub framed : (ss : List Slot) (e : Extent) → frame_of ss ≡ Ok e → Framing ss e
   -- 19 exactly where no atom is drawn
-  pub refused : (ss : List Slot) → frame_of ss ≡ Refused 19 → (a : Slot) → DrawnAmong ss a → ⊥
-  pub none_drawn : (ss : List Slot) → ((a : Slot) → DrawnAmong ss a → ⊥) → frame_of ss ≡ Refused 19
+  pub refused : (ss : List Slot) → frame_of ss ≡ Err 19 → (a : Slot) → DrawnAmong ss a → ⊥
+  pub none_drawn : (ss : List Slot) → ((a : Slot) → DrawnAmong ss a → ⊥) → frame_of ss ≡ Err 19
   -- slots in another order, or twice, have the same frame
   pub order_free : (xs ys : List Slot) → ((a : Slot) → Among xs a → Among ys a) → ((a : Slot) → Among ys a → Among xs a)
       → frame_of xs ≡ frame_of ys

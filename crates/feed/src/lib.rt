@@ -5,20 +5,29 @@ mod doubles;
 mod framing;
 
 ghost use Rattle.std.specs.Prelude.{◌≡◌};
-ghost use Rattle.feed.specs.Feed.{is_drawn, dot_of, stroke_of};
+ghost use Rattle.refusals.specs.Numbers.{numbered};
+ghost use Rattle.feed.specs.Feed.{is_drawn, point_of, dot_of, stroke_of};
 ghost use Rattle.feed.specs.Frame.{frame_of};
 
+use coordinate::Position;
 pub use doubles::{exact, middle};
-pub use framing::{frame_of, no_bounds, take_in};
+pub use framing::{frame_of, take_in};
+use refusals::Refusal;
 use slots::Slot;
 
-// What the renderer is handed, in thousandths.
+// Coordinates in thousandths, as the renderer is handed them.
 #[derive(Clone, Copy)]
-pub enum Drawn {
-    Dot(f64, f64, f64),
-    // From the first atom to the second.
-    Stroke(f64, f64, f64, f64, f64, f64),
-    Nothing,
+pub struct Point {
+    pub x: f64,
+    pub y: f64,
+    pub z: f64,
+}
+
+// The ends of a stroke, from the first atom to the second.
+#[derive(Clone, Copy)]
+pub struct Ends {
+    pub from: Point,
+    pub to: Point,
 }
 
 // Lowest and highest thousandths on one axis.
@@ -28,10 +37,9 @@ pub struct Span {
     pub high: i32,
 }
 
-// The spans of the atoms drawn so far; `any` is false before the first.
+// The spans of the atoms drawn so far.
 #[derive(Clone, Copy)]
 pub struct Bounds {
-    pub any: bool,
     pub x: Span,
     pub y: Span,
     pub z: Span,
@@ -52,56 +60,50 @@ pub struct Extent {
     pub mz: f64,
 }
 
-#[derive(Clone, Copy)]
-pub enum Framed {
-    Around(Extent),
-    // The number of the refusal.
-    Refused(u8),
-}
-
 const ATOM: u8 = 1;
 
 const HETATM: u8 = 2;
 
 const IN: u8 = 0;
 
-pub fn dot(s: Slot) -> Drawn
-    ensures { result ≡ dot_of s }
+fn exact_point(p: Position) -> Point
+    ensures { result ≡ point_of p }
 {
-    let p = s.position;
-    if is_drawn(s) {
-        return Drawn::Dot(exact(p.x), exact(p.y), exact(p.z));
+    Point {
+        x: exact(p.x),
+        y: exact(p.y),
+        z: exact(p.z),
     }
-    Drawn::Nothing
 }
 
-pub fn stroke(a: Slot, b: Slot) -> Drawn
+// The dot of a slot, if it is drawn.
+pub fn dot(s: Slot) -> Option<Point>
+    ensures { result ≡ dot_of s }
+{
+    if is_drawn(s) {
+        Some(exact_point(s.position))
+    } else {
+        None
+    }
+}
+
+// The stroke between two slots, if both are drawn.
+pub fn stroke(a: Slot, b: Slot) -> Option<Ends>
     ensures { result ≡ stroke_of a b }
 {
-    let p = a.position;
-    let q = b.position;
-    if ascii::both_of(is_drawn(a), is_drawn(b)) {
-        return Drawn::Stroke(
-            exact(p.x),
-            exact(p.y),
-            exact(p.z),
-            exact(q.x),
-            exact(q.y),
-            exact(q.z),
-        );
-    }
-    Drawn::Nothing
+    Some(Ends {
+        from: dot(a)?,
+        to: dot(b)?,
+    })
 }
 
 // The frame of the drawn atoms of a table; 19 where there is none.
-pub fn frame(table: &[Slot]) -> Framed
-    ensures { result ≡ frame_of table.now }
+pub fn frame(table: &[Slot]) -> Result<Extent, Refusal>
+    ensures { numbered result ≡ frame_of table.now }
 {
-    let mut b = no_bounds();
-    let mut i = 0;
-    while i < table.len() {
-        b = take_in(b, table[i]);
-        i += 1;
+    let mut b = None;
+    for s in table {
+        b = take_in(b, *s);
     }
     frame_of(b)
 }
@@ -110,6 +112,5 @@ pub fn frame(table: &[Slot]) -> Framed
 pub fn is_drawn(s: Slot) -> bool
     ensures { result ≡ is_drawn s }
 {
-    let atom = ascii::either_of(s.kind == ATOM, s.kind == HETATM);
-    ascii::both_of(s.mark == IN, atom)
+    s.mark == IN && (s.kind == ATOM || s.kind == HETATM)
 }

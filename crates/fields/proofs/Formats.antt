@@ -22,8 +22,8 @@ use Rattle.ascii.specs.Tests.{pick, both}
 use Rattle.columns.specs.Columns.{gap_of, blanks, cols, blamed_of, first_of, leftmost}
 use Rattle.numbers.specs.declared.Number.{Number}
 use Rattle.numbers.specs.Number.{render, number_of}
-use Rattle.fields.specs.declared.Whole.{Whole}
-use Rattle.fields.specs.declared.Signed.{Signed}
+use Rattle.fields.specs.Field.{Whole}
+use Rattle.fields.specs.Field.{Signed}
 use Rattle.fields.specs.Field.{signed_of, is_neg, cap_of, whole_in, wrong_whole, integer_in, wrong_signed, ranged_of, spans_of}
 use Rattle.fields.specs.Format.{Field, leftmost_wrong, SideBySide, blank_fields, same_bytes, Format, sole, ranged_f, whole_f, whole_real_f, signed_f, integer_f, real_f, raw_f, none_f, ◌then◌, after, held, under, shut}
 use Rattle.fields.proofs.Caps.{cap_law}

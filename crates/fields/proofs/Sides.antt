@@ -9,6 +9,7 @@ use native.Mathlib.Omega.{arith}
 use lib.Dec.{eqb}
 use borrow.Author.Tests.{eqb-true, eqb-false, eq-eqb}
 use Rattle.ascii.specs.Tests.{pick, both}
+use Rattle.ascii.proofs.Bools.{both_true}
 use Rattle.ascii.proofs.Choice.{both_split, both_join}
 use Rattle.columns.specs.Columns.{blame, blamed_of, leftmost, first_of, blank_at, gap_of}
 use Rattle.fields.specs.Format.{Field, same_bytes, blank_fields, with_rule, leftmost_wrong, SideBySide, Among, Leftmost}
@@ -45,7 +46,7 @@ wrong_append c e (f ∷ xs) ys h s = go (wrong_append (c + f.width) e xs ys (ome
     go r false = sym (first_pos f.column (leftmost_wrong ys) (omega (arith, s.0)))
 
 -- the leftmost wrong one, if any, is among them
-wrong_low : (c e : ℕ) (xs : List Field) → SideBySide c xs e → (leftmost_wrong xs ≡ 0) ⊎ (c ≤ leftmost_wrong xs)
+pub wrong_low : (c e : ℕ) (xs : List Field) → SideBySide c xs e → (leftmost_wrong xs ≡ 0) ⊎ (c ≤ leftmost_wrong xs)
 unfolding leftmost_wrong SideBySide
 wrong_low c e [] s = inl refl
 wrong_low c e (f ∷ xs) s = go (wrong_low (c + f.width) e xs s.1) f.right
@@ -94,11 +95,6 @@ pub rule_side : (c : ℕ) (holds : Bool) (d e : ℕ) (xs : List Field) → SideB
 unfolding SideBySide
 rule_side c holds d e [] s = s
 rule_side c holds d e (f ∷ xs) s = (s.0, rule_side c holds (d + f.width) e xs s.1)
-
-both_true : (a : Bool) → both a true ≡ a
-unfolding both
-both_true true = refl
-both_true false = refl
 
 pick_same : (b a : Bool) → pick b a a ≡ a
 pick_same true a = refl

@@ -3,7 +3,9 @@ use Rattle.std.specs.Prelude.{◌+◌, ◌*◌}
 use Rattle.ascii.specs.Library.{ℕ, zero, suc, max, List, Bool, true, false, leb, ltb, eqb, ℤ, pos, negsuc, nat_abs, pick, both, alike}
 use Rattle.numbers.specs.declared.{Number.Number}
 use Rattle.numbers.specs.Number.{number_of}
-use Rattle.fields.specs.declared.{Whole.Whole, Signed.Signed}
+use Rattle.std.specs.Prelude.{Result}
+use Rattle.columns.specs.declared.{Column.Column}
+use Rattle.columns.specs.Answers.{read_as}
 
 -- the integer of a sign and a magnitude
 unfoldable pub signed_of : Bool → ℕ → ℤ
@@ -27,6 +29,21 @@ cap_of (suc zero) zero m = pick m 0 10
 cap_of (suc (suc n)) zero m = 10 * max 1 (cap_of (suc n) 0 m)
 cap_of (suc n) (suc zero) m = cap_of n 0 m
 cap_of (suc n) (suc (suc e)) m = 10 * cap_of n (suc e) m
+
+-- a field that is judged: the column of its fault, or 0, and its value
+pub record Judged (A : Type 0) : Type 0 where
+  pub column : ℕ
+  pub value : A
+
+abbrev pub Whole : Type 0
+Whole = Judged ℕ
+
+abbrev pub Signed : Type 0
+Signed = Judged ℤ
+
+-- what its reader answers
+abbrev pub read_in : {A : Type 0} → Judged A → Result A Column
+read_in r = read_as r.column r.value
 
 -- a wrong field: its first column, and no value
 abbrev pub wrong_whole : ℕ → Whole

@@ -1,6 +1,9 @@
 -- Formats: a run of columns, with its fields, what it means and how it is written. l is a line, and `at` the index of the format's first column.
 use Rattle.std.specs.Prelude.{◌+◌, ◌<◌, ◌⊎◌, ◌∷◌, ◌++◌, ◌≡◌}
 use Rattle.ascii.specs.Library.{ℕ, zero, suc, List, [], map, Bool, true, false, length, get_or, drop, eqb, ltb, ℤ, nat_abs, byte, pick, both}
+use Rattle.std.specs.Prelude.{Result}
+use Rattle.columns.specs.declared.{Column.Column}
+use Rattle.columns.specs.Answers.{read_as}
 use Rattle.columns.specs.Columns.{cols, blame, blamed_of, leftmost, first_of, gap_of, blanks}
 use Rattle.numbers.specs.Number.{render}
 use Rattle.fields.specs.Field.{is_neg, ranged_number, signed_number, ranged_of, spans_of}
@@ -66,6 +69,10 @@ pub record Format (A : Type 0) : Type 1 where
   pub text : A → List ℕ
   -- whether a value is within its range
   pub ok : A → Bool
+
+-- what a reader of a format answers: the value where nothing is wrong, else the fault
+abbrev pub read_of : {A : Type 0} → Format A → List ℕ → ℕ → Result A Column
+read_of F l at = read_as (F.fault l at) (F.value l at)
 
 -- one field: it is right where it is what the value that it means is written as, and that value is within its range
 abbrev pub sole : {A : Type 0} → ℕ → (List ℕ → ℕ → ℕ) → (List ℕ → ℕ → A) → (A → List ℕ) → (A → Bool) → Format A

@@ -8,7 +8,7 @@ use Prim.Native.Nat.{ℕ, zero, suc, ◌+◌, ◌*◌, ◌/◌, ◌≤◌, ◌<�
 use native.Mathlib.Omega.{arith}
 use lib.Dec.{T, eqb, leb, ltb}
 use lib.ListN.{length, get_or, take, drop, length-take, length-drop}
-use lib.Seq.{get_or-drop, get_or-take}
+use lib.Seq.{get_or-take}
 use borrow.Author.Tests.{eqb-true, eq-eqb, ne_eqb, leb-true, leb-false, lt-ltb, le-ltb, ltb-true, ltb-false}
 use Rattle.ascii.specs.Tests.{pick, both, either}
 use Rattle.ascii.proofs.Choice.{picks, never, either_split}
@@ -19,15 +19,14 @@ use Rattle.kinds.specs.declared.Kind.{Kind}
 use Rattle.kinds.specs.declared.Kind.TheVariants as kind
 use Rattle.kinds.specs.Kinds.{row_of, name_text, is, kind_named, kind_of}
 use Rattle.kinds.proofs.First.{name_first, same_name, each}
-use Rattle.serials.proofs.Rows.{bad_number}
 use Rattle.transform.specs.declared.Axis.{Axis}
 use Rattle.transform.specs.declared.Axis.TheVariants.{X, Y, Z}
 use Rattle.transform.specs.Transforms.{transform_f, transform_kind}
 use Rattle.line.specs.declared.Record.{Record}
 use Rattle.line.specs.declared.Record.TheVariants as rec
-use Rattle.line.specs.declared.Reading.{Reading}
-use Rattle.line.specs.declared.Reading.TheVariants as reading
-use Rattle.line.specs.Lines.{judged, reading_of, crystal_read}
+use Rattle.std.specs.Prelude.{Result, Ok, Err}
+use Rattle.line.specs.declared.unread.Unread.TheVariants as unread
+use Rattle.line.specs.Lines.{Reading, judged, reading_of, crystal_read}
 use Rattle.pieces.specs.declared.Line.{Line}
 use Rattle.pieces.specs.declared.Line.TheVariants.{Bad, Wrong, Carried, Typed}
 use Rattle.pieces.specs.Pieces.{line_in, columns_of, line_of}
@@ -37,26 +36,23 @@ use Rattle.places.proofs.Laws.{place_low, place_high}
 use Rattle.rules.specs.declared.Looked.{Looked}
 use Rattle.rules.specs.declared.State.{State}
 use Rattle.rules.specs.Rules.{judge_of, next_of, carried_next, typed_next, start_of}
-use Rattle.rules.proofs.Laws.{judge_typed, judge_carried, judge_wrong}
+use Rattle.rules.proofs.Laws.{judge_typed, judge_carried, judge_bad, judge_wrong}
 use Rattle.rows.specs.Text.{piece_at, row, down}
 use Rattle.gate.specs.Gate.{look_of, check_of}
 use Rattle.gate.proofs.Runs.{state_at, GoodTo, answered}
 use Rattle.fractional.specs.declared.Rows.{Rows}
-use Rattle.fractional.specs.declared.Scale.TheVariants as scale
-use Rattle.fractional.specs.Scale.{is_scale, scale_from, scale_at, row_at, rows_at, scale_of}
+use Rattle.fractional.specs.Scale.{is_scale, scale_from, scale_at, row_at, rows_at, Right, scale_of}
 use Rattle.fractional.specs.Promise.{Scales}
+use Rattle.refusals.specs.declared.Refusal.TheVariants as refusal
 
--- ---- the name of a line in the text
+-- ---- the name of a line
 word_same : (l m : List ℕ) (a b n : ℕ) → ((k : ℕ) → k < n → get_or l (a + k) 0 ≡ get_or m (b + k) 0) → word_at l a n ≡ word_at m b n
 unfolding word_at
 word_same l m a b zero f = refl
 word_same l m a b (suc n) f = rw (word_same l m a b n (λ k h. f k (omega arith)), f n (omega arith))
 
-word_piece : (t : List ℕ) (i : ℕ) → word_at t (81 * i) 6 ≡ word_at (take 80 (piece_at t i)) 0 6
-unfolding piece_at
-word_piece t i =
-    word_same t (take 80 (take 81 (drop (81 * i) t))) (81 * i) 0 6
-    (λ k h. let z : 0 + k ≡ k = omega arith in rw z (sym (get_or-drop (81 * i) t k 0) ∙ sym (get_or-take 81 (drop (81 * i) t) k 0 (omega arith)) ∙ sym (get_or-take 80 (take 81 (drop (81 * i) t)) k 0 (omega arith))))
+word_piece : (p : List ℕ) → word_at p 0 6 ≡ word_at (take 80 p) 0 6
+word_piece p = word_same p (take 80 p) 0 0 6 (λ k h. let z : 0 + k ≡ k = omega arith in rw z (sym (get_or-take 80 p k 0 (omega arith))))
 
 word_name : (l : List ℕ) → take 6 l ≡ name_text kind.Scale1 → word_at l 0 6 ≡ (row_of kind.Scale1).name
 unfolding word_at
@@ -80,7 +76,7 @@ piece_good t i look s j = go (ltb (length p) 81) refl (eqb (get_or p 80 0) 10) r
     inner = line_in (kind_of (take 80 p)) (reading_of (kind_of (take 80 p)) (take 80 p))
 
     go : (a : Bool) → ltb (length p) 81 ≡ a → (b : Bool) → eqb (get_or p 80 0) 10 ≡ b → (c : Bool) → clean_at (take 80 p) 0 80 ≡ c
-        → judge_of look s (pick a (Bad 1) (pick b (pick c inner (Bad 3)) (Bad 2))) ≡ 0 → Piece t i
+        → judge_of look s (pick a (Bad refusal.Length) (pick b (pick c inner (Bad refusal.Byte)) (Bad refusal.LineEnd))) ≡ 0 → Piece t i
     go true ea b eb c ec e = absurd (omega arith)
     go false ea true eb true ec e = record { long = ltb-false _ _ ea; clean = ec; reads = rw (ea, eb, ec) }
     go false ea true eb false ec e = absurd (omega arith)
@@ -89,7 +85,7 @@ piece_good t i look s j = go (ltb (length p) 81) refl (eqb (get_or p 80 0) 10) r
 -- ---- the kind of a good line
 judged_kind : (k : Kind) (c : ℕ) (r : Record) → record_kind r ≡ k → line_kind (line_in k (judged c r)) ≡ k
 unfolding judged
-judged_kind k c r e = picks (λ (x : Reading). line_kind (line_in k x) ≡ k) (eqb c 0) (reading.Typed r) (reading.Wrong c) (λ _. e) (λ _. refl)
+judged_kind k c r e = picks (λ (x : Reading). line_kind (line_in k x) ≡ k) (eqb c 0) (Ok r) (Err (unread.Wrong (record { 0 = c }))) (λ _. e) (λ _. refl)
 
 line_kind_lem : (k : Kind) (l : List ℕ) → line_kind (line_in k (reading_of k l)) ≡ k
 unfolding reading_of crystal_read
@@ -131,13 +127,16 @@ scale_reads X l = refl
 scale_reads Y l = refl
 scale_reads Z l = refl
 
-judged_line : (k : Kind) (c : ℕ) (r : Record) (l : Line) → l ≡ line_in k (judged c r) → (l ≡ Typed r) ⊎ (l ≡ Wrong k c)
+-- a line of the kind SCALEn is read to its numbers, and no field of it is wrong
+abbrev Numbers : List ℕ → ℕ → Axis → Type 0
+Numbers t i a = (transform_f.fault (take 80 (piece_at t i)) 6 ≡ 0) × (row t i ≡ Typed (rec.Transform true a (row_at t i)))
+
+judged_line : (k : Kind) (c : ℕ) (r : Record) (l : Line) → l ≡ line_in k (judged c r) → ((c ≡ 0) × (l ≡ Typed r)) ⊎ (l ≡ Wrong k (record { 0 = c }))
 unfolding judged
 judged_line k c r l =
-    picks (λ (x : Reading). l ≡ line_in k x → (l ≡ Typed r) ⊎ (l ≡ Wrong k c)) (eqb c 0) (reading.Typed r) (reading.Wrong c) (λ _ e. inl e) (λ _ e. inr e)
+    picks (λ (x : Reading). l ≡ line_in k x → ((c ≡ 0) × (l ≡ Typed r)) ⊎ (l ≡ Wrong k (record { 0 = c }))) (eqb c 0) (Ok r) (Err (unread.Wrong (record { 0 = c }))) (λ z e. inl (eqb-true c 0 z, e)) (λ _ e. inr e)
 
-scale_typed : (t : List ℕ) (i : ℕ) (look : Looked) (s : State) (a : Axis) → judge_of look s (row t i) ≡ 0 → kind_of (take 80 (piece_at t i)) ≡ transform_kind true a
-    → row t i ≡ Typed (rec.Transform true a (row_at t i))
+scale_typed : (t : List ℕ) (i : ℕ) (look : Looked) (s : State) (a : Axis) → judge_of look s (row t i) ≡ 0 → kind_of (take 80 (piece_at t i)) ≡ transform_kind true a → Numbers t i a
 scale_typed t i look s a j e =
     go (judged_line (transform_kind true a) (transform_f.fault l 6) (rec.Transform true a (row_at t i)) (row t i)
     ((piece_good t i look s j).reads ∙ ap (λ (k : Kind). line_in k (reading_of k l)) e ∙ ap (line_in (transform_kind true a)) (scale_reads a l)))
@@ -145,18 +144,18 @@ scale_typed t i look s a j e =
     l : List ℕ
     l = take 80 (piece_at t i)
 
-    go : (row t i ≡ Typed (rec.Transform true a (row_at t i))) ⊎ (row t i ≡ Wrong (transform_kind true a) (transform_f.fault l 6)) → row t i ≡ Typed (rec.Transform true a (row_at t i))
+    go : ((transform_f.fault l 6 ≡ 0) × (row t i ≡ Typed (rec.Transform true a (row_at t i)))) ⊎ (row t i ≡ Wrong (transform_kind true a) (record { 0 = transform_f.fault l 6 })) → Numbers t i a
     go (inl q) = q
-    go (inr q) = absurd (judge_wrong look s (transform_kind true a) (transform_f.fault l 6) (rw q at j))
+    go (inr q) = absurd (judge_wrong look s (transform_kind true a) (record { 0 = transform_f.fault l 6 }) (rw q at j))
 
 -- ---- lines in a row
 -- what a good line asks of the place before it, and the place that it leaves
-line_place : (look : Looked) (s : State) (l : Line) → judge_of look s l ≡ 0 → ((n : ℕ) → l ≡ Bad n → 0 < n) → (place_bad s.place (line_kind l) ≡ false) × ((next_of s l).place ≡ (row_of (line_kind l)).here)
+line_place : (look : Looked) (s : State) (l : Line) → judge_of look s l ≡ 0 → (place_bad s.place (line_kind l) ≡ false) × ((next_of s l).place ≡ (row_of (line_kind l)).here)
 unfolding judge_of next_of carried_next typed_next
-line_place look s (Bad n) j b = absurd (omega (arith, b n refl))
-line_place look s (Wrong k column) j b = absurd (judge_wrong look s k column j)
-line_place look s (Carried k) j b = ((judge_carried look s k j).0, refl)
-line_place look s (Typed r) j b = ((judge_typed look s r j).place, refl)
+line_place look s (Bad n) j = absurd (judge_bad look s n j)
+line_place look s (Wrong k column) j = absurd (judge_wrong look s k column j)
+line_place look s (Carried k) j = ((judge_carried look s k j).0, refl)
+line_place look s (Typed r) j = ((judge_typed look s r j).place, refl)
 
 -- a kind by the place that it follows, and by its own: tests that are computed of every kind
 told : (b : Bool) → T b → b ≡ true
@@ -208,7 +207,7 @@ module _ (t : List ℕ) (ok : (check_of t).number ≡ 0) where
 
   placed : (i : ℕ) → i < count → (place_bad (state_at (row t) i).place (line_kind (row t i)) ≡ false) × ((state_at (row t) (suc i)).place ≡ (row_of (line_kind (row t i))).here)
   unfolding state_at
-  placed i h = line_place _ (state_at (row t) i) (row t i) (judged_at i h) (λ m e. bad_number t i m e)
+  placed i h = line_place _ (state_at (row t) i) (row t i) (judged_at i h)
 
   kind_at : (i : ℕ) → i < count → line_kind (row t i) ≡ kind_of (take 80 (piece_at t i))
   kind_at i h = ap line_kind (piece_good t i _ (state_at (row t) i) (judged_at i h)).reads ∙ line_kind_lem (kind_of (take 80 (piece_at t i))) (take 80 (piece_at t i))
@@ -235,7 +234,7 @@ module _ (t : List ℕ) (ok : (check_of t).number ≡ 0) where
       let q : suc (suc i) ≡ i + 2 = omega arith in
       (omega (arith, b.0), rw (← p) two, rw (← q) three)
 
-  typed_at : (i : ℕ) (a : Axis) → i < count → line_kind (row t i) ≡ transform_kind true a → row t i ≡ Typed (rec.Transform true a (row_at t i))
+  typed_at : (i : ℕ) (a : Axis) → i < count → line_kind (row t i) ≡ transform_kind true a → Numbers t i a
   typed_at i a h e = scale_typed t i _ (state_at (row t) i) a (judged_at i h) (sym (kind_at i h) ∙ e)
 
   -- SCALE2 and SCALE3 follow SCALE1
@@ -286,7 +285,7 @@ scale_least t i (suc n) m a b e =
 named_kind : (t : List ℕ) (i : ℕ) → 81 ≤ length (piece_at t i) → is_scale t i ≡ true → kind_of (take 80 (piece_at t i)) ≡ kind.Scale1
 unfolding kind_of kind_named
 named_kind t i h e =
-    let w : word_at (take 80 (piece_at t i)) 0 6 ≡ (row_of kind.Scale1).name = sym (word_piece t i) ∙ eqb-true _ _ e in
+    let w : word_at (take 80 (piece_at t i)) 0 6 ≡ (row_of kind.Scale1).name = sym (word_piece (piece_at t i)) ∙ eqb-true _ _ e in
     let k : 6 ≤ length (take 80 (piece_at t i)) = simp length-take (omega arith) in
     rw (le-ltb _ _ k, w)
 
@@ -294,33 +293,40 @@ kind_named_lem : (t : List ℕ) (i : ℕ) → Piece t i → kind_of (take 80 (pi
 kind_named_lem t i P e =
     let h : 81 ≤ length (piece_at t i) = P.long in
     let k : 6 ≤ length (take 80 (piece_at t i)) = simp length-take (omega arith) in
-    eq-eqb _ _ (word_piece t i ∙ word_name _ (name_first _ k (clean_fewer _ 0 6 80 (omega arith) P.clean) kind.Scale1 e refl))
+    eq-eqb _ _ (word_piece (piece_at t i) ∙ word_name _ (name_first _ k (clean_fewer _ 0 6 80 (omega arith) P.clean) kind.Scale1 e refl))
 
 -- ---- the rows are there, or there is no SCALE line
+-- three lines from the first named SCALE1 on are SCALE1, SCALE2, SCALE3, and each is read to its numbers
+three : (t : List ℕ) → (check_of t).number ≡ 0 → scale_at t + 3 ≤ length t / 81 → Numbers t (scale_at t) X × Numbers t (scale_at t + 1) Y × Numbers t (scale_at t + 2) Z
+three t ok h =
+    let i : ℕ = scale_at t in
+    let g : i < (check_of t).good = omega (arith, whole t ok) in
+    let P = piece_good t i _ _ (judged_at t ok i g) in
+    let k : line_kind (row t i) ≡ kind.Scale1 = kind_at t ok i g ∙ named_kind t i P.long (scale_found t 0 (length t / 81) (omega arith)) in
+    let T = trio t ok i g k in
+    (typed_at t ok i X g k, typed_at t ok (i + 1) Y (omega (arith, T.0)) T.1, typed_at t ok (i + 2) Z T.0 T.2)
+
+-- so no field of them is wrong
+pub rows_right : (t : List ℕ) (i : ℕ) → (check_of t).number ≡ 0 → i ≡ scale_at t → i + 3 ≤ length t / 81 → Right t i
+rows_right t i ok at h = let r = three t ok (rw (← at) h) in rw at (r.0.0, r.1.0, r.2.0)
+
 rows_there : (t : List ℕ) (r : Rows) → (check_of t).number ≡ 0
-    → pick (leb (scale_at t + 3) (length t / 81)) (scale.Rows (rows_at t (scale_at t))) (scale.Refused 29) ≡ scale.Rows r
+    → pick {A = Result Rows ℕ} (leb (scale_at t + 3) (length t / 81)) (Ok (rows_at t (scale_at t))) (Err 29) ≡ Ok r
     → (i : ℕ) × (row t i ≡ Typed (rec.Transform true X r.x)) × (row t (i + 1) ≡ Typed (rec.Transform true Y r.y)) × (row t (i + 2) ≡ Typed (rec.Transform true Z r.z))
 rows_there t r ok = go (leb (scale_at t + 3) (length t / 81)) refl
   where
     i : ℕ
     i = scale_at t
 
-    go : (b : Bool) → leb (i + 3) (length t / 81) ≡ b → pick b (scale.Rows (rows_at t i)) (scale.Refused 29) ≡ scale.Rows r
+    go : (b : Bool) → leb (i + 3) (length t / 81) ≡ b → pick {A = Result Rows ℕ} b (Ok (rows_at t i)) (Err 29) ≡ Ok r
         → (j : ℕ) × (row t j ≡ Typed (rec.Transform true X r.x)) × (row t (j + 1) ≡ Typed (rec.Transform true Y r.y)) × (row t (j + 2) ≡ Typed (rec.Transform true Z r.z))
     go false u e = let z : ◌≡◌ {A = ℕ} 0 1 = cc in absurd (omega arith)
     go true u e =
         let q : rows_at t i ≡ r = cc in
-        let h : i + 3 ≤ length t / 81 = leb-true _ _ u in
-        let g : i < (check_of t).good = omega (arith, whole t ok) in
-        let P = piece_good t i _ _ (judged_at t ok i g) in
-        let k : line_kind (row t i) ≡ kind.Scale1 = kind_at t ok i g ∙ named_kind t i P.long (scale_found t 0 (length t / 81) (omega arith)) in
-        let T = trio t ok i g k in
-        let a = typed_at t ok i X g k in
-        let b = typed_at t ok (i + 1) Y (omega (arith, T.0)) T.1 in
-        let c = typed_at t ok (i + 2) Z T.0 T.2 in
-        (i, rw (← q) a, rw (← q) b, rw (← q) c)
+        let n = three t ok (leb-true _ _ u) in
+        (i, rw (← q) n.0.1, rw (← q) n.1.1, rw (← q) n.2.1)
 
-past_end : (t : List ℕ) (i : ℕ) → length t ≤ 81 * i → row t i ≡ Bad 1
+past_end : (t : List ℕ) (i : ℕ) → length t ≤ 81 * i → row t i ≡ Bad refusal.Length
 unfolding row line_of piece_at
 past_end t i h = let s : length (take 81 (drop (81 * i) t)) < 81 = simp (length-take, length-drop) (omega arith) in rw (lt-ltb _ _ s)
 
@@ -329,7 +335,7 @@ no_name X e = false≢true e
 no_name Y e = false≢true e
 no_name Z e = false≢true e
 
-none_there : (t : List ℕ) → (check_of t).number ≡ 0 → (m : ℕ) → pick (leb (scale_at t + 3) (length t / 81)) (scale.Rows (rows_at t (scale_at t))) (scale.Refused 29) ≡ scale.Refused m
+none_there : (t : List ℕ) → (check_of t).number ≡ 0 → (m : ℕ) → pick {A = Result Rows ℕ} (leb (scale_at t + 3) (length t / 81)) (Ok (rows_at t (scale_at t))) (Err 29) ≡ Err m
     → (m ≡ 29) × ((i : ℕ) (a : Axis) → is (transform_kind true a) (line_kind (row t i)) ≡ false)
 none_there t ok m = go (leb (scale_at t + 3) (length t / 81)) refl
   where
@@ -350,7 +356,7 @@ none_there t ok m = go (leb (scale_at t + 3) (length t / 81)) refl
         by true v = there u i a (ltb-true _ _ v) (the_kind (transform_kind true a) (line_kind (row t i)) e)
         by false v = no_name a (sym (ap (λ (l : Line). is (transform_kind true a) (line_kind l)) (past_end t i (omega (arith, ltb-false i (check_of t).good v, size t ok)))) ∙ e)
 
-    go : (b : Bool) → leb (scale_at t + 3) (length t / 81) ≡ b → pick b (scale.Rows (rows_at t (scale_at t))) (scale.Refused 29) ≡ scale.Refused m
+    go : (b : Bool) → leb (scale_at t + 3) (length t / 81) ≡ b → pick {A = Result Rows ℕ} b (Ok (rows_at t (scale_at t))) (Err 29) ≡ Err m
         → (m ≡ 29) × ((i : ℕ) (a : Axis) → is (transform_kind true a) (line_kind (row t i)) ≡ false)
     go true u e = let z : ◌≡◌ {A = ℕ} 0 1 = cc in absurd (omega arith)
     go false u e = let q : ◌≡◌ {A = ℕ} 29 m = cc in (sym q, λ i a. at u i a _ refl)

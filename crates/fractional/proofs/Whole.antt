@@ -5,11 +5,11 @@ use mathlib.Core.Bool.{Bool, true, false}
 use Prim.Native.Nat.{ℕ, zero, suc, ◌+◌, ◌*◌, ◌/◌, ◌^◌, ◌≤◌, ◌<◌}
 use native.Mathlib.Omega.{arith}
 use native.Mathlib.Nat.{mul-le-mul_left}
-use lib.Dec.{T, ltb, lit<}
+use lib.Dec.{ltb, lit<}
 use lib.IntN.{ℤ, pos, negsuc, neg_ℤ, nat_abs, sub_ℕ, ◌+ℤ◌, ◌-ℤ◌, ◌*ℤ◌, +ℤ_idl}
-use lib.Signed.{lt_z, non_neg}
+use lib.Signed.{lt_z}
 use mir.Syntax.{w32, w64}
-use mir.Val.{SFits, Fits, to_z, of_z}
+use mir.Val.{SFits, to_z, of_z}
 use mir.ValLaws.{to_z-of_z}
 use borrow.Author.Tests.{lt-ltb, le-ltb, ltb-true}
 use Rattle.fields.specs.Field.{signed_of, is_neg}
@@ -58,71 +58,13 @@ product_le a b f h =
     let q = word_abs a f in
     rw (product_abs a b) (omega arith)
 
--- ---- the product of two numbers of 32 bits
-module _ (a b : ℤ) (f : SFits w32 a) (g : SFits w32 b) where
-  same32 : (z : ℤ) → SFits w32 z → to_z w32 (of_z w32 z) ≡ z
-  same32 z h = to_z-of_z w32 z h
-
-  wide : (z : ℤ) → SFits w32 z → SFits w64 z
-  wide z h = fits_abs z 2147483648 (word_abs z h) (lit< tt)
-
-  pub widened : (z : ℤ) → SFits w32 z → SFits w64 (to_z w32 (of_z w32 z))
-  widened z h = rw (same32 z h) (wide z h)
-
-  same64 : (z : ℤ) → SFits w32 z → to_z w64 (of_z w64 (to_z w32 (of_z w32 z))) ≡ z
-  same64 z h = to_z-of_z w64 (to_z w32 (of_z w32 z)) (widened z h) ∙ same32 z h
-
-  pub product_fits : nat_abs b ≤ 9999999 → SFits w64 (to_z w64 (of_z w64 (to_z w32 (of_z w32 a))) *ℤ to_z w64 (of_z w64 (to_z w32 (of_z w32 b))))
-  product_fits h = rw (same64 a f, same64 b g) (fits_abs (a *ℤ b) 50000000000000000 (product_le a b f h) (lit< tt))
-
-  pub product_same : nat_abs b ≤ 9999999 → to_z w64 (of_z w64 (to_z w64 (of_z w64 (to_z w32 (of_z w32 a))) *ℤ to_z w64 (of_z w64 (to_z w32 (of_z w32 b))))) ≡ a *ℤ b
-  product_same h = to_z-of_z w64 _ (product_fits h) ∙ ap₂ ◌*ℤ◌ (same64 a f) (same64 b g)
-
--- ---- the sum of four
+-- ---- a number of 64 bits
 same : (z : ℤ) → SFits w64 z → to_z w64 (of_z w64 z) ≡ z
 same z f = to_z-of_z w64 z f
-
-module _ (a b c d : ℤ) (fa : SFits w64 a) (fb : SFits w64 b) (fc : SFits w64 c) (fd : SFits w64 d)
-    (h : (nat_abs a ≤ 50000000000000000) × (nat_abs b ≤ 50000000000000000) × (nat_abs c ≤ 50000000000000000) × (nat_abs d ≤ 50000000000000000)) where
-  two_abs : nat_abs (a +ℤ b) ≤ 100000000000000000
-  two_abs = omega (arith, sum_abs a b, h.0, h.1)
-
-  three_abs : nat_abs (a +ℤ b +ℤ c) ≤ 150000000000000000
-  three_abs = omega (arith, sum_abs (a +ℤ b) c, two_abs, h.2)
-
-  four_abs : nat_abs (a +ℤ b +ℤ c +ℤ d) ≤ 200000000000000000
-  four_abs = omega (arith, sum_abs (a +ℤ b +ℤ c) d, three_abs, h.3)
-
-  pub two_fits : SFits w64 (to_z w64 (of_z w64 a) +ℤ to_z w64 (of_z w64 b))
-  two_fits = rw (same a fa, same b fb) (fits_abs (a +ℤ b) 100000000000000000 two_abs (lit< tt))
-
-  two_same : to_z w64 (of_z w64 (to_z w64 (of_z w64 a) +ℤ to_z w64 (of_z w64 b))) ≡ a +ℤ b
-  two_same = same _ two_fits ∙ ap₂ ◌+ℤ◌ (same a fa) (same b fb)
-
-  pub three_fits : SFits w64 (to_z w64 (of_z w64 (to_z w64 (of_z w64 a) +ℤ to_z w64 (of_z w64 b))) +ℤ to_z w64 (of_z w64 c))
-  three_fits = rw (two_same, same c fc) (fits_abs (a +ℤ b +ℤ c) 150000000000000000 three_abs (lit< tt))
-
-  three_same : to_z w64 (of_z w64 (to_z w64 (of_z w64 (to_z w64 (of_z w64 a) +ℤ to_z w64 (of_z w64 b))) +ℤ to_z w64 (of_z w64 c))) ≡ a +ℤ b +ℤ c
-  three_same = same _ three_fits ∙ ap₂ ◌+ℤ◌ two_same (same c fc)
-
-  pub four_fits : SFits w64 (to_z w64 (of_z w64 (to_z w64 (of_z w64 (to_z w64 (of_z w64 a) +ℤ to_z w64 (of_z w64 b))) +ℤ to_z w64 (of_z w64 c))) +ℤ to_z w64 (of_z w64 d))
-  four_fits = rw (three_same, same d fd) (fits_abs (a +ℤ b +ℤ c +ℤ d) 200000000000000000 four_abs (lit< tt))
-
-  pub four_same : to_z w64 (of_z w64 (to_z w64 (of_z w64 (to_z w64 (of_z w64 (to_z w64 (of_z w64 a) +ℤ to_z w64 (of_z w64 b))) +ℤ to_z w64 (of_z w64 c))) +ℤ to_z w64 (of_z w64 d))) ≡ a +ℤ b +ℤ c +ℤ d
-  four_same = same _ four_fits ∙ ap₂ ◌+ℤ◌ three_same (same d fd)
 
 -- ---- size and sign
 minus_is : (z : ℤ) → pos 0 -ℤ z ≡ neg_ℤ z
 minus_is z = +ℤ_idl (neg_ℤ z)
-
-neg_good : (z : ℤ) → lt_z z (pos 0) ≡ true → T (non_neg (neg_ℤ z))
-neg_good (pos zero) t = tt
-neg_good (pos (suc n)) t = absurd (omega (arith, ltb-true (suc n) 0 t))
-neg_good (negsuc n) t = tt
-
-plus_good : (z : ℤ) → lt_z z (pos 0) ≡ false → T (non_neg z)
-plus_good (pos n) t = tt
-plus_good (negsuc n) t = let q : ◌≡◌ {A = ℕ} 0 1 = cc in absurd (omega arith)
 
 lt_neg : (z : ℤ) → lt_z z (pos 0) ≡ is_neg z
 unfolding is_neg
@@ -137,23 +79,6 @@ neg_signed (suc v) = refl
 module _ (z : ℤ) (f : SFits w64 z) where
   pub sign_is : lt_z (to_z w64 (of_z w64 z)) (pos 0) ≡ is_neg z
   sign_is = rw (same z f) (lt_neg z)
-
-  module _ (h : nat_abs z ≤ 200000000000000000) where
-    pub minus_fits : SFits w64 (pos 0 -ℤ to_z w64 (of_z w64 z))
-    minus_fits = rw (same z f, minus_is) (fits_abs (neg_ℤ z) 200000000000000000 (rw neg_abs h) (lit< tt))
-
-    minus_same : to_z w64 (of_z w64 (pos 0 -ℤ to_z w64 (of_z w64 z))) ≡ neg_ℤ z
-    minus_same = same _ minus_fits ∙ rw (same z f) (minus_is z)
-
-    pub minus_cast : lt_z (to_z w64 (of_z w64 z)) (pos 0) ≡ true
-        → T (non_neg (to_z w64 (of_z w64 (pos 0 -ℤ to_z w64 (of_z w64 z))))) × Fits w64 (nat_abs (to_z w64 (of_z w64 (pos 0 -ℤ to_z w64 (of_z w64 z)))))
-    minus_cast t = rw minus_same (neg_good z (rw (same z f) at t), record { fits = rw neg_abs (omega arith) })
-
-    pub minus_abs : nat_abs (to_z w64 (of_z w64 (pos 0 -ℤ to_z w64 (of_z w64 z)))) ≡ nat_abs z
-    minus_abs = ap nat_abs minus_same ∙ neg_abs z
-
-    pub plus_cast : lt_z (to_z w64 (of_z w64 z)) (pos 0) ≡ false → T (non_neg (to_z w64 (of_z w64 z))) × Fits w64 (nat_abs (to_z w64 (of_z w64 z)))
-    plus_cast t = rw (same z f) (plus_good z (rw (same z f) at t), record { fits = omega arith })
 
 module _ (v : ℕ) (h : v ≤ 200000000000000000) where
   pos_is : to_z w64 v ≡ pos v
@@ -223,9 +148,6 @@ module _ (r : Transform) (p : Position) (fx : SFits w32 r.by.x) (fy : SFits w32 
   row_is q w e = rw (e, x_is, y_is, z_is, s_is) (same _ (fits_abs _ 200000000000000000 row_abs (lit< tt)) ∙ ap (λ (n : ℕ). r.by.x *ℤ p.x +ℤ r.by.y *ℤ p.y +ℤ r.by.z *ℤ p.z +ℤ r.shift *ℤ pos n) q)
 
 -- ---- rounding
-pub size_small : (z : ℤ) (v : ℕ) → nat_abs z ≤ 200000000000000000 → SFits w64 z → v ≡ nat_abs (held64 z) → v ≤ 200000000000000000
-size_small z v h f e = let q : v ≡ nat_abs z = e ∙ ap nat_abs (same z f) in omega arith
-
 signed_held : (m : Bool) (v : ℕ) → v ≤ 200000000000000000 → held64 (signed_of m v) ≡ signed_of m v
 unfolding signed_of
 signed_held false v h = same (pos v) (fits_abs (pos v) 200000000000000000 h (lit< tt))

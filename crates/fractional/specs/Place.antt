@@ -1,14 +1,12 @@
 -- The fractional place of three coordinates.
 use Rattle.ascii.specs.Library.{ℕ, List, ℤ, pos, nat_abs, pick}
-use Rattle.std.specs.Prelude.{◌+◌, ◌/◌, ◌+ℤ◌, ◌*ℤ◌}
+use Rattle.std.specs.Prelude.{◌+◌, ◌/◌, ◌+ℤ◌, ◌*ℤ◌, Result, Ok, Err}
 use Rattle.fields.specs.Field.{signed_of, is_neg}
 use Rattle.coordinate.specs.declared.{Position.Position}
 use Rattle.coordinate.specs.Atoms.{position_f}
 use Rattle.transform.specs.declared.{Transform.Transform}
-use Rattle.fractional.specs.declared.{Rows.Rows, Scale.Scale, Fraction.Fraction, Placed.Placed}
+use Rattle.fractional.specs.declared.{Rows.Rows, Fraction.Fraction, Fractional.Fractional}
 use Rattle.fractional.specs.Scale.{scale_of}
-use Rattle.fractional.specs.declared.Scale.TheVariants as scale
-use Rattle.fractional.specs.declared.Placed.TheVariants as placed
 
 -- a row times three coordinates and its shift, in billionths: millionths times thousandths, and hundred-thousandths times 10,000
 unfoldable pub billionths : Transform → Position → ℤ
@@ -26,13 +24,13 @@ abbrev pub near_of : Fraction → Fraction
 near_of f = record { x = nearest f.x; y = nearest f.y; z = nearest f.z }
 
 -- 33: a coordinate is out of its range
-unfoldable pub place_of : Rows → Position → Placed
-place_of r p = pick (position_f.ok p) (placed.At (record { exact = exact_of r p; near = near_of (exact_of r p) })) (placed.Refused 33)
+unfoldable pub place_of : Rows → Position → Result Fractional ℕ
+place_of r p = pick (position_f.ok p) (Ok (record { exact = exact_of r p; near = near_of (exact_of r p) })) (Err 33)
 
 -- the place by the rows of a text
-abbrev pub placed_by : Scale → Position → Placed
-placed_by (scale.Rows r) p = place_of r p
-placed_by (scale.Refused n) p = placed.Refused n
+abbrev pub placed_by : Result Rows ℕ → Position → Result Fractional ℕ
+placed_by (Ok r) p = place_of r p
+placed_by (Err n) p = Err n
 
-unfoldable pub fractional_of : List ℕ → Position → Placed
+unfoldable pub fractional_of : List ℕ → Position → Result Fractional ℕ
 fractional_of t p = placed_by (scale_of t) p

@@ -1,6 +1,6 @@
 -- What the rows of a text and a fractional place are, beyond their definitions: the statements. They are proved in proofs/.
 use Rattle.ascii.specs.Library.{ℕ, List, true, false, ℤ, pos, nat_abs}
-use Rattle.std.specs.Prelude.{◌+◌, ◌*◌, ◌%◌, ◌≤◌, ◌≡◌, ◌-ℤ◌, ◌*ℤ◌}
+use Rattle.std.specs.Prelude.{◌+◌, ◌*◌, ◌%◌, ◌≤◌, ◌≡◌, ◌-ℤ◌, ◌*ℤ◌, Ok, Err}
 use Rattle.fields.specs.Field.{is_neg}
 use Rattle.kinds.specs.Kinds.{is}
 use Rattle.coordinate.specs.declared.{Position.Position}
@@ -15,16 +15,15 @@ use Rattle.fractional.specs.declared.{Rows.Rows}
 use Rattle.fractional.specs.Scale.{scale_of}
 use Rattle.fractional.specs.Place.{billionths, nearest}
 use Rattle.line.specs.declared.Record.TheVariants as rec
-use Rattle.fractional.specs.declared.Scale.TheVariants as scale
 
 pub record Scales (t : List ℕ) : Type 0 where
   -- a text that is not accepted gets its own number
-  pub own : ((check_of t).number ≡ 0 → ⊥) → scale_of t ≡ scale.Refused (check_of t).number
+  pub own : ((check_of t).number ≡ 0 → ⊥) → scale_of t ≡ Err (check_of t).number
   -- in an accepted text the rows are the numbers of three lines in a row: SCALE1, SCALE2, SCALE3
-  pub rows : (r : Rows) → (check_of t).number ≡ 0 → scale_of t ≡ scale.Rows r
+  pub rows : (r : Rows) → (check_of t).number ≡ 0 → scale_of t ≡ Ok r
       → (i : ℕ) × (row t i ≡ Typed (rec.Transform true X r.x)) × (row t (i + 1) ≡ Typed (rec.Transform true Y r.y)) × (row t (i + 2) ≡ Typed (rec.Transform true Z r.z))
   -- an accepted text gets 29 only where none of its lines is a SCALE line
-  pub none : (check_of t).number ≡ 0 → (n : ℕ) → scale_of t ≡ scale.Refused n → (n ≡ 29) × ((i : ℕ) (axis : Axis) → is (transform_kind true axis) (line_kind (row t i)) ≡ false)
+  pub none : (check_of t).number ≡ 0 → (n : ℕ) → scale_of t ≡ Err n → (n ≡ 29) × ((i : ℕ) (axis : Axis) → is (transform_kind true axis) (line_kind (row t i)) ≡ false)
 
 pub record Places : Type 0 where
   -- hundred-thousandths are never more than 5,000 billionths off

@@ -2,11 +2,14 @@
 #![tactic(auto)]
 
 ghost use Rattle.std.specs.Prelude.{◌≡◌, ◌+◌, ◌*◌, ◌≤◌, length, nat_abs, ◌+ℤ◌, ◌*ℤ◌};
+ghost use Rattle.refusals.specs.Numbers.{numbered};
 ghost use Rattle.fields.specs.Field.{signed_of, is_neg};
-ghost use Rattle.fractional.specs.Scale.{is_scale, scale_at, row_at, rows_at, scale_of};
+ghost use Rattle.fractional.specs.Scale.{is_scale1, scale_at, IsRight, row_in, rows_at, Right, scale_of};
 ghost use Rattle.fractional.specs.Place.{billionths, nearest, exact_of, near_of, place_of, fractional_of};
 
 use coordinate::Position;
+use kinds::Layout;
+use refusals::Refusal;
 use transform::Transform;
 
 #[derive(Clone, Copy)]
@@ -14,13 +17,6 @@ pub struct Rows {
     pub x: Transform,
     pub y: Transform,
     pub z: Transform,
-}
-
-#[derive(Clone, Copy)]
-pub enum Scale {
-    Rows(Rows),
-    // The number of the refusal.
-    Refused(u8),
 }
 
 #[derive(Clone, Copy)]
@@ -37,19 +33,11 @@ pub struct Fractional {
     pub near: Fraction,
 }
 
-#[derive(Clone, Copy)]
-pub enum Placed {
-    At(Fractional),
-    // The number of the refusal.
-    Refused(u8),
-}
-
-fn is_scale(text: &[u8], i: usize) -> bool
-    requires { 81 * i + 81 ≤ length text.now }
-    ensures { result ≡ is_scale text.now i }
+// Whether a piece is named SCALE1.
+fn is_scale1(piece: &[u8; 81]) -> bool
+    ensures { result ≡ is_scale1 piece.now }
 {
-    let name = words::word(text, 81 * i, 6);
-    name == kinds::SCALE1
+    words::word(piece, 0, 6) == kinds::SCALE1
 }
 
 // The index of the first line named SCALE1, or the number of whole lines.
@@ -57,51 +45,49 @@ fn scale_at(text: &[u8]) -> usize
     ensures { result ≡ scale_at text.now }
 {
     let whole = text.len() / 81;
-    let mut i: usize = 0;
-    while i < whole {
-        if is_scale(text, i) {
+    // `position` takes a closure, a call for each line.
+    for i in 0..whole {
+        if is_scale1(rows::piece_at(text, i)) {
             return i;
         }
-        i += 1;
     }
-    i
+    whole
 }
 
-fn row_at(text: &[u8], i: usize) -> Transform
-    requires { 81 * i + 81 ≤ length text.now }
-    ensures { result ≡ row_at text.now i }
+// The numbers of a piece whose fields are right, as those of an accepted text are.
+fn row_in(piece: &[u8; 81]) -> Transform
+    requires { IsRight piece.now }
+    ensures { result ≡ row_in piece.now }
 {
-    let at = 81 * i;
-    let e = at + 80;
-    let r = transform::read_transform(&text[at..e]);
-    r.value
+    let line = piece[..80].as_array::<80>().unwrap();
+    // Its clause says that no field is wrong.
+    Transform::read(line).unwrap()
 }
 
 fn rows_at(text: &[u8], i: usize) -> Rows
-    requires { 81 * i + 243 ≤ length text.now }
+    requires { (81 * i + 243 ≤ length text.now) × Right text.now i }
     ensures { result ≡ rows_at text.now i }
 {
-    let x = row_at(text, i);
-    let y = row_at(text, i + 1);
-    let z = row_at(text, i + 2);
-    Rows { x: x, y: y, z: z }
+    Rows {
+        x: row_in(rows::piece_at(text, i)),
+        y: row_in(rows::piece_at(text, i + 1)),
+        z: row_in(rows::piece_at(text, i + 2)),
+    }
 }
 
 // The SCALE rows of a text: its own number, then 29 where it has none.
-pub fn scale_of(text: &[u8]) -> Scale
-    ensures { result ≡ scale_of text.now }
+pub fn scale_of(text: &[u8]) -> Result<Rows, Refusal>
+    ensures { numbered result ≡ scale_of text.now }
 {
-    let v = gate::check(text);
-    let n = v.number;
-    if n == 0 {
-        let i = scale_at(text);
-        let last = i + 3;
-        if last <= text.len() / 81 {
-            return Scale::Rows(rows_at(text, i));
-        }
-        return Scale::Refused(29);
+    if let Some(o) = gate::check(text).offence {
+        return Err(o.refusal);
     }
-    Scale::Refused(n)
+    let i = scale_at(text);
+    let last = i + 3;
+    if last > text.len() / 81 {
+        return Err(Refusal::Scale);
+    }
+    Ok(rows_at(text, i))
 }
 
 // The product of a number of a row and a coordinate.
@@ -128,10 +114,9 @@ fn along(r: Transform, p: Position) -> i64
     requires { (nat_abs p.x ≤ 9999999) × (nat_abs p.y ≤ 9999999) × (nat_abs p.z ≤ 9999999) }
     ensures { result ≡ billionths r p }
 {
-    let by = r.by;
-    let x = times(by.x, p.x);
-    let y = times(by.y, p.y);
-    let z = times(by.z, p.z);
+    let x = times(r.by.x, p.x);
+    let y = times(r.by.y, p.y);
+    let z = times(r.by.z, p.z);
     let shift = times(r.shift, 10000);
     sum_of(x, y, z, shift)
 }
@@ -177,43 +162,40 @@ fn exact_of(rows: Rows, p: Position) -> Fraction
     requires { (nat_abs p.x ≤ 9999999) × (nat_abs p.y ≤ 9999999) × (nat_abs p.z ≤ 9999999) }
     ensures { result ≡ exact_of rows p }
 {
-    let x = along(rows.x, p);
-    let y = along(rows.y, p);
-    let z = along(rows.z, p);
-    Fraction { x: x, y: y, z: z }
+    Fraction {
+        x: along(rows.x, p),
+        y: along(rows.y, p),
+        z: along(rows.z, p),
+    }
 }
 
 fn near_of(f: Fraction) -> Fraction
     requires { (nat_abs f.x ≤ 200000000000000000) × (nat_abs f.y ≤ 200000000000000000) × (nat_abs f.z ≤ 200000000000000000) }
     ensures { result ≡ near_of f }
 {
-    let x = rounded(f.x);
-    let y = rounded(f.y);
-    let z = rounded(f.z);
-    Fraction { x: x, y: y, z: z }
+    Fraction {
+        x: rounded(f.x),
+        y: rounded(f.y),
+        z: rounded(f.z),
+    }
 }
 
 // The fractional place by any rows: 33 where a coordinate is out of its range.
-pub fn place(rows: Rows, p: Position) -> Placed
-    ensures { result ≡ place_of rows p }
+pub fn place(rows: Rows, p: Position) -> Result<Fractional, Refusal>
+    ensures { numbered result ≡ place_of rows p }
 {
-    if coordinate::position_is_good(p) {
-        let exact = exact_of(rows, p);
-        let near = near_of(exact);
-        return Placed::At(Fractional {
-            exact: exact,
-            near: near,
-        });
+    if !coordinate::position_is_good(p) {
+        return Err(Refusal::Position);
     }
-    Placed::Refused(33)
+    let exact = exact_of(rows, p);
+    let near = near_of(exact);
+    Ok(Fractional { exact, near })
 }
 
 // The fractional place by the rows of a text: its own number, then 29, 33.
-pub fn fractional_of(text: &[u8], p: Position) -> Placed
-    ensures { result ≡ fractional_of text.now p }
+pub fn fractional_of(text: &[u8], p: Position) -> Result<Fractional, Refusal>
+    ensures { numbered result ≡ fractional_of text.now p }
 {
-    match scale_of(text) {
-        Scale::Rows(rows) => place(rows, p),
-        Scale::Refused(n) => Placed::Refused(n),
-    }
+    let rows = scale_of(text)?;
+    place(rows, p)
 }

@@ -1,8 +1,8 @@
 // Fragments, from the last slot on.
 #![tactic(auto)]
 
-ghost use Rattle.std.specs.Prelude.{◌≡◌, not, ◌+◌, ◌≤◌, ◌<◌, eqb};
-ghost use Rattle.ascii.specs.Tests.{pick, either};
+ghost use Rattle.std.specs.Prelude.{◌≡◌, ◌+◌, ◌≤◌, ◌<◌, eqb};
+ghost use Rattle.ascii.specs.Tests.{pick};
 ghost use Rattle.slots.specs.Slots.{with_mark};
 ghost use Rattle.fragments.specs.Fragments.{is_ter, end_tail, joins as joinsOf, step_tail, turned};
 
@@ -10,7 +10,8 @@ use residue::Residue;
 use slots::Slot;
 
 // What a stretch of slots is to the slot before it: whether there is one, whether a TER is among those of the first one's model, the model, residue and mark of the first,
-// how many fragments they are, and whether marks agree inside each.
+// how many fragments they are, and whether marks agree inside each. `some` is a flag and no Option around the rest: the definitions have it so, and theorems cite
+// the other fields as they are where it is not set.
 #[derive(Clone, Copy)]
 pub struct Tail {
     pub some: bool,
@@ -37,12 +38,11 @@ pub fn is_ter(s: Slot) -> bool
 pub fn end_tail() -> Tail
     ensures { result ≡ end_tail }
 {
-    let residue = residue::no_residue();
     Tail {
         some: false,
         closed: false,
         model: 0,
-        residue: residue,
+        residue: residue::no_residue(),
         mark: slots::MARK_IN,
         count: 0,
         agree: true,
@@ -53,11 +53,8 @@ pub fn end_tail() -> Tail
 fn joins(s: Slot, t: Tail) -> bool
     ensures { result ≡ joinsOf s t }
 {
-    let last = t.residue;
-    let e = is_ter(s);
-    let q = residue::same_residue(slots::residue_of(s), last);
-    let open = ascii::both_of(t.some, ascii::both_of(s.model == t.model, !e));
-    ascii::both_of(open, ascii::either_of(t.closed, q))
+    let same = residue::same_residue(slots::residue_of(s), t.residue);
+    t.some & (s.model == t.model) & !is_ter(s) & (t.closed | same)
 }
 
 fn one_more_unless(j: bool, n: u64) -> u64
@@ -70,32 +67,20 @@ fn one_more_unless(j: bool, n: u64) -> u64
     n + 1
 }
 
-fn agrees(j: bool, m: u8, n: u8) -> bool
-    ensures { result ≡ either (not j) (eqb m n) }
-{
-    ascii::either_of(!j, m == n)
-}
-
 // The slots from s on, t being those after it.
 pub fn step_tail(s: Slot, t: Tail) -> Tail
     requires { t.count < 9223372036854775808 }
     ensures { result ≡ step_tail s t }
 {
     let j = joins(s, t);
-    let e = is_ter(s);
-    let residue = slots::residue_of(s);
-    let on = ascii::both_of(s.model == t.model, t.closed);
-    let closed = ascii::either_of(e, on);
-    let count = one_more_unless(j, t.count);
-    let agree = ascii::both_of(t.agree, agrees(j, s.mark, t.mark));
     Tail {
         some: true,
-        closed: closed,
+        closed: is_ter(s) | ((s.model == t.model) & t.closed),
         model: s.model,
-        residue: residue,
+        residue: slots::residue_of(s),
         mark: s.mark,
-        count: count,
-        agree: agree,
+        count: one_more_unless(j, t.count),
+        agree: t.agree & (!j | (s.mark == t.mark)),
     }
 }
 
@@ -119,7 +104,7 @@ pub fn mark_slot(t: Tail, s: Slot, b: FromLast, m: u8) -> Slot
     s
 }
 
-// The number of the first slot's fragment, counted from the first one, where there are n.
+// The number of the first slot's fragment, counted from the first one, where there are n. A plain count: it goes as it is into the numbers lent from C.
 pub fn number_of(n: u64, t: Tail) -> u32
     requires { (t.count ≤ n + 1) × (n < 4294967295) }
     ensures { result ≡ turned n t.count }

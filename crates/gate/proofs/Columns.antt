@@ -9,11 +9,10 @@ use Rattle.ascii.specs.Tests.{pick}
 use Rattle.ascii.proofs.Choice.{picks}
 use Rattle.kinds.specs.declared.Kind.{Kind}
 use Rattle.line.specs.declared.Record.{Record}
-use Rattle.line.specs.declared.Answer.TheVariants as answer
 use Rattle.line.specs.Lines.{read_line, answer_number, answer_column}
 use Rattle.line.proofs.Columns.{six}
 use Rattle.pieces.specs.declared.Line.{Line}
-use Rattle.pieces.proofs.Alone.{piece_wrong, bad_low}
+use Rattle.pieces.proofs.Alone.{wrong_answer, piece_wrong, bad_low}
 use Rattle.pieces.specs.declared.Line.TheVariants.{Bad, Wrong, Carried, Typed}
 use Rattle.places.specs.Places.{place_bad, fence_bad}
 use Rattle.facets.specs.Facets.{record_kind, spot_of, bond_of, fold_of, total_of, fence_of}
@@ -47,7 +46,7 @@ carried_other s k =
     picks Other (place_bad s.place k) 5 _ (λ _ e. omega arith)
     (λ _. picks Other (fence_bad s.place s.models k) 5 _ (λ _ e. omega arith) (λ _. picks Other (unfinished s.ladder) 10 0 (λ _ e. omega arith) (λ _ e. omega arith)))
 
-line_column : (t : List ℕ) (i : ℕ) (look : Looked) (s : State) (l : Line) → row t i ≡ l → judge_of look s l ≡ 6 → read_line (take 80 (piece_at t i)) ≡ answer.Wrong (column_of 6 l)
+line_column : (t : List ℕ) (i : ℕ) (look : Looked) (s : State) (l : Line) → row t i ≡ l → judge_of look s l ≡ 6 → read_line (take 80 (piece_at t i)) ≡ wrong_answer (record { 0 = column_of 6 l })
 unfolding judge_of row
 line_column t i look s (Bad n) e j = absurd (omega (arith, bad_low (piece_at t i) n e))
 line_column t i look s (Wrong k c) e j = piece_wrong k c (piece_at t i) e

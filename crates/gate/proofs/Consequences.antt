@@ -1,5 +1,6 @@
 -- What follows of a text from the answer of the check, in plain words.
 -- Assumes nothing.
+use Rattle.std.proofs.Common.{Option, Some, None}
 use Prim.Native.Nat.{ℕ, zero, suc, ◌+◌, ◌*◌, ◌-◌, ◌≤◌, ◌<◌}
 use mathlib.Core.List.{List, [], ◌∷◌, map}
 use mathlib.Core.Bool.{Bool, true, false, not, false≢true}
@@ -33,20 +34,19 @@ use Rattle.kinds.specs.Kinds.{row_of}
 use Rattle.places.specs.Places.{end_place}
 use Rattle.places.specs.declared.Models.{Models}
 use Rattle.places.specs.Counts.{count_at, raised, same_counts}
-use Rattle.facets.specs.declared.Bond.TheVariants.{Bonds}
 use Rattle.facets.specs.declared.Fence.{Fence}
-use Rattle.facets.specs.declared.Fence.TheVariants.{Opens, Shuts, Unfenced}
+use Rattle.facets.specs.declared.Fence.TheVariants.{Opens, Shuts}
 use Rattle.facets.specs.Facets.{record_kind, line_kind, fence_of, fence_in, is_coord, is_fence}
 use Rattle.rules.specs.Rules.{models_next, judge_of, next_of, carried_next, typed_next, start_of}
-use Rattle.rules.proofs.Laws.{judge_typed, judge_wrong}
-use Rattle.gate.specs.declared.Verdict.{Verdict}
+use Rattle.rules.proofs.Laws.{judge_typed, judge_bad, judge_wrong}
+use Rattle.gate.specs.Gate.{Verdict}
 use Rattle.rows.specs.Text.{piece_at, row, down}
 use Rattle.serials.specs.Known.{is_site, some_of, front, named, partner_known, bond_known}
 use Rattle.gate.specs.Gate.{column_of, look_of, refused_of, finish_of, check_lines, check_of}
 use Rattle.gate.specs.Promise.{PartnerBefore, Names, SixFields, OneModel, is_shut, past_at, lines_of, counts_to, Consequences}
 use Rattle.serials.specs.Search.{serial_of, base_of}
 use Rattle.rows.proofs.Cut.{cut_done}
-use Rattle.serials.proofs.Rows.{carried_ends, bad_number}
+use Rattle.serials.proofs.Rows.{carried_ends}
 use Rattle.serials.proofs.Block.{base_same, base_le, front_at}
 use Rattle.serials.proofs.Models.{coord_off}
 use Rattle.twins.specs.Twins.{same_atom, is_twin}
@@ -117,7 +117,7 @@ known_of known b e = not_false known (either_none (not known) b e).0
 partner_where : (t : List ℕ) (i x : ℕ) → partner_known (down (row t) i) x ≡ true → PartnerBefore t i x
 partner_where t i x e = either_split (eqb x 0) (named (down (row t) i) x) (λ y. inl (eqb-true x 0 y)) (λ y. inr (some_where (is_site x) (row t) i y)) e
 
-names_of : (t : List ℕ) (i : ℕ) (c : ConectOf) → bond_known (down (row t) i) (Bonds c) ≡ true → Names t i c
+names_of : (t : List ℕ) (i : ℕ) (c : ConectOf) → bond_known (down (row t) i) (Some c) ≡ true → Names t i c
 names_of t i c e =
     let x = both_split (named (down (row t) i) c.serial.0) _ e in
     let y = both_split (partner_known (down (row t) i) c.a.0) _ x.1 in
@@ -137,32 +137,32 @@ conect_names t n i c g h e =
     names_of t i c (known_of _ _ (judge_typed _ (state_at (row t) i) (Conect c) j).bond)
 
 -- ---- the counts are the numbers of such lines
-counts_next : (s : State) (look : Looked) (l : Line) → judge_of look s l ≡ 0 → ((n : ℕ) → l ≡ Bad n → 0 < n) → (next_of s l).counts ≡ raised s.counts (count_at s.models.past (line_kind l))
+counts_next : (s : State) (look : Looked) (l : Line) → judge_of look s l ≡ 0 → (next_of s l).counts ≡ raised s.counts (count_at s.models.past (line_kind l))
 unfolding next_of carried_next typed_next judge_of
-counts_next s look (Bad n) j b = absurd (omega (arith, b n refl))
-counts_next s look (Wrong k c) j b = absurd (judge_wrong look s k c j)
-counts_next s look (Carried k) j b = refl
-counts_next s look (Typed r) j b = refl
+counts_next s look (Bad n) j = absurd (judge_bad look s n j)
+counts_next s look (Wrong k c) j = absurd (judge_wrong look s k c j)
+counts_next s look (Carried k) j = refl
+counts_next s look (Typed r) j = refl
 
 -- whether the first model is past
-fence_past : (m : Models) (e : Fence) → (models_next m e).past ≡ either (is_shut e) m.past
+fence_past : (m : Models) (e : Option Fence) → (models_next m e).past ≡ either (is_shut e) m.past
 unfolding either
-fence_past m (Opens n) = refl
-fence_past m Shuts = refl
-fence_past m Unfenced = refl
+fence_past m (Some (Opens n)) = refl
+fence_past m (Some Shuts) = refl
+fence_past m None = refl
 
-past_next_lem : (s : State) (look : Looked) (l : Line) → judge_of look s l ≡ 0 → ((n : ℕ) → l ≡ Bad n → 0 < n) → (next_of s l).models.past ≡ either (is_shut (fence_in l)) s.models.past
+past_next_lem : (s : State) (look : Looked) (l : Line) → judge_of look s l ≡ 0 → (next_of s l).models.past ≡ either (is_shut (fence_in l)) s.models.past
 unfolding next_of carried_next typed_next judge_of either
-past_next_lem s look (Bad n) j b = absurd (omega (arith, b n refl))
-past_next_lem s look (Wrong k c) j b = absurd (judge_wrong look s k c j)
-past_next_lem s look (Carried k) j b = refl
-past_next_lem s look (Typed r) j b = fence_past s.models (fence_of r)
+past_next_lem s look (Bad n) j = absurd (judge_bad look s n j)
+past_next_lem s look (Wrong k c) j = absurd (judge_wrong look s k c j)
+past_next_lem s look (Carried k) j = refl
+past_next_lem s look (Typed r) j = fence_past s.models (fence_of r)
 
 pub past_so : (t : List ℕ) (n : ℕ) → GoodTo (row t) n → (state_at (row t) n).models.past ≡ past_at t n
 unfolding state_at past_at start_of
 past_so t zero g = refl
 past_so t (suc n) g =
-    past_next_lem (state_at (row t) n) _ (row t n) (g n (omega arith)) (λ m e. bad_number t n m e)
+    past_next_lem (state_at (row t) n) _ (row t n) (g n (omega arith))
     ∙ ap (either (is_shut (fence_in (row t n)))) (past_so t n (λ j h. g j (omega arith)))
 
 pub counted : (t : List ℕ) (n : ℕ) → GoodTo (row t) n → (state_at (row t) n).counts ≡ counts_to t n
@@ -170,7 +170,7 @@ unfolding state_at lines_of start_of raised
 counted t zero g = refl
 counted t (suc n) g =
     let h : GoodTo (row t) n = λ j k. g j (omega arith) in
-    counts_next (state_at (row t) n) _ (row t n) (g n (omega arith)) (λ m e. bad_number t n m e)
+    counts_next (state_at (row t) n) _ (row t n) (g n (omega arith))
     ∙ ap₂ (λ (c : Counts) (p : Bool). raised c (count_at p (line_kind (row t n)))) (counted t n h) (past_so t n h)
 
 -- MASTER's numbers are the numbers of such lines before it
@@ -201,7 +201,7 @@ record_ends (Transform scale axis t) e = absurd (transform_front scale axis e)
 
 line_ends : (t : List ℕ) (i : ℕ) (s : State) (look : Looked) (l : Line) → row t i ≡ l → judge_of look s l ≡ 0 → (next_of s l).place ≡ end_place → l ≡ Typed End
 unfolding next_of carried_next typed_next judge_of
-line_ends t i s look (Bad n) e j p = absurd (omega (arith, bad_number t i n e))
+line_ends t i s look (Bad n) e j p = absurd (judge_bad look s n j)
 line_ends t i s look (Wrong k c) e j p = absurd (judge_wrong look s k c j)
 line_ends t i s look (Carried k) e j p = absurd (carried_ends t i k e p)
 line_ends t i s look (Typed r) e j p = ap Typed (record_ends r p)

@@ -1,5 +1,6 @@
 -- Models in plain words: they are numbered 1, 2, 3, .., and hold every coordinate line where there are any.
 -- Assumes nothing.
+use Rattle.std.proofs.Common.{Option, Some, None}
 use Prim.Native.Nat.{ℕ, zero, suc, ◌+◌, ◌≤◌, ◌<◌}
 use mathlib.Core.List.{List}
 use mathlib.Core.Bool.{Bool, true, false, not, false≢true}
@@ -23,55 +24,54 @@ use Rattle.places.specs.Places.{coordinate_place, fence_bad}
 use Rattle.rules.specs.declared.Looked.{Looked}
 use Rattle.rules.specs.declared.State.{State}
 use Rattle.facets.specs.declared.Fence.{Fence}
-use Rattle.facets.specs.declared.Fence.TheVariants.{Opens, Shuts, Unfenced}
+use Rattle.facets.specs.declared.Fence.TheVariants.{Opens, Shuts}
 use Rattle.facets.specs.Facets.{fence_of, fence_in, is_coord}
 use Rattle.rules.specs.Rules.{model_bad, models_next, judge_of, next_of, carried_next, typed_next, start_of}
-use Rattle.rules.proofs.Laws.{Good, judge_typed, judge_carried, judge_wrong}
+use Rattle.rules.proofs.Laws.{Good, judge_typed, judge_carried, judge_bad, judge_wrong}
 use Rattle.rows.specs.Text.{row}
 use Rattle.serials.specs.Search.{Before}
-use Rattle.serials.proofs.Rows.{bad_number}
 use Rattle.serials.proofs.Block.{before_kind}
 use Rattle.gate.specs.Promise.{is_open, models_to, open_after, open_at}
 use Rattle.gate.proofs.Runs.{state_at, GoodTo}
 
 -- ---- what a good line leaves: the number of models, and whether one is open
-fence_number : (m : Models) (e : Fence) → model_bad m e ≡ false → (models_next m e).number ≡ pick (is_open e) (m.number + 1) m.number
-fence_number m (Opens n) b = eqb-true n (m.number + 1) (not_false _ b)
-fence_number m Shuts b = refl
-fence_number m Unfenced b = refl
+fence_number : (m : Models) (e : Option Fence) → model_bad m e ≡ false → (models_next m e).number ≡ pick (is_open e) (m.number + 1) m.number
+fence_number m (Some (Opens n)) b = eqb-true n (m.number + 1) (not_false _ b)
+fence_number m (Some Shuts) b = refl
+fence_number m None b = refl
 
-fence_open : (m : Models) (e : Fence) → (models_next m e).inside ≡ open_after m.inside e
-fence_open m (Opens n) = refl
-fence_open m Shuts = refl
-fence_open m Unfenced = refl
+fence_open : (m : Models) (e : Option Fence) → (models_next m e).inside ≡ open_after m.inside e
+fence_open m (Some (Opens n)) = refl
+fence_open m (Some Shuts) = refl
+fence_open m None = refl
 
-models_next_lem : (s : State) (look : Looked) (l : Line) → judge_of look s l ≡ 0 → ((n : ℕ) → l ≡ Bad n → 0 < n)
+models_next_lem : (s : State) (look : Looked) (l : Line) → judge_of look s l ≡ 0
     → ((next_of s l).models.number ≡ pick (is_open (fence_in l)) (s.models.number + 1) s.models.number) × ((next_of s l).models.inside ≡ open_after s.models.inside (fence_in l))
 unfolding next_of carried_next typed_next judge_of
-models_next_lem s look (Bad n) j b = absurd (omega (arith, b n refl))
-models_next_lem s look (Wrong k c) j b = absurd (judge_wrong look s k c j)
-models_next_lem s look (Carried k) j b = (refl, refl)
-models_next_lem s look (Typed r) j b = (fence_number s.models (fence_of r) (judge_typed look s r j).model, fence_open s.models (fence_of r))
+models_next_lem s look (Bad n) j = absurd (judge_bad look s n j)
+models_next_lem s look (Wrong k c) j = absurd (judge_wrong look s k c j)
+models_next_lem s look (Carried k) j = (refl, refl)
+models_next_lem s look (Typed r) j = (fence_number s.models (fence_of r) (judge_typed look s r j).model, fence_open s.models (fence_of r))
 
 models_so : (t : List ℕ) (n : ℕ) → GoodTo (row t) n → ((state_at (row t) n).models.number ≡ models_to t n) × ((state_at (row t) n).models.inside ≡ open_at t n)
 unfolding state_at models_to open_at start_of
 models_so t zero g = (refl, refl)
 models_so t (suc n) g =
-    let e = models_next_lem (state_at (row t) n) _ (row t n) (g n (omega arith)) (λ m e. bad_number t n m e) in
+    let e = models_next_lem (state_at (row t) n) _ (row t n) (g n (omega arith)) in
     let f = models_so t n (λ j h. g j (omega arith)) in
     (e.0 ∙ ap (λ (m : ℕ). pick (is_open (fence_in (row t n))) (m + 1) m) f.0, e.1 ∙ ap (λ (b : Bool). open_after b (fence_in (row t n))) f.1)
 
 -- ---- numbered 1, 2, 3, ..
-open_number : (s : State) (look : Looked) (l : Line) → judge_of look s l ≡ 0 → (n : ℕ) → fence_in l ≡ Opens n → n ≡ s.models.number + 1
+open_number : (s : State) (look : Looked) (l : Line) → judge_of look s l ≡ 0 → (n : ℕ) → fence_in l ≡ Some (Opens n) → n ≡ s.models.number + 1
 unfolding judge_of
 open_number s look (Bad m) j n e = absurd (false≢true (ap is_open e))
 open_number s look (Wrong k c) j n e = absurd (false≢true (ap is_open e))
 open_number s look (Carried k) j n e = absurd (false≢true (ap is_open e))
 open_number s look (Typed r) j n e =
-    let b : model_bad s.models (Opens n) ≡ false = rw e at (judge_typed look s r j).model in
+    let b : model_bad s.models (Some (Opens n)) ≡ false = rw e at (judge_typed look s r j).model in
     eqb-true n (s.models.number + 1) (not_false _ b)
 
-pub numbered : (t : List ℕ) (n : ℕ) → GoodTo (row t) n → (i m : ℕ) → i < n → fence_in (row t i) ≡ Opens m → m ≡ models_to t i + 1
+pub numbered : (t : List ℕ) (n : ℕ) → GoodTo (row t) n → (i m : ℕ) → i < n → fence_in (row t i) ≡ Some (Opens m) → m ≡ models_to t i + 1
 numbered t n g i m h e =
     open_number (state_at (row t) i) _ (row t i) (g i h) m e ∙ ap (λ (x : ℕ). x + 1) (models_so t i (λ j k. g j (omega arith))).0
 
@@ -154,11 +154,11 @@ in_model p m true past e h = refl
 in_model p m false true e h = sym e
 in_model p m false false e h = h
 
-fence_some : (m : Models) (e : Fence) → either m.inside m.past ≡ true → either (models_next m e).inside (models_next m e).past ≡ true
+fence_some : (m : Models) (e : Option Fence) → either m.inside m.past ≡ true → either (models_next m e).inside (models_next m e).past ≡ true
 unfolding either
-fence_some m (Opens n) h = refl
-fence_some m Shuts h = refl
-fence_some m Unfenced h = h
+fence_some m (Some (Opens n)) h = refl
+fence_some m (Some Shuts) h = refl
+fence_some m None h = h
 
 slot_open : (s : State) (look : Looked) (r : Record) → Good look s r → is_coord (Typed r) ≡ true → either s.models.inside s.models.past ≡ true → s.models.inside ≡ true
 unfolding fence_bad
@@ -179,7 +179,7 @@ slot_open s look (rec.Transform scale axis x) g c h = absurd (false≢true c)
 more : (t : List ℕ) (n : ℕ) (s : State) (look : Looked) → s.models.inside ≡ open_at t n → (l : Line) → row t n ≡ l → judge_of look s l ≡ 0
     → Without t n s ⊎ Within t n s → Without t (suc n) (next_of s l) ⊎ Within t (suc n) (next_of s l)
 unfolding next_of carried_next typed_next judge_of
-more t n s look o (Bad x) e j W = absurd (omega (arith, bad_number t n x e))
+more t n s look o (Bad x) e j W = absurd (judge_bad look s x j)
 more t n s look o (Wrong k c) e j W = absurd (judge_wrong look s k c j)
 more t n s look o (Carried k) e j (inl W) = inl (without_on t n s _ W refl (rw e) (passed t n _ _ (rw e) (before_kind k s.place (judge_carried look s k j).0)))
 more t n s look o (Carried k) e j (inr W) = inr (within_on t n s _ W W.some (λ c. absurd (false≢true (rw e at c))))

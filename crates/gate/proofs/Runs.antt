@@ -19,7 +19,7 @@ use Rattle.places.specs.Places.{end_place}
 use Rattle.rules.specs.Rules.{next_of, start_of}
 use Rattle.search.specs.declared.Span.{Span}
 use Rattle.search.specs.Search.{span}
-use Rattle.gate.specs.declared.Verdict.{Verdict}
+use Rattle.gate.specs.Gate.{Verdict}
 use Rattle.rows.specs.Text.{cut, piece_at, row, down}
 use Rattle.gate.specs.Gate.{column_of, number_in, refused_of, finish_of, check_lines, check_of}
 use Rattle.serials.specs.declared.Earlier.{Earlier}

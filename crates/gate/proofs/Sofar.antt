@@ -17,12 +17,12 @@ use Rattle.places.specs.declared.Counts.{Counts}
 use Rattle.rules.specs.declared.State.{State}
 use Rattle.places.specs.Counts.{one_more, raised}
 use Rattle.rules.specs.Rules.{judge_of, next_of, carried_next, typed_next, start_of}
-use Rattle.rules.proofs.Laws.{judge_typed, judge_carried, judge_wrong}
+use Rattle.rules.proofs.Laws.{judge_typed, judge_carried, judge_bad, judge_wrong}
 use Rattle.rules.specs.declared.Looked.{Looked}
 use Rattle.search.specs.declared.Span.{Span}
 use Rattle.search.specs.Search.{span}
 use Rattle.facets.specs.Facets.{is_coord, is_fence}
-use Rattle.gate.specs.declared.Verdict.{Verdict}
+use Rattle.gate.specs.Gate.{Verdict}
 use Rattle.rows.specs.Text.{cut, piece_at, row, down}
 use Rattle.gate.specs.Gate.{column_of, look_of, number_in, check_lines, check_of, refused_of, finish_of}
 use Rattle.serials.specs.declared.Earlier.{Earlier}
@@ -31,7 +31,7 @@ use Rattle.serials.specs.Search.{grow_of, no_earlier, earlier_of, base_of, Block
 use Rattle.trail.specs.declared.Watch.{Watch}
 use Rattle.trail.specs.Trail.{Watched}
 use Rattle.rows.proofs.Cut.{cut_next, cut_done}
-use Rattle.serials.proofs.Rows.{carried_away, bad_number, piece_long}
+use Rattle.serials.proofs.Rows.{carried_away, piece_long}
 use Rattle.serials.proofs.Block.{base_le, grow_carried, grow_typed}
 use Rattle.serials.proofs.Models.{coord_off, behind_start, behind_next}
 
@@ -149,7 +149,7 @@ behind_line t i b v s B E l e = subst (λ (x : Line). Behind (row t) (i + 1) (ea
 pub grown : (t : List ℕ) (i : ℕ) (b : Span) (v : Earlier) (s : State) (look : Looked) → Few s.counts i → Block (row t) i b s → Behind (row t) i v
     → (l : Line) → row t i ≡ l → judge_of look s l ≡ 0 → Grown t i b v s l
 unfolding next_of carried_next typed_next judge_of row
-grown t i b v s look f B E (Bad n) e j = absurd (omega (arith, bad_number t i n e))
+grown t i b v s look f B E (Bad n) e j = absurd (judge_bad look s n j)
 grown t i b v s look f B E (Wrong k c) e j = absurd (judge_wrong look s k c j)
 grown t i b v s look f B E (Carried k) e j =
     record {

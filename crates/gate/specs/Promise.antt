@@ -1,5 +1,5 @@
 -- What follows of any text from the answer of the check, in plain words: the statement. It is proved in proofs/.
-use Rattle.std.specs.Prelude.{◌+◌, ◌*◌, ◌-◌, ◌≤◌, ◌<◌, ◌≡◌, ◌⊎◌}
+use Rattle.std.specs.Prelude.{◌+◌, ◌*◌, ◌-◌, ◌≤◌, ◌<◌, ◌≡◌, ◌⊎◌, Option, Some, None}
 use Rattle.ascii.specs.Library.{ℕ, zero, suc, List, Bool, true, false, length, take, eqb, pick, either}
 use Rattle.coordinate.specs.declared.{Identity.Identity, Atom.Atom}
 use Rattle.conect.specs.declared.{Conect.Conect}
@@ -7,7 +7,7 @@ use Rattle.master.specs.declared.{Tally.Tally}
 use Rattle.pieces.specs.declared.{Line.TheVariants.Typed}
 use Rattle.places.specs.declared.{Counts.Counts}
 use Rattle.places.specs.Counts.{count_at, same_counts}
-use Rattle.facets.specs.declared.{Fence.Fence, Fence.TheVariants.Opens, Fence.TheVariants.Shuts, Fence.TheVariants.Unfenced}
+use Rattle.facets.specs.declared.{Fence.Fence, Fence.TheVariants.Opens, Fence.TheVariants.Shuts}
 use Rattle.facets.specs.Facets.{line_kind, fence_in, is_coord, is_fence}
 use Rattle.line.specs.Lines.{read_line, answer_column}
 use Rattle.rows.specs.Text.{piece_at, row}
@@ -46,10 +46,10 @@ abbrev pub OneModel : List ℕ → ℕ → ℕ → Type 0
 OneModel t j k = (i : ℕ) → j < i → i < k → is_fence (row t i) ≡ false
 
 -- an ENDMDL line
-abbrev pub is_shut : Fence → Bool
-is_shut (Opens n) = false
-is_shut Shuts = true
-is_shut Unfenced = false
+abbrev pub is_shut : Option Fence → Bool
+is_shut (Some (Opens n)) = false
+is_shut (Some Shuts) = true
+is_shut None = false
 
 -- there is one among the first n lines
 unfoldable pub past_at : List ℕ → ℕ → Bool
@@ -57,19 +57,19 @@ past_at t zero = false
 past_at t (suc n) = either (is_shut (fence_in (row t n))) (past_at t n)
 
 -- how many of the first n lines are MODEL lines, and whether these leave a model open
-abbrev pub is_open : Fence → Bool
-is_open (Opens n) = true
-is_open Shuts = false
-is_open Unfenced = false
+abbrev pub is_open : Option Fence → Bool
+is_open (Some (Opens n)) = true
+is_open (Some Shuts) = false
+is_open None = false
 
 unfoldable pub models_to : List ℕ → ℕ → ℕ
 models_to t zero = 0
 models_to t (suc n) = pick (is_open (fence_in (row t n))) (models_to t n + 1) (models_to t n)
 
-abbrev pub open_after : Bool → Fence → Bool
-open_after was (Opens n) = true
-open_after was Shuts = false
-open_after was Unfenced = was
+abbrev pub open_after : Bool → Option Fence → Bool
+open_after was (Some (Opens n)) = true
+open_after was (Some Shuts) = false
+open_after was None = was
 
 unfoldable pub open_at : List ℕ → ℕ → Bool
 open_at t zero = false
@@ -103,7 +103,7 @@ pub record Consequences (t : List ℕ) : Type 0 where
   pub atoms_differ : (j k : ℕ) (x y : Bool) (a b : Atom) → j < k → k < (check_of t).good → OneModel t j k → row t j ≡ Typed (rec.Coordinate x a)
       → row t k ≡ Typed (rec.Coordinate y b) → SixFields b.identity a.identity → ⊥
   -- models are numbered 1, 2, 3, ..
-  pub models_number : (i n : ℕ) → i < (check_of t).good → fence_in (row t i) ≡ Opens n → n ≡ models_to t i + 1
+  pub models_number : (i n : ℕ) → i < (check_of t).good → fence_in (row t i) ≡ Some (Opens n) → n ≡ models_to t i + 1
   -- there is no MODEL line among the good ones, or all their ATOM, HETATM and TER lines stand between a MODEL and its ENDMDL
   pub models_hold : (models_to t (check_of t).good ≡ 0) ⊎ ((i : ℕ) → i < (check_of t).good → is_coord (row t i) ≡ true → open_at t i ≡ true)
   -- every number on a good CONECT line is the serial of an ATOM or HETATM line before it, in whichever model

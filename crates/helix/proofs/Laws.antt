@@ -7,9 +7,8 @@ use Rattle.ascii.specs.Tests.{same}
 use Rattle.fields.specs.Format.{blank_fields, whole_f, ◌then◌, after}
 use Rattle.fields.proofs.Sides.{HasColumn, has_right}
 use Rattle.fields.proofs.Formats.{Lawful, whole_lawful, none_lawful, then_lawful, after_lawful, held_lawful, under_lawful}
-use Rattle.names.specs.declared.Three.{Three}
-use Rattle.names.specs.Names.{three_f, is_identifier}
-use Rattle.names.proofs.Shapes.{three_lawful}
+use Rattle.names.specs.Names.{name_f, is_identifier}
+use Rattle.names.proofs.Shapes.{name_lawful}
 use Rattle.names.proofs.Classes.{identifier_fine}
 use Rattle.words.proofs.Laws.{word_lawful}
 use Rattle.residue.specs.Residues.{residue_f}
@@ -20,14 +19,14 @@ use Rattle.helix.specs.declared.Comment.{Comment}
 use Rattle.helix.specs.declared.Helix.{Helix}
 use Rattle.helix.specs.Helices.{extent_f, extent_columns, comment_f, comment_columns, helix_f, helix_columns}
 
-abbrev to_extent : (ℕ × (Three × (Residue × Residue))) → Extent
+abbrev to_extent : (ℕ × (List ℕ × (Residue × Residue))) → Extent
 to_extent = λ (serial, (id, (first, last))). record { serial = serial; id = id; first = first; last = last }
 
-abbrev from_extent : Extent → (ℕ × (Three × (Residue × Residue)))
+abbrev from_extent : Extent → (ℕ × (List ℕ × (Residue × Residue)))
 from_extent e = (e.serial, (e.id, (e.first, e.last)))
 
 -- the last chain is a field
-last_chain_field : (l : List ℕ) → HasColumn 32 ((after 1 (whole_f 3 1 999 then after 1 (three_f is_identifier then after 1 (residue_f 1 then after 1 (residue_f 1))))).fields l 6)
+last_chain_field : (l : List ℕ) → HasColumn 32 ((after 1 (whole_f 3 1 999 then after 1 (name_f 3 is_identifier then after 1 (residue_f 1 then after 1 (residue_f 1))))).fields l 6)
 unfolding HasColumn
 last_chain_field l =
     has_right 32 (blank_fields l 6 1) _
@@ -43,7 +42,7 @@ extent_lawful =
     (after_lawful 1
     (then_lawful (whole_lawful 3 1 999 tt)
     (after_lawful 1
-    (then_lawful (three_lawful is_identifier identifier_fine) (after_lawful 1 (then_lawful (residue_lawful 1) (after_lawful 1 (residue_lawful 1)))))))))
+    (then_lawful (name_lawful 3 is_identifier identifier_fine) (after_lawful 1 (then_lawful (residue_lawful 1) (after_lawful 1 (residue_lawful 1)))))))))
 
 abbrev to_comment : (ℕ × (ℕ × (ℕ × ℕ))) → Comment
 to_comment = λ (a, (b, (c, d))). record { a = a; b = b; c = c; d = d }

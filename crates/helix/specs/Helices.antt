@@ -1,7 +1,7 @@
 -- HELIX: its columns 7 to 80.
 use Rattle.ascii.specs.Library.{same}
 use Rattle.fields.specs.Format.{Format, whole_f, none_f, ◌then◌, after, held, under, shut}
-use Rattle.names.specs.Names.{three_f, is_identifier}
+use Rattle.names.specs.Names.{name_f, is_identifier}
 use Rattle.words.specs.Words.{word_f}
 use Rattle.residue.specs.Residues.{residue_f}
 use Rattle.helix.specs.declared.{Extent.Extent, Comment.Comment, Helix.Helix}
@@ -11,7 +11,7 @@ use Rattle.helix.specs.declared.{Extent.Extent, Comment.Comment, Helix.Helix}
 unfoldable pub extent_columns : Format Extent
 extent_columns =
     under
-    (held (after 1 (whole_f 3 1 999 then after 1 (three_f is_identifier then after 1 (residue_f 1 then after 1 (residue_f 1)))))
+    (held (after 1 (whole_f 3 1 999 then after 1 (name_f 3 is_identifier then after 1 (residue_f 1 then after 1 (residue_f 1)))))
     (λ (serial, (id, (first, last))). record { serial = serial; id = id; first = first; last = last })
     (λ e. (e.serial, (e.id, (e.first, e.last)))))
     (λ e. same e.first.chain e.last.chain) 32

@@ -1,5 +1,6 @@
 -- What the answer of the jump means.
 -- Assumes nothing.
+use Rattle.std.proofs.Common.{Option, Some, None}
 use Prim.Native.Nat.{ℕ, zero, suc, ◌+◌, ◌*◌, ◌/◌, ◌≤◌, ◌<◌}
 use mathlib.Core.List.{List}
 use mathlib.Core.Bool.{Bool, true, false, false≢true}
@@ -10,7 +11,7 @@ use borrow.Author.Tests.{eqb-true, ltb-true, ltb-false}
 use lib.Dec.{ltb}
 use lib.ListN.{length}
 use Rattle.facets.specs.declared.Spot.{Spot}
-use Rattle.facets.specs.declared.Spot.TheVariants.{Site, Close, Nowhere}
+use Rattle.facets.specs.declared.Spot.TheVariants.{Site, Close}
 use Rattle.facets.specs.Facets.{spot_in, is_spot, is_fence}
 use Rattle.rows.specs.Text.{piece_at, row}
 use Rattle.serials.specs.Known.{is_atom}
@@ -57,10 +58,10 @@ searched : (x : ℕ) (t : List ℕ) → At x t ⊎ Never x t
 searched x t = search_on (length t) x t 0 (omega arith) (looked_start x t)
 
 -- ---- in an accepted text without models there is no second one
-atom_serial : (x : ℕ) (s : Spot) → is_atom x s ≡ true → (is_spot s ≡ true) × (spot_serial s ≡ x)
-atom_serial x (Site het a) e = (refl, eqb-true _ _ e)
-atom_serial x (Close t) e = absurd (false≢true e)
-atom_serial x Nowhere e = absurd (false≢true e)
+atom_serial : (x : ℕ) (s : Option Spot) → is_atom x s ≡ true → (is_spot s ≡ true) × (spot_serial s ≡ x)
+atom_serial x (Some (Site het a)) e = (refl, eqb-true _ _ e)
+atom_serial x (Some (Close t)) e = absurd (false≢true e)
+atom_serial x None e = absurd (false≢true e)
 
 hit_whole : (x : ℕ) (t : List ℕ) (i : ℕ) → is_hit x (piece_at t i) ≡ true → 81 * i + 81 ≤ length t
 hit_whole x t i e = go (ltb (length t) (81 * i + 81)) refl

@@ -1,8 +1,7 @@
 -- The jump: the first line with a serial, in any text.
-use Rattle.std.specs.Prelude.{◌+◌, ◌/◌, ◌∷◌}
+use Rattle.std.specs.Prelude.{◌+◌, ◌/◌, ◌∷◌, Ok, Err}
 use Rattle.ascii.specs.Library.{ℕ, List, [], Bool, false, length, get_or, take, eqb, both, byte, pick}
-use Rattle.line.specs.declared.{Answer.Answer, Answer.TheVariants.Read, Answer.TheVariants.Refused, Answer.TheVariants.Wrong}
-use Rattle.line.specs.Lines.{read_line}
+use Rattle.line.specs.Lines.{Answer, read_line}
 use Rattle.facets.specs.Facets.{spot_of}
 use Rattle.rows.specs.Text.{cut}
 use Rattle.serials.specs.Known.{is_atom}
@@ -10,9 +9,8 @@ use Rattle.jump.specs.declared.{Jump.Jump}
 
 -- an ATOM or HETATM line with serial x was read
 abbrev pub read_atom : ℕ → Answer → Bool
-read_atom x (Read r) = is_atom x (spot_of r)
-read_atom x (Refused n) = false
-read_atom x (Wrong column) = false
+read_atom x (Ok r) = is_atom x (spot_of r)
+read_atom x (Err m) = false
 
 -- a piece of 81 bytes that ends in byte 10 and reads by itself as an ATOM or HETATM line with serial x
 unfoldable pub is_hit : ℕ → List ℕ → Bool

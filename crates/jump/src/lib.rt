@@ -18,13 +18,12 @@ pub fn find(text: &[u8], x: Serial) -> Jump
     ensures { result ≡ jump_of x.0 text.now }
 {
     let whole = text.len() / 81;
-    let mut i: usize = 0;
-    while i < whole {
-        if serials::site_in(text, i, x) {
+    // `position` takes a closure, a call for each line.
+    for i in 0..whole {
+        if serials::site_in(rows::piece_at(text, i), x) {
             let n = i as u64 + 1;
             return Jump { line: n, looked: n };
         }
-        i += 1;
     }
     Jump {
         line: 0,

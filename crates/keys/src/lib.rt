@@ -1,25 +1,19 @@
 // The columns that name an atom, as two numbers. They are compared before a line is read.
 #![tactic(auto)]
 
-ghost use Rattle.std.specs.Prelude.{◌≡◌, ◌+◌, ◌*◌, ◌≤◌, length};
-ghost use Rattle.keys.specs.Keys.{home_at, body_at};
+ghost use Rattle.std.specs.Prelude.{◌≡◌};
+ghost use Rattle.keys.specs.Keys.{home_of, body_of};
 
-// Columns 22-27 of line i: chain, residue number, insertion code.
-pub fn home(text: &[u8], i: usize) -> u64
-    requires { 81 * i + 81 ≤ length text.now }
-    ensures { result ≡ home_at text.now i }
+// Columns 22-27 of a piece: chain, residue number, insertion code.
+pub fn home(piece: &[u8; 81]) -> u64
+    ensures { result ≡ home_of piece.now }
 {
-    let at = 81 * i;
-    let e = at + 80;
-    words::word(&text[at..e], 21, 6)
+    words::word(piece, 21, 6)
 }
 
-// Columns 13-20 of line i: atom name, alternate letter, residue name.
-pub fn body(text: &[u8], i: usize) -> u64
-    requires { 81 * i + 81 ≤ length text.now }
-    ensures { result ≡ body_at text.now i }
+// Columns 13-20: atom name, alternate letter, residue name.
+pub fn body(piece: &[u8; 81]) -> u64
+    ensures { result ≡ body_of piece.now }
 {
-    let at = 81 * i;
-    let e = at + 80;
-    words::word(&text[at..e], 12, 8)
+    words::word(piece, 12, 8)
 }

@@ -25,7 +25,7 @@ named : (n : ℕ) (ks : List Kind) → Named n (first_named n ks)
 named n [] = never
 named n (k ∷ ks) = picks (Named n) (eqb n (row_of k).name) k (first_named n ks) (λ t _. eqb-true n _ t) (λ _. named n ks)
 
-name_bytes : (v : ℕ) (k : Kind) → v ≡ (row_of k).name → bytes_of 6 v ≡ name_text k
+pub name_bytes : (v : ℕ) (k : Kind) → v ≡ (row_of k).name → bytes_of 6 v ≡ name_text k
 unfolding bytes_of
 name_bytes v k e = rw e
 

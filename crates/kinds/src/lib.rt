@@ -1,8 +1,12 @@
 // The kinds of line, by their names in columns 1 to 6: one table of all that the rules say of each.
 #![tactic(auto)]
 
+mod layout;
+
 ghost use Rattle.std.specs.Prelude.{true, false, ◌≡◌};
 ghost use Rattle.kinds.specs.Kinds.{row_with, row_of, is_named, kind_named, kind_of};
+
+pub use layout::{Layout, write};
 
 #[derive(Clone, Copy)]
 pub enum Kind {
@@ -119,11 +123,11 @@ fn carried(name: u64, low: u8, high: u8, here: u8, count: u8) -> Row
     ensures { result ≡ row_with false false name low high here count }
 {
     Row {
-        name: name,
-        low: low,
-        high: high,
-        here: here,
-        count: count,
+        name,
+        low,
+        high,
+        here,
+        count,
         typed: false,
         slot: false,
     }
@@ -134,11 +138,11 @@ fn typed(name: u64, low: u8, high: u8, here: u8, count: u8) -> Row
     ensures { result ≡ row_with true false name low high here count }
 {
     Row {
-        name: name,
-        low: low,
-        high: high,
-        here: here,
-        count: count,
+        name,
+        low,
+        high,
+        here,
+        count,
         typed: true,
         slot: false,
     }
@@ -149,11 +153,11 @@ fn slotted(name: u64, low: u8, high: u8, here: u8, count: u8) -> Row
     ensures { result ≡ row_with true true name low high here count }
 {
     Row {
-        name: name,
-        low: low,
-        high: high,
-        here: here,
-        count: count,
+        name,
+        low,
+        high,
+        here,
+        count,
         typed: true,
         slot: true,
     }
@@ -201,8 +205,7 @@ pub fn row_of(k: Kind) -> Row
 pub fn is_named(k: Kind) -> bool
     ensures { result ≡ is_named k }
 {
-    let r = row_of(k);
-    0 < r.here
+    0 < row_of(k).here
 }
 
 // The kind of line that has the name n.

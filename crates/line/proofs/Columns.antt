@@ -36,11 +36,11 @@ use Rattle.cell.proofs.Laws.{cell_lawful}
 use Rattle.transform.specs.Transforms.{transform_f}
 use Rattle.transform.proofs.Laws.{transform_lawful}
 use Rattle.line.specs.declared.Record.{Record}
-use Rattle.line.specs.declared.Reading.{Reading}
-use Rattle.line.specs.declared.Reading.TheVariants.{Typed, Wrong, Untyped}
-use Rattle.line.specs.declared.Answer.{Answer}
-use Rattle.line.specs.declared.Answer.TheVariants.{Refused}
-use Rattle.line.specs.Lines.{bare_f, judged, crystal_read, reading_of, answer_of, read_line, answer_number, answer_column, fields_of}
+use Rattle.std.specs.Prelude.{Ok, Err}
+use Rattle.refusals.specs.declared.Refusal.TheVariants.{Length, Byte}
+use Rattle.line.specs.declared.unread.Unread.TheVariants.{Wrong, Untyped}
+use Rattle.line.specs.declared.unread.Misread.TheVariants.{Refused}
+use Rattle.line.specs.Lines.{Reading, Answer, bare_f, judged, crystal_read, reading_of, answer_of, read_line, answer_number, answer_column, fields_of}
 use Rattle.line.specs.Promise.{Columns}
 use Rattle.line.proofs.Crystal.{crystal_cases}
 use Rattle.line.proofs.RoundTrip.{bare_lawful}
@@ -48,7 +48,7 @@ use Rattle.line.proofs.RoundTrip.{bare_lawful}
 -- ---- by kind
 judged_column : (c : ℕ) (r : Record) → answer_column (answer_of (judged c r)) ≡ c
 unfolding judged
-judged_column c r = picks (λ (x : Reading). answer_column (answer_of x) ≡ c) (eqb c 0) (Typed r) (Wrong c) (λ t. sym (eqb-true c 0 t)) (λ _. refl)
+judged_column c r = picks (λ (x : Reading). answer_column (answer_of x) ≡ c) (eqb c 0) (Ok r) (Err (Wrong (record { 0 = c }))) (λ t. sym (eqb-true c 0 t)) (λ _. refl)
 
 -- what holds of a kind with its lawful format
 module _ {A : Type 0} (F : Format A) (f : Lawful F 6) (w : F.width ≡ 74) (l : List ℕ) (h : length l ≡ 80) (r : Record) where
@@ -95,9 +95,9 @@ AtColumn x = answer_number (answer_of x) ≡ 6 → answer_column (answer_of x) �
 
 judged_wrong : (c : ℕ) (r : Record) → AtColumn (judged c r)
 unfolding judged
-judged_wrong c r = picks AtColumn (eqb c 0) (Typed r) (Wrong c) (λ _ e z. omega arith) (λ t e z. eqb-false c 0 t z)
+judged_wrong c r = picks AtColumn (eqb c 0) (Ok r) (Err (Wrong (record { 0 = c }))) (λ _ e z. omega arith) (λ t e z. eqb-false c 0 t z)
 
-untyped_right : AtColumn Untyped
+untyped_right : AtColumn (Err Untyped)
 untyped_right e z = omega arith
 
 reading_wrong : (k : Kind) (l : List ℕ) → AtColumn (reading_of k l)
@@ -118,23 +118,23 @@ reading_wrong k l =
 pub six : (l : List ℕ) → answer_number (read_line l) ≡ 6 → answer_column (read_line l) ≡ 0 → ⊥
 unfolding read_line
 six l =
-    picks Six (eqb (length l) 80) _ (Refused 1)
-    (λ _. picks Six (clean_at l 0 80) (answer_of (reading_of (kind_of l) l)) (Refused 3) (λ _. reading_wrong (kind_of l) l) (λ _ e z. omega arith))
+    picks Six (eqb (length l) 80) _ (Err (Refused Length))
+    (λ _. picks Six (clean_at l 0 80) (answer_of (reading_of (kind_of l) l)) (Err (Refused Byte)) (λ _. reading_wrong (kind_of l) l) (λ _ e z. omega arith))
     (λ _ e z. omega arith)
   where
     Six : Answer → Type 0
     Six a = answer_number a ≡ 6 → answer_column a ≡ 0 → ⊥
 
 only_answer : (a : Reading) → (answer_column (answer_of a) ≡ 0 → ⊥) → answer_number (answer_of a) ≡ 6
-only_answer (Typed r) z = absurd (z refl)
-only_answer (Wrong column) z = refl
-only_answer Untyped z = absurd (z refl)
+only_answer (Ok r) z = absurd (z refl)
+only_answer (Err (Wrong column)) z = refl
+only_answer (Err Untyped) z = absurd (z refl)
 
 pub only_six : (l : List ℕ) → (answer_column (read_line l) ≡ 0 → ⊥) → answer_number (read_line l) ≡ 6
 unfolding read_line
 only_six l =
-    picks Only (eqb (length l) 80) _ (Refused 1)
-    (λ _. picks Only (clean_at l 0 80) (answer_of (reading_of (kind_of l) l)) (Refused 3) (λ _. only_answer (reading_of (kind_of l) l)) (λ _ z. absurd (z refl)))
+    picks Only (eqb (length l) 80) _ (Err (Refused Length))
+    (λ _. picks Only (clean_at l 0 80) (answer_of (reading_of (kind_of l) l)) (Err (Refused Byte)) (λ _. only_answer (reading_of (kind_of l) l)) (λ _ z. absurd (z refl)))
     (λ _ z. absurd (z refl))
   where
     Only : Answer → Type 0

@@ -15,14 +15,14 @@ use Rattle.cell.specs.Cells.{cell_f}
 use Rattle.transform.specs.declared.Axis.{Axis}
 use Rattle.transform.specs.declared.Axis.TheVariants.{X, Y, Z}
 use Rattle.transform.specs.Transforms.{transform_kind}
-use Rattle.line.specs.declared.Reading.{Reading}
-use Rattle.line.specs.declared.Reading.TheVariants.{Untyped}
 use Rattle.line.specs.declared.Record.TheVariants as rec
-use Rattle.line.specs.Lines.{judged, transform_read, crystal_read}
+use Rattle.std.specs.Prelude.{Err}
+use Rattle.line.specs.declared.unread.Unread.TheVariants.{Untyped}
+use Rattle.line.specs.Lines.{Reading, judged, transform_read, crystal_read}
 
 -- what holds of the reading of CRYST1, of each transformation and of no reading holds of what such a line reads to
 pub crystal_cases : (P : Reading → Type 0) (k : Kind) (l : List ℕ) → (is kind.Cryst1 k ≡ true → P (judged (cell_f.fault l 6) (rec.Cell (cell_f.value l 6))))
-    → ((scale : Bool) (axis : Axis) → is (transform_kind scale axis) k ≡ true → P (transform_read l scale axis)) → P Untyped → P (crystal_read k l)
+    → ((scale : Bool) (axis : Axis) → is (transform_kind scale axis) k ≡ true → P (transform_read l scale axis)) → P (Err Untyped) → P (crystal_read k l)
 unfolding crystal_read
 crystal_cases P k l c t u =
     picks P (is kind.Cryst1 k) _ _ c

@@ -1,75 +1,52 @@
--- One law for each `return`. Assumes nothing.
-use mathlib.Core.Path.{◌≡◌, refl, sym, ◌∙◌, ap}
-use mathlib.Core.List.{List}
+-- What a kind's reader and writer answer is what is said of a line. Assumes nothing.
+use mathlib.Core.Path.{◌≡◌, ◌∙◌, ap}
+use mathlib.Core.List.{List, ◌++◌}
 use mathlib.Core.Bool.{Bool, true, false}
-use Prim.Native.Nat.{ℕ, ◌≤◌, ◌<◌}
+use Prim.Native.Nat.{ℕ, zero, suc}
+use native.Mathlib.Omega.{arith}
 use lib.ListN.{length}
 use borrow.Author.Tests.{eq-eqb, ne_eqb}
-use Rattle.columns.specs.Columns.{clean_at, first_of, gap_of, blanks, Put}
-use Rattle.columns.proofs.Puts.{put_then, none_put}
-use Rattle.fields.specs.Format.{write_number, write_line}
-use Rattle.fields.proofs.Writes.{write_short, write_done}
-use Rattle.words.specs.Words.{bytes_of}
+use Rattle.std.specs.Prelude.{Ok, Err}
+use Rattle.columns.specs.declared.Column.{Column}
+use Rattle.columns.specs.Columns.{clean_at}
+use Rattle.columns.specs.Answers.{read_as}
+use Rattle.refusals.specs.declared.Refusal.TheVariants.{Length, Byte}
 use Rattle.kinds.specs.declared.Kind.{Kind}
-use Rattle.kinds.specs.declared.Kind.TheVariants as kind
-use Rattle.kinds.specs.Kinds.{packed, name_text, kind_of}
+use Rattle.kinds.specs.Kinds.{kind_of, row_of, name_text}
+use Rattle.kinds.proofs.First.{name_bytes}
+use Rattle.words.specs.Words.{bytes_of}
+use Rattle.fields.specs.Format.{write_line}
 use Rattle.line.specs.declared.Record.{Record}
-use Rattle.line.specs.declared.Record.TheVariants as rec
-use Rattle.line.specs.declared.Reading.{Reading}
-use Rattle.line.specs.declared.Reading.TheVariants.{Typed, Wrong}
-use Rattle.line.specs.declared.Answer.{Answer}
-use Rattle.line.specs.declared.Answer.TheVariants.{Refused}
-use Rattle.line.specs.Lines.{bare_f, bare_line, judged, reading_of, answer_of, read_line, record_ok, record_line}
+use Rattle.line.specs.declared.unread.Unread.TheVariants.{Wrong}
+use Rattle.line.specs.declared.unread.Misread.TheVariants.{Refused}
+use Rattle.line.specs.Lines.{Reading, judged, reading_of, answer_of, read_line}
 
--- ---- a kind of line: the column and the record are those of its definition
-module _ (c fault : ℕ) (r s : Record) (e : c ≡ fault) (f : r ≡ s) where
-  pub judged_good : c ≡ 0 → Typed r ≡ judged fault s
-  unfolding judged
-  judged_good z = rw (← e, z, ← f)
+-- ---- a kind of line
+pub judged_good : {A : Type 0} (wrap : A → Record) (fault : ℕ) (value a : A) → Ok a ≡ read_as fault value → Ok (wrap a) ≡ judged fault (wrap value)
+unfolding judged
+judged_good wrap zero value a e = let q : a ≡ value = cc in rw q
+judged_good wrap (suc f) value a e = cc
 
-  pub judged_wrong : (c ≡ 0 → ⊥) → Wrong c ≡ judged fault s
-  unfolding judged
-  judged_wrong z = rw (← e, ne_eqb c 0 z)
+pub judged_wrong : {A : Type 0} (fault : ℕ) (value : A) (r : Record) (c : Column) → Err c ≡ read_as fault value → Err (Wrong c) ≡ judged fault r
+unfolding judged
+judged_wrong zero value r c e = cc
+judged_wrong (suc f) value r c e = let q : c ≡ record { 0 = suc f } = cc in rw (q, ne_eqb (suc f) 0 (λ z. absurd (omega arith)))
 
-pub bare_column : (l : List ℕ) (g c : ℕ) → g ≡ gap_of l 6 74 → c ≡ first_of g 0 → c ≡ bare_f.fault l 6
-bare_column l g c e f = f ∙ ap (λ x. first_of x 0) e
+-- ---- any line, and the columns m that it is taken for
+pub line_short : (l : List ℕ) → (length l ≡ 80 → ⊥) → Err (Refused Length) ≡ read_line l
+unfolding read_line
+line_short l z = rw (ne_eqb _ _ z)
 
--- ---- reading
-module _ (l : List ℕ) where
-  pub line_short : (length l ≡ 80 → ⊥) → Refused 1 ≡ read_line l
+module _ (l m : List ℕ) (h : length l ≡ 80) (e : m ≡ l) where
+  pub line_odd : false ≡ clean_at m 0 80 → Err (Refused Byte) ≡ read_line l
   unfolding read_line
-  line_short z = rw (ne_eqb _ _ z)
+  line_odd f = rw (eq-eqb _ _ h, ← e, ← f)
 
-  module _ (h : length l ≡ 80) (p : Bool) (pe : p ≡ clean_at l 0 80) where
-    pub line_odd : p ≡ false → Refused 3 ≡ read_line l
-    unfolding read_line
-    line_odd f = rw (eq-eqb _ _ h, sym pe ∙ f)
+  pub line_read : (k : Kind) (r : Reading) → true ≡ clean_at m 0 80 → k ≡ kind_of m → r ≡ reading_of k m → answer_of r ≡ read_line l
+  unfolding read_line
+  line_read k r t ek er = rw (eq-eqb _ _ h, ← e, ← t) (ap answer_of (er ∙ ap (λ x. reading_of x m) ek))
 
-    pub line_read : (k : Kind) (r : Reading) (a : Answer) → p ≡ true → k ≡ kind_of l → r ≡ reading_of k l → a ≡ answer_of r → a ≡ read_line l
-    unfolding read_line
-    line_read k r a t ek er ea = rw (eq-eqb _ _ h, sym pe ∙ t) (ea ∙ ap answer_of (er ∙ ap (λ x. reading_of x l) ek))
-
--- ---- writing
-abbrev pub Written : Record → ℕ → List ℕ → List ℕ → Type 0
-Written r n l l' = (n ≡ write_number (record_ok r) l) × (l' ≡ write_line (record_ok r) (record_line r) l)
-
-pub record_written : (x r : Record) (n : ℕ) (l l' : List ℕ) → x ≡ r → Written r n l l' → Written x n l l'
-record_written x r n l l' e p = rw e p
-
--- a line that is a name alone
-abbrev pub Bare : ℕ → ℕ → List ℕ → List ℕ → Type 0
-Bare name n l l' = (n ≡ write_number true l) × (l' ≡ write_line true (bare_line name) l)
-
-pub bare_short : (name : ℕ) (l : List ℕ) → length l < 80 → Bare name 17 l l
-bare_short name l h = write_short true true refl (bare_line name) l refl h
-
-pub bare_done : (name : ℕ) (l l1 l2 : List ℕ) → 80 ≤ length l → Put l 0 6 (bytes_of 6 name) l1 → Put l1 6 74 (blanks 74) l2 → Bare name 0 l l2
-bare_done name l l1 l2 h p q = write_done true true refl (bare_line name) l l2 refl h (put_then p (put_then q (none_put l2 80)))
-
-pub end_written : (n : ℕ) (l l' : List ℕ) → Bare (packed 0 (name_text kind.End)) n l l' → Written rec.End n l l'
-unfolding bytes_of
-end_written n l l' p = p
-
-pub endmdl_written : (n : ℕ) (l l' : List ℕ) → Bare (packed 0 (name_text kind.Endmdl)) n l l' → Written rec.Endmdl n l l'
-unfolding bytes_of
-endmdl_written n l l' p = p
+-- ---- a line that is written behind the name of its kind
+pub named_line : (v : ℕ) (k : Kind) (x : List ℕ) (good : Bool) (l l' : List ℕ) → v ≡ (row_of k).name
+    → l' ≡ write_line good (bytes_of 6 v ++ x) l → l' ≡ write_line good (name_text k ++ x) l
+named_line v k x good l l' e p = rw (name_bytes v k e) at p

@@ -40,11 +40,12 @@ use Rattle.transform.specs.Transforms.{transform_f, transform_kind}
 use Rattle.transform.proofs.Laws.{transform_lawful}
 use Rattle.line.specs.declared.Record.{Record}
 use Rattle.line.specs.declared.Record.TheVariants as rec
-use Rattle.line.specs.declared.Reading.{Reading}
-use Rattle.line.specs.declared.Reading.TheVariants.{Typed, Wrong, Untyped}
-use Rattle.line.specs.declared.Answer.{Answer}
-use Rattle.line.specs.declared.Answer.TheVariants.{Read, Refused}
-use Rattle.line.specs.Lines.{bare_f, judged, crystal_read, reading_of, answer_of, read_line, answer_number, record_ok, record_line}
+use Rattle.std.specs.Prelude.{Ok, Err}
+use Rattle.refusals.specs.declared.Refusal.{Refusal}
+use Rattle.refusals.specs.declared.Refusal.TheVariants.{Length, Byte}
+use Rattle.line.specs.declared.unread.Unread.TheVariants.{Wrong, Untyped}
+use Rattle.line.specs.declared.unread.Misread.TheVariants.{Refused}
+use Rattle.line.specs.Lines.{Reading, Answer, bare_f, judged, crystal_read, reading_of, answer_of, read_line, answer_number, record_ok, record_line}
 use Rattle.line.specs.Promise.{RoundTrips}
 use Rattle.line.proofs.Crystal.{crystal_cases, transform_name, transform_named, transform_printed}
 
@@ -53,9 +54,9 @@ bare_lawful = after_lawful 74 none_lawful
 
 -- ---- what reads is what would be written
 abbrev Kept : List ℕ → Reading → Type 0
-Kept l x = (r : Record) → x ≡ Typed r → (record_line r ≡ l) × (record_ok r ≡ true)
+Kept l x = (r : Record) → x ≡ Ok r → (record_line r ≡ l) × (record_ok r ≡ true)
 
-kept_untyped : (l : List ℕ) → Kept l Untyped
+kept_untyped : (l : List ℕ) → Kept l (Err Untyped)
 kept_untyped l r e = let z : ◌≡◌ {A = ℕ} 0 1 = cc in absurd (omega arith)
 
 -- a kind with its lawful format, whose values are wrapped into records
@@ -64,7 +65,7 @@ kept_judged : {A : Type 0} (F : Format A) → Lawful F 6 → F.width ≡ 74 → 
     → (l : List ℕ) → length l ≡ 80 → take 6 l ≡ name_text k → Kept l (judged (F.fault l 6) (wrap (F.value l 6)))
 unfolding judged
 kept_judged F f w k n wrap line ok l h first =
-    picks (Kept l) (eqb (F.fault l 6) 0) (Typed (wrap (F.value l 6))) (Wrong (F.fault l 6))
+    picks (Kept l) (eqb (F.fault l 6) 0) (Ok (wrap (F.value l 6))) (Err (Wrong (record { 0 = F.fault l 6 })))
     (λ t r e.
     let q : wrap (F.value l 6) ≡ r = cc in
     let x = line_kept F f w (name_text k) n l h first (eqb-true (F.fault l 6) 0 t) in
@@ -93,48 +94,48 @@ kept_reading l h c k e =
     first a known t =
         name_first l (omega arith) (clean_fewer l 0 6 80 (omega arith) c) a (e ∙ sym (same_name a k (eqb-true (row_of a).name (row_of k).name t))) known
 
-kept_answer : (l : List ℕ) (x : Reading) → Kept l x → (r : Record) → answer_of x ≡ Read r → (record_line r ≡ l) × (record_ok r ≡ true)
-kept_answer l (Typed y) f r e = f r (cc)
-kept_answer l (Wrong n) f r e = let z : ◌≡◌ {A = ℕ} 0 1 = cc in absurd (omega arith)
-kept_answer l Untyped f r e = let z : ◌≡◌ {A = ℕ} 0 1 = cc in absurd (omega arith)
+kept_answer : (l : List ℕ) (x : Reading) → Kept l x → (r : Record) → answer_of x ≡ Ok r → (record_line r ≡ l) × (record_ok r ≡ true)
+kept_answer l (Ok y) f r e = f r (cc)
+kept_answer l (Err (Wrong n)) f r e = let z : ◌≡◌ {A = ℕ} 0 1 = cc in absurd (omega arith)
+kept_answer l (Err Untyped) f r e = let z : ◌≡◌ {A = ℕ} 0 1 = cc in absurd (omega arith)
 
 -- THE FIRST ROUND TRIP: a line that reads to a record is the line that the record is written as, and the record is within its ranges
-pub kept : (l : List ℕ) (r : Record) → read_line l ≡ Read r → (record_line r ≡ l) × (record_ok r ≡ true)
+pub kept : (l : List ℕ) (r : Record) → read_line l ≡ Ok r → (record_line r ≡ l) × (record_ok r ≡ true)
 unfolding read_line
 kept l =
-    picks Granted (eqb (length l) 80) _ (Refused 1)
+    picks Granted (eqb (length l) 80) _ (Err (Refused Length))
     (λ t.
     let h = eqb-true (length l) 80 t in
-    picks Granted (clean_at l 0 80) (answer_of (reading_of (kind_of l) l)) (Refused 3)
-    (λ c. kept_answer l (reading_of (kind_of l) l) (kept_reading l h c (kind_of l) refl)) (λ _. refused 3))
-    (λ _. refused 1)
+    picks Granted (clean_at l 0 80) (answer_of (reading_of (kind_of l) l)) (Err (Refused Byte))
+    (λ c. kept_answer l (reading_of (kind_of l) l) (kept_reading l h c (kind_of l) refl)) (λ _. refused Byte))
+    (λ _. refused Length)
   where
     Granted : Answer → Type 0
-    Granted a = (r : Record) → a ≡ Read r → (record_line r ≡ l) × (record_ok r ≡ true)
+    Granted a = (r : Record) → a ≡ Ok r → (record_line r ≡ l) × (record_ok r ≡ true)
 
-    refused : (n : ℕ) → Granted (Refused n)
+    refused : (n : Refusal) → Granted (Err (Refused n))
     refused n r e = let z : ◌≡◌ {A = ℕ} 0 1 = cc in absurd (omega arith)
 
 -- no refusal has the number 0
-granted : (l : List ℕ) → answer_number (read_line l) ≡ 0 → (r : Record) × (read_line l ≡ Read r)
+granted : (l : List ℕ) → answer_number (read_line l) ≡ 0 → (r : Record) × (read_line l ≡ Ok r)
 unfolding read_line
 granted l =
-    picks Reads (eqb (length l) 80) _ (Refused 1)
-    (λ _. picks Reads (clean_at l 0 80) (answer_of (reading_of (kind_of l) l)) (Refused 3) (λ _. typed (reading_of (kind_of l) l)) (λ _ e. absurd (omega arith)))
+    picks Reads (eqb (length l) 80) _ (Err (Refused Length))
+    (λ _. picks Reads (clean_at l 0 80) (answer_of (reading_of (kind_of l) l)) (Err (Refused Byte)) (λ _. typed (reading_of (kind_of l) l)) (λ _ e. absurd (omega arith)))
     (λ _ e. absurd (omega arith))
   where
     Reads : Answer → Type 0
-    Reads a = answer_number a ≡ 0 → (r : Record) × (a ≡ Read r)
+    Reads a = answer_number a ≡ 0 → (r : Record) × (a ≡ Ok r)
 
     typed : (x : Reading) → Reads (answer_of x)
-    typed (Typed r) e = (r, refl)
-    typed (Wrong column) e = absurd (omega arith)
-    typed Untyped e = absurd (omega arith)
+    typed (Ok r) e = (r, refl)
+    typed (Err (Wrong column)) e = absurd (omega arith)
+    typed (Err Untyped) e = absurd (omega arith)
 
 -- ---- what is written reads back
 back_judged : {A : Type 0} (F : Format A) → Lawful F 6 → F.width ≡ 74 → (k : Kind) → length (name_text k) ≡ 6 → T (printed (name_text k)) → (wrap : A → Record)
     → ((l : List ℕ) → reading_of k l ≡ judged (F.fault l 6) (wrap (F.value l 6)))
-    → (a : A) → F.ok a ≡ true → read_line (name_text k ++ F.text a) ≡ Read (wrap a)
+    → (a : A) → F.ok a ≡ true → read_line (name_text k ++ F.text a) ≡ Ok (wrap a)
 unfolding read_line judged
 back_judged F f w k n p wrap reads a ok =
     let l : List ℕ = name_text k ++ F.text a in
@@ -152,7 +153,7 @@ transform_reads true Y l = refl
 transform_reads true Z l = refl
 
 -- THE SECOND ROUND TRIP: a record within its ranges reads back from the line that it is written as
-pub back : (r : Record) → record_ok r ≡ true → read_line (record_line r) ≡ Read r
+pub back : (r : Record) → record_ok r ≡ true → read_line (record_line r) ≡ Ok r
 unfolding reading_of crystal_read
 back (rec.Coordinate true a) ok = back_judged atom_f atom_lawful refl Hetatm refl tt (rec.Coordinate true) (λ l. refl) a ok
 back (rec.Coordinate false a) ok = back_judged atom_f atom_lawful refl Atom refl tt (rec.Coordinate false) (λ l. refl) a ok
@@ -169,7 +170,7 @@ back rec.Endmdl ok = back_judged bare_f bare_lawful refl Endmdl refl tt (λ a. r
 
 -- ---- both, of what the functions promise
 -- a line that was read, written into a buffer with room, stands there byte for byte, and what lies behind it is as found
-pub rewritten : (l out : List ℕ) (r : Record) → read_line l ≡ Read r → 80 ≤ length out
+pub rewritten : (l out : List ℕ) (r : Record) → read_line l ≡ Ok r → 80 ≤ length out
     → (write_number (record_ok r) out ≡ 0) × (write_line (record_ok r) (record_line r) out ≡ l ++ drop 80 out)
 unfolding write_number write_line
 rewritten l out r e h = let x = kept l r e in rw (x.0, x.1, le-ltb _ _ h) (refl, refl)

@@ -2,7 +2,7 @@
 use Rattle.std.specs.Prelude.{◌++◌}
 use Rattle.ascii.specs.Library.{ℕ, List, [], Bool, true, false, length, eqb, pick, either}
 use Rattle.columns.specs.Columns.{clean_at}
-use Rattle.fields.specs.Format.{Field, Format, none_f, after}
+use Rattle.fields.specs.Format.{Field, Format, none_f, after, held}
 use Rattle.kinds.specs.declared.{Kind.Kind}
 use Rattle.kinds.specs.declared.Kind.TheVariants.{Helix, Sheet, Cryst1, Origx1, Origx2, Origx3, Scale1, Scale2, Scale3, Atom, Hetatm, Ter, Conect, Master, End, Model, Endmdl}
 use Rattle.kinds.specs.Kinds.{row_of, line_with, is, kind_of}
@@ -17,13 +17,28 @@ use Rattle.cell.specs.Cells.{cell_f}
 use Rattle.transform.specs.declared.{Axis.Axis, Axis.TheVariants.X, Axis.TheVariants.Y, Axis.TheVariants.Z}
 use Rattle.transform.specs.Transforms.{transform_f, transform_kind}
 use Rattle.words.specs.Words.{bytes_of}
-use Rattle.line.specs.declared.{Record.Record, Reading.Reading, Reading.TheVariants.Typed, Reading.TheVariants.Wrong, Reading.TheVariants.Untyped, Answer.Answer}
-use Rattle.line.specs.declared.Answer.TheVariants as answer
+use Rattle.std.specs.Prelude.{Result, Ok, Err}
+use Rattle.refusals.specs.declared.Refusal.TheVariants.{Length, Byte}
+use Rattle.refusals.specs.Numbers.{number_of}
+use Rattle.line.specs.declared.{Record.Record, Bare.Bare, unread.Unread.Unread, unread.Unread.TheVariants.Wrong, unread.Unread.TheVariants.Untyped, unread.Misread.Misread}
+use Rattle.line.specs.declared.unread.Misread.TheVariants as misread
+use Rattle.line.specs.Errors.{misread_of}
 use Rattle.line.specs.declared.Record.TheVariants as rec
+
+-- what a line of 80 columns reads to, and what is answered of any line
+abbrev pub Reading : Type 0
+Reading = Result Record Unread
+
+abbrev pub Answer : Type 0
+Answer = Result Record Misread
 
 -- END and ENDMDL: columns 7 to 80 are blank
 abbrev pub bare_f : Format (Unit {0})
 bare_f = after 74 none_f
+
+-- the same as the layout of a line that is a name alone
+abbrev pub bare_layout : Format Bare
+bare_layout = held bare_f (λ none. record {}) (λ bare. tt)
 
 -- a name, told as one number, with them
 abbrev pub bare_line : ℕ → List ℕ
@@ -31,7 +46,7 @@ bare_line name = bytes_of 6 name ++ bare_f.text tt
 
 -- the record of a line in which no field is wrong, or the first column of the leftmost wrong one
 unfoldable pub judged : ℕ → Record → Reading
-judged column r = pick (eqb column 0) (Typed r) (Wrong column)
+judged column r = pick (eqb column 0) (Ok r) (Err (Wrong (record { 0 = column })))
 
 -- SCALE (true) or ORIGX, of an axis
 abbrev pub transform_read : List ℕ → Bool → Axis → Reading
@@ -47,7 +62,7 @@ crystal_read k l =
     (pick (is Scale1 k) (transform_read l true X)
     (pick (is Scale2 k) (transform_read l true Y)
     (pick (is Scale3 k) (transform_read l true Z)
-    Untyped))))))
+    (Err Untyped)))))))
 
 -- what a line of 80 columns reads to, by its kind
 unfoldable pub reading_of : Kind → List ℕ → Reading
@@ -64,26 +79,26 @@ reading_of k l =
     (pick (is Endmdl k) (judged (bare_f.fault l 6) rec.Endmdl)
     (crystal_read k l))))))))))
 
--- 4: a name that is unknown or carried; 6: a field or blank column wrong, with the first column of the leftmost one
+-- the same of any line
 abbrev pub answer_of : Reading → Answer
-answer_of (Typed r) = answer.Read r
-answer_of (Wrong column) = answer.Wrong column
-answer_of Untyped = answer.Refused 4
+answer_of (Ok r) = Ok r
+answer_of (Err u) = Err (misread_of u)
 
 -- reading one line: 1 where it has not 80 columns, 3 where one is outside 32-126, then 4, then 6
 unfoldable pub read_line : List ℕ → Answer
-read_line l = pick (eqb (length l) 80) (pick (clean_at l 0 80) (answer_of (reading_of (kind_of l) l)) (answer.Refused 3)) (answer.Refused 1)
+read_line l =
+    pick (eqb (length l) 80) (pick (clean_at l 0 80) (answer_of (reading_of (kind_of l) l)) (Err (misread.Refused Byte))) (Err (misread.Refused Length))
 
 -- the number of an answer, and its column: 0 where the number is not 6
 abbrev pub answer_number : Answer → ℕ
-answer_number (answer.Read r) = 0
-answer_number (answer.Refused n) = n
-answer_number (answer.Wrong column) = 6
+answer_number (Ok r) = 0
+answer_number (Err (misread.Refused r)) = number_of r
+answer_number (Err (misread.Wrong column)) = 6
 
 abbrev pub answer_column : Answer → ℕ
-answer_column (answer.Read r) = 0
-answer_column (answer.Refused n) = 0
-answer_column (answer.Wrong column) = column
+answer_column (Ok r) = 0
+answer_column (Err (misread.Refused r)) = 0
+answer_column (Err (misread.Wrong column)) = column.0
 
 -- ORIGX and SCALE: the lines that MASTER counts as transformations
 abbrev pub is_transform : Kind → Bool

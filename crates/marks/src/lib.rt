@@ -20,8 +20,7 @@ pub fn fits(s: Slot, model: u32, l: Line) -> bool
     ensures { result ≡ fits_of s model l }
 {
     if facets::is_coord(l) {
-        let q = slots::same_slot(s, slots::line_slot(model, l));
-        return ascii::both_of(s.mark <= slots::MARK_ASIDE, q);
+        return (s.mark <= slots::MARK_ASIDE) & slots::same_slot(s, slots::line_slot(model, l));
     }
     true
 }
@@ -30,11 +29,10 @@ pub fn fits(s: Slot, model: u32, l: Line) -> bool
 pub fn is_kept(s: Slot) -> bool
     ensures { result ≡ not (eqb s.mark mark_aside) }
 {
-    let e = s.mark == slots::MARK_ASIDE;
-    !e
+    s.mark != slots::MARK_ASIDE
 }
 
-// The mark that an order sets.
+// The mark that an order sets, as the byte of the layout that C has; `aside` is data of the order, as the definitions have it.
 pub fn mark_byte(aside: bool) -> u8
     ensures { result ≡ mark_byte aside }
 {
@@ -48,6 +46,5 @@ pub fn mark_byte(aside: bool) -> u8
 pub fn mark_as(s: Slot, byte: u8) -> Slot
     ensures { result ≡ with_mark s (mark_byte (not (eqb byte 0))) }
 {
-    let back = byte == 0;
-    slots::with_mark(s, mark_byte(!back))
+    slots::with_mark(s, mark_byte(byte != 0))
 }

@@ -5,13 +5,13 @@ ghost use Rattle.table.specs.Table.{model_after, model_next};
 use facets::Fence;
 use pieces::Line;
 
-fn model_after(m: u32, e: Fence) -> u32
+fn model_after(m: u32, e: Option<Fence>) -> u32
     ensures { result ≡ model_after m e }
 {
     match e {
-        Fence::Opens(n) => n,
-        Fence::Shuts => 0,
-        Fence::Unfenced => m,
+        Some(Fence::Opens(n)) => n,
+        Some(Fence::Shuts) => 0,
+        None => m,
     }
 }
 

@@ -1,3 +1,3 @@
-pub mod Shapes
+pub mod Bytes
 pub mod Classes
-pub mod Writes
+pub mod Shapes

@@ -1,79 +1,51 @@
 -- A few bytes in a row are their columns, and the columns give the bytes.
 -- Assumes nothing.
-use mathlib.Core.Path.{◌≡◌, refl, sym, ◌∙◌, ap}
-use mathlib.Core.List.{List, [], ◌∷◌, ◌++◌}
+use mathlib.Core.Path.{◌≡◌, refl, sym, ◌∙◌, ap, ap₂}
+use mathlib.Core.List.{List, [], ◌∷◌}
 use mathlib.Core.Bool.{Bool, true}
-use Prim.Native.Nat.{ℕ, ◌+◌, ◌≤◌, ◌<◌}
+use Prim.Native.Nat.{ℕ, zero, suc, ◌+◌, ◌≤◌}
 use native.Mathlib.Omega.{arith}
 use native.Mathlib.Nat.{add-zero}
-use lib.Dec.{lit<}
 use lib.ListN.{length, get_or, drop}
 use lib.Seq.{get_or-drop, get_or-take}
 use Rattle.columns.specs.Columns.{cols}
-use Rattle.columns.proofs.Spans.{cols_suc}
+use Rattle.columns.proofs.Faults.{blame_none, blame_good}
 use Rattle.ascii.proofs.Clean.{Fine}
 use Rattle.fields.specs.Format.{byte_f}
-use Rattle.fields.proofs.Formats.{Lawful, raw_lawful}
-use Rattle.names.specs.declared.Pair.{Pair}
-use Rattle.names.specs.declared.Three.{Three}
-use Rattle.names.specs.declared.Four.{Four}
-use Rattle.names.specs.Names.{pair_at, three_at, four_at, pair_f, three_f, four_f}
+use Rattle.fields.proofs.Formats.{Lawful, raw_lawful, single_lawful}
+use Rattle.fields.proofs.Sides.{blame_first}
+use Rattle.names.specs.Names.{name_at, name_f}
+use Rattle.names.proofs.Bytes.{name_length, name_cols, name_whole}
+use Rattle.names.proofs.Classes.{Tidy}
 
-module _ (l : List ℕ) (at : ℕ) where
-  one : at + 1 ≤ length l → cols l at 1 ≡ get_or l at 0 ∷ []
-  one h = cols_suc l at 0 h ∙ ap (λ i. get_or l i 0 ∷ []) (add-zero at)
+-- bytes of some columns are bytes of the line
+inner : (m n : ℕ) (l : List ℕ) (at i : ℕ) → i + m ≤ n → name_at m (cols l at n) i ≡ name_at m l (at + i)
+inner zero n l at i h = refl
+inner (suc m) n l at i h =
+    let k : at + (i + 1) ≡ at + i + 1 = omega arith in
+    ap₂ ◌∷◌ (get_or-take n (drop at l) i 0 (omega arith) ∙ get_or-drop at l i 0)
+    (inner m n l at (i + 1) (omega arith) ∙ ap (name_at m l) k)
 
-  two : at + 2 ≤ length l → cols l at 2 ≡ get_or l at 0 ∷ get_or l (at + 1) 0 ∷ []
-  two h = cols_suc l at 1 h ∙ ap (λ x. x ++ (get_or l (at + 1) 0 ∷ [])) (one (omega arith))
+-- columns that hold a name give it
+pub name_back : (n : ℕ) (l name : List ℕ) (at : ℕ) → length name ≡ n → cols l at n ≡ name_at n name 0 → name_at n l at ≡ name
+name_back n l name at e q =
+    ap (name_at n l) (sym (add-zero at)) ∙ sym (inner n n l at 0 (omega arith)) ∙ ap (λ x. name_at n x 0) q
+    ∙ name_whole n (name_at n name 0) (name_length n name 0) ∙ name_whole n name e
 
-  three : at + 3 ≤ length l → cols l at 3 ≡ get_or l at 0 ∷ get_or l (at + 1) 0 ∷ get_or l (at + 2) 0 ∷ []
-  three h = cols_suc l at 2 h ∙ ap (λ x. x ++ (get_or l (at + 2) 0 ∷ [])) (two (omega arith))
+pub name_lawful : {begin : ℕ} (n : ℕ) (test : List ℕ → Bool) → ((name : List ℕ) → test name ≡ true → Tidy n name) → Lawful (name_f n test) begin
+name_lawful n test tidy =
+    single_lawful (record {
+      long = λ name. name_length n name 0;
+      clean = λ name k. (tidy name k).1;
+      back = λ l at name k q. let v = name_back n l name at (tidy name k).0 q in (blame_good _ at (ap test v ∙ k), v);
+      kept = λ l at h q. (name_whole n (name_at n l at) (name_length n l at) ∙ name_cols n l at h, blame_none _ at q);
+      first = λ l at. blame_first (test (name_at n l at)) at;
+      alone = λ l at. refl;
+    })
 
-  four : at + 4 ≤ length l → cols l at 4 ≡ get_or l at 0 ∷ get_or l (at + 1) 0 ∷ get_or l (at + 2) 0 ∷ get_or l (at + 3) 0 ∷ []
-  four h = cols_suc l at 3 h ∙ ap (λ x. x ++ (get_or l (at + 3) 0 ∷ [])) (three (omega arith))
-
-  byte : (n i : ℕ) (x : List ℕ) → i < n → cols l at n ≡ x → get_or l (at + i) 0 ≡ get_or x i 0
-  byte n i x h q = sym (get_or-drop at l i 0) ∙ sym (get_or-take n (drop at l) i 0 h) ∙ ap (λ y. get_or y i 0) q
-
-  byte0 : (n : ℕ) (x : List ℕ) → 0 < n → cols l at n ≡ x → get_or l at 0 ≡ get_or x 0 0
-  byte0 n x h q = ap (λ i. get_or l i 0) (sym (add-zero at)) ∙ byte n 0 x h q
-
+-- one byte is a name of one
 pub byte_lawful : {begin : ℕ} (test : ℕ → Bool) → ((b : ℕ) → test b ≡ true → Fine b) → Lawful (byte_f test) begin
 byte_lawful test clean =
     raw_lawful 1 (λ l at. get_or l at 0) (λ b. b ∷ []) test
-    (record { long = λ b. refl; there = λ l at h. sym (one l at h); same = λ l at b q. byte0 l at 1 (b ∷ []) (lit< tt) q })
+    (record { long = λ b. refl; there = λ l at h. name_cols 1 l at h; same = λ l at b q. ap (λ x. get_or x 0 0) (name_back 1 l (b ∷ []) at refl q) })
     (λ b k. (clean b k, tt))
-
-pub pair_lawful : {begin : ℕ} (test : Pair → Bool) → ((p : Pair) → test p ≡ true → Fine p.a × Fine p.b) → Lawful (pair_f test) begin
-pair_lawful test clean =
-    raw_lawful 2 pair_at (λ p. p.a ∷ p.b ∷ []) test
-    (record {
-      long = λ p. refl;
-      there = λ l at h. sym (two l at h);
-      same = λ l at p q i. record { a = byte0 l at 2 (p.a ∷ p.b ∷ []) (lit< tt) q i; b = byte l at 2 1 (p.a ∷ p.b ∷ []) (lit< tt) q i };
-    })
-    (λ p k. let x = clean p k in (x.0, (x.1, tt)))
-
-pub three_lawful : {begin : ℕ} (test : Three → Bool) → ((p : Three) → test p ≡ true → Fine p.a × Fine p.b × Fine p.c) → Lawful (three_f test) begin
-three_lawful test clean =
-    raw_lawful 3 three_at (λ p. p.a ∷ p.b ∷ p.c ∷ []) test
-    (record {
-      long = λ p. refl;
-      there = λ l at h. sym (three l at h);
-      same = λ l at p q i.
-          let x : List ℕ = p.a ∷ p.b ∷ p.c ∷ [] in
-          record { a = byte0 l at 3 x (lit< tt) q i; b = byte l at 3 1 x (lit< tt) q i; c = byte l at 3 2 x (lit< tt) q i };
-    })
-    (λ p k. let x = clean p k in (x.0, (x.1, (x.2, tt))))
-
-pub four_lawful : {begin : ℕ} (test : Four → Bool) → ((p : Four) → test p ≡ true → Fine p.a × Fine p.b × Fine p.c × Fine p.d) → Lawful (four_f test) begin
-four_lawful test clean =
-    raw_lawful 4 four_at (λ p. p.a ∷ p.b ∷ p.c ∷ p.d ∷ []) test
-    (record {
-      long = λ p. refl;
-      there = λ l at h. sym (four l at h);
-      same = λ l at p q i.
-          let x : List ℕ = p.a ∷ p.b ∷ p.c ∷ p.d ∷ [] in
-          record { a = byte0 l at 4 x (lit< tt) q i; b = byte l at 4 1 x (lit< tt) q i; c = byte l at 4 2 x (lit< tt) q i; d = byte l at 4 3 x (lit< tt) q i };
-    })
-    (λ p k. let x = clean p k in (x.0, (x.1, (x.2, (x.3, tt)))))

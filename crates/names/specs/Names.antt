@@ -1,37 +1,22 @@
 -- Names: bytes of certain classes, alone or a few together.
 use Rattle.std.specs.Prelude.{◌+◌, ◌∷◌}
-use Rattle.ascii.specs.Library.{ℕ, List, [], Bool, get_or, eqb, byte, both, either, same, between, is_upper, is_code}
+use Rattle.ascii.specs.Library.{ℕ, zero, suc, List, [], Bool, false, length, get_or, eqb, byte, pick, both, either, same, between, is_upper, is_code}
+use Rattle.columns.specs.Columns.{clean_at}
 use Rattle.fields.specs.Format.{Format, raw_f}
-use Rattle.names.specs.declared.{Pair.Pair, Three.Three, Four.Four}
 
--- ---- two, three, four columns
-abbrev pub pair_at : List ℕ → ℕ → Pair
-pair_at l at = record { a = get_or l at 0; b = get_or l (at + 1) 0 }
+-- ---- a few columns, as the list of their bytes
+-- the n bytes from `at`
+abbrev pub name_at : ℕ → List ℕ → ℕ → List ℕ
+name_at zero l at = []
+name_at (suc n) l at = get_or l at 0 ∷ name_at n l (at + 1)
 
-abbrev pub three_at : List ℕ → ℕ → Three
-three_at l at = record { a = get_or l at 0; b = get_or l (at + 1) 0; c = get_or l (at + 2) 0 }
+-- n bytes that pass a test
+abbrev pub sized : ℕ → List ℕ → Bool → Bool
+sized n name holds = pick (eqb (length name) n) holds false
 
-abbrev pub four_at : List ℕ → ℕ → Four
-four_at l at = record { a = get_or l at 0; b = get_or l (at + 1) 0; c = get_or l (at + 2) 0; d = get_or l (at + 3) 0 }
-
-abbrev pub pair_f : (Pair → Bool) → Format Pair
-pair_f test = raw_f 2 pair_at (λ p. p.a ∷ p.b ∷ []) test
-
-abbrev pub three_f : (Three → Bool) → Format Three
-three_f test = raw_f 3 three_at (λ p. p.a ∷ p.b ∷ p.c ∷ []) test
-
-abbrev pub four_f : (Four → Bool) → Format Four
-four_f test = raw_f 4 four_at (λ p. p.a ∷ p.b ∷ p.c ∷ p.d ∷ []) test
-
--- equal in each column
-unfoldable pub same_pair : Pair → Pair → Bool
-same_pair a b = both (eqb a.a b.a) (eqb a.b b.b)
-
-unfoldable pub same_three : Three → Three → Bool
-same_three a b = both (eqb a.a b.a) (both (eqb a.b b.b) (eqb a.c b.c))
-
-unfoldable pub same_four : Four → Four → Bool
-same_four a b = both (both (eqb a.a b.a) (eqb a.b b.b)) (both (eqb a.c b.c) (eqb a.d b.d))
+-- n bytes that a test takes, written as they are
+abbrev pub name_f : ℕ → (List ℕ → Bool) → Format (List ℕ)
+name_f n test = raw_f n (name_at n) (λ name. name_at n name 0) test
 
 -- ---- one column
 abbrev pub is_blank : ℕ → Bool
@@ -67,18 +52,20 @@ abbrev pub right_three : Bool → Bool → Bool → Bool → Bool → Bool
 right_three a b c no-a no-b = both c (either (both b (either a no-a)) (both no-b no-a))
 
 -- a residue name: 1 to 3 of A-Z and 0-9, right-justified
-abbrev pub is_residue : Three → Bool
-is_residue n = right_three (is_code n.a) (is_code n.b) (is_code n.c) (is_blank n.a) (is_blank n.b)
+abbrev pub is_residue : List ℕ → Bool
+is_residue n = sized 3 n (right_three (is_code (get_or n 0 0)) (is_code (get_or n 1 0)) (is_code (get_or n 2 0)) (is_blank (get_or n 0 0)) (is_blank (get_or n 1 0)))
 
 -- the identifier of a helix or a sheet: 1 to 3 bytes that are not blank, right-justified
-abbrev pub is_identifier : Three → Bool
-is_identifier n = right_three (is_filled n.a) (is_filled n.b) (is_filled n.c) (is_blank n.a) (is_blank n.b)
+abbrev pub is_identifier : List ℕ → Bool
+is_identifier n =
+    sized 3 n (right_three (is_filled (get_or n 0 0)) (is_filled (get_or n 1 0)) (is_filled (get_or n 2 0)) (is_blank (get_or n 0 0)) (is_blank (get_or n 1 0)))
 
 -- a charge: blank, or 1-9 followed by + or -
-abbrev pub is_charge : Pair → Bool
+abbrev pub is_charge : List ℕ → Bool
 is_charge p =
-    either (both (is_blank p.a) (is_blank p.b))
-    (both (between (byte "1") (byte "9") p.a) (either (same p.b (byte "+")) (same p.b (byte "-"))))
+    sized 2 p
+    (either (both (is_blank (get_or p 0 0)) (is_blank (get_or p 1 0)))
+    (both (between (byte "1") (byte "9") (get_or p 0 0)) (either (same (get_or p 1 0) (byte "+")) (same (get_or p 1 0) (byte "-")))))
 
 -- name characters, then blanks, in two columns and in three
 abbrev pub padded_two : ℕ → ℕ → Bool
@@ -88,22 +75,22 @@ abbrev pub padded_three : ℕ → ℕ → ℕ → Bool
 padded_three b c d = either (both (is_name_byte b) (padded_two c d)) (both (is_blank b) (both (is_blank c) (is_blank d)))
 
 -- an atom's name: its first two columns are judged with the element; then name characters, then blanks
-abbrev pub is_atom_name : Four → Bool
-is_atom_name n = both (both (is_column n.a) (is_column n.b)) (padded_two n.c n.d)
+abbrev pub is_atom_name : List ℕ → Bool
+is_atom_name n = sized 4 n (both (both (is_column (get_or n 0 0)) (is_column (get_or n 1 0))) (padded_two (get_or n 2 0) (get_or n 3 0)))
 
--- three columns, and four, of which each may hold anything
-abbrev pub is_free_three : Three → Bool
-is_free_three n = both (is_column n.a) (both (is_column n.b) (is_column n.c))
-
-abbrev pub is_free_four : Four → Bool
-is_free_four n = both (both (is_column n.a) (is_column n.b)) (both (is_column n.c) (is_column n.d))
+-- n columns of which each may hold anything
+abbrev pub is_free : ℕ → List ℕ → Bool
+is_free n name = sized n name (clean_at name 0 n)
 
 -- name characters in all four columns
-abbrev pub is_full : Four → Bool
-is_full n = both (both (is_name_byte n.a) (is_name_byte n.b)) (both (is_name_byte n.c) (is_name_byte n.d))
+abbrev pub is_full : List ℕ → Bool
+is_full n =
+    sized 4 n
+    (both (both (is_name_byte (get_or n 0 0)) (is_name_byte (get_or n 1 0))) (both (is_name_byte (get_or n 2 0)) (is_name_byte (get_or n 3 0))))
 
 -- an atom's name in a registration: at most one blank, then one or more name characters, then blanks
-abbrev pub is_bond_name : Four → Bool
+abbrev pub is_bond_name : List ℕ → Bool
 is_bond_name n =
-    either (both (is_name_byte n.a) (padded_three n.b n.c n.d))
-    (both (is_blank n.a) (both (is_name_byte n.b) (padded_two n.c n.d)))
+    sized 4 n
+    (either (both (is_name_byte (get_or n 0 0)) (padded_three (get_or n 1 0) (get_or n 2 0) (get_or n 3 0)))
+    (both (is_blank (get_or n 0 0)) (both (is_name_byte (get_or n 1 0)) (padded_two (get_or n 2 0) (get_or n 3 0)))))

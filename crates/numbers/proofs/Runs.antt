@@ -2,14 +2,12 @@
 -- Assumes nothing.
 use mathlib.Core.Path.{◌≡◌, refl, sym, ◌∙◌, ap, ap₂}
 use mathlib.Core.List.{List}
-use mathlib.Core.Bool.{Bool, true, false}
+use mathlib.Core.Bool.{Bool, true, false, not, ◌&&◌, ◌||◌}
 use Prim.Native.Nat.{ℕ, zero, suc, ◌+◌, ◌-◌, ◌*◌, ◌/◌, ◌%◌, ◌^◌, ◌≤◌, ◌<◌}
 use native.Mathlib.Numerals.{add-one}
-use native.Mathlib.Nat.{mul-zero, mul_comm, mul_assoc, mul-add, mul-le-mul_left, le-mul_of_pos_right, add-zero, add-suc, one-le-pow, pow-suc, pow-le-pow_right, le_trans}
+use native.Mathlib.Nat.{mul_comm, mul_assoc, add-zero, add-suc, one-le-pow, pow-suc, pow-le-pow_right}
 use native.Mathlib.Omega.{arith}
 use lib.ListN.{get_or}
-use mir.Val.{Fits}
-use mir.Syntax.{w64}
 use lib.Dec.{eqb, lit<}
 use borrow.Author.Tests.{eq-eqb, ne_eqb, eqb-true, lt-ltb}
 use Rattle.ascii.specs.Tests.{same, between, pick, both, is_digit}
@@ -17,7 +15,10 @@ use Rattle.columns.specs.Columns.{first_of, blank_at, gap_of}
 use Rattle.ascii.proofs.Choice.{picks, both_split}
 use Rattle.numbers.specs.declared.Number.{Number}
 use Rattle.numbers.specs.declared.Scan.{Scan}
-use Rattle.numbers.specs.Number.{none, ends_digit, lead_of, further_of, grown_of, number_of}
+use Rattle.std.specs.Prelude.{Option, Some, None}
+use Rattle.numbers.specs.declared.Decimal.{Decimal}
+use Rattle.numbers.specs.Number.{given, none, ends_digit, lead_of, further_of, grown_of, number_of}
+use Rattle.ascii.proofs.Bools.{and_both, not_pick}
 use Rattle.numbers.specs.Runs.{value_of, dec_of, step_of, scan_of, taken_of, decimals_of, made_of}
 use Rattle.numbers.proofs.Steps.{digit_low, digit_high, down}
 
@@ -40,6 +41,10 @@ dec_step p v n h =
     let q : (16 * p + v) / 16 ≡ p = omega arith in
     let r : (16 * p + v) % 16 ≡ v = omega arith in
     rw (q, r)
+
+pub dec_none : (w n : ℕ) → n ≡ 0 → 0 ≡ dec_of w n
+unfolding dec_of
+dec_none w n z = rw z
 
 pub dec_some : (w n : ℕ) → (n ≡ 0 → ⊥) → (h r : ℕ) → h ≡ dec_of (w / 16) (n - 1) → r ≡ 10 * h + w % 16 → r ≡ dec_of w n
 unfolding dec_of
@@ -252,7 +257,7 @@ decimals l at w (suc k) (suc m) e =
     rw i (taken_step l at (decimals_of l (at + w + 1) (pointed l at w) k) (get_or l (at + w + 1 + k) 0) m k (number_of l at (suc m) (suc k)) (decimals l at w k m q))
 
 -- ---- the returns of read_number
-pub num_short : (l : List ℕ) (at n e : ℕ) → n < e → none ≡ number_of l at n e
+num_short : (l : List ℕ) (at n e : ℕ) → n < e → none ≡ number_of l at n e
 unfolding number_of further_of
 num_short l at zero e h = refl
 num_short l at (suc n) zero h = absurd (omega arith)
@@ -263,19 +268,22 @@ num_short l at (suc n) (suc (suc e)) h = let q : n < suc e = omega arith in rw (
     go true = refl
     go false = refl
 
-pub num_whole : (l : List ℕ) (at n e : ℕ) (s : Scan) (d : ℕ) (r : Number) → e ≡ 0 → s ≡ scan_of l at (n - e) → d ≡ dec_of s.code (n - e) → r ≡ made_of s.good s.minus d → r ≡ number_of l at n e
+pub num_absent : (l : List ℕ) (at n e : ℕ) → n < e → None ≡ given (number_of l at n e)
+num_absent l at n e h = ap given (num_short l at n e h)
+
+pub num_whole : (l : List ℕ) (at n e : ℕ) (s : Scan) (d : ℕ) (r : Option Decimal) → e ≡ 0 → s ≡ scan_of l at (n - e) → d ≡ dec_of s.code (n - e) → r ≡ given (made_of s.good s.minus d) → r ≡ given (number_of l at n e)
 num_whole l at n e s d r z p q f =
     let j : n - e ≡ n = omega arith in
-    rw z (f ∙ rw (q, p, j) (sym (known l at n).number))
+    rw z (f ∙ ap given (rw (q, p, j) (sym (known l at n).number)))
 
-pub num_real : (l : List ℕ) (at n e : ℕ) (s : Scan) (y g : Bool) (h : Number) (d : ℕ) (r : Number) → (e ≡ 0 → ⊥) → e ≤ n → s ≡ scan_of l at (n - e) → y ≡ same (get_or l (at + (n - e)) 0) 46 → g ≡ both s.good y → h ≡ decimals_of l (at + (n - e) + 1) (record { good = g; minus = s.minus; mag = s.code }) (e - 1) → d ≡ dec_of h.mag (n - 1) → r ≡ made_of h.good h.minus d → r ≡ number_of l at n e
+pub num_real : (l : List ℕ) (at n e : ℕ) (s : Scan) (h : Number) (d : ℕ) (r : Option Decimal) → (e ≡ 0 → ⊥) → e ≤ n → s ≡ scan_of l at (n - e) → h ≡ decimals_of l (at + (n - e) + 1) (record { good = (s.good && eqb (get_or l (at + (n - e)) 0) 46); minus = s.minus; mag = s.code }) (e - 1) → d ≡ dec_of h.mag (n - 1) → r ≡ given (made_of h.good h.minus d) → r ≡ given (number_of l at n e)
 unfolding same
-num_real l at n e s y g h d r z a p t b u q f =
+num_real l at n e s h d r z a p u q f =
     let i : n - 1 ≡ (n - e) + (e - 1) = omega arith in
     let j : n ≡ suc (n - 1) = omega arith in
     let k : e ≡ suc (e - 1) = omega arith in
     let x : number_of l at n e ≡ number_of l at (suc (n - 1)) (suc (e - 1)) = ap₂ (number_of l at) j k in
-    f ∙ rw (q, u, b, t, p) (sym (x ∙ decimals l at (n - e) (e - 1) (n - 1) i))
+    f ∙ ap given (rw (q, u, and_both, p) (sym (x ∙ decimals l at (n - e) (e - 1) (n - 1) i)))
 
 -- ---- before and after the point by themselves
 -- the same decimals after nothing
@@ -305,59 +313,24 @@ apart l at w h (suc k) =
     }
 
 -- what is read of the two parts is the number
-pub num_parts : (l : List ℕ) (at w d : ℕ) (s : Scan) (y g : Bool) (h : Number) (x u v : ℕ) (r : Number)
-    → s ≡ scan_of l at w → y ≡ same (get_or l (at + w) 0) 46 → g ≡ both s.good y
-    → h ≡ decimals_of l (at + w + 1) (record { good = g; minus = s.minus; mag = 0 }) d
-    → x ≡ dec_of s.code w → u ≡ x * 10 ^ d → v ≡ dec_of h.mag d → r ≡ made_of h.good h.minus (u + v)
-    → r ≡ number_of l at (w + 1 + d) (d + 1)
+pub num_parts : (l : List ℕ) (at w d : ℕ) (s : Scan) (h : Number) (x u v : ℕ) (r : Option Decimal)
+    → s ≡ scan_of l at w
+    → h ≡ decimals_of l (at + w + 1) (record { good = (s.good && eqb (get_or l (at + w) 0) 46); minus = s.minus; mag = 0 }) d
+    → x ≡ dec_of s.code w → u ≡ x * 10 ^ d → v ≡ dec_of h.mag d → r ≡ given (made_of h.good h.minus (u + v))
+    → r ≡ given (number_of l at (w + 1 + d) (d + 1))
 unfolding same
-num_parts l at w d s y g h x u v r p t b q ex eu ev f =
+num_parts l at w d s h x u v r p q ex eu ev f =
     let a = apart l (at + w + 1) w (pointed l at w) d in
     let i : w + 1 + d ≡ suc (w + d) = omega arith in
     let j : d + 1 ≡ suc d = omega arith in
     let n = ap₂ (number_of l at) i j ∙ decimals l at w d (w + d) refl in
-    f ∙ rw (eu, ev, ex, q, b, t, p, n, a.good_same, a.minus_same, a.sum)
+    f ∙ ap given (rw (eu, ev, ex, q, and_both, p, n, a.good_same, a.minus_same, a.sum))
 
-pub num_long : (l : List ℕ) (at n e : ℕ) (r : Number) → e ≤ n → 9 < n → n ≤ e + 8 → r ≡ number_of l at ((n - e) + 1 + (e - 1)) ((e - 1) + 1) → r ≡ number_of l at n e
+pub num_long : (l : List ℕ) (at n e : ℕ) (r : Option Decimal) → e ≤ n → 9 < n → n ≤ e + 8 → r ≡ given (number_of l at ((n - e) + 1 + (e - 1)) ((e - 1) + 1)) → r ≡ given (number_of l at n e)
 num_long l at n e r a b c f =
     let i : (n - e) + 1 + (e - 1) ≡ n = omega arith in
     let j : (e - 1) + 1 ≡ e = omega arith in
-    f ∙ ap₂ (number_of l at) i j
-
--- ---- the zeros behind a number
-scale_down : (s n : ℕ) → (n ≡ 0 → ⊥) → (10 * s) * 10 ^ (n - 1) ≡ s * 10 ^ n
-scale_down s n z = sym (ap (λ m. s * 10 ^ m) (down n z) ∙ rw (pow-suc, mul_comm (10 ^ (n - 1)) 10, ← mul_assoc, mul_comm s 10))
-
-pub raise_none : (v n : ℕ) → n ≡ 0 → v ≡ v * 10 ^ n
-raise_none v n z = rw z (omega arith)
-
-pub raise_less : (v n : ℕ) → (n ≡ 0 → ⊥) → v * 10 ^ n ≤ 20000000000000000 → (10 * v) * 10 ^ (n - 1) ≤ 20000000000000000
-raise_less v n z b = rw (scale_down v n z) b
-
-pub raise_fits : (v n : ℕ) → (n ≡ 0 → ⊥) → v * 10 ^ n ≤ 20000000000000000 → Fits w64 (10 * v)
-raise_fits v n z b =
-    let t : 10 * v ≤ (10 * v) * 10 ^ (n - 1) = le-mul_of_pos_right (10 * v) (one-le-pow (n - 1) 10 (lit< tt)) in
-    let u = raise_less v n z b in
-    omega arith
-
-pub raise_some : (v n r : ℕ) → (n ≡ 0 → ⊥) → r ≡ (10 * v) * 10 ^ (n - 1) → r ≡ v * 10 ^ n
-raise_some v n r z e = e ∙ scale_down v n z
-
--- both parts are small
-pub whole_small : (c w d x : ℕ) → w ≤ 8 → d ≤ 8 → x ≡ dec_of c w → x * 10 ^ d ≤ 20000000000000000
-whole_small c w d x a b e =
-    let p : 10 ^ w ≤ 10 ^ 8 = pow-le-pow_right (lit< tt) a in
-    let q : 10 ^ d ≤ 10 ^ 8 = pow-le-pow_right (lit< tt) b in
-    let t : x ≤ 200000000 = omega (arith, dec_below c w) in
-    let m : x * 10 ^ d ≤ x * 100000000 = mul-le-mul_left x q in
-    omega arith
-
-pub parts_fit : (c w d m x u v : ℕ) → w ≤ 8 → d ≤ 8 → x ≡ dec_of c w → u ≡ x * 10 ^ d → v ≡ dec_of m d → Fits w64 (u + v)
-parts_fit c w d m x u v a b e f g =
-    let q : 10 ^ d ≤ 10 ^ 8 = pow-le-pow_right (lit< tt) b in
-    let s = whole_small c w d x a b e in
-    let t : v ≤ 200000000 = omega (arith, dec_below m d) in
-    omega arith
+    f ∙ ap given (ap₂ (number_of l at) i j)
 
 -- ---- the small functions
 pub value_low : (b : ℕ) (d : Bool) → d ≡ is_digit b → d ≡ true → 48 ≤ b
@@ -372,68 +345,31 @@ value_no b d e t = sym (value_none b (sym e ∙ t))
 pub value_under : (v b : ℕ) → v ≡ value_of b → v < 10
 value_under v b e = rw e (value_small b)
 
-pub made_yes : (g m : Bool) (v : ℕ) → g ≡ true → record { good = true; minus = m; mag = v } ≡ made_of g m v
+pub made_yes : (g m : Bool) (v : ℕ) → g ≡ true → Some (record { minus = m; mag = v }) ≡ given (made_of g m v)
 unfolding made_of
 made_yes g m v e = rw e
 
-pub made_no : (g m : Bool) (v : ℕ) → g ≡ false → none ≡ made_of g m v
+pub made_no : (g m : Bool) (v : ℕ) → g ≡ false → None ≡ given (made_of g m v)
 unfolding made_of
 made_no g m v e = rw e
 
-pub step_made : (s : Scan) (b : ℕ) (d e m k blank x lead minus g y good : Bool) (v : ℕ) → d ≡ is_digit b → e ≡ same b 32 → m ≡ same b 45 → v ≡ value_of b → k ≡ pick (eqb s.code 0) false true → blank ≡ both s.blank e → x ≡ pick e true m → lead ≡ both s.blank x → minus ≡ pick m true s.minus → g ≡ both s.good k → y ≡ pick s.ends g s.lead → good ≡ both d y → record { blank = blank; lead = lead; minus = minus; ends = d; good = good; code = 16 * s.code + v } ≡ step_of s b
-unfolding step_of same
-step_made s b d e m k blank x lead minus g y good v pd pe pm pv pk p1 p2 p3 p4 p5 p6 p7 = rw (p7, p6, p5, p4, p3, p2, p1, pk, pv, pm, pe, pd)
+or_pick : (a b : Bool) → (a || b) ≡ pick a true b
+or_pick true b = refl
+or_pick false b = refl
 
-pub take_made : (h : Number) (b : ℕ) (d g : Bool) (v : ℕ) → d ≡ is_digit b → v ≡ value_of b → g ≡ both h.good d → record { good = g; minus = h.minus; mag = 16 * h.mag + v } ≡ taken_of h b
+-- a choice by two guards
+by_guards : (t a b y : Bool) → (((t && a) && b) || (not t && y)) ≡ pick t (both a b) y
+unfolding both
+by_guards true true true y = refl
+by_guards true true false y = refl
+by_guards true false b y = refl
+by_guards false a b y = refl
+
+pub step_made : (s : Scan) (b : ℕ) (d : Bool) (v : ℕ) → d ≡ is_digit b → v ≡ value_of b
+    → record { blank = (s.blank && eqb b 32); lead = (s.blank && (eqb b 32 || eqb b 45)); minus = (eqb b 45 || s.minus); ends = d; good = (d && (((s.ends && s.good) && not (eqb s.code 0)) || (not s.ends && s.lead))); code = 16 * s.code + v } ≡ step_of s b
+unfolding step_of
+step_made s b d v pd pv = rw (pd, pv, by_guards) (simp (and_both, or_pick, not_pick))
+
+pub take_made : (h : Number) (b : ℕ) (d : Bool) (v : ℕ) → d ≡ is_digit b → v ≡ value_of b → record { good = (h.good && d); minus = h.minus; mag = 16 * h.mag + v } ≡ taken_of h b
 unfolding taken_of
-take_made h b d g v p q r = rw (r, q, p)
-
-pub dec_none : (w n : ℕ) → n ≡ 0 → 0 ≡ dec_of w n
-unfolding dec_of
-dec_none w n z = rw z
-
--- ---- a multiple of the number, by a sum
-pub scale_ten : (s n : ℕ) → (n ≡ 0 → ⊥) → s * 10 ^ n ≤ 100000000 → 10 * s ≤ 100000000
-scale_ten s n z b = le_trans (le-mul_of_pos_right (10 * s) (one-le-pow (n - 1) 10 (lit< tt))) (rw (scale_down s n z) b)
-
-pub scale_less : (s n : ℕ) → (n ≡ 0 → ⊥) → s * 10 ^ n ≤ 100000000 → (10 * s) * 10 ^ (n - 1) ≤ 100000000
-scale_less s n z b = rw (scale_down s n z) b
-
-pub scale_none : (s w n : ℕ) → n ≡ 0 → 0 ≡ s * dec_of w n
-scale_none s w n z = sym (ap (λ x. s * x) (sym (dec_none w n z)) ∙ mul-zero s)
-
-pub scale_some : (s w n h : ℕ) → (n ≡ 0 → ⊥) → h ≡ (10 * s) * dec_of (w / 16) (n - 1) → h + s * (w % 16) ≡ s * dec_of w n
-scale_some s w n h z e =
-    sym (ap (λ x. s * x) (sym (dec_some w n z (dec_of (w / 16) (n - 1)) (10 * dec_of (w / 16) (n - 1) + w % 16) refl refl))
-    ∙ mul-add s (10 * dec_of (w / 16) (n - 1)) (w % 16)
-    ∙ ap (λ x. x + s * (w % 16)) (sym (mul_assoc s 10 (dec_of (w / 16) (n - 1))) ∙ ap (λ x. x * dec_of (w / 16) (n - 1)) (mul_comm s 10) ∙ sym e))
-
-pub scale_digit : (s w n : ℕ) → (n ≡ 0 → ⊥) → s * 10 ^ n ≤ 100000000 → s * (w % 16) ≤ 1600000000
-scale_digit s w n z b =
-    let t : 10 * s ≤ 100000000 = scale_ten s n z b in
-    let q : w % 16 ≤ 16 = omega arith in
-    let m : s * (w % 16) ≤ s * 16 = mul-le-mul_left s q in
-    omega arith
-
-pub scale_part : (s w n h : ℕ) → (n ≡ 0 → ⊥) → s * 10 ^ n ≤ 100000000 → h ≡ (10 * s) * dec_of (w / 16) (n - 1) → h ≤ 200000000
-scale_part s w n h z b e =
-    let d : dec_of (w / 16) (n - 1) ≤ 10 ^ (n - 1) * 2 = omega (arith, dec_below (w / 16) (n - 1)) in
-    let m : (10 * s) * dec_of (w / 16) (n - 1) ≤ (10 * s) * (10 ^ (n - 1) * 2) = mul-le-mul_left (10 * s) d in
-    let a : (10 * s) * (10 ^ (n - 1) * 2) ≡ ((10 * s) * 10 ^ (n - 1)) * 2 = sym (mul_assoc (10 * s) (10 ^ (n - 1)) 2) in
-    let c : (10 * s) * 10 ^ (n - 1) ≤ 100000000 = scale_less s n z b in
-    omega arith
-
-pub scale_one : (n : ℕ) → n ≤ 8 → 1 * 10 ^ n ≤ 100000000
-scale_one n b = let p : 10 ^ n ≤ 10 ^ 8 = pow-le-pow_right (lit< tt) b in omega arith
-
-pub scale_ten_fits : (s n : ℕ) → (n ≡ 0 → ⊥) → s * 10 ^ n ≤ 100000000 → Fits w64 (10 * s)
-scale_ten_fits s n z b = let t : 10 * s ≤ 100000000 = scale_ten s n z b in omega arith
-
-pub scale_digit_fits : (s w n : ℕ) → (n ≡ 0 → ⊥) → s * 10 ^ n ≤ 100000000 → Fits w64 (s * (w % 16))
-scale_digit_fits s w n z b = let t : s * (w % 16) ≤ 1600000000 = scale_digit s w n z b in omega arith
-
-pub scale_sum_fits : (s w n h : ℕ) → (n ≡ 0 → ⊥) → s * 10 ^ n ≤ 100000000 → h ≡ (10 * s) * dec_of (w / 16) (n - 1) → Fits w64 (h + s * (w % 16))
-scale_sum_fits s w n h z b e =
-    let t : s * (w % 16) ≤ 1600000000 = scale_digit s w n z b in
-    let u : h ≤ 200000000 = scale_part s w n h z b e in
-    omega arith
+take_made h b d v p q = rw (q, p, and_both)

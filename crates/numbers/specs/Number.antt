@@ -3,7 +3,8 @@
 use Rattle.std.specs.Prelude.{◌+◌, ◌*◌, ◌-◌, ◌/◌, ◌%◌, ◌∷◌, ◌++◌}
 use Rattle.ascii.specs.Library.{ℕ, zero, suc, List, [], Bool, true, false, get_or, ltb, eqb, byte, pick, is_digit}
 use Rattle.columns.specs.Columns.{gap_of, blanks}
-use Rattle.numbers.specs.declared.{Number.Number}
+use Rattle.std.specs.Prelude.{Option, Some, None}
+use Rattle.numbers.specs.declared.{Number.Number, Decimal.Decimal}
 
 -- whether the last of n columns is a digit
 unfoldable pub ends_digit : List ℕ → ℕ → ℕ → Bool
@@ -41,6 +42,10 @@ number_of l at (suc n) zero =
 number_of l at (suc n) (suc zero) = pick (eqb (get_or l (at + n) 0) (byte ".")) (number_of l at n 0) none
 number_of l at (suc n) (suc (suc e)) =
     pick (is_digit (get_or l (at + n) 0)) (further_of (number_of l at n (suc e)) (get_or l (at + n) 0)) none
+
+-- what a reader answers of it
+abbrev pub given : Number → Option Decimal
+given h = pick h.good (Some (record { minus = h.minus; mag = h.mag })) None
 
 -- ---- writing
 -- what stands before the first digit: blanks, the last of which gives way to a minus

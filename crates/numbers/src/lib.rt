@@ -1,13 +1,19 @@
 // Numbers in columns: blanks, perhaps a minus, digits, and where the field has decimals a point and those digits.
 #![tactic(auto)]
 
-ghost use Rattle.std.specs.Prelude.{◌≡◌, ◌+◌, ◌*◌, ◌^◌, ◌≤◌, ◌<◌, true, false, length, set, eqb};
-ghost use Rattle.ascii.specs.Tests.{pick};
+ghost use Rattle.std.specs.Prelude.{◌≡◌, ◌+◌, ◌*◌, ◌^◌, ◌≤◌, ◌<◌, length, set};
 ghost use Rattle.columns.specs.Columns.{Put};
-ghost use Rattle.numbers.specs.Number.{number_of, digit_of, leader, render};
+ghost use Rattle.numbers.specs.Number.{given, number_of, digit_of, leader, render};
 ghost use Rattle.numbers.specs.Runs.{value_of, dec_of, step_of, scan_of, taken_of, decimals_of, made_of};
 
-// A number as it stands in its columns. All is 0 and false where the columns hold none.
+// A number as it stands in its columns, counted in its last decimal.
+#[derive(Clone, Copy, Debug, PartialEq, Eq)]
+pub struct Decimal {
+    pub minus: bool,
+    pub mag: u64,
+}
+
+// The same while its columns are passed, without a branch: whether it is one so far stands beside it, and the definitions speak of both.
 #[derive(Clone, Copy)]
 pub struct Number {
     pub good: bool,
@@ -15,24 +21,15 @@ pub struct Number {
     pub mag: u64,
 }
 
-fn some(w: u64) -> bool
-    ensures { result ≡ pick (eqb w 0) false true }
-{
-    if w == 0 {
-        return false;
-    }
-    true
-}
-
 // What a byte counts as a digit, 0 where it is none.
 fn value(b: u8) -> u64
     ensures { result ≡ value_of b }
 {
-    let d = ascii::is_digit(b);
-    if d {
-        return (b - b'0') as u64;
+    if ascii::is_digit(b) {
+        (b - b'0') as u64
+    } else {
+        0
     }
-    0
 }
 
 // s times the number of n digits, each of four bits of w, by recursion on the falling length: ten times that of the digits but the
@@ -56,7 +53,7 @@ fn digits(w: u64, n: usize) -> u64
 }
 
 // Columns passed from the left: all blank; blank but perhaps for a minus at their end; a minus among them; ending in a digit;
-// a number without a point; and what their digits are.
+// a number without a point; and what their digits are. (Flags beside the digits, so that no column needs a branch.)
 #[derive(Clone, Copy)]
 struct Scan {
     blank: bool,
@@ -72,21 +69,16 @@ fn step(s: Scan, b: u8) -> Scan
     ensures { result ≡ step_of s b }
 {
     let d = ascii::is_digit(b);
-    let e = ascii::is(b, b' ');
-    let m = ascii::is(b, b'-');
-    let v = value(b);
-    let k = some(s.code);
-    let blank = ascii::both_of(s.blank, e);
-    let lead = ascii::both_of(s.blank, ascii::choose(e, true, m));
-    let minus = ascii::choose(m, true, s.minus);
-    let good = ascii::both_of(d, ascii::choose(s.ends, ascii::both_of(s.good, k), s.lead));
+    let e = b == b' ';
+    let m = b == b'-';
+    let k = s.code != 0;
     Scan {
-        blank: blank,
-        lead: lead,
-        minus: minus,
+        blank: s.blank & e,
+        lead: s.blank & (e | m),
+        minus: m | s.minus,
         ends: d,
-        good: good,
-        code: 16 * s.code + v,
+        good: d & ((s.ends & s.good & k) | (!s.ends & s.lead)),
+        code: 16 * s.code + value(b),
     }
 }
 
@@ -103,12 +95,8 @@ fn passed(line: &[u8], at: usize, n: usize) -> Scan
         good: false,
         code: 0,
     };
-    let mut i: usize = 0;
-    while i < n {
-        let j = at + i;
-        let b = line[j];
-        s = step(s, b);
-        i += 1;
+    for i in 0..n {
+        s = step(s, line[at + i]);
     }
     s
 }
@@ -118,13 +106,10 @@ fn taken(h: Number, b: u8) -> Number
     requires { h.mag ≤ 4294967296 }
     ensures { result ≡ taken_of h b }
 {
-    let d = ascii::is_digit(b);
-    let v = value(b);
-    let good = ascii::both_of(h.good, d);
     Number {
-        good: good,
+        good: h.good & ascii::is_digit(b),
         minus: h.minus,
-        mag: 16 * h.mag + v,
+        mag: 16 * h.mag + value(b),
     }
 }
 
@@ -134,30 +119,19 @@ fn tail(line: &[u8], at: usize, n: usize, k: usize, h: Number) -> Number
     ensures { result ≡ decimals_of line.now at h n }
 {
     let mut t = h;
-    let mut i: usize = 0;
-    while i < n {
-        let j = at + i;
-        let b = line[j];
-        t = taken(t, b);
-        i += 1;
+    for i in 0..n {
+        t = taken(t, line[at + i]);
     }
     t
 }
 
-fn made(good: bool, minus: bool, mag: u64) -> Number
-    ensures { result ≡ made_of good minus mag }
+fn made(good: bool, minus: bool, mag: u64) -> Option<Decimal>
+    ensures { result ≡ given (made_of good minus mag) }
 {
     if good {
-        return Number {
-            good: true,
-            minus: minus,
-            mag: mag,
-        };
-    }
-    Number {
-        good: false,
-        minus: false,
-        mag: 0,
+        Some(Decimal { minus, mag })
+    } else {
+        None
     }
 }
 
@@ -173,21 +147,20 @@ fn raised(v: u64, n: usize) -> u64
 }
 
 // A number with w columns before the point and d decimals, each read by themselves, so that no more than eight digits are.
-fn parts(line: &[u8], at: usize, w: usize, d: usize) -> Number
+fn parts(line: &[u8], at: usize, w: usize, d: usize) -> Option<Decimal>
     requires { (at + w + 1 + d ≤ length line.now) × (at + w + 1 + d ≤ 80) × (w ≤ 8) × (d ≤ 8) }
-    ensures { result ≡ number_of line.now at (w + 1 + d) (d + 1) }
+    ensures { result ≡ given (number_of line.now at (w + 1 + d) (d + 1)) }
 {
     let s = passed(line, at, w);
     let p = at + w;
-    let b = line[p];
-    let good = ascii::both_of(s.good, ascii::is(b, b'.'));
+    let good = s.good & (line[p] == b'.');
     let h = tail(
         line,
         p + 1,
         d,
         0,
         Number {
-            good: good,
+            good,
             minus: s.minus,
             mag: 0,
         },
@@ -197,17 +170,13 @@ fn parts(line: &[u8], at: usize, w: usize, d: usize) -> Number
     made(h.good, h.minus, whole + part)
 }
 
-// The number in n columns from `at`. e is 0 where no point is to come, else one more than the number of decimals.
-pub fn read_number(line: &[u8], at: usize, n: usize, e: usize) -> Number
+// The number in n columns from `at`, if they hold one. e is 0 where no point is to come, else one more than the number of decimals.
+pub fn read_number(line: &[u8], at: usize, n: usize, e: usize) -> Option<Decimal>
     requires { (at + n ≤ length line.now) × (at + n ≤ 80) × (n ≤ e + 8) × (e ≤ 9) }
-    ensures { result ≡ number_of line.now at n e }
+    ensures { result ≡ given (number_of line.now at n e) }
 {
     if n < e {
-        return Number {
-            good: false,
-            minus: false,
-            mag: 0,
-        };
+        return None;
     }
     let w = n - e;
     if 9 < n {
@@ -218,15 +187,14 @@ pub fn read_number(line: &[u8], at: usize, n: usize, e: usize) -> Number
         return made(s.good, s.minus, digits(s.code, w));
     }
     let p = at + w;
-    let b = line[p];
-    let good = ascii::both_of(s.good, ascii::is(b, b'.'));
+    let good = s.good & (line[p] == b'.');
     let h = tail(
         line,
         p + 1,
         e - 1,
         w,
         Number {
-            good: good,
+            good,
             minus: s.minus,
             mag: s.code,
         },
@@ -252,10 +220,10 @@ fn put_leader(line: &mut [u8], at: usize, n: usize, minus: bool)
     let m = n - 1;
     columns::put_blanks(line, at, m);
     if minus {
-        columns::put_byte(line, at + m, b'-');
+        line[at + m] = b'-';
         return;
     }
-    columns::put_byte(line, at + m, b' ');
+    line[at + m] = b' ';
 }
 
 // A number in n columns from `at`, with e as in `read_number`.
@@ -269,7 +237,7 @@ pub fn put_number(line: &mut [u8], at: usize, n: usize, e: usize, minus: bool, v
     let m = n - 1;
     if e == 1 {
         put_number(line, at, m, 0, minus, v);
-        columns::put_byte(line, at + m, b'.');
+        line[at + m] = b'.';
         return;
     }
     if e == 0 {

@@ -1,10 +1,27 @@
 -- The nine counts of MASTER.
-use Rattle.std.specs.Prelude.{◌+◌}
+use Rattle.std.specs.Prelude.{◌+◌, Option, Some, None}
 use Rattle.ascii.specs.Library.{ℕ, Bool, eqb, pick, both}
 use Rattle.kinds.specs.declared.{Kind.Kind}
 use Rattle.kinds.specs.Kinds.{row_of}
 use Rattle.master.specs.declared.{Tally.Tally}
-use Rattle.places.specs.declared.{Counts.Counts}
+use Rattle.places.specs.declared.{Count.Count, Counts.Counts}
+use Rattle.places.specs.declared.Count.TheVariants.{Remark, Het, Helix, Sheet, Xform, Coord, Ter, Conect, Seq}
+
+-- the numbers of the nine counts, and 0 for none
+abbrev pub number_of : Count → ℕ
+number_of Remark = 1
+number_of Het = 2
+number_of Helix = 3
+number_of Sheet = 4
+number_of Xform = 5
+number_of Coord = 6
+number_of Ter = 7
+number_of Conect = 8
+number_of Seq = 9
+
+abbrev pub count_number : Option Count → ℕ
+count_number None = 0
+count_number (Some c) = number_of c
 
 -- which of the nine counts a kind is counted in, 0 for none
 abbrev pub count_of : Kind → ℕ

@@ -1,30 +1,48 @@
 // The nine counts of MASTER.
-ghost use Rattle.std.specs.Prelude.{◌≡◌, ◌<◌};
-ghost use Rattle.places.specs.Counts.{count_of, count_at, no_counts, one_more, raised, same_counts};
+ghost use Rattle.std.specs.Prelude.{◌≡◌, ◌≤◌};
+ghost use Rattle.places.specs.Counts.{number_of, count_number, count_of, count_at, no_counts, raised, same_counts};
 ghost use Rattle.places.specs.Room.{Room};
 
-use super::Counts;
-use ascii::both_of;
+use super::{Count, Counts};
 use kinds::Kind;
 use master::Tally;
 
-// Which of the nine counts a kind is counted in, 0 for none.
-pub fn count_of(k: Kind) -> u8
-    ensures { result ≡ count_of k }
+// The count with a number of the table of kinds.
+fn numbered(n: u8) -> Option<Count>
+    requires { n ≤ 9 }
+    ensures { count_number result ≡ n }
 {
-    let r = kinds::row_of(k);
-    r.count
+    match n {
+        1 => Some(Count::Remark),
+        2 => Some(Count::Het),
+        3 => Some(Count::Helix),
+        4 => Some(Count::Sheet),
+        5 => Some(Count::Xform),
+        6 => Some(Count::Coord),
+        7 => Some(Count::Ter),
+        8 => Some(Count::Conect),
+        9 => Some(Count::Seq),
+        _ => None,
+    }
+}
+
+// Which of the nine counts a kind is counted in.
+pub fn count_of(k: Kind) -> Option<Count>
+    ensures { count_number result ≡ count_of k }
+{
+    numbered(kinds::row_of(k).count)
 }
 
 // The same once the first model is past: coordinates and TER are counted no more.
-pub fn count_at(past: bool, k: Kind) -> u8
-    ensures { result ≡ count_at past k }
+pub fn count_at(past: bool, k: Kind) -> Option<Count>
+    ensures { count_number result ≡ count_at past k }
 {
     let r = kinds::row_of(k);
-    if both_of(past, r.slot) {
-        return 0;
+    if past && r.slot {
+        None
+    } else {
+        numbered(r.count)
     }
-    r.count
 }
 
 // Before the first line.
@@ -44,54 +62,72 @@ pub fn no_counts() -> Counts
     }
 }
 
-fn one_more(which: u8, n: u8, count: u64) -> u64
-    requires { count < 9223372036854775808 }
-    ensures { result ≡ one_more which n count }
-{
-    if which == n {
-        return count + 1;
-    }
-    count
-}
-
-// The counts with the one raised by 1.
-pub fn raise(c: Counts, which: u8) -> Counts
+fn one_more(c: Counts, which: Count) -> Counts
     requires { Room c }
-    ensures { result ≡ raised c which }
+    ensures { result ≡ raised c (number_of which) }
 {
-    let remark = one_more(which, 1, c.remark);
-    let het = one_more(which, 2, c.het);
-    let helix = one_more(which, 3, c.helix);
-    let sheet = one_more(which, 4, c.sheet);
-    let xform = one_more(which, 5, c.xform);
-    let coord = one_more(which, 6, c.coord);
-    let ter = one_more(which, 7, c.ter);
-    let conect = one_more(which, 8, c.conect);
-    let seq = one_more(which, 9, c.seq);
-    Counts {
-        remark: remark,
-        het: het,
-        helix: helix,
-        sheet: sheet,
-        xform: xform,
-        coord: coord,
-        ter: ter,
-        conect: conect,
-        seq: seq,
+    match which {
+        Count::Remark => Counts {
+            remark: c.remark + 1,
+            ..c
+        },
+        Count::Het => Counts {
+            het: c.het + 1,
+            ..c
+        },
+        Count::Helix => Counts {
+            helix: c.helix + 1,
+            ..c
+        },
+        Count::Sheet => Counts {
+            sheet: c.sheet + 1,
+            ..c
+        },
+        Count::Xform => Counts {
+            xform: c.xform + 1,
+            ..c
+        },
+        Count::Coord => Counts {
+            coord: c.coord + 1,
+            ..c
+        },
+        Count::Ter => Counts {
+            ter: c.ter + 1,
+            ..c
+        },
+        Count::Conect => Counts {
+            conect: c.conect + 1,
+            ..c
+        },
+        Count::Seq => Counts {
+            seq: c.seq + 1,
+            ..c
+        },
     }
 }
 
-// MASTER's numbers are these counts.
+// The counts with the one raised by 1. (`tally` has the same for MASTER's own counts: those are a struct that C is passed, which has no type parameter.)
+pub fn raise(c: Counts, which: Option<Count>) -> Counts
+    requires { Room c }
+    ensures { result ≡ raised c (count_number which) }
+{
+    match which {
+        Some(n) => one_more(c, n),
+        None => c,
+    }
+}
+
+// MASTER's numbers are these counts. (Numbers of 32 bits beside numbers of 64: no derived `==` compares the two structs.)
 pub fn same_counts(t: Tally, c: Counts) -> bool
     ensures { result ≡ same_counts t c }
 {
-    let i = t.seq as u64 == c.seq;
-    let h = both_of(t.conect as u64 == c.conect, i);
-    let g = both_of(t.ter as u64 == c.ter, h);
-    let f = both_of(t.coord as u64 == c.coord, g);
-    let e = both_of(t.xform as u64 == c.xform, f);
-    let d = both_of(t.sheet as u64 == c.sheet, e);
-    let b = both_of(t.helix as u64 == c.helix, d);
-    let a = both_of(t.het as u64 == c.het, b);
-    both_of(t.remark as u64 == c.remark, a)
+    (t.remark as u64 == c.remark)
+        & (t.het as u64 == c.het)
+        & (t.helix as u64 == c.helix)
+        & (t.sheet as u64 == c.sheet)
+        & (t.xform as u64 == c.xform)
+        & (t.coord as u64 == c.coord)
+        & (t.ter as u64 == c.ter)
+        & (t.conect as u64 == c.conect)
+        & (t.seq as u64 == c.seq)
 }

@@ -15,7 +15,21 @@ pub struct Models {
     pub number: u32,
 }
 
-// The nine counts of MASTER, without the limit of its columns.
+// One of the nine counts of MASTER, each with its number.
+#[derive(Clone, Copy, Debug, PartialEq, Eq)]
+pub enum Count {
+    Remark = 1,
+    Het,
+    Helix,
+    Sheet,
+    Xform,
+    Coord,
+    Ter,
+    Conect,
+    Seq,
+}
+
+// The nine counts of MASTER, without the limit of its columns. (Not `Tally` over wider numbers: C is passed that, so it has no type parameter.)
 #[derive(Clone, Copy)]
 pub struct Counts {
     pub remark: u64,

@@ -7,7 +7,7 @@ use native.Mathlib.Omega.{arith}
 use lib.ListN.{length, get_or, take}
 use Rattle.std.proofs.Common.{append_assoc, append-nil}
 use Rattle.std.specs.List.{concat}
-use Rattle.gate.specs.declared.Verdict.{Verdict}
+use Rattle.gate.specs.Gate.{Verdict}
 use Rattle.reporting.specs.Report.{Listed}
 use Rattle.report.specs.Printed.{line_of, lines_of}
 

@@ -1,7 +1,7 @@
 -- What the report program prints of an answer.
 use Rattle.std.specs.Prelude.{ℕ, List, [], ◌∷◌, ◌++◌, map, decimal}
 use Rattle.std.specs.List.{concat}
-use Rattle.gate.specs.declared.Verdict.{Verdict}
+use Rattle.gate.specs.Gate.{Verdict}
 use Rattle.reporting.specs.Report.{Listed, listing}
 
 -- a line: its key, its number in digits, and the byte that ends a line

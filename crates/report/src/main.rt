@@ -4,6 +4,7 @@
 ghost use Rattle.std.specs.Prelude.{◌<◌, [], length, slice_index_or, OnOk};
 ghost use Rattle.std.specs.Io.KnownBytes.{Appends};
 ghost use Rattle.reporting.specs.Report.{keys};
+ghost use Rattle.gate.specs.Gate.{told_by};
 ghost use Rattle.report.specs.Printed.{line_of, printed};
 
 use gate::Verdict;
@@ -18,15 +19,12 @@ fn print_line<W: Write>(to: &mut W, i: usize, number: u64) -> io::Result<()>
     requires { i < length keys }
     ensures { OnOk result (Appends (W.contents to.old) (W.contents to.new) (line_of (slice_index_or keys i []) number)) }
 {
-    let label = reporting::key(i);
-    let text = label.0;
-    let width = label.1;
-    to.write_all(&text[..width])?;
-    writeln!(to, "{number}")
+    let key = reporting::key(i);
+    writeln!(to, "{key}{number}")
 }
 
 fn print_report<W: Write>(to: &mut W, v: Verdict) -> io::Result<()>
-    ensures { OnOk result (Appends (W.contents to.old) (W.contents to.new) (printed v)) }
+    ensures { OnOk result (Appends (W.contents to.old) (W.contents to.new) (printed (told_by v))) }
 {
     let numbers = reporting::numbers(v);
     for i in 0..LINES {

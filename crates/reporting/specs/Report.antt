@@ -2,9 +2,7 @@
 use Rattle.std.specs.Prelude.{◌∷◌, ◌++◌}
 use Rattle.ascii.specs.Library.{ℕ, String, List, [], map, get_or, take, drop, ltb, length, bytes, pick}
 use Rattle.places.specs.Counts.{no_counts}
-use Rattle.gate.specs.declared.{Verdict.Verdict}
-use Rattle.gate.specs.Gate.{check_of}
-use Rattle.reporting.specs.declared.{Label.Label}
+use Rattle.gate.specs.Gate.{check_of, Verdict}
 
 -- 809 lines
 abbrev pub most_bytes : ℕ
@@ -53,9 +51,5 @@ plain_numbers_of v = take 2 (numbers_of v) ++ drop 3 (numbers_of v)
 abbrev pub keys : List (List ℕ)
 keys = map (λ l. l.key) listing
 
--- a key in eight bytes, blanks behind it, and how many of them it has
-abbrev pub label_of : List ℕ → Label
-label_of k = record { 0 = k ++ drop (length k) (bytes "        "); 1 = length k }
-
-abbrev pub key_of : ℕ → Label
-key_of i = label_of (get_or keys i [])
+abbrev pub key_of : ℕ → List ℕ
+key_of i = get_or keys i []

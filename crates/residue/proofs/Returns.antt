@@ -5,6 +5,7 @@ use mathlib.Core.Bool.{Bool}
 use mathlib.Core.Logic.{inl, inr}
 use Prim.Native.Nat.{ℕ, ◌+◌}
 use native.Mathlib.Omega.{arith}
+use Rattle.std.specs.Prelude.{bytes_eq}
 use lib.ListN.{get_or}
 use lib.Dec.{eqb}
 use lib.IntN.{ℤ, nat_abs}
@@ -15,36 +16,16 @@ use Rattle.ascii.specs.Tests.{both}
 use Rattle.columns.specs.Columns.{first_of, gap_of, Put, blanks, blame}
 use Rattle.columns.proofs.Puts.{put_then}
 use Rattle.numbers.specs.Number.{render}
-use Rattle.fields.specs.declared.Signed.{Signed}
+use Rattle.fields.specs.Field.{Signed}
 use Rattle.fields.specs.Field.{signed_number, spans_of, is_neg, same_integer}
-use Rattle.names.specs.declared.Three.{Three}
-use Rattle.names.specs.Names.{three_at, same_three, is_residue, is_chain, is_insertion}
+use Rattle.names.specs.Names.{name_at, is_residue, is_chain, is_insertion}
 use Rattle.residue.specs.Residues.{same_residue, residue_f, residue_columns}
 use Rattle.residue.specs.declared.Residue.{Residue}
 use Rattle.fields.proofs.Formats.{Lawful, shut_lawful, then_lawful, after_lawful, held_lawful, integer_lawful}
 use Rattle.fields.proofs.Sides.{HasColumn, has_right}
 use Rattle.fields.specs.Format.{blank_fields}
-use Rattle.names.proofs.Shapes.{byte_lawful, three_lawful}
+use Rattle.names.proofs.Shapes.{byte_lawful, name_lawful}
 use Rattle.names.proofs.Classes.{chain_fine, insertion_fine, residue_fine}
-
-pub reads_value : (l : List ℕ) (at gap : ℕ) (name : Three) (n : Signed)
-    → name ≡ three_at l at → n ≡ signed_number 4 0 l (at + 3 + 1 + 1 + gap) → SFits w32 n.value
-    → ◌≡◌ {A = Residue} (record { name = name; chain = get_or l (at + 3 + 1) 0; number = record { 0 = to_z w32 (of_z w32 n.value) }; insertion = get_or l (at + 3 + 1 + 1 + gap + 4) 0 }) ((residue_f gap).value l at)
-unfolding residue_columns
-reads_value l at gap name n a b s = rw (to_z-of_z w32 n.value s, a, b)
-
-pub reads_column : (l : List ℕ) (at gap : ℕ) (name : Three) (n : Signed) (ok1 ok2 ok3 : Bool) (k g c h i f1 f2 f3 f4 f5 : ℕ)
-    → name ≡ three_at l at → n ≡ signed_number 4 0 l (at + 3 + 1 + 1 + gap)
-    → ok1 ≡ is_residue name → k ≡ blame ok1 at
-    → g ≡ gap_of l (at + 3) 1
-    → ok2 ≡ is_chain (get_or l (at + 3 + 1) 0) → c ≡ blame ok2 (at + 3 + 1)
-    → h ≡ gap_of l (at + 3 + 1 + 1) gap
-    → ok3 ≡ is_insertion (get_or l (at + 3 + 1 + 1 + gap + 4) 0) → i ≡ blame ok3 (at + 3 + 1 + 1 + gap + 4)
-    → f1 ≡ first_of n.column i → f2 ≡ first_of h f1 → f3 ≡ first_of c f2 → f4 ≡ first_of g f3 → f5 ≡ first_of k f4
-    → f5 ≡ (residue_f gap).fault l at
-unfolding residue_columns
-reads_column l at gap name n ok1 ok2 ok3 k g c h i f1 f2 f3 f4 f5 a b c1 c2 c3 c4 c5 c6 c7 c8 e1 e2 e3 e4 e5 =
-    rw (e5, e4, e3, e2, e1, c2, c3, c5, c6, c8, c1, c4, c7, a, b)
 
 pub judges : (r : Residue) (a b c d e1 e2 e3 : Bool)
     → a ≡ is_residue r.name → b ≡ is_chain r.chain
@@ -60,7 +41,7 @@ sum : (gap : ℕ) → 3 + (1 + (1 + (gap + (4 + 1)))) ≡ 10 + gap
 sum gap = omega arith
 
 pub writes : (l l1 l2 l3 l4 l5 l6 : List ℕ) (at gap : ℕ) (r : Residue)
-    → Put l at 3 (r.name.a ∷ r.name.b ∷ r.name.c ∷ []) l1
+    → Put l at 3 (name_at 3 r.name 0) l1
     → Put l1 (at + 3) 1 (blanks 1) l2
     → Put l2 (at + 3 + 1) 1 (r.chain ∷ []) l3
     → Put l3 (at + 3 + 1 + 1) gap (blanks gap) l4
@@ -78,10 +59,10 @@ pub same_range : (gap : ℕ) (r : Residue) → (residue_f gap).ok r ≡ (residue
 unfolding residue_columns
 same_range gap r = refl
 
-abbrev to : (Three × (ℕ × (ℤ × ℕ))) → Residue
+abbrev to : (List ℕ × (ℕ × (ℤ × ℕ))) → Residue
 to = λ (name, (chain, (number, insertion))). record { name = name; chain = chain; number = record { 0 = number }; insertion = insertion }
 
-abbrev from : Residue → (Three × (ℕ × (ℤ × ℕ)))
+abbrev from : Residue → (List ℕ × (ℕ × (ℤ × ℕ)))
 from r = (r.name, (r.chain, (r.number.0, r.insertion)))
 
 pub residue_lawful : {begin : ℕ} (gap : ℕ) → Lawful (residue_f gap) begin
@@ -89,7 +70,7 @@ unfolding residue_columns
 residue_lawful gap =
     shut_lawful (sum gap)
     (held_lawful to from (λ r. refl) (λ f. refl)
-    (then_lawful (three_lawful is_residue residue_fine)
+    (then_lawful (name_lawful 3 is_residue residue_fine)
     (after_lawful 1
     (then_lawful (byte_lawful is_chain chain_fine)
     (after_lawful gap (then_lawful (integer_lawful 4 999 9999 refl refl) (byte_lawful is_insertion insertion_fine)))))))
@@ -100,7 +81,7 @@ unfolding residue_columns HasColumn
 chain_field gap at l = inr (has_right (at + 3 + 1 + 1) (blank_fields l (at + 3) 1) _ (inl refl))
 
 pub equals : (a b : Residue) (name number rest tail r : Bool) → SFits w32 a.number.0 → SFits w32 b.number.0
-    → name ≡ same_three a.name b.name → number ≡ same_integer (to_z w32 (of_z w32 a.number.0)) (to_z w32 (of_z w32 b.number.0))
+    → name ≡ bytes_eq a.name b.name → number ≡ same_integer (to_z w32 (of_z w32 a.number.0)) (to_z w32 (of_z w32 b.number.0))
     → rest ≡ both number (eqb a.insertion b.insertion) → tail ≡ both (eqb a.chain b.chain) rest → r ≡ both name tail → r ≡ same_residue a b
 unfolding same_residue
 equals a b name number rest tail r fa fb en em er et e = e ∙ rw (et, er, em, en, to_z-of_z w32 a.number.0 fa, to_z-of_z w32 b.number.0 fb)

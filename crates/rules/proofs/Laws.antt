@@ -1,17 +1,20 @@
 -- A line is good exactly if each test of it says no. Assumes nothing.
-use mathlib.Core.Path.{◌≡◌, refl}
+use mathlib.Core.Path.{◌≡◌, refl, sym}
 use mathlib.Core.Bool.{Bool, true, false}
 use Prim.Native.Nat.{ℕ, ◌<◌}
 use native.Mathlib.Omega.{arith}
+use Rattle.columns.specs.declared.Column.{Column}
 use Rattle.ascii.specs.Tests.{pick, either}
 use Rattle.kinds.specs.declared.Kind.{Kind}
 use Rattle.line.specs.declared.Record.{Record}
-use Rattle.pieces.specs.declared.Line.TheVariants.{Wrong, Carried, Typed}
+use Rattle.pieces.specs.declared.Line.TheVariants.{Bad, Wrong, Carried, Typed}
 use Rattle.rules.specs.declared.Looked.{Looked}
 use Rattle.rules.specs.declared.State.{State}
 use Rattle.places.specs.Places.{place_bad, fence_bad}
 use Rattle.facets.specs.Facets.{record_kind, spot_of, bond_of, fold_of, total_of, fence_of}
 use Rattle.rules.specs.Rules.{model_bad, serial_bad, run_bad, bond_bad, unfinished, fold_bad, count_bad, typed_bad, judge_of}
+use Rattle.refusals.specs.declared.Refusal.{Refusal}
+use Rattle.refusals.proofs.Positive.{number_positive}
 
 -- a choice of a number above 0 and a rest is 0 exactly if the test says no and the rest is 0
 pub pick_no : (b : Bool) (n m : ℕ) → 0 < n → pick b n m ≡ 0 → b ≡ false
@@ -29,6 +32,20 @@ pick_either true b n m = refl
 pick_either false b n m = refl
 
 -- ---- typed lines
+-- with one test of the place
+pub typed_tests : (look : Looked) (s : State) (r : Record)
+    → typed_bad look s r
+    ≡ pick (either (place_bad s.place (record_kind r)) (fence_bad s.place s.models (record_kind r))) 5
+    (pick (model_bad s.models (fence_of r)) 22
+    (pick (serial_bad s.last (spot_of r)) 7
+    (pick (run_bad s.run (spot_of r)) 8
+    (pick look.twin 21
+    (pick (bond_bad look.known s.bond (bond_of r)) 9
+    (pick (fold_bad s.helix s.ladder (fold_of r)) 10
+    (pick (count_bad s.counts (total_of r)) 11 0)))))))
+unfolding typed_bad
+typed_tests look s r = sym (pick_either _ _ _ _)
+
 pub record Good (look : Looked) (s : State) (r : Record) : Type 0 where
   pub place : place_bad s.place (record_kind r) ≡ false
   pub fence : fence_bad s.place s.models (record_kind r) ≡ false
@@ -82,7 +99,11 @@ judge_carried look s k e =
       pick_no (fence_bad s.place s.models k) 5 _ (omega arith) e',
     )
 
-pub judge_wrong : (look : Looked) (s : State) (k : Kind) (column : ℕ) → judge_of look s (Wrong k column) ≡ 0 → ⊥
+pub judge_bad : (look : Looked) (s : State) (r : Refusal) → judge_of look s (Bad r) ≡ 0 → ⊥
+unfolding judge_of
+judge_bad look s r e = omega (arith, number_positive r)
+
+pub judge_wrong : (look : Looked) (s : State) (k : Kind) (column : Column) → judge_of look s (Wrong k column) ≡ 0 → ⊥
 unfolding judge_of
 judge_wrong look s k column e =
     let z : ◌≡◌ {A = ℕ} 6 0 = pick_rest (fence_bad s.place s.models k) 5 6 (omega arith) (pick_rest (place_bad s.place k) 5 _ (omega arith) e) in

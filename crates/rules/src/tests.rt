@@ -4,9 +4,10 @@ ghost use Rattle.ascii.specs.Tests.{either};
 ghost use Rattle.rules.specs.Rules.{model_bad, serial_bad, site_bad, close_bad, run_bad, bond_bad, unfinished as unfinishedOf, strand_bad, fold_bad, count_bad};
 
 use super::{Ladder, Run};
-use ascii::{both_of, either_of, not_of};
-use facets::{Bond, Fence, Fold, Spot, Total};
+use conect::Conect;
+use facets::{Fence, Fold, Spot};
 use fields::Serial;
+use master::Tally;
 use places::{Counts, Models};
 use residue::Residue;
 use sheet::Strand;
@@ -15,28 +16,26 @@ use sheet::Strand;
 fn number_bad(m: Models, n: u32) -> bool
     ensures { result ≡ not (eqb n (m.number + 1)) }
 {
-    let e = n as u64 == m.number as u64 + 1;
-    not_of(e)
+    n as u64 != m.number as u64 + 1
 }
 
-pub fn model_bad(m: Models, e: Fence) -> bool
+pub fn model_bad(m: Models, e: Option<Fence>) -> bool
     ensures { result ≡ model_bad m e }
 {
     match e {
-        Fence::Opens(n) => number_bad(m, n),
-        Fence::Shuts => false,
-        Fence::Unfenced => false,
+        Some(Fence::Opens(n)) => number_bad(m, n),
+        Some(Fence::Shuts) | None => false,
     }
 }
 
 // ---- 7: serials rise strictly over ATOM, HETATM and TER together
-pub fn serial_bad(last: Serial, p: Spot) -> bool
+pub fn serial_bad(last: Serial, p: Option<Spot>) -> bool
     ensures { result ≡ serial_bad last p }
 {
     match p {
-        Spot::Site(_, a) => a.identity.serial.0 <= last.0,
-        Spot::Close(t) => t.serial.0 <= last.0,
-        Spot::Nowhere => false,
+        Some(Spot::Site(_, a)) => a.identity.serial.0 <= last.0,
+        Some(Spot::Close(t)) => t.serial.0 <= last.0,
+        None => false,
     }
 }
 
@@ -46,38 +45,38 @@ fn site_bad(r: Run, het: bool, chain: u8) -> bool
     ensures { result ≡ site_bad r het chain }
 {
     let e = chain == r.residue.chain;
-    let h = both_of(r.atom, not_of(e));
-    let a = both_of(r.some, not_of(both_of(r.same, e)));
-    ascii::choose(het, h, a)
+    if het {
+        r.atom & !e
+    } else {
+        r.some & !(r.same & e)
+    }
 }
 
 // TER closes a run that holds an ATOM, and repeats the residue of its last line.
 fn close_bad(r: Run, residue: Residue) -> bool
     ensures { result ≡ close_bad r residue }
 {
-    let last = r.residue;
-    let e = residue::same_residue(residue, last);
-    not_of(both_of(r.atom, e))
+    !(r.atom & residue::same_residue(residue, r.residue))
 }
 
 // A run that holds an ATOM is closed before any other kind of line.
-pub fn run_bad(u: Run, p: Spot) -> bool
+pub fn run_bad(u: Run, p: Option<Spot>) -> bool
     ensures { result ≡ run_bad u p }
 {
     match p {
-        Spot::Site(het, a) => site_bad(u, het, a.identity.residue.chain),
-        Spot::Close(t) => close_bad(u, t.residue),
-        Spot::Nowhere => u.atom,
+        Some(Spot::Site(het, a)) => site_bad(u, het, a.identity.residue.chain),
+        Some(Spot::Close(t)) => close_bad(u, t.residue),
+        None => u.atom,
     }
 }
 
 // ---- 9: CONECT serials do not fall, and each number on the line is the serial of an atom (known)
-pub fn bond_bad(known: bool, last: Serial, b: Bond) -> bool
+pub fn bond_bad(known: bool, last: Serial, b: Option<Conect>) -> bool
     ensures { result ≡ bond_bad known last b }
 {
     match b {
-        Bond::Bonds(c) => either_of(not_of(known), c.serial.0 < last.0),
-        Bond::Loose => false,
+        Some(c) => !known | (c.serial.0 < last.0),
+        None => false,
     }
 }
 
@@ -93,39 +92,37 @@ pub fn unfinished(d: Ladder) -> bool
 fn strand_bad(d: Ladder, s: Strand) -> bool
     ensures { result ≡ strand_bad d s }
 {
-    let x = s.id;
-    let y = d.id;
-    let same = names::same_three(x, y);
-    let next = s.strand as u64 == d.strand as u64 + 1;
-    let goes = both_of(same, both_of(s.strands == d.strands, next));
-    let again = both_of(0 < d.strands, same);
-    let begins = either_of(not_of(s.strand == 1), again);
-    ascii::choose(unfinished(d), not_of(goes), begins)
+    let same = s.id == d.id;
+    if unfinished(d) {
+        let next = s.strand as u64 == d.strand as u64 + 1;
+        !(same & (s.strands == d.strands) & next)
+    } else {
+        (s.strand != 1) | ((0 < d.strands) & same)
+    }
 }
 
 fn helix_bad(helix: u32, d: Ladder, serial: u32) -> bool
     ensures { result ≡ either (unfinishedOf d) (not (eqb serial (helix + 1))) }
 {
-    let e = serial as u64 == helix as u64 + 1;
-    either_of(unfinished(d), not_of(e))
+    unfinished(d) | (serial as u64 != helix as u64 + 1)
 }
 
-pub fn fold_bad(helix: u32, d: Ladder, f: Fold) -> bool
+pub fn fold_bad(helix: u32, d: Ladder, f: Option<Fold>) -> bool
     ensures { result ≡ fold_bad helix d f }
 {
     match f {
-        Fold::Turn(serial) => helix_bad(helix, d, serial),
-        Fold::Rung(s) => strand_bad(d, s),
-        Fold::Plain => unfinished(d),
+        Some(Fold::Turn(serial)) => helix_bad(helix, d, serial),
+        Some(Fold::Rung(s)) => strand_bad(d, s),
+        None => unfinished(d),
     }
 }
 
 // ---- 11: MASTER holds the true counts
-pub fn count_bad(n: Counts, t: Total) -> bool
+pub fn count_bad(n: Counts, t: Option<Tally>) -> bool
     ensures { result ≡ count_bad n t }
 {
     match t {
-        Total::Counted(m) => not_of(places::same_counts(m, n)),
-        Total::Uncounted => false,
+        Some(m) => !places::same_counts(m, n),
+        None => false,
     }
 }

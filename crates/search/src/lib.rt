@@ -24,14 +24,8 @@ pub struct Near {
 #[derive(Clone, Copy)]
 pub struct Sought {
     pub near: Near,
+    // A flag beside the place, and no Option of it: the next search begins there whatever was answered.
     pub yes: bool,
-}
-
-// Where a serial stands.
-#[derive(Clone, Copy)]
-pub enum Found {
-    At(usize),
-    Nowhere,
 }
 
 // Of a span, what is left to search for x once `there` was seen at place m.
@@ -56,13 +50,7 @@ fn drawn(s: Span, place: usize) -> usize
     requires { s.lo < s.hi }
     ensures { (s.lo ≤ result) × (result < s.hi) }
 {
-    if place < s.lo {
-        return s.lo;
-    }
-    if place < s.hi {
-        return place;
-    }
-    s.hi - 1
+    place.clamp(s.lo, s.hi - 1)
 }
 
 // Where x stands if serials rise by 1 between it and the one that was met, as they mostly do.
@@ -71,22 +59,16 @@ fn guess(n: Near, s: Span, x: Serial) -> usize
     ensures { (s.lo ≤ result) × (result < s.hi) }
 {
     let p = drawn(s, n.place);
-    let met = n.serial;
-    if met.0 < x.0 {
-        let up = (x.0 - met.0) as usize;
-        if up < s.hi - p {
-            return p + up;
-        }
-        return s.hi - 1;
+    if n.serial.0 < x.0 {
+        let up = (x.0 - n.serial.0) as usize;
+        return p + up.min(s.hi - 1 - p);
     }
-    let down = (met.0 - x.0) as usize;
-    if down <= p - s.lo {
-        return p - down;
-    }
-    s.lo
+    let down = (n.serial.0 - x.0) as usize;
+    p - down.min(p - s.lo)
 }
 
-fn middle(s: Span) -> usize
+// The place in the middle of a span.
+pub fn middle(s: Span) -> usize
     requires { s.lo < s.hi }
     ensures { (s.lo ≤ result) × (result < s.hi) }
 {
@@ -111,8 +93,5 @@ const GUESSES: u8 = 2;
 pub fn counted(looks: u8) -> u8
     ensures { result ≤ 2 }
 {
-    if looks < GUESSES {
-        return looks + 1;
-    }
-    GUESSES
+    looks.saturating_add(1).min(GUESSES)
 }

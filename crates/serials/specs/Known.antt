@@ -1,15 +1,16 @@
 -- What a look back over the lines seen says: whether the numbers on a CONECT line are the serials of atoms.
-use Rattle.std.specs.Prelude.{◌∷◌}
+use Rattle.std.specs.Prelude.{◌∷◌, Option, Some, None}
 use Rattle.ascii.specs.Library.{ℕ, List, [], Bool, true, false, eqb, pick, both, either}
+use Rattle.conect.specs.declared.{Conect.Conect}
 use Rattle.pieces.specs.declared.{Line.Line}
-use Rattle.facets.specs.declared.{Spot.Spot, Spot.TheVariants.Site, Spot.TheVariants.Close, Spot.TheVariants.Nowhere, Bond.Bond, Bond.TheVariants.Bonds, Bond.TheVariants.Loose}
+use Rattle.facets.specs.declared.{Spot.Spot, Spot.TheVariants.Site, Spot.TheVariants.Close}
 use Rattle.facets.specs.Facets.{spot_in, is_fence}
 
 -- the ATOM or HETATM line with serial n
-abbrev pub is_atom : ℕ → Spot → Bool
-is_atom n (Site het a) = eqb a.identity.serial.0 n
-is_atom n (Close t) = false
-is_atom n Nowhere = false
+abbrev pub is_atom : ℕ → Option Spot → Bool
+is_atom n (Some (Site het a)) = eqb a.identity.serial.0 n
+is_atom n (Some (Close t)) = false
+is_atom n None = false
 
 abbrev pub is_site : ℕ → Line → Bool
 is_site n l = is_atom n (spot_in l)
@@ -33,10 +34,10 @@ abbrev pub partner_known : List Line → ℕ → Bool
 partner_known seen n = either (eqb n 0) (named seen n)
 
 -- each number on a CONECT line is the serial of an ATOM or HETATM line among those seen
-abbrev pub bond_known : List Line → Bond → Bool
-bond_known seen (Bonds c) =
+abbrev pub bond_known : List Line → Option Conect → Bool
+bond_known seen (Some c) =
     both (named seen c.serial.0)
     (both (partner_known seen c.a.0)
     (both (partner_known seen c.b.0)
     (both (partner_known seen c.c.0) (partner_known seen c.d.0))))
-bond_known seen Loose = true
+bond_known seen None = true

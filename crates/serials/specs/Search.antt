@@ -1,23 +1,22 @@
 -- Where the coordinate lines of a text stand, and what a search among them says. (Nothing here is part of the answer.)
-use Rattle.std.specs.Prelude.{◌*◌, ◌≤◌, ◌<◌, ◌⊎◌, ◌≡◌}
+use Rattle.std.specs.Prelude.{◌*◌, ◌≤◌, ◌<◌, ◌⊎◌, ◌≡◌, Option, Some, None}
 use Rattle.ascii.specs.Library.{ℕ, zero, suc, List, Bool, true, false, not, length, ltb, both, pick}
 use Rattle.pieces.specs.declared.{Line.Line}
-use Rattle.facets.specs.declared.{Spot.Spot, Spot.TheVariants.Site, Spot.TheVariants.Close, Spot.TheVariants.Nowhere}
+use Rattle.facets.specs.declared.{Spot.Spot, Spot.TheVariants.Site, Spot.TheVariants.Close}
 use Rattle.facets.specs.Facets.{spot_in, is_coord, is_fence}
 use Rattle.rules.specs.declared.{State.State}
 use Rattle.places.specs.Places.{coordinate_place, end_place}
-use Rattle.search.specs.declared.{Span.Span, Found.Found}
+use Rattle.search.specs.declared.{Span.Span}
 use Rattle.search.specs.Search.{span, including}
 use Rattle.rows.specs.Text.{row}
 use Rattle.serials.specs.declared.{Earlier.Earlier}
 use Rattle.serials.specs.Known.{is_site}
-use Rattle.search.specs.declared.Found.TheVariants as found
 
 -- the serial of an ATOM, HETATM or TER line, 0 where it is none
-abbrev pub spot_serial : Spot → ℕ
-spot_serial (Site het a) = a.identity.serial.0
-spot_serial (Close t) = t.serial.0
-spot_serial Nowhere = 0
+abbrev pub spot_serial : Option Spot → ℕ
+spot_serial (Some (Site het a)) = a.identity.serial.0
+spot_serial (Some (Close t)) = t.serial.0
+spot_serial None = 0
 
 abbrev pub serial_of : Line → ℕ
 serial_of l = spot_serial (spot_in l)
@@ -91,6 +90,6 @@ Stands L lo hi x true = (j : ℕ) × (lo ≤ j) × (j < hi) × (is_site x (L j) 
 Stands L lo hi x false = (j : ℕ) → lo ≤ j → j < hi → is_site x (L j) ≡ false
 
 -- x is the serial of the ATOM or HETATM line that was found from lo to hi, or of none of them
-abbrev pub Finds : (ℕ → Line) → ℕ → ℕ → ℕ → Found → Type 0
-Finds L lo hi x (found.At j) = (lo ≤ j) × (j < hi) × (is_site x (L j) ≡ true)
-Finds L lo hi x found.Nowhere = (j : ℕ) → lo ≤ j → j < hi → is_site x (L j) ≡ false
+abbrev pub Finds : (ℕ → Line) → ℕ → ℕ → ℕ → Option ℕ → Type 0
+Finds L lo hi x (Some j) = (lo ≤ j) × (j < hi) × (is_site x (L j) ≡ true)
+Finds L lo hi x None = (j : ℕ) → lo ≤ j → j < hi → is_site x (L j) ≡ false

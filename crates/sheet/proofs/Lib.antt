@@ -1,2 +1,3 @@
-pub mod Returns
+pub mod Registrations
+pub mod Sense
 pub mod Laws

@@ -4,14 +4,13 @@
 
 ghost use Rattle.std.specs.Prelude.{◌≤◌};
 
-use feed::{Drawn, Framed};
+use feed::Extent;
 use fields::FragmentNumber;
 use master::Tally;
+use refusals::Refusal;
 use slots::Slot;
 use std::io;
 use std::io::{BufWriter, Read, Write};
-use store::Outcome;
-use tally::Counted;
 
 // The most bytes of an entry that are read.
 const MOST_READ: u64 = 65536;
@@ -27,15 +26,15 @@ fn put(to: &mut impl Write, n: u64) -> io::Result<()> {
     write!(to, " {n}")
 }
 
-fn print_number(to: &mut impl Write, n: u8) -> io::Result<()> {
+fn print_number(to: &mut impl Write, n: u32) -> io::Result<()> {
     put(to, n as u64)?;
     say(to, b"\n")
 }
 
 // The number, and how many slots or bytes were written.
-fn print_outcome(to: &mut impl Write, o: Outcome) -> io::Result<()> {
-    put(to, o.number as u64)?;
-    put(to, o.count as u64)?;
+fn print_outcome(to: &mut impl Write, o: Result<usize, Refusal>) -> io::Result<()> {
+    put(to, answers::number_of(o) as u64)?;
+    put(to, o.unwrap_or(0) as u64)?;
     say(to, b"\n")
 }
 
@@ -48,9 +47,12 @@ fn print_first(to: &mut impl Write, out: &[u8], n: usize) -> io::Result<()> {
 }
 
 // The same, and the bytes.
-fn print_written(to: &mut impl Write, o: Outcome, out: &[u8]) -> io::Result<()> {
+fn print_written(to: &mut impl Write, o: Result<usize, Refusal>, out: &[u8]) -> io::Result<()> {
     print_outcome(to, o)?;
-    print_first(to, out, o.count)
+    match o {
+        Ok(n) => print_first(to, out, n),
+        Err(_) => Ok(()),
+    }
 }
 
 // ---- the tally
@@ -71,9 +73,9 @@ fn nearly_full() -> Tally {
 
 fn count(to: &mut impl Write, t: Tally, line: &[u8], past: bool) -> io::Result<Tally> {
     let c = tally::tally_after(t, line, past);
-    let u = c.tally;
+    let u = c.unwrap_or(t);
     say(to, b"tally")?;
-    put(to, c.number as u64)?;
+    put(to, answers::number_of(c) as u64)?;
     put(to, u.coord as u64)?;
     put(to, u.ter as u64)?;
     say(to, b"\n")?;
@@ -93,54 +95,36 @@ fn count_lines(to: &mut impl Write) -> io::Result<()> {
 }
 
 // ---- a stage of the sitting
-// What a stage has told: of loading, of two orders, of the frame, of slots 2 and 3 drawn (1 for a dot, 2 for a stroke), of saving and of the tray.
+// What a stage has told: of loading, of two orders, of the frame, of whether slots 2 and 3 are drawn, of saving and of the tray.
 #[derive(Clone, Copy)]
 struct Told {
-    load: Outcome,
-    first: u8,
-    second: u8,
+    load: Result<usize, Refusal>,
+    first: Result<(), Refusal>,
+    second: Result<(), Refusal>,
     looks: Looks,
-    save: Outcome,
-    tray: Outcome,
+    save: Result<usize, Refusal>,
+    tray: Result<usize, Refusal>,
 }
 
 #[derive(Clone, Copy)]
 struct Looks {
-    frame: u8,
-    dot: u8,
-    stroke: u8,
+    frame: u32,
+    dot: bool,
+    stroke: bool,
 }
 
-fn framed(f: Framed) -> u8 {
-    match f {
-        Framed::Around(_) => 0,
-        Framed::Refused(n) => n,
-    }
-}
-
-fn drawn(d: Drawn) -> u8 {
-    match d {
-        Drawn::Dot(_, _, _) => 1,
-        Drawn::Stroke(_, _, _, _, _, _) => 2,
-        Drawn::Nothing => 0,
-    }
-}
-
-fn look(f: Framed, a: Slot, b: Slot) -> Looks {
+fn look(f: Result<Extent, Refusal>, a: Slot, b: Slot) -> Looks {
     Looks {
-        frame: framed(f),
-        dot: drawn(feed::dot(a)),
-        stroke: drawn(feed::stroke(a, b)),
+        frame: answers::number_of(f),
+        dot: feed::dot(a).is_some(),
+        stroke: feed::stroke(a, b).is_some(),
     }
 }
 
 // Into the first slots of a table that has as many.
-fn load(text: &[u8], table: &mut [Slot], room: usize) -> Outcome {
+fn load(text: &[u8], table: &mut [Slot], room: usize) -> Result<usize, Refusal> {
     if table.len() < room {
-        return Outcome {
-            number: 0,
-            count: 0,
-        };
+        return Ok(0);
     }
     store::load(text, &mut table[..room])
 }
@@ -156,45 +140,35 @@ fn view(table: &[Slot]) -> Looks {
     if table.len() < 4 {
         return Looks {
             frame: 0,
-            dot: 0,
-            stroke: 0,
+            dot: false,
+            stroke: false,
         };
     }
     look(feed::frame(table), table[2], table[3])
 }
 
 // An entry loaded into some of eight slots, a fragment set aside, another order, a slot spoiled; then the table is looked at and kept.
-fn stage(
-    text: &[u8],
-    out: &mut [u8],
-    set: &mut [u8],
-    room: usize,
-    first: FragmentNumber,
-    second: FragmentNumber,
-    aside: bool,
-    spoiled: usize,
-) -> Told {
+fn stage(text: &[u8], out: &mut [u8], set: &mut [u8], k: u8) -> Told {
     let mut table = [slots::no_slot(); 8];
-    let load = load(text, &mut table, room);
-    let a = store::order(text, &mut table, first, true);
-    let b = store::order(text, &mut table, second, aside);
-    spoil(&mut table, spoiled);
-    let looks = view(&table);
-    let save = store::save(text, &table, out);
-    let tray = store::tray(text, &table, set);
+    let load = load(text, &mut table, slots_at(k));
+    let first = store::order(text, &mut table, first_at(k), true);
+    let second = store::order(text, &mut table, second_at(k), k < 6);
+    spoil(&mut table, spoiled_at(k));
     Told {
-        load: load,
-        first: a,
-        second: b,
-        looks: looks,
-        save: save,
-        tray: tray,
+        load,
+        first,
+        second,
+        looks: view(&table),
+        save: store::save(text, &table, out),
+        tray: store::tray(text, &table, set),
     }
 }
 
 // ---- the stages
 // Each stage does again what was done before it, and prints what is new: 0 and 1 load, into no slot and into enough; 2 to 4 set fragments aside: one, which then is there
 // already, and a ninth, which there is not; 6 puts the one back; in 8 a slot is spoiled. The table is kept after 4, 6 and 8, first without room and then with room.
+const STAGES: u8 = 10;
+
 fn slots_at(k: u8) -> usize {
     if k == 0 {
         return 0;
@@ -232,7 +206,7 @@ fn bytes_at(k: u8, n: usize) -> usize
     }
 }
 
-fn print_load(to: &mut impl Write, k: u8, o: Outcome) -> io::Result<()> {
+fn print_load(to: &mut impl Write, k: u8, o: Result<usize, Refusal>) -> io::Result<()> {
     if k < 2 {
         say(to, b"load")?;
         print_outcome(to, o)?;
@@ -240,13 +214,18 @@ fn print_load(to: &mut impl Write, k: u8, o: Outcome) -> io::Result<()> {
     Ok(())
 }
 
-fn print_order(to: &mut impl Write, f: FragmentNumber, number: u8) -> io::Result<()> {
+fn print_order(to: &mut impl Write, f: FragmentNumber, o: Result<(), Refusal>) -> io::Result<()> {
     put(to, f.0 as u64)?;
     say(to, b":")?;
-    print_number(to, number)
+    print_number(to, answers::number_of(o))
 }
 
-fn print_orders(to: &mut impl Write, k: u8, first: u8, second: u8) -> io::Result<()> {
+fn print_orders(
+    to: &mut impl Write,
+    k: u8,
+    first: Result<(), Refusal>,
+    second: Result<(), Refusal>,
+) -> io::Result<()> {
     match k {
         2 => {
             say(to, b"set aside")?;
@@ -264,11 +243,11 @@ fn print_orders(to: &mut impl Write, k: u8, first: u8, second: u8) -> io::Result
     }
 }
 
-fn print_drawn(to: &mut impl Write, d: u8) -> io::Result<()> {
-    match d {
-        1 => say(to, b"dot\n"),
-        2 => say(to, b"stroke\n"),
-        _ => say(to, b"nothing to draw\n"),
+fn print_drawn(to: &mut impl Write, drawn: bool, what: &[u8]) -> io::Result<()> {
+    if drawn {
+        say(to, what)
+    } else {
+        say(to, b"nothing to draw\n")
     }
 }
 
@@ -277,14 +256,14 @@ fn print_looks(to: &mut impl Write, k: u8, l: Looks) -> io::Result<()> {
         0 | 1 | 4 => {
             say(to, b"frame")?;
             print_number(to, l.frame)?;
-            print_drawn(to, l.dot)?;
-            print_drawn(to, l.stroke)
+            print_drawn(to, l.dot, b"dot\n")?;
+            print_drawn(to, l.stroke, b"stroke\n")
         }
         _ => Ok(()),
     }
 }
 
-fn print_save(to: &mut impl Write, k: u8, o: Outcome, out: &[u8]) -> io::Result<()> {
+fn print_save(to: &mut impl Write, k: u8, o: Result<usize, Refusal>, out: &[u8]) -> io::Result<()> {
     if 3 < k {
         say(to, b"save")?;
         print_written(to, o, out)?;
@@ -292,7 +271,7 @@ fn print_save(to: &mut impl Write, k: u8, o: Outcome, out: &[u8]) -> io::Result<
     Ok(())
 }
 
-fn print_tray(to: &mut impl Write, k: u8, o: Outcome, set: &[u8]) -> io::Result<()> {
+fn print_tray(to: &mut impl Write, k: u8, o: Result<usize, Refusal>, set: &[u8]) -> io::Result<()> {
     match k {
         5 | 7 | 9 => {
             say(to, b"tray")?;
@@ -310,54 +289,19 @@ fn go_on(
     k: u8,
 ) -> io::Result<()> {
     let n = bytes_at(k, out.len());
-    let t = stage(
-        text,
-        &mut out[..n],
-        set,
-        slots_at(k),
-        first_at(k),
-        second_at(k),
-        k < 6,
-        spoiled_at(k),
-    );
-    let load = t.load;
-    print_load(to, k, load)?;
+    let t = stage(text, &mut out[..n], set, k);
+    print_load(to, k, t.load)?;
     print_orders(to, k, t.first, t.second)?;
-    let looks = t.looks;
-    print_looks(to, k, looks)?;
-    let save = t.save;
-    print_save(to, k, save, out)?;
-    let tray = t.tray;
-    print_tray(to, k, tray, set)
-}
-
-fn open(to: &mut impl Write, text: &[u8], out: &mut [u8], set: &mut [u8]) -> io::Result<()> {
-    go_on(to, text, out, set, 0)?;
-    go_on(to, text, out, set, 1)
-}
-
-fn part(to: &mut impl Write, text: &[u8], out: &mut [u8], set: &mut [u8]) -> io::Result<()> {
-    go_on(to, text, out, set, 2)?;
-    go_on(to, text, out, set, 3)?;
-    go_on(to, text, out, set, 4)?;
-    go_on(to, text, out, set, 5)
-}
-
-fn join(to: &mut impl Write, text: &[u8], out: &mut [u8], set: &mut [u8]) -> io::Result<()> {
-    go_on(to, text, out, set, 6)?;
-    go_on(to, text, out, set, 7)
-}
-
-fn damage(to: &mut impl Write, text: &[u8], out: &mut [u8], set: &mut [u8]) -> io::Result<()> {
-    go_on(to, text, out, set, 8)?;
-    go_on(to, text, out, set, 9)
+    print_looks(to, k, t.looks)?;
+    print_save(to, k, t.save, out)?;
+    print_tray(to, k, t.tray, set)
 }
 
 fn sit(to: &mut impl Write, text: &[u8], out: &mut [u8], set: &mut [u8]) -> io::Result<()> {
-    open(to, text, out, set)?;
-    part(to, text, out, set)?;
-    join(to, text, out, set)?;
-    damage(to, text, out, set)
+    for k in 0..STAGES {
+        go_on(to, text, out, set, k)?;
+    }
+    Ok(())
 }
 
 fn main(rt: HostRuntime) -> io::Result<()> {

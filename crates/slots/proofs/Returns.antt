@@ -1,4 +1,5 @@
 -- One law for each `return`. Assumes nothing.
+use Rattle.std.proofs.Common.{Option, Some}
 use mathlib.Core.Path.{◌≡◌, sym, ◌∙◌, ap}
 use mathlib.Core.List.{List}
 use mathlib.Core.Bool.{Bool, true, false}
@@ -11,15 +12,14 @@ use mir.Syntax.{w32}
 use mir.Val.{SFits, to_z, of_z}
 use mir.ValLaws.{to_z-of_z}
 use borrow.Author.Tests.{lt-ltb, eq-eqb, ne_eqb, ltb-false}
-use Rattle.ascii.specs.Tests.{pick, both}
+use Rattle.ascii.specs.Tests.{pick}
 use Rattle.ascii.proofs.Choice.{picks}
 use Rattle.columns.specs.Columns.{clean_at}
 use Rattle.numbers.specs.declared.Number.{Number}
 use Rattle.numbers.specs.Number.{number_of}
-use Rattle.fields.specs.declared.Whole.{Whole}
-use Rattle.fields.specs.Field.{whole_in, same_integer}
+use Rattle.fields.specs.Field.{Whole}
+use Rattle.fields.specs.Field.{whole_in}
 use Rattle.coordinate.specs.declared.Atom.{Atom}
-use Rattle.coordinate.specs.declared.Position.{Position}
 use Rattle.coordinate.specs.Atoms.{atom_f, atom_columns, measure_columns}
 use Rattle.kinds.specs.declared.Kind.{Kind}
 use Rattle.line.proofs.Crystal.{crystal_cases}
@@ -27,9 +27,8 @@ use Rattle.kinds.specs.declared.Kind.TheVariants.{Atom as AtomKind, Hetatm, Ter,
 use Rattle.kinds.specs.Kinds.{is, is_named, kind_of}
 use Rattle.line.specs.declared.Record.{Record}
 use Rattle.line.specs.declared.Record.TheVariants as rec
-use Rattle.line.specs.declared.Reading.{Reading}
-use Rattle.line.specs.declared.Reading.TheVariants.{Typed, Wrong, Untyped}
-use Rattle.line.specs.Lines.{judged, reading_of}
+use Rattle.line.specs.declared.unread.Unread.TheVariants.{Wrong, Untyped}
+use Rattle.line.specs.Lines.{Reading, judged, reading_of}
 use Rattle.pieces.specs.declared.Line.{Line}
 use Rattle.pieces.specs.declared.Line.TheVariants as line
 use Rattle.pieces.specs.Pieces.{line_in, columns_of, line_of}
@@ -37,29 +36,13 @@ use Rattle.slots.specs.declared.Slot.{Slot}
 use Rattle.facets.specs.declared.Spot.{Spot}
 use Rattle.facets.specs.declared.Spot.TheVariants.{Site}
 use Rattle.facets.specs.Facets.{spot_of, spot_in}
-use Rattle.slots.specs.declared.Filling.{Filling}
-use Rattle.slots.specs.declared.Filling.TheVariants.{Refused}
-use Rattle.slots.specs.Slots.{atom_kind, hetatm_kind, slot_of_atom, SmallSpot, spot_read, has_slot, fill_in, slot_line, same_position, same_measures}
+use Rattle.std.specs.Prelude.{Result, Err, Ok}
+use Rattle.slots.specs.Slots.{atom_kind, hetatm_kind, slot_of_atom, SmallSpot, spot_read, has_slot, fill_in, slot_line}
+use Rattle.refusals.specs.declared.Refusal.TheVariants as refusal
 
 -- a number that was held is itself
 abbrev held : ℤ → ℤ
 held z = to_z w32 (of_z w32 z)
-
-pub positions : (p q : Position) (x y z a1 a2 : Bool)
-    → SFits w32 p.x → SFits w32 q.x → SFits w32 p.y → SFits w32 q.y → SFits w32 p.z → SFits w32 q.z
-    → x ≡ same_integer (held p.x) (held q.x) → y ≡ same_integer (held p.y) (held q.y) → z ≡ same_integer (held p.z) (held q.z)
-    → a1 ≡ both y z → a2 ≡ both x a1 → a2 ≡ same_position p q
-unfolding same_position
-positions p q x y z a1 a2 f1 f2 f3 f4 f5 f6 ex ey ez e1 e2 =
-    e2 ∙ rw (e1, ex, ey, ez, to_z-of_z w32 p.x f1, to_z-of_z w32 q.x f2, to_z-of_z w32 p.y f3, to_z-of_z w32 q.y f4, to_z-of_z w32 p.z f5, to_z-of_z w32 q.z f6)
-
-pub measures : (s t : Slot) (p o b a1 a2 : Bool)
-    → SFits w32 s.occupancy → SFits w32 t.occupancy → SFits w32 s.temperature → SFits w32 t.temperature
-    → p ≡ same_position s.position t.position → o ≡ same_integer (held s.occupancy) (held t.occupancy) → b ≡ same_integer (held s.temperature) (held t.temperature)
-    → a1 ≡ both o b → a2 ≡ both p a1 → a2 ≡ same_measures s t
-unfolding same_measures
-measures s t p o b a1 a2 f1 f2 f3 f4 ep eo eb e1 e2 =
-    e2 ∙ rw (e1, ep, eo, eb, to_z-of_z w32 s.occupancy f1, to_z-of_z w32 t.occupancy f2, to_z-of_z w32 s.temperature f3, to_z-of_z w32 t.temperature f4)
 
 -- ---- a number with a range is within it, so an occupancy is small
 pub whole_high : (lo hi : ℕ) (h : Number) (at : ℕ) → (whole_in lo hi h at).value ≤ hi
@@ -84,7 +67,7 @@ Small x = SmallSpot (spot_read x)
 
 judged_small : (c : ℕ) (r : Record) → SmallSpot (spot_of r) → Small (judged c r)
 unfolding judged
-judged_small c r s = picks Small (eqb c 0) (Typed r) (Wrong c) (λ _. s) (λ _. tt)
+judged_small c r s = picks Small (eqb c 0) (Ok r) (Err (Wrong (record { 0 = c }))) (λ _. s) (λ _. tt)
 
 by_kind : (k : Kind) (l : List ℕ) → Small (reading_of k l)
 unfolding reading_of
@@ -104,27 +87,27 @@ by_kind k l =
 pub reading_small : (k : Kind) (l : List ℕ) (x : Reading) → x ≡ reading_of k l → SmallSpot (spot_read x)
 reading_small k l x e = rw e (by_kind k l)
 
-pub typed_small : (x : Reading) (r : Record) (p : Spot) → x ≡ Typed r → p ≡ spot_of r → SmallSpot (spot_read x) → SmallSpot p
+pub typed_small : (x : Reading) (r : Record) (p : Option Spot) → x ≡ Ok r → p ≡ spot_of r → SmallSpot (spot_read x) → SmallSpot p
 typed_small x r p e q s = rw q (rw e at s)
 
-pub site_small : (p : Spot) (het : Bool) (a : Atom) → p ≡ Site het a → SmallSpot p → a.measure.occupancy ≤ 2147483647
-site_small p het a e s = rw e at s
+pub site_small : (p : Option Spot) (q : Spot) (het : Bool) (a : Atom) → p ≡ Some q → q ≡ Site het a → SmallSpot p → a.measure.occupancy ≤ 2147483647
+site_small p q het a e f s = rw (e, f) at s
 
 -- the same of a line of a text
 abbrev SmallLine : Line → Type 0
 SmallLine l = SmallSpot (spot_in l)
 
 columns_small : (k : Kind) (x : Reading) → Small x → SmallLine (line_in k x)
-columns_small k (Typed r) s = s
-columns_small k (Wrong column) s = tt
-columns_small k Untyped s = picks SmallLine (is_named k) (line.Carried k) (line.Bad 4) (λ _. tt) (λ _. tt)
+columns_small k (Ok r) s = s
+columns_small k (Err (Wrong column)) s = tt
+columns_small k (Err Untyped) s = picks SmallLine (is_named k) (line.Carried k) (line.Bad refusal.Name) (λ _. tt) (λ _. tt)
 
 pub piece_small : (p : List ℕ) → SmallSpot (spot_in (line_of p))
 unfolding line_of columns_of
 piece_small p =
-    picks SmallLine (ltb (length p) 81) (line.Bad 1) _ (λ _. tt)
-    (λ _. picks SmallLine (eqb (get_or p 80 0) 10) _ (line.Bad 2)
-    (λ _. picks SmallLine (clean_at (take 80 p) 0 80) _ (line.Bad 3)
+    picks SmallLine (ltb (length p) 81) (line.Bad refusal.Length) _ (λ _. tt)
+    (λ _. picks SmallLine (eqb (get_or p 80 0) 10) _ (line.Bad refusal.LineEnd)
+    (λ _. picks SmallLine (clean_at (take 80 p) 0 80) _ (line.Bad refusal.Byte)
     (λ _. columns_small (kind_of (take 80 p)) (reading_of (kind_of (take 80 p)) (take 80 p)) (by_kind (kind_of (take 80 p)) (take 80 p))) (λ _. tt)) (λ _. tt))
 
 -- ---- the slot of an atom
@@ -154,21 +137,21 @@ pub atom_slot : (het : Bool) (a : Atom) (k : ℕ) → a.measure.occupancy ≤ 21
 atom_slot het a k h ft e = rw (small_pos a.measure.occupancy h, to_z-of_z w32 a.measure.temperature ft, e)
 
 -- ---- a line
-module _ (l : List ℕ) where
-  pub slot_short : (length l ≡ 80 → ⊥) → Refused 1 ≡ slot_line l
+pub slot_short : (l : List ℕ) → (length l ≡ 80 → ⊥) → Err 1 ≡ slot_line l
+unfolding slot_line
+slot_short l z = rw (ne_eqb _ _ z)
+
+-- m is the line as its 80 columns
+module _ (l m : List ℕ) (h : length l ≡ 80) (e : m ≡ l) (p : Bool) (pe : p ≡ clean_at m 0 80) where
+  pub slot_odd : p ≡ false → Err 3 ≡ slot_line l
   unfolding slot_line
-  slot_short z = rw (ne_eqb _ _ z)
+  slot_odd f = rw (eq-eqb _ _ h, ← e, sym pe ∙ f)
 
-  module _ (h : length l ≡ 80) (p : Bool) (pe : p ≡ clean_at l 0 80) where
-    pub slot_odd : p ≡ false → Refused 3 ≡ slot_line l
+  module _ (t : p ≡ true) (k : Kind) (ek : k ≡ kind_of m) (q : Bool) (qe : q ≡ has_slot k) where
+    pub slot_none : q ≡ false → Err 4 ≡ slot_line l
     unfolding slot_line
-    slot_odd f = rw (eq-eqb _ _ h, sym pe ∙ f)
+    slot_none f = rw (eq-eqb _ _ h, ← e, sym pe ∙ t, ← ek, sym qe ∙ f)
 
-    module _ (t : p ≡ true) (k : Kind) (ek : k ≡ kind_of l) (q : Bool) (qe : q ≡ has_slot k) where
-      pub slot_none : q ≡ false → Refused 4 ≡ slot_line l
-      unfolding slot_line
-      slot_none f = rw (eq-eqb _ _ h, sym pe ∙ t, ← ek, sym qe ∙ f)
-
-      pub slot_read : (x : Reading) (r : Filling) → q ≡ true → x ≡ reading_of k l → r ≡ fill_in x → r ≡ slot_line l
-      unfolding slot_line
-      slot_read x r g ex er = rw (eq-eqb _ _ h, sym pe ∙ t, ← ek, sym qe ∙ g) (er ∙ ap fill_in ex)
+    pub slot_read : (x : Reading) (r : Result Slot ℕ) → q ≡ true → x ≡ reading_of k m → r ≡ fill_in x → r ≡ slot_line l
+    unfolding slot_line
+    slot_read x r g ex er = rw (eq-eqb _ _ h, ← e, sym pe ∙ t, ← ek, sym qe ∙ g) (er ∙ ap fill_in ex)

@@ -4,19 +4,21 @@
 ghost use Rattle.std.specs.Prelude.{◌≡◌, not, ◌≤◌, length};
 ghost use Rattle.ascii.specs.Tests.{pick};
 ghost use Rattle.facets.specs.Facets.{spot_in};
-ghost use Rattle.slots.specs.Slots.{atom_kind, hetatm_kind, SmallSpot, slot_of_atom, bare_slot, slot_of_ter, spot_slot, spot_read, filling_of, has_slot, fill_in, slot_line, same_position, same_measures, same_names, same_slot, with_mark, with_model, residue_of, no_slot, line_slot};
+ghost use Rattle.refusals.specs.Numbers.{numbered};
+ghost use Rattle.slots.specs.Slots.{atom_kind, hetatm_kind, SmallSpot, slot_of_atom, bare_slot, slot_of_ter, spot_slot, spot_read, filling_of, has_slot, fill_in, slot_line, same_measures, same_names, same_slot, with_mark, with_model, residue_of, no_slot, line_slot};
 
-use coordinate::{Atom, Position};
+use coordinate::{Atom, Identity, Measure, Position, Species};
 use facets::Spot;
 use fields::{ResidueNumber, Serial};
 use kinds::Kind;
-use line::Reading;
-use names::{Four, Pair, Three};
+use line::{Record, Unread};
 use pieces::Line;
+use refusals::Refusal;
 use residue::Residue;
 use ter::Ter;
 
 // 48 bytes, no padding. Model 0 is none. Kind 1 ATOM, 2 HETATM, 3 TER; mark 0 in, 1 aside; any other byte is damage.
+// Kind and mark are bytes, not enums: the table is lent from C, and an enum could not hold a damaged byte.
 #[repr(C)]
 #[derive(Clone, Copy)]
 pub struct Slot {
@@ -27,22 +29,14 @@ pub struct Slot {
     pub temperature: i32,
     pub kind: u8,
     pub mark: u8,
-    pub name: Four,
+    pub name: [u8; 4],
     pub alternate: u8,
-    pub residue: Three,
+    pub residue: [u8; 3],
     pub chain: u8,
     pub insertion: u8,
-    pub element: Pair,
-    pub charge: Pair,
+    pub element: [u8; 2],
+    pub charge: [u8; 2],
     pub model: u32,
-}
-
-// What filling a slot from one line answers.
-#[derive(Clone, Copy)]
-pub enum Filling {
-    Filled(Slot),
-    // The number of the refusal.
-    Refused(u8),
 }
 
 pub const ATOM_KIND: u8 = 1;
@@ -56,85 +50,93 @@ pub const MARK_IN: u8 = 0;
 pub const MARK_ASIDE: u8 = 1;
 
 // The slot of one line read by itself, marked in: 1, 3, 4 for any other kind and for an unknown or carried name, 6.
-pub fn slot_of_line(line: &[u8]) -> Filling
-    ensures { result ≡ slot_line line.now }
+pub fn slot_of_line(line: &[u8]) -> Result<Slot, Refusal>
+    ensures { numbered result ≡ slot_line line.now }
 {
-    if line.len() == 80 {
-        if columns::is_clean(line, 0, 80) {
-            let k = kinds::kind_of(line);
-            if has_slot(k) {
-                return fill_in(line::read_kind(line, k));
-            }
-            return Filling::Refused(4);
-        }
-        return Filling::Refused(3);
+    let Some(columns) = line.as_array::<80>() else {
+        return Err(Refusal::Length);
+    };
+    if !columns::is_clean(columns, 0, 80) {
+        return Err(Refusal::Byte);
     }
-    Filling::Refused(1)
+    let k = kinds::kind_of(columns);
+    if !has_slot(k) {
+        return Err(Refusal::Name);
+    }
+    fill_in(line::read_kind(columns, k))
 }
 
 pub fn has_slot(k: Kind) -> bool
     ensures { result ≡ has_slot k }
 {
-    let r = kinds::row_of(k);
-    r.slot
+    kinds::row_of(k).slot
 }
 
-fn fill_in(r: Reading) -> Filling
+fn fill_in(r: Result<Record, Unread>) -> Result<Slot, Refusal>
     requires { SmallSpot (spot_read r) }
-    ensures { result ≡ fill_in r }
+    ensures { numbered result ≡ fill_in r }
 {
     match r {
-        Reading::Typed(x) => filling_of(facets::spot_of(x)),
-        Reading::Wrong(_) => Filling::Refused(6),
-        Reading::Untyped => Filling::Refused(4),
+        Ok(x) => filling_of(facets::spot_of(x)),
+        Err(Unread::Wrong(_)) => Err(Refusal::Field),
+        Err(Unread::Untyped) => Err(Refusal::Name),
     }
 }
 
-fn filling_of(p: Spot) -> Filling
+fn filling_of(p: Option<Spot>) -> Result<Slot, Refusal>
     requires { SmallSpot p }
-    ensures { result ≡ filling_of p }
+    ensures { numbered result ≡ filling_of p }
 {
     match p {
-        Spot::Site(het, a) => Filling::Filled(slot_of_atom(het, a)),
-        Spot::Close(t) => Filling::Filled(slot_of_ter(t)),
-        Spot::Nowhere => Filling::Refused(4),
+        Some(Spot::Site(het, a)) => Ok(slot_of_atom(het, a)),
+        Some(Spot::Close(t)) => Ok(slot_of_ter(t)),
+        None => Err(Refusal::Name),
     }
 }
 
+// `het`: of a HETATM line. It is data of the line, as the definitions have it.
 fn slot_of_atom(het: bool, a: Atom) -> Slot
     requires { a.measure.occupancy ≤ 2147483647 }
     ensures { result ≡ slot_of_atom het a }
 {
-    let w = a.identity;
-    let m = a.measure;
-    let t = a.species;
-    let r = w.residue;
-    let position = m.position;
-    let serial = w.serial;
-    let name = w.name;
-    let number = r.number;
-    let residue = r.name;
-    let element = t.element;
-    let charge = t.charge;
+    let Identity {
+        serial,
+        name,
+        alternate,
+        residue,
+    } = a.identity;
+    let Measure {
+        position,
+        occupancy,
+        temperature,
+    } = a.measure;
+    let Species { element, charge } = a.species;
+    let Residue {
+        name: residue,
+        chain,
+        number,
+        insertion,
+    } = residue;
     Slot {
-        serial: serial,
-        number: number,
-        position: position,
-        occupancy: m.occupancy as i32,
-        temperature: m.temperature,
+        serial,
+        number,
+        position,
+        occupancy: occupancy as i32,
+        temperature,
         kind: kind_byte(het),
         mark: MARK_IN,
-        name: name,
-        alternate: w.alternate,
-        residue: residue,
-        chain: r.chain,
-        insertion: r.insertion,
-        element: element,
-        charge: charge,
+        name,
+        alternate,
+        residue,
+        chain,
+        insertion,
+        element,
+        charge,
         model: 0,
     }
 }
 
+// The byte of the layout that C has.
 fn kind_byte(het: bool) -> u8
     ensures { result ≡ pick het hetatm_kind atom_kind }
 {
@@ -148,28 +150,27 @@ fn kind_byte(het: bool) -> u8
 fn bare_slot(kind: u8, serial: Serial, r: Residue) -> Slot
     ensures { result ≡ bare_slot kind serial r }
 {
-    let number = r.number;
-    let residue = r.name;
+    let Residue {
+        name: residue,
+        chain,
+        number,
+        insertion,
+    } = r;
     Slot {
-        serial: serial,
-        number: number,
+        serial,
+        number,
         position: Position { x: 0, y: 0, z: 0 },
         occupancy: 0,
         temperature: 0,
-        kind: kind,
+        kind,
         mark: MARK_IN,
-        name: Four {
-            a: b' ',
-            b: b' ',
-            c: b' ',
-            d: b' ',
-        },
+        name: [b' '; 4],
         alternate: b' ',
-        residue: residue,
-        chain: r.chain,
-        insertion: r.insertion,
-        element: Pair { a: b' ', b: b' ' },
-        charge: Pair { a: b' ', b: b' ' },
+        residue,
+        chain,
+        insertion,
+        element: [b' '; 2],
+        charge: [b' '; 2],
         model: 0,
     }
 }
@@ -184,27 +185,23 @@ fn slot_of_ter(t: Ter) -> Slot
 pub fn no_slot() -> Slot
     ensures { result ≡ no_slot }
 {
-    let r = Residue {
-        name: Three {
-            a: b' ',
-            b: b' ',
-            c: b' ',
-        },
+    let blank = Residue {
+        name: [b' '; 3],
         chain: b' ',
         number: ResidueNumber(0),
         insertion: b' ',
     };
-    bare_slot(0, Serial(0), r)
+    bare_slot(0, Serial(0), blank)
 }
 
-fn spot_slot(p: Spot) -> Slot
+fn spot_slot(p: Option<Spot>) -> Slot
     requires { SmallSpot p }
     ensures { result ≡ spot_slot p }
 {
     match p {
-        Spot::Site(het, a) => slot_of_atom(het, a),
-        Spot::Close(t) => slot_of_ter(t),
-        Spot::Nowhere => no_slot(),
+        Some(Spot::Site(het, a)) => slot_of_atom(het, a),
+        Some(Spot::Close(t)) => slot_of_ter(t),
+        None => no_slot(),
     }
 }
 
@@ -220,84 +217,59 @@ pub fn line_slot(model: u32, l: Line) -> Slot
 fn with_model(s: Slot, model: u32) -> Slot
     ensures { result ≡ with_model s model }
 {
-    let mut t = s;
-    t.model = model;
-    t
-}
-
-fn same_position(p: Position, q: Position) -> bool
-    ensures { result ≡ same_position p q }
-{
-    let x = fields::same_integer(p.x, q.x);
-    let y = fields::same_integer(p.y, q.y);
-    let z = fields::same_integer(p.z, q.z);
-    ascii::both_of(x, ascii::both_of(y, z))
+    Slot { model, ..s }
 }
 
 fn same_measures(s: Slot, t: Slot) -> bool
     ensures { result ≡ same_measures s t }
 {
-    let p = s.position;
-    let q = t.position;
-    let a = same_position(p, q);
-    let o = fields::same_integer(s.occupancy, t.occupancy);
-    let b = fields::same_integer(s.temperature, t.temperature);
-    ascii::both_of(a, ascii::both_of(o, b))
+    (s.position == t.position) & (s.occupancy == t.occupancy) & (s.temperature == t.temperature)
 }
 
 // Its residue name, chain, number and insertion code.
 pub fn residue_of(s: Slot) -> Residue
     ensures { result ≡ residue_of s }
 {
-    let name = s.residue;
-    let number = s.number;
+    let Slot {
+        residue: name,
+        chain,
+        number,
+        insertion,
+        ..
+    } = s;
     Residue {
-        name: name,
-        chain: s.chain,
-        number: number,
-        insertion: s.insertion,
+        name,
+        chain,
+        number,
+        insertion,
     }
 }
 
 fn same_names(s: Slot, t: Slot) -> bool
     ensures { result ≡ same_names s t }
 {
-    let a = s.name;
-    let b = t.name;
-    let c = s.element;
-    let d = t.element;
-    let e = s.charge;
-    let f = t.charge;
-    let n = names::same_four(a, b);
-    let p = names::same_pair(c, d);
-    let q = names::same_pair(e, f);
-    ascii::both_of(
-        ascii::both_of(n, s.alternate == t.alternate),
-        ascii::both_of(p, q),
-    )
+    (s.name == t.name)
+        & (s.alternate == t.alternate)
+        & (s.element == t.element)
+        & (s.charge == t.charge)
 }
 
-// Whether two slots are equal apart from their marks.
+// Whether two slots are equal apart from their marks: less than a derived `==` compares, and theorems cite it.
 pub fn same_slot(s: Slot, t: Slot) -> bool
     ensures { result ≡ same_slot s t }
 {
-    let a = s.serial;
-    let b = t.serial;
-    let r = residue::same_residue(residue_of(s), residue_of(t));
-    let n = same_names(s, t);
-    let m = same_measures(s, t);
-    let o = ascii::both_of(m, s.model == t.model);
-    ascii::both_of(
-        ascii::both_of(s.kind == t.kind, a.0 == b.0),
-        ascii::both_of(r, ascii::both_of(n, o)),
-    )
+    (s.kind == t.kind)
+        & (s.serial == t.serial)
+        & residue::same_residue(residue_of(s), residue_of(t))
+        & same_names(s, t)
+        & same_measures(s, t)
+        & (s.model == t.model)
 }
 
 // The slot with another mark.
+#[tactic(auto, unfolding(crate::specs::Slots::with_mark))]
 pub fn with_mark(s: Slot, mark: u8) -> Slot
     ensures { result ≡ with_mark s mark }
 {
-    let mut t = s;
-    t.mark = mark;
-    t
+    Slot { mark, ..s }
 }

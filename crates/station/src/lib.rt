@@ -1,4 +1,5 @@
-// The names that C calls. Each function is a thin cover over a proved one, and says the same.
+// The names that C calls. Each function is a thin cover over a proved one, and says the same. C has no enums with data: what is refused is a number
+// here, and a flag is a byte.
 #![tactic(auto)]
 
 ghost use Rattle.std.specs.Prelude.{◌≡◌, false, not, eqb};
@@ -18,10 +19,8 @@ ghost use Rattle.fractional.specs.Scale.{scale_of};
 ghost use Rattle.fractional.specs.Place.{place_of, fractional_of};
 ghost use Rattle.answers.specs.Frame.{cell_answer, transform_answer, rows_from, position_from, scale_answer, place_answer};
 
-use answers::{Filled, FilledCell};
 use crystal::CellRow;
 use fields::{FragmentNumber, Serial};
-use line::Answer;
 use master::Tally;
 use slots::Slot;
 
@@ -33,7 +32,7 @@ pub extern "C" fn station_check(text: &[u8], answer: &mut [u64; 12]) -> u32
 {
     let v = gate::check(text);
     *answer = reporting::plain_numbers(v);
-    v.number as u32
+    v.number() as u32
 }
 
 // The same with the column, 0 where the number is not 6.
@@ -44,7 +43,7 @@ pub extern "C" fn station_verdict(text: &[u8], answer: &mut [u64; 13]) -> u32
 {
     let v = gate::check(text);
     *answer = reporting::numbers(v);
-    v.number as u32
+    v.number() as u32
 }
 
 // The number of the first line with a serial, 0 if there is none; and how many lines were looked at.
@@ -63,9 +62,7 @@ pub extern "C" fn station_find(text: &[u8], serial: u32, looked: &mut u64) -> u6
 pub extern "C" fn station_load(text: &[u8], table: &mut [Slot], count: &mut u64) -> u32
     ensures { told result count.new table.new ≡ load_of text.now table.old }
 {
-    let o = store::load(text, table);
-    *count = o.count as u64;
-    o.number as u32
+    answers::counted(store::load(text, table), count)
 }
 
 // Sets a fragment aside, or puts it back where `aside` is 0: 0, 1-12, 13, 18, 15, 16.
@@ -73,13 +70,12 @@ pub extern "C" fn station_load(text: &[u8], table: &mut [Slot], count: &mut u64)
 pub extern "C" fn station_order(text: &[u8], table: &mut [Slot], fragment: u32, aside: u8) -> u32
     ensures { told result 0 table.new ≡ order_of text.now table.old (fragment_number fragment) (aside_of aside) }
 {
-    let n = store::order(
+    answers::number_of(store::order(
         text,
         table,
         FragmentNumber(fragment),
         answers::is_aside(aside),
-    );
-    n as u32
+    ))
 }
 
 // Sets every fragment aside or puts it back, by a byte for each, 0 for back: 0, 1-12, 13, 18, 15.
@@ -87,8 +83,7 @@ pub extern "C" fn station_order(text: &[u8], table: &mut [Slot], fragment: u32, 
 pub extern "C" fn station_arrange(text: &[u8], table: &mut [Slot], aside: &[u8]) -> u32
     ensures { told result 0 table.new ≡ arrange_of text.now table.old aside.now }
 {
-    let n = store::arrange(text, table, aside);
-    n as u32
+    answers::number_of(store::arrange(text, table, aside))
 }
 
 // Tells the number of each slot's fragment: 0, 1-12, 13, 18, 17; of how many slots, 0 if refused.
@@ -101,9 +96,7 @@ pub extern "C" fn station_fragments(
 ) -> u32
     ensures { told result count.new out.new ≡ fragments_of text.now table.now out.old }
 {
-    let o = store::fragments_of(text, table, out);
-    *count = o.count as u64;
-    o.number as u32
+    answers::counted(store::fragments_of(text, table, out), count)
 }
 
 // Writes the text without what is set aside, MASTER recounted: 0, 1-12, 13, 18, 17; how many bytes, 0 if refused.
@@ -111,9 +104,7 @@ pub extern "C" fn station_fragments(
 pub extern "C" fn station_save(text: &[u8], table: &[Slot], out: &mut [u8], count: &mut u64) -> u32
     ensures { told result count.new out.new ≡ save_of text.now table.now out.old }
 {
-    let o = store::save(text, table, out);
-    *count = o.count as u64;
-    o.number as u32
+    answers::counted(store::save(text, table, out), count)
 }
 
 // Writes the lines that saving drops: likewise.
@@ -121,16 +112,7 @@ pub extern "C" fn station_save(text: &[u8], table: &[Slot], out: &mut [u8], coun
 pub extern "C" fn station_tray(text: &[u8], table: &[Slot], out: &mut [u8], count: &mut u64) -> u32
     ensures { told result count.new out.new ≡ tray_of text.now table.now out.old }
 {
-    let o = store::tray(text, table, out);
-    *count = o.count as u64;
-    o.number as u32
-}
-
-// The slot of a line, or the one that was found.
-fn fill(line: &[u8], found: Slot) -> Filled
-    ensures { answered result.number result.slot ≡ slot_answer (slot_line line.now) found }
-{
-    answers::slot_answer(slots::slot_of_line(line), found)
+    answers::counted(store::tray(text, table, out), count)
 }
 
 // The slot of one line: 0; or 1, 3, 4, 6 and the slot as found.
@@ -138,9 +120,7 @@ fn fill(line: &[u8], found: Slot) -> Filled
 pub extern "C" fn station_slot_of_line(line: &[u8], slot: &mut Slot) -> u32
     ensures { answered result slot.new ≡ slot_answer (slot_line line.now) slot.old }
 {
-    let f = fill(line, *slot);
-    *slot = answers::filled_slot(f);
-    answers::filled_number(f)
+    answers::put(slots::slot_of_line(line), slot)
 }
 
 // Reads one typed line by itself: 0; or 1, 3, 4, 6; and the column, 0 where the number is not 6.
@@ -159,10 +139,10 @@ pub extern "C" fn station_read_line(line: &[u8], column: &mut u64) -> u32
 pub extern "C" fn station_rewrite_line(line: &[u8], out: &mut [u8]) -> u32
     ensures { answered result out.new ≡ rewrite_answer (read_line line.now) line.now out.old }
 {
-    match line::read_line(line) {
-        Answer::Read(x) => line::write_record(out, x) as u32,
-        Answer::Refused(n) => n as u32,
-        Answer::Wrong(_) => 6,
+    let a = line::read_line(line);
+    match a {
+        Ok(r) => answers::number_of(line::write_record(out, r)),
+        Err(_) => line::answer_number(a) as u32,
     }
 }
 
@@ -195,7 +175,7 @@ pub extern "C" fn station_frame(table: &[Slot], out: &mut [f64; 9]) -> u32
 pub extern "C" fn station_count_line(tally: &mut Tally, line: &[u8]) -> u32
     ensures { told_tally result tally.new ≡ tally_line false tally.old line.now }
 {
-    tally::count_line(tally, line, false) as u32
+    answers::number_of(tally::count_line(tally, line, false))
 }
 
 // The same for a line that may stand past the first model: past is not 0 once the first ENDMDL has gone by.
@@ -203,15 +183,7 @@ pub extern "C" fn station_count_line(tally: &mut Tally, line: &[u8]) -> u32
 pub extern "C" fn station_count_line_past(tally: &mut Tally, line: &[u8], past: u8) -> u32
     ensures { told_tally result tally.new ≡ tally_line (not (eqb past 0)) tally.old line.now }
 {
-    let within = past == 0;
-    tally::count_line(tally, line, !within) as u32
-}
-
-// The cell of a line, or the one that was found.
-fn fill_cell(line: &[u8], found: CellRow) -> FilledCell
-    ensures { answered result.number result.cell ≡ cell_answer (cell_line line.now) found }
-{
-    answers::cell_answer(crystal::cell_of_line(line), found)
+    answers::number_of(tally::count_line(tally, line, past != 0))
 }
 
 // The cell of one CRYST1 line: 0; or 1, 3, 4, 6 and the cell as found.
@@ -219,9 +191,7 @@ fn fill_cell(line: &[u8], found: CellRow) -> FilledCell
 pub extern "C" fn station_cell_of_line(line: &[u8], cell: &mut CellRow) -> u32
     ensures { answered result cell.new ≡ cell_answer (cell_line line.now) cell.old }
 {
-    let f = fill_cell(line, *cell);
-    *cell = answers::filled_cell(f);
-    answers::cell_number(f)
+    answers::put(crystal::cell_of_line(line), cell)
 }
 
 // The transformation of one ORIGX or SCALE line, three coefficients, the shift and which of the six lines it is: 0; or 1, 3, 4, 6 and all as found.

@@ -8,6 +8,11 @@ use native.Mathlib.Omega.{arith}
 use borrow.Author.Tests.{eq-eqb, ne_eqb, lt-ltb, le-ltb}
 use lib.ListN.{length, take, drop, length-map, length-take}
 use Rattle.ascii.specs.Tests.{pick, both, either, alike}
+use Rattle.std.specs.Prelude.{Result, Ok, Err}
+use Rattle.std.specs.Result.{IsErrAnd}
+use Rattle.refusals.specs.declared.Refusal.{Refusal}
+use Rattle.refusals.specs.Numbers.{number_of, number_in}
+use Rattle.refusals.proofs.Positive.{number_positive}
 use Rattle.fields.specs.declared.FragmentNumber.{FragmentNumber}
 use Rattle.pieces.specs.declared.Line.{Line}
 use Rattle.pieces.specs.Pieces.{line_of}
@@ -20,7 +25,7 @@ use Rattle.slots.specs.declared.Slot.{Slot}
 use Rattle.slots.specs.Slots.{no_model}
 use Rattle.fragments.specs.declared.Tail.{Tail}
 use Rattle.fragments.specs.Fragments.{tail_of, mark_of, marked, marked_by, numbered}
-use Rattle.table.specs.Table.{told, over, lines_from, loaded_of, load_of, fits_from, one_of, belongs, table_of, mark_byte, order_of, fragments_of, mark_at, arrange_of}
+use Rattle.table.specs.Table.{told, count_in, over, lines_from, loaded_of, load_of, fits_from, one_of, belongs, table_of, mark_byte, order_of, fragments_of, mark_at, arrange_of}
 use Rattle.table.specs.Deal.{stays, past_next, counted, written, output_of, put_of}
 use Rattle.table.proofs.Joined.{cut_size}
 use Rattle.table.proofs.Marks.{marked_size}
@@ -32,6 +37,14 @@ use Rattle.table.proofs.Shares.{shares, fence_stays, bounds_of, shares_both, byt
 use Rattle.store.specs.declared.Findings.{Findings}
 use Rattle.store.specs.declared.Held.{Held}
 use Rattle.store.specs.Judged.{Surveyed, Belongs, kept_from, fences_from, share_of}
+
+-- ---- what `?` hands on
+pub never_zero : (r : Refusal) → number_of r ≡ 0 → ⊥
+never_zero r e = omega (arith, number_positive r)
+
+pub told_on : {A : Type 0} (r : Result ℕ Refusal) (e : Refusal) (xs : List A) → IsErrAnd r (λ y. y ≡ e) → told (number_in r) (count_in r) xs ≡ told (number_of e) 0 xs
+told_on (Ok n) e xs h = absurd h
+told_on (Err y) e xs h = ap (λ (x : Refusal). told (number_of x) 0 xs) h
 
 pub take_size : (xs : List Slot) (n : ℕ) → n ≤ length xs → n ≡ length (take n xs)
 take_size xs n h = simp length-take (omega arith)
@@ -73,7 +86,7 @@ module _ (t : List ℕ) (xs : List Slot) (n : ℕ) (en : n ≡ (check_of t).numb
 
 -- what a table that belongs to a text is known to be
 pub held_good : (t : List ℕ) (xs : List Slot) (v : Findings) → Surveyed t xs v → v.fits ≡ true → v.need ≤ length xs → (u : Tail) → u ≡ tail_of (take v.need xs)
-    → u.count ≤ length (take v.need xs) → Belongs t xs (record { number = 0; need = v.need; fragments = u.count; kept = v.kept; fences = v.fences; lines = v.lines })
+    → u.count ≤ length (take v.need xs) → Belongs t xs (record { need = v.need; fragments = u.count; kept = v.kept; fences = v.fences; lines = v.lines })
 held_good t xs v S f h u q c =
     let s : length (take v.need xs) ≡ v.need = sym (take_size xs v.need h) in
     record {

@@ -151,11 +151,6 @@ pub partner_found : (xs : List Slot) (x : ℕ) (r : Bool) → (x ≡ 0 → ⊥) 
 unfolding either
 partner_found xs x r z e = rw (ne_eqb x 0 z) e
 
-pub bond_found : (xs : List Slot) (c : Conect) (g0 g1 g2 g3 g4 h3 h2 h1 r : Bool)
-    → g0 ≡ stands_in xs c.serial.0 → g1 ≡ partner_in xs c.a.0 → g2 ≡ partner_in xs c.b.0 → g3 ≡ partner_in xs c.c.0 → g4 ≡ partner_in xs c.d.0
-    → h3 ≡ both g3 g4 → h2 ≡ both g2 h3 → h1 ≡ both g1 h2 → r ≡ both g0 h1 → r ≡ bond_in xs c
-bond_found xs c g0 g1 g2 g3 g4 h3 h2 h1 r e0 e1 e2 e3 e4 f3 f2 f1 f0 = f0 ∙ rw (f1, f2, f3, e0, e1, e2, e3, e4)
-
 -- ---- whether a line stays
 module _ (xs : List Slot) (k : ℕ) (l : Line) (a : Bool) (ea : a ≡ is_coord l) where
   pub stays_spot : a ≡ true → (s : Slot) → s ≡ get_or xs k no_slot → (r : Bool) → r ≡ not (eqb s.mark mark_aside) → r ≡ stays xs k l

@@ -28,7 +28,6 @@ pub fn write_all(text: &[u8], table: &[Slot], out: &mut [u8], saving: bool)
     requires table_in_bounds { length (output_of saving text.now table.now) ≤ length out.old }
     ensures { out.new ≡ over (output_of saving text.now table.now) out.old }
 {
-    let mut i: usize = 0;
     let mut k: usize = 0;
     let mut at: usize = 0;
     let mut past = false;
@@ -37,17 +36,15 @@ pub fn write_all(text: &[u8], table: &[Slot], out: &mut [u8], saving: bool)
         place: 0,
         serial: Serial(0),
     };
-    while 81 * i < text.len() {
-        let l = rows::line_at(text, i);
+    for i in 0..rows::count(text) {
+        let piece = rows::piece_at(text, i);
+        let l = pieces::line_of(piece);
         let here = slot_at(table, k);
-        let v = stays(table, k, near, here, l);
-        let stay = v.yes;
-        let ended = v.near;
-        near = ended;
-        at = writing::put_share(text, i, l, saving, stay, q, out, at);
-        q = writing::count_line(stay, past, q, l);
+        let stay = stays(table, k, near, here, l);
+        near = stay.near;
+        at = writing::put_share(piece, l, saving, stay.yes, q, out, at);
+        q = writing::count_line(stay.yes, past, q, l);
         past = writing::past_next(past, l);
         k += marks::one_of(l);
-        i += 1;
     }
 }

@@ -6,11 +6,12 @@ mod marking;
 mod seeking;
 mod survey;
 
-ghost use Rattle.std.specs.Prelude.{◌≡◌, ◌+◌, ◌≤◌, length, set};
+ghost use Rattle.std.specs.Prelude.{◌≡◌, ◌+◌, ◌≤◌, length, set, IfOk};
 ghost use Rattle.ascii.specs.Tests.{pick};
+ghost use Rattle.refusals.specs.Numbers.{number_in};
 ghost use Rattle.facets.specs.Facets.{spot_in, is_coord};
 ghost use Rattle.slots.specs.Slots.{SmallSpot, line_slot};
-ghost use Rattle.table.specs.Table.{told, one_of, load_of, table_of, order_of, fragments_of, arrange_of};
+ghost use Rattle.table.specs.Table.{told, count_in, one_of, load_of, table_of, order_of, fragments_of, arrange_of};
 ghost use Rattle.table.specs.Deal.{put_of, save_of, tray_of};
 ghost use Rattle.store.specs.Judged.{Belongs};
 
@@ -19,28 +20,14 @@ use fields::FragmentNumber;
 use fragments::FromLast;
 use marking::{mark_all, mark_each, mark_of, number_all, tail_of};
 use pieces::Line;
+use refusals::Refusal;
 use slots::Slot;
 use survey::{count_slots, look_over};
 
-// What is answered: 0 or the number of a refusal, and how many slots or bytes were written.
-#[derive(Clone, Copy)]
-pub struct Outcome {
-    pub number: u8,
-    pub count: usize,
-}
-
-// The number of a text, and if that is 0 how many slots it needs.
-#[derive(Clone, Copy)]
-pub struct Needs {
-    pub number: u8,
-    pub need: usize,
-}
-
-// What one pass over the text says of text and table: the number of the text, and if that is 0 how many slots it needs, whether the slots
-// fit it, how many lines stay, how many are MODEL and ENDMDL, and how many there are.
+// What one pass over a good text says of it and of a table: how many slots it needs, whether the table's slots fit it, how many lines stay, how
+// many are MODEL and ENDMDL, and how many there are.
 #[derive(Clone, Copy)]
 pub struct Findings {
-    pub number: u8,
     pub need: usize,
     pub fits: bool,
     pub kept: usize,
@@ -48,11 +35,9 @@ pub struct Findings {
     pub lines: usize,
 }
 
-// What text and table get together: a number, and if that is 0 how many slots, fragments, lines that stay, MODEL and ENDMDL lines and lines
-// there are.
+// A good text with a table that belongs to it: how many slots, fragments, lines that stay, MODEL and ENDMDL lines and lines there are.
 #[derive(Clone, Copy)]
 pub struct Held {
-    pub number: u8,
     pub need: usize,
     pub fragments: u64,
     pub kept: usize,
@@ -60,37 +45,22 @@ pub struct Held {
     pub lines: usize,
 }
 
-// Fills the table from the text: 1-12, 13.
-pub fn load(text: &[u8], table: &mut [Slot]) -> Outcome
-    ensures { told result.number result.count table.new ≡ load_of text.now table.old }
+// Fills the table from the text, and tells how many slots it has: 1-12, 13.
+pub fn load(text: &[u8], table: &mut [Slot]) -> Result<usize, Refusal>
+    ensures { told (number_in result) (count_in result) table.new ≡ load_of text.now table.old }
 {
-    let v = count_slots(text);
-    if v.number != 0 {
-        return Outcome {
-            number: v.number,
-            count: 0,
-        };
-    }
-    let n = v.need;
+    let n = count_slots(text)?;
     if table.len() < n {
-        return Outcome {
-            number: 13,
-            count: 0,
-        };
+        return Err(Refusal::Slots);
     }
-    let mut i: usize = 0;
     let mut k: usize = 0;
     let mut model: u32 = 0;
-    while 81 * i < text.len() {
+    for i in 0..rows::count(text) {
         let l = rows::line_at(text, i);
         k = put_slot(table, k, model, l);
         model = marks::model_next(model, l);
-        i += 1;
     }
-    Outcome {
-        number: 0,
-        count: n,
-    }
+    Ok(n)
 }
 
 // The slot of a line that has one is stored; where the next one goes.
@@ -101,158 +71,122 @@ fn put_slot(table: &mut [Slot], k: usize, model: u32, l: Line) -> usize
     ensures table_after { table.new ≡ pick (is_coord l) (set table.old k (line_slot model l)) table.old }
 {
     if facets::is_coord(l) {
-        let s = slots::line_slot(model, l);
-        table[k] = s;
+        table[k] = slots::line_slot(model, l);
         k + 1
     } else {
         k
     }
 }
 
-fn held_back(number: u8) -> Held
-    ensures { result.number ≡ number }
-{
-    Held {
-        number: number,
-        need: 0,
-        fragments: 0,
-        kept: 0,
-        fences: 0,
-        lines: 0,
-    }
-}
-
 // The text and the table judged together: 1-12, 13, 18.
-fn judge(text: &[u8], table: &[Slot]) -> Held
-    ensures number_value { result.number ≡ table_of text.now table.now }
-    ensures belongs { result.number ≡ 0 → Belongs text.now table.now result }
+fn judge(text: &[u8], table: &[Slot]) -> Result<Held, Refusal>
+    ensures number_value { number_in result ≡ table_of text.now table.now }
+    ensures belongs { IfOk result (λ h. Belongs text.now table.now h) }
 {
-    let v = look_over(text, table);
-    if v.number != 0 {
-        return held_back(v.number);
+    let Findings {
+        need,
+        fits,
+        kept,
+        fences,
+        lines,
+    } = look_over(text, table)?;
+    if table.len() < need {
+        return Err(Refusal::Slots);
     }
-    let n = v.need;
-    if table.len() < n {
-        return held_back(13);
+    if !fits {
+        return Err(Refusal::Table);
     }
-    if !v.fits {
-        return held_back(18);
-    }
-    let t = tail_of(&table[..n]);
+    let t = tail_of(&table[..need]);
     if !t.agree {
-        return held_back(18);
+        return Err(Refusal::Table);
     }
-    Held {
-        number: 0,
-        need: n,
+    Ok(Held {
+        need,
         fragments: t.count,
-        kept: v.kept,
-        fences: v.fences,
-        lines: v.lines,
-    }
+        kept,
+        fences,
+        lines,
+    })
 }
 
-// Sets a fragment aside, or puts it back: 1-12, 13, 18, 15, 16.
-pub fn order(text: &[u8], table: &mut [Slot], fragment: FragmentNumber, aside: bool) -> u8
-    ensures { told result 0 table.new ≡ order_of text.now table.old fragment aside }
+// Sets a fragment aside, or puts it back: 1-12, 13, 18, 15, 16. `aside` is data of the order, as the definitions have it.
+pub fn order(
+    text: &[u8],
+    table: &mut [Slot],
+    fragment: FragmentNumber,
+    aside: bool,
+) -> Result<(), Refusal>
+    ensures { told (number_in result) 0 table.new ≡ order_of text.now table.old fragment aside }
 {
-    let h = judge(text, table);
-    if h.number != 0 {
-        return h.number;
-    }
-    let n = h.need;
-    let c = h.fragments;
+    let Held {
+        need,
+        fragments,
+        ..
+    } = judge(text, table)?;
     let f = fragment.0 as u64;
+    // Two tests, as there are two beliefs to refuse: that there is a fragment 0, and that there is one past the last.
     if f == 0 {
-        return 15;
+        return Err(Refusal::Fragment);
     }
-    if c < f {
-        return 15;
+    if fragments < f {
+        return Err(Refusal::Fragment);
     }
-    let b = FromLast(c + 1 - f);
+    let b = FromLast(fragments + 1 - f);
     let m = marks::mark_byte(aside);
-    if mark_of(&table[..n], b) == m {
-        return 16;
+    if mark_of(&table[..need], b) == m {
+        return Err(Refusal::Marked);
     }
-    mark_all(&mut table[..n], b, m);
-    0
+    mark_all(&mut table[..need], b, m);
+    Ok(())
 }
 
 // Sets aside or puts back every fragment at once, by a byte for each: 1-12, 13, 18, 15.
-pub fn arrange(text: &[u8], table: &mut [Slot], aside: &[u8]) -> u8
-    ensures { told result 0 table.new ≡ arrange_of text.now table.old aside.now }
+pub fn arrange(text: &[u8], table: &mut [Slot], aside: &[u8]) -> Result<(), Refusal>
+    ensures { told (number_in result) 0 table.new ≡ arrange_of text.now table.old aside.now }
 {
-    let h = judge(text, table);
-    if h.number != 0 {
-        return h.number;
-    }
-    let n = h.need;
+    let h = judge(text, table)?;
     if aside.len() as u64 != h.fragments {
-        return 15;
+        return Err(Refusal::Fragment);
     }
-    mark_each(&mut table[..n], aside);
-    0
+    mark_each(&mut table[..h.need], aside);
+    Ok(())
 }
 
-// Tells of each slot that the text needs the number of its fragment: 1-12, 13, 18, 17.
-pub fn fragments_of(text: &[u8], table: &[Slot], out: &mut [u32]) -> Outcome
-    ensures { told result.number result.count out.new ≡ fragments_of text.now table.now out.old }
+// Tells of each slot that the text needs the number of its fragment, and how many they are: 1-12, 13, 18, 17.
+pub fn fragments_of(text: &[u8], table: &[Slot], out: &mut [u32]) -> Result<usize, Refusal>
+    ensures { told (number_in result) (count_in result) out.new ≡ fragments_of text.now table.now out.old }
 {
-    let h = judge(text, table);
-    if h.number != 0 {
-        return Outcome {
-            number: h.number,
-            count: 0,
-        };
+    let h = judge(text, table)?;
+    if out.len() < h.need {
+        return Err(Refusal::Room);
     }
-    let n = h.need;
-    if out.len() < n {
-        return Outcome {
-            number: 17,
-            count: 0,
-        };
-    }
-    number_all(&table[..n], h.fragments, out);
-    Outcome {
-        number: 0,
-        count: n,
-    }
+    number_all(&table[..h.need], h.fragments, out);
+    Ok(h.need)
 }
 
-fn deal(text: &[u8], table: &[Slot], out: &mut [u8], saving: bool) -> Outcome
-    ensures { told result.number result.count out.new ≡ put_of saving text.now table.now out.old }
+// The saved entry, or the tray. `saving` is data, as the definitions have it: one walk over the lines does both.
+fn deal(text: &[u8], table: &[Slot], out: &mut [u8], saving: bool) -> Result<usize, Refusal>
+    ensures { told (number_in result) (count_in result) out.new ≡ put_of saving text.now table.now out.old }
 {
-    let h = judge(text, table);
-    if h.number != 0 {
-        return Outcome {
-            number: h.number,
-            count: 0,
-        };
-    }
+    let h = judge(text, table)?;
     let n = size_of(h, saving);
     if out.len() < n {
-        return Outcome {
-            number: 17,
-            count: 0,
-        };
+        return Err(Refusal::Room);
     }
     write_all(text, table, out, saving);
-    Outcome {
-        number: 0,
-        count: n,
-    }
+    Ok(n)
 }
 
-// Writes the text without what is set aside, MASTER recounted: 1-12, 13, 18, 17.
-pub fn save(text: &[u8], table: &[Slot], out: &mut [u8]) -> Outcome
-    ensures { told result.number result.count out.new ≡ save_of text.now table.now out.old }
+// Writes the text without what is set aside, MASTER recounted, and tells how many bytes: 1-12, 13, 18, 17.
+pub fn save(text: &[u8], table: &[Slot], out: &mut [u8]) -> Result<usize, Refusal>
+    ensures { told (number_in result) (count_in result) out.new ≡ save_of text.now table.now out.old }
 {
     deal(text, table, out, true)
 }
 
-// Writes the lines that saving drops, in order: 1-12, 13, 18, 17.
-pub fn tray(text: &[u8], table: &[Slot], out: &mut [u8]) -> Outcome
-    ensures { told result.number result.count out.new ≡ tray_of text.now table.now out.old }
+// Writes the lines that saving drops, in order, and tells how many bytes: 1-12, 13, 18, 17.
+pub fn tray(text: &[u8], table: &[Slot], out: &mut [u8]) -> Result<usize, Refusal>
+    ensures { told (number_in result) (count_in result) out.new ≡ tray_of text.now table.now out.old }
 {
     deal(text, table, out, false)
 }

@@ -11,12 +11,9 @@ pub fn tail_of(table: &[Slot]) -> Tail
     ensures value { result ≡ tail_of table.now }
     ensures count_in_bounds { result.count ≤ length table.now }
 {
-    let mut k = table.len();
     let mut t = fragments::end_tail();
-    while 0 < k {
-        k -= 1;
-        let s = table[k];
-        t = fragments::step_tail(s, t);
+    for k in (0..table.len()).rev() {
+        t = fragments::step_tail(table[k], t);
     }
     t
 }
@@ -25,11 +22,9 @@ pub fn tail_of(table: &[Slot]) -> Tail
 pub fn mark_of(table: &[Slot], b: FromLast) -> u8
     ensures { result ≡ mark_of b.0 table.now }
 {
-    let mut k = table.len();
     let mut t = fragments::end_tail();
     let mut m: u8 = 0;
-    while 0 < k {
-        k -= 1;
+    for k in (0..table.len()).rev() {
         let s = table[k];
         t = fragments::step_tail(s, t);
         m = fragments::pick_mark(t, s, b, m);
@@ -41,14 +36,11 @@ pub fn mark_of(table: &[Slot], b: FromLast) -> u8
 pub fn mark_all(table: &mut [Slot], b: FromLast, m: u8)
     ensures { table.new ≡ marked b.0 m table.old }
 {
-    let mut k = table.len();
     let mut t = fragments::end_tail();
-    while 0 < k {
-        k -= 1;
+    for k in (0..table.len()).rev() {
         let s = table[k];
         t = fragments::step_tail(s, t);
-        let u = fragments::mark_slot(t, s, b, m);
-        table[k] = u;
+        table[k] = fragments::mark_slot(t, s, b, m);
     }
 }
 
@@ -57,17 +49,12 @@ pub fn mark_each(table: &mut [Slot], aside: &[u8])
     requires { (tail_of table.old).count ≡ length aside.now }
     ensures { table.new ≡ marked_by (mark_at aside.now) table.old }
 {
-    let n = aside.len();
-    let mut k = table.len();
     let mut t = fragments::end_tail();
-    while 0 < k {
-        k -= 1;
+    for k in (0..table.len()).rev() {
         let s = table[k];
         t = fragments::step_tail(s, t);
-        let from = t.count as usize;
-        let at = n - from;
-        let u = marks::mark_as(s, aside[at]);
-        table[k] = u;
+        let at = aside.len() - t.count as usize;
+        table[k] = marks::mark_as(s, aside[at]);
     }
 }
 
@@ -77,12 +64,9 @@ pub fn number_all(table: &[Slot], n: u64, out: &mut [u32])
     requires table_in_bounds { length table.now ≤ length out.old }
     ensures { out.new ≡ numbered n table.now ++ drop (length table.now) out.old }
 {
-    let mut k = table.len();
     let mut t = fragments::end_tail();
-    while 0 < k {
-        k -= 1;
-        let s = table[k];
-        t = fragments::step_tail(s, t);
+    for k in (0..table.len()).rev() {
+        t = fragments::step_tail(table[k], t);
         out[k] = fragments::number_of(n, t);
     }
 }

@@ -26,9 +26,8 @@ pub fn slot_at(table: &[Slot], k: usize) -> Slot
 fn rank_of(s: Slot) -> Serial
     ensures { result.0 ≡ rank_of s }
 {
-    let serial = s.serial;
-    if ascii::both_of(s.model <= LAST_MODEL, serial.0 <= LAST_SERIAL) {
-        return Serial(SERIALS * s.model + serial.0);
+    if (s.model <= LAST_MODEL) & (s.serial.0 <= LAST_SERIAL) {
+        return Serial(SERIALS * s.model + s.serial.0);
     }
     Serial(0)
 }
@@ -39,18 +38,18 @@ const LAST_SERIAL: u32 = 99999;
 
 const SERIALS: u32 = 100000;
 
-// The first of the slots up to hi whose rank is at least x, or hi.
-pub fn seek(table: &[Slot], hi: usize, n: Near, x: Serial) -> usize
+// The first of the slots up to hi whose rank is at least x, or hi. A while loop: a guess is tried first, and each rank is worked out where it is looked at, while
+// `partition_point` halves a slice with no guess.
+pub fn seek(table: &[Slot], hi: usize, near: Near, x: Serial) -> usize
     requires { hi < 9223372036854775808 }
     ensures { Rises table.now hi → Bracket (rank_at table.now) 0 hi x.0 result result }
 {
-    let mut s = Span { lo: 0, hi: hi };
-    let mut near = n;
+    let mut s = Span { lo: 0, hi };
+    let mut near = near;
     let mut looks: u8 = 0;
     while s.lo < s.hi {
         let m = search::probe(looks, near, s, x);
-        let here = slot_at(table, m);
-        let there = rank_of(here);
+        let there = rank_of(slot_at(table, m));
         s = search::part(s, m, there, x);
         near = Near {
             place: m,
@@ -62,22 +61,19 @@ pub fn seek(table: &[Slot], hi: usize, n: Near, x: Serial) -> usize
 }
 
 // Whether x is the serial of an atom of model m that is in, among the first k slots; and where it stands, if it does.
-pub fn stands_in_model(table: &[Slot], k: usize, n: Near, m: u32, x: Serial) -> Sought
+pub fn stands_in_model(table: &[Slot], k: usize, near: Near, m: u32, x: Serial) -> Sought
     requires k_bound { k < 9223372036854775808 }
     requires m_bound { (m ≤ 9999) × (x.0 ≤ 99999) }
     ensures { Rises table.now k → StandsAs table.now k m x.0 result.yes }
 {
     let rank = Serial(SERIALS * m + x.0);
-    let at = seek(table, k, n, rank);
-    let s = slot_at(table, at);
-    let e = bonds::is_in(x, s);
-    let there = ascii::both_of(at < k, e);
+    let at = seek(table, k, near, rank);
     Sought {
         near: Near {
             place: at,
             serial: rank,
         },
-        yes: there,
+        yes: (at < k) & bonds::is_in(x, slot_at(table, at)),
     }
 }
 
@@ -93,104 +89,80 @@ fn model_of(s: Slot) -> u32
 }
 
 // Whether x is the serial of an atom that is in, among the first k slots, in whichever model; and where it stands in the first of these.
-pub fn stands_in(table: &[Slot], k: usize, n: Near, x: Serial) -> Sought
+pub fn stands_in(table: &[Slot], k: usize, near: Near, x: Serial) -> Sought
     requires { k < 9223372036854775808 }
     ensures { Rises table.now k → result.yes ≡ stands_in (take k table.now) x.0 }
 {
     if x.0 > LAST_SERIAL {
-        return Sought {
-            near: n,
-            yes: false,
-        };
+        return Sought { near, yes: false };
     }
     if k == 0 {
-        return Sought {
-            near: n,
-            yes: false,
-        };
+        return Sought { near, yes: false };
     }
     let first = slot_at(table, 0);
     let last = slot_at(table, k - 1);
-    let end = model_of(last);
-    let mut m = model_of(first);
-    while m <= end {
-        let e = stands_in_model(table, k, n, m, x);
+    for m in model_of(first)..=model_of(last) {
+        let e = stands_in_model(table, k, near, m, x);
         if e.yes {
             return e;
         }
-        m += 1;
     }
-    Sought {
-        near: n,
-        yes: false,
-    }
+    Sought { near, yes: false }
 }
 
 // Whether a partner on a CONECT line is blank or an atom that is in.
-pub fn partner_in(table: &[Slot], k: usize, n: Near, x: Serial) -> bool
+pub fn partner_in(table: &[Slot], k: usize, near: Near, x: Serial) -> bool
     requires { k < 9223372036854775808 }
     ensures { Rises table.now k → result ≡ partner_in (take k table.now) x.0 }
 {
     if x.0 == 0 {
         return true;
     }
-    let e = stands_in(table, k, n, x);
-    e.yes
+    stands_in(table, k, near, x).yes
 }
 
 // Whether each number on a CONECT line is the serial of an atom that is in, and where the line's own atom stands.
-pub fn bond_in(table: &[Slot], k: usize, n: Near, c: Conect) -> Sought
+pub fn bond_in(table: &[Slot], k: usize, near: Near, c: Conect) -> Sought
     requires { k < 9223372036854775808 }
     ensures { Rises table.now k → result.yes ≡ bond_in (take k table.now) c }
 {
-    let x = c.serial;
-    let p = c.a;
-    let q = c.b;
-    let u = c.c;
-    let v = c.d;
-    let own = stands_in(table, k, n, x);
-    let near = own.near;
-    let g0 = own.yes;
-    let g1 = partner_in(table, k, near, p);
-    let g2 = partner_in(table, k, near, q);
-    let g3 = partner_in(table, k, near, u);
-    let g4 = partner_in(table, k, near, v);
-    let h3 = ascii::both_of(g3, g4);
-    let h2 = ascii::both_of(g2, h3);
-    let h1 = ascii::both_of(g1, h2);
-    let h0 = ascii::both_of(g0, h1);
+    let Sought { near, yes } = stands_in(table, k, near, c.serial);
     Sought {
-        near: near,
-        yes: h0,
+        near,
+        yes: yes
+            & partner_in(table, k, near, c.a)
+            & partner_in(table, k, near, c.b)
+            & partner_in(table, k, near, c.c)
+            & partner_in(table, k, near, c.d),
     }
 }
 
 // Whether a line stays, k slots standing before it, and `here` after these; and where the last CONECT line's atom stands.
-pub fn stays(table: &[Slot], k: usize, n: Near, here: Slot, l: Line) -> Sought
+pub fn stays(table: &[Slot], k: usize, near: Near, here: Slot, l: Line) -> Sought
     requires k_bound { k < 9223372036854775808 }
     requires here_value { here ≡ get_or table.now k no_slot }
     ensures { Rises table.now k → result.yes ≡ stays_of table.now k l }
 {
     if facets::is_coord(l) {
         return Sought {
-            near: n,
+            near,
             yes: marks::is_kept(here),
         };
     }
     if bonds::is_conect(l) {
-        return bond_in(table, k, n, bonds::conect_in(l));
+        return bond_in(table, k, near, bonds::conect_in(l));
     }
-    Sought { near: n, yes: true }
+    Sought { near, yes: true }
 }
 
 // The same, asked only of a table that fits so far: the slots of another may name models without end.
-pub fn stays_if(fit: bool, table: &[Slot], k: usize, n: Near, here: Slot, l: Line) -> Sought
+pub fn stays_if(fit: bool, table: &[Slot], k: usize, near: Near, here: Slot, l: Line) -> Sought
     requires k_bound { k < 9223372036854775808 }
     requires here_value { here ≡ get_or table.now k no_slot }
     ensures { fit ≡ true → Rises table.now k → result.yes ≡ stays_of table.now k l }
 {
     if fit {
-        return stays(table, k, n, here, l);
+        return stays(table, k, near, here, l);
     }
-    Sought { near: n, yes: true }
+    Sought { near, yes: true }
 }

@@ -21,7 +21,7 @@ use Rattle.rules.specs.declared.State.{State}
 use Rattle.places.specs.Places.{place_bad, coordinate_place, end_place}
 use Rattle.rules.specs.Rules.{no_run, site_next, judge_of, carried_next, typed_next, next_of}
 use Rattle.places.proofs.Laws.{place_high}
-use Rattle.rules.proofs.Laws.{Good, judge_typed, judge_carried, judge_wrong}
+use Rattle.rules.proofs.Laws.{Good, judge_typed, judge_carried, judge_bad, judge_wrong}
 use Rattle.serials.specs.Search.{Before}
 use Rattle.table.proofs.Plain.{Plain, cell_front, transform_front}
 use Rattle.table.proofs.Fine.{Fine}
@@ -71,7 +71,7 @@ sane_typed known s (Transform scale axis t) S g = sane_before _ (S.early ((trans
 
 pub sane_next : (known : Looked) (s : State) (l : Line) → Sane s → Plain l → judge_of known s l ≡ 0 → Sane (next_of s l)
 unfolding next_of carried_next judge_of
-sane_next known s (Bad n) S p e = absurd (omega arith)
+sane_next known s (Bad n) S p e = absurd (judge_bad known s n e)
 sane_next known s (Wrong k column) S p e = absurd (judge_wrong known s k column e)
 sane_next known s (Carried k) S p e = sane_before _ (S.early (p.after s.place (judge_carried known s k e).0))
 sane_next known s (Typed r) S p e = sane_typed known s r S (judge_typed known s r e)
@@ -80,7 +80,7 @@ sane_next known s (Typed r) S p e = sane_typed known s r S (judge_typed known s 
 pub no_close : (seen : List Line) (s : State) (ls : List Line) → Fine seen s ls → coordinate_place < s.place → s.place ≤ end_place → closes ls ≡ false
 unfolding next_of typed_next judge_of closes either
 no_close seen s [] f h g = refl
-no_close seen s (Bad n ∷ ls) f h g = absurd (omega (arith, f.0, f.1))
+no_close seen s (Bad n ∷ ls) f h g = absurd (judge_bad (look_of seen (Bad n)) s n f.1)
 no_close seen s (Wrong k column ∷ ls) f h g = absurd (judge_wrong (look_of seen (Wrong k column)) s k column f.1)
 no_close seen s (Carried k ∷ ls) f h g = absurd (not_before s.place (omega arith) g (f.0.after s.place (judge_carried (look_of seen (Carried k)) s k f.1).0))
 no_close seen s (Typed (Coordinate het a) ∷ ls) f h g =
@@ -101,7 +101,7 @@ no_close seen s (Typed (Transform scale axis t) ∷ ls) f h g = absurd (not_befo
 pub no_atom : (seen : List Line) (s : State) (ls : List Line) → Sane s → Fine seen s ls → closes ls ≡ false → s.run.atom ≡ false
 unfolding next_of typed_next judge_of closes either site_next
 no_atom seen s [] S f c = S.late (omega arith) (omega arith)
-no_atom seen s (Bad n ∷ ls) S f c = absurd (omega (arith, f.0, f.1))
+no_atom seen s (Bad n ∷ ls) S f c = absurd (judge_bad (look_of seen (Bad n)) s n f.1)
 no_atom seen s (Wrong k column ∷ ls) S f c = absurd (judge_wrong (look_of seen (Wrong k column)) s k column f.1)
 no_atom seen s (Carried k ∷ ls) S f c = ap (λ (r : Run). r.atom) (S.early (f.0.after s.place (judge_carried (look_of seen (Carried k)) s k f.1).0))
 no_atom seen s (Typed (Coordinate het a) ∷ ls) S f c =

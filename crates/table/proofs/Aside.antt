@@ -27,6 +27,7 @@ use Rattle.table.proofs.Marks.{joins_some}
 use Rattle.table.proofs.Orders.{count_lasts, orders_ready, orders_last, orders_count, orders_mark}
 use Rattle.table.proofs.Fresh.{fresh_ready, fresh_in}
 use Rattle.table.proofs.Rows.{line_row, stays_at, slot_inside}
+use Rattle.refusals.specs.declared.Refusal.TheVariants as refusal
 
 -- ---- the mark of a slot is that of its fragment, where marks agree
 -- the first slot's mark is that of the first fragment
@@ -123,7 +124,7 @@ pub line_goes : (t : List ℕ) (xs : List Slot) (os : List Order) → (check_of 
     → get_or (stays_from (kept t xs os) 0 (lines_from t 0)) i true ≡ not (last_of t (over (loaded_of t) xs) (fragment_of t (over (loaded_of t) xs) (slots_to t i)) false os)
 unfolding slots_to
 line_goes t xs os e i h c =
-    let d : Line = Bad 0 in
+    let d : Line = Bad refusal.Length in
     let r : is_coord (get_or (lines_from t 0) i d) ≡ true = ap is_coord (line_row t d i 0 h ∙ ap (row t) (zero_plus i)) ∙ c in
     stays_at (kept t xs os) d (lines_from t 0) i 0 h r
     ∙ ap (λ (n : ℕ). not (eqb (get_or (kept t xs os) n no_slot).mark mark_aside)) (zero_plus (length (slots_of no_model (take i (lines_from t 0)))))

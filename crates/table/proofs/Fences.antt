@@ -23,7 +23,7 @@ use Rattle.transform.specs.Transforms.{transform_kind}
 use Rattle.facets.specs.Facets.{is_coord}
 use Rattle.rules.specs.declared.State.{State}
 use Rattle.rules.specs.Rules.{judge_of, carried_next, typed_next, next_of, start_of}
-use Rattle.rules.proofs.Laws.{judge_typed, judge_carried, judge_wrong}
+use Rattle.rules.proofs.Laws.{judge_typed, judge_carried, judge_bad, judge_wrong}
 use Rattle.rows.specs.Text.{cut}
 use Rattle.serials.specs.Search.{Before}
 use Rattle.gate.specs.Gate.{look_of, check_of}
@@ -95,7 +95,7 @@ above_plain seen s l ls c site e q f A again =
 above : (seen : List Line) (s : State) (ls : List Line) → Fine seen s ls → (c : ℕ) → Ahead s c → Above c (current s) ls
 unfolding next_of typed_next carried_next judge_of fence_bad
 above seen s [] f c A = tt
-above seen s (Bad n ∷ ls) f c A = absurd (omega (arith, f.0, f.1))
+above seen s (Bad n ∷ ls) f c A = absurd (judge_bad (look_of seen (Bad n)) s n f.1)
 above seen s (Wrong k column ∷ ls) f c A = absurd (judge_wrong (look_of seen (Wrong k column)) s k column f.1)
 above seen s (Carried k ∷ ls) f c A =
     above_plain seen s (Carried k) ls c (λ x. never x) refl refl
@@ -133,7 +133,7 @@ above seen s (Typed Endmdl ∷ ls) f c A = (λ x. never x, above _ (next_of s (T
 fenced : (seen : List Line) (s : State) (ls : List Line) → Fine seen s ls → Fenced (current s) ls
 unfolding next_of typed_next carried_next judge_of fence_bad
 fenced seen s [] f = tt
-fenced seen s (Bad n ∷ ls) f = absurd (omega (arith, f.0, f.1))
+fenced seen s (Bad n ∷ ls) f = absurd (judge_bad (look_of seen (Bad n)) s n f.1)
 fenced seen s (Wrong k column ∷ ls) f = absurd (judge_wrong (look_of seen (Wrong k column)) s k column f.1)
 fenced seen s (Carried k ∷ ls) f = (λ x. never x, fenced _ (next_of s (Carried k)) ls f.2)
 fenced seen s (Typed (Coordinate het a) ∷ ls) f = (λ x. never x, fenced _ (next_of s (Typed (Coordinate het a))) ls f.2)

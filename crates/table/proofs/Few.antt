@@ -24,7 +24,7 @@ use Rattle.places.specs.Places.{fence_bad}
 use Rattle.rules.specs.declared.Looked.{Looked}
 use Rattle.rules.specs.declared.State.{State}
 use Rattle.rules.specs.Rules.{judge_of, next_of, carried_next, typed_next, start_of}
-use Rattle.rules.proofs.Laws.{judge_typed, judge_wrong}
+use Rattle.rules.proofs.Laws.{judge_typed, judge_bad, judge_wrong}
 use Rattle.serials.specs.Search.{serial_of}
 use Rattle.serials.proofs.Rows.{coord_serial}
 use Rattle.gate.specs.Gate.{check_of}
@@ -102,7 +102,7 @@ climbs_endmdl t n s C h e =
 
 climbs : (t : List ℕ) (n : ℕ) (s : State) (look : Looked) (l : Line) → row t n ≡ l → Plain l → PlainFence l → judge_of look s l ≡ 0 → 81 * n < length t → Climbed t n s → Climbed t (suc n) (next_of s l)
 unfolding next_of carried_next typed_next judge_of fence_bad
-climbs t n s look (Bad m) e p w j h C = absurd (omega arith)
+climbs t n s look (Bad m) e p w j h C = absurd (judge_bad look s m j)
 climbs t n s look (Wrong k column) e p w j h C = absurd (judge_wrong look s k column j)
 climbs t n s look (Carried k) e p w j h C = climbs_plain t n s _ C h (ap is_coord e) refl refl
 climbs t n s look (Typed (Coordinate true a)) e p w j h C =
@@ -191,7 +191,7 @@ shut_grows m a h = omega (arith, room_most m a h)
 -- a good line
 pub onward : (s : State) (look : Looked) (l : Line) → Plain l → PlainFence l → (is_coord l ≡ true → serial_of l ≤ 99999) → judge_of look s l ≡ 0 → Abreast s → Onward s (next_of s l) l
 unfolding next_of carried_next typed_next judge_of fence_bad both
-onward s look (Bad n) p w k j A = absurd (omega arith)
+onward s look (Bad n) p w k j A = absurd (judge_bad look s n j)
 onward s look (Wrong x column) p w k j A = absurd (judge_wrong look s x column j)
 onward s look (Carried x) p w k j A = onward_plain s _ (Carried x) A refl refl refl refl
 onward s look (Typed (Coordinate true a)) p w k j A =

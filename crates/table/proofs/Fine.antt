@@ -13,7 +13,7 @@ use Rattle.pieces.specs.Pieces.{line_of}
 use Rattle.rules.specs.declared.State.{State}
 use Rattle.places.specs.Places.{end_place}
 use Rattle.rules.specs.Rules.{next_of, start_of}
-use Rattle.gate.specs.declared.Verdict.{Verdict}
+use Rattle.gate.specs.Gate.{Verdict}
 use Rattle.rows.specs.Text.{cut}
 use Rattle.gate.specs.Gate.{number_in, refused_of, finish_of, check_lines, check_of}
 use Rattle.table.proofs.Plain.{Plain, piece_plain}

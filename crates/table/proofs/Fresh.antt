@@ -1,5 +1,6 @@
 -- A table just loaded belongs to its text, and all its fragments are in.
 -- Assumes nothing.
+use Rattle.std.proofs.Common.{Option, Some, None}
 use Prim.Native.Nat.{ℕ, ◌+◌}
 use mathlib.Core.List.{List, [], ◌∷◌, ◌++◌}
 use mathlib.Core.Bool.{Bool, true, false, not}
@@ -11,26 +12,20 @@ use lib.ListN.{length, drop, get_or, length-append}
 use lib.Seq.{take_at, append_snoc, get_or-append_seam}
 use Rattle.ascii.specs.Tests.{pick, both, either}
 use Rattle.ascii.proofs.Choice.{both_join}
-use Rattle.names.specs.declared.Pair.{Pair}
 use Rattle.coordinate.specs.declared.Position.{Position}
 use Rattle.pieces.specs.declared.Line.{Line}
-use Rattle.twins.proofs.Self.{equal, integer_self, four_self, residue_self}
+use Rattle.twins.proofs.Self.{equal, integer_self, name_self, residue_self}
 use Rattle.gate.specs.Gate.{check_of}
 use Rattle.facets.specs.declared.Spot.{Spot}
-use Rattle.facets.specs.declared.Spot.TheVariants.{Site, Close, Nowhere}
+use Rattle.facets.specs.declared.Spot.TheVariants.{Site, Close}
 use Rattle.facets.specs.Facets.{spot_in, is_coord}
 use Rattle.slots.specs.declared.Slot.{Slot}
-use Rattle.names.specs.Names.{same_pair}
 use Rattle.slots.specs.Slots.{mark_in, mark_aside, no_model, no_slot, spot_slot, line_slot, same_position, same_measures, residue_of, same_names, same_slot}
 use Rattle.fragments.specs.Fragments.{joins, step_tail, tail_of, mark_of}
 use Rattle.table.specs.Table.{over, lines_from, model_next, slots_of, loaded_of, fits, fits_from, mine}
 use Rattle.table.proofs.Ready.{Ready}
 
 -- ---- a slot is the same as itself
-pair_self : (p : Pair) → same_pair p p ≡ true
-unfolding same_pair
-pair_self p = both_join _ _ (equal p.a) (equal p.b)
-
 position_self : (p : Position) → same_position p p ≡ true
 unfolding same_position
 position_self p = both_join _ _ (integer_self p.x) (both_join _ _ (integer_self p.y) (integer_self p.z))
@@ -41,14 +36,14 @@ slot_self s =
     both_join _ _ (both_join _ _ (equal s.kind) (equal s.serial.0))
     (both_join _ _ (residue_self (residue_of s))
     (both_join _ _
-    (both_join _ _ (both_join _ _ (four_self s.name) (equal s.alternate)) (both_join _ _ (pair_self s.element) (pair_self s.charge)))
+    (both_join _ _ (both_join _ _ (name_self s.name) (equal s.alternate)) (both_join _ _ (name_self s.element) (name_self s.charge)))
     (both_join _ _ (both_join _ _ (position_self s.position) (both_join _ _ (integer_self s.occupancy) (integer_self s.temperature))) (equal s.model))))
 
 -- ---- no slot of a line is aside
-spot_in_lem : (p : Spot) → (spot_slot p).mark ≡ mark_in
-spot_in_lem (Site het a) = refl
-spot_in_lem (Close t) = refl
-spot_in_lem Nowhere = refl
+spot_in_lem : (p : Option Spot) → (spot_slot p).mark ≡ mark_in
+spot_in_lem (Some (Site het a)) = refl
+spot_in_lem (Some (Close t)) = refl
+spot_in_lem None = refl
 
 pub line_in_lem : (m : ℕ) (l : Line) → (line_slot m l).mark ≡ mark_in
 line_in_lem m l = spot_in_lem (spot_in l)

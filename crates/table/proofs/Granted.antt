@@ -1,5 +1,6 @@
 -- The lines kept of an accepted text are accepted: the simulation, line by line.
 -- Assumes nothing.
+use Rattle.std.proofs.Common.{Some}
 use Prim.Native.Nat.{ℕ, ◌+◌, ◌≤◌}
 use mathlib.Core.List.{List, [], ◌∷◌}
 use mathlib.Core.Bool.{Bool, true, false}
@@ -7,7 +8,6 @@ use mathlib.Core.Path.{◌≡◌, refl, ◌∙◌, ap}
 use mathlib.Core.Logic.{inl, inr}
 use native.Mathlib.Omega.{arith}
 use native.Mathlib.Nat.{le_trans, le_refl}
-use Rattle.facets.specs.declared.Bond.TheVariants.{Bonds}
 use Rattle.ascii.specs.Tests.{either}
 use Rattle.kinds.specs.declared.Kind.{Kind}
 use Rattle.kinds.specs.declared.Kind.TheVariants as kind
@@ -30,7 +30,7 @@ use Rattle.rules.specs.declared.Run.{Run}
 use Rattle.rules.specs.declared.State.{State}
 use Rattle.rules.specs.Rules.{no_run, models_next, judge_of, carried_next, typed_next, next_of, start_of}
 use Rattle.places.proofs.Laws.{place_low, place_high}
-use Rattle.rules.proofs.Laws.{Good, judge_typed, judge_carried, judge_wrong}
+use Rattle.rules.proofs.Laws.{Good, judge_typed, judge_carried, judge_bad, judge_wrong}
 use Rattle.serials.specs.Known.{some_of, front, bond_known}
 use Rattle.twins.specs.Twins.{is_twin}
 use Rattle.gate.specs.Gate.{look_of, number_in, check_lines}
@@ -181,8 +181,8 @@ module _ (xs : List Slot) (j : ℕ) (seen kept : List Line) (s k : State) (H : H
       high : s.place ≤ 19
       high = place_high s.place kind.Conect g.place
 
-      bond : (bond_known seen (Bonds c) ≡ true) × (s.bond.0 ≤ c.serial.0)
-      bond = bond_split (bond_known seen (Bonds c)) s.bond c g.bond
+      bond : (bond_known seen (Some c) ≡ true) × (s.bond.0 ≤ c.serial.0)
+      bond = bond_split (bond_known seen (Some c)) s.bond c g.bond
 
       none : closes ls ≡ false
       none = no_close _ (next_of s (Typed (Conect c))) ls f.2 (omega arith) (omega arith)
@@ -194,7 +194,7 @@ module _ (xs : List Slot) (j : ℕ) (seen kept : List Line) (s k : State) (H : H
       go true i =
           stay (Typed (Conect c)) (Typed (Conect c)) ls again f P (other (Typed (Conect c)) (Typed (Conect c)) refl refl (λ a. refl)) refl (saved_stay xs j k.models.past k.counts (Typed (Conect c)) ls refl i)
           (good_trails (look_of seen (Typed (Conect c))) (look_of kept (Typed (Conect c))) s k (Conect c) M.trails g (place_behind k.place s.place kind.Conect refl M.trails.place g.place) idle refl
-          (bond_join (bond_known kept (Bonds c)) k.bond c (held_bond xs j seen kept H c i) (le_trans M.trails.bond bond.1)) refl)
+          (bond_join (bond_known kept (Some c)) k.bond c (held_bond xs j seen kept H c i) (le_trans M.trails.bond bond.1)) refl)
           (back_next xs j (next_of s (Typed (Conect c))) (next_of k (Typed (Conect c))) ls none idle (omega arith) (omega arith)
           (record { place = inl refl; models = M.trails.models; last = M.trails.last; bond = le_refl _; helix = M.trails.helix; ladder = M.trails.ladder }))
       go false i =
@@ -248,7 +248,7 @@ module _ (xs : List Slot) (j : ℕ) (seen kept : List Line) (s k : State) (H : H
       (saved_stay xs j k.models.past k.counts (Typed (Model m)) ls refl refl)
       (good_trails _ _ s k (Model m) T g (place_behind k.place s.place kind.Model refl T.place g.place) (M.tail refl) refl refl refl)
       (fence_next xs j (next_of s (Typed (Model m))) (next_of k (Typed (Model m))) ls refl refl
-      (record { place = inl refl; models = ap (λ (x : Models). models_next x (Opens m.number)) T.models; last = le_refl _; bond = T.bond; helix = T.helix; ladder = T.ladder }))
+      (record { place = inl refl; models = ap (λ (x : Models). models_next x (Some (Opens m.number))) T.models; last = le_refl _; bond = T.bond; helix = T.helix; ladder = T.ladder }))
 
   keep_endmdl : (ls : List Line) → Again xs j ls → Fine seen s (Typed Endmdl ∷ ls) → Paired xs j (Typed Endmdl ∷ ls)
       → Follows xs j s k (Typed Endmdl ∷ ls) → Kept xs j kept k (Typed Endmdl ∷ ls)
@@ -260,13 +260,13 @@ module _ (xs : List Slot) (j : ℕ) (seen kept : List Line) (s k : State) (H : H
       (saved_stay xs j k.models.past k.counts (Typed Endmdl) ls refl refl)
       (good_trails _ _ s k Endmdl T g (place_behind k.place s.place kind.Endmdl refl T.place g.place) (M.tail refl) refl refl refl)
       (fence_next xs j (next_of s (Typed Endmdl)) (next_of k (Typed Endmdl)) ls refl refl
-      (record { place = inl refl; models = ap (λ (x : Models). models_next x Shuts) T.models; last = le_refl _; bond = T.bond; helix = T.helix; ladder = T.ladder }))
+      (record { place = inl refl; models = ap (λ (x : Models). models_next x (Some Shuts)) T.models; last = le_refl _; bond = T.bond; helix = T.helix; ladder = T.ladder }))
 
 -- THE SIMULATION
 pub kept_granted : (xs : List Slot) (j : ℕ) (ls : List Line) → Again xs j ls
 unfolding saved_lines judge_of
 kept_granted xs j [] seen kept s k H S f P M = granted_end kept k (behind_same k.place s.place M.trails.place (omega arith) ∙ f)
-kept_granted xs j (Bad n ∷ ls) seen kept s k H S f P M = absurd (omega (arith, f.0, f.1))
+kept_granted xs j (Bad n ∷ ls) seen kept s k H S f P M = absurd (judge_bad (look_of seen (Bad n)) s n f.1)
 kept_granted xs j (Wrong x column ∷ ls) seen kept s k H S f P M = absurd (judge_wrong (look_of seen (Wrong x column)) s x column f.1)
 kept_granted xs j (Carried x ∷ ls) seen kept s k H S f P M = keep_carried xs j seen kept s k H S x ls (kept_granted xs j ls) f P M
 kept_granted xs j (Typed (Coordinate het a) ∷ ls) seen kept s k H S f P M = keep_site xs j seen kept s k H S het a ls (kept_granted xs (j + 1) ls) f P M

@@ -1,5 +1,6 @@
 -- A CONECT line that stays names only atoms whose lines were kept, and no line that is kept was not seen.
 -- Assumes nothing.
+use Rattle.std.proofs.Common.{Option, Some, None}
 use Prim.Native.Nat.{ℕ, ◌+◌, ◌<◌}
 use mathlib.Core.List.{List, [], ◌∷◌, ◌++◌}
 use mathlib.Core.Bool.{Bool, true, false, not}
@@ -16,8 +17,7 @@ use Rattle.coordinate.specs.declared.Identity.{Identity}
 use Rattle.conect.specs.declared.Conect.{Conect}
 use Rattle.pieces.specs.declared.Line.{Line}
 use Rattle.facets.specs.declared.Spot.{Spot}
-use Rattle.facets.specs.declared.Spot.TheVariants.{Site, Close, Nowhere}
-use Rattle.facets.specs.declared.Bond.TheVariants.{Bonds}
+use Rattle.facets.specs.declared.Spot.TheVariants.{Site, Close}
 use Rattle.facets.specs.Facets.{spot_in, is_spot, is_coord, is_fence}
 use Rattle.serials.specs.Known.{is_atom, is_site, some_of, front, named, partner_known, bond_known}
 use Rattle.serials.specs.Search.{spot_serial}
@@ -53,10 +53,10 @@ in_more : (xs : List Slot) (j n : ℕ) → j < length xs → stands_in (take (j 
 in_more xs j n h e = in_last (take j xs) (get_or xs j no_slot) n (rw (add-one j, take-suc xs j no_slot h) at e)
 
 -- the slot of an atom that is in is beside its line
-closes_site : (n : ℕ) (p : Spot) → is_spot p ≡ true → spot_closes p ≡ false → spot_serial p ≡ n → is_atom n p ≡ true
-closes_site n (Site het a) c o e = eq-eqb _ _ e
-closes_site n (Close t) c o e = never (sym o)
-closes_site n Nowhere c o e = never c
+closes_site : (n : ℕ) (p : Option Spot) → is_spot p ≡ true → spot_closes p ≡ false → spot_serial p ≡ n → is_atom n p ≡ true
+closes_site n (Some (Site het a)) c o e = eq-eqb _ _ e
+closes_site n (Some (Close t)) c o e = never (sym o)
+closes_site n None c o e = never c
 
 in_site : (xs : List Slot) (j n : ℕ) (l : Line) (ls : List Line) → is_coord l ≡ true → Beside xs j l ls → is_in n (get_or xs j no_slot) ≡ true → is_site n l ≡ true
 unfolding is_in
@@ -120,7 +120,7 @@ module _ (xs : List Slot) (j : ℕ) (seen kept : List Line) (H : Held xs j seen 
   held_partner n e = either_split (eqb n 0) (stands_in (take j xs) n) (λ z. either_left (eqb n 0) (named kept n) z) (λ s. either_right (eqb n 0) (named kept n) (H.atoms n s)) e
 
   -- the numbers on a CONECT line that stays are known among the lines kept
-  pub held_bond : (c : Conect) → bond_in (take j xs) c ≡ true → bond_known kept (Bonds c) ≡ true
+  pub held_bond : (c : Conect) → bond_in (take j xs) c ≡ true → bond_known kept (Some c) ≡ true
   unfolding both
   held_bond c e =
       let k0 = both_split (stands_in (take j xs) c.serial.0) _ e in

@@ -1,5 +1,6 @@
 -- The slots of a table beside the coordinate lines that they belong to: equal serials, TER beside TER, and one mark over a closed run.
 -- Assumes nothing.
+use Rattle.std.proofs.Common.{Option, Some, None}
 use Prim.Native.Nat.{ℕ, suc, ◌+◌, ◌≤◌, ◌<◌}
 use mathlib.Core.List.{List, [], ◌∷◌}
 use mathlib.Core.Bool.{Bool, true, false, not}
@@ -15,9 +16,9 @@ use Rattle.ascii.specs.Tests.{pick, both, either}
 use Rattle.ascii.proofs.Choice.{never, both_split}
 use Rattle.pieces.specs.declared.Line.{Line}
 use Rattle.facets.specs.declared.Spot.{Spot}
-use Rattle.facets.specs.declared.Spot.TheVariants.{Site, Close, Nowhere}
+use Rattle.facets.specs.declared.Spot.TheVariants.{Site, Close}
 use Rattle.facets.specs.declared.Fence.{Fence}
-use Rattle.facets.specs.declared.Fence.TheVariants.{Opens, Shuts, Unfenced}
+use Rattle.facets.specs.declared.Fence.TheVariants.{Opens, Shuts}
 use Rattle.facets.specs.Facets.{spot_in, fence_in, is_spot, is_bound, is_coord, is_fence}
 use Rattle.serials.specs.Search.{spot_serial, serial_of}
 use Rattle.slots.specs.declared.Slot.{Slot}
@@ -31,10 +32,10 @@ use Rattle.serials.proofs.Models.{coord_off}
 use Rattle.twins.proofs.Self.{equal}
 
 -- a TER line
-abbrev pub spot_closes : Spot → Bool
-spot_closes (Site het a) = false
-spot_closes (Close t) = true
-spot_closes Nowhere = false
+abbrev pub spot_closes : Option Spot → Bool
+spot_closes (Some (Site het a)) = false
+spot_closes (Some (Close t)) = true
+spot_closes None = false
 
 abbrev pub line_closes : Line → Bool
 line_closes l = spot_closes (spot_in l)
@@ -61,16 +62,16 @@ Paired xs j [] = Unit {0}
 Paired xs j (l ∷ ls) = (is_coord l ≡ true → Beside xs j l ls) × Paired xs (j + one_of l) ls
 
 -- ---- a slot that fits its line
-ter_is : (p : Spot) → is_ter (spot_slot p) ≡ spot_closes p
-ter_is (Site true a) = refl
-ter_is (Site false a) = refl
-ter_is (Close t) = refl
-ter_is Nowhere = refl
+ter_is : (p : Option Spot) → is_ter (spot_slot p) ≡ spot_closes p
+ter_is (Some (Site true a)) = refl
+ter_is (Some (Site false a)) = refl
+ter_is (Some (Close t)) = refl
+ter_is None = refl
 
-serial_is : (p : Spot) → (spot_slot p).serial.0 ≡ spot_serial p
-serial_is (Site het a) = refl
-serial_is (Close t) = refl
-serial_is Nowhere = refl
+serial_is : (p : Option Spot) → (spot_slot p).serial.0 ≡ spot_serial p
+serial_is (Some (Site het a)) = refl
+serial_is (Some (Close t)) = refl
+serial_is None = refl
 
 same_kind : (s t : Slot) → same_slot s t ≡ true → (s.kind ≡ t.kind) × (s.serial.0 ≡ t.serial.0) × (s.model ≡ t.model)
 unfolding same_slot
@@ -104,29 +105,29 @@ rest_coord xs j l ls c h = rw (need_coord l ls c, drop-cons xs j no_slot h, add-
 rest_other : (xs : List Slot) (j : ℕ) (l : Line) (ls : List Line) → is_coord l ≡ false → rest_of xs j (l ∷ ls) ≡ rest_of xs j ls
 rest_other xs j l ls c = rw (need_other l ls c)
 
-other_open : (p : Spot) → is_spot p ≡ false → spot_closes p ≡ false
-other_open (Site het a) c = refl
-other_open (Close t) c = c
-other_open Nowhere c = refl
+other_open : (p : Option Spot) → is_spot p ≡ false → spot_closes p ≡ false
+other_open (Some (Site het a)) c = refl
+other_open (Some (Close t)) c = c
+other_open None c = refl
 
 -- ---- models
 -- a coordinate line leaves its model
 coord_model : (m : ℕ) (l : Line) → is_coord l ≡ true → model_next m l ≡ m
 coord_model m l c = go (fence_in l) refl
   where
-    go : (e : Fence) → fence_in l ≡ e → model_after m e ≡ m
-    go (Opens n) e = never (sym (coord_off l c) ∙ ap is_bound e)
-    go Shuts e = never (sym (coord_off l c) ∙ ap is_bound e)
-    go Unfenced e = refl
+    go : (e : Option Fence) → fence_in l ≡ e → model_after m e ≡ m
+    go (Some (Opens n)) e = never (sym (coord_off l c) ∙ ap is_bound e)
+    go (Some Shuts) e = never (sym (coord_off l c) ∙ ap is_bound e)
+    go None e = refl
 
 -- so does any line but MODEL and ENDMDL
 plain_model : (m : ℕ) (l : Line) → is_fence l ≡ false → model_next m l ≡ m
 plain_model m l f = go (fence_in l) refl
   where
-    go : (e : Fence) → fence_in l ≡ e → model_after m e ≡ m
-    go (Opens n) e = never (sym f ∙ ap is_bound e)
-    go Shuts e = never (sym f ∙ ap is_bound e)
-    go Unfenced e = refl
+    go : (e : Option Fence) → fence_in l ≡ e → model_after m e ≡ m
+    go (Some (Opens n)) e = never (sym f ∙ ap is_bound e)
+    go (Some Shuts) e = never (sym f ∙ ap is_bound e)
+    go None e = refl
 
 -- the coordinate lines among these, which come after lines that leave model m, are of models above c
 abbrev pub Above : ℕ → ℕ → List Line → Type 0

@@ -1,5 +1,6 @@
 -- What is known of a line whatever its piece is: MASTER's columns hold its counts, and a carried line stands before the coordinate lines.
 -- Assumes nothing.
+use Rattle.std.proofs.Common.{Option, Some, None}
 use Prim.Native.Nat.{ℕ, ◌≤◌, ◌<◌}
 use mathlib.Core.List.{List}
 use mathlib.Core.Bool.{Bool, true, false}
@@ -9,10 +10,8 @@ use native.Mathlib.Omega.{arith}
 use borrow.Author.Tests.{eqb-true, leb-true, le-leb, ltb-false}
 use lib.Dec.{eqb, ltb, leb}
 use lib.ListN.{length, get_or, take, length-take}
-use Rattle.facets.specs.declared.Total.{Total}
-use Rattle.facets.specs.declared.Total.TheVariants.{Counted, Uncounted}
 use Rattle.facets.specs.declared.Fence.{Fence}
-use Rattle.facets.specs.declared.Fence.TheVariants.{Opens, Shuts, Unfenced}
+use Rattle.facets.specs.declared.Fence.TheVariants.{Opens, Shuts}
 use Rattle.facets.specs.Facets.{total_of, fence_of, fence_in}
 use Rattle.numbers.specs.Number.{number_of}
 use Rattle.model.specs.Models.{model_f, model_columns}
@@ -29,9 +28,9 @@ use Rattle.kinds.specs.declared.Kind.TheVariants.{Header, Title, Compnd, Source,
 use Rattle.kinds.specs.Kinds.{row_of, is, is_named, kind_of}
 use Rattle.line.specs.declared.Record.{Record}
 use Rattle.line.specs.declared.Record.TheVariants as rec
-use Rattle.line.specs.declared.Reading.{Reading}
-use Rattle.line.specs.declared.Reading.TheVariants as reading
-use Rattle.line.specs.Lines.{judged, crystal_read, reading_of}
+use Rattle.std.specs.Prelude.{Ok, Err}
+use Rattle.line.specs.declared.unread.Unread.TheVariants as unread
+use Rattle.line.specs.Lines.{Reading, judged, crystal_read, reading_of}
 use Rattle.master.specs.declared.Tally.{Tally}
 use Rattle.master.specs.Masters.{master_f, master_columns, notes_columns, shape_columns, atoms_columns}
 use Rattle.master.proofs.Laws.{master_lawful}
@@ -42,6 +41,7 @@ use Rattle.places.specs.Places.{place_bad, coordinate_place, end_place}
 use Rattle.places.proofs.Laws.{place_low, place_high}
 use Rattle.serials.specs.Search.{Before}
 use Rattle.table.specs.FiveDigits.{FiveDigits}
+use Rattle.refusals.specs.declared.Refusal.TheVariants as refusal
 
 ranged_top : (v : ℕ) → ranged_of 0 99999 v ≡ true → v ≤ 99999
 unfolding ranged_of
@@ -102,12 +102,12 @@ transform_front =
     (low_front Origx1 (omega arith) (inr (omega arith))) (high_front Origx2 (omega arith) (inr (omega arith))) (high_front Origx3 (omega arith) (inl (omega arith)))
     (low_front Scale1 (omega arith) (inr (omega arith))) (high_front Scale2 (omega arith) (inr (omega arith))) (high_front Scale3 (omega arith) (inl (omega arith)))
 
-abbrev pub PlainTotal : Total → Type 0
-PlainTotal (Counted t) = FiveDigits t
-PlainTotal Uncounted = Unit {0}
+abbrev pub PlainTotal : Option Tally → Type 0
+PlainTotal (Some t) = FiveDigits t
+PlainTotal None = Unit {0}
 
 abbrev pub Plain : Line → Type 0
-Plain (Bad n) = 0 < n
+Plain (Bad n) = Unit {0}
 Plain (Wrong k column) = Unit {0}
 Plain (Carried k) = Front k
 Plain (Typed r) = PlainTotal (total_of r)
@@ -115,7 +115,7 @@ Plain (Typed r) = PlainTotal (total_of r)
 judged_plain : (k : Kind) (c : ℕ) (r : Record) → (c ≡ 0 → PlainTotal (total_of r)) → Plain (line_in k (judged c r))
 unfolding judged
 judged_plain k c r f =
-    picks (λ (x : Reading). Plain (line_in k x)) (eqb c 0) (reading.Typed r) (reading.Wrong c) (λ t. f (eqb-true c 0 t)) (λ _. tt)
+    picks (λ (x : Reading). Plain (line_in k x)) (eqb c 0) (Ok r) (Err (unread.Wrong (record { 0 = c }))) (λ t. f (eqb-true c 0 t)) (λ _. tt)
 
 by_kind : (l : List ℕ) → 80 ≤ length l → (k : Kind) → Plain (line_in k (reading_of k l))
 unfolding reading_of crystal_read
@@ -146,31 +146,31 @@ by_kind l h Ter = judged_plain Ter _ _ (λ _. tt)
 by_kind l h Conect = judged_plain Conect _ _ (λ _. tt)
 by_kind l h Master = judged_plain Master (master_f.fault l 6) (rec.Master (master_f.value l 6)) (λ e. ok_small (master_f.value l 6) (master_lawful.kept l 6 (omega arith) e).1)
 by_kind l h End = judged_plain End _ _ (λ _. tt)
-by_kind l h Unknown = omega arith
+by_kind l h Unknown = tt
 by_kind l h Model = judged_plain Model _ _ (λ _. tt)
 by_kind l h Endmdl = judged_plain Endmdl _ _ (λ _. tt)
 
 pub piece_plain : (p : List ℕ) → Plain (line_of p)
 unfolding line_of columns_of
 piece_plain p =
-    picks Plain (ltb (length p) 81) (Bad 1) _ (λ _. omega arith)
+    picks Plain (ltb (length p) 81) (Bad refusal.Length) _ (λ _. tt)
     (λ long.
     let h : 80 ≤ length (take 80 p) = omega (arith, length-take 80 p, ltb-false (length p) 81 long) in
-    picks Plain (eqb (get_or p 80 0) 10) _ (Bad 2)
-    (λ _. picks Plain (clean_at (take 80 p) 0 80) _ (Bad 3) (λ _. by_kind (take 80 p) h (kind_of (take 80 p))) (λ _. omega arith)) (λ _. omega arith))
+    picks Plain (eqb (get_or p 80 0) 10) _ (Bad refusal.LineEnd)
+    (λ _. picks Plain (clean_at (take 80 p) 0 80) _ (Bad refusal.Byte) (λ _. by_kind (take 80 p) h (kind_of (take 80 p))) (λ _. tt)) (λ _. tt))
 
 -- ---- the number of a MODEL line is one that four columns hold
-abbrev SmallFence : Fence → Type 0
-SmallFence (Opens n) = n ≤ 9999
-SmallFence Shuts = Unit {0}
-SmallFence Unfenced = Unit {0}
+abbrev SmallFence : Option Fence → Type 0
+SmallFence (Some (Opens n)) = n ≤ 9999
+SmallFence (Some Shuts) = Unit {0}
+SmallFence None = Unit {0}
 
 abbrev pub PlainFence : Line → Type 0
 PlainFence l = SmallFence (fence_in l)
 
 judged_fence : (k : Kind) (c : ℕ) (r : Record) → SmallFence (fence_of r) → PlainFence (line_in k (judged c r))
 unfolding judged
-judged_fence k c r s = picks (λ (x : Reading). PlainFence (line_in k x)) (eqb c 0) (reading.Typed r) (reading.Wrong c) (λ _. s) (λ _. tt)
+judged_fence k c r s = picks (λ (x : Reading). PlainFence (line_in k x)) (eqb c 0) (Ok r) (Err (unread.Wrong (record { 0 = c }))) (λ _. s) (λ _. tt)
 
 model_small : (l : List ℕ) → (model_f.value l 6).number ≤ 9999
 unfolding model_columns
@@ -190,7 +190,7 @@ fence_kind l k =
     (λ _. picks P (is Model k) _ _ (λ _. judged_fence k (model_f.fault l 6) (rec.Model (model_f.value l 6)) (model_small l))
     (λ _. picks P (is Endmdl k) _ _ (λ _. judged_fence k _ _ tt)
     (λ _. crystal_cases P k l (λ _. judged_fence k _ _ tt) (λ _ _ _. judged_fence k _ _ tt)
-    (picks PlainFence (is_named k) (Carried k) (Bad 4) (λ _. tt) (λ _. tt))))))))))))
+    (picks PlainFence (is_named k) (Carried k) (Bad refusal.Name) (λ _. tt) (λ _. tt))))))))))))
   where
     P : Reading → Type 0
     P x = PlainFence (line_in k x)
@@ -198,6 +198,6 @@ fence_kind l k =
 pub piece_model : (p : List ℕ) → PlainFence (line_of p)
 unfolding line_of columns_of
 piece_model p =
-    picks PlainFence (ltb (length p) 81) (Bad 1) _ (λ _. tt)
-    (λ _. picks PlainFence (eqb (get_or p 80 0) 10) _ (Bad 2)
-    (λ _. picks PlainFence (clean_at (take 80 p) 0 80) _ (Bad 3) (λ _. fence_kind (take 80 p) (kind_of (take 80 p))) (λ _. tt)) (λ _. tt))
+    picks PlainFence (ltb (length p) 81) (Bad refusal.Length) _ (λ _. tt)
+    (λ _. picks PlainFence (eqb (get_or p 80 0) 10) _ (Bad refusal.LineEnd)
+    (λ _. picks PlainFence (clean_at (take 80 p) 0 80) _ (Bad refusal.Byte) (λ _. fence_kind (take 80 p) (kind_of (take 80 p))) (λ _. tt)) (λ _. tt))

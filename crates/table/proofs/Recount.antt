@@ -1,5 +1,6 @@
 -- The counts of the lines kept are no larger than those of all lines, so MASTER counted anew fits its columns and reads back.
 -- Assumes nothing.
+use Rattle.std.proofs.Common.{Option, Some, None}
 use Prim.Native.Nat.{ℕ, ◌+◌, ◌≤◌}
 use mathlib.Core.List.{List}
 use mathlib.Core.Bool.{Bool, true, false, false≢true}
@@ -7,8 +8,6 @@ use mathlib.Core.Path.{◌≡◌, refl}
 use native.Mathlib.Omega.{arith}
 use borrow.Author.Tests.{eqb-true, not-false}
 use lib.Dec.{eqb}
-use Rattle.facets.specs.declared.Total.{Total}
-use Rattle.facets.specs.declared.Total.TheVariants.{Counted, Uncounted}
 use Rattle.rules.specs.declared.Looked.{Looked}
 use Rattle.ascii.specs.Tests.{pick}
 use Rattle.ascii.proofs.Choice.{picks, both_split}
@@ -23,9 +22,9 @@ use Rattle.places.specs.declared.Models.{Models}
 use Rattle.places.specs.Counts.{count_at, no_counts, one_more, raised, same_counts}
 use Rattle.rules.specs.Rules.{models_next, count_bad, judge_of, carried_next, typed_next, next_of, start_of}
 use Rattle.facets.specs.declared.Fence.{Fence}
-use Rattle.facets.specs.declared.Fence.TheVariants.{Opens, Shuts, Unfenced}
+use Rattle.facets.specs.declared.Fence.TheVariants.{Opens, Shuts}
 use Rattle.facets.specs.Facets.{line_kind, total_of, fence_of}
-use Rattle.rules.proofs.Laws.{judge_typed, judge_wrong}
+use Rattle.rules.proofs.Laws.{judge_typed, judge_bad, judge_wrong}
 use Rattle.table.specs.Deal.{past_after, past_next, counted, tally_of, master_piece, is_total, is_master}
 use Rattle.table.specs.FiveDigits.{FiveDigits}
 use Rattle.table.proofs.Plain.{PlainTotal, Plain}
@@ -91,7 +90,7 @@ under_skip a b w u =
 -- a good line raises the counts of its kind
 counts_next : (known : Looked) (s : State) (l : Line) → Plain l → judge_of known s l ≡ 0 → (next_of s l).counts ≡ raised s.counts (count_at s.models.past (line_kind l))
 unfolding next_of carried_next typed_next judge_of
-counts_next known s (Bad n) p e = absurd (omega arith)
+counts_next known s (Bad n) p e = absurd (judge_bad known s n e)
 counts_next known s (Wrong k column) p e = absurd (judge_wrong known s k column e)
 counts_next known s (Carried k) p e = refl
 counts_next known s (Typed r) p e = refl
@@ -103,14 +102,14 @@ under_next known true q s l p e u = rw (counts_next known s l p e) (under_both q
 under_next known false q s l p e u = rw (counts_next known s l p e) (under_skip q s.counts (count_at s.models.past (line_kind l)) u)
 
 -- whether the first model is past is told by the lines alone
-fence_past : (m : Models) (e : Fence) → (models_next m e).past ≡ past_after m.past e
-fence_past m (Opens n) = refl
-fence_past m Shuts = refl
-fence_past m Unfenced = refl
+fence_past : (m : Models) (e : Option Fence) → (models_next m e).past ≡ past_after m.past e
+fence_past m (Some (Opens n)) = refl
+fence_past m (Some Shuts) = refl
+fence_past m None = refl
 
 pub past_next_lem : (known : Looked) (s : State) (l : Line) → Plain l → judge_of known s l ≡ 0 → (next_of s l).models.past ≡ past_next s.models.past l
 unfolding next_of carried_next typed_next judge_of
-past_next_lem known s (Bad n) p e = absurd (omega arith)
+past_next_lem known s (Bad n) p e = absurd (judge_bad known s n e)
 past_next_lem known s (Wrong k column) p e = absurd (judge_wrong known s k column e)
 past_next_lem known s (Carried k) p e = refl
 past_next_lem known s (Typed r) p e = fence_past s.models (fence_of r)
@@ -149,9 +148,9 @@ master_fits known s q (Wrong k column) plain g u m = absurd (false≢true m)
 master_fits known s q (Carried k) plain g u m = absurd (false≢true m)
 master_fits known s q (Typed r) plain g u m = go (total_of r) plain (judge_typed known s r g).count m
   where
-    go : (t : Total) → PlainTotal t → count_bad s.counts t ≡ false → is_total t ≡ true → FiveDigits (tally_of q)
-    go (Counted t) p c e = small_under t s.counts q p (not-false _ c) u
-    go Uncounted p c e = absurd (false≢true e)
+    go : (t : Option Tally) → PlainTotal t → count_bad s.counts t ≡ false → is_total t ≡ true → FiveDigits (tally_of q)
+    go (Some t) p c e = small_under t s.counts q p (not-false _ c) u
+    go None p c e = absurd (false≢true e)
 
 -- ---- a line as it is written reads as the line, MASTER with its new counts
 abbrev pub recounted : Counts → Line → Line

@@ -1,5 +1,6 @@
 -- A good line of a text is good among the lines kept: the state that they leave is never ahead of the state that all lines leave.
 -- Assumes nothing.
+use Rattle.std.proofs.Common.{Option, Some, None}
 use Prim.Native.Nat.{ℕ, ◌≤◌, ◌<◌}
 use mathlib.Core.Bool.{Bool, true, false, not, true≢false}
 use mathlib.Core.Path.{◌≡◌, refl, sym, ◌∙◌}
@@ -10,8 +11,7 @@ use borrow.Author.Tests.{leb-false, lt-leb, ltb-false, le-ltb, le-leb, eq-eqb, n
 use lib.Dec.{eqb}
 use Rattle.fields.specs.declared.Serial.{Serial}
 use Rattle.facets.specs.declared.Spot.{Spot}
-use Rattle.facets.specs.declared.Spot.TheVariants.{Site, Close, Nowhere}
-use Rattle.facets.specs.declared.Bond.TheVariants.{Bonds}
+use Rattle.facets.specs.declared.Spot.TheVariants.{Site, Close}
 use Rattle.rules.specs.declared.Looked.{Looked}
 use Rattle.ascii.specs.Tests.{pick, both, either}
 use Rattle.ascii.proofs.Choice.{never, either_none}
@@ -107,18 +107,18 @@ fence_behind k s m x b p = go (is kind.Model x) refl
     go false u e = e
 
 -- ---- serials
-serial_trails : (a b : Serial) (p : Spot) → a.0 ≤ b.0 → serial_bad b p ≡ false → serial_bad a p ≡ false
-serial_trails a b (Site het x) h e = lt-leb _ _ (lt_of_le_of_lt h (leb-false _ _ e))
-serial_trails a b (Close t) h e = lt-leb _ _ (lt_of_le_of_lt h (leb-false _ _ e))
-serial_trails a b Nowhere h e = refl
+serial_trails : (a b : Serial) (p : Option Spot) → a.0 ≤ b.0 → serial_bad b p ≡ false → serial_bad a p ≡ false
+serial_trails a b (Some (Site het x)) h e = lt-leb _ _ (lt_of_le_of_lt h (leb-false _ _ e))
+serial_trails a b (Some (Close t)) h e = lt-leb _ _ (lt_of_le_of_lt h (leb-false _ _ e))
+serial_trails a b None h e = refl
 
 -- a CONECT line's serial is not below the last one's, and its numbers are known
-pub bond_split : (known : Bool) (last : Serial) (c : ConectOf) → bond_bad known last (Bonds c) ≡ false → (known ≡ true) × (last.0 ≤ c.serial.0)
+pub bond_split : (known : Bool) (last : Serial) (c : ConectOf) → bond_bad known last (Some c) ≡ false → (known ≡ true) × (last.0 ≤ c.serial.0)
 unfolding either
 bond_split true last c e = (refl, ltb-false _ _ e)
 bond_split false last c e = never (sym e)
 
-pub bond_join : (known : Bool) (last : Serial) (c : ConectOf) → known ≡ true → last.0 ≤ c.serial.0 → bond_bad known last (Bonds c) ≡ false
+pub bond_join : (known : Bool) (last : Serial) (c : ConectOf) → known ≡ true → last.0 ≤ c.serial.0 → bond_bad known last (Some c) ≡ false
 unfolding either
 bond_join known last c e h = rw (e, le-ltb c.serial.0 last.0 h)
 

@@ -1,12 +1,12 @@
 -- Saving and the tray: each line of a text goes to the one or to the other.
-use Rattle.std.specs.Prelude.{◌+◌, ◌∷◌, ◌++◌}
+use Rattle.std.specs.Prelude.{◌+◌, ◌∷◌, ◌++◌, Option, Some, None}
 use Rattle.ascii.specs.Library.{ℕ, List, [], Bool, true, false, not, length, take, get_or, eqb, ltb, bytes, pick, both, either, alike}
 use Rattle.conect.specs.declared.{Conect.Conect}
 use Rattle.master.specs.declared.{Tally.Tally}
 use Rattle.master.specs.Masters.{master_f}
 use Rattle.kinds.specs.Kinds.{line_with}
 use Rattle.pieces.specs.declared.{Line.Line}
-use Rattle.facets.specs.declared.{Fence.Fence, Fence.TheVariants.Opens, Fence.TheVariants.Shuts, Fence.TheVariants.Unfenced, Bond.Bond, Bond.TheVariants.Bonds, Bond.TheVariants.Loose, Total.Total, Total.TheVariants.Counted, Total.TheVariants.Uncounted}
+use Rattle.facets.specs.declared.{Fence.Fence, Fence.TheVariants.Opens, Fence.TheVariants.Shuts}
 use Rattle.facets.specs.Facets as facets
 use Rattle.facets.specs.Facets.{line_kind, total_in, fence_in, is_coord, is_fence}
 use Rattle.pieces.specs.Pieces.{line_of}
@@ -40,9 +40,9 @@ bond_in xs c =
     (both (partner_in xs c.a.0) (both (partner_in xs c.b.0) (both (partner_in xs c.c.0) (partner_in xs c.d.0))))
 
 -- a line that is no CONECT line stays for its bonds
-abbrev pub bond_stays : List Slot → Bond → Bool
-bond_stays xs (Bonds c) = bond_in xs c
-bond_stays xs Loose = true
+abbrev pub bond_stays : List Slot → Option Conect → Bool
+bond_stays xs (Some c) = bond_in xs c
+bond_stays xs None = true
 
 -- ---- each line stays or goes
 -- k slots stand before the line: a line with a slot stays unless that is set aside, a CONECT line while each number on it is in, in some model
@@ -50,10 +50,10 @@ unfoldable pub stays : List Slot → ℕ → Line → Bool
 stays xs k l = pick (is_coord l) (not (eqb (get_or xs k no_slot).mark mark_aside)) (bond_stays (take k xs) (facets.bond_in l))
 
 -- whether the first model is past, once this line is
-abbrev pub past_after : Bool → Fence → Bool
-past_after past (Opens n) = past
-past_after past Shuts = true
-past_after past Unfenced = past
+abbrev pub past_after : Bool → Option Fence → Bool
+past_after past (Some (Opens n)) = past
+past_after past (Some Shuts) = true
+past_after past None = past
 
 abbrev pub past_next : Bool → Line → Bool
 past_next past l = past_after past (fence_in l)
@@ -82,9 +82,9 @@ unfoldable pub master_piece : Counts → List ℕ
 master_piece q = line_with kind.Master master_f (tally_of q) ++ bytes "\n"
 
 -- a MASTER line
-abbrev pub is_total : Total → Bool
-is_total (Counted t) = true
-is_total Uncounted = false
+abbrev pub is_total : Option Tally → Bool
+is_total (Some t) = true
+is_total None = false
 
 abbrev pub is_master : Line → Bool
 is_master l = is_total (total_in l)

@@ -1,11 +1,12 @@
 -- The table of a text: loading it, whether a table belongs to a text, and orders.
-use Rattle.std.specs.Prelude.{◌+◌, ◌*◌, ◌-◌, ◌∷◌, ◌++◌}
+use Rattle.std.specs.Prelude.{◌+◌, ◌*◌, ◌-◌, ◌∷◌, ◌++◌, Option, Some, None, Result, Ok, Err}
 use Rattle.ascii.specs.Library.{ℕ, List, [], map, Bool, true, not, length, take, drop, get_or, eqb, ltb, leb, pick, both, either}
 use Rattle.fields.specs.declared.{FragmentNumber.FragmentNumber}
+use Rattle.refusals.specs.declared.{Refusal.Refusal}
 use Rattle.pieces.specs.declared.{Line.Line}
 use Rattle.pieces.specs.Pieces.{line_of}
 use Rattle.rows.specs.Text.{cut}
-use Rattle.facets.specs.declared.{Fence.Fence, Fence.TheVariants.Opens, Fence.TheVariants.Shuts, Fence.TheVariants.Unfenced}
+use Rattle.facets.specs.declared.{Fence.Fence, Fence.TheVariants.Opens, Fence.TheVariants.Shuts}
 use Rattle.facets.specs.Facets.{fence_in, is_coord}
 use Rattle.gate.specs.Gate.{check_of}
 use Rattle.slots.specs.declared.{Slot.Slot}
@@ -21,6 +22,11 @@ pub record Told (A : Type 0) : Type 0 where
 abbrev pub told : {A : Type 0} → ℕ → ℕ → List A → Told A
 told n k xs = record { number = n; count = k; left = xs }
 
+-- how many are told of: none where the answer is refused
+abbrev pub count_in : Result ℕ Refusal → ℕ
+count_in (Ok n) = n
+count_in (Err r) = 0
+
 -- the first of xs are written over with ys
 abbrev pub over : {A : Type 0} → List A → List A → List A
 over ys xs = ys ++ drop (length ys) xs
@@ -31,10 +37,10 @@ unfoldable pub lines_from : List ℕ → ℕ → List Line
 lines_from t i = map line_of (cut (drop (81 * i) t))
 
 -- the model that a line leaves, after one of model m: MODEL begins its own, and after ENDMDL there is none
-abbrev pub model_after : ℕ → Fence → ℕ
-model_after m (Opens n) = n
-model_after m Shuts = no_model
-model_after m Unfenced = m
+abbrev pub model_after : ℕ → Option Fence → ℕ
+model_after m (Some (Opens n)) = n
+model_after m (Some Shuts) = no_model
+model_after m None = m
 
 abbrev pub model_next : ℕ → Line → ℕ
 model_next m l = model_after m (fence_in l)

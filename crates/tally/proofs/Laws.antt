@@ -1,6 +1,6 @@
 -- What is counted, by the outcome of each test.
 -- Assumes nothing.
-use mathlib.Core.Path.{◌≡◌, sym, ap, ◌∙◌}
+use mathlib.Core.Path.{◌≡◌, refl, sym, ap, ◌∙◌}
 use mathlib.Core.List.{List}
 use mathlib.Core.Bool.{Bool, true, false}
 use Prim.Native.Nat.{ℕ, ◌≤◌, ◌<◌}
@@ -9,12 +9,7 @@ use Rattle.kinds.specs.declared.Kind.{Kind}
 use Rattle.kinds.specs.Kinds.{is_named, kind_of}
 use Rattle.master.specs.declared.Tally.{Tally}
 use Rattle.places.specs.Counts.{count_at}
-use Rattle.tally.specs.declared.Counted.{Counted}
-use Rattle.tally.specs.Tally.{most, count_in, raised_tally, told_tally, tally_step, tally_line}
-
--- a count that has room has it under its number
-pub room : (t : Tally) (which n : ℕ) → count_in t which < most → which ≡ n → count_in t n < most
-room t which n h e = rw e at h
+use Rattle.tally.specs.Tally.{Counted, most, count_in, raised_tally, told_tally, tally_step, tally_line}
 
 -- ---- a step
 pub step_raised : (t u : Tally) (which n : ℕ) → n ≡ count_in t which → n < most → u ≡ raised_tally t which → told_tally 0 u ≡ tally_step t which
@@ -25,6 +20,10 @@ pub step_full : (t : Tally) (which n : ℕ) → n ≡ count_in t which → most 
 unfolding tally_step
 step_full t which n e h = rw (← e, le-ltb _ _ h)
 
+pub step_none : (t : Tally) → told_tally 0 t ≡ tally_step t 0
+unfolding tally_step count_in raised_tally
+step_none t = refl
+
 -- ---- a line
 module _ (past : Bool) (t : Tally) (l : List ℕ) (k : Kind) (named : Bool) (ek : k ≡ kind_of l) (en : named ≡ is_named k) where
   pub line_named : (which : ℕ) (r : Counted) → named ≡ true → which ≡ count_at past k → r ≡ tally_step t which → r ≡ tally_line past t l
@@ -34,7 +33,3 @@ module _ (past : Bool) (t : Tally) (l : List ℕ) (k : Kind) (named : Bool) (ek 
   pub line_unknown : named ≡ false → told_tally 4 t ≡ tally_line past t l
   unfolding tally_line
   line_unknown h = rw (← ek, sym en ∙ h)
-
--- ---- what is stored
-pub stored : (past : Bool) (t u : Tally) (l : List ℕ) (c : Counted) (n : ℕ) → c ≡ tally_line past t l → u ≡ c.tally → n ≡ c.number → told_tally n u ≡ tally_line past t l
-stored past t u l c n e p q = rw (p, q) e

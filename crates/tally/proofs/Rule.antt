@@ -15,8 +15,7 @@ use Rattle.kinds.proofs.First.{each}
 use Rattle.kinds.proofs.Returns.{no_name}
 use Rattle.master.specs.declared.Tally.{Tally}
 use Rattle.places.specs.Counts.{count_of, count_at, one_more}
-use Rattle.tally.specs.declared.Counted.{Counted}
-use Rattle.tally.specs.Tally.{most, count_in, raised_tally, told_tally, tally_step, tally_line, tally_all, Granted, lines_of}
+use Rattle.tally.specs.Tally.{Counted, most, count_in, raised_tally, told_tally, tally_step, tally_line, tally_all, Granted, lines_of}
 use Rattle.tally.specs.Promise.{Promises}
 
 -- a line under six bytes gets 4

@@ -1,10 +1,10 @@
 -- The tally: nine counts, brought up to date one line at a time.
-use Rattle.std.specs.Prelude.{◌≡◌, ◌∷◌}
+use Rattle.std.specs.Prelude.{◌≡◌, ◌∷◌, Result, Ok, Err}
 use Rattle.ascii.specs.Library.{ℕ, List, [], Bool, eqb, ltb, pick}
 use Rattle.kinds.specs.Kinds.{is_named, kind_of}
 use Rattle.master.specs.declared.{Tally.Tally}
 use Rattle.places.specs.Counts.{count_at, one_more}
-use Rattle.tally.specs.declared.{Counted.Counted}
+use Rattle.refusals.specs.declared.{Refusal.Refusal}
 
 -- no count goes above this
 abbrev pub most : ℕ
@@ -39,8 +39,17 @@ raised_tally t which =
     }
 
 -- the number that is answered, and what the tally then holds
+pub record Counted : Type 0 where
+  pub number : ℕ
+  pub tally : Tally
+
 abbrev pub told_tally : ℕ → Tally → Counted
 told_tally n t = record { number = n; tally = t }
+
+-- what the tally holds after an answer: a refusal leaves it as found
+abbrev pub tally_in : Result Tally Refusal → Tally → Tally
+tally_in (Ok t) found = t
+tally_in (Err r) found = found
 
 -- 14: the count to be raised is 99,999 or above; a name that is not counted raises none
 unfoldable pub tally_step : Tally → ℕ → Counted

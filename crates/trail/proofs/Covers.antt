@@ -7,12 +7,12 @@ use mathlib.Core.Path.{◌≡◌}
 use native.Mathlib.Nat.{le_trans}
 use borrow.Author.Tests.{leb-true, ltb-true}
 use lib.Dec.{leb, ltb}
+use Rattle.std.proofs.lemmas.Bool.{cases_lt}
 use Rattle.ascii.specs.Tests.{both}
 use Rattle.ascii.proofs.Choice.{both_split}
 use Rattle.ahead.specs.declared.Ahead.{Ahead}
 use Rattle.ahead.specs.Ahead.{Clear}
 use Rattle.trail.specs.Trail.{Apart}
-use Rattle.trail.proofs.Order.{less_or_not}
 
 pub covered : (d : Ahead) (a i : ℕ) → both (leb d.a a) (both (leb d.b i) (ltb i d.c)) ≡ true → (d.a ≤ a) × (d.b ≤ i) × (i < d.c)
 covered d a i e =
@@ -22,4 +22,4 @@ covered d a i e =
 
 pub apart_beyond : (t : List ℕ) (d : Ahead) (lo from i : ℕ) → Clear t d → (d.a ≤ from) × (d.b ≤ i) × (i < d.c) → Apart t lo from i → Apart t lo d.b i
 apart_beyond t d lo from i C h A j g k e f =
-    ⊎_elim (λ (l : j < from). A j g l e f) (λ (l : from ≤ j). C j i (le_trans h.0 l) k h.1 h.2 e f) (less_or_not j from)
+    ⊎_elim (λ (l : j < from). A j g l e f) (λ (l : from ≤ j). C j i (le_trans h.0 l) k h.1 h.2 e f) (cases_lt j from)

@@ -1,15 +1,20 @@
 -- What is known of the coordinate lines so far. (Nothing here is part of an answer.)
 use Rattle.std.specs.Prelude.{◌+◌, ◌≤◌, ◌<◌, ◌≡◌, ◌⊎◌}
 use Rattle.ascii.specs.Library.{ℕ, List, ltb, pick}
-use Rattle.keys.specs.Keys.{home_at, body_at}
+use Rattle.rows.specs.Text.{piece_at}
+use Rattle.keys.specs.Keys.{home_of, body_of, home_at, body_at}
 use Rattle.ahead.specs.Ahead.{Clear}
 use Rattle.search.specs.declared.{Span.Span}
 use Rattle.search.specs.Search.{span}
 use Rattle.trail.specs.declared.{Watch.Watch}
 
--- no line from lo up to start has the columns of line i that name an atom
+-- no line from lo up to start has the columns of the piece p that name an atom
+abbrev pub Unlike : List ℕ → ℕ → ℕ → List ℕ → Type 0
+Unlike t lo start p = (j : ℕ) → lo ≤ j → j < start → home_at t j ≡ home_of p → body_at t j ≡ body_of p → ⊥
+
+-- of line i
 abbrev pub Apart : List ℕ → ℕ → ℕ → ℕ → Type 0
-Apart t lo start i = (j : ℕ) → lo ≤ j → j < start → home_at t j ≡ home_at t i → body_at t j ≡ body_at t i → ⊥
+Apart t lo start i = Unlike t lo start (piece_at t i)
 
 -- the numbers W from lo up to hi do not fall
 abbrev pub Climbs : (ℕ → ℕ) → ℕ → ℕ → Type 0

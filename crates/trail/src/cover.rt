@@ -13,7 +13,7 @@ pub const FEW: usize = 64;
 pub fn covers(d: Ahead, a: usize, i: usize) -> bool
     ensures { result ≡ both (leb d.a a) (both (leb d.b i) (ltb i d.c)) }
 {
-    ascii::both_of(d.a <= a, ascii::both_of(d.b <= i, i < d.c))
+    (d.a <= a) & (d.b <= i) & (i < d.c)
 }
 
 // The line from which on lines have to be looked at for line i: not those of which the look ahead tells.
@@ -21,12 +21,8 @@ pub fn beyond(d: Ahead, from: usize, hi: usize, i: usize) -> usize
     requires { from ≤ hi }
     ensures { (from ≤ result) × (result ≤ hi) × ((t : List ℕ) (lo : ℕ) → Clear t d → Apart t lo from i → Apart t lo result i) }
 {
-    if covers(d, from, i) {
-        if d.b <= hi {
-            if from < d.b {
-                return d.b;
-            }
-        }
+    if covers(d, from, i) && d.b <= hi && from < d.b {
+        return d.b;
     }
     from
 }

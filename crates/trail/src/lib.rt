@@ -41,15 +41,11 @@ fn risen(w: Watch, b: Span, x: u64) -> Watch
     requires { (w.key < x) × (x < w.limit) }
     ensures { (result.key ≡ x) × ((t : List ℕ) → b.lo ≤ b.hi → Watched t b w → Watched t b result) }
 {
-    let a = w.ahead;
     Watch {
         from: b.hi,
-        top: w.top,
         low: w.key,
         key: x,
-        limit: w.limit,
-        peak: w.peak,
-        ahead: a,
+        ..w
     }
 }
 
@@ -58,15 +54,11 @@ fn fallen(w: Watch, b: Span, x: u64) -> Watch
     requires { (w.low < x) × (x < w.key) }
     ensures { (result.key ≡ x) × ((t : List ℕ) → b.lo ≤ b.hi → Watched t b w → Watched t b result) }
 {
-    let a = w.ahead;
     Watch {
         from: b.hi,
-        top: w.top,
-        low: w.low,
         key: x,
         limit: w.key,
-        peak: w.peak,
-        ahead: a,
+        ..w
     }
 }
 
@@ -74,15 +66,12 @@ fn fallen(w: Watch, b: Span, x: u64) -> Watch
 fn found(w: Watch, s: Sight, x: u64) -> Watch
     ensures { (result.key ≡ x) × ((t : List ℕ) (b : Span) → Seen (home_at t) b.lo b.hi s.from s.low x s.limit → Watched t b w → Watched t b result) }
 {
-    let a = w.ahead;
     Watch {
         from: s.from,
-        top: w.top,
         low: s.low,
         key: x,
         limit: s.limit,
-        peak: w.peak,
-        ahead: a,
+        ..w
     }
 }
 
@@ -90,26 +79,13 @@ fn found(w: Watch, s: Sight, x: u64) -> Watch
 fn told(w: Watch, d: Ahead) -> Watch
     ensures { (result.key ≡ w.key) × (result.from ≡ w.from) × ((t : List ℕ) (b : Span) → Clear t d → Watched t b w → Watched t b result) }
 {
-    Watch {
-        from: w.from,
-        top: w.top,
-        low: w.low,
-        key: w.key,
-        limit: w.limit,
-        peak: w.peak,
-        ahead: d,
-    }
+    Watch { ahead: d, ..w }
 }
 
 // ---- when to look ahead: any answer would do, a poor one costs time alone
 // Whether a look ahead told of few lines: then the next ones are likely to tell of no more, and lines are looked at one by one instead.
 fn told_little(d: Ahead) -> bool {
-    if d.a < d.b {
-        if d.b <= d.c {
-            return d.c - d.b < LITTLE;
-        }
-    }
-    false
+    d.a < d.b && d.b <= d.c && d.c - d.b < LITTLE
 }
 
 const LITTLE: usize = 16;
@@ -118,20 +94,15 @@ const LITTLE: usize = 16;
 fn wanting(d: Ahead, from: usize, hi: usize, i: usize) -> bool
     requires { from ≤ hi }
 {
-    if hi - from <= cover::FEW {
-        return false;
-    }
-    let spared = cover::covers(d, from, i);
-    let idle = ascii::both_of(told_little(d), recent(d, hi));
-    ascii::both_of(hi == i, ascii::both_of(!spared, !idle))
+    hi - from > cover::FEW
+        && hi == i
+        && !cover::covers(d, from, i)
+        && !(told_little(d) && recent(d, hi))
 }
 
 // Whether the last look was at one of the last lines.
 fn recent(d: Ahead, hi: usize) -> bool {
-    if d.b <= hi {
-        return hi - d.b <= cover::FEW;
-    }
-    true
+    d.b > hi || hi - d.b <= cover::FEW
 }
 
 // Where many lines from `from` on would have to be looked at for line i, those from a on are held against it and lines to come.
@@ -139,10 +110,8 @@ fn forearmed(text: &[u8], b: Span, w: Watch, i: usize, from: usize, a: usize) ->
     requires { (from ≤ b.hi) × (a ≤ b.hi) × (81 * b.hi ≤ length text.now) × Watched text.now b w }
     ensures { (result.key ≡ w.key) × (result.from ≡ w.from) × Watched text.now b result }
 {
-    let d = w.ahead;
-    if wanting(d, from, b.hi, i) {
-        let e = ahead::survey(text, a, b.hi);
-        return told(w, e);
+    if wanting(w.ahead, from, b.hi, i) {
+        return told(w, ahead::survey(text, a, b.hi));
     }
     w
 }
@@ -153,15 +122,13 @@ fn sought(text: &[u8], b: Span, w: Watch, i: usize, x: u64) -> Watch
     requires x_bound { x < 18446744073709551615 }
     ensures { (result.key ≡ x) × Watched text.now b result }
 {
-    let top = w.top;
-    let d = w.ahead;
-    let s = looking::looked(text, b, top, x);
+    let s = looking::looked(text, b, w.top, x);
     let v = found(w, s, x);
-    if s.from < top {
+    if s.from < w.top {
         return forearmed(text, b, v, i, s.from, b.lo);
     }
-    if recent(d, b.hi) {
-        return forearmed(text, b, v, i, top, top);
+    if recent(w.ahead, b.hi) {
+        return forearmed(text, b, v, i, w.top, w.top);
     }
     let none = Ahead {
         a: b.hi,
@@ -176,14 +143,12 @@ fn spared(text: &[u8], b: Span, w: Watch, i: usize, x: u64) -> Watch
     requires { (b.lo ≤ b.hi) × (81 * b.hi ≤ length text.now) × Watched text.now b w }
     ensures { (result.key ≡ x) × Watched text.now b result }
 {
-    let near = looking::nearest(text, b, w.top, x);
     let s = Sight {
-        from: near,
+        from: looking::nearest(text, b, w.top, x),
         low: x,
         limit: x,
     };
-    let v = found(w, s, x);
-    forearmed(text, b, v, i, near, b.lo)
+    forearmed(text, b, found(w, s, x), i, s.from, b.lo)
 }
 
 // What is known of the lines of the block, with the residue x of line i as the key.
@@ -194,20 +159,13 @@ fn attend(text: &[u8], b: Span, w: Watch, i: usize, x: u64) -> Watch
     if x == w.key {
         return w;
     }
-    if w.key < x {
-        if x < w.limit {
-            return risen(w, b, x);
-        }
-    } else {
-        if w.low < x {
-            return fallen(w, b, x);
-        }
+    if w.key < x && x < w.limit {
+        return risen(w, b, x);
     }
-    let d = w.ahead;
-    if cover::covers(d, w.top, i) {
-        return spared(text, b, w, i, x);
+    if w.low < x && x < w.key {
+        return fallen(w, b, x);
     }
-    if x == sight::MOST {
+    if cover::covers(w.ahead, w.top, i) || x == sight::MOST {
         return spared(text, b, w, i, x);
     }
     sought(text, b, w, i, x)
@@ -219,19 +177,16 @@ fn opened(text: &[u8], b: Span, w: Watch, i: usize) -> Step
     ensures lo_le_start { (b.lo ≤ result.start) × (result.start ≤ b.hi) × Apart text.now b.lo result.start i }
     ensures key_value { (result.watch.key ≡ w.key) × Watched text.now b result.watch }
 {
-    let from = w.from;
-    if b.hi - from <= cover::FEW {
+    if b.hi - w.from <= cover::FEW {
         return Step {
-            start: from,
+            start: w.from,
             watch: w,
         };
     }
-    let v = forearmed(text, b, w, i, from, from);
-    let d = v.ahead;
-    let start = cover::beyond(d, from, b.hi, i);
+    let watch = forearmed(text, b, w, i, w.from, w.from);
     Step {
-        start: start,
-        watch: v,
+        start: cover::beyond(watch.ahead, w.from, b.hi, i),
+        watch,
     }
 }
 
@@ -240,19 +195,12 @@ fn taken(b: Span, w: Watch, i: usize) -> Watch
     requires { i < 9223372036854775808 }
     ensures { (t : List ℕ) → b.lo ≤ b.hi → b.hi ≡ i → w.key ≡ home_at t i → Watched t b w → Watched t (span b.lo (i + 1)) result }
 {
-    if w.top == i {
-        if w.peak <= w.key {
-            let a = w.ahead;
-            return Watch {
-                from: w.from,
-                top: i + 1,
-                low: w.low,
-                key: w.key,
-                limit: w.limit,
-                peak: w.key,
-                ahead: a,
-            };
-        }
+    if w.top == i && w.peak <= w.key {
+        return Watch {
+            top: i + 1,
+            peak: w.key,
+            ..w
+        };
     }
     w
 }
@@ -262,7 +210,6 @@ fn first(w: Watch, i: usize, x: u64) -> Watch
     requires { i < 9223372036854775808 }
     ensures { (t : List ℕ) (b : Span) → x ≡ home_at t i → Watched t b w → Watched t (span i (i + 1)) result }
 {
-    let a = w.ahead;
     Watch {
         from: i,
         top: i + 1,
@@ -270,11 +217,12 @@ fn first(w: Watch, i: usize, x: u64) -> Watch
         key: x,
         limit: sight::MOST,
         peak: x,
-        ahead: a,
+        ahead: w.ahead,
     }
 }
 
-// What is known of line i, one of ATOM, HETATM or TER, where the block of such lines before it is b.
+// What is known of line i, one of ATOM, HETATM or TER, where the block of such lines before it is b. The line is told by its index, and
+// not by its piece, since what is known is of lines by index.
 pub fn follow(text: &[u8], b: Span, w: Watch, i: usize) -> Step
     requires i_in_bounds { 81 * i + 81 ≤ length text.now }
     requires lo_le_hi { (b.lo ≤ b.hi) × (81 * b.hi ≤ length text.now) }
@@ -282,21 +230,17 @@ pub fn follow(text: &[u8], b: Span, w: Watch, i: usize) -> Step
     ensures lo_le_start { (b.lo ≤ result.start) × (result.start ≤ b.hi) × Apart text.now b.lo result.start i }
     ensures watched_2 { (b.lo < b.hi → b.hi ≡ i) → Watched text.now (including b i) result.watch }
 {
-    let x = keys::home(text, i);
+    let x = keys::home(rows::piece_at(text, i));
     if b.lo < b.hi {
-        let v = attend(text, b, w, i, x);
-        let s = opened(text, b, v, i);
-        let known = s.watch;
-        let u = taken(b, known, i);
+        let Step { start, watch } = opened(text, b, attend(text, b, w, i, x), i);
         return Step {
-            start: s.start,
-            watch: u,
+            start,
+            watch: taken(b, watch, i),
         };
     }
-    let u = first(w, i, x);
     Step {
         start: b.hi,
-        watch: u,
+        watch: first(w, i, x),
     }
 }
 
@@ -304,7 +248,6 @@ pub fn follow(text: &[u8], b: Span, w: Watch, i: usize) -> Step
 pub fn start() -> Watch
     ensures { (t : List ℕ) → Watched t (span 0 0) result }
 {
-    let a = Ahead { a: 0, b: 0, c: 0 };
     Watch {
         from: 0,
         top: 0,
@@ -312,6 +255,6 @@ pub fn start() -> Watch
         key: 0,
         limit: 0,
         peak: 0,
-        ahead: a,
+        ahead: Ahead { a: 0, b: 0, c: 0 },
     }
 }

@@ -7,13 +7,7 @@ ghost use Rattle.trail.specs.Trail.{Seen, Climbs, half_of};
 use crate::sight;
 use crate::sight::Sight;
 use search::Span;
-
-fn middle(s: Span) -> usize
-    requires { s.lo < s.hi }
-    ensures { (s.lo ≤ result) × (result < s.hi) }
-{
-    s.lo + (s.hi - s.lo) / 2
-}
+use std::cmp::Ordering;
 
 // What is left to search for the first line that is no less than x, once w was seen on line m.
 fn half(s: Span, m: usize, w: u64, x: u64) -> Span
@@ -21,12 +15,9 @@ fn half(s: Span, m: usize, w: u64, x: u64) -> Span
     ensures { result ≡ half_of s m w x }
 {
     if w < x {
-        return Span {
-            lo: m + 1,
-            hi: s.hi,
-        };
+        return Span { lo: m + 1, ..s };
     }
-    Span { lo: s.lo, hi: m }
+    Span { hi: m, ..s }
 }
 
 // The first of lines whose residues do not fall that is in the residue x or a higher one, or their end.
@@ -35,10 +26,10 @@ pub fn seek(text: &[u8], b: Span, x: u64) -> usize
     ensures { Bracket (home_at text.now) b.lo b.hi x result result }
 {
     let mut s = b;
+    // `partition_point` is of slices: here a key is read from the text at each probe
     while s.lo < s.hi {
-        let m = middle(s);
-        let w = keys::home(text, m);
-        s = half(s, m, w, x);
+        let m = search::middle(s);
+        s = half(s, m, keys::home(rows::piece_at(text, m)), x);
     }
     s.lo
 }
@@ -49,7 +40,7 @@ fn below(text: &[u8], lo: usize, q: usize) -> u64
     ensures { (lo < q → result ≡ home_at text.now (q - 1)) × (q ≤ lo → result ≡ 0) }
 {
     if lo < q {
-        return keys::home(text, q - 1);
+        return keys::home(rows::piece_at(text, q - 1));
     }
     0
 }
@@ -60,7 +51,7 @@ fn above(text: &[u8], p: usize, hi: usize) -> u64
     ensures { (p < hi → result ≡ home_at text.now p) × (hi ≤ p → result ≡ 18446744073709551615) }
 {
     if p < hi {
-        return keys::home(text, p);
+        return keys::home(rows::piece_at(text, p));
     }
     sight::MOST
 }
@@ -73,13 +64,10 @@ fn ranked(text: &[u8], b: Span, x: u64) -> Sight
 {
     let q = seek(text, b, x);
     let p = seek(text, b, x + 1);
-    let from = sight::earlier(q, p, b.hi);
-    let low = below(text, b.lo, q);
-    let limit = above(text, p, b.hi);
     Sight {
-        from: from,
-        low: low,
-        limit: limit,
+        from: if q < p { q } else { b.hi },
+        low: below(text, b.lo, q),
+        limit: above(text, p, b.hi),
     }
 }
 
@@ -88,22 +76,18 @@ fn passed(text: &[u8], lo: usize, hi: usize, x: u64) -> Sight
     requires { (lo ≤ hi) × (81 * hi ≤ length text.now) }
     ensures { Seen (home_at text.now) lo hi result.from result.low x result.limit }
 {
-    let mut j = hi;
     let mut from = hi;
     let mut low: u64 = 0;
     let mut limit = sight::MOST;
-    while lo < j {
-        j -= 1;
-        let w = keys::home(text, j);
-        from = sight::nearer(w, x, j, from);
-        low = sight::higher(w, x, low);
-        limit = sight::lower(w, x, limit);
+    for j in (lo..hi).rev() {
+        let w = keys::home(rows::piece_at(text, j));
+        match w.cmp(&x) {
+            Ordering::Less => low = low.max(w),
+            Ordering::Equal => from = j,
+            Ordering::Greater => limit = limit.min(w),
+        }
     }
-    Sight {
-        from: from,
-        low: low,
-        limit: limit,
-    }
+    Sight { from, low, limit }
 }
 
 // The lines of the block b, whose residues do not fall before top, looked at for the residue x.
@@ -125,10 +109,8 @@ pub fn nearest(text: &[u8], b: Span, top: usize, x: u64) -> usize
 {
     let run = Span { lo: b.lo, hi: top };
     let q = seek(text, run, x);
-    if q < top {
-        if keys::home(text, q) == x {
-            return q;
-        }
+    if q < top && keys::home(rows::piece_at(text, q)) == x {
+        return q;
     }
     top
 }

@@ -1,7 +1,7 @@
 -- What is printed of an answer.
 use Rattle.std.specs.Prelude.{ℕ, List, [], ◌∷◌, ◌++◌, map, decimal}
 use Rattle.std.specs.List.{concat}
-use Rattle.gate.specs.declared.Verdict.{Verdict}
+use Rattle.gate.specs.Gate.{Verdict}
 use Rattle.reporting.specs.Report.{numbers_of}
 
 -- a blank, and a number in digits

@@ -3,8 +3,9 @@
 // A text is its length in three bytes, the low one first, and then its bytes.
 #![tactic(auto)]
 
-ghost use Rattle.std.specs.Prelude.{◌≤◌, [], ◌∷◌, OnOk};
+ghost use Rattle.std.specs.Prelude.{[], ◌∷◌, OnOk};
 ghost use Rattle.std.specs.Io.KnownBytes.{Appends};
+ghost use Rattle.gate.specs.Gate.{told_by};
 ghost use Rattle.verdicts.specs.Printed.{spaced, printed};
 
 use gate::Verdict;
@@ -33,7 +34,7 @@ fn end_line<W: Write>(to: &mut W) -> io::Result<()>
 }
 
 fn print_verdict<W: Write>(to: &mut W, v: Verdict) -> io::Result<()>
-    ensures { OnOk result (Appends (W.contents to.old) (W.contents to.new) (printed v)) }
+    ensures { OnOk result (Appends (W.contents to.old) (W.contents to.new) (printed (told_by v))) }
 {
     let numbers = reporting::numbers(v);
     let first = numbers[0];
@@ -44,14 +45,9 @@ fn print_verdict<W: Write>(to: &mut W, v: Verdict) -> io::Result<()>
     end_line(to)
 }
 
-fn wide(b: u8) -> usize
-    ensures { result ≤ 255 }
-{
-    b as usize
-}
-
 fn length_of(head: &[u8; 3]) -> usize {
-    wide(head[0]) + 256 * wide(head[1]) + 65536 * wide(head[2])
+    let [a, b, c] = *head;
+    u32::from_le_bytes([a, b, c, 0]) as usize
 }
 
 // Reads a text of `n` bytes, and prints its answer; answers whether it was whole.

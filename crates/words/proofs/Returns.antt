@@ -1,14 +1,16 @@
 -- One law for each `return`, and for the loop. Assumes nothing.
 use mathlib.Core.Path.{◌≡◌, refl, ◌∙◌, ap}
 use mathlib.Core.List.{List}
-use mathlib.Core.Bool.{Bool}
+use mathlib.Core.Bool.{Bool, ◌&&◌}
 use Prim.Native.Nat.{ℕ, suc, ◌+◌, ◌*◌, ◌-◌, ◌/◌, ◌%◌, ◌^◌, ◌≤◌, ◌<◌}
 use native.Mathlib.Omega.{arith}
 use native.Mathlib.Numerals.{add-one}
 use native.Mathlib.Nat.{pow-le-pow_right, pow-suc, lt_of_lt_of_le}
-use lib.ListN.{length, get_or, set}
+use lib.ListN.{length, get_or, set, take, drop, length-drop, length-take}
+use lib.Seq.{get_or-take, get_or-drop}
 use lib.Dec.{eqb, lit<}
-use Rattle.ascii.specs.Tests.{both, between}
+use Rattle.ascii.specs.Tests.{between}
+use Rattle.ascii.proofs.Bools.{and_both}
 use Rattle.columns.specs.Columns.{Put}
 use Rattle.columns.proofs.Puts.{none_put, put_snoc}
 use Rattle.numbers.proofs.Steps.{down}
@@ -20,6 +22,13 @@ word_room w i n h k m = let j : i ≤ 7 = omega arith in lt_of_lt_of_le h (pow-l
 
 pub word_more : (w b i : ℕ) → w < 256 ^ i → b < 256 → 256 * w + b < 256 ^ (i + 1)
 word_more w b i h k = rw (add-one, pow-suc) (omega arith)
+
+-- ---- byte i of the n columns from `at`, cut out of the line
+pub cut_byte : (l : List ℕ) (at n i : ℕ) → i < at + n - at → get_or (take (at + n - at) (drop at l)) i 0 ≡ get_or l (at + i) 0
+cut_byte l at n i h = get_or-take (at + n - at) (drop at l) i 0 h ∙ get_or-drop at l i 0
+
+pub cut_length : (l : List ℕ) (at n : ℕ) → at + n ≤ length l → length (take (at + n - at) (drop at l)) ≡ n
+cut_length l at n h = omega (arith, length-take (at + n - at) (drop at l), length-drop at l)
 
 module _ (l : List ℕ) (at n : ℕ) where
   pub word_start : 0 ≡ word_at l at 0
@@ -47,6 +56,6 @@ pub number_none : (n v : ℕ) → n ≡ 0 → eqb v 0 ≡ clean_of n v
 unfolding clean_of
 number_none n v z = rw z
 
-pub number_some : (n v : ℕ) (a b r : Bool) → (n ≡ 0 → ⊥) → a ≡ clean_of (n - 1) (v / 256) → b ≡ between 32 126 (v % 256) → r ≡ both a b → r ≡ clean_of n v
+pub number_some : (n v : ℕ) (a b : Bool) → (n ≡ 0 → ⊥) → a ≡ clean_of (n - 1) (v / 256) → b ≡ between 32 126 (v % 256) → (a && b) ≡ clean_of n v
 unfolding clean_of
-number_some n v a b r z p q e = rw (down n z) (e ∙ rw (p, q))
+number_some n v a b z p q = rw (down n z) (and_both a b ∙ rw (p, q))

@@ -4,7 +4,7 @@ use mathlib.Core.List.{List, [], ◌∷◌}
 use mathlib.Core.Bool.{true, false}
 use mathlib.Core.Path.{◌≡◌, refl}
 use lib.ListN.{drop, get_or}
-use Rattle.feed.specs.declared.Framed.TheVariants.{Refused}
+use Rattle.std.specs.Prelude.{Err}
 use Rattle.ascii.specs.Tests.{both, either, between, same}
 use Rattle.columns.specs.Columns.{first_of, blank_at, gap_of, clean_at, blame, blamed_of, leftmost, blanks}
 use Rattle.numbers.specs.Number.{ends_digit, lead_of, further_of, grown_of, number_of, leader, render}
@@ -26,7 +26,6 @@ use Rattle.rows.specs.Text.{cut_at_most, cut}
 use Rattle.serials.specs.Known.{some_of, front}
 use Rattle.twins.specs.Twins.{same_atom}
 use Rattle.gate.specs.Gate.{refused_of, finish_of, check_lines, check_of}
-use Rattle.names.specs.Names.{same_pair, same_four, same_three}
 use Rattle.slots.specs.Slots.{mark_aside, no_slot, same_position, same_measures, same_names, same_slot, with_mark}
 use Rattle.fragments.specs.Fragments.{joins, step_tail, tail_of, mark_of, marked}
 use Rattle.table.specs.Table.{loaded_of, lines_from, slots_of, fits, fits_from, belongs, table_of, order_of}
@@ -54,10 +53,10 @@ pub record Further : Type 0 where
   pub foreign : table_of bonded loaded ≡ 18
   pub torn : table_of entry (with_mark (get_or loaded 0 no_slot) mark_aside ∷ drop 1 loaded) ≡ 18
   -- nothing to frame
-  pub no_atom : frame_of [] ≡ Refused 19
+  pub no_atom : frame_of [] ≡ Err 19
 
 pub further : Further
-unfolding parted bonded single entry rest loaded ordered both either between same first_of blank_at gap_of clean_at blame blamed_of leftmost blanks ends_digit lead_of further_of grown_of number_of leader render signed_of is_neg whole_in integer_in elements index_of atomic_of word_at kind_named kind_of residue_columns position_columns identity_columns measure_columns species_columns leads_element atom_columns ter_columns partner_columns differs unbroken conect_columns serials_columns partners_columns notes_columns shape_columns atoms_columns master_columns judged crystal_read reading_of read_line columns_of line_of place_bad fence_bad raised same_counts same_three same_residue site_bad close_bad site_next unfinished typed_bad judge_of start_of carried_next typed_next next_of cut_at_most cut some_of front same_atom refused_of finish_of check_lines check_of same_pair same_four same_position same_measures same_names same_slot with_mark joins step_tail tail_of mark_of marked lines_from slots_of fits fits_from belongs table_of order_of orders_of is_in stands_in stays counted master_piece written share dealt output_of bounds_from framed_of
+unfolding framed_of parted bonded single entry rest loaded ordered both either between same first_of blank_at gap_of clean_at blame blamed_of leftmost blanks ends_digit lead_of further_of grown_of number_of leader render signed_of is_neg whole_in integer_in elements index_of atomic_of word_at kind_named kind_of residue_columns position_columns identity_columns measure_columns species_columns leads_element atom_columns ter_columns partner_columns differs unbroken conect_columns serials_columns partners_columns notes_columns shape_columns atoms_columns master_columns judged crystal_read reading_of read_line columns_of line_of place_bad fence_bad raised same_counts same_residue site_bad close_bad site_next unfinished typed_bad judge_of start_of carried_next typed_next next_of cut_at_most cut some_of front same_atom refused_of finish_of check_lines check_of same_position same_measures same_names same_slot with_mark joins step_tail tail_of mark_of marked lines_from slots_of fits fits_from belongs table_of order_of orders_of is_in stands_in stays counted master_piece written share dealt output_of bounds_from
 further =
     record {
       back = refl;

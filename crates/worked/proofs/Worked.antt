@@ -25,7 +25,6 @@ use Rattle.rows.specs.Text.{cut_at_most, cut}
 use Rattle.serials.specs.Known.{some_of, front}
 use Rattle.twins.specs.Twins.{same_atom}
 use Rattle.gate.specs.Gate.{refused_of, finish_of, check_lines, check_of}
-use Rattle.names.specs.Names.{same_pair, same_four, same_three}
 use Rattle.slots.specs.Slots.{same_position, same_measures, same_names, same_slot, with_mark}
 use Rattle.fragments.specs.Fragments.{joins, step_tail, tail_of, mark_of, marked}
 use Rattle.table.specs.Table.{lines_from, slots_of, fits, fits_from, belongs, table_of, order_of}
@@ -38,7 +37,7 @@ use Rattle.worked.specs.Texts.{nitrogen_line, nitrogen_record, shortest, beyond,
 use Rattle.worked.specs.Worked.{Worked, loaded, ordered, first, first_and_third}
 
 pub worked : Worked
-unfolding nitrogen_line nitrogen_record shortest beyond twice again alternates entry rest model_line twofold models one_gone both_gone loaded ordered first first_and_third both either between same first_of blank_at gap_of clean_at blame blamed_of leftmost blanks ends_digit lead_of further_of grown_of number_of leader render signed_of is_neg whole_in integer_in elements index_of atomic_of word_at kind_named kind_of residue_columns position_columns identity_columns measure_columns species_columns leads_element atom_columns ter_columns extent_columns comment_columns helix_columns is_sense sense_fits bond_columns registration_columns strand_columns sheet_columns partner_columns differs unbroken conect_columns serials_columns partners_columns notes_columns shape_columns atoms_columns master_columns model_columns judged crystal_read reading_of read_line columns_of line_of place_bad fence_bad raised same_counts same_three same_residue site_bad close_bad site_next unfinished typed_bad judge_of start_of carried_next typed_next next_of cut_at_most cut some_of front same_atom refused_of finish_of check_lines check_of same_pair same_four same_position same_measures same_names same_slot with_mark joins step_tail tail_of mark_of marked lines_from slots_of fits fits_from belongs table_of order_of orders_of is_in stands_in stays counted master_piece written share dealt output_of bounds_from taken_in is_drawn widened lower higher framed_of exactly
+unfolding framed_of nitrogen_line nitrogen_record shortest beyond twice again alternates entry rest model_line twofold models one_gone both_gone loaded ordered first first_and_third both either between same first_of blank_at gap_of clean_at blame blamed_of leftmost blanks ends_digit lead_of further_of grown_of number_of leader render signed_of is_neg whole_in integer_in elements index_of atomic_of word_at kind_named kind_of residue_columns position_columns identity_columns measure_columns species_columns leads_element atom_columns ter_columns extent_columns comment_columns helix_columns is_sense sense_fits bond_columns registration_columns strand_columns sheet_columns partner_columns differs unbroken conect_columns serials_columns partners_columns notes_columns shape_columns atoms_columns master_columns model_columns judged crystal_read reading_of read_line columns_of line_of place_bad fence_bad raised same_counts same_residue site_bad close_bad site_next unfinished typed_bad judge_of start_of carried_next typed_next next_of cut_at_most cut some_of front same_atom refused_of finish_of check_lines check_of same_position same_measures same_names same_slot with_mark joins step_tail tail_of mark_of marked lines_from slots_of fits fits_from belongs table_of order_of orders_of is_in stands_in stays counted master_piece written share dealt output_of bounds_from taken_in is_drawn widened lower higher exactly
 worked =
     record {
       atom = refl;

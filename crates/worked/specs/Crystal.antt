@@ -1,12 +1,11 @@
 -- The worked examples of the crystal frame. They are proved in proofs/Crystal.antt.
-use Rattle.std.specs.Prelude.{◌∷◌, ◌≡◌}
-use Rattle.ascii.specs.Library.{ℕ, List, [], ℤ, pos, negsuc, byte}
+use Rattle.std.specs.Prelude.{◌∷◌, ◌≡◌, Ok, Err}
+use Rattle.ascii.specs.Library.{ℕ, List, [], ℤ, pos, negsuc, bytes}
 use Rattle.coordinate.specs.declared.{Position.Position}
 use Rattle.cell.specs.declared.{Cell.Cell}
 use Rattle.transform.specs.declared.{Transform.Transform}
-use Rattle.line.specs.declared.{Record.TheVariants.Cell as CellRecord, Answer.TheVariants.Read}
+use Rattle.line.specs.declared.{Record.TheVariants.Cell as CellRecord}
 use Rattle.line.specs.Lines.{read_line}
-use Rattle.fractional.specs.declared.{Placed.TheVariants.At, Placed.TheVariants.Refused}
 use Rattle.fractional.specs.Place.{billionths, nearest, fractional_of}
 use Rattle.worked.specs.Texts.{columns_with, text_of, shortest}
 use Rattle.worked.specs.Worked.{blamed}
@@ -17,12 +16,7 @@ cell_record =
     record {
       edges = record { a = 52000; b = 58600; c = 61900 };
       angles = record { alpha = 9000; beta = 9000; gamma = 9000 };
-      group =
-          record {
-            a = record { a = byte "P"; b = byte " "; c = byte "2"; d = byte "1" };
-            b = record { a = byte " "; b = byte "2"; c = byte "1"; d = byte " " };
-            c = record { a = byte "2"; b = byte "1"; c = byte " " };
-          };
+      group = record { a = bytes "P 21"; b = bytes " 21 "; c = bytes "21 " };
       z = 8;
     }
 
@@ -41,16 +35,16 @@ row x y z shift = record { by = record { x = x; y = y; z = z }; shift = shift }
 
 pub record Crystal : Type 0 where
   -- the cell of a line, and a wrong angle; 180 is none; column 55 is blank
-  pub cell : read_line (columns_with "CRYST1   52.000   58.600   61.900  90.00  90.00  90.00 P 21 21 21    8") ≡ Read (CellRecord cell_record)
+  pub cell : read_line (columns_with "CRYST1   52.000   58.600   61.900  90.00  90.00  90.00 P 21 21 21    8") ≡ Ok (CellRecord cell_record)
   pub angle : blamed (columns_with "CRYST1   52.000   58.600   61.900 180.00  90.00  90.00 P 21 21 21    8") ≡ (6, 34)
   pub wide : blamed (columns_with "CRYST1   52.000   58.600   61.900 179.99  90.00  90.00 P 21 21 21    8") ≡ (0, 0)
   pub blank : blamed (columns_with "CRYST1   52.000   58.600   61.900  90.00  90.00  90.00XP 21 21 21    8") ≡ (6, 55)
   -- the fractional place of (11.281, -0.500, 0.007)
   pub place : fractional_of scaled (at (pos 11281) (negsuc 499) (pos 7))
-      ≡ At (record { exact = record { x = pos 216944911; y = pos 491467500; z = negsuc 123084 }; near = record { x = pos 21694; y = pos 49147; z = negsuc 11 } })
+      ≡ Ok (record { exact = record { x = pos 216944911; y = pos 491467500; z = negsuc 123084 }; near = record { x = pos 21694; y = pos 49147; z = negsuc 11 } })
   -- a coordinate out of its range; an entry without SCALE lines, whatever the coordinates
-  pub outside : fractional_of scaled (at (pos 10000000) (pos 0) (pos 0)) ≡ Refused 33
-  pub none : fractional_of shortest (at (pos 10000000) (pos 0) (pos 0)) ≡ Refused 29
+  pub outside : fractional_of scaled (at (pos 10000000) (pos 0) (pos 0)) ≡ Err 33
+  pub none : fractional_of shortest (at (pos 10000000) (pos 0) (pos 0)) ≡ Err 29
   -- halves go away from zero
   pub half : nearest (pos 5000) ≡ pos 1
   pub below_half : nearest (pos 4999) ≡ pos 0

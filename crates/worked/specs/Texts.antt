@@ -2,7 +2,7 @@
 use Rattle.std.specs.Prelude.{◌+◌, ◌-◌, ◌∷◌, ◌++◌}
 use Rattle.ascii.specs.Library.{ℕ, String, List, [], ℤ, pos, negsuc, length, take, drop, byte, bytes}
 use Rattle.columns.specs.Columns.{blanks}
-use Rattle.fields.specs.declared.{Whole.Whole, Signed.Signed}
+use Rattle.fields.specs.Field.{Whole, Signed}
 use Rattle.fields.specs.Field.{ranged_number, signed_number}
 use Rattle.coordinate.specs.declared.{Atom.Atom}
 use Rattle.slots.specs.declared.{Slot.Slot}
@@ -31,18 +31,18 @@ nitrogen_record =
       identity =
           record {
             serial = record { 0 = 32 };
-            name = record { a = byte " "; b = byte "N"; c = byte " "; d = byte " " };
+            name = bytes " N  ";
             alternate = byte "A";
             residue =
                 record {
-                  name = record { a = byte "A"; b = byte "R"; c = byte "G" };
+                  name = bytes "ARG";
                   chain = byte "A";
                   number = record { 0 = negsuc 2 };
                   insertion = byte " ";
                 };
           };
       measure = record { position = record { x = pos 11281; y = pos 86699; z = pos 94383 }; occupancy = 50; temperature = pos 3588 };
-      species = record { element = record { a = byte " "; b = byte "N" }; charge = record { a = byte " "; b = byte " " } };
+      species = record { element = bytes " N"; charge = bytes "  " };
     }
 
 -- the ATOM line with other bytes from column c on

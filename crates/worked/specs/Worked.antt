@@ -1,14 +1,13 @@
 -- The worked examples of the format: one list, one statement. It is proved in proofs/Worked.antt.
-use Rattle.std.specs.Prelude.{◌∷◌, ◌++◌, ◌≡◌}
+use Rattle.std.specs.Prelude.{◌∷◌, ◌++◌, ◌≡◌, Ok}
 use Rattle.ascii.specs.Library.{ℕ, String, List, [], map, true, false, pos, negsuc, bytes}
-use Rattle.line.specs.declared.{Record.TheVariants.Coordinate, Record.TheVariants.Model, Answer.TheVariants.Read}
+use Rattle.line.specs.declared.{Record.TheVariants.Coordinate, Record.TheVariants.Model}
 use Rattle.line.specs.Lines.{read_line, answer_number, answer_column, record_line}
 use Rattle.places.specs.Counts.{no_counts}
 use Rattle.gate.specs.Gate.{check_of}
 use Rattle.slots.specs.declared.{Slot.Slot}
 use Rattle.table.specs.Table.{told, loaded_of, fragments, order_of}
 use Rattle.table.specs.Deal.{output_of}
-use Rattle.feed.specs.declared.{Framed.TheVariants.Around}
 use Rattle.feed.specs.Exact.{whole, half}
 use Rattle.feed.specs.Frame.{frame_of}
 use Rattle.worked.specs.Texts.{coordinate, occupancy, serial, nitrogen_line, nitrogen_record, nitrogen_with, columns_with, text_of, zeros, shortest, beyond, twice, again, alternates, chain, water7, entry, rest, model1, model2, endmdl, model_line, twofold, inner7, inner_bond, models, one_gone, both_gone, slot_at}
@@ -41,7 +40,7 @@ blamed_in t = ((check_of t).number, ((check_of t).line, (check_of t).column))
 
 pub record Worked : Type 0 where
   -- the ATOM line: x 11281, occupancy 50, number -3
-  pub atom : read_line nitrogen_line ≡ Read (Coordinate false nitrogen_record)
+  pub atom : read_line nitrogen_line ≡ Ok (Coordinate false nitrogen_record)
   -- Real(8.3): a good field has no wrong column; of a wrong one it is the first
   pub lowest : coordinate "-999.999" ≡ record { column = 0; value = negsuc 999998 }
   pub highest : coordinate "9999.999" ≡ record { column = 0; value = pos 9999999 }
@@ -96,7 +95,7 @@ pub record Worked : Type 0 where
   pub saved : output_of true entry ordered ≡ rest
   pub tray : output_of false entry ordered ≡ text_of (water7 ∷ [])
   -- MODEL reads and is written back
-  pub model : (read_line model_line ≡ Read (Model (record { number = 1 }))) × (record_line (Model (record { number = 1 })) ≡ model_line)
+  pub model : (read_line model_line ≡ Ok (Model (record { number = 1 }))) × (record_line (Model (record { number = 1 })) ≡ model_line)
   -- model numbers are 1, 2, 3 and so on
   pub from_two : answered ("HEADER" ∷ model2 ∷ []) ≡ (22, 2)
   pub one_again : answered ("HEADER" ∷ model1 ∷ endmdl ∷ model1 ∷ []) ≡ (22, 4)
@@ -120,7 +119,7 @@ pub record Worked : Type 0 where
   pub third_tray : output_of false models first_and_third ≡ text_of (model1 ∷ inner7 ∷ endmdl ∷ model2 ∷ inner7 ∷ endmdl ∷ inner_bond ∷ [])
   -- the frame of (-1, 0, 5) and (2, 0, 5), in thousandths: its middle is (0.5, 0, 5)
   pub framed : frame_of (slot_at (negsuc 0) (pos 0) (pos 5) ∷ slot_at (pos 2) (pos 0) (pos 5) ∷ [])
-      ≡ Around (record {
+      ≡ Ok (record {
         lx = whole (negsuc 0);
         ly = whole (pos 0);
         lz = whole (pos 5);

@@ -1,14 +1,13 @@
 -- MASTER written anew: 80 bytes into a part of the output, and a newline after them.
 -- Assumes nothing.
 use Prim.Native.Nat.{ℕ, ◌+◌, ◌-◌, ◌≤◌}
-use mathlib.Core.List.{List, [], ◌∷◌, ◌++◌, append_assoc, append-nil}
+use mathlib.Core.List.{List, [], ◌∷◌, ◌++◌, append-nil}
 use mathlib.Core.Bool.{Bool, true}
 use mathlib.Core.Path.{◌≡◌, sym, ◌∙◌, ap, subst}
 use native.Mathlib.Omega.{arith}
 use borrow.Author.Tests.{le-ltb}
-use borrow.Rule.Slice.PartMut.{mid_of, post_of, put_mid, mid_len, drop_put, same_len_mid}
-use lib.ListN.{length, take, set, length-append, drop_of_length-le}
-use lib.Seq.{take_at, length-take-le}
+use borrow.Rule.Slice.PartMut.{mid_of, put_mid, mid_len, same_len_mid}
+use lib.ListN.{length, set, drop_of_length-le}
 use Rattle.columns.specs.Columns.{Put}
 use Rattle.columns.proofs.Puts.{one_put, put_then}
 use Rattle.fields.specs.Format.{write_line}
@@ -21,17 +20,7 @@ use Rattle.table.specs.Deal.{tally_of, master_piece}
 use Rattle.table.specs.FiveDigits.{FiveDigits}
 use Rattle.table.proofs.Plain.{small_ok}
 use Rattle.table.proofs.Master.{line_80}
-
--- x is put back in the place of the part that was lent
-part_put : (l x : List ℕ) (at n : ℕ) → at + n ≤ length l → length x ≡ n → Put l at n x (put_mid at (at + n - at) l x)
-part_put l x at n h e =
-    let long : length (take at l ++ x) ≡ at + n = omega (arith, length-append (take at l) x, length-take-le at l (omega arith)) in
-    record {
-      front =
-          ap (take (at + n)) (sym (append_assoc (take at l) x (post_of at (at + n - at) l)))
-          ∙ take_at (take at l ++ x) (post_of at (at + n - at) l) (at + n) long;
-      rest = drop_put at (at + n) l x (omega arith) h (omega arith);
-    }
+use Rattle.writing.proofs.Copies.{part_put}
 
 -- a record in its range, written into a part of 80 bytes, is that part
 line_fills : (x m : List ℕ) → length m ≡ 80 → write_line true x m ≡ x

@@ -1,27 +1,26 @@
 // What one line of an accepted text gives to the saved entry or to the tray, written where it is to stand.
 #![tactic(auto)]
 
-ghost use Rattle.std.specs.Prelude.{◌≡◌, true, ◌++◌, ◌+◌, ◌*◌, ◌≤◌, length, take, drop};
+ghost use Rattle.std.specs.Prelude.{◌≡◌, true, ◌++◌, ◌+◌, ◌≤◌, length, take, drop};
 ghost use Rattle.columns.specs.Columns.{Put};
 ghost use Rattle.places.specs.Room.{Room};
 ghost use Rattle.ascii.specs.Tests.{either, alike};
 ghost use Rattle.facets.specs.Facets.{is_fence};
-ghost use Rattle.rows.specs.Text.{piece_at, row};
-ghost use Rattle.table.specs.Deal.{past_after, past_next, counted, tally_of, master_piece, is_total, is_master, share};
+ghost use Rattle.pieces.specs.Pieces.{line_of};
+ghost use Rattle.table.specs.Deal.{past_after, past_next, counted, tally_of, master_piece, is_master, share};
 ghost use Rattle.table.specs.FiveDigits.{FiveDigits};
 
-use facets::{Fence, Total};
+use facets::Fence;
 use master::Tally;
 use pieces::Line;
 use places::Counts;
 
-fn past_after(past: bool, e: Fence) -> bool
+fn past_after(past: bool, e: Option<Fence>) -> bool
     ensures { result ≡ past_after past e }
 {
     match e {
-        Fence::Opens(_) => past,
-        Fence::Shuts => true,
-        Fence::Unfenced => past,
+        Some(Fence::Shuts) => true,
+        Some(Fence::Opens(_)) | None => past,
     }
 }
 
@@ -43,26 +42,17 @@ pub fn count_line(stay: bool, past: bool, q: Counts, l: Line) -> Counts
     q
 }
 
-fn is_total(t: Total) -> bool
-    ensures { result ≡ is_total t }
-{
-    match t {
-        Total::Counted(_) => true,
-        Total::Uncounted => false,
-    }
-}
-
 fn is_master(l: Line) -> bool
     ensures { result ≡ is_master l }
 {
-    is_total(facets::total_in(l))
+    facets::total_in(l).is_some()
 }
 
 // Whether the line is one to be written: one that stays is saved, one that goes is laid on the tray, and MODEL and ENDMDL are in both.
 fn is_due(saving: bool, stay: bool, l: Line) -> bool
     ensures { result ≡ either (is_fence l) (alike saving stay) }
 {
-    ascii::either_of(facets::is_fence(l), ascii::alike_of(saving, stay))
+    facets::is_fence(l) | (saving == stay)
 }
 
 fn tally_of(q: Counts) -> Tally
@@ -82,38 +72,29 @@ fn tally_of(q: Counts) -> Tally
     }
 }
 
-// MASTER with these counts. They are in its range and there is room, so the writer's number is 0.
+// MASTER with these counts. They are in its range and there is room, so the writer answers Ok.
 fn put_master(q: Counts, out: &mut [u8], at: usize)
     requires five_digits { FiveDigits (tally_of q) }
     requires at_in_bounds { at + 81 ≤ length out.old }
     ensures { Put out.old at 81 (master_piece q) out.new }
 {
     let e = at + 80;
-    let t = tally_of(q);
-    master::write_master(&mut out[at..e], t);
+    let _ = kinds::write(&mut out[at..e], kinds::MASTER, tally_of(q));
     out[e] = b'\n';
 }
 
-// Line i byte for byte, straight from the text.
-fn put_line(text: &[u8], i: usize, out: &mut [u8], at: usize)
-    requires i_in_bounds { 81 * i + 81 ≤ length text.now }
-    requires at_in_bounds { at + 81 ≤ length out.old }
-    ensures { Put out.old at 81 (piece_at text.now i) out.new }
+// The line byte for byte, straight from the text.
+fn put_line(piece: &[u8; 81], out: &mut [u8], at: usize)
+    requires { at + 81 ≤ length out.old }
+    ensures { Put out.old at 81 piece.now out.new }
 {
-    let from = 81 * i;
-    let mut j: usize = 0;
-    while j < 81 {
-        let a = from + j;
-        let k = at + j;
-        out[k] = text[a];
-        j += 1;
-    }
+    out[at..at + 81].copy_from_slice(piece);
 }
 
-// What line i gives, written from `at` on: where the next line's bytes are to stand. saving: into the saved entry, else onto the tray.
+// What the line gives, written from `at` on: where the next line's bytes are to stand. saving: into the saved entry, else onto the tray;
+// a flag, as the definitions have it, since both are one walk over the lines.
 pub fn put_share(
-    text: &[u8],
-    i: usize,
+    piece: &[u8; 81],
     l: Line,
     saving: bool,
     stay: bool,
@@ -121,18 +102,17 @@ pub fn put_share(
     out: &mut [u8],
     at: usize,
 ) -> usize
-    requires i_in_bounds { 81 * i + 81 ≤ length text.now }
-    requires l_value { l ≡ row text.now i }
-    requires i_in_bounds_2 { at + length (share saving stay q (piece_at text.now i)) ≤ length out.old }
+    requires l_value { l ≡ line_of piece.now }
+    requires at_in_bounds { at + length (share saving stay q piece.now) ≤ length out.old }
     requires five_digits { is_master l ≡ true → FiveDigits (tally_of q) }
-    ensures { (result ≡ at + length (share saving stay q (piece_at text.now i))) × (out.new ≡ take at out.old ++ share saving stay q (piece_at text.now i) ++ drop (at + length (share saving stay q (piece_at text.now i))) out.old) }
+    ensures { (result ≡ at + length (share saving stay q piece.now)) × (out.new ≡ take at out.old ++ share saving stay q piece.now ++ drop (at + length (share saving stay q piece.now)) out.old) }
 {
     if is_due(saving, stay, l) {
         if is_master(l) {
             put_master(q, out, at);
             return at + 81;
         }
-        put_line(text, i, out, at);
+        put_line(piece, out, at);
         return at + 81;
     }
     at

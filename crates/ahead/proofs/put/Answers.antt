@@ -1,15 +1,13 @@
+use mathlib.Core.Logic.{⊎_elim}
+use mathlib.Core.Path.{◌≡◌}
 use borrow.Author.Tests.{eq-eqb, ne_eqb}
 use Rattle.ahead.specs.Stamps.{put_of}
 use Rattle.ahead.proofs.put.Goals as goal
 
-pub returns-then-v-eq0 : goal.returns-then-v-eq0
-unfolding put_of
-returns-then-v-eq0 c = rw (eq-eqb _ _ c.if-v-eq0.true)
-
 pub returns-then-v-tag : goal.returns-then-v-tag
 unfolding put_of
-returns-then-v-tag c = rw (ne_eqb _ _ c.if-v-eq0.false, eq-eqb _ _ c.if-v-tag.true)
+returns-then-v-tag c = ⊎_elim (λ (e : c.args.v ≡ 0). rw (eq-eqb c.args.v 0 e)) (λ e. rw (ne_eqb c.args.v 0 e.0, eq-eqb c.args.v c.args.tag e.1)) c.if-v-tag.either
 
-pub returns : goal.returns
+pub returns-else-v-tag : goal.returns-else-v-tag
 unfolding put_of
-returns c = rw (ne_eqb _ _ c.if-v-eq0.false, ne_eqb _ _ c.if-v-tag.false)
+returns-else-v-tag c = rw (ne_eqb _ _ c.if-v-tag.false.0, ne_eqb _ _ c.if-v-tag.false.1)

@@ -1,8 +1,8 @@
-use Rattle.conect.proofs.Returns.{differs_no, differs_yes}
+use lib.Dec.{eqb}
+use Rattle.ascii.proofs.Bools.{not_pick}
+use Rattle.conect.specs.Conects.{differs}
 use Rattle.conect.proofs.other.Goals as goal
 
-pub returns-then-a-b : goal.returns-then-a-b
-returns-then-a-b c = search differs_no
-
 pub returns : goal.returns
-returns c = search differs_yes
+unfolding differs
+returns c = not_pick (eqb c.args.a c.args.b)

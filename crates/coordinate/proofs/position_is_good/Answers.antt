@@ -1,20 +1,9 @@
-use Rattle.coordinate.proofs.Returns.{position_judges}
+use mir.Syntax.{w32}
+use mir.ValLaws.{to_z-of_z}
+use Rattle.ascii.proofs.Bools.{and_both, both_assoc}
+use Rattle.coordinate.specs.Atoms.{position_columns}
 use Rattle.coordinate.proofs.position_is_good.Goals as goal
 
-pub spans-x-requires : goal.spans-x-requires
-spans-x-requires c = tt
-
-pub spans-y-requires : goal.spans-y-requires
-spans-y-requires c = tt
-
-pub spans-z-requires : goal.spans-z-requires
-spans-z-requires c = tt
-
-pub both_of-requires : goal.both_of-requires
-both_of-requires c = tt
-
-pub both_of-requires-2 : goal.both_of-requires-2
-both_of-requires-2 c = tt
-
 pub returns : goal.returns
-returns c = search position_judges
+unfolding position_columns
+returns c = simp (and_both, both_assoc, c.spans.ensures, c.spans-2.ensures, c.spans-3.ensures, to_z-of_z w32 c.args.p.x (search), to_z-of_z w32 c.args.p.y (search), to_z-of_z w32 c.args.p.z (search))

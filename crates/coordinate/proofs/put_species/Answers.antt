@@ -1,7 +1,7 @@
-use Rattle.coordinate.proofs.Returns.{species_writes}
+use Rattle.columns.proofs.Puts.{put_then}
+use Rattle.coordinate.specs.Atoms.{species_columns}
 use Rattle.coordinate.proofs.put_species.Goals as goal
 
 pub returns : goal.returns
-returns c = species_writes _ _ _ _
-    c.put_pair.ensures
-    c.put_pair-2.ensures
+unfolding species_columns
+returns c = put_then c.put.ensures c.put-2.ensures

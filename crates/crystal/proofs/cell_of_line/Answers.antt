@@ -1,17 +1,25 @@
-use Rattle.crystal.proofs.Returns.{cell_short, cell_odd, cell_other, cell_wrong, cell_filled}
+use borrow.Author.Tests.{ne_eqb}
+use Rattle.columns.proofs.Readers.{good_fault, good_value}
+use Rattle.crystal.specs.Crystal.{cell_line}
+use Rattle.crystal.proofs.Returns.{not_cell, wrong_fault}
 use Rattle.crystal.proofs.cell_of_line.Goals as goal
 
-pub returns-then-column-eq0 : goal.returns-then-column-eq0
-returns-then-column-eq0 c = cell_filled _ c.if-line-eq80.true _ c.is_clean.ensures c.if-is_clean.true _ c.kind_of.ensures _ c.is_cell.ensures c.if-is_cell.true _ c.read_cell-r.ensures.0 _ _ c.if-column-eq0.true c.read_cell-r.ensures.1 c.cell_row.ensures
+pub returns-in_default : goal.returns-in_default
+unfolding cell_line
+returns-in_default c = rw (ne_eqb _ _ c.in_default.ensures.cases)
 
-pub returns-then-is_cell : goal.returns-then-is_cell
-returns-then-is_cell c = cell_wrong _ c.if-line-eq80.true _ c.is_clean.ensures c.if-is_clean.true _ c.kind_of.ensures _ c.is_cell.ensures c.if-is_cell.true _ c.read_cell-r.ensures.0 c.if-column-eq0.false
+pub returns-then-not-is_clean : goal.returns-then-not-is_clean
+unfolding cell_line
+returns-then-not-is_clean c = rw (c.in-Some.ensures.cases.long, ← c.in-Some.ensures.cases.same, ← c.if-not-is_clean.ensures)
 
-pub returns-then-is_clean : goal.returns-then-is_clean
-returns-then-is_clean c = cell_other _ c.if-line-eq80.true _ c.is_clean.ensures c.if-is_clean.true _ c.kind_of.ensures _ c.is_cell.ensures c.if-is_cell.false
+pub returns-in_default-kind_of : goal.returns-in_default-kind_of
+unfolding cell_line
+returns-in_default-kind_of c = rw (c.in-Some.ensures.cases.long, ← c.in-Some.ensures.cases.same, ← c.if-not-is_clean.ensures, ← c.kind_of.ensures, not_cell _ c.in_default-kind_of.not-Cryst1)
 
-pub returns-then-line-eq80 : goal.returns-then-line-eq80
-returns-then-line-eq80 c = cell_odd _ c.if-line-eq80.true _ c.is_clean.ensures c.if-is_clean.false
+pub returns-in_default-read : goal.returns-in_default-read
+unfolding cell_line
+returns-in_default-read c = rw (c.in-Some.ensures.cases.long, ← c.in-Some.ensures.cases.same, ← c.if-not-is_clean.ensures, ← c.in-Cryst1.ensures, wrong_fault _ _ _ c.in_default-read.ensures)
 
 pub returns : goal.returns
-returns c = cell_short _ c.if-line-eq80.false
+unfolding cell_line
+returns c = rw (c.in-Some.ensures.cases.long, ← c.in-Some.ensures.cases.same, ← c.if-not-is_clean.ensures, ← c.in-Cryst1.ensures, good_fault _ _ _ c.in-Ok.ensures, c.cell_row.ensures, good_value _ _ _ c.in-Ok.ensures)

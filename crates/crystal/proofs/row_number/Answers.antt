@@ -1,23 +1,30 @@
-use Rattle.crystal.proofs.Returns.{row_1, row_2, row_3, row_4, row_5, row_6, row_none}
+use Rattle.crystal.specs.Crystal.{row_number}
+use Rattle.crystal.proofs.Returns.{row_none}
 use Rattle.crystal.proofs.row_number.Goals as goal
 
-pub returns-then-name-eq-ORIGX1 : goal.returns-then-name-eq-ORIGX1
-returns-then-name-eq-ORIGX1 c = row_1 _ _ c.row_of-r.ensures c.if-name-eq-ORIGX1.true
+pub returns-in-Origx1 : goal.returns-in-Origx1
+unfolding row_number
+returns-in-Origx1 c = rw c.in-Origx1.is
 
-pub returns-then-name-eq-ORIGX2 : goal.returns-then-name-eq-ORIGX2
-returns-then-name-eq-ORIGX2 c = row_2 _ _ c.row_of-r.ensures c.if-name-eq-ORIGX1.false c.if-name-eq-ORIGX2.true
+pub returns-in-Origx2 : goal.returns-in-Origx2
+unfolding row_number
+returns-in-Origx2 c = rw c.in-Origx2.is
 
-pub returns-then-name-eq-ORIGX3 : goal.returns-then-name-eq-ORIGX3
-returns-then-name-eq-ORIGX3 c = row_3 _ _ c.row_of-r.ensures c.if-name-eq-ORIGX1.false c.if-name-eq-ORIGX2.false c.if-name-eq-ORIGX3.true
+pub returns-in-Origx3 : goal.returns-in-Origx3
+unfolding row_number
+returns-in-Origx3 c = rw c.in-Origx3.is
 
-pub returns-then-name-eq-SCALE1 : goal.returns-then-name-eq-SCALE1
-returns-then-name-eq-SCALE1 c = row_4 _ _ c.row_of-r.ensures c.if-name-eq-ORIGX1.false c.if-name-eq-ORIGX2.false c.if-name-eq-ORIGX3.false c.if-name-eq-SCALE1.true
+pub returns-in-Scale1 : goal.returns-in-Scale1
+unfolding row_number
+returns-in-Scale1 c = rw c.in-Scale1.is
 
-pub returns-then-name-eq-SCALE2 : goal.returns-then-name-eq-SCALE2
-returns-then-name-eq-SCALE2 c = row_5 _ _ c.row_of-r.ensures c.if-name-eq-ORIGX1.false c.if-name-eq-ORIGX2.false c.if-name-eq-ORIGX3.false c.if-name-eq-SCALE1.false c.if-name-eq-SCALE2.true
+pub returns-in-Scale2 : goal.returns-in-Scale2
+unfolding row_number
+returns-in-Scale2 c = rw c.in-Scale2.is
 
-pub returns-then-name-eq-SCALE3 : goal.returns-then-name-eq-SCALE3
-returns-then-name-eq-SCALE3 c = row_6 _ _ c.row_of-r.ensures c.if-name-eq-ORIGX1.false c.if-name-eq-ORIGX2.false c.if-name-eq-ORIGX3.false c.if-name-eq-SCALE1.false c.if-name-eq-SCALE2.false c.if-name-eq-SCALE3.true
+pub returns-in-Scale3 : goal.returns-in-Scale3
+unfolding row_number
+returns-in-Scale3 c = rw c.in-Scale3.is
 
-pub returns : goal.returns
-returns c = row_none _ _ c.row_of-r.ensures c.if-name-eq-ORIGX1.false c.if-name-eq-ORIGX2.false c.if-name-eq-ORIGX3.false c.if-name-eq-SCALE1.false c.if-name-eq-SCALE2.false c.if-name-eq-SCALE3.false
+pub returns-in_default : goal.returns-in_default
+returns-in_default c = row_none _ c.in_default.not-Origx1 c.in_default.not-Origx2 c.in_default.not-Origx3 c.in_default.not-Scale1 c.in_default.not-Scale2 c.in_default.not-Scale3

@@ -1,17 +1,25 @@
-use Rattle.crystal.proofs.Returns.{transform_short, transform_odd, transform_other, transform_wrong, transform_filled}
+use borrow.Author.Tests.{ne_eqb}
+use Rattle.columns.proofs.Readers.{good_fault, good_value}
+use Rattle.crystal.specs.Crystal.{transform_line}
+use Rattle.crystal.proofs.Returns.{wrong_fault}
 use Rattle.crystal.proofs.transform_of_line.Goals as goal
 
-pub returns-then-n-eq0 : goal.returns-then-n-eq0
-returns-then-n-eq0 c = transform_other _ c.if-line-eq80.true _ c.is_clean.ensures c.if-is_clean.true _ c.kind_of.ensures _ c.row_number-n.ensures c.if-n-eq0.true
+pub returns-in_default : goal.returns-in_default
+unfolding transform_line
+returns-in_default c = rw (ne_eqb _ _ c.in_default.ensures.cases)
 
-pub returns-then-column-eq0 : goal.returns-then-column-eq0
-returns-then-column-eq0 c = transform_filled _ c.if-line-eq80.true _ c.is_clean.ensures c.if-is_clean.true _ c.kind_of.ensures _ c.row_number-n.ensures c.if-n-eq0.false _ c.read_transform-r.ensures.0 _ c.if-column-eq0.true c.read_transform-r.ensures.1
+pub returns-then-not-is_clean : goal.returns-then-not-is_clean
+unfolding transform_line
+returns-then-not-is_clean c = rw (c.in-Some.ensures.cases.long, ← c.in-Some.ensures.cases.same, ← c.if-not-is_clean.ensures)
 
-pub returns-then-is_clean : goal.returns-then-is_clean
-returns-then-is_clean c = transform_wrong _ c.if-line-eq80.true _ c.is_clean.ensures c.if-is_clean.true _ c.kind_of.ensures _ c.row_number-n.ensures c.if-n-eq0.false _ c.read_transform-r.ensures.0 c.if-column-eq0.false
+pub returns-in_default-row_number : goal.returns-in_default-row_number
+unfolding transform_line
+returns-in_default-row_number c = rw (c.in-Some.ensures.cases.long, ← c.in-Some.ensures.cases.same, ← c.if-not-is_clean.ensures, ← c.kind_of.ensures, ← c.in_default-row_number.ensures)
 
-pub returns-then-line-eq80 : goal.returns-then-line-eq80
-returns-then-line-eq80 c = transform_odd _ c.if-line-eq80.true _ c.is_clean.ensures c.if-is_clean.false
+pub returns-in_default-read : goal.returns-in_default-read
+unfolding transform_line
+returns-in_default-read c = rw (c.in-Some.ensures.cases.long, ← c.in-Some.ensures.cases.same, ← c.if-not-is_clean.ensures, ← c.kind_of.ensures, ← c.in-Some-row_number.ensures, wrong_fault _ _ _ c.in_default-read.ensures)
 
 pub returns : goal.returns
-returns c = transform_short _ c.if-line-eq80.false
+unfolding transform_line
+returns c = rw (c.in-Some.ensures.cases.long, ← c.in-Some.ensures.cases.same, ← c.if-not-is_clean.ensures, ← c.kind_of.ensures, ← c.in-Some-row_number.ensures, good_fault _ _ _ c.in-Ok.ensures, good_value _ _ _ c.in-Ok.ensures)

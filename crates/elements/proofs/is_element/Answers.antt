@@ -1,9 +1,6 @@
-use Rattle.elements.proofs.Rule.{element_is}
+use mathlib.Core.Path.{◌∙◌}
 use Rattle.elements.proofs.Common.{usual_element}
 use Rattle.elements.proofs.is_element.Goals as goal
 
-pub returns-then-u : goal.returns-then-u
-returns-then-u c = search usual_element
-
-pub returns : goal.returns
-returns c = search element_is
+pub returns-then-usual : goal.returns-then-usual
+returns-then-usual c = c.if-usual.true ∙ usual_element _ _ c.usual.ensures c.if-usual.true

@@ -7,5 +7,5 @@ returns-in-Coordinate c = rw c.in-Coordinate.is
 pub returns-in-Ter : goal.returns-in-Ter
 returns-in-Ter c = rw c.in-Ter.is
 
-pub returns : goal.returns
-returns c = rw (spot_others c.args.r c.in_default.not-Coordinate c.in_default.not-Ter)
+pub returns-in_default : goal.returns-in_default
+returns-in_default c = rw (spot_others c.args.r c.in_default.not-Coordinate c.in_default.not-Ter)

@@ -1,8 +1,12 @@
-use Rattle.fields.proofs.Returns.{ranged_in, ranged_out}
+use borrow.Author.Tests.{le-leb, lt-leb}
+use Rattle.ascii.specs.Tests.{both}
+use Rattle.fields.specs.Field.{ranged_of}
 use Rattle.fields.proofs.ranged.Goals as goal
 
 pub returns-then-lo-v : goal.returns-then-lo-v
-returns-then-lo-v c = search ranged_in
+unfolding ranged_of both
+returns-then-lo-v c = rw (le-leb _ _ c.if-lo-v.true)
 
-pub returns : goal.returns
-returns c = search ranged_out
+pub returns-else-lo-v : goal.returns-else-lo-v
+unfolding ranged_of both
+returns-else-lo-v c = rw (lt-leb _ _ c.if-lo-v.false)

@@ -1,7 +1,6 @@
 use mathlib.Core.Path.{refl}
 use native.Mathlib.Omega.{arith}
 use Rattle.fractional.proofs.Whole.{row_small, row_is}
-use borrow.Author.Rules.{rules}
 use Rattle.fractional.proofs.along.Goals as goal
 
 pub sum_of-requires : goal.sum_of-requires

@@ -1,9 +1,12 @@
-use Rattle.fractional.proofs.Looking.{placed_rows, placed_none}
-use borrow.Author.Rules.{rules}
+use mathlib.Core.Path.{◌∙◌}
+use Rattle.std.proofs.lemmas.Result.{err_from_is_err_and}
+use Rattle.fractional.proofs.Looking.{place_by}
 use Rattle.fractional.proofs.fractional_of.Goals as goal
 
-pub returns-in-Rows : goal.returns-in-Rows
-returns-in-Rows c = placed_rows _ _ _ _ _ c.scale_of.ensures c.in-Rows.is c.place.ensures
+pub returns-in_err-rows : goal.returns-in_err-rows
+returns-in_err-rows c =
+    let p = err_from_is_err_and c.from_residual.result c.from_residual.ensures.1 in
+    rw (p.1, p.2) (place_by _ c.args.p _ c.in_err-rows.ensures)
 
-pub returns-in-Refused : goal.returns-in-Refused
-returns-in-Refused c = placed_none _ _ _ _ c.scale_of.ensures c.in-Refused.is
+pub returns : goal.returns
+returns c = c.place.ensures ∙ place_by _ c.args.p _ c.in_ok-rows.ensures

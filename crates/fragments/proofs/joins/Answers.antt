@@ -1,6 +1,7 @@
+use Rattle.ascii.proofs.Bools.{and_both, or_either, both_assoc}
 use Rattle.fragments.specs.Fragments.{joins}
 use Rattle.fragments.proofs.joins.Goals as goal
 
 pub returns : goal.returns
 unfolding joins
-returns c = rw (c.both_of-2.ensures, c.either_of.ensures, c.both_of-open.ensures, c.both_of.ensures, c.same_residue-q.ensures, c.residue_of.ensures, c.is_ter-e.ensures)
+returns c = simp (and_both, or_either, both_assoc, c.residue_of.ensures, c.same_residue-same.ensures, c.is_ter.ensures)

@@ -1,50 +1,31 @@
-use borrow.Author.Rules.{rules}
-use mathlib.Core.Path.{◌∙◌}
+use mathlib.Core.Path.{refl, ◌∙◌}
+use Prim.Native.Nat.{◌*◌, ◌<◌}
 use native.Mathlib.Omega.{arith}
+use lib.ListN.{length}
 use Rattle.gate.proofs.Sofar.{sofar_start, sofar_rising, sofar_reached, sofar_done, turn_refused, turn_next, turn_watched, watched_on}
+use Rattle.refusals.proofs.Positive.{number_positive}
 use Rattle.gate.proofs.check.Goals as goal
 
 pub loop-i-init : goal.loop-i-init
 loop-i-init c = (sofar_start _ _ _ c.start-c.ensures.state_value.0 c.start-c.ensures.state_value.1 c.start-c.ensures.state_value.2, watched_on _ _ _ _ c.start-c.ensures.state_value.1 (c.start-c.ensures.by_index _))
 
-pub overflow_mul-i : goal.overflow_mul-i
-overflow_mul-i c = omega arith
-
-pub line_at-l-requires : goal.line_at-l-requires
-line_at-l-requires c = omega arith
-
-pub turn-t-requires : goal.turn-t-requires
-turn-t-requires c = record {
-  i_in_bounds = (c.loop-i-test.true, c.line_at-l.ensures);
-  rising = (sofar_rising _ _ _ _ c.loop-i.invariant.0, sofar_reached _ _ _ _ c.loop-i.invariant.0);
-  watched = c.loop-i.invariant.1;
-  room = search rules;
-  lines_bound = (omega (arith, c.loop-i.invariant.0.lines), omega (arith, c.loop-i.invariant.0.within));
-}
-
-pub refused-requires : goal.refused-requires
-refused-requires c = omega arith
-
-pub returns-then-n-ne0 : goal.returns-then-n-ne0
-returns-then-n-ne0 c = c.refused.ensures ∙ turn_refused _ _ _ _ c.loop-i.invariant.0 c.loop-i-test.true _ _ c.line_at-l.ensures (c.turn-t.ensures.by_index _ _ c.loop-i.invariant.0.block c.loop-i.invariant.0.behind) c.if-n-ne0.true _ c.column_of.ensures
-
-pub overflow_add-i : goal.overflow_add-i
-overflow_add-i c = omega arith
-
-pub loop-i-smaller : goal.loop-i-smaller
-loop-i-smaller c = omega arith
-
-pub loop-i-preserved : goal.loop-i-preserved
-loop-i-preserved c = let S = c.loop-i.invariant in
-    let h = c.loop-i-test.true in
-    let el = c.line_at-l.ensures in
-    let n = c.turn-t.ensures.by_index _ _ S.0.block S.0.behind in
-    let z = c.if-n-ne0.false in
-    let e = c.turn-t.ensures.state_value z in
-    (turn_next _ _ _ _ S.0 h _ _ el n z _ (record { block = e.1; earlier = e.2 }) _ e.0, turn_watched _ _ _ _ S.0 h _ _ el n z _ (c.turn-t.ensures.watched_2 z) _ e.1)
-
-pub finish-requires : goal.finish-requires
-finish-requires c = omega arith
+pub turn-requires-clause-rising : goal.turn-requires-clause-rising
+turn-requires-clause-rising c = (sofar_rising _ _ _ _ c.loop-i.invariant.0, sofar_reached _ _ _ _ c.loop-i.invariant.0)
 
 pub returns : goal.returns
-returns c = sofar_done _ _ _ _ _ c.loop-i.invariant.0 c.loop-i-test.false c.finish.ensures
+returns c = sofar_done _ _ _ _ _ c.loop-i.invariant.0 (omega arith) c.finish.ensures
+
+pub returns-in-Err : goal.returns-in-Err
+returns-in-Err c =
+    let S = c.loop-i.invariant.0 in
+    let n = c.in-Err.ensures.by_index _ _ S.block S.behind in
+    c.refused.ensures ∙ turn_refused _ _ _ _ S (omega arith) _ _ c.line_at-l.ensures n (λ z. omega (arith, number_positive c.in-Err.r, z)) _ c.column_of.ensures
+
+pub loop-i-preserved : goal.loop-i-preserved
+loop-i-preserved c =
+    let S = c.loop-i.invariant in
+    let h : 81 * c.loop-i.i < length c.args.text.now = omega arith in
+    let el = c.line_at-l.ensures in
+    let n = c.in-Ok.ensures.by_index _ _ S.0.block S.0.behind in
+    let e = c.in-Ok.ensures.state_value in
+    (turn_next _ _ _ _ S.0 h _ _ el n refl _ (record { block = e.1; earlier = e.2 }) _ e.0, turn_watched _ _ _ _ S.0 h _ _ el n refl _ c.in-Ok.ensures.watched_2 _ e.1)

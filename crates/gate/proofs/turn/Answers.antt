@@ -1,3 +1,6 @@
+use mathlib.Core.Path.{◌∙◌}
+use Rattle.std.proofs.lemmas.Result.{IfOk-from_err}
+use Rattle.refusals.proofs.Passed.{handed_on}
 use Rattle.gate.proofs.Sofar.{judged_number}
 use Rattle.gate.proofs.turn.Goals as goal
 
@@ -11,25 +14,16 @@ look-g-requires c = record {
   watched = c.requires.watched;
 }
 
-pub returns-then-j-ne0 : goal.returns-then-j-ne0
-returns-then-j-ne0 c = record {
-  by_index = (λ n s B E. judged_number _ _ _ _ _ _ (c.known-k.ensures n s B E) (c.look-g.ensures.by_index n s B) c.judge-j.ensures);
-  state_value = (λ z. absurd (c.if-j-ne0.true z));
-  watched_2 = λ z. absurd (c.if-j-ne0.true z);
+pub returns-in_err-judge : goal.returns-in_err-judge
+returns-in_err-judge c = record {
+  by_index = λ n s B E. handed_on c.from_residual.result c.in_err-judge.field-0.0 c.from_residual.ensures.1 ∙ judged_number _ _ _ _ _ _ (c.known-k.ensures n s B E) (c.look-g.ensures.by_index n s B) c.in_err-judge.ensures;
+  state_value = IfOk-from_err c.from_residual.result _ c.from_residual.ensures.0;
+  watched_2 = IfOk-from_err c.from_residual.result _ c.from_residual.ensures.0;
 }
-
-pub next-t-requires : goal.next-t-requires
-next-t-requires c = record {
-  room = c.requires.room;
-  lines_bound = c.requires.lines_bound.0;
-}
-
-pub remember-q-requires : goal.remember-q-requires
-remember-q-requires c = c.requires.lines_bound.1
 
 pub returns : goal.returns
 returns c = record {
-  by_index = (λ n s B E. rw (← c.if-j-ne0.false) (judged_number _ _ _ _ _ _ (c.known-k.ensures n s B E) (c.look-g.ensures.by_index n s B) c.judge-j.ensures));
-  state_value = (λ _. (c.next-t.ensures, c.remember-q.ensures.0, c.remember-q.ensures.1));
-  watched_2 = λ _ h. c.look-g.ensures.watched_2 h;
+  by_index = λ n s B E. judged_number _ _ _ _ _ _ (c.known-k.ensures n s B E) (c.look-g.ensures.by_index n s B) c.in_ok-judge.ensures;
+  state_value = (c.next.ensures, c.remember.ensures.0, c.remember.ensures.1);
+  watched_2 = c.look-g.ensures.watched_2;
 }

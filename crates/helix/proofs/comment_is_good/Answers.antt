@@ -1,26 +1,7 @@
-use Rattle.helix.proofs.Returns.{comment_judges}
+use Rattle.ascii.proofs.Bools.{and_both, both_assoc}
+use Rattle.helix.specs.Helices.{comment_columns}
 use Rattle.helix.proofs.comment_is_good.Goals as goal
 
-pub is_word-a-requires : goal.is_word-a-requires
-is_word-a-requires c = tt
-
-pub is_word-b-requires : goal.is_word-b-requires
-is_word-b-requires c = tt
-
-pub is_word-d-requires : goal.is_word-d-requires
-is_word-d-requires c = tt
-
-pub is_word-e-requires : goal.is_word-e-requires
-is_word-e-requires c = tt
-
-pub both_of-requires : goal.both_of-requires
-both_of-requires c = tt
-
-pub both_of-requires-2 : goal.both_of-requires-2
-both_of-requires-2 c = tt
-
-pub both_of-requires-3 : goal.both_of-requires-3
-both_of-requires-3 c = tt
-
 pub returns : goal.returns
-returns c = search comment_judges
+unfolding comment_columns
+returns c = simp (and_both, both_assoc, c.is_word.ensures, c.is_word-2.ensures, c.is_word-3.ensures, c.is_word-4.ensures)

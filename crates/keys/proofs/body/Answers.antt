@@ -1,11 +1,9 @@
-use Prim.Native.Nat.{ℕ}
-use mathlib.Core.List.{List}
-use mathlib.Core.Path.{◌∙◌, ap}
-use Rattle.words.specs.Words.{word_at}
-use Rattle.rows.proofs.Cut.{part_columns}
-use Rattle.keys.specs.Keys.{body_at}
+use mathlib.Core.Path.{◌∙◌}
+use native.Mathlib.Omega.{arith}
+use Rattle.keys.specs.Keys.{body_of}
+use Rattle.keys.proofs.Columns.{word_cols}
 use Rattle.keys.proofs.body.Goals as goal
 
 pub returns : goal.returns
-unfolding body_at
-returns c = c.word.ensures ∙ ap (λ (p : List ℕ). word_at p 12 8) (part_columns c.args.text.now c.args.i)
+unfolding body_of
+returns c = c.word.ensures ∙ word_cols c.args.piece.now 0 80 12 8 (omega arith)

@@ -1,68 +1,51 @@
-use Rattle.line.proofs.Returns.{record_written, end_written, endmdl_written}
+use Rattle.transform.specs.Transforms.{transform_kind}
+use Rattle.words.specs.Words.{bytes_of}
+use Rattle.line.proofs.Returns.{named_line}
 use Rattle.line.proofs.write_record.Goals as goal
 
-pub write_atom-requires : goal.write_atom-requires
-write_atom-requires c = tt
+pub returns-then-het-clause-line_after : goal.returns-then-het-clause-line_after
+unfolding bytes_of
+returns-then-het-clause-line_after c = rw (c.in-Coordinate.is, c.if-het.true) c.write.ensures.line_after
 
-pub write_ter-requires : goal.write_ter-requires
-write_ter-requires c = tt
+pub returns-else-het-clause-line_after : goal.returns-else-het-clause-line_after
+unfolding bytes_of
+returns-else-het-clause-line_after c = rw (c.in-Coordinate.is, c.if-het.false) c.write-else-het.ensures.line_after
 
-pub write_helix-requires : goal.write_helix-requires
-write_helix-requires c = tt
+pub returns-in-Ter-clause-line_after : goal.returns-in-Ter-clause-line_after
+unfolding bytes_of
+returns-in-Ter-clause-line_after c = rw c.in-Ter.is c.write-in-Ter.ensures.line_after
 
-pub write_sheet-requires : goal.write_sheet-requires
-write_sheet-requires c = tt
+pub returns-in-Helix-clause-line_after : goal.returns-in-Helix-clause-line_after
+unfolding bytes_of
+returns-in-Helix-clause-line_after c = rw c.in-Helix.is c.write-in-Helix.ensures.line_after
 
-pub write_conect-requires : goal.write_conect-requires
-write_conect-requires c = tt
+pub returns-in-Sheet-clause-line_after : goal.returns-in-Sheet-clause-line_after
+unfolding bytes_of
+returns-in-Sheet-clause-line_after c = rw c.in-Sheet.is c.write-in-Sheet.ensures.line_after
 
-pub write_master-requires : goal.write_master-requires
-write_master-requires c = tt
+pub returns-in-Conect-clause-line_after : goal.returns-in-Conect-clause-line_after
+unfolding bytes_of
+returns-in-Conect-clause-line_after c = rw c.in-Conect.is c.write-in-Conect.ensures.line_after
 
-pub write_bare-requires : goal.write_bare-requires
-write_bare-requires c = tt
+pub returns-in-Master-clause-line_after : goal.returns-in-Master-clause-line_after
+unfolding bytes_of
+returns-in-Master-clause-line_after c = rw c.in-Master.is c.write-in-Master.ensures.line_after
 
-pub write_model-requires : goal.write_model-requires
-write_model-requires c = tt
+pub returns-in-End-clause-line_after : goal.returns-in-End-clause-line_after
+unfolding bytes_of
+returns-in-End-clause-line_after c = rw c.in-End.is c.write-in-End.ensures.line_after
 
-pub write_bare-requires-in-Endmdl : goal.write_bare-requires-in-Endmdl
-write_bare-requires-in-Endmdl c = tt
+pub returns-in-Model-clause-line_after : goal.returns-in-Model-clause-line_after
+unfolding bytes_of
+returns-in-Model-clause-line_after c = rw c.in-Model.is c.write-in-Model.ensures.line_after
 
-pub write_cell-requires : goal.write_cell-requires
-write_cell-requires c = tt
+pub returns-in-Endmdl-clause-line_after : goal.returns-in-Endmdl-clause-line_after
+unfolding bytes_of
+returns-in-Endmdl-clause-line_after c = rw c.in-Endmdl.is c.write-in-Endmdl.ensures.line_after
 
-pub write_transform-requires : goal.write_transform-requires
-write_transform-requires c = tt
+pub returns-in-Cell-clause-line_after : goal.returns-in-Cell-clause-line_after
+unfolding bytes_of
+returns-in-Cell-clause-line_after c = rw c.in-Cell.is c.write-in-Cell.ensures.line_after
 
-pub returns-in-Coordinate : goal.returns-in-Coordinate
-returns-in-Coordinate c = record_written _ _ _ _ _ c.in-Coordinate.is c.write_atom.ensures
-
-pub returns-in-Ter : goal.returns-in-Ter
-returns-in-Ter c = record_written _ _ _ _ _ c.in-Ter.is c.write_ter.ensures
-
-pub returns-in-Helix : goal.returns-in-Helix
-returns-in-Helix c = record_written _ _ _ _ _ c.in-Helix.is c.write_helix.ensures
-
-pub returns-in-Sheet : goal.returns-in-Sheet
-returns-in-Sheet c = record_written _ _ _ _ _ c.in-Sheet.is c.write_sheet.ensures
-
-pub returns-in-Conect : goal.returns-in-Conect
-returns-in-Conect c = record_written _ _ _ _ _ c.in-Conect.is c.write_conect.ensures
-
-pub returns-in-Master : goal.returns-in-Master
-returns-in-Master c = record_written _ _ _ _ _ c.in-Master.is c.write_master.ensures
-
-pub returns-in-End : goal.returns-in-End
-returns-in-End c = record_written _ _ _ _ _ c.in-End.is (end_written _ _ _ c.write_bare.ensures)
-
-pub returns-in-Model : goal.returns-in-Model
-returns-in-Model c = record_written _ _ _ _ _ c.in-Model.is c.write_model.ensures
-
-pub returns-in-Endmdl : goal.returns-in-Endmdl
-returns-in-Endmdl c = record_written _ _ _ _ _ c.in-Endmdl.is (endmdl_written _ _ _ c.write_bare-in-Endmdl.ensures)
-
-pub returns-in-Cell : goal.returns-in-Cell
-returns-in-Cell c = record_written _ _ _ _ _ c.in-Cell.is c.write_cell.ensures
-
-pub returns-in-Transform : goal.returns-in-Transform
-returns-in-Transform c = record_written _ _ _ _ _ c.in-Transform.is c.write_transform.ensures
+pub returns-in-Transform-clause-line_after : goal.returns-in-Transform-clause-line_after
+returns-in-Transform-clause-line_after c = rw c.in-Transform.is (named_line _ (transform_kind c.in-Transform.scale c.in-Transform.axis) _ _ _ _ c.name_of.ensures c.write-in-Transform.ensures.line_after)

@@ -1,31 +1,10 @@
+use Rattle.std.proofs.Common.{rules}
+use lib.ListN.{length}
+use mathlib.Core.Path.{◌≡◌}
+use Rattle.ascii.specs.Tests.{same}
+use Rattle.ascii.proofs.Bools.{and_both, or_either}
 use Rattle.names.proofs.is_charge.Goals as goal
 
-pub is_blank-requires : goal.is_blank-requires
-is_blank-requires c = tt
-
-pub is_blank-requires-2 : goal.is_blank-requires-2
-is_blank-requires-2 c = tt
-
-pub both_of-requires : goal.both_of-requires
-both_of-requires c = tt
-
-pub within-requires : goal.within-requires
-within-requires c = tt
-
-pub is-requires : goal.is-requires
-is-requires c = tt
-
-pub is-requires-2 : goal.is-requires-2
-is-requires-2 c = tt
-
-pub either_of-requires : goal.either_of-requires
-either_of-requires c = tt
-
-pub both_of-requires-2 : goal.both_of-requires-2
-both_of-requires-2 c = tt
-
-pub either_of-requires-2 : goal.either_of-requires-2
-either_of-requires-2 c = tt
-
 pub returns : goal.returns
-returns c = rw (c.either_of-2.ensures, c.both_of-2.ensures, c.either_of.ensures, c.is-2.ensures, c.is.ensures, c.within.ensures, c.both_of.ensures, c.is_blank-2.ensures, c.is_blank.ensures)
+unfolding same
+returns c = let e : length c.args.p ≡ 2 = search rules in simp (e, and_both, or_either) cc

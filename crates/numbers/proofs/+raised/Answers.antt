@@ -1,5 +1,5 @@
 use native.Mathlib.Omega.{arith}
-use Rattle.numbers.proofs.Runs.{raise_none, raise_less, raise_fits, raise_some}
+use Rattle.numbers.proofs.Products.{raise_none, raise_less, raise_fits, raise_some}
 use Rattle.numbers.proofs.+raised.Goals as goal
 
 pub returns-then-n-eq0 : goal.returns-then-n-eq0

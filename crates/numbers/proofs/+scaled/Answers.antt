@@ -1,5 +1,5 @@
 use native.Mathlib.Omega.{arith}
-use Rattle.numbers.proofs.Runs.{scale_ten_fits, scale_digit_fits, scale_sum_fits, scale_less, scale_none, scale_some}
+use Rattle.numbers.proofs.Products.{scale_ten_fits, scale_digit_fits, scale_sum_fits, scale_less, scale_none, scale_some}
 use Rattle.numbers.proofs.+scaled.Goals as goal
 
 pub returns-then-n-eq0 : goal.returns-then-n-eq0

@@ -1,4 +1,4 @@
-use Rattle.numbers.proofs.Runs.{scale_one}
+use Rattle.numbers.proofs.Products.{scale_one}
 use Rattle.numbers.proofs.digits.Goals as goal
 
 pub scaled-requires : goal.scaled-requires

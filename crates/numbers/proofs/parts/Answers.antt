@@ -1,4 +1,5 @@
-use Rattle.numbers.proofs.Runs.{whole_small, parts_fit, num_parts}
+use Rattle.numbers.proofs.Runs.{num_parts}
+use Rattle.numbers.proofs.Products.{whole_small, parts_fit}
 use Rattle.numbers.proofs.parts.Goals as goal
 
 pub raised-whole-requires : goal.raised-whole-requires

@@ -1,9 +1,9 @@
 use native.Mathlib.Omega.{arith}
-use Rattle.numbers.proofs.Runs.{scan_below, num_short, num_whole, num_long, num_real}
+use Rattle.numbers.proofs.Runs.{scan_below, num_absent, num_whole, num_long, num_real}
 use Rattle.numbers.proofs.read_number.Goals as goal
 
 pub returns-then-n-e : goal.returns-then-n-e
-returns-then-n-e c = search num_short
+returns-then-n-e c = search num_absent
 
 pub returns-then-n-gt9 : goal.returns-then-n-gt9
 returns-then-n-gt9 c = search num_long

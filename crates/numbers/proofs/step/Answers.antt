@@ -3,7 +3,7 @@ use native.Mathlib.Omega.{arith}
 use Rattle.numbers.proofs.step.Goals as goal
 
 pub overflow_add-result : goal.overflow_add-result
-overflow_add-result c = omega (arith, value_under _ _ c.value-v.ensures)
+overflow_add-result c = omega (arith, value_under _ _ c.value.ensures)
 
 pub returns : goal.returns
 returns c = search step_made

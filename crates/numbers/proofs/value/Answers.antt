@@ -5,8 +5,8 @@ use Rattle.numbers.proofs.value.Goals as goal
 pub overflow_sub-result : goal.overflow_sub-result
 overflow_sub-result c = search (value_low, arith)
 
-pub returns-then-d : goal.returns-then-d
-returns-then-d c = search value_yes
+pub returns-then-is_digit : goal.returns-then-is_digit
+returns-then-is_digit c = search value_yes
 
-pub returns : goal.returns
-returns c = search value_no
+pub returns-else-is_digit : goal.returns-else-is_digit
+returns-else-is_digit c = search value_no

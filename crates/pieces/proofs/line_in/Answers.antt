@@ -1,14 +1,7 @@
-use mathlib.Core.Path.{sym, ◌∙◌}
 use Rattle.pieces.proofs.line_in.Goals as goal
 
-pub returns-then-is_named : goal.returns-then-is_named
-returns-then-is_named c = rw (c.in-Untyped.is, sym c.is_named.ensures ∙ c.if-is_named.true)
+pub returns-in-Ok : goal.returns-in-Ok
+returns-in-Ok c = rw c.in-Ok.is
 
-pub returns-in-Typed : goal.returns-in-Typed
-returns-in-Typed c = rw c.in-Typed.is
-
-pub returns-in-Wrong : goal.returns-in-Wrong
-returns-in-Wrong c = rw c.in-Wrong.is
-
-pub returns-else-is_named : goal.returns-else-is_named
-returns-else-is_named c = rw (c.in-Untyped.is, sym c.is_named.ensures ∙ c.if-is_named.false)
+pub returns-in-Err-Wrong : goal.returns-in-Err-Wrong
+returns-in-Err-Wrong c = let e = rw c.in-Err-Wrong.is at c.in-Err-Wrong.field-0-is in rw (c.in-Err-Wrong.is, e)

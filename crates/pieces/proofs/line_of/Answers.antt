@@ -1,17 +1,23 @@
-use Rattle.pieces.proofs.Returns.{piece_short, piece_open, piece_read, columns_long}
+use mathlib.Core.Path.{sym}
+use native.Mathlib.Omega.{arith}
+use borrow.Author.Tests.{eqb-true, eqb-false}
+use Rattle.pieces.proofs.Returns.{piece_short, piece_open, piece_read}
 use Rattle.pieces.proofs.line_of.Goals as goal
 
-pub returns-then-p-lt81 : goal.returns-then-p-lt81
-returns-then-p-lt81 c = search piece_short
+pub returns-in_default : goal.returns-in_default
+returns-in_default c = piece_short _ (omega (arith, c.in_default.ensures.cases))
 
-pub slice_bounds-line_of_columns-end : goal.slice_bounds-line_of_columns-end
-slice_bounds-line_of_columns-end c = search columns_long
+pub returns-then-is_empty : goal.returns-then-is_empty
+returns-then-is_empty c = piece_short _ (omega (arith, c.in-Some.ensures.cases.2, eqb-true _ _ (sym c.if-is_empty.ensures)))
 
-pub line_of_columns-requires : goal.line_of_columns-requires
-line_of_columns-requires c = search columns_long
-
-pub returns-then-p-eq10 : goal.returns-then-p-eq10
-returns-then-p-eq10 c = search piece_read
+pub returns-then-end-eq10 : goal.returns-then-end-eq10
+returns-then-end-eq10 c =
+    let h = c.in-Some.ensures.cases in
+    let z = eqb-false _ _ (sym c.if-is_empty.ensures) in
+    piece_read _ _ h.1 (omega (arith, h.2)) _ _ c.if-end-eq10.true h.0 c.line_of_columns.ensures
 
 pub returns : goal.returns
-returns c = search piece_open
+returns c =
+    let h = c.in-Some.ensures.cases in
+    let z = eqb-false _ _ (sym c.if-is_empty.ensures) in
+    piece_open _ _ h.1 (omega (arith, h.2)) c.if-end-eq10.false

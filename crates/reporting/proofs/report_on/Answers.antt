@@ -1,6 +1,5 @@
 use borrow.Author.Tests.{lt-ltb, le-ltb}
 use Rattle.reporting.specs.Report.{report_of}
-use borrow.Author.Rules.{rules}
 use Rattle.reporting.proofs.report_on.Goals as goal
 
 pub returns-then-text-gt65529 : goal.returns-then-text-gt65529

@@ -3,7 +3,7 @@ use Rattle.residue.proofs.put_residue.Goals as goal
 
 pub returns : goal.returns
 returns c = writes _ _ _ _ _ _ _ _ _ _
-    c.put_three.ensures
+    c.put.ensures
     c.put_blanks.ensures
     c.put_one.ensures
     c.put_blanks-2.ensures

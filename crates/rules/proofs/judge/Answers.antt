@@ -1,4 +1,3 @@
-use Rattle.rules.proofs.Laws.{pick_either}
 use Rattle.rules.specs.Rules.{judge_of}
 use Rattle.rules.proofs.judge.Goals as goal
 
@@ -8,7 +7,7 @@ returns-in-Bad c = rw c.in-Bad.is
 
 pub returns-in-Wrong : goal.returns-in-Wrong
 unfolding judge_of
-returns-in-Wrong c = rw (c.in-Wrong.is, c.choose.ensures, c.misplaced.ensures) (pick_either _ _ _ _)
+returns-in-Wrong c = rw (c.in-Wrong.is, c.wrong_bad.ensures)
 
 pub returns-in-Carried : goal.returns-in-Carried
 unfolding judge_of

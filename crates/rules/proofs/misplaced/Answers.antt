@@ -1,4 +1,5 @@
+use Rattle.ascii.proofs.Bools.{or_either}
 use Rattle.rules.proofs.misplaced.Goals as goal
 
 pub returns : goal.returns
-returns c = rw (c.either_of.ensures, c.fence_bad.ensures, c.place_bad.ensures)
+returns c = rw (or_either, c.fence_bad.ensures, c.place_bad.ensures)

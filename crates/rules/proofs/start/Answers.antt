@@ -3,4 +3,4 @@ use Rattle.rules.proofs.start.Goals as goal
 
 pub returns : goal.returns
 unfolding start_of
-returns c = rw (c.no_counts-counts.ensures, c.no_run-run.ensures)
+returns c = rw (c.no_counts.ensures, c.no_run.ensures)

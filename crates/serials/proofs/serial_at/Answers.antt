@@ -1,10 +1,10 @@
-use Rattle.fields.specs.declared.Whole.{Whole}
-use Rattle.fields.specs.Field.{ranged_number}
+use Rattle.std.specs.Result.{result_unwrap_or}
+use Rattle.columns.specs.declared.Column.{Column}
+use Rattle.std.specs.Prelude.{Result}
 use Prim.Native.Nat.{ℕ}
-use mathlib.Core.List.{List}
 use mathlib.Core.Path.{◌∙◌, ap}
-use Rattle.rows.proofs.Cut.{part_columns}
+use Rattle.serials.proofs.Unread.{value_or_none}
 use Rattle.serials.proofs.serial_at.Goals as goal
 
 pub returns : goal.returns
-returns c = ap (λ (w : Whole). w.value) c.read_whole-w.ensures ∙ ap (λ (p : List ℕ). (ranged_number 5 0 1 99999 p 6).value) (part_columns c.args.text.now c.args.i)
+returns c = c.unwrap_or.ensures ∙ ap (λ (r : Result ℕ Column). result_unwrap_or r 0) c.read_whole.ensures ∙ value_or_none 5 0 1 99999 _ 6

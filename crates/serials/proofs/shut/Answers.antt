@@ -1,15 +1,14 @@
 use Rattle.ascii.specs.Tests.{both}
-use mathlib.Core.Path.{sym, ◌∙◌}
 use Rattle.serials.proofs.shut.Goals as goal
 
 pub returns-then-has_line-2 : goal.returns-then-has_line-2
 unfolding both
-returns-then-has_line-2 c = rw (sym c.has_line.ensures ∙ c.if-has_line.true, sym c.has_line-then-has_line.ensures ∙ c.if-has_line-2.true)
+returns-then-has_line-2 c = rw (← c.has_line.ensures, c.if-has_line.true, ← c.has_line-then-has_line.ensures, c.if-has_line-2.true)
 
-pub returns-then-has_line : goal.returns-then-has_line
+pub returns-else-has_line-2 : goal.returns-else-has_line-2
 unfolding both
-returns-then-has_line c = rw (sym c.has_line.ensures ∙ c.if-has_line.true, sym c.has_line-then-has_line.ensures ∙ c.if-has_line-2.false)
+returns-else-has_line-2 c = rw (← c.has_line.ensures, c.if-has_line.true, ← c.has_line-then-has_line.ensures, c.if-has_line-2.false)
 
-pub returns : goal.returns
+pub returns-else-has_line : goal.returns-else-has_line
 unfolding both
-returns c = rw (sym c.has_line.ensures ∙ c.if-has_line.false)
+returns-else-has_line c = rw (← c.has_line.ensures, c.if-has_line.false)

@@ -1,10 +1,7 @@
+use borrow.Author.Tests.{ne_eqb}
+use mathlib.Core.Path.{◌∙◌}
 use Rattle.serials.proofs.Finding.{other_site}
-use Rattle.serials.specs.Known.{is_site}
-use mathlib.Core.Path.{ap, ◌∙◌}
 use Rattle.serials.proofs.site_in.Goals as goal
 
-pub returns-then-serial-x : goal.returns-then-serial-x
-returns-then-serial-x c = c.is_site.ensures ∙ ap (is_site _) c.line_at.ensures
-
-pub returns : goal.returns
-returns c = other_site _ _ _ _ c.serial_at-serial.ensures c.if-serial-x.false
+pub returns-else-serial_at-x : goal.returns-else-serial_at-x
+returns-else-serial_at-x c = ne_eqb _ _ c.if-serial_at-x.false ∙ other_site _ _ _ c.serial_at.ensures c.if-serial_at-x.false

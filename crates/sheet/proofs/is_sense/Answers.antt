@@ -1,14 +1,8 @@
-use Rattle.sheet.proofs.Returns.{sense_minus, sense_plus}
+use Rattle.sheet.proofs.Sense.{sense_least, sense_below}
 use Rattle.sheet.proofs.is_sense.Goals as goal
 
-pub negative-m-requires : goal.negative-m-requires
-negative-m-requires c = tt
+pub returns-then-z-geminus1 : goal.returns-then-z-geminus1
+returns-then-z-geminus1 c = sense_least _ c.ranges.z c.if-z-geminus1.true
 
-pub magnitude-v-requires : goal.magnitude-v-requires
-magnitude-v-requires c = tt
-
-pub returns-then-m : goal.returns-then-m
-returns-then-m c = search sense_minus
-
-pub returns : goal.returns
-returns c = search sense_plus
+pub returns-else-z-geminus1 : goal.returns-else-z-geminus1
+returns-else-z-geminus1 c = sense_below _ c.ranges.z c.if-z-geminus1.false

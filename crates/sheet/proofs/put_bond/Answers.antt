@@ -1,10 +1,7 @@
-use Rattle.sheet.proofs.Returns.{bond_writes}
+use Rattle.columns.proofs.Puts.{put_then}
+use Rattle.sheet.specs.Sheets.{bond_columns}
 use Rattle.sheet.proofs.put_bond.Goals as goal
 
 pub returns : goal.returns
-returns c = bond_writes _ _ _ _ _ _ _
-    c.put_four.ensures
-    c.put_residue.ensures
-    c.put_blanks.ensures
-    c.put_four-2.ensures
-    c.put_residue-2.ensures
+unfolding bond_columns
+returns c = put_then c.put.ensures (put_then c.put_residue.ensures (put_then c.put_blanks.ensures (put_then c.put-2.ensures c.put_residue-2.ensures)))

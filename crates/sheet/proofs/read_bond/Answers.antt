@@ -1,43 +1,39 @@
-use Rattle.sheet.proofs.Returns.{bond_column, bond_value}
+use Rattle.std.proofs.lemmas.Result.{err_from_is_err_and}
+use Rattle.columns.specs.Columns.{first_of}
+use Rattle.columns.proofs.Readers.{good_fault, good_value, then_wrong, last_wrong}
+use Rattle.sheet.specs.Sheets.{bond_columns}
 use Rattle.sheet.proofs.read_bond.Goals as goal
 
-pub is_bond_name-requires : goal.is_bond_name-requires
-is_bond_name-requires c = tt
+pub returns-in_err-atom : goal.returns-in_err-atom
+unfolding bond_columns first_of
+returns-in_err-atom c =
+    let p = err_from_is_err_and c.from_residual.result c.from_residual.ensures.1 in
+    rw (p.1, p.2) (then_wrong _ _ _ _ _ c.in_err-atom.ensures)
 
-pub is_bond_name-requires-2 : goal.is_bond_name-requires-2
-is_bond_name-requires-2 c = tt
+pub returns-in_err-residue : goal.returns-in_err-residue
+unfolding bond_columns first_of
+returns-in_err-residue c =
+    let p = err_from_is_err_and c.from_residual-in_err-residue.result c.from_residual-in_err-residue.ensures.1 in
+    rw (p.1, p.2, good_fault _ _ _ c.in_ok-atom.ensures) (then_wrong _ _ _ _ _ c.in_err-residue.ensures)
 
-pub first-requires : goal.first-requires
-first-requires c = tt
+pub returns-in_err-gap : goal.returns-in_err-gap
+unfolding bond_columns first_of
+returns-in_err-gap c =
+    let p = err_from_is_err_and c.from_residual-in_err-gap.result c.from_residual-in_err-gap.ensures.1 in
+    rw (p.1, p.2, good_fault _ _ _ c.in_ok-atom.ensures, good_fault _ _ _ c.in_ok-residue.ensures) (then_wrong _ _ _ _ _ c.in_err-gap.ensures)
 
-pub first-requires-2 : goal.first-requires-2
-first-requires-2 c = tt
+pub returns-in_err-other_atom : goal.returns-in_err-other_atom
+unfolding bond_columns first_of
+returns-in_err-other_atom c =
+    let p = err_from_is_err_and c.from_residual-in_err-other_atom.result c.from_residual-in_err-other_atom.ensures.1 in
+    rw (p.1, p.2, good_fault _ _ _ c.in_ok-atom.ensures, good_fault _ _ _ c.in_ok-residue.ensures, good_fault _ _ _ c.in_ok-gap.ensures) (then_wrong _ _ _ _ _ c.in_err-other_atom.ensures)
 
-pub first-requires-3 : goal.first-requires-3
-first-requires-3 c = tt
-
-pub first-column-requires : goal.first-column-requires
-first-column-requires c = tt
+pub returns-in_err-other : goal.returns-in_err-other
+unfolding bond_columns first_of
+returns-in_err-other c =
+    let p = err_from_is_err_and c.from_residual-in_err-other.result c.from_residual-in_err-other.ensures.1 in
+    rw (p.1, p.2, good_fault _ _ _ c.in_ok-atom.ensures, good_fault _ _ _ c.in_ok-residue.ensures, good_fault _ _ _ c.in_ok-gap.ensures, good_fault _ _ _ c.in_ok-other_atom.ensures) (last_wrong _ _ _ _ c.in_err-other.ensures)
 
 pub returns : goal.returns
-returns c = (
-  bond_column _ _ _ _ _ _ _ _ _ _ _ _ _ _
-      c.read_four-a.ensures
-      c.read_residue-r.ensures
-      c.gap-g.ensures
-      c.read_four-b.ensures
-      c.read_residue-s.ensures
-      c.is_bond_name.ensures
-      c.judged-j.ensures
-      c.is_bond_name-2.ensures
-      c.judged-k.ensures
-      c.first.ensures
-      c.first-2.ensures
-      c.first-3.ensures
-      c.first-column.ensures,
-  bond_value _ _ _ _ _
-      c.read_four-a.ensures
-      c.read_residue-r.ensures
-      c.read_four-b.ensures
-      c.read_residue-s.ensures,
-)
+unfolding bond_columns first_of
+returns c = rw (good_fault _ _ _ c.in_ok-atom.ensures, good_fault _ _ _ c.in_ok-residue.ensures, good_fault _ _ _ c.in_ok-gap.ensures, good_fault _ _ _ c.in_ok-other_atom.ensures, good_fault _ _ _ c.in_ok-other.ensures, good_value _ _ _ c.in_ok-atom.ensures, good_value _ _ _ c.in_ok-residue.ensures, good_value _ _ _ c.in_ok-other_atom.ensures, good_value _ _ _ c.in_ok-other.ensures)

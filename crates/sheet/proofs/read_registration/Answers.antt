@@ -1,11 +1,19 @@
-use Rattle.sheet.proofs.Returns.{registration_one, registration_blank, registration_filled}
+use Rattle.std.proofs.lemmas.Result.{err_from_is_err_and}
+use Rattle.columns.proofs.Readers.{good_fault, good_value, last_wrong}
+use Rattle.sheet.proofs.Registrations.{read_blank, read_first, read_filled}
 use Rattle.sheet.proofs.read_registration.Goals as goal
 
-pub returns-then-strand-eq1 : goal.returns-then-strand-eq1
-returns-then-strand-eq1 c = registration_one _ _ _ c.gap-g.ensures c.if-strand-eq1.true
+pub returns-in_err-read_bond-in-Err-2 : goal.returns-in_err-read_bond-in-Err-2
+returns-in_err-read_bond-in-Err-2 c =
+    let p = err_from_is_err_and c.from_residual.result c.from_residual.ensures.1 in
+    rw (p.1, p.2, read_filled _ _ _ c.if-strand-eq1.false c.in-Err-2.ensures) (last_wrong _ _ _ _ c.in_err-read_bond-in-Err-2.ensures)
 
-pub returns-then-g-eq0 : goal.returns-then-g-eq0
-returns-then-g-eq0 c = registration_blank _ _ _ c.gap-g.ensures c.if-strand-eq1.false c.if-g-eq0.true
+pub returns-in-Ok : goal.returns-in-Ok
+returns-in-Ok c = read_blank _ _ (good_fault _ _ _ c.in-Ok.ensures)
 
-pub returns : goal.returns
-returns c = registration_filled _ _ _ c.gap-g.ensures _ c.if-strand-eq1.false c.if-g-eq0.false c.read_bond-b.ensures
+pub returns-in-Err : goal.returns-in-Err
+returns-in-Err c = read_first _ _ _ c.if-strand-eq1.true c.in-Err.ensures
+
+pub returns-in_ok-read_bond-in-Err-2 : goal.returns-in_ok-read_bond-in-Err-2
+returns-in_ok-read_bond-in-Err-2 c =
+    rw (read_filled _ _ _ c.if-strand-eq1.false c.in-Err-2.ensures, good_fault _ _ _ c.in_ok-read_bond-in-Err-2.ensures, good_value _ _ _ c.in_ok-read_bond-in-Err-2.ensures)

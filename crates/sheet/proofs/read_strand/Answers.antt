@@ -1,89 +1,84 @@
-use native.Mathlib.Omega.{arith}
-use Rattle.sheet.proofs.Returns.{strand_column, strand_value}
+use mir.Syntax.{w32}
+use mir.ValLaws.{to_z-of_z}
+use Rattle.std.proofs.lemmas.Result.{err_from_is_err_and}
+use Rattle.columns.specs.Columns.{first_of}
+use Rattle.columns.proofs.Readers.{good_fault, good_value, then_wrong, last_wrong}
+use Rattle.sheet.specs.Sheets.{strand_columns}
+use Rattle.sheet.proofs.Sense.{strand_fault}
 use Rattle.sheet.proofs.read_strand.Goals as goal
 
-pub is_identifier-requires : goal.is_identifier-requires
-is_identifier-requires c = tt
+pub returns-in_err-gap : goal.returns-in_err-gap
+unfolding strand_columns first_of
+returns-in_err-gap c =
+    let p = err_from_is_err_and c.from_residual.result c.from_residual.ensures.1 in
+    rw (p.1, p.2, strand_fault _ c.told-line) (then_wrong _ _ _ _ _ c.in_err-gap.ensures)
 
-pub read_integer-sense-requires : goal.read_integer-sense-requires
-read_integer-sense-requires c = omega (arith, c.requires)
+pub returns-in_err-strand : goal.returns-in_err-strand
+unfolding strand_columns first_of
+returns-in_err-strand c =
+    let p = err_from_is_err_and c.from_residual-in_err-strand.result c.from_residual-in_err-strand.ensures.1 in
+    rw (p.1, p.2, strand_fault _ c.told-line, good_fault _ _ _ c.in_ok-gap.ensures) (then_wrong _ _ _ _ _ c.in_err-strand.ensures)
 
-pub is_sense-requires : goal.is_sense-requires
-is_sense-requires c = tt
+pub returns-in_err-gap-2 : goal.returns-in_err-gap-2
+unfolding strand_columns first_of
+returns-in_err-gap-2 c =
+    let p = err_from_is_err_and c.from_residual-in_err-gap-2.result c.from_residual-in_err-gap-2.ensures.1 in
+    rw (p.1, p.2, strand_fault _ c.told-line, good_fault _ _ _ c.in_ok-gap.ensures, good_fault _ _ _ c.in_ok-strand.ensures) (then_wrong _ _ _ _ _ c.in_err-gap-2.ensures)
 
-pub sense_fits-requires : goal.sense_fits-requires
-sense_fits-requires c = tt
+pub returns-in_err-id : goal.returns-in_err-id
+unfolding strand_columns first_of
+returns-in_err-id c =
+    let p = err_from_is_err_and c.from_residual-in_err-id.result c.from_residual-in_err-id.ensures.1 in
+    rw (p.1, p.2, strand_fault _ c.told-line, good_fault _ _ _ c.in_ok-gap.ensures, good_fault _ _ _ c.in_ok-strand.ensures, good_fault _ _ _ c.in_ok-gap-2.ensures) (then_wrong _ _ _ _ _ c.in_err-id.ensures)
 
-pub first-requires : goal.first-requires
-first-requires c = tt
+pub returns-in_err-strands : goal.returns-in_err-strands
+unfolding strand_columns first_of
+returns-in_err-strands c =
+    let p = err_from_is_err_and c.from_residual-in_err-strands.result c.from_residual-in_err-strands.ensures.1 in
+    rw (p.1, p.2, strand_fault _ c.told-line, good_fault _ _ _ c.in_ok-gap.ensures, good_fault _ _ _ c.in_ok-strand.ensures, good_fault _ _ _ c.in_ok-gap-2.ensures, good_fault _ _ _ c.in_ok-id.ensures) (then_wrong _ _ _ _ _ c.in_err-strands.ensures)
 
-pub first-requires-2 : goal.first-requires-2
-first-requires-2 c = tt
+pub returns-in_err-gap-3 : goal.returns-in_err-gap-3
+unfolding strand_columns first_of
+returns-in_err-gap-3 c =
+    let p = err_from_is_err_and c.from_residual-in_err-gap-3.result c.from_residual-in_err-gap-3.ensures.1 in
+    rw (p.1, p.2, strand_fault _ c.told-line, good_fault _ _ _ c.in_ok-gap.ensures, good_fault _ _ _ c.in_ok-strand.ensures, good_fault _ _ _ c.in_ok-gap-2.ensures, good_fault _ _ _ c.in_ok-id.ensures, good_fault _ _ _ c.in_ok-strands.ensures) (then_wrong _ _ _ _ _ c.in_err-gap-3.ensures)
 
-pub first-g-requires : goal.first-g-requires
-first-g-requires c = tt
+pub returns-in_err-first : goal.returns-in_err-first
+unfolding strand_columns first_of
+returns-in_err-first c =
+    let p = err_from_is_err_and c.from_residual-in_err-first.result c.from_residual-in_err-first.ensures.1 in
+    rw (p.1, p.2, strand_fault _ c.told-line, good_fault _ _ _ c.in_ok-gap.ensures, good_fault _ _ _ c.in_ok-strand.ensures, good_fault _ _ _ c.in_ok-gap-2.ensures, good_fault _ _ _ c.in_ok-id.ensures, good_fault _ _ _ c.in_ok-strands.ensures, good_fault _ _ _ c.in_ok-gap-3.ensures) (then_wrong _ _ _ _ _ c.in_err-first.ensures)
 
-pub first-requires-3 : goal.first-requires-3
-first-requires-3 c = tt
+pub returns-in_err-gap-4 : goal.returns-in_err-gap-4
+unfolding strand_columns first_of
+returns-in_err-gap-4 c =
+    let p = err_from_is_err_and c.from_residual-in_err-gap-4.result c.from_residual-in_err-gap-4.ensures.1 in
+    rw (p.1, p.2, strand_fault _ c.told-line, good_fault _ _ _ c.in_ok-gap.ensures, good_fault _ _ _ c.in_ok-strand.ensures, good_fault _ _ _ c.in_ok-gap-2.ensures, good_fault _ _ _ c.in_ok-id.ensures, good_fault _ _ _ c.in_ok-strands.ensures, good_fault _ _ _ c.in_ok-gap-3.ensures, good_fault _ _ _ c.in_ok-first.ensures) (then_wrong _ _ _ _ _ c.in_err-gap-4.ensures)
 
-pub first-requires-4 : goal.first-requires-4
-first-requires-4 c = tt
+pub returns-in_err-last : goal.returns-in_err-last
+unfolding strand_columns first_of
+returns-in_err-last c =
+    let p = err_from_is_err_and c.from_residual-in_err-last.result c.from_residual-in_err-last.ensures.1 in
+    rw (p.1, p.2, strand_fault _ c.told-line, good_fault _ _ _ c.in_ok-gap.ensures, good_fault _ _ _ c.in_ok-strand.ensures, good_fault _ _ _ c.in_ok-gap-2.ensures, good_fault _ _ _ c.in_ok-id.ensures, good_fault _ _ _ c.in_ok-strands.ensures, good_fault _ _ _ c.in_ok-gap-3.ensures, good_fault _ _ _ c.in_ok-first.ensures, good_fault _ _ _ c.in_ok-gap-4.ensures) (then_wrong _ _ _ _ _ c.in_err-last.ensures)
 
-pub first-requires-5 : goal.first-requires-5
-first-requires-5 c = tt
+pub returns-in_err-sense : goal.returns-in_err-sense
+unfolding strand_columns first_of
+returns-in_err-sense c =
+    let p = err_from_is_err_and c.from_residual-in_err-sense.result c.from_residual-in_err-sense.ensures.1 in
+    rw (p.1, p.2, strand_fault _ c.told-line, good_fault _ _ _ c.in_ok-gap.ensures, good_fault _ _ _ c.in_ok-strand.ensures, good_fault _ _ _ c.in_ok-gap-2.ensures, good_fault _ _ _ c.in_ok-id.ensures, good_fault _ _ _ c.in_ok-strands.ensures, good_fault _ _ _ c.in_ok-gap-3.ensures, good_fault _ _ _ c.in_ok-first.ensures, good_fault _ _ _ c.in_ok-gap-4.ensures, good_fault _ _ _ c.in_ok-last.ensures) (then_wrong _ _ _ _ _ c.in_err-sense.ensures)
 
-pub first-h-requires : goal.first-h-requires
-first-h-requires c = tt
+pub returns-in_err-judged : goal.returns-in_err-judged
+unfolding strand_columns first_of
+returns-in_err-judged c =
+    let p = err_from_is_err_and c.from_residual-in_err-judged.result c.from_residual-in_err-judged.ensures.1 in
+    rw (p.1, p.2, strand_fault _ c.told-line, good_fault _ _ _ c.in_ok-gap.ensures, good_fault _ _ _ c.in_ok-strand.ensures, good_fault _ _ _ c.in_ok-gap-2.ensures, good_fault _ _ _ c.in_ok-id.ensures, good_fault _ _ _ c.in_ok-strands.ensures, good_fault _ _ _ c.in_ok-gap-3.ensures, good_fault _ _ _ c.in_ok-first.ensures, good_fault _ _ _ c.in_ok-gap-4.ensures, good_fault _ _ _ c.in_ok-last.ensures, good_fault _ _ _ c.in_ok-sense.ensures) (then_wrong _ _ _ _ _ (rw (c.is_sense.ensures, to_z-of_z w32 c.in_ok-sense.sense (search), good_value _ _ _ c.in_ok-sense.ensures) at c.in_err-judged.ensures))
 
-pub first-requires-6 : goal.first-requires-6
-first-requires-6 c = tt
-
-pub first-requires-7 : goal.first-requires-7
-first-requires-7 c = tt
-
-pub first-f-requires : goal.first-f-requires
-first-f-requires c = tt
-
-pub lower-column-requires : goal.lower-column-requires
-lower-column-requires c = tt
+pub returns-in_err-judged-2 : goal.returns-in_err-judged-2
+unfolding strand_columns first_of
+returns-in_err-judged-2 c =
+    let p = err_from_is_err_and c.from_residual-in_err-judged-2.result c.from_residual-in_err-judged-2.ensures.1 in
+    rw (p.1, p.2, strand_fault _ c.told-line, good_fault _ _ _ c.in_ok-gap.ensures, good_fault _ _ _ c.in_ok-strand.ensures, good_fault _ _ _ c.in_ok-gap-2.ensures, good_fault _ _ _ c.in_ok-id.ensures, good_fault _ _ _ c.in_ok-strands.ensures, good_fault _ _ _ c.in_ok-gap-3.ensures, good_fault _ _ _ c.in_ok-first.ensures, good_fault _ _ _ c.in_ok-gap-4.ensures, good_fault _ _ _ c.in_ok-last.ensures, good_fault _ _ _ c.in_ok-sense.ensures, good_fault _ _ _ (rw (c.is_sense.ensures, to_z-of_z w32 c.in_ok-sense.sense (search), good_value _ _ _ c.in_ok-sense.ensures) at c.in_ok-judged.ensures)) (last_wrong _ _ _ _ (rw (c.sense_fits.ensures, to_z-of_z w32 c.in_ok-sense.sense (search), good_value _ _ _ c.in_ok-strand.ensures, good_value _ _ _ c.in_ok-sense.ensures) at c.in_err-judged-2.ensures))
 
 pub returns : goal.returns
-returns c = (
-  strand_column _ _ _ _ _ _ _ _ _ _ _ _ _ _ _ _ _ _ _ _ _ _ _ _ _ _ _ _
-      c.gap-a.ensures
-      c.read_whole-strand.ensures
-      c.gap-b.ensures
-      c.read_three-id.ensures
-      c.is_identifier.ensures
-      c.judged-i.ensures
-      c.read_whole-strands.ensures
-      c.gap-c.ensures
-      c.read_residue-first.ensures
-      c.gap-d.ensures
-      c.read_residue-last.ensures
-      c.read_integer-sense.ensures
-      (search)
-      c.is_sense.ensures
-      c.judged-k.ensures
-      c.sense_fits.ensures
-      c.blamed-m.ensures
-      c.first.ensures
-      c.first-2.ensures
-      c.first-g.ensures
-      c.first-3.ensures
-      c.first-4.ensures
-      c.first-5.ensures
-      c.first-h.ensures
-      c.first-6.ensures
-      c.first-7.ensures
-      c.first-f.ensures
-      c.lower-column.ensures,
-  strand_value _ _ _ _ _ _ _
-      c.read_whole-strand.ensures
-      c.read_three-id.ensures
-      c.read_whole-strands.ensures
-      c.read_residue-first.ensures
-      c.read_residue-last.ensures
-      c.read_integer-sense.ensures
-      (search),
-)
+unfolding strand_columns first_of
+returns c = rw (strand_fault _ c.told-line, good_fault _ _ _ c.in_ok-gap.ensures, good_fault _ _ _ c.in_ok-strand.ensures, good_fault _ _ _ c.in_ok-gap-2.ensures, good_fault _ _ _ c.in_ok-id.ensures, good_fault _ _ _ c.in_ok-strands.ensures, good_fault _ _ _ c.in_ok-gap-3.ensures, good_fault _ _ _ c.in_ok-first.ensures, good_fault _ _ _ c.in_ok-gap-4.ensures, good_fault _ _ _ c.in_ok-last.ensures, good_fault _ _ _ c.in_ok-sense.ensures, good_fault _ _ _ (rw (c.is_sense.ensures, to_z-of_z w32 c.in_ok-sense.sense (search), good_value _ _ _ c.in_ok-sense.ensures) at c.in_ok-judged.ensures), good_fault _ _ _ (rw (c.sense_fits.ensures, to_z-of_z w32 c.in_ok-sense.sense (search), good_value _ _ _ c.in_ok-strand.ensures, good_value _ _ _ c.in_ok-sense.ensures) at c.in_ok-judged-2.ensures), good_value _ _ _ c.in_ok-strand.ensures, good_value _ _ _ c.in_ok-id.ensures, good_value _ _ _ c.in_ok-strands.ensures, good_value _ _ _ c.in_ok-first.ensures, good_value _ _ _ c.in_ok-last.ensures, to_z-of_z w32 c.in_ok-sense.sense (search), good_value _ _ _ c.in_ok-sense.ensures)

@@ -1,14 +1,15 @@
-use Rattle.sheet.proofs.Returns.{registration_refused, registration_absent, registration_judged}
+use borrow.Author.Tests.{ne_eqb}
+use Rattle.sheet.specs.Sheets.{registration_columns}
+use Rattle.sheet.proofs.Registrations.{good_none}
 use Rattle.sheet.proofs.registration_is_good.Goals as goal
 
-pub returns-then-strand-eq1 : goal.returns-then-strand-eq1
-returns-then-strand-eq1 c = registration_refused _ _ _ c.in-Filled.is c.if-strand-eq1.true
+pub returns-in-None : goal.returns-in-None
+returns-in-None c = good_none _ _ c.in-None.is
 
-pub bond_is_good-requires : goal.bond_is_good-requires
-bond_is_good-requires c = tt
+pub returns-then-strand-ne1 : goal.returns-then-strand-ne1
+unfolding registration_columns
+returns-then-strand-ne1 c = rw (c.in-Some.is, ne_eqb _ _ c.if-strand-ne1.true) c.bond_is_good.ensures
 
-pub returns-in-Absent : goal.returns-in-Absent
-returns-in-Absent c = registration_absent _ _ c.in-Absent.is
-
-pub returns-else-strand-eq1 : goal.returns-else-strand-eq1
-returns-else-strand-eq1 c = registration_judged _ _ _ _ c.in-Filled.is c.if-strand-eq1.false c.bond_is_good.ensures
+pub returns-else-strand-ne1 : goal.returns-else-strand-ne1
+unfolding registration_columns
+returns-else-strand-ne1 c = rw (c.in-Some.is, c.if-strand-ne1.false)

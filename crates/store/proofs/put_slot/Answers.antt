@@ -9,7 +9,7 @@ bounds-table-k c = let at = c.before in let e : one_of at.args.l ≡ 1 = rw (←
 pub returns-then-is_coord : goal.returns-then-is_coord
 returns-then-is_coord c = let e = sym c.is_coord.ensures ∙ c.if-is_coord.true in record {
   value = rw e refl;
-  table_after = rw (e, c.line_slot-s.ensures) refl;
+  table_after = rw (e, c.line_slot.ensures) refl;
 }
 
 pub returns-else-is_coord : goal.returns-else-is_coord

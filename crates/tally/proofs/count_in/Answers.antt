@@ -1,43 +1,38 @@
-use borrow.Author.Tests.{ne_eqb}
 use Rattle.tally.specs.Tally.{count_in}
 use Rattle.tally.proofs.count_in.Goals as goal
 
-pub returns-in-1 : goal.returns-in-1
+pub returns-in-Remark : goal.returns-in-Remark
 unfolding count_in
-returns-in-1 c = rw c.in-1.is
+returns-in-Remark c = rw c.in-Remark.is
 
-pub returns-in-2 : goal.returns-in-2
+pub returns-in-Het : goal.returns-in-Het
 unfolding count_in
-returns-in-2 c = rw c.in-2.is
+returns-in-Het c = rw c.in-Het.is
 
-pub returns-in-3 : goal.returns-in-3
+pub returns-in-Helix : goal.returns-in-Helix
 unfolding count_in
-returns-in-3 c = rw c.in-3.is
+returns-in-Helix c = rw c.in-Helix.is
 
-pub returns-in-4 : goal.returns-in-4
+pub returns-in-Sheet : goal.returns-in-Sheet
 unfolding count_in
-returns-in-4 c = rw c.in-4.is
+returns-in-Sheet c = rw c.in-Sheet.is
 
-pub returns-in-5 : goal.returns-in-5
+pub returns-in-Xform : goal.returns-in-Xform
 unfolding count_in
-returns-in-5 c = rw c.in-5.is
+returns-in-Xform c = rw c.in-Xform.is
 
-pub returns-in-6 : goal.returns-in-6
+pub returns-in-Coord : goal.returns-in-Coord
 unfolding count_in
-returns-in-6 c = rw c.in-6.is
+returns-in-Coord c = rw c.in-Coord.is
 
-pub returns-in-7 : goal.returns-in-7
+pub returns-in-Ter : goal.returns-in-Ter
 unfolding count_in
-returns-in-7 c = rw c.in-7.is
+returns-in-Ter c = rw c.in-Ter.is
 
-pub returns-in-8 : goal.returns-in-8
+pub returns-in-Conect : goal.returns-in-Conect
 unfolding count_in
-returns-in-8 c = rw c.in-8.is
+returns-in-Conect c = rw c.in-Conect.is
 
-pub returns-in-9 : goal.returns-in-9
+pub returns-in-Seq : goal.returns-in-Seq
 unfolding count_in
-returns-in-9 c = rw c.in-9.is
-
-pub returns-in_default : goal.returns-in_default
-unfolding count_in
-returns-in_default c = let r = c.in_default.in_default-own.rest in rw (ne_eqb _ _ r.0.0.0.0.0.0.0.0.1, ne_eqb _ _ r.0.0.0.0.0.0.0.1, ne_eqb _ _ r.0.0.0.0.0.0.1, ne_eqb _ _ r.0.0.0.0.0.1, ne_eqb _ _ r.0.0.0.0.1, ne_eqb _ _ r.0.0.0.1, ne_eqb _ _ r.0.0.1, ne_eqb _ _ r.0.1, ne_eqb _ _ r.1)
+returns-in-Seq c = rw c.in-Seq.is

@@ -1,9 +1,5 @@
-use Prim.Native.Nat.{◌≤◌, ◌-◌}
-use Rattle.trail.specs.Trail.{Apart}
+use Rattle.trail.specs.Trail.{Unlike}
 use Rattle.twins.proofs.suspect.Given as goal
 
-abbrev pub invariant-loop-k : goal.invariant-loop-k
-invariant-loop-k l = (l.from ≤ l.k) × (l.k ≤ l.hi) × Apart l.text l.from l.k l.i
-
-abbrev pub decreases-loop-k : goal.decreases-loop-k
-decreases-loop-k l = l.hi - l.k
+abbrev pub invariant-loop-j : goal.invariant-loop-j
+invariant-loop-j l = Unlike l.text l.from l.j l.piece

@@ -1,5 +1,4 @@
 use Rattle.writing.proofs.Counting.{stays_counted, goes_uncounted}
-use borrow.Author.Rules.{rules}
 use Rattle.writing.proofs.count_line.Goals as goal
 
 pub returns-then-stay : goal.returns-then-stay

@@ -1,6 +1,5 @@
 use Rattle.table.specs.Deal.{past_after}
 use mathlib.Core.Path.{◌∙◌, ap}
-use borrow.Author.Rules.{rules}
 use Rattle.writing.proofs.past_next.Goals as goal
 
 pub returns : goal.returns

@@ -1,8 +1,10 @@
-use Rattle.feed.proofs.Returns.{frame_some, frame_none}
+use Rattle.feed.specs.Frame.{framed_of}
 use Rattle.feed.proofs.framing.frame_of.Goals as goal
 
-pub returns-then-b : goal.returns-then-b
-returns-then-b c = search frame_some
+pub returns-in-Some : goal.returns-in-Some
+unfolding framed_of
+returns-in-Some c = rw (c.in-Some.is, c.extent.ensures)
 
-pub returns : goal.returns
-returns c = search frame_none
+pub returns-in-None : goal.returns-in-None
+unfolding framed_of
+returns-in-None c = rw c.in-None.is

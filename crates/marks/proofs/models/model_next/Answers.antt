@@ -1,6 +1,5 @@
 use Rattle.table.specs.Table.{model_after}
 use mathlib.Core.Path.{◌∙◌, ap}
-use borrow.Author.Rules.{rules}
 use Rattle.marks.proofs.models.model_next.Goals as goal
 
 pub returns : goal.returns

@@ -1,13 +1,15 @@
+use mathlib.Core.Path.{◌∙◌}
+use Rattle.ascii.specs.Tests.{both}
 use Rattle.places.proofs.counting.count_at.Goals as goal
+use Rattle.places.proofs.counting.count_at.Goals.{else-past-via-then-past+else-r, else-past-via-else-past}
 
-pub row_of-r-requires : goal.row_of-r-requires
-row_of-r-requires c = tt
+pub returns-then-r : goal.returns-then-r
+unfolding both
+returns-then-r c = rw (← c.row_of-r.ensures, c.if-past.true, c.if-r.true)
 
-pub both_of-requires : goal.both_of-requires
-both_of-requires c = tt
-
-pub returns-then-both_of : goal.returns-then-both_of
-returns-then-both_of c = rw (← c.row_of-r.ensures, ← c.both_of.ensures, c.if-both_of.true)
-
-pub returns : goal.returns
-returns c = rw (← c.row_of-r.ensures, ← c.both_of.ensures, c.if-both_of.false)
+pub returns-else-past : goal.returns-else-past
+unfolding both
+returns-else-past c = c.numbered.ensures ∙ elim c.else-past.branch [
+  | else-past-via-then-past+else-r w ↦ rw (← c.row_of-r.ensures, w.if-past.true, w.if-r.false)
+  | else-past-via-else-past w ↦ rw (← c.row_of-r.ensures, w.if-past.false)
+]

@@ -1,7 +1,5 @@
+use Rattle.ascii.proofs.Bools.{or_either}
 use Rattle.rules.proofs.tests.bond_bad.Goals as goal
 
-pub returns-in-Bonds : goal.returns-in-Bonds
-returns-in-Bonds c = rw (c.in-Bonds.is, c.either_of.ensures, c.not_of.ensures)
-
-pub returns-in-Loose : goal.returns-in-Loose
-returns-in-Loose c = rw c.in-Loose.is
+pub returns-in-Some : goal.returns-in-Some
+returns-in-Some c = rw (c.in-Some.is, or_either)

@@ -1,4 +1,5 @@
+use Rattle.ascii.proofs.Bools.{or_either}
 use Rattle.rules.proofs.tests.helix_bad.Goals as goal
 
 pub returns : goal.returns
-returns c = rw (c.either_of.ensures, c.not_of.ensures, c.unfinished.ensures)
+returns c = rw (or_either, c.unfinished.ensures)

@@ -1,6 +1,11 @@
+use Rattle.ascii.proofs.Bools.{and_both}
 use Rattle.rules.specs.Rules.{site_bad}
 use Rattle.rules.proofs.tests.site_bad.Goals as goal
 
-pub returns : goal.returns
+pub returns-then-het : goal.returns-then-het
 unfolding site_bad
-returns c = rw (c.choose.ensures, c.both_of-a.ensures, c.not_of-2.ensures, c.both_of.ensures, c.both_of-h.ensures, c.not_of.ensures)
+returns-then-het c = simp (c.if-het.true, and_both)
+
+pub returns-else-het : goal.returns-else-het
+unfolding site_bad
+returns-else-het c = simp (c.if-het.false, and_both)

@@ -14,7 +14,7 @@ pub loop-k-preserved : goal.loop-k-preserved
 loop-k-preserved c =
     let M = c.loop-k.invariant in
     let h : c.loop-k.k - 1 < length c.loop-k.table = omega (arith, M.size, M.inside, c.loop-k-test.true) in
-    one_next _ _ _ _ _ (omega arith) _ _ (rw read at c.step_tail-t.ensures) _ _ M (rw read at c.mark_slot-u.ensures)
+    one_next _ _ _ _ _ (omega arith) _ _ (rw read at c.step_tail-t.ensures) _ _ M (rw read at c.mark_slot.ensures)
 
 pub returns : goal.returns
 returns c = marking_done _ _ _ _ _ c.loop-k.invariant (omega arith)

@@ -4,6 +4,3 @@ use Rattle.store.proofs.marking.mark_all.Given as goal
 
 abbrev pub invariant-loop-k : goal.invariant-loop-k
 invariant-loop-k l = Marking l.initial.table (marked l.b.0 l.m) l.k l.t l.table
-
-abbrev pub decreases-loop-k : goal.decreases-loop-k
-decreases-loop-k l = l.k

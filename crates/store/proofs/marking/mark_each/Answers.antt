@@ -24,7 +24,7 @@ bounds-aside-at c =
 pub loop-k-preserved : goal.loop-k-preserved
 loop-k-preserved c =
     let h : c.loop-k.k - 1 < length c.loop-k.table = omega (arith, c.loop-k.invariant.size, c.loop-k.invariant.inside, c.loop-k-test.true) in
-    each_next _ _ _ _ _ (omega arith) _ _ (rw read at c.step_tail-t.ensures) _ c.loop-k.invariant (rw read at c.mark_as-u.ensures)
+    each_next _ _ _ _ _ (omega arith) _ _ (rw read at c.step_tail-t.ensures) _ c.loop-k.invariant (rw read at c.mark_as.ensures)
 
 pub returns : goal.returns
 returns c = marking_done _ _ _ _ _ c.loop-k.invariant (omega arith)

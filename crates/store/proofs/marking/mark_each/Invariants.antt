@@ -5,6 +5,3 @@ use Rattle.store.proofs.marking.mark_each.Given as goal
 
 abbrev pub invariant-loop-k : goal.invariant-loop-k
 invariant-loop-k l = Marking l.initial.table (marked_by (mark_at l.aside)) l.k l.t l.table
-
-abbrev pub decreases-loop-k : goal.decreases-loop-k
-decreases-loop-k l = l.k

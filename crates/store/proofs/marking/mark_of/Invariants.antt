@@ -6,6 +6,3 @@ use Rattle.store.proofs.marking.mark_of.Given as goal
 
 abbrev pub invariant-loop-k : goal.invariant-loop-k
 invariant-loop-k l = (l.k ≤ length l.table) × (l.t.count + l.k ≤ length l.table) × (l.t ≡ tail_of (drop l.k l.table)) × (l.m ≡ mark_of l.b.0 (drop l.k l.table))
-
-abbrev pub decreases-loop-k : goal.decreases-loop-k
-decreases-loop-k l = l.k

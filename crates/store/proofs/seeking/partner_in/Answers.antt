@@ -5,4 +5,4 @@ pub returns-then-x-eq0 : goal.returns-then-x-eq0
 returns-then-x-eq0 c = λ r. partner_none _ _ c.if-x-eq0.true
 
 pub returns : goal.returns
-returns c = λ r. partner_found _ _ _ c.if-x-eq0.false (c.stands_in-e.ensures r)
+returns c = λ r. partner_found _ _ _ c.if-x-eq0.false (c.stands_in.ensures r)

@@ -17,7 +17,7 @@ pub loop-s-smaller : goal.loop-s-smaller
 loop-s-smaller c = rw c.part-s.ensures (part_less c.loop-s.s _ _ _ c.probe-m.ensures.0 c.probe-m.ensures.1)
 
 pub loop-s-preserved : goal.loop-s-preserved
-loop-s-preserved c = rw c.part-s.ensures (le_trans (part_within c.loop-s.s _ _ _ c.probe-m.ensures.1) c.loop-s.invariant.0, λ r. slot_held c.args.table.now _ _ c.loop-s.s _ _ _ c.slot_at-here.ensures c.rank_of-there.ensures c.probe-m.ensures.0 c.probe-m.ensures.1 r (c.loop-s.invariant.1 r))
+loop-s-preserved c = rw c.part-s.ensures (le_trans (part_within c.loop-s.s _ _ _ c.probe-m.ensures.1) c.loop-s.invariant.0, λ r. slot_held c.args.table.now _ _ c.loop-s.s _ _ _ c.slot_at.ensures c.rank_of-there.ensures c.probe-m.ensures.0 c.probe-m.ensures.1 r (c.loop-s.invariant.1 r))
 
 pub returns : goal.returns
 returns c = λ r. bracket_met _ _ _ _ _ _ (c.loop-s.invariant.1 r) c.loop-s-test.false

@@ -1,5 +1,5 @@
 use mathlib.Core.Path.{◌≡◌}
-use Prim.Native.Nat.{◌+◌, ◌*◌, ◌-◌, ◌≤◌}
+use Prim.Native.Nat.{◌+◌, ◌≤◌}
 use lib.ListN.{length}
 use Rattle.gate.proofs.Sofar.{Sofar}
 use Rattle.trail.specs.Trail.{Watched}
@@ -9,6 +9,3 @@ use Rattle.store.proofs.survey.count_slots.Given as goal
 
 abbrev pub invariant-loop-i : goal.invariant-loop-i
 invariant-loop-i l = Sofar l.text l.i l.c.past l.c.state × (l.k + length (slots_of no_model (lines_from l.text l.i)) ≡ length (loaded_of l.text)) × (l.k ≤ l.i) × Watched l.text l.c.past.block l.c.watch
-
-abbrev pub decreases-loop-i : goal.decreases-loop-i
-decreases-loop-i l = length l.text - 81 * l.i

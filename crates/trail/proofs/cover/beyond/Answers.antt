@@ -1,4 +1,3 @@
-use native.Mathlib.Nat.{le_refl}
 use native.Mathlib.Omega.{arith}
 use mathlib.Core.Path.{◌∙◌, sym}
 use Rattle.trail.proofs.Covers.{covered, apart_beyond}
@@ -6,12 +5,3 @@ use Rattle.trail.proofs.cover.beyond.Goals as goal
 
 pub returns-then-from-d : goal.returns-then-from-d
 returns-then-from-d c = (omega arith, omega arith, λ t lo C A. apart_beyond t _ lo _ _ C (covered _ _ _ (sym c.covers.ensures ∙ c.if-covers.true)) A)
-
-pub returns-else-from-d : goal.returns-else-from-d
-returns-else-from-d c = (le_refl _, c.requires, λ _ _ _ A. A)
-
-pub returns-else-d-hi : goal.returns-else-d-hi
-returns-else-d-hi c = (le_refl _, c.requires, λ _ _ _ A. A)
-
-pub returns-else-covers : goal.returns-else-covers
-returns-else-covers c = (le_refl _, c.requires, λ _ _ _ A. A)

@@ -1,4 +1,5 @@
+use Rattle.ascii.proofs.Bools.{and_both, both_assoc}
 use Rattle.trail.proofs.cover.covers.Goals as goal
 
 pub returns : goal.returns
-returns c = rw (← c.both_of.ensures) c.both_of-2.ensures
+returns c = simp (and_both, both_assoc)

@@ -4,7 +4,4 @@ use Rattle.trail.specs.Trail.{Seen}
 use Rattle.trail.proofs.looking.passed.Given as goal
 
 abbrev pub invariant-loop-j : goal.invariant-loop-j
-invariant-loop-j l = (l.lo ≤ l.j) × (l.j ≤ l.hi) × Seen (home_at l.text) l.j l.hi l.from l.low l.x l.limit
-
-abbrev pub decreases-loop-j : goal.decreases-loop-j
-decreases-loop-j l = l.j
+invariant-loop-j l = (l.lo ≤ l.j) × Seen (home_at l.text) l.j l.hi l.from l.low l.x l.limit
