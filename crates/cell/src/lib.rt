@@ -1,12 +1,16 @@
 // CRYST1: read and written.
 #![tactic(auto)]
 
+ghost use Rattle.refusals.specs.Numbers.{number_in};
+ghost use Rattle.kinds.specs.Kinds.{line_with};
+ghost use Rattle.kinds.specs.declared.Kind.TheVariants as kind;
 ghost use Rattle.std.specs.Prelude.{◌≡◌};
 ghost use Rattle.cell.specs.Cells.{edges_f, angles_f, group_f, cell_f};
-ghost use Rattle.fields.specs.Format.{read_of};
+ghost use Rattle.fields.specs.Format.{read_of, write_number, write_line};
 
 use columns::Column;
 use kinds::Layout;
+use refusals::Refusal;
 
 // Columns 7 to 33: the edges of the cell, in thousandths.
 #[repr(C)]
@@ -116,4 +120,12 @@ impl Layout for Cell {
         fields::put_whole(line, 66, 4, self.z);
         columns::put_blanks(line, 70, 10);
     }
+}
+
+// Writes the line, 80 bytes, or leaves all as found: where a field is out of its range, or there is no room.
+pub fn write_cell(line: &mut [u8], c: Cell) -> Result<(), Refusal>
+    ensures number { number_in result ≡ write_number (cell_f.ok c) line.old }
+    ensures line_after { line.new ≡ write_line (cell_f.ok c) (line_with kind.Cryst1 cell_f c) line.old }
+{
+    kinds::write(line, kinds::CRYST1, c)
 }

@@ -1,14 +1,18 @@
 // CONECT: read and written. A partner that is not there is 0, as the format has it: no serial is 0.
 #![tactic(auto)]
 
+ghost use Rattle.refusals.specs.Numbers.{number_in};
+ghost use Rattle.kinds.specs.Kinds.{line_with};
+ghost use Rattle.kinds.specs.declared.Kind.TheVariants as kind;
 ghost use Rattle.std.specs.Prelude.{◌≡◌, ◌+◌, ◌≤◌};
 ghost use Rattle.columns.specs.Columns.{Put};
-ghost use Rattle.fields.specs.Format.{read_of};
+ghost use Rattle.fields.specs.Format.{read_of, write_number, write_line};
 ghost use Rattle.conect.specs.Conects.{partner_f, differs, unbroken, conect_f};
 
 use columns::Column;
 use fields::Serial;
 use kinds::Layout;
+use refusals::Refusal;
 
 #[derive(Clone, Copy, Debug, PartialEq, Eq)]
 pub struct Conect {
@@ -107,4 +111,12 @@ impl Layout for Conect {
         put_partner(line, 26, self.d.0);
         columns::put_blanks(line, 31, 49);
     }
+}
+
+// Writes the line, 80 bytes, or leaves all as found: where a field is out of its range, or there is no room.
+pub fn write_conect(line: &mut [u8], r: Conect) -> Result<(), Refusal>
+    ensures number { number_in result ≡ write_number (conect_f.ok r) line.old }
+    ensures line_after { line.new ≡ write_line (conect_f.ok r) (line_with kind.Conect conect_f r) line.old }
+{
+    kinds::write(line, kinds::CONECT, r)
 }

@@ -1,14 +1,17 @@
 // ATOM and HETATM: read and written.
 #![tactic(auto)]
 
+ghost use Rattle.refusals.specs.Numbers.{number_in};
+ghost use Rattle.kinds.specs.Kinds.{line_with};
 ghost use Rattle.std.specs.Prelude.{◌≡◌, ◌+◌, ◌≤◌, ◌<◌};
 ghost use Rattle.columns.specs.Columns.{Put};
-ghost use Rattle.fields.specs.Format.{read_of};
-ghost use Rattle.coordinate.specs.Atoms.{position_f, identity_f, measure_f, species_f, named_species_f, leads_element, atom_f};
+ghost use Rattle.fields.specs.Format.{read_of, write_number, write_line};
+ghost use Rattle.coordinate.specs.Atoms.{position_f, identity_f, measure_f, species_f, named_species_f, leads_element, atom_f, coordinate_kind};
 
 use columns::Column;
 use fields::Serial;
 use kinds::Layout;
+use refusals::Refusal;
 use residue::Residue;
 
 // Coordinates, in thousandths.
@@ -199,5 +202,17 @@ impl Layout for Atom {
         put_measure(line, self.measure);
         columns::put_blanks(line, 66, 10);
         put_species(line, self.species);
+    }
+}
+
+// Writes the line, 80 bytes, or leaves all as found: where a field is out of its range, or there is no room.
+pub fn write_atom(line: &mut [u8], het: bool, a: Atom) -> Result<(), Refusal>
+    ensures number { number_in result ≡ write_number (atom_f.ok a) line.old }
+    ensures line_after { line.new ≡ write_line (atom_f.ok a) (line_with (coordinate_kind het) atom_f a) line.old }
+{
+    if het {
+        kinds::write(line, kinds::HETATM, a)
+    } else {
+        kinds::write(line, kinds::ATOM, a)
     }
 }

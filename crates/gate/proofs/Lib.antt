@@ -3,3 +3,4 @@ pub mod Runs
 pub mod Models
 pub mod Columns
 pub mod Consequences
+pub mod Told

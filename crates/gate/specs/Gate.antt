@@ -1,6 +1,6 @@
 -- The gate over a whole text: each line is judged against what the good lines before it left.
-use Rattle.std.specs.Prelude.{◌+◌, ◌∷◌, Option, Some, None}
-use Rattle.ascii.specs.Library.{ℕ, List, [], map, eqb, pick}
+use Rattle.std.specs.Prelude.{◌+◌, ◌∷◌, ◌≡◌, Option, Some, None, IfSome}
+use Rattle.ascii.specs.Library.{ℕ, zero, suc, List, [], map, eqb, pick}
 use Rattle.pieces.specs.declared.{Line.Line, Line.TheVariants.Bad, Line.TheVariants.Wrong, Line.TheVariants.Carried, Line.TheVariants.Typed}
 use Rattle.pieces.specs.Pieces.{line_of}
 use Rattle.facets.specs.Facets.{spot_in, bond_in}
@@ -27,6 +27,15 @@ pub record Verdict : Type 0 where
 abbrev pub column_in : Option ℕ → ℕ
 column_in (Some c) = c
 column_in None = 0
+
+-- a column that is there where it is not 0
+abbrev pub column_there : ℕ → Option ℕ
+column_there zero = None
+column_there (suc c) = Some (suc c)
+
+-- a column is there exactly where it is told, so that an answer is told as numbers in one way
+abbrev pub ColumnTold : Option Offence → Type 0
+ColumnTold o = IfSome o (λ f. f.column ≡ column_there (column_in f.column))
 
 -- the numbers of an offence, 0 where there is none
 abbrev pub number_told : Option Offence → ℕ

@@ -11,7 +11,7 @@ ghost use Rattle.rules.specs.Rules.{start_of, next_of};
 ghost use Rattle.search.specs.Search.{span};
 ghost use Rattle.serials.specs.Search.{grow_of, no_earlier, earlier_of, Block, Behind, Rising, Reached};
 ghost use Rattle.trail.specs.Trail.{Watched};
-ghost use Rattle.gate.specs.Gate.{told_by, column_in, at_six, column_of, refused_of, finish_of, number_in, check_of};
+ghost use Rattle.gate.specs.Gate.{told_by, column_there, column_in, ColumnTold, at_six, column_of, refused_of, finish_of, number_in, check_of};
 
 use pieces::Line;
 use places::Counts;
@@ -78,7 +78,8 @@ pub struct Course {
 
 // The check of a text.
 pub fn check(text: &[u8]) -> Verdict
-    ensures { told_by result ≡ check_of text.now }
+    ensures numbers { told_by result ≡ check_of text.now }
+    ensures column { ColumnTold result.offence }
 {
     let mut c = start();
     for i in 0..rows::count(text) {
@@ -130,7 +131,7 @@ pub fn turn(text: &[u8], i: usize, c: Course, l: Line) -> Result<Course, Refusal
 
 // The column of a line that is refused.
 fn column_of(r: Refusal, l: Line) -> Option<u32>
-    ensures { column_in result ≡ column_of (number_of r) l }
+    ensures { result ≡ column_there (column_of (number_of r) l) }
 {
     match l {
         Line::Wrong(_, column) => at_field(r, column.0),
@@ -138,10 +139,11 @@ fn column_of(r: Refusal, l: Line) -> Option<u32>
     }
 }
 
+// Columns count from 1.
 fn at_field(r: Refusal, column: u32) -> Option<u32>
-    ensures { column_in result ≡ at_six (number_of r) column }
+    ensures { result ≡ column_there (at_six (number_of r) column) }
 {
-    if r == Refusal::Field {
+    if (r == Refusal::Field) & (column != 0) {
         Some(column)
     } else {
         None
@@ -150,7 +152,8 @@ fn at_field(r: Refusal, column: u32) -> Option<u32>
 
 fn refused(r: Refusal, column: Option<u32>, s: State) -> Verdict
     requires { s.lines < 9223372036854775808 }
-    ensures { told_by result ≡ refused_of (number_of r) (column_in column) s }
+    ensures numbers { told_by result ≡ refused_of (number_of r) (column_in column) s }
+    ensures column { column ≡ column_there (column_in column) → ColumnTold result.offence }
 {
     Verdict {
         offence: Some(Offence {
@@ -175,7 +178,8 @@ pub fn ended(s: State) -> Result<(), Refusal>
 
 pub fn finish(s: State) -> Verdict
     requires { s.lines < 9223372036854775808 }
-    ensures { told_by result ≡ finish_of s }
+    ensures numbers { told_by result ≡ finish_of s }
+    ensures column { ColumnTold result.offence }
 {
     if s.place == END_PLACE {
         Verdict {

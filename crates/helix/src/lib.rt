@@ -1,13 +1,17 @@
 // HELIX: read and written.
 #![tactic(auto)]
 
+ghost use Rattle.refusals.specs.Numbers.{number_in};
+ghost use Rattle.kinds.specs.Kinds.{line_with};
+ghost use Rattle.kinds.specs.declared.Kind.TheVariants as kind;
 ghost use Rattle.std.specs.Prelude.{◌≡◌};
 ghost use Rattle.columns.specs.Columns.{Put};
-ghost use Rattle.fields.specs.Format.{read_of};
+ghost use Rattle.fields.specs.Format.{read_of, write_number, write_line};
 ghost use Rattle.helix.specs.Helices.{extent_f, comment_f, helix_f};
 
 use columns::Column;
 use kinds::Layout;
+use refusals::Refusal;
 use residue::Residue;
 
 // Columns 7 to 38. (A part of the record, as the definition of HELIX has it.)
@@ -141,4 +145,12 @@ impl Layout for Helix {
         fields::put_whole(line, 71, 5, self.length);
         columns::put_blanks(line, 76, 4);
     }
+}
+
+// Writes the line, 80 bytes, or leaves all as found: where a field is out of its range, or there is no room.
+pub fn write_helix(line: &mut [u8], h: Helix) -> Result<(), Refusal>
+    ensures number { number_in result ≡ write_number (helix_f.ok h) line.old }
+    ensures line_after { line.new ≡ write_line (helix_f.ok h) (line_with kind.Helix helix_f h) line.old }
+{
+    kinds::write(line, kinds::HELIX, h)
 }

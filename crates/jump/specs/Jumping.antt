@@ -1,6 +1,7 @@
 -- The jump: the first line with a serial, in any text.
 use Rattle.std.specs.Prelude.{◌+◌, ◌/◌, ◌∷◌, Ok, Err}
 use Rattle.ascii.specs.Library.{ℕ, List, [], Bool, false, length, get_or, take, eqb, both, byte, pick}
+use Rattle.line.specs.declared.unread.Misread.TheVariants.{Refused, Wrong}
 use Rattle.line.specs.Lines.{Answer, read_line}
 use Rattle.facets.specs.Facets.{spot_of}
 use Rattle.rows.specs.Text.{cut}
@@ -10,7 +11,8 @@ use Rattle.jump.specs.declared.{Jump.Jump}
 -- an ATOM or HETATM line with serial x was read
 abbrev pub read_atom : ℕ → Answer → Bool
 read_atom x (Ok r) = is_atom x (spot_of r)
-read_atom x (Err m) = false
+read_atom x (Err (Refused r)) = false
+read_atom x (Err (Wrong column)) = false
 
 -- a piece of 81 bytes that ends in byte 10 and reads by itself as an ATOM or HETATM line with serial x
 unfoldable pub is_hit : ℕ → List ℕ → Bool

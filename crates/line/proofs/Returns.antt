@@ -1,6 +1,6 @@
 -- What a kind's reader and writer answer is what is said of a line. Assumes nothing.
 use mathlib.Core.Path.{◌≡◌, ◌∙◌, ap}
-use mathlib.Core.List.{List, ◌++◌}
+use mathlib.Core.List.{List}
 use mathlib.Core.Bool.{Bool, true, false}
 use Prim.Native.Nat.{ℕ, zero, suc}
 use native.Mathlib.Omega.{arith}
@@ -12,10 +12,7 @@ use Rattle.columns.specs.Columns.{clean_at}
 use Rattle.columns.specs.Answers.{read_as}
 use Rattle.refusals.specs.declared.Refusal.TheVariants.{Length, Byte}
 use Rattle.kinds.specs.declared.Kind.{Kind}
-use Rattle.kinds.specs.Kinds.{kind_of, row_of, name_text}
-use Rattle.kinds.proofs.First.{name_bytes}
-use Rattle.words.specs.Words.{bytes_of}
-use Rattle.fields.specs.Format.{write_line}
+use Rattle.kinds.specs.Kinds.{kind_of}
 use Rattle.line.specs.declared.Record.{Record}
 use Rattle.line.specs.declared.unread.Unread.TheVariants.{Wrong}
 use Rattle.line.specs.declared.unread.Misread.TheVariants.{Refused}
@@ -45,8 +42,3 @@ module _ (l m : List ℕ) (h : length l ≡ 80) (e : m ≡ l) where
   pub line_read : (k : Kind) (r : Reading) → true ≡ clean_at m 0 80 → k ≡ kind_of m → r ≡ reading_of k m → answer_of r ≡ read_line l
   unfolding read_line
   line_read k r t ek er = rw (eq-eqb _ _ h, ← e, ← t) (ap answer_of (er ∙ ap (λ x. reading_of x m) ek))
-
--- ---- a line that is written behind the name of its kind
-pub named_line : (v : ℕ) (k : Kind) (x : List ℕ) (good : Bool) (l l' : List ℕ) → v ≡ (row_of k).name
-    → l' ≡ write_line good (bytes_of 6 v ++ x) l → l' ≡ write_line good (name_text k ++ x) l
-named_line v k x good l l' e p = rw (name_bytes v k e) at p

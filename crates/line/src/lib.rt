@@ -104,25 +104,17 @@ pub fn write_record(out: &mut [u8], r: Record) -> Result<(), Refusal>
     ensures line_after { out.new ≡ write_line (record_ok r) (record_line r) out.old }
 {
     match r {
-        Record::Coordinate(het, a) => {
-            if het {
-                kinds::write(out, kinds::HETATM, a)
-            } else {
-                kinds::write(out, kinds::ATOM, a)
-            }
-        }
-        Record::Ter(t) => kinds::write(out, kinds::TER, t),
-        Record::Helix(h) => kinds::write(out, kinds::HELIX, h),
-        Record::Sheet(s) => kinds::write(out, kinds::SHEET, s),
-        Record::Conect(c) => kinds::write(out, kinds::CONECT, c),
-        Record::Master(t) => kinds::write(out, kinds::MASTER, t),
+        Record::Coordinate(het, a) => coordinate::write_atom(out, het, a),
+        Record::Ter(t) => ter::write_ter(out, t),
+        Record::Helix(h) => helix::write_helix(out, h),
+        Record::Sheet(s) => sheet::write_sheet(out, s),
+        Record::Conect(c) => conect::write_conect(out, c),
+        Record::Master(t) => master::write_master(out, t),
         Record::End => kinds::write(out, kinds::END, Bare),
-        Record::Model(m) => kinds::write(out, kinds::MODEL, m),
+        Record::Model(m) => model::write_model(out, m),
         Record::Endmdl => kinds::write(out, kinds::ENDMDL, Bare),
-        Record::Cell(c) => kinds::write(out, kinds::CRYST1, c),
-        Record::Transform(scale, axis, t) => {
-            kinds::write(out, transform::name_of(scale, axis), t)
-        }
+        Record::Cell(c) => cell::write_cell(out, c),
+        Record::Transform(scale, axis, t) => transform::write_transform(out, scale, axis, t),
     }
 }
 

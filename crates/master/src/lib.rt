@@ -1,12 +1,16 @@
 // MASTER: read and written.
 #![tactic(auto)]
 
+ghost use Rattle.refusals.specs.Numbers.{number_in};
+ghost use Rattle.kinds.specs.Kinds.{line_with};
+ghost use Rattle.kinds.specs.declared.Kind.TheVariants as kind;
 ghost use Rattle.std.specs.Prelude.{◌≡◌};
-ghost use Rattle.fields.specs.Format.{read_of};
+ghost use Rattle.fields.specs.Format.{read_of, write_number, write_line};
 ghost use Rattle.master.specs.Masters.{notes_f, shape_f, atoms_f, master_f};
 
 use columns::Column;
 use kinds::Layout;
+use refusals::Refusal;
 
 // The nine counts of an entry: what MASTER holds. (C is passed it, so it has no type parameter: `places` counts in 64 bits in a struct of its own.)
 #[repr(C)]
@@ -25,26 +29,26 @@ pub struct Tally {
 
 // MASTER is read in the three parts that its definition has. Columns 11 to 30.
 #[derive(Clone, Copy)]
-struct Notes {
-    remark: u32,
-    het: u32,
-    helix: u32,
+pub struct Notes {
+    pub remark: u32,
+    pub het: u32,
+    pub helix: u32,
 }
 
 // Columns 31 to 50.
 #[derive(Clone, Copy)]
-struct Shape {
-    sheet: u32,
-    xform: u32,
+pub struct Shape {
+    pub sheet: u32,
+    pub xform: u32,
 }
 
 // Columns 51 to 70.
 #[derive(Clone, Copy)]
-struct Atoms {
-    coord: u32,
-    ter: u32,
-    conect: u32,
-    seq: u32,
+pub struct Atoms {
+    pub coord: u32,
+    pub ter: u32,
+    pub conect: u32,
+    pub seq: u32,
 }
 
 // Columns 11 to 30: REMARK, 0, HET, HELIX.
@@ -140,4 +144,12 @@ impl Layout for Tally {
         fields::put_whole(line, 65, 5, self.seq);
         columns::put_blanks(line, 70, 10);
     }
+}
+
+// Writes the line, 80 bytes, or leaves all as found: where a field is out of its range, or there is no room.
+pub fn write_master(line: &mut [u8], t: Tally) -> Result<(), Refusal>
+    ensures number { number_in result ≡ write_number (master_f.ok t) line.old }
+    ensures line_after { line.new ≡ write_line (master_f.ok t) (line_with kind.Master master_f t) line.old }
+{
+    kinds::write(line, kinds::MASTER, t)
 }

@@ -1,10 +1,16 @@
 // MODEL: read and written.
 #![tactic(auto)]
 
+ghost use Rattle.refusals.specs.Numbers.{number_in};
+ghost use Rattle.kinds.specs.Kinds.{line_with};
+ghost use Rattle.kinds.specs.declared.Kind.TheVariants as kind;
+ghost use Rattle.fields.specs.Format.{write_number, write_line};
+ghost use Rattle.std.specs.Prelude.{◌≡◌};
 ghost use Rattle.model.specs.Models.{model_f};
 
 use columns::Column;
 use kinds::Layout;
+use refusals::Refusal;
 
 #[derive(Clone, Copy, Debug, PartialEq, Eq)]
 pub struct Model {
@@ -30,4 +36,12 @@ impl Layout for Model {
         fields::put_whole(line, 10, 4, self.number);
         columns::put_blanks(line, 14, 66);
     }
+}
+
+// Writes the line, 80 bytes, or leaves all as found: where a field is out of its range, or there is no room.
+pub fn write_model(line: &mut [u8], m: Model) -> Result<(), Refusal>
+    ensures number { number_in result ≡ write_number (model_f.ok m) line.old }
+    ensures line_after { line.new ≡ write_line (model_f.ok m) (line_with kind.Model model_f m) line.old }
+{
+    kinds::write(line, kinds::MODEL, m)
 }

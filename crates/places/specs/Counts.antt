@@ -1,6 +1,6 @@
 -- The nine counts of MASTER.
 use Rattle.std.specs.Prelude.{◌+◌, Option, Some, None}
-use Rattle.ascii.specs.Library.{ℕ, Bool, eqb, pick, both}
+use Rattle.ascii.specs.Library.{ℕ, Bool, eqb, leb, pick, both}
 use Rattle.kinds.specs.declared.{Kind.Kind}
 use Rattle.kinds.specs.Kinds.{row_of}
 use Rattle.master.specs.declared.{Tally.Tally}
@@ -22,6 +22,10 @@ number_of Seq = 9
 abbrev pub count_number : Option Count → ℕ
 count_number None = 0
 count_number (Some c) = number_of c
+
+-- the count with a number: above 9 there is none
+abbrev pub count_by : ℕ → ℕ
+count_by n = pick (leb n 9) n 0
 
 -- which of the nine counts a kind is counted in, 0 for none
 abbrev pub count_of : Kind → ℕ

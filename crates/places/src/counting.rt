@@ -1,6 +1,6 @@
 // The nine counts of MASTER.
 ghost use Rattle.std.specs.Prelude.{◌≡◌, ◌≤◌};
-ghost use Rattle.places.specs.Counts.{number_of, count_number, count_of, count_at, no_counts, raised, same_counts};
+ghost use Rattle.places.specs.Counts.{number_of, count_number, count_by, count_of, count_at, no_counts, raised, same_counts};
 ghost use Rattle.places.specs.Room.{Room};
 
 use super::{Count, Counts};
@@ -24,6 +24,13 @@ fn numbered(n: u8) -> Option<Count>
         9 => Some(Count::Seq),
         _ => None,
     }
+}
+
+// The same for any number: there is no count of number 0, nor one above 9.
+pub fn count_by(n: u8) -> Option<Count>
+    ensures { count_number result ≡ count_by n }
+{
+    if n <= 9 { numbered(n) } else { None }
 }
 
 // Which of the nine counts a kind is counted in.

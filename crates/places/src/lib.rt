@@ -4,7 +4,7 @@
 mod counting;
 mod order;
 
-pub use counting::{count_at, count_of, no_counts, raise, same_counts};
+pub use counting::{count_at, count_by, count_of, no_counts, raise, same_counts};
 pub use order::{fence_bad, place_bad};
 
 // Where the models stand: whether one is open, whether the first is past, and the number of the last MODEL line.

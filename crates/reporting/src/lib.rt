@@ -2,7 +2,7 @@
 #![tactic(auto)]
 
 ghost use Rattle.std.specs.Prelude.{◌<◌, ◌≡◌, length, ◌≤◌, take};
-ghost use Rattle.gate.specs.Gate.{told_by};
+ghost use Rattle.gate.specs.Gate.{told_by, ColumnTold};
 ghost use Rattle.reporting.specs.Report.{report_of, numbers_of, plain_numbers_of, keys, key_of};
 
 use gate::{Offence, Verdict};
@@ -13,7 +13,8 @@ pub const LINES: usize = 13;
 
 // 20 above 65,529 bytes, and all other values 0; else the answer of the check.
 pub fn report_on(text: &[u8]) -> Verdict
-    ensures { told_by result ≡ report_of text.now }
+    ensures numbers { told_by result ≡ report_of text.now }
+    ensures column { ColumnTold result.offence }
 {
     if 65529 < text.len() {
         return Verdict {

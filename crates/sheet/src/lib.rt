@@ -1,13 +1,17 @@
 // SHEET: read and written.
 #![tactic(auto)]
 
+ghost use Rattle.refusals.specs.Numbers.{number_in};
+ghost use Rattle.kinds.specs.Kinds.{line_with};
+ghost use Rattle.kinds.specs.declared.Kind.TheVariants as kind;
 ghost use Rattle.std.specs.Prelude.{◌≡◌};
 ghost use Rattle.columns.specs.Columns.{Put};
-ghost use Rattle.fields.specs.Format.{read_of};
+ghost use Rattle.fields.specs.Format.{read_of, write_number, write_line};
 ghost use Rattle.sheet.specs.Sheets.{is_sense, sense_fits, bond_f, strand_f, registration_f, sheet_f};
 
 use columns::Column;
 use kinds::Layout;
+use refusals::Refusal;
 use residue::Residue;
 
 // The record is in the parts that its definition has. Columns 42 to 70.
@@ -191,4 +195,12 @@ impl Layout for Sheet {
         put_registration(line, self.strand.strand, self.registration);
         columns::put_blanks(line, 70, 10);
     }
+}
+
+// Writes the line, 80 bytes, or leaves all as found: where a field is out of its range, or there is no room.
+pub fn write_sheet(line: &mut [u8], s: Sheet) -> Result<(), Refusal>
+    ensures number { number_in result ≡ write_number (sheet_f.ok s) line.old }
+    ensures line_after { line.new ≡ write_line (sheet_f.ok s) (line_with kind.Sheet sheet_f s) line.old }
+{
+    kinds::write(line, kinds::SHEET, s)
 }

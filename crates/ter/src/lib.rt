@@ -1,11 +1,17 @@
 // TER: read and written.
 #![tactic(auto)]
 
+ghost use Rattle.refusals.specs.Numbers.{number_in};
+ghost use Rattle.kinds.specs.Kinds.{line_with};
+ghost use Rattle.kinds.specs.declared.Kind.TheVariants as kind;
+ghost use Rattle.fields.specs.Format.{write_number, write_line};
+ghost use Rattle.std.specs.Prelude.{◌≡◌};
 ghost use Rattle.ter.specs.Ters.{ter_f};
 
 use columns::Column;
 use fields::Serial;
 use kinds::Layout;
+use refusals::Refusal;
 use residue::Residue;
 
 #[derive(Clone, Copy, Debug, PartialEq, Eq)]
@@ -38,4 +44,12 @@ impl Layout for Ter {
         residue::put_residue(line, 17, 0, self.residue);
         columns::put_blanks(line, 27, 53);
     }
+}
+
+// Writes the line, 80 bytes, or leaves all as found: where a field is out of its range, or there is no room.
+pub fn write_ter(line: &mut [u8], t: Ter) -> Result<(), Refusal>
+    ensures number { number_in result ≡ write_number (ter_f.ok t) line.old }
+    ensures line_after { line.new ≡ write_line (ter_f.ok t) (line_with kind.Ter ter_f t) line.old }
+{
+    kinds::write(line, kinds::TER, t)
 }

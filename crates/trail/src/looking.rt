@@ -7,7 +7,6 @@ ghost use Rattle.trail.specs.Trail.{Seen, Climbs, half_of};
 use crate::sight;
 use crate::sight::Sight;
 use search::Span;
-use std::cmp::Ordering;
 
 // What is left to search for the first line that is no less than x, once w was seen on line m.
 fn half(s: Span, m: usize, w: u64, x: u64) -> Span
@@ -81,11 +80,9 @@ fn passed(text: &[u8], lo: usize, hi: usize, x: u64) -> Sight
     let mut limit = sight::MOST;
     for j in (lo..hi).rev() {
         let w = keys::home(rows::piece_at(text, j));
-        match w.cmp(&x) {
-            Ordering::Less => low = low.max(w),
-            Ordering::Equal => from = j,
-            Ordering::Greater => limit = limit.min(w),
-        }
+        from = if w == x { j } else { from };
+        low = if w < x { low.max(w) } else { low };
+        limit = if x < w { limit.min(w) } else { limit };
     }
     Sight { from, low, limit }
 }

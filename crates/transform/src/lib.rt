@@ -1,13 +1,15 @@
 // ORIGX1-3 and SCALE1-3: read and written.
 #![tactic(auto)]
 
+ghost use Rattle.refusals.specs.Numbers.{number_in};
 ghost use Rattle.std.specs.Prelude.{◌≡◌};
-ghost use Rattle.fields.specs.Format.{read_of};
-ghost use Rattle.kinds.specs.Kinds.{row_of};
+ghost use Rattle.fields.specs.Format.{read_of, write_number, write_line};
+ghost use Rattle.kinds.specs.Kinds.{row_of, line_with};
 ghost use Rattle.transform.specs.Transforms.{coefficients_f, transform_f, transform_kind};
 
 use columns::Column;
 use kinds::{Kind, Layout};
+use refusals::Refusal;
 
 // Which of the three lines.
 #[derive(Clone, Copy, Debug, PartialEq, Eq)]
@@ -93,4 +95,17 @@ impl Layout for Transform {
         fields::put_real(line, 45, 10, 5, self.shift);
         columns::put_blanks(line, 55, 25);
     }
+}
+
+// Writes the line, 80 bytes, or leaves all as found: where a field is out of its range, or there is no room.
+pub fn write_transform(
+    line: &mut [u8],
+    scale: bool,
+    axis: Axis,
+    t: Transform,
+) -> Result<(), Refusal>
+    ensures number { number_in result ≡ write_number (transform_f.ok t) line.old }
+    ensures line_after { line.new ≡ write_line (transform_f.ok t) (line_with (transform_kind scale axis) transform_f t) line.old }
+{
+    kinds::write(line, name_of(scale, axis), t)
 }

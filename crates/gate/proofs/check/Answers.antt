@@ -3,6 +3,7 @@ use Prim.Native.Nat.{◌*◌, ◌<◌}
 use native.Mathlib.Omega.{arith}
 use lib.ListN.{length}
 use Rattle.gate.proofs.Sofar.{sofar_start, sofar_rising, sofar_reached, sofar_done, turn_refused, turn_next, turn_watched, watched_on}
+use Rattle.gate.proofs.Told.{column_number, column_told}
 use Rattle.refusals.proofs.Positive.{number_positive}
 use Rattle.gate.proofs.check.Goals as goal
 
@@ -12,14 +13,17 @@ loop-i-init c = (sofar_start _ _ _ c.start-c.ensures.state_value.0 c.start-c.ens
 pub turn-requires-clause-rising : goal.turn-requires-clause-rising
 turn-requires-clause-rising c = (sofar_rising _ _ _ _ c.loop-i.invariant.0, sofar_reached _ _ _ _ c.loop-i.invariant.0)
 
-pub returns : goal.returns
-returns c = sofar_done _ _ _ _ _ c.loop-i.invariant.0 (omega arith) c.finish.ensures
+pub returns-clause-numbers : goal.returns-clause-numbers
+returns-clause-numbers c = sofar_done _ _ _ _ _ c.loop-i.invariant.0 (omega arith) c.finish.ensures.numbers
 
-pub returns-in-Err : goal.returns-in-Err
-returns-in-Err c =
+pub returns-in-Err-clause-numbers : goal.returns-in-Err-clause-numbers
+returns-in-Err-clause-numbers c =
     let S = c.loop-i.invariant.0 in
     let n = c.in-Err.ensures.by_index _ _ S.block S.behind in
-    c.refused.ensures ∙ turn_refused _ _ _ _ S (omega arith) _ _ c.line_at-l.ensures n (λ z. omega (arith, number_positive c.in-Err.r, z)) _ c.column_of.ensures
+    c.refused.ensures.numbers ∙ turn_refused _ _ _ _ S (omega arith) _ _ c.line_at-l.ensures n (λ z. omega (arith, number_positive c.in-Err.r, z)) _ (column_number _ _ c.column_of.ensures)
+
+pub returns-in-Err-clause-column : goal.returns-in-Err-clause-column
+returns-in-Err-clause-column c = c.refused.ensures.column (column_told _ _ c.column_of.ensures)
 
 pub loop-i-preserved : goal.loop-i-preserved
 loop-i-preserved c =
